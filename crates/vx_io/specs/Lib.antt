@@ -1,0 +1,10 @@
+pub mod Faults
+pub mod Outs
+pub mod SourceState
+pub mod SinkState
+pub mod Stands
+pub mod LinkState
+pub mod Rung
+pub mod Accepts
+pub mod ClockState
+pub mod DialState

@@ -1,0 +1,154 @@
+//! Clocks, which tell moments in milliseconds, and pauses between two looks at what isn't there yet.
+
+ghost use Rattle.std.specs.Prelude.{◌≡◌, ℕ, ◌≤◌, max};
+
+use std::marker::Model;
+use std::rt::Clock as SystemClock;
+use std::thread;
+use std::time::Duration;
+
+/// Tells moments, in milliseconds from a beginning of its own.
+pub trait Clock {
+    // The greatest moment that it has told, 0 at first.
+    ghost told: { Self → ℕ };
+
+    /// The moment now. A clock may tell an earlier moment than before.
+    fn now(&mut self) -> u64
+        ensures rises { told self.old ≤ told self.new }
+        ensures within { result ≤ told self.new }
+        ensures told { told self.new ≡ max (told self.old) result };
+}
+
+/// Lets a little time pass.
+pub trait Pause {
+    fn pause(&mut self);
+}
+
+/// A clock that tells the moments of a list in turn, and at its end the last of them again, or 0 of an empty list.
+#[derive(Drop)]
+pub struct MemClock {
+    moments: Vec<u64>,
+    at: usize,
+    last: u64,
+    told: u64,
+}
+
+impl Model for MemClock {
+    ghost use Rattle.std.specs.Prelude.{◌≤◌, drop, vec_len};
+    ghost use Rattle.vx_io.specs.ClockState.{ClockState};
+
+    ghost Value = { ClockState };
+
+    ghost view = { λ s. record { moments = drop s.at s.moments.items; last = s.last; told = s.told } };
+
+    ghost invariant = { λ s. s.at ≤ vec_len s.moments };
+}
+
+impl MemClock {
+    /// A clock that tells these moments, in milliseconds.
+    pub fn new(moments: Vec<u64>) -> MemClock
+        ensures moments { result.moments ≡ moments.items }
+        ensures last { result.last ≡ 0 }
+        ensures told { result.told ≡ 0 }
+    {
+        MemClock {
+            moments,
+            at: 0,
+            last: 0,
+            told: 0,
+        }
+    }
+}
+
+impl Clock for MemClock {
+    ghost use Rattle.std.specs.Prelude.{◌≡◌, ◌≤◌, max};
+    ghost use Rattle.vx_io.specs.ClockState.{next_moment, after_now};
+
+    ghost told = { λ s. s.told };
+
+    /// The next moment of the list, or at its end the last one again.
+    fn now(&mut self) -> u64
+        ensures moment { result ≡ next_moment self.old }
+        ensures after { self.new ≡ after_now self.old }
+        ensures rises { self.old.told ≤ self.new.told }
+        ensures within { result ≤ self.new.told }
+        ensures told { self.new.told ≡ max self.old.told result }
+    {
+        if self.at < self.moments.len() {
+            self.last = self.moments[self.at];
+            self.at += 1;
+        }
+        self.told = self.told.max(self.last);
+        self.last
+    }
+}
+
+/// A clock over the system's monotonic clock. Its moments begin where that clock begins, so that two of them tell
+/// moments that can be compared; where the system tells none, the last moment told comes again.
+#[derive(Drop)]
+pub struct StdClock<R> {
+    rt: R,
+    last: u64,
+    told: u64,
+}
+
+impl<R> Model for StdClock<R> {
+    ghost use Rattle.std.specs.Prelude.{ℕ};
+
+    // The greatest moment that it has told.
+    ghost Value = { ℕ };
+
+    ghost view = { λ s. s.told };
+}
+
+impl<R: SystemClock> StdClock<R> {
+    /// A clock over the runtime `rt`, which has told nothing yet.
+    pub fn new(rt: R) -> StdClock<R>
+        ensures { result ≡ 0 }
+    {
+        StdClock {
+            rt,
+            last: 0,
+            told: 0,
+        }
+    }
+}
+
+impl<R: SystemClock> Clock for StdClock<R> {
+    ghost told = { λ s. s };
+
+    /// The system's moment now, in milliseconds; one above `u64::MAX` is told as that.
+    fn now(&mut self) -> u64
+        ensures rises { self.old ≤ self.new }
+        ensures within { result ≤ self.new }
+        ensures told { self.new ≡ max self.old result }
+    {
+        if let Ok(moment) = self.rt.monotonic() {
+            self.last = u64::try_from(moment.as_millis()).unwrap_or(u64::MAX);
+        }
+        self.told = self.told.max(self.last);
+        self.last
+    }
+}
+
+/// How long a pause lasts, in milliseconds.
+const PAUSE: u64 = 1;
+
+/// A pause of the system, of one millisecond.
+#[derive(Drop)]
+pub struct StdPause<R> {
+    rt: R,
+}
+
+impl<R: SystemClock> StdPause<R> {
+    /// A pause of the runtime `rt`.
+    pub fn new(rt: R) -> StdPause<R> {
+        StdPause { rt }
+    }
+}
+
+impl<R: SystemClock> Pause for StdPause<R> {
+    fn pause(&mut self) {
+        thread::sleep(&self.rt, Duration::from_millis(PAUSE));
+    }
+}
