@@ -1,0 +1,4 @@
+pub mod Overwrites
+pub mod Words
+pub mod Spelled
+pub mod Read
