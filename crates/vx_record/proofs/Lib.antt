@@ -1,0 +1,5 @@
+pub mod Feeding
+pub mod Headers
+pub mod Streams
+pub mod Ends
+pub mod Spelling
