@@ -1,0 +1,4 @@
+pub mod HeaderLemmas
+pub mod PutLemmas
+pub mod LawLemmas
+pub mod InverseLemmas
