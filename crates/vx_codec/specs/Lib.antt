@@ -1,0 +1,4 @@
+pub mod Row
+pub mod Asked
+pub mod Answered
+pub mod Text
