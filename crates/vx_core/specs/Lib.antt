@@ -1,0 +1,10 @@
+pub mod Lists
+pub mod State
+pub mod Entry
+pub mod One
+pub mod Held
+pub mod LinkRows
+pub mod Serving
+pub mod Inside
+pub mod Laws
+pub mod Polling
