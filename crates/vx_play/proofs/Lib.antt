@@ -1,0 +1,10 @@
+pub mod Moved
+pub mod Recorded
+pub mod Served
+pub mod Cut
+pub mod Printed
+pub mod Limits
+pub mod Steps
+pub mod Playing
+pub mod WholePlay
+pub mod OnePlay

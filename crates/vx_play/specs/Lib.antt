@@ -1,0 +1,13 @@
+pub mod Moving
+pub mod Script
+pub mod Stream
+pub mod Meaning
+pub mod Item
+pub mod Play
+pub mod Serving
+pub mod Standing
+pub mod Told
+pub mod LinePlayed
+pub mod Ended
+pub mod Outcome
+pub mod Laws
