@@ -1,0 +1,5 @@
+use Rattle.vx_plan.proofs.Walks.{part-law}
+use Rattle.vx_plan.proofs.laws.part_lists.Goals as goal
+
+pub returns : goal.returns
+returns c = part-law

@@ -1,0 +1,9 @@
+pub mod Transfers
+pub mod Plan
+pub mod Tasks
+pub mod Whole
+pub mod Results
+pub mod Places
+pub mod Roles
+pub mod Moves
+pub mod Laws

@@ -1,0 +1,16 @@
+//! The jobs that the gateway does on an IEEE 488 bus: which transfers each makes, when it is whole, what its reply is,
+//! and which role it needs.
+#![tactic(auto)]
+
+mod laws;
+mod moves;
+mod tasks;
+
+pub use laws::{
+    appends, few_transfers, goes_on, no_other_own, own_stays, part_is_shorter, part_lists,
+    place_goes_on, prefix_free, read_moved, small_place, wants_nothing, whole_lists, write_moved,
+};
+pub use tasks::{Next, Place, Task, first_place, needs, next_move};
+
+#[cfg(test)]
+mod tests;
