@@ -1,0 +1,4 @@
+pub mod Turns
+pub mod Goes
+pub mod Asking
+pub mod Laws

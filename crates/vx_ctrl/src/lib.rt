@@ -1,0 +1,11 @@
+//! A turn on an IEEE 488 bus: it asks for the transfers of its job one after the other, and for nothing else.
+#![tactic(auto)]
+
+mod asking;
+mod laws;
+#[cfg(test)]
+mod tests;
+mod turn;
+
+pub use laws::{walk_appends, walk_went};
+pub use turn::{Turn, Went};

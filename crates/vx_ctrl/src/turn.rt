@@ -1,0 +1,182 @@
+ghost use Rattle.std.specs.Prelude.{◌≡◌, ◌≤◌, ◌<◌, ◌-◌, ◌^◌, ℕ, true, List, [], ◌++◌, length};
+ghost use Rattle.vx_calls.specs.declared.limits.TheConstants.{WRITE_MAX};
+ghost use Rattle.vx_488.specs.declared.transfers.Transfer.{Transfer};
+ghost use Rattle.vx_488.specs.declared.wire.Wire.{Wire};
+ghost use Rattle.vx_488.specs.Wire.{wire_after};
+ghost use Rattle.vx_plan.specs.Transfers.{is_got};
+ghost use Rattle.vx_bus.specs.declared.asks.TheConstants.{ASK_MAX};
+ghost use Rattle.vx_plan.specs.Plan.{Plan, next_slot};
+ghost use Rattle.vx_plan.specs.Places.{Reaches};
+ghost use Rattle.vx_plan.specs.Tasks.{plan, IsPlainTask, HasBytes};
+ghost use Rattle.vx_plan.specs.Results.{bytes_got, reason_of};
+ghost use Rattle.vx_ctrl.specs.Turns.{HasMade, HasRoom, GetsBytes, with_bytes, stored, moved_on, turn_reason, moved_by, reason_by};
+ghost use Rattle.vx_ctrl.specs.Asking.{Asks};
+ghost use Rattle.vx_ctrl.specs.Goes.{Goes, Begins, HoldsBytes};
+
+use crate::asking::{Asked, ask};
+use std::marker::Model;
+use vx_488::{Transfer, Wire, wire_appends};
+use vx_bus::Bus;
+use vx_plan::{Place, Task, few_transfers, first_place, next_move, place_goes_on};
+
+/// Why a turn stopped for now.
+#[derive(Clone, Copy, Debug, PartialEq, Eq)]
+pub enum Went {
+    /// The job is done.
+    Finished,
+    /// The bus held the next transfer.
+    Held,
+    /// The bus failed at the next transfer.
+    Broken,
+}
+
+/// A turn on the bus: a job, how far it has come, and the moment at which it began.
+#[derive(Clone, Copy, Debug)]
+pub struct Turn {
+    task: Task,
+    place: Place,
+    begun: u64,
+}
+
+impl Model for Turn {
+    ghost use Rattle.vx_ctrl.specs.Turns.{TurnState};
+
+    ghost Value = { TurnState };
+
+    ghost view = { λ t. record { task = t.task; place = t.place; begun = t.begun } };
+
+    ghost inverse = { λ s. record { task = s.task; place = s.place; begun = s.begun } };
+}
+
+impl Turn {
+    /// A turn that begins now, at this moment in milliseconds, and has made no transfer yet.
+    pub fn begin(task: Task, wire: &Wire, now: u64) -> Turn
+        requires plain { IsPlainTask task }
+        requires own { wire.now.own ≤ 30 }
+        ensures task { result.task ≡ task }
+        ensures begun { result.begun ≡ now }
+        ensures nothing { (bytes : List ℕ) → HasBytes task bytes
+            → HasMade result wire.now bytes [] (plan task bytes wire.now.polling wire.now.own) }
+        ensures holds { (room : List ℕ) → HoldsBytes result [] room }
+    {
+        Turn {
+            task,
+            place: first_place(wire),
+            begun: now,
+        }
+    }
+
+    /// Goes on, one transfer after the other, until the job is done or the bus holds or fails.
+    ///
+    /// `bytes` are those of the job, at most 65,536. The bytes that are got stand in `room` at their places: a read
+    /// wants room for as many as it may get, up to 65,536, a serial poll for one. The bus was cut before.
+    pub fn go<B: Bus>(&mut self, bus: &mut B, bytes: &[u8], room: &mut [u8]) -> Went
+        requires plain { IsPlainTask self.old.task }
+        requires own { self.old.place.own ≤ 30 }
+        requires short { length bytes.now ≤ WRITE_MAX }
+        requires room { HasRoom self.old.task (length room.old) }
+        requires cut { (B.means bus.old).moves ≡ [] }
+        requires asks { (B.means bus.old).asks ≡ 0 }
+        requires begun { (w : Wire) × (made : List Transfer) × Begins self.old w bytes.now made (B.means bus.old) }
+        // with what it made before it makes one list of its plan
+        ensures goes { (w : Wire) (made : List Transfer) → Begins self.old w bytes.now made (B.means bus.old)
+            → Goes B.means B.through self.new w bytes.now made (B.means bus.new).moves result bus.old bus.new }
+        // and may go on from there
+        ensures goes_on { (w : Wire) (made : List Transfer) → Begins self.old w bytes.now made (B.means bus.old)
+            → Begins self.new w bytes.now (made ++ (B.means bus.new).moves) (B.means bus.new) }
+        ensures task { self.new.task ≡ self.old.task }
+        ensures begun { self.new.begun ≡ self.old.begun }
+        ensures wire { (B.means bus.new).wire ≡ wire_after (B.means bus.old).wire (B.means bus.new).moves }
+        ensures got { room.new ≡ with_bytes self.old.place.moved (bytes_got (B.means bus.new).moves) room.old }
+        ensures holds { (w : Wire) (made : List Transfer) → Begins self.old w bytes.now made (B.means bus.old)
+            → GetsBytes self.old.task → HoldsBytes self.old made room.old
+            → HoldsBytes self.new (made ++ (B.means bus.new).moves) room.new }
+    {
+        few_transfers();
+        place_goes_on();
+        wire_appends();
+        loop {
+            match self.ask(bus, bytes) {
+                Asked::Made(t) => self.made(t, room),
+                Asked::Stopped(went) => return went,
+            }
+        }
+    }
+
+    /// Asks the bus for what its job wants next.
+    fn ask<B: Bus>(&self, bus: &mut B, bytes: &[u8]) -> Asked
+        requires plain { IsPlainTask self.now.task }
+        requires own { self.now.place.own ≤ 30 }
+        requires reached { (ts : List Transfer) × (left : Plan) × Reaches self.now.task bytes.now ts left self.now.place }
+        requires asks { (B.means bus.old).asks < ASK_MAX }
+        ensures { (ts : List Transfer) (left : Plan) → Reaches self.now.task bytes.now ts left self.now.place
+            → Asks B.means B.through (next_slot left) result bus.old bus.new }
+    {
+        let next = next_move(&self.task, &self.place);
+        ask(bus, next, bytes, self.place.moved)
+    }
+
+    /// Makes one transfer a part of what it has made. A byte that was got goes into the room, at its place.
+    fn made(&mut self, t: Transfer, room: &mut [u8])
+        requires step { self.old.place.step < 2 ^ 8 - 1 }
+        requires moved { self.old.place.moved < 2 ^ 32 - 1 }
+        requires room { is_got t ≡ true → self.old.place.moved < length room.old }
+        ensures turn { self.new ≡ moved_on self.old t }
+        ensures stored { room.new ≡ stored self.old.place.moved t room.old }
+    {
+        let carries_data = match t {
+            Transfer::Put { .. } => true,
+            Transfer::Got { b, end } => {
+                room[self.place.moved as usize] = b;
+                self.place.last = Some((b, end));
+                true
+            }
+            Transfer::Cmd(_) => matches!(self.task, Task::Commands { .. }),
+            _ => false,
+        };
+        if carries_data {
+            self.place.moved += 1;
+        } else {
+            self.place.step += 1;
+        }
+    }
+
+    /// The moment at which the turn began, in milliseconds.
+    pub fn begun(&self) -> u64
+        ensures { result ≡ self.now.begun }
+    {
+        self.begun
+    }
+
+    /// How many data bytes it has moved.
+    pub fn moved(&self) -> u32
+        ensures value { result ≡ self.now.place.moved }
+        ensures made { (w : Wire) (bytes : List ℕ) (made : List Transfer) (left : Plan) → IsPlainTask self.now.task
+            → HasMade self.now w bytes made left → result ≡ moved_by self.now.task made }
+    {
+        self.place.moved
+    }
+
+    /// Why a read's bytes ended (VXI-11, device_read): 1 as many as were asked for, 2 the stop byte, 4 END, or several of
+    /// these; 0 for every other job.
+    pub fn reason(&self) -> u32
+        ensures value { result ≡ turn_reason self.now }
+        ensures made { (w : Wire) (bytes : List ℕ) (made : List Transfer) (left : Plan) → IsPlainTask self.now.task
+            → HasMade self.now w bytes made left → result ≡ reason_by self.now.task made }
+    {
+        match self.task {
+            Task::Read { max, stop, .. } => read_reason(max, stop, &self.place),
+            _ => 0,
+        }
+    }
+}
+
+/// Why a read of at most `max` bytes ended at this place.
+fn read_reason(max: u32, stop: Option<u8>, place: &Place) -> u32
+    ensures { result ≡ reason_of max stop place.now.moved place.now.last }
+{
+    let full = place.moved == max;
+    let stopped = place.last.is_some_and(|(b, _)| Some(b) == stop);
+    let ended = place.last.is_some_and(|(_, end)| end);
+    u32::from(full) + 2 * u32::from(stopped) + 4 * u32::from(ended)
+}
