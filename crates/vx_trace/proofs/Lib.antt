@@ -1,0 +1,10 @@
+pub mod Hexadecimal
+pub mod Overwrites
+pub mod Cuts
+pub mod Numbers
+pub mod Moves
+pub mod Choices
+pub mod Again
+pub mod Found
+pub mod Answered
+pub mod Ends

@@ -1,0 +1,23 @@
+-- The parts of a line with a number: a word, the number, what stands between, a tail, and LF.
+use Rattle.std.specs.Prelude.{ℕ, ◌^◌, ◌<◌, ⊤, List, ◌++◌, codes, decimal}
+use Rattle.std.specs.List.{All}
+use Rattle.hex.specs.Hex.{encode_upper}
+use Rattle.vx_trace.specs.declared.put.Tail.{Tail}
+use Rattle.vx_trace.specs.declared.put.Tail.TheVariants as tail
+use Rattle.vx_trace.specs.Text.{moves_text, IsByteTransfer}
+
+abbrev pub tail_text : Tail → List ℕ
+tail_text (tail.Number n) = decimal n
+tail_text (tail.Word word) = word.now
+tail_text (tail.Hex bytes) = encode_upper bytes.now
+tail_text (tail.Moves moves) = moves_text moves.now
+
+abbrev pub numbered_text : List ℕ → ℕ → List ℕ → Tail → List ℕ
+numbered_text front n middle tail = front ++ decimal n ++ middle ++ tail_text tail ++ codes "\n"
+
+-- what a tail holds is such as its type holds
+abbrev pub TailFits : Tail → Type 0
+TailFits (tail.Number n) = n < 2 ^ 32
+TailFits (tail.Word word) = ⊤
+TailFits (tail.Hex bytes) = All (λ b. b < 2 ^ 8) bytes.now
+TailFits (tail.Moves moves) = All IsByteTransfer moves.now

@@ -1,0 +1,216 @@
+use super::*;
+use vx_488::Transfer;
+
+const READ: [Transfer; 5] = [
+    Transfer::Cmd(0x3F),
+    Transfer::Cmd(0x20),
+    Transfer::Cmd(0x45),
+    Transfer::Got {
+        b: 0x41,
+        end: false,
+    },
+    Transfer::Got { b: 0x42, end: true },
+];
+
+const OTHERS: [Transfer; 10] = [
+    Transfer::Put {
+        b: 0x0A,
+        end: false,
+    },
+    Transfer::Put { b: 0xFF, end: true },
+    Transfer::Ren(true),
+    Transfer::Ren(false),
+    Transfer::Atn(true),
+    Transfer::Atn(false),
+    Transfer::Ifc,
+    Transfer::Own(0),
+    Transfer::Own(30),
+    Transfer::Own(255),
+];
+
+/// What a text of at most 72 bytes reads as, in rooms of its length; none for a longer text.
+fn read_short<'a>(
+    text: &[u8],
+    moves: &'a mut [Transfer; 72],
+    bytes: &'a mut [u8; 72],
+) -> Option<Line<'a>> {
+    if text.len() > 72 {
+        return None;
+    }
+    read_line(text, &mut moves[..text.len()], &mut bytes[..text.len()])
+}
+
+// Each kind of line beside its text: written, and read back.
+#[test]
+fn lines(rt: HostRuntime) {
+    let table: [(Line<'static>, &[u8]); 22] = [
+        (
+            Line::Bus {
+                conn: 1,
+                moves: &READ,
+            },
+            b"bus 1 c3F c20 c45 g41 G42\n",
+        ),
+        (
+            Line::Bus {
+                conn: 4294967295,
+                moves: &OTHERS,
+            },
+            b"bus 4294967295 p0A PFF ren1 ren0 atn1 atn0 ifc own0 own30 own255\n",
+        ),
+        (
+            Line::Out {
+                conn: 3,
+                bytes: b"\x80\x00\x00\x02\x0A\xF9",
+            },
+            b"out 3 800000020AF9\n",
+        ),
+        (
+            Line::Irq {
+                conn: 20,
+                bytes: b"\x80\x00\x00\x00",
+            },
+            b"irq 20 80000000\n",
+        ),
+        (Line::IrqNone { conn: 1 }, b"irq 1 none\n"),
+        (Line::IrqClosed { conn: 1 }, b"irq 1 closed\n"),
+        (
+            Line::WaitLock {
+                conn: 2,
+                lid: 1073741823,
+            },
+            b"wait 2 lock 1073741823\n",
+        ),
+        (Line::WaitTurn { conn: 2, by: 1 }, b"wait 2 turn 1\n"),
+        (Line::WaitHeld { conn: 2 }, b"wait 2 held\n"),
+        (
+            Line::WaitDial { conn: 2147483647 },
+            b"wait 2147483647 dial\n",
+        ),
+        (Line::GoneDown { conn: 5 }, b"gone 5 down\n"),
+        (Line::GoneJunk { conn: 0 }, b"gone 0 junk\n"),
+        (Line::GoneLong { conn: 5 }, b"gone 5 long\n"),
+        (Line::Done, b"done\n"),
+        (
+            Line::FaultLine {
+                line: 1,
+                word: b"form",
+            },
+            b"fault line 1 form\n",
+        ),
+        (
+            Line::FaultLine {
+                line: 67108865,
+                word: b"number",
+            },
+            b"fault line 67108865 number\n",
+        ),
+        (
+            Line::FaultLine {
+                line: 18446744073709551615,
+                word: b"absent",
+            },
+            b"fault line 18446744073709551615 absent\n",
+        ),
+        (
+            Line::FaultLine {
+                line: 3,
+                word: b"own",
+            },
+            b"fault line 3 own\n",
+        ),
+        (
+            Line::FaultLine {
+                line: 3,
+                word: b"json",
+            },
+            b"fault line 3 json\n",
+        ),
+        (
+            Line::FaultLine {
+                line: 3,
+                word: b"taken",
+            },
+            b"fault line 3 taken\n",
+        ),
+        (Line::FaultLong, b"fault long\n"),
+        (Line::Usage, b"usage: vxplay COMMAND\n"),
+    ];
+    for (line, text) in table {
+        assert!(rt; line.is_whole());
+        let mut out = [b'#'; 72];
+        assert_eq!(rt; put_line(&line, &mut out), Ok(text.len()), "of {line:?}");
+        assert!(rt; text.len() < 72);
+        assert_eq!(rt; &out[..text.len()], text);
+        assert_eq!(rt; out[text.len()], b'#');
+        let short = &mut out[..text.len().saturating_sub(1)];
+        assert_eq!(rt; put_line(&line, short), Err(Full), "of {line:?}");
+        let mut moves = [Transfer::Ifc; 72];
+        let mut bytes = [0; 72];
+        assert_eq!(rt;
+            read_short(text, &mut moves, &mut bytes),
+            Some(line),
+            "of {text:?}"
+        );
+    }
+}
+
+// Texts that are no output line.
+#[test]
+fn no_lines(rt: HostRuntime) {
+    let table: [&[u8]; 44] = [
+        b"",
+        b"\n",
+        b"done",
+        b"done\n\n",
+        b"done \n",
+        b" done\n",
+        b"done\r\n",
+        b"Done\n",
+        b"usage\n",
+        b"usage: vxplay command\n",
+        b"fault\n",
+        b"fault line\n",
+        b"fault line 1\n",
+        b"fault line 1 \n",
+        b"fault line 1 forms\n",
+        b"fault line 1 form form\n",
+        b"fault line 01 form\n",
+        b"fault line 18446744073709551616 form\n",
+        b"bus 1\n",
+        b"bus 1 \n",
+        b"bus 1 c3F \n",
+        b"bus 1 c3F  c20\n",
+        b"bus  1 c3F\n",
+        b"bus 1  c3F\n",
+        b"bus c3F\n",
+        b"bus 1 c3f\n",
+        b"bus 1 c3\n",
+        b"bus 1 c3F2\n",
+        b"bus 1 C3F\n",
+        b"bus 1 ren2\n",
+        b"bus 1 ren\n",
+        b"bus 1 own\n",
+        b"bus 1 own030\n",
+        b"bus 1 own256\n",
+        b"bus 4294967296 ifc\n",
+        b"out 1\n",
+        b"out 1 \n",
+        b"out 1 0\n",
+        b"out 1 0a\n",
+        b"out 1 0A 0A\n",
+        b"out +1 0A\n",
+        b"irq 1 NONE\n",
+        b"wait 1 lock\n",
+        b"gone 1 up\n",
+    ];
+    for text in table {
+        let mut moves = [Transfer::Ifc; 72];
+        let mut bytes = [0; 72];
+        assert_eq!(rt;
+            read_short(text, &mut moves, &mut bytes),
+            None,
+            "of {text:?}"
+        );
+    }
+}
