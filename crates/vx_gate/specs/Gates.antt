@@ -1,0 +1,7 @@
+-- What a contract sees of a gate.
+use Rattle.vx_gate.specs.PassView.{GateId}
+use Rattle.vx_gate.specs.declared.gates.Gate.{Gate}
+
+-- which gate it is
+abbrev pub gate_of : {K G : Type 0} → Gate K G → GateId
+gate_of gate = gate.table.shared.table_id

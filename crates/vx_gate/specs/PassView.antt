@@ -1,0 +1,16 @@
+-- What a contract sees of a pass.
+use Rattle.std.specs.Prelude.{ℕ, List}
+use Rattle.atomic_table.specs.Seated.{TableId}
+use Rattle.vx_gate.specs.declared.views.Made.{Made}
+
+-- which gate it is
+abbrev pub GateId : Type 0
+GateId = TableId
+
+-- its gate, its number, its parts of the right to close the gate, the beginning of the history that it has seen, and its own groups
+pub record PassView (G : Type 0) : Type 0 where
+  pub gate : GateId
+  pub number : ℕ
+  pub parts : ℕ
+  pub seen : List (Made G)
+  pub own : List G
