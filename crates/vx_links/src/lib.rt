@@ -1,0 +1,9 @@
+//! The links of a gateway that live: a table of at most 256 rows, in room that is made once, which gives each link a
+//! number of its own and finds links by number, by connection and by bus address.
+#![tactic(auto)]
+
+mod laws;
+mod links;
+
+pub use laws::{links_go, own_link};
+pub use links::{Full, LinkRow, Links, NoMemory};

@@ -1,0 +1,229 @@
+ghost use Rattle.std.specs.Prelude.{◌≡◌, ◌↔◌, ◌+◌, ◌<◌, ◌≤◌, ◌==◌, not, false, length, map, find, is_some, IsTrue, IsErr, IfOk, OnOk, OnErr, IfSome};
+ghost use Rattle.std.specs.List.{list_any, All, AllPairs};
+ghost use Rattle.std.specs.Option.{option_copied, option_map};
+ghost use Rattle.vx_calls.specs.declared.limits.TheConstants.{LINK_LAST, LINK_MAX};
+ghost use Rattle.vx_links.specs.Table.{empty, is_full, link_at, is_live, first_link_of, uses_address, with_link, without_link, is_at};
+ghost use Rattle.vx_links.specs.Shown.{link_shown};
+
+use std::alloc::Global;
+use std::marker::Model;
+use vx_calls::{LINK_LAST, LINK_MAX, Target};
+
+/// Memory ran out.
+#[derive(Clone, Copy, Debug, PartialEq, Eq)]
+pub struct NoMemory;
+
+/// No link can be made: 256 live, or number 2^30 - 1 was given out.
+#[derive(Clone, Copy, Debug, PartialEq, Eq)]
+pub struct Full;
+
+/// A link that lives: its number, the connection that made it, and what it is to.
+#[derive(Clone, Copy, Debug, PartialEq, Eq)]
+pub struct LinkRow {
+    pub lid: u32,
+    pub conn: u32,
+    pub target: Target,
+}
+
+/// The links that live. A contract sees them as a `Table`: the plain list of links in order of their numbers, and the
+/// number that comes next.
+///
+/// `new` makes the room of all rows; no other call takes memory.
+#[derive(Debug, Drop)]
+pub struct Links {
+    rows: Vec<LinkRow>,
+    next: u32,
+}
+
+impl Model for Links {
+    ghost use Rattle.vx_links.specs.Table.{Table};
+
+    ghost Value = { Table };
+
+    ghost use Rattle.vx_links.specs.Inside.{table_of, IsKept};
+
+    ghost view = { table_of };
+
+    ghost invariant = { IsKept };
+}
+
+impl Links {
+    /// A table with no link in it, whose first number is 1.
+    pub fn new(alloc: Global) -> Result<Links, NoMemory>
+        ensures { IfOk result (λ links. links ≡ empty) }
+    {
+        match Vec::with_capacity(alloc, LINK_MAX as usize) {
+            Ok(rows) => Ok(Links { rows, next: 1 }),
+            Err(_) => Err(NoMemory),
+        }
+    }
+
+    /// Whether no link can be made: 256 live, or number 2^30 - 1 was given out.
+    pub fn is_full(&self) -> bool
+        ensures { result ≡ is_full self.now }
+    {
+        self.rows.len() >= LINK_MAX as usize || self.next > LINK_LAST
+    }
+
+    /// Makes a link of this connection, and gives its number: 1, 2, 3 and so on up to 2^30 - 1, none twice.
+    ///
+    /// # Errors
+    ///
+    /// `Full` exactly where `is_full` answers true; then nothing changes.
+    pub fn insert(&mut self, conn: u32, target: Target) -> Result<u32, Full>
+        ensures added { OnOk result (self.new ≡ with_link self.old conn target) }
+        ensures number { IfOk result (λ lid. lid ≡ self.old.next) }
+        ensures range { IfOk result (λ lid. (0 < lid) × (lid ≤ LINK_LAST)) }
+        ensures fresh { IfOk result (λ lid. is_live self.old lid ≡ false) }
+        ensures full { IsErr result ↔ IsTrue (is_full self.old) }
+        ensures err { OnErr result (self.new ≡ self.old) }
+    {
+        if self.is_full() {
+            return Err(Full);
+        }
+        let lid = self.next;
+        self.rows.push_reserved(LinkRow { lid, conn, target });
+        self.next += 1;
+        Ok(lid)
+    }
+
+    /// The link of this number, where it lives.
+    pub fn find(&self, lid: u32) -> Option<LinkRow>
+        ensures link { option_map link_shown result ≡ link_at self.now lid }
+        ensures live { is_some result ≡ is_live self.now lid }
+        ensures number { IfSome result (λ row. row.lid ≡ lid) }
+        ensures given { IfSome result (λ row. (0 < row.lid) × (row.lid < self.now.next)) }
+    {
+        find_row(&self.rows, lid).copied()
+    }
+
+    /// The link of this number goes. Answers whether there was one.
+    pub fn remove(&mut self, lid: u32) -> bool
+        ensures live { result ≡ is_live self.old lid }
+        ensures links { self.new ≡ without_link self.old lid }
+    {
+        let live = has_row(&self.rows, lid);
+        self.rows.retain(|row| row.lid != lid);
+        live
+    }
+
+    /// The link of this connection that has the smallest number.
+    pub fn of_connection(&self, conn: u32) -> Option<LinkRow>
+        ensures link { option_map link_shown result ≡ first_link_of self.now conn }
+        ensures owned { IfSome result (λ row. row.conn ≡ conn) }
+        ensures smallest { IfSome result (λ row. All (λ l. l.connection ≡ conn → row.lid ≤ l.number) self.now.links) }
+    {
+        find_owned(&self.rows, conn).copied()
+    }
+
+    /// Whether a live link is to a device of this primary address.
+    pub fn uses(&self, p: u8) -> bool
+        ensures { result ≡ uses_address self.now p }
+    {
+        uses_row(&self.rows, p)
+    }
+
+    /// What holds of every table: each link's number is below those of the links after it, from 1 on and already given
+    /// out; at most 256 links live; and the next number is at most one past the greatest. It does nothing when it runs.
+    pub fn numbers_rise(&self)
+        ensures rising { AllPairs (λ a b. a.number < b.number) self.now.links }
+        ensures given { All (λ l. (0 < l.number) × (l.number < self.now.next)) self.now.links }
+        ensures few { length self.now.links ≤ LINK_MAX }
+        ensures next { (0 < self.now.next) × (self.now.next ≤ LINK_LAST + 1) }
+    {
+        let _ = &self.rows;
+    }
+}
+
+/// The first row of this number.
+fn find_row(rows: &[LinkRow], lid: u32) -> Option<&LinkRow>
+    ensures { option_copied result ≡ find (λ r. r.lid == lid) rows.now }
+{
+    rows.iter().find(|row| row.lid == lid)
+}
+
+/// Whether a row has this number.
+fn has_row(rows: &[LinkRow], lid: u32) -> bool
+    ensures { result ≡ list_any (λ r. r.lid == lid) rows.now }
+{
+    rows.iter().any(|row| row.lid == lid)
+}
+
+/// The first row of this connection.
+fn find_owned(rows: &[LinkRow], conn: u32) -> Option<&LinkRow>
+    ensures { option_copied result ≡ find (λ r. r.conn == conn) rows.now }
+{
+    rows.iter().find(|row| row.conn == conn)
+}
+
+/// Whether a row is to a device of this primary address.
+fn uses_row(rows: &[LinkRow], p: u8) -> bool
+    ensures { result ≡ list_any (λ r. is_at p r.target) rows.now }
+{
+    rows.iter().any(|row| is_at(row.target, p))
+}
+
+/// Whether a target is a device of this primary address.
+fn is_at(target: Target, p: u8) -> bool
+    ensures { result ≡ is_at p target }
+{
+    match target {
+        Target::Interface => false,
+        Target::Device { p: primary, .. } => primary == p,
+    }
+}
+
+#[cfg(test)]
+mod tests {
+    use super::*;
+    use std::test::Fail;
+
+    const FIVE_TWO: Target = Target::Device { p: 5, s: Some(2) };
+
+    const SIX: Target = Target::Device { p: 6, s: None };
+
+    #[test]
+    fn links_of_two(rt: HostRuntime) -> Result<(), Fail> {
+        let mut links = Links::new(rt.alloc()).map_err(|_| "no memory")?;
+        for (conn, target, lid) in [
+            (9, Target::Interface, 1),
+            (4, FIVE_TWO, 2),
+            (9, FIVE_TWO, 3),
+            (4, SIX, 4),
+        ] {
+            assert_eq!(rt; links.insert(conn, target), Ok(lid));
+            assert_eq!(rt; links.find(lid), Some(LinkRow { lid, conn, target }));
+        }
+        for (conn, want) in [(9, Some(1)), (4, Some(2)), (1, None)] {
+            assert_eq!(rt;
+                links.of_connection(conn).map(|row| row.lid),
+                want,
+                "of {conn}"
+            );
+        }
+        assert!(rt; links.remove(2) && !links.remove(2), "a link goes once");
+        assert!(rt; links.remove(1) && links.remove(4), "the others stayed");
+        assert_eq!(rt; links.find(2), None);
+        assert_eq!(rt; links.of_connection(9).map(|row| row.lid), Some(3));
+        assert_eq!(rt; links.of_connection(4), None);
+        for (p, want) in [(5, true), (2, false), (6, false), (0, false)] {
+            assert_eq!(rt; links.uses(p), want, "at {p}");
+        }
+        assert_eq!(rt; links.insert(4, SIX), Ok(5), "no number comes twice");
+        Ok(())
+    }
+
+    #[test]
+    fn full_table(rt: HostRuntime) -> Result<(), Fail> {
+        let mut links = Links::new(rt.alloc()).map_err(|_| "no memory")?;
+        for lid in 1..=256 {
+            assert!(rt; !links.is_full());
+            assert_eq!(rt; links.insert(1, SIX), Ok(lid));
+        }
+        assert!(rt; links.is_full());
+        assert_eq!(rt; links.insert(1, SIX), Err(Full));
+        assert!(rt; links.remove(100));
+        assert_eq!(rt; links.insert(1, SIX), Ok(257));
+        Ok(())
+    }
+}
