@@ -1,0 +1,7 @@
+pub mod Lists
+pub mod Changes
+pub mod Due
+pub mod Places
+pub mod Sound
+pub mod Held
+pub mod Channels

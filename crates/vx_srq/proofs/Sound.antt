@@ -1,0 +1,170 @@
+-- Each change of a desk keeps it as every desk is.
+use Rattle.std.proofs.Common.{◌≡◌, ℕ, nat_lt, nat_le, ◌+◌, ◌<◌, ◌≤◌, ◌==◌, not, Bool, true, false, List, [], ◌∷◌, ◌++◌, map, filter, length, Option, Some, None, refl, ap, arith}
+use Rattle.std.specs.Prelude.{if◌then◌else◌, option_and_then}
+use Rattle.std.specs.Option.{option_map, IfSome}
+use Rattle.std.specs.List.{All}
+use Rattle.std.proofs.lemmas.Bool.{leb-true}
+use Rattle.std.proofs.lemmas.Bool.Decides.{nat_tests}
+use Rattle.std.proofs.lemmas.List.Elements.{All-append, All-cons, All-nil, All-tail, All-map, All-filter, All-weaker}
+use Rattle.std.proofs.lemmas.List.Kept.{AllPairs-cons, AllPairs-filter}
+use Rattle.std.proofs.lemmas.List.Filters.{length-filter_both}
+use Rattle.vx_calls.specs.declared.limits.TheConstants.{LINK_MAX, CONNECTION_LAST}
+use Rattle.vx_srq.specs.Desk as desk
+use Rattle.vx_srq.specs.Desk.{OUTBOX, Channel, Port, Enable, Desk, IsSound, IsBelow, HasChannelBelow, LinksRise, enable_put, port_with, queued_on, risen_port, handles_of, is_rise, taken_from, front_taken, port_taken}
+use Rattle.vx_srq.proofs.Places.{rise_head, rise_tail}
+
+abbrev Rises : Enable → Enable → Type 0
+Rises a b = a.link < b.link
+
+-- a filter keeps no more
+pub filter_fewer : {X : Type 0} (p : X → Bool) (xs : List X) → length (filter (λ x. not (p x)) xs) ≤ length xs
+filter_fewer p xs = omega (arith, length-filter_both p (λ x. not (p x)) (λ x. refl) xs)
+
+-- a port that is given a channel, or none
+below_with : (next conn : ℕ) (channel : Option Channel) (p : Port) → IfSome channel (IsBelow next) → HasChannelBelow next p → HasChannelBelow next (port_with conn channel p)
+below_with next conn channel p new old =
+    elim (p.connection == conn) as (λ b. HasChannelBelow next (if b then record p { channel = channel } else p)) [ true ↦ new | false ↦ old ]
+
+-- with a greater next number
+below_more : (next : ℕ) (o : Option Channel) → IfSome o (IsBelow next) → IfSome o (IsBelow (next + 1))
+below_more next None h = tt
+below_more next (Some c) h = (h.0, h.1, omega (arith, h.2))
+
+-- a channel that queues
+below_queued : (next : ℕ) (handles : List (List ℕ)) (o : Option Channel) → IfSome o (IsBelow next) → IfSome (option_and_then (queued_on handles) o) (IsBelow next)
+below_queued next handles None h = tt
+below_queued next handles (Some c) h = at (nat_le (length (c.outbox ++ handles)) OUTBOX) refl
+  where
+    at : (b : Bool) → nat_le (length (c.outbox ++ handles)) OUTBOX ≡ b → IfSome (if b then Some (record c { outbox = c.outbox ++ handles }) else None) (IsBelow next)
+    at true e = (leb-true (length (c.outbox ++ handles)) OUTBOX e, h.1, h.2)
+    at false e = tt
+
+-- a channel whose front is taken
+below_front : (next : ℕ) (c : Channel) (outbox : List (List ℕ)) → c.outbox ≡ outbox → IsBelow next c → IsBelow next (front_taken c outbox)
+below_front next c [] e h = h
+below_front next c (handle ∷ rest) e h = (omega (arith, h.0, ap length e), h.1, h.2)
+
+below_taken_from : (next number : ℕ) (o : Option Channel) → IfSome o (IsBelow next) → IfSome (option_map (taken_from number) o) (IsBelow next)
+below_taken_from next number None h = tt
+below_taken_from next number (Some c) h =
+    elim (c.number == number) as (λ b. IsBelow next (if b then front_taken c c.outbox else c)) [ true ↦ below_front next c c.outbox refl h | false ↦ h ]
+
+below_taken : (next conn number : ℕ) (p : Port) → HasChannelBelow next p → HasChannelBelow next (port_taken conn number p)
+below_taken next conn number p h =
+    elim (p.connection == conn) as (λ b. HasChannelBelow next (if b then record p { channel = option_map (taken_from number) p.channel } else p)) [
+      | true ↦ below_taken_from next number p.channel h
+      | false ↦ h
+    ]
+
+-- an enable is put where its link belongs
+put_above : (n : ℕ) (e : Enable) (es : List Enable) → n < e.link → All (λ f. n < f.link) es → All (λ f. n < f.link) (enable_put e es)
+put_above n e [] h above = All-cons (λ f. n < f.link) e [] h above
+put_above n e (f ∷ fs) h above =
+    let tail = All-tail (λ g. n < g.link) f fs above in
+    let head : n < f.link = above 0 f (omega arith) in
+    elim (nat_lt e.link f.link) as (λ b. All (λ g. n < g.link) (if b then e ∷ f ∷ fs else if e.link == f.link then e ∷ fs else f ∷ enable_put e fs)) [
+      | true ↦ All-cons (λ g. n < g.link) e (f ∷ fs) h above
+      | false ↦ elim (e.link == f.link) as (λ b. All (λ g. n < g.link) (if b then e ∷ fs else f ∷ enable_put e fs)) [
+        | true ↦ All-cons (λ g. n < g.link) e fs h tail
+        | false ↦ All-cons (λ g. n < g.link) f (enable_put e fs) head (put_above n e fs h tail)
+      ]
+    ]
+
+pub rise_put : (e : Enable) (es : List Enable) → LinksRise es → LinksRise (enable_put e es)
+rise_put e [] rise = AllPairs-cons Rises e [] (All-nil (Rises e)) rise
+rise_put e (f ∷ fs) rise = at (nat_lt e.link f.link) refl (e.link == f.link) refl (rise_put e fs (rise_tail f fs rise))
+  where
+    behind : All (λ g. f.link < g.link) fs
+    behind = rise_head f fs rise
+
+    at : (less : Bool) → nat_lt e.link f.link ≡ less → (same : Bool) → (e.link == f.link) ≡ same → LinksRise (enable_put e fs)
+        → LinksRise (if less then e ∷ f ∷ fs else if same then e ∷ fs else f ∷ enable_put e fs)
+    at true l same s rest =
+        let first : e.link < f.link = grind (arith, nat_tests, l) in
+        AllPairs-cons Rises e (f ∷ fs) (All-cons (Rises e) f fs first (All-weaker (λ g. f.link < g.link) (Rises e) (λ g h. omega (arith, h, first)) fs behind)) rise
+    at false l true s rest =
+        let eq : e.link ≡ f.link = grind (arith, nat_tests, s) in
+        AllPairs-cons Rises e fs (All-weaker (λ g. f.link < g.link) (Rises e) (λ g h. omega (arith, h, eq)) fs behind) (rise_tail f fs rise)
+    at false l false s rest =
+        let above : f.link < e.link = grind (arith, nat_tests, l, s) in
+        AllPairs-cons Rises f (enable_put e fs) (put_above f.link e fs above behind) rest
+
+pub sound-with_port : (d : Desk) (conn : ℕ) → IsSound d → IsSound (desk.with_port d conn)
+sound-with_port d conn s = record {
+  links = s.links;
+  few = s.few;
+  first = s.first;
+  last = s.last;
+  channels = All-append (HasChannelBelow d.next_channel) d.ports _ s.channels (All-cons (HasChannelBelow d.next_channel) _ [] tt (All-nil (HasChannelBelow d.next_channel)));
+}
+
+pub sound-without_port : (d : Desk) (conn : ℕ) → IsSound d → IsSound (desk.without_port d conn)
+sound-without_port d conn s = record {
+  links = AllPairs-filter Rises (λ e. not (e.connection == conn)) d.enables s.links;
+  few = omega (arith, s.few, filter_fewer (λ e. e.connection == conn) d.enables);
+  channels = All-filter (λ p. not (p.connection == conn)) (HasChannelBelow d.next_channel) d.ports s.channels;
+  first = s.first;
+  last = s.last;
+}
+
+pub sound-without_enable : (d : Desk) (lid : ℕ) → IsSound d → IsSound (desk.without_enable d lid)
+sound-without_enable d lid s = record {
+  links = AllPairs-filter Rises (λ e. not (e.link == lid)) d.enables s.links;
+  few = omega (arith, s.few, filter_fewer (λ e. e.link == lid) d.enables);
+  channels = s.channels;
+  first = s.first;
+  last = s.last;
+}
+
+pub sound-with_enable : (d : Desk) (e : Enable) → IsSound d → length (enable_put e d.enables) ≤ LINK_MAX → IsSound (desk.with_enable d e)
+sound-with_enable d e s few = record {
+  links = rise_put e d.enables s.links;
+  few = few;
+  channels = s.channels;
+  first = s.first;
+  last = s.last;
+}
+
+pub sound-closed : (d : Desk) (conn : ℕ) → IsSound d → IsSound (desk.with_channel d conn None)
+sound-closed d conn s = record {
+  links = s.links;
+  few = s.few;
+  first = s.first;
+  last = s.last;
+  channels = All-map (HasChannelBelow d.next_channel) (port_with conn None) d.ports (All-weaker _ _ (λ p h. below_with d.next_channel conn None p tt h) d.ports s.channels);
+}
+
+pub sound-with_new_channel : (d : Desk) (conn program version : ℕ) → IsSound d → d.next_channel ≤ CONNECTION_LAST → IsSound (desk.with_new_channel d conn program version)
+sound-with_new_channel d conn program version s left = record {
+  links = s.links;
+  few = s.few;
+  first = omega (arith, s.first);
+  last = omega (arith, left);
+  channels =
+      let c = desk.new_channel d.next_channel program version in
+      let next = d.next_channel + 1 in
+      let new : IsBelow next c = (omega arith, s.first, omega arith) in
+      All-map (HasChannelBelow next) (port_with conn (Some c)) d.ports (All-weaker _ _ (λ p h. below_with next conn (Some c) p new (below_more d.next_channel p.channel h)) d.ports s.channels);
+}
+
+pub sound-risen : (d : Desk) (level : Bool) → IsSound d → IsSound (record d { ports = map (risen_port d.enables) d.ports; level = level })
+sound-risen d level s = record {
+  links = s.links;
+  few = s.few;
+  first = s.first;
+  last = s.last;
+  channels = All-map (HasChannelBelow d.next_channel) (risen_port d.enables) d.ports
+      (All-weaker _ _ (λ p h. below_queued d.next_channel (handles_of d.enables p.connection) p.channel h) d.ports s.channels);
+}
+
+pub sound-level : (d : Desk) (level : Bool) → IsSound d → IsSound (record d { level = level })
+sound-level d level s = record { links = s.links; few = s.few; channels = s.channels; first = s.first; last = s.last }
+
+pub sound-taken : (d : Desk) (conn number : ℕ) → IsSound d → IsSound (desk.taken d conn number)
+sound-taken d conn number s = record {
+  links = s.links;
+  few = s.few;
+  first = s.first;
+  last = s.last;
+  channels = All-map (HasChannelBelow d.next_channel) (port_taken conn number) d.ports (All-weaker _ _ (λ p h. below_taken d.next_channel conn number p h) d.ports s.channels);
+}

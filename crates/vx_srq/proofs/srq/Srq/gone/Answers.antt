@@ -1,0 +1,37 @@
+use Rattle.std.proofs.Common.{◌==◌, not, map, arith, rules, ap, sym, subst, ◌∙◌}
+use Rattle.std.proofs.lemmas.Fn.{filter_same}
+use Rattle.std.proofs.lemmas.List.Elements.{All-filter}
+use Rattle.std.specs.List.{All}
+use Rattle.vx_srq.specs.Desk.{Desk, IsSound, without_port}
+use Rattle.vx_srq.specs.Shown.{port_shown, enable_shown, HasRoom}
+use Rattle.vx_srq.specs.Inside.{desk_of}
+use Rattle.vx_srq.proofs.Lists.{filter-map}
+use Rattle.vx_srq.proofs.Sound.{sound-without_port}
+use Rattle.vx_srq.proofs.srq.Srq.gone.Goals as goal
+
+pub invariant_of-self : goal.invariant_of-self
+invariant_of-self c =
+    let t = c.self.inside in
+    let ports = filter_same _ (λ r. not (r.conn == c.args.conn)) _ (λ x b f' k. search rules) _ _ c.retain.ensures.filtered in
+    let enables = filter_same _ (λ r. not (r.conn == c.args.conn)) _ (λ x b f' k. search rules) _ _ c.retain-2.ensures.filtered in
+    let ports_shown = ap (map port_shown) ports ∙ filter-map port_shown (λ p. not (p.connection == c.args.conn)) t.ports.items in
+    let enables_shown = ap (map enable_shown) enables ∙ filter-map enable_shown (λ e. not (e.connection == c.args.conn)) t.enables.items in
+    let left : IsSound (record (without_port (desk_of t) c.args.conn) { enables = map enable_shown c.retain-2.new.self.items }) =
+    subst (λ es. let d : Desk = record (without_port (desk_of t) c.args.conn) { enables = es } in IsSound d) (sym enables_shown)
+    (sound-without_port (desk_of t) c.args.conn c.self.invariant.sound) in
+    record {
+      places = omega arith;
+      room = subst (All HasRoom) (sym ports) (All-filter (λ r. not (r.conn == c.args.conn)) HasRoom t.ports.items c.self.invariant.room);
+      sound = subst (λ ps. let d : Desk = record (desk_of t) { ports = ps; enables = map enable_shown c.retain-2.new.self.items } in IsSound d) (sym ports_shown) left;
+    }
+
+pub returns : goal.returns
+returns c =
+    let t = c.self.inside in
+    let ports = filter_same _ (λ r. not (r.conn == c.args.conn)) _ (λ x b f' k. search rules) _ _ c.retain.ensures.filtered in
+    let enables = filter_same _ (λ r. not (r.conn == c.args.conn)) _ (λ x b f' k. search rules) _ _ c.retain-2.ensures.filtered in
+    ap (λ ps. let d : Desk = record (desk_of t) { ports = ps; enables = map enable_shown c.retain-2.new.self.items } in d)
+    (ap (map port_shown) ports ∙ filter-map port_shown (λ p. not (p.connection == c.args.conn)) t.ports.items)
+    ∙ ap (λ es. let d : Desk = record (without_port (desk_of t) c.args.conn) { enables = es } in d)
+    (ap (map enable_shown) enables ∙ filter-map enable_shown (λ e. not (e.connection == c.args.conn)) t.enables.items)
+    ∙ ap (λ d. without_port d c.args.conn) c.self.view_is

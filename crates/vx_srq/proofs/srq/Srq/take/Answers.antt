@@ -1,0 +1,25 @@
+use Rattle.std.proofs.Common.{◌==◌, map, find, ap, sym, subst, refl, ◌∙◌}
+use Rattle.std.specs.List.{All}
+use Rattle.vx_srq.specs.Desk.{IsSound, port_taken, given_by}
+use Rattle.vx_srq.specs.Shown.{port_shown, HasRoom}
+use Rattle.vx_srq.specs.Inside.{desk_of}
+use Rattle.vx_srq.proofs.Held.{changed_to, channel_found, with_ports}
+use Rattle.vx_srq.proofs.Sound.{sound-taken}
+use Rattle.vx_srq.proofs.srq.Srq.take.Goals as goal
+
+pub invariant_of-self : goal.invariant_of-self
+invariant_of-self c =
+    let t = c.self.inside in
+    let all = changed_to t (port_taken c.args.conn c.args.chan) c.deref_mut.result.now c.drop_front.new.ports c.deref_mut.ensures.value c.drop_front.ensures.ports in
+    record {
+      places = c.self.invariant.places;
+      room = subst (All HasRoom) (sym all.same) c.drop_front.ensures.room;
+      sound = subst (λ ps. IsSound (with_ports t ps)) (sym all.shown) (sound-taken (desk_of t) c.args.conn c.args.chan c.self.invariant.sound);
+    }
+
+pub returns-clause-given : goal.returns-clause-given
+returns-clause-given c =
+    let rows = c.deref.result.now in
+    c.front-taken.ensures
+    ∙ ap (λ o. given_by o c.args.chan)
+    (sym (channel_found c.args.self.now rows c.args.conn (find (λ r. r.conn == c.args.conn) rows) (ap (map port_shown) c.deref.ensures.value ∙ ap (λ d. d.ports) c.self.view_is) refl))

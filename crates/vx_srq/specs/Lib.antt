@@ -1,0 +1,5 @@
+pub mod Desk
+pub mod Shown
+pub mod Told
+pub mod Laws
+pub mod Inside

@@ -1,0 +1,11 @@
+//! The service requests of a gateway: interrupt channels with their outboxes, the links that are enabled, and the level
+//! of the SRQ line (VXI-11, create_intr_chan and device_enable_srq).
+#![tactic(auto)]
+
+mod enables;
+mod laws;
+mod ports;
+mod srq;
+
+pub use laws::{channel_law, connections_law, numbers_law, rise_law};
+pub use srq::{Channel, NoMemory, NoNumber, OUTBOX_MAX, Srq};
