@@ -1,0 +1,133 @@
+ghost use Rattle.std.specs.Prelude.{◌≡◌, true};
+ghost use Rattle.vx_inst.specs.Laws.{takes_byte, Takes, status_byte, IsPolled, IsSound, IsStatus};
+
+use super::*;
+use std::test::Fail;
+
+/// An instrument that keeps a byte until END comes, and has one byte to give from the beginning.
+#[derive(Drop)]
+struct Latch {
+    taken: Option<u8>,
+    given: Option<u8>,
+    stb: u8,
+    asks: bool,
+    ghost status: { IsStatus stb },
+}
+
+impl Instrument for Latch {
+    ghost use Rattle.std.specs.Prelude.{true, map, is_none};
+    ghost use Rattle.std.specs.Option.{option_to_list};
+
+    ghost view = { λ latch. record { inbox = option_to_list latch.taken; out = map (λ b. record { value = b; end = true }) (option_to_list latch.given); stb = latch.stb; rqs = latch.asks; ready = is_none latch.taken } };
+
+    fn can_take(&self) -> bool {
+        self.taken.is_none()
+    }
+
+    fn take(&mut self, b: u8, end: bool) {
+        self.taken = if end { None } else { Some(b) };
+    }
+
+    fn can_give(&self) -> bool {
+        self.taken.is_none() && self.given.is_some()
+    }
+
+    fn give(&mut self) -> (u8, bool) {
+        match self.given.take() {
+            Some(b) => (b, true),
+            None => (0, true),
+        }
+    }
+
+    fn poll(&mut self) -> u8 {
+        let asked = self.asks;
+        self.asks = false;
+        if asked { self.stb + 64 } else { self.stb }
+    }
+
+    fn requests(&self) -> bool {
+        self.asks
+    }
+
+    fn clear(&mut self) {
+        self.taken = None;
+        self.given = None;
+    }
+
+    fn trigger(&mut self) {
+        self.asks = true;
+    }
+
+    fn local(&mut self) {}
+
+    fn set_status(&mut self, b: u8) {
+        self.stb = b / 128 * 128 + b % 64;
+        self.asks = b / 64 % 2 == 1;
+    }
+
+    fn moment(&mut self, _now: u64) {}
+}
+
+/// An instrument at its place, as a bus keeps it.
+#[derive(Drop)]
+struct Placed {
+    at: u8,
+    inst: Box<dyn Instrument>,
+}
+
+/// Hands a byte to a boxed instrument, where it can take one.
+fn offer(placed: &mut Placed, b: u8, end: bool) -> bool
+    ensures can { result ≡ takes_byte (view placed.old.inst) }
+    ensures takes { result ≡ true → Takes (view placed.old.inst) b end (view placed.new.inst) }
+    ensures sound { IsSound (view placed.new.inst) }
+    ensures stays { placed.new.at ≡ placed.old.at }
+{
+    let can = placed.inst.can_take();
+    if can {
+        placed.inst.take(b, end);
+    }
+    can
+}
+
+/// Asks a boxed instrument for its status byte.
+fn ask(placed: &mut Placed) -> u8
+    ensures status { result ≡ status_byte (view placed.old.inst) }
+    ensures polled { IsPolled (view placed.old.inst) (view placed.new.inst) }
+{
+    placed.inst.poll()
+}
+
+// A caller of boxed instruments names their views, before a call and after it.
+#[test]
+fn boxed(rt: HostRuntime) -> Result<(), Fail> {
+    let mut placed = Placed {
+        at: 5,
+        inst: Box::new(
+            rt.alloc(),
+            Latch {
+                taken: None,
+                given: Some(10),
+                stb: 0,
+                asks: false,
+            },
+        )?,
+    };
+    assert!(rt; offer(&mut placed, 65, true));
+    assert!(rt; placed.inst.can_give());
+    assert_eq!(rt; placed.inst.give(), (10, true));
+    assert!(rt; !placed.inst.can_give());
+    assert!(rt; offer(&mut placed, 66, false));
+    assert!(rt; !offer(&mut placed, 67, true));
+    placed.inst.clear();
+    assert!(rt; offer(&mut placed, 68, true));
+    assert_eq!(rt; ask(&mut placed), 0);
+    placed.inst.trigger();
+    assert!(rt; placed.inst.requests());
+    assert_eq!(rt; ask(&mut placed), 64);
+    assert_eq!(rt; ask(&mut placed), 0);
+    placed.inst.set_status(0xFF);
+    assert_eq!(rt; ask(&mut placed), 0xFF);
+    assert_eq!(rt; ask(&mut placed), 0xBF);
+    assert_eq!(rt; placed.at, 5);
+    Ok(())
+}
