@@ -1,0 +1,117 @@
+ghost use Rattle.std.specs.Prelude.{◌≡◌, true, IfOk};
+ghost use Rattle.vx_inst.specs.Laws.{takes_byte, gives_byte, IsSound, Takes, Gives, status_byte, IsPolled, IsCleared, IsTriggered, IsTold, with_status};
+ghost use Rattle.vx_rack.specs.Shared.{fresh, asker_after_take, asking, after_give, after_poll, after_clear};
+
+use crate::NoMemory;
+use crate::body::Body;
+use std::alloc::Global;
+use std::marker::Model;
+use vx_inst::Instrument;
+
+/// An instrument that asks for service at the end of each message and at each trigger, with status byte 16, and never
+/// replies.
+#[derive(Drop)]
+pub struct Asker {
+    body: Body,
+}
+
+impl Model for Asker {
+    ghost use Rattle.vx_inst.specs.View.{View};
+
+    ghost Value = { View };
+
+    ghost view = { λ a. a.body };
+}
+
+impl Asker {
+    /// One that doesn't ask yet. Its room is made here.
+    pub fn new(alloc: Global) -> Result<Asker, NoMemory>
+        ensures { IfOk result (λ asker. asker ≡ fresh) }
+    {
+        let body = Body::new(alloc)?;
+        Ok(Asker { body })
+    }
+}
+
+impl Instrument for Asker {
+    ghost view = { λ a. a };
+
+    fn can_take(&self) -> bool {
+        self.body.can_take()
+    }
+
+    /// Takes a byte. At END it asks for service.
+    fn take(&mut self, b: u8, end: bool)
+        requires { takes_byte self.old ≡ true }
+        ensures rule { self.new ≡ asker_after_take self.old b end }
+        ensures takes { Takes self.old b end self.new }
+        ensures sound { IsSound self.new }
+    {
+        if end {
+            self.body.forget();
+            self.body.ask();
+        } else {
+            self.body.keep(b);
+        }
+    }
+
+    fn can_give(&self) -> bool {
+        self.body.can_give()
+    }
+
+    fn give(&mut self) -> (u8, bool)
+        requires { gives_byte self.old ≡ true }
+        ensures gives { Gives self.old (record { value = result.0; end = result.1 }) self.new }
+        ensures rule { self.new ≡ after_give self.old }
+        ensures sound { IsSound self.new }
+    {
+        self.body.give()
+    }
+
+    fn poll(&mut self) -> u8
+        ensures status { result ≡ status_byte self.old }
+        ensures polled { IsPolled self.old self.new }
+        ensures rule { self.new ≡ after_poll self.old }
+        ensures sound { IsSound self.new }
+    {
+        self.body.poll()
+    }
+
+    fn requests(&self) -> bool {
+        self.body.requests()
+    }
+
+    fn clear(&mut self)
+        ensures cleared { IsCleared self.old self.new }
+        ensures rule { self.new ≡ after_clear self.old }
+        ensures sound { IsSound self.new }
+    {
+        self.body.clear();
+    }
+
+    /// Asks for service.
+    fn trigger(&mut self)
+        ensures triggered { IsTriggered self.old self.new }
+        ensures rule { self.new ≡ asking self.old }
+        ensures sound { IsSound self.new }
+    {
+        self.body.ask();
+    }
+
+    fn local(&mut self) {
+        self.body.stay();
+    }
+
+    fn set_status(&mut self, b: u8) {
+        self.body.set_status(b);
+    }
+
+    /// Does nothing.
+    fn moment(&mut self, _now: u64)
+        ensures told { IsTold self.old self.new }
+        ensures rule { self.new ≡ self.old }
+        ensures sound { IsSound self.new }
+    {
+        self.body.stay();
+    }
+}

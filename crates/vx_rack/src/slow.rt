@@ -1,0 +1,138 @@
+ghost use Rattle.std.specs.Prelude.{◌≡◌, true, IfOk};
+ghost use Rattle.vx_inst.specs.Laws.{takes_byte, gives_byte, IsSound, Takes, Gives, status_byte, IsPolled, IsCleared, IsTriggered, IsTold, with_status};
+ghost use Rattle.vx_rack.specs.Shared.{after_poll, after_clear};
+ghost use Rattle.vx_rack.specs.Slows.{fresh_slow, slow_with_seen, slow_after_take, slow_after_give, slow_after_moment};
+
+use crate::NoMemory;
+use crate::body::Body;
+use std::alloc::Global;
+use std::marker::Model;
+use vx_inst::Instrument;
+
+/// An instrument that gives back each message that it is sent, and after each byte that it takes or gives isn't ready until
+/// a moment later than the last one that it was told.
+#[derive(Drop)]
+pub struct Slow {
+    body: Body,
+    ready: bool,
+    // milliseconds
+    told: u64,
+}
+
+impl Model for Slow {
+    ghost use Rattle.vx_rack.specs.Slows.{SlowState};
+
+    ghost Value = { SlowState };
+
+    ghost view = { λ s. record { seen = record s.body { ready = s.ready }; told = s.told } };
+
+    ghost use Rattle.std.specs.Prelude.{◌≡◌, true};
+
+    ghost invariant = { λ s. s.body.ready ≡ true };
+}
+
+impl Slow {
+    /// One that is ready, with nothing taken and nothing to give, at moment 0. Its room is made here.
+    pub fn new(alloc: Global) -> Result<Slow, NoMemory>
+        ensures { IfOk result (λ slow. slow ≡ fresh_slow) }
+    {
+        let body = Body::new(alloc)?;
+        Ok(Slow {
+            body,
+            ready: true,
+            told: 0,
+        })
+    }
+}
+
+impl Instrument for Slow {
+    ghost view = { λ s. s.seen };
+
+    fn can_take(&self) -> bool {
+        self.body.can_take() && self.ready
+    }
+
+    /// Takes a byte, and isn't ready then. At END the message is the reply.
+    fn take(&mut self, b: u8, end: bool)
+        requires { takes_byte self.old.seen ≡ true }
+        ensures rule { self.new ≡ slow_after_take self.old b end }
+        ensures takes { Takes self.old.seen b end self.new.seen }
+        ensures sound { IsSound self.new.seen }
+    {
+        self.body.take_echoing(b, end);
+        self.ready = false;
+    }
+
+    fn can_give(&self) -> bool {
+        self.body.can_give() && self.ready
+    }
+
+    /// Gives the next byte, and whether END stands on it, and isn't ready then.
+    fn give(&mut self) -> (u8, bool)
+        requires { gives_byte self.old.seen ≡ true }
+        ensures gives { Gives self.old.seen (record { value = result.0; end = result.1 }) self.new.seen }
+        ensures rule { self.new ≡ slow_after_give self.old }
+        ensures sound { IsSound self.new.seen }
+    {
+        let given = self.body.give();
+        self.ready = false;
+        given
+    }
+
+    /// Gives its status byte for a serial poll. It is as ready as before.
+    fn poll(&mut self) -> u8
+        ensures status { result ≡ status_byte self.old.seen }
+        ensures polled { IsPolled self.old.seen self.new.seen }
+        ensures rule { self.new ≡ slow_with_seen self.old (after_poll self.old.seen) }
+        ensures sound { IsSound self.new.seen }
+    {
+        self.body.poll()
+    }
+
+    fn requests(&self) -> bool {
+        self.body.requests()
+    }
+
+    /// Forgets what it took and what it has to give. It is as ready as before.
+    fn clear(&mut self)
+        ensures cleared { IsCleared self.old.seen self.new.seen }
+        ensures rule { self.new ≡ slow_with_seen self.old (after_clear self.old.seen) }
+        ensures sound { IsSound self.new.seen }
+    {
+        self.body.clear();
+    }
+
+    /// Does nothing.
+    fn trigger(&mut self)
+        ensures triggered { IsTriggered self.old.seen self.new.seen }
+        ensures rule { self.new ≡ self.old }
+        ensures sound { IsSound self.new.seen }
+    {
+        self.body.stay();
+    }
+
+    fn local(&mut self)
+        ensures same { self.new ≡ self.old }
+        ensures sound { IsSound self.new.seen }
+    {
+        self.body.stay();
+    }
+
+    fn set_status(&mut self, b: u8)
+        ensures set { self.new ≡ slow_with_seen self.old (with_status self.old.seen b) }
+        ensures sound { IsSound self.new.seen }
+    {
+        self.body.set_status(b);
+    }
+
+    /// Tells it a moment, in milliseconds: one later than the last makes it ready.
+    fn moment(&mut self, now: u64)
+        ensures told { IsTold self.old.seen self.new.seen }
+        ensures rule { self.new ≡ slow_after_moment self.old now }
+        ensures sound { IsSound self.new.seen }
+    {
+        self.body.stay();
+        self.ready = self.ready || now > self.told;
+        self.told = self.told.max(now);
+    }
+}
