@@ -1,0 +1,12 @@
+use Rattle.std.proofs.Common.{sym, ap, ◌∙◌}
+use Rattle.vx_model.specs.Inside.{tables_of}
+use Rattle.vx_model.proofs.Keeping.{sampled-sound}
+use Rattle.vx_model.proofs.Closing.{desk_sound, sampled_next}
+use Rattle.vx_model.proofs.tables.Tables.sample.Goals as goal
+
+pub invariant_of-self : goal.invariant_of-self
+invariant_of-self c = record {
+  sound = desk_sound (tables_of c.self.inside) _ _ c.sample.ensures (sampled-sound (tables_of c.self.inside) c.args.level c.self.invariant.sound);
+  numbers = c.self.invariant.numbers;
+  channels = c.self.invariant.channels ∙ sym (sampled_next c.self.inside.srq c.args.level) ∙ sym (ap (λ d. d.next_channel) c.sample.ensures);
+}

@@ -1,0 +1,14 @@
+//! The gateway of one thread: the definitions that everything else is measured by, and a plain program that computes
+//! them.
+#![tactic(auto)]
+
+mod entry;
+mod laws;
+mod tables;
+
+pub use entry::EntryRef;
+pub use laws::{link_numbers, locks_apart, one_reply, passed_calls};
+pub use tables::{Connect, Lines, NoMemory, Request, Tables, may_wait};
+
+#[cfg(test)]
+mod tests;
