@@ -1,0 +1,85 @@
+-- What each change of the tables leaves of the pending calls and of the links.
+use Rattle.std.proofs.Common.{◌≡◌, ◌≢◌, ◌==◌, ℕ, Bool, true, false, cond, not, ◌&&◌, [], ◌∷◌, Option, Some, None, refl, sym, ap, ◌∙◌}
+use Rattle.std.specs.Option.{option_map, option_and_then}
+use Rattle.std.specs.List.{find}
+use Rattle.std.proofs.lemmas.Bool.{eqb-true, ne_eqb, and_parts}
+use Rattle.vx_calls.specs.declared.calls.Role.{Role}
+use Rattle.vx_calls.specs.declared.targets.Target.{Target}
+use Rattle.vx_links.specs.Table.{Link}
+use Rattle.vx_model.specs.State.{Pending, Connection, Tables, connection_at, pending_at, link_of, with_pending, with_connection, without_connection, with_link, without_link}
+use Rattle.vx_model.specs.One.{mark_call, mark_on, marked}
+use Rattle.vx_flow.proofs.Lookups.{find_append-some, find_append-none, find-filter, find_filter-gone, find-map, find_update-other, find_update-here}
+
+-- two connections of different numbers
+apart : (n m : ℕ) → n ≢ m → (c : Connection) → (c.number == n) ≡ true → (c.number == m) ≡ false
+apart n m ne c e = ne_eqb c.number m (λ f. ne (sym (eqb-true c.number n e) ∙ f))
+
+-- another connection's pending call stays
+pub pending-other : (t : Tables) (n m : ℕ) (p : Option Pending) → n ≢ m → pending_at (with_pending t n p) m ≡ pending_at t m
+pending-other t n m p ne =
+    ap (option_and_then (λ c. c.pending)) (find_update-other (λ c. c.number == m) (λ c. c.number == n) (λ c. record c { pending = p }) (apart n m ne) (λ c. refl) t.connections)
+
+-- a pending call of the connection itself is the new one
+pub pending-here : (t : Tables) (n : ℕ) (p : Option Pending) (q : Pending) → pending_at (with_pending t n p) n ≡ Some q → p ≡ Some q
+pending-here t n p q h =
+    by (find (λ c. c.number == n) t.connections)
+    (sym (ap (option_and_then (λ c. c.pending)) (find_update-here (λ c. c.number == n) (λ c. record c { pending = p }) (λ c. refl) t.connections)) ∙ h)
+  where
+    by : (o : Option Connection) → option_and_then (λ c. c.pending) (option_map (λ (c : Connection). record c { pending = p }) o) ≡ Some q → p ≡ Some q
+    by None e = cc
+    by (Some c) e = e
+
+-- a connection that comes up has no call
+pub pending-up : (t : Tables) (r : Role) (m : ℕ) → pending_at (with_connection t r) m ≡ pending_at t m
+pending-up t r m = by (find (λ c. c.number == m) t.connections) refl where
+  none : (b : Bool) → option_and_then (λ (c : Connection). c.pending) (cond b (Some (record { number = t.next_connection; role = r; pending = None })) None) ≡ None
+  none true = refl
+  none false = refl
+
+  by : (o : Option Connection) → find (λ c. c.number == m) t.connections ≡ o → pending_at (with_connection t r) m ≡ option_and_then (λ c. c.pending) o
+  by None e =
+      ap (option_and_then (λ c. c.pending))
+      (find_append-none (λ c. c.number == m) t.connections (record { number = t.next_connection; role = r; pending = None } ∷ []) e) ∙ none (t.next_connection == m)
+  by (Some c) e =
+      ap (option_and_then (λ c. c.pending)) (find_append-some (λ c. c.number == m) t.connections (record { number = t.next_connection; role = r; pending = None } ∷ []) c e)
+
+-- a connection that went has no call, and each other one's stays
+pub pending-gone : (t : Tables) (n : ℕ) → pending_at (without_connection t n) n ≡ None
+pending-gone t n = ap (option_and_then (λ c. c.pending)) (find_filter-gone (λ c. c.number == n) (λ c. not (c.number == n)) (λ c e. ap not e) t.connections)
+
+pub pending-others : (t : Tables) (n m : ℕ) → n ≢ m → pending_at (without_connection t n) m ≡ pending_at t m
+pending-others t n m ne =
+    ap (option_and_then (λ c. c.pending))
+    (find-filter (λ c. c.number == m) (λ c. not (c.number == n)) (λ c e. ap not (apart m n (λ f. ne (sym f)) c e)) t.connections)
+
+-- the calls that name a link are marked
+pub pending-marked : (t : Tables) (lid m : ℕ) → pending_at (marked t lid) m ≡ option_map (mark_call lid) (pending_at t m)
+pending-marked t lid m = ap (option_and_then (λ c. c.pending)) (find-map (λ c. c.number == m) (mark_on lid) (λ c. refl) t.connections) ∙ by (connection_at t m) where
+  by : (o : Option Connection) → option_and_then (λ c. c.pending) (option_map (mark_on lid) o) ≡ option_map (mark_call lid) (option_and_then (λ c. c.pending) o)
+  by None = refl
+  by (Some c) = refl
+
+-- ---- links
+
+pub link-made : (t : Tables) (n : ℕ) (target : Target) (m lid : ℕ) (l : Link) → link_of t m lid ≡ Some l → link_of (with_link t n target) m lid ≡ Some l
+link-made t n target m lid l h =
+    find_append-some (λ k. (k.number == lid) && (k.connection == m)) t.links.links (record { number = t.links.next; connection = n; target = target } ∷ []) l h
+
+-- a link of another connection stays
+of_another : (n m lid : ℕ) → n ≢ m → (k : Link) → ((k.number == lid) && (k.connection == m)) ≡ true → (k.connection == n) ≡ false
+of_another n m lid ne k e =
+    let same : k.connection ≡ m = eqb-true k.connection m (and_parts (k.number == lid) (k.connection == m) e).1 in
+    ne_eqb k.connection n (λ f. ne (sym f ∙ same))
+
+pub link-others : (t : Tables) (n m lid : ℕ) → n ≢ m → link_of (without_connection t n) m lid ≡ link_of t m lid
+link-others t n m lid ne =
+    find-filter (λ k. (k.number == lid) && (k.connection == m)) (λ k. not (k.connection == n)) (λ k e. ap not (of_another n m lid ne k e)) t.links.links
+
+and_no : (a b : Bool) → b ≡ false → not (a && b) ≡ true
+and_no true b h = ap not h
+and_no false b h = refl
+
+pub link-left : (t : Tables) (n gone m lid : ℕ) → n ≢ m → link_of (without_link t n gone) m lid ≡ link_of t m lid
+link-left t n gone m lid ne =
+    find-filter (λ k. (k.number == lid) && (k.connection == m)) (λ k. not ((k.number == gone) && (k.connection == n)))
+    (λ k e. and_no (k.number == gone) (k.connection == n) (of_another n m lid ne k e)) t.links.links

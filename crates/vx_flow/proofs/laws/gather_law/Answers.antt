@@ -1,0 +1,5 @@
+use Rattle.vx_flow.proofs.Gathering.{gather_law-holds}
+use Rattle.vx_flow.proofs.laws.gather_law.Goals as goal
+
+pub returns : goal.returns
+returns c = gather_law-holds

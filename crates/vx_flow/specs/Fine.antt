@@ -1,0 +1,199 @@
+-- Which event is allowed between interleaved ones, and the state after it: the order of answers line by line, with turns.
+use Rattle.std.specs.Prelude.{ℕ, Bool, true, false, not, ◌&&◌, ◌||◌, ◌==◌, nat_le, if◌then◌else◌, List, [], ◌∷◌, ◌++◌, filter, Option, Some, None, is_some, is_none, option_and_then}
+use Rattle.std.specs.Option.{option_map}
+use Rattle.std.specs.List.{list_any}
+use Rattle.vx_calls.specs.declared.targets.Target.{Target}
+use Rattle.vx_calls.specs.Target.{conflict}
+use Rattle.vx_calls.specs.Call.{Call}
+use Rattle.vx_calls.specs.Reply.{Reply}
+use Rattle.vx_488.specs.declared.transfers.Transfer.{Transfer}
+use Rattle.vx_488.specs.declared.wire.Wire.{Wire}
+use Rattle.vx_488.specs.Wire.{wire_after}
+use Rattle.vx_plan.specs.declared.tasks.Task.{Task}
+use Rattle.vx_plan.specs.Plan.{Stand, Whole, Part, Off}
+use Rattle.vx_model.specs.State.{Pending, Tables, State, connection_at, pending_at, without_connection}
+use Rattle.vx_model.specs.Calls.{is_bus_call, is_lock_call, asks_dial}
+use Rattle.vx_model.specs.Checks.{NamedLink, NoLink, DeadLink, OnLink, named_link}
+use Rattle.vx_model.specs.Lines.{LockRequest, Lines, Refused, Waiting, Passed, lock_request, first_lines, lets_pass}
+use Rattle.vx_model.specs.Effects.{task_of}
+use Rattle.vx_model.specs.Decide.{Outside, stand_of_job, has_job_role, settles}
+use Rattle.vx_model.specs.Entry as entry
+use Rattle.vx_model.specs.One.{one, answer, if_reply}
+use Rattle.vx_flow.specs.Event.{Event, Up, Down, Arrive, Answer, Abort, Sample, Take, Begin, Move, Dial}
+use Rattle.vx_flow.specs.FineState.{Turn, FineState, turn_of, begun_of, moves_of, turn_after}
+
+-- the job of a connection's call
+abbrev pub job_of : Tables → ℕ → Pending → Option Task
+job_of t conn p = task_of (named_link t conn p.call) p.call
+
+abbrev pub call_stand : Tables → Wire → ℕ → List Transfer → Option Pending → Stand
+call_stand t w conn moves None = Off
+call_stand t w conn moves (Some p) = stand_of_job w p.call moves (job_of t conn p)
+
+-- where the turn under way stands with these transfers in all
+abbrev pub turn_stand : FineState → Turn → List Transfer → Stand
+turn_stand f u moves = call_stand f.state.tables f.before u.connection moves (pending_at f.state.tables u.connection)
+
+abbrev pub is_whole : Stand → Bool
+is_whole Whole = true
+is_whole _ = false
+
+abbrev pub is_on : Stand → Bool
+is_on Off = false
+is_on _ = true
+
+abbrev pub is_answer_of : ℕ → Event → Bool
+is_answer_of conn (Answer other now failed dialed level reply) = other == conn
+is_answer_of conn _ = false
+
+-- once the turn's transfers are whole nothing comes before its answer
+abbrev pub comes_in_turn : FineState → Event → Option Turn → Bool
+comes_in_turn f e None = true
+comes_in_turn f e (Some u) = if is_whole (turn_stand f u u.moves) then is_answer_of u.connection e else true
+
+-- what a call's link is to
+abbrev pub target_on : NamedLink → Option Target
+target_on (OnLink l) = Some l.target
+target_on NoLink = None
+target_on DeadLink = None
+
+abbrev pub call_target : Tables → ℕ → Option Pending → Option Target
+call_target t conn None = None
+call_target t conn (Some p) = target_on (named_link t conn p.call)
+
+-- what the turn under way is on
+abbrev pub turn_target : Tables → Turn → Option Target
+turn_target t u = call_target t u.connection (pending_at t u.connection)
+
+abbrev pub on_conflict : Option LockRequest → Option Target → Bool
+on_conflict (Some c) (Some t) = conflict c.target t
+on_conflict _ _ = false
+
+-- a bus call waits for every other connection's turn, and a lock call for one on a conflicting target
+abbrev pub waits_for : Tables → ℕ → ℕ → Pending → Turn → Bool
+waits_for t own conn p u =
+    not (u.connection == conn)
+    && (is_bus_call p.call || (is_lock_call p.call && on_conflict (lock_request own (named_link t conn p.call) p.call) (turn_target t u)))
+
+abbrev pub waits_for_turn : Tables → ℕ → ℕ → Pending → Option Turn → Bool
+waits_for_turn t own conn p None = false
+waits_for_turn t own conn p (Some u) = waits_for t own conn p u
+
+-- the bus that a connection's call is measured on: as its turn began, where that is under way
+abbrev pub wire_for : FineState → ℕ → Wire
+wire_for f conn = if is_some (turn_of f.turn conn) then f.before else f.state.wire
+
+-- what comes to an answer from outside, with what the call's own turn did
+abbrev pub outside : FineState → ℕ → Bool → Option Bool → Bool → Outside
+outside f conn failed dialed level = record {
+  begun = begun_of (turn_of f.turn conn);
+  moves = moves_of (turn_of f.turn conn);
+  failed = failed;
+  dialed = dialed;
+  level = level;
+}
+
+-- a call that passed the first lines may be answered: it waits for no turn, a bus call with the role has its own turn under
+-- way, and a dial that is told was asked for
+abbrev pub may_answer : FineState → ℕ → Pending → Outside → Bool
+may_answer f conn p o =
+    not (waits_for_turn f.state.tables (wire_for f conn).own conn p f.turn)
+    && (is_some (turn_of f.turn conn) || not (has_job_role f.state.wire (job_of f.state.tables conn p)))
+    && (is_none o.dialed || list_any (λ n. n == conn) f.dialed)
+
+abbrev pub passes_lines : FineState → ℕ → Pending → Outside → Lines → Bool
+passes_lines f conn p o Passed = may_answer f conn p o
+passes_lines f conn p o _ = true
+
+abbrev pub is_answered : FineState → ℕ → ℕ → Outside → Option Pending → Bool
+is_answered f conn now o None = false
+is_answered f conn now o (Some p) =
+    passes_lines f conn p o (first_lines f.state.tables (wire_for f conn).own conn (settles o) p now)
+
+abbrev pub is_passed : Lines → Bool
+is_passed Passed = true
+is_passed _ = false
+
+-- a turn may begin: a bus call that the first lines let pass, with the role for its job
+abbrev pub may_begin : State → ℕ → ℕ → Option Pending → Bool
+may_begin s conn now None = false
+may_begin s conn now (Some p) =
+    is_passed (first_lines s.tables s.wire.own conn false p now) && has_job_role s.wire (job_of s.tables conn p)
+
+-- a dial may be asked for: a create_intr_chan that the first lines let pass
+abbrev pub may_dial : State → ℕ → ℕ → Option Pending → Bool
+may_dial s conn now None = false
+may_dial s conn now (Some p) = asks_dial p.call && is_passed (first_lines s.tables s.wire.own conn false p now)
+
+-- a turn may go on: nothing has come against its call
+abbrev pub goes_on : State → ℕ → Option Pending → Bool
+goes_on s conn None = false
+goes_on s conn (Some p) = not p.aborted && lets_pass s.tables s.wire.own conn p
+
+abbrev pub may_move : FineState → ℕ → List Transfer → Option Turn → Bool
+may_move f conn moves None = false
+may_move f conn moves (Some u) =
+    (u.connection == conn) && goes_on f.state conn (pending_at f.state.tables conn) && is_on (turn_stand f u (u.moves ++ moves))
+
+-- the bus before the turn that is under way now
+abbrev pub wire_before : Option Turn → Wire → Wire → Wire
+wire_before None now before = now
+wire_before (Some u) now before = before
+
+-- the state after an event that leads to this one
+abbrev pub fine_after : FineState → Event → List ℕ → State → FineState
+fine_after f e dialed s = record {
+  state = s;
+  turn = turn_after f.turn e;
+  before = wire_before (turn_after f.turn e) s.wire f.before;
+  dialed = dialed;
+}
+
+-- what happens to the gateway of one thread in the same words
+abbrev pub as_one : FineState → Event → entry.Entry → Option FineState
+as_one f e same = option_map (fine_after f e f.dialed) (one f.state same)
+
+abbrev pub without_dial : List ℕ → ℕ → List ℕ
+without_dial dialed conn = filter (λ n. not (n == conn)) dialed
+
+-- the connection's call is answered: on the bus that it is measured on, and the bus stays as it is
+abbrev pub answered_fine : FineState → Event → ℕ → State → FineState
+answered_fine f e conn s = fine_after f e (without_dial f.dialed conn) (record s { wire = f.state.wire })
+
+abbrev pub fine_answer : FineState → Event → ℕ → ℕ → Outside → Reply → Option FineState
+fine_answer f e conn now o told =
+    if nat_le f.state.moment now && is_answered f conn now o (pending_at f.state.tables conn)
+    then option_map (answered_fine f e conn) (option_and_then (if_reply told) (answer (record f.state { wire = wire_for f conn }) conn now o))
+    else None
+
+abbrev pub fine_step : FineState → Event → Option FineState
+fine_step f (Up conn r) = as_one f (Up conn r) (entry.Up conn r)
+fine_step f (Arrive conn asked now) = as_one f (Arrive conn asked now) (entry.Arrive conn asked now)
+fine_step f (Abort conn lid told) = as_one f (Abort conn lid told) (entry.Abort conn lid told)
+fine_step f (Sample now srq) = as_one f (Sample now srq) (entry.Sample now srq)
+fine_step f (Take conn chan told) = as_one f (Take conn chan told) (entry.Take conn chan told)
+-- the connection lives; the bus stays as its turn left it
+fine_step f (Down conn) =
+    if is_some (connection_at f.state.tables conn)
+    then Some (fine_after f (Down conn) (without_dial f.dialed conn) (record f.state { tables = without_connection f.state.tables conn }))
+    else None
+fine_step f (Answer conn now failed dialed level told) =
+    fine_answer f (Answer conn now failed dialed level told) conn now (outside f conn failed dialed level) told
+-- no turn is under way, and the call's may begin: it is measured on the bus as it is now
+fine_step f (Begin conn now) =
+    if is_none f.turn && nat_le f.state.moment now && may_begin f.state conn now (pending_at f.state.tables conn)
+    then Some (record (fine_after f (Begin conn now) f.dialed (record f.state { moment = now })) { before = f.state.wire })
+    else None
+-- the turn is the connection's, nothing has come against its call, and the transfers are of its job
+fine_step f (Move conn moves) =
+    if may_move f conn moves f.turn
+    then Some (fine_after f (Move conn moves) f.dialed (record f.state { wire = wire_after f.state.wire moves }))
+    else None
+fine_step f (Dial conn now) =
+    if nat_le f.state.moment now && may_dial f.state conn now (pending_at f.state.tables conn)
+    then Some (fine_after f (Dial conn now) (without_dial f.dialed conn ++ conn ∷ []) (record f.state { moment = now }))
+    else None
+
+-- the state after an event, or none where it isn't allowed
+abbrev pub fine : FineState → Event → Option FineState
+fine f e = if comes_in_turn f e f.turn then fine_step f e else None

@@ -1,0 +1,5 @@
+pub mod Event
+pub mod FineState
+pub mod Fine
+pub mod Gather
+pub mod Laws
