@@ -1,2 +1,5 @@
 pub mod View
 pub mod Laws
+pub mod Marks
+pub mod Reply
+pub mod Shared

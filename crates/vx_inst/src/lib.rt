@@ -1,12 +1,16 @@
-//! What hangs on the bus: an instrument, as the bus sees it and as every one of them behaves.
+//! What hangs on the bus: an instrument, as the bus sees it and as every one of them behaves, and the body that instruments
+//! are made of.
 #![tactic(auto)]
 
+mod body;
 #[cfg(test)]
 mod tests;
 
 ghost use Rattle.std.specs.Prelude.{◌≡◌, true};
 ghost use Rattle.vx_inst.specs.View.{View};
 ghost use Rattle.vx_inst.specs.Laws.{takes_byte, gives_byte, IsSound, Takes, Gives, status_byte, IsPolled, IsCleared, IsTriggered, IsTold, with_status};
+
+pub use body::Body;
 
 /// The most bytes that an instrument keeps of a message, and the most that it has to give.
 pub const INST_MAX: usize = 262144;

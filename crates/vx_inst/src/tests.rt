@@ -131,3 +131,26 @@ fn boxed(rt: HostRuntime) -> Result<(), Fail> {
     assert_eq!(rt; placed.at, 5);
     Ok(())
 }
+
+// A body keeps a message, gives a reply with END on its last byte, and answers polls.
+#[test]
+fn body(rt: HostRuntime) -> Result<(), Fail> {
+    let mut body = Body::new(rt.alloc())?;
+    assert!(rt; body.can_take());
+    body.keep(b'A');
+    assert_eq!(rt; body.message(), b"A".as_slice());
+    body.forget();
+    assert!(rt; body.message().is_empty());
+    assert!(rt; !body.can_give());
+    body.reply(b"BC");
+    assert!(rt; body.can_give());
+    assert_eq!(rt; body.give(), (b'B', false));
+    assert!(rt; body.can_give());
+    assert_eq!(rt; body.give(), (b'C', true));
+    assert!(rt; !body.can_give());
+    body.set_status(80);
+    assert!(rt; body.requests());
+    assert_eq!(rt; body.poll(), 80);
+    assert_eq!(rt; body.poll(), 16);
+    Ok(())
+}

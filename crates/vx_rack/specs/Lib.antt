@@ -1,5 +1,3 @@
-pub mod Marks
-pub mod Reply
-pub mod Shared
+pub mod Askers
 pub mod Meters
 pub mod Slows

@@ -2,7 +2,7 @@
 use Rattle.std.specs.Prelude.{ℕ, ◌+◌, Bool, true, false, ◌||◌, min, if◌then◌else◌, List, [], ◌∷◌, ◌++◌, codes, decimal}
 use Rattle.std.specs.Str.{bytes_eq}
 use Rattle.vx_inst.specs.View.{View}
-use Rattle.vx_rack.specs.Shared.{fresh, with_byte, without_message, replied}
+use Rattle.vx_inst.specs.Shared.{fresh, with_byte, without_message, replied}
 
 -- its view, and the number of its last reading, 0 at first
 pub record MeterState : Type 0 where

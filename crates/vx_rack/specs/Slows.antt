@@ -1,7 +1,7 @@
 -- A slow instrument: after each byte it isn't ready until a later moment.
 use Rattle.std.specs.Prelude.{ℕ, Bool, false, ◌||◌, nat_lt, max}
 use Rattle.vx_inst.specs.View.{View}
-use Rattle.vx_rack.specs.Shared.{fresh, echo_after_take, after_give}
+use Rattle.vx_inst.specs.Shared.{fresh, echo_after_take, after_give}
 
 -- its view, and the greatest moment that it was told, 0 at first
 pub record SlowState : Type 0 where

@@ -1,12 +1,12 @@
 ghost use Rattle.std.specs.Prelude.{◌≡◌, true, IfOk};
 ghost use Rattle.vx_inst.specs.Laws.{takes_byte, gives_byte, IsSound, Takes, Gives, status_byte, IsPolled, IsCleared, IsTriggered, IsTold, with_status};
-ghost use Rattle.vx_rack.specs.Shared.{fresh, asker_after_take, asking, after_give, after_poll, after_clear};
+ghost use Rattle.vx_inst.specs.Shared.{fresh, after_give, after_poll, after_clear};
+ghost use Rattle.vx_rack.specs.Askers.{asker_after_take, asking};
 
 use crate::NoMemory;
-use crate::body::Body;
 use std::alloc::Global;
 use std::marker::Model;
-use vx_inst::Instrument;
+use vx_inst::{Body, Instrument};
 
 /// An instrument that asks for service at the end of each message and at each trigger, with status byte 16, and never
 /// replies.
@@ -14,6 +14,9 @@ use vx_inst::Instrument;
 pub struct Asker {
     body: Body,
 }
+
+/// Its status byte as it asks for service, with bit 6: a message is available.
+const ASKING: u8 = 80;
 
 impl Model for Asker {
     ghost use Rattle.vx_inst.specs.View.{View};
@@ -28,7 +31,7 @@ impl Asker {
     pub fn new(alloc: Global) -> Result<Asker, NoMemory>
         ensures { IfOk result (λ asker. asker ≡ fresh) }
     {
-        let body = Body::new(alloc)?;
+        let body = Body::new(alloc).map_err(|_| NoMemory)?;
         Ok(Asker { body })
     }
 }
@@ -49,7 +52,7 @@ impl Instrument for Asker {
     {
         if end {
             self.body.forget();
-            self.body.ask();
+            self.body.set_status(ASKING);
         } else {
             self.body.keep(b);
         }
@@ -95,7 +98,7 @@ impl Instrument for Asker {
         ensures rule { self.new ≡ asking self.old }
         ensures sound { IsSound self.new }
     {
-        self.body.ask();
+        self.body.set_status(ASKING);
     }
 
     fn local(&mut self) {

@@ -1,12 +1,11 @@
 ghost use Rattle.std.specs.Prelude.{◌≡◌, true, IfOk};
 ghost use Rattle.vx_inst.specs.Laws.{takes_byte, gives_byte, IsSound, Takes, Gives, status_byte, IsPolled, IsCleared, IsTriggered, IsTold, with_status};
-ghost use Rattle.vx_rack.specs.Shared.{fresh, echo_after_take, after_give, after_poll, after_clear};
+ghost use Rattle.vx_inst.specs.Shared.{fresh, echo_after_take, after_give, after_poll, after_clear};
 
 use crate::NoMemory;
-use crate::body::Body;
 use std::alloc::Global;
 use std::marker::Model;
-use vx_inst::Instrument;
+use vx_inst::{Body, Instrument};
 
 /// An instrument that gives back each message that it is sent.
 #[derive(Drop)]
@@ -27,7 +26,7 @@ impl Echo {
     pub fn new(alloc: Global) -> Result<Echo, NoMemory>
         ensures { IfOk result (λ echo. echo ≡ fresh) }
     {
-        let body = Body::new(alloc)?;
+        let body = Body::new(alloc).map_err(|_| NoMemory)?;
         Ok(Echo { body })
     }
 }

@@ -5,7 +5,6 @@
 #![tactic(auto)]
 
 mod asker;
-mod body;
 mod echo;
 mod meter;
 mod slow;

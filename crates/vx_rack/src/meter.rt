@@ -1,15 +1,14 @@
 ghost use Rattle.std.specs.Prelude.{◌≡◌, true, IfOk};
 ghost use Rattle.vx_inst.specs.Laws.{takes_byte, gives_byte, IsSound, Takes, Gives, status_byte, IsPolled, IsCleared, IsTriggered, IsTold, with_status};
-ghost use Rattle.vx_rack.specs.Shared.{after_give, after_poll, after_clear};
+ghost use Rattle.vx_inst.specs.Shared.{after_give, after_poll, after_clear};
 ghost use Rattle.vx_rack.specs.Meters.{fresh_meter, finished, with_seen, after_reading, asks_reading, meter_after_take, number_line};
 
 use crate::NoMemory;
-use crate::body::Body;
 use arrayvec::ArrayVec;
 use itoa::Buffer;
 use std::alloc::Global;
 use std::marker::Model;
-use vx_inst::Instrument;
+use vx_inst::{Body, Instrument};
 
 /// An instrument that takes a reading at each trigger and for each message `READ?`, which may have a line feed behind it.
 /// The reply is the reading's number in decimal digits, from 1 on, and a line feed. The number stays at the greatest `u64`.
@@ -32,7 +31,7 @@ impl Meter {
     pub fn new(alloc: Global) -> Result<Meter, NoMemory>
         ensures { IfOk result (λ meter. meter ≡ fresh_meter) }
     {
-        let body = Body::new(alloc)?;
+        let body = Body::new(alloc).map_err(|_| NoMemory)?;
         Ok(Meter { body, count: 0 })
     }
 

@@ -1,13 +1,12 @@
 ghost use Rattle.std.specs.Prelude.{◌≡◌, true, IfOk};
 ghost use Rattle.vx_inst.specs.Laws.{takes_byte, gives_byte, IsSound, Takes, Gives, status_byte, IsPolled, IsCleared, IsTriggered, IsTold, with_status};
-ghost use Rattle.vx_rack.specs.Shared.{after_poll, after_clear};
+ghost use Rattle.vx_inst.specs.Shared.{after_poll, after_clear};
 ghost use Rattle.vx_rack.specs.Slows.{fresh_slow, slow_with_seen, slow_after_take, slow_after_give, slow_after_moment};
 
 use crate::NoMemory;
-use crate::body::Body;
 use std::alloc::Global;
 use std::marker::Model;
-use vx_inst::Instrument;
+use vx_inst::{Body, Instrument};
 
 /// An instrument that gives back each message that it is sent, and after each byte that it takes or gives isn't ready until
 /// a moment later than the last one that it was told.
@@ -36,7 +35,7 @@ impl Slow {
     pub fn new(alloc: Global) -> Result<Slow, NoMemory>
         ensures { IfOk result (λ slow. slow ≡ fresh_slow) }
     {
-        let body = Body::new(alloc)?;
+        let body = Body::new(alloc).map_err(|_| NoMemory)?;
         Ok(Slow {
             body,
             ready: true,

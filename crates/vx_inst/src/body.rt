@@ -1,18 +1,17 @@
-//! What every model is made of: what it took, what it has to give, and its status byte.
+//! What an instrument is made of: what it took, what it has to give, and its status byte.
 
 ghost use Rattle.std.specs.Prelude.{◌≡◌, ◌≤◌, ◌+◌, ◌++◌, true, length, map, IfOk};
 ghost use Rattle.vx_inst.specs.declared.TheConstants.{INST_MAX};
 ghost use Rattle.vx_inst.specs.Laws.{takes_byte, gives_byte, Takes, Gives, status_byte, IsSound, with_status};
 ghost use Rattle.std.specs.VecDeque.{deque_len, deque_capacity};
-ghost use Rattle.vx_rack.specs.Reply.{unmarked, reply_appended};
-ghost use Rattle.vx_rack.specs.Shared.{fresh, with_byte, without_message, replied, echoed, echo_after_take, after_give, after_poll, after_clear, asking};
-ghost use Rattle.vx_rack.specs.Marks.{shown};
+ghost use Rattle.vx_inst.specs.Reply.{unmarked, reply_appended};
+ghost use Rattle.vx_inst.specs.Shared.{fresh, with_byte, without_message, replied, echoed, echo_after_take, after_give, after_poll, after_clear};
+ghost use Rattle.vx_inst.specs.Marks.{shown};
 
-use super::NoMemory;
-use std::alloc::Global;
+use super::INST_MAX;
+use std::alloc::{AllocError, Global};
 use std::collections::VecDeque;
 use std::marker::Model;
-use vx_inst::INST_MAX;
 
 /// A byte to give, and whether END stands on it.
 #[derive(Clone, Copy, Drop)]
@@ -21,9 +20,12 @@ pub(crate) struct Marked {
     pub(crate) end: bool,
 }
 
-/// What every model is made of. It is seen as the view of an instrument that is ready.
+/// What an instrument is made of, and what it does with it whatever its kind. It is seen as the view of an instrument that is
+/// ready.
+///
+/// It takes memory only where it is made: room for [`INST_MAX`] bytes taken, and for as many to give.
 #[derive(Drop)]
-pub(crate) struct Body {
+pub struct Body {
     inbox: Vec<u8>,
     out: VecDeque<Marked>,
     stb: u8,
@@ -39,7 +41,7 @@ impl Model for Body {
     ghost use Rattle.std.specs.VecDeque.{deque_len, deque_capacity};
     ghost use Rattle.vx_inst.specs.declared.TheConstants.{INST_MAX};
     ghost use Rattle.vx_inst.specs.Laws.{IsStatus};
-    ghost use Rattle.vx_rack.specs.Marks.{shown};
+    ghost use Rattle.vx_inst.specs.Marks.{shown};
 
     ghost view = { λ b. record {
       inbox = b.inbox.items;
@@ -55,15 +57,11 @@ impl Model for Body {
 
 impl Body {
     /// An empty one, with room for all that it may keep.
-    pub(crate) fn new(alloc: Global) -> Result<Body, NoMemory>
+    pub fn new(alloc: Global) -> Result<Body, AllocError>
         ensures { IfOk result (λ body. body ≡ fresh) }
     {
-        let Ok(inbox) = Vec::with_capacity(alloc, INST_MAX) else {
-            return Err(NoMemory);
-        };
-        let Ok(out) = VecDeque::with_capacity(alloc, INST_MAX) else {
-            return Err(NoMemory);
-        };
+        let inbox = Vec::with_capacity(alloc, INST_MAX)?;
+        let out = VecDeque::with_capacity(alloc, INST_MAX)?;
         Ok(Body {
             inbox,
             out,
@@ -73,7 +71,7 @@ impl Body {
     }
 
     /// Whether its inbox has room for a byte.
-    pub(crate) fn can_take(&self) -> bool
+    pub fn can_take(&self) -> bool
         ensures can { result ≡ takes_byte self.now }
         ensures sound { IsSound self.now }
     {
@@ -81,7 +79,7 @@ impl Body {
     }
 
     /// Whether it has a byte to give.
-    pub(crate) fn can_give(&self) -> bool
+    pub fn can_give(&self) -> bool
         ensures can { result ≡ gives_byte self.now }
         ensures sound { IsSound self.now }
     {
@@ -89,7 +87,7 @@ impl Body {
     }
 
     /// Whether it asks for service.
-    pub(crate) fn requests(&self) -> bool
+    pub fn requests(&self) -> bool
         ensures asks { result ≡ self.now.rqs }
         ensures sound { IsSound self.now }
     {
@@ -97,14 +95,14 @@ impl Body {
     }
 
     /// The bytes taken since the last message ended.
-    pub(crate) fn message(&self) -> &[u8]
+    pub fn message(&self) -> &[u8]
         ensures { result.now ≡ self.now.inbox }
     {
         self.inbox.as_slice()
     }
 
     /// Puts a byte into the inbox.
-    pub(crate) fn keep(&mut self, b: u8)
+    pub fn keep(&mut self, b: u8)
         requires { takes_byte self.old ≡ true }
         ensures kept { self.new ≡ with_byte self.old b }
         ensures sound { IsSound self.new }
@@ -113,7 +111,7 @@ impl Body {
     }
 
     /// Empties the inbox.
-    pub(crate) fn forget(&mut self)
+    pub fn forget(&mut self)
         ensures forgotten { self.new ≡ without_message self.old }
         ensures sound { IsSound self.new }
     {
@@ -121,7 +119,7 @@ impl Body {
     }
 
     /// Appends a reply, where there is room for all of it.
-    pub(crate) fn reply(&mut self, reply: &[u8])
+    pub fn reply(&mut self, reply: &[u8])
         ensures replied { self.new ≡ replied self.old reply.now }
         ensures sound { IsSound self.new }
     {
@@ -129,7 +127,7 @@ impl Body {
     }
 
     /// Takes a byte. At END the message is the reply.
-    pub(crate) fn take_echoing(&mut self, b: u8, end: bool)
+    pub fn take_echoing(&mut self, b: u8, end: bool)
         requires { takes_byte self.old ≡ true }
         ensures takes { self.new ≡ echo_after_take self.old b end }
         ensures longer { Takes self.old b end self.new }
@@ -151,7 +149,7 @@ impl Body {
     }
 
     /// Gives the next byte, and whether END stands on it.
-    pub(crate) fn give(&mut self) -> (u8, bool)
+    pub fn give(&mut self) -> (u8, bool)
         requires { gives_byte self.old ≡ true }
         ensures gives { Gives self.old (record { value = result.0; end = result.1 }) self.new }
         ensures given { self.new ≡ after_give self.old }
@@ -164,7 +162,7 @@ impl Body {
     }
 
     /// Gives its status byte for a serial poll, which ends its asking for service.
-    pub(crate) fn poll(&mut self) -> u8
+    pub fn poll(&mut self) -> u8
         ensures status { result ≡ status_byte self.old }
         ensures polled { self.new ≡ after_poll self.old }
         ensures sound { IsSound self.new }
@@ -175,7 +173,7 @@ impl Body {
     }
 
     /// Empties both lists.
-    pub(crate) fn clear(&mut self)
+    pub fn clear(&mut self)
         ensures cleared { self.new ≡ after_clear self.old }
         ensures sound { IsSound self.new }
     {
@@ -184,7 +182,7 @@ impl Body {
     }
 
     /// Sets its status byte; bit 6 says whether it asks for service.
-    pub(crate) fn set_status(&mut self, b: u8)
+    pub fn set_status(&mut self, b: u8)
         ensures set { self.new ≡ with_status self.old b }
         ensures sound { IsSound self.new }
     {
@@ -192,17 +190,8 @@ impl Body {
         self.stb = b / (2 * RQS) * (2 * RQS) + b % RQS;
     }
 
-    /// Asks for service, with a message available.
-    pub(crate) fn ask(&mut self)
-        ensures asks { self.new ≡ asking self.old }
-        ensures sound { IsSound self.new }
-    {
-        self.stb = 16;
-        self.rqs = true;
-    }
-
     /// Changes nothing. A call that has nothing to do learns by it that its view is sound.
-    pub(crate) fn stay(&self)
+    pub fn stay(&self)
         ensures { IsSound self.now }
     {
         let _ = &self.stb;

@@ -6,9 +6,9 @@ use Rattle.std.proofs.lemmas.Bool.{cond-true}
 use borrow.Author.Tests.{le-leb}
 use Rattle.vx_488.specs.Heard.{Byte}
 use Rattle.vx_inst.specs.declared.TheConstants.{INST_MAX}
-use Rattle.vx_rack.specs.declared.body.Marked.{Marked}
-use Rattle.vx_rack.specs.Marks.{shown}
-use Rattle.vx_rack.specs.Reply.{marked, unmarked, ended, reply_appended}
+use Rattle.vx_inst.specs.declared.body.Marked.{Marked}
+use Rattle.vx_inst.specs.Marks.{shown}
+use Rattle.vx_inst.specs.Reply.{marked, unmarked, ended, reply_appended}
 
 -- A reply's bytes are those of its front without END, and the last with END.
 pub ended-push : (front : List ℕ) (last : ℕ) → ended (front ++ last ∷ []) ≡ map unmarked front ++ marked last ∷ []

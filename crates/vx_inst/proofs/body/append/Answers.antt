@@ -2,9 +2,9 @@ use Rattle.std.proofs.Common.{◌≤◌, ◌+◌, length, arith}
 use Rattle.std.specs.Prelude.{map}
 use Rattle.std.proofs.lemmas.List.{length-map}
 use Rattle.vx_inst.specs.declared.TheConstants.{INST_MAX}
-use Rattle.vx_rack.specs.Marks.{shown}
-use Rattle.vx_rack.proofs.Replies.{shown-appended}
-use Rattle.vx_rack.proofs.body.append.Goals as goal
+use Rattle.vx_inst.specs.Marks.{shown}
+use Rattle.vx_inst.proofs.Replies.{shown-appended}
+use Rattle.vx_inst.proofs.body.append.Goals as goal
 
 pub returns-in-Some-clause-appended : goal.returns-in-Some-clause-appended
 returns-in-Some-clause-appended c =

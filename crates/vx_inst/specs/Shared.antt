@@ -1,9 +1,9 @@
--- What the models do alike.
+-- What instruments of every kind do alike.
 use Rattle.std.specs.Prelude.{ℕ, true, false, Bool, List, [], ◌∷◌, ◌++◌, drop}
 use Rattle.vx_inst.specs.View.{View}
-use Rattle.vx_rack.specs.Reply.{reply_appended}
+use Rattle.vx_inst.specs.Reply.{reply_appended}
 
--- a model as it is made
+-- an instrument as it is made
 abbrev pub fresh : View
 fresh = record { inbox = []; out = []; stb = 0; rqs = false; ready = true }
 
@@ -27,19 +27,10 @@ replied v reply = record v { out = reply_appended v.out reply }
 abbrev pub echoed : View → View
 echoed v = record v { inbox = []; out = reply_appended v.out v.inbox }
 
--- A byte is taken by a model that gives back its message: at END the message is the reply.
+-- A byte is taken by an instrument that gives back its message: at END the message is the reply.
 abbrev pub echo_after_take : View → ℕ → Bool → View
 echo_after_take v b false = with_byte v b
 echo_after_take v b true = replied (without_message v) (message v b)
-
--- it asks for service, with a message available
-abbrev pub asking : View → View
-asking v = record v { stb = 16; rqs = true }
-
--- A byte is taken by a model that asks for service at END.
-abbrev pub asker_after_take : View → ℕ → Bool → View
-asker_after_take v b false = with_byte v b
-asker_after_take v b true = asking (without_message v)
 
 -- The front of what there is to give is given.
 abbrev pub after_give : View → View

@@ -1,9 +1,9 @@
 use Rattle.std.proofs.Common.{◌≡◌, ◌+◌, ◌++◌, take}
 use Rattle.std.specs.Prelude.{map}
 use Rattle.std.specs.VecDeque.{deque_len, deque_capacity}
-use Rattle.vx_rack.specs.Marks.{shown}
-use Rattle.vx_rack.specs.Reply.{unmarked}
-use Rattle.vx_rack.proofs.body.append_unmarked.Given as goal
+use Rattle.vx_inst.specs.Marks.{shown}
+use Rattle.vx_inst.specs.Reply.{unmarked}
+use Rattle.vx_inst.proofs.body.append_unmarked.Given as goal
 
 abbrev pub invariant-loop-b : goal.invariant-loop-b
 invariant-loop-b l =
