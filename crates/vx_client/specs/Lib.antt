@@ -1,0 +1,11 @@
+pub mod State
+pub mod Message
+pub mod Meaning
+pub mod Stream
+pub mod Inbox
+pub mod Settled
+pub mod Exchange
+pub mod Calls
+pub mod Chunks
+pub mod Parts
+pub mod Swapped

@@ -1,0 +1,168 @@
+//! The client and the one exchange that every call stands on.
+
+ghost use Rattle.std.specs.Prelude.{◌≡◌, ◌≤◌, false, [], length, IfOk, IfErr};
+ghost use Rattle.vx_calls.specs.Call.{call_shown};
+ghost use Rattle.vx_record.specs.Buffer.{fresh};
+ghost use Rattle.vx_client.specs.Message.{call_record, IsSendable};
+ghost use Rattle.vx_client.specs.Meaning.{meaning};
+ghost use Rattle.vx_client.specs.Settled.{answer_of};
+ghost use Rattle.vx_client.specs.Exchange.{IsCalled};
+ghost use Rattle.vx_client.specs.Swapped.{IsSwapped, returned_by, settled_bad};
+ghost use Rattle.vx_client.specs.Calls.{IsFilled};
+
+use crate::answers::{ClientErr, NewRefused};
+use crate::inbox::{Brought, Inbox};
+use crate::outbox::{CALL_ROOM, put_record, send_all};
+use crate::settling::{Answer, Settled, settle};
+use std::alloc::Global;
+use std::marker::Model;
+use vx_calls::{CallRef, RECORD_MAX};
+use vx_io::Link;
+
+/// A client of a VXI-11 server over a link, on the core channel. Contracts see its link, the number of its next call,
+/// whether it is spent, the record of its last reply, and the bytes that came behind that.
+#[derive(Drop)]
+pub struct Client<L> {
+    link: L,
+    next: u32,
+    spent: bool,
+    room: Vec<u8>,
+    inbox: Inbox,
+}
+
+impl<L> Model for Client<L> {
+    ghost use Rattle.vx_client.specs.State.{ClientState};
+
+    ghost Value = { ClientState L };
+
+    ghost use Rattle.std.specs.Prelude.{◌≡◌, false, vec_len};
+    ghost use Rattle.vx_client.specs.Inbox.{IsReady, last_of};
+    ghost use Rattle.vx_client.specs.declared.outbox.TheConstants.{CALL_ROOM};
+
+    ghost view = { λ c. record {
+      link = c.link;
+      next = c.next;
+      spent = c.spent;
+      last = last_of c.inbox.reply;
+      kept = c.inbox.kept;
+    } };
+
+    ghost invariant = { λ c. (c.spent ≡ false → IsReady c.inbox.reply) × (vec_len c.room ≡ CALL_ROOM) };
+}
+
+/// Sends the call of this number and receives the record of a reply into the inbox.
+fn exchange<L: Link>(
+    link: &mut L,
+    room: &mut [u8],
+    inbox: &mut Inbox,
+    xid: u32,
+    call: &CallRef<'_>,
+) -> Result<(), ClientErr>
+    requires sendable { IsSendable (call_shown call.now) }
+    requires room { CALL_ROOM ≤ length room.old }
+    requires inbox { inbox.old.reply ≡ fresh RECORD_MAX }
+    ensures swapped { IsSwapped L.stands L.left L.receive_faults L.send_faults link.old link.new inbox.old.kept inbox.new
+        (call_record xid (call_shown call.now)) result }
+    ensures receives { L.receive_faults link.old ≤ L.receive_faults link.new }
+    ensures sends { L.send_faults link.old ≤ L.send_faults link.new }
+{
+    let len = put_record(xid, call, room);
+    if send_all(link, &room[..len]).is_err() {
+        return Err(ClientErr::WriteFault);
+    }
+    match inbox.read_record(link) {
+        Brought::Record => Ok(()),
+        Brought::TooLong => Err(ClientErr::BadReply {
+            length: RECORD_MAX + 1,
+        }),
+        Brought::End => Err(ClientErr::Closed),
+        Brought::Failed => Err(ClientErr::ReadFault),
+    }
+}
+
+/// Whether what came is no reply.
+fn is_bad(settled: Settled) -> bool
+    ensures { result ≡ settled_bad settled }
+{
+    matches!(&settled, Settled::Bad)
+}
+
+/// What a call returns for what a record of so many bytes came to.
+fn returned(settled: Settled, length: usize) -> Result<Answer, ClientErr>
+    ensures { result ≡ returned_by length settled }
+{
+    match settled {
+        Settled::Done(answer) => Ok(answer),
+        Settled::Failed(error) => Err(ClientErr::Device(error)),
+        Settled::Refused(refusal) => Err(ClientErr::Rpc(refusal)),
+        Settled::Bad => Err(ClientErr::BadReply { length }),
+    }
+}
+
+impl<L: Link> Client<L> {
+    /// A client over `link` that has made no call. Its room is made here; where there is no memory for it, the link
+    /// comes back.
+    pub fn new(alloc: Global, link: L) -> Result<Client<L>, NewRefused<L>>
+        ensures made { IfOk result (λ c. c ≡ record { link = link; next = 1; spent = false; last = []; kept = [] }) }
+        ensures refused { IfErr result (λ e. e.link ≡ link) }
+    {
+        let Ok(room) = vec![in alloc; 0; CALL_ROOM] else {
+            return Err(NewRefused { link });
+        };
+        let Ok(inbox) = Inbox::new(alloc) else {
+            return Err(NewRefused { link });
+        };
+        Ok(Client {
+            link,
+            next: 1,
+            spent: false,
+            room,
+            inbox,
+        })
+    }
+
+    /// The record that the last call got, without its marks: its reply, or what came in place of one. It is empty
+    /// where that call got none, where its record was longer than `RECORD_MAX` bytes, and before the first call. A
+    /// call that answered `Spent` leaves it as it was.
+    pub fn last(&self) -> &[u8]
+        ensures { result.now ≡ self.now.last }
+    {
+        self.inbox.last()
+    }
+
+    /// The link, in whatever state the calls left it.
+    pub fn into_link(self) -> L
+        ensures { result ≡ self.link }
+    {
+        let Client { link, .. } = self;
+        link
+    }
+
+    /// Makes one call and answers by the record that comes. The bytes of its results go to the front of `into`.
+    pub(crate) fn ask(&mut self, call: &CallRef<'_>, into: &mut [u8]) -> Result<Answer, ClientErr>
+        requires { IsSendable (call_shown call.now) }
+        ensures called { IsCalled L.stands L.left L.receive_faults L.send_faults self.old self.new (call_shown call.now)
+            (length into.old) answer_of result }
+        ensures into { IsFilled (meaning self.old.next (call_shown call.now) (length into.old) self.new.last) into.old into.new result }
+    {
+        if self.spent {
+            return Err(ClientErr::Spent);
+        }
+        let xid = self.next;
+        self.next = xid.wrapping_add(1);
+        self.spent = true;
+        self.inbox.begin();
+        exchange(
+            &mut self.link,
+            self.room.as_mut_slice(),
+            &mut self.inbox,
+            xid,
+            call,
+        )?;
+        let reply = self.inbox.last();
+        let length = reply.len();
+        let settled = settle(xid, call, reply, into);
+        self.spent = is_bad(settled);
+        returned(settled, length)
+    }
+}
