@@ -1,0 +1,156 @@
+-- Instruments that aren't in each other's way stay so, and one of them at most is the talker.
+use Rattle.std.proofs.Common.{◌≡◌, ℕ, zero, suc, ◌==◌, eqb, Bool, true, false, not, cond, ◌&&◌, ◌||◌, List, [], ◌∷◌, ◌++◌, length, map, Vec, Option, Some, None, refl, sym, ap, ◌∙◌, subst}
+use Rattle.std.specs.Prelude.{is_none}
+use Rattle.std.specs.List.{list_any, filter, AllZip}
+use Rattle.std.specs.Vec.{with_items}
+use Rattle.std.proofs.lemmas.Bool.{and_parts}
+use Rattle.std.proofs.lemmas.List.{with_items_is}
+use Rattle.std.proofs.lemmas.List.Folds.{list_any-append}
+use Rattle.vx_488.specs.declared.transfers.Addr.{Addr}
+use Rattle.vx_488.specs.declared.wire.Wire.{Wire}
+use Rattle.vx_488.specs.Address.{same_address, same_secondary}
+use Rattle.vx_488.specs.Flags.{same_address-equal, same_address-refl}
+use Rattle.vx_488.specs.Wire.{is_talking}
+use Rattle.vx_sim.specs.Seats.{Seat, Placed}
+use Rattle.vx_sim.specs.Bench.{talks, answers_get, SeatWhere, PlaceWhere, BenchWhere}
+use Rattle.vx_sim.specs.Attaching.{clashes, holder}
+use Rattle.vx_sim.specs.Shown.{AreApart, AtPlace}
+use Rattle.vx_sim.proofs.Changes.{or_first, or_second}
+
+-- an instrument that is in no other's way is put behind them
+pub apart-push : (bench : List Placed) (p : Placed) → AreApart bench → holder bench p.at ≡ None → AreApart (bench ++ p ∷ [])
+apart-push [] p apart free = (refl, tt)
+apart-push (q ∷ qs) p apart free = at (clashes q.at p.at) refl free (apart-push qs p apart.1)
+  where
+    behind : Bool
+    behind = list_any (λ r. clashes q.at r.at) (qs ++ p ∷ [])
+
+    joined : (b : Bool) → clashes q.at p.at ≡ b → behind ≡ (false || (b || false))
+    joined b e = list_any-append (λ r. clashes q.at r.at) qs (p ∷ []) ∙ ap (λ c. c || (clashes q.at p.at || false)) apart.0 ∙ ap (λ c. false || (c || false)) e
+
+    at : (b : Bool) → clashes q.at p.at ≡ b → cond b (Some q.at) (holder qs p.at) ≡ None → (holder qs p.at ≡ None → AreApart (qs ++ p ∷ [])) → (behind ≡ false) × AreApart (qs ++ p ∷ [])
+    at true e h rest = cc
+    at false e h rest = (joined false e, rest h)
+
+-- what is so of none isn't so of those that are left
+any-filter : (p keep : Placed → Bool) (bench : List Placed) → list_any p bench ≡ false → list_any p (filter keep bench) ≡ false
+any-filter p keep [] none = refl
+any-filter p keep (q ∷ qs) none = at (keep q) (or_first (p q) (list_any p qs) none) (any-filter p keep qs (or_second (p q) (list_any p qs) none))
+  where
+    at : (b : Bool) → p q ≡ false → list_any p (filter keep qs) ≡ false → list_any p (cond b (q ∷ filter keep qs) (filter keep qs)) ≡ false
+    at true first rest = ap (λ c. c || list_any p (filter keep qs)) first ∙ rest
+    at false first rest = rest
+
+-- those that are left stay apart
+pub apart-filter : (keep : Placed → Bool) (bench : List Placed) → AreApart bench → AreApart (filter keep bench)
+apart-filter keep [] apart = tt
+apart-filter keep (q ∷ qs) apart = at (keep q) (any-filter (λ r. clashes q.at r.at) keep qs apart.0) (apart-filter keep qs apart.1)
+  where
+    at : (b : Bool) → list_any (λ r. clashes q.at r.at) (filter keep qs) ≡ false → AreApart (filter keep qs) → AreApart (cond b (q ∷ filter keep qs) (filter keep qs))
+    at true first rest = (first, rest)
+    at false first rest = rest
+
+-- a question to the addresses is answered alike when the instruments changed, each at its address
+any-changed : (p : Addr → Bool) (reached : Placed → Bool) (Change : Seat → Seat → Type 0) (old new : List Placed) → BenchWhere reached Change old new → list_any (λ r. p r.at) new ≡ list_any (λ r. p r.at) old
+any-changed p reached Change [] [] h = refl
+any-changed p reached Change [] (y ∷ ys) h = absurd h
+any-changed p reached Change (x ∷ xs) [] h = absurd h
+any-changed p reached Change (x ∷ xs) (y ∷ ys) h =
+    ap (λ (a : Addr). p a || list_any (λ r. p r.at) ys) h.0.0 ∙ ap (λ b. p x.at || b) (any-changed p reached Change xs ys h.1)
+
+-- instruments that changed, each at its address, stay apart
+pub apart-changed : (reached : Placed → Bool) (Change : Seat → Seat → Type 0) (old new : List Placed) → BenchWhere reached Change old new → AreApart old → AreApart new
+apart-changed reached Change [] [] h apart = tt
+apart-changed reached Change [] (y ∷ ys) h apart = absurd h
+apart-changed reached Change (x ∷ xs) [] h apart = absurd h
+apart-changed reached Change (x ∷ xs) (y ∷ ys) h apart =
+    (ap (λ (a : Addr). list_any (λ r. clashes a r.at) ys) h.0.0 ∙ any-changed (clashes x.at) reached Change xs ys h.1 ∙ apart.0, apart-changed reached Change xs ys h.1 apart.1)
+
+-- an address is in its own way
+clashes-refl : (a : Addr) → clashes a a ≡ true
+clashes-refl a = at a.s (and_parts (a.p == a.p) (same_secondary a.s a.s) (same_address-refl a))
+  where
+    at : (s : Option ℕ) → ((a.p == a.p) ≡ true) × (same_secondary s s ≡ true) → ((a.p == a.p) && (is_none s || is_none s || same_secondary s s)) ≡ true
+    at None both = ap (λ b. b && true) both.0
+    at (Some t) both = ap (λ b. b && same_secondary (Some t) (Some t)) both.0 ∙ both.1
+
+-- two talkers would be in each other's way
+both_talk : (t : Option Addr) (a b : Addr) → is_talking t a ≡ true → is_talking t b ≡ true → clashes a b ≡ true
+both_talk None a b first second = cc
+both_talk (Some t) a b first second =
+    ap (λ (c : Addr). clashes a c) (sym (same_address-equal t b second) ∙ same_address-equal t a first) ∙ clashes-refl a
+
+-- beside a talker there is none among those that it isn't in the way of
+no_other : (w : Wire) (p : Placed) (ps : List Placed) → talks w p ≡ true → list_any (λ r. clashes p.at r.at) ps ≡ false → list_any (talks w) ps ≡ false
+no_other w p [] talk apart = refl
+no_other w p (r ∷ rs) talk apart =
+    at (talks w r) refl (or_first (clashes p.at r.at) (list_any (λ z. clashes p.at z.at) rs) apart) (no_other w p rs talk (or_second (clashes p.at r.at) (list_any (λ z. clashes p.at z.at) rs) apart))
+  where
+    at : (b : Bool) → talks w r ≡ b → clashes p.at r.at ≡ false → list_any (talks w) rs ≡ false → (talks w r || list_any (talks w) rs) ≡ false
+    at true e clear rest = let clash : clashes p.at r.at ≡ true = both_talk w.talker p.at r.at talk e in cc
+    at false e clear rest = ap (λ b. b || list_any (talks w) rs) e ∙ rest
+
+-- where nobody talks, nobody changes
+still : (w : Wire) (Give : Seat → Seat → Type 0) (ps : List Placed) → list_any (talks w) ps ≡ false → BenchWhere (talks w) Give ps ps
+still w Give [] quiet = tt
+still w Give (p ∷ ps) quiet = at (talks w p) (or_first (talks w p) (list_any (talks w) ps) quiet) (still w Give ps (or_second (talks w p) (list_any (talks w) ps) quiet))
+  where
+    at : (b : Bool) → b ≡ false → BenchWhere (talks w) Give ps ps → ((p.at ≡ p.at) × SeatWhere b Give p.seat p.seat) × BenchWhere (talks w) Give ps ps
+    at true e rest = cc
+    at false e rest = ((refl, refl), rest)
+
+abbrev Gave : Wire → (Seat → Seat → Type 0) → Placed → Placed → Type 0
+Gave w Give p q = (talks w p ≡ true) × (q.at ≡ p.at) × Give p.seat q.seat
+
+-- the one that gave is a talker
+one_talks : (w : Wire) (Give : Seat → Seat → Type 0) (i : ℕ) (old new : List Placed) → AtPlace i (Gave w Give) old new → list_any (talks w) old ≡ true
+one_talks w Give zero [] new h = absurd h
+one_talks w Give (suc i) [] new h = absurd h
+one_talks w Give zero (p ∷ ps) [] h = absurd h
+one_talks w Give (suc i) (p ∷ ps) [] h = absurd h
+one_talks w Give zero (p ∷ ps) (q ∷ qs) h = ap (λ b. b || list_any (talks w) ps) h.0.0
+one_talks w Give (suc i) (p ∷ ps) (q ∷ qs) h = at (talks w p) (one_talks w Give i ps qs h.1)
+  where
+    at : (b : Bool) → list_any (talks w) ps ≡ true → (b || list_any (talks w) ps) ≡ true
+    at true e = refl
+    at false e = e
+
+-- The one that gave is the talker, and the others stay.
+pub talker_gave : (w : Wire) (Give : Seat → Seat → Type 0) (i : ℕ) (old new : List Placed) → AreApart old → AtPlace i (Gave w Give) old new → BenchWhere (talks w) Give old new
+talker_gave w Give zero [] new apart h = absurd h
+talker_gave w Give (suc i) [] new apart h = absurd h
+talker_gave w Give zero (p ∷ ps) [] apart h = absurd h
+talker_gave w Give (suc i) (p ∷ ps) [] apart h = absurd h
+talker_gave w Give zero (p ∷ ps) (q ∷ qs) apart h = (
+  (h.0.1, subst (λ b. SeatWhere b Give p.seat q.seat) (sym h.0.0) h.0.2),
+  subst (λ (zs : List Placed). BenchWhere (talks w) Give ps zs) (sym h.1) (still w Give ps (no_other w p ps h.0.0 apart.0)),
+)
+talker_gave w Give (suc i) (p ∷ ps) (q ∷ qs) apart h =
+    (at (talks w p) refl (one_talks w Give i ps qs h.1), talker_gave w Give i ps qs apart.1 h.1)
+  where
+    at : (b : Bool) → talks w p ≡ b → list_any (talks w) ps ≡ true → (q.at ≡ p.at) × SeatWhere (talks w p) Give p.seat q.seat
+    at true e one = let none : list_any (talks w) ps ≡ false = no_other w p ps e apart.0 in cc
+    at false e one = (ap (λ (z : Placed). z.at) h.0, subst (λ b. SeatWhere b Give p.seat q.seat) (sym e) (ap (λ (z : Placed). z.seat) h.0))
+
+-- whoever answers a get is the talker
+pub answerer_talks : (w : Wire) (p : Placed) → answers_get w p ≡ true → talks w p ≡ true
+answerer_talks w p h = (and_parts (talks w p) _ h).0
+
+-- the addresses of what is shown
+pub ats_shown : {X : Type 0} (f : X → Placed) (at : X → Addr) → ((x : X) → (f x).at ≡ at x) → (xs : List X) → map (λ p. p.at) (map f xs) ≡ map at xs
+ats_shown f at same [] = refl
+ats_shown f at same (x ∷ xs) = ap (λ (a : Addr). a ∷ map (λ p. p.at) (map f xs)) (same x) ∙ ap (λ as'. at x ∷ as') (ats_shown f at same xs)
+
+-- a change of those that a slice held, each at its address, keeps them apart
+pub held_apart : {X Z : Type 0} (f : X → Placed) (reached : Placed → Bool) (Change : Seat → Seat → Type 0) (v : Vec X Z) (here ws : List X) → here ≡ v.items → length ws ≡ v.len
+    → BenchWhere reached Change (map f here) (map f ws) → AreApart (map f v.items) → AreApart (map f (with_items v ws).items)
+held_apart f reached Change v here ws held long change apart =
+    subst (λ (zs : List _). AreApart (map f zs)) (sym (with_items_is v ws long))
+    (apart-changed reached Change (map f here) (map f ws) change (subst (λ (zs : List _). AreApart (map f zs)) (sym held) apart))
+
+-- a change of those that a slice held is one of the bench
+pub held_changed : {X Z : Type 0} (f : X → Placed) (reached : Placed → Bool) (Change : Seat → Seat → Type 0) (v : Vec X Z) (bench : List Placed) (here ws : List X) → here ≡ v.items → length ws ≡ v.len
+    → map f v.items ≡ bench → BenchWhere reached Change (map f here) (map f ws) → BenchWhere reached Change bench (map f (with_items v ws).items)
+held_changed f reached Change v bench here ws held long view change =
+    subst (λ (zs : List _). BenchWhere reached Change bench (map f zs)) (sym (with_items_is v ws long))
+    (subst (λ (ps : List Placed). BenchWhere reached Change ps (map f ws)) (ap (map f) held ∙ view) change)

@@ -1,0 +1,44 @@
+-- Which addresses an instrument can be attached at, and what comes of it.
+use Rattle.std.specs.Prelude.{◌≡◌, ℕ, ◌==◌, nat_le, Bool, true, ◌&&◌, ◌||◌, not, is_none, if◌then◌else◌, List, [], ◌∷◌, ◌++◌, length, filter, find, map, Option, None, Some}
+use Rattle.vx_488.specs.declared.transfers.Addr.{Addr}
+use Rattle.vx_488.specs.Address.{same_secondary}
+use Rattle.vx_sim.specs.declared.TheConstants.{PLACES_MAX}
+use Rattle.vx_sim.specs.declared.signals.Signal.TheVariants as signal
+use Rattle.vx_sim.specs.declared.attach.Attach.{Attach}
+use Rattle.vx_sim.specs.declared.attach.Attach.TheVariants.{OwnAddress, Taken, Full}
+use Rattle.vx_sim.specs.Seats.{Seat, Placed, Receives}
+use Rattle.vx_sim.specs.Bench.{stands_at, BenchWhere}
+use Rattle.vx_sim.specs.SimState.{SimState}
+
+-- two instruments can't stand at these: they are one address, or at one primary where one of the two has no secondary
+abbrev pub clashes : Addr → Addr → Bool
+clashes a b = (a.p == b.p) && (is_none a.s || is_none b.s || same_secondary a.s b.s)
+
+-- the first instrument that is in the way of one at this address
+abbrev pub holder : List Placed → Addr → Option Addr
+holder bench a = find (λ h. clashes h a) (map (λ p. p.at) bench)
+
+abbrev pub taken_or_full : Option Addr → ℕ → Option Attach
+taken_or_full (Some h) count = Some (Taken h)
+taken_or_full None count = if nat_le PLACES_MAX count then Some Full else None
+
+-- why an instrument can't be attached at this address, where it can't
+abbrev pub refusal : SimState → Addr → Option Attach
+refusal s a = if a.p == s.means.wire.own then Some OwnAddress else taken_or_full (holder s.bench a) (length s.bench)
+
+-- an instrument was attached: it stands at the end of the bench, and was told the last moment
+abbrev pub IsAttached : Addr → Seat → SimState → SimState → Type 0
+IsAttached a inst old new =
+    (told : Seat)
+    × Receives (signal.Moment old.told) inst told
+    × (new ≡ record old { bench = old.bench ++ (record { at = a; seat = told }) ∷ [] })
+
+-- the bus without the instrument at this address
+abbrev pub without_place : Addr → SimState → SimState
+without_place a s = record s { bench = filter (λ p. not (stands_at a p)) s.bench }
+
+-- the instrument at this address had its status byte set
+abbrev pub IsSet : Addr → ℕ → SimState → SimState → Type 0
+IsSet a b old new =
+    BenchWhere (stands_at a) (Receives (signal.Status b)) old.bench new.bench
+    × (new ≡ record old { bench = new.bench })

@@ -1,0 +1,65 @@
+-- What the fields of a bench stand for, by how its instruments are seen, and whom a signal is for.
+use Rattle.std.specs.Prelude.{◌≡◌, ℕ, zero, suc, true, false, Bool, List, [], ◌∷◌, map}
+use Rattle.std.specs.List.{list_any}
+use Rattle.vx_488.specs.declared.transfers.Addr.{Addr}
+use Rattle.vx_488.specs.declared.transfers.Transfer.{Transfer}
+use Rattle.vx_488.specs.declared.transfers.Transfer.TheVariants.{Atn, Ifc, Own}
+use Rattle.vx_488.specs.declared.wire.Wire.{Wire}
+use Rattle.vx_488.specs.Heard.{Byte}
+use Rattle.vx_inst.specs.View.{View}
+use Rattle.vx_sim.specs.declared.places.Stand.{Stand}
+use Rattle.vx_sim.specs.declared.places.Stand.TheVariants as stand
+use Rattle.vx_sim.specs.declared.places.Place.{Place}
+use Rattle.vx_sim.specs.declared.signals.Whom.{Whom}
+use Rattle.vx_sim.specs.declared.signals.Whom.TheVariants as whom
+use Rattle.vx_sim.specs.declared.signals.Question.{Question}
+use Rattle.vx_sim.specs.declared.signals.Question.TheVariants as question
+use Rattle.vx_sim.specs.Seats.{Seat, Table, Boxed, Placed}
+use Rattle.vx_sim.specs.Bench.{listens, talks, stands_at, everyone, TalkerGives, refuses, answers_get, asks}
+use Rattle.vx_sim.specs.Attaching.{clashes}
+
+abbrev pub seat_of : {I : Type 0} → (I → View) → Stand I → Seat
+seat_of view (stand.Table t) = Table t
+seat_of view (stand.Boxed i) = Boxed (view i)
+
+abbrev pub placed_of : {I : Type 0} → (I → View) → Place I → Placed
+placed_of view p = record { at = p.at; seat = seat_of view p.stand }
+
+abbrev pub bench_of : {I : Type 0} → (I → View) → List (Place I) → List Placed
+bench_of view ps = map (placed_of view) ps
+
+-- whether a place is one of those that are meant
+abbrev pub is_meant : Wire → Whom → Placed → Bool
+is_meant w whom.Listeners p = listens w p
+is_meant w whom.Everyone p = everyone p
+is_meant w (whom.At a) p = stands_at a p
+
+-- what is asked of a place
+abbrev pub is_so : Wire → Question → Placed → Bool
+is_so w question.Listens p = listens w p
+is_so w question.Refuses p = refuses w p
+is_so w question.Answers p = answers_get w p
+is_so w question.Asks p = asks p
+is_so w (question.Stands a) p = stands_at a p
+
+-- no two instruments are in each other's way
+abbrev pub AreApart : List Placed → Type 0
+AreApart [] = Unit {0}
+AreApart (p ∷ ps) = (list_any (λ q. clashes p.at q.at) ps ≡ false) × AreApart ps
+
+-- the place at this index changes so, and the others stay
+abbrev pub AtPlace : ℕ → (Placed → Placed → Type 0) → List Placed → List Placed → Type 0
+AtPlace zero Change (p ∷ ps) (q ∷ qs) = Change p q × (qs ≡ ps)
+AtPlace (suc i) Change (p ∷ ps) (q ∷ qs) = (q ≡ p) × AtPlace i Change ps qs
+AtPlace i Change _ _ = ⊥
+
+-- the talker gave a byte
+abbrev pub TalkerGave : Wire → Byte → Placed → Placed → Type 0
+TalkerGave w byte p q = (talks w p ≡ true) × (q.at ≡ p.at) × TalkerGives w.polling byte p.seat q.seat
+
+-- a transfer that reaches no instrument: ATN, IFC and a change of the own address
+abbrev pub reaches_nobody : Transfer → Bool
+reaches_nobody (Atn on) = true
+reaches_nobody Ifc = true
+reaches_nobody (Own a) = true
+reaches_nobody _ = false

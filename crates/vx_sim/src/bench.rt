@@ -1,0 +1,208 @@
+//! The bench: the instruments on a bus, each at its address.
+
+ghost use Rattle.std.specs.Prelude.{◌≡◌, ◌≤◌, ◌<◌, ◌+◌, ℕ, true, false, not, List, [], ◌∷◌, ◌++◌, length, map, filter, position, find, IfOk, IfSome, vec_len, vec_capacity};
+ghost use Rattle.std.specs.List.{list_any, insert};
+ghost use Rattle.vx_sim.specs.Seats.{TakesByte, Receives};
+ghost use Rattle.vx_sim.specs.Bench.{listens, talks, some_refuses, answers_get, holds_get, stands_at, BenchWhere, BenchAfterCommand, BenchAfterRemote, TalkerGives};
+ghost use Rattle.vx_sim.specs.Attaching.{clashes, holder};
+ghost use Rattle.vx_sim.specs.Shown.{seat_of, placed_of, bench_of, is_meant, is_so, AtPlace, TalkerGave};
+
+use crate::places::{Place, Stand};
+use crate::signals::{Question, Signal, Whom};
+use crate::{NoMemory, PLACES_MAX};
+use std::alloc::Global;
+use std::marker::Model;
+use vx_488::{Addr, Command, Wire};
+use vx_inst::Instrument;
+
+/// The instruments on a bus, in the order in which they were attached, with room for as many as a bus takes. No two of
+/// them are in each other's way.
+#[derive(Drop)]
+pub(crate) struct Bench<I: Instrument> {
+    places: Vec<Place<I>>,
+}
+
+impl<I: Instrument> Model for Bench<I> {
+    ghost use Rattle.std.specs.Prelude.{◌≤◌, List, vec_len, vec_capacity};
+    ghost use Rattle.vx_sim.specs.declared.TheConstants.{PLACES_MAX};
+    ghost use Rattle.vx_sim.specs.Seats.{Placed};
+    ghost use Rattle.vx_sim.specs.Shown.{bench_of, AreApart};
+
+    ghost Value = { List Placed };
+
+    ghost view = { λ b. bench_of (λ i. I.view i) b.places.items };
+
+    ghost invariant = { λ b. (vec_len b.places ≤ PLACES_MAX) × (PLACES_MAX ≤ vec_capacity b.places)
+        × AreApart (bench_of (λ i. I.view i) b.places.items) };
+}
+
+impl<I: Instrument> Bench<I> {
+    /// An empty one. Its room is made here.
+    pub(crate) fn new(alloc: Global) -> Result<Bench<I>, NoMemory>
+        ensures { IfOk result (λ bench. bench ≡ []) }
+    {
+        let Ok(places) = Vec::with_capacity(alloc, PLACES_MAX) else {
+            return Err(NoMemory);
+        };
+        Ok(Bench { places })
+    }
+
+    /// How many instruments there are.
+    pub(crate) fn len(&self) -> usize
+        ensures many { result ≡ length self.now }
+        ensures within { length self.now ≤ PLACES_MAX }
+    {
+        self.places.len()
+    }
+
+    /// Whether this is so of some instrument.
+    pub(crate) fn any(&self, wire: &Wire, question: Question) -> bool
+        ensures { result ≡ list_any (is_so wire.now question) self.now }
+    {
+        any_place(&self.places, wire, question)
+    }
+
+    /// The first instrument that is in the way of one at this address.
+    pub(crate) fn holder(&self, a: Addr) -> Option<Addr>
+        ensures { result ≡ holder self.now a }
+    {
+        first_clash(&self.places, a)
+    }
+
+    /// Puts an instrument at the end.
+    pub(crate) fn add(&mut self, at: Addr, stand: Stand<I>)
+        requires few { length self.old < PLACES_MAX }
+        requires free { holder self.old at ≡ None }
+        ensures { self.new ≡ self.old ++ (record { at = at; seat = seat_of (λ i. I.view i) stand }) ∷ [] }
+    {
+        self.places.push_reserved(Place { at, stand });
+    }
+
+    /// Takes away the instrument at this address, which is dropped.
+    pub(crate) fn remove(&mut self, a: Addr)
+        ensures { self.new ≡ filter (λ p. not (stands_at a p)) self.old }
+    {
+        remove_at(&mut self.places, a);
+    }
+
+    /// Every listener takes a byte.
+    pub(crate) fn put(&mut self, wire: &Wire, b: u8, end: bool)
+        requires { some_refuses wire.now self.old ≡ false }
+        ensures { BenchWhere (listens wire.now) (TakesByte b end) self.old self.new }
+    {
+        put_all(&mut self.places, wire, b, end);
+    }
+
+    /// The instruments that are meant are told what they answer nothing to.
+    pub(crate) fn tell(&mut self, wire: &Wire, whom: Whom, signal: Signal)
+        ensures { BenchWhere (is_meant wire.now whom) (Receives signal) self.old self.new }
+    {
+        tell_all(&mut self.places, wire, whom, signal);
+    }
+
+    /// A command reaches the instruments.
+    pub(crate) fn command(&mut self, wire: &Wire, command: Command)
+        ensures { BenchAfterCommand wire.now command self.old self.new }
+    {
+        match command {
+            Command::SelectedClear => self.tell(wire, Whom::Listeners, Signal::Clear),
+            Command::Trigger => self.tell(wire, Whom::Listeners, Signal::Trigger),
+            Command::GoToLocal => self.tell(wire, Whom::Listeners, Signal::Local),
+            Command::DeviceClear => self.tell(wire, Whom::Everyone, Signal::Clear),
+            _ => {}
+        }
+    }
+
+    /// Remote enable is switched.
+    pub(crate) fn remote(&mut self, wire: &Wire, on: bool)
+        ensures { BenchAfterRemote on self.old self.new }
+    {
+        if !on {
+            self.tell(wire, Whom::Everyone, Signal::Local);
+        }
+    }
+
+    /// The talker gives a byte: in serial poll mode its status byte, without END.
+    pub(crate) fn give(&mut self, wire: &Wire) -> (u8, bool)
+        requires { holds_get wire.now self.old ≡ false }
+        ensures { BenchWhere (talks wire.now) (TalkerGives wire.now.polling (record { value = result.0; end = result.1 })) self.old self.new }
+    {
+        match first_to_answer(&self.places, wire) {
+            Some(index) => give_at(&mut self.places, index, wire),
+            None => (0, false),
+        }
+    }
+}
+
+/// Whether this is so at some place.
+fn any_place<I: Instrument>(places: &[Place<I>], wire: &Wire, question: Question) -> bool
+    ensures { result ≡ list_any (λ p. is_so wire.now question (placed_of (λ i. I.view i) p)) places.now }
+{
+    places.iter().any(|place| place.is_so(wire, question))
+}
+
+/// The first place at which the talker can answer a get.
+fn first_to_answer<I: Instrument>(places: &[Place<I>], wire: &Wire) -> Option<usize>
+    ensures first { result ≡ position (λ p. answers_get wire.now (placed_of (λ i. I.view i) p)) places.now }
+    ensures within { IfSome result (λ i. i < length places.now) }
+{
+    places
+        .iter()
+        .position(|place| place.is_so(wire, Question::Answers))
+}
+
+/// The first address that is in the way of this one.
+fn first_clash<I: Instrument>(places: &[Place<I>], a: Addr) -> Option<Addr>
+    ensures { result ≡ find (λ h. clashes h a) (map (λ p. p.at) places.now) }
+{
+    places
+        .iter()
+        .map(|place| place.at)
+        .find(|at| clashes(*at, a))
+}
+
+/// Whether two instruments can't stand at these: they are one address, or at one primary where one of the two has no
+/// secondary.
+fn clashes(a: Addr, b: Addr) -> bool
+    ensures { result ≡ clashes a b }
+{
+    a.p == b.p && (a.s.is_none() || b.s.is_none() || a.s == b.s)
+}
+
+/// Every listener takes a byte.
+fn put_all<I: Instrument>(places: &mut [Place<I>], wire: &Wire, b: u8, end: bool)
+    requires { some_refuses wire.now (bench_of (λ i. I.view i) places.old) ≡ false }
+    ensures { BenchWhere (listens wire.now) (TakesByte b end) (bench_of (λ i. I.view i) places.old) (bench_of (λ i. I.view i) places.new) }
+{
+    for place in places.iter_mut() {
+        place.put(wire, b, end);
+    }
+}
+
+/// Those that are meant are told what they answer nothing to.
+fn tell_all<I: Instrument>(places: &mut [Place<I>], wire: &Wire, whom: Whom, signal: Signal)
+    ensures { BenchWhere (is_meant wire.now whom) (Receives signal) (bench_of (λ i. I.view i) places.old) (bench_of (λ i. I.view i) places.new) }
+{
+    for place in places.iter_mut() {
+        place.receive(wire, whom, signal);
+    }
+}
+
+/// The talker, which stands at this place, gives a byte.
+fn give_at<I: Instrument>(places: &mut [Place<I>], index: usize, wire: &Wire) -> (u8, bool)
+    requires within { index < length places.old }
+    requires answers { position (λ p. answers_get wire.now (placed_of (λ i. I.view i) p)) places.old ≡ Some index }
+    ensures { AtPlace index (TalkerGave wire.now (record { value = result.0; end = result.1 })) (bench_of (λ i. I.view i) places.old) (bench_of (λ i. I.view i) places.new) }
+{
+    let place = &mut places[index];
+    place.give(wire)
+}
+
+/// The instrument at this address is dropped.
+fn remove_at<I: Instrument>(places: &mut Vec<Place<I>>, a: Addr)
+    ensures left { places.new.items ≡ filter (λ p. not (stands_at a (placed_of (λ i. I.view i) p))) places.old.items }
+    ensures fewer { vec_len places.new ≤ vec_len places.old }
+    ensures room { vec_capacity places.new ≡ vec_capacity places.old }
+{
+    places.retain(|place| place.at != a);
+}

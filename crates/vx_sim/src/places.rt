@@ -1,0 +1,198 @@
+//! An instrument at its place.
+
+ghost use Rattle.std.specs.Prelude.{◌≡◌, true, false};
+ghost use Rattle.vx_inst.specs.Laws.{takes_byte, gives_byte};
+ghost use Rattle.vx_sim.specs.Seats.{Table, Boxed, seen, TakesByte, Receives, GivesByte, GivesStatus};
+ghost use Rattle.vx_sim.specs.Bench.{listens, talks, refuses, answers_get, PlaceWhere, TalkerGives};
+ghost use Rattle.vx_sim.specs.Shown.{seat_of, placed_of, is_meant, is_so};
+
+use crate::signals::{Question, Signal, Whom};
+use vx_488::{Addr, Wire};
+use vx_inst::Instrument;
+use vx_table::TableInst;
+
+/// What stands at a place: a table instrument, which is known by its rules, or any other, which is known by its view.
+#[derive(Drop)]
+pub(crate) enum Stand<I> {
+    Table(TableInst),
+    Boxed(I),
+}
+
+/// An instrument at its address.
+#[derive(Drop)]
+pub(crate) struct Place<I> {
+    pub(crate) at: Addr,
+    pub(crate) stand: Stand<I>,
+}
+
+impl<I: Instrument> Stand<I> {
+    fn can_take(&self) -> bool
+        ensures { result ≡ takes_byte (seen (seat_of (λ i. I.view i) self.now)) }
+    {
+        match self {
+            Stand::Table(table) => table.can_take(),
+            Stand::Boxed(inst) => inst.can_take(),
+        }
+    }
+
+    fn can_give(&self) -> bool
+        ensures { result ≡ gives_byte (seen (seat_of (λ i. I.view i) self.now)) }
+    {
+        match self {
+            Stand::Table(table) => table.can_give(),
+            Stand::Boxed(inst) => inst.can_give(),
+        }
+    }
+
+    fn requests(&self) -> bool
+        ensures { result ≡ (seen (seat_of (λ i. I.view i) self.now)).rqs }
+    {
+        match self {
+            Stand::Table(table) => table.requests(),
+            Stand::Boxed(inst) => inst.requests(),
+        }
+    }
+
+    fn take(&mut self, b: u8, end: bool)
+        requires { takes_byte (seen (seat_of (λ i. I.view i) self.old)) ≡ true }
+        ensures { TakesByte b end (seat_of (λ i. I.view i) self.old) (seat_of (λ i. I.view i) self.new) }
+    {
+        match self {
+            Stand::Table(table) => table.take(b, end),
+            Stand::Boxed(inst) => inst.take(b, end),
+        }
+    }
+
+    /// Gives the next byte, and whether END stands on it.
+    fn give(&mut self) -> (u8, bool)
+        requires { gives_byte (seen (seat_of (λ i. I.view i) self.old)) ≡ true }
+        ensures { GivesByte (record { value = result.0; end = result.1 }) (seat_of (λ i. I.view i) self.old) (seat_of (λ i. I.view i) self.new) }
+    {
+        match self {
+            Stand::Table(table) => table.give(),
+            Stand::Boxed(inst) => inst.give(),
+        }
+    }
+
+    /// Gives its status byte.
+    fn poll(&mut self) -> u8
+        ensures { GivesStatus (record { value = result; end = false }) (seat_of (λ i. I.view i) self.old) (seat_of (λ i. I.view i) self.new) }
+    {
+        match self {
+            Stand::Table(table) => table.poll(),
+            Stand::Boxed(inst) => inst.poll(),
+        }
+    }
+
+    /// Is told what it answers nothing to.
+    pub(crate) fn receive(&mut self, signal: Signal)
+        ensures { Receives signal (seat_of (λ i. I.view i) self.old) (seat_of (λ i. I.view i) self.new) }
+    {
+        match self {
+            Stand::Table(table) => tell_table(table, signal),
+            Stand::Boxed(inst) => tell_boxed(inst, signal),
+        }
+    }
+}
+
+fn tell_table(table: &mut TableInst, signal: Signal)
+    ensures { Receives signal (Table table.old) (Table table.new) }
+{
+    match signal {
+        Signal::Clear => table.clear(),
+        Signal::Trigger => table.trigger(),
+        Signal::Local => table.local(),
+        Signal::Moment(now) => table.moment(now),
+        Signal::Status(b) => table.set_status(b),
+    }
+}
+
+fn tell_boxed<I: Instrument>(inst: &mut I, signal: Signal)
+    ensures { Receives signal (Boxed (I.view inst.old)) (Boxed (I.view inst.new)) }
+{
+    match signal {
+        Signal::Clear => inst.clear(),
+        Signal::Trigger => inst.trigger(),
+        Signal::Local => inst.local(),
+        Signal::Moment(now) => inst.moment(now),
+        Signal::Status(b) => inst.set_status(b),
+    }
+}
+
+impl<I: Instrument> Place<I> {
+    /// Whether it is a listener that can't take a byte.
+    fn refuses(&self, wire: &Wire) -> bool
+        ensures { result ≡ refuses wire.now (placed_of (λ i. I.view i) self.now) }
+    {
+        wire.listeners.has(self.at) && !self.stand.can_take()
+    }
+
+    /// Whether it is the talker.
+    fn talks(&self, wire: &Wire) -> bool
+        ensures { result ≡ talks wire.now (placed_of (λ i. I.view i) self.now) }
+    {
+        wire.talker == Some(self.at)
+    }
+
+    /// Whether it is the talker, and can answer a get.
+    fn answers_get(&self, wire: &Wire) -> bool
+        ensures { result ≡ answers_get wire.now (placed_of (λ i. I.view i) self.now) }
+    {
+        self.talks(wire) && (wire.polling || self.stand.can_give())
+    }
+
+    /// What it answers to a question.
+    pub(crate) fn is_so(&self, wire: &Wire, question: Question) -> bool
+        ensures { result ≡ is_so wire.now question (placed_of (λ i. I.view i) self.now) }
+    {
+        match question {
+            Question::Listens => wire.listeners.has(self.at),
+            Question::Refuses => self.refuses(wire),
+            Question::Answers => self.answers_get(wire),
+            Question::Asks => self.stand.requests(),
+            Question::Stands(a) => self.at == a,
+        }
+    }
+
+    fn is_meant(&self, wire: &Wire, whom: Whom) -> bool
+        ensures { result ≡ is_meant wire.now whom (placed_of (λ i. I.view i) self.now) }
+    {
+        match whom {
+            Whom::Listeners => wire.listeners.has(self.at),
+            Whom::Everyone => true,
+            Whom::At(a) => self.at == a,
+        }
+    }
+
+    /// Takes a byte where it is a listener.
+    pub(crate) fn put(&mut self, wire: &Wire, b: u8, end: bool)
+        requires { refuses wire.now (placed_of (λ i. I.view i) self.old) ≡ false }
+        ensures { PlaceWhere (listens wire.now) (TakesByte b end) (placed_of (λ i. I.view i) self.old) (placed_of (λ i. I.view i) self.new) }
+    {
+        if wire.listeners.has(self.at) {
+            self.stand.take(b, end);
+        }
+    }
+
+    /// Is told what it answers nothing to, where it is meant.
+    pub(crate) fn receive(&mut self, wire: &Wire, whom: Whom, signal: Signal)
+        ensures { PlaceWhere (is_meant wire.now whom) (Receives signal) (placed_of (λ i. I.view i) self.old) (placed_of (λ i. I.view i) self.new) }
+    {
+        if self.is_meant(wire, whom) {
+            self.stand.receive(signal);
+        }
+    }
+
+    /// Gives a byte: in serial poll mode its status byte, without END.
+    pub(crate) fn give(&mut self, wire: &Wire) -> (u8, bool)
+        requires { answers_get wire.now (placed_of (λ i. I.view i) self.old) ≡ true }
+        ensures gives { TalkerGives wire.now.polling (record { value = result.0; end = result.1 }) (seat_of (λ i. I.view i) self.old.stand) (seat_of (λ i. I.view i) self.new.stand) }
+        ensures stays { self.new.at ≡ self.old.at }
+    {
+        if wire.polling {
+            (self.stand.poll(), false)
+        } else {
+            self.stand.give()
+        }
+    }
+}

@@ -1,0 +1,39 @@
+use vx_488::Addr;
+
+/// What an instrument is told, and answers nothing to.
+#[derive(Clone, Copy, Debug, PartialEq, Eq)]
+pub enum Signal {
+    /// A device clear (IEEE 488.1, 2.10).
+    Clear,
+    /// A trigger (IEEE 488.1, 2.11).
+    Trigger,
+    /// To go to local control (IEEE 488.1, 2.8).
+    Local,
+    /// A moment, in milliseconds.
+    Moment(u64),
+    /// What its status byte is from here on.
+    Status(u8),
+}
+
+/// Which instruments of a bench are meant.
+#[derive(Clone, Copy, Debug, PartialEq, Eq)]
+pub(crate) enum Whom {
+    Listeners,
+    Everyone,
+    At(Addr),
+}
+
+/// What is asked of the instruments of a bench.
+#[derive(Clone, Copy, Debug, PartialEq, Eq)]
+pub(crate) enum Question {
+    /// Whether it is a listener.
+    Listens,
+    /// Whether it is a listener that can't take a byte.
+    Refuses,
+    /// Whether it is the talker, and can answer a get.
+    Answers,
+    /// Whether it asks for service.
+    Asks,
+    /// Whether it stands at this address.
+    Stands(Addr),
+}

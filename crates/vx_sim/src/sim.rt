@@ -1,0 +1,432 @@
+//! The simulated bus.
+
+ghost use Rattle.std.specs.Prelude.{◌≡◌, ◌<◌, ◌≤◌, ◌+◌, length, None, Some, true, IfOk, MatchResult, is_ok};
+ghost use Rattle.std.specs.List.{list_any};
+ghost use Rattle.vx_488.specs.declared.transfers.Transfer.TheVariants.{Cmd, Put, Ren, Ifc, Own};
+ghost use Rattle.vx_488.specs.Address.{is_bus_address};
+ghost use Rattle.vx_bus.specs.Steps.{Went, Held, Failed, Told, Cut, move_step, get_step, line_transfer, IsStepped};
+ghost use Rattle.vx_sim.specs.Seats.{Table, Boxed};
+ghost use Rattle.vx_sim.specs.Bench.{stands_at, some_asks, some_refuses, holds_put, holds_get};
+ghost use Rattle.vx_sim.specs.SimState.{first_state, is_next, nearer, means_after, Through};
+ghost use Rattle.vx_sim.specs.Attaching.{refusal, taken_or_full, IsAttached, without_place, IsSet};
+ghost use Rattle.vx_sim.specs.Shown.{seat_of, reaches_nobody};
+
+use crate::attach::{Absent, Attach, Refused};
+use crate::bench::Bench;
+use crate::places::Stand;
+use crate::signals::{Question, Signal, Whom};
+use crate::{NoMemory, PLACES_MAX};
+use std::alloc::Global;
+use std::marker::Model;
+use vx_488::{Addr, Line, Transfer, Wire, command_of};
+use vx_bus::{ASK_MAX, Ask, Bus, GetOut, Move};
+use vx_inst::Instrument;
+use vx_table::TableInst;
+
+/// A bus with up to [`PLACES_MAX`] instruments on it, each at an address of its own: table instruments, of which all is
+/// known by their rules, and others, of the one type `I`, of which the laws of every instrument are known. An instrument
+/// at an address that later becomes the gateway's own is addressed along with the gateway.
+///
+/// `I` may be a box of any instrument, or an enum of several.
+#[derive(Drop)]
+pub struct SimBus<I: Instrument> {
+    bench: Bench<I>,
+    // counted from 1, the next one
+    failing: Option<u32>,
+    // milliseconds
+    told: u64,
+    wire: Wire,
+    moves: Vec<Transfer>,
+    asks: u32,
+    holds: u64,
+    faults: u64,
+    refused: Option<Ask>,
+}
+
+impl<I: Instrument> Model for SimBus<I> {
+    ghost use Rattle.std.specs.Prelude.{◌≤◌, vec_len, vec_capacity};
+    ghost use Rattle.vx_bus.specs.declared.asks.TheConstants.{ASK_MAX};
+    ghost use Rattle.vx_sim.specs.SimState.{SimState};
+
+    ghost Value = { SimState };
+
+    ghost view = { λ s. record {
+      means = record {
+        wire = s.wire;
+        moves = s.moves.items;
+        asks = s.asks;
+        holds = s.holds;
+        faults = s.faults;
+        refused = s.refused;
+      };
+      bench = s.bench;
+      failing = s.failing;
+      told = s.told;
+    } };
+
+    ghost invariant = { λ s. (vec_len s.moves ≤ s.asks) × (ASK_MAX ≤ vec_capacity s.moves) };
+}
+
+impl<I: Instrument> SimBus<I> {
+    /// A bus with nothing on it, at moment 0. Its room is made here.
+    pub fn new(alloc: Global) -> Result<SimBus<I>, NoMemory>
+        ensures { IfOk result (λ bus. bus ≡ first_state) }
+    {
+        let bench = Bench::new(alloc)?;
+        let Ok(moves) = Vec::with_capacity(alloc, ASK_MAX as usize) else {
+            return Err(NoMemory);
+        };
+        Ok(SimBus {
+            bench,
+            failing: None,
+            told: 0,
+            wire: Wire::first(),
+            moves,
+            asks: 0,
+            holds: 0,
+            faults: 0,
+            refused: None,
+        })
+    }
+
+    /// Attaches a table instrument at this address, both parts of which are at most 30, and tells it the last moment.
+    /// It is handed back, and nothing changes, where it can't stand there.
+    pub fn attach_table(&mut self, a: Addr, inst: TableInst) -> Result<(), Refused<TableInst>>
+        requires { is_bus_address a ≡ true }
+        ensures answer { MatchResult result (λ _. refusal self.old a ≡ None) (λ r. refusal self.old a ≡ Some r.why) }
+        ensures attached { MatchResult result (λ _. IsAttached a (Table inst) self.old self.new) (λ r. (r.inst ≡ inst) × (self.new ≡ self.old)) }
+    {
+        match self.refusal(a) {
+            Some(why) => Err(Refused { why, inst }),
+            None => {
+                self.place(a, Stand::Table(inst));
+                Ok(())
+            }
+        }
+    }
+
+    /// Attaches any other instrument at this address, both parts of which are at most 30, and tells it the last moment.
+    /// It is handed back, and nothing changes, where it can't stand there.
+    pub fn attach_box(&mut self, a: Addr, inst: I) -> Result<(), Refused<I>>
+        requires { is_bus_address a ≡ true }
+        ensures answer { MatchResult result (λ _. refusal self.old a ≡ None) (λ r. refusal self.old a ≡ Some r.why) }
+        ensures attached { MatchResult result (λ _. IsAttached a (Boxed (I.view inst)) self.old self.new) (λ r. (I.view r.inst ≡ I.view inst) × (self.new ≡ self.old)) }
+    {
+        match self.refusal(a) {
+            Some(why) => Err(Refused { why, inst }),
+            None => {
+                self.place(a, Stand::Boxed(inst));
+                Ok(())
+            }
+        }
+    }
+
+    /// Takes the instrument at this address off the bus, and drops it. Both parts of the address are at most 30.
+    pub fn pull(&mut self, a: Addr) -> Result<(), Absent>
+        requires { is_bus_address a ≡ true }
+        ensures answer { is_ok result ≡ list_any (stands_at a) self.old.bench }
+        ensures pulled { MatchResult result (λ _. self.new ≡ without_place a self.old) (λ _. self.new ≡ self.old) }
+    {
+        if !self.bench.any(&self.wire, Question::Stands(a)) {
+            return Err(Absent);
+        }
+        self.bench.remove(a);
+        Ok(())
+    }
+
+    /// Sets the status byte of the instrument at this address. Bit 6 says whether it asks for service.
+    pub fn set_status(&mut self, a: Addr, b: u8) -> Result<(), Absent>
+        ensures answer { is_ok result ≡ list_any (stands_at a) self.old.bench }
+        ensures set { MatchResult result (λ _. IsSet a b self.old self.new) (λ _. self.new ≡ self.old) }
+    {
+        if !self.bench.any(&self.wire, Question::Stands(a)) {
+            return Err(Absent);
+        }
+        self.bench.tell(&self.wire, Whom::At(a), Signal::Status(b));
+        Ok(())
+    }
+
+    /// Makes the n-th moving call from now fail: of the commands, puts, gets, lines, interface clears and changes of the
+    /// own address, counted together. An earlier order is forgotten.
+    pub fn fail_after(&mut self, n: u32)
+        requires { 1 ≤ n }
+        ensures { self.new ≡ record self.old { failing = Some n } }
+    {
+        self.failing = Some(n);
+    }
+
+    /// Why no instrument can be attached at this address, where none can.
+    fn refusal(&self, a: Addr) -> Option<Attach>
+        ensures { result ≡ refusal self.now a }
+    {
+        if a.p == self.wire.own {
+            return Some(Attach::OwnAddress);
+        }
+        match self.bench.holder(a) {
+            Some(holder) => Some(Attach::Taken { holder }),
+            None => self.full(),
+        }
+    }
+
+    /// That there are as many instruments as a bus takes, where there are.
+    fn full(&self) -> Option<Attach>
+        ensures { result ≡ taken_or_full None (length self.now.bench) }
+    {
+        if self.bench.len() >= PLACES_MAX {
+            Some(Attach::Full)
+        } else {
+            None
+        }
+    }
+
+    /// Puts an instrument at the end of the bench, and tells it the last moment.
+    fn place(&mut self, at: Addr, mut stand: Stand<I>)
+        requires { refusal self.old at ≡ None }
+        ensures { IsAttached at (seat_of (λ i. I.view i) stand) self.old self.new }
+    {
+        stand.receive(Signal::Moment(self.told));
+        self.bench.add(at, stand);
+    }
+
+    /// Whether the next moving call is the one that is told to fail.
+    fn fails_next(&self) -> bool
+        ensures { result ≡ is_next self.now.failing }
+    {
+        self.failing == Some(1)
+    }
+
+    /// Whether a put is held: no instrument is a listener, or some listener can't take a byte.
+    fn holds_put(&self) -> bool
+        ensures { result ≡ holds_put self.now.means.wire self.now.bench }
+    {
+        !self.bench.any(&self.wire, Question::Listens)
+            || self.bench.any(&self.wire, Question::Refuses)
+    }
+
+    /// Switches remote enable, unless this is the call that is told to fail.
+    fn remote(&mut self, on: bool) -> Move
+        requires { self.old.means.asks < ASK_MAX }
+        ensures { Through self.old (move_step (Ren on) result) self.new }
+    {
+        if self.fails_next() {
+            return self.failed(Ask::Ren(on));
+        }
+        self.bench.remote(&self.wire, on);
+        self.made(Transfer::Ren(on))
+    }
+
+    /// Makes a transfer that reaches no instrument, unless this is the call that is told to fail.
+    fn send(&mut self, t: Transfer) -> Move
+        requires room { self.old.means.asks < ASK_MAX }
+        requires reaches { reaches_nobody t ≡ true }
+        ensures { Through self.old (move_step t result) self.new }
+    {
+        if self.fails_next() {
+            return self.failed(Ask::from(t));
+        }
+        self.made(t)
+    }
+
+    /// The transfer was made.
+    fn made(&mut self, t: Transfer) -> Move
+        requires { self.old.means.asks < ASK_MAX }
+        ensures answer { result ≡ Move.Went }
+        ensures after { self.new ≡ record self.old { means = means_after self.old.means (Went t); failing = nearer self.old.failing } }
+    {
+        self.asks += 1;
+        self.failing = nearer(self.failing);
+        self.moves.push_reserved(t);
+        self.wire.apply(&t);
+        Move::Went
+    }
+
+    /// The ask didn't go, and is kept as the last that didn't.
+    fn refused(&mut self, asked: Ask)
+        requires { self.old.means.asks < ASK_MAX }
+        ensures { self.new ≡ record self.old { means = record self.old.means { asks = self.old.means.asks + 1; refused = Some asked }; failing = nearer self.old.failing } }
+    {
+        self.asks += 1;
+        self.failing = nearer(self.failing);
+        self.refused = Some(asked);
+    }
+
+    /// The ask was held.
+    fn held(&mut self, asked: Ask) -> Move
+        requires { self.old.means.asks < ASK_MAX }
+        ensures answer { result ≡ Move.Held }
+        ensures after { self.new ≡ record self.old { means = means_after self.old.means (Held asked); failing = nearer self.old.failing } }
+    {
+        self.holds = self.holds.saturating_add(1);
+        self.refused(asked);
+        Move::Held
+    }
+
+    /// The ask failed.
+    fn failed(&mut self, asked: Ask) -> Move
+        requires { self.old.means.asks < ASK_MAX }
+        ensures answer { result ≡ Move.Failed }
+        ensures after { self.new ≡ record self.old { means = means_after self.old.means (Failed asked); failing = nearer self.old.failing } }
+    {
+        self.faults = self.faults.saturating_add(1);
+        self.refused(asked);
+        Move::Failed
+    }
+}
+
+/// The order after one more moving call: it is nearer by one, or done.
+fn nearer(failing: Option<u32>) -> Option<u32>
+    ensures { result ≡ nearer failing }
+{
+    match failing {
+        None | Some(1) => None,
+        Some(n) => Some(n.saturating_sub(1)),
+    }
+}
+
+impl<I: Instrument> Bus for SimBus<I> {
+    ghost use Rattle.std.specs.Prelude.{◌≡◌, ◌<◌, ◌≤◌};
+    ghost use Rattle.vx_488.specs.declared.transfers.Transfer.TheVariants.{Cmd, Put, Ifc, Own};
+    ghost use Rattle.vx_bus.specs.Steps.{Told, Cut, move_step, get_step, line_transfer, IsStepped};
+    ghost use Rattle.vx_sim.specs.Bench.{some_asks, some_refuses};
+    ghost use Rattle.vx_sim.specs.SimState.{Through};
+
+    ghost means = { λ s. s.means };
+
+    ghost srq_level = { λ s. some_asks s.bench };
+
+    ghost ndac_level = { λ s. some_refuses s.means.wire s.bench };
+
+    ghost through = { Through };
+
+    /// Sends a command byte, unless this is the call that is told to fail. SDC, GET and GTL reach the listeners, and DCL
+    /// every instrument.
+    fn command(&mut self, b: u8) -> Move
+        requires { self.old.means.asks < ASK_MAX }
+        ensures stepped { IsStepped self.old.means (move_step (Cmd b) result) self.new.means }
+        ensures through { Through self.old (move_step (Cmd b) result) self.new }
+    {
+        if self.fails_next() {
+            return self.failed(Ask::Cmd(b));
+        }
+        self.bench.command(&self.wire, command_of(b));
+        self.made(Transfer::Cmd(b))
+    }
+
+    /// Sends a data byte to the listeners, unless this is the call that is told to fail. It is held where no instrument
+    /// is a listener, or some listener can't take it.
+    fn put(&mut self, b: u8, end: bool) -> Move
+        requires { self.old.means.asks < ASK_MAX }
+        ensures stepped { IsStepped self.old.means (move_step (Put b end) result) self.new.means }
+        ensures through { Through self.old (move_step (Put b end) result) self.new }
+    {
+        if self.fails_next() {
+            return self.failed(Ask::Put { b, end });
+        }
+        if self.holds_put() {
+            return self.held(Ask::Put { b, end });
+        }
+        self.bench.put(&self.wire, b, end);
+        self.made(Transfer::Put { b, end })
+    }
+
+    /// Takes a byte from the talker, unless this is the call that is told to fail: in serial poll mode its status byte,
+    /// without END. It is held where no instrument is the talker, or the talker has no byte to give.
+    fn get(&mut self) -> GetOut
+        requires { self.old.means.asks < ASK_MAX }
+        ensures stepped { IsStepped self.old.means (get_step result) self.new.means }
+        ensures through { Through self.old (get_step result) self.new }
+    {
+        if self.fails_next() {
+            self.failed(Ask::Get);
+            return GetOut::Failed;
+        }
+        if !self.bench.any(&self.wire, Question::Answers) {
+            self.held(Ask::Get);
+            return GetOut::Held;
+        }
+        let (b, end) = self.bench.give(&self.wire);
+        self.made(Transfer::Got { b, end });
+        GetOut::Byte { b, end }
+    }
+
+    /// Switches a line on or off, unless this is the call that is told to fail. REN that goes off sends every instrument
+    /// to local control.
+    fn line(&mut self, l: Line, on: bool) -> Move
+        requires { self.old.means.asks < ASK_MAX }
+        ensures stepped { IsStepped self.old.means (move_step (line_transfer l on) result) self.new.means }
+        ensures through { Through self.old (move_step (line_transfer l on) result) self.new }
+    {
+        match l {
+            Line::Ren => self.remote(on),
+            Line::Atn => self.send(Transfer::Atn(on)),
+        }
+    }
+
+    /// Sends interface clear, unless this is the call that is told to fail.
+    fn ifc(&mut self) -> Move
+        requires { self.old.means.asks < ASK_MAX }
+        ensures stepped { IsStepped self.old.means (move_step Ifc result) self.new.means }
+        ensures through { Through self.old (move_step Ifc result) self.new }
+    {
+        self.send(Transfer::Ifc)
+    }
+
+    /// Makes this the gateway's own address, 0 to 30, unless this is the call that is told to fail.
+    fn own(&mut self, address: u8) -> Move
+        requires room { self.old.means.asks < ASK_MAX }
+        requires address { address ≤ 30 }
+        ensures stepped { IsStepped self.old.means (move_step (Own address) result) self.new.means }
+        ensures through { Through self.old (move_step (Own address) result) self.new }
+    {
+        self.send(Transfer::Own(address))
+    }
+
+    /// Whether some instrument asks for service.
+    fn srq(&self) -> bool
+        ensures { result ≡ some_asks self.now.bench }
+    {
+        self.bench.any(&self.wire, Question::Asks)
+    }
+
+    /// Whether some instrument is a listener that can't take a byte.
+    fn ndac(&self) -> bool
+        ensures { result ≡ some_refuses self.now.means.wire self.now.bench }
+    {
+        self.bench.any(&self.wire, Question::Refuses)
+    }
+
+    /// Tells every instrument a moment, in milliseconds, that is later than the last one. Another changes nothing.
+    fn moment(&mut self, now: u64)
+        ensures stepped { self.new.means ≡ self.old.means }
+        ensures through { Through self.old (Told now) self.new }
+    {
+        if now > self.told {
+            self.bench
+                .tell(&self.wire, Whom::Everyone, Signal::Moment(now));
+            self.told = now;
+        }
+    }
+
+    /// Empties the list of transfers, and begins to count asks anew.
+    fn cut(&mut self)
+        ensures stepped { IsStepped self.old.means Cut self.new.means }
+        ensures through { Through self.old Cut self.new }
+    {
+        self.moves.clear();
+        self.asks = 0;
+    }
+
+    /// The transfers since the last cut, in order.
+    fn moves(&self) -> &[Transfer]
+        ensures { result.now ≡ self.now.means.moves }
+    {
+        self.moves.as_slice()
+    }
+
+    /// What the transfers so far mean for the bus.
+    fn wire(&self) -> Wire
+        ensures { result ≡ self.now.means.wire }
+    {
+        self.wire
+    }
+}
