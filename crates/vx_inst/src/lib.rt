@@ -20,7 +20,7 @@ pub const INST_MAX: usize = 262144;
 ///
 /// Each call says how the view changes, and that it is sound then: at most [`INST_MAX`] bytes taken, at most that many to
 /// give, and bit 6 of the status byte zero. So one look at a boxed instrument tells it of the box. No call takes memory.
-pub trait Instrument: Send + Drop {
+pub trait Instrument: Drop {
     // How it is seen from the bus.
     ghost view: { Self → View };
 
