@@ -11,3 +11,7 @@ pub mod JobInput
 pub mod Room
 pub mod Granting
 pub mod Passing
+pub mod Doable
+pub mod Folding
+pub mod Standing
+pub mod Answering

@@ -1,7 +1,29 @@
 -- What a call asks for: its link, its flags and timeouts, and of which kind it is.
 use Rattle.std.specs.Prelude.{ℕ, ◌-◌, ◌/◌, ◌%◌, Bool, true, false, ◌==◌, nat_le, List, [], Option, Some, None}
+use Rattle.vx_calls.specs.declared.calls.Proc.{Proc}
+use Rattle.vx_calls.specs.declared.calls.Proc.TheVariants as proc
 use Rattle.vx_calls.specs.Call.{Call}
 use Rattle.vx_calls.specs.Call as call
+
+-- the procedure of a call
+abbrev pub proc_of : Call → Proc
+proc_of call.Null = proc.Null
+proc_of (call.CreateLink client lock lock_timeout device) = proc.CreateLink
+proc_of (call.Write lid io_timeout lock_timeout flags bytes) = proc.Write
+proc_of (call.Read lid request io_timeout lock_timeout flags term) = proc.Read
+proc_of (call.ReadStb generic) = proc.ReadStb
+proc_of (call.Trigger generic) = proc.Trigger
+proc_of (call.Clear generic) = proc.Clear
+proc_of (call.Remote generic) = proc.Remote
+proc_of (call.Local generic) = proc.Local
+proc_of (call.Lock lid flags lock_timeout) = proc.Lock
+proc_of (call.Unlock lid) = proc.Unlock
+proc_of (call.EnableSrq lid enable handle) = proc.EnableSrq
+proc_of (call.Docmd lid flags io_timeout lock_timeout cmd big size bytes) = proc.Docmd
+proc_of (call.DestroyLink lid) = proc.DestroyLink
+proc_of (call.CreateIntr host port prog vers family) = proc.CreateIntr
+proc_of call.DestroyIntr = proc.DestroyIntr
+proc_of (call.DeviceAbort lid) = proc.DeviceAbort
 
 -- the flags waitlock, end and termchrset (VXI-11, Device_Flags)
 abbrev pub waits_lock : ℕ → Bool

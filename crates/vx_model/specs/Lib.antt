@@ -5,6 +5,7 @@ pub mod Docmd
 pub mod Checks
 pub mod Lines
 pub mod Effects
+pub mod Dials
 pub mod Decide
 pub mod Entry
 pub mod One
@@ -19,3 +20,6 @@ pub mod Input
 pub mod Serving
 pub mod EntryShown
 pub mod PassLaws
+pub mod Stepping
+pub mod StepShown
+pub mod PlainInside

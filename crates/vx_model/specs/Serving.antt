@@ -1,9 +1,13 @@
--- A dial of a call that may be settled.
-use Rattle.std.specs.Prelude.{ℕ, Bool, true, false, is_none, if◌then◌else◌, Option, Some}
+-- What a call that may be served comes to: the reply of one that needs no bus, a dial, and a job on the bus.
+use Rattle.std.specs.Prelude.{ℕ, ◌≤◌, Bool, true, false, is_none, if◌then◌else◌, List, length, Option, Some}
+use Rattle.vx_calls.specs.declared.limits.TheConstants.{WRITE_MAX}
 use Rattle.vx_calls.specs.declared.codes.ErrorCode.TheVariants as code
 use Rattle.vx_calls.specs.Reply.{Reply}
 use Rattle.vx_calls.specs.Reply as reply
 use Rattle.vx_srq.specs.Desk.{with_new_channel}
+use Rattle.vx_plan.specs.declared.tasks.Task.{Task}
+use Rattle.vx_plan.specs.Tasks.{IsPlainTask, IsTargetPlain, HasBytes}
+use Rattle.vx_links.specs.Table.{Link}
 use Rattle.vx_calls.specs.Call.{Call}
 use Rattle.vx_calls.specs.Call as call
 use Rattle.vx_model.specs.State.{Tables}
@@ -18,3 +22,18 @@ can_settle t conn _ = false
 abbrev pub settled : Tables → ℕ → ℕ → ℕ → Bool → Option (Reply × Tables)
 settled t conn prog vers up =
     if up then Some (reply.Error code.Ok, record t { desk = with_new_channel t.desk conn prog vers }) else Some (reply.Error code.NoChannel, t)
+
+-- the reply of a call that needs no bus and no dial, where nothing is against it
+abbrev pub served_reply : Tables → Call → Reply
+served_reply t (call.CreateLink client lock lock_timeout device) = reply.CreateLink code.Ok t.links.next t.abort_port WRITE_MAX
+served_reply t _ = reply.Error code.Ok
+
+-- both parts of a link's address are at most 30
+abbrev pub IsPlainLink : Link → Type 0
+IsPlainLink l = IsTargetPlain l.target
+
+-- a job that can be done on the bus: its addresses are at most 30, and these are its bytes, at most 65,536
+pub record IsDoable (job : Task) (bytes : List ℕ) : Type 0 where
+  pub plain : IsPlainTask job
+  pub sent : HasBytes job bytes
+  pub few : length bytes ≤ WRITE_MAX

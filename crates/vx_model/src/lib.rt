@@ -4,10 +4,12 @@
 
 mod entry;
 mod laws;
+mod plain;
 mod tables;
 
 pub use entry::EntryRef;
 pub use laws::{link_numbers, locks_apart, one_reply, passed_calls};
+pub use plain::Plain;
 pub use tables::{Connect, Lines, NoMemory, Request, Tables, may_wait};
 
 #[cfg(test)]

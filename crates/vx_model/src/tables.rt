@@ -6,6 +6,7 @@ ghost use Rattle.vx_calls.specs.Call.{call_shown};
 ghost use Rattle.vx_srq.specs.Shown.{given_shown};
 ghost use Rattle.vx_srq.specs.Desk as desk;
 ghost use Rattle.vx_model.specs.State as state;
+ghost use Rattle.vx_model.specs.Calls.{proc_of};
 ghost use Rattle.vx_model.specs.One.{may_wait, arrived, abort_reply, abort_tables};
 ghost use Rattle.vx_model.specs.Held.{IsShort};
 ghost use Rattle.vx_model.specs.Rows.{pending_of, connection_of};
@@ -22,14 +23,16 @@ mod text;
 use effects::drop_links;
 pub use kept::may_wait;
 use kept::{handle_of, text_of, words_of};
+pub(crate) use lines::has_passed;
 pub use lines::{Lines, Request};
 use rows::{
     Asked, Row, count_role, drop_row, end_call, find_row, is_same_role, keep_call, mark_calls,
+    procedure_of, put_call,
 };
 use std::alloc::Global;
 use std::marker::Model;
 use text::Text;
-use vx_calls::{CONNECTION_LAST, CallRef, ErrorCode, Handle, ROLE_MAX, Role, Taken};
+use vx_calls::{CONNECTION_LAST, CallRef, ErrorCode, Handle, Proc, ROLE_MAX, Role, Taken};
 use vx_links::Links;
 use vx_locks::Locks;
 use vx_srq::Srq;
@@ -48,7 +51,7 @@ pub enum Connect {
 
 /// The tables of a gateway. A contract sees them as the plain lists of a state's tables.
 ///
-/// `new` and `connect` make all room; no other call takes memory.
+/// `new` and `connect` make all room; of the other calls `arrive_any` alone takes memory.
 #[derive(Debug, Drop)]
 pub struct Tables {
     rows: Vec<Row>,
@@ -56,6 +59,8 @@ pub struct Tables {
     links: Links,
     locks: Locks,
     srq: Srq,
+    /// The number of the next link, as `links` has it.
+    next_link: u32,
     /// The number of the next channel, as `srq` has it.
     next_channel: u32,
     abort_port: u16,
@@ -76,7 +81,6 @@ impl Model for Tables {
 impl Tables {
     /// Tables with nothing in them, of a gateway whose abort channel is at this TCP port (the port that create_link tells).
     pub fn new(alloc: Global, abort_port: u16) -> Result<Tables, NoMemory>
-        requires { 0 < abort_port }
         ensures { IfOk result (λ tables. tables ≡ state.first_tables abort_port) }
     {
         let Ok(links) = Links::new(alloc) else {
@@ -94,6 +98,7 @@ impl Tables {
             links,
             locks,
             srq,
+            next_link: 1,
             next_channel: 1,
             abort_port,
         })
@@ -144,6 +149,16 @@ impl Tables {
         }
     }
 
+    /// The procedure of the call of a connection that has no answer yet.
+    pub fn procedure(&self, conn: u32) -> Option<Proc>
+        ensures { result ≡ option_map (λ p. proc_of p.call) (state.pending_at self.now conn) }
+    {
+        match find_row(&self.rows, conn) {
+            Some(row) => procedure_of(row),
+            None => None,
+        }
+    }
+
     /// Whether a call may come on a connection: it is a live core one without a call. `arrive` is told so.
     pub fn is_idle(&self, conn: u32) -> bool
         ensures { result ≡ state.is_idle self.now conn }
@@ -186,6 +201,29 @@ impl Tables {
         keep_call(&mut self.rows, conn, asked, text_of(call), handle_of(call));
     }
 
+    /// Keeps a call of any length, as `arrive` does, in room that is made for it where it has more bytes than a record.
+    ///
+    /// # Errors
+    ///
+    /// `NoMemory`; then nothing changed.
+    pub fn arrive_any(&mut self, conn: u32, call: &CallRef<'_>, now: u64) -> Result<(), NoMemory>
+        requires idle { state.is_idle self.old conn ≡ true }
+        requires waits { may_wait (call_shown call.now) ≡ true }
+        ensures ok { OnOk result (self.new ≡ state.with_pending self.old conn (Some (arrived (call_shown call.now) now))) }
+        ensures err { OnErr result (self.new ≡ self.old) }
+    {
+        let Ok(text) = Text::of(*self.rows.allocator(), text_of(call)) else {
+            return Err(NoMemory);
+        };
+        let asked = Asked {
+            call: words_of(call),
+            arrival: now,
+            aborted: false,
+        };
+        put_call(&mut self.rows, conn, asked, text, handle_of(call));
+        Ok(())
+    }
+
     /// The connection's call has its answer.
     pub fn end_call(&mut self, conn: u32)
         ensures { self.new ≡ state.with_pending self.old conn None }
@@ -207,6 +245,17 @@ impl Tables {
         }
     }
 
+    /// What a device_abort of this link answers: `Ok`, or `InvalidLink` where no link of this number lives. Nothing changes.
+    pub fn abort_reply(&self, lid: u32) -> ErrorCode
+        ensures { result ≡ abort_reply self.now lid }
+    {
+        if self.links.find(lid).is_some() {
+            ErrorCode::Ok
+        } else {
+            ErrorCode::InvalidLink
+        }
+    }
+
     /// A sample of the SRQ line.
     pub fn sample(&mut self, level: bool)
         ensures { self.new ≡ record self.old { desk = desk.sampled self.old.desk level } }
@@ -220,6 +269,13 @@ impl Tables {
         ensures taken { self.new ≡ record self.old { desk = desk.taken self.old.desk conn chan } }
     {
         self.srq.take(conn, chan)
+    }
+
+    /// What `take` would give. Nothing changes.
+    pub fn given(&self, conn: u32, chan: u32) -> Taken
+        ensures { given_shown result ≡ desk.given self.now.desk conn chan }
+    {
+        self.srq.given(conn, chan)
     }
 
     /// The number of the connection's channel, where it has one.

@@ -212,6 +212,13 @@ impl Srq {
         taken
     }
 
+    /// What a take from the connection's channel of this number would give. Nothing changes.
+    pub fn given(&self, conn: u32, chan: u32) -> Taken
+        ensures { given_shown result ≡ desk.given self.now conn chan }
+    {
+        front(&self.ports, conn, chan)
+    }
+
     /// What holds of every desk: links and their enables rise in number, and at most 256 have one; an outbox has at most
     /// 1,024 interrupts; each channel's number was given out, and the next one was not. It does nothing when it runs.
     pub fn is_sound(&self)

@@ -1,11 +1,12 @@
 //! What the calls that need no bus make of the tables, and their replies.
-ghost use Rattle.std.specs.Prelude.{◌≡◌, ℕ, ◌<◌, ◌+◌, ◌||◌, ◌&&◌, ◌==◌, true, false, not, filter, List, Some, None, Ok, IsSome, is_some, if◌then◌else◌, length};
+ghost use Rattle.std.specs.Prelude.{◌≡◌, ℕ, ◌<◌, ◌+◌, ◌||◌, ◌&&◌, ◌==◌, true, false, not, filter, List, Some, None, Ok, IfOk, IsSome, is_some, if◌then◌else◌, length};
 ghost use Rattle.vx_calls.specs.declared.codes.ErrorCode.TheVariants as code;
 ghost use Rattle.vx_calls.specs.declared.limits.TheConstants.{WRITE_MAX, LINK_MAX};
 ghost use Rattle.vx_calls.specs.Reply.{reply_shown};
 ghost use Rattle.vx_calls.specs.Reply as reply;
 ghost use Rattle.vx_488.specs.declared.transfers.Transfer.{Transfer};
 ghost use Rattle.vx_plan.specs.Results.{puts_made, bytes_got};
+ghost use Rattle.vx_plan.specs.Tasks.{IsTargetPlain};
 ghost use Rattle.vx_links.specs.Table.{Link, is_full, is_live};
 ghost use Rattle.vx_locks.specs.Locks.{holds, holder_of, is_blocked, with_lock, without_lock};
 ghost use Rattle.vx_srq.specs.Desk as desk;
@@ -16,7 +17,7 @@ ghost use Rattle.vx_model.specs.Lines as lines;
 ghost use Rattle.vx_model.specs.Effects as effects;
 ghost use Rattle.vx_model.specs.Held.{kept_call};
 ghost use Rattle.vx_model.specs.Sound.{owns, has_port};
-ghost use Rattle.vx_model.specs.Serving.{can_settle, settled};
+ghost use Rattle.vx_model.specs.Serving.{can_settle, settled, served_reply};
 
 use crate::tables::Tables;
 use crate::tables::kept::{Kept, copied};
@@ -54,6 +55,20 @@ impl Tables {
         }
     }
 
+    /// The reply of the pending call of a connection where it needs no bus and no dial, and nothing is against it, as
+    /// `effect` gives it. Nothing changes.
+    pub fn effect_reply(&self, conn: u32) -> ReplyRef<'static>
+        requires { IsSome (pending_at self.now conn) }
+        ensures { (p : Pending) → pending_at self.now conn ≡ Some p → reply_shown result ≡ served_reply self.now p.call }
+    {
+        let row = self.held(conn);
+        let asked = asked_of(row);
+        match asked.call {
+            Kept::CreateLink { .. } => link_reply(self.next_link, self.abort_port),
+            _ => done(),
+        }
+    }
+
     /// create_link: the link with the next number, to what the text names, and its lock where one is asked for.
     fn create(
         &mut self,
@@ -63,6 +78,7 @@ impl Tables {
     ) -> ReplyRef<'static>
         requires checks { check_create self.old named ≡ None }
         requires free { lock ≡ true → (t : Target) → named ≡ Ok t → holder_of self.old.locks 0 t ≡ None }
+        requires plain { IfOk named IsTargetPlain }
         ensures { effects.create self.old conn lock named ≡ Some (reply_shown result, self.new) }
     {
         match named {
@@ -74,11 +90,13 @@ impl Tables {
     fn make_link(&mut self, conn: u32, lock: bool, target: Target) -> ReplyRef<'static>
         requires room { is_full self.old.links ≡ false }
         requires free { lock ≡ true → holder_of self.old.locks 0 target ≡ None }
+        requires plain { IsTargetPlain target }
         ensures { effects.create self.old conn lock (Ok target) ≡ Some (reply_shown result, self.new) }
     {
         let Ok(lid) = self.links.insert(conn, target) else {
             unreachable!()
         };
+        self.next_link += 1;
         take_if(&mut self.locks, lock, lid, target);
         link_reply(lid, self.abort_port)
     }

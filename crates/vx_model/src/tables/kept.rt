@@ -3,10 +3,11 @@ ghost use Rattle.std.specs.Prelude.{◌≡◌, ℕ, List, [], true};
 ghost use Rattle.vx_calls.specs.Call.{call_shown};
 ghost use Rattle.vx_model.specs.One.{may_wait};
 ghost use Rattle.vx_model.specs.Held.{kept_call, text_of, handle_of, is_table_call};
-ghost use Rattle.vx_model.specs.Calls.{link_named, is_bus_call, is_lock_call, asks_dial, asks_wait, lock_timeout_of, io_timeout_of, is_big, waits_lock};
+ghost use Rattle.vx_model.specs.Dials.{dials_to};
+ghost use Rattle.vx_model.specs.Calls.{proc_of, link_named, is_bus_call, is_lock_call, asks_dial, asks_wait, lock_timeout_of, io_timeout_of, is_big, waits_lock};
 
 use arrayvec::ArrayVec;
-use vx_calls::{CallRef, Generic, Handle};
+use vx_calls::{CallRef, Generic, Handle, Proc};
 
 /// A call that has come, as words. Its bytes and its handle stand beside it in the row of its connection.
 #[derive(Clone, Copy, Debug)]
@@ -224,6 +225,29 @@ pub(crate) fn copied(handle: &Handle) -> Handle
 }
 
 impl Kept {
+    /// The call's procedure.
+    pub(crate) fn procedure(self) -> Proc
+        ensures { (text handle : List ℕ) → result ≡ proc_of (kept_call self text handle) }
+    {
+        match self {
+            Kept::CreateLink { .. } => Proc::CreateLink,
+            Kept::Write { .. } => Proc::Write,
+            Kept::Read { .. } => Proc::Read,
+            Kept::ReadStb(_) => Proc::ReadStb,
+            Kept::Trigger(_) => Proc::Trigger,
+            Kept::Clear(_) => Proc::Clear,
+            Kept::Remote(_) => Proc::Remote,
+            Kept::Local(_) => Proc::Local,
+            Kept::Lock { .. } => Proc::Lock,
+            Kept::Unlock { .. } => Proc::Unlock,
+            Kept::EnableSrq { .. } => Proc::EnableSrq,
+            Kept::Docmd { .. } => Proc::Docmd,
+            Kept::DestroyLink { .. } => Proc::DestroyLink,
+            Kept::CreateIntr { .. } => Proc::CreateIntr,
+            Kept::DestroyIntr => Proc::DestroyIntr,
+        }
+    }
+
     /// The link that the call names, where it names one.
     pub(crate) fn link(self) -> Option<u32>
         ensures { (text handle : List ℕ) → result ≡ link_named (kept_call self text handle) }
@@ -280,6 +304,16 @@ impl Kept {
         match self {
             Kept::CreateIntr { .. } => true,
             _ => false,
+        }
+    }
+
+    /// The IPv4 address and the TCP port that a create_intr_chan names.
+    pub(crate) fn dials_to(self) -> (u32, u32)
+        ensures { (text handle : List ℕ) → result ≡ dials_to (kept_call self text handle) }
+    {
+        match self {
+            Kept::CreateIntr { host, port, .. } => (host, port),
+            _ => (0, 0),
         }
     }
 

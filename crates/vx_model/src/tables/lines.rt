@@ -1,10 +1,11 @@
 //! The first lines of the order of answers: an abort, a link that isn't there, the call's own checks, and locks.
-ghost use Rattle.std.specs.Prelude.{◌≡◌, ℕ, List, true, Some, None, IsSome, length, ◌≤◌, if◌then◌else◌};
+ghost use Rattle.std.specs.Prelude.{◌≡◌, ℕ, List, true, Some, None, IsSome, IfSome, length, ◌≤◌, if◌then◌else◌};
 ghost use Rattle.std.specs.Option.{option_map};
-ghost use Rattle.vx_calls.specs.declared.limits.TheConstants.{RECORD_MAX};
+ghost use Rattle.vx_calls.specs.declared.limits.TheConstants.{WRITE_MAX};
 ghost use Rattle.vx_calls.specs.Target.{target};
 ghost use Rattle.vx_links.specs.Shown.{link_shown};
 ghost use Rattle.vx_model.specs.State.{Pending, pending_at};
+ghost use Rattle.vx_model.specs.Dials.{dials_to};
 ghost use Rattle.vx_model.specs.Calls as calls;
 ghost use Rattle.vx_model.specs.Checks as checks;
 ghost use Rattle.vx_model.specs.Lines as lines;
@@ -13,6 +14,7 @@ ghost use Rattle.vx_model.specs.Docmd as docmd;
 ghost use Rattle.vx_model.specs.Held.{kept_call};
 ghost use Rattle.vx_model.specs.Input.{TakesInput, HasInput};
 ghost use Rattle.vx_model.specs.Rows.{asked_call, pending_of};
+ghost use Rattle.vx_model.specs.Serving.{IsDoable};
 ghost use Rattle.vx_model.specs.Shown.{named_shown, lines_shown, request_shown};
 
 use crate::tables::Tables;
@@ -130,8 +132,10 @@ impl Tables {
     pub fn job(&self, conn: u32) -> Option<Task>
         requires pending { IsSome (pending_at self.now conn) }
         requires passes { (p : Pending) → pending_at self.now conn ≡ Some p → (own : ℕ) × (lines.lets_pass self.now own conn p ≡ true) }
-        ensures { (p : Pending) → pending_at self.now conn ≡ Some p → result ≡ task_of (checks.named_link self.now conn p.call) p.call }
+        ensures job { (p : Pending) → pending_at self.now conn ≡ Some p → result ≡ task_of (checks.named_link self.now conn p.call) p.call }
+        ensures doable { (p : Pending) → pending_at self.now conn ≡ Some p → IfSome result (λ task. IsDoable task (calls.bytes_of p.call)) }
     {
+        let _ = &self.rows;
         let row = self.held(conn);
         let asked = asked_of(row);
         match self.named(conn, asked.call) {
@@ -188,6 +192,16 @@ impl Tables {
         let row = self.held(conn);
         let asked = asked_of(row);
         asked.call.needs_dial()
+    }
+
+    /// The IPv4 address and the TCP port that the pending create_intr_chan of a connection names.
+    pub fn dials_to(&self, conn: u32) -> (u32, u32)
+        requires { IsSome (pending_at self.now conn) }
+        ensures { (p : Pending) → pending_at self.now conn ≡ Some p → result ≡ dials_to p.call }
+    {
+        let row = self.held(conn);
+        let asked = asked_of(row);
+        asked.call.dials_to()
     }
 
     /// The moment at which the pending call of a connection came, in milliseconds.
@@ -326,7 +340,7 @@ fn stop_of(flags: u32, term: u8) -> Option<u8>
 
 /// The job of a call on a link. A command takes its input.
 fn task_on(link: LinkRow, call: Kept, text: &[u8]) -> Option<Task>
-    requires short { length text.now ≤ RECORD_MAX }
+    requires short { (handle : List ℕ) → length (calls.bytes_of (kept_call call text.now handle)) ≤ WRITE_MAX }
     requires takes { (handle : List ℕ) → HasInput (kept_call call text.now handle) }
     ensures { (handle : List ℕ) → result ≡ task_on link.target (kept_call call text.now handle) }
 {
@@ -359,7 +373,7 @@ fn task_on(link: LinkRow, call: Kept, text: &[u8]) -> Option<Task>
 
 /// The job of a device_docmd. Its command takes its input.
 fn docmd_task(cmd: u32, big: bool, text: &[u8]) -> Option<Task>
-    requires short { length text.now ≤ RECORD_MAX }
+    requires short { length text.now ≤ WRITE_MAX }
     requires takes { TakesInput cmd big text.now }
     ensures { result ≡ option_map (λ c. docmd.command_task c big text.now) (docmd.command_of cmd) }
 {

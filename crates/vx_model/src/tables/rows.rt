@@ -6,11 +6,12 @@ ghost use Rattle.vx_calls.specs.declared.limits.TheConstants.{RECORD_MAX};
 ghost use Rattle.vx_model.specs.Lists.{update_first};
 ghost use Rattle.vx_model.specs.State.{same_role};
 ghost use Rattle.vx_model.specs.One.{mark_on};
-ghost use Rattle.vx_model.specs.Rows.{connection_of, asked_call};
+ghost use Rattle.vx_model.specs.Calls.{proc_of};
+ghost use Rattle.vx_model.specs.Rows.{connection_of, asked_call, pending_of};
 
 use crate::tables::kept::Kept;
 use crate::tables::text::Text;
-use vx_calls::{Handle, Role};
+use vx_calls::{Handle, Proc, Role};
 
 /// A call that has come and has no answer yet, the moment at which it came, in milliseconds, and whether a device_abort
 /// has marked it.
@@ -89,6 +90,29 @@ pub(crate) fn keep_call(rows: &mut [Row], conn: u32, asked: Asked, text: &[u8], 
         row.text.keep(text);
         row.handle = handle;
         row.asked = Some(asked);
+    }
+}
+
+/// The same, with bytes that stand in room of their own.
+pub(crate) fn put_call(rows: &mut [Row], conn: u32, asked: Asked, text: Text, handle: Handle)
+    ensures { map connection_of rows.new ≡ update_first (λ c. c.number == conn)
+        (λ c. record c { pending = Some (asked_call asked text.bytes.items handle.bytes.items) }) (map connection_of rows.old) }
+{
+    if let Some(place) = place_of(rows, conn) {
+        let row = &mut rows[place];
+        row.text = text;
+        row.handle = handle;
+        row.asked = Some(asked);
+    }
+}
+
+/// The procedure of a row's pending call.
+pub(crate) fn procedure_of(row: &Row) -> Option<Proc>
+    ensures { result ≡ option_map (λ p. proc_of p.call) (pending_of row.now) }
+{
+    match row.asked {
+        Some(asked) => Some(asked.call.procedure()),
+        None => None,
     }
 }
 

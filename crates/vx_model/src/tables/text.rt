@@ -4,12 +4,11 @@ ghost use Rattle.vx_calls.specs.declared.limits.TheConstants.{RECORD_MAX};
 use std::alloc::{AllocError, Global};
 use vx_calls::RECORD_MAX;
 
-/// The bytes of a pending call, its device text or its data, in room that is made once. No call has more than a record.
+/// The bytes of a pending call, its device text or its data, with room for those of a record.
 #[derive(Debug, Drop)]
 pub(crate) struct Text {
     pub(crate) bytes: Vec<u8>,
     ghost roomy: { RECORD_MAX ≤ vec_capacity bytes },
-    ghost within: { length bytes.items ≤ RECORD_MAX },
 }
 
 impl Text {
@@ -19,6 +18,15 @@ impl Text {
         Ok(Text {
             bytes: Vec::with_capacity(alloc, RECORD_MAX)?,
         })
+    }
+
+    /// These bytes, however many, in room of their own.
+    pub(crate) fn of(alloc: Global, bytes: &[u8]) -> Result<Text, AllocError>
+        ensures { IfOk result (λ t. t.bytes.items ≡ bytes.now) }
+    {
+        let mut kept = Vec::with_capacity(alloc, bytes.len().max(RECORD_MAX))?;
+        kept.extend_from_slice(bytes)?;
+        Ok(Text { bytes: kept })
     }
 
     /// Keeps these bytes in place of the ones before.

@@ -16,4 +16,6 @@ invariant_of-self c =
           (marked-sound (tables_of c.self.inside) c.args.lid c.self.invariant.sound);
       numbers = c.self.invariant.numbers;
       channels = c.self.invariant.channels;
+      links = c.self.invariant.links;
+      plain = c.self.invariant.plain;
     }

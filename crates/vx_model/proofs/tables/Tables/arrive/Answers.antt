@@ -30,4 +30,6 @@ invariant_of-self c =
           (λ k found some. core-is (connection_at t c.args.conn) k (and_parts _ _ idle).0 found));
       numbers = c.self.invariant.numbers;
       channels = c.self.invariant.channels;
+      links = c.self.invariant.links;
+      plain = c.self.invariant.plain;
     }

@@ -9,4 +9,6 @@ invariant_of-self c = record {
   sound = desk_sound (tables_of c.self.inside) _ _ c.close.ensures.closed (with_channel-sound (tables_of c.self.inside) c.args.conn None c.self.invariant.sound);
   numbers = c.self.invariant.numbers;
   channels = c.self.invariant.channels ∙ sym (ap (λ d. d.next_channel) c.close.ensures.closed);
+  links = c.self.invariant.links;
+  plain = c.self.invariant.plain;
 }

@@ -1,4 +1,7 @@
-use Rattle.std.proofs.Common.{◌≡◌, true, refl, sym, ap, subst, ◌∙◌}
+use Rattle.std.proofs.Common.{◌≡◌, ◌==◌, not, true, refl, sym, ap, subst, ◌∙◌}
+use Rattle.std.specs.List.{All}
+use Rattle.std.proofs.lemmas.List.Elements.{All-filter}
+use Rattle.vx_model.specs.Serving.{IsPlainLink}
 use Rattle.vx_model.specs.State.{without_link}
 use Rattle.vx_model.specs.Inside.{tables_of}
 use Rattle.vx_model.specs.Sound.{IsSound, owns}
@@ -18,6 +21,8 @@ invariant_of-self c =
           (without_link-sound t c.args.conn c.args.lid c.self.invariant.sound);
       numbers = c.self.invariant.numbers;
       channels = c.self.invariant.channels ∙ sym (ap (λ d. d.next_channel) c.forget.ensures);
+      links = c.self.invariant.links ∙ sym (ap (λ l. l.next) c.remove.ensures.links);
+      plain = subst (λ l. All IsPlainLink l.links) (sym c.remove.ensures.links) (All-filter (λ l. not (l.number == c.args.lid)) IsPlainLink t.links.links c.self.invariant.plain);
     }
 
 pub returns-clause-tables : goal.returns-clause-tables

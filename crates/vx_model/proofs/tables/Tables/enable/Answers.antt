@@ -23,4 +23,6 @@ invariant_of-self c =
       sound = desk_sound t _ _ c.enable.ensures (with_enable-sound t _ c.self.invariant.sound own);
       numbers = c.self.invariant.numbers;
       channels = c.self.invariant.channels ∙ sym (ap (λ d. d.next_channel) c.enable.ensures);
+      links = c.self.invariant.links;
+      plain = c.self.invariant.plain;
     }

@@ -18,4 +18,6 @@ invariant_of-self c =
           (ended-sound (tables_of c.self.inside) c.args.conn c.self.invariant.sound);
       numbers = c.self.invariant.numbers;
       channels = c.self.invariant.channels;
+      links = c.self.invariant.links;
+      plain = c.self.invariant.plain;
     }

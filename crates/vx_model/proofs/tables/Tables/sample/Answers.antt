@@ -9,4 +9,6 @@ invariant_of-self c = record {
   sound = desk_sound (tables_of c.self.inside) _ _ c.sample.ensures (sampled-sound (tables_of c.self.inside) c.args.level c.self.invariant.sound);
   numbers = c.self.invariant.numbers;
   channels = c.self.invariant.channels ∙ sym (sampled_next c.self.inside.srq c.args.level) ∙ sym (ap (λ d. d.next_channel) c.sample.ensures);
+  links = c.self.invariant.links;
+  plain = c.self.invariant.plain;
 }

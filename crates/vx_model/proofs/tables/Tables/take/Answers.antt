@@ -9,4 +9,6 @@ invariant_of-self c = record {
   sound = desk_sound (tables_of c.self.inside) _ _ c.take.ensures.taken (taken-sound (tables_of c.self.inside) c.args.conn c.args.chan c.self.invariant.sound);
   numbers = c.self.invariant.numbers;
   channels = c.self.invariant.channels ∙ sym (ap (λ d. d.next_channel) c.take.ensures.taken);
+  links = c.self.invariant.links;
+  plain = c.self.invariant.plain;
 }
