@@ -141,6 +141,13 @@ impl Turn {
         }
     }
 
+    /// Its job.
+    pub fn task(&self) -> Task
+        ensures { result ≡ self.now.task }
+    {
+        self.task
+    }
+
     /// The moment at which the turn began, in milliseconds.
     pub fn begun(&self) -> u64
         ensures { result ≡ self.now.begun }

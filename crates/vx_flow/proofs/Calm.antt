@@ -21,9 +21,10 @@ use Rattle.vx_flow.specs.Event.{Event, Up, Arrive, Abort, Sample, Take, Dial}
 use Rattle.vx_flow.specs.FineState.{Turn, FineState, turn_after}
 use Rattle.vx_flow.specs.Fine.{may_dial, without_dial, fine_after, fine_step}
 use Rattle.vx_flow.specs.Gather.{gathered}
+use Rattle.vx_flow.specs.Sound.{Stands, HaveCome, IsSound}
 use Rattle.vx_flow.proofs.Lookups.{mapped}
 use Rattle.vx_flow.proofs.Rows.{pending-other, pending-here, pending-up, pending-marked}
-use Rattle.vx_flow.proofs.Kept.{Stands, HaveCome, IsSound, Goes, IsOpen, Stays, calm}
+use Rattle.vx_flow.proofs.Kept.{Goes, IsOpen, Stays, calm}
 
 -- an event that isn't the turn's leads on so
 abbrev pub GoesOn : FineState → ℕ → Event → FineState → Type 0

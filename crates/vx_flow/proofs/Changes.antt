@@ -21,8 +21,9 @@ use Rattle.vx_model.specs.Lines.{Lines, Refused, Waiting, Passed, named_request,
 use Rattle.vx_model.specs.Effects.{task_of, stopped_reply, create, locked, effect_on, effect, settle}
 use Rattle.vx_model.specs.Decide.{Outside, is_quiet, bus_answer, dialed_answer, by_lines, settles, decide}
 use Rattle.vx_flow.specs.Fine.{on_conflict}
+use Rattle.vx_flow.specs.Sound.{HaveCome}
 use Rattle.vx_flow.proofs.Rows.{pending-other, pending-here, link-made, link-left}
-use Rattle.vx_flow.proofs.Kept.{HaveCome, Stays}
+use Rattle.vx_flow.proofs.Kept.{Stays}
 use Rattle.vx_flow.proofs.Ending.{holder-filter, holder-with}
 
 -- What a change leaves of the links of another connection, and of the locks against one of them.

@@ -19,8 +19,8 @@ use Rattle.vx_model.specs.Entry as entry
 use Rattle.vx_model.specs.One.{one, answer, answer_to, answered, if_reply, call_fits}
 use Rattle.vx_flow.specs.FineState.{Turn}
 use Rattle.vx_flow.specs.Fine.{is_whole}
-use Rattle.vx_flow.proofs.Jobs.{Passes, bus-job, against}
-use Rattle.vx_flow.proofs.Kept.{Stands}
+use Rattle.vx_flow.specs.Sound.{Passes, Stands}
+use Rattle.vx_flow.proofs.Jobs.{bus-job, against}
 use Rattle.vx_flow.proofs.Ending.{job-is, may-made}
 
 -- ---- two buses of one own address

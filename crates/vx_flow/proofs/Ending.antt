@@ -21,10 +21,11 @@ use Rattle.vx_model.specs.One.{may_leave}
 use Rattle.vx_flow.specs.Event.{Down}
 use Rattle.vx_flow.specs.FineState.{Turn, FineState, before_turn, moves_of}
 use Rattle.vx_flow.specs.Fine.{is_whole, without_dial, fine_step, wire_before}
+use Rattle.vx_flow.specs.Sound.{Stands, HaveCome, IsSound}
 use Rattle.vx_flow.proofs.Lookups.{find_filter-none, find_append-none}
 use Rattle.vx_flow.proofs.Rows.{pending-gone, pending-others, link-others}
 use Rattle.vx_flow.proofs.Jobs.{bus-job, passes-from}
-use Rattle.vx_flow.proofs.Kept.{Stands, HaveCome, IsSound, Goes, IsOpen, Stays, turn-stand, calm}
+use Rattle.vx_flow.proofs.Kept.{Goes, IsOpen, Stays, turn-stand, calm}
 use Rattle.vx_flow.proofs.Calm.{GoesOn}
 use Rattle.vx_flow.proofs.Turning.{in_turn}
 
@@ -152,6 +153,7 @@ down-own s u before dialed k conn sound early more lives same =
       earlier = early;
       turn_is = refl;
       sound = record { turn_stands = refl; have_come = gone-come t conn s.moment sound.have_come };
+      stays = λ v same is sv. absurd (none-some u same);
     }
 
 -- by whose turn is under way

@@ -27,14 +27,15 @@ use Rattle.vx_model.specs.Effects.{task_on}
 use Rattle.vx_model.specs.Decide.{Outside, stand_on}
 use Rattle.vx_model.specs.Entry.{Entry, Up, Down, Arrive, Answer, Abort, Sample, Take}
 use Rattle.vx_model.specs.One.{one, may_leave}
-use Rattle.vx_flow.specs.Event.{Event, Move}
+use Rattle.vx_flow.specs.Event.{Move}
 use Rattle.vx_flow.specs.FineState.{Turn, FineState, before_turn}
 use Rattle.vx_flow.specs.Fine.{is_whole, is_on, goes_on, turn_stand, comes_in_turn, fine_step}
 use Rattle.vx_flow.specs.Gather.{gather}
 use Rattle.vx_flow.specs.Laws.{at_address, AreFree, link_called, ReachesFreely, EntriesFreeLaw, MovesFreelyLaw}
+use Rattle.vx_flow.specs.Sound.{Stands, IsSound}
 use Rattle.vx_flow.proofs.Lookups.{found_passes, chosen}
 use Rattle.vx_flow.proofs.Jobs.{bus-job, own-stays, passes-parts}
-use Rattle.vx_flow.proofs.Kept.{Stands, IsSound, IsOpen, turn-stand, is-open}
+use Rattle.vx_flow.proofs.Kept.{IsOpen, turn-stand, is-open}
 use Rattle.vx_flow.proofs.Turning.{on-is, goes-parts, moved, in_turn}
 use Rattle.vx_flow.proofs.Gathering.{fine-gathers}
 use Rattle.vx_flow.proofs.Whom.{At, ended, reached-front}

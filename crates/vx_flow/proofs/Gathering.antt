@@ -2,14 +2,18 @@
 use Rattle.std.proofs.Common.{◌≡◌, ◌≤◌, ℕ, true, List, [], ◌∷◌, Option, Some, None, refl, sym, ap, ◌∙◌, subst, arith}
 use Rattle.std.proofs.lemmas.Option.{none-some, same_Some}
 use Rattle.vx_model.specs.Lists.{along}
+use Rattle.vx_model.specs.State.{Pending}
+use Rattle.vx_model.specs.Checks.{named_link}
+use Rattle.vx_model.specs.Effects.{task_of}
 use Rattle.vx_model.specs.One.{one}
 use Rattle.vx_flow.specs.Event.{Event, Up, Down, Arrive, Answer, Abort, Sample, Take, Begin, Move, Dial}
 use Rattle.vx_flow.specs.FineState.{FineState, first_fine, before_turn, turn_after}
 use Rattle.vx_flow.specs.Fine.{comes_in_turn, fine_step, fine}
 use Rattle.vx_flow.specs.Gather.{gathered, gather_from}
-use Rattle.vx_flow.specs.Laws.{fine_along, GatherLaw}
+use Rattle.vx_flow.specs.Laws.{fine_along, GatherLaw, StaysSoundLaw, CallStaysLaw}
+use Rattle.vx_flow.specs.Sound.{Stands, TurnStands, IsSound}
 use Rattle.vx_flow.proofs.Lookups.{chosen, along-none, along-append}
-use Rattle.vx_flow.proofs.Kept.{IsSound, is-open}
+use Rattle.vx_flow.proofs.Kept.{is-open, named-stays}
 use Rattle.vx_flow.proofs.Calm.{GoesOn, up, sample, take, dial, arrive, abort}
 use Rattle.vx_flow.proofs.Turning.{begin, move}
 use Rattle.vx_flow.proofs.Ending.{down}
@@ -31,6 +35,25 @@ step-goes (Dial conn now) f g k sound early comes h = dial f g k conn now sound 
 pub fine-goes : (e : Event) (f g : FineState) (k : ℕ) → IsSound f → k ≤ f.state.moment → fine f e ≡ Some g → GoesOn f k e g
 fine-goes e f g k sound early h =
     let parts = chosen (comes_in_turn f e f.turn) (fine_step f e) g h in step-goes e f g k sound early parts.0 parts.1
+
+-- what holds between events holds behind each one
+pub stays_sound-law : StaysSoundLaw
+stays_sound-law f g e sound h = (fine-goes e f g f.state.moment sound (omega arith) h).sound
+
+-- the call of a turn that is left
+pub call_stays-law : CallStaysLaw
+call_stays-law f g e u p sound h is after at =
+    let goes = fine-goes e f g f.state.moment sound (omega arith) h in
+    let stands : Stands f.state.tables f.before f.state.wire f.state.moment u =
+    subst (TurnStands f.state.tables f.before f.state.wire f.state.moment) is sound.turn_stands in
+    let stays = goes.stays u (sym goes.turn_is ∙ after ∙ sym is) is stands in
+    let same : stands.asked ≡ p = same_Some stands.asked p (sym stands.call_at ∙ at) in (
+      stays.aborted,
+      stays.call_at ∙ ap (λ (x : Pending). Some (record x { aborted = stays.aborted })) same,
+      ap (λ (x : Pending). task_of (named_link g.state.tables u.connection x.call) x.call) (sym same)
+          ∙ ap (λ a. task_of a stands.asked.call) (named-stays f.state.tables g.state.tables u.connection stands.link stands.asked.call stands.on_link stays.links ∙ sym stands.on_link)
+          ∙ ap (λ (x : Pending). task_of (named_link f.state.tables u.connection x.call) x.call) same,
+    )
 
 -- From the state before the turn the gathered events lead to that of the last fine state, and what is kept is kept.
 pub record Gathers (f : FineState) (k : ℕ) (h : List Event) (g : FineState) : Type 0 where

@@ -1,13 +1,11 @@
 -- What is heard of a write that was answered without an error.
 use Rattle.std.proofs.Common.{◌≡◌, ◌≢◌, ◌≤◌, ℕ, Bool, true, false, cond, ◌⊎◌, inl, inr, List, [], ◌∷◌, ◌++◌, Option, Some, None, refl, sym, ap, ◌∙◌, subst}
 use Rattle.std.specs.Prelude.{is_none, nat_le, ◌||◌, length, if◌then◌else◌}
-use Rattle.std.specs.Option.{option_map}
 use Rattle.std.proofs.lemmas.Bool.{cases_Bool}
 use Rattle.std.proofs.lemmas.Option.{cond_some, same_Some}
 use Rattle.vx_calls.specs.declared.codes.ErrorCode.{ErrorCode}
 use Rattle.vx_calls.specs.declared.codes.ErrorCode.TheVariants as code
 use Rattle.vx_calls.specs.declared.limits.TheConstants.{WRITE_MAX}
-use Rattle.vx_calls.specs.declared.targets.Target.{Target}
 use Rattle.vx_calls.specs.declared.targets.Target.TheVariants.{Interface, Device}
 use Rattle.vx_calls.specs.Call.{Call}
 use Rattle.vx_calls.specs.Call as call
@@ -19,7 +17,7 @@ use Rattle.vx_488.specs.declared.wire.Wire.{Wire}
 use Rattle.vx_488.specs.Address.{same_address}
 use Rattle.vx_488.specs.Flags.{same_address-refl, same_address-equal}
 use Rattle.vx_488.specs.Listening.{has_address}
-use Rattle.vx_488.specs.Heard.{Byte, heard}
+use Rattle.vx_488.specs.Heard.{heard}
 use Rattle.vx_plan.specs.declared.tasks.Task.{Task}
 use Rattle.vx_plan.specs.declared.tasks.Task.TheVariants as task
 use Rattle.vx_plan.specs.Plan.{Stand, Whole, Part, Off, stand}
@@ -27,9 +25,9 @@ use Rattle.vx_plan.specs.Tasks.{unl, mta, listener, ended_poll, puts, write_plan
 use Rattle.vx_plan.specs.Roles.{has_role}
 use Rattle.vx_plan.proofs.Walks.{whole-law}
 use Rattle.vx_links.specs.Table.{Link}
-use Rattle.vx_model.specs.Calls.{sets_end, io_timeout_of, has_passed}
+use Rattle.vx_model.specs.Calls.{sets_end, has_passed}
 use Rattle.vx_model.specs.State.{Pending, Tables, State, pending_at, link_of}
-use Rattle.vx_model.specs.Checks.{NamedLink, OnLink, link_found, named_link, check}
+use Rattle.vx_model.specs.Checks.{link_found, named_link, check}
 use Rattle.vx_model.specs.Lines.{Lines, Refused, Waiting, Passed, holder_against, lock_lines, checked_lines, later_lines, first_lines}
 use Rattle.vx_model.specs.Effects.{task_of, stopped_reply}
 use Rattle.vx_model.specs.Decide.{Outside, is_quiet, stand_on, turn_answer, job_answer, bus_answer, by_lines, settles, decide}
@@ -37,7 +35,7 @@ use Rattle.vx_flow.specs.Laws.{marked_bytes, HeardLaw, HeardOnInterfaceLaw}
 use Rattle.vx_flow.proofs.Lookups.{mapped}
 use Rattle.vx_flow.proofs.Whom.{whole-just, heard-puts, heard-addressed}
 use Rattle.vx_flow.proofs.Making.{Answered, answer-parts}
-use Rattle.vx_flow.proofs.Plain.{found-has, IsLinkPlain, IsPlain, legal-plain}
+use Rattle.vx_flow.proofs.Plain.{found-has, IsLinkPlain, legal-plain}
 
 -- ---- a refusal is an error
 

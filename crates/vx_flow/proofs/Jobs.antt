@@ -28,6 +28,7 @@ use Rattle.vx_model.specs.Lines.{LockRequest, holder_against, checks_pass, lets_
 use Rattle.vx_model.specs.Effects.{task_on, task_of}
 use Rattle.vx_model.specs.Decide.{stand_on}
 use Rattle.vx_flow.specs.Fine.{is_whole}
+use Rattle.vx_flow.specs.Sound.{Passes}
 
 -- a call with a job is a bus call, and one that isn't has none
 pub bus-job : (t : Target) (asked : Call) (job : Task) → task_on t asked ≡ Some job → is_bus_call asked ≡ true
@@ -99,11 +100,6 @@ own-stays before asked job (t ∷ ts) on more =
     (not-own job (bytes_of asked) before.polling before.own t ts on more) on
 
 -- ---- the first lines of a bus call on a link
-
--- what the first lines read of a bus call on a link
-pub record Passes (t : Tables) (own : ℕ) (l : Link) (asked : Call) : Type 0 where
-  pub checked : check_on t own l asked ≡ None
-  pub free : holder_of t.locks l.number l.target ≡ None
 
 -- a bus call is kept off by the holder of a lock against its link's target
 pub against : (t : Tables) (own : ℕ) (l : Link) (asked : Call) → is_bus_call asked ≡ true → holder_against t own (OnLink l) asked ≡ holder_of t.locks l.number l.target

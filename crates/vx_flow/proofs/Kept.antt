@@ -4,17 +4,15 @@ use Rattle.std.proofs.lemmas.Bool.{true≢false}
 use Rattle.vx_calls.specs.Call.{Call}
 use Rattle.vx_488.specs.declared.transfers.Transfer.{Transfer}
 use Rattle.vx_488.specs.declared.wire.Wire.{Wire}
-use Rattle.vx_488.specs.Wire.{wire_after}
 use Rattle.vx_plan.specs.declared.tasks.Task.{Task}
 use Rattle.vx_plan.specs.Plan.{Off}
 use Rattle.vx_plan.specs.Tasks.{is_own_task}
-use Rattle.vx_plan.specs.Roles.{has_role}
 use Rattle.vx_links.specs.Table.{Link}
 use Rattle.vx_locks.specs.Locks.{holder_of}
 use Rattle.vx_model.specs.Calls.{link_named, bytes_of}
 use Rattle.vx_model.specs.State.{Pending, Tables, pending_at, link_of}
 use Rattle.vx_model.specs.Checks.{OnLink, link_found, link_by_number, named_link}
-use Rattle.vx_model.specs.Effects.{task_on, task_of}
+use Rattle.vx_model.specs.Effects.{task_of}
 use Rattle.vx_model.specs.Decide.{is_nothing, stand_on, stand_of_job}
 use Rattle.vx_model.specs.Lists.{along}
 use Rattle.vx_model.specs.Entry.{Entry}
@@ -22,47 +20,8 @@ use Rattle.vx_model.specs.One.{one}
 use Rattle.vx_flow.specs.Event.{Event}
 use Rattle.vx_flow.specs.FineState.{Turn, FineState, before_turn}
 use Rattle.vx_flow.specs.Fine.{call_stand, is_whole, turn_stand, is_answer_of, comes_in_turn, wire_before}
-use Rattle.vx_flow.proofs.Jobs.{Passes, check-same, not-own}
-
--- What is kept of the turn under way: its call is pending, is on a live link, has a job, and the gateway has the role for it;
--- the bus is that of the beginning with the transfers; these keep to the plan; the call came before the turn began. Where
--- transfers were made the first lines let the call pass, and where they are whole the call is unmarked.
-pub record Stands (t : Tables) (before now : Wire) (moment : ℕ) (u : Turn) : Type 0 where
-  pub asked : Pending
-  pub link : Link
-  pub job : Task
-  pub call_at : pending_at t u.connection ≡ Some asked
-  pub on_link : named_link t u.connection asked.call ≡ OnLink link
-  pub has_job : task_on link.target asked.call ≡ Some job
-  pub in_role : has_role job before ≡ true
-  pub made : now ≡ wire_after before u.moves
-  pub on_plan : stand_on before asked.call job u.moves ≢ Off
-  pub came : asked.arrival ≤ u.begun
-  pub began : u.begun ≤ moment
-  pub passes : is_nothing u.moves ≡ false → Passes t before.own link asked.call
-  pub unmarked : is_nothing u.moves ≡ false → is_whole (stand_on before asked.call job u.moves) ≡ true → asked.aborted ≡ false
-
--- where no turn is under way the two buses are one
-abbrev pub TurnStands : Tables → Wire → Wire → ℕ → Option Turn → Type 0
-TurnStands t before now moment None = before ≡ now
-TurnStands t before now moment (Some u) = Stands t before now moment u
-
--- every pending call has come
-abbrev pub HaveCome : Tables → ℕ → Type 0
-HaveCome t moment = (conn : ℕ) (p : Pending) → pending_at t conn ≡ Some p → p.arrival ≤ moment
-
-pub record IsSound (f : FineState) : Type 0 where
-  pub turn_stands : TurnStands f.state.tables f.before f.state.wire f.state.moment f.turn
-  pub have_come : HaveCome f.state.tables f.state.moment
-
--- From the state before the turn at an earlier moment the gateway of one thread goes by these entries to that of another fine
--- state.
-pub record Goes (f : FineState) (k : ℕ) (entries : List Entry) (after : Option Turn) (g : FineState) : Type 0 where
-  pub moment : ℕ
-  pub reaches : along one (Some (before_turn f k)) entries ≡ Some (before_turn g moment)
-  pub earlier : moment ≤ g.state.moment
-  pub turn_is : g.turn ≡ after
-  pub sound : IsSound g
+use Rattle.vx_flow.specs.Sound.{Stands, TurnStands, HaveCome, IsSound}
+use Rattle.vx_flow.proofs.Jobs.{check-same, not-own}
 
 -- ---- the turn's transfers aren't whole before its answer comes
 
@@ -96,11 +55,22 @@ pub record Stays (t u : Tables) (conn : ℕ) (l : Link) (p : Pending) : Type 0 w
   pub links : (lid : ℕ) → link_of t conn lid ≡ Some l → link_of u conn lid ≡ Some l
   pub locks : holder_of t.locks l.number l.target ≡ None → holder_of u.locks l.number l.target ≡ None
 
+-- From the state before the turn at an earlier moment the gateway of one thread goes by these entries to that of another fine
+-- state. A turn that is left has its call.
+pub record Goes (f : FineState) (k : ℕ) (entries : List Entry) (after : Option Turn) (g : FineState) : Type 0 where
+  pub moment : ℕ
+  pub reaches : along one (Some (before_turn f k)) entries ≡ Some (before_turn g moment)
+  pub earlier : moment ≤ g.state.moment
+  pub turn_is : g.turn ≡ after
+  pub sound : IsSound g
+  pub stays : (u : Turn) → after ≡ f.turn → f.turn ≡ Some u → (s : Stands f.state.tables f.before f.state.wire f.state.moment u)
+      → Stays f.state.tables g.state.tables u.connection s.link s.asked
+
 found_is : (o : Option Link) (l : Link) → link_found o ≡ OnLink l → o ≡ Some l
 found_is None l h = cc
 found_is (Some k) l h = cc
 
-named-stays : (t u : Tables) (conn : ℕ) (l : Link) (asked : Call) → named_link t conn asked ≡ OnLink l
+pub named-stays : (t u : Tables) (conn : ℕ) (l : Link) (asked : Call) → named_link t conn asked ≡ OnLink l
     → ((lid : ℕ) → link_of t conn lid ≡ Some l → link_of u conn lid ≡ Some l) → named_link u conn asked ≡ OnLink l
 named-stays t u conn l asked h stays = by (link_named asked) h where
   by : (o : Option ℕ) → link_by_number t conn o ≡ OnLink l → link_by_number u conn o ≡ OnLink l
@@ -175,4 +145,5 @@ calm f k entries t m k' dialed sound more goes early le stays come = record {
     turn_stands = carry-turn f.state.tables t f.before f.state.wire f.state.moment m f.turn sound.turn_stands more stays le;
     have_come = come;
   };
+  stays = λ u same is s. stays u is s;
 }

@@ -19,3 +19,5 @@ pub mod Freely
 pub mod Interrupts
 pub mod Sending
 pub mod TwoRises
+pub mod Earlier
+pub mod Ways

@@ -1,9 +1,9 @@
 -- The transfers of an answer, and of the end of a connection: none, or on the plan of a job that the first lines let pass.
-use Rattle.std.proofs.Common.{◌≡◌, ◌≢◌, ◌≤◌, ℕ, Bool, true, false, cond, ◌⊎◌, inl, inr, List, [], ◌∷◌, Option, Some, None, refl, sym, ap, ◌∙◌}
+use Rattle.std.proofs.Common.{◌≡◌, ◌≢◌, ℕ, Bool, true, false, cond, ◌⊎◌, inl, inr, List, [], ◌∷◌, Option, Some, None, refl, sym, ap, ◌∙◌}
 use Rattle.std.specs.Prelude.{is_none, nat_le, ◌&&◌, ◌||◌}
 use Rattle.std.specs.Option.{option_map, option_and_then}
 use Rattle.std.proofs.lemmas.Bool.{true≢false, false≢true, and_parts, cond-false}
-use Rattle.std.proofs.lemmas.Option.{cond_some, same_Some}
+use Rattle.std.proofs.lemmas.Option.{cond_some}
 use Rattle.vx_calls.specs.declared.codes.ErrorCode.{ErrorCode}
 use Rattle.vx_calls.specs.declared.codes.ErrorCode.TheVariants as code
 use Rattle.vx_calls.specs.Call.{Call}
@@ -25,8 +25,9 @@ use Rattle.vx_model.specs.Effects.{task_on, task_of, stopped_reply, effect}
 use Rattle.vx_model.specs.Decide.{Outside, is_quiet, stand_on, turn_answer, job_answer, bus_answer, dialed_answer, passed_answer, by_lines, settles, decide, is_nothing, begun_between, may_tell, is_part, has_job_role, is_part_of, may_have_made, passed_fits, lines_fit, turn_fits}
 use Rattle.vx_model.specs.Entry as entry
 use Rattle.vx_model.specs.One.{one, answer, answer_to, answered, if_reply, call_fits, may_leave}
+use Rattle.vx_flow.specs.Sound.{Passes}
 use Rattle.vx_flow.proofs.Lookups.{mapped, gone_on, chosen}
-use Rattle.vx_flow.proofs.Jobs.{Passes, bus-job, job-link, against, passes-parts}
+use Rattle.vx_flow.proofs.Jobs.{bus-job, job-link, against, passes-parts}
 
 -- transfers on the plan of a call's job, where the first lines let the call pass
 pub record Made (t : Tables) (w : Wire) (conn : ℕ) (p : Pending) (moves : List Transfer) : Type 0 where
@@ -84,7 +85,7 @@ lines-both p now None (Some holder) h = absurd (by _ h) where
   by true e = cc
   by false e = cc
 
-later-passes : (t : Tables) (own conn : ℕ) (settling : Bool) (p : Pending) (now : ℕ) (l : Link) → named_link t conn p.call ≡ OnLink l → is_bus_call p.call ≡ true
+pub later-passes : (t : Tables) (own conn : ℕ) (settling : Bool) (p : Pending) (now : ℕ) (l : Link) → named_link t conn p.call ≡ OnLink l → is_bus_call p.call ≡ true
     → later_lines t own conn settling p now ≡ Passed → Passes t own l p.call
 later-passes t own conn settling p now l on bus h =
     let parts = lines-both p now (check_on t own l p.call) (holder_against t own (OnLink l) p.call)

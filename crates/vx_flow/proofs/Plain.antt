@@ -1,9 +1,9 @@
 -- The addresses of a legal history: those of live links, and the gateway's own, are at most 30.
-use Rattle.std.proofs.Common.{◌≡◌, ◌≢◌, ◌≤◌, ◌==◌, ℕ, Bool, true, false, cond, ◌⊎◌, inl, inr, List, [], ◌∷◌, ◌++◌, Option, Some, None, Result, Ok, Err, refl, sym, ap, ◌∙◌, subst, arith}
+use Rattle.std.proofs.Common.{◌≡◌, ◌≢◌, ◌≤◌, ◌==◌, ℕ, Bool, true, false, cond, ◌⊎◌, inl, inr, List, [], ◌∷◌, ◌++◌, Option, Some, None, Result, Ok, Err, refl, sym, ◌∙◌, subst, arith}
 use Rattle.std.specs.Prelude.{is_some, nat_le, not, ◌&&◌, length}
 use Rattle.std.specs.Option.{option_map}
-use Rattle.std.specs.List.{find, filter, All}
-use Rattle.std.proofs.lemmas.Bool.{cases_Bool, true≢false, false≢true, and_parts, leb-true}
+use Rattle.std.specs.List.{find, All}
+use Rattle.std.proofs.lemmas.Bool.{cases_Bool, false≢true, and_parts, leb-true}
 use Rattle.std.proofs.lemmas.Option.{cond_some, none-some, same_Some}
 use Rattle.std.proofs.lemmas.List.Elements.{All-nil, All-head, All-tail, All-push, All-filter}
 use Rattle.vx_calls.specs.declared.calls.Role.TheVariants as role
@@ -35,7 +35,7 @@ use Rattle.vx_model.specs.Docmd.{Command, BusAddress, command_of, number_in, has
 use Rattle.vx_model.specs.Checks.{NamedLink, NoLink, DeadLink, OnLink, named_link, is_interface, check_command, check_on}
 use Rattle.vx_model.specs.Effects.{task_on, create, locked, effect_on, effect, settle}
 use Rattle.vx_model.specs.Lines.{Lines, first_lines}
-use Rattle.vx_model.specs.Decide.{Outside, settles, decide}
+use Rattle.vx_model.specs.Decide.{Outside, settles}
 use Rattle.vx_model.specs.Entry.{Entry, Up, Down, Arrive, Answer, Abort, Sample, Take}
 use Rattle.vx_model.specs.One.{one, may_wait, arrived, marked, abort_reply, abort_tables, may_leave}
 use Rattle.vx_model.specs.Legal.{legal_state}

@@ -1,5 +1,5 @@
 -- A job on a device reaches addresses of its primary alone.
-use Rattle.std.proofs.Common.{◌≡◌, ◌≢◌, ◌≤◌, ◌+◌, ◌==◌, ℕ, Bool, true, false, cond, List, [], ◌∷◌, ◌++◌, map, append-nil, Option, Some, None, refl, sym, ap, ◌∙◌, subst}
+use Rattle.std.proofs.Common.{◌≡◌, ◌≤◌, ◌+◌, ◌==◌, ℕ, Bool, true, false, cond, List, [], ◌∷◌, ◌++◌, map, append-nil, Option, Some, None, refl, sym, ap, ◌∙◌, subst}
 use Rattle.std.specs.Prelude.{length, min, if◌then◌else◌}
 use Rattle.std.specs.List.{All}
 use Rattle.std.proofs.lemmas.Bool.{true≢false}
@@ -7,8 +7,7 @@ use Rattle.std.proofs.lemmas.Option.{same_Some}
 use Rattle.std.proofs.lemmas.List.Elements.{All-nil}
 use Rattle.vx_calls.specs.declared.codes.ErrorCode.{ErrorCode}
 use Rattle.vx_calls.specs.declared.codes.ErrorCode.TheVariants as code
-use Rattle.vx_calls.specs.declared.targets.Target.{Target}
-use Rattle.vx_calls.specs.declared.targets.Target.TheVariants.{Interface, Device}
+use Rattle.vx_calls.specs.declared.targets.Target.TheVariants.{Device}
 use Rattle.vx_calls.specs.declared.limits.TheConstants.{WRITE_MAX}
 use Rattle.vx_calls.specs.Call.{Call}
 use Rattle.vx_calls.specs.Call as call
@@ -25,7 +24,7 @@ use Rattle.vx_plan.specs.declared.tasks.Task.TheVariants as task
 use Rattle.vx_plan.specs.Plan.{Slot, This, AnyByte}
 use Rattle.vx_plan.specs.Whole as whole
 use Rattle.vx_plan.specs.Whole.{Fits, Fill, IsWhole}
-use Rattle.vx_plan.specs.Tasks.{unl, unt, spe, spd, sdc, get, gtl, mla, mta, listener, talker, ended_poll, puts, just, reading, plan, IsSecondaryPlain}
+use Rattle.vx_plan.specs.Tasks.{unl, unt, spe, spd, sdc, get, gtl, mla, mta, listener, talker, ended_poll, puts, just, plan, IsSecondaryPlain}
 use Rattle.vx_links.specs.Table.{Link}
 use Rattle.vx_model.specs.State.{Tables}
 use Rattle.vx_model.specs.Calls.{bytes_of, sets_end, sets_stop}

@@ -18,9 +18,10 @@ use Rattle.vx_model.specs.One.{answer, answer_to, answered, if_reply}
 use Rattle.vx_flow.specs.Event.{Answer}
 use Rattle.vx_flow.specs.FineState.{Turn, FineState, before_turn, turn_of, begun_of, moves_of, turn_after}
 use Rattle.vx_flow.specs.Fine.{job_of, is_whole, turn_stand, comes_in_turn, turn_target, call_target, target_on, on_conflict, waits_for_turn, wire_for, outside, passes_lines, is_answered, without_dial, answered_fine, fine_step, wire_before}
+use Rattle.vx_flow.specs.Sound.{Stands, IsSound}
 use Rattle.vx_flow.proofs.Lookups.{mapped, gone_on, chosen}
 use Rattle.vx_flow.proofs.Jobs.{no-job, own-stays}
-use Rattle.vx_flow.proofs.Kept.{Stands, IsSound, Goes, IsOpen, Stays, open_cond, turn-stand, calm}
+use Rattle.vx_flow.proofs.Kept.{Goes, IsOpen, Stays, open_cond, turn-stand, calm}
 use Rattle.vx_flow.proofs.Calm.{GoesOn}
 use Rattle.vx_flow.proofs.Turning.{in_turn}
 use Rattle.vx_flow.proofs.Ending.{own_turn, turn_left}
@@ -251,6 +252,7 @@ answer-own s u before ds g k now failed dialed level told sound early a =
       earlier = omega arith;
       turn_is = refl;
       sound = record { turn_stands = refl; have_come = over-come t a.decided.1 u.connection s.moment now leaves sound.have_come a.late };
+      stays = λ v same is sv. absurd (none-some u same);
     })
 
 -- ---- every answer

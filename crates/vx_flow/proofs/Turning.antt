@@ -2,7 +2,7 @@
 use Rattle.std.proofs.Common.{◌≡◌, ◌≢◌, ◌≤◌, ◌==◌, ℕ, Bool, true, false, List, [], ◌∷◌, ◌++◌, Option, Some, None, refl, sym, ap, ◌∙◌, subst, arith}
 use Rattle.std.specs.Prelude.{is_none, nat_le, not, ◌&&◌}
 use Rattle.std.proofs.lemmas.Bool.{true≢false, false≢true, and_parts, leb-true, eqb-true}
-use Rattle.std.proofs.lemmas.Option.{cond_some}
+use Rattle.std.proofs.lemmas.Option.{cond_some, none-some}
 use Rattle.vx_488.specs.declared.transfers.Transfer.{Transfer}
 use Rattle.vx_488.specs.declared.wire.Wire.{Wire}
 use Rattle.vx_488.specs.Wire.{wire_after, step}
@@ -18,8 +18,9 @@ use Rattle.vx_model.specs.Decide.{stand_on, has_job_role}
 use Rattle.vx_flow.specs.Event.{Begin, Move}
 use Rattle.vx_flow.specs.FineState.{Turn, FineState}
 use Rattle.vx_flow.specs.Fine.{job_of, is_whole, is_on, may_begin, goes_on, turn_stand, fine_after, fine_step}
+use Rattle.vx_flow.specs.Sound.{Stands, TurnStands, IsSound}
 use Rattle.vx_flow.proofs.Jobs.{bus-job, job-link, own-stays, passes-parts}
-use Rattle.vx_flow.proofs.Kept.{Stands, TurnStands, IsSound, Goes, IsOpen, turn-stand}
+use Rattle.vx_flow.proofs.Kept.{Goes, IsOpen, turn-stand}
 use Rattle.vx_flow.proofs.Calm.{GoesOn}
 
 -- ---- a turn begins
@@ -89,6 +90,7 @@ begin f g k conn now sound early h =
         turn_stands = begun-stands t w conn now asked.0 asked.1 asked.2 (omega (arith, came, le));
         have_come = λ m p at. let earlier = sound.have_come m p at in omega arith;
       };
+      stays = λ u same is s. absurd (none-some u (sym (none_is f.turn first.0) ∙ is));
     })
 
 -- ---- a turn makes transfers
@@ -178,6 +180,7 @@ move-turn s (Some u) before dialed g k conn moves sound early more h =
             goes.0 goes.1;
         have_come = sound.have_come;
       };
+      stays = λ v same is sv. record { aborted = sv.asked.aborted; call_at = sv.call_at; links = λ lid x. x; locks = λ x. x };
     })
 
 pub move : (f g : FineState) (k conn : ℕ) (moves : List Transfer) → IsSound f → k ≤ f.state.moment → IsOpen f → fine_step f (Move conn moves) ≡ Some g

@@ -4,9 +4,7 @@ use Rattle.std.specs.Prelude.{if◌then◌else◌}
 use Rattle.std.specs.Option.{option_to_list}
 use Rattle.std.specs.List.{All}
 use Rattle.std.proofs.lemmas.Bool.{cond-true, and_from, le-leb}
-use Rattle.std.proofs.lemmas.List.Elements.{All-nil, All-cons, All-head, All-tail, All-append}
-use Rattle.vx_calls.specs.declared.targets.Target.{Target}
-use Rattle.vx_calls.specs.declared.targets.Target.TheVariants.{Interface, Device}
+use Rattle.std.proofs.lemmas.List.Elements.{All-nil, All-cons, All-head, All-tail}
 use Rattle.vx_488.specs.declared.transfers.Addr.{Addr}
 use Rattle.vx_488.specs.declared.transfers.Transfer.{Transfer}
 use Rattle.vx_488.specs.declared.transfers.Transfer.TheVariants as transfer
@@ -18,13 +16,13 @@ use Rattle.vx_488.specs.Listening.{has_address, with_address, without_address}
 use Rattle.vx_488.specs.Flags.{same_address-refl}
 use Rattle.vx_488.specs.Command.{command_of}
 use Rattle.vx_488.specs.Wire.{on_command, step, wire_after}
-use Rattle.vx_488.specs.Heard.{Byte, reached_by, reached_by_command, reached, heard_of, heard}
+use Rattle.vx_488.specs.Heard.{Byte, reached_by_command, reached, heard}
 use Rattle.vx_488.proofs.AddressCommands.{listen_byte, talk_byte, secondary_byte}
 use Rattle.vx_488.proofs.Appends.{reached-append}
-use Rattle.vx_plan.specs.Plan.{Slot, This, AnyByte, Plan, Stand, Whole, Part, Off, stand}
+use Rattle.vx_plan.specs.Plan.{This, Plan, Stand, Whole, Part, Off, stand}
 use Rattle.vx_plan.specs.Whole as whole
 use Rattle.vx_plan.specs.Whole.{Fill, IsWhole, IsPart}
-use Rattle.vx_plan.specs.Tasks.{unl, unt, spe, spd, mla, mta, msa, secondary_part, listener, talker, ended_poll, puts, just, IsTargetPlain, IsSecondaryPlain}
+use Rattle.vx_plan.specs.Tasks.{unl, spd, mla, mta, msa, listener, talker, ended_poll, puts, just, IsSecondaryPlain}
 use Rattle.vx_plan.proofs.Walks.{whole-law, part-law}
 use Rattle.vx_flow.specs.Laws.{marked_bytes}
 

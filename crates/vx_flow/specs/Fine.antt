@@ -4,17 +4,16 @@ use Rattle.std.specs.Option.{option_map}
 use Rattle.std.specs.List.{list_any}
 use Rattle.vx_calls.specs.declared.targets.Target.{Target}
 use Rattle.vx_calls.specs.Target.{conflict}
-use Rattle.vx_calls.specs.Call.{Call}
 use Rattle.vx_calls.specs.Reply.{Reply}
 use Rattle.vx_488.specs.declared.transfers.Transfer.{Transfer}
 use Rattle.vx_488.specs.declared.wire.Wire.{Wire}
 use Rattle.vx_488.specs.Wire.{wire_after}
 use Rattle.vx_plan.specs.declared.tasks.Task.{Task}
-use Rattle.vx_plan.specs.Plan.{Stand, Whole, Part, Off}
+use Rattle.vx_plan.specs.Plan.{Stand, Whole, Off}
 use Rattle.vx_model.specs.State.{Pending, Tables, State, connection_at, pending_at, without_connection}
 use Rattle.vx_model.specs.Calls.{is_bus_call, is_lock_call, asks_dial}
 use Rattle.vx_model.specs.Checks.{NamedLink, NoLink, DeadLink, OnLink, named_link}
-use Rattle.vx_model.specs.Lines.{LockRequest, Lines, Refused, Waiting, Passed, lock_request, first_lines, lets_pass}
+use Rattle.vx_model.specs.Lines.{LockRequest, Lines, Passed, lock_request, first_lines, lets_pass}
 use Rattle.vx_model.specs.Effects.{task_of}
 use Rattle.vx_model.specs.Decide.{Outside, stand_of_job, has_job_role, settles}
 use Rattle.vx_model.specs.Entry as entry

@@ -1,5 +1,5 @@
 -- Interleaved events, gathered to entries of one thread: each answer, and each end of a connection, with all that its turn did.
-use Rattle.std.specs.Prelude.{ℕ, List, [], ◌∷◌, ◌++◌, Option, None}
+use Rattle.std.specs.Prelude.{List, [], ◌∷◌, ◌++◌, Option, None}
 use Rattle.vx_model.specs.Entry as entry
 use Rattle.vx_model.specs.Entry.{Entry}
 use Rattle.vx_flow.specs.Event.{Event, Up, Down, Arrive, Answer, Abort, Sample, Take, Begin, Move, Dial}

@@ -1,5 +1,5 @@
 -- Laws of interleaved events.
-use Rattle.std.specs.Prelude.{◌≡◌, ◌≢◌, ◌≤◌, ℕ, Bool, true, false, not, List, [], ◌∷◌, ◌++◌, map, if◌then◌else◌, ◌&&◌, ◌==◌, ◌+◌, ◌%◌, ◌^◌, Option, Some, None, option_and_then}
+use Rattle.std.specs.Prelude.{◌≡◌, ◌≢◌, ◌≤◌, ℕ, Bool, true, false, List, [], ◌∷◌, ◌++◌, if◌then◌else◌, ◌&&◌, ◌==◌, ◌+◌, ◌%◌, ◌^◌, Option, Some, option_and_then}
 use Rattle.std.specs.List.{All, flat_map}
 use Rattle.vx_calls.specs.declared.codes.ErrorCode.TheVariants as code
 use Rattle.vx_calls.specs.declared.targets.Target.{Target}
@@ -9,21 +9,22 @@ use Rattle.vx_calls.specs.Call as call
 use Rattle.vx_calls.specs.Reply as reply
 use Rattle.vx_488.specs.declared.transfers.Addr.{Addr}
 use Rattle.vx_488.specs.declared.transfers.Transfer.{Transfer}
-use Rattle.vx_488.specs.declared.wire.Wire.{Wire}
 use Rattle.vx_488.specs.Listening.{has_address}
 use Rattle.vx_488.specs.Heard.{Byte, reached, heard}
 use Rattle.vx_links.specs.Table.{Link}
 use Rattle.vx_locks.specs.Locks.{Lock}
 use Rattle.vx_srq.specs.Desk.{Channel, Srq, Front, channel_at, handles_of, queued_on}
 use Rattle.vx_model.specs.Lists.{along}
-use Rattle.vx_model.specs.State.{State, first, pending_at, link_of}
+use Rattle.vx_model.specs.State.{Pending, State, first, pending_at, link_of}
 use Rattle.vx_model.specs.Calls.{link_named, sets_end}
 use Rattle.vx_model.specs.Entry.{Entry, Answer, Down, Sample, Take}
 use Rattle.vx_model.specs.One.{one}
 use Rattle.vx_model.specs.Legal.{legal_state, queued_along}
 use Rattle.vx_flow.specs.Event.{Event, Move}
-use Rattle.vx_flow.specs.FineState.{FineState, first_fine, before_turn}
-use Rattle.vx_flow.specs.Fine.{fine}
+use Rattle.vx_flow.specs.FineState.{Turn, FineState, first_fine, before_turn}
+use Rattle.vx_flow.specs.Fine.{fine, job_of}
+use Rattle.vx_flow.specs.Sound.{IsSound}
+use Rattle.vx_flow.specs.Poll.{at_moment}
 use Rattle.vx_flow.specs.Gather.{gather}
 
 -- the state after a list of events of a gateway with this abort port, or none where one of them isn't allowed at its place
@@ -117,3 +118,27 @@ QueuedLaw = (abort_port : ℕ) (history : List Entry) (s : State) (conn : ℕ) (
 abbrev pub ClosedLaw : Type 0
 ClosedLaw = (s t : State) (now conn : ℕ) (c : Channel) → s.tables.desk.level ≡ false → channel_at s.tables.desk conn ≡ Some c
     → one s (Sample now true) ≡ Some t → channel_at t.tables.desk conn ≡ queued_on (handles_of s.tables.desk.enables conn) c
+
+-- what holds between events holds at the start, and behind each event that is allowed
+abbrev pub FirstSoundLaw : Type 0
+FirstSoundLaw = (abort_port : ℕ) → IsSound (first_fine abort_port)
+
+abbrev pub StaysSoundLaw : Type 0
+StaysSoundLaw = (f g : FineState) (e : Event) → IsSound f → fine f e ≡ Some g → IsSound g
+
+-- and at a later moment
+abbrev pub LaterSoundLaw : Type 0
+LaterSoundLaw = (f : FineState) (now : ℕ) → IsSound f → f.state.moment ≤ now → IsSound (at_moment f now)
+
+-- an event that leaves the turn under way leaves its call, which may be marked, and the call's job
+abbrev pub CallStaysLaw : Type 0
+CallStaysLaw = (f g : FineState) (e : Event) (u : Turn) (p : Pending) → IsSound f → fine f e ≡ Some g → f.turn ≡ Some u → g.turn ≡ Some u
+    → pending_at f.state.tables u.connection ≡ Some p
+    → (aborted : Bool) × (pending_at g.state.tables u.connection ≡ Some (record p { aborted = aborted }))
+    × (job_of g.state.tables u.connection p ≡ job_of f.state.tables u.connection p)
+
+-- Events that are allowed from a state at a later moment are allowed at the earlier one, and lead to the same state, but for
+-- its moment, which is no later.
+abbrev pub EarlierLaw : Type 0
+EarlierLaw = (f g : FineState) (now : ℕ) (h : List Event) → f.state.moment ≤ now → along fine (Some (at_moment f now)) h ≡ Some g
+    → (moment : ℕ) × (along fine (Some f) h ≡ Some (at_moment g moment)) × (moment ≤ g.state.moment)

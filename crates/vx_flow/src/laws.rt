@@ -1,6 +1,7 @@
 //! Laws of interleaved events. These functions do nothing: their contracts are what they are for, and a caller that cites
 //! a law calls its function.
-ghost use Rattle.vx_flow.specs.Laws.{GatherLaw, HeardLaw, HeardOnInterfaceLaw, EntriesFreeLaw, MovesFreelyLaw, ClosedLaw, QueuedLaw};
+ghost use Rattle.vx_flow.specs.Ways.{RefusedLaw, WaitingLaw, InTurnLaw, NoRoleLaw, EffectLaw, DialLaw, FinishedLaw, BrokenLaw, TimeoutLaw, HeldLaw, BegunLaw, BeginsLaw};
+ghost use Rattle.vx_flow.specs.Laws.{GatherLaw, HeardLaw, HeardOnInterfaceLaw, EntriesFreeLaw, MovesFreelyLaw, ClosedLaw, QueuedLaw, FirstSoundLaw, StaysSoundLaw, LaterSoundLaw, CallStaysLaw, EarlierLaw};
 
 /// Interleaved events gather to a history of the gateway of one thread, which ends in their state before the turn under
 /// way, at their moment or an earlier one.
@@ -29,4 +30,36 @@ pub fn reached_law()
 pub fn interrupt_law()
     ensures closed { ClosedLaw }
     ensures queued { QueuedLaw }
+{}
+
+/// What holds between events of the turn under way and of the calls that have come: at the start, behind each event that is
+/// allowed, and at a later moment. An event that leaves the turn leaves its call and the call's job.
+pub fn sound_law()
+    ensures first { FirstSoundLaw }
+    ensures stays { StaysSoundLaw }
+    ensures later { LaterSoundLaw }
+    ensures call { CallStaysLaw }
+{}
+
+/// Events that are allowed at a later moment are allowed at an earlier one, and lead to the same state, but for its moment.
+pub fn earlier_law()
+    ensures { EarlierLaw }
+{}
+
+/// The ways in which a poll ends, line by line of the order of answers, each with the state that it leads to: a refusal, a
+/// lock or a turn that the call waits for, a bus that the gateway has no role on, an effect, a dial; and where the call's own
+/// turn goes on, or begins: it is whole, the bus fails, or holds, with its time passed or not.
+pub fn poll_ways()
+    ensures refused { RefusedLaw }
+    ensures waiting { WaitingLaw }
+    ensures in_turn { InTurnLaw }
+    ensures no_role { NoRoleLaw }
+    ensures effect { EffectLaw }
+    ensures dial { DialLaw }
+    ensures finished { FinishedLaw }
+    ensures broken { BrokenLaw }
+    ensures timeout { TimeoutLaw }
+    ensures held { HeldLaw }
+    ensures begun { BegunLaw }
+    ensures begins { BeginsLaw }
 {}

@@ -3,4 +3,6 @@
 
 mod laws;
 
-pub use laws::{gather_law, heard_law, interrupt_law, reached_law};
+pub use laws::{
+    earlier_law, gather_law, heard_law, interrupt_law, poll_ways, reached_law, sound_law,
+};

@@ -1,0 +1,115 @@
+-- A poll of a call that has no answer yet: which events it makes, and when it may end without an answer.
+use Rattle.std.specs.Prelude.{◌≡◌, ◌≤◌, ℕ, Bool, true, false, ◌&&◌, if◌then◌else◌, List, [], ◌∷◌, ◌++◌, Some, None, is_none, is_some}
+use Rattle.vx_calls.specs.Reply.{Reply}
+use Rattle.vx_488.specs.declared.transfers.Transfer.{Transfer}
+use Rattle.vx_plan.specs.Plan.{Whole, Part}
+use Rattle.vx_model.specs.Lists.{along}
+use Rattle.vx_model.specs.State.{Pending, pending_at}
+use Rattle.vx_model.specs.Calls.{io_timeout_of, has_passed}
+use Rattle.vx_model.specs.Dials.{dials_to}
+use Rattle.vx_model.specs.Lines.{Lines, Waiting, Passed, first_lines}
+use Rattle.vx_flow.specs.Event.{Event, Answer, Begin, Move, Dial}
+use Rattle.vx_flow.specs.FineState.{Turn, FineState, turn_of}
+use Rattle.vx_flow.specs.Fine.{fine, wire_for, waits_for, may_begin, turn_stand, is_passed}
+
+-- why a call isn't answered yet: a link's lock keeps it off, another connection's turn is under way, or the bus held
+pub data Why : Type 0 where
+  Locked : (link : ℕ) → Why
+  InTurn : (conn : ℕ) → Why
+  Held : Why
+
+-- how far a poll went on with its call's turn: not at all, to the end, or until the bus held or failed
+pub data Ran : Type 0 where
+  Still : Ran
+  Finished : Ran
+  Paused : Ran
+  Broken : Ran
+
+-- how a poll ends: with a reply, for which a bus status was told a level; without one; or with a dial that is asked for
+pub data Ending : Type 0 where
+  Answered : (ran : Ran) (level : Bool) (reply : Reply) → Ending
+  Waited : (why : Why) → Ending
+  Dialed : (host port : ℕ) → Ending
+
+abbrev pub is_broken : Ran → Bool
+is_broken Broken = true
+is_broken _ = false
+
+-- the state at a later moment
+abbrev pub at_moment : FineState → ℕ → FineState
+at_moment f now = record f { state = record f.state { moment = now } }
+
+-- a poll begins the turn of its call where none is under way and the call's may begin
+abbrev pub begins : FineState → ℕ → ℕ → Bool
+begins f conn now = is_none f.turn && may_begin f.state conn now (pending_at f.state.tables conn)
+
+abbrev pub begun_events : FineState → ℕ → ℕ → List Event
+begun_events f conn now = if begins f conn now then Begin conn now ∷ [] else []
+
+-- the transfers that it made, where it made any
+abbrev pub moved_events : ℕ → List Transfer → List Event
+moved_events conn [] = []
+moved_events conn (t ∷ ts) = Move conn (t ∷ ts) ∷ []
+
+-- the events of a poll before its end
+abbrev pub run_events : FineState → ℕ → ℕ → List Transfer → List Event
+run_events f conn now moves = begun_events f conn now ++ moved_events conn moves
+
+-- the event at its end
+abbrev pub end_events : ℕ → ℕ → Ending → List Event
+end_events conn now (Answered ran level reply) = Answer conn now (is_broken ran) None level reply ∷ []
+end_events conn now (Waited why) = []
+end_events conn now (Dialed host port) = Dial conn now ∷ []
+
+-- what the first lines say of a connection's call, on the bus that it is measured on
+abbrev pub lines_at : FineState → ℕ → ℕ → Pending → Lines
+lines_at f conn now p = first_lines f.state.tables (wire_for f conn).own conn false p now
+
+-- the poll of a call goes on with its turn: the first lines let it pass, and its turn is under way
+abbrev pub runs : FineState → ℕ → ℕ → Pending → Bool
+runs f conn now p = is_passed (lines_at f conn now p) && is_some (turn_of f.turn conn)
+
+-- The turn of a call went on so far: where the call's turn didn't go on, it made no transfers; where it did, they are whole
+-- exactly where it finished.
+abbrev pub RanTo : FineState → ℕ → ℕ → Pending → List Transfer → Ran → Type 0
+RanTo f conn now p moves Still = (runs f conn now p ≡ false) × (moves ≡ [])
+RanTo f conn now p moves Finished = (runs f conn now p ≡ true) × ((u : Turn) → turn_of f.turn conn ≡ Some u → turn_stand f u u.moves ≡ Whole)
+RanTo f conn now p moves _ = (runs f conn now p ≡ true) × ((u : Turn) → turn_of f.turn conn ≡ Some u → turn_stand f u u.moves ≡ Part)
+
+-- how far a poll that ends so went on with the turn
+abbrev pub ran_of : Ending → Ran
+ran_of (Answered ran level reply) = ran
+ran_of (Waited (Locked link)) = Still
+ran_of (Waited (InTurn conn)) = Still
+ran_of (Waited Held) = Paused
+ran_of (Dialed host port) = Still
+
+-- Why a poll may end without an answer, in the state behind its transfers: a lock that the call waits for keeps it off; it
+-- waits for another connection's turn; or its own turn is held, and its time hasn't passed.
+abbrev pub NotYet : FineState → ℕ → ℕ → Pending → Why → Type 0
+NotYet f conn now p (Locked link) = lines_at f conn now p ≡ Waiting link
+NotYet f conn now p (InTurn other) =
+    (lines_at f conn now p ≡ Passed)
+    × (u : Turn) × (f.turn ≡ Some u) × (u.connection ≡ other) × (waits_for f.state.tables (wire_for f conn).own conn p u ≡ true)
+NotYet f conn now p Held =
+    (lines_at f conn now p ≡ Passed) × (u : Turn) × (turn_of f.turn conn ≡ Some u) × (has_passed (io_timeout_of p.call) u.begun now ≡ false)
+
+-- what an ending asks of the call
+abbrev pub EndsBy : FineState → ℕ → ℕ → Pending → Ending → Type 0
+EndsBy f conn now p (Answered ran level reply) = Unit {0}
+EndsBy f conn now p (Waited why) = NotYet f conn now p why
+EndsBy f conn now p (Dialed host port) = dials_to p.call ≡ (host, port)
+
+-- A poll of a connection's call at this moment, which isn't before the state's: the turn's beginning, where it begins now, and its transfers lead from the one
+-- state to a state in which the poll may end so; the end leads to the other state, at this moment.
+pub record Polls (old : FineState) (conn now : ℕ) (moves : List Transfer) (ending : Ending) (new : FineState) : Type 0 where
+  pub asked : Pending
+  pub call_at : pending_at old.state.tables conn ≡ Some asked
+  pub late : old.state.moment ≤ now
+  pub behind : FineState
+  pub runs_to : along fine (Some old) (run_events old conn now moves) ≡ Some behind
+  pub ran : RanTo behind conn now asked moves (ran_of ending)
+  pub ends_by : EndsBy behind conn now asked ending
+  pub last : FineState
+  pub ended : along fine (Some behind) (end_events conn now ending) ≡ Some last
+  pub at_now : new ≡ at_moment last now

@@ -1,0 +1,138 @@
+-- The ways in which a poll ends, each with the state that it leads to.
+use Rattle.std.specs.Prelude.{◌≡◌, ◌≤◌, ℕ, Bool, true, false, ◌||◌, List, [], ◌∷◌, ◌++◌, Option, Some, None, ◌⊎◌}
+use Rattle.vx_calls.specs.declared.codes.ErrorCode.{ErrorCode}
+use Rattle.vx_calls.specs.declared.codes.ErrorCode.TheVariants as code
+use Rattle.vx_calls.specs.Reply.{Reply}
+use Rattle.vx_488.specs.declared.transfers.Transfer.{Transfer}
+use Rattle.vx_488.specs.Wire.{wire_after}
+use Rattle.vx_plan.specs.declared.tasks.Task.{Task}
+use Rattle.vx_plan.specs.Plan.{Whole, Part}
+use Rattle.vx_plan.specs.Roles.{has_role}
+use Rattle.vx_plan.specs.Results.{whole_reply}
+use Rattle.vx_model.specs.State.{Pending, Tables, pending_at, with_pending}
+use Rattle.vx_model.specs.Calls.{is_bus_call, asks_dial, io_timeout_of, bytes_of, is_big, has_passed}
+use Rattle.vx_model.specs.Checks.{named_link}
+use Rattle.vx_model.specs.Dials.{dials_to}
+use Rattle.vx_model.specs.Lines.{Refused, Waiting, Passed}
+use Rattle.vx_model.specs.Effects.{stopped_reply, effect}
+use Rattle.vx_model.specs.Decide.{level_fits}
+use Rattle.vx_flow.specs.FineState.{Turn, FineState, turn_of, moves_of, turn_without}
+use Rattle.vx_flow.specs.Event.{Begin}
+use Rattle.vx_flow.specs.Fine.{job_of, fine, wire_for, wire_before, waits_for, waits_for_turn, turn_stand, without_dial}
+use Rattle.vx_flow.specs.Sound.{IsSound}
+use Rattle.vx_flow.specs.Poll.{Still, Finished, Paused, Broken, Answered, Waited, Locked, InTurn, Held, Dialed, Ending, Polls, lines_at, at_moment}
+
+-- A connection's call is polled at this moment: the call is pending, and the list of the turn under way isn't whole.
+pub record IsPolled (f : FineState) (conn now : ℕ) (p : Pending) : Type 0 where
+  pub sound : IsSound f
+  pub call_at : pending_at f.state.tables conn ≡ Some p
+  pub late : f.state.moment ≤ now
+  pub is_part : (u : Turn) → f.turn ≡ Some u → turn_stand f u u.moves ≡ Part
+
+-- the turn, unless it is of this connection
+abbrev pub turn_left_by : Option Turn → ℕ → Option Turn
+turn_left_by None conn = None
+turn_left_by (Some u) conn = turn_without u conn
+
+-- the call is over, with these tables: its turn and its dial are gone, and the bus stays as it is
+abbrev pub over : FineState → ℕ → ℕ → Tables → FineState
+over f conn now t = record {
+  state = record { tables = with_pending t conn None; wire = f.state.wire; moment = now };
+  turn = turn_left_by f.turn conn;
+  before = wire_before (turn_left_by f.turn conn) f.state.wire f.before;
+  dialed = without_dial f.dialed conn;
+}
+
+-- the turn has made these transfers more
+abbrev pub moved_on : FineState → Turn → List Transfer → FineState
+moved_on f u moves = record f {
+  state = record f.state { wire = wire_after f.state.wire moves };
+  turn = Some (record u { moves = u.moves ++ moves });
+}
+
+-- the call's turn begins
+abbrev pub begun_now : FineState → ℕ → ℕ → FineState
+begun_now f conn now = record f {
+  state = record f.state { moment = now };
+  turn = Some (record { connection = conn; begun = now; moves = [] });
+  before = f.state.wire;
+}
+
+-- the first lines refuse the call
+abbrev pub RefusedLaw : Type 0
+RefusedLaw = (f : FineState) (conn now : ℕ) (p : Pending) (error : ErrorCode) → IsPolled f conn now p → lines_at f conn now p ≡ Refused error
+    → Polls f conn now [] (Answered Still false (stopped_reply p.call error (moves_of (turn_of f.turn conn)))) (over f conn now f.state.tables)
+
+-- the call waits for a link's lock
+abbrev pub WaitingLaw : Type 0
+WaitingLaw = (f : FineState) (conn now link : ℕ) (p : Pending) → IsPolled f conn now p → lines_at f conn now p ≡ Waiting link
+    → Polls f conn now [] (Waited (Locked link)) (at_moment f now)
+
+-- it waits for another connection's turn
+abbrev pub InTurnLaw : Type 0
+InTurnLaw = (f : FineState) (conn now : ℕ) (p : Pending) (u : Turn) → IsPolled f conn now p → lines_at f conn now p ≡ Passed → f.turn ≡ Some u
+    → waits_for f.state.tables (wire_for f conn).own conn p u ≡ true → Polls f conn now [] (Waited (InTurn u.connection)) (at_moment f now)
+
+-- the gateway hasn't the role that the call's job needs
+abbrev pub NoRoleLaw : Type 0
+NoRoleLaw = (f : FineState) (conn now : ℕ) (p : Pending) (job : Task) → IsPolled f conn now p → lines_at f conn now p ≡ Passed → f.turn ≡ None
+    → job_of f.state.tables conn p ≡ Some job → has_role job f.state.wire ≡ false
+    → Polls f conn now [] (Answered Still false (stopped_reply p.call code.BusFault [])) (over f conn now f.state.tables)
+
+-- a call that needs neither the bus nor a dial has its effect
+abbrev pub EffectLaw : Type 0
+EffectLaw = (f : FineState) (conn now : ℕ) (p : Pending) (given : Reply) (after : Tables) → IsPolled f conn now p → lines_at f conn now p ≡ Passed
+    → (is_bus_call p.call || asks_dial p.call) ≡ false → waits_for_turn f.state.tables (wire_for f conn).own conn p f.turn ≡ false
+    → effect f.state.tables (wire_for f conn).own conn (named_link f.state.tables conn p.call) p.call ≡ Some (given, after)
+    → Polls f conn now [] (Answered Still false given) (over f conn now after)
+
+-- a call asks for a dial
+abbrev pub DialLaw : Type 0
+DialLaw = (f : FineState) (conn now : ℕ) (p : Pending) → IsPolled f conn now p → lines_at f conn now p ≡ Passed → asks_dial p.call ≡ true
+    → Polls f conn now [] (Dialed (dials_to p.call).0 (dials_to p.call).1) (record (at_moment f now) { dialed = without_dial f.dialed conn ++ conn ∷ [] })
+
+-- The call's own turn goes on by these transfers.
+pub record GoesOnBy (f : FineState) (conn now : ℕ) (p : Pending) (u : Turn) (job : Task) : Type 0 where
+  pub sound : IsSound f
+  pub call_at : pending_at f.state.tables conn ≡ Some p
+  pub late : f.state.moment ≤ now
+  pub passed : lines_at f conn now p ≡ Passed
+  pub own : f.turn ≡ Some u
+  pub of_call : u.connection ≡ conn
+  pub has_job : job_of f.state.tables conn p ≡ Some job
+
+-- it is whole then
+abbrev pub FinishedLaw : Type 0
+FinishedLaw = (f : FineState) (conn now : ℕ) (p : Pending) (u : Turn) (job : Task) (moves : List Transfer) (level : Bool) → GoesOnBy f conn now p u job
+    → turn_stand f u u.moves ≡ Part ⊎ moves ≡ [] → turn_stand f u (u.moves ++ moves) ≡ Whole → level_fits job level ≡ true
+    → Polls f conn now moves (Answered Finished level (whole_reply job (bytes_of p.call) f.before (is_big p.call) level (u.moves ++ moves)))
+    (over (moved_on f u moves) conn now f.state.tables)
+
+-- the bus failed
+abbrev pub BrokenLaw : Type 0
+BrokenLaw = (f : FineState) (conn now : ℕ) (p : Pending) (u : Turn) (job : Task) (moves : List Transfer) → GoesOnBy f conn now p u job
+    → turn_stand f u u.moves ≡ Part → turn_stand f u (u.moves ++ moves) ≡ Part
+    → Polls f conn now moves (Answered Broken false (stopped_reply p.call code.BusFault (u.moves ++ moves))) (over (moved_on f u moves) conn now f.state.tables)
+
+-- the bus held, and the turn's time has passed
+abbrev pub TimeoutLaw : Type 0
+TimeoutLaw = (f : FineState) (conn now : ℕ) (p : Pending) (u : Turn) (job : Task) (moves : List Transfer) → GoesOnBy f conn now p u job
+    → turn_stand f u u.moves ≡ Part → turn_stand f u (u.moves ++ moves) ≡ Part → has_passed (io_timeout_of p.call) u.begun now ≡ true
+    → Polls f conn now moves (Answered Paused false (stopped_reply p.call code.Timeout (u.moves ++ moves))) (over (moved_on f u moves) conn now f.state.tables)
+
+-- the bus held, and it hasn't
+abbrev pub HeldLaw : Type 0
+HeldLaw = (f : FineState) (conn now : ℕ) (p : Pending) (u : Turn) (job : Task) (moves : List Transfer) → GoesOnBy f conn now p u job
+    → turn_stand f u u.moves ≡ Part → turn_stand f u (u.moves ++ moves) ≡ Part → has_passed (io_timeout_of p.call) u.begun now ≡ false
+    → Polls f conn now moves (Waited Held) (at_moment (moved_on f u moves) now)
+
+-- the call's turn begins, where the gateway has the role that its job needs
+abbrev pub BegunLaw : Type 0
+BegunLaw = (f : FineState) (conn now : ℕ) (p : Pending) (job : Task) → IsPolled f conn now p → lines_at f conn now p ≡ Passed → f.turn ≡ None
+    → job_of f.state.tables conn p ≡ Some job → has_role job f.state.wire ≡ true → fine f (Begin conn now) ≡ Some (begun_now f conn now)
+
+-- and what the poll leaves from there it leaves
+abbrev pub BeginsLaw : Type 0
+BeginsLaw = (f g : FineState) (conn now : ℕ) (p : Pending) (job : Task) (moves : List Transfer) (ending : Ending) → IsPolled f conn now p
+    → lines_at f conn now p ≡ Passed → f.turn ≡ None → job_of f.state.tables conn p ≡ Some job → has_role job f.state.wire ≡ true
+    → Polls (begun_now f conn now) conn now moves ending g → Polls f conn now moves ending g
