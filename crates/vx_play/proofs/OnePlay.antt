@@ -5,7 +5,7 @@ use Rattle.std.proofs.lemmas.Bool.{false≢true}
 use Rattle.vx_calls.specs.declared.calls.Role.{Role}
 use Rattle.vx_calls.specs.Call.{Call}
 use Rattle.vx_calls.specs.Reply.{Reply}
-use Rattle.vx_script.specs.Command.{Command, Up, In, Down}
+use Rattle.vx_script.specs.Command.{Command, Up, In, Down, At, Poll, Sample, Take, Dial, Inst, Plug, Pull, Set, Fail}
 use Rattle.vx_rpc.specs.Wording.{success_message}
 use Rattle.vx_codec.specs.Answered.{results}
 use Rattle.vx_core.specs.Lists.{along}
@@ -91,6 +91,16 @@ one_make : (s : Stage) (t u : State) (command : Command) (g h : List Entry) (n m
 one_make s t u (Up conn role) g h n m (a, b) (c, d) x y = (a ∙ sym c, b ∙ sym d)
 one_make s t u (In conn bytes) g h n m a b x y = one_piece s.state t u conn (brought (s.streams conn) bytes) g h n m a b x y
 one_make s t u (Down conn) g h n m (a, b) (c, d) x y = (a ∙ sym c, b ∙ sym d)
+one_make s t u (At moment) g h n m a b x y = absurd a
+one_make s t u (Poll conn) g h n m a b x y = absurd a
+one_make s t u Sample g h n m a b x y = absurd a
+one_make s t u (Take conn) g h n m a b x y = absurd a
+one_make s t u (Dial conn up) g h n m a b x y = absurd a
+one_make s t u (Inst p r text) g h n m a b x y = absurd a
+one_make s t u (Plug p r name) g h n m a b x y = absurd a
+one_make s t u (Pull p r) g h n m a b x y = absurd a
+one_make s t u (Set p r byte) g h n m a b x y = absurd a
+one_make s t u (Fail count) g h n m a b x y = absurd a
 
 -- a step takes a play to one stage, by one item
 pub record OneStep (i j : Item) (t u : Stage) : Type 0 where

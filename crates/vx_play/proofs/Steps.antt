@@ -4,6 +4,7 @@ use Rattle.std.proofs.lemmas.Bool.{cond-true, cond-false, false≢true, cases_eq
 use Rattle.std.proofs.lemmas.Option.{same_Some, cond_some, option_and_then_some}
 use Rattle.std.specs.Option.{option_and_then, option_or}
 use Rattle.vx_calls.specs.declared.calls.Role.{Role}
+use Rattle.vx_calls.specs.declared.calls.Role.TheVariants as role
 use Rattle.vx_calls.specs.declared.limits.TheConstants.{RECORD_MAX}
 use Rattle.vx_record.specs.Buffer.{BufState, fresh, fed, taken}
 use Rattle.vx_record.specs.declared.Feed.{Feed}
@@ -70,42 +71,42 @@ or-left : (o : Option Connection) → option_or o None ≡ o
 or-left None = refl
 or-left (Some c) = refl
 
-pub up-takes : (stage : Stage) (core after : State) (held next : Held) (conn n : ℕ) (role : Role) → Stands core held stage → conn ≡ core.tables.next_connection
-    → one core (entry.Up n role) ≡ Some after → next conn ≡ Some (fresh RECORD_MAX) → ((m : ℕ) → m ≢ conn → next m ≡ held m)
-    → TakesTo stage (Up conn role) Nothing after next
-up-takes stage core after held next conn n role stands at came here others =
+pub up-takes : (stage : Stage) (core after : State) (held next : Held) (conn n : ℕ) → Stands core held stage → conn ≡ core.tables.next_connection
+    → one core (entry.Up n role.Core) ≡ Some after → next conn ≡ Some (fresh RECORD_MAX) → ((m : ℕ) → m ≢ conn → next m ≡ held m)
+    → TakesTo stage (Up conn role.Core) Nothing after next
+up-takes stage core after held next conn n stands at came here others =
     let parts = cond_some _ _ after came in
     let tests = and_parts _ _ parts.0 in
     let same : n ≡ conn = eqb-true _ _ tests.0 ∙ sym at in
-    let up : one stage.state (entry.Up conn role) ≡ Some after = subst (λ s. one s (entry.Up conn role) ≡ Some after) stands.state
-    (subst (λ k. one core (entry.Up k role) ≡ Some after) same came) in
-    let room : has_room stage.state role ≡ true = subst (λ s. has_room s role ≡ true) stands.state tests.1 in
+    let up : one stage.state (entry.Up conn role.Core) ≡ Some after = subst (λ s. one s (entry.Up conn role.Core) ≡ Some after) stands.state
+    (subst (λ k. one core (entry.Up k role.Core) ≡ Some after) same came) in
+    let room : has_room stage.state role.Core ≡ true = subst (λ s. has_room s role.Core ≡ true) stands.state tests.1 in
     let number : (conn == stage.state.tables.next_connection) ≡ true = eq-eqb _ _ (subst (λ s. conn ≡ s.tables.next_connection) stands.state at) in
-    let new : Connection = record { number = conn; role = role; pending = None } in
+    let new : Connection = record { number = conn; role = role.Core; pending = None } in
     record {
-      item = record { command = Up conn role; group = entry.Up conn role ∷ []; note = Nothing };
-      after = record { state = after; streams = stream_after stage (Up conn role) };
+      item = record { command = Up conn role.Core; group = entry.Up conn role.Core ∷ []; note = Nothing };
+      after = record { state = after; streams = stream_after stage (Up conn role.Core) };
       command_is = refl;
       note_is = refl;
       takes = record {
-        allowed = cond-false _ (Some cause.Number) (cond (has_room stage.state role) None (Some cause.Full)) (ap not number) ∙ cond-true _ None (Some cause.Full) room;
+        allowed = cond-false _ (Some cause.Number) (cond (has_room stage.state role.Core) None (Some cause.Full)) (ap not number) ∙ cond-true _ None (Some cause.Full) room;
         makes = (refl, refl);
         state = up;
         streams = λ m. refl;
       };
       stands = record {
         state = refl;
-        idle = λ m. ap (option_and_then (λ c. c.pending)) (one-up stage.state after conn role up m) ∙ or-none (connection_at stage.state m) new (conn == m) (stands.idle m) refl;
+        idle = λ m. ap (option_and_then (λ c. c.pending)) (one-up stage.state after conn role.Core up m) ∙ or-none (connection_at stage.state m) new (conn == m) (stands.idle m) refl;
         streams = λ m. ⊎_elim
             (λ e. holds-same _ _ (Some (fresh RECORD_MAX)) (next m) [] _ refl (ap next e ∙ here) (cond-true _ [] (stage.streams m) (eq-eqb m conn e))
             (holds-some _ (fresh RECORD_MAX) []
             (ap (λ o. is_some (option_and_then (λ c. Some c.role) o))
-            (one-up stage.state after conn role up m ∙ ap (option_or (connection_at stage.state m)) (cond-true _ (Some new) None (eq-eqb conn m (sym e))))
+            (one-up stage.state after conn role.Core up m ∙ ap (option_or (connection_at stage.state m)) (cond-true _ (Some new) None (eq-eqb conn m (sym e))))
             ∙ or-some (connection_at stage.state m) new)
             (record { held = refl; waits = refl })))
             (λ ne. holds-same _ _ (held m) (next m) (stage.streams m) _
             (ap (option_and_then (λ c. Some c.role))
-            (one-up stage.state after conn role up m ∙ ap (option_or (connection_at stage.state m)) (cond-false _ (Some new) None (ne_eqb conn m (λ e. ne (sym e))))
+            (one-up stage.state after conn role.Core up m ∙ ap (option_or (connection_at stage.state m)) (cond-false _ (Some new) None (ne_eqb conn m (λ e. ne (sym e))))
             ∙ or-left (connection_at stage.state m)))
             (others m ne) (cond-false _ [] (stage.streams m) (ne_eqb m conn ne)) (stands.streams m))
             (cases_eq m conn);

@@ -1,6 +1,7 @@
 -- A play: which step is refused, what each other step does, and the play of a whole script.
 use Rattle.std.specs.Prelude.{◌≡◌, ℕ, not, ◌==◌, if◌then◌else◌, List, [], ◌∷◌, ◌++◌, Option, Some, None, is_none, ◌⊎◌}
 use Rattle.vx_calls.specs.declared.calls.Role.{Role}
+use Rattle.vx_calls.specs.declared.calls.Role.TheVariants as role
 use Rattle.vx_calls.specs.Reply.{Reply}
 use Rattle.vx_script.specs.declared.Cause.{Cause}
 use Rattle.vx_script.specs.declared.Cause.TheVariants as cause
@@ -36,14 +37,16 @@ abbrev pub refused_by : Brought → Option Cause
 refused_by After = Some cause.After
 refused_by _ = None
 
--- why a command is refused, where it is
+-- why a command is refused, where it is; of all commands a core connection's `up`, an `in` and a `down` are played, and every
+-- other one is refused as form
 abbrev pub refusal : Stage → Command → Option Cause
-refusal s (Up conn role) =
+refusal s (Up conn role.Core) =
     if not (conn == s.state.tables.next_connection) then Some cause.Number
-    else if has_room s.state role then None
+    else if has_room s.state role.Core then None
     else Some cause.Full
 refusal s (In conn bytes) = if is_none (role_at s.state conn) then Some cause.Conn else refused_by (brought (s.streams conn) bytes)
 refusal s (Down conn) = if is_none (role_at s.state conn) then Some cause.Conn else None
+refusal s _ = Some cause.Form
 
 -- what a message makes: junk ends the connection; an answer without the core makes no entry; a call comes and is answered at once
 abbrev pub MessageMakes : State → ℕ → Meaning → List Entry → Note → Type 0
@@ -70,12 +73,13 @@ abbrev pub Makes : Stage → Command → List Entry → Note → Type 0
 Makes s (Up conn role) group note = (group ≡ entry.Up conn role ∷ []) × (note ≡ Nothing)
 Makes s (In conn bytes) group note = PieceMakes s.state conn (brought (s.streams conn) bytes) group note
 Makes s (Down conn) group note = (group ≡ entry.Down conn ∷ []) × (note ≡ Ended conn gone.Down)
+Makes s _ group note = ⊥
 
 -- the bytes of a connection's stream since its last whole record, after a command
 abbrev pub stream_after : Stage → Command → ℕ → List ℕ
 stream_after s (Up conn role) n = if n == conn then [] else s.streams n
 stream_after s (In conn bytes) n = if n == conn then kept_after (brought (s.streams conn) bytes) (s.streams conn ++ bytes) else s.streams n
-stream_after s (Down conn) n = s.streams n
+stream_after s _ n = s.streams n
 
 -- an item takes a play from one stage to the next: its command isn't refused, it made what it should, and each of its
 -- entries is allowed at its place

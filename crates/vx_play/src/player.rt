@@ -2,7 +2,9 @@
 ghost use Rattle.std.specs.Prelude.{◌≡◌, ◌≢◌, ℕ, ◌≤◌, ◌<◌, length, None, Some, IfOk, IfErr, IfSome, IfNone, IsSome, OnOk, vec_len};
 ghost use Rattle.std.specs.Ordering.{nat_cmp};
 ghost use Rattle.std.specs.BTreeMap.{get};
-ghost use Rattle.vx_script.specs.Command.{Up, In, Down, step_shown, HasBytes};
+ghost use Rattle.vx_calls.specs.declared.calls.Role.TheVariants as role;
+ghost use Rattle.vx_script.specs.Command.{Up, In, Down, step_shown};
+ghost use Rattle.vx_script.specs.Plain.{IsPlainStep};
 ghost use Rattle.vx_record.specs.Buffer.{BufState, fresh};
 ghost use Rattle.vx_core.specs.State.{role_at, pending_at};
 ghost use Rattle.vx_core.specs.Entry as entry;
@@ -68,9 +70,10 @@ impl Player {
         }
     }
 
-    /// Takes a step, and tells what it made; or says why it isn't taken.
+    /// Takes a step, and tells what it made; or says why it isn't taken. The steps of other lines than `up C core`, `in`
+    /// and `down` aren't played yet: they are refused as `Form`.
     pub fn step(&mut self, alloc: Global, step: &Step<'_>) -> Result<Made, Stop>
-        requires bytes { HasBytes step.now }
+        requires plain { IsPlainStep step.now }
         requires ready { IsReady self.old.core (λ n. get nat_cmp self.old.buffers n) }
         ensures taken { IfOk result (λ made. (stage : Stage) → Stands self.old.core (λ n. get nat_cmp self.old.buffers n) stage
             → TakesTo stage (step_shown step.now) (note_made self.new.reply.items made) self.new.core (λ n. get nat_cmp self.new.buffers n)) }
@@ -82,12 +85,13 @@ impl Player {
             Step::Up { conn, role } => self.up(alloc, conn, role),
             Step::In { conn, bytes } => self.piece(conn, bytes),
             Step::Down { conn } => self.down(conn),
+            _ => Err(Stop::Refused(Cause::Form)),
         }
     }
 }
 
 impl Player {
-    /// A connection comes up.
+    /// A connection comes up, if it is a core one.
     fn up(&mut self, alloc: Global, conn: u32, role: Role) -> Result<Made, Stop>
         ensures taken { IfOk result (λ made. (stage : Stage) → Stands self.old.core (λ n. get nat_cmp self.old.buffers n) stage
             → TakesTo stage (Up conn role) (note_made self.new.reply.items made) self.new.core (λ n. get nat_cmp self.new.buffers n)) }
@@ -95,10 +99,24 @@ impl Player {
             → StopsFor stage (Up conn role) stop) }
         ensures within { IfOk result (MadeWithin (vec_len self.new.reply)) }
     {
+        match role {
+            Role::Core => self.core_up(alloc, conn),
+            Role::Abort => Err(Stop::Refused(Cause::Form)),
+        }
+    }
+
+    /// A core connection comes up.
+    fn core_up(&mut self, alloc: Global, conn: u32) -> Result<Made, Stop>
+        ensures taken { IfOk result (λ made. (stage : Stage) → Stands self.old.core (λ n. get nat_cmp self.old.buffers n) stage
+            → TakesTo stage (Up conn role.Core) (note_made self.new.reply.items made) self.new.core (λ n. get nat_cmp self.new.buffers n)) }
+        ensures stopped { IfErr result (λ stop. (stage : Stage) → Stands self.old.core (λ n. get nat_cmp self.old.buffers n) stage
+            → StopsFor stage (Up conn role.Core) stop) }
+        ensures within { IfOk result (MadeWithin (vec_len self.new.reply)) }
+    {
         if conn != self.core.next_number() {
             return Err(Stop::Refused(Cause::Number));
         }
-        match self.core.connect(alloc, role) {
+        match self.core.connect(alloc, Role::Core) {
             Ok(_) => {}
             Err(Connect::Full) => return Err(Stop::Refused(Cause::Full)),
             Err(Connect::NoMemory) => return Err(Stop::NoMemory),

@@ -219,7 +219,8 @@ fn play<S: Source, K: Sink>(alloc: Global, words: &[String], source: &mut S, sin
 /// - 1, `usage: vxplay COMMAND`: the words aren't a command; the source isn't read.
 /// - 2, nothing written: the source failed.
 /// - 3, `fault line N CAUSE`: line N, counted from 1, is outside the grammar or its step is refused. What stands in front of
-///   it was played; the line itself did nothing.
+///   it was played; the line itself did nothing. Of the lines of the grammar `up C core`, `in` and `down` are played; each
+///   other one is refused as `form` for now, as a line outside the grammar is, at whatever place it stands.
 /// - 4: the sink failed; a front of what was due was written.
 /// - 5: memory ran out; what the steps in front made was written, or nothing.
 /// - 6, `fault long`: the source has more than 67,108,864 bytes.

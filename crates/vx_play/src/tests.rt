@@ -233,6 +233,40 @@ fn lines_of_scripts(rt: HostRuntime) -> Result<(), Fail> {
     Ok(())
 }
 
+// Lines of the grammar that aren't played, as the first line and behind another.
+#[test]
+fn lines_that_are_not_played(rt: HostRuntime) -> Result<(), Fail> {
+    let lines: [&str; 18] = [
+        "up 1 abort",
+        "up 2 abort",
+        "up 2147483647 abort",
+        "at 0",
+        "at 18446744073709551615",
+        "poll 1",
+        "sample",
+        "take 1",
+        "dial 1 ok",
+        "dial 1 fail",
+        "inst 5 {}",
+        "inst 5,6 ",
+        "plug 5 echo",
+        "pull 5",
+        "pull 30,30",
+        "set 5 41",
+        "fail 1",
+        "fail 4294967295",
+    ];
+    for line in lines {
+        let mut script = String::from_str(rt.alloc(), line)?;
+        expect_play(&rt, &script, 3, "fault line 1 form\n")?;
+        script = String::from_str(rt.alloc(), "up 1 core\n")?;
+        writeln!(script, "{line}")?;
+        script.push_str("down 1\n")?;
+        expect_play(&rt, &script, 3, "fault line 2 form\n")?;
+    }
+    Ok(())
+}
+
 // The 65th connection, and the 65th that lives where one went.
 #[test]
 fn full_connections(rt: HostRuntime) -> Result<(), Fail> {

@@ -1,4 +1,6 @@
 pub mod Command
+pub mod Words
 pub mod Grammar
+pub mod Plain
 pub mod Reads
 pub mod Cause

@@ -1,0 +1,173 @@
+//! The step of a line, by its first word and what stands behind it.
+ghost use Rattle.std.specs.Prelude.{◌≡◌, ◌≤◌, length, option_copied, option_map, IfSome};
+ghost use Rattle.vx_script.specs.Command.{Command, step_shown};
+ghost use Rattle.vx_script.specs.Grammar.{role_of, dialed_of, at_connection, behind_connection, of_connection, is_bus_word, at_address, behind_address, of_address, behind_word, command_of};
+ghost use Rattle.vx_script.specs.Plain.{IsConnection, IsAddress, IsPlainStep};
+ghost use Rattle.vx_script.specs.Words.{cut};
+
+use crate::Step;
+use crate::values::{
+    Address, address_of, byte_of, bytes_of, connection_of, cut, is_name, number_up_to,
+    positive_up_to,
+};
+use vx_calls::Role;
+
+fn role_of(text: &[u8]) -> Option<Role>
+    ensures { result ≡ role_of text.now }
+{
+    match text {
+        b"core" => Some(Role::Core),
+        b"abort" => Some(Role::Abort),
+        _ => None,
+    }
+}
+
+/// Whether a dial came up.
+fn dialed_of(text: &[u8]) -> Option<bool>
+    ensures { result ≡ dialed_of text.now }
+{
+    match text {
+        b"ok" => Some(true),
+        b"fail" => Some(false),
+        _ => None,
+    }
+}
+
+/// The step of a word and a connection.
+fn at_connection(word: &[u8], conn: u32) -> Option<Step<'static>>
+    requires { IsConnection conn }
+    ensures value { option_map step_shown result ≡ at_connection word.now conn }
+    ensures plain { IfSome result IsPlainStep }
+{
+    match word {
+        b"down" => Some(Step::Down { conn }),
+        b"poll" => Some(Step::Poll { conn }),
+        b"take" => Some(Step::Take { conn }),
+        _ => None,
+    }
+}
+
+/// The step of a word, a connection and what stands behind its number.
+fn behind_connection<'a>(
+    word: &[u8],
+    conn: u32,
+    rest: &[u8],
+    room: &'a mut [u8],
+) -> Option<Step<'a>>
+    requires conn { IsConnection conn }
+    requires room { length rest.now ≤ length room.old }
+    ensures value { option_map step_shown result ≡ behind_connection word.now conn rest.now }
+    ensures plain { IfSome result IsPlainStep }
+{
+    if word == b"up".as_slice() {
+        let role = role_of(rest)?;
+        Some(Step::Up { conn, role })
+    } else if word == b"in".as_slice() {
+        let bytes = bytes_of(rest, room)?;
+        Some(Step::In { conn, bytes })
+    } else if word == b"dial".as_slice() {
+        let up = dialed_of(rest)?;
+        Some(Step::Dial { conn, up })
+    } else {
+        None
+    }
+}
+
+fn of_connection<'a>(
+    word: &[u8],
+    conn: u32,
+    rest: Option<&[u8]>,
+    room: &'a mut [u8],
+) -> Option<Step<'a>>
+    requires conn { IsConnection conn }
+    requires room { IfSome (option_copied rest) (λ text. length text ≤ length room.old) }
+    ensures value { option_map step_shown result ≡ of_connection word.now conn (option_copied rest.entry) }
+    ensures plain { IfSome result IsPlainStep }
+{
+    match rest {
+        None => at_connection(word, conn),
+        Some(rest) => behind_connection(word, conn, rest, room),
+    }
+}
+
+/// Whether a bus address stands behind the word.
+fn is_bus_word(word: &[u8]) -> bool
+    ensures { result ≡ is_bus_word word.now }
+{
+    matches!(word, b"inst" | b"plug" | b"pull" | b"set")
+}
+
+/// The step of a word and an address.
+fn at_address(word: &[u8], a: Address) -> Option<Step<'static>>
+    requires { IsAddress a.p a.s }
+    ensures value { option_map step_shown result ≡ at_address word.now a }
+    ensures plain { IfSome result IsPlainStep }
+{
+    match word {
+        b"pull" => Some(Step::Pull { p: a.p, s: a.s }),
+        _ => None,
+    }
+}
+
+/// The step of a word, an address and what stands behind it.
+fn behind_address<'a>(word: &[u8], a: Address, rest: &'a [u8]) -> Option<Step<'a>>
+    requires { IsAddress a.p a.s }
+    ensures value { option_map step_shown result ≡ behind_address word.now a rest.now }
+    ensures plain { IfSome result IsPlainStep }
+{
+    let Address { p, s } = a;
+    match word {
+        b"inst" => Some(Step::Inst { p, s, text: rest }),
+        b"plug" if is_name(rest) => Some(Step::Plug { p, s, name: rest }),
+        b"set" => {
+            let b = byte_of(rest)?;
+            Some(Step::Set { p, s, b })
+        }
+        _ => None,
+    }
+}
+
+fn of_address<'a>(word: &[u8], a: Address, rest: Option<&'a [u8]>) -> Option<Step<'a>>
+    requires { IsAddress a.p a.s }
+    ensures value { option_map step_shown result ≡ of_address word.now a (option_copied rest.entry) }
+    ensures plain { IfSome result IsPlainStep }
+{
+    match rest {
+        None => at_address(word, a),
+        Some(rest) => behind_address(word, a, rest),
+    }
+}
+
+/// The step of a word and what stands behind it.
+fn behind_word<'a>(word: &[u8], rest: &'a [u8], room: &'a mut [u8]) -> Option<Step<'a>>
+    requires { length rest.now ≤ length room.old }
+    ensures value { option_map step_shown result ≡ behind_word word.now rest.now }
+    ensures plain { IfSome result IsPlainStep }
+{
+    if word == b"at".as_slice() {
+        let moment = number_up_to(rest, u64::MAX)?;
+        Some(Step::At(moment))
+    } else if word == b"fail".as_slice() {
+        let n = positive_up_to(rest, u64::from(u32::MAX))?;
+        Some(Step::Fail(n as u32))
+    } else if is_bus_word(word) {
+        let (address, rest) = cut(rest, b' ');
+        of_address(word, address_of(address)?, rest)
+    } else {
+        let (number, rest) = cut(rest, b' ');
+        of_connection(word, connection_of(number)?, rest, room)
+    }
+}
+
+/// The step that a line asks for, of a line that isn't skipped. `room` is for the bytes of an `in`.
+pub fn command_of<'a>(line: &'a [u8], room: &'a mut [u8]) -> Option<Step<'a>>
+    requires { length line.now ≤ length room.old }
+    ensures value { option_map step_shown result ≡ command_of (cut 32 line.now).0 (cut 32 line.now).1 }
+    ensures plain { IfSome result IsPlainStep }
+{
+    match cut(line, b' ') {
+        (b"sample", None) => Some(Step::Sample),
+        (_, None) => None,
+        (word, Some(rest)) => behind_word(word, rest, room),
+    }
+}
