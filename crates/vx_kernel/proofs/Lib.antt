@@ -1,0 +1,5 @@
+pub mod Leaving
+pub mod Replying
+pub mod Turning
+pub mod Counting
+pub mod Dialing

@@ -1,0 +1,9 @@
+pub mod Given
+pub mod KernelState
+pub mod Shown
+pub mod Ending
+pub mod Keeping
+pub mod Replying
+pub mod Turning
+pub mod CoreState
+pub mod Polling

@@ -1,0 +1,46 @@
+use crate::given::Given;
+use vx_calls::ErrorCode;
+
+/// How far a poll went on with its call's turn.
+#[derive(Clone, Copy, Debug)]
+pub enum Ran {
+    /// Not at all.
+    Still,
+    /// To its end.
+    Finished,
+    /// Until the bus held.
+    Paused,
+    /// Until the bus failed.
+    Broken,
+}
+
+/// Why a call isn't answered yet.
+#[derive(Clone, Copy, Debug, PartialEq, Eq)]
+pub enum Why {
+    /// The link of this number holds a lock on a conflicting target.
+    Locked { by: u32 },
+    /// The turn of this connection on the bus is under way.
+    Turn { by: u32 },
+    /// The bus held.
+    Held,
+}
+
+/// How a poll ended.
+#[derive(Clone, Copy, Debug)]
+pub enum Ended {
+    /// With a reply; the level is what a bus status was told.
+    Answered { ran: Ran, level: bool, given: Given },
+    /// Without one.
+    Waited(Why),
+    /// With a dial that is asked for.
+    Dialed { host: u32, port: u16 },
+}
+
+/// What became of a create_intr_chan whose dial was made.
+#[derive(Clone, Copy, Debug, PartialEq, Eq)]
+pub struct Settled {
+    /// `Ok` where the dial came up, and `NoChannel` where it didn't.
+    pub error: ErrorCode,
+    /// The number of the new channel, where the dial came up.
+    pub chan: Option<u32>,
+}
