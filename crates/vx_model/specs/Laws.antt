@@ -27,7 +27,7 @@ abbrev pub OneTakeLaw : Type 0
 OneTakeLaw = (s t u : State) (conn chan : ℕ) (told other : Given)
     → one s (Take conn chan told) ≡ Some t → one s (Take conn chan other) ≡ Some u → (told ≡ other) × (t ≡ u)
 
--- the numbers of live links rise, and the next one is above them all: a number is never given twice
+-- the numbers of live links rise, and the next one is above them all, so that a link that is made has a number of its own
 abbrev pub LinkNumbersLaw : Type 0
 LinkNumbersLaw = (abort_port : ℕ) (history : List Entry) (s : State) → legal_state abort_port history ≡ Some s
     → AllPairs (λ a b. a.number < b.number) s.tables.links.links × All (λ l. l.number < s.tables.links.next) s.tables.links.links

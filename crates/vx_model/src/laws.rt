@@ -10,7 +10,7 @@ pub fn one_reply()
     ensures take { OneTakeLaw }
 {}
 
-/// The numbers of live links rise, and the next one is above them all: no number is given twice.
+/// The numbers of live links rise, and the next one is above them all, so that a link that is made has a number of its own.
 pub fn link_numbers()
     ensures { LinkNumbersLaw }
 {}
