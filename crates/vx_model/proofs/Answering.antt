@@ -1,6 +1,6 @@
 -- The answers to calls, line by line of the order of answers.
-use Rattle.std.proofs.Common.{◌≡◌, ◌<◌, ◌≤◌, leb, ◌⊎◌, inl, inr, arith, ℕ, Bool, true, false, cond, not, ◌&&◌, ◌||◌, List, Option, Some, None, Result, Ok, Err, refl, sym, ap, ◌∙◌, subst}
-use Rattle.std.specs.Prelude.{is_some, is_none, nat_le, unwrap_or, IfOk, OnOk, if◌then◌else◌}
+use Rattle.std.proofs.Common.{◌≡◌, ◌<◌, ◌≤◌, leb, ◌⊎◌, inl, inr, arith, ℕ, Bool, true, false, cond, not, ◌&&◌, List, Option, Some, None, Result, Ok, Err, refl, sym, ap, ◌∙◌, subst}
+use Rattle.std.specs.Prelude.{is_some, is_none, nat_le, unwrap_or, IfOk, OnOk}
 use Rattle.std.specs.Option.{option_map, option_and_then}
 use Rattle.std.proofs.lemmas.Bool.{true≢false, false≢true}
 use Rattle.std.proofs.lemmas.Bool.Decides.{leb_tells}
@@ -19,15 +19,14 @@ use Rattle.vx_488.specs.declared.wire.Wire.{Wire}
 use Rattle.vx_plan.specs.declared.tasks.Task.{Task}
 use Rattle.vx_plan.specs.Roles.{has_role}
 use Rattle.vx_plan.specs.Plan.{Stand}
-use Rattle.vx_links.specs.Table.{Link}
 use Rattle.vx_model.specs.State.{Pending, Tables, State, pending_at}
 use Rattle.vx_model.specs.Calls.{is_bus_call, asks_dial}
 use Rattle.vx_model.specs.Checks.{NamedLink, NoLink, DeadLink, OnLink, named_link, check}
-use Rattle.vx_model.specs.Lines.{Lines, Refused, Waiting, Passed, holder_against, lock_lines, checks_pass, checked_lines, later_lines, lets_pass}
+use Rattle.vx_model.specs.Lines.{Lines, Refused, Waiting, Passed, holder_against, checks_pass, later_lines}
 use Rattle.vx_model.specs.Effects.{task_on, task_of, stopped_reply, create, effect, settle}
-use Rattle.vx_model.specs.Decide.{Outside, is_quiet, settles, decide, turn_fits, may_tell, may_have_made, is_nothing, begun_between, has_job_role, is_part_of, bus_answer, job_answer, dialed_answer, passed_answer, by_lines, passed_fits, lines_fit, stand_on, turn_answer}
+use Rattle.vx_model.specs.Decide.{Outside, is_quiet, settles, may_tell, may_have_made, is_nothing, begun_between, has_job_role, is_part_of, bus_answer, dialed_answer, by_lines, passed_fits, lines_fit, stand_on, turn_answer}
 use Rattle.vx_model.specs.Entry.{Answer}
-use Rattle.vx_model.specs.One.{one, call_fits, answer, answer_to, if_reply}
+use Rattle.vx_model.specs.One.{one, call_fits, answer_to, if_reply}
 use Rattle.vx_model.specs.Serving.{served_reply}
 use Rattle.vx_model.proofs.Walks.{passed-says}
 use Rattle.vx_model.specs.Stepping.{Goes, closed, ended, answer_at, stopped_at, refusal_fits, open_job, lines_at, stood_at, turn_at}

@@ -29,7 +29,7 @@ use Rattle.vx_plan.proofs.Turns.{bound-law, own_stays-law}
 use Rattle.vx_links.specs.Table.{Link, Table, uses_address}
 use Rattle.vx_model.specs.State.{Pending, Tables, link_of}
 use Rattle.vx_model.specs.Calls.{link_named, bytes_of}
-use Rattle.vx_model.specs.Docmd.{Command, SendCommand, BusStatus, AtnControl, RenControl, PassControl, BusAddress, IfcControl, command_of, number_in, has_length, takes_number, takes_input, command_task}
+use Rattle.vx_model.specs.Docmd.{Command, SendCommand, BusStatus, AtnControl, RenControl, PassControl, BusAddress, IfcControl, command_of, number_in, takes_number, takes_input, command_task}
 use Rattle.vx_model.specs.Checks.{OnLink, link_found, link_by_number, named_link, check, is_interface, check_command, check_on}
 use Rattle.vx_model.specs.Lines.{lets_pass}
 use Rattle.vx_model.specs.Effects.{task_on}

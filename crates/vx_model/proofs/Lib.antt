@@ -15,3 +15,5 @@ pub mod Doable
 pub mod Folding
 pub mod Standing
 pub mod Answering
+pub mod Giving
+pub mod NewNumbers

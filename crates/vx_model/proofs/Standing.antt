@@ -1,17 +1,13 @@
 -- Where a list stands in a plan, by what is left of the plan after a front of the list.
-use Rattle.std.proofs.Common.{◌≡◌, ◌≢◌, ◌<◌, ◌≤◌, ℕ, ◌+◌, Bool, true, false, cond, List, [], ◌∷◌, ◌++◌, Option, Some, None, length, take, drop, get_or, refl, sym, ap, ◌∙◌, subst}
-use Rattle.std.specs.Option.{option_and_then}
+use Rattle.std.proofs.Common.{◌≡◌, ◌<◌, ℕ, ◌+◌, true, false, cond, List, [], ◌∷◌, Option, Some, None, length, take, drop, get_or, refl, sym, ap, ◌∙◌}
 use Rattle.std.proofs.lemmas.Bool.{true≢false}
-use Rattle.std.proofs.lemmas.List.{take-append-drop, drop_more, take_all}
+use Rattle.std.proofs.lemmas.List.{take-append-drop, drop_more}
 use Rattle.vx_488.specs.declared.transfers.Transfer.{Transfer}
 use Rattle.vx_488.specs.declared.transfers.Transfer.TheVariants as transfer
-use Rattle.vx_plan.specs.declared.tasks.Task.{Task}
-use Rattle.vx_plan.specs.declared.tasks.Place.{Place}
 use Rattle.vx_plan.specs.declared.tasks.Next.{Next}
 use Rattle.vx_plan.specs.declared.tasks.Next.TheVariants as next
-use Rattle.vx_plan.specs.Plan.{Slot, This, AnyByte, Reading, Plan, Stand, Whole, Part, Off, fits, reading_left, front_left, left_after_one, left_after, stand_of, stand, next_slot}
-use Rattle.vx_plan.specs.Tasks.{plan}
-use Rattle.vx_plan.specs.Places.{Reaches, slot_wanted}
+use Rattle.vx_plan.specs.Plan.{Slot, AnyByte, Reading, Plan, Whole, Part, Off, fits, reading_left, front_left, left_after_one, left_after, stand_of, stand, next_slot}
+use Rattle.vx_plan.specs.Places.{slot_wanted}
 use Rattle.vx_plan.specs.Laws.{FitsNext}
 use Rattle.vx_plan.proofs.Walks.{left_after-none, left_after-append}
 use Rattle.vx_plan.proofs.Fitting.{Fits-from_fits}

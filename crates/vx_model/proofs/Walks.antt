@@ -204,7 +204,7 @@ pub some_of_cond : {A : Type 0} (b : Bool) (o : Option A) (x : A) → cond b o N
 some_of_cond true o x h = (refl, h)
 some_of_cond false o x h = cc
 
-mapped : {A B : Type 0} (f : A → B) (o : Option A) (y : B) → option_map f o ≡ Some y → (x : A) × (o ≡ Some x) × (f x ≡ y)
+pub mapped : {A B : Type 0} (f : A → B) (o : Option A) (y : B) → option_map f o ≡ Some y → (x : A) × (o ≡ Some x) × (f x ≡ y)
 mapped f None y h = cc
 mapped f (Some x) y h = (x, refl, same_Some _ _ h)
 
@@ -251,7 +251,7 @@ one-sound s t (Take conn chan told) sound h =
     subst (λ u. IsSound u.tables) (cond_some _ (record s { tables = record s.tables { desk = taken s.tables.desk conn chan } }) t h).1 (taken-sound s.tables conn chan sound)
 
 -- each history
-along-none : (history : List Entry) (t : State) → along one None history ≡ Some t → ⊥
+pub along-none : (history : List Entry) (t : State) → along one None history ≡ Some t → ⊥
 along-none [] t h = cc
 along-none (e ∷ es) t h = along-none es t h
 

@@ -11,6 +11,7 @@ pub mod Entry
 pub mod One
 pub mod Legal
 pub mod Laws
+pub mod Numbers
 pub mod Sound
 pub mod Held
 pub mod Rows

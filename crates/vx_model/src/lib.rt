@@ -8,7 +8,7 @@ mod plain;
 mod tables;
 
 pub use entry::EntryRef;
-pub use laws::{link_numbers, locks_apart, one_reply, passed_calls};
+pub use laws::{link_numbers, locks_apart, numbers_given_once, one_reply, passed_calls};
 pub use plain::Plain;
 pub use tables::{Connect, Lines, NoMemory, Request, Tables, may_wait};
 

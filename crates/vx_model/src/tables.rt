@@ -2,6 +2,7 @@
 //! of one thread and the shared core both stand on them.
 ghost use Rattle.std.specs.Prelude.{◌≡◌, ◌↔◌, ◌<◌, ◌≤◌, ◌+◌, true, false, not, is_some, Some, None, IfOk, OnOk, OnErr, IsSome, IsErrOf, option_and_then};
 ghost use Rattle.std.specs.Option.{option_map};
+ghost use Rattle.std.specs.List.{All};
 ghost use Rattle.vx_calls.specs.Call.{call_shown};
 ghost use Rattle.vx_srq.specs.Shown.{given_shown};
 ghost use Rattle.vx_srq.specs.Desk as desk;
@@ -11,6 +12,7 @@ ghost use Rattle.vx_model.specs.One.{may_wait, arrived, abort_reply, abort_table
 ghost use Rattle.vx_model.specs.Held.{IsShort};
 ghost use Rattle.vx_model.specs.Rows.{pending_of, connection_of};
 ghost use Rattle.vx_model.specs.Sound.{IsSound, has_port};
+ghost use Rattle.vx_model.specs.Serving.{IsPlainLink};
 
 mod checks;
 mod docmd;
@@ -292,6 +294,13 @@ impl Tables {
     /// targets; whoever holds a lock or has an enable lives; core connections alone have calls. It does nothing when it runs.
     pub fn is_sound(&self)
         ensures { IsSound self.now }
+    {
+        let _ = &self.rows;
+    }
+
+    /// The addresses of all links are at most 30. It does nothing when it runs.
+    pub fn has_plain_links(&self)
+        ensures { All IsPlainLink self.now.links.links }
     {
         let _ = &self.rows;
     }

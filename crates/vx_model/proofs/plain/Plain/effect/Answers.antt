@@ -1,4 +1,4 @@
-use Rattle.std.proofs.Common.{◌≡◌, true, false, Some, refl, sym, ap, subst, ◌∙◌}
+use Rattle.std.proofs.Common.{Some, refl, sym, ap, ◌∙◌}
 use Rattle.vx_calls.specs.Reply.{reply_shown, same_reply}
 use Rattle.vx_model.specs.StepShown.{outside_shown}
 use Rattle.vx_model.specs.State.{State, pending_at}

@@ -1,4 +1,4 @@
-use Rattle.std.proofs.Common.{◌==◌, Some, get_or, refl}
+use Rattle.std.proofs.Common.{◌==◌, Some, refl}
 use Rattle.vx_model.proofs.Places.{map-set_first, update_first-none}
 use Rattle.vx_model.specs.Rows.{connection_of, asked_call}
 use Rattle.vx_model.proofs.tables.rows.put_call.Goals as goal
