@@ -103,7 +103,7 @@ found_is None l h = cc
 found_is (Some k) l h = cc
 
 -- the link that a call is on is that of the number that it names
-link-is : (t : Tables) (conn : ℕ) (asked : Call) (l : Link) → named_link t conn asked ≡ OnLink l → (lid : ℕ) × (link_named asked ≡ Some lid) × (link_of t conn lid ≡ Some l)
+pub link-is : (t : Tables) (conn : ℕ) (asked : Call) (l : Link) → named_link t conn asked ≡ OnLink l → (lid : ℕ) × (link_named asked ≡ Some lid) × (link_of t conn lid ≡ Some l)
 link-is t conn asked l h = by (link_named asked) refl h where
   by : (o : Option ℕ) → link_named asked ≡ o → link_by_number t conn o ≡ OnLink l → (lid : ℕ) × (link_named asked ≡ Some lid) × (link_of t conn lid ≡ Some l)
   by None e h = cc

@@ -87,7 +87,7 @@ gathers (e ∷ es) f g k sound early h = by (fine f e) refl h (gathers es) where
       gathers-more f mid g k e es goes (rest mid g goes.moment goes.sound goes.earlier h)
 
 -- a gateway as it starts
-first-sound : (abort_port : ℕ) → IsSound (first_fine abort_port)
+pub first-sound : (abort_port : ℕ) → IsSound (first_fine abort_port)
 first-sound abort_port = record { turn_stands = refl; have_come = λ conn p at. absurd (none-some p at) }
 
 -- what is kept holds behind every list of events that is allowed

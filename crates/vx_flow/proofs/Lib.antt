@@ -21,3 +21,5 @@ pub mod Sending
 pub mod TwoRises
 pub mod Earlier
 pub mod Ways
+pub mod TurnFree
+pub mod Headline

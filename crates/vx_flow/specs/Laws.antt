@@ -1,10 +1,10 @@
 -- Laws of interleaved events.
-use Rattle.std.specs.Prelude.{◌≡◌, ◌≢◌, ◌≤◌, ℕ, Bool, true, false, List, [], ◌∷◌, ◌++◌, if◌then◌else◌, ◌&&◌, ◌==◌, ◌+◌, ◌%◌, ◌^◌, Option, Some, option_and_then}
+use Rattle.std.specs.Prelude.{◌≡◌, ◌≢◌, ◌≤◌, ℕ, Bool, true, false, List, [], ◌∷◌, ◌++◌, if◌then◌else◌, ◌&&◌, ◌==◌, ◌+◌, ◌%◌, ◌^◌, Option, Some, None, option_and_then}
 use Rattle.std.specs.List.{All, flat_map}
 use Rattle.vx_calls.specs.declared.codes.ErrorCode.TheVariants as code
 use Rattle.vx_calls.specs.declared.targets.Target.{Target}
 use Rattle.vx_calls.specs.declared.targets.Target.TheVariants.{Interface, Device}
-use Rattle.vx_calls.specs.Target.{conflict}
+use Rattle.vx_calls.specs.Target.{IsReachable, conflict}
 use Rattle.vx_calls.specs.Call as call
 use Rattle.vx_calls.specs.Reply as reply
 use Rattle.vx_488.specs.declared.transfers.Addr.{Addr}
@@ -12,11 +12,12 @@ use Rattle.vx_488.specs.declared.transfers.Transfer.{Transfer}
 use Rattle.vx_488.specs.Listening.{has_address}
 use Rattle.vx_488.specs.Heard.{Byte, reached, heard}
 use Rattle.vx_links.specs.Table.{Link}
-use Rattle.vx_locks.specs.Locks.{Lock}
+use Rattle.vx_locks.specs.Locks.{Lock, holder_of}
 use Rattle.vx_srq.specs.Desk.{Channel, Srq, Front, channel_at, handles_of, queued_on}
 use Rattle.vx_model.specs.Lists.{along}
 use Rattle.vx_model.specs.State.{Pending, State, first, pending_at, link_of}
 use Rattle.vx_model.specs.Calls.{link_named, sets_end}
+use Rattle.vx_model.specs.Checks.{OnLink, named_link}
 use Rattle.vx_model.specs.Entry.{Entry, Answer, Down, Sample, Take}
 use Rattle.vx_model.specs.One.{one}
 use Rattle.vx_model.specs.Legal.{legal_state, queued_along}
@@ -136,6 +137,19 @@ CallStaysLaw = (f g : FineState) (e : Event) (u : Turn) (p : Pending) → IsSoun
     → pending_at f.state.tables u.connection ≡ Some p
     → (aborted : Bool) × (pending_at g.state.tables u.connection ≡ Some (record p { aborted = aborted }))
     × (job_of g.state.tables u.connection p ≡ job_of f.state.tables u.connection p)
+
+-- What holds of the turn under way from its beginning on, where it has made no transfer yet too. Of the link of its call: no lock
+-- of another link keeps it off its target. Of all live links: what each is to can be reached from the address that the gateway
+-- had as the turn began, so that none is to a device at that address.
+pub record IsTurnFree (f : FineState) (l : Link) : Type 0 where
+  pub unlocked : holder_of f.state.tables.locks l.number l.target ≡ None
+  pub reachable : IsReachable f.before.own l.target
+  pub all_reachable : All (λ k. IsReachable f.before.own k.target) f.state.tables.links.links
+
+abbrev pub TurnFreeLaw : Type 0
+TurnFreeLaw = (abort_port : ℕ) (h : List Event) (f : FineState) (u : Turn) (p : Pending) (l : Link)
+    → fine_along abort_port h ≡ Some f → f.turn ≡ Some u → pending_at f.state.tables u.connection ≡ Some p
+    → named_link f.state.tables u.connection p.call ≡ OnLink l → IsTurnFree f l
 
 -- Events that are allowed from a state at a later moment are allowed at the earlier one, and lead to the same state, but for
 -- its moment, which is no later.

@@ -6,3 +6,4 @@ pub mod Poll
 pub mod Gather
 pub mod Ways
 pub mod Laws
+pub mod Headline

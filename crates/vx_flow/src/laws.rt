@@ -1,7 +1,8 @@
 //! Laws of interleaved events. These functions do nothing: their contracts are what they are for, and a caller that cites
 //! a law calls its function.
 ghost use Rattle.vx_flow.specs.Ways.{RefusedLaw, WaitingLaw, InTurnLaw, NoRoleLaw, EffectLaw, DialLaw, FinishedLaw, BrokenLaw, TimeoutLaw, HeldLaw, BegunLaw, BeginsLaw};
-ghost use Rattle.vx_flow.specs.Laws.{GatherLaw, HeardLaw, HeardOnInterfaceLaw, EntriesFreeLaw, MovesFreelyLaw, ClosedLaw, QueuedLaw, FirstSoundLaw, StaysSoundLaw, LaterSoundLaw, CallStaysLaw, EarlierLaw};
+ghost use Rattle.vx_flow.specs.Laws.{GatherLaw, HeardLaw, HeardOnInterfaceLaw, EntriesFreeLaw, MovesFreelyLaw, ClosedLaw, QueuedLaw, FirstSoundLaw, StaysSoundLaw, LaterSoundLaw, CallStaysLaw, TurnFreeLaw, EarlierLaw};
+ghost use Rattle.vx_flow.specs.Headline.{HeadlineLaw};
 
 /// Interleaved events gather to a history of the gateway of one thread, which ends in their state before the turn under
 /// way, at their moment or an earlier one.
@@ -32,6 +33,16 @@ pub fn interrupt_law()
     ensures queued { QueuedLaw }
 {}
 
+/// All that is claimed of interleaved events, of every list of them that are allowed, each at its place. They gather to a
+/// history of the gateway of one thread. No move of a turn, and no answer or end of a connection in that history, reaches an
+/// address that another link's lock keeps. Of each write that is answered without an error the bytes are heard by the device
+/// to which the link is and by nobody else, or by each listener where it is to the interface. Each rise of SRQ closes exactly
+/// the interrupt channels whose outbox would have more than 1,024 entries, and a channel that lives has had and has in its
+/// outbox exactly the handles that rises queued, in order.
+pub fn headline_law()
+    ensures { HeadlineLaw }
+{}
+
 /// What holds between events of the turn under way and of the calls that have come: at the start, behind each event that is
 /// allowed, and at a later moment. An event that leaves the turn leaves its call and the call's job.
 pub fn sound_law()
@@ -39,6 +50,13 @@ pub fn sound_law()
     ensures stays { StaysSoundLaw }
     ensures later { LaterSoundLaw }
     ensures call { CallStaysLaw }
+{}
+
+/// What holds of the turn under way from its beginning on, where it has made no transfer yet too: no lock of another link keeps
+/// its call's link off its target, and no live link is to a device at the address (0 to 30) that the gateway had as the turn
+/// began.
+pub fn turn_free_law()
+    ensures { TurnFreeLaw }
 {}
 
 /// Events that are allowed at a later moment are allowed at an earlier one, and lead to the same state, but for its moment.

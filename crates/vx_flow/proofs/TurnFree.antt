@@ -1,0 +1,176 @@
+-- Of the turn under way: from its beginning on no other link's lock keeps its call's link off its target, and the gateway could
+-- reach the devices of all live links as it began.
+use Rattle.std.proofs.Common.{◌≡◌, ◌==◌, ℕ, Bool, true, false, cond, ◌⊎◌, inl, inr, List, [], ◌∷◌, ◌++◌, Option, Some, None, refl, sym, ap, ◌∙◌, subst, arith}
+use Rattle.std.specs.Prelude.{is_none, nat_le, ◌&&◌}
+use Rattle.std.proofs.lemmas.Bool.{cases_Bool, false≢true, and_parts}
+use Rattle.std.proofs.lemmas.Option.{cond_some, none-some, same_Some}
+use Rattle.vx_calls.specs.declared.codes.ErrorCode.TheVariants as code
+use Rattle.vx_calls.specs.Reply.{Reply}
+use Rattle.vx_488.specs.declared.transfers.Transfer.{Transfer}
+use Rattle.vx_488.specs.declared.wire.Wire.{Wire}
+use Rattle.vx_488.specs.Wire.{wire_after}
+use Rattle.vx_links.specs.Table.{Link}
+use Rattle.vx_locks.specs.Locks.{holder_of}
+use Rattle.vx_model.specs.Lists.{along}
+use Rattle.vx_model.specs.Calls.{is_bus_call}
+use Rattle.vx_model.specs.State.{Pending, Tables, State, pending_at}
+use Rattle.vx_model.specs.Checks.{OnLink, named_link}
+use Rattle.vx_model.specs.Lines.{Lines, Refused, Waiting, Passed, later_lines, first_lines}
+use Rattle.vx_model.specs.Decide.{has_job_role}
+use Rattle.vx_flow.specs.Event.{Event, Up, Down, Arrive, Answer, Abort, Sample, Take, Begin, Move, Dial}
+use Rattle.vx_flow.specs.FineState.{Turn, FineState, first_fine, before_turn, turn_after}
+use Rattle.vx_flow.specs.Fine.{job_of, is_passed, may_begin, may_move, comes_in_turn, fine_after, fine_step, fine}
+use Rattle.vx_flow.specs.Gather.{gather}
+use Rattle.vx_flow.specs.Laws.{TurnFreeLaw}
+use Rattle.vx_flow.specs.Sound.{Stands, TurnStands, IsSound}
+use Rattle.vx_flow.proofs.Lookups.{chosen, along-none}
+use Rattle.vx_flow.proofs.Jobs.{no-job}
+use Rattle.vx_flow.proofs.Kept.{Stays, named-stays}
+use Rattle.vx_flow.proofs.Making.{later-passes}
+use Rattle.vx_flow.proofs.Plain.{IsLinkReachable, found-has, legal-plain}
+use Rattle.vx_flow.proofs.Freely.{link-is}
+use Rattle.vx_flow.proofs.Gathering.{fine-goes, first-sound, stays_sound-law, gather_law-holds}
+
+-- no other link's lock keeps the link of a turn's call off its target
+abbrev IsFree : Tables → Option Turn → Type 0
+IsFree t turn = (u : Turn) (p : Pending) (l : Link) → turn ≡ Some u → pending_at t u.connection ≡ Some p → named_link t u.connection p.call ≡ OnLink l
+    → holder_of t.locks l.number l.target ≡ None
+
+none-free : (t : Tables) → IsFree t None
+none-free t u p l is at on = absurd (none-some u is)
+
+-- ---- a turn begins
+
+passed-is : (l : Lines) → is_passed l ≡ true → l ≡ Passed
+passed-is Passed h = refl
+passed-is (Refused error) h = absurd (false≢true h)
+passed-is (Waiting holder) h = absurd (false≢true h)
+
+-- a call that isn't aborted passed the lines behind that of the abort
+passed-later : (t : Tables) (own conn : ℕ) (p : Pending) (now : ℕ) → is_passed (first_lines t own conn false p now) ≡ true → later_lines t own conn false p now ≡ Passed
+passed-later t own conn p now h = by p.aborted h where
+  by : (aborted : Bool) → is_passed (cond aborted (Refused code.Abort) (later_lines t own conn false p now)) ≡ true → later_lines t own conn false p now ≡ Passed
+  by true e = absurd (false≢true e)
+  by false e = passed-is (later_lines t own conn false p now) e
+
+-- a call with a job, for which the gateway has the role, is a bus call
+role-bus : (t : Tables) (w : Wire) (conn : ℕ) (p : Pending) → has_job_role w (job_of t conn p) ≡ true → is_bus_call p.call ≡ true
+role-bus t w conn p h = by (cases_Bool (is_bus_call p.call)) where
+  by : (is_bus_call p.call ≡ true) ⊎ (is_bus_call p.call ≡ false) → is_bus_call p.call ≡ true
+  by (inl e) = e
+  by (inr e) = absurd (false≢true (sym (ap (has_job_role w) (no-job (named_link t conn p.call) p.call e)) ∙ h))
+
+-- no lock is against the call of a turn that may begin
+begun-free : (s : State) (conn now : ℕ) (o : Option Pending) (p : Pending) (l : Link) → may_begin s conn now o ≡ true → o ≡ Some p → named_link s.tables conn p.call ≡ OnLink l
+    → holder_of s.tables.locks l.number l.target ≡ None
+begun-free s conn now None p l h e on = cc
+begun-free s conn now (Some q) p l h e on =
+    let t = s.tables in
+    let own = s.wire.own in
+    let both = and_parts (is_passed (first_lines t own conn false p now)) (has_job_role s.wire (job_of t conn p))
+    (subst (λ x. may_begin s conn now (Some x) ≡ true) (same_Some q p e) h) in
+    (later-passes t own conn false p now l on (role-bus t s.wire conn p both.1) (passed-later t own conn p now both.0)).free
+
+begin-free : (f g : FineState) (conn now : ℕ) → fine_step f (Begin conn now) ≡ Some g → IsFree g.state.tables (turn_after f.turn (Begin conn now))
+begin-free f g conn now h =
+    let t = f.state.tables in
+    let turn : Turn = record { connection = conn; begun = now; moves = [] } in
+    let parts = cond_some (is_none f.turn && nat_le f.state.moment now && may_begin f.state conn now (pending_at t conn))
+    (record (fine_after f (Begin conn now) f.dialed (record f.state { moment = now })) { before = f.state.wire }) g h in
+    let may = (and_parts (is_none f.turn && nat_le f.state.moment now) (may_begin f.state conn now (pending_at t conn)) parts.0).1 in
+    subst (λ (x : FineState). IsFree x.state.tables (Some turn)) parts.1
+    (λ u p l is at on.
+    let same : conn ≡ u.connection = ap (λ (x : Turn). x.connection) (same_Some turn u is) in
+    begun-free f.state conn now (pending_at t conn) p l may (ap (pending_at t) same ∙ at) (ap (λ n. named_link t n p.call) same ∙ on))
+
+-- ---- it makes transfers
+
+moved-free : (t : Tables) (turn : Option Turn) (conn : ℕ) (moves : List Transfer) → IsFree t turn → IsFree t (turn_after turn (Move conn moves))
+moved-free t None conn moves free u p l is at on = free u p l is at on
+moved-free t (Some v) conn moves free u p l is at on =
+    let same : v.connection ≡ u.connection = ap (λ (x : Turn). x.connection) (same_Some (record v { moves = v.moves ++ moves }) u is) in
+    free v p l refl (ap (pending_at t) same ∙ at) (ap (λ n. named_link t n p.call) same ∙ on)
+
+move-free : (f g : FineState) (conn : ℕ) (moves : List Transfer) → fine_step f (Move conn moves) ≡ Some g → IsFree f.state.tables f.turn
+    → IsFree g.state.tables (turn_after f.turn (Move conn moves))
+move-free f g conn moves h free =
+    let parts = cond_some (may_move f conn moves f.turn) (fine_after f (Move conn moves) f.dialed (record f.state { wire = wire_after f.state.wire moves })) g h in
+    subst (λ (x : FineState). IsFree x.state.tables (turn_after f.turn (Move conn moves))) parts.1 (moved-free f.state.tables f.turn conn moves free)
+
+-- ---- what others do
+
+-- no lock is taken against the link of the turn's call
+stays-free : (t v : Tables) (before now : Wire) (m : ℕ) (u : Turn) (s : Stands t before now m u) → holder_of t.locks s.link.number s.link.target ≡ None
+    → Stays t v u.connection s.link s.asked → (p : Pending) (l : Link) → pending_at v u.connection ≡ Some p → named_link v u.connection p.call ≡ OnLink l
+    → holder_of v.locks l.number l.target ≡ None
+stays-free t v before now m u s free stays p l at on =
+    let call : s.asked.call ≡ p.call = ap (λ (x : Pending). x.call) (same_Some (record s.asked { aborted = stays.aborted }) p (sym stays.call_at ∙ at)) in
+    let about : OnLink s.link ≡ OnLink l = sym (named-stays t v u.connection s.link s.asked.call s.on_link stays.links) ∙ ap (named_link v u.connection) call ∙ on in
+    let one : s.link ≡ l = cc in
+    subst (λ (k : Link). holder_of v.locks k.number k.target ≡ None) one (stays.locks free)
+
+-- an event leaves the turn, or ends it
+left-free : (f g : FineState) (e : Event) → IsSound f → fine f e ≡ Some g → IsFree f.state.tables f.turn → (turn_after f.turn e ≡ None) ⊎ (turn_after f.turn e ≡ f.turn)
+    → IsFree g.state.tables (turn_after f.turn e)
+left-free f g e sound h free (inl over) = subst (IsFree g.state.tables) (sym over) (none-free g.state.tables)
+left-free f g e sound h free (inr left) = subst (IsFree g.state.tables) (sym left) (λ u p l is at on.
+    let goes = fine-goes e f g f.state.moment sound (omega arith) h in
+    let stands : Stands f.state.tables f.before f.state.wire f.state.moment u =
+    subst (TurnStands f.state.tables f.before f.state.wire f.state.moment) is sound.turn_stands in
+    stays-free f.state.tables g.state.tables f.before f.state.wire f.state.moment u stands (free u stands.asked stands.link is stands.call_at stands.on_link)
+    (goes.stays u left is stands) p l at on)
+
+chosen-left : (b : Bool) (u : Turn) → (cond b None (Some u) ≡ None) ⊎ (cond b None (Some u) ≡ Some u)
+chosen-left true u = inl refl
+chosen-left false u = inr refl
+
+answer-left : (turn : Option Turn) (conn now : ℕ) (failed : Bool) (dialed : Option Bool) (level : Bool) (told : Reply)
+    → (turn_after turn (Answer conn now failed dialed level told) ≡ None) ⊎ (turn_after turn (Answer conn now failed dialed level told) ≡ turn)
+answer-left None conn now failed dialed level told = inl refl
+answer-left (Some u) conn now failed dialed level told = chosen-left (u.connection == conn) u
+
+down-left : (turn : Option Turn) (conn : ℕ) → (turn_after turn (Down conn) ≡ None) ⊎ (turn_after turn (Down conn) ≡ turn)
+down-left None conn = inl refl
+down-left (Some u) conn = chosen-left (u.connection == conn) u
+
+-- ---- along events
+
+step-free : (e : Event) (f g : FineState) → IsSound f → fine f e ≡ Some g → IsFree f.state.tables f.turn → IsFree g.state.tables (turn_after f.turn e)
+step-free (Up conn r) f g sound h free = left-free f g (Up conn r) sound h free (inr refl)
+step-free (Down conn) f g sound h free = left-free f g (Down conn) sound h free (down-left f.turn conn)
+step-free (Arrive conn asked now) f g sound h free = left-free f g (Arrive conn asked now) sound h free (inr refl)
+step-free (Answer conn now failed dialed level told) f g sound h free =
+    left-free f g (Answer conn now failed dialed level told) sound h free (answer-left f.turn conn now failed dialed level told)
+step-free (Abort conn lid told) f g sound h free = left-free f g (Abort conn lid told) sound h free (inr refl)
+step-free (Sample now srq) f g sound h free = left-free f g (Sample now srq) sound h free (inr refl)
+step-free (Take conn chan told) f g sound h free = left-free f g (Take conn chan told) sound h free (inr refl)
+step-free (Begin conn now) f g sound h free =
+    begin-free f g conn now (chosen (comes_in_turn f (Begin conn now) f.turn) (fine_step f (Begin conn now)) g h).1
+step-free (Move conn moves) f g sound h free =
+    move-free f g conn moves (chosen (comes_in_turn f (Move conn moves) f.turn) (fine_step f (Move conn moves)) g h).1 free
+step-free (Dial conn now) f g sound h free = left-free f g (Dial conn now) sound h free (inr refl)
+
+stays_free : (f g : FineState) (e : Event) → IsSound f → fine f e ≡ Some g → IsFree f.state.tables f.turn → IsFree g.state.tables g.turn
+stays_free f g e sound h free =
+    subst (IsFree g.state.tables) (sym (fine-goes e f g f.state.moment sound (omega arith) h).turn_is) (step-free e f g sound h free)
+
+along-free : (h : List Event) (f g : FineState) → IsSound f → IsFree f.state.tables f.turn → along fine (Some f) h ≡ Some g → IsFree g.state.tables g.turn
+along-free [] f g sound free h = subst (λ (x : FineState). IsFree x.state.tables x.turn) (same_Some f g h) free
+along-free (e ∷ es) f g sound free h = by (fine f e) refl h (along-free es) where
+  by : (o : Option FineState) → fine f e ≡ o → along fine o es ≡ Some g
+      → ((f g : FineState) → IsSound f → IsFree f.state.tables f.turn → along fine (Some f) es ≡ Some g → IsFree g.state.tables g.turn)
+      → IsFree g.state.tables g.turn
+  by None is h rest = absurd (none-some g (sym (along-none fine es) ∙ h))
+  by (Some mid) is h rest = rest mid g (stays_sound-law f mid e sound is) (stays_free f mid e sound is free) h
+
+pub turn_free_law-holds : TurnFreeLaw
+turn_free_law-holds abort_port h f u p l is turn at on =
+    let t = f.state.tables in
+    let made = gather_law-holds abort_port h f is in
+    let plain = legal-plain abort_port (gather h) (before_turn f made.0) made.1 in
+    let named = link-is t u.connection p.call l on in
+    record {
+      unlocked = along-free h (first_fine abort_port) f (first-sound abort_port) (none-free (first_fine abort_port).state.tables) is u p l turn at on;
+      reachable = found-has (IsLinkReachable f.before.own) (λ k. (k.number == named.0) && (k.connection == u.connection)) t.links.links l named.2 plain.reachable;
+      all_reachable = plain.reachable;
+    }

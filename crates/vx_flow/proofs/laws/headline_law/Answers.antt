@@ -1,0 +1,5 @@
+use Rattle.vx_flow.proofs.Headline.{headline_law-holds}
+use Rattle.vx_flow.proofs.laws.headline_law.Goals as goal
+
+pub returns : goal.returns
+returns c = headline_law-holds
