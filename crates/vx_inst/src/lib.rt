@@ -3,6 +3,7 @@
 #![tactic(auto)]
 
 mod body;
+mod boxed;
 #[cfg(test)]
 mod tests;
 

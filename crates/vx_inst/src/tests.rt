@@ -154,3 +154,64 @@ fn body(rt: HostRuntime) -> Result<(), Fail> {
     assert_eq!(rt; body.poll(), 16);
     Ok(())
 }
+
+/// Hands a byte to an instrument of any kind, where it can take one.
+fn hand<I: Instrument>(inst: &mut I, b: u8, end: bool) -> bool
+    ensures can { result ≡ takes_byte (I.view inst.old) }
+    ensures takes { result ≡ true → Takes (I.view inst.old) b end (I.view inst.new) }
+{
+    let can = inst.can_take();
+    if can {
+        inst.take(b, end);
+    }
+    can
+}
+
+/// The same of a box: it is seen as the instrument inside.
+fn hand_boxed(inst: &mut Box<dyn Instrument + Send>, b: u8, end: bool) -> bool
+    ensures can { result ≡ takes_byte (view inst.old) }
+    ensures takes { result ≡ true → Takes (view inst.old) b end (view inst.new) }
+{
+    hand(inst, b, end)
+}
+
+/// Gets a byte of an instrument of any kind, where it has one.
+fn get<I: Instrument>(inst: &mut I) -> Option<(u8, bool)> {
+    if inst.can_give() {
+        Some(inst.give())
+    } else {
+        None
+    }
+}
+
+/// Goes through what else there is to ask of an instrument of any kind, and answers its status bytes.
+fn serve<I: Instrument>(inst: &mut I) -> [u8; 3] {
+    inst.trigger();
+    inst.local();
+    inst.moment(5);
+    let asking = if inst.requests() { inst.poll() } else { 0 };
+    let asked = inst.poll();
+    inst.set_status(0xFF);
+    [asking, asked, inst.poll()]
+}
+
+// A boxed instrument goes where one of any kind is wanted.
+#[test]
+fn boxed_for_any(rt: HostRuntime) -> Result<(), Fail> {
+    let latch = Latch {
+        taken: None,
+        given: Some(10),
+        stb: 1,
+        asks: false,
+    };
+    let mut inst: Box<dyn Instrument + Send> = Box::new(rt.alloc(), latch)?;
+    assert_eq!(rt; get(&mut inst), Some((10, true)));
+    assert_eq!(rt; get(&mut inst), None);
+    assert!(rt; hand(&mut inst, 65, true));
+    assert!(rt; hand_boxed(&mut inst, 66, false));
+    assert!(rt; !hand(&mut inst, 67, false));
+    inst.clear();
+    assert!(rt; hand_boxed(&mut inst, 68, true));
+    assert_eq!(rt; serve(&mut inst), [65, 1, 0xFF]);
+    Ok(())
+}

@@ -16,16 +16,14 @@ pub use asker::Asker;
 pub use echo::Echo;
 pub use meter::Meter;
 pub use slow::Slow;
-use vx_inst::Instrument;
 
 /// There was no memory for an instrument.
 #[derive(Clone, Copy, Debug, PartialEq, Eq)]
 pub struct NoMemory;
 
-/// An instrument that isn't plugged in yet, with the name that it is plugged in by.
+/// A spare instrument, with the name, at most 16 bytes, that it is plugged in by.
 #[derive(Drop)]
-pub struct Spare {
-    /// At most 16 bytes.
+pub struct Spare<I> {
     pub name: ArrayString<16>,
-    pub inst: Box<dyn Instrument>,
+    pub inst: I,
 }

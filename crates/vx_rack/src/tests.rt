@@ -1,7 +1,7 @@
 use super::*;
 use std::process::Abort;
 use std::test::Fail;
-use vx_inst::INST_MAX;
+use vx_inst::{INST_MAX, Instrument};
 
 /// What a bus asks of an instrument, with the answer that is due.
 #[derive(Clone, Copy)]
@@ -31,34 +31,37 @@ enum Step {
     ToLocal,
 }
 
+/// An instrument as a program keeps it, which may cross threads.
+type Boxed = Box<dyn Instrument + Send>;
+
 /// Hands an instrument a byte, which it must be able to take.
-fn hand(rt: &impl Abort, inst: &mut Box<dyn Instrument>, b: u8, end: bool) {
+fn hand<I: Instrument>(rt: &impl Abort, inst: &mut I, b: u8, end: bool) {
     assert!(rt; inst.can_take(), "{b} isn't taken");
     inst.take(b, end);
 }
 
 /// Gets a byte, which it must be able to give.
-fn get(rt: &impl Abort, inst: &mut Box<dyn Instrument>) -> (u8, bool) {
+fn get<I: Instrument>(rt: &impl Abort, inst: &mut I) -> (u8, bool) {
     assert!(rt; inst.can_give(), "nothing is given");
     inst.give()
 }
 
 /// Hands it a message.
-fn send(rt: &impl Abort, inst: &mut Box<dyn Instrument>, message: &[u8]) {
+fn send<I: Instrument>(rt: &impl Abort, inst: &mut I, message: &[u8]) {
     for (i, b) in message.iter().enumerate() {
         hand(rt, inst, *b, i == message.len() - 1);
     }
 }
 
 /// Gets a reply, which must be this one.
-fn receive(rt: &impl Abort, inst: &mut Box<dyn Instrument>, reply: &[u8]) {
+fn receive<I: Instrument>(rt: &impl Abort, inst: &mut I, reply: &[u8]) {
     for (i, b) in reply.iter().enumerate() {
         assert_eq!(rt; get(rt, inst), (*b, i == reply.len() - 1));
     }
 }
 
 /// Does one step.
-fn take_step(rt: &impl Abort, inst: &mut Box<dyn Instrument>, step: Step) {
+fn take_step<I: Instrument>(rt: &impl Abort, inst: &mut I, step: Step) {
     match step {
         Step::Takes(b, end) => hand(rt, inst, b, end),
         Step::Sent(message) => send(rt, inst, message),
@@ -77,7 +80,7 @@ fn take_step(rt: &impl Abort, inst: &mut Box<dyn Instrument>, step: Step) {
 }
 
 /// Does all steps.
-fn take_steps(rt: &impl Abort, inst: &mut Box<dyn Instrument>, table: &[Step]) {
+fn take_steps<I: Instrument>(rt: &impl Abort, inst: &mut I, table: &[Step]) {
     for each in table {
         take_step(rt, inst, *each);
     }
@@ -87,7 +90,7 @@ fn take_steps(rt: &impl Abort, inst: &mut Box<dyn Instrument>, table: &[Step]) {
 #[test]
 fn echo(rt: HostRuntime) -> Result<(), Fail> {
     let echo = Echo::new(rt.alloc())?;
-    let mut inst: Box<dyn Instrument> = Box::new(rt.alloc(), echo)?;
+    let mut inst: Boxed = Box::new(rt.alloc(), echo)?;
     let table = [
         Step::Mute,
         Step::Takes(b'A', false),
@@ -121,7 +124,7 @@ fn echo(rt: HostRuntime) -> Result<(), Fail> {
 #[test]
 fn meter(rt: HostRuntime) -> Result<(), Fail> {
     let meter = Meter::new(rt.alloc())?;
-    let mut inst: Box<dyn Instrument> = Box::new(rt.alloc(), meter)?;
+    let mut inst: Boxed = Box::new(rt.alloc(), meter)?;
     let table = [
         Step::Sent(b"READ?"),
         Step::Replies(b"1\n"),
@@ -152,7 +155,7 @@ fn meter(rt: HostRuntime) -> Result<(), Fail> {
 #[test]
 fn slow(rt: HostRuntime) -> Result<(), Fail> {
     let slow = Slow::new(rt.alloc())?;
-    let mut inst: Box<dyn Instrument> = Box::new(rt.alloc(), slow)?;
+    let mut inst: Boxed = Box::new(rt.alloc(), slow)?;
     let table = [
         Step::Told(0),
         Step::Takes(b'A', false),
@@ -192,7 +195,7 @@ fn slow(rt: HostRuntime) -> Result<(), Fail> {
 #[test]
 fn asker(rt: HostRuntime) -> Result<(), Fail> {
     let asker = Asker::new(rt.alloc())?;
-    let mut inst: Box<dyn Instrument> = Box::new(rt.alloc(), asker)?;
+    let mut inst: Boxed = Box::new(rt.alloc(), asker)?;
     let table = [
         Step::Asks(false),
         Step::Polled(0),
@@ -219,7 +222,7 @@ fn asker(rt: HostRuntime) -> Result<(), Fail> {
 }
 
 /// Gets all that there is to give: how many bytes, and the last six of them.
-fn drain(rt: &impl Abort, inst: &mut Box<dyn Instrument>) -> (usize, [(u8, bool); 6]) {
+fn drain<I: Instrument>(rt: &impl Abort, inst: &mut I) -> (usize, [(u8, bool); 6]) {
     let mut last = [(0, false); 6];
     for count in 0..=INST_MAX {
         if !inst.can_give() {
@@ -235,7 +238,7 @@ fn drain(rt: &impl Abort, inst: &mut Box<dyn Instrument>) -> (usize, [(u8, bool)
 #[test]
 fn full_echo(rt: HostRuntime) -> Result<(), Fail> {
     let echo = Echo::new(rt.alloc())?;
-    let mut inst: Box<dyn Instrument> = Box::new(rt.alloc(), echo)?;
+    let mut inst: Boxed = Box::new(rt.alloc(), echo)?;
     for _ in 0..INST_MAX {
         hand(&rt, &mut inst, b'x', false);
     }
@@ -263,7 +266,7 @@ fn full_echo(rt: HostRuntime) -> Result<(), Fail> {
 #[test]
 fn full_meter(rt: HostRuntime) -> Result<(), Fail> {
     let meter = Meter::new(rt.alloc())?;
-    let mut inst: Box<dyn Instrument> = Box::new(rt.alloc(), meter)?;
+    let mut inst: Boxed = Box::new(rt.alloc(), meter)?;
     for _ in 0..45542 {
         inst.trigger();
     }
@@ -280,9 +283,10 @@ fn full_meter(rt: HostRuntime) -> Result<(), Fail> {
 #[test]
 fn spare(rt: HostRuntime) -> Result<(), Fail> {
     let echo = Echo::new(rt.alloc())?;
+    let inst: Boxed = Box::new(rt.alloc(), echo)?;
     let mut spare = Spare {
         name: ArrayString::from("echo").map_err(|_| "too long")?,
-        inst: Box::new(rt.alloc(), echo)?,
+        inst,
     };
     take_steps(
         &rt,
