@@ -8,3 +8,4 @@ pub mod Again
 pub mod Found
 pub mod Answered
 pub mod Ends
+pub mod Causes

@@ -1,5 +1,5 @@
 -- The parts of a line with a number: a word, the number, what stands between, a tail, and LF.
-use Rattle.std.specs.Prelude.{ℕ, ◌^◌, ◌<◌, ⊤, List, ◌++◌, codes, decimal}
+use Rattle.std.specs.Prelude.{ℕ, ◌+◌, ◌*◌, ◌^◌, ◌<◌, ⊤, List, ◌++◌, length, codes, decimal}
 use Rattle.std.specs.List.{All}
 use Rattle.hex.specs.Hex.{encode_upper}
 use Rattle.vx_trace.specs.declared.put.Tail.{Tail}
@@ -21,3 +21,14 @@ TailFits (tail.Number n) = n < 2 ^ 32
 TailFits (tail.Word word) = ⊤
 TailFits (tail.Hex bytes) = All (λ b. b < 2 ^ 8) bytes.now
 TailFits (tail.Moves moves) = All IsByteTransfer moves.now
+
+-- as many bytes as a tail has at most
+abbrev pub tail_room : Tail → ℕ
+tail_room (tail.Number n) = 10
+tail_room (tail.Word word) = length word.now
+tail_room (tail.Hex bytes) = 2 * length bytes.now
+tail_room (tail.Moves moves) = 7 * length moves.now
+
+-- as many bytes as a line has at most whose number has so many digits
+abbrev pub numbered_room : List ℕ → ℕ → List ℕ → Tail → ℕ
+numbered_room front digits middle tail = 1 + length front + digits + length middle + tail_room tail

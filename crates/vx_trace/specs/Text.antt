@@ -1,5 +1,5 @@
 -- The text of each output line, and which lines there are.
-use Rattle.std.specs.Prelude.{ℕ, ◌^◌, ◌<◌, ⊤, Bool, true, false, IsTrue, List, [], ◌∷◌, ◌++◌, length, flat_map, codes, decimal}
+use Rattle.std.specs.Prelude.{ℕ, ◌+◌, ◌*◌, ◌^◌, ◌<◌, ⊤, Bool, true, false, IsTrue, List, [], ◌∷◌, ◌++◌, length, flat_map, codes, decimal}
 use Rattle.std.specs.List.{All, list_any}
 use Rattle.std.specs.Str.{bytes_eq}
 use Rattle.hex.specs.Hex.{encode_upper}
@@ -43,6 +43,15 @@ line_text Done = codes "done\n"
 line_text (FaultLine line word) = codes "fault line " ++ decimal line ++ codes " " ++ word ++ codes "\n"
 line_text FaultLong = codes "fault long\n"
 line_text Usage = codes "usage: vxplay COMMAND\n"
+
+-- As many bytes as the text of a line has at most, whatever its numbers: a connection's has at most 10 digits, a script line's
+-- at most 20, a transfer with its space has at most 7 bytes, and the name of a cause at most 6.
+abbrev pub text_room : Output → ℕ
+text_room (Bus conn moves) = 15 + 7 * length moves
+text_room (Out conn bytes) = 16 + 2 * length bytes
+text_room (Irq conn bytes) = 16 + 2 * length bytes
+text_room (FaultLine line word) = 39
+text_room _ = 32
 
 -- why a step of a script is refused
 abbrev pub cause_words : List (List ℕ)

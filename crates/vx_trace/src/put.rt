@@ -1,10 +1,10 @@
 //! Writing a line: first its length is measured, so that a room that is too small stays as it was.
-ghost use Rattle.std.specs.Prelude.{◌≡◌, ◌+◌, ◌^◌, ◌<◌, ◌≤◌, ◌↔◌, IsErr, IfOk, OnOk, OnErr, MatchOption, [], ◌∷◌, ◌++◌, length, decimal, codes};
+ghost use Rattle.std.specs.Prelude.{◌≡◌, ◌+◌, ◌*◌, ◌^◌, ◌<◌, ◌≤◌, ◌↔◌, IsErr, IfOk, IfNone, OnOk, OnErr, MatchOption, [], ◌∷◌, ◌++◌, length, decimal, codes};
 ghost use Rattle.std.specs.List.{All};
 ghost use Rattle.hex.specs.Hex.{encode_upper};
 ghost use Rattle.vx_trace.specs.Output.{line_shown};
-ghost use Rattle.vx_trace.specs.Text.{IsWhole, IsLine, HasRanges, IsByteTransfer, line_text, transfer_text, moves_text};
-ghost use Rattle.vx_trace.specs.Numbered.{TailFits, tail_text, numbered_text};
+ghost use Rattle.vx_trace.specs.Text.{IsWhole, IsLine, HasRanges, IsByteTransfer, line_text, text_room, transfer_text, moves_text};
+ghost use Rattle.vx_trace.specs.Numbered.{TailFits, tail_text, tail_room, numbered_text, numbered_room};
 ghost use Rattle.vx_trace.specs.Writing.{WritesFirst, Puts, overwritten};
 
 use crate::lines::{Full, Line};
@@ -25,14 +25,16 @@ enum Tail<'a> {
 
 fn number_len(n: u64) -> usize
     ensures value { result ≡ length (decimal n) }
-    ensures short { result ≤ 40 }
+    ensures short { result ≤ 20 }
+    ensures word { n < 2 ^ 32 → result ≤ 10 }
+    ensures byte { n < 2 ^ 8 → result ≤ 3 }
 {
     itoa::Buffer::new().format(n).len()
 }
 
 fn transfer_len(t: Transfer) -> usize
     ensures value { result ≡ length (transfer_text t) }
-    ensures short { result ≤ 43 }
+    ensures short { result ≤ 6 }
 {
     match t {
         Transfer::Cmd(_) | Transfer::Put { .. } | Transfer::Got { .. } | Transfer::Ifc => 3,
@@ -42,7 +44,8 @@ fn transfer_len(t: Transfer) -> usize
 }
 
 fn left_behind_moves(room: usize, moves: &[Transfer]) -> Option<usize>
-    ensures { MatchOption result (room < length (moves_text moves.now)) (λ left. left + length (moves_text moves.now) ≡ room) }
+    ensures left { MatchOption result (room < length (moves_text moves.now)) (λ left. left + length (moves_text moves.now) ≡ room) }
+    ensures room { IfNone result (room < 7 * length moves.now) }
 {
     let mut left = room;
     for t in moves {
@@ -53,7 +56,8 @@ fn left_behind_moves(room: usize, moves: &[Transfer]) -> Option<usize>
 
 #[tactic(auto, using(crate::proofs::Hexadecimal::length_upper))]
 fn left_behind_tail(room: usize, tail: &Tail<'_>) -> Option<usize>
-    ensures { MatchOption result (room < length (tail_text tail.now)) (λ left. left + length (tail_text tail.now) ≡ room) }
+    ensures left { MatchOption result (room < length (tail_text tail.now)) (λ left. left + length (tail_text tail.now) ≡ room) }
+    ensures room { IfNone result (room < tail_room tail.now) }
 {
     match *tail {
         Tail::Number(n) => room.checked_sub(number_len(u64::from(n))),
@@ -71,7 +75,8 @@ fn left_behind(
     middle: &[u8],
     tail: &Tail<'_>,
 ) -> Option<usize>
-    ensures { MatchOption result (room < length (numbered_text front.now number middle.now tail.now)) (λ left. left + length (numbered_text front.now number middle.now tail.now) ≡ room) }
+    ensures left { MatchOption result (room < length (numbered_text front.now number middle.now tail.now)) (λ left. left + length (numbered_text front.now number middle.now tail.now) ≡ room) }
+    ensures room { IfNone result (room < numbered_room front.now (length (decimal number)) middle.now tail.now) }
 {
     let left = room
         .checked_sub(1)?
@@ -217,6 +222,7 @@ fn put_numbered(
 ) -> Result<usize, Full>
     ensures puts { Puts (numbered_text front.now number middle.now tail.now) out.old result out.new }
     ensures fits { OnOk result (TailFits tail.now) }
+    ensures room { OnErr result (length out.old < numbered_room front.now (length (decimal number)) middle.now tail.now) }
 {
     match left_behind(out.len(), front, number, middle, tail) {
         Some(_) => Ok(put_parts(out, front, number, middle, tail)),
@@ -234,6 +240,7 @@ fn put_about(
 ) -> Result<usize, Full>
     ensures puts { Puts (numbered_text front.now conn middle.now tail.now) out.old result out.new }
     ensures fits { OnOk result (TailFits tail.now) }
+    ensures room { OnErr result (length out.old < numbered_room front.now 10 middle.now tail.now) }
 {
     put_numbered(out, front, u64::from(conn), middle, tail)
 }
@@ -251,6 +258,7 @@ fn put_text(out: &mut [u8], text: &[u8]) -> Result<usize, Full>
 fn write_line(line: &Line<'_>, out: &mut [u8]) -> Result<usize, Full>
     ensures puts { Puts (line_text (line_shown line.now)) out.old result out.new }
     ensures fits { OnOk result (HasRanges (line_shown line.now)) }
+    ensures room { OnErr result (IsWhole (line_shown line.now) → length out.old < text_room (line_shown line.now)) }
 {
     match *line {
         Line::Bus { conn, moves } => put_about(out, b"bus ", conn, b"", &Tail::Moves(moves)),
@@ -290,6 +298,9 @@ pub fn put_line(line: &Line<'_>, out: &mut [u8]) -> Result<usize, Full>
 
     // So the text is one that `read_line` reads.
     ensures is { OnOk result (IsLine (line_shown line.now)) }
+
+    // So room for the longest text of such a line is enough, whatever its numbers.
+    ensures room { OnErr result (length out.old < text_room (line_shown line.now)) }
 {
     write_line(line, out)
 }

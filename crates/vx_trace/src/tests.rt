@@ -1,3 +1,6 @@
+ghost use Rattle.std.specs.Prelude.{◌≡◌, ◌<◌, ◌≤◌, true, length, IsTrue};
+ghost use Rattle.vx_trace.specs.Text.{is_cause};
+
 use super::*;
 use vx_488::Transfer;
 
@@ -213,4 +216,48 @@ fn no_lines(rt: HostRuntime) {
             "of {text:?}"
         );
     }
+}
+
+/// One room for all lines of a caller, whatever their numbers: a bus line of at most 8 transfers is written.
+fn put_bus(conn: u32, moves: &[Transfer], out: &mut [u8; 72]) -> bool
+    requires some { 0 < length moves.now }
+    requires few { length moves.now ≤ 8 }
+    ensures { result ≡ true }
+{
+    put_line(&Line::Bus { conn, moves }, out).is_ok()
+}
+
+/// A reply of at most 28 bytes is written.
+fn put_out(conn: u32, bytes: &[u8], out: &mut [u8; 72]) -> bool
+    requires some { 0 < length bytes.now }
+    requires few { length bytes.now ≤ 28 }
+    ensures { result ≡ true }
+{
+    put_line(&Line::Out { conn, bytes }, out).is_ok()
+}
+
+/// A refused step is written, whatever its cause.
+fn put_fault(line: u64, word: &[u8], out: &mut [u8; 72]) -> bool
+    requires { IsTrue (is_cause word.now) }
+    ensures { result ≡ true }
+{
+    put_line(&Line::FaultLine { line, word }, out).is_ok()
+}
+
+// The longest lines of their kinds.
+#[test]
+fn longest(rt: HostRuntime) {
+    let own = [Transfer::Own(255); 8];
+    let mut out = [0; 72];
+    assert!(rt; put_bus(u32::MAX, &own, &mut out));
+    assert_eq!(rt; out[70], b'\n');
+    assert!(rt; put_out(u32::MAX, &[0xAA; 28], &mut out));
+    assert_eq!(rt; out[71], b'\n');
+    assert!(rt; put_fault(u64::MAX, b"absent", &mut out));
+    assert_eq!(rt; out[38], b'\n');
+    let lock = Line::WaitLock {
+        conn: u32::MAX,
+        lid: u32::MAX,
+    };
+    assert_eq!(rt; put_line(&lock, &mut out), Ok(32));
 }

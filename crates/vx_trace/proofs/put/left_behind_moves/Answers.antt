@@ -5,8 +5,8 @@ use Rattle.vx_trace.specs.Text.{moves_text}
 use Rattle.vx_trace.proofs.Moves.{spaced, moves-more, moves-front}
 use Rattle.vx_trace.proofs.put.left_behind_moves.Goals as goal
 
-pub returns-in_err-left : goal.returns-in_err-left
-returns-in_err-left c =
+pub returns-in_err-left-clause-left : goal.returns-in_err-left-clause-left
+returns-in_err-left-clause-left c =
     let moves = c.args.moves.now in
     let i = c.loop-t.t-index in
     let t = get_or moves i (Cmd 0) in
@@ -15,3 +15,8 @@ returns-in_err-left c =
     let front = moves-front moves (i + 1) in
     let short = c.in_err-left.ensures in
     rw c.from_residual.ensures (omega (arith, ap length more, short))
+
+pub returns-in_err-left-clause-room : goal.returns-in_err-left-clause-room
+returns-in_err-left-clause-room c =
+    let short = c.in_err-left.ensures in
+    rw c.from_residual.ensures (omega (arith, short))
