@@ -26,6 +26,7 @@ use Rattle.vx_model.specs.Dials.{dials_to}
 use Rattle.vx_model.specs.Lines.{checks_pass, lets_pass}
 use Rattle.vx_model.specs.PassLaws.{PassedLets}
 use Rattle.vx_model.specs.Effects as effects
+use Rattle.vx_model.proofs.Walks.{passed-says}
 use Rattle.vx_model.proofs.Finds.{found_passes, found_holds, found_among, All-kept}
 use Rattle.vx_flow.specs.Fine.{wire_for, without_dial}
 use Rattle.vx_kernel.specs.declared.running.Running.{Running}
@@ -113,6 +114,7 @@ checked_dial t own conn _ dial h = absurd (false≢true dial)
 pub record PassedDial (t : Tables) (conn : ℕ) : Type 0 where
   pub asked : Pending
   pub call_at : pending_at t conn ≡ Some asked
+  pub unmarked : asked.aborted ≡ false
   pub may : MayDial t conn asked.call
 
 pub passed_dial : {B : Type 0} (means : B → Means) (k : KernelState B) (conn : ℕ) → PassedLets → IsSome (pending_at k.tables conn) → HasPassed means k conn
@@ -124,11 +126,12 @@ passed_dial {B} means k conn law pending passed dials = at (pending_at k.tables 
     at (Some p) is some = record {
       asked = p;
       call_at = is;
+      unmarked = (passed-says p k.moment p.aborted _ _ (passed p is)).unmarked;
       may = checked_dial k.tables (own_of means k conn) conn p.call (dials p is) (unchecked _ _ (passed-lets means k conn law passed p is));
     }
 
 pub dialed_by : (t : Tables) (conn : ℕ) → PassedDial t conn → IsDialed t conn
-dialed_by t conn d = record { asked = d.asked; call_at = d.call_at; dialable = d.may.dialable; free = d.may.free }
+dialed_by t conn d = record { asked = d.asked; call_at = d.call_at; unmarked = d.unmarked; dialable = d.may.dialable; free = d.may.free }
 
 -- a connection of whose call a dial was asked for lives, and has a create_intr_chan
 record Dials (t : Tables) (conn : ℕ) : Type 0 where

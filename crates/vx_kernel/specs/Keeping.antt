@@ -1,5 +1,5 @@
 -- What a core keeps between its calls.
-use Rattle.std.specs.Prelude.{◌≡◌, ◌+◌, ◌≤◌, ◌<◌, ℕ, ◌==◌, List, length, Some, None}
+use Rattle.std.specs.Prelude.{◌≡◌, ◌+◌, ◌≤◌, ◌<◌, ℕ, ◌==◌, false, List, length, Some, None}
 use Rattle.std.specs.List.{All, IsDistinct}
 use Rattle.vx_calls.specs.declared.calls.Role.TheVariants as role
 use Rattle.vx_calls.specs.declared.limits.TheConstants.{CONNECTION_LAST, ROLE_MAX, WRITE_MAX}
@@ -38,10 +38,12 @@ abbrev pub IsDialable : Call → Type 0
 IsDialable (call.CreateIntr host port prog vers family) = (family ≡ 0) × (0 < port) × (port ≤ 65535)
 IsDialable _ = ⊥
 
--- a call of which a dial was asked for is a create_intr_chan that its checks let pass, on a connection without a channel
+-- a call of which a dial was asked for is a create_intr_chan that its checks let pass, unmarked, on a connection without a
+-- channel
 pub record IsDialed (t : Tables) (conn : ℕ) : Type 0 where
   pub asked : Pending
   pub call_at : pending_at t conn ≡ Some asked
+  pub unmarked : asked.aborted ≡ false
   pub dialable : IsDialable asked.call
   pub free : channel_at t.desk conn ≡ None
 

@@ -1,6 +1,7 @@
 //! The calls that need no turn, and what a core tells.
 ghost use Rattle.std.specs.Prelude.{◌≡◌, ◌≤◌, ◌==◌, ◌↔◌, true, false, max, length, Some, IsSome, is_some, IfOk, OnOk, OnErr, IsErrOf, option_map};
-ghost use Rattle.std.specs.List.{list_any};
+ghost use Rattle.std.specs.List.{list_any, All};
+ghost use Rattle.vx_calls.specs.declared.limits.TheConstants.{WRITE_MAX};
 ghost use Rattle.vx_calls.specs.Call.{call_shown};
 ghost use Rattle.vx_srq.specs.Desk as desk;
 ghost use Rattle.vx_srq.specs.Shown.{given_shown};
@@ -12,6 +13,7 @@ ghost use Rattle.vx_model.specs.Shown.{lines_shown};
 ghost use Rattle.vx_model.specs.One.{may_wait, arrived, abort_reply, abort_tables};
 ghost use Rattle.vx_model.specs.Held.{IsShort};
 ghost use Rattle.vx_model.specs.Sound.{IsSound};
+ghost use Rattle.vx_model.specs.Serving.{IsPlainLink};
 ghost use Rattle.vx_kernel.specs.Shown.{own_of, left};
 
 use crate::ended::Ended;
@@ -167,9 +169,10 @@ impl<B: Bus> Kernel<B> {
         self.bus.moves()
     }
 
-    /// The room, with the bytes of the last reply at its front.
+    /// The room, with the bytes of the last reply at its front. It has 65,536 bytes.
     pub fn room(&self) -> &[u8]
-        ensures { result.now ≡ self.now.room }
+        ensures room { result.now ≡ self.now.room }
+        ensures len { length result.now ≡ WRITE_MAX }
     {
         self.room.as_slice()
     }
@@ -179,5 +182,12 @@ impl<B: Bus> Kernel<B> {
         ensures { IsSound self.now.tables }
     {
         self.tables.is_sound();
+    }
+
+    /// The addresses of all links are at most 30. It does nothing when it runs.
+    pub fn has_plain_links(&self)
+        ensures { All IsPlainLink self.now.tables.links.links }
+    {
+        self.tables.has_plain_links();
     }
 }
