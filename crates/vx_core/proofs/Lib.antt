@@ -1,5 +1,9 @@
-pub mod Places
-pub mod Seen
-pub mod Answering
-pub mod Frames
-pub mod EntryLaws
+pub mod Dials
+pub mod Keeping
+pub mod Calls
+pub mod Settling
+pub mod Ends
+pub mod Moving
+pub mod Ordering
+pub mod Hearing
+pub mod Lent

@@ -1,10 +1,1 @@
-pub mod Lists
-pub mod State
-pub mod Entry
-pub mod One
-pub mod Held
-pub mod LinkRows
-pub mod Serving
-pub mod Inside
-pub mod Laws
-pub mod Polling
+pub mod Lending

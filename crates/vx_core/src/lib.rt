@@ -1,17 +1,14 @@
-//! The shared state of the gateway: its connections, its links and the calls that wait for their answer.
+//! The state that all connections of a gateway share: each call to it is a group of interleaved events, and says through
+//! which steps the bus went.
 #![tactic(auto)]
 
-mod laws;
-mod links;
+mod order;
 mod polled;
-mod rows;
-mod serve;
-mod state;
-mod text;
-
-pub use laws::{entry_frames, one_reply};
-pub use polled::{Polled, Why};
-pub use state::{Connect, Core, NoMemory, is_served};
-
+mod shared;
 #[cfg(test)]
 mod tests;
+
+pub use polled::Polled;
+pub use shared::{Core, StartRefused};
+pub use vx_kernel::{Settled, Why};
+pub use vx_model::Connect;

@@ -1,15 +1,5 @@
 use vx_calls::ReplyRef;
-
-/// Why a call isn't answered yet.
-#[derive(Clone, Copy, Debug, PartialEq, Eq)]
-pub enum Why {
-    /// The link of this number holds a lock on a conflicting target.
-    Locked { by: u32 },
-    /// The turn of this connection on the bus is under way.
-    Turn { by: u32 },
-    /// The bus held.
-    Held,
-}
+use vx_kernel::Why;
 
 /// What a poll gives.
 #[derive(Clone, Copy, Debug)]

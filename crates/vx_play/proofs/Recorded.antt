@@ -1,6 +1,7 @@
 -- A message written in two parts.
 use Rattle.std.proofs.Common.{◌≡◌, ◌++◌, ◌+◌, ◌-◌, ◌≤◌, ℕ, List, length, take, drop, sym, ap, ◌∙◌, arith, append_assoc, length-append, length-drop}
-use Rattle.std.proofs.lemmas.List.{take_at, take_all, drop_at, take-append-le, length-take-le}
+use Rattle.std.proofs.lemmas.List.{take_at, take_all, drop_at, take-append-le, length-take-le, length-replicate}
+use Rattle.vx_xdr.specs.Spelling.{opaque, padding, pad_len}
 use borrow.Rule.Slice.PartMut.{put_mid, post_of}
 
 -- what was written first, and behind it, is the front of the whole
@@ -25,3 +26,15 @@ behind-mark whole out n room fits kept within =
     let all : take (length whole - 4) (drop 4 whole) ≡ drop 4 whole = take_all (length whole - 4) (drop 4 whole) (omega arith) in
     let out_len : length out ≡ length whole - 4 = (let e = kept ∙ ap length all in omega arith) in
     ap (take n) (drop_at (take 4 whole) (out ++ post_of 4 (length whole - 4) whole) 4 before) ∙ take-append-le n out (post_of 4 (length whole - 4) whole) (omega arith)
+
+-- so few bytes and their zeros are no more than that
+padded-short : (n : ℕ) → n ≤ 40 → n + pad_len n ≤ 40
+padded-short n few = omega arith
+
+-- the spelling of so few bytes is short
+pub opaque-short : (value : List ℕ) → length value ≤ 40 → length (opaque value) ≤ 44
+opaque-short value few =
+    let both = length-append value (padding (length value)) in
+    let zeros : length (padding (length value)) ≡ pad_len (length value) = length-replicate (pad_len (length value)) 0 in
+    let short = padded-short (length value) few in
+    omega arith

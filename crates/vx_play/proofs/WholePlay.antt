@@ -1,29 +1,33 @@
 -- Steps of playing a script line by line.
-use Rattle.std.proofs.Common.{◌≡◌, ℕ, ◌+◌, ◌-◌, ◌^◌, min, ◌≤◌, le_trans, le_refl, IsSome, true, List, [], ◌∷◌, ◌++◌, length, Option, Some, None, refl, ap, sym, subst, ◌∙◌, inl, inr, ◌⊎◌, arith, length-append, append-nil}
+use Rattle.std.proofs.Common.{IsTrue, ◌≡◌, ℕ, ◌+◌, ◌-◌, ◌^◌, min, ◌≤◌, le_trans, le_refl, true, List, [], ◌∷◌, ◌++◌, length, Option, Some, None, refl, ap, sym, subst, ◌∙◌, inl, inr, ◌⊎◌, arith, length-append, append-nil}
+use Rattle.std.specs.List.{flat_map}
 use Rattle.std.proofs.lemmas.Grind.{flat_map-append}
 use Rattle.std.proofs.Math.Seq.{take-append-add}
 use Rattle.std.proofs.Math.Nat.{min-le_left, min-le_right, le-min}
 use Rattle.std.specs.Io.KnownBytes.{Appends}
 use Rattle.std.proofs.KnownBytes.{Appends-trans, Appends-nil}
 use Rattle.vx_io.specs.Faults.{Rose}
-use Rattle.vx_record.specs.Buffer.{BufState}
 use Rattle.vx_script.specs.declared.Cause.{Cause}
+use Rattle.vx_script.specs.declared.Cause.TheVariants as cause
+use Rattle.vx_script.specs.Cause.{cause_word}
 use Rattle.vx_script.specs.Grammar.{Reading, Skipped, Does, Outside, reading}
-use Rattle.vx_core.specs.Lists.{along}
-use Rattle.vx_core.specs.State.{State}
-use Rattle.vx_core.specs.Entry.{Entry}
-use Rattle.vx_core.specs.One.{one, IsLegal}
+use Rattle.vx_trace.specs.Output.{Output}
+use Rattle.vx_trace.specs.Text.{line_text, is_cause}
+use Rattle.vx_play.specs.declared.printer.TheConstants.{NOTE_ROOM}
 use Rattle.vx_play.specs.declared.run.Status.{Status}
 use Rattle.vx_play.specs.declared.run.Status.TheVariants as status
 use Rattle.vx_play.specs.Moving.{End, GivesAll, GivesTooMuch, StopsIn}
 use Rattle.vx_play.specs.Script.{Step, Script, lines, script, script_from, script_by}
-use Rattle.vx_play.specs.Item.{Item, Fault, text, events, note_text, last_line}
-use Rattle.vx_play.specs.Play.{Stage, abort_port, beginning, Takes, Plays, IsPlay}
+use Rattle.vx_play.specs.Item.{Item, Fault, item_lines, outputs, text, last_line}
+use Rattle.vx_play.specs.Stage.{SpareShown, Stage, beginning}
+use Rattle.vx_play.specs.Play.{Takes, Plays, IsPlay}
+use Rattle.vx_play.specs.PlayerState.{PlayerState}
 use Rattle.vx_play.specs.Standing.{Stands}
 use Rattle.vx_play.specs.LinePlayed.{IsSkipped, IsPlayed, IsCut, IsBad, IsTurnedDown, IsWanting}
 use Rattle.vx_play.specs.Ended as ended
 use Rattle.vx_play.specs.Ended.{UnderWay, IsFront, IsShort, WantsAtStep, behind_steps, PutsLast, EndsScript}
 use Rattle.vx_play.specs.Outcome.{Ends, IsOutcome, ReadsTooMuch, is_command, long_line}
+use Rattle.vx_play.proofs.Upholding.{plays-uphold}
 
 -- one more step of a play
 plays_more : (before mid after : Stage) (steps : List Step) (items : List Item) (step : Step) (item : Item) → Plays before steps items mid → item.command ≡ step.command
@@ -34,26 +38,11 @@ plays_more before mid after (s ∷ steps) [] step item played same takes = absur
 plays_more before mid after (s ∷ steps) (i ∷ items) step item (first, next, took, rest) same takes =
     (first, next, took, plays_more next mid after steps items step item rest same takes)
 
--- a walk along two lists is one along both, joined
-along_joined : (es fs : List Entry) (start : Option State) → along one start (es ++ fs) ≡ along one (along one start es) fs
-along_joined [] fs start = refl
-along_joined (e ∷ es) fs start = along_joined es fs _
-
--- the entries of a play are allowed, each at its place
-plays_along : (before after : Stage) (steps : List Step) (items : List Item) → Plays before steps items after → along one (Some before.state) (events items) ≡ Some after.state
-plays_along before after [] [] played = ap (λ s. Some s.state) (sym played)
-plays_along before after [] (i ∷ items) played = absurd played
-plays_along before after (s ∷ steps) [] played = absurd played
-plays_along before after (s ∷ steps) (i ∷ items) (first, next, took, rest) =
-    along_joined i.group (events items) (Some before.state) ∙ ap (λ o. along one o (events items)) took.state ∙ plays_along next after steps items rest
-
--- a played front's history is one of a gateway
-legal_front : (steps : List Step) (items : List Item) (stage : Stage) → Plays beginning steps items stage → IsLegal abort_port (events items)
-legal_front steps items stage played = subst IsSome (sym (plays_along beginning stage steps items played)) refl
-
 -- the text of one more step
-text_more : (items : List Item) (item : Item) → text (items ++ item ∷ []) ≡ text items ++ note_text item.note
-text_more items item = flat_map-append (λ i. note_text i.note) items (item ∷ []) ∙ ap (λ ys. text items ++ ys) (append-nil (note_text item.note))
+text_more : (items : List Item) (item : Item) (shown : List Output) → item_lines item ≡ shown → text (items ++ item ∷ []) ≡ text items ++ flat_map line_text shown
+text_more items item shown is =
+    ap (λ ls. flat_map line_text ls) (flat_map-append item_lines items (item ∷ []) ∙ ap (λ ys. outputs items ++ ys) (append-nil (item_lines item) ∙ is))
+    ∙ flat_map-append line_text (outputs items) shown
 
 -- a script with a step in front
 abbrev onto : Step → Script → Script
@@ -94,11 +83,11 @@ next_line t rest line behind count steps said front cut says =
     ∙ ap (λ r. behind_steps steps (script_by (count + 1) r (script_from (count + 1 + 1) (lines behind)))) says
 
 -- a play begins
-pub begun : (t : List ℕ) (core : State) (held : ℕ → Option BufState) (ends : End) → Stands core held beginning → UnderWay t t 0 core held ends ends
-begun t core held ends stands = record {
+pub begun : (t : List ℕ) (rack : List SpareShown) (player : PlayerState) (ends : End) → Stands player (beginning rack) → UnderWay t rack t 0 player ends ends
+begun t rack player ends stands = record {
   steps = [];
   items = [];
-  stage = beginning;
+  stage = beginning rack;
   is_front = refl;
   played = refl;
   stands = stands;
@@ -107,14 +96,13 @@ begun t core held ends stands = record {
 }
 
 -- a play goes on behind a line that was played
-pub goes-on : (t rest line behind : List ℕ) (count : ℕ) (core next : State) (held held_next : ℕ → Option BufState) (before mid after : End)
-    → UnderWay t rest count core held before mid → lines rest ≡ line ∷ lines behind
-    → ((stage : Stage) → Stands core held stage → IsSkipped (reading line) stage next held_next mid after ⊎ IsPlayed (reading line) stage next held_next mid after)
-    → mid.faults ≤ after.faults → UnderWay t behind (count + 1) next held_next before after
-goes-on t rest line behind count core next held held_next before mid after u cut how more = going (how u.stage u.stands)
+pub goes-on : (t : List ℕ) (rack : List SpareShown) (rest line behind : List ℕ) (count : ℕ) (player next : PlayerState) (before mid after : End)
+    → UnderWay t rack rest count player before mid → lines rest ≡ line ∷ lines behind
+    → ((stage : Stage) → Stands player stage → IsSkipped (reading line) stage next mid after ⊎ IsPlayed (reading line) stage next mid after)
+    → mid.faults ≤ after.faults → UnderWay t rack behind (count + 1) next before after
+goes-on t rack rest line behind count player next before mid after u cut how more = going (how u.stage u.stands)
   where
-    going : IsSkipped (reading line) u.stage next held_next mid after ⊎ IsPlayed (reading line) u.stage next held_next mid after
-        → UnderWay t behind (count + 1) next held_next before after
+    going : IsSkipped (reading line) u.stage next mid after ⊎ IsPlayed (reading line) u.stage next mid after → UnderWay t rack behind (count + 1) next before after
     going (inl k) = record {
       steps = u.steps;
       items = u.items;
@@ -133,17 +121,18 @@ goes-on t rest line behind count core next held held_next before mid after u cut
           stage = k.takes.after;
           is_front = next_line t rest line behind count u.steps (Does k.command) u.is_front cut k.said_is
               ∙ behind_more u.steps step (script_from (count + 1 + 1) (lines behind));
-          played = plays_more beginning u.stage k.takes.after u.steps u.items step k.takes.item u.played k.takes.command_is k.takes.takes;
+          played = plays_more (beginning rack) u.stage k.takes.after u.steps u.items step k.takes.item u.played k.takes.command_is k.takes.takes;
           stands = k.takes.stands;
-          written = subst (Appends before.bytes after.bytes) (sym (text_more u.items k.takes.item ∙ ap (λ n. text u.items ++ note_text n) k.takes.note_is))
+          written = subst (Appends before.bytes after.bytes) (sym (text_more u.items k.takes.item k.lines k.takes.lines_are))
               (Appends-trans before.bytes mid.bytes after.bytes _ _ u.written k.written);
           counted = (let a = u.counted in omega arith);
         }
 
 -- at the end of a text its script was played
-pub whole-played : (t rest : List ℕ) (count : ℕ) (core : State) (held : ℕ → Option BufState) (before after : End) → UnderWay t rest count core held before after → rest ≡ []
-    → (items : List Item) × ended.IsPlayed t items None × Appends before.bytes after.bytes (text items)
-whole-played t rest count core held before after u at_end =
+pub whole-played : (t : List ℕ) (rack : List SpareShown) (rest : List ℕ) (count : ℕ) (player : PlayerState) (before after : End)
+    → UnderWay t rack rest count player before after → rest ≡ []
+    → (items : List Item) × ended.IsPlayed t rack items None × Appends before.bytes after.bytes (text items)
+whole-played t rack rest count player before after u at_end =
     let all : script t ≡ behind_steps u.steps (record { steps = []; bad = None }) = u.is_front ∙ ap (λ xs. behind_steps u.steps (script_from (count + 1) (lines xs))) at_end in (
       u.items,
       record {
@@ -153,24 +142,24 @@ whole-played t rest count core held before after u at_end =
           played = record { later = []; front = ap (λ s. s.steps) all; played = u.played };
           ends = record { all = ap (λ s. s.steps) all ∙ append-nil u.steps; none_bad = ap (λ s. s.bad) all };
         };
-        legal = legal_front u.steps u.items u.stage u.played;
+        upholds = plays-uphold rack u.steps u.items u.stage u.played;
       },
       u.written,
     )
 
 -- at a line that is refused its script was played to its first fault
-pub fault-played : (t rest line behind : List ℕ) (count : ℕ) (core : State) (held : ℕ → Option BufState) (before mid : End) (after : Option (List ℕ)) (why : Cause)
-    → UnderWay t rest count core held before mid → lines rest ≡ line ∷ lines behind
-    → ((stage : Stage) → Stands core held stage → (IsBad (reading line) why ⊎ IsTurnedDown (reading line) stage why) × Appends mid.bytes after [])
-    → (items : List Item) × ended.IsPlayed t items (Some (record { line = count + 1; cause = why })) × Appends before.bytes after (text items)
-fault-played t rest line behind count core held before mid after why u cut how =
+pub fault-played : (t : List ℕ) (rack : List SpareShown) (rest line behind : List ℕ) (count : ℕ) (player : PlayerState) (before mid : End) (after : Option (List ℕ)) (why : Cause)
+    → UnderWay t rack rest count player before mid → lines rest ≡ line ∷ lines behind
+    → ((stage : Stage) → Stands player stage → (IsBad (reading line) why ⊎ IsTurnedDown (reading line) stage why) × Appends mid.bytes after [])
+    → (items : List Item) × ended.IsPlayed t rack items (Some (record { line = count + 1; cause = why })) × Appends before.bytes after (text items)
+fault-played t rack rest line behind count player before mid after why u cut how =
     let refused = how u.stage u.stands in (
       u.items,
-      record { play = stopping refused.0; legal = legal_front u.steps u.items u.stage u.played },
+      record { play = stopping refused.0; upholds = plays-uphold rack u.steps u.items u.stage u.played },
       kept before.bytes mid.bytes after (text u.items) u.written refused.1,
     )
   where
-    stopping : IsBad (reading line) why ⊎ IsTurnedDown (reading line) u.stage why → IsPlay t u.items (Some (record { line = count + 1; cause = why }))
+    stopping : IsBad (reading line) why ⊎ IsTurnedDown (reading line) u.stage why → IsPlay t rack u.items (Some (record { line = count + 1; cause = why }))
     stopping (inl k) =
         let all = next_line t rest line behind count u.steps Outside u.is_front cut k.outside in
         record {
@@ -191,33 +180,33 @@ fault-played t rest line behind count core held before mid after why u cut how =
         }
 
 -- at a line at which the sink failed a front of the script was played, and of its text a front was written
-pub cut-played : (t rest line behind : List ℕ) (count : ℕ) (core next : State) (held held_next : ℕ → Option BufState) (before mid after : End)
-    → UnderWay t rest count core held before mid → lines rest ≡ line ∷ lines behind
-    → ((stage : Stage) → Stands core held stage → IsCut (reading line) stage next held_next mid after)
-    → (items : List Item) × IsFront t items × StopsIn before after (text items)
-cut-played t rest line behind count core next held held_next before mid after u cut how =
+pub cut-played : (t : List ℕ) (rack : List SpareShown) (rest line behind : List ℕ) (count : ℕ) (player next : PlayerState) (before mid after : End)
+    → UnderWay t rack rest count player before mid → lines rest ≡ line ∷ lines behind
+    → ((stage : Stage) → Stands player stage → IsCut (reading line) stage next mid after)
+    → (items : List Item) × IsFront t rack items × StopsIn before after (text items)
+cut-played t rack rest line behind count player next before mid after u cut how =
     let k = how u.stage u.stands in
     let step : Step = record { line = count + 1; command = k.command } in
     let all = next_line t rest line behind count u.steps (Does k.command) u.is_front cut k.said_is
     ∙ behind_more u.steps step (script_from (count + 1 + 1) (lines behind)) in
-    let played = plays_more beginning u.stage k.takes.after u.steps u.items step k.takes.item u.played k.takes.command_is k.takes.takes in (
+    let played = plays_more (beginning rack) u.stage k.takes.after u.steps u.items step k.takes.item u.played k.takes.command_is k.takes.takes in (
       u.items ++ k.takes.item ∷ [],
       record {
         steps = u.steps ++ step ∷ [];
         stage = k.takes.after;
         played = record { later = (script_from (count + 1 + 1) (lines behind)).steps; front = ap (λ s. s.steps) all; played = played };
-        legal = legal_front _ _ k.takes.after played;
+        upholds = plays-uphold rack _ _ k.takes.after played;
       },
-      subst (StopsIn before after) (sym (text_more u.items k.takes.item ∙ ap (λ n. text u.items ++ note_text n) k.takes.note_is))
-          (stops-behind before mid after (text u.items) (note_text k.note) u.written u.counted k.stops),
+      subst (StopsIn before after) (sym (text_more u.items k.takes.item k.lines k.takes.lines_are))
+          (stops-behind before mid after (text u.items) (flat_map line_text k.lines) u.written u.counted k.stops),
     )
 
 -- at a line that wants memory the steps in front of it were played
-pub short-played : (t rest line behind : List ℕ) (count : ℕ) (core : State) (held : ℕ → Option BufState) (before mid : End) (after : Option (List ℕ))
-    → UnderWay t rest count core held before mid → lines rest ≡ line ∷ lines behind
-    → ((stage : Stage) → Stands core held stage → IsWanting (reading line) stage × Appends mid.bytes after [])
-    → (items : List Item) × IsShort t items × Appends before.bytes after (text items)
-short-played t rest line behind count core held before mid after u cut how =
+pub short-played : (t : List ℕ) (rack : List SpareShown) (rest line behind : List ℕ) (count : ℕ) (player : PlayerState) (before mid : End) (after : Option (List ℕ))
+    → UnderWay t rack rest count player before mid → lines rest ≡ line ∷ lines behind
+    → ((stage : Stage) → Stands player stage → IsWanting (reading line) stage × Appends mid.bytes after [])
+    → (items : List Item) × IsShort t rack items × Appends before.bytes after (text items)
+short-played t rack rest line behind count player before mid after u cut how =
     let short = how u.stage u.stands in
     let k = short.0 in
     let all = next_line t rest line behind count u.steps (Does k.command) u.is_front cut k.said_is in
@@ -229,59 +218,87 @@ short-played t rest line behind count core held before mid after u cut how =
           steps = u.steps;
           stage = u.stage;
           played = record { later = step ∷ later; front = ap (λ s. s.steps) all; played = u.played };
-          legal = legal_front u.steps u.items u.stage u.played;
+          upholds = plays-uphold rack u.steps u.items u.stage u.played;
         };
-        wants = record {
-          step = step;
-          later = later;
-          next = ap (λ s. s.steps) all;
-          comes_up = (k.wants.conn, k.wants.role, k.wants.comes_up);
-          allowed = k.wants.allowed;
-        };
+        wants = record { step = step; later = later; next = ap (λ s. s.steps) all; wants = k.wants };
       },
       kept before.bytes mid.bytes after (text u.items) u.written short.1,
     )
 
 -- behind the text of a whole script comes the last line, or the sink fails in it
-pub last-written : (t : List ℕ) (how : Status) (fault : Option Fault) (line : List ℕ) (before mid after : End) (result : Status)
-    → (((items : List Item) × ended.IsPlayed t items fault × Appends before.bytes after.bytes (text items ++ last_line fault)) → EndsScript t before after how)
-    → ((items : List Item) × ended.IsPlayed t items fault × Appends before.bytes mid.bytes (text items)) → before.faults ≤ mid.faults → line ≡ last_line fault
-    → PutsLast how line mid after result → EndsScript t before after result
-last-written t how fault line before mid after result whole (items, played, written) counted same put = ending put
+pub last-written : (t : List ℕ) (own rack : List SpareShown) (how : Status) (fault : Option Fault) (line : List ℕ) (before mid after : End) (result : Status) → own ≡ rack
+    → (((items : List Item) × ended.IsPlayed t rack items fault × Appends before.bytes after.bytes (text items ++ last_line fault)) → EndsScript t rack before after how)
+    → ((items : List Item) × ended.IsPlayed t own items fault × Appends before.bytes mid.bytes (text items)) → before.faults ≤ mid.faults → line ≡ last_line fault
+    → PutsLast how line mid after result → EndsScript t rack before after result
+last-written t own rack how fault line before mid after result alike whole (items, own_played, written) counted same put = ending put
   where
-    ending : PutsLast how line mid after result → EndsScript t before after result
+    played : ended.IsPlayed t rack items fault
+    played = subst (λ r. ended.IsPlayed t r items fault) alike own_played
+
+    ending : PutsLast how line mid after result → EndsScript t rack before after result
     ending (inl (is, taken)) =
-        subst (EndsScript t before after) (sym is)
+        subst (EndsScript t rack before after) (sym is)
         (whole (items, played, subst (λ l. Appends before.bytes after.bytes (text items ++ l)) same (Appends-trans before.bytes mid.bytes after.bytes _ _ written taken)))
     ending (inr (is, stops)) =
-        subst (EndsScript t before after) (sym is)
+        subst (EndsScript t rack before after) (sym is)
         (inr (items, fault, played, subst (λ l. StopsIn before after (text items ++ l)) same (stops-behind before mid after (text items) line written counted stops)))
 
+-- the word of each cause is one that a fault's line may name
+named : (why : Cause) → is_cause (cause_word why) ≡ true
+named cause.Form = refl
+named cause.Number = refl
+named cause.Full = refl
+named cause.Conn = refl
+named cause.Busy = refl
+named cause.After = refl
+named cause.Idle = refl
+named cause.Json = refl
+named cause.Rule = refl
+named cause.Spare = refl
+named cause.Own = refl
+named cause.Taken = refl
+named cause.Bench = refl
+named cause.Absent = refl
+
+-- the last line of a script with a fault can be written
+pub fault-writable : (why : Cause) (word : List ℕ) → word ≡ cause_word why → IsTrue (is_cause word) × (39 ≤ NOTE_ROOM)
+fault-writable why word is = (subst (λ w. IsTrue (is_cause w)) (sym is) (named why), omega arith)
+
+-- the sink failed in the text of a step
+pub cut-ended : (t : List ℕ) (own rack : List SpareShown) (before after : End) → own ≡ rack
+    → ((items : List Item) × IsFront t own items × StopsIn before after (text items)) → EndsScript t rack before after status.SinkFailed
+cut-ended t own rack before after alike (items, front, stops) = inl (items, subst (λ r. IsFront t r items) alike front, stops)
+
+-- memory ran out at a step
+pub short-ended : (t : List ℕ) (own rack : List SpareShown) (before after : End) → own ≡ rack
+    → ((items : List Item) × IsShort t own items × Appends before.bytes after.bytes (text items)) → EndsScript t rack before after status.NoMemory
+short-ended t own rack before after alike (items, short, written) = inr (items, subst (λ r. IsShort t r items) alike short, written)
+
 -- what was read is played: what the script's end says is the outcome
-read_ended : (words : List (List ℕ)) (ends : Ends) (bytes : List ℕ) (how : Status) → is_command words ≡ true → GivesAll ends.source ends.source_after bytes
-    → EndsScript bytes ends.sink ends.sink_after how → IsOutcome words ends how
-read_ended words ends bytes status.Done command read how = record { command = command; bytes = bytes; read = read; ended = how }
-read_ended words ends bytes status.Usage command read how = absurd how
-read_ended words ends bytes status.SourceFailed command read how = absurd how
-read_ended words ends bytes status.Fault command read how = record { command = command; bytes = bytes; read = read; ended = how }
-read_ended words ends bytes status.SinkFailed command read how = inr (inr (record { command = command; bytes = bytes; read = read; ended = how }))
-read_ended words ends bytes status.NoMemory command read how = inr (record { command = command; bytes = bytes; read = read; ended = how })
-read_ended words ends bytes status.TooLong command read how = absurd how
+read_ended : (words : List (List ℕ)) (rack : List SpareShown) (ends : Ends) (bytes : List ℕ) (how : Status) → is_command words ≡ true → GivesAll ends.source ends.source_after bytes
+    → EndsScript bytes rack ends.sink ends.sink_after how → IsOutcome words rack ends how
+read_ended words rack ends bytes status.Done command read how = record { command = command; bytes = bytes; read = read; ended = how }
+read_ended words rack ends bytes status.Usage command read how = absurd how
+read_ended words rack ends bytes status.SourceFailed command read how = absurd how
+read_ended words rack ends bytes status.Fault command read how = record { command = command; bytes = bytes; read = read; ended = how }
+read_ended words rack ends bytes status.SinkFailed command read how = inr (inr (record { command = command; bytes = bytes; read = read; ended = how }))
+read_ended words rack ends bytes status.NoMemory command read how = inr (record { command = command; bytes = bytes; read = read; ended = how })
+read_ended words rack ends bytes status.TooLong command read how = absurd how
 
 -- a script that was read ended so
-pub script-ended : (words : List (List ℕ)) (ends : Ends) (bytes script_text : List ℕ) (how : Status) → is_command words ≡ true
-    → GivesAll ends.source ends.source_after bytes → script_text ≡ bytes → EndsScript script_text ends.sink ends.sink_after how → IsOutcome words ends how
-script-ended words ends bytes script_text how command read same ended =
-    read_ended words ends bytes how command read (subst (λ t. EndsScript t ends.sink ends.sink_after how) same ended)
+pub script-ended : (words : List (List ℕ)) (rack : List SpareShown) (ends : Ends) (bytes script_text : List ℕ) (how : Status) → is_command words ≡ true
+    → GivesAll ends.source ends.source_after bytes → script_text ≡ bytes → EndsScript script_text rack ends.sink ends.sink_after how → IsOutcome words rack ends how
+script-ended words rack ends bytes script_text how command read same ended =
+    read_ended words rack ends bytes how command read (subst (λ t. EndsScript t rack ends.sink ends.sink_after how) same ended)
 
 -- a script that is too long ended so
-pub long-ended : (words : List (List ℕ)) (ends : Ends) (result : Status) → is_command words ≡ true
-    → ((bytes : List ℕ) × GivesTooMuch ends.source ends.source_after bytes) → PutsLast status.TooLong long_line ends.sink ends.sink_after result → IsOutcome words ends result
-long-ended words ends result command (bytes, read) put = ending put
+pub long-ended : (words : List (List ℕ)) (rack : List SpareShown) (ends : Ends) (result : Status) → is_command words ≡ true
+    → ((bytes : List ℕ) × GivesTooMuch ends.source ends.source_after bytes) → PutsLast status.TooLong long_line ends.sink ends.sink_after result → IsOutcome words rack ends result
+long-ended words rack ends result command (bytes, read) put = ending put
   where
     much : ReadsTooMuch words ends
     much = record { command = command; bytes = bytes; read = read }
 
-    ending : PutsLast status.TooLong long_line ends.sink ends.sink_after result → IsOutcome words ends result
-    ending (inl (is, taken)) = subst (IsOutcome words ends) (sym is) (much, taken)
-    ending (inr (is, stops)) = subst (IsOutcome words ends) (sym is) (inr (inl (much, stops)))
+    ending : PutsLast status.TooLong long_line ends.sink ends.sink_after result → IsOutcome words rack ends result
+    ending (inl (is, taken)) = subst (IsOutcome words rack ends) (sym is) (much, taken)
+    ending (inr (is, stops)) = subst (IsOutcome words rack ends) (sym is) (inr (inl (much, stops)))

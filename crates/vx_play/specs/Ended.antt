@@ -1,44 +1,41 @@
 -- How the play of a script ends: at its end, at its first fault, or where the sink fails or memory runs out.
 use Rattle.std.specs.Prelude.{◌≡◌, ℕ, ◌+◌, ◌≤◌, List, ◌∷◌, ◌++◌, Option, Some, None, ◌⊎◌}
 use Rattle.std.specs.Io.KnownBytes.{Appends}
-use Rattle.vx_calls.specs.declared.calls.Role.{Role}
-use Rattle.vx_record.specs.Buffer.{BufState}
-use Rattle.vx_script.specs.Command.{Up}
-use Rattle.vx_core.specs.One.{IsLegal}
-use Rattle.vx_core.specs.State.{State}
 use Rattle.vx_play.specs.declared.run.Ending.{Ending}
 use Rattle.vx_play.specs.declared.run.Ending.TheVariants as ending
 use Rattle.vx_play.specs.declared.run.Status.{Status}
 use Rattle.vx_play.specs.declared.run.Status.TheVariants as status
 use Rattle.vx_play.specs.Moving.{End, StopsIn}
 use Rattle.vx_play.specs.Script.{Step, Script, lines, script, script_from}
-use Rattle.vx_play.specs.Item.{Item, Fault, text, events, last_line}
-use Rattle.vx_play.specs.Play.{Stage, abort_port, beginning, refusal, Plays, PlaysFront, IsPlay}
-use Rattle.vx_play.specs.Standing.{Stands}
+use Rattle.vx_play.specs.Item.{Item, Fault, text, last_line}
+use Rattle.vx_play.specs.Stage.{SpareShown, Stage, beginning}
+use Rattle.vx_play.specs.Play.{Plays, PlaysFront, IsPlay}
+use Rattle.vx_play.specs.Upholding.{Upholds}
+use Rattle.vx_play.specs.PlayerState.{PlayerState}
+use Rattle.vx_play.specs.Standing.{Stands, WantsMemory}
 
--- a script that is played to its end or to its first fault, and its history is one of a gateway
-pub record IsPlayed (script_text : List ℕ) (items : List Item) (fault : Option Fault) : Type 0 where
-  pub play : IsPlay script_text items fault
-  pub legal : IsLegal abort_port (events items)
+-- a script that is played to its end or to its first fault, with these spares
+pub record IsPlayed (script_text : List ℕ) (rack : List SpareShown) (items : List Item) (fault : Option Fault) : Type 0 where
+  pub play : IsPlay script_text rack items fault
+  pub upholds : Upholds items
 
--- the steps in front of a place of a script are played, and their history is one of a gateway
-pub record IsFront (script_text : List ℕ) (items : List Item) : Type 0 where
+-- the steps in front of a place of a script are played
+pub record IsFront (script_text : List ℕ) (rack : List SpareShown) (items : List Item) : Type 0 where
   pub steps : List Step
   pub stage : Stage
-  pub played : PlaysFront script_text steps items stage
-  pub legal : IsLegal abort_port (events items)
+  pub played : PlaysFront script_text rack steps items stage
+  pub upholds : Upholds items
 
--- the next step wants memory: it is an `up` that isn't refused
+-- the next step wants memory
 pub record WantsAtStep (script_text : List ℕ) (steps : List Step) (stage : Stage) : Type 0 where
   pub step : Step
   pub later : List Step
   pub next : (script script_text).steps ≡ steps ++ step ∷ later
-  pub comes_up : (conn : ℕ) × (role : Role) × (step.command ≡ Up conn role)
-  pub allowed : refusal stage step.command ≡ None
+  pub wants : WantsMemory stage step.command
 
 -- the steps in front of one that wants memory are played
-pub record IsShort (script_text : List ℕ) (items : List Item) : Type 0 where
-  pub front : IsFront script_text items
+pub record IsShort (script_text : List ℕ) (rack : List SpareShown) (items : List Item) : Type 0 where
+  pub front : IsFront script_text rack items
   pub wants : WantsAtStep script_text front.steps front.stage
 
 -- steps, and behind them a script
@@ -46,26 +43,26 @@ abbrev pub behind_steps : List Step → Script → Script
 behind_steps steps rest = record { steps = steps ++ rest.steps; bad = rest.bad }
 
 -- a play under way: so many lines are played, and this text is what is left
-pub record UnderWay (script_text rest : List ℕ) (count : ℕ) (core : State) (buffers : ℕ → Option BufState) (before after : End) : Type 0 where
+pub record UnderWay (script_text : List ℕ) (rack : List SpareShown) (rest : List ℕ) (count : ℕ) (player : PlayerState) (before after : End) : Type 0 where
   pub steps : List Step
   pub items : List Item
   pub stage : Stage
   pub is_front : script script_text ≡ behind_steps steps (script_from (count + 1) (lines rest))
-  pub played : Plays beginning steps items stage
-  pub stands : Stands core buffers stage
+  pub played : Plays (beginning rack) steps items stage
+  pub stands : Stands player stage
   pub written : Appends before.bytes after.bytes (text items)
   pub counted : before.faults ≤ after.faults
 
 -- how the play of a script's lines ends, and what was written
-abbrev pub EndsLines : List ℕ → End → End → Ending → Type 0
-EndsLines script_text before after ending.Whole =
-    (items : List Item) × IsPlayed script_text items None × Appends before.bytes after.bytes (text items)
-EndsLines script_text before after (ending.Fault line why) =
-    (items : List Item) × IsPlayed script_text items (Some (record { line = line; cause = why })) × Appends before.bytes after.bytes (text items)
-EndsLines script_text before after ending.SinkFailed =
-    (items : List Item) × IsFront script_text items × StopsIn before after (text items)
-EndsLines script_text before after ending.NoMemory =
-    (items : List Item) × IsShort script_text items × Appends before.bytes after.bytes (text items)
+abbrev pub EndsLines : List ℕ → List SpareShown → End → End → Ending → Type 0
+EndsLines script_text rack before after ending.Whole =
+    (items : List Item) × IsPlayed script_text rack items None × Appends before.bytes after.bytes (text items)
+EndsLines script_text rack before after (ending.Fault line why) =
+    (items : List Item) × IsPlayed script_text rack items (Some (record { line = line; cause = why })) × Appends before.bytes after.bytes (text items)
+EndsLines script_text rack before after ending.SinkFailed =
+    (items : List Item) × IsFront script_text rack items × StopsIn before after (text items)
+EndsLines script_text rack before after ending.NoMemory =
+    (items : List Item) × IsShort script_text rack items × Appends before.bytes after.bytes (text items)
 
 -- the last line was written, or the sink failed in it
 abbrev pub PutsLast : Status → List ℕ → End → End → Status → Type 0
@@ -75,14 +72,14 @@ PutsLast how line before after result =
 -- How the play of a script ends, its last line with it. Where the sink failed, a front was written of the text of some first
 -- steps, or of the whole play and its last line. Where memory ran out, nothing was written, as the play began, or the text of
 -- the steps in front of the one that wants it.
-abbrev pub EndsScript : List ℕ → End → End → Status → Type 0
-EndsScript script_text before after status.Done =
-    (items : List Item) × IsPlayed script_text items None × Appends before.bytes after.bytes (text items ++ last_line None)
-EndsScript script_text before after status.Fault =
-    (items : List Item) × (fault : Fault) × IsPlayed script_text items (Some fault) × Appends before.bytes after.bytes (text items ++ last_line (Some fault))
-EndsScript script_text before after status.SinkFailed =
-    ((items : List Item) × IsFront script_text items × StopsIn before after (text items))
-    ⊎ ((items : List Item) × (fault : Option Fault) × IsPlayed script_text items fault × StopsIn before after (text items ++ last_line fault))
-EndsScript script_text before after status.NoMemory =
-    (after ≡ before) ⊎ ((items : List Item) × IsShort script_text items × Appends before.bytes after.bytes (text items))
-EndsScript script_text before after _ = ⊥
+abbrev pub EndsScript : List ℕ → List SpareShown → End → End → Status → Type 0
+EndsScript script_text rack before after status.Done =
+    (items : List Item) × IsPlayed script_text rack items None × Appends before.bytes after.bytes (text items ++ last_line None)
+EndsScript script_text rack before after status.Fault =
+    (items : List Item) × (fault : Fault) × IsPlayed script_text rack items (Some fault) × Appends before.bytes after.bytes (text items ++ last_line (Some fault))
+EndsScript script_text rack before after status.SinkFailed =
+    ((items : List Item) × IsFront script_text rack items × StopsIn before after (text items))
+    ⊎ ((items : List Item) × (fault : Option Fault) × IsPlayed script_text rack items fault × StopsIn before after (text items ++ last_line fault))
+EndsScript script_text rack before after status.NoMemory =
+    (after ≡ before) ⊎ ((items : List Item) × IsShort script_text rack items × Appends before.bytes after.bytes (text items))
+EndsScript script_text rack before after _ = ⊥

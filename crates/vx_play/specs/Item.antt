@@ -1,52 +1,65 @@
--- One step of a play and what is printed of it.
-use Rattle.std.specs.Prelude.{ℕ, List, [], ◌++◌, codes, decimal, Option, Some, None}
+-- One step of a play, and the lines that are printed of it.
+use Rattle.std.specs.Prelude.{ℕ, List, [], ◌∷◌, ◌++◌, Option, Some, None}
 use Rattle.std.specs.List.{flat_map}
-use Rattle.hex.specs.Hex.{encode_upper}
+use Rattle.vx_488.specs.declared.transfers.Transfer.{Transfer}
 use Rattle.vx_script.specs.declared.Cause.{Cause}
 use Rattle.vx_script.specs.Command.{Command}
 use Rattle.vx_script.specs.Cause.{cause_word}
-use Rattle.vx_core.specs.Entry.{Entry}
-use Rattle.vx_play.specs.declared.note.Gone.{Gone}
-use Rattle.vx_play.specs.declared.note.Gone.TheVariants as gone
+use Rattle.vx_trace.specs.Output.{Output, Bus, Done, FaultLine}
+use Rattle.vx_trace.specs.Text.{line_text}
+use Rattle.vx_sim.specs.SimState.{SimState}
+use Rattle.vx_flow.specs.Event.{Event, Move}
 
--- what there is to tell of a step: nothing, a reply's record, or the end of a connection
-pub data Note : Type 0 where
-  Nothing : Note
-  Replied : (conn : ℕ) (reply : List ℕ) → Note
-  Ended : (conn : ℕ) (how : Gone) → Note
-
--- a step that was taken: its command, the entries that it made in the gateway's history, and what there is to tell
+-- a step that was taken: its command, the events that it made in the gateway, the bus after it, and the line that there is
+-- to tell of it, or none
 pub record Item : Type 0 where
   pub command : Command
-  pub group : List Entry
-  pub note : Note
+  pub group : List Event
+  pub bus : SimState
+  pub note : Option Output
 
--- how a connection ended
-abbrev pub gone_word : Gone → List ℕ
-gone_word gone.Down = codes "down"
-gone_word gone.Junk = codes "junk"
-gone_word gone.Long = codes "long"
+-- the line of a turn that moved: the transfers that it made, in order
+abbrev pub bus_lines : Event → List Output
+bus_lines (Move conn moves) = Bus conn moves ∷ []
+bus_lines _ = []
 
--- the line of a note: `out C HEX`, or `gone C HOW`
-abbrev pub note_text : Note → List ℕ
-note_text Nothing = []
-note_text (Replied conn reply) = codes "out " ++ decimal conn ++ codes " " ++ encode_upper reply ++ codes "\n"
-note_text (Ended conn how) = codes "gone " ++ decimal conn ++ codes " " ++ gone_word how ++ codes "\n"
+abbrev pub noted : Option Output → List Output
+noted None = []
+noted (Some line) = line ∷ []
 
--- what is printed of these steps
+-- the lines of an item: its transfers before what else there is to tell
+abbrev pub item_lines : Item → List Output
+item_lines item = flat_map bus_lines item.group ++ noted item.note
+
+-- the lines of these steps, and their text
+abbrev pub outputs : List Item → List Output
+outputs items = flat_map item_lines items
+
 abbrev pub text : List Item → List ℕ
-text items = flat_map (λ item. note_text item.note) items
+text items = flat_map line_text (outputs items)
 
--- the history that these steps made
-abbrev pub events : List Item → List Entry
+-- the events that these steps made
+abbrev pub events : List Item → List Event
 events items = flat_map (λ item. item.group) items
+
+-- the transfers of a turn's moves, and those that a line shows
+abbrev pub moved : Event → List Transfer
+moved (Move conn moves) = moves
+moved _ = []
+
+abbrev pub shown_moves : Output → List Transfer
+shown_moves (Bus conn moves) = moves
+shown_moves _ = []
 
 -- a line at which a play ends, and why
 pub record Fault : Type 0 where
   pub line : ℕ
   pub cause : Cause
 
--- the last line that is printed
+-- the last line of a play
+abbrev pub last_output : Option Fault → Output
+last_output None = Done
+last_output (Some fault) = FaultLine fault.line (cause_word fault.cause)
+
 abbrev pub last_line : Option Fault → List ℕ
-last_line None = codes "done\n"
-last_line (Some fault) = codes "fault line " ++ decimal fault.line ++ codes " " ++ cause_word fault.cause ++ codes "\n"
+last_line fault = line_text (last_output fault)

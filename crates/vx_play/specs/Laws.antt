@@ -1,18 +1,14 @@
--- Laws of plays.
-use Rattle.std.specs.Prelude.{◌≡◌, ℕ, ◌≤◌, true, List, length, ◌++◌, Option, Some, None, ◌⊎◌}
+-- When a play is written whole.
+use Rattle.std.specs.Prelude.{◌≡◌, ◌≤◌, ℕ, true, List, length, ◌++◌, Option, Some, None, ◌⊎◌}
 use Rattle.std.specs.Io.KnownBytes.{Appends}
 use Rattle.vx_io.specs.Faults.{Rose}
 use Rattle.vx_play.specs.declared.input.TheConstants.{SCRIPT_MAX}
 use Rattle.vx_play.specs.declared.run.Status.{Status}
 use Rattle.vx_play.specs.declared.run.Status.TheVariants as status
 use Rattle.vx_play.specs.Item.{Item, Fault, text, last_line}
+use Rattle.vx_play.specs.Stage.{SpareShown}
 use Rattle.vx_play.specs.Play.{IsPlay}
 use Rattle.vx_play.specs.Outcome.{Ends, is_command, status_number}
-
--- a script has at most one play: one list of items, and one fault at which it ends, or none
-abbrev pub OnePlayLaw : Type 0
-OnePlayLaw = (script_text : List ℕ) (items others : List Item) (fault other : Option Fault) → IsPlay script_text items fault → IsPlay script_text others other
-    → (items ≡ others) × (fault ≡ other)
 
 -- the status of a play that is written whole
 abbrev pub whole_status : Option Fault → Status
@@ -27,8 +23,16 @@ pub record IsUndisturbed (words : List (List ℕ)) (ends : Ends) (script_text : 
   pub source_good : Rose ends.source.faults ends.source_after.faults → ⊥
   pub sink_good : Rose ends.sink.faults ends.sink_after.faults → ⊥
 
--- a script's play is written whole, with its last line, and the status is that of its fault, or of none; or memory is wanting
-abbrev pub Completes : List (List ℕ) → Ends → ℕ → Type 0
-Completes words ends number = (script_text : List ℕ) (items : List Item) (fault : Option Fault) → IsUndisturbed words ends script_text → IsPlay script_text items fault
-    → (number ≡ status_number status.NoMemory)
-    ⊎ ((number ≡ status_number (whole_status fault)) × Appends ends.sink.bytes ends.sink_after.bytes (text items ++ last_line fault))
+-- a play of the script was written whole, with its last line, and the status is that of its fault, or of none
+pub record WritesWhole (rack : List SpareShown) (ends : Ends) (script_text : List ℕ) (number : ℕ) : Type 0 where
+  pub items : List Item
+  pub fault : Option Fault
+  pub play : IsPlay script_text rack items fault
+  pub status : number ≡ status_number (whole_status fault)
+  pub written : Appends ends.sink.bytes ends.sink_after.bytes (text items ++ last_line fault)
+
+-- Where nothing disturbs it, a play of the script is written whole, or memory is wanting. So the status is 0 where no line
+-- is outside the grammar and no step is refused.
+abbrev pub Completes : List (List ℕ) → List SpareShown → Ends → ℕ → Type 0
+Completes words rack ends number = (script_text : List ℕ) → IsUndisturbed words ends script_text
+    → (number ≡ status_number status.NoMemory) ⊎ WritesWhole rack ends script_text number

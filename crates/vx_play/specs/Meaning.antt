@@ -1,32 +1,32 @@
 -- What a message on a connection means to the gateway.
-use Rattle.std.specs.Prelude.{ℕ, Bool, true, false, if◌then◌else◌, List, ◌++◌, length, Option, Some, None}
+use Rattle.std.specs.Prelude.{ℕ, List, ◌++◌, length, Option, Some, None}
 use Rattle.vx_calls.specs.declared.calls.Role.{Role}
 use Rattle.vx_calls.specs.Call.{Call}
 use Rattle.vx_calls.specs.Call as call
+use Rattle.vx_calls.specs.Reply.{Reply}
+use Rattle.vx_xdr.specs.Spelling.{opaque}
 use Rattle.vx_record.specs.Fragments.{last_header}
 use Rattle.vx_rpc.specs.declared.refusal.RpcRefusal.TheVariants as refusal
 use Rattle.vx_rpc.specs.Sorting.{Sorting, sorted}
 use Rattle.vx_rpc.specs.Sorting as sort
-use Rattle.vx_rpc.specs.Wording.{success_message, refusal_message}
+use Rattle.vx_rpc.specs.Wording.{success_message, refusal_message, call_message}
 use Rattle.vx_codec.specs.Asked.{asked}
-use Rattle.vx_core.specs.One.{is_served}
+use Rattle.vx_codec.specs.Answered.{results}
+use Rattle.vx_srq.specs.Desk.{Srq}
 
--- no call; a message that says what is answered without touching the core; a call to the core, with its xid
+-- No call; a message that says what is answered without touching the core; a call to the core, with its xid; or a
+-- device_abort of a link, with its xid
 pub data Meaning : Type 0 where
   Junk : Meaning
   Answered : List ℕ → Meaning
   Asks : (xid : ℕ) (asked : Call) → Meaning
+  Aborts : (xid lid : ℕ) → Meaning
 
-abbrev pub is_null : Call → Bool
-is_null call.Null = true
-is_null _ = false
-
--- the null procedure is answered at once; a procedure that isn't served is refused as unavailable
+-- the null procedure is answered at once
 abbrev pub by_call : ℕ → Call → Meaning
-by_call xid c =
-    if is_null c then Answered (success_message xid)
-    else if is_served c then Asks xid c
-    else Answered (refusal_message xid refusal.ProcUnavail)
+by_call xid call.Null = Answered (success_message xid)
+by_call xid (call.DeviceAbort lid) = Aborts xid lid
+by_call xid c = Asks xid c
 
 -- arguments that can't be read are garbage
 abbrev pub by_arguments : ℕ → Option Call → Meaning
@@ -42,6 +42,23 @@ by_sorting (sort.Call xid proc args) = by_arguments xid (asked proc args)
 abbrev pub meaning : List ℕ → Role → Meaning
 meaning message role = by_sorting (sorted message role)
 
+-- the xid of the last call that a connection kept, after a message
+abbrev pub xid_by : Meaning → ℕ → ℕ
+xid_by (Asks xid asked) last = xid
+xid_by _ last = last
+
 -- a message as a record of one fragment (RFC 5531, section 11)
 abbrev pub record_of : List ℕ → List ℕ
 record_of message = last_header (length message) ++ message
+
+-- the record of a reply to the call of this xid
+abbrev pub reply_record : ℕ → Reply → List ℕ
+reply_record xid reply = record_of (success_message xid ++ results reply)
+
+-- the procedure number of device_intr_srq (VXI-11, program DEVICE_INTR)
+abbrev pub intr_srq : ℕ
+intr_srq = 30
+
+-- the record of an interrupt call
+abbrev pub srq_record : Srq → List ℕ
+srq_record i = record_of (call_message i.xid i.program i.version intr_srq ++ opaque i.handle)

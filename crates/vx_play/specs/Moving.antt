@@ -19,10 +19,11 @@ pub record GivesAll (before after : End) (bytes : List ℕ) : Type 0 where
   pub whole : IfSome before.bytes (λ all. all ≡ bytes)
   pub within : length bytes ≤ SCRIPT_MAX
 
--- the source gave more bytes than a script has
+-- the source gave one byte more than a script may have
 pub record GivesTooMuch (before after : End) (bytes : List ℕ) : Type 0 where
   pub given : Consumes before.bytes after.bytes bytes
   pub above : SCRIPT_MAX < length bytes
+  pub within : length bytes ≤ SCRIPT_MAX + 1
 
 -- what reading a whole source answers
 abbrev pub IsInput : End → End → Input → Type 0

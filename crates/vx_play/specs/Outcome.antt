@@ -3,9 +3,12 @@ use Rattle.std.specs.Prelude.{◌≡◌, ℕ, Bool, true, false, List, [], ◌�
 use Rattle.std.specs.Str.{bytes_eq}
 use Rattle.std.specs.Io.KnownBytes.{Appends}
 use Rattle.vx_io.specs.Faults.{Rose}
+use Rattle.vx_trace.specs.Output.{Usage, FaultLong}
+use Rattle.vx_trace.specs.Text.{line_text}
 use Rattle.vx_play.specs.declared.run.Status.{Status}
 use Rattle.vx_play.specs.declared.run.Status.TheVariants as status
 use Rattle.vx_play.specs.Moving.{End, GivesAll, GivesTooMuch, StopsIn}
+use Rattle.vx_play.specs.Stage.{SpareShown}
 use Rattle.vx_play.specs.Ended.{EndsScript}
 
 -- the number of a status
@@ -25,10 +28,10 @@ is_command _ = false
 
 -- the last lines that are printed where no script is played
 abbrev pub usage_line : List ℕ
-usage_line = codes "usage: vxplay COMMAND\n"
+usage_line = line_text Usage
 
 abbrev pub long_line : List ℕ
-long_line = codes "fault long\n"
+long_line = line_text FaultLong
 
 -- the source and the sink, before and after
 pub record Ends : Type 0 where
@@ -49,34 +52,34 @@ pub record ReadsTooMuch (words : List (List ℕ)) (ends : Ends) : Type 0 where
   pub read : GivesTooMuch ends.source ends.source_after bytes
 
 -- the source gave a script, and its play ended so
-pub record PlaysScript (words : List (List ℕ)) (ends : Ends) (how : Status) : Type 0 where
+pub record PlaysScript (words : List (List ℕ)) (rack : List SpareShown) (ends : Ends) (how : Status) : Type 0 where
   pub command : is_command words ≡ true
   pub bytes : List ℕ
   pub read : GivesAll ends.source ends.source_after bytes
-  pub ended : EndsScript bytes ends.sink ends.sink_after how
+  pub ended : EndsScript bytes rack ends.sink ends.sink_after how
 
 -- how a play ends
-abbrev pub IsOutcome : List (List ℕ) → Ends → Status → Type 0
+abbrev pub IsOutcome : List (List ℕ) → List SpareShown → Ends → Status → Type 0
 -- the script was played to its end: its text and `done` were written
-IsOutcome words ends status.Done = PlaysScript words ends status.Done
+IsOutcome words rack ends status.Done = PlaysScript words rack ends status.Done
 -- the words aren't a command: the source is as it was, and the usage line was written
-IsOutcome words ends status.Usage = IsUnread words ends × Appends ends.sink.bytes ends.sink_after.bytes usage_line
+IsOutcome words rack ends status.Usage = IsUnread words ends × Appends ends.sink.bytes ends.sink_after.bytes usage_line
 -- the source failed: nothing was written
-IsOutcome words ends status.SourceFailed =
+IsOutcome words rack ends status.SourceFailed =
     (is_command words ≡ true) × Rose ends.source.faults ends.source_after.faults × (ends.sink_after ≡ ends.sink)
 -- the script was played to its first fault: the text of the steps before it, and the line of the fault, were written
-IsOutcome words ends status.Fault = PlaysScript words ends status.Fault
+IsOutcome words rack ends status.Fault = PlaysScript words rack ends status.Fault
 -- the sink failed: a front of the usage line was written, of the line of a script that is too long, or of what the play is due
-IsOutcome words ends status.SinkFailed =
+IsOutcome words rack ends status.SinkFailed =
     (IsUnread words ends × StopsIn ends.sink ends.sink_after usage_line)
     ⊎ (ReadsTooMuch words ends × StopsIn ends.sink ends.sink_after long_line)
-    ⊎ PlaysScript words ends status.SinkFailed
+    ⊎ PlaysScript words rack ends status.SinkFailed
 -- memory ran out: as the source was read, with nothing written; or in the play
-IsOutcome words ends status.NoMemory =
-    ((is_command words ≡ true) × (ends.sink_after ≡ ends.sink)) ⊎ PlaysScript words ends status.NoMemory
+IsOutcome words rack ends status.NoMemory =
+    ((is_command words ≡ true) × (ends.sink_after ≡ ends.sink)) ⊎ PlaysScript words rack ends status.NoMemory
 -- the source has more bytes than a script may have: the line that says so was written
-IsOutcome words ends status.TooLong = ReadsTooMuch words ends × Appends ends.sink.bytes ends.sink_after.bytes long_line
+IsOutcome words rack ends status.TooLong = ReadsTooMuch words ends × Appends ends.sink.bytes ends.sink_after.bytes long_line
 
 -- a play ends with the number of its status
-abbrev pub EndsSo : List (List ℕ) → Ends → ℕ → Type 0
-EndsSo words ends number = (how : Status) × (number ≡ status_number how) × IsOutcome words ends how
+abbrev pub EndsSo : List (List ℕ) → List SpareShown → Ends → ℕ → Type 0
+EndsSo words rack ends number = (how : Status) × (number ≡ status_number how) × IsOutcome words rack ends how

@@ -1,42 +1,52 @@
--- What serving a message leaves.
-use Rattle.std.specs.Prelude.{◌≡◌, ◌≤◌, ℕ, true, List, ◌++◌, take, Some, None}
+-- What serving a message, and a step of the core, leave.
+use Rattle.std.specs.Prelude.{◌≡◌, ◌≢◌, ◌≤◌, ◌<◌, ℕ, true, List, length, take, Option, None, IsSome}
+use Rattle.std.specs.List.{flat_map}
 use Rattle.vx_calls.specs.declared.calls.Role.TheVariants as role
 use Rattle.vx_calls.specs.Call.{Call}
-use Rattle.vx_calls.specs.Reply.{Reply}
-use Rattle.vx_rpc.specs.Wording.{success_message}
-use Rattle.vx_codec.specs.Answered.{results}
-use Rattle.vx_core.specs.Lists.{along}
-use Rattle.vx_core.specs.State.{State, role_at, pending_at}
-use Rattle.vx_core.specs.Entry.{Entry, Answer}
-use Rattle.vx_core.specs.One.{one, is_served}
+use Rattle.vx_calls.specs.Call as call
+use Rattle.vx_bus.specs.declared.asks.TheConstants.{ASK_MAX}
+use Rattle.vx_trace.specs.Output.{Output}
+use Rattle.vx_sim.specs.SimState.{SimState}
+use Rattle.vx_model.specs.State.{Tables, is_idle, lives_as}
+use Rattle.vx_model.specs.One.{may_wait}
+use Rattle.vx_flow.specs.Event.{Event}
+use Rattle.vx_kernel.specs.CoreState.{CoreState}
+use Rattle.vx_play.specs.declared.note.Made.{Made}
+use Rattle.vx_play.specs.declared.note.Note.TheVariants as note
 use Rattle.vx_play.specs.declared.serve.Served.{Served}
 use Rattle.vx_play.specs.declared.serve.Served.TheVariants as served
-use Rattle.vx_play.specs.Meaning.{Meaning, Junk, record_of}
-use Rattle.vx_play.specs.Item.{Replied}
-use Rattle.vx_play.specs.Play.{MessageMakes}
+use Rattle.vx_play.specs.Gateway.{Gateway, gateway_of}
+use Rattle.vx_play.specs.Item.{bus_lines}
+use Rattle.vx_play.specs.Meaning.{Meaning, Junk, xid_by}
+use Rattle.vx_play.specs.Making.{MessageMakes}
+use Rattle.vx_play.specs.Standing.{note_line, moves_lines, NoteWithin}
 
--- a call may arrive: the connection lives, has no call pending, and is a core one where the call is served
-pub record IsRipe (s : State) (conn : ℕ) (asked : Call) : Type 0 where
-  pub core : is_served asked ≡ true → role_at s conn ≡ Some role.Core
-  pub idle : pending_at s conn ≡ None
+-- A step made this: events and a line such as the step makes, with the lines of its transfers, and with room for both
+pub record MadeBy (StepMakes : List Event → Option Output → Gateway → Type 0) (room : List ℕ) (made : Made) (after : CoreState SimState) : Type 0 where
+  pub group : List Event
+  pub makes : StepMakes group (note_line room made.note) (gateway_of after)
+  pub lines : flat_map bus_lines group ≡ moves_lines made.polled after.bus.means.moves
+  pub note : NoteWithin (length room) made.note
+  pub few : IsSome made.polled → length after.bus.means.moves ≤ ASK_MAX
 
--- what a message made, and the reply that stands in the room
-pub record Replies (before : State) (conn : ℕ) (meaning : Meaning) (reply : List ℕ) (after : State) : Type 0 where
-  pub group : List Entry
-  pub makes : MessageMakes before conn meaning group (Replied conn reply)
-  pub state : along one (Some before) group ≡ Some after
+-- a record for a connection stands at the front of the room
+pub record Tells (room : List ℕ) (conn : ℕ) (told : List ℕ) (made : Made) : Type 0 where
+  pub len : ℕ
+  pub some : 0 < len
+  pub within : len ≤ length room
+  pub record_is : take len room ≡ told
+  pub made_is : made ≡ record { polled = None; note = note.Replied conn len }
 
-abbrev pub Serves : State → ℕ → Meaning → List ℕ → Served → State → Type 0
-Serves before conn meaning reply served.Junk after = (meaning ≡ Junk) × (after ≡ before)
-Serves before conn meaning reply (served.Reply n) after = Replies before conn meaning (take n reply) after
+-- a call may come on the connection: one that the core keeps on a core connection without a call, a device_abort on an abort
+-- connection
+pub record IsRipe (t : Tables) (conn : ℕ) (asked : Call) : Type 0 where
+  pub idle : may_wait asked ≡ true → is_idle t conn ≡ true
+  pub abort : (lid : ℕ) → asked ≡ call.DeviceAbort lid → lives_as t conn role.Abort ≡ true
 
--- a reply lies within the room
-abbrev pub ServedWithin : Served → ℕ → Type 0
-ServedWithin served.Junk len = Unit {0}
-ServedWithin (served.Reply n) len = n ≤ len
-
--- the pending call was answered, and its reply stands in the room
-pub record Answers (before : State) (conn xid : ℕ) (reply : List ℕ) (len : ℕ) (after : State) : Type 0 where
-  pub given : Reply
-  pub entry : one before (Answer conn before.moment given) ≡ Some after
-  pub record_is : take len reply ≡ record_of (success_message xid ++ results given)
+-- what a message made, and the xid that its connection has from then on
+abbrev pub Serves : Gateway → ℕ → ℕ → Meaning → List ℕ → Served → CoreState SimState → Type 0
+Serves before conn now meaning room served.Junk after = (meaning ≡ Junk) × (gateway_of after ≡ before)
+Serves before conn now meaning room (served.Answered made) after =
+    MadeBy (MessageMakes before conn now meaning) room made after × ((last : ℕ) → xid_by meaning last ≡ last) × (meaning ≢ Junk)
+Serves before conn now meaning room (served.Called xid made) after =
+    MadeBy (MessageMakes before conn now meaning) room made after × ((last : ℕ) → xid_by meaning last ≡ xid)

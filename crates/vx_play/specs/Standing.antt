@@ -1,91 +1,114 @@
 -- A player that stands at a stage of a play, and what a step leaves of it.
-use Rattle.std.specs.Prelude.{◌≡◌, ◌≤◌, ℕ, List, length, take, Option, Some, None, IfSome}
+use Rattle.std.specs.Prelude.{◌≡◌, ◌≤◌, ◌<◌, ℕ, List, [], ◌∷◌, ◌++◌, length, take, Option, Some, None, IfSome, IsSome}
 use Rattle.vx_calls.specs.declared.calls.Role.{Role}
 use Rattle.vx_calls.specs.declared.limits.TheConstants.{RECORD_MAX}
-use Rattle.vx_record.specs.Buffer.{BufState, fresh, fed, taken}
-use Rattle.vx_record.specs.declared.Fed.{Fed}
+use Rattle.vx_488.specs.declared.transfers.Transfer.{Transfer}
+use Rattle.vx_bus.specs.declared.asks.TheConstants.{ASK_MAX}
+use Rattle.vx_record.specs.Buffer.{fresh, fed}
 use Rattle.vx_record.specs.declared.Feed.TheVariants.{More}
-use Rattle.vx_script.specs.Command.{Command, Up}
-use Rattle.vx_core.specs.State.{State, role_at, pending_at}
+use Rattle.vx_script.specs.Command.{Command, Up, Inst}
+use Rattle.vx_trace.specs.Output.{Output, Bus, Out, Irq, IrqNone, IrqClosed, WaitLock, WaitTurn, WaitHeld, WaitDial, GoneDown, GoneJunk, GoneLong}
+use Rattle.vx_kernel.specs.declared.ended.Why.{Why}
+use Rattle.vx_kernel.specs.declared.ended.Why.TheVariants as why
+use Rattle.vx_model.specs.State.{role_at}
+use Rattle.vx_play.specs.declared.streams.Incoming.{Incoming}
+use Rattle.vx_play.specs.declared.note.Gone.{Gone}
+use Rattle.vx_play.specs.declared.note.Gone.TheVariants as gone
+use Rattle.vx_play.specs.declared.note.Note.{Note}
+use Rattle.vx_play.specs.declared.note.Note.TheVariants as note
 use Rattle.vx_play.specs.declared.note.Made.{Made}
-use Rattle.vx_play.specs.declared.note.Made.TheVariants as made
 use Rattle.vx_play.specs.declared.note.Stop.{Stop}
 use Rattle.vx_play.specs.declared.note.Stop.TheVariants as stop
-use Rattle.vx_play.specs.Item.{Note, Nothing, Replied, Ended, Item}
-use Rattle.vx_play.specs.declared.note.Gone.TheVariants as gone
-use Rattle.vx_core.specs.Entry as entry
-use Rattle.vx_core.specs.One.{one}
-use Rattle.vx_play.specs.Meaning.{Junk, meaning}
-use Rattle.vx_play.specs.Serving.{Replies}
-use Rattle.vx_play.specs.Play.{Stage, Takes, refusal}
+use Rattle.vx_play.specs.Gateway.{gateway_of}
+use Rattle.vx_play.specs.Item.{Item, item_lines, noted}
+use Rattle.vx_play.specs.Stage.{Stage, tables_of, refusal}
+use Rattle.vx_play.specs.Play.{Takes}
+use Rattle.vx_play.specs.PlayerState.{PlayerState, incoming_at}
 
--- the buffer of a connection that lives holds the stream since its last whole record, and waits for more of it
-pub record HoldsStream (buffer : BufState) (stream : List ℕ) : Type 0 where
-  pub held : buffer ≡ fed (fresh RECORD_MAX) stream
-  pub waits : buffer.state ≡ More
+-- what is kept of a connection that lives: its buffer holds the stream since its last whole record and waits for more of it,
+-- and the last call that it kept has this xid
+pub record HoldsStream (kept : Incoming) (stream : List ℕ) (xid : ℕ) : Type 0 where
+  pub held : kept.buffer ≡ fed (fresh RECORD_MAX) stream
+  pub waits : kept.buffer.state ≡ More
+  pub called : kept.xid ≡ xid
 
-abbrev pub Holds : Option Role → Option BufState → List ℕ → Type 0
-Holds None buffer stream = buffer ≡ None
-Holds (Some role) None stream = ⊥
-Holds (Some role) (Some buffer) stream = HoldsStream buffer stream
+abbrev pub Holds : Option Role → Option Incoming → List ℕ → ℕ → Type 0
+Holds None kept stream xid = kept ≡ None
+Holds (Some role) None stream xid = ⊥
+Holds (Some role) (Some kept) stream xid = HoldsStream kept stream xid
 
--- a step may be taken: each buffer waits for more, and no call is pending
-pub record IsReady (core : State) (buffers : ℕ → Option BufState) : Type 0 where
-  pub waits : (conn : ℕ) → IfSome (buffers conn) (λ b. b.state ≡ More)
-  pub idle : (conn : ℕ) → pending_at core conn ≡ None
+-- the player is at the stage
+pub record Stands (player : PlayerState) (stage : Stage) : Type 0 where
+  pub gateway : gateway_of player.core ≡ stage.gateway
+  pub late : player.core.fine.state.moment ≤ player.moment
+  pub moment : player.moment ≡ stage.moment
+  pub rack : player.rack ≡ stage.rack
+  pub incoming : (conn : ℕ) → Holds (role_at (tables_of stage) conn) (incoming_at player.incoming conn) (stage.streams conn) (stage.xids conn)
 
--- a piece was fed to a connection's buffer
-pub record FeedsTo (old : Option BufState) (piece : List ℕ) (new : Option BufState) (result : Fed) : Type 0 where
-  pub buffer : BufState
-  pub was : old ≡ Some buffer
-  pub took : result.took ≡ taken buffer piece
-  pub within : result.took ≤ length piece
-  pub state : result.state ≡ (fed buffer piece).state
-  pub is : new ≡ Some (fed buffer piece)
+-- a step may be taken: each buffer waits for more, of a record up to the limit, and the core was told no later moment
+pub record IsReady (player : PlayerState) : Type 0 where
+  pub waits : (conn : ℕ) → IfSome (incoming_at player.incoming conn) (λ kept. kept.buffer.state ≡ More)
+  pub limits : (conn : ℕ) → IfSome (incoming_at player.incoming conn) (λ kept. kept.buffer.limit ≡ RECORD_MAX)
+  pub late : player.core.fine.state.moment ≤ player.moment
 
--- the core and the buffers of a player are those of the stage, and no call is pending
-pub record Stands (core : State) (buffers : ℕ → Option BufState) (stage : Stage) : Type 0 where
-  pub state : core ≡ stage.state
-  pub idle : (conn : ℕ) → pending_at stage.state conn ≡ None
-  pub streams : (conn : ℕ) → Holds (role_at stage.state conn) (buffers conn) (stage.streams conn)
+abbrev pub wait_line : ℕ → Why → Output
+wait_line conn (why.Locked by) = WaitLock conn by
+wait_line conn (why.Turn by) = WaitTurn conn by
+wait_line conn why.Held = WaitHeld conn
 
--- what there is to tell of a step whose reply stands in the room
-abbrev pub note_made : List ℕ → Made → Note
-note_made room made.Nothing = Nothing
-note_made room (made.Replied conn len) = Replied conn (take len room)
-note_made room (made.Ended conn how) = Ended conn how
+abbrev pub gone_line : ℕ → Gone → Output
+gone_line conn gone.Down = GoneDown conn
+gone_line conn gone.Junk = GoneJunk conn
+gone_line conn gone.Long = GoneLong conn
 
--- a reply lies within the room
-abbrev pub MadeWithin : ℕ → Made → Type 0
-MadeWithin len made.Nothing = Unit {0}
-MadeWithin len (made.Replied conn n) = n ≤ len
-MadeWithin len (made.Ended conn how) = Unit {0}
+-- the line of a note, whose record stands at the front of the room
+abbrev pub note_line : List ℕ → Note → Option Output
+note_line room note.Nothing = None
+note_line room (note.Replied conn len) = Some (Out conn (take len room))
+note_line room (note.Waiting conn why) = Some (wait_line conn why)
+note_line room (note.Dialing conn) = Some (WaitDial conn)
+note_line room (note.Interrupt conn len) = Some (Irq conn (take len room))
+note_line room (note.NoInterrupt conn) = Some (IrqNone conn)
+note_line room (note.NoChannel conn) = Some (IrqClosed conn)
+note_line room (note.Ended conn how) = Some (gone_line conn how)
 
--- a command was taken: the player stands at the next stage
-pub record TakesTo (before : Stage) (command : Command) (note : Note) (core : State) (buffers : ℕ → Option BufState) : Type 0 where
+-- the line of the transfers that a connection's poll made, where it made any
+abbrev pub moves_lines : Option ℕ → List Transfer → List Output
+moves_lines None moves = []
+moves_lines (Some conn) [] = []
+moves_lines (Some conn) (t ∷ ts) = Bus conn (t ∷ ts) ∷ []
+
+-- the lines of a step that made this
+abbrev pub made_lines : PlayerState → Made → List Output
+made_lines player made = moves_lines made.polled player.core.bus.means.moves ++ noted (note_line player.reply made.note)
+
+-- a record that a note tells of lies within the room, and isn't empty
+abbrev pub NoteWithin : ℕ → Note → Type 0
+NoteWithin room (note.Replied conn len) = (0 < len) × (len ≤ room)
+NoteWithin room (note.Interrupt conn len) = (0 < len) × (len ≤ room)
+NoteWithin room _ = Unit {0}
+
+-- there is room for the lines of a step that made this
+pub record IsPrintable (player : PlayerState) (made : Made) : Type 0 where
+  pub note : NoteWithin (length player.reply) made.note
+  pub few : IsSome made.polled → length player.core.bus.means.moves ≤ ASK_MAX
+
+-- a command was taken, with these lines: the player stands at the next stage
+pub record TakesTo (before : Stage) (command : Command) (lines : List Output) (player : PlayerState) : Type 0 where
   pub item : Item
   pub after : Stage
   pub command_is : item.command ≡ command
-  pub note_is : item.note ≡ note
+  pub lines_are : item_lines item ≡ lines
   pub takes : Takes before item after
-  pub stands : Stands core buffers after
+  pub stands : Stands player after
 
--- memory is wanted at an `up` alone, and where it isn't refused
-pub record WantsMemory (stage : Stage) (command : Command) : Type 0 where
-  pub conn : ℕ
-  pub role : Role
-  pub comes_up : command ≡ Up conn role
-  pub allowed : refusal stage command ≡ None
+-- where memory may be wanted: a connection comes up that isn't refused, or a table instrument is made
+abbrev pub WantsMemory : Stage → Command → Type 0
+WantsMemory s (Up conn r) = refusal s (Up conn r) ≡ None
+WantsMemory s (Inst p secondary text) = Unit {0}
+WantsMemory s _ = ⊥
 
 -- why a command isn't taken
 abbrev pub StopsFor : Stage → Command → Stop → Type 0
 StopsFor stage command (stop.Refused cause) = refusal stage command ≡ Some cause
 StopsFor stage command stop.NoMemory = WantsMemory stage command
-
--- what a whole record in a connection's buffer made: it ends the connection as junk, or is answered, and the buffer begins anew
-abbrev pub AnswersRecord : State → ℕ → Role → BufState → List ℕ → Option BufState → Made → State → Type 0
-AnswersRecord before conn role buffer room after_buffer made.Nothing after = ⊥
-AnswersRecord before conn role buffer room after_buffer (made.Replied n len) after =
-    (n ≡ conn) × (after_buffer ≡ Some (fresh buffer.limit)) × Replies before conn (meaning buffer.kept role) (take len room) after
-AnswersRecord before conn role buffer room after_buffer (made.Ended n how) after =
-    (n ≡ conn) × (how ≡ gone.Junk) × (after_buffer ≡ None) × (meaning buffer.kept role ≡ Junk) × (one before (entry.Down conn) ≡ Some after)

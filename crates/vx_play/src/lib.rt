@@ -1,16 +1,21 @@
 //! The player: a script of interleaved connections played through the gateway, every reply and transfer printed.
 #![tactic(auto)]
 
+mod bench;
 mod input;
-mod laws;
 mod lines;
 mod note;
 mod output;
+mod pieces;
 mod player;
 mod printer;
 mod record;
+#[cfg(test)]
+mod rows;
 mod run;
 mod serve;
+mod streams;
+mod table;
 #[cfg(test)]
 mod tests;
 

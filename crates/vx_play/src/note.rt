@@ -1,3 +1,6 @@
+ghost use Rattle.std.specs.Prelude.{◌≡◌, None};
+
+use vx_core::Why;
 use vx_script::Cause;
 
 /// How a connection ended.
@@ -11,14 +14,46 @@ pub enum Gone {
     Long,
 }
 
-/// What there is to tell of a step that was taken.
+/// What there is to tell of a step that was taken. A record is so many bytes at the front of the player's room.
 #[derive(Clone, Copy, Debug)]
-pub enum Made {
+pub enum Note {
     Nothing,
-    /// A reply to the connection: its record is so many bytes at the front of the player's room.
+    /// The record of a reply.
     Replied { conn: u32, len: usize },
+    /// The connection's call isn't answered yet.
+    Waiting { conn: u32, why: Why },
+    /// A dial is asked for, by the connection's call.
+    Dialing { conn: u32 },
+    /// The record of an interrupt call that was taken.
+    Interrupt { conn: u32, len: usize },
+    /// No interrupt waits on the connection's channel.
+    NoInterrupt { conn: u32 },
+    /// The connection has no channel.
+    NoChannel { conn: u32 },
     /// The connection ended.
     Ended { conn: u32, how: Gone },
+}
+
+/// What a step made: the connection whose call was polled, where one was, and what there is to tell.
+#[derive(Clone, Copy, Debug)]
+pub struct Made {
+    pub polled: Option<u32>,
+    pub note: Note,
+}
+
+impl Made {
+    /// Nothing to tell.
+    pub const QUIET: Made = Made {
+        polled: None,
+        note: Note::Nothing,
+    };
+
+    /// No call was polled, and this is to be told.
+    pub fn of(note: Note) -> Made
+        ensures { result ≡ record { polled = None; note = note } }
+    {
+        Made { polled: None, note }
+    }
 }
 
 /// Why a step isn't taken.

@@ -1,148 +1,168 @@
-//! The player: the core, and of each connection the record that comes in.
-ghost use Rattle.std.specs.Prelude.{◌≡◌, ◌≢◌, ℕ, ◌≤◌, ◌<◌, length, None, Some, IfOk, IfErr, IfSome, IfNone, IsSome, OnOk, vec_len};
-ghost use Rattle.std.specs.Ordering.{nat_cmp};
-ghost use Rattle.std.specs.BTreeMap.{get};
+//! The player: the core over a simulated bus, and of each connection what comes in.
+ghost use Rattle.std.specs.Prelude.{◌≡◌, ◌≢◌, ℕ, ◌≤◌, ◌<◌, length, true, false, option_map, position, None, Some, IfOk, IfErr, IfSome, IfNone, IsSome, OnOk, map};
+ghost use Rattle.std.specs.Str.{bytes_eq};
 ghost use Rattle.vx_calls.specs.declared.calls.Role.TheVariants as role;
-ghost use Rattle.vx_script.specs.Command.{Up, In, Down, step_shown};
-ghost use Rattle.vx_script.specs.Plain.{IsPlainStep};
-ghost use Rattle.vx_record.specs.Buffer.{BufState, fresh};
-ghost use Rattle.vx_core.specs.State.{role_at, pending_at};
-ghost use Rattle.vx_core.specs.Entry as entry;
-ghost use Rattle.vx_core.specs.One.{one};
+ghost use Rattle.vx_script.specs.Command.{Command, Up, In, Down, At, Poll, Sample, Take, Dial, Inst, Plug, Pull, Set, Fail, step_shown};
+ghost use Rattle.vx_script.specs.Plain.{IsPlainStep, IsAddress};
+ghost use Rattle.vx_script.specs.Words.{is_name};
+ghost use Rattle.vx_model.specs.State.{role_at, lives_as, pending_at};
 ghost use Rattle.vx_play.specs.declared.record.TheConstants.{REPLY_ROOM};
-ghost use Rattle.vx_play.specs.Play.{Stage, beginning};
-ghost use Rattle.vx_play.specs.Told.{told_note, IsPrintable};
-ghost use Rattle.vx_play.specs.Standing.{IsReady, Stands, MadeWithin, FeedsTo, TakesTo, StopsFor, AnswersRecord, note_made};
+ghost use Rattle.vx_play.specs.declared.streams.Incoming.{Incoming};
+ghost use Rattle.vx_play.specs.Stage.{Stage, SpareShown, beginning, cause_of};
+ghost use Rattle.vx_play.specs.PlayerState.{PlayerState, incoming_at};
+ghost use Rattle.vx_play.specs.Spares.{spare_shown};
+ghost use Rattle.vx_play.specs.Standing.{IsReady, Stands, IsPrintable, TakesTo, StopsFor, made_lines};
 
+use crate::bench;
 use crate::input::zeros;
-use crate::note::{Gone, Made, Stop};
-use crate::printer::Told;
-use crate::record::REPLY_ROOM;
-use crate::serve::{Served, serve};
+use crate::note::{Gone, Made, Note, Stop};
+use crate::pieces::{end, feed_piece};
+use crate::record::{REPLY_ROOM, put_srq_record};
+use crate::serve::{poll_call, succeed};
+use crate::streams::{self, Incoming};
+use crate::table::table_of;
 use std::alloc::{AllocError, Global};
 use std::collections::BTreeMap;
-use vx_calls::{RECORD_MAX, Role};
+use std::marker::Model;
+use vx_488::{Addr, Transfer};
+use vx_calls::{ReplyRef, Role, Taken};
 use vx_core::{Connect, Core};
-use vx_record::{Fed, Feed, RecordBuf};
+use vx_inst::Instrument;
+use vx_rack::Spare;
 use vx_script::{Cause, Step};
+use vx_sim::{Attach, SimBus};
 
 /// The port of the abort channel that a played gateway tells.
 pub const ABORT_PORT: u16 = 9011;
 
 /// Plays steps, one after the other.
 #[derive(Drop)]
-pub struct Player {
-    pub core: Core,
-    pub buffers: BTreeMap<u32, RecordBuf>,
-    pub reply: Vec<u8>,
-    ghost roomy: { vec_len reply ≡ REPLY_ROOM },
+pub struct Player<I: Instrument> {
+    core: Core<SimBus<I>>,
+    incoming: BTreeMap<u32, Incoming>,
+    reply: Vec<u8>,
+    rack: Vec<Spare<I>>,
+    // milliseconds
+    moment: u64,
 }
 
-impl Player {
-    /// A player of a gateway with nothing in it.
-    pub fn new(alloc: Global) -> Result<Player, AllocError>
-        ensures { IfOk result (λ p. Stands p.core (λ n. get nat_cmp p.buffers n) beginning) }
+impl<I: Instrument> Model for Player<I> {
+    ghost use Rattle.std.specs.Prelude.{◌≡◌, length, map};
+    ghost use Rattle.vx_play.specs.declared.record.TheConstants.{REPLY_ROOM};
+    ghost use Rattle.vx_play.specs.PlayerState.{PlayerState};
+    ghost use Rattle.vx_play.specs.Spares.{spare_shown};
+
+    ghost Value = { PlayerState };
+
+    ghost view = { λ p. record {
+      core = p.core;
+      incoming = p.incoming.entries;
+      reply = p.reply.items;
+      rack = map (spare_shown (λ i. I.view i)) p.rack.items;
+      moment = p.moment;
+    } };
+
+    ghost invariant = { λ p. length p.reply.items ≡ REPLY_ROOM };
+}
+
+impl<I: Instrument> Player<I> {
+    /// A player of a gateway with nothing in it, over a bus with nothing on it, and with these spare instruments.
+    pub fn new(alloc: Global, rack: Vec<Spare<I>>) -> Result<Player<I>, AllocError>
+        ensures { IfOk result (λ p. Stands p (beginning (map (spare_shown (λ i. I.view i)) rack.items))) }
     {
         let reply = zeros(alloc, REPLY_ROOM)?;
-        match Core::start(alloc, ABORT_PORT) {
+        let Ok(bus) = SimBus::new(alloc) else {
+            return Err(AllocError);
+        };
+        match Core::start(alloc, bus, ABORT_PORT) {
             Ok(core) => Ok(Player {
                 core,
-                buffers: BTreeMap::new(alloc),
+                incoming: BTreeMap::new(alloc),
                 reply,
+                rack,
+                moment: 0,
             }),
             Err(_) => Err(AllocError),
         }
     }
 
-    /// What there is to tell of the step that was taken last.
-    pub fn told(&self, made: Made) -> Told<'_>
-        requires { MadeWithin (vec_len self.now.reply) made }
-        ensures note { told_note result ≡ note_made self.now.reply.items made }
-        ensures printable { IsPrintable result }
+    /// The transfers of the last step that reached the core, in order.
+    pub fn moves(&self) -> &[Transfer]
+        ensures { result.now ≡ self.now.core.bus.means.moves }
     {
-        match made {
-            Made::Nothing => Told::Nothing,
-            Made::Replied { conn, len } => Told::Replied {
-                conn,
-                reply: &self.reply[..len],
-            },
-            Made::Ended { conn, how } => Told::Ended { conn, how },
-        }
+        self.core.moves()
     }
 
-    /// Takes a step, and tells what it made; or says why it isn't taken. The steps of other lines than `up C core`, `in`
-    /// and `down` aren't played yet: they are refused as `Form`.
+    /// The room, with the record of the last reply or interrupt call at its front.
+    pub fn room(&self) -> &[u8]
+        ensures value { result.now ≡ self.now.reply }
+        ensures len { length result.now ≡ REPLY_ROOM }
+    {
+        self.reply.as_slice()
+    }
+
+    /// Takes a step, and tells what it made; or says why it isn't taken.
     pub fn step(&mut self, alloc: Global, step: &Step<'_>) -> Result<Made, Stop>
         requires plain { IsPlainStep step.now }
-        requires ready { IsReady self.old.core (λ n. get nat_cmp self.old.buffers n) }
-        ensures taken { IfOk result (λ made. (stage : Stage) → Stands self.old.core (λ n. get nat_cmp self.old.buffers n) stage
-            → TakesTo stage (step_shown step.now) (note_made self.new.reply.items made) self.new.core (λ n. get nat_cmp self.new.buffers n)) }
-        ensures stopped { IfErr result (λ stop. (stage : Stage) → Stands self.old.core (λ n. get nat_cmp self.old.buffers n) stage
-            → StopsFor stage (step_shown step.now) stop) }
-        ensures within { IfOk result (MadeWithin (vec_len self.new.reply)) }
+        requires ready { IsReady self.old }
+        ensures taken { IfOk result (λ made. (stage : Stage) → Stands self.old stage → TakesTo stage (step_shown step.now) (made_lines self.new made) self.new) }
+        ensures stopped { IfErr result (λ stop. (stage : Stage) → Stands self.old stage → StopsFor stage (step_shown step.now) stop) }
+        ensures printable { IfOk result (IsPrintable self.new) }
     {
         match *step {
             Step::Up { conn, role } => self.up(alloc, conn, role),
             Step::In { conn, bytes } => self.piece(conn, bytes),
             Step::Down { conn } => self.down(conn),
-            _ => Err(Stop::Refused(Cause::Form)),
+            Step::At(moment) => Ok(self.at(moment)),
+            Step::Poll { conn } => self.poll(conn),
+            Step::Sample => Ok(self.sample()),
+            Step::Take { conn } => self.take(conn),
+            Step::Dial { conn, up } => self.dial(conn, up),
+            Step::Inst { p, s, text } => self.inst(alloc, p, s, text),
+            Step::Plug { p, s, name } => self.plug(p, s, name),
+            Step::Pull { p, s } => self.pull(p, s),
+            Step::Set { p, s, b } => self.set(p, s, b),
+            Step::Fail(n) => Ok(self.fail(n)),
         }
     }
 }
 
-impl Player {
-    /// A connection comes up, if it is a core one.
+// The streams of connections.
+impl<I: Instrument> Player<I> {
+    /// A connection comes up.
     fn up(&mut self, alloc: Global, conn: u32, role: Role) -> Result<Made, Stop>
-        ensures taken { IfOk result (λ made. (stage : Stage) → Stands self.old.core (λ n. get nat_cmp self.old.buffers n) stage
-            → TakesTo stage (Up conn role) (note_made self.new.reply.items made) self.new.core (λ n. get nat_cmp self.new.buffers n)) }
-        ensures stopped { IfErr result (λ stop. (stage : Stage) → Stands self.old.core (λ n. get nat_cmp self.old.buffers n) stage
-            → StopsFor stage (Up conn role) stop) }
-        ensures within { IfOk result (MadeWithin (vec_len self.new.reply)) }
-    {
-        match role {
-            Role::Core => self.core_up(alloc, conn),
-            Role::Abort => Err(Stop::Refused(Cause::Form)),
-        }
-    }
-
-    /// A core connection comes up.
-    fn core_up(&mut self, alloc: Global, conn: u32) -> Result<Made, Stop>
-        ensures taken { IfOk result (λ made. (stage : Stage) → Stands self.old.core (λ n. get nat_cmp self.old.buffers n) stage
-            → TakesTo stage (Up conn role.Core) (note_made self.new.reply.items made) self.new.core (λ n. get nat_cmp self.new.buffers n)) }
-        ensures stopped { IfErr result (λ stop. (stage : Stage) → Stands self.old.core (λ n. get nat_cmp self.old.buffers n) stage
-            → StopsFor stage (Up conn role.Core) stop) }
-        ensures within { IfOk result (MadeWithin (vec_len self.new.reply)) }
+        requires ready { IsReady self.old }
+        ensures taken { IfOk result (λ made. (stage : Stage) → Stands self.old stage → TakesTo stage (Up conn role) (made_lines self.new made) self.new) }
+        ensures stopped { IfErr result (λ stop. (stage : Stage) → Stands self.old stage → StopsFor stage (Up conn role) stop) }
+        ensures printable { IfOk result (IsPrintable self.new) }
     {
         if conn != self.core.next_number() {
             return Err(Stop::Refused(Cause::Number));
         }
-        match self.core.connect(alloc, Role::Core) {
+        match self.core.connect(alloc, role) {
             Ok(_) => {}
             Err(Connect::Full) => return Err(Stop::Refused(Cause::Full)),
             Err(Connect::NoMemory) => return Err(Stop::NoMemory),
         }
-        match keep_buffer(alloc, &mut self.buffers, conn) {
-            Ok(()) => Ok(Made::Nothing),
-            Err(_) => Err(Stop::NoMemory),
-        }
+        streams::begin(alloc, &mut self.incoming, conn)?;
+        Ok(Made::QUIET)
     }
 
     /// A connection goes down.
     fn down(&mut self, conn: u32) -> Result<Made, Stop>
-        ensures taken { IfOk result (λ made. (stage : Stage) → Stands self.old.core (λ n. get nat_cmp self.old.buffers n) stage
-            → TakesTo stage (Down conn) (note_made self.new.reply.items made) self.new.core (λ n. get nat_cmp self.new.buffers n)) }
-        ensures stopped { IfErr result (λ stop. (stage : Stage) → Stands self.old.core (λ n. get nat_cmp self.old.buffers n) stage
-            → StopsFor stage (Down conn) stop) }
-        ensures within { IfOk result (MadeWithin (vec_len self.new.reply)) }
+        requires ready { IsReady self.old }
+        ensures taken { IfOk result (λ made. (stage : Stage) → Stands self.old stage → TakesTo stage (Down conn) (made_lines self.new made) self.new) }
+        ensures stopped { IfErr result (λ stop. (stage : Stage) → Stands self.old stage → StopsFor stage (Down conn) stop) }
+        ensures printable { IfOk result (IsPrintable self.new) }
     {
         match self.core.role(conn) {
             None => Err(Stop::Refused(Cause::Conn)),
             Some(_) => {
-                end(&mut self.core, &mut self.buffers, conn);
-                Ok(Made::Ended {
+                end(&mut self.core, &mut self.incoming, conn);
+                Ok(Made::of(Note::Ended {
                     conn,
                     how: Gone::Down,
-                })
+                }))
             }
         }
     }
@@ -150,107 +170,219 @@ impl Player {
     /// A piece of a connection's stream comes.
     fn piece(&mut self, conn: u32, bytes: &[u8]) -> Result<Made, Stop>
         requires bytes { 0 < length bytes.now }
-        requires ready { IsReady self.old.core (λ n. get nat_cmp self.old.buffers n) }
-        ensures taken { IfOk result (λ made. (stage : Stage) → Stands self.old.core (λ n. get nat_cmp self.old.buffers n) stage
-            → TakesTo stage (In conn bytes.now) (note_made self.new.reply.items made) self.new.core (λ n. get nat_cmp self.new.buffers n)) }
-        ensures stopped { IfErr result (λ stop. (stage : Stage) → Stands self.old.core (λ n. get nat_cmp self.old.buffers n) stage
-            → StopsFor stage (In conn bytes.now) stop) }
-        ensures within { IfOk result (MadeWithin (vec_len self.new.reply)) }
+        requires ready { IsReady self.old }
+        ensures taken { IfOk result (λ made. (stage : Stage) → Stands self.old stage → TakesTo stage (In conn bytes.now) (made_lines self.new made) self.new) }
+        ensures stopped { IfErr result (λ stop. (stage : Stage) → Stands self.old stage → StopsFor stage (In conn bytes.now) stop) }
+        ensures printable { IfOk result (IsPrintable self.new) }
     {
         let Some(role) = self.core.role(conn) else {
             return Err(Stop::Refused(Cause::Conn));
         };
-        match feed(&mut self.buffers, conn, bytes) {
-            None => Err(Stop::Refused(Cause::Conn)),
-            Some(fed) if fed.took < bytes.len() => Err(Stop::Refused(Cause::After)),
-            Some(fed) => Ok(match fed.state {
-                Feed::More => Made::Nothing,
-                Feed::Whole => answer(
-                    &mut self.core,
-                    &mut self.buffers,
-                    conn,
-                    role,
-                    &mut self.reply,
-                ),
-                Feed::TooLong => {
-                    end(&mut self.core, &mut self.buffers, conn);
-                    Made::Ended {
-                        conn,
-                        how: Gone::Long,
-                    }
-                }
-            }),
+        if self.core.pending(conn) {
+            return Err(Stop::Refused(Cause::Busy));
         }
+        feed_piece(
+            &mut self.core,
+            &mut self.incoming,
+            conn,
+            role,
+            bytes,
+            self.moment,
+            &mut self.reply,
+        )
     }
 }
 
-/// A connection ends.
-fn end(core: &mut Core, buffers: &mut BTreeMap<u32, RecordBuf>, conn: u32)
-    requires { IsSome (role_at core.old conn) }
-    ensures core { one core.old (entry.Down conn) ≡ Some core.new }
-    ensures gone { get nat_cmp buffers.new conn ≡ None }
-    ensures others { (n : ℕ) → n ≢ conn → get nat_cmp buffers.new n ≡ get nat_cmp buffers.old n }
-{
-    core.disconnect(conn);
-    let _ = buffers.remove(&conn);
-}
-
-/// Answers the whole record that came on a connection.
-fn answer(
-    core: &mut Core,
-    buffers: &mut BTreeMap<u32, RecordBuf>,
-    conn: u32,
-    role: Role,
-    reply: &mut [u8],
-) -> Made
-    requires lives { role_at core.old conn ≡ Some role }
-    requires idle { pending_at core.old conn ≡ None }
-    requires whole { IfSome (get nat_cmp buffers.old conn) (λ b. b.state ≡ Feed.Whole) }
-    requires room { REPLY_ROOM ≤ length reply.old }
-    ensures answered { (b : BufState) → get nat_cmp buffers.old conn ≡ Some b → AnswersRecord core.old conn role b reply.new
-        (get nat_cmp buffers.new conn) result core.new }
-    ensures within { MadeWithin (length reply.new) result }
-    ensures others { (n : ℕ) → n ≢ conn → get nat_cmp buffers.new n ≡ get nat_cmp buffers.old n }
-{
-    let Some(buffer) = buffers.get_mut(&conn) else {
-        return Made::Nothing;
-    };
-    match serve(core, conn, role, buffer.whole(), reply) {
-        Served::Reply(len) => {
-            buffer.next();
-            Made::Replied { conn, len }
+// The calls that wait, service requests, and moments.
+impl<I: Instrument> Player<I> {
+    /// Why a step of a core connection isn't taken, where it lives not as one.
+    fn core_only(&self, conn: u32) -> Result<(), Stop>
+        ensures ok { OnOk result (lives_as self.now.core.fine.state.tables conn role.Core ≡ true) }
+        ensures err { IfErr result (λ stop. (stop ≡ Stop.Refused Cause.Conn) × (lives_as self.now.core.fine.state.tables conn role.Core ≡ false)) }
+    {
+        match self.core.role(conn) {
+            Some(Role::Core) => Ok(()),
+            _ => Err(Stop::Refused(Cause::Conn)),
         }
-        Served::Junk => {
-            end(core, buffers, conn);
-            Made::Ended {
-                conn,
-                how: Gone::Junk,
+    }
+
+    /// The xid of the last call that a connection kept.
+    fn xid(&self, conn: u32) -> u32
+        ensures { IfSome (incoming_at self.now.incoming conn) (λ kept. result ≡ kept.xid) }
+    {
+        match self.incoming.get(&conn) {
+            Some(kept) => kept.xid,
+            None => 0,
+        }
+    }
+
+    /// The moment of the next steps comes, where it is later.
+    fn at(&mut self, moment: u64) -> Made
+        requires ready { IsReady self.old }
+        ensures taken { (stage : Stage) → Stands self.old stage → TakesTo stage (At moment) (made_lines self.new result) self.new }
+        ensures printable { IsPrintable self.new result }
+    {
+        self.moment = self.moment.max(moment);
+        Made::QUIET
+    }
+
+    /// A connection's call is polled.
+    fn poll(&mut self, conn: u32) -> Result<Made, Stop>
+        requires ready { IsReady self.old }
+        ensures taken { IfOk result (λ made. (stage : Stage) → Stands self.old stage → TakesTo stage (Poll conn) (made_lines self.new made) self.new) }
+        ensures stopped { IfErr result (λ stop. (stage : Stage) → Stands self.old stage → StopsFor stage (Poll conn) stop) }
+        ensures printable { IfOk result (IsPrintable self.new) }
+    {
+        self.core_only(conn)?;
+        if !self.core.pending(conn) {
+            return Err(Stop::Refused(Cause::Idle));
+        }
+        let xid = self.xid(conn);
+        Ok(poll_call(&mut self.core, conn, xid, self.moment, &mut self.reply))
+    }
+
+    /// The SRQ line is looked at.
+    fn sample(&mut self) -> Made
+        requires ready { IsReady self.old }
+        ensures taken { (stage : Stage) → Stands self.old stage → TakesTo stage Sample (made_lines self.new result) self.new }
+        ensures printable { IsPrintable self.new result }
+    {
+        self.core.sample(self.moment);
+        Made::QUIET
+    }
+
+    /// An interrupt is taken from a connection's channel.
+    fn take(&mut self, conn: u32) -> Result<Made, Stop>
+        requires ready { IsReady self.old }
+        ensures taken { IfOk result (λ made. (stage : Stage) → Stands self.old stage → TakesTo stage (Take conn) (made_lines self.new made) self.new) }
+        ensures stopped { IfErr result (λ stop. (stage : Stage) → Stands self.old stage → StopsFor stage (Take conn) stop) }
+        ensures printable { IfOk result (IsPrintable self.new) }
+    {
+        self.core_only(conn)?;
+        let Some(chan) = self.core.channel(conn) else {
+            return Ok(Made::of(Note::NoChannel { conn }));
+        };
+        match self.core.take_interrupt(conn, chan) {
+            Taken::Srq(interrupt) => {
+                let len = put_srq_record(&interrupt, &mut self.reply);
+                Ok(Made::of(Note::Interrupt { conn, len }))
             }
+            Taken::Empty => Ok(Made::of(Note::NoInterrupt { conn })),
+            Taken::Gone => Ok(Made::of(Note::NoChannel { conn })),
         }
     }
-}
 
-/// Takes a piece of a connection's stream into its buffer.
-fn feed(buffers: &mut BTreeMap<u32, RecordBuf>, conn: u32, piece: &[u8]) -> Option<Fed>
-    requires { IfSome (get nat_cmp buffers.old conn) (λ b. b.state ≡ Feed.More) }
-    ensures fed { IfSome result (FeedsTo (get nat_cmp buffers.old conn) piece.now (get nat_cmp buffers.new conn)) }
-    ensures none { IfNone result (get nat_cmp buffers.old conn ≡ None) }
-    ensures others { (n : ℕ) → n ≢ conn → get nat_cmp buffers.new n ≡ get nat_cmp buffers.old n }
-{
-    let buffer = buffers.get_mut(&conn)?;
-    Some(buffer.feed(piece))
-}
-
-/// Makes the buffer of a connection that came up.
-fn keep_buffer(alloc: Global, buffers: &mut BTreeMap<u32, RecordBuf>, conn: u32) -> Result<(), Stop>
-    ensures here { OnOk result (get nat_cmp buffers.new conn ≡ Some (fresh RECORD_MAX)) }
-    ensures others { OnOk result ((n : ℕ) → n ≢ conn → get nat_cmp buffers.new n ≡ get nat_cmp buffers.old n) }
-{
-    let Ok(buffer) = RecordBuf::new(alloc, RECORD_MAX) else {
-        return Err(Stop::NoMemory);
-    };
-    match buffers.insert(conn, buffer) {
-        Ok(_) => Ok(()),
-        Err(_) => Err(Stop::NoMemory),
+    /// The dial that a connection's call asked for came up, or failed.
+    fn dial(&mut self, conn: u32, up: bool) -> Result<Made, Stop>
+        requires ready { IsReady self.old }
+        ensures taken { IfOk result (λ made. (stage : Stage) → Stands self.old stage → TakesTo stage (Dial conn up) (made_lines self.new made) self.new) }
+        ensures stopped { IfErr result (λ stop. (stage : Stage) → Stands self.old stage → StopsFor stage (Dial conn up) stop) }
+        ensures printable { IfOk result (IsPrintable self.new) }
+    {
+        self.core_only(conn)?;
+        if !self.core.dialing(conn) {
+            return Err(Stop::Refused(Cause::Idle));
+        }
+        let xid = self.xid(conn);
+        let error = self.core.settle(conn, up, self.moment).error;
+        Ok(succeed(conn, xid, &ReplyRef::Error { error }, &mut self.reply))
     }
+}
+
+/// Why an instrument isn't attached, as a step is refused.
+fn refused_for(why: Attach) -> Stop
+    ensures { Some result ≡ option_map (λ cause. Stop.Refused cause) (cause_of (Some why)) }
+{
+    Stop::Refused(match why {
+        Attach::OwnAddress => Cause::Own,
+        Attach::Taken { .. } => Cause::Taken,
+        Attach::Full => Cause::Bench,
+    })
+}
+
+// What hangs on the bus.
+impl<I: Instrument> Player<I> {
+    /// A table instrument is made of a JSON text and attached.
+    fn inst(&mut self, alloc: Global, p: u8, s: Option<u8>, text: &[u8]) -> Result<Made, Stop>
+        requires address { IsAddress p s }
+        requires ready { IsReady self.old }
+        ensures taken { IfOk result (λ made. (stage : Stage) → Stands self.old stage → TakesTo stage (Inst p s text.now) (made_lines self.new made) self.new) }
+        ensures stopped { IfErr result (λ stop. (stage : Stage) → Stands self.old stage → StopsFor stage (Inst p s text.now) stop) }
+        ensures printable { IfOk result (IsPrintable self.new) }
+    {
+        let inst = table_of(alloc, text)?;
+        let mut act = bench::AttachTable::new(Addr { p, s }, inst);
+        match self.core.tweak(&mut act) {
+            None => Ok(Made::QUIET),
+            Some(why) => Err(refused_for(why)),
+        }
+    }
+
+    /// The first spare instrument of a name is attached.
+    fn plug(&mut self, p: u8, s: Option<u8>, name: &[u8]) -> Result<Made, Stop>
+        requires address { IsAddress p s }
+        requires ready { IsReady self.old }
+        ensures taken { IfOk result (λ made. (stage : Stage) → Stands self.old stage → TakesTo stage (Plug p s name.now) (made_lines self.new made) self.new) }
+        ensures stopped { IfErr result (λ stop. (stage : Stage) → Stands self.old stage → StopsFor stage (Plug p s name.now) stop) }
+        ensures printable { IfOk result (IsPrintable self.new) }
+    {
+        let Some(place) = spare_place(&self.rack, name) else {
+            return Err(Stop::Refused(Cause::Spare));
+        };
+        let spare = self.rack.remove(place);
+        let mut act = bench::AttachSpare::new(Addr { p, s }, spare.inst);
+        match self.core.tweak(&mut act) {
+            None => Ok(Made::QUIET),
+            Some(why) => Err(refused_for(why)),
+        }
+    }
+
+    /// An instrument is taken off the bus.
+    fn pull(&mut self, p: u8, s: Option<u8>) -> Result<Made, Stop>
+        requires address { IsAddress p s }
+        requires ready { IsReady self.old }
+        ensures taken { IfOk result (λ made. (stage : Stage) → Stands self.old stage → TakesTo stage (Pull p s) (made_lines self.new made) self.new) }
+        ensures stopped { IfErr result (λ stop. (stage : Stage) → Stands self.old stage → StopsFor stage (Pull p s) stop) }
+        ensures printable { IfOk result (IsPrintable self.new) }
+    {
+        if self.core.tweak(&mut bench::Pull::new(Addr { p, s })) {
+            Ok(Made::QUIET)
+        } else {
+            Err(Stop::Refused(Cause::Absent))
+        }
+    }
+
+    /// An instrument gets a status byte.
+    fn set(&mut self, p: u8, s: Option<u8>, b: u8) -> Result<Made, Stop>
+        requires ready { IsReady self.old }
+        ensures taken { IfOk result (λ made. (stage : Stage) → Stands self.old stage → TakesTo stage (Set p s b) (made_lines self.new made) self.new) }
+        ensures stopped { IfErr result (λ stop. (stage : Stage) → Stands self.old stage → StopsFor stage (Set p s b) stop) }
+        ensures printable { IfOk result (IsPrintable self.new) }
+    {
+        let at = Addr { p, s };
+        if self.core.tweak(&mut bench::SetStatus { at, b }) {
+            Ok(Made::QUIET)
+        } else {
+            Err(Stop::Refused(Cause::Absent))
+        }
+    }
+
+    /// The moving call of the bus of this number, counted from now, fails.
+    fn fail(&mut self, n: u32) -> Made
+        requires count { 1 ≤ n }
+        requires ready { IsReady self.old }
+        ensures taken { (stage : Stage) → Stands self.old stage → TakesTo stage (Fail n) (made_lines self.new result) self.new }
+        ensures printable { IsPrintable self.new result }
+    {
+        self.core.tweak(&mut bench::FailAfter::new(n));
+        Made::QUIET
+    }
+}
+
+/// Where the first spare of a name stands.
+fn spare_place<I: Instrument>(rack: &[Spare<I>], name: &[u8]) -> Option<usize>
+    ensures { result ≡ position (λ spare. bytes_eq spare.name.bytes name.now) rack.now }
+{
+    rack.iter()
+        .position(|spare| spare.name.as_str().as_bytes() == name)
 }

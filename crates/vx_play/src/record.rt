@@ -1,15 +1,17 @@
-//! The records of replies, each as one fragment.
+//! The records that the gateway sends, each as one fragment.
 ghost use Rattle.std.specs.Prelude.{◌≡◌, ◌+◌, ◌≤◌, ◌<◌, ◌^◌, ◌++◌, IsTrue, length, take, drop};
 ghost use Rattle.vx_calls.specs.Reply.{reply_shown};
 ghost use Rattle.vx_rpc.specs.Sorting.{is_sent};
-ghost use Rattle.vx_rpc.specs.Wording.{success_message, refusal_message};
+ghost use Rattle.vx_rpc.specs.Wording.{success_message, refusal_message, call_message};
+ghost use Rattle.vx_xdr.specs.Spelling.{opaque};
+ghost use Rattle.vx_srq.specs.Shown.{handle_shown};
 ghost use Rattle.vx_codec.specs.Answered.{results, IsPuttableReply};
-ghost use Rattle.vx_play.specs.Meaning.{record_of};
+ghost use Rattle.vx_play.specs.Meaning.{record_of, reply_record, srq_record, intr_srq};
 
-use vx_calls::{RECORD_MAX, ReplyRef};
-use vx_codec::put_results;
+use vx_calls::{Interrupt, RECORD_MAX, ReplyRef};
+use vx_codec::{put_results, put_srq};
 use vx_record::mark;
-use vx_rpc::{RpcRefusal, put_refusal, put_reply};
+use vx_rpc::{RpcRefusal, put_call, put_refusal, put_reply};
 
 /// The longest record of a reply, its mark included, in bytes.
 pub const REPLY_ROOM: usize = RECORD_MAX + 4;
@@ -19,7 +21,9 @@ fn close_record(reply: &mut [u8], len: usize) -> usize
     requires fits { len + 4 ≤ length reply.old }
     requires short { len < 2 ^ 31 }
     ensures record { take result reply.new ≡ record_of (take len (drop 4 reply.old)) }
+    ensures some { 0 < result }
     ensures within { result ≤ length reply.new }
+    ensures len { length reply.new ≡ length reply.old }
 {
     reply[..4].copy_from_slice(&mark(len as u32));
     len + 4
@@ -30,7 +34,9 @@ pub fn put_refusal_record(xid: u32, refusal: RpcRefusal, reply: &mut [u8]) -> us
     requires sent { IsTrue (is_sent refusal) }
     requires room { REPLY_ROOM ≤ length reply.old }
     ensures record { take result reply.new ≡ record_of (refusal_message xid refusal) }
+    ensures some { 0 < result }
     ensures within { result ≤ length reply.new }
+    ensures len { length reply.new ≡ length reply.old }
 {
     match put_refusal(xid, refusal, &mut reply[4..]) {
         Ok(len) => close_record(reply, len),
@@ -59,9 +65,43 @@ pub fn put_success_record(xid: u32, answer: &ReplyRef<'_>, reply: &mut [u8]) -> 
     requires puttable { IsPuttableReply (reply_shown answer.now) }
     requires short { 24 + length (results (reply_shown answer.now)) ≤ RECORD_MAX }
     requires room { REPLY_ROOM ≤ length reply.old }
-    ensures record { take result reply.new ≡ record_of (success_message xid ++ results (reply_shown answer.now)) }
+    ensures record { take result reply.new ≡ reply_record xid (reply_shown answer.now) }
+    ensures some { 0 < result }
     ensures within { result ≤ length reply.new }
+    ensures len { length reply.new ≡ length reply.old }
 {
     let len = put_success(xid, answer, &mut reply[4..]);
+    close_record(reply, len)
+}
+
+/// The procedure of an interrupt call (VXI-11, device_intr_srq).
+const INTR_SRQ: u32 = 30;
+
+/// Writes the message of an interrupt call, and answers how long it is.
+fn put_srq_message(interrupt: &Interrupt, out: &mut [u8]) -> usize
+    requires { 84 ≤ length out.old }
+    ensures message { take result out.new ≡ call_message interrupt.now.xid interrupt.now.prog interrupt.now.vers intr_srq ++ opaque (handle_shown interrupt.now.handle) }
+    ensures within { result ≤ 84 }
+{
+    // a handle has at most 40 bytes
+    let _ = interrupt.handle.bytes.len();
+    let Ok(head) = put_call(interrupt.xid, interrupt.prog, interrupt.vers, INTR_SRQ, out) else {
+        unreachable!()
+    };
+    let Ok(body) = put_srq(&interrupt.handle, &mut out[head..]) else {
+        unreachable!()
+    };
+    head + body
+}
+
+/// Writes the record of an interrupt call, and answers how long it is.
+pub fn put_srq_record(interrupt: &Interrupt, reply: &mut [u8]) -> usize
+    requires { REPLY_ROOM ≤ length reply.old }
+    ensures record { take result reply.new ≡ srq_record (record { xid = interrupt.now.xid; program = interrupt.now.prog; version = interrupt.now.vers; handle = handle_shown interrupt.now.handle }) }
+    ensures some { 0 < result }
+    ensures within { result ≤ length reply.new }
+    ensures len { length reply.new ≡ length reply.old }
+{
+    let len = put_srq_message(interrupt, &mut reply[4..]);
     close_record(reply, len)
 }

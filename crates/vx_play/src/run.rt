@@ -1,10 +1,14 @@
 //! A whole play: the words, the source read to its end, its lines one after the other, and the last line.
-ghost use Rattle.std.specs.Prelude.{◌≡◌, ℕ, ◌≤◌, length, map, string_bytes};
-ghost use Rattle.std.specs.Ordering.{nat_cmp};
-ghost use Rattle.std.specs.BTreeMap.{get};
+ghost use Rattle.std.specs.Prelude.{◌≡◌, ℕ, ◌≤◌, length, map, option_map, string_bytes};
+ghost use Rattle.std.specs.List.{flat_map};
+ghost use Rattle.vx_trace.specs.Output.{line_shown};
+ghost use Rattle.vx_trace.specs.Text.{line_text};
 ghost use Rattle.vx_script.specs.Grammar.{reading};
-ghost use Rattle.vx_play.specs.Play.{Stage, beginning};
-ghost use Rattle.vx_play.specs.Standing.{IsReady, Stands};
+ghost use Rattle.vx_play.specs.Stage.{Stage, beginning};
+ghost use Rattle.vx_play.specs.Spares.{spare_shown};
+ghost use Rattle.vx_play.specs.Moving.{IsPut};
+ghost use Rattle.vx_play.specs.Standing.{IsReady, Stands, IsPrintable, NoteWithin, made_lines, moves_lines, note_line as line_of_note, wait_line as line_of_wait, gone_line as line_of_end};
+ghost use Rattle.vx_play.specs.Printing.{outputs_of};
 ghost use Rattle.vx_play.specs.LinePlayed.{EndsLine};
 ghost use Rattle.vx_play.specs.Ended.{EndsLines, EndsScript, PutsLast};
 ghost use Rattle.vx_play.specs.Outcome.{Ends, EndsSo, IsOutcome, is_command, status_number};
@@ -12,13 +16,18 @@ ghost use Rattle.vx_play.specs.Laws.{Completes};
 
 use crate::input::{Input, read_all, zeros};
 use crate::lines::first_line;
-use crate::note::Stop;
-use crate::output::put_all;
+use crate::note::{Gone, Made, Note, Stop};
+use crate::output::{SinkFailed, put_all};
 use crate::player::Player;
 use crate::printer::Printer;
 use std::alloc::Global;
+use vx_488::Transfer;
+use vx_core::Why;
+use vx_inst::Instrument;
 use vx_io::{Sink, Source};
+use vx_rack::Spare;
 use vx_script::{Cause, LINE_MAX, read_step};
+use vx_trace::Line;
 
 /// How a play ended, as the program's exit status tells it.
 #[derive(Clone, Copy, Debug, PartialEq, Eq)]
@@ -74,19 +83,91 @@ pub enum LineEnd {
     NoMemory,
 }
 
+/// The line of the transfers that a poll of this connection made, where it made any.
+fn moves_line(polled: Option<u32>, moves: &[Transfer]) -> Option<Line<'_>>
+    ensures { outputs_of result ≡ moves_lines polled moves.now }
+{
+    match polled {
+        Some(conn) if !moves.is_empty() => Some(Line::Bus { conn, moves }),
+        _ => None,
+    }
+}
+
+/// The line of a note, whose record stands at the front of the room.
+fn note_line(note: Note, room: &[u8]) -> Option<Line<'_>>
+    requires { NoteWithin (length room.now) note }
+    ensures { option_map line_shown result ≡ line_of_note room.now note }
+{
+    match note {
+        Note::Nothing => None,
+        Note::Replied { conn, len } => Some(Line::Out {
+            conn,
+            bytes: &room[..len],
+        }),
+        Note::Waiting { conn, why } => Some(wait_line(conn, why)),
+        Note::Dialing { conn } => Some(Line::WaitDial { conn }),
+        Note::Interrupt { conn, len } => Some(Line::Irq {
+            conn,
+            bytes: &room[..len],
+        }),
+        Note::NoInterrupt { conn } => Some(Line::IrqNone { conn }),
+        Note::NoChannel { conn } => Some(Line::IrqClosed { conn }),
+        Note::Ended { conn, how } => Some(gone_line(conn, how)),
+    }
+}
+
+/// The line of a call that waits.
+fn wait_line(conn: u32, why: Why) -> Line<'static>
+    ensures { line_shown result ≡ line_of_wait conn why }
+{
+    match why {
+        Why::Locked { by } => Line::WaitLock { conn, lid: by },
+        Why::Turn { by } => Line::WaitTurn { conn, by },
+        Why::Held => Line::WaitHeld { conn },
+    }
+}
+
+/// The line of a connection that ended.
+fn gone_line(conn: u32, how: Gone) -> Line<'static>
+    ensures { line_shown result ≡ line_of_end conn how }
+{
+    match how {
+        Gone::Down => Line::GoneDown { conn },
+        Gone::Junk => Line::GoneJunk { conn },
+        Gone::Long => Line::GoneLong { conn },
+    }
+}
+
+/// Writes the lines of a step that was taken.
+fn put_made<I: Instrument, K: Sink>(
+    player: &Player<I>,
+    made: Made,
+    printer: &mut Printer,
+    sink: &mut K,
+) -> Result<(), SinkFailed>
+    requires { IsPrintable player.now made }
+    ensures put { IsPut
+        (record { bytes = K.taken sink.old; faults = K.faults sink.old })
+        (record { bytes = K.taken sink.new; faults = K.faults sink.new }) (flat_map line_text (made_lines player.now made)) result }
+    ensures counted { K.faults sink.old ≤ K.faults sink.new }
+{
+    let moves = moves_line(made.polled, player.moves());
+    let note = note_line(made.note, player.room());
+    put_all(sink, printer.lines(&moves, &note))
+}
+
 /// Plays one line: its step is taken, and its text written. `room` is for the bytes of an `in`.
-fn play_line<K: Sink>(
+fn play_line<I: Instrument, K: Sink>(
     alloc: Global,
     line: &[u8],
-    player: &mut Player,
+    player: &mut Player<I>,
     printer: &mut Printer,
     room: &mut [u8],
     sink: &mut K,
 ) -> LineEnd
     requires room { LINE_MAX ≤ length room.old }
-    requires ready { IsReady player.old.core (λ n. get nat_cmp player.old.buffers n) }
-    ensures ended { (stage : Stage) → Stands player.old.core (λ n. get nat_cmp player.old.buffers n) stage → EndsLine (reading line.now) stage
-        player.new.core (λ n. get nat_cmp player.new.buffers n)
+    requires ready { IsReady player.old }
+    ensures ended { (stage : Stage) → Stands player.old stage → EndsLine (reading line.now) stage player.new
         (record { bytes = K.taken sink.old; faults = K.faults sink.old })
         (record { bytes = K.taken sink.new; faults = K.faults sink.new }) result }
     ensures counted { K.faults sink.old ≤ K.faults sink.new }
@@ -100,7 +181,7 @@ fn play_line<K: Sink>(
         Err(cause) => return LineEnd::Refused(cause),
     };
     match player.step(alloc, &step) {
-        Ok(made) => match put_all(sink, printer.line(&player.told(made))) {
+        Ok(made) => match put_made(player, made, printer, sink) {
             Ok(()) => LineEnd::Played,
             Err(_) => LineEnd::SinkFailed,
         },
@@ -110,17 +191,17 @@ fn play_line<K: Sink>(
 }
 
 /// Plays the lines of a script up to the first that isn't taken.
-fn play_lines<K: Sink>(
+fn play_lines<I: Instrument, K: Sink>(
     alloc: Global,
     script: &[u8],
-    player: &mut Player,
+    player: &mut Player<I>,
     printer: &mut Printer,
     room: &mut [u8],
     sink: &mut K,
 ) -> Ending
     requires room { LINE_MAX ≤ length room.old }
-    requires begins { Stands player.old.core (λ n. get nat_cmp player.old.buffers n) beginning }
-    ensures ended { EndsLines script.now
+    requires begins { Stands player.old (beginning player.old.rack) }
+    ensures ended { EndsLines script.now player.old.rack
         (record { bytes = K.taken sink.old; faults = K.faults sink.old })
         (record { bytes = K.taken sink.new; faults = K.faults sink.new }) result }
     ensures counted { K.faults sink.old ≤ K.faults sink.new }
@@ -154,13 +235,18 @@ fn put_last<K: Sink>(sink: &mut K, line: &[u8], how: Status) -> Status
     }
 }
 
-/// Plays a script, and writes its last line.
-fn play_script<K: Sink>(alloc: Global, script: &[u8], sink: &mut K) -> Status
-    ensures ended { EndsScript script.now
+/// Plays a script with these spare instruments, and writes its last line.
+fn play_script<I: Instrument, K: Sink>(
+    alloc: Global,
+    script: &[u8],
+    sink: &mut K,
+    rack: Vec<Spare<I>>,
+) -> Status
+    ensures ended { EndsScript script.now (map (spare_shown (λ i. I.view i)) rack.items)
         (record { bytes = K.taken sink.old; faults = K.faults sink.old })
         (record { bytes = K.taken sink.new; faults = K.faults sink.new }) result }
 {
-    let Ok(mut player) = Player::new(alloc) else {
+    let Ok(mut player) = Player::new(alloc, rack) else {
         return Status::NoMemory;
     };
     let Ok(mut printer) = Printer::new(alloc) else {
@@ -170,9 +256,14 @@ fn play_script<K: Sink>(alloc: Global, script: &[u8], sink: &mut K) -> Status
         return Status::NoMemory;
     };
     match play_lines(alloc, script, &mut player, &mut printer, &mut room, sink) {
-        Ending::Whole => put_last(sink, b"done\n", Status::Done),
+        Ending::Whole => put_last(sink, printer.line(&Line::Done), Status::Done),
         Ending::Fault { line, cause } => {
-            put_last(sink, printer.fault_line(line, cause), Status::Fault)
+            let word = cause.word();
+            put_last(
+                sink,
+                printer.line(&Line::FaultLine { line, word }),
+                Status::Fault,
+            )
         }
         Ending::SinkFailed => Status::SinkFailed,
         Ending::NoMemory => Status::NoMemory,
@@ -190,8 +281,14 @@ fn is_command(words: &[String]) -> bool
 }
 
 /// Plays the script that the source gives, where the words are a command.
-fn play<S: Source, K: Sink>(alloc: Global, words: &[String], source: &mut S, sink: &mut K) -> Status
-    ensures outcome { IsOutcome (map string_bytes words.now) (record {
+fn play<S: Source, K: Sink, I: Instrument>(
+    alloc: Global,
+    words: &[String],
+    source: &mut S,
+    sink: &mut K,
+    rack: Vec<Spare<I>>,
+) -> Status
+    ensures outcome { IsOutcome (map string_bytes words.now) (map (spare_shown (λ i. I.view i)) rack.items) (record {
       source = record { bytes = S.left source.old; faults = S.faults source.old };
       source_after = record { bytes = S.left source.new; faults = S.faults source.new };
       sink = record { bytes = K.taken sink.old; faults = K.faults sink.old };
@@ -200,7 +297,7 @@ fn play<S: Source, K: Sink>(alloc: Global, words: &[String], source: &mut S, sin
 {
     if is_command(words) {
         match read_all(alloc, source) {
-            Input::Whole(script) => play_script(alloc, &script, sink),
+            Input::Whole(script) => play_script(alloc, &script, sink, rack),
             Input::TooLong => put_last(sink, b"fault long\n", Status::TooLong),
             Input::Failed => Status::SourceFailed,
             Input::NoMemory => Status::NoMemory,
@@ -210,7 +307,8 @@ fn play<S: Source, K: Sink>(alloc: Global, words: &[String], source: &mut S, sin
     }
 }
 
-/// All that the program `vxplay` does: its words, its input and its output; what comes back is the exit status.
+/// All that the program `vxplay` does: its words, its input, its output, and the spare instruments that `plug` lines name;
+/// what comes back is the exit status.
 ///
 /// The one command is the word `run` alone. It reads the source to its end, plays its lines one after the other, writes what
 /// each line makes before it takes the next, and ends with a last line:
@@ -219,18 +317,18 @@ fn play<S: Source, K: Sink>(alloc: Global, words: &[String], source: &mut S, sin
 /// - 1, `usage: vxplay COMMAND`: the words aren't a command; the source isn't read.
 /// - 2, nothing written: the source failed.
 /// - 3, `fault line N CAUSE`: line N, counted from 1, is outside the grammar or its step is refused. What stands in front of
-///   it was played; the line itself did nothing. Of the lines of the grammar `up C core`, `in` and `down` are played; each
-///   other one is refused as `form` for now, as a line outside the grammar is, at whatever place it stands.
+///   it was played, and nothing is written of the line itself but its fault.
 /// - 4: the sink failed; a front of what was due was written.
 /// - 5: memory ran out; what the steps in front made was written, or nothing.
 /// - 6, `fault long`: the source has more than 67,108,864 bytes.
-pub fn play_run<S: Source, K: Sink>(
+pub fn play_run<S: Source, K: Sink, I: Instrument>(
     alloc: Global,
     words: &[String],
     source: &mut S,
     sink: &mut K,
+    rack: Vec<Spare<I>>,
 ) -> u8
-    ensures outcome { EndsSo (map string_bytes words.now) (record {
+    ensures outcome { EndsSo (map string_bytes words.now) (map (spare_shown (λ i. I.view i)) rack.items) (record {
       source = record { bytes = S.left source.old; faults = S.faults source.old };
       source_after = record { bytes = S.left source.new; faults = S.faults source.new };
       sink = record { bytes = K.taken sink.old; faults = K.faults sink.old };
@@ -238,12 +336,12 @@ pub fn play_run<S: Source, K: Sink>(
     }) result }
 
     // A script that the source tells is played whole, or memory is wanting, where neither the source nor the sink fails.
-    ensures complete { Completes (map string_bytes words.now) (record {
+    ensures complete { Completes (map string_bytes words.now) (map (spare_shown (λ i. I.view i)) rack.items) (record {
       source = record { bytes = S.left source.old; faults = S.faults source.old };
       source_after = record { bytes = S.left source.new; faults = S.faults source.new };
       sink = record { bytes = K.taken sink.old; faults = K.faults sink.old };
       sink_after = record { bytes = K.taken sink.new; faults = K.faults sink.new };
     }) result }
 {
-    play(alloc, words, source, sink).number()
+    play(alloc, words, source, sink, rack).number()
 }

@@ -1,73 +1,151 @@
-//! A message on a connection, answered by the core where it is a call to it.
-ghost use Rattle.std.specs.Prelude.{◌≡◌, ◌≤◌, None, Some, length, IsSome};
+//! A message on a connection, answered by the core where it is a call to it; and the poll of a call that the core keeps.
+ghost use Rattle.std.specs.Prelude.{◌≡◌, ◌≤◌, ◌+◌, true, None, length, IsSome, IsTrue};
+ghost use Rattle.vx_calls.specs.declared.calls.Role.TheVariants as role;
+ghost use Rattle.vx_calls.specs.declared.limits.TheConstants.{RECORD_MAX};
 ghost use Rattle.vx_calls.specs.Call.{call_shown};
+ghost use Rattle.vx_calls.specs.Reply.{reply_shown};
 ghost use Rattle.vx_rpc.specs.Sorting.{is_sent};
-ghost use Rattle.vx_codec.specs.Asked.{IsPuttable};
-ghost use Rattle.vx_core.specs.State.{role_at, pending_at};
-ghost use Rattle.vx_play.specs.Meaning.{meaning, by_call, by_arguments};
-ghost use Rattle.vx_play.specs.Serving.{Serves, ServedWithin, IsRipe, Answers};
-ghost use Rattle.vx_play.specs.declared.serve.Served.TheVariants.{Reply};
+ghost use Rattle.vx_rpc.specs.Wording.{refusal_message};
+ghost use Rattle.vx_codec.specs.Answered.{IsPuttableReply, results};
+ghost use Rattle.vx_play.specs.declared.record.TheConstants.{REPLY_ROOM};
+ghost use Rattle.vx_model.specs.State.{is_idle, lives_as, pending_at, role_at};
+ghost use Rattle.vx_model.specs.One.{may_wait};
+ghost use Rattle.vx_model.specs.Held.{IsShort};
+ghost use Rattle.vx_play.specs.Gateway.{gateway_of};
+ghost use Rattle.vx_play.specs.Meaning.{meaning, by_call, record_of, reply_record};
+ghost use Rattle.vx_play.specs.Making.{MessageMakes, CallMakes, AbortMakes, PollMakes};
+ghost use Rattle.vx_play.specs.Serving.{MadeBy, Tells, Serves, IsRipe};
 
+use crate::note::{Made, Note};
 use crate::record::{REPLY_ROOM, put_refusal_record, put_success_record};
 use vx_calls::{CallRef, ReplyRef, Role};
 use vx_codec::read_args;
-use vx_core::{Core, Polled, is_served};
+use vx_core::{Core, Polled};
+use vx_inst::Instrument;
 use vx_rpc::{RpcRefusal, Sorted, sort_call};
+use vx_sim::SimBus;
 
 /// What became of a message.
 #[derive(Clone, Copy, Debug)]
 pub enum Served {
     /// It is no call.
     Junk,
-    /// The reply's record is so many bytes at the front of the room.
-    Reply(usize),
+    /// It was answered without a call that the core keeps.
+    Answered(Made),
+    /// A call of this xid came, and was polled.
+    Called { xid: u32, made: Made },
 }
 
-/// Answers a message on a connection of this role.
-pub fn serve(core: &mut Core, conn: u32, role: Role, message: &[u8], reply: &mut [u8]) -> Served
-    requires lives { role_at core.old conn ≡ Some role }
-    requires idle { pending_at core.old conn ≡ None }
+/// Answers a message on a connection of this role, at this moment.
+pub fn serve<I: Instrument>(
+    core: &mut Core<SimBus<I>>,
+    conn: u32,
+    role: Role,
+    message: &[u8],
+    now: u64,
+    reply: &mut [u8],
+) -> Served
+    requires lives { lives_as core.old.fine.state.tables conn role ≡ true }
+    requires idle { pending_at core.old.fine.state.tables conn ≡ None }
+    requires short { length message.now ≤ RECORD_MAX }
+    requires late { core.old.fine.state.moment ≤ now }
     requires room { REPLY_ROOM ≤ length reply.old }
-    ensures served { Serves core.old conn (meaning message.now role) reply.new result core.new }
-    ensures within { ServedWithin result (length reply.new) }
+    ensures served { Serves (gateway_of core.old) conn now (meaning message.now role) reply.new result core.new }
+    ensures late { core.new.fine.state.moment ≤ now }
+    ensures len { length reply.new ≡ length reply.old }
 {
     match sort_call(message, role) {
         Sorted::Junk => Served::Junk,
-        Sorted::Refuse { xid, refusal } => Served::Reply(put_refusal_record(xid, refusal, reply)),
+        Sorted::Refuse { xid, refusal } => Served::Answered(refuse(conn, xid, refusal, reply)),
         Sorted::Call { xid, proc, args } => match read_args(proc, args) {
-            Some(call) => Served::Reply(serve_call(core, conn, xid, &call, reply)),
-            None => Served::Reply(put_refusal_record(xid, RpcRefusal::GarbageArgs, reply)),
+            Some(call) => serve_call(core, conn, xid, &call, now, reply),
+            None => Served::Answered(refuse(conn, xid, RpcRefusal::GarbageArgs, reply)),
         },
     }
 }
 
-/// Answers a call whose arguments were read.
-fn serve_call(core: &mut Core, conn: u32, xid: u32, call: &CallRef<'_>, reply: &mut [u8]) -> usize
-    requires ripe { IsRipe core.old conn (call_shown call.now) }
-    requires puttable { IsPuttable (call_shown call.now) }
+/// Refuses a call.
+fn refuse(conn: u32, xid: u32, refusal: RpcRefusal, reply: &mut [u8]) -> Made
+    requires sent { IsTrue (is_sent refusal) }
     requires room { REPLY_ROOM ≤ length reply.old }
-    ensures served { Serves core.old conn (by_call xid (call_shown call.now)) reply.new (Reply result) core.new }
-    ensures within { result ≤ length reply.new }
+    ensures made { Tells reply.new conn (record_of (refusal_message xid refusal)) result }
+    ensures len { length reply.new ≡ length reply.old }
 {
-    if let CallRef::Null = call {
-        return put_success_record(xid, &ReplyRef::Null, reply);
-    }
-    if !is_served(call) {
-        return put_refusal_record(xid, RpcRefusal::ProcUnavail, reply);
-    }
-    core.arrive(conn, call, 0);
-    answer(core, conn, xid, reply)
+    let len = put_refusal_record(xid, refusal, reply);
+    Made::of(Note::Replied { conn, len })
 }
 
-/// Answers the call that came on a connection.
-fn answer(core: &mut Core, conn: u32, xid: u32, reply: &mut [u8]) -> usize
-    requires pending { IsSome (pending_at core.old conn) }
+/// Answers a call that the gateway answered so.
+pub fn succeed(conn: u32, xid: u32, answer: &ReplyRef<'_>, reply: &mut [u8]) -> Made
+    requires puttable { IsPuttableReply (reply_shown answer.now) }
+    requires short { 24 + length (results (reply_shown answer.now)) ≤ RECORD_MAX }
     requires room { REPLY_ROOM ≤ length reply.old }
-    ensures answered { Answers core.old conn xid reply.new result core.new }
-    ensures within { result ≤ length reply.new }
+    ensures made { Tells reply.new conn (reply_record xid (reply_shown answer.now)) result }
+    ensures len { length reply.new ≡ length reply.old }
 {
-    match core.poll(conn, 0) {
-        Polled::Answer(answer) => put_success_record(xid, &answer, reply),
-        _ => unreachable!(),
+    let len = put_success_record(xid, answer, reply);
+    Made::of(Note::Replied { conn, len })
+}
+
+/// Answers a call whose arguments were read.
+fn serve_call<I: Instrument>(
+    core: &mut Core<SimBus<I>>,
+    conn: u32,
+    xid: u32,
+    call: &CallRef<'_>,
+    now: u64,
+    reply: &mut [u8],
+) -> Served
+    requires ripe { IsRipe core.old.fine.state.tables conn (call_shown call.now) }
+    requires short { IsShort (call_shown call.now) }
+    requires late { core.old.fine.state.moment ≤ now }
+    requires room { REPLY_ROOM ≤ length reply.old }
+    ensures served { Serves (gateway_of core.old) conn now (by_call xid (call_shown call.now)) reply.new result core.new }
+    ensures late { core.new.fine.state.moment ≤ now }
+    ensures len { length reply.new ≡ length reply.old }
+{
+    match *call {
+        CallRef::Null => Served::Answered(succeed(conn, xid, &ReplyRef::Null, reply)),
+        CallRef::DeviceAbort { lid } => {
+            let error = core.abort(conn, lid);
+            Served::Answered(succeed(conn, xid, &ReplyRef::Error { error }, reply))
+        }
+        _ => {
+            core.arrive(conn, call, now);
+            let made = poll_call(core, conn, xid, now, reply);
+            Served::Called { xid, made }
+        }
+    }
+}
+
+/// Polls the call that a connection keeps, of this xid, at this moment.
+pub fn poll_call<I: Instrument>(
+    core: &mut Core<SimBus<I>>,
+    conn: u32,
+    xid: u32,
+    now: u64,
+    reply: &mut [u8],
+) -> Made
+    requires pending { IsSome (pending_at core.old.fine.state.tables conn) }
+    requires late { core.old.fine.state.moment ≤ now }
+    requires room { REPLY_ROOM ≤ length reply.old }
+    ensures made { MadeBy (PollMakes (gateway_of core.old) conn now xid) reply.new result core.new }
+    ensures late { core.new.fine.state.moment ≤ now }
+    ensures len { length reply.new ≡ length reply.old }
+{
+    core.is_sound();
+    match core.poll(conn, now) {
+        Polled::Answer(answer) => Made {
+            polled: Some(conn),
+            note: succeed(conn, xid, &answer, reply).note,
+        },
+        Polled::NotYet(why) => Made {
+            polled: Some(conn),
+            note: Note::Waiting { conn, why },
+        },
+        Polled::Dial { .. } => Made {
+            polled: Some(conn),
+            note: Note::Dialing { conn },
+        },
     }
 }

@@ -1,11 +1,13 @@
 //! Plays of whole scripts over memory. Records are composed by hand from their words; the record's mark stands first.
 
 use super::*;
+use arrayvec::ArrayString;
 use std::alloc::{AllocError, Global};
 use std::fmt::Write;
 use std::process::Abort;
 use std::test::Fail;
 use vx_io::{MemSink, MemSource, ReadOut, Source};
+use vx_rack::{Echo, Spare};
 
 /// The create_link of xid 1 and client 42 for the text gpib0,5.
 const CREATE_LINK: &str =
@@ -22,7 +24,22 @@ const FRAGMENTS: [&str; 3] = [
 const ONE_LINK: &str =
     "out 1 8000002800000001000000010000000000000000000000000000000000000000000000010000233300010000\ndone\n";
 
-/// Plays `run` over a source, into a sink whose writes of these numbers fail: the status, and the sink.
+/// Two spare instruments of the name `echo`.
+fn two_echoes(alloc: Global) -> Result<Vec<Spare<Echo>>, AllocError> {
+    let mut rack = Vec::new(alloc);
+    for _ in 0..2 {
+        let Ok(inst) = Echo::new(alloc) else {
+            return Err(AllocError);
+        };
+        let mut name = ArrayString::new();
+        if name.try_push_str("echo").is_ok() {
+            rack.push(Spare { name, inst })?;
+        }
+    }
+    Ok(rack)
+}
+
+/// Plays `run` with two spare instruments over a source, into a sink whose writes of these numbers fail: the status, and the sink.
 fn play(
     alloc: Global,
     source: &mut MemSource,
@@ -31,7 +48,13 @@ fn play(
     let mut words = Vec::new(alloc);
     words.push(String::from_str(alloc, "run")?)?;
     let mut sink = MemSink::new(Vec::new(alloc), write_fails.to_vec(alloc)?);
-    let status = play_run(alloc, words.as_slice(), source, &mut sink);
+    let status = play_run(
+        alloc,
+        words.as_slice(),
+        source,
+        &mut sink,
+        two_echoes(alloc)?,
+    );
     Ok((status, sink))
 }
 
@@ -123,7 +146,13 @@ fn words_that_are_no_command(rt: HostRuntime) -> Result<(), Fail> {
         for (write_fails, status, text) in sinks {
             let mut source = MemSource::new(Vec::new(alloc), 1, [1u64].to_vec(alloc)?);
             let mut sink = MemSink::new(Vec::new(alloc), [write_fails].to_vec(alloc)?);
-            let ended = play_run(alloc, words.as_slice(), &mut source, &mut sink);
+            let ended = play_run(
+                alloc,
+                words.as_slice(),
+                &mut source,
+                &mut sink,
+                two_echoes(alloc)?,
+            );
             assert_eq!(rt; ended, status, "the words {command:?}");
             assert_eq!(rt; text_of(&sink), text, "the words {command:?}");
             assert_eq!(rt;
@@ -233,37 +262,73 @@ fn lines_of_scripts(rt: HostRuntime) -> Result<(), Fail> {
     Ok(())
 }
 
-// Lines of the grammar that aren't played, as the first line and behind another.
+// Steps that are refused, each for its cause, behind steps that are taken; and steps that make nothing.
 #[test]
-fn lines_that_are_not_played(rt: HostRuntime) -> Result<(), Fail> {
-    let lines: [&str; 18] = [
-        "up 1 abort",
-        "up 2 abort",
-        "up 2147483647 abort",
-        "at 0",
-        "at 18446744073709551615",
-        "poll 1",
-        "sample",
-        "take 1",
-        "dial 1 ok",
-        "dial 1 fail",
-        "inst 5 {}",
-        "inst 5,6 ",
-        "plug 5 echo",
-        "pull 5",
-        "pull 30,30",
-        "set 5 41",
-        "fail 1",
-        "fail 4294967295",
+fn refused_steps(rt: HostRuntime) -> Result<(), Fail> {
+    let table: [(&str, u8, &str); 24] = [
+        (
+            "at 0\nat 18446744073709551615\nsample\nfail 1\n",
+            0,
+            "done\n",
+        ),
+        ("up 1 abort\nup 2 core\n", 0, "done\n"),
+        ("poll 1\n", 3, "fault line 1 conn\n"),
+        ("up 1 abort\npoll 1\n", 3, "fault line 2 conn\n"),
+        ("up 1 core\npoll 1\n", 3, "fault line 2 idle\n"),
+        ("take 1\n", 3, "fault line 1 conn\n"),
+        ("up 1 core\ntake 1\n", 0, "irq 1 closed\ndone\n"),
+        ("dial 1 ok\n", 3, "fault line 1 conn\n"),
+        ("up 1 core\ndial 1 fail\n", 3, "fault line 2 idle\n"),
+        // No JSON, JSON that is no table, and the address of the gateway.
+        ("inst 5,6 \n", 3, "fault line 1 json\n"),
+        ("inst 5 {\n", 3, "fault line 1 json\n"),
+        ("inst 5 []\n", 3, "fault line 1 rule\n"),
+        ("plug 0 echo\n", 3, "fault line 1 own\n"),
+        ("plug 5 nobody\n", 3, "fault line 1 spare\n"),
+        // An address that is taken, also with a secondary address; and the spares run out.
+        ("plug 5 echo\nplug 5 echo\n", 3, "fault line 2 taken\n"),
+        ("plug 5,6 echo\nplug 5,7 echo\n", 0, "done\n"),
+        (
+            "plug 5 echo\nplug 6 echo\nplug 7 echo\n",
+            3,
+            "fault line 3 spare\n",
+        ),
+        ("plug 5 echo\npull 5\npull 5\n", 3, "fault line 3 absent\n"),
+        ("pull 5\n", 3, "fault line 1 absent\n"),
+        ("pull 30,30\n", 3, "fault line 1 absent\n"),
+        ("set 5 41\n", 3, "fault line 1 absent\n"),
+        ("plug 5 echo\nset 5 41\n", 0, "done\n"),
+        ("plug 5 echo\nplug 5,1 echo\n", 3, "fault line 2 taken\n"),
+        // A piece of a stream whose connection has a call without an answer: nobody listens at address 6.
+        (
+            "up 1 core
+in 1 80000040000000010000000000000002000607AF000000010000000A000000000000000000000000000000000000000000000000000000000000000767706962302C3600
+in 1 80000040000000020000000000000002000607AF000000010000000B00000000000000000000000000000000000000010000271000000000000000080000000141000000
+in 1 80
+",
+            3,
+            "out 1 8000002800000001000000010000000000000000000000000000000000000000000000010000233300010000
+bus 1 c3F c40 c26
+wait 1 held
+fault line 4 busy
+",
+        ),
     ];
-    for line in lines {
-        let mut script = String::from_str(rt.alloc(), line)?;
-        expect_play(&rt, &script, 3, "fault line 1 form\n")?;
-        script = String::from_str(rt.alloc(), "up 1 core\n")?;
-        writeln!(script, "{line}")?;
-        script.push_str("down 1\n")?;
-        expect_play(&rt, &script, 3, "fault line 2 form\n")?;
+    for (script, status, text) in table {
+        expect_play(&rt, script, status, text)?;
     }
+    Ok(())
+}
+
+// The 32nd instrument.
+#[test]
+fn full_bench(rt: HostRuntime) -> Result<(), Fail> {
+    let mut script = String::new(rt.alloc());
+    for secondary in 0..=30u8 {
+        writeln!(script, "inst 5,{secondary} {{\"rules\":[]}}")?;
+    }
+    script.push_str("inst 6 {\"rules\":[]}\n")?;
+    expect_play(&rt, &script, 3, "fault line 32 bench\n")?;
     Ok(())
 }
 

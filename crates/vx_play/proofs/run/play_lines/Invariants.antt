@@ -1,13 +1,11 @@
 use Rattle.std.proofs.Common.{◌+◌, ◌≤◌, length}
-use Rattle.std.specs.Ordering.{nat_cmp}
-use Rattle.std.specs.BTreeMap.{get}
 use Rattle.vx_play.specs.Ended.{UnderWay}
 use Rattle.vx_play.proofs.run.play_lines.Given as goal
 
 abbrev pub invariant-loop-rest : goal.invariant-loop-rest
 invariant-loop-rest g l =
     (l.line + length l.rest ≤ length l.script)
-    × UnderWay l.script l.rest l.line l.player.core (λ n. get nat_cmp l.player.buffers n)
+    × UnderWay l.script l.initial.player.rack l.rest l.line l.player
     (record { bytes = g.K.Sink.taken l.initial.sink; faults = g.K.Sink.faults l.initial.sink })
     (record { bytes = g.K.Sink.taken l.sink; faults = g.K.Sink.faults l.sink })
 

@@ -1,14 +1,28 @@
-use Rattle.std.proofs.Common.{max, is_some, sym, ap, arith}
+use Rattle.std.proofs.Common.{max, ap, arith}
 use Rattle.vx_calls.specs.Call.{call_shown}
-use Rattle.vx_core.proofs.EntryLaws.{one_arrive-pending}
-use Rattle.vx_play.proofs.Served.{called, not_null-shown}
+use Rattle.vx_play.specs.Meaning.{by_call}
+use Rattle.vx_play.proofs.Messages.{arrive-kept, asks-core, later-moment, aborted-serves, called-serves}
 use Rattle.vx_play.proofs.serve.serve_call.Goals as goal
 
-pub answer-requires-clause-pending : goal.answer-requires-clause-pending
-answer-requires-clause-pending c = ap is_some (one_arrive-pending c.args.core.now c.arrive.new.self c.args.conn _ _ c.arrive.ensures)
+pub poll_call-made-requires : goal.poll_call-made-requires
+poll_call-made-requires g c =
+    let kept = arrive-kept c.args.core.now.fine c.arrive.new.self.fine c.args.conn (max c.args.core.now.fine.state.moment c.args.now) (call_shown c.args.call.now) c.arrive.ensures.fine in
+    let moment = kept.moment in
+    record { pending = kept.pending; late = omega arith; room = c.requires.room }
 
-pub returns-clause-served : goal.returns-clause-served
-returns-clause-served c =
-    called c.args.core.now c.arrive.new.self c.answer.new.core c.args.conn c.args.xid (max c.args.core.now.moment 0) c.answer.result
-    (call_shown c.args.call.now) c.answer.new.reply (not_null-shown c.args.call.now c.in_default.not-Null) (sym c.if-not-is_served.ensures) (omega arith)
-    c.arrive.ensures c.answer.ensures.answered
+pub returns-in-DeviceAbort-clause-served : goal.returns-in-DeviceAbort-clause-served
+returns-in-DeviceAbort-clause-served g c =
+    aborted-serves c.args.core.now c.abort-error.new.self c.args.conn c.args.now c.args.xid c.in-DeviceAbort.lid (by_call c.args.xid (call_shown c.args.call.now))
+    c.abort-error.result c.succeed-in-DeviceAbort.new.reply c.succeed-in-DeviceAbort.result (ap (λ r. by_call c.args.xid (call_shown r)) c.in-DeviceAbort.is)
+    c.abort-error.ensures.fine c.abort-error.ensures.walk c.succeed-in-DeviceAbort.ensures.made
+
+pub returns-in_default : goal.returns-in_default
+returns-in_default g c = record {
+  served = called-serves c.args.core.now c.arrive.new.self c.poll_call-made.new.core c.args.conn c.args.now (max c.args.core.now.fine.state.moment c.args.now) c.args.xid
+      (by_call c.args.xid (call_shown c.args.call.now)) (call_shown c.args.call.now) c.poll_call-made.new.reply c.poll_call-made.result
+      (asks-core c.args.call.now c.args.xid c.in_default.not-Null c.in_default.not-DeviceAbort)
+      (later-moment c.args.core.now.fine.state.moment c.args.now c.requires.late)
+      c.arrive.ensures.fine c.arrive.ensures.walk c.poll_call-made.ensures.made;
+  late = c.poll_call-made.ensures.late;
+  len = c.poll_call-made.ensures.len;
+}

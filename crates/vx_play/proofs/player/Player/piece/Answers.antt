@@ -1,46 +1,80 @@
-use Rattle.std.proofs.Common.{◌≡◌, length, IfSome, sym, subst, ◌∙◌, arith}
-use Rattle.std.proofs.Common.{nat_cmp}
-use Rattle.std.specs.BTreeMap.{get}
+use Rattle.std.proofs.Common.{sym, ◌∙◌, subst, refl}
 use Rattle.std.proofs.lemmas.List.{with_items_is}
-use Rattle.vx_record.specs.Buffer.{fed}
-use Rattle.vx_script.specs.Command.{In}
-use Rattle.vx_play.specs.Standing.{TakesTo, note_made}
-use Rattle.vx_record.specs.declared.Feed.TheVariants.{Whole}
-use Rattle.vx_play.proofs.Steps.{piece-after, more-takes, long-takes, record-takes}
+use Rattle.vx_play.specs.Standing.{Stands, IsReady}
+use Rattle.vx_play.proofs.Messages.{role-lives}
+use Rattle.vx_play.proofs.Connections.{none-of, piece-unknown, piece-busy, pieces-taken, pieces-stopped, pieces-printable}
 use Rattle.vx_play.proofs.player.Player.piece.Goals as goal
 
-pub answer-requires-clause-whole : goal.answer-requires-clause-whole
-answer-requires-clause-whole c =
-    let f = c.in-Some-feed.ensures.fed in
-    subst (λ o. IfSome o (λ b. b.state ≡ Whole)) (sym f.is) (sym f.state ∙ c.in-Whole.is)
+pub returns-in_default-clause-stopped : goal.returns-in_default-clause-stopped
+returns-in_default-clause-stopped g c = λ stage stands.
+    let there = subst (λ p. Stands p stage) (sym c.self.view_is) stands in
+    piece-unknown stage _ c.args.conn c.args.bytes.now there (sym c.role.ensures ∙ c.in_default.is)
 
-pub returns-in-Some-feed-clause-stopped : goal.returns-in-Some-feed-clause-stopped
-returns-in-Some-feed-clause-stopped c = λ stage stands.
-    let f = c.in-Some-feed.ensures.fed in
-    piece-after stage c.args.self.now.core _ c.args.conn c.in-Some.role c.args.bytes.now f.buffer c.in-Some-feed.fed.took stands (sym c.in-Some.ensures)
-    f.was f.took c.requires.bytes c.if-fed-bytes.true
+pub returns-then-pending-clause-stopped : goal.returns-then-pending-clause-stopped
+returns-then-pending-clause-stopped g c = λ stage stands.
+    let there = subst (λ p. Stands p stage) (sym c.self.view_is) stands in
+    piece-busy stage _ c.args.conn c.in-Some.role c.args.bytes.now there (sym c.in-Some.ensures) (sym c.pending.ensures ∙ c.if-pending.true)
 
-pub returns-in-More-clause-taken : goal.returns-in-More-clause-taken
-returns-in-More-clause-taken c = λ stage stands.
-    let f = c.in-Some-feed.ensures.fed in
-    let all : c.in-Some-feed.fed.took ≡ length c.args.bytes.now = omega (arith, f.within, c.if-fed-bytes.false) in
-    more-takes stage c.args.self.now.core _ _ c.args.conn c.in-Some.role c.args.bytes.now f.buffer c.in-Some-feed.fed.took stands (sym c.in-Some.ensures)
-    f.was f.took c.requires.bytes all (sym f.state ∙ c.in-More.is) f.is c.feed.ensures.others
+pub feed_piece-requires-clause-lives : goal.feed_piece-requires-clause-lives
+feed_piece-requires-clause-lives g c = role-lives c.self.inside.core.fine.state.tables c.args.conn c.in-Some.role (sym c.in-Some.ensures)
 
-pub returns-in-Whole-clause-taken : goal.returns-in-Whole-clause-taken
-returns-in-Whole-clause-taken c = λ stage stands.
-    let f = c.in-Some-feed.ensures.fed in
-    let all : c.in-Some-feed.fed.took ≡ length c.args.bytes.now = omega (arith, f.within, c.if-fed-bytes.false) in
-    let room = with_items_is c.args.self.now.reply c.answer.new.reply (c.answer.auto.reply ∙ c.deref_mut.ensures.len) in
-    subst (λ xs. TakesTo stage (In c.args.conn c.args.bytes.now) (note_made xs c.answer.result) c.answer.new.core (λ n. get nat_cmp c.answer.new.buffers n)) (sym room)
-    (record-takes stage c.args.self.now.core c.answer.new.core _ _ c.args.conn c.in-Some.role c.args.bytes.now f.buffer c.in-Some-feed.fed.took
-    c.answer.new.reply c.answer.result stands (sym c.in-Some.ensures) f.was f.took c.requires.bytes all (sym f.state ∙ c.in-Whole.is)
-    (c.answer.ensures.answered (fed f.buffer c.args.bytes.now) f.is) (λ m ne. c.answer.ensures.others m ne ∙ c.feed.ensures.others m ne))
+pub feed_piece-requires-clause-idle : goal.feed_piece-requires-clause-idle
+feed_piece-requires-clause-idle g c = none-of _ (sym c.pending.ensures ∙ c.if-pending.false)
 
-pub returns-in-TooLong-clause-taken : goal.returns-in-TooLong-clause-taken
-returns-in-TooLong-clause-taken c = λ stage stands.
-    let f = c.in-Some-feed.ensures.fed in
-    let all : c.in-Some-feed.fed.took ≡ length c.args.bytes.now = omega (arith, f.within, c.if-fed-bytes.false) in
-    long-takes stage c.args.self.now.core c.end.new.core _ _ c.args.conn c.in-Some.role c.args.bytes.now f.buffer c.in-Some-feed.fed.took stands
-    (sym c.in-Some.ensures) f.was f.took c.requires.bytes all (sym f.state ∙ c.in-TooLong.is) c.end.ensures.core c.end.ensures.gone
-    (λ m ne. c.end.ensures.others m ne ∙ c.feed.ensures.others m ne)
+pub feed_piece-requires-clause-waits : goal.feed_piece-requires-clause-waits
+feed_piece-requires-clause-waits g c =
+    let ready = subst IsReady (sym c.self.view_is) c.requires.ready in
+    ready.waits c.args.conn
+
+pub feed_piece-requires-clause-limit : goal.feed_piece-requires-clause-limit
+feed_piece-requires-clause-limit g c =
+    let ready = subst IsReady (sym c.self.view_is) c.requires.ready in
+    ready.limits c.args.conn
+
+pub returns-clause-taken : goal.returns-clause-taken
+returns-clause-taken g c =
+    pieces-taken _ _ _ c.args.conn c.in-Some.role c.args.bytes.now c.feed_piece.new.reply c.feed_piece.result c.self.view_is (record {
+      live = sym c.in-Some.ensures;
+      idle = none-of _ (sym c.pending.ensures ∙ c.if-pending.false);
+      some = c.requires.bytes;
+      taken = c.feed_piece.ensures.taken;
+      known = c.feed_piece.ensures.known;
+      stopped = c.feed_piece.ensures.stopped;
+      late = c.feed_piece.ensures.late;
+      others = c.feed_piece.ensures.others;
+      rack = refl;
+      moment = refl;
+      room_is = with_items_is c.self.inside.reply c.feed_piece.new.reply (c.feed_piece.auto.reply ∙ c.deref_mut.ensures.len);
+    })
+
+pub returns-clause-stopped : goal.returns-clause-stopped
+returns-clause-stopped g c =
+    pieces-stopped _ _ _ c.args.conn c.in-Some.role c.args.bytes.now c.feed_piece.new.reply c.feed_piece.result c.self.view_is (record {
+      live = sym c.in-Some.ensures;
+      idle = none-of _ (sym c.pending.ensures ∙ c.if-pending.false);
+      some = c.requires.bytes;
+      taken = c.feed_piece.ensures.taken;
+      known = c.feed_piece.ensures.known;
+      stopped = c.feed_piece.ensures.stopped;
+      late = c.feed_piece.ensures.late;
+      others = c.feed_piece.ensures.others;
+      rack = refl;
+      moment = refl;
+      room_is = with_items_is c.self.inside.reply c.feed_piece.new.reply (c.feed_piece.auto.reply ∙ c.deref_mut.ensures.len);
+    })
+
+pub returns-clause-printable : goal.returns-clause-printable
+returns-clause-printable g c =
+    pieces-printable _ _ _ c.args.conn c.in-Some.role c.args.bytes.now c.feed_piece.new.reply c.feed_piece.result c.self.view_is (record {
+      live = sym c.in-Some.ensures;
+      idle = none-of _ (sym c.pending.ensures ∙ c.if-pending.false);
+      some = c.requires.bytes;
+      taken = c.feed_piece.ensures.taken;
+      known = c.feed_piece.ensures.known;
+      stopped = c.feed_piece.ensures.stopped;
+      late = c.feed_piece.ensures.late;
+      others = c.feed_piece.ensures.others;
+      rack = refl;
+      moment = refl;
+      room_is = with_items_is c.self.inside.reply c.feed_piece.new.reply (c.feed_piece.auto.reply ∙ c.deref_mut.ensures.len);
+    })

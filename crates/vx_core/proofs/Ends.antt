@@ -1,0 +1,291 @@
+-- How a poll ends, in the kernel's words.
+use Rattle.std.proofs.Common.{◌≡◌, ◌≤◌, ◌==◌, ℕ, Bool, true, false, cond, ◌⊎◌, inl, inr, List, [], ◌∷◌, ◌++◌, map, append-nil, Option, Some, None, refl, sym, ap, ◌∙◌, subst}
+use Rattle.std.specs.Prelude.{if◌then◌else◌, nat_le, is_none, is_some, ◌&&◌}
+use Rattle.std.specs.Option.{option_map, option_and_then}
+use Rattle.std.proofs.lemmas.Bool.{and_parts, cond-true, eq-eqb, true≢false}
+use Rattle.std.proofs.lemmas.Option.{same_Some}
+use Rattle.vx_calls.specs.declared.limits.TheConstants.{WRITE_MAX}
+use Rattle.vx_calls.specs.Reply.{Reply}
+use Rattle.vx_488.specs.declared.transfers.Transfer.{Transfer}
+use Rattle.vx_488.specs.declared.wire.Wire.{Wire}
+use Rattle.vx_488.specs.Wire.{wire_after}
+use Rattle.vx_bus.specs.Means.{Means}
+use Rattle.vx_bus.specs.Steps.{Step, Went}
+use Rattle.vx_bus.specs.Walks.{Walk}
+use Rattle.vx_model.specs.Lists.{along}
+use Rattle.vx_model.specs.State.{Pending, Tables, State, pending_at, with_pending}
+use Rattle.vx_model.specs.Lines.{first_lines}
+use Rattle.vx_model.specs.Decide.{Outside, decide, has_job_role}
+use Rattle.vx_model.specs.One.{answer, answered, answer_to, if_reply}
+use Rattle.vx_calls.specs.Reply.{same_reply}
+use Rattle.vx_flow.specs.Event.{Event, Answer, Begin, Move}
+use Rattle.vx_flow.specs.FineState.{Turn, FineState, turn_of, turn_after}
+use Rattle.vx_flow.specs.Fine.{fine, fine_step, comes_in_turn, may_begin, may_move, is_passed, job_of, wire_for, wire_before, outside, answered_fine, is_answered, without_dial}
+use Rattle.vx_flow.specs.Sound.{IsSound}
+use Rattle.vx_flow.specs.Poll.{Why, Ran, Still, Ending, Answered, Waited, Dialed, Polls, begins, begun_events, moved_events, run_events, at_moment, is_broken, RanTo, runs, ran_of}
+use Rattle.vx_flow.specs.Ways.{turn_left_by, over, moved_on, begun_now}
+use Rattle.vx_flow.proofs.Gathering.{stays_sound-law}
+use Rattle.vx_kernel.specs.declared.running.Running.{Running}
+use Rattle.vx_kernel.specs.declared.ended.Ended.{Ended}
+use Rattle.vx_kernel.specs.KernelState.{KernelState}
+use Rattle.vx_kernel.specs.Shown.{fine_of, turn_shown, before_shown, running_without, closed}
+use Rattle.vx_kernel.specs.Ending.{ended_shown, ended_len}
+use Rattle.vx_kernel.specs.Keeping.{KeepsDials, Holds, Keeps}
+use Rattle.vx_kernel.specs.Polling.{wanted, refused_ask, asks, PollsOver, EndsFrom}
+use Rattle.vx_core.proofs.Keeping.{LeavesTurn, keeps-after}
+
+-- what a test chose, where it chose anything
+pub chosen : {A : Type 0} (b : Bool) (o : Option A) (x : A) → cond b o None ≡ Some x → (b ≡ true) × (o ≡ Some x)
+chosen true o x h = (refl, h)
+chosen false o x h = cc
+
+eqb-self : (n : ℕ) → (n == n) ≡ true
+eqb-self n = eq-eqb n n refl
+
+-- an event that is allowed comes in turn, and then its own test passes
+pub stepped : (f g : FineState) (e : Event) → fine f e ≡ Some g → fine_step f e ≡ Some g
+stepped f g e h = (chosen (comes_in_turn f e f.turn) (fine_step f e) g h).1
+
+-- ---- the state behind a poll's transfers
+
+-- where the call's own turn is under way it has made the poll's transfers more
+pub behind-own : (f b : FineState) (conn now : ℕ) (u : Turn) (moves : List Transfer) → f.turn ≡ Some u → along fine (Some f) (run_events f conn now moves) ≡ Some b
+    → b ≡ moved_on f u moves
+behind-own f b conn now u moves turn h = by moves (sym (ap (λ es. along fine (Some f) (es ++ moved_events conn moves)) none) ∙ h) where
+  none : begun_events f conn now ≡ []
+  none = ap (λ t. cond (is_none t && may_begin f.state conn now (pending_at f.state.tables conn)) (Begin conn now ∷ []) []) turn
+
+  by : (ts : List Transfer) → along fine (Some f) (moved_events conn ts) ≡ Some b → b ≡ moved_on f u ts
+  by [] x =
+      sym (same_Some f b x)
+      ∙ ap (λ t. record f { turn = t }) turn
+      ∙ ap (λ ts. record f { turn = Some (record u { moves = ts }) }) (sym (append-nil u.moves))
+  by (t ∷ ts) x =
+      let At : Option Turn → FineState = λ now. record {
+        state = record f.state { wire = wire_after f.state.wire (t ∷ ts) };
+        turn = turn_after now (Move conn (t ∷ ts));
+        before = wire_before (turn_after now (Move conn (t ∷ ts))) (wire_after f.state.wire (t ∷ ts)) f.before;
+        dialed = f.dialed;
+      } in
+      let parts = chosen (may_move f conn (t ∷ ts) f.turn) (Some (At f.turn)) b (stepped f b (Move conn (t ∷ ts)) x) in
+      sym (same_Some (At f.turn) b parts.1) ∙ ap At turn
+
+-- what a beginning leads to, where it is allowed
+pub begun-so : (f b : FineState) (conn now : ℕ) → fine f (Begin conn now) ≡ Some b
+    → (is_none f.turn ≡ true) × (may_begin f.state conn now (pending_at f.state.tables conn) ≡ true) × (begun_now f conn now ≡ b)
+begun-so f b conn now h =
+    let may = may_begin f.state conn now (pending_at f.state.tables conn) in
+    let parts = chosen (is_none f.turn && nat_le f.state.moment now && may) (Some (begun_now f conn now)) b (stepped f b (Begin conn now) h) in
+    let tests = and_parts (is_none f.turn && nat_le f.state.moment now) may parts.0 in
+    ((and_parts (is_none f.turn) (nat_le f.state.moment now) tests.0).0, tests.1, same_Some (begun_now f conn now) b parts.1)
+
+-- a turn that begins runs on
+begun-runs : (f : FineState) (conn now : ℕ) (p : Pending) → pending_at f.state.tables conn ≡ Some p → may_begin f.state conn now (pending_at f.state.tables conn) ≡ true
+    → runs (begun_now f conn now) conn now p ≡ true
+begun-runs f conn now p at may =
+    let u : Turn = record { connection = conn; begun = now; moves = [] } in
+    let own : turn_of (Some u) conn ≡ Some u = cond-true (conn == conn) (Some u) None (eqb-self conn) in
+    let tests = and_parts (is_passed (first_lines f.state.tables f.state.wire.own conn false p now)) (has_job_role f.state.wire (job_of f.state.tables conn p))
+    (sym (ap (may_begin f.state conn now) at) ∙ may) in
+    ap (λ t. is_passed (first_lines f.state.tables (if is_some t then f.state.wire else f.state.wire).own conn false p now) && is_some t) own
+    ∙ ap (λ b. b && true) tests.0
+
+-- where the call's turn didn't go on the poll made nothing
+pub behind-still : (f g : FineState) (conn now : ℕ) (ending : Ending) → (polls : Polls f conn now [] ending g) → ran_of ending ≡ Still → polls.behind ≡ f
+behind-still f g conn now ending polls still = by (begins f conn now) polls.runs_to where
+  by : (b : Bool) → along fine (Some f) (cond b (Begin conn now ∷ []) [] ++ []) ≡ Some polls.behind → polls.behind ≡ f
+  by false x = sym (same_Some f polls.behind x)
+  by true x =
+      let so = begun-so f polls.behind conn now x in
+      let ran : RanTo polls.behind conn now polls.asked [] Still = subst (RanTo polls.behind conn now polls.asked []) still polls.ran in
+      let on = begun-runs f conn now polls.asked polls.call_at so.1 in
+      absurd (true≢false (sym on ∙ ap (λ b. runs b conn now polls.asked) so.2 ∙ ran.0))
+
+-- what holds between events holds behind a list of them
+pub sound-along : (h : List Event) (f g : FineState) → IsSound f → along fine (Some f) h ≡ Some g → IsSound g
+sound-along [] f g sound x = subst IsSound (same_Some f g x) sound
+sound-along (e ∷ es) f g sound x = by (fine f e) refl x (λ mid s y. sound-along es mid g s y) where
+  none : (es : List Event) → along fine None es ≡ None
+  none [] = refl
+  none (e ∷ es) = none es
+
+  by : (o : Option FineState) → fine f e ≡ o → along fine o es ≡ Some g → ((mid : FineState) → IsSound mid → along fine (Some mid) es ≡ Some g → IsSound g) → IsSound g
+  by None is y rest = let n = none es in cc
+  by (Some mid) is y rest = rest mid (stays_sound-law f mid e sound is) y
+
+-- ---- the end of a poll
+
+-- an answer is given at its moment
+answered-now : (f g : FineState) (conn now : ℕ) (failed : Bool) (dialed : Option Bool) (level : Bool) (told : Reply)
+    → fine f (Answer conn now failed dialed level told) ≡ Some g → g.state.moment ≡ now
+answered-now f g conn now failed dialed level told h =
+    let allowed = chosen (nat_le f.state.moment now && is_answered f conn now o (pending_at f.state.tables conn))
+    (option_map (answered_fine f e conn) (option_and_then (if_reply told) (answer s conn now o))) g (stepped f g e h) in
+    by_call (pending_at f.state.tables conn) allowed.1 where
+      o : Outside
+      o = outside f conn failed dialed level
+
+      e : Event
+      e = Answer conn now failed dialed level told
+
+      s : State
+      s = record f.state { wire = wire_for f conn }
+
+      by_same : (d : Reply × Tables) (same : Bool) → option_map (answered_fine f e conn) (cond same (Some (answered s conn now o.moves d).1) None) ≡ Some g → g.state.moment ≡ now
+      by_same d true x = sym (ap (λ (y : FineState). y.state.moment) (same_Some (answered_fine f e conn (answered s conn now o.moves d).1) g x))
+      by_same d false x = cc
+
+      by_reply : (d : Option (Reply × Tables)) → option_map (answered_fine f e conn) (option_and_then (if_reply told) (option_map (answered s conn now o.moves) d)) ≡ Some g
+          → g.state.moment ≡ now
+      by_reply None x = cc
+      by_reply (Some d) x = by_same d (same_reply d.0 told) x
+
+      by_call : (p : Option Pending) → option_map (answered_fine f e conn) (option_and_then (if_reply told) (option_and_then (answer_to s conn now o) p)) ≡ Some g
+          → g.state.moment ≡ now
+      by_call None x = cc
+      by_call (Some p) x = by_reply (decide s.tables s.wire conn p now o) x
+
+-- the answer of a poll leads from the state behind its transfers to the one that it leaves
+pub answer-ends : (f g : FineState) (conn now : ℕ) (moves : List Transfer) (ran : Ran) (level : Bool) (told : Reply)
+    → (polls : Polls f conn now moves (Answered ran level told) g) → fine polls.behind (Answer conn now (is_broken ran) None level told) ≡ Some g
+answer-ends f g conn now moves ran level told polls =
+    let at : polls.last.state.moment ≡ now = answered-now polls.behind polls.last conn now (is_broken ran) None level told polls.ended in
+    polls.ended ∙ ap (λ n. Some (at_moment polls.last n)) at ∙ ap Some (sym polls.at_now)
+
+-- ---- what a call leaves that is over
+
+-- the state of a core whose call is over, with these tables
+pub fine-closed : {B : Type 0} (means : B → Means) (k : KernelState B) (conn : ℕ) (after : Tables)
+    → fine_of means (closed (record k { tables = after }) conn) ≡ over (fine_of means k) conn k.moment after
+fine-closed {B} means k conn after = by k.running where
+  with_turn : Option Turn → Wire → FineState
+  with_turn turn before = record {
+    state = record { tables = with_pending after conn None; wire = (means k.bus).wire; moment = k.moment };
+    turn = turn;
+    before = before;
+    dialed = without_dial k.dialed conn;
+  }
+
+  by : (o : Option Running)
+      → with_turn (turn_shown (running_without o conn) k.made) (before_shown (running_without o conn) k.before (means k.bus).wire)
+      ≡ with_turn (turn_left_by (turn_shown o k.made) conn)
+      (wire_before (turn_left_by (turn_shown o k.made) conn) (means k.bus).wire (before_shown o k.before (means k.bus).wire))
+  by None = refl
+  by (Some r) = same (r.conn == conn) where
+    same : (b : Bool)
+        → with_turn (turn_shown (cond b None (Some r)) k.made) (before_shown (cond b None (Some r)) k.before (means k.bus).wire)
+        ≡ with_turn (cond b None (Some (record { connection = r.conn; begun = r.turn.begun; moves = k.made })))
+        (wire_before (cond b None (Some (record { connection = r.conn; begun = r.turn.begun; moves = k.made }))) (means k.bus).wire k.before)
+    same true = refl
+    same false = refl
+
+-- its turn is as it was, or over
+left-running : (o : Option Running) (conn : ℕ) → (running_without o conn ≡ o) ⊎ (running_without o conn ≡ None)
+left-running None conn = inl refl
+left-running (Some r) conn = by (r.conn == conn) where
+  by : (b : Bool) → (cond b None (Some r) ≡ Some r) ⊎ (cond b None (Some r) ≡ None)
+  by true = inr refl
+  by false = inl refl
+
+pub closed-leaves : {B : Type 0} (means : B → Means) (k : KernelState B) (conn : ℕ) (after : Tables) → LeavesTurn means k (closed (record k { tables = after }) conn)
+closed-leaves means k conn after = record { running = by (left-running k.running conn); before = refl; made = refl; wire = refl } where
+  by : (running_without k.running conn ≡ k.running) ⊎ (running_without k.running conn ≡ None)
+      → (running_without k.running conn ≡ k.running) × (k.room ≡ k.room) ⊎ (running_without k.running conn ≡ None)
+  by (inl e) = inl (e, refl)
+  by (inr e) = inr e
+
+-- ---- a poll that makes no transfer
+
+-- the steps of a poll that makes none
+no-steps : {B : Type 0} (means : B → Means) (through : B → Step → B → Type 0) (bus : B) (steps : List Step) → steps ≡ [] → Walk means through bus steps bus
+no-steps means through bus steps e = subst (λ ss. Walk means through bus ss bus) (sym e) refl
+
+-- a poll that made no transfer, and whose call's turn didn't go on, asked the bus for nothing
+no-asks : (b : FineState) (conn : ℕ) (p : Pending) (moves : List Transfer) (ran : Ran) → moves ≡ [] → ran ≡ Still → asks b conn p moves ran ≡ []
+no-asks b conn p moves ran none still =
+    ap (λ ts. map Went ts ++ refused_ask ran (wanted b conn p)) none ∙ ap (λ x. refused_ask x (wanted b conn p)) still
+
+-- a call that is answered where no transfer was made
+pub still-ends : {B : Type 0} (means : B → Means) (through : B → Step → B → Type 0) (srq ndac : B → Bool) (k : KernelState B) (conn : ℕ) (after : Tables)
+    (given : Reply) (ended : Ended) → Holds means k → (means k.bus).moves ≡ []
+    → Polls (fine_of means k) conn k.moment [] (Answered Still false given) (over (fine_of means k) conn k.moment after)
+    → ended_shown ended k.room ≡ Answered Still false given → ended_len ended ≤ WRITE_MAX
+    → EndsFrom means through srq ndac k conn ended (closed (record k { tables = after }) conn)
+still-ends {B} means through srq ndac k conn after given ended holds cut polls shown within =
+    let f : FineState = fine_of means k in
+    let new : KernelState B = closed (record k { tables = after }) conn in
+    let e : Event = Answer conn k.moment false None false given in
+    let left : Polls f conn k.moment [] (Answered Still false given) (fine_of means new) =
+    subst (Polls f conn k.moment [] (Answered Still false given)) (sym (fine-closed means k conn after)) polls in
+    let behind : left.behind ≡ f = behind-still f (fine_of means new) conn k.moment (Answered Still false given) left refl in
+    let goes : fine f e ≡ Some (fine_of means new) = ap (λ b. fine b e) (sym behind) ∙ answer-ends f (fine_of means new) conn k.moment [] Still false given left in
+    let P : Ending → Type 0 = λ ending. PollsOver means through srq ndac f k.bus conn k.moment [] ending (fine_of means new) k.bus in
+    let M : List Transfer → Type 0 = λ moves. Polls f conn k.moment moves (Answered Still false given) (fine_of means new) in
+    record {
+      keeps = keeps-after means k new e refl holds (closed-leaves means k conn after) goes;
+      moment = refl;
+      within = within;
+      over = subst P (sym shown) (record {
+        polls = subst M (sym cut) left;
+        walk = no-steps means through k.bus _ (ap (λ ts. map Went ts ++ []) cut);
+        told = refl;
+      });
+    }
+
+-- a call that waits where no transfer was made
+pub waits-ends : {B : Type 0} (means : B → Means) (through : B → Step → B → Type 0) (srq ndac : B → Bool) (k : KernelState B) (conn : ℕ) (why : Why) (ended : Ended)
+    → Keeps means k → (means k.bus).moves ≡ [] → ran_of (Waited why) ≡ Still
+    → Polls (fine_of means k) conn k.moment [] (Waited why) (fine_of means k)
+    → ended_shown ended k.room ≡ Waited why → ended_len ended ≤ WRITE_MAX
+    → EndsFrom means through srq ndac k conn ended k
+waits-ends {B} means through srq ndac k conn why ended keeps cut still polls shown within =
+    let f : FineState = fine_of means k in
+    let P : Ending → Type 0 = λ ending. PollsOver means through srq ndac f k.bus conn k.moment [] ending f k.bus in
+    let M : List Transfer → Type 0 = λ moves. Polls f conn k.moment moves (Waited why) f in
+    let here : Polls f conn k.moment (means k.bus).moves (Waited why) f = subst M (sym cut) polls in
+    record {
+      keeps = keeps;
+      moment = refl;
+      within = within;
+      over = subst P (sym shown) (record {
+        polls = here;
+        walk = no-steps means through k.bus _ (no-asks here.behind conn here.asked (means k.bus).moves (ran_of (Waited why)) cut still);
+        told = tt;
+      });
+    }
+
+-- a call of which a dial is asked for
+pub dials-ends : {B : Type 0} (means : B → Means) (through : B → Step → B → Type 0) (srq ndac : B → Bool) (k : KernelState B) (conn host port : ℕ) (ended : Ended)
+    → Keeps means k → (means k.bus).moves ≡ []
+    → KeepsDials k.tables (without_dial k.dialed conn ++ conn ∷ [])
+    → Polls (fine_of means k) conn k.moment [] (Dialed host port) (record (fine_of means k) { dialed = without_dial k.dialed conn ++ conn ∷ [] })
+    → ended_shown ended k.room ≡ Dialed host port → ended_len ended ≤ WRITE_MAX
+    → EndsFrom means through srq ndac k conn ended (record k { dialed = without_dial k.dialed conn ++ conn ∷ [] })
+dials-ends {B} means through srq ndac k conn host port ended keeps cut dials polls shown within =
+    let f : FineState = fine_of means k in
+    let new : KernelState B = record k { dialed = without_dial k.dialed conn ++ conn ∷ [] } in
+    let g : FineState = fine_of means new in
+    let P : Ending → Type 0 = λ ending. PollsOver means through srq ndac f k.bus conn k.moment [] ending g k.bus in
+    let M : List Transfer → Type 0 = λ moves. Polls f conn k.moment moves (Dialed host port) g in
+    let h = keeps.holds in
+    record {
+      keeps = record {
+        holds = record {
+          sound = record { turn_stands = h.sound.turn_stands; have_come = h.sound.have_come };
+          own = h.own;
+          runs = λ r at.
+              let x = h.runs r at in
+              record { asked = x.asked; call_at = x.call_at; job_is = x.job_is; plain = x.plain; sent = x.sent; few = x.few; own = x.own; begins = x.begins; holds = x.holds };
+          dials = dials;
+          few = h.few;
+        };
+        is_part = keeps.is_part;
+      };
+      moment = refl;
+      within = within;
+      over = subst P (sym shown) (record {
+        polls = subst M (sym cut) polls;
+        walk = no-steps means through k.bus _ (ap (λ ts. map Went ts ++ []) cut);
+        told = tt;
+      });
+    }

@@ -1,0 +1,187 @@
+-- A poll as it begins: the bus is cut and told the moment.
+use Rattle.std.proofs.Common.{◌≡◌, ◌≤◌, ℕ, Bool, List, [], ◌∷◌, Option, Some, None, sym, ap, ◌∙◌, subst, arith}
+use Rattle.std.specs.Prelude.{IsSome, max}
+use Rattle.vx_488.specs.declared.transfers.Transfer.{Transfer}
+use Rattle.vx_488.specs.declared.wire.Wire.{Wire}
+use Rattle.vx_plan.specs.Plan.{Part}
+use Rattle.vx_bus.specs.Means.{Means}
+use Rattle.vx_bus.specs.Steps.{Step, Told, Cut}
+use Rattle.vx_bus.specs.Walks.{Walk}
+use Rattle.vx_model.specs.State.{Pending, pending_at}
+use Rattle.vx_flow.specs.FineState.{Turn, FineState}
+use Rattle.vx_flow.specs.Fine.{turn_stand}
+use Rattle.vx_flow.specs.Sound.{TurnStands, IsSound}
+use Rattle.vx_flow.specs.Poll.{Ran, Still, Finished, Paused, Broken, Locked, InTurn, Held, Ending, Answered, Waited, Dialed, RanTo, EndsBy, ran_of, run_events, end_events, at_moment}
+use Rattle.vx_flow.proofs.Earlier.{earlier_law-holds}
+use Rattle.vx_kernel.specs.declared.ended.Ended.{Ended}
+use Rattle.vx_kernel.specs.KernelState.{KernelState}
+use Rattle.vx_kernel.specs.Shown.{cut_means, fine_of, turn_shown, before_shown}
+use Rattle.vx_kernel.specs.Ending.{ended_shown}
+use Rattle.vx_kernel.specs.Keeping.{Keeps}
+use Rattle.vx_kernel.specs.Turning.{HasHeard}
+use Rattle.vx_kernel.specs.Polling.{asks, IsTold, PollsOver, Leaves, EndsFrom}
+
+-- what holds between events holds at a later moment
+later-sound : (f : FineState) (now : ℕ) → IsSound f → f.state.moment ≤ now → IsSound (at_moment f now)
+later-sound f now h late = record { turn_stands = by f.turn h.turn_stands; have_come = λ conn p at. omega (arith, h.have_come conn p at, late) } where
+  by : (turn : Option Turn) → TurnStands f.state.tables f.before f.state.wire f.state.moment turn → TurnStands f.state.tables f.before f.state.wire now turn
+  by None s = s
+  by (Some u) s = record {
+    asked = s.asked;
+    link = s.link;
+    job = s.job;
+    call_at = s.call_at;
+    on_link = s.on_link;
+    has_job = s.has_job;
+    in_role = s.in_role;
+    made = s.made;
+    on_plan = s.on_plan;
+    came = s.came;
+    began = omega (arith, s.began, late);
+    passes = s.passes;
+    unmarked = s.unmarked;
+  }
+
+-- the state of a core that was told a moment
+heard-at : {B : Type 0} (means : B → Means) (k : KernelState B) (bus : B) (moment : ℕ) → (means bus).wire ≡ (means k.bus).wire
+    → fine_of means (record k { bus = bus; moment = moment }) ≡ at_moment (fine_of means k) moment
+heard-at means k bus moment e =
+    let At : Wire → FineState = λ w. record {
+      state = record { tables = k.tables; wire = w; moment = moment };
+      turn = turn_shown k.running k.made;
+      before = before_shown k.running k.before w;
+      dialed = k.dialed;
+    } in
+    ap At e
+
+-- a core that was told a moment keeps what it keeps
+pub heard-keeps : {B : Type 0} (means : B → Means) (k : KernelState B) (bus : B) (moment : ℕ) → Keeps means k → k.moment ≤ moment
+    → means bus ≡ cut_means (means k.bus) → Keeps means (record k { bus = bus; moment = moment })
+heard-keeps {B} means k bus moment keeps late cut =
+    let wire : (means bus).wire ≡ (means k.bus).wire = ap (λ (m : Means). m.wire) cut in
+    let h = keeps.holds in
+    let P : FineState → Type 0 = λ f. (u : Turn) → f.turn ≡ Some u → turn_stand f u u.moves ≡ Part in
+    record {
+      holds = record {
+        sound = subst IsSound (sym (heard-at means k bus moment wire)) (later-sound (fine_of means k) moment h.sound late);
+        own = subst (λ (w : Wire). w.own ≤ 30) (sym wire) h.own;
+        runs = λ r at.
+            let x = h.runs r at in
+            record {
+              asked = x.asked;
+              call_at = x.call_at;
+              job_is = x.job_is;
+              plain = x.plain;
+              sent = x.sent;
+              few = x.few;
+              own = x.own;
+              begins = record { left = x.begins.left; had_made = x.begins.had_made; bus = wire ∙ x.begins.bus };
+              holds = x.holds;
+            };
+        dials = h.dials;
+        few = h.few;
+      };
+      is_part = subst P (sym (heard-at means k bus moment wire)) keeps.is_part;
+    }
+
+pub has-heard : {B : Type 0} (means : B → Means) (k new : KernelState B) (conn now : ℕ) → IsSome (pending_at k.tables conn) → Keeps means k
+    → new ≡ record k { bus = new.bus; moment = max k.moment now } → means new.bus ≡ cut_means (means k.bus) → HasHeard means new conn
+has-heard {B} means k new conn now pending keeps kept cut = record {
+  pending = subst (λ (s : KernelState B). IsSome (pending_at s.tables conn)) (sym kept) pending;
+  keeps = subst (Keeps means) (sym kept) (heard-keeps means k new.bus (max k.moment now) keeps (omega arith) cut);
+  cut = ap (λ (m : Means). m.moves) cut;
+  asks = ap (λ (m : Means). m.asks) cut;
+}
+
+-- a poll from the state at the moment that the bus was told is one from the state before
+ran-earlier : (b : FineState) (moment conn now : ℕ) (p : Pending) (moves : List Transfer) (ran : Ran) → RanTo b conn now p moves ran
+    → RanTo (at_moment b moment) conn now p moves ran
+ran-earlier b moment conn now p moves Still h = h
+ran-earlier b moment conn now p moves Finished h = h
+ran-earlier b moment conn now p moves Paused h = h
+ran-earlier b moment conn now p moves Broken h = h
+
+ends-earlier : (b : FineState) (moment conn now : ℕ) (p : Pending) (ending : Ending) → EndsBy b conn now p ending → EndsBy (at_moment b moment) conn now p ending
+ends-earlier b moment conn now p (Answered ran level reply) h = h
+ends-earlier b moment conn now p (Waited (Locked link)) h = h
+ends-earlier b moment conn now p (Waited (InTurn other)) h = h
+ends-earlier b moment conn now p (Waited Held) h = h
+ends-earlier b moment conn now p (Dialed host port) h = h
+
+told-earlier : (b : FineState) (moment conn : ℕ) (p : Pending) (srq ndac : Bool) (ending : Ending) → IsTold b conn p srq ndac ending
+    → IsTold (at_moment b moment) conn p srq ndac ending
+told-earlier b moment conn p srq ndac (Answered Finished level reply) h = h
+told-earlier b moment conn p srq ndac (Answered Still level reply) h = h
+told-earlier b moment conn p srq ndac (Answered Paused level reply) h = h
+told-earlier b moment conn p srq ndac (Answered Broken level reply) h = h
+told-earlier b moment conn p srq ndac (Waited why) h = h
+told-earlier b moment conn p srq ndac (Dialed host port) h = h
+
+earlier-over : {B : Type 0} (means : B → Means) (through : B → Step → B → Type 0) (srq ndac : B → Bool) (f g : FineState) (bus mid after : B) (conn now : ℕ) (ending : Ending)
+    → f.state.moment ≤ now → Walk means through bus (Cut ∷ Told now ∷ []) mid → PollsOver means through srq ndac (at_moment f now) mid conn now [] ending g after
+    → PollsOver means through srq ndac f bus conn now (Cut ∷ Told now ∷ []) ending g after
+earlier-over {B} means through srq ndac f g bus mid after conn now ending late walk o =
+    let moves : List Transfer = (means after).moves in
+    let b : FineState = o.polls.behind in
+    let first = earlier_law-holds f b now (run_events f conn now moves) late o.polls.runs_to in
+    let second = earlier_law-holds (at_moment b first.0) o.polls.last b.state.moment (end_events conn now ending) first.2 o.polls.ended in
+    let W : B → Type 0 = λ at. Walk means through at (asks b conn o.polls.asked moves (ran_of ending)) after in
+    record {
+      polls = record {
+        asked = o.polls.asked;
+        call_at = o.polls.call_at;
+        late = late;
+        behind = at_moment b first.0;
+        runs_to = first.1;
+        ran = ran-earlier b first.0 conn now o.polls.asked moves (ran_of ending) o.polls.ran;
+        ends_by = ends-earlier b first.0 conn now o.polls.asked ending o.polls.ends_by;
+        last = at_moment o.polls.last second.0;
+        ended = second.1;
+        at_now = o.polls.at_now;
+      };
+      walk = (walk.0, walk.1, (walk.2.0, walk.2.1, subst W walk.2.2 o.walk));
+      told = told-earlier b first.0 conn o.polls.asked (srq after) (ndac after) ending o.told;
+    }
+
+-- what a poll leaves, once its end is noted
+pub poll-leaves : {B : Type 0} (means : B → Means) (through : B → Step → B → Type 0) (srq ndac : B → Bool) (k heard left new : KernelState B) (conn now : ℕ) (ended : Ended)
+    → heard ≡ record k { bus = heard.bus; moment = max k.moment now } → means heard.bus ≡ cut_means (means k.bus)
+    → Walk means through k.bus (Cut ∷ Told (max k.moment now) ∷ []) heard.bus
+    → EndsFrom means through srq ndac heard conn ended left → new ≡ record left { last = Some ended }
+    → Leaves means through srq ndac k conn now ended new
+poll-leaves {B} means through srq ndac k heard left new conn now ended kept cut walk ends noted =
+    let n : ℕ = max k.moment now in
+    let moment : heard.moment ≡ n = ap (λ (s : KernelState B). s.moment) kept in
+    let wire : (means heard.bus).wire ≡ (means k.bus).wire = ap (λ (m : Means). m.wire) cut in
+    let at : fine_of means heard ≡ at_moment (fine_of means k) n = ap (fine_of means) kept ∙ heard-at means k heard.bus n wire in
+    let P : FineState → ℕ → Type 0 = λ f now. PollsOver means through srq ndac f heard.bus conn now [] (ended_shown ended left.room) (fine_of means left) left.bus in
+    let over : P (at_moment (fine_of means k) n) n = subst (λ f. P f n) at (subst (P (fine_of means heard)) moment ends.over) in
+    subst (Leaves means through srq ndac k conn now ended) (sym noted)
+    (earlier-over means through srq ndac (fine_of means k) (fine_of means left) k.bus heard.bus left.bus conn n (ended_shown ended left.room) (omega arith) walk over)
+
+-- and what the core keeps then
+pub noted-keeps : {B : Type 0} (means : B → Means) (left new : KernelState B) (ended : Ended) → Keeps means left → new ≡ record left { last = Some ended } → Keeps means new
+noted-keeps {B} means left new ended keeps noted =
+    let h = keeps.holds in
+    subst (Keeps means) (sym noted) (record {
+      holds = record {
+        sound = h.sound;
+        own = h.own;
+        runs = λ r at.
+            let x = h.runs r at in
+            record {
+              asked = x.asked;
+              call_at = x.call_at;
+              job_is = x.job_is;
+              plain = x.plain;
+              sent = x.sent;
+              few = x.few;
+              own = x.own;
+              begins = x.begins;
+              holds = x.holds;
+            };
+        dials = h.dials;
+        few = h.few;
+      };
+      is_part = keeps.is_part;
+    })

@@ -1,0 +1,12 @@
+use Rattle.vx_core.proofs.Calls.{connects}
+use Rattle.vx_core.proofs.shared.Core.connect.Goals as goal
+
+pub invariant_of-self-2 : goal.invariant_of-self-2
+invariant_of-self-2 g c =
+    (connects g.B.Bus.means c.self.inside.kernel c.connect.new.self c.cut.new.self c.args.self.now c.in_ok-conn.conn c.args.role c.self.view_is c.self.invariant
+    (λ none. let e = c.in_ok-conn.ensures.full.1 none in cc) c.in_ok-conn.ensures.number c.in_ok-conn.ensures.ok c.cut.ensures.kept c.cut.ensures.means).keeps
+
+pub returns-clause-ok : goal.returns-clause-ok
+returns-clause-ok g c =
+    (connects g.B.Bus.means c.self.inside.kernel c.connect.new.self c.cut.new.self c.args.self.now c.in_ok-conn.conn c.args.role c.self.view_is c.self.invariant
+    (λ none. let e = c.in_ok-conn.ensures.full.1 none in cc) c.in_ok-conn.ensures.number c.in_ok-conn.ensures.ok c.cut.ensures.kept c.cut.ensures.means).allowed

@@ -1,0 +1,89 @@
+//! A poll of a call, by the order of answers.
+ghost use Rattle.std.specs.Prelude.{◌≡◌, ◌≤◌, true, Some, IsSome};
+ghost use Rattle.vx_calls.specs.declared.limits.TheConstants.{WRITE_MAX};
+ghost use Rattle.vx_model.specs.State.{Pending, pending_at};
+ghost use Rattle.vx_model.specs.Calls as calls;
+ghost use Rattle.vx_kernel.specs.Ending.{ended_len};
+ghost use Rattle.vx_kernel.specs.Keeping.{Keeps};
+ghost use Rattle.vx_kernel.specs.Polling.{Leaves, EndsFrom};
+ghost use Rattle.vx_kernel.specs.Turning.{HasHeard, HasPassed, HasTurn, IsFree};
+
+use vx_bus::Bus;
+use vx_calls::ErrorCode;
+use vx_ctrl::Went;
+use vx_kernel::{Ended, Kernel, Ran, Why};
+use vx_model::Lines;
+
+/// Answers the call of a connection by the first line of the order of answers that holds, or says why it isn't answered.
+pub(crate) fn poll<B: Bus>(kernel: &mut Kernel<B>, conn: u32, now: u64) -> Ended
+    requires pending { IsSome (pending_at kernel.old.tables conn) }
+    requires keeps { Keeps B.means kernel.old }
+    ensures keeps { Keeps B.means kernel.new }
+    ensures last { kernel.new.last ≡ Some result }
+    ensures within { ended_len result ≤ WRITE_MAX }
+    ensures leaves { Leaves B.means B.through B.srq_level B.ndac_level kernel.old conn now result kernel.new }
+{
+    kernel.hear(now);
+    let ended = answer(kernel, conn);
+    kernel.note_end(ended);
+    ended
+}
+
+/// The first lines of the order of answers, and those behind them.
+fn answer<B: Bus>(kernel: &mut Kernel<B>, conn: u32) -> Ended
+    requires heard { HasHeard B.means kernel.old conn }
+    ensures { EndsFrom B.means B.through B.srq_level B.ndac_level kernel.old conn result kernel.new }
+{
+    match kernel.lines(conn) {
+        Lines::Refused(error) => kernel.stop(conn, Ran::Still, error),
+        Lines::Waiting { link } => Ended::Waited(Why::Locked { by: link }),
+        Lines::Passed => pass(kernel, conn),
+    }
+}
+
+/// A call that the first lines let pass.
+fn pass<B: Bus>(kernel: &mut Kernel<B>, conn: u32) -> Ended
+    requires heard { HasHeard B.means kernel.old conn }
+    requires passed { HasPassed B.means kernel.old conn }
+    ensures { EndsFrom B.means B.through B.srq_level B.ndac_level kernel.old conn result kernel.new }
+{
+    if let Some(by) = kernel.turn_against(conn) {
+        Ended::Waited(Why::Turn { by })
+    } else if kernel.is_bus_call(conn) {
+        run(kernel, conn)
+    } else if kernel.asks_dial(conn) {
+        kernel.dial(conn)
+    } else {
+        kernel.effect(conn)
+    }
+}
+
+/// A bus call that waits for nobody's turn: its turn goes on, or begins where the gateway has the role for it.
+fn run<B: Bus>(kernel: &mut Kernel<B>, conn: u32) -> Ended
+    requires heard { HasHeard B.means kernel.old conn }
+    requires passed { HasPassed B.means kernel.old conn }
+    requires free { IsFree B.means kernel.old conn }
+    requires bus { (p : Pending) → pending_at kernel.old.tables conn ≡ Some p → calls.is_bus_call p.call ≡ true }
+    ensures { EndsFrom B.means B.through B.srq_level B.ndac_level kernel.old conn result kernel.new }
+{
+    if !kernel.has_turn() && !kernel.begin(conn) {
+        return kernel.stop(conn, Ran::Still, ErrorCode::BusFault);
+    }
+    go(kernel, conn)
+}
+
+/// Goes on with the turn of the connection's call, which is under way.
+fn go<B: Bus>(kernel: &mut Kernel<B>, conn: u32) -> Ended
+    requires turn { HasTurn B.means kernel.old conn }
+    ensures { EndsFrom B.means B.through B.srq_level B.ndac_level kernel.old conn result kernel.new }
+{
+    let (went, turn) = kernel.move_on(conn);
+    match went {
+        Went::Finished => kernel.finish(conn, &turn),
+        Went::Broken => kernel.stop(conn, Ran::Broken, ErrorCode::BusFault),
+        Went::Held if kernel.is_over(conn, &turn) => {
+            kernel.stop(conn, Ran::Paused, ErrorCode::Timeout)
+        }
+        Went::Held => Ended::Waited(Why::Held),
+    }
+}

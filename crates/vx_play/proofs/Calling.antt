@@ -1,0 +1,321 @@
+-- What a step that calls the core leaves of the stage that a player stands at.
+use Rattle.std.proofs.Common.{◌≡◌, ℕ, ◌≤◌, max, Bool, true, false, cond, not, ◌==◌, List, [], ◌∷◌, length, Option, Some, None, IfSome, refl, sym, ap, ◌∙◌, subst, arith}
+use Rattle.std.specs.Prelude.{is_none, is_some, nat_le, ◌&&◌}
+use Rattle.std.specs.Option.{option_map, option_and_then}
+use Rattle.std.specs.List.{list_any}
+use Rattle.std.proofs.Math.Nat.{max-eq_right}
+use Rattle.std.proofs.lemmas.Bool.{cond-true, cond-false, false≢true}
+use Rattle.std.proofs.lemmas.Option.{cond_some}
+use Rattle.vx_calls.specs.declared.calls.Role.{Role}
+use Rattle.vx_calls.specs.declared.calls.Role.TheVariants as role
+use Rattle.vx_calls.specs.declared.codes.ErrorCode.{ErrorCode}
+use Rattle.vx_calls.specs.Reply.{Reply, same_reply}
+use Rattle.vx_calls.specs.Reply as reply
+use Rattle.vx_bus.specs.Steps.{Told, Cut}
+use Rattle.vx_sim.specs.Bench.{some_asks}
+use Rattle.vx_sim.specs.SimState.{SimState, Through}
+use Rattle.vx_bus.specs.Walks.{Walk}
+use Rattle.vx_script.specs.Command.{Command, At, Poll, Sample, Take, Dial}
+use Rattle.vx_script.specs.declared.Cause.TheVariants as cause
+use Rattle.vx_trace.specs.Output.{Output, Out, IrqClosed}
+use Rattle.vx_srq.specs.Desk.{Given, Channel, channel_at, sampled, taken, given}
+use Rattle.vx_model.specs.State.{Connection, State, connection_at, pending_at, role_at, lives_as, has_role_of}
+use Rattle.vx_model.specs.Decide.{Outside, decide}
+use Rattle.vx_model.specs.Entry as entry
+use Rattle.vx_model.specs.One.{one, answered, answer_to, answer, if_reply, same_given}
+use Rattle.vx_flow.specs.Event.{Event}
+use Rattle.vx_flow.specs.Event as event
+use Rattle.vx_flow.specs.FineState.{FineState}
+use Rattle.vx_flow.specs.Fine.{comes_in_turn, wire_for, outside, is_answered, fine_after, answered_fine, fine_answer, fine_step, fine}
+use Rattle.vx_flow.proofs.Lookups.{mapped, gone_on, chosen}
+use Rattle.vx_kernel.specs.CoreState.{CoreState}
+use Rattle.vx_play.specs.declared.streams.Incoming.{Incoming}
+use Rattle.vx_play.specs.declared.note.Made.{Made}
+use Rattle.vx_play.specs.declared.note.Note.{Note}
+use Rattle.vx_play.specs.declared.note.Note.TheVariants as note
+use Rattle.vx_play.specs.Gateway.{Gateway, gateway_of, Happens}
+use Rattle.vx_play.specs.Stage.{Stage, tables_of, refusal}
+use Rattle.vx_play.specs.Meaning.{reply_record}
+use Rattle.vx_play.specs.Making.{Makes, SampleMakes, PollMakes, ChannelMakes, DialMakes, take_line}
+use Rattle.vx_play.specs.Play.{stream_after, xid_after, rack_after, moment_after}
+use Rattle.vx_play.specs.PlayerState.{PlayerState, incoming_at}
+use Rattle.vx_play.specs.Serving.{MadeBy, Tells}
+use Rattle.vx_play.specs.Standing.{Stands, Holds, TakesTo, NoteWithin, made_lines, note_line}
+use Rattle.vx_play.proofs.Stepping.{takes-to}
+use Rattle.vx_play.proofs.Roles.{roles-stay, polls-roles}
+
+-- ---- moments
+
+-- the moment of a sample
+sample-moment : (f g : FineState) (now : ℕ) (srq : Bool) → fine f (event.Sample now srq) ≡ Some g → g.state.moment ≡ now
+sample-moment f g now srq h =
+    let went = chosen (comes_in_turn f (event.Sample now srq) f.turn) (fine_step f (event.Sample now srq)) g h in
+    let made = mapped (fine_after f (event.Sample now srq) f.dialed) (one f.state (entry.Sample now srq)) g went.1 in
+    let is = cond_some (nat_le f.state.moment now)
+    (record f.state { tables = record f.state.tables { desk = sampled f.state.tables.desk srq }; moment = now }) made.0 made.1 in
+    ap (λ (x : FineState). x.state.moment) (sym made.2) ∙ ap (λ (x : State). x.moment) (sym is.1)
+
+-- a take changes none
+take-moment : (f g : FineState) (conn chan : ℕ) (told : Given) → fine f (event.Take conn chan told) ≡ Some g → g.state.moment ≡ f.state.moment
+take-moment f g conn chan told h =
+    let went = chosen (comes_in_turn f (event.Take conn chan told) f.turn) (fine_step f (event.Take conn chan told)) g h in
+    let made = mapped (fine_after f (event.Take conn chan told) f.dialed) (one f.state (entry.Take conn chan told)) g went.1 in
+    let is = cond_some (is_some (connection_at f.state.tables conn) && same_given (given f.state.tables.desk conn chan) told)
+    (record f.state { tables = record f.state.tables { desk = taken f.state.tables.desk conn chan } }) made.0 made.1 in
+    ap (λ (x : FineState). x.state.moment) (sym made.2) ∙ ap (λ (x : State). x.moment) (sym is.1)
+
+-- the moment of an answer
+answered-moment : (f g : FineState) (e : Event) (conn now : ℕ) (o : Outside) (told : Reply) → fine_answer f e conn now o told ≡ Some g → g.state.moment ≡ now
+answered-moment f g e conn now o told h =
+    let s : State = record f.state { wire = wire_for f conn } in
+    let t = f.state.tables in
+    let allowed = chosen (nat_le f.state.moment now && is_answered f conn now o (pending_at t conn))
+    (option_map (answered_fine f e conn) (option_and_then (if_reply told) (answer s conn now o))) g h in
+    let made = mapped (answered_fine f e conn) (option_and_then (if_reply told) (answer s conn now o)) g allowed.1 in
+    let replied = gone_on (if_reply told) (answer s conn now o) made.0 made.1 in
+    let is = cond_some (same_reply replied.0.0 told) replied.0.1 made.0 replied.2 in
+    let called = gone_on (answer_to s conn now o) (pending_at t conn) replied.0 replied.1 in
+    let decided = mapped (answered s conn now o.moves) (decide t s.wire conn called.0 now o) replied.0 called.2 in
+    ap (λ (x : FineState). x.state.moment) (sym made.2) ∙ ap (λ (x : State). x.moment) (sym is.1) ∙ ap (λ (x : Reply × State). x.1.moment) (sym decided.2)
+
+answer-moment : (f g : FineState) (conn now : ℕ) (failed : Bool) (dialed : Option Bool) (level : Bool) (told : Reply)
+    → fine f (event.Answer conn now failed dialed level told) ≡ Some g → g.state.moment ≡ now
+answer-moment f g conn now failed dialed level told h =
+    let e : Event = event.Answer conn now failed dialed level told in
+    answered-moment f g e conn now (outside f conn failed dialed level) told (chosen (comes_in_turn f e f.turn) (fine_step f e) g h).1
+
+-- ---- what is kept of connections
+
+-- a connection that lives in a role has one
+has-role : (r : Role) (o : Option Connection) → has_role_of r o ≡ true → is_some (option_map (λ (c : Connection). c.role) o) ≡ true
+has-role r None h = absurd (false≢true h)
+has-role r (Some c) h = refl
+
+-- the xid that is kept of a connection that lives
+xid-kept : (r : Option Role) (kept : Option Incoming) (stream : List ℕ) (last xid : ℕ) → is_some r ≡ true → Holds r kept stream last
+    → IfSome kept (λ k. xid ≡ k.xid) → xid ≡ last
+xid-kept None kept stream last xid lives holds is = absurd (false≢true lives)
+xid-kept (Some r) None stream last xid lives holds is = absurd holds
+xid-kept (Some r) (Some kept) stream last xid lives holds is = is ∙ holds.called
+
+-- ---- a step of the core
+
+-- A step that leaves who lives in which role, the streams, the xids, the spares and the moment of the next steps.
+pub core-takes : (p : PlayerState) (stage : Stage) (command : Command) (core : CoreState SimState) (room : List ℕ) (made : Made) → Stands p stage
+    → refusal stage command ≡ None → MadeBy (Makes stage command) room made core → core.fine.state.moment ≤ p.moment
+    → ((n : ℕ) → role_at core.fine.state.tables n ≡ role_at p.core.fine.state.tables n)
+    → stream_after stage command ≡ stage.streams → xid_after stage command ≡ stage.xids → rack_after stage.rack command ≡ stage.rack
+    → moment_after stage.moment command ≡ stage.moment
+    → TakesTo stage command (made_lines (record p { core = core; reply = room }) made) (record p { core = core; reply = room })
+core-takes p stage command core room made stands allowed makes late roles streams xids rack moment =
+    takes-to stage command (record p { core = core; reply = room }) made allowed makes late (stands.moment ∙ sym moment) (stands.rack ∙ sym rack)
+    (λ n.
+    subst (λ r. Holds r (incoming_at p.incoming n) (stream_after stage command n) (xid_after stage command n))
+    (sym (roles n ∙ ap (λ (g : Gateway). role_at g.fine.state.tables n) stands.gateway))
+    (subst (λ s. Holds (role_at (tables_of stage) n) (incoming_at p.incoming n) (s n) (xid_after stage command n)) (sym streams)
+    (subst (λ x. Holds (role_at (tables_of stage) n) (incoming_at p.incoming n) (stage.streams n) (x n)) (sym xids) (stands.incoming n))))
+
+-- the moment comes
+pub at-takes : (p : PlayerState) (stage : Stage) (later : ℕ) → Stands p stage → TakesTo stage (At later) [] (record p { moment = max p.moment later })
+at-takes p stage later stands =
+    takes-to stage (At later) (record p { moment = max p.moment later }) (record { polled = None; note = note.Nothing }) refl
+    (record {
+      group = [];
+      makes = (record { none = refl; same = stands.gateway }, refl);
+      lines = refl;
+      note = tt;
+      few = λ h. absurd (false≢true h);
+    }) (let late : p.core.fine.state.moment ≤ p.moment = stands.late in omega arith) (ap (λ n. max n later) stands.moment) stands.rack
+    (λ n.
+    subst (λ r. Holds r (incoming_at p.incoming n) (stage.streams n) (stage.xids n))
+    (sym (ap (λ (g : Gateway). role_at g.fine.state.tables n) stands.gateway)) (stands.incoming n))
+
+-- the SRQ line is looked at
+pub sample-takes : (p : PlayerState) (stage : Stage) (core : CoreState SimState) → Stands p stage
+    → fine p.core.fine (event.Sample (max p.core.fine.state.moment p.moment) (some_asks core.bus.bench)) ≡ Some core.fine
+    → Walk (λ (s : SimState). s.means) Through p.core.bus (Cut ∷ Told (max p.core.fine.state.moment p.moment) ∷ []) core.bus
+    → TakesTo stage Sample [] (record p { core = core })
+sample-takes p stage core stands went walk =
+    let at : max p.core.fine.state.moment p.moment ≡ p.moment = max-eq_right stands.late in
+    let now = max p.core.fine.state.moment p.moment in
+    let made : Made = record { polled = None; note = note.Nothing } in
+    let made_by : MadeBy (λ group line after. SampleMakes (gateway_of p.core) now group line after) p.reply made core = record {
+      group = event.Sample now (some_asks core.bus.bench) ∷ [];
+      makes = record { events = refl; happens = record { events = went; bus = walk }; told = refl };
+      lines = refl;
+      note = tt;
+      few = λ h. absurd (false≢true h);
+    } in
+    core-takes p stage Sample core p.reply made stands refl
+    (subst (λ g. MadeBy (λ group line after. SampleMakes g stage.moment group line after) p.reply made core) stands.gateway
+    (subst (λ m. MadeBy (λ group line after. SampleMakes (gateway_of p.core) m group line after) p.reply made core) (at ∙ stands.moment) made_by))
+    (let told : core.fine.state.moment ≡ p.moment = sample-moment p.core.fine core.fine now (some_asks core.bus.bench) went ∙ at in omega arith)
+    (λ n. roles-stay p.core.fine core.fine (event.Sample now (some_asks core.bus.bench)) n refl went) refl refl refl refl
+
+-- ---- a step of a core connection
+
+some-not-none : {A : Type 0} (o : Option A) → is_some o ≡ true → is_none o ≡ false
+some-not-none None h = absurd (false≢true h)
+some-not-none (Some x) h = refl
+
+not-some-none : {A : Type 0} (o : Option A) → is_some o ≡ false → is_none o ≡ true
+not-some-none None h = refl
+not-some-none (Some x) h = absurd (false≢true (sym h))
+
+-- what a test says of the stage's tables
+pub at-stage : (p : PlayerState) (stage : Stage) (test : FineState → Bool) (b : Bool) → Stands p stage → test p.core.fine ≡ b → test stage.gateway.fine ≡ b
+at-stage p stage test b stands h = subst (λ (g : Gateway). test g.fine ≡ b) stands.gateway h
+
+-- a connection that lives not as a core one
+pub poll-unknown : (p : PlayerState) (stage : Stage) (conn : ℕ) → Stands p stage → lives_as p.core.fine.state.tables conn role.Core ≡ false
+    → refusal stage (Poll conn) ≡ Some cause.Conn
+poll-unknown p stage conn stands unknown =
+    let lives = at-stage p stage (λ f. lives_as f.state.tables conn role.Core) false stands unknown in
+    cond-true _ (Some cause.Conn) (cond (is_none (pending_at (tables_of stage) conn)) (Some cause.Idle) None) (ap not lives)
+
+pub take-unknown : (p : PlayerState) (stage : Stage) (conn : ℕ) → Stands p stage → lives_as p.core.fine.state.tables conn role.Core ≡ false
+    → refusal stage (Take conn) ≡ Some cause.Conn
+take-unknown p stage conn stands unknown = cond-false _ None (Some cause.Conn) (at-stage p stage (λ f. lives_as f.state.tables conn role.Core) false stands unknown)
+
+pub dial-unknown : (p : PlayerState) (stage : Stage) (conn : ℕ) (up : Bool) → Stands p stage → lives_as p.core.fine.state.tables conn role.Core ≡ false
+    → refusal stage (Dial conn up) ≡ Some cause.Conn
+dial-unknown p stage conn up stands unknown =
+    let lives = at-stage p stage (λ f. lives_as f.state.tables conn role.Core) false stands unknown in
+    cond-true _ (Some cause.Conn) (cond (list_any (λ n. n == conn) stage.gateway.fine.dialed) None (Some cause.Idle)) (ap not lives)
+
+-- one without a call, and one whose call asked for no dial
+pub poll-idle : (p : PlayerState) (stage : Stage) (conn : ℕ) → Stands p stage → lives_as p.core.fine.state.tables conn role.Core ≡ true
+    → is_some (pending_at p.core.fine.state.tables conn) ≡ false → refusal stage (Poll conn) ≡ Some cause.Idle
+poll-idle p stage conn stands known idle =
+    let lives = at-stage p stage (λ f. lives_as f.state.tables conn role.Core) true stands known in
+    let none = not-some-none (pending_at (tables_of stage) conn) (at-stage p stage (λ f. is_some (pending_at f.state.tables conn)) false stands idle) in
+    cond-false _ (Some cause.Conn) (cond (is_none (pending_at (tables_of stage) conn)) (Some cause.Idle) None) (ap not lives)
+    ∙ cond-true _ (Some cause.Idle) None none
+
+pub dial-idle : (p : PlayerState) (stage : Stage) (conn : ℕ) (up : Bool) → Stands p stage → lives_as p.core.fine.state.tables conn role.Core ≡ true
+    → list_any (λ n. n == conn) p.core.fine.dialed ≡ false → refusal stage (Dial conn up) ≡ Some cause.Idle
+dial-idle p stage conn up stands known idle =
+    let lives = at-stage p stage (λ f. lives_as f.state.tables conn role.Core) true stands known in
+    let none = at-stage p stage (λ f. list_any (λ n. n == conn) f.dialed) false stands idle in
+    cond-false _ (Some cause.Conn) (cond (list_any (λ n. n == conn) stage.gateway.fine.dialed) None (Some cause.Idle)) (ap not lives)
+    ∙ cond-false _ None (Some cause.Idle) none
+
+-- the xid of a live connection's last call
+xid-is : (p : PlayerState) (stage : Stage) (conn xid : ℕ) → Stands p stage → lives_as p.core.fine.state.tables conn role.Core ≡ true
+    → IfSome (incoming_at p.incoming conn) (λ kept. xid ≡ kept.xid) → xid ≡ stage.xids conn
+xid-is p stage conn xid stands known is =
+    xid-kept (role_at (tables_of stage) conn) (incoming_at p.incoming conn) (stage.streams conn) (stage.xids conn) xid
+    (has-role role.Core (connection_at (tables_of stage) conn) (at-stage p stage (λ f. lives_as f.state.tables conn role.Core) true stands known))
+    (stands.incoming conn) is
+
+-- a connection's call is polled
+pub poll-takes : (p : PlayerState) (stage : Stage) (core : CoreState SimState) (room : List ℕ) (made : Made) (conn xid : ℕ) → Stands p stage
+    → lives_as p.core.fine.state.tables conn role.Core ≡ true → is_some (pending_at p.core.fine.state.tables conn) ≡ true
+    → IfSome (incoming_at p.incoming conn) (λ kept. xid ≡ kept.xid)
+    → MadeBy (PollMakes (gateway_of p.core) conn p.moment xid) room made core → core.fine.state.moment ≤ p.moment
+    → TakesTo stage (Poll conn) (made_lines (record p { core = core; reply = room }) made) (record p { core = core; reply = room })
+poll-takes p stage core room made conn xid stands known pending is makes late =
+    let lives = at-stage p stage (λ f. lives_as f.state.tables conn role.Core) true stands known in
+    let some = some-not-none (pending_at (tables_of stage) conn) (at-stage p stage (λ f. is_some (pending_at f.state.tables conn)) true stands pending) in
+    core-takes p stage (Poll conn) core room made stands
+    (cond-false _ (Some cause.Conn) (cond (is_none (pending_at (tables_of stage) conn)) (Some cause.Idle) None) (ap not lives)
+    ∙ cond-false _ (Some cause.Idle) None some)
+    (subst (λ x. MadeBy (λ group line after. PollMakes stage.gateway conn stage.moment x group line after) room made core) (xid-is p stage conn xid stands known is)
+    (subst (λ m. MadeBy (λ group line after. PollMakes stage.gateway conn m xid group line after) room made core) stands.moment
+    (subst (λ g. MadeBy (λ group line after. PollMakes g conn p.moment xid group line after) room made core) stands.gateway makes)))
+    late
+    (λ n. polls-roles p.core.fine conn p.moment core.bus.means.moves makes.makes.ending core.fine n makes.makes.over.polls) refl refl refl refl
+
+-- the dial of a connection's call was made
+pub dial-takes : (p : PlayerState) (stage : Stage) (core : CoreState SimState) (room : List ℕ) (made : Made) (conn xid : ℕ) (up : Bool) (error : ErrorCode)
+    → Stands p stage → lives_as p.core.fine.state.tables conn role.Core ≡ true → list_any (λ n. n == conn) p.core.fine.dialed ≡ true
+    → IfSome (incoming_at p.incoming conn) (λ kept. xid ≡ kept.xid)
+    → fine p.core.fine (event.Answer conn (max p.core.fine.state.moment p.moment) false (Some up) false (reply.Error error)) ≡ Some core.fine
+    → Walk (λ (s : SimState). s.means) Through p.core.bus (Cut ∷ Told (max p.core.fine.state.moment p.moment) ∷ []) core.bus
+    → Tells room conn (reply_record xid (reply.Error error)) made
+    → TakesTo stage (Dial conn up) (made_lines (record p { core = core; reply = room }) made) (record p { core = core; reply = room })
+dial-takes p stage core room made conn xid up error stands known dialed is went walk tells =
+    let lives = at-stage p stage (λ f. lives_as f.state.tables conn role.Core) true stands known in
+    let asked = at-stage p stage (λ f. list_any (λ n. n == conn) f.dialed) true stands dialed in
+    let at : max p.core.fine.state.moment p.moment ≡ p.moment = max-eq_right stands.late in
+    let now = max p.core.fine.state.moment p.moment in
+    let told : Made = record { polled = None; note = note.Replied conn tells.len } in
+    let made_by : MadeBy (λ group line after. DialMakes (gateway_of p.core) conn now xid up group line after) room told core = record {
+      group = event.Answer conn now false (Some up) false (reply.Error error) ∷ [];
+      makes = record {
+        error = error;
+        events = refl;
+        happens = record { events = went; bus = walk };
+        told = ap (λ bytes. Some (Out conn bytes)) tells.record_is;
+      };
+      lines = refl;
+      note = (tells.some, tells.within);
+      few = λ h. absurd (false≢true h);
+    } in
+    core-takes p stage (Dial conn up) core room made stands
+    (cond-false _ (Some cause.Conn) (cond (list_any (λ n. n == conn) stage.gateway.fine.dialed) None (Some cause.Idle)) (ap not lives)
+    ∙ cond-true _ None (Some cause.Idle) asked)
+    (subst (λ m. MadeBy (λ group line after. DialMakes stage.gateway conn stage.moment (stage.xids conn) up group line after) room m core) (sym tells.made_is)
+    (subst (λ x. MadeBy (λ group line after. DialMakes stage.gateway conn stage.moment x up group line after) room told core) (xid-is p stage conn xid stands known is)
+    (subst (λ m. MadeBy (λ group line after. DialMakes stage.gateway conn m xid up group line after) room told core) (at ∙ stands.moment)
+    (subst (λ g. MadeBy (λ group line after. DialMakes g conn now xid up group line after) room told core) stands.gateway made_by))))
+    (let later : core.fine.state.moment ≡ p.moment = answer-moment p.core.fine core.fine conn now false (Some up) false (reply.Error error) went ∙ at in omega arith)
+    (λ n. roles-stay p.core.fine core.fine (event.Answer conn now false (Some up) false (reply.Error error)) n refl went) refl refl refl refl
+
+-- ---- an interrupt is taken
+
+none-mapped : (o : Option Channel) → None ≡ option_map (λ (c : Channel). c.number) o → o ≡ None
+none-mapped None h = refl
+none-mapped (Some c) h = absurd (cc)
+
+-- where the connection has no channel
+pub none-takes : (p : PlayerState) (stage : Stage) (conn : ℕ) → Stands p stage → lives_as p.core.fine.state.tables conn role.Core ≡ true
+    → None ≡ option_map (λ (c : Channel). c.number) (channel_at p.core.fine.state.tables.desk conn)
+    → TakesTo stage (Take conn) (IrqClosed conn ∷ []) p
+none-takes p stage conn stands known none =
+    let lives = at-stage p stage (λ f. lives_as f.state.tables conn role.Core) true stands known in
+    let made : Made = record { polled = None; note = note.NoChannel conn } in
+    let free : channel_at (tables_of stage).desk conn ≡ None =
+    subst (λ (g : Gateway). channel_at g.fine.state.tables.desk conn ≡ None) stands.gateway (none-mapped (channel_at p.core.fine.state.tables.desk conn) none) in
+    let made_by : MadeBy (λ group line after. ChannelMakes stage.gateway conn None group line after) p.reply made p.core = record {
+      group = [];
+      makes = (record { none = refl; same = stands.gateway }, refl);
+      lines = refl;
+      note = tt;
+      few = λ h. absurd (false≢true h);
+    } in
+    core-takes p stage (Take conn) p.core p.reply made stands (cond-true _ None (Some cause.Conn) lives)
+    (subst (λ c. MadeBy (λ group line after. ChannelMakes stage.gateway conn c group line after) p.reply made p.core) (sym free) made_by)
+    stands.late (λ n. refl) refl refl refl refl
+
+-- what a take makes, by the channel that the connection has
+channel-makes : (before after : Gateway) (conn chan : ℕ) (o : Option Channel) (told : Given) (line : Option Output)
+    → Some chan ≡ option_map (λ (c : Channel). c.number) o → Happens before (event.Take conn chan told ∷ []) (Cut ∷ []) after
+    → line ≡ Some (take_line conn told) → ChannelMakes before conn o (event.Take conn chan told ∷ []) line after
+channel-makes before after conn chan None told line is happens shown = absurd (cc)
+channel-makes before after conn chan (Some c) told line is happens shown =
+    let same : chan ≡ c.number = cc in
+    record { given = told; events = ap (λ k. event.Take conn k told ∷ []) same; happens = happens; told = shown }
+
+-- where it has one
+pub take-takes : (p : PlayerState) (stage : Stage) (core : CoreState SimState) (room : List ℕ) (noted : Note) (conn chan : ℕ) (told : Given) → Stands p stage
+    → lives_as p.core.fine.state.tables conn role.Core ≡ true
+    → Some chan ≡ option_map (λ (c : Channel). c.number) (channel_at p.core.fine.state.tables.desk conn)
+    → fine p.core.fine (event.Take conn chan told) ≡ Some core.fine → Walk (λ (s : SimState). s.means) Through p.core.bus (Cut ∷ []) core.bus
+    → note_line room noted ≡ Some (take_line conn told) → NoteWithin (length room) noted
+    → TakesTo stage (Take conn) (made_lines (record p { core = core; reply = room }) (record { polled = None; note = noted })) (record p { core = core; reply = room })
+take-takes p stage core room noted conn chan told stands known has went walk shown within =
+    let lives = at-stage p stage (λ f. lives_as f.state.tables conn role.Core) true stands known in
+    let made : Made = record { polled = None; note = noted } in
+    let made_by : MadeBy (λ group line after. ChannelMakes (gateway_of p.core) conn (channel_at p.core.fine.state.tables.desk conn) group line after) room made core = record {
+      group = event.Take conn chan told ∷ [];
+      makes = channel-makes (gateway_of p.core) (gateway_of core) conn chan (channel_at p.core.fine.state.tables.desk conn) told (note_line room noted) has
+          (record { events = went; bus = walk }) shown;
+      lines = refl;
+      note = within;
+      few = λ h. absurd (false≢true h);
+    } in
+    core-takes p stage (Take conn) core room made stands (cond-true _ None (Some cause.Conn) lives)
+    (subst (λ (g : Gateway). MadeBy (λ group line after. ChannelMakes g conn (channel_at g.fine.state.tables.desk conn) group line after) room made core) stands.gateway made_by)
+    (let same : core.fine.state.moment ≡ p.core.fine.state.moment = take-moment p.core.fine core.fine conn chan told went in let late = stands.late in omega arith)
+    (λ n. roles-stay p.core.fine core.fine (event.Take conn chan told) n refl went) refl refl refl refl

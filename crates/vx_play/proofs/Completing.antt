@@ -1,0 +1,61 @@
+-- A play that nothing disturbs is written whole.
+use Rattle.std.proofs.Common.{◌≡◌, ℕ, ◌≤◌, ◌<◌, List, ◌++◌, length, Option, Some, None, IfSome, ap, sym, subst, ◌∙◌, inl, inr, arith, length-append}
+use Rattle.std.proofs.lemmas.Bool.{false≢true}
+use Rattle.std.specs.Io.KnownBytes.{Appends, Consumes}
+use Rattle.vx_io.specs.Faults.{Rose}
+use Rattle.vx_play.specs.declared.input.TheConstants.{SCRIPT_MAX}
+use Rattle.vx_play.specs.declared.run.Status.{Status}
+use Rattle.vx_play.specs.declared.run.Status.TheVariants as status
+use Rattle.vx_play.specs.Moving.{End, GivesAll}
+use Rattle.vx_play.specs.Item.{Item, Fault, text, last_line}
+use Rattle.vx_play.specs.Stage.{SpareShown}
+use Rattle.vx_play.specs.Play.{IsPlay}
+use Rattle.vx_play.specs.Ended as ended
+use Rattle.vx_play.specs.Ended.{EndsScript}
+use Rattle.vx_play.specs.Outcome.{Ends, IsOutcome, status_number}
+use Rattle.vx_play.specs.Laws.{WritesWhole, Completes, whole_status}
+
+-- a source that tells a script gave it
+told_is : (before after : End) (bytes t : List ℕ) → GivesAll before after bytes → before.bytes ≡ Some t → t ≡ bytes
+told_is before after bytes t read told = subst (λ o. IfSome o (λ all. all ≡ bytes)) told read.whole
+
+-- a source gives no more than it tells
+gives_within : (after : Option (List ℕ)) (t bytes : List ℕ) → Consumes (Some t) after bytes → length bytes ≤ length t
+gives_within None t bytes given = absurd given
+gives_within (Some rest) t bytes given = let n = ap length given in let m = length-append bytes rest in omega arith
+
+-- what was written is the play of the script that the source tells
+written_whole : (rack : List SpareShown) (ends : Ends) (bytes t : List ℕ) (items : List Item) (fault : Option Fault) (number : ℕ) → t ≡ bytes
+    → ended.IsPlayed bytes rack items fault → Appends ends.sink.bytes ends.sink_after.bytes (text items ++ last_line fault) → number ≡ status_number (whole_status fault)
+    → WritesWhole rack ends t number
+written_whole rack ends bytes t items fault number same played taken is = record {
+  items = items;
+  fault = fault;
+  play = subst (λ b. IsPlay b rack items fault) (sym same) played.play;
+  status = is;
+  written = taken;
+}
+
+-- how an undisturbed play ends
+pub completes : (words : List (List ℕ)) (rack : List SpareShown) (ends : Ends) (how : Status) (number : ℕ) → number ≡ status_number how → IsOutcome words rack ends how
+    → Completes words rack ends number
+completes words rack ends status.Done number is out t calm =
+    inr (written_whole rack ends out.bytes t out.ended.0 None number (told_is _ _ _ t out.read calm.told) out.ended.1 out.ended.2 is)
+completes words rack ends status.Usage number is out t calm = absurd (false≢true (sym out.0.no_command ∙ calm.command))
+completes words rack ends status.SourceFailed number is out t calm = absurd (calm.source_good out.1)
+completes words rack ends status.Fault number is out t calm =
+    inr (written_whole rack ends out.bytes t out.ended.0 (Some out.ended.1) number (told_is _ _ _ t out.read calm.told) out.ended.2 out.ended.3 is)
+completes words rack ends status.SinkFailed number is (inl out) t calm = absurd (calm.sink_good out.1.rose)
+completes words rack ends status.SinkFailed number is (inr (inl out)) t calm = absurd (calm.sink_good out.1.rose)
+completes words rack ends status.SinkFailed number is (inr (inr out)) t calm = absurd (calm.sink_good (stopped out.ended))
+  where
+    stopped : EndsScript out.bytes rack ends.sink ends.sink_after status.SinkFailed → Rose ends.sink.faults ends.sink_after.faults
+    stopped (inl (front, is, stops)) = stops.rose
+    stopped (inr (all, at, is, stops)) = stops.rose
+completes words rack ends status.NoMemory number is out t calm = inl is
+completes words rack ends status.TooLong number is out t calm =
+    let much = out.0.read in
+    let fits = gives_within ends.source_after.bytes t out.0.bytes (subst (λ o. Consumes o ends.source_after.bytes out.0.bytes) calm.told much.given) in
+    let above : SCRIPT_MAX < length out.0.bytes = much.above in
+    let within : length t ≤ SCRIPT_MAX = calm.within in
+    absurd (omega arith)

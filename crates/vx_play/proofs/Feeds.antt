@@ -1,0 +1,124 @@
+-- What feeding and answering the buffer of a connection leave.
+use Rattle.std.proofs.Common.{◌≡◌, ◌≢◌, ℕ, ◌<◌, ◌≤◌, List, [], ◌∷◌, length, Option, Some, None, IfSome, refl, sym, ap, ◌∙◌, subst, arith}
+use Rattle.std.proofs.lemmas.Bool.{false≢true}
+use Rattle.std.proofs.lemmas.Option.{same_Some}
+use Rattle.vx_calls.specs.declared.calls.Role.{Role}
+use Rattle.vx_calls.specs.declared.limits.TheConstants.{RECORD_MAX}
+use Rattle.vx_record.specs.Buffer.{fresh, fed, taken}
+use Rattle.vx_record.specs.declared.Fed.{Fed}
+use Rattle.vx_record.specs.declared.Feed.{Feed}
+use Rattle.vx_script.specs.declared.Cause.TheVariants as cause
+use Rattle.vx_bus.specs.Steps.{Cut}
+use Rattle.vx_sim.specs.SimState.{SimState}
+use Rattle.vx_flow.specs.Event as event
+use Rattle.vx_kernel.specs.CoreState.{CoreState}
+use Rattle.vx_play.specs.declared.note.Gone.TheVariants as gone
+use Rattle.vx_play.specs.declared.note.Note.TheVariants as note
+use Rattle.vx_play.specs.declared.note.Made.{Made}
+use Rattle.vx_play.specs.declared.note.Stop.TheVariants as stop
+use Rattle.vx_play.specs.declared.streams.Incoming.{Incoming}
+use Rattle.vx_play.specs.Gateway.{Gateway, gateway_of, Happens}
+use Rattle.vx_play.specs.Meaning.{Meaning, Junk, Answered, Asks, Aborts, meaning, xid_by}
+use Rattle.vx_play.specs.Making.{MessageMakes}
+use Rattle.vx_play.specs.Serving.{MadeBy}
+use Rattle.vx_play.specs.Feeding.{FeedsTo, kept_behind, AnswersRecord, FeedMakes, FeedsPiece, StopsPiece}
+use Rattle.vx_play.proofs.Limits.{fed-limit}
+
+-- what holds of what is kept holds of what is there
+pub if-there : (P : Incoming → Type 0) (o : Option Incoming) (kept : Incoming) → o ≡ Some kept → IfSome o P → P kept
+if-there P o kept is h = subst (λ k. IfSome k P) is h
+
+pub if-some : (P : Incoming → Type 0) (o : Option Incoming) (kept : Incoming) → o ≡ Some kept → P kept → IfSome o P
+if-some P o kept is h = subst (λ k. IfSome k P) (sym is) h
+
+-- behind a call or an answer a buffer begins anew, with the xid that the connection has then
+kept-behind : (m : Meaning) (kept : Incoming) (xid : ℕ) → m ≢ Junk → xid_by m kept.xid ≡ xid
+    → Some (record kept { buffer = fresh kept.buffer.limit; xid = xid }) ≡ kept_behind m kept
+kept-behind Junk kept xid live same = absurd (live refl)
+kept-behind (Answered message) kept xid live same = ap (λ n. Some (record kept { buffer = fresh kept.buffer.limit; xid = n })) (sym same)
+kept-behind (Asks asks_xid asked) kept xid live same = ap (λ n. Some (record kept { buffer = fresh kept.buffer.limit; xid = n })) (sym same)
+kept-behind (Aborts asks_xid lid) kept xid live same = ap (λ n. Some (record kept { buffer = fresh kept.buffer.limit; xid = n })) (sym same)
+
+-- a meaning that sets the xid isn't junk
+pub sets-xid : (m : Meaning) (xid : ℕ) → ((last : ℕ) → xid_by m last ≡ xid) → m ≢ Junk
+sets-xid m xid same junk =
+    let first : 0 ≡ xid = subst (λ k. xid_by k 0 ≡ xid) junk (same 0) in
+    let second : 1 ≡ xid = subst (λ k. xid_by k 1 ≡ xid) junk (same 1) in
+    omega arith
+
+-- a whole record that was answered, or called
+pub record-answered : (g : Gateway) (after : CoreState SimState) (conn now : ℕ) (r : Role) (was kept : Incoming) (room : List ℕ) (after_kept : Option Incoming) (made : Made) (xid : ℕ)
+    → was ≡ kept → meaning was.buffer.kept r ≢ Junk → xid_by (meaning was.buffer.kept r) was.xid ≡ xid
+    → after_kept ≡ Some (record was { buffer = fresh was.buffer.limit; xid = xid })
+    → MadeBy (MessageMakes g conn now (meaning was.buffer.kept r)) room made after → AnswersRecord g conn now r kept room after_kept made after
+record-answered g after conn now r was kept room after_kept made xid same live xid_is is made_by =
+    let P : Incoming → Type 0 = λ k. AnswersRecord g conn now r k room after_kept made after in
+    subst P same (record { made_by = made_by; kept_is = is ∙ kept-behind (meaning was.buffer.kept r) was xid live xid_is })
+
+-- a whole record that is junk
+pub record-junk : (before mid after : CoreState SimState) (conn now : ℕ) (r : Role) (was kept : Incoming) (room : List ℕ) (after_kept : Option Incoming)
+    → was ≡ kept → meaning was.buffer.kept r ≡ Junk → gateway_of mid ≡ gateway_of before
+    → Happens (gateway_of mid) (event.Down conn ∷ []) (Cut ∷ []) (gateway_of after) → after_kept ≡ None
+    → AnswersRecord (gateway_of before) conn now r kept room after_kept (record { polled = None; note = note.Ended conn gone.Junk }) after
+record-junk before mid after conn now r was kept room after_kept same junk stays went none =
+    let made : Made = record { polled = None; note = note.Ended conn gone.Junk } in
+    let P : Incoming → Type 0 = λ k. AnswersRecord (gateway_of before) conn now r k room after_kept made after in
+    let Q : Meaning → Type 0 = λ m. MadeBy (MessageMakes (gateway_of before) conn now m) room made after in
+    let from : Happens (gateway_of before) (event.Down conn ∷ []) (Cut ∷ []) (gateway_of after) =
+    subst (λ g. Happens g (event.Down conn ∷ []) (Cut ∷ []) (gateway_of after)) stays went in
+    subst P same (record {
+      made_by = subst Q (sym junk) (record {
+        group = event.Down conn ∷ [];
+        makes = record { events = refl; happens = from; told = refl };
+        lines = refl;
+        note = tt;
+        few = λ polled. absurd (false≢true polled);
+      });
+      kept_is = subst (λ m. after_kept ≡ kept_behind m was) (sym junk) none;
+    })
+
+-- ---- a piece
+
+-- the buffer took the whole piece, and stands in this state
+pub record IsFedWhole (kept : Incoming) (piece : List ℕ) (new : Option Incoming) (state : Feed) : Type 0 where
+  pub whole : taken kept.buffer piece ≡ length piece
+  pub is : new ≡ Some (record kept { buffer = fed kept.buffer piece })
+  pub state_is : (fed kept.buffer piece).state ≡ state
+
+pub fed-whole : (old new : Option Incoming) (kept : Incoming) (piece : List ℕ) (result : Fed) (state : Feed) → FeedsTo old piece new result → old ≡ Some kept
+    → length piece ≤ result.took → result.state ≡ state → IsFedWhole kept piece new state
+fed-whole old new kept piece result state f was all is =
+    let same : f.kept ≡ kept = same_Some f.kept kept (sym f.was ∙ was) in
+    let took : result.took ≡ length piece = (let w = f.within in omega arith) in
+    subst (λ k. IsFedWhole k piece new state) same (record { whole = sym f.took ∙ took; is = f.is; state_is = sym f.state ∙ is })
+
+-- what stands in the buffer then was answered so
+pub feeds-piece : (g : Gateway) (conn now : ℕ) (r : Role) (kept : Incoming) (piece room : List ℕ) (new after_kept : Option Incoming) (made : Made)
+    (after : CoreState SimState) (state : Feed) → IsFedWhole kept piece new state
+    → FeedMakes g conn now r (record kept { buffer = fed kept.buffer piece }) room after_kept made after state
+    → FeedsPiece g conn now r kept piece room after_kept made after
+feeds-piece g conn now r kept piece room new after_kept made after state is makes = record {
+  whole = is.whole;
+  makes = subst (FeedMakes g conn now r (record kept { buffer = fed kept.buffer piece }) room after_kept made after) (sym is.state_is) makes;
+}
+
+-- bytes follow a record
+pub stops-piece : (old new : Option Incoming) (kept : Incoming) (piece : List ℕ) (result : Fed) → FeedsTo old piece new result → old ≡ Some kept
+    → result.took < length piece → StopsPiece kept piece (stop.Refused cause.After)
+stops-piece old new kept piece result f was short =
+    let same : f.kept ≡ kept = same_Some f.kept kept (sym f.was ∙ was) in
+    let count = f.took in
+    let less : taken f.kept.buffer piece < length piece = omega arith in
+    (refl, subst (λ k. taken k.buffer piece < length piece) same less)
+
+-- what is kept behind a feed stands in its state
+pub fed-state : (old new : Option Incoming) (piece : List ℕ) (result : Fed) (state : Feed) → FeedsTo old piece new result → result.state ≡ state
+    → IfSome new (λ k. k.buffer.state ≡ state)
+fed-state old new piece result state f is = if-some (λ k. k.buffer.state ≡ state) new (record f.kept { buffer = fed f.kept.buffer piece }) f.is (sym f.state ∙ is)
+
+-- and has the limit that it had
+pub fed-limits : (old new : Option Incoming) (piece : List ℕ) (result : Fed) → FeedsTo old piece new result
+    → IfSome old (λ k. k.buffer.limit ≡ RECORD_MAX) → IfSome new (λ k. k.buffer.limit ≡ RECORD_MAX)
+fed-limits old new piece result f limit =
+    if-some (λ k. k.buffer.limit ≡ RECORD_MAX) new (record f.kept { buffer = fed f.kept.buffer piece }) f.is
+    (fed-limit f.kept.buffer piece ∙ if-there (λ k. k.buffer.limit ≡ RECORD_MAX) old f.kept f.was limit)

@@ -1,0 +1,228 @@
+-- What the instruments hear of a write, they take.
+use Rattle.std.proofs.Common.{◌≡◌, ◌≢◌, ◌≤◌, ℕ, Bool, true, false, cond, List, [], ◌∷◌, ◌++◌, map, Option, Some, None, refl, sym, ap, ◌∙◌, subst}
+use Rattle.std.specs.Prelude.{◌==◌, ◌&&◌, nat_le, is_none}
+use Rattle.std.specs.Option.{option_and_then}
+use Rattle.std.specs.List.{All, AllZip, list_all}
+use Rattle.std.proofs.lemmas.Bool.{false≢true, and_parts, and_from, eqb-true}
+use Rattle.std.proofs.lemmas.Option.{cond_some}
+use Rattle.std.proofs.lemmas.List.Folds.{list_all-append}
+use Rattle.vx_calls.specs.declared.targets.Target.{Target}
+use Rattle.vx_calls.specs.declared.targets.Target.TheVariants.{Interface, Device}
+use Rattle.vx_calls.specs.Call.{Call}
+use Rattle.vx_calls.specs.Call as call
+use Rattle.vx_488.specs.declared.transfers.Transfer.{Transfer}
+use Rattle.vx_488.specs.declared.wire.Wire.{Wire}
+use Rattle.vx_488.specs.Heard.{heard}
+use Rattle.vx_488.proofs.AddressCommands.{listen_byte, talk_byte, secondary_byte}
+use Rattle.vx_plan.specs.Plan.{Slot, Stand, Whole, Part, Off, stand}
+use Rattle.vx_plan.specs.Tasks.{unl, mta, listener, ended_poll, puts, just, write_plan, IsTargetPlain, IsSecondaryPlain}
+use Rattle.vx_links.specs.Table.{Link}
+use Rattle.vx_bus.specs.Steps.{Step, Went, Told, Cut}
+use Rattle.vx_sim.specs.Bench.{some_asks, some_refuses}
+use Rattle.vx_sim.specs.SimState.{Through}
+use Rattle.vx_sim.specs.Laws.{transfers, is_quiet, only_puts, TakesAll}
+use Rattle.vx_sim.proofs.Hears.{heard-taken}
+use Rattle.vx_model.specs.Lists.{along}
+use Rattle.vx_model.specs.State.{Pending, Tables, pending_at, link_of}
+use Rattle.vx_model.specs.Calls.{sets_end}
+use Rattle.vx_model.specs.Checks.{link_found, named_link}
+use Rattle.vx_model.specs.Effects.{task_of}
+use Rattle.vx_model.specs.Serving.{IsPlainLink}
+use Rattle.vx_model.specs.Decide.{stand_of_job}
+use Rattle.vx_flow.specs.Event.{Begin, Move}
+use Rattle.vx_flow.specs.FineState.{Turn, FineState}
+use Rattle.vx_flow.specs.Fine.{call_stand, turn_stand, is_on, goes_on, may_begin, may_move, comes_in_turn, fine_step, fine}
+use Rattle.vx_flow.specs.Poll as poll
+use Rattle.vx_flow.specs.Poll.{Ran, Ending, ran_of, begins, run_events}
+use Rattle.vx_flow.specs.Sound.{TurnStands, IsSound}
+use Rattle.vx_flow.proofs.Whom.{just-front}
+use Rattle.vx_flow.proofs.Plain.{found-has}
+use Rattle.vx_kernel.specs.Polling.{PollsOver, wanted, refused_ask}
+use Rattle.vx_play.specs.Gateway.{Gateway}
+use Rattle.vx_play.specs.Hearing.{is_write, TakesHeard}
+
+-- ---- transfers that change instruments at most by a byte that is put
+
+abbrev all_quiet : List Transfer → Bool
+all_quiet ts = list_all (λ t. only_puts (Went t)) ts
+
+-- of one list and then another
+quiet-both : (xs ys : List Transfer) → all_quiet xs ≡ true → all_quiet ys ≡ true → all_quiet (xs ++ ys) ≡ true
+quiet-both xs ys h k = list_all-append (λ t. only_puts (Went t)) xs ys ∙ and_from (all_quiet xs) (all_quiet ys) h k
+
+quiet-parts : (xs ys : List Transfer) → all_quiet (xs ++ ys) ≡ true → (all_quiet xs ≡ true) × (all_quiet ys ≡ true)
+quiet-parts xs ys h = and_parts (all_quiet xs) (all_quiet ys) (sym (list_all-append (λ t. only_puts (Went t)) xs ys) ∙ h)
+
+-- serial poll mode ends so
+ended-quiet : (polling : Bool) → all_quiet (ended_poll polling) ≡ true
+ended-quiet true = refl
+ended-quiet false = refl
+
+-- a device is made a listener so
+listener-quiet : (p : ℕ) (s : Option ℕ) → p ≤ 30 → IsSecondaryPlain s → all_quiet (listener p s) ≡ true
+listener-quiet p None h plain = and_from _ _ (ap is_quiet (listen_byte p h)) refl
+listener-quiet p (Some s) h plain = and_from _ _ (ap is_quiet (listen_byte p h)) (and_from _ _ (ap is_quiet (secondary_byte s plain)) refl)
+
+-- bytes are put so
+puts-quiet : (end : Bool) (bytes : List ℕ) → all_quiet (puts end bytes) ≡ true
+puts-quiet end [] = refl
+puts-quiet end (b ∷ []) = refl
+puts-quiet end (b ∷ c ∷ bs) = puts-quiet end (c ∷ bs)
+
+-- all that a write to a device makes
+addressed-quiet : (p : ℕ) (s : Option ℕ) (end : Bool) (bytes : List ℕ) (polling : Bool) (own : ℕ) → IsTargetPlain (Device p s) → own ≤ 30
+    → all_quiet (ended_poll polling ++ unl ∷ mta own ∷ listener p s ++ puts end bytes) ≡ true
+addressed-quiet p s end bytes polling own plain small =
+    quiet-both (ended_poll polling ++ unl ∷ mta own ∷ listener p s) (puts end bytes)
+    (quiet-both (ended_poll polling) (unl ∷ mta own ∷ listener p s) (ended-quiet polling)
+    (and_from _ _ (ap is_quiet (talk_byte own small)) (listener-quiet p s plain.0 plain.1)))
+    (puts-quiet end bytes)
+
+-- ---- the transfers of a write
+
+-- a list that keeps to a plan of such transfers alone
+just-quiet : (xs ts : List Transfer) → all_quiet xs ≡ true → stand (just xs) ts ≢ Off → all_quiet ts ≡ true
+just-quiet xs ts quiet on =
+    let front = just-front xs ts on in
+    (quiet-parts ts front.0 (ap all_quiet front.1 ∙ quiet)).0
+
+-- to the plan of a write
+plan-quiet : (t : Target) (end : Bool) (bytes : List ℕ) (polling : Bool) (own : ℕ) (ts : List Transfer) → IsTargetPlain t → own ≤ 30
+    → stand (write_plan t end bytes polling own) ts ≢ Off → all_quiet ts ≡ true
+plan-quiet Interface end bytes polling own ts plain small on = just-quiet (puts end bytes) ts (puts-quiet end bytes) on
+plan-quiet (Device p s) end bytes polling own ts plain small on =
+    just-quiet (ended_poll polling ++ unl ∷ mta own ∷ listener p s ++ puts end bytes) ts (addressed-quiet p s end bytes polling own plain small) on
+
+-- to the job of a call that writes
+call-quiet : (t : Tables) (w : Wire) (conn : ℕ) (asked : Call) (ts : List Transfer) → All IsPlainLink t.links.links → w.own ≤ 30 → is_write asked ≡ true
+    → stand_of_job w asked ts (task_of (named_link t conn asked) asked) ≢ Off → all_quiet ts ≡ true
+call-quiet t w conn (call.Write lid io_timeout lock_timeout flags bytes) ts plain small is on = by (link_of t conn lid) refl on where
+  by : (o : Option Link) → link_of t conn lid ≡ o
+      → stand_of_job w (call.Write lid io_timeout lock_timeout flags bytes) ts (task_of (link_found o) (call.Write lid io_timeout lock_timeout flags bytes)) ≢ Off
+      → all_quiet ts ≡ true
+  by None e on = absurd (on refl)
+  by (Some l) e on =
+      plan-quiet l.target (sets_end flags) bytes w.polling w.own ts
+      (found-has IsPlainLink (λ k. (k.number == lid) && (k.connection == conn)) t.links.links l e plain) small on
+call-quiet t w conn _ ts plain small is on = absurd (false≢true is)
+
+-- ---- the transfers of a poll
+
+stays-on : (s : Stand) → is_on s ≡ true → s ≢ Off
+stays-on Off h e = false≢true h
+stays-on Whole h e = cc
+stays-on Part h e = cc
+
+-- the call of a connection is a write; the addresses of links, and the own one as its turn began, are at most 30
+record Writes (f : FineState) (conn : ℕ) (p : Pending) : Type 0 where
+  call_at : pending_at f.state.tables conn ≡ Some p
+  writes : is_write p.call ≡ true
+  links : All IsPlainLink f.state.tables.links.links
+  own : f.before.own ≤ 30
+
+-- a turn may go on with these transfers
+turn-quiet : (f : FineState) (conn : ℕ) (p : Pending) (moves : List Transfer) (turn : Option Turn) → Writes f conn p → may_move f conn moves turn ≡ true
+    → all_quiet moves ≡ true
+turn-quiet f conn p moves None w h = absurd (false≢true h)
+turn-quiet f conn p moves (Some u) w h =
+    let t = f.state.tables in
+    let made = u.moves ++ moves in
+    let both = and_parts ((u.connection == conn) && goes_on f.state conn (pending_at t conn)) (is_on (turn_stand f u made)) h in
+    let own-turn = eqb-true u.connection conn (and_parts (u.connection == conn) (goes_on f.state conn (pending_at t conn)) both.0).0 in
+    let on = stays-on (turn_stand f u made) both.1 in
+    let here : call_stand t f.before conn made (pending_at t conn) ≢ Off = subst (λ n. call_stand t f.before n made (pending_at t n) ≢ Off) own-turn on in
+    (quiet-parts u.moves moves
+    (call-quiet t f.before conn p.call made w.links w.own w.writes (subst (λ o. call_stand t f.before conn made o ≢ Off) w.call_at here))).1
+
+-- what is allowed between events is a step
+fine-step : {X : Type 0} (b : Bool) (o : Option X) (x : X) → cond b o None ≡ Some x → o ≡ Some x
+fine-step true o x h = h
+fine-step false o x h = cc
+
+moved-quiet : (f next : FineState) (conn : ℕ) (p : Pending) (moves : List Transfer) → Writes f conn p → fine f (Move conn moves) ≡ Some next → all_quiet moves ≡ true
+moved-quiet f next conn p moves w h =
+    let step = fine-step (comes_in_turn f (Move conn moves) f.turn) (fine_step f (Move conn moves)) next h in
+    turn-quiet f conn p moves f.turn w (cond_some (may_move f conn moves f.turn) _ next step).0
+
+-- where no turn is under way the bus as it began is the bus as it is
+wire-is : (f : FineState) → IsSound f → is_none f.turn ≡ true → f.before ≡ f.state.wire
+wire-is f sound h = by f.turn h sound.turn_stands where
+  by : (o : Option Turn) → is_none o ≡ true → TurnStands f.state.tables f.before f.state.wire f.state.moment o → f.before ≡ f.state.wire
+  by None h stands = stands
+  by (Some u) h stands = absurd (false≢true h)
+
+-- the turn of a write begins
+begun-writes : (f mid : FineState) (conn now : ℕ) (p : Pending) → IsSound f → Writes f conn p → fine f (Begin conn now) ≡ Some mid → Writes mid conn p
+begun-writes f mid conn now p sound w h =
+    let step = fine-step (comes_in_turn f (Begin conn now) f.turn) (fine_step f (Begin conn now)) mid h in
+    let free = is_none f.turn && nat_le f.state.moment now in
+    let parts = cond_some (free && may_begin f.state conn now (pending_at f.state.tables conn)) _ mid step in
+    let none = (and_parts (is_none f.turn) (nat_le f.state.moment now) (and_parts free (may_begin f.state conn now (pending_at f.state.tables conn)) parts.0).0).0 in
+    let small : f.state.wire.own ≤ 30 = subst (λ (v : Wire). v.own ≤ 30) (wire-is f sound none) w.own in
+    subst (λ m. Writes m conn p) parts.1 (record { call_at = w.call_at; writes = w.writes; links = w.links; own = small })
+
+-- the transfers of a poll of a write
+run-quiet : (f behind : FineState) (conn now : ℕ) (p : Pending) (moves : List Transfer) → IsSound f → Writes f conn p
+    → along fine (Some f) (run_events f conn now moves) ≡ Some behind → all_quiet moves ≡ true
+run-quiet f behind conn now p [] sound w h = refl
+run-quiet f behind conn now p (t ∷ ts) sound w h = by (begins f conn now) h where
+  begun : (o : Option FineState) → fine f (Begin conn now) ≡ o → option_and_then (λ s. fine s (Move conn (t ∷ ts))) o ≡ Some behind → all_quiet (t ∷ ts) ≡ true
+  begun None e h = cc
+  begun (Some mid) e h = moved-quiet mid behind conn p (t ∷ ts) (begun-writes f mid conn now p sound w e) h
+
+  by : (b : Bool) → along fine (Some f) (cond b (Begin conn now ∷ []) [] ++ Move conn (t ∷ ts) ∷ []) ≡ Some behind → all_quiet (t ∷ ts) ≡ true
+  by true h = begun (fine f (Begin conn now)) refl h
+  by false h = moved-quiet f behind conn p (t ∷ ts) w h
+
+-- ---- the steps of a poll
+
+-- an ask that didn't go changes nothing, and is no transfer
+refused-quiet : (ran : Ran) (slot : Option Slot) → list_all only_puts (refused_ask ran slot) ≡ true
+refused-quiet poll.Paused (Some slot) = refl
+refused-quiet poll.Paused None = refl
+refused-quiet poll.Broken (Some slot) = refl
+refused-quiet poll.Broken None = refl
+refused-quiet poll.Still slot = refl
+refused-quiet poll.Finished slot = refl
+
+refused-none : (ran : Ran) (slot : Option Slot) → transfers (refused_ask ran slot) ≡ []
+refused-none poll.Paused (Some slot) = refl
+refused-none poll.Paused None = refl
+refused-none poll.Broken (Some slot) = refl
+refused-none poll.Broken None = refl
+refused-none poll.Still slot = refl
+refused-none poll.Finished slot = refl
+
+-- transfers that went, and steps behind them
+steps-quiet : (moves : List Transfer) (rest : List Step) → all_quiet moves ≡ true → list_all only_puts rest ≡ true → list_all only_puts (map Went moves ++ rest) ≡ true
+steps-quiet [] rest h k = k
+steps-quiet (t ∷ ts) rest h k =
+    let both = and_parts (only_puts (Went t)) (all_quiet ts) h in
+    and_from (only_puts (Went t)) (list_all only_puts (map Went ts ++ rest)) both.0 (steps-quiet ts rest both.1 k)
+
+steps-moves : (moves : List Transfer) (rest : List Step) → transfers rest ≡ [] → transfers (map Went moves ++ rest) ≡ moves
+steps-moves [] rest h = h
+steps-moves (t ∷ ts) rest h = ap (λ us. t ∷ us) (steps-moves ts rest h)
+
+-- In a poll of a write the instruments are told the moment, and then each takes, in order, the bytes that its address hears
+-- of the poll's transfers, and no others.
+pub write-taken : (before after : Gateway) (conn now : ℕ) (ending : Ending)
+    → PollsOver (λ s. s.means) Through (λ s. some_asks s.bench) (λ s. some_refuses s.means.wire s.bench) before.fine before.bus conn now (Cut ∷ Told now ∷ []) ending after.fine after.bus
+    → IsSound before.fine
+    → All IsPlainLink before.fine.state.tables.links.links
+    → before.fine.before.own ≤ 30
+    → (p : Pending) → pending_at before.fine.state.tables conn ≡ Some p → is_write p.call ≡ true → TakesHeard before.bus now after.bus.means.moves after.bus
+write-taken before after conn now ending over sound links own p at is =
+    let moves = after.bus.means.moves in
+    let writes : Writes before.fine conn p = record { call_at = at; writes = is; links = links; own = own } in
+    let quiet = run-quiet before.fine over.polls.behind conn now p moves sound writes over.polls.runs_to in
+    let ran = ran_of ending in
+    let slot = wanted over.polls.behind conn over.polls.asked in
+    let told = over.walk.2.0 in
+    let takes = heard-taken told after.bus (map Went moves ++ refused_ask ran slot) (steps-quiet moves (refused_ask ran slot) quiet (refused-quiet ran slot)) over.walk.2.2 in
+    record {
+      told = told;
+      tells = (over.walk.0, over.walk.1, (told, over.walk.2.1, refl));
+      takes = subst (λ ts. AllZip (λ p q. (q.at ≡ p.at) × TakesAll (heard p.at told.means.wire ts) p.seat q.seat) told.bench after.bus.bench)
+          (steps-moves moves (refused_ask ran slot) (refused-none ran slot)) takes;
+    }

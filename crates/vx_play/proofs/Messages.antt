@@ -1,0 +1,286 @@
+-- What serving a message makes of the gateway.
+use Rattle.std.proofs.Common.{◌≡◌, ◌==◌, ℕ, ◌≤◌, ◌-◌, max, drop, length-drop, Bool, true, false, cond, ◌&&◌, IsTrue, List, [], ◌∷◌, ◌++◌, length, Option, Some, None, is_some, IsSome, refl, sym, ap, ◌∙◌, subst, arith, length-append, lit≤}
+use Rattle.std.specs.Prelude.{is_none, nat_le}
+use Rattle.std.specs.Option.{option_map, option_and_then}
+use Rattle.std.specs.List.{find}
+use Rattle.std.proofs.lemmas.Bool.{false≢true, and_parts, and_from}
+use Rattle.std.proofs.lemmas.Option.{cond_some, same_Some}
+use Rattle.vx_calls.specs.declared.calls.Role.{Role}
+use Rattle.vx_calls.specs.declared.calls.Role.TheVariants as role
+use Rattle.vx_calls.specs.declared.calls.Proc.{Proc}
+use Rattle.vx_calls.specs.declared.calls.Proc.TheVariants as proc
+use Rattle.vx_calls.specs.declared.calls.CallRef.{CallRef}
+use Rattle.vx_calls.specs.declared.calls.CallRef.TheVariants as seen
+use Rattle.vx_calls.specs.declared.codes.ErrorCode.{ErrorCode}
+use Rattle.vx_calls.specs.declared.limits.TheConstants.{RECORD_MAX}
+use Rattle.vx_calls.specs.Call.{Call, call_shown}
+use Rattle.vx_calls.specs.Call as call
+use Rattle.vx_calls.specs.Reply as reply
+use Rattle.vx_xdr.specs.Spelling.{word, opaque, padding}
+use Rattle.vx_rpc.specs.Procedure.{serves}
+use Rattle.vx_codec.specs.Asked.{Asks, IsPuttable, arguments, arguments_of, call_of}
+use Rattle.vx_codec.specs.Row.{Contents}
+use Rattle.vx_trace.specs.Output.{Out}
+use Rattle.vx_bus.specs.Steps.{Told, Cut}
+use Rattle.vx_sim.specs.SimState.{SimState}
+use Rattle.vx_model.specs.Lists.{update_first}
+use Rattle.vx_model.specs.State.{Pending, Connection, Tables, State, connection_at, pending_at, role_at, lives_as, has_role_of, same_role, is_idle, with_pending}
+use Rattle.vx_model.specs.Entry as entry
+use Rattle.vx_model.specs.One.{may_wait, arrived}
+use Rattle.vx_model.specs.Held.{IsShort}
+use Rattle.vx_flow.specs.Event.{Event, Up, Down, Arrive, Abort}
+use Rattle.vx_flow.specs.FineState.{FineState}
+use Rattle.vx_flow.specs.Fine.{comes_in_turn, fine_step, fine}
+use Rattle.vx_flow.proofs.Lookups.{chosen}
+use Rattle.vx_kernel.specs.CoreState.{CoreState}
+use Rattle.vx_play.specs.declared.note.Made.{Made}
+use Rattle.vx_play.specs.declared.serve.Served.TheVariants as served
+use Rattle.vx_play.specs.Gateway.{Gateway, gateway_of, BusGoes}
+use Rattle.vx_play.specs.Meaning.{Meaning, Junk, Answered, Aborts, by_call, xid_by, record_of, reply_record}
+use Rattle.vx_play.specs.Meaning as meant
+use Rattle.vx_play.specs.Making.{PollMakes, MessageMakes}
+use Rattle.vx_play.specs.Serving.{MadeBy, Tells, IsRipe, Serves}
+use Rattle.vx_play.proofs.Roles.{as-one, tested-fine}
+
+-- ---- roles
+
+same-role : (a b : Role) → same_role a b ≡ true → a ≡ b
+same-role role.Core role.Core h = refl
+same-role role.Abort role.Abort h = refl
+same-role role.Core role.Abort h = absurd (false≢true h)
+same-role role.Abort role.Core h = absurd (false≢true h)
+
+own-role : (a : Role) → same_role a a ≡ true
+own-role role.Core = refl
+own-role role.Abort = refl
+
+-- a connection that lives in a role has it
+pub lives-role : (t : Tables) (conn : ℕ) (r : Role) → lives_as t conn r ≡ true → role_at t conn ≡ Some r
+lives-role t conn r = by (connection_at t conn) where
+  by : (o : Option Connection) → has_role_of r o ≡ true → option_map (λ (c : Connection). c.role) o ≡ Some r
+  by None h = absurd (false≢true h)
+  by (Some c) h = ap Some (same-role c.role r h)
+
+-- and one that has it lives in it
+pub role-lives : (t : Tables) (conn : ℕ) (r : Role) → role_at t conn ≡ Some r → lives_as t conn r ≡ true
+role-lives t conn r = by (connection_at t conn) where
+  by : (o : Option Connection) → option_map (λ (c : Connection). c.role) o ≡ Some r → has_role_of r o ≡ true
+  by None h = cc
+  by (Some c) h = subst (λ x. same_role c.role x ≡ true) (same_Some c.role r h) (own-role c.role)
+
+-- a connection with a role lives
+pub role-connection : (t : Tables) (conn : ℕ) (r : Role) → role_at t conn ≡ Some r → IsSome (connection_at t conn)
+role-connection t conn r = by (connection_at t conn) where
+  by : (o : Option Connection) → option_map (λ (c : Connection). c.role) o ≡ Some r → IsSome o
+  by None h = cc
+  by (Some c) h = refl
+
+-- ---- a call that comes, by its procedure
+
+-- a call that may wait comes on a core connection
+wait-core : (r : Role) (p : Proc) (values : Contents (arguments_of p)) → IsTrue (serves r p) → may_wait (call_of p values) ≡ true → r ≡ role.Core
+wait-core role.Core p values served waits = refl
+wait-core role.Abort proc.Null values served waits = absurd (false≢true waits)
+wait-core role.Abort proc.DeviceAbort values served waits = absurd (false≢true waits)
+wait-core role.Abort _ values served waits = absurd (false≢true served)
+
+-- whether a call is a device_abort
+is_abort : Call → Bool
+is_abort (call.DeviceAbort lid) = true
+is_abort _ = false
+
+-- a device_abort comes on an abort connection
+abort-role : (r : Role) (p : Proc) (values : Contents (arguments_of p)) → IsTrue (serves r p) → is_abort (call_of p values) ≡ true → r ≡ role.Abort
+unfolding is_abort
+abort-role role.Abort p values served aborts = refl
+abort-role role.Core proc.DeviceAbort values served aborts = absurd (false≢true served)
+abort-role role.Core _ values served aborts = absurd (false≢true aborts)
+
+shown-abort : (lid : ℕ) → is_abort (call.DeviceAbort lid) ≡ true
+unfolding is_abort
+shown-abort lid = refl
+
+-- a call whose arguments were read may come on a connection without a call
+pub ripe : (t : Tables) (conn : ℕ) (r : Role) (p : Proc) (asked : Call) (args : List ℕ) → lives_as t conn r ≡ true → pending_at t conn ≡ None
+    → IsTrue (serves r p) → Asks p asked args → IsRipe t conn asked
+ripe t conn r p asked args lives idle served asks = record {
+  idle = λ waits.
+      let core : r ≡ role.Core = wait-core r p asks.0 served (subst (λ c. may_wait c ≡ true) asks.1 waits) in
+      and_from (lives_as t conn role.Core) (is_none (pending_at t conn)) (subst (λ k. lives_as t conn k ≡ true) core lives) (ap is_none idle);
+  abort = λ lid is.
+      let aborts : is_abort (call_of p asks.0) ≡ true = subst (λ c. is_abort c ≡ true) (sym is ∙ asks.1) (shown-abort lid) in
+      subst (λ k. lives_as t conn k ≡ true) (abort-role r p asks.0 served aborts) lives;
+}
+
+-- an opaque spells as many bytes as it has, or more
+opaque-long : (value : List ℕ) → length value ≤ length (opaque value)
+opaque-long value =
+    let both = length-append value (padding (length value)) in
+    omega arith
+
+behind-long : (front value : List ℕ) → length value ≤ length (front ++ opaque value)
+behind-long front value =
+    let both = length-append front (opaque value) in
+    let long = opaque-long value in
+    omega arith
+
+-- a call whose arguments fit a record is short
+pub call-short : (asked : Call) → IsPuttable asked → length (arguments asked) ≤ RECORD_MAX → IsShort asked
+call-short (call.CreateLink client lock lock_timeout device) puttable len = omega arith
+call-short (call.Write lid io_timeout lock_timeout flags bytes) puttable len =
+    let long = behind-long (word lid ++ word io_timeout ++ word lock_timeout ++ word flags) bytes in
+    omega arith
+call-short (call.Docmd lid flags io_timeout lock_timeout cmd big size bytes) puttable len =
+    let long = opaque-long bytes in
+    omega arith
+call-short _ puttable len = lit≤ tt
+
+-- ---- a call as it was read
+
+-- one that is neither the null procedure nor a device_abort is asked of the core
+pub asks-core : (r : CallRef) (xid : ℕ) → (r ≡ seen.Null → ⊥) → ((lid : ℕ) → r ≡ seen.DeviceAbort lid → ⊥) → by_call xid (call_shown r) ≡ meant.Asks xid (call_shown r)
+asks-core seen.Null xid not_null not_abort = absurd (not_null refl)
+asks-core (seen.DeviceAbort lid) xid not_null not_abort = absurd (not_abort lid refl)
+asks-core _ xid not_null not_abort = refl
+
+-- and may wait
+pub asks-wait : (r : CallRef) → (r ≡ seen.Null → ⊥) → ((lid : ℕ) → r ≡ seen.DeviceAbort lid → ⊥) → may_wait (call_shown r) ≡ true
+asks-wait seen.Null not_null not_abort = absurd (not_null refl)
+asks-wait (seen.DeviceAbort lid) not_null not_abort = absurd (not_abort lid refl)
+asks-wait _ not_null not_abort = refl
+
+-- ---- what events leave of the moment and of calls
+
+tested : (P : State → Type 0) (b : Bool) (s t : State) → P s → cond b (Some s) None ≡ Some t → P t
+tested P b s t holds h = subst P (cond_some b s t h).1 holds
+
+-- the event of a step that was allowed
+pub step-made : (f g : FineState) (e : Event) → fine f e ≡ Some g → fine_step f e ≡ Some g
+step-made f g e h = (chosen (comes_in_turn f e f.turn) (fine_step f e) g h).1
+
+pub up-moment : (f g : FineState) (conn : ℕ) (r : Role) → fine f (Up conn r) ≡ Some g → g.state.moment ≡ f.state.moment
+up-moment f g conn r h =
+    as-one (λ s. s.moment ≡ f.state.moment) f g (Up conn r) (entry.Up conn r) (λ s made. tested (λ s. s.moment ≡ f.state.moment) _ _ s refl made) (step-made f g (Up conn r) h)
+
+pub down-moment : (f g : FineState) (conn : ℕ) → fine f (Down conn) ≡ Some g → g.state.moment ≡ f.state.moment
+down-moment f g conn h =
+    tested-fine (λ s. s.moment ≡ f.state.moment) (is_some (connection_at f.state.tables conn)) _ g refl (step-made f g (Down conn) h)
+
+pub abort-moment : (f g : FineState) (conn lid : ℕ) (told : ErrorCode) → fine f (Abort conn lid told) ≡ Some g → g.state.moment ≡ f.state.moment
+abort-moment f g conn lid told h =
+    as-one (λ s. s.moment ≡ f.state.moment) f g (Abort conn lid told) (entry.Abort conn lid told) (λ s made. tested (λ s. s.moment ≡ f.state.moment) _ _ s refl made)
+    (step-made f g (Abort conn lid told) h)
+
+-- a call that is kept is found
+found-pending : (conn : ℕ) (p : Pending) (r : Role) (cs : List Connection) → has_role_of r (find (λ c. c.number == conn) cs) ≡ true
+    → is_some (option_and_then (λ (c : Connection). c.pending) (find (λ c. c.number == conn) (update_first (λ c. c.number == conn) (λ c. record c { pending = Some p }) cs))) ≡ true
+found-pending conn p r [] h = absurd (false≢true h)
+found-pending conn p r (c ∷ cs) h = by (c.number == conn) refl h (found-pending conn p r cs) where
+  by : (b : Bool) → (c.number == conn) ≡ b → has_role_of r (cond b (Some c) (find (λ c. c.number == conn) cs)) ≡ true
+      → (has_role_of r (find (λ c. c.number == conn) cs) ≡ true
+      → is_some (option_and_then (λ (c : Connection). c.pending) (find (λ c. c.number == conn) (update_first (λ c. c.number == conn) (λ c. record c { pending = Some p }) cs))) ≡ true)
+      → is_some (option_and_then (λ (c : Connection). c.pending)
+      (find (λ c. c.number == conn) (cond b (record c { pending = Some p } ∷ cs) (c ∷ update_first (λ c. c.number == conn) (λ c. record c { pending = Some p }) cs)))) ≡ true
+  by true e lives rest = ap (λ b. is_some (option_and_then (λ (c : Connection). c.pending) (cond b (Some (record c { pending = Some p })) (find (λ c. c.number == conn) cs)))) e
+  by false e lives rest =
+      ap (λ b. is_some (option_and_then (λ (c : Connection). c.pending)
+      (cond b (Some c) (find (λ c. c.number == conn) (update_first (λ c. c.number == conn) (λ c. record c { pending = Some p }) cs))))) e
+      ∙ rest lives
+
+-- a call that came is kept, at its moment
+pub record IsKept (conn now : ℕ) (s : State) : Type 0 where
+  pub moment : s.moment ≡ now
+  pub pending : IsSome (pending_at s.tables conn)
+
+pub arrive-kept : (f g : FineState) (conn now : ℕ) (asked : Call) → fine f (Arrive conn asked now) ≡ Some g → IsKept conn now g.state
+arrive-kept f g conn now asked h =
+    as-one (IsKept conn now) f g (Arrive conn asked now) (entry.Arrive conn asked now)
+    (λ s made.
+    let next : State = record f.state { tables = with_pending f.state.tables conn (Some (arrived asked now)); moment = now } in
+    let parts = cond_some (nat_le f.state.moment now && is_idle f.state.tables conn && may_wait asked) next s made in
+    let tests = and_parts (nat_le f.state.moment now && is_idle f.state.tables conn) (may_wait asked) parts.0 in
+    let idle = (and_parts (nat_le f.state.moment now) (is_idle f.state.tables conn) tests.0).1 in
+    let lives = (and_parts (lives_as f.state.tables conn role.Core) (is_none (pending_at f.state.tables conn)) idle).0 in
+    subst (IsKept conn now) parts.1 (record { moment = refl; pending = found-pending conn (arrived asked now) role.Core f.state.tables.connections lives }))
+    (step-made f g (Arrive conn asked now) h)
+
+-- ---- what was made
+
+-- a message that says what is answered without touching the core
+pub answered-made : (g : Gateway) (after : CoreState SimState) (conn now : ℕ) (message room : List ℕ) (made : Made) → gateway_of after ≡ g
+    → Tells room conn (record_of message) made → MadeBy (MessageMakes g conn now (Answered message)) room made after
+answered-made g after conn now message room made same tells =
+    let P : Made → Type 0 = λ m. MadeBy (MessageMakes g conn now (Answered message)) room m after in
+    subst P (sym tells.made_is) (record {
+      group = [];
+      makes = (record { none = refl; same = same }, ap (λ r. Some (Out conn r)) tells.record_is);
+      lines = refl;
+      note = (tells.some, tells.within);
+      few = λ polled. absurd (false≢true polled);
+    })
+
+pub answered-serves : (g : Gateway) (after : CoreState SimState) (conn now : ℕ) (m : Meaning) (message room : List ℕ) (made : Made) → m ≡ Answered message
+    → gateway_of after ≡ g → Tells room conn (record_of message) made → Serves g conn now m room (served.Answered made) after
+answered-serves g after conn now m message room made is same tells =
+    let P : Meaning → Type 0 = λ k. Serves g conn now k room (served.Answered made) after in
+    subst P (sym is) (answered-made g after conn now message room made same tells, λ last. refl, λ junk. absurd (cc))
+
+-- a device_abort
+pub aborted-serves : (before after : CoreState SimState) (conn now xid lid : ℕ) (m : Meaning) (error : ErrorCode) (room : List ℕ) (made : Made) → m ≡ Aborts xid lid
+    → fine before.fine (Abort conn lid error) ≡ Some after.fine → BusGoes before.bus (Cut ∷ []) after.bus
+    → Tells room conn (reply_record xid (reply.Error error)) made → Serves (gateway_of before) conn now m room (served.Answered made) after
+aborted-serves before after conn now xid lid m error room made is went walk tells =
+    let P : Meaning → Type 0 = λ k. Serves (gateway_of before) conn now k room (served.Answered made) after in
+    let Q : Made → Type 0 = λ k. MadeBy (MessageMakes (gateway_of before) conn now (Aborts xid lid)) room k after in
+    subst P (sym is) (
+      subst Q (sym tells.made_is) (record {
+        group = Abort conn lid error ∷ [];
+        makes = record {
+          error = error;
+          events = refl;
+          happens = record { events = went; bus = walk };
+          told = ap (λ r. Some (Out conn r)) tells.record_is;
+        };
+        lines = refl;
+        note = (tells.some, tells.within);
+        few = λ polled. absurd (false≢true polled);
+      }),
+      λ last. refl,
+      λ junk. absurd (cc),
+    )
+
+-- a call that came, and was polled
+pub called-serves : (before mid after : CoreState SimState) (conn now told xid : ℕ) (m : Meaning) (asked : Call) (room : List ℕ) (made : Made) → m ≡ meant.Asks xid asked
+    → told ≡ now → fine before.fine (Arrive conn asked told) ≡ Some mid.fine → BusGoes before.bus (Cut ∷ Told told ∷ []) mid.bus
+    → MadeBy (PollMakes (gateway_of mid) conn now xid) room made after → Serves (gateway_of before) conn now m room (served.Called xid made) after
+called-serves before mid after conn now told xid m asked room made is at came walk polled =
+    let P : Meaning → Type 0 = λ k. Serves (gateway_of before) conn now k room (served.Called xid made) after in
+    let came_now : fine before.fine (Arrive conn asked now) ≡ Some mid.fine = subst (λ n. fine before.fine (Arrive conn asked n) ≡ Some mid.fine) at came in
+    let walk_now : BusGoes before.bus (Cut ∷ Told now ∷ []) mid.bus = subst (λ n. BusGoes before.bus (Cut ∷ Told n ∷ []) mid.bus) at walk in
+    subst P (sym is) (
+      record {
+        group = Arrive conn asked now ∷ polled.group;
+        makes = record {
+          come = gateway_of mid;
+          comes = record { events = came_now; bus = walk_now };
+          rest = polled.group;
+          polled = polled.makes;
+          events = refl;
+        };
+        lines = polled.lines;
+        note = polled.note;
+        few = polled.few;
+      },
+      λ last. refl,
+    )
+
+-- the later of two moments, of which the first isn't later
+pub later-moment : (before now : ℕ) → before ≤ now → max before now ≡ now
+later-moment before now late = omega arith
+
+-- a call that was read at the end of a message that fits a record is short
+pub read-short : (message args : List ℕ) (asked : Call) (n : ℕ) → IsPuttable asked → length (arguments asked) ≡ length args → args ≡ drop n message
+    → length message ≤ RECORD_MAX → IsShort asked
+read-short message args asked n puttable len is fits =
+    let dropped : length args ≡ length message - n = ap length is ∙ length-drop n message in
+    call-short asked puttable (omega arith)

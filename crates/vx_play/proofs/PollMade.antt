@@ -1,0 +1,138 @@
+-- What a poll of the core makes of a play.
+use Rattle.std.proofs.Common.{◌≡◌, ℕ, ◌<◌, ◌≤◌, Bool, true, false, cond, List, [], ◌∷◌, ◌++◌, length, take, Some, refl, ap, ◌∙◌, subst, arith}
+use Rattle.std.specs.List.{flat_map, All}
+use Rattle.std.proofs.Math.Nat.{max-eq_right}
+use Rattle.vx_calls.specs.declared.replies.ReplyRef.{ReplyRef}
+use Rattle.vx_calls.specs.Reply.{reply_shown}
+use Rattle.vx_488.specs.declared.transfers.Transfer.{Transfer}
+use Rattle.vx_bus.specs.Steps.{Told, Cut}
+use Rattle.vx_sim.specs.Bench.{some_asks, some_refuses}
+use Rattle.vx_sim.specs.SimState.{SimState, Through}
+use Rattle.vx_model.specs.Serving.{IsPlainLink}
+use Rattle.vx_flow.specs.Event as event
+use Rattle.vx_flow.specs.FineState.{FineState}
+use Rattle.vx_flow.specs.Poll.{Ending, Answered, Waited, Dialed, begins, run_events, end_events, moved_events}
+use Rattle.vx_flow.specs.Sound.{IsSound}
+use Rattle.vx_kernel.specs.CoreState.{CoreState}
+use Rattle.vx_kernel.specs.Ending.{why_shown}
+use Rattle.vx_kernel.specs.Polling.{PollsOver}
+use Rattle.vx_kernel.specs.declared.ended.Why.{Why}
+use Rattle.vx_kernel.specs.declared.ended.Why.TheVariants as why
+use Rattle.vx_core.specs.declared.polled.Polled.{Polled}
+use Rattle.vx_core.specs.declared.polled.Polled.TheVariants as polled
+use Rattle.vx_core.specs.Lending.{Shows, PollLeaves}
+use Rattle.vx_trace.specs.Output.{Out, WaitDial}
+use Rattle.vx_play.specs.declared.note.Note.{Note}
+use Rattle.vx_play.specs.declared.note.Note.TheVariants as note
+use Rattle.vx_play.specs.Meaning.{reply_record}
+use Rattle.vx_play.specs.Gateway.{gateway_of}
+use Rattle.vx_play.specs.Item.{bus_lines}
+use Rattle.vx_play.specs.Making.{PollMakes, poll_line}
+use Rattle.vx_play.specs.Serving.{MadeBy}
+use Rattle.vx_play.specs.Standing.{note_line, moves_lines, wait_line, NoteWithin}
+use Rattle.vx_play.proofs.Hearing.{write-taken}
+
+-- ---- lines
+
+-- the lines of a poll's events are those of its transfers
+poll-lines : (f : FineState) (conn now : ℕ) (moves : List Transfer) (ending : Ending)
+    → flat_map bus_lines (run_events f conn now moves ++ end_events conn now ending) ≡ moves_lines (Some conn) moves
+poll-lines f conn now moves ending = by (begins f conn now) moves ending where
+  by : (b : Bool) (moves : List Transfer) (ending : Ending)
+      → flat_map bus_lines ((cond b (event.Begin conn now ∷ []) [] ++ moved_events conn moves) ++ end_events conn now ending) ≡ moves_lines (Some conn) moves
+  by true [] (Answered ran level given) = refl
+  by true [] (Waited w) = refl
+  by true [] (Dialed host port) = refl
+  by true (t ∷ ts) (Answered ran level given) = refl
+  by true (t ∷ ts) (Waited w) = refl
+  by true (t ∷ ts) (Dialed host port) = refl
+  by false [] (Answered ran level given) = refl
+  by false [] (Waited w) = refl
+  by false [] (Dialed host port) = refl
+  by false (t ∷ ts) (Answered ran level given) = refl
+  by false (t ∷ ts) (Waited w) = refl
+  by false (t ∷ ts) (Dialed host port) = refl
+
+-- a reply's line
+answer-line : (ending : Ending) (given : ReplyRef) (conn xid : ℕ) (told : List ℕ) → Shows (polled.Answer given) ending → told ≡ reply_record xid (reply_shown given)
+    → Some (Out conn told) ≡ Some (poll_line conn xid ending)
+answer-line (Answered ran level r) given conn xid told shows is = ap (λ record_is. Some (Out conn record_is)) (is ∙ ap (reply_record xid) shows)
+answer-line (Waited w) given conn xid told shows is = absurd shows
+answer-line (Dialed host port) given conn xid told shows is = absurd shows
+
+-- the line of a call that waits
+wait-shown : (w : Why) (conn xid : ℕ) → Some (wait_line conn w) ≡ Some (poll_line conn xid (Waited (why_shown w)))
+wait-shown (why.Locked by) conn xid = refl
+wait-shown (why.Turn by) conn xid = refl
+wait-shown why.Held conn xid = refl
+
+waits-line : (ending : Ending) (w : Why) (conn xid : ℕ) → Shows (polled.NotYet w) ending → Some (wait_line conn w) ≡ Some (poll_line conn xid ending)
+waits-line (Answered ran level r) w conn xid shows = absurd shows
+waits-line (Waited waits) w conn xid shows = wait-shown w conn xid ∙ ap (λ k. Some (poll_line conn xid (Waited k))) shows
+waits-line (Dialed host port) w conn xid shows = absurd shows
+
+-- the line of a dial that is asked for
+dial-line : (ending : Ending) (host port conn xid : ℕ) → Shows (polled.Dial host port) ending → Some (WaitDial conn) ≡ Some (poll_line conn xid ending)
+dial-line (Answered ran level r) host port conn xid shows = absurd shows
+dial-line (Waited w) host port conn xid shows = absurd shows
+dial-line (Dialed h p) host port conn xid shows = refl
+
+-- ---- a poll
+
+-- what a poll leaves of a core of a simulated bus
+abbrev pub Leaves : CoreState SimState → ℕ → ℕ → Polled → CoreState SimState → Type 0
+Leaves = PollLeaves (λ s. s.means) Through (λ s. some_asks s.bench) (λ s. some_refuses s.means.wire s.bench)
+
+-- the moment of a poll
+pub poll-late : (old new : CoreState SimState) (conn now : ℕ) (result : Polled) → old.fine.state.moment ≤ now → Leaves old conn now result new
+    → new.fine.state.moment ≤ now
+poll-late old new conn now result late leaves =
+    let told : new.fine.state.moment ≡ now = ap (λ (f : FineState). f.state.moment) leaves.over.polls.at_now ∙ max-eq_right late in
+    omega arith
+
+-- A poll makes its events, and the line of its note.
+pub poll-made : (old new : CoreState SimState) (conn now xid : ℕ) (result : Polled) (room : List ℕ) (told : Note) → old.fine.state.moment ≤ now
+    → IsSound old.fine → All IsPlainLink old.fine.state.tables.links.links → old.fine.before.own ≤ 30 → (leaves : Leaves old conn now result new)
+    → note_line room told ≡ Some (poll_line conn xid leaves.ending) → NoteWithin (length room) told
+    → MadeBy (PollMakes (gateway_of old) conn now xid) room (record { polled = Some conn; note = told }) new
+poll-made old new conn now xid result room told late sound links own leaves line within =
+    let over : PollsOver (λ s. s.means) Through (λ s. some_asks s.bench) (λ s. some_refuses s.means.wire s.bench) old.fine old.bus conn now
+    (Cut ∷ Told now ∷ []) leaves.ending new.fine new.bus =
+    subst (λ m. PollsOver (λ s. s.means) Through (λ s. some_asks s.bench) (λ s. some_refuses s.means.wire s.bench) old.fine old.bus conn m
+    (Cut ∷ Told m ∷ []) leaves.ending new.fine new.bus) (max-eq_right late) leaves.over in
+    record {
+      group = run_events old.fine conn now new.bus.means.moves ++ end_events conn now leaves.ending;
+      makes = record {
+        ending = leaves.ending;
+        over = over;
+        events = refl;
+        told = line;
+        taken = write-taken (gateway_of old) (gateway_of new) conn now leaves.ending over sound links own;
+      };
+      lines = poll-lines old.fine conn now new.bus.means.moves leaves.ending;
+      note = within;
+      few = λ h. leaves.few;
+    }
+
+-- by what the poll gave
+pub answer-made : (old new : CoreState SimState) (conn now xid len : ℕ) (given : ReplyRef) (room : List ℕ) → old.fine.state.moment ≤ now
+    → IsSound old.fine → All IsPlainLink old.fine.state.tables.links.links → old.fine.before.own ≤ 30 → Leaves old conn now (polled.Answer given) new
+    → take len room ≡ reply_record xid (reply_shown given) → 0 < len → len ≤ length room
+    → MadeBy (PollMakes (gateway_of old) conn now xid) room (record { polled = Some conn; note = note.Replied conn len }) new
+answer-made old new conn now xid len given room late sound links own leaves is some within =
+    poll-made old new conn now xid (polled.Answer given) room (note.Replied conn len) late sound links own leaves
+    (answer-line leaves.ending given conn xid (take len room) leaves.shows is) (some, within)
+
+pub waits-made : (old new : CoreState SimState) (conn now xid : ℕ) (w : Why) (room : List ℕ) → old.fine.state.moment ≤ now
+    → IsSound old.fine → All IsPlainLink old.fine.state.tables.links.links → old.fine.before.own ≤ 30 → Leaves old conn now (polled.NotYet w) new
+    → MadeBy (PollMakes (gateway_of old) conn now xid) room (record { polled = Some conn; note = note.Waiting conn w }) new
+waits-made old new conn now xid w room late sound links own leaves =
+    poll-made old new conn now xid (polled.NotYet w) room (note.Waiting conn w) late sound links own leaves
+    (waits-line leaves.ending w conn xid leaves.shows) tt
+
+pub dial-made : (old new : CoreState SimState) (conn now xid host port : ℕ) (room : List ℕ) → old.fine.state.moment ≤ now
+    → IsSound old.fine → All IsPlainLink old.fine.state.tables.links.links → old.fine.before.own ≤ 30 → Leaves old conn now (polled.Dial host port) new
+    → MadeBy (PollMakes (gateway_of old) conn now xid) room (record { polled = Some conn; note = note.Dialing conn }) new
+dial-made old new conn now xid host port room late sound links own leaves =
+    poll-made old new conn now xid (polled.Dial host port) room (note.Dialing conn) late sound links own leaves
+    (dial-line leaves.ending host port conn xid leaves.shows) tt

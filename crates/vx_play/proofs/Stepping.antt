@@ -1,0 +1,49 @@
+-- A step of a play, from what a player made and keeps.
+use Rattle.std.proofs.Common.{◌≡◌, ◌≤◌, ℕ, None, refl, ap}
+use Rattle.std.specs.Prelude.{◌++◌}
+use Rattle.vx_script.specs.Command.{Command}
+use Rattle.vx_model.specs.State.{role_at}
+use Rattle.vx_play.specs.declared.note.Made.{Made}
+use Rattle.vx_play.specs.Gateway.{gateway_of}
+use Rattle.vx_play.specs.Item.{noted}
+use Rattle.vx_play.specs.Stage.{Stage, refusal}
+use Rattle.vx_play.specs.Making.{Makes}
+use Rattle.vx_play.specs.Play.{stream_after, xid_after, rack_after, moment_after}
+use Rattle.vx_play.specs.PlayerState.{PlayerState, incoming_at}
+use Rattle.vx_play.specs.Serving.{MadeBy}
+use Rattle.vx_play.specs.Standing.{Holds, TakesTo, note_line, made_lines}
+
+-- what is kept of each connection behind a command
+abbrev pub HoldsBehind : Stage → Command → PlayerState → Type 0
+HoldsBehind before command new =
+    (conn : ℕ) → Holds (role_at new.core.fine.state.tables conn) (incoming_at new.incoming conn) (stream_after before command conn) (xid_after before command conn)
+
+-- a command that isn't refused, what it made, and what the player keeps behind it
+pub takes-to : (before : Stage) (command : Command) (new : PlayerState) (made : Made) → refusal before command ≡ None
+    → MadeBy (Makes before command) new.reply made new.core → new.core.fine.state.moment ≤ new.moment
+    → new.moment ≡ moment_after before.moment command → new.rack ≡ rack_after before.rack command → HoldsBehind before command new
+    → TakesTo before command (made_lines new made) new
+takes-to before command new made allowed made_by late moment rack incoming =
+    let after : Stage = record {
+      gateway = gateway_of new.core;
+      streams = stream_after before command;
+      xids = xid_after before command;
+      rack = rack_after before.rack command;
+      moment = moment_after before.moment command;
+    } in
+    record {
+      item = record { command = command; group = made_by.group; bus = new.core.bus; note = note_line new.reply made.note };
+      after = after;
+      command_is = refl;
+      lines_are = ap (λ lines. lines ++ noted (note_line new.reply made.note)) made_by.lines;
+      takes = record {
+        allowed = allowed;
+        makes = made_by.makes;
+        bus = refl;
+        streams = λ conn. refl;
+        xids = λ conn. refl;
+        rack = refl;
+        moment = refl;
+      };
+      stands = record { gateway = refl; late = late; moment = moment; rack = rack; incoming = incoming };
+    }

@@ -1,0 +1,114 @@
+-- Where a play stands, and which step is refused there.
+use Rattle.std.specs.Prelude.{ℕ, not, ◌==◌, if◌then◌else◌, List, [], find, Option, Some, None, is_none, is_some, Result, Ok, Err}
+use Rattle.std.specs.List.{list_any}
+use Rattle.std.specs.Str.{bytes_eq, is_utf8}
+use Rattle.serde_json.specs.Data.{Data}
+use Rattle.serde_json.specs.Read.{read}
+use Rattle.vx_calls.specs.declared.calls.Role.TheVariants as role
+use Rattle.vx_488.specs.declared.transfers.Addr.{Addr}
+use Rattle.vx_script.specs.declared.Cause.{Cause}
+use Rattle.vx_script.specs.declared.Cause.TheVariants as cause
+use Rattle.vx_script.specs.Command.{Command, Up, In, Down, At, Poll, Sample, Take, Dial, Inst, Plug, Pull, Set, Fail}
+use Rattle.vx_inst.specs.View.{View}
+use Rattle.vx_table.specs.declared.TableErr.{TableErr}
+use Rattle.vx_table.specs.Table.{Rule}
+use Rattle.vx_table.specs.Spelling.{rules_of}
+use Rattle.vx_sim.specs.declared.attach.Attach.{Attach}
+use Rattle.vx_sim.specs.declared.attach.Attach.TheVariants as attach
+use Rattle.vx_sim.specs.Bench.{stands_at}
+use Rattle.vx_sim.specs.SimState.{SimState}
+use Rattle.vx_sim.specs.Attaching as attaching
+use Rattle.vx_model.specs.State.{Tables, role_at, lives_as, pending_at, has_room}
+use Rattle.vx_play.specs.Gateway.{Gateway, first_gateway}
+use Rattle.vx_play.specs.Stream.{Brought, After, brought}
+
+-- a spare instrument: its name, and how it is seen from a bus
+pub record SpareShown : Type 0 where
+  pub name : List ℕ
+  pub seen : View
+
+-- where a play stands: the gateway; of each connection the stream bytes since its last whole record, and the xid of the last
+-- call that it kept; the spare instruments that are left; and the moment of the next steps, in milliseconds
+pub record Stage : Type 0 where
+  pub gateway : Gateway
+  pub streams : ℕ → List ℕ
+  pub xids : ℕ → ℕ
+  pub rack : List SpareShown
+  pub moment : ℕ
+
+-- a play begins with a gateway that has nothing in it, and with these spares
+abbrev pub beginning : List SpareShown → Stage
+beginning rack = record { gateway = first_gateway; streams = λ conn. []; xids = λ conn. 0; rack = rack; moment = 0 }
+
+abbrev pub tables_of : Stage → Tables
+tables_of s = s.gateway.fine.state.tables
+
+-- a bus address of a step
+abbrev pub address : ℕ → Option ℕ → Addr
+address p s = record { p = p; s = s }
+
+-- why an `in` is refused: bytes follow a record
+abbrev pub refused_by : Brought → Option Cause
+refused_by After = Some cause.After
+refused_by _ = None
+
+-- why an instrument isn't attached
+abbrev pub cause_of : Option Attach → Option Cause
+cause_of None = None
+cause_of (Some attach.OwnAddress) = Some cause.Own
+cause_of (Some (attach.Taken holder)) = Some cause.Taken
+cause_of (Some attach.Full) = Some cause.Bench
+
+-- the rules that a text spells: no JSON, no table, or these (RFC 8259)
+abbrev pub rules_by : Option Data → Option (Result (List Rule) TableErr)
+rules_by None = None
+rules_by (Some value) = Some (rules_of value)
+
+abbrev pub rules_in : List ℕ → Option (Result (List Rule) TableErr)
+rules_in text = if is_utf8 text then rules_by (read text) else None
+
+-- why no instrument with these rules is attached at the address
+abbrev pub table_refused : SimState → Addr → Option (Result (List Rule) TableErr) → Option Cause
+table_refused bus a None = Some cause.Json
+table_refused bus a (Some (Err why)) = Some cause.Rule
+table_refused bus a (Some (Ok rules)) = cause_of (attaching.refusal bus a)
+
+-- the first spare of a name
+abbrev pub spare_at : List SpareShown → List ℕ → Option SpareShown
+spare_at rack name = find (λ spare. bytes_eq spare.name name) rack
+
+abbrev pub spare_refused : SimState → Addr → Option SpareShown → Option Cause
+spare_refused bus a None = Some cause.Spare
+spare_refused bus a (Some spare) = cause_of (attaching.refusal bus a)
+
+-- nobody stands at the address
+abbrev pub absent_at : SimState → Addr → Option Cause
+absent_at bus a = if list_any (stands_at a) bus.bench then None else Some cause.Absent
+
+-- why a command is refused, where it is: by the first cause that holds
+abbrev pub refusal : Stage → Command → Option Cause
+refusal s (Up conn r) =
+    if not (conn == (tables_of s).next_connection) then Some cause.Number
+    else if has_room (tables_of s) r then None
+    else Some cause.Full
+refusal s (In conn bytes) =
+    if is_none (role_at (tables_of s) conn) then Some cause.Conn
+    else if is_some (pending_at (tables_of s) conn) then Some cause.Busy
+    else refused_by (brought (s.streams conn) bytes)
+refusal s (Down conn) = if is_none (role_at (tables_of s) conn) then Some cause.Conn else None
+refusal s (At moment) = None
+refusal s (Poll conn) =
+    if not (lives_as (tables_of s) conn role.Core) then Some cause.Conn
+    else if is_none (pending_at (tables_of s) conn) then Some cause.Idle
+    else None
+refusal s Sample = None
+refusal s (Take conn) = if lives_as (tables_of s) conn role.Core then None else Some cause.Conn
+refusal s (Dial conn up) =
+    if not (lives_as (tables_of s) conn role.Core) then Some cause.Conn
+    else if list_any (λ n. n == conn) s.gateway.fine.dialed then None
+    else Some cause.Idle
+refusal s (Inst p secondary text) = table_refused s.gateway.bus (address p secondary) (rules_in text)
+refusal s (Plug p secondary name) = spare_refused s.gateway.bus (address p secondary) (spare_at s.rack name)
+refusal s (Pull p secondary) = absent_at s.gateway.bus (address p secondary)
+refusal s (Set p secondary b) = absent_at s.gateway.bus (address p secondary)
+refusal s (Fail n) = None

@@ -1,0 +1,11 @@
+-- What holds of the events and the lines of a play.
+use Rattle.std.specs.Prelude.{◌≡◌, List}
+use Rattle.std.specs.List.{flat_map}
+use Rattle.vx_flow.specs.Headline.{Headline}
+use Rattle.vx_play.specs.Gateway.{abort_port}
+use Rattle.vx_play.specs.Item.{Item, outputs, events, moved, shown_moves}
+
+-- The headline holds of the events; and the transfers that the lines of the bus show are those of the turns' moves, in order.
+pub record Upholds (items : List Item) : Type 0 where
+  pub headline : Headline abort_port (events items)
+  pub shown : flat_map shown_moves (outputs items) ≡ flat_map moved (events items)

@@ -1,0 +1,125 @@
+//! Pieces of a connection's stream, and its end.
+ghost use Rattle.std.specs.Prelude.{◌≡◌, ◌≢◌, ℕ, ◌≤◌, ◌<◌, length, true, None, Some, IfOk, IfErr, OnOk, IfSome, IsSome, [], ◌∷◌};
+ghost use Rattle.std.specs.Ordering.{nat_cmp};
+ghost use Rattle.std.specs.BTreeMap.{get};
+ghost use Rattle.vx_calls.specs.declared.limits.TheConstants.{RECORD_MAX};
+ghost use Rattle.vx_bus.specs.Steps.{Cut};
+ghost use Rattle.vx_model.specs.State.{connection_at, lives_as, role_at, pending_at};
+ghost use Rattle.vx_flow.specs.Event as event;
+ghost use Rattle.vx_play.specs.declared.record.TheConstants.{REPLY_ROOM};
+ghost use Rattle.vx_play.specs.declared.streams.Incoming.{Incoming};
+ghost use Rattle.vx_play.specs.Gateway.{Gateway, gateway_of, Happens};
+ghost use Rattle.vx_play.specs.Feeding.{AnswersRecord, FeedsPiece, StopsPiece};
+
+use crate::note::{Gone, Made, Note, Stop};
+use crate::serve::{Served, serve};
+use crate::streams::{Incoming, feed};
+use std::collections::BTreeMap;
+use vx_calls::Role;
+use vx_core::Core;
+use vx_inst::Instrument;
+use vx_record::Feed;
+use vx_script::Cause;
+use vx_sim::SimBus;
+
+/// A connection ends.
+pub fn end<I: Instrument>(
+    core: &mut Core<SimBus<I>>,
+    incoming: &mut BTreeMap<u32, Incoming>,
+    conn: u32,
+)
+    requires { IsSome (connection_at core.old.fine.state.tables conn) }
+    ensures happens { Happens (gateway_of core.old) (event.Down conn ∷ []) (Cut ∷ []) (gateway_of core.new) }
+    ensures late { core.new.fine.state.moment ≡ core.old.fine.state.moment }
+    ensures gone { get nat_cmp incoming.new conn ≡ None }
+    ensures others { (n : ℕ) → n ≢ conn → get nat_cmp incoming.new n ≡ get nat_cmp incoming.old n }
+{
+    core.disconnect(conn);
+    let _ = incoming.remove(&conn);
+}
+
+/// Answers the whole record that came on a connection.
+fn answer<I: Instrument>(
+    core: &mut Core<SimBus<I>>,
+    incoming: &mut BTreeMap<u32, Incoming>,
+    conn: u32,
+    role: Role,
+    now: u64,
+    reply: &mut [u8],
+) -> Made
+    requires lives { lives_as core.old.fine.state.tables conn role ≡ true }
+    requires idle { pending_at core.old.fine.state.tables conn ≡ None }
+    requires whole { IfSome (get nat_cmp incoming.old conn) (λ kept. kept.buffer.state ≡ Feed.Whole) }
+    requires limit { IfSome (get nat_cmp incoming.old conn) (λ kept. kept.buffer.limit ≡ RECORD_MAX) }
+    requires late { core.old.fine.state.moment ≤ now }
+    requires room { REPLY_ROOM ≤ length reply.old }
+    ensures answered { (kept : Incoming) → get nat_cmp incoming.old conn ≡ Some kept
+        → AnswersRecord (gateway_of core.old) conn now role kept reply.new (get nat_cmp incoming.new conn) result core.new }
+    ensures late { core.new.fine.state.moment ≤ now }
+    ensures others { (n : ℕ) → n ≢ conn → get nat_cmp incoming.new n ≡ get nat_cmp incoming.old n }
+    ensures len { length reply.new ≡ length reply.old }
+{
+    let Some(kept) = incoming.get_mut(&conn) else {
+        return Made::QUIET;
+    };
+    match serve(core, conn, role, kept.buffer.whole(), now, reply) {
+        Served::Answered(made) => {
+            kept.buffer.next();
+            made
+        }
+        Served::Called { xid, made } => {
+            kept.buffer.next();
+            kept.xid = xid;
+            made
+        }
+        Served::Junk => {
+            end(core, incoming, conn);
+            Made::of(Note::Ended {
+                conn,
+                how: Gone::Junk,
+            })
+        }
+    }
+}
+
+/// Takes a piece of the stream of a connection without a call.
+pub fn feed_piece<I: Instrument>(
+    core: &mut Core<SimBus<I>>,
+    incoming: &mut BTreeMap<u32, Incoming>,
+    conn: u32,
+    role: Role,
+    bytes: &[u8],
+    now: u64,
+    reply: &mut [u8],
+) -> Result<Made, Stop>
+    requires bytes { 0 < length bytes.now }
+    requires lives { lives_as core.old.fine.state.tables conn role ≡ true }
+    requires idle { pending_at core.old.fine.state.tables conn ≡ None }
+    requires waits { IfSome (get nat_cmp incoming.old conn) (λ kept. kept.buffer.state ≡ Feed.More) }
+    requires limit { IfSome (get nat_cmp incoming.old conn) (λ kept. kept.buffer.limit ≡ RECORD_MAX) }
+    requires late { core.old.fine.state.moment ≤ now }
+    requires room { REPLY_ROOM ≤ length reply.old }
+    ensures taken { IfOk result (λ made. (kept : Incoming) → get nat_cmp incoming.old conn ≡ Some kept
+        → FeedsPiece (gateway_of core.old) conn now role kept bytes.now reply.new (get nat_cmp incoming.new conn) made core.new) }
+    ensures known { OnOk result (IsSome (get nat_cmp incoming.old conn)) }
+    ensures stopped { IfErr result (λ stop. (kept : Incoming) → get nat_cmp incoming.old conn ≡ Some kept → StopsPiece kept bytes.now stop) }
+    ensures late { core.new.fine.state.moment ≤ now }
+    ensures others { (n : ℕ) → n ≢ conn → get nat_cmp incoming.new n ≡ get nat_cmp incoming.old n }
+    ensures len { length reply.new ≡ length reply.old }
+{
+    match feed(incoming, conn, bytes) {
+        None => Err(Stop::Refused(Cause::Conn)),
+        Some(fed) if fed.took < bytes.len() => Err(Stop::Refused(Cause::After)),
+        Some(fed) => match fed.state {
+            Feed::More => Ok(Made::QUIET),
+            Feed::Whole => Ok(answer(core, incoming, conn, role, now, reply)),
+            Feed::TooLong => {
+                end(core, incoming, conn);
+                Ok(Made::of(Note::Ended {
+                    conn,
+                    how: Gone::Long,
+                }))
+            }
+        },
+    }
+}
