@@ -8,7 +8,7 @@ use std::alloc::Global;
 use std::test::Fail;
 use vx_488::Transfer;
 use vx_bus::MemBus;
-use vx_calls::{CallRef, ErrorCode, ReplyRef, Role, Taken};
+use vx_calls::{CallRef, DEVICE_MAX, ErrorCode, ReplyRef, Role, Taken};
 
 /// The port of the abort channel.
 const PORT: u16 = 9011;
@@ -95,6 +95,84 @@ fn link_interface(core: &mut Core<MemBus>, conn: u32) -> (Came, bool) {
         device: b"gpib0",
     };
     ask(core, conn, &call, &[])
+}
+
+/// What a create_link was answered, as tests compare it.
+#[derive(Clone, Copy, Debug, PartialEq, Eq)]
+struct LinkReply {
+    error: ErrorCode,
+    lid: u32,
+    /// The port of the abort channel.
+    abort_port: u32,
+    /// The longest write, in bytes.
+    max: u32,
+}
+
+/// A link to a device of this text is asked for, where a call may come on the connection.
+fn create(core: &mut Core<MemBus>, conn: u32, device: &[u8]) -> Option<LinkReply> {
+    if core.role(conn) != Some(Role::Core) || core.pending(conn) || device.len() > DEVICE_MAX {
+        return None;
+    }
+    let call = CallRef::CreateLink {
+        client: -1,
+        lock: false,
+        lock_timeout: 0,
+        device,
+    };
+    core.arrive(conn, &call, 0);
+    if !core.pending(conn) {
+        return None;
+    }
+    match core.poll(conn, 0) {
+        Polled::Answer(
+            ReplyRef::CreateLink {
+                error,
+                lid,
+                abort_port,
+                max,
+            },
+        ) => Some(LinkReply {
+            error,
+            lid,
+            abort_port,
+            max,
+        }),
+        _ => None,
+    }
+}
+
+/// A link of this number is given.
+fn linked(lid: u32) -> Option<LinkReply> {
+    Some(LinkReply {
+        error: ErrorCode::Ok,
+        lid,
+        abort_port: 9011,
+        max: 65536,
+    })
+}
+
+/// No link is given.
+fn unlinked(error: ErrorCode) -> Option<LinkReply> {
+    Some(LinkReply {
+        error,
+        lid: 0,
+        abort_port: 0,
+        max: 0,
+    })
+}
+
+/// A link is destroyed.
+fn destroy(core: &mut Core<MemBus>, conn: u32, lid: u32) -> (Came, bool) {
+    ask(core, conn, &CallRef::DestroyLink { lid }, &[])
+}
+
+/// The destruction of a link is asked for, where a call may come on the connection, and isn't polled.
+fn arrive(core: &mut Core<MemBus>, conn: u32, lid: u32) -> bool {
+    if core.role(conn) != Some(Role::Core) || core.pending(conn) {
+        return false;
+    }
+    core.arrive(conn, &CallRef::DestroyLink { lid }, 0);
+    true
 }
 
 /// A write of `A` with END.
@@ -197,6 +275,124 @@ fn got(b: u8, end: bool) -> Transfer {
 /// A reply without an error, and with this number.
 fn done(number: u32) -> (Came, bool) {
     (Came::Reply(ErrorCode::Ok, number), true)
+}
+
+// 64 connections of each role, numbered in turn; a number is never given again.
+#[test]
+fn connections(rt: HostRuntime) -> Result<(), Fail> {
+    let alloc = rt.alloc();
+    let mut core = core_over(alloc, &[], &[], &[])?;
+    assert_eq!(rt; core.role(1), None);
+    for number in 1..65 {
+        assert_eq!(rt; core.next_number(), number);
+        assert_eq!(rt; core.connect(alloc, Role::Core), Ok(number));
+    }
+    assert_eq!(rt; core.connect(alloc, Role::Core), Err(Connect::Full));
+    assert_eq!(rt; core.next_number(), 65);
+    for number in 65..129 {
+        assert_eq!(rt; core.connect(alloc, Role::Abort), Ok(number));
+    }
+    assert_eq!(rt; core.connect(alloc, Role::Abort), Err(Connect::Full));
+    assert_eq!(rt;
+        (core.role(64), core.role(65)),
+        (Some(Role::Core), Some(Role::Abort))
+    );
+    assert!(rt; leave(&mut core, 64));
+    assert_eq!(rt; (core.role(64), core.role(65)), (None, Some(Role::Abort)));
+    assert_eq!(rt; core.connect(alloc, Role::Core), Ok(129));
+    assert_eq!(rt; core.connect(alloc, Role::Core), Err(Connect::Full));
+    Ok(())
+}
+
+// A call waits for its answer from its arrival to its poll, or until its connection goes.
+#[test]
+fn pending_calls(rt: HostRuntime) -> Result<(), Fail> {
+    let alloc = rt.alloc();
+    let mut core = core_over(alloc, &[], &[], &[])?;
+    assert_eq!(rt; core.connect(alloc, Role::Core), Ok(1));
+    assert_eq!(rt; core.connect(alloc, Role::Core), Ok(2));
+    assert!(rt; arrive(&mut core, 1, 1));
+    assert_eq!(rt;
+        (core.pending(1), core.pending(2), core.pending(3)),
+        (true, false, false)
+    );
+    assert_eq!(rt; create(&mut core, 2, b"gpib0"), linked(1));
+    assert_eq!(rt; (core.pending(1), core.pending(2)), (true, false));
+    assert!(rt; leave(&mut core, 1));
+    assert_eq!(rt; (core.pending(1), core.pending(2)), (false, false));
+    Ok(())
+}
+
+// Device texts, each asked of a gateway of its own, beside the error that they get.
+#[test]
+fn device_texts(rt: HostRuntime) -> Result<(), Fail> {
+    let alloc = rt.alloc();
+    let table: [(&[u8], ErrorCode); 14] = [
+        (b"gpib0", ErrorCode::Ok),
+        (b"gpib0,5", ErrorCode::Ok),
+        (b"GPIB0,05", ErrorCode::Ok),
+        (b"gpib0,30,30", ErrorCode::Ok),
+        (b"gpib0,031,1", ErrorCode::InvalidAddress),
+        (b"gpib0,31", ErrorCode::InvalidAddress),
+        (b"gpib0,5,31", ErrorCode::InvalidAddress),
+        (b"gpib0,0", ErrorCode::InvalidAddress),
+        (b"inst0", ErrorCode::NotAccessible),
+        (b"gpib1,5", ErrorCode::NotAccessible),
+        (b"gpib0,", ErrorCode::Syntax),
+        (b"", ErrorCode::Syntax),
+        (b"gpib0,5,6,7", ErrorCode::Syntax),
+        (b"gpib0 ", ErrorCode::Syntax),
+    ];
+    for (device, error) in table {
+        let mut core = core_over(alloc, &[], &[], &[])?;
+        assert_eq!(rt; core.connect(alloc, Role::Core), Ok(1));
+        let want = match error {
+            ErrorCode::Ok => linked(1),
+            _ => unlinked(error),
+        };
+        assert_eq!(rt; create(&mut core, 1, device), want, "of {device:?}");
+    }
+    Ok(())
+}
+
+// 256 links over all connections; a link is its own connection's, and goes with it.
+#[test]
+fn links(rt: HostRuntime) -> Result<(), Fail> {
+    let alloc = rt.alloc();
+    let invalid_link = (Came::Reply(ErrorCode::InvalidLink, 0), true);
+    let mut core = core_over(alloc, &[], &[], &[])?;
+    assert_eq!(rt; core.connect(alloc, Role::Core), Ok(1));
+    assert_eq!(rt; core.connect(alloc, Role::Core), Ok(2));
+    for lid in 1..257 {
+        assert_eq!(rt; create(&mut core, 1, b"gpib0,5"), linked(lid));
+    }
+    assert_eq!(rt;
+        create(&mut core, 2, b"gpib0,5"),
+        unlinked(ErrorCode::NoResources)
+    );
+    assert_eq!(rt;
+        create(&mut core, 2, b"gpib0,"),
+        unlinked(ErrorCode::Syntax)
+    );
+    assert_eq!(rt; destroy(&mut core, 2, 7), invalid_link);
+    assert_eq!(rt; destroy(&mut core, 1, 7), done(0));
+    assert_eq!(rt; destroy(&mut core, 1, 7), invalid_link);
+    assert_eq!(rt; create(&mut core, 2, b"gpib0,5"), linked(257));
+    assert_eq!(rt;
+        create(&mut core, 1, b"gpib0,5"),
+        unlinked(ErrorCode::NoResources)
+    );
+    assert!(rt; leave(&mut core, 1));
+    for lid in 258..513 {
+        assert_eq!(rt; create(&mut core, 2, b"gpib0,5"), linked(lid));
+    }
+    assert_eq!(rt;
+        create(&mut core, 2, b"gpib0,5"),
+        unlinked(ErrorCode::NoResources)
+    );
+    assert_eq!(rt; destroy(&mut core, 2, 8), invalid_link);
+    assert_eq!(rt; destroy(&mut core, 2, 257), done(0));
+    Ok(())
 }
 
 // The bus fails at the second moving call of a write: the error is told, and the transfer before it stays made.
