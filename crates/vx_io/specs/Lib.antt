@@ -6,5 +6,9 @@ pub mod Stands
 pub mod LinkState
 pub mod Rung
 pub mod Accepts
+pub mod Handing
+pub mod NetState
+pub mod Reached
+pub mod ReachState
 pub mod ClockState
 pub mod DialState

@@ -16,16 +16,22 @@ mod dials;
 mod links;
 mod listeners;
 mod memory;
+mod nets;
+mod reaches;
 mod standard;
+mod streams;
 #[cfg(test)]
 mod tests;
 
 pub use clocks::{Clock, MemClock, Pause, StdClock, StdPause};
 pub use dials::{Dial, DialOut, MemDial, Rang};
 pub use links::{Link, MemLink};
-pub use listeners::{Accepted, Bound, Handed, Listen, Started, Work};
+pub use listeners::{Accepted, Bound, Handed, Listen, Spawner, Started, Work};
 pub use memory::{MemSink, MemSource};
+pub use nets::{MemNet, MemPort, Net};
+pub use reaches::{MemReach, Reach};
 pub use standard::{StdSink, StdSource};
+pub use streams::{MemStreams, Streams};
 
 /// What a read answers.
 #[derive(Clone, Copy, Debug, PartialEq, Eq)]

@@ -2,7 +2,7 @@
 
 ghost use Rattle.std.specs.Prelude.{ℕ, ◌≤◌};
 ghost use Rattle.vx_io.specs.Faults.{Rose};
-ghost use Rattle.vx_io.specs.Accepts.{OnAcceptFailed};
+ghost use Rattle.vx_io.specs.Accepts.{OnAcceptFailed, OnRefused};
 
 use super::links::Link;
 use std::sync::Wait;
@@ -61,4 +61,15 @@ pub trait Listen {
 /// A work that a worker runs once.
 pub trait Work {
     fn run<R: Wait>(self, rt: &R);
+}
+
+/// What starts works, each on a worker of its own.
+pub trait Spawner<J: Work> {
+    // How many works were refused: a `u64` that stays at its greatest value.
+    ghost faults: { Self → ℕ };
+
+    /// Starts a work, which runs once, with a runtime that the spawner holds. A work that is refused is dropped.
+    fn start(&mut self, job: J) -> Started
+        ensures counted { faults self.old ≤ faults self.new }
+        ensures refused { OnRefused result (Rose (faults self.old) (faults self.new)) };
 }
