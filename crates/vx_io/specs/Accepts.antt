@@ -15,6 +15,12 @@ OnAcceptFailed (Peer link) P = ⊤
 OnAcceptFailed Ended P = ⊤
 OnAcceptFailed Failed P = P
 
+-- a wait answered a link or a fault, and not that no more come
+abbrev pub GoesOn : {L : Type 0} → Accepted L → Type 0
+GoesOn (Peer link) = ⊤
+GoesOn Ended = ⊥
+GoesOn Failed = ⊤
+
 -- how many links there were, with the one of this answer
 abbrev pub given_after : {L : Type 0} → Accepted L → ℕ → ℕ
 given_after (Peer link) given = given + 1

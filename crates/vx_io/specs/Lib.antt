@@ -10,5 +10,6 @@ pub mod Handing
 pub mod NetState
 pub mod Reached
 pub mod ReachState
+pub mod SocketState
 pub mod ClockState
 pub mod DialState

@@ -26,6 +26,10 @@ pub record NetState (L : Type 0) : Type 0 where
   -- how often its own port told that no more links come
   pub ended : ℕ
 
+-- the net with one more call counted
+abbrev pub counted : {L : Type 0} → NetState L → NetState L
+counted s = record s { calls = one_more s.calls }
+
 -- the net after a call that failed
 abbrev pub after_fault : {L : Type 0} → NetState L → NetState L
 after_fault s = record s { calls = one_more s.calls; faults = one_more s.faults }

@@ -18,6 +18,7 @@ mod listeners;
 mod memory;
 mod nets;
 mod reaches;
+mod sockets;
 mod standard;
 mod streams;
 #[cfg(test)]
@@ -30,6 +31,7 @@ pub use listeners::{Accepted, Bound, Handed, Listen, Spawner, Started, Work};
 pub use memory::{MemSink, MemSource};
 pub use nets::{MemNet, MemPort, Net};
 pub use reaches::{MemReach, Reach};
+pub use sockets::{TcpLink, TcpNet, TcpPort, TcpReach};
 pub use standard::{StdSink, StdSource};
 pub use streams::{MemStreams, Streams};
 

@@ -129,7 +129,9 @@ impl<L> Model for MemNet<L> {
 }
 
 impl<L> MemNet<L> {
-    ghost use Rattle.std.specs.Prelude.{◌≡◌, false};
+    ghost use Rattle.std.specs.Prelude.{◌≡◌, ◌≤◌, true, false};
+    ghost use Rattle.vx_io.specs.Faults.{Rose, fails_next};
+    ghost use Rattle.vx_io.specs.NetState.{counted, after_fault};
 
     /// A net whose own port gives the links `core`; the first port that it binds gives the links `abort`, and each later
     /// one none. The calls whose numbers, counted from 1 over `open`, `accept` and `bind` together, stand in `fails`
@@ -154,6 +156,22 @@ impl<L> MemNet<L> {
             given: 0,
             ended: 0,
         }
+    }
+
+    /// Counts a call, and a fault where it is one that fails, and tells whether it is.
+    fn fails(&mut self) -> bool
+        ensures answer { result ≡ fails_next self.old.fails self.old.calls }
+        ensures failed { result ≡ true → self.new ≡ after_fault self.old }
+        ensures passed { result ≡ false → self.new ≡ counted self.old }
+        ensures counted { self.old.faults ≤ self.new.faults }
+        ensures rose { result ≡ true → Rose self.old.faults self.new.faults }
+    {
+        self.calls = self.calls.saturating_add(1);
+        let fails = self.fails.contains(&self.calls);
+        if fails {
+            self.faults = self.faults.saturating_add(1);
+        }
+        fails
     }
 }
 
@@ -187,9 +205,7 @@ impl<L: Link> Net for MemNet<L> {
         ensures ended { self.new.ended ≡ self.old.ended }
         ensures failed { OnDialFailed result (Rose self.old.faults self.new.faults) }
     {
-        self.calls = self.calls.saturating_add(1);
-        if self.fails.contains(&self.calls) {
-            self.faults = self.faults.saturating_add(1);
+        if self.fails() {
             return DialOut::Failed;
         }
         self.is_open = true;
@@ -211,9 +227,7 @@ impl<L: Link> Net for MemNet<L> {
         ensures ended { self.new.ended ≡ ended_after result self.old.ended }
         ensures failed { OnAcceptFailed result (Rose self.old.faults self.new.faults) }
     {
-        self.calls = self.calls.saturating_add(1);
-        if self.fails.contains(&self.calls) {
-            self.faults = self.faults.saturating_add(1);
+        if self.fails() {
             return Accepted::Failed;
         }
         match self.core.pop_front() {
@@ -241,9 +255,7 @@ impl<L: Link> Net for MemNet<L> {
         ensures ended { self.new.ended ≡ self.old.ended }
         ensures failed { OnBindFailed result (Rose self.old.faults self.new.faults) }
     {
-        self.calls = self.calls.saturating_add(1);
-        if self.fails.contains(&self.calls) {
-            self.faults = self.faults.saturating_add(1);
+        if self.fails() {
             return Bound::Failed;
         }
         let empty = VecDeque::new(*self.abort.allocator());

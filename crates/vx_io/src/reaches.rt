@@ -144,11 +144,11 @@ impl<L: Link> Link for MemReach<L> {
             (with_early self.new.early_receives (L.receive_faults self.new.link))
             × Keeps (L.left self.old.link) (L.left self.new.link) × Stays L.stands self.old.link self.new.link) }
     {
-        if self.is_up {
-            return self.link.receive(into);
+        if !self.is_up {
+            self.early_receives = self.early_receives.saturating_add(1);
+            return ReadOut::Failed;
         }
-        self.early_receives = self.early_receives.saturating_add(1);
-        ReadOut::Failed
+        self.link.receive(into)
     }
 
     /// Sends to the link, or fails before the first reach with `Up`.
@@ -172,11 +172,11 @@ impl<L: Link> Link for MemReach<L> {
             (with_early self.new.early_sends (L.send_faults self.new.link))
             × Stays L.stands self.old.link self.new.link) }
     {
-        if self.is_up {
-            return self.link.send(from);
+        if !self.is_up {
+            self.early_sends = self.early_sends.saturating_add(1);
+            return WriteOut::Failed;
         }
-        self.early_sends = self.early_sends.saturating_add(1);
-        WriteOut::Failed
+        self.link.send(from)
     }
 }
 

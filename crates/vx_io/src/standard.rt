@@ -9,7 +9,7 @@ use std::io::{Error, ErrorKind, Read, Write};
 use std::marker::Model;
 
 /// How often in all a call is made that a signal interrupts.
-const TRIES: u32 = 64;
+pub(super) const TRIES: u32 = 64;
 
 /// A source over a reader, as standard input. No contract knows its bytes; it is seen as its count of faults.
 #[derive(Drop)]
@@ -108,7 +108,7 @@ impl<W: Write> Sink for StdSink<W> {
 }
 
 /// How many bytes a read gave, 0 at the end, or none where it failed.
-fn read_retrying<R: Read>(reader: &mut R, into: &mut [u8]) -> Option<usize>
+pub(super) fn read_retrying<R: Read>(reader: &mut R, into: &mut [u8]) -> Option<usize>
     ensures { IfSome result (λ n. n ≤ length into.new) }
 {
     for _ in 0..TRIES {
@@ -122,7 +122,7 @@ fn read_retrying<R: Read>(reader: &mut R, into: &mut [u8]) -> Option<usize>
 }
 
 /// How many bytes a write took, or none where it failed.
-fn write_retrying<W: Write>(writer: &mut W, from: &[u8]) -> Option<usize>
+pub(super) fn write_retrying<W: Write>(writer: &mut W, from: &[u8]) -> Option<usize>
     ensures { IfSome result (λ n. n ≤ length from.now) }
 {
     for _ in 0..TRIES {

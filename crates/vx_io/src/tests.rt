@@ -1,7 +1,10 @@
-ghost use Rattle.std.specs.Prelude.{◌≤◌, IfOk};
+ghost use Rattle.std.specs.Prelude.{◌≡◌, ◌≤◌, true, IfOk, IfSome};
 
 use super::*;
+use std::alloc::Global;
 use std::io;
+use std::net::{Ipv4Addr, TcpListener};
+use std::rt::HostRuntime;
 use std::test::Fail;
 
 // Each read of a source of 1, 2, 3, 4, 5 in pieces of 2, whose second and last reads fail.
@@ -179,5 +182,158 @@ fn clocks_tell_moments(rt: HostRuntime) -> Result<(), Fail> {
         before < after && after - before < 60_000,
         "{before} to {after}"
     );
+    Ok(())
+}
+
+// A link that gives this byte alone, and the byte that a link gives.
+fn link_of(alloc: Global, byte: u8) -> Result<MemLink, Fail> {
+    Ok(MemLink::new([byte].to_vec(alloc)?, 1, Vec::new(alloc), Vec::new(alloc)))
+}
+
+fn byte_of(mut link: MemLink) -> u8 {
+    let mut into = [0u8];
+    link.receive(&mut into);
+    into[0]
+}
+
+// Two streams, in the order of the list, and then no more.
+#[test]
+fn memory_streams_come_in_order(rt: HostRuntime) -> Result<(), Fail> {
+    let alloc = rt.alloc();
+    let mut list = Vec::new(alloc);
+    list.push((3, 1, link_of(alloc, 7)?))?;
+    list.push((2, 5, link_of(alloc, 8)?))?;
+    let mut streams = MemStreams::new(list);
+    for (number, channel, byte) in [(3, 1, 7), (2, 5, 8)] {
+        match streams.next(&rt) {
+            Handed::Stream { conn, chan, link } => {
+                assert_eq!(rt; (conn, chan), (number, channel));
+                assert_eq!(rt; byte_of(link), byte);
+            }
+            Handed::Ended => assert!(rt; false, "a stream is left"),
+        }
+    }
+    assert!(rt; matches!(streams.next(&rt), Handed::Ended));
+    Ok(())
+}
+
+// What a wait answers: the byte of a link, or 1 at the end and 2 at a fault.
+fn met(answer: Accepted<MemLink>) -> u8 {
+    match answer {
+        Accepted::Peer(link) => byte_of(link),
+        Accepted::Ended => 1,
+        Accepted::Failed => 2,
+    }
+}
+
+// Calls of one net, counted together: the first, the third and the fifth fail. Only the first port that it binds has links.
+#[test]
+fn memory_net_gives_its_lists(rt: HostRuntime) -> Result<(), Fail> {
+    let alloc = rt.alloc();
+    let mut core = Vec::new(alloc);
+    core.push(link_of(alloc, 7)?)?;
+    core.push(link_of(alloc, 8)?)?;
+    let mut abort = Vec::new(alloc);
+    abort.push(link_of(alloc, 9)?)?;
+    let mut net = MemNet::new(core, abort, [1u64, 3, 5].to_vec(alloc)?);
+    assert_eq!(rt; net.open(9010), DialOut::Failed);
+    assert_eq!(rt; net.open(9010), DialOut::Up);
+    assert!(rt; matches!(net.bind(9011), Bound::Failed));
+    let first = net.bind(9011);
+    let answers = [
+        met(net.accept()),
+        met(net.accept()),
+        met(net.accept()),
+        met(net.accept()),
+    ];
+    assert_eq!(rt; answers, [2, 7, 8, 1]);
+    for (bound, want) in [(first, 9), (net.bind(9011), 1)] {
+        match bound {
+            Bound::Port(mut port) => {
+                assert_eq!(rt; met(port.accept()), want);
+                assert_eq!(rt; met(port.accept()), 1);
+            }
+            Bound::Failed => assert!(rt; false, "the call isn't one that fails"),
+        }
+    }
+    Ok(())
+}
+
+// A reach that fails before it is up, and at another host or port; a later refusal leaves the link.
+#[test]
+fn memory_reach_is_its_link_once_up(rt: HostRuntime) -> Result<(), Fail> {
+    let alloc = rt.alloc();
+    let bytes = [1u8, 2, 3].to_vec(alloc)?;
+    let link = MemLink::new(bytes, 2, Vec::new(alloc), [2u64].to_vec(alloc)?);
+    let mut reach = MemReach::new(link, String::from_str(alloc, "h")?, 9010);
+    let mut into = [0u8; 4];
+    assert_eq!(rt; reach.receive(&mut into), ReadOut::Failed);
+    assert_eq!(rt; reach.send(&[9]), WriteOut::Failed);
+    for (host, port, answer) in [
+        ("h", 9011, DialOut::Failed),
+        ("H", 9010, DialOut::Failed),
+        ("h", 9010, DialOut::Up),
+        ("hh", 9010, DialOut::Failed),
+    ] {
+        assert_eq!(rt; reach.reach(host, port), answer);
+    }
+    assert_eq!(rt; reach.receive(&mut into), ReadOut::Got(2));
+    assert_eq!(rt; into, [1, 2, 0, 0]);
+    assert_eq!(rt; reach.send(&[5]), WriteOut::Failed);
+    assert_eq!(rt; reach.send(&[6, 7]), WriteOut::Took(2));
+    assert_eq!(rt; reach.link().bytes(), [6u8, 7].as_slice());
+    assert_eq!(rt; reach.into_link().bytes(), [6u8, 7].as_slice());
+    Ok(())
+}
+
+// Opens the net at some port that is free, and tells which.
+fn open_somewhere(rt: &HostRuntime, net: &mut TcpNet<&HostRuntime>) -> Option<u16>
+    ensures { IfSome result (λ _. net.new.is_open ≡ true) }
+{
+    for _ in 0..16 {
+        let probe = TcpListener::bind(rt, (Ipv4Addr::UNSPECIFIED, 0)).ok()?;
+        let port = probe.local_addr().ok()?.port();
+        drop(probe);
+        if net.open(port) == DialOut::Up {
+            return Some(port);
+        }
+    }
+    None
+}
+
+// Bytes both ways over the system's own network, the end of the stream, and a reach of another port.
+#[test]
+fn sockets_carry_bytes(rt: HostRuntime) -> Result<(), Fail> {
+    let mut net = TcpNet::new(&rt);
+    let port = open_somewhere(&rt, &mut net).ok_or("no port is free")?;
+    assert!(rt; matches!(net.bind(port), Bound::Failed), "it is taken");
+    let mut reach = TcpReach::new(&rt);
+    let mut into = [0u8; 4];
+    assert_eq!(rt; reach.receive(&mut into), ReadOut::Failed);
+    assert_eq!(rt; reach.send(&[9]), WriteOut::Failed);
+    assert_eq!(rt; reach.reach("127.0.0.1", port), DialOut::Up);
+    assert_eq!(rt; reach.reach("no\0host", port), DialOut::Failed);
+    assert_eq!(rt; reach.send(&[1, 2, 3]), WriteOut::Took(3));
+    match net.accept() {
+        Accepted::Peer(mut link) => {
+            assert_eq!(rt; link.receive(&mut into), ReadOut::Got(3));
+            assert_eq!(rt; into, [1, 2, 3, 0]);
+            assert_eq!(rt; link.send(&[4, 5]), WriteOut::Took(2));
+        }
+        _ => assert!(rt; false, "a peer waits"),
+    }
+    assert_eq!(rt; reach.receive(&mut into), ReadOut::Got(2));
+    assert_eq!(rt; into, [4, 5, 3, 0]);
+    assert_eq!(rt; reach.receive(&mut into), ReadOut::End);
+    let listener = TcpListener::bind(&rt, (Ipv4Addr::LOCALHOST, 0))?;
+    let port = listener.local_addr()?.port();
+    let mut other = TcpPort::new(listener);
+    assert_eq!(rt; reach.reach("127.0.0.1", port), DialOut::Up);
+    match other.accept() {
+        Accepted::Peer(mut link) => assert_eq!(rt; link.send(&[6]), WriteOut::Took(1)),
+        _ => assert!(rt; false, "a peer waits"),
+    }
+    assert_eq!(rt; reach.receive(&mut into), ReadOut::Got(1));
+    assert_eq!(rt; into[0], 6);
     Ok(())
 }

@@ -1,0 +1,385 @@
+//! TCP over the system's sockets as links, ports, a net and a reach: the trusted edge, a few lines each. No contract knows
+//! the bytes of a real stream; each is seen as its counts.
+
+ghost use Rattle.std.specs.Prelude.{◌≡◌, ◌<◌, ◌≤◌, ◌||◌, true, false, length, None};
+ghost use Rattle.vx_io.specs.Faults.{one_more};
+ghost use Rattle.vx_io.specs.Outs.{IfGot, IfTook, OnEnd, OnReadFailed, OnWriteFailed};
+ghost use Rattle.vx_io.specs.Rung.{OnDialFailed, is_up};
+ghost use Rattle.vx_io.specs.Accepts.{OnAcceptFailed, OnBindFailed, GoesOn, given_after};
+ghost use Rattle.vx_io.specs.SocketState.{TellsNone};
+
+use super::standard::{TRIES, read_retrying, write_retrying};
+use super::{Accepted, Bound, DialOut, Link, Listen, Net, Reach, ReadOut, WriteOut};
+use std::io::ErrorKind;
+use std::marker::Model;
+use std::net::{Ipv4Addr, Net as Sockets, TcpListener, TcpStream};
+
+/// A link over a TCP stream of the system.
+#[derive(Drop)]
+pub struct TcpLink {
+    stream: TcpStream,
+    receive_faults: u64,
+    send_faults: u64,
+}
+
+impl Model for TcpLink {
+    ghost use Rattle.vx_io.specs.SocketState.{TcpLinkState};
+
+    ghost Value = { TcpLinkState };
+
+    ghost view = { λ s. record { receive_faults = s.receive_faults; send_faults = s.send_faults } };
+}
+
+impl TcpLink {
+    /// A link over `stream`, with no fault yet. It asks the system to send small pieces at once (`TCP_NODELAY`), and takes
+    /// the stream as it is where that is refused.
+    pub fn new(stream: TcpStream) -> TcpLink
+        ensures receive_faults { result.receive_faults ≡ 0 }
+        ensures send_faults { result.send_faults ≡ 0 }
+    {
+        let _ = stream.set_nodelay(true);
+        TcpLink {
+            stream,
+            receive_faults: 0,
+            send_faults: 0,
+        }
+    }
+}
+
+impl Link for TcpLink {
+    ghost stands = { TellsNone };
+
+    ghost left = { λ _. None };
+
+    ghost receive_faults = { λ s. s.receive_faults };
+
+    ghost send_faults = { λ s. s.send_faults };
+
+    /// One read of the stream, straight into the slice; `End` is told where the peer closed its side. A read that errs
+    /// counts a fault, and so does one that a signal interrupts each of 64 times.
+    fn receive(&mut self, into: &mut [u8]) -> ReadOut
+        requires { 0 < length into.old }
+        ensures counted { self.old.receive_faults ≤ self.new.receive_faults }
+        ensures apart { self.new.send_faults ≡ self.old.send_faults }
+        ensures got { IfGot result (λ n. (0 < n) × (n ≤ length into.new) × (self.new ≡ self.old)) }
+        ensures end { OnEnd result (self.new ≡ self.old) }
+        ensures failed { OnReadFailed result (self.new.receive_faults ≡ one_more self.old.receive_faults) }
+    {
+        match read_retrying(&mut self.stream, into) {
+            Some(0) => ReadOut::End,
+            Some(count) => ReadOut::Got(count),
+            None => {
+                self.receive_faults = self.receive_faults.saturating_add(1);
+                ReadOut::Failed
+            }
+        }
+    }
+
+    /// One write of the stream. A write that errs or takes nothing counts a fault, and so does one that a signal
+    /// interrupts each of 64 times.
+    fn send(&mut self, from: &[u8]) -> WriteOut
+        requires { 0 < length from.now }
+        ensures counted { self.old.send_faults ≤ self.new.send_faults }
+        ensures apart { self.new.receive_faults ≡ self.old.receive_faults }
+        ensures took { IfTook result (λ n. (0 < n) × (n ≤ length from.now) × (self.new ≡ self.old)) }
+        ensures failed { OnWriteFailed result (self.new.send_faults ≡ one_more self.old.send_faults) }
+    {
+        match write_retrying(&mut self.stream, from) {
+            Some(count) if count > 0 => WriteOut::Took(count),
+            _ => {
+                self.send_faults = self.send_faults.saturating_add(1);
+                WriteOut::Failed
+            }
+        }
+    }
+}
+
+/// The link of the next connection to a port, or none where the wait failed. A connection that its peer gave up before it
+/// was taken is passed over, up to 64 in a row.
+fn accept_retrying(listener: &TcpListener) -> Option<TcpLink> {
+    for _ in 0..TRIES {
+        match listener.accept() {
+            Ok((stream, _)) => return Some(TcpLink::new(stream)),
+            Err(error) if error.kind() == ErrorKind::ConnectionAborted => {}
+            Err(_) => return None,
+        }
+    }
+    None
+}
+
+/// A port over a TCP listener of the system. It never answers `Ended`.
+#[derive(Drop)]
+pub struct TcpPort {
+    listener: TcpListener,
+    faults: u64,
+}
+
+impl Model for TcpPort {
+    ghost use Rattle.std.specs.Prelude.{ℕ};
+
+    // How many waits failed.
+    ghost Value = { ℕ };
+
+    ghost view = { λ s. s.faults };
+}
+
+impl TcpPort {
+    /// A port over `listener`, with no fault yet.
+    pub fn new(listener: TcpListener) -> TcpPort
+        ensures { result ≡ 0 }
+    {
+        TcpPort {
+            listener,
+            faults: 0,
+        }
+    }
+}
+
+impl Listen for TcpPort {
+    type Peer = TcpLink;
+
+    ghost faults = { λ s. s };
+
+    /// Waits for the next connection. A wait that errs counts a fault.
+    fn accept(&mut self) -> Accepted<TcpLink>
+        ensures counted { self.old ≤ self.new }
+        ensures goes_on { GoesOn result }
+        ensures failed { OnAcceptFailed result (self.new ≡ one_more self.old) }
+    {
+        match accept_retrying(&self.listener) {
+            Some(link) => Accepted::Peer(link),
+            None => {
+                self.faults = self.faults.saturating_add(1);
+                Accepted::Failed
+            }
+        }
+    }
+}
+
+/// A net over the system's sockets, on each of its IPv4 addresses. It never answers `Ended`.
+#[derive(Drop)]
+pub struct TcpNet<R> {
+    rt: R,
+    own: Option<TcpListener>,
+    faults: u64,
+    given: u64,
+}
+
+impl<R> Model for TcpNet<R> {
+    ghost use Rattle.std.specs.Prelude.{is_some};
+    ghost use Rattle.vx_io.specs.SocketState.{TcpNetState};
+
+    ghost Value = { TcpNetState };
+
+    ghost view = { λ s. record { is_open = is_some s.own; faults = s.faults; given = s.given } };
+}
+
+impl<R: Sockets> TcpNet<R> {
+    /// A net over the runtime `rt`, of which no port is open yet.
+    pub fn new(rt: R) -> TcpNet<R>
+        ensures is_open { result.is_open ≡ false }
+        ensures faults { result.faults ≡ 0 }
+        ensures given { result.given ≡ 0 }
+    {
+        TcpNet {
+            rt,
+            own: None,
+            faults: 0,
+            given: 0,
+        }
+    }
+}
+
+impl<R: Sockets<Listener = TcpListener, Stream = TcpStream>> Net for TcpNet<R> {
+    type Port = TcpPort;
+
+    ghost is_open = { λ s. s.is_open };
+
+    ghost faults = { λ s. s.faults };
+
+    ghost given = { λ s. s.given };
+
+    ghost ended = { λ _. 0 };
+
+    /// Listens at this port of 0.0.0.0. A port that can't be had counts a fault.
+    fn open(&mut self, port: u16) -> DialOut
+        ensures counted { self.old.faults ≤ self.new.faults }
+        ensures opened { self.new.is_open ≡ (is_up result || self.old.is_open) }
+        ensures given { self.new.given ≡ self.old.given }
+        ensures failed { OnDialFailed result (self.new.faults ≡ one_more self.old.faults) }
+    {
+        match TcpListener::bind(&self.rt, (Ipv4Addr::UNSPECIFIED, port)) {
+            Ok(listener) => {
+                self.own = Some(listener);
+                DialOut::Up
+            }
+            Err(_) => {
+                self.faults = self.faults.saturating_add(1);
+                DialOut::Failed
+            }
+        }
+    }
+
+    /// Waits for the next connection to its own port. A wait that errs counts a fault. So would the wait after 2^64 - 1
+    /// connections, which could not be counted.
+    fn accept(&mut self) -> Accepted<TcpLink>
+        requires { self.old.is_open ≡ true }
+        ensures counted { self.old.faults ≤ self.new.faults }
+        ensures opened { self.new.is_open ≡ true }
+        ensures given { self.new.given ≡ given_after result self.old.given }
+        ensures goes_on { GoesOn result }
+        ensures failed { OnAcceptFailed result (self.new.faults ≡ one_more self.old.faults) }
+    {
+        let link = match &self.own {
+            Some(listener) if self.given < u64::MAX => accept_retrying(listener),
+            _ => None,
+        };
+        match link {
+            Some(link) => {
+                self.given += 1;
+                Accepted::Peer(link)
+            }
+            None => {
+                self.faults = self.faults.saturating_add(1);
+                Accepted::Failed
+            }
+        }
+    }
+
+    /// Listens at this port of 0.0.0.0 as well. A port that can't be had counts a fault.
+    fn bind(&mut self, port: u16) -> Bound<TcpPort>
+        ensures counted { self.old.faults ≤ self.new.faults }
+        ensures opened { self.new.is_open ≡ self.old.is_open }
+        ensures given { self.new.given ≡ self.old.given }
+        ensures failed { OnBindFailed result (self.new.faults ≡ one_more self.old.faults) }
+    {
+        match TcpListener::bind(&self.rt, (Ipv4Addr::UNSPECIFIED, port)) {
+            Ok(listener) => Bound::Port(TcpPort::new(listener)),
+            Err(_) => {
+                self.faults = self.faults.saturating_add(1);
+                Bound::Failed
+            }
+        }
+    }
+}
+
+/// A reach over the system's sockets.
+#[derive(Drop)]
+pub struct TcpReach<R> {
+    rt: R,
+    stream: Option<TcpStream>,
+    receive_faults: u64,
+    send_faults: u64,
+    refused: u64,
+}
+
+impl<R> Model for TcpReach<R> {
+    ghost use Rattle.vx_io.specs.SocketState.{TcpReachState};
+
+    ghost Value = { TcpReachState };
+
+    ghost view = { λ s. record {
+      receive_faults = s.receive_faults;
+      send_faults = s.send_faults;
+      refused = s.refused;
+    } };
+}
+
+impl<R: Sockets> TcpReach<R> {
+    /// A reach over the runtime `rt`, which has reached nothing yet.
+    pub fn new(rt: R) -> TcpReach<R>
+        ensures receive_faults { result.receive_faults ≡ 0 }
+        ensures send_faults { result.send_faults ≡ 0 }
+        ensures refused { result.refused ≡ 0 }
+    {
+        TcpReach {
+            rt,
+            stream: None,
+            receive_faults: 0,
+            send_faults: 0,
+            refused: 0,
+        }
+    }
+}
+
+impl<R: Sockets<Stream = TcpStream>> Link for TcpReach<R> {
+    ghost stands = { TellsNone };
+
+    ghost left = { λ _. None };
+
+    ghost receive_faults = { λ s. s.receive_faults };
+
+    ghost send_faults = { λ s. s.send_faults };
+
+    /// One read of the stream, as a `TcpLink` makes it. It fails before the first reach with `Up`.
+    fn receive(&mut self, into: &mut [u8]) -> ReadOut
+        requires { 0 < length into.old }
+        ensures counted { self.old.receive_faults ≤ self.new.receive_faults }
+        ensures apart { self.new.send_faults ≡ self.old.send_faults }
+        ensures refused { self.new.refused ≡ self.old.refused }
+        ensures got { IfGot result (λ n. (0 < n) × (n ≤ length into.new) × (self.new ≡ self.old)) }
+        ensures end { OnEnd result (self.new ≡ self.old) }
+        ensures failed { OnReadFailed result (self.new.receive_faults ≡ one_more self.old.receive_faults) }
+    {
+        let given = match &mut self.stream {
+            Some(stream) => read_retrying(stream, into),
+            None => None,
+        };
+        match given {
+            Some(0) => ReadOut::End,
+            Some(count) => ReadOut::Got(count),
+            None => {
+                self.receive_faults = self.receive_faults.saturating_add(1);
+                ReadOut::Failed
+            }
+        }
+    }
+
+    /// One write of the stream, as a `TcpLink` makes it. It fails before the first reach with `Up`.
+    fn send(&mut self, from: &[u8]) -> WriteOut
+        requires { 0 < length from.now }
+        ensures counted { self.old.send_faults ≤ self.new.send_faults }
+        ensures apart { self.new.receive_faults ≡ self.old.receive_faults }
+        ensures refused { self.new.refused ≡ self.old.refused }
+        ensures took { IfTook result (λ n. (0 < n) × (n ≤ length from.now) × (self.new ≡ self.old)) }
+        ensures failed { OnWriteFailed result (self.new.send_faults ≡ one_more self.old.send_faults) }
+    {
+        let taken = match &mut self.stream {
+            Some(stream) => write_retrying(stream, from),
+            None => None,
+        };
+        match taken {
+            Some(count) if count > 0 => WriteOut::Took(count),
+            _ => {
+                self.send_faults = self.send_faults.saturating_add(1);
+                WriteOut::Failed
+            }
+        }
+    }
+}
+
+impl<R: Sockets<Stream = TcpStream>> Reach for TcpReach<R> {
+    ghost refused = { λ s. s.refused };
+
+    /// Connects to a port of a host: an IPv4 address such as `192.0.2.7`, an IPv6 address, or a name that the system's
+    /// resolver knows, of which up to 32 addresses are tried in turn. Where none answers, a fault is counted, and a stream
+    /// that stood stays.
+    fn reach(&mut self, host: &str, port: u16) -> DialOut
+        ensures counted { self.old.refused ≤ self.new.refused }
+        ensures failed { OnDialFailed result (self.new.refused ≡ one_more self.old.refused) }
+        ensures receives { self.new.receive_faults ≡ self.old.receive_faults }
+        ensures sends { self.new.send_faults ≡ self.old.send_faults }
+    {
+        match TcpStream::connect(&self.rt, (host, port)) {
+            Ok(stream) => {
+                let _ = stream.set_nodelay(true);
+                self.stream = Some(stream);
+                DialOut::Up
+            }
+            Err(_) => {
+                self.refused = self.refused.saturating_add(1);
+                DialOut::Failed
+            }
+        }
+    }
+}
