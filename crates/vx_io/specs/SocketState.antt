@@ -16,8 +16,9 @@ pub record TcpNetState : Type 0 where
   pub faults : ℕ
   pub given : ℕ
 
--- a reach: how many receives failed and how many sends, and how many reaches were refused
+-- a reach: whether it has a stream, how many receives failed and how many sends, and how many reaches were refused
 pub record TcpReachState : Type 0 where
+  pub is_up : Bool
   pub receive_faults : ℕ
   pub send_faults : ℕ
   pub refused : ℕ

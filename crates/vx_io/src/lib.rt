@@ -1,7 +1,8 @@
 //! What the programs have of the outside world, as traits with one form over memory for tests and one over the
-//! standard library for a `main`: bytes that come in and bytes that go out.
+//! standard library for a `main`: bytes that come in and bytes that go out, links both ways and what makes them, clocks
+//! and workers.
 //!
-//! Every trait counts its faults in a `u64` that stays at its greatest value, and an answer `Failed` comes only
+//! A trait that can fail counts its faults in a `u64` that stays at its greatest value, and `Failed` is answered only
 //! where that count rose in the call. Where an implementation can tell its bytes, the contracts say which bytes
 //! each call moved; an adapter of the real world tells none.
 #![tactic(auto)]

@@ -274,11 +274,13 @@ pub struct TcpReach<R> {
 }
 
 impl<R> Model for TcpReach<R> {
+    ghost use Rattle.std.specs.Prelude.{is_some};
     ghost use Rattle.vx_io.specs.SocketState.{TcpReachState};
 
     ghost Value = { TcpReachState };
 
     ghost view = { λ s. record {
+      is_up = is_some s.stream;
       receive_faults = s.receive_faults;
       send_faults = s.send_faults;
       refused = s.refused;
@@ -288,6 +290,7 @@ impl<R> Model for TcpReach<R> {
 impl<R: Sockets> TcpReach<R> {
     /// A reach over the runtime `rt`, which has reached nothing yet.
     pub fn new(rt: R) -> TcpReach<R>
+        ensures is_up { result.is_up ≡ false }
         ensures receive_faults { result.receive_faults ≡ 0 }
         ensures send_faults { result.send_faults ≡ 0 }
         ensures refused { result.refused ≡ 0 }
@@ -317,6 +320,8 @@ impl<R: Sockets<Stream = TcpStream>> Link for TcpReach<R> {
         ensures counted { self.old.receive_faults ≤ self.new.receive_faults }
         ensures apart { self.new.send_faults ≡ self.old.send_faults }
         ensures refused { self.new.refused ≡ self.old.refused }
+        ensures is_up { self.new.is_up ≡ self.old.is_up }
+        ensures early { self.old.is_up ≡ false → result ≡ ReadOut.Failed }
         ensures got { IfGot result (λ n. (0 < n) × (n ≤ length into.new) × (self.new ≡ self.old)) }
         ensures end { OnEnd result (self.new ≡ self.old) }
         ensures failed { OnReadFailed result (self.new.receive_faults ≡ one_more self.old.receive_faults) }
@@ -341,6 +346,8 @@ impl<R: Sockets<Stream = TcpStream>> Link for TcpReach<R> {
         ensures counted { self.old.send_faults ≤ self.new.send_faults }
         ensures apart { self.new.receive_faults ≡ self.old.receive_faults }
         ensures refused { self.new.refused ≡ self.old.refused }
+        ensures is_up { self.new.is_up ≡ self.old.is_up }
+        ensures early { self.old.is_up ≡ false → result ≡ WriteOut.Failed }
         ensures took { IfTook result (λ n. (0 < n) × (n ≤ length from.now) × (self.new ≡ self.old)) }
         ensures failed { OnWriteFailed result (self.new.send_faults ≡ one_more self.old.send_faults) }
     {
@@ -366,6 +373,7 @@ impl<R: Sockets<Stream = TcpStream>> Reach for TcpReach<R> {
     /// that stood stays.
     fn reach(&mut self, host: &str, port: u16) -> DialOut
         ensures counted { self.old.refused ≤ self.new.refused }
+        ensures is_up { self.new.is_up ≡ (is_up result || self.old.is_up) }
         ensures failed { OnDialFailed result (self.new.refused ≡ one_more self.old.refused) }
         ensures receives { self.new.receive_faults ≡ self.old.receive_faults }
         ensures sends { self.new.send_faults ≡ self.old.send_faults }
