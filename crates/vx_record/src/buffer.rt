@@ -101,6 +101,13 @@ impl RecordBuf {
         requires { self.old.state ≡ Feed.Whole }
         ensures { self.new ≡ fresh self.old.limit }
     {
+        self.restart();
+    }
+
+    /// Lets go all that is kept, whatever state the last feed left, and begins a new stream.
+    pub fn restart(&mut self)
+        ensures { self.new ≡ fresh self.old.limit }
+    {
         self.kept.clear();
         self.seen = 0;
         self.last = false;

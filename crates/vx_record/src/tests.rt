@@ -120,3 +120,26 @@ fn marks(rt: HostRuntime) {
     assert_eq!(rt; mark(66560), [0x80, 1, 4, 0]);
     assert_eq!(rt; mark(0x7FFF_FFFF), [0xFF, 0xFF, 0xFF, 0xFF]);
 }
+
+// Behind a record that was too long a new stream is read from its first byte.
+#[test]
+fn a_new_stream(rt: HostRuntime) -> Result<(), Fail> {
+    let mut buf = RecordBuf::new(rt.alloc(), 3).map_err(|_| "no memory")?;
+    let long = buf.feed(b"\0\0\0\x01a\x80\0\0\x03bcd");
+    assert_eq!(rt;
+        long,
+        Fed {
+            took: 9,
+            state: Feed::TooLong
+        }
+    );
+    buf.restart();
+    assert_eq!(rt; buf.rest(), 0);
+    let fed = buf.feed(b"\x80\0\0\x03bcd\x80");
+    assert_eq!(rt; fed.took, 7);
+    let Feed::Whole = fed.state else {
+        return Err("the record isn't whole".into());
+    };
+    assert_eq!(rt; buf.whole(), b"bcd".as_slice());
+    Ok(())
+}
