@@ -35,7 +35,7 @@ use Rattle.vx_play.specs.declared.note.Note.{Note}
 use Rattle.vx_play.specs.declared.note.Note.TheVariants as note
 use Rattle.vx_play.specs.Gateway.{Gateway, gateway_of, Happens}
 use Rattle.vx_play.specs.Stage.{Stage, tables_of, refusal}
-use Rattle.vx_play.specs.Meaning.{reply_record}
+use Rattle.vx_message.specs.Meaning.{reply_record}
 use Rattle.vx_play.specs.Making.{Makes, SampleMakes, PollMakes, ChannelMakes, DialMakes, take_line}
 use Rattle.vx_play.specs.Play.{stream_after, xid_after, rack_after, moment_after}
 use Rattle.vx_play.specs.PlayerState.{PlayerState, incoming_at}

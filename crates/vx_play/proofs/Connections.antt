@@ -29,7 +29,7 @@ use Rattle.vx_play.specs.declared.note.Stop.TheVariants as stop
 use Rattle.vx_play.specs.declared.streams.Incoming.{Incoming}
 use Rattle.vx_play.specs.Gateway.{Gateway, gateway_of, BusGoes, Happens}
 use Rattle.vx_play.specs.Stream.{Brought, NoEnd, Whole, TooLong, After, brought, by_split, kept_after}
-use Rattle.vx_play.specs.Meaning.{Meaning, Junk, Answered, Asks, Aborts, meaning, xid_by}
+use Rattle.vx_message.specs.Meaning.{Meaning, Junk, Answered, Asks, Aborts, meaning, xid_by}
 use Rattle.vx_play.specs.Stage.{Stage, tables_of, refusal, refused_by}
 use Rattle.vx_play.specs.Making.{MessageMakes, RecordMakes, PieceMakes, Makes}
 use Rattle.vx_play.specs.Play.{stream_after, xid_after, xid_of, xid_brought}

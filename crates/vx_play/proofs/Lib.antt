@@ -1,5 +1,4 @@
 pub mod Moved
-pub mod Recorded
 pub mod Cut
 pub mod Limits
 pub mod Stepping

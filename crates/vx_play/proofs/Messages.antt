@@ -36,8 +36,8 @@ use Rattle.vx_kernel.specs.CoreState.{CoreState}
 use Rattle.vx_play.specs.declared.note.Made.{Made}
 use Rattle.vx_play.specs.declared.serve.Served.TheVariants as served
 use Rattle.vx_play.specs.Gateway.{Gateway, gateway_of, BusGoes}
-use Rattle.vx_play.specs.Meaning.{Meaning, Junk, Answered, Aborts, by_call, xid_by, record_of, reply_record}
-use Rattle.vx_play.specs.Meaning as meant
+use Rattle.vx_message.specs.Meaning.{Meaning, Junk, Answered, Aborts, by_call, xid_by, record_of, reply_record}
+use Rattle.vx_message.specs.Meaning as meant
 use Rattle.vx_play.specs.Making.{PollMakes, MessageMakes}
 use Rattle.vx_play.specs.Serving.{MadeBy, Tells, IsRipe, Serves}
 use Rattle.vx_play.proofs.Roles.{as-one, tested-fine}

@@ -24,7 +24,7 @@ use Rattle.vx_core.specs.Lending.{Shows, PollLeaves}
 use Rattle.vx_trace.specs.Output.{Out, WaitDial}
 use Rattle.vx_play.specs.declared.note.Note.{Note}
 use Rattle.vx_play.specs.declared.note.Note.TheVariants as note
-use Rattle.vx_play.specs.Meaning.{reply_record}
+use Rattle.vx_message.specs.Meaning.{reply_record}
 use Rattle.vx_play.specs.Gateway.{gateway_of}
 use Rattle.vx_play.specs.Item.{bus_lines}
 use Rattle.vx_play.specs.Making.{PollMakes, poll_line}

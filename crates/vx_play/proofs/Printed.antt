@@ -12,7 +12,7 @@ use Rattle.vx_play.specs.declared.note.Gone.TheVariants as gone
 use Rattle.vx_play.specs.declared.note.Note.{Note}
 use Rattle.vx_play.specs.declared.note.Note.TheVariants as note
 use Rattle.vx_play.specs.declared.printer.TheConstants.{MOVES_ROOM, NOTE_ROOM}
-use Rattle.vx_play.specs.declared.record.TheConstants.{REPLY_ROOM}
+use Rattle.vx_message.specs.declared.record.TheConstants.{REPLY_ROOM}
 use Rattle.vx_play.specs.Moving.{End, IsPut}
 use Rattle.vx_play.specs.Item.{noted}
 use Rattle.vx_play.specs.Standing.{note_line, moves_lines, NoteWithin}

@@ -13,8 +13,8 @@ use Rattle.vx_flow.specs.Event as event
 use Rattle.vx_flow.specs.Poll.{Ending, Answered, Waited, Locked, InTurn, Held, Dialed}
 use Rattle.vx_play.specs.Gateway.{Gateway}
 use Rattle.vx_play.specs.Script.{Step}
-use Rattle.vx_play.specs.Meaning.{Meaning, Junk, Asks, Aborts, meaning}
-use Rattle.vx_play.specs.Meaning as meant
+use Rattle.vx_message.specs.Meaning.{Meaning, Junk, Asks, Aborts, meaning}
+use Rattle.vx_message.specs.Meaning as meant
 use Rattle.vx_play.specs.Stream.{Brought, NoEnd, Whole, TooLong, After, brought}
 use Rattle.vx_play.specs.Item.{Item, bus_lines, noted, item_lines, outputs, events, moved, shown_moves}
 use Rattle.vx_play.specs.Stage.{Stage, tables_of}

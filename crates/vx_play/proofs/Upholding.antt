@@ -25,8 +25,8 @@ use Rattle.vx_flow.proofs.Earlier.{earlier_law-holds}
 use Rattle.vx_flow.proofs.Headline.{headline_law-holds}
 use Rattle.vx_play.specs.Gateway.{Gateway, Happens, abort_port}
 use Rattle.vx_play.specs.Script as script
-use Rattle.vx_play.specs.Meaning.{Meaning, Junk, Asks, Aborts, meaning}
-use Rattle.vx_play.specs.Meaning as meant
+use Rattle.vx_message.specs.Meaning.{Meaning, Junk, Asks, Aborts, meaning}
+use Rattle.vx_message.specs.Meaning as meant
 use Rattle.vx_play.specs.Stream.{Brought, NoEnd, Whole, TooLong, After, brought}
 use Rattle.vx_play.specs.Item.{Item, events}
 use Rattle.vx_play.specs.Stage.{SpareShown, Stage, tables_of, beginning}

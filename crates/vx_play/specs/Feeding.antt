@@ -17,7 +17,7 @@ use Rattle.vx_play.specs.declared.note.Stop.{Stop}
 use Rattle.vx_play.specs.declared.note.Stop.TheVariants as stop
 use Rattle.vx_play.specs.declared.streams.Incoming.{Incoming}
 use Rattle.vx_play.specs.Gateway.{Gateway, gateway_of, Happens}
-use Rattle.vx_play.specs.Meaning.{Meaning, Junk, meaning, xid_by}
+use Rattle.vx_message.specs.Meaning.{Meaning, Junk, meaning, xid_by}
 use Rattle.vx_play.specs.Making.{MessageMakes}
 use Rattle.vx_play.specs.Serving.{MadeBy}
 

@@ -2,7 +2,6 @@ pub mod Moving
 pub mod Script
 pub mod Stream
 pub mod Gateway
-pub mod Meaning
 pub mod Item
 pub mod Stage
 pub mod Hearing

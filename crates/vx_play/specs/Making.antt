@@ -22,8 +22,8 @@ use Rattle.vx_flow.specs.Poll.{Ending, Answered, Waited, Locked, InTurn, Held, D
 use Rattle.vx_kernel.specs.Polling.{PollsOver}
 use Rattle.vx_play.specs.Gateway.{Gateway, BusGoes, Happens}
 use Rattle.vx_play.specs.Hearing.{is_write, TakesHeard}
-use Rattle.vx_play.specs.Meaning.{Meaning, Junk, Asks, Aborts, meaning, record_of, reply_record, srq_record}
-use Rattle.vx_play.specs.Meaning as meant
+use Rattle.vx_message.specs.Meaning.{Meaning, Junk, Asks, Aborts, meaning, record_of, reply_record, srq_record}
+use Rattle.vx_message.specs.Meaning as meant
 use Rattle.vx_play.specs.Stream.{Brought, NoEnd, Whole, TooLong, After, brought}
 use Rattle.vx_play.specs.Stage.{SpareShown, Stage, tables_of, address, rules_in, spare_at}
 

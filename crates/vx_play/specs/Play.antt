@@ -7,7 +7,7 @@ use Rattle.vx_script.specs.Command.{Command, Up, In, At, Plug}
 use Rattle.vx_model.specs.State.{role_at}
 use Rattle.vx_play.specs.Script.{Step, script}
 use Rattle.vx_play.specs.Stream.{Brought, Whole, brought, kept_after}
-use Rattle.vx_play.specs.Meaning.{meaning, xid_by}
+use Rattle.vx_message.specs.Meaning.{meaning, xid_by}
 use Rattle.vx_play.specs.Item.{Item, Fault}
 use Rattle.vx_play.specs.Stage.{SpareShown, Stage, tables_of, beginning, refusal}
 use Rattle.vx_play.specs.Making.{Makes}

@@ -17,7 +17,7 @@ use Rattle.vx_play.specs.declared.serve.Served.{Served}
 use Rattle.vx_play.specs.declared.serve.Served.TheVariants as served
 use Rattle.vx_play.specs.Gateway.{Gateway, gateway_of}
 use Rattle.vx_play.specs.Item.{bus_lines}
-use Rattle.vx_play.specs.Meaning.{Meaning, Junk, xid_by}
+use Rattle.vx_message.specs.Meaning.{Meaning, Junk, xid_by}
 use Rattle.vx_play.specs.Making.{MessageMakes}
 use Rattle.vx_play.specs.Standing.{note_line, moves_lines, NoteWithin}
 

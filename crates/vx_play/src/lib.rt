@@ -9,7 +9,6 @@ mod output;
 mod pieces;
 mod player;
 mod printer;
-mod record;
 #[cfg(test)]
 mod rows;
 mod run;

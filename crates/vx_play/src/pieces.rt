@@ -6,7 +6,7 @@ ghost use Rattle.vx_calls.specs.declared.limits.TheConstants.{RECORD_MAX};
 ghost use Rattle.vx_bus.specs.Steps.{Cut};
 ghost use Rattle.vx_model.specs.State.{connection_at, lives_as, role_at, pending_at};
 ghost use Rattle.vx_flow.specs.Event as event;
-ghost use Rattle.vx_play.specs.declared.record.TheConstants.{REPLY_ROOM};
+ghost use Rattle.vx_message.specs.declared.record.TheConstants.{REPLY_ROOM};
 ghost use Rattle.vx_play.specs.declared.streams.Incoming.{Incoming};
 ghost use Rattle.vx_play.specs.Gateway.{Gateway, gateway_of, Happens};
 ghost use Rattle.vx_play.specs.Feeding.{AnswersRecord, FeedsPiece, StopsPiece};

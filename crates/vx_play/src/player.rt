@@ -6,7 +6,7 @@ ghost use Rattle.vx_script.specs.Command.{Command, Up, In, Down, At, Poll, Sampl
 ghost use Rattle.vx_script.specs.Plain.{IsPlainStep, IsAddress};
 ghost use Rattle.vx_script.specs.Words.{is_name};
 ghost use Rattle.vx_model.specs.State.{role_at, lives_as, pending_at};
-ghost use Rattle.vx_play.specs.declared.record.TheConstants.{REPLY_ROOM};
+ghost use Rattle.vx_message.specs.declared.record.TheConstants.{REPLY_ROOM};
 ghost use Rattle.vx_play.specs.declared.streams.Incoming.{Incoming};
 ghost use Rattle.vx_play.specs.Stage.{Stage, SpareShown, beginning, cause_of};
 ghost use Rattle.vx_play.specs.PlayerState.{PlayerState, incoming_at};
@@ -17,7 +17,6 @@ use crate::bench;
 use crate::input::zeros;
 use crate::note::{Gone, Made, Note, Stop};
 use crate::pieces::{end, feed_piece};
-use crate::record::{REPLY_ROOM, put_srq_record};
 use crate::serve::{poll_call, succeed};
 use crate::streams::{self, Incoming};
 use crate::table::table_of;
@@ -28,6 +27,7 @@ use vx_488::{Addr, Transfer};
 use vx_calls::{ReplyRef, Role, Taken};
 use vx_core::{Connect, Core};
 use vx_inst::Instrument;
+use vx_message::{REPLY_ROOM, put_srq_record};
 use vx_rack::Spare;
 use vx_script::{Cause, Step};
 use vx_sim::{Attach, SimBus};
@@ -48,7 +48,7 @@ pub struct Player<I: Instrument> {
 
 impl<I: Instrument> Model for Player<I> {
     ghost use Rattle.std.specs.Prelude.{◌≡◌, length, map};
-    ghost use Rattle.vx_play.specs.declared.record.TheConstants.{REPLY_ROOM};
+    ghost use Rattle.vx_message.specs.declared.record.TheConstants.{REPLY_ROOM};
     ghost use Rattle.vx_play.specs.PlayerState.{PlayerState};
     ghost use Rattle.vx_play.specs.Spares.{spare_shown};
 

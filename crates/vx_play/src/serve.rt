@@ -7,21 +7,21 @@ ghost use Rattle.vx_calls.specs.Reply.{reply_shown};
 ghost use Rattle.vx_rpc.specs.Sorting.{is_sent};
 ghost use Rattle.vx_rpc.specs.Wording.{refusal_message};
 ghost use Rattle.vx_codec.specs.Answered.{IsPuttableReply, results};
-ghost use Rattle.vx_play.specs.declared.record.TheConstants.{REPLY_ROOM};
+ghost use Rattle.vx_message.specs.declared.record.TheConstants.{REPLY_ROOM};
 ghost use Rattle.vx_model.specs.State.{is_idle, lives_as, pending_at, role_at};
 ghost use Rattle.vx_model.specs.One.{may_wait};
 ghost use Rattle.vx_model.specs.Held.{IsShort};
 ghost use Rattle.vx_play.specs.Gateway.{gateway_of};
-ghost use Rattle.vx_play.specs.Meaning.{meaning, by_call, record_of, reply_record};
+ghost use Rattle.vx_message.specs.Meaning.{meaning, by_call, record_of, reply_record};
 ghost use Rattle.vx_play.specs.Making.{MessageMakes, CallMakes, AbortMakes, PollMakes};
 ghost use Rattle.vx_play.specs.Serving.{MadeBy, Tells, Serves, IsRipe};
 
 use crate::note::{Made, Note};
-use crate::record::{REPLY_ROOM, put_refusal_record, put_success_record};
 use vx_calls::{CallRef, ReplyRef, Role};
 use vx_codec::read_args;
 use vx_core::{Core, Polled};
 use vx_inst::Instrument;
+use vx_message::{REPLY_ROOM, put_refusal_record, put_success_record};
 use vx_rpc::{RpcRefusal, Sorted, sort_call};
 use vx_sim::SimBus;
 

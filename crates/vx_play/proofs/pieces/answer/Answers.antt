@@ -5,7 +5,7 @@ use Rattle.vx_calls.specs.declared.limits.TheConstants.{RECORD_MAX}
 use Rattle.vx_model.specs.State.{connection_at}
 use Rattle.vx_play.specs.declared.serve.Served.TheVariants as served
 use Rattle.vx_play.specs.Gateway.{Gateway, gateway_of}
-use Rattle.vx_play.specs.Meaning.{meaning}
+use Rattle.vx_message.specs.Meaning.{meaning}
 use Rattle.vx_play.specs.Serving.{Serves}
 use Rattle.vx_play.proofs.Messages.{lives-role, role-connection}
 use Rattle.vx_play.proofs.Feeds.{if-there, sets-xid, record-answered, record-junk}

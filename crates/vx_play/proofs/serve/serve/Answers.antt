@@ -3,7 +3,7 @@ use Rattle.vx_calls.specs.Call.{call_shown}
 use Rattle.vx_rpc.specs.declared.refusal.RpcRefusal.TheVariants as refusal
 use Rattle.vx_rpc.specs.Wording.{refusal_message}
 use Rattle.vx_play.specs.Gateway.{gateway_of}
-use Rattle.vx_play.specs.Meaning.{meaning, by_arguments, by_sorting}
+use Rattle.vx_message.specs.Meaning.{meaning, by_arguments, by_sorting}
 use Rattle.vx_play.specs.Serving.{Serves}
 use Rattle.vx_play.proofs.Messages.{ripe, read-short, answered-serves}
 use Rattle.vx_play.proofs.serve.serve.Goals as goal
