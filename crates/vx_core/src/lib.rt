@@ -2,6 +2,7 @@
 //! which steps the bus went.
 #![tactic(auto)]
 
+mod kept;
 mod order;
 mod polled;
 mod shared;

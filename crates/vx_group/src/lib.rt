@@ -1,0 +1,26 @@
+//! The groups of events that turns at a gate add to the history of a gateway: for which histories a state stands, what a
+//! list of events tells of a connection, and which group a pass may add.
+//!
+//! A group is plain data of contracts; no value of it is made when a program runs.
+#![tactic(auto)]
+
+mod laws;
+
+pub use laws::first_law;
+use std::marker::Model;
+
+/// The type of a group of events.
+#[derive(Drop)]
+pub struct EventGroup {
+    // no value is made
+    never: (),
+}
+
+impl Model for EventGroup {
+    ghost use Rattle.std.specs.Prelude.{[]};
+    ghost use Rattle.vx_group.specs.Groups.{Group};
+
+    ghost Value = { Group };
+
+    ghost view = { λ _. record { events = []; moment = 0; abort_port = 0 } };
+}
