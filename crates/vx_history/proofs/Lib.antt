@@ -1,0 +1,10 @@
+pub mod Answering
+pub mod Doing
+pub mod Onward
+pub mod Standing
+pub mod Plainly
+pub mod Rows
+pub mod Seating
+pub mod Knowing
+pub mod Turns
+pub mod Owning

@@ -1,0 +1,94 @@
+-- What a pass's own groups tell of a connection is so, and the events of a connection are made by one pass alone.
+use Rattle.std.proofs.Common.{◌≡◌, ◌<◌, ◌==◌, ◌++◌, ◌⊎◌, inl, inr, ℕ, suc, zero, Bool, true, false, cond, List, [], ◌∷◌, length, get_or, refl, sym, ap, ◌∙◌, subst, arith}
+use Rattle.std.specs.List.{Contains, filter}
+use Rattle.std.proofs.lemmas.Bool.{cases_eq, eq-eqb, ne_eqb, cond-true, cond-false}
+use Rattle.std.proofs.lemmas.List.Elements.{Contains-append_left, Contains-append_right, Contains-append_cases}
+use Rattle.vx_gate.specs.declared.views.Made.{Made}
+use Rattle.vx_gate.specs.History.{groups}
+use Rattle.vx_flow.specs.Event.{Event, Up}
+use Rattle.vx_group.specs.Groups.{Group, events_of}
+use Rattle.vx_group.specs.Seats.{Seats, seat_by}
+use Rattle.vx_history.specs.Laws.{SeatsLaw, OwnedLaw}
+use Rattle.vx_history.proofs.Seating.{later-seat}
+use Rattle.vx_history.proofs.Turns.{own_of, history-known}
+
+-- the state has each connection as the groups of a pass tell
+pub seats-hold : SeatsLaw
+seats-hold log f number conn law stands =
+    let seat = seat_by conn (own_of log number) in
+    subst (λ s. Seats s conn seat) (sym stands.same)
+    (later-seat seat stands.last f.state.moment conn ((history-known log f law stands).seats number conn))
+
+-- ---- where an event stands
+
+-- what stands in a list is its first element, or stands behind it
+stands-in : {X : Type 0} (x : X) (xs : List X) (y : X) (k : ℕ) → k < length (x ∷ xs) → get_or (x ∷ xs) k y ≡ y → (x ≡ y) ⊎ Contains xs y
+stands-in x xs y zero within is = inl is
+stands-in x xs y (suc k) within is = inr (k, omega arith, is)
+
+-- a pass's events in a history by its first group
+own-cons : (n : ℕ) (x : Made Group) (log : List (Made Group)) → own_of (x ∷ log) n ≡ cond (x.by == n) (x.group.events ++ own_of log n) (own_of log n)
+own-cons n x log = by (x.by == n) where
+  by : (b : Bool) → events_of (groups (cond b (x ∷ filter (λ m. m.by == n) log) (filter (λ m. m.by == n) log)))
+      ≡ cond b (x.group.events ++ own_of log n) (own_of log n)
+  by true = refl
+  by false = refl
+
+-- where the group is its own it has the group's events in front
+own-mine : (n : ℕ) (x : Made Group) (log : List (Made Group)) → x.by ≡ n → own_of (x ∷ log) n ≡ x.group.events ++ own_of log n
+own-mine n x log is = own-cons n x log ∙ cond-true (x.by == n) (x.group.events ++ own_of log n) (own_of log n) (eq-eqb x.by n is)
+
+-- where the group is of another pass it has the rest alone
+own-other : (n : ℕ) (x : Made Group) (log : List (Made Group)) → (x.by ≡ n → ⊥) → own_of (x ∷ log) n ≡ own_of log n
+own-other n x log ne = own-cons n x log ∙ cond-false (x.by == n) (x.group.events ++ own_of log n) (own_of log n) (ne_eqb x.by n ne)
+
+-- an event of a group is one of the pass that made the group
+in-own : (log : List (Made Group)) (m : Made Group) (e : Event) → Contains log m → Contains m.group.events e → Contains (own_of log m.by) e
+in-own [] m e none at = absurd (omega (arith, none.1))
+in-own (x ∷ log) m e in_log at = by (stands-in x log m in_log.0 in_log.1 in_log.2) (in-own log m e) where
+  behind : (x.by ≡ m.by) ⊎ (x.by ≡ m.by → ⊥) → Contains (own_of log m.by) e → Contains (own_of (x ∷ log) m.by) e
+  behind (inl mine) rest = subst (λ es. Contains es e) (sym (own-mine m.by x log mine)) (Contains-append_right x.group.events (own_of log m.by) e rest)
+  behind (inr other) rest = subst (λ es. Contains es e) (sym (own-other m.by x log other)) rest
+
+  by : (x ≡ m) ⊎ Contains log m → (Contains log m → Contains m.group.events e → Contains (own_of log m.by) e) → Contains (own_of (x ∷ log) m.by) e
+  by (inl is) rest =
+      subst (λ es. Contains es e) (sym (own-mine m.by x log (ap (λ (y : Made Group). y.by) is)))
+      (Contains-append_left x.group.events (own_of log m.by) e (subst (λ (y : Made Group). Contains y.group.events e) (sym is) at))
+  by (inr later) rest = behind (cases_eq x.by m.by) (rest later at)
+
+-- an event of a pass stands in a group that it made
+record Source (log : List (Made Group)) (n : ℕ) (e : Event) : Type 0 where
+  made : Made Group
+  in_log : Contains log made
+  by_pass : made.by ≡ n
+  in_group : Contains made.group.events e
+
+-- it stands in a group behind the first one
+later-source : (x : Made Group) (log : List (Made Group)) (n : ℕ) (e : Event) → Source log n e → Source (x ∷ log) n e
+later-source x log n e s = record { made = s.made; in_log = Contains-append_right (x ∷ []) log s.made s.in_log; by_pass = s.by_pass; in_group = s.in_group }
+
+-- so does each event of a pass
+from-own : (log : List (Made Group)) (n : ℕ) (e : Event) → Contains (own_of log n) e → Source log n e
+from-own [] n e none = absurd (omega (arith, none.1))
+from-own (x ∷ log) n e at = by (cases_eq x.by n) (from-own log n e) where
+  mine : (x.by ≡ n) → Contains x.group.events e ⊎ Contains (own_of log n) e → (Contains (own_of log n) e → Source log n e) → Source (x ∷ log) n e
+  mine is (inl here) rest = record { made = x; in_log = (0, omega arith, refl); by_pass = is; in_group = here }
+  mine is (inr later) rest = later-source x log n e (rest later)
+
+  by : (x.by ≡ n) ⊎ (x.by ≡ n → ⊥) → (Contains (own_of log n) e → Source log n e) → Source (x ∷ log) n e
+  by (inl is) rest = mine is (Contains-append_cases x.group.events (own_of log n) e (subst (λ es. Contains es e) (own-mine n x log is) at)) rest
+  by (inr ne) rest = later-source x log n e (rest (subst (λ es. Contains es e) (own-other n x log ne) at))
+
+-- the events of a connection are made by the one pass that has it come up
+pub owned-holds : OwnedLaw
+owned-holds log f law stands m e conn in_log at of_it =
+    let known = history-known log f law stands in
+    let raised = known.owned m.by conn e (in-own log m e in_log at) of_it in
+    let source = from-own log m.by (Up conn raised.0) raised.1 in
+    record {
+      raiser = source.made;
+      in_log = source.in_log;
+      raises = (raised.0, source.in_group);
+      same = source.by_pass;
+      alone = λ other also raises. known.once other.by m.by conn raises.0 raised.0 (in-own log other (Up conn raises.0) also raises.1) raised.1;
+    }

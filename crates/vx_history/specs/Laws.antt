@@ -1,0 +1,40 @@
+-- Laws of the histories that turns at a gate make.
+use Rattle.std.specs.Prelude.{◌≡◌, ◌≤◌, ℕ, List, [], ◌∷◌, ◌++◌, Some}
+use Rattle.vx_gate.specs.declared.views.Made.{Made}
+use Rattle.vx_gate.specs.History.{groups, made_by, Lawful}
+use Rattle.vx_model.specs.Lists.{along}
+use Rattle.vx_flow.specs.Event.{Event}
+use Rattle.vx_flow.specs.FineState.{FineState}
+use Rattle.vx_flow.specs.Fine.{fine}
+use Rattle.vx_flow.specs.Poll.{at_moment}
+use Rattle.vx_flow.specs.Sound.{IsSound}
+use Rattle.vx_flow.specs.Headline.{Headline}
+use Rattle.vx_group.specs.Groups.{Group, events_of, StandsFor}
+use Rattle.vx_group.specs.Seats.{Seats, seat_by}
+use Rattle.vx_group.specs.Owning.{MayAdd, Owned}
+
+-- the group of these events, after which the gateway is at this moment
+abbrev pub group_after : FineState → List Event → ℕ → Group
+group_after f events moment = record { events = events; moment = moment; abort_port = f.state.tables.abort_port }
+
+-- A state that stands for a history goes on: events that are allowed lead to a state that stands, at their moment or a later
+-- one, for the history and their group.
+abbrev pub StandsOnLaw : Type 0
+StandsOnLaw = (f g : FineState) (log : List Group) (events : List Event) (moment : ℕ) → StandsFor f log → along fine (Some f) events ≡ Some g
+    → g.state.moment ≤ moment → StandsFor (at_moment g moment) (log ++ group_after f events moment ∷ [])
+
+-- What a pass's own groups tell of a connection is so in every state that stands for the history.
+abbrev pub SeatsLaw : Type 0
+SeatsLaw = (log : List (Made Group)) (f : FineState) (number conn : ℕ) → Lawful MayAdd log → StandsFor f (groups log)
+    → Seats f conn (seat_by conn (events_of (made_by number log)))
+
+-- Each event of a connection stands in a group of the one pass that has it come up.
+abbrev pub OwnedLaw : Type 0
+OwnedLaw = (log : List (Made Group)) (f : FineState) → Lawful MayAdd log → StandsFor f (groups log) → Owned log
+
+-- All that is claimed of interleaved events holds of the events of a history, and what holds between events of its state.
+abbrev pub HeadlineOfGroupsLaw : Type 0
+HeadlineOfGroupsLaw = (log : List Group) (f : FineState) → StandsFor f log → Headline f.state.tables.abort_port (events_of log)
+
+abbrev pub SoundLaw : Type 0
+SoundLaw = (log : List Group) (f : FineState) → StandsFor f log → IsSound f
