@@ -7,4 +7,4 @@ mod record;
 #[cfg(test)]
 mod tests;
 
-pub use record::{REPLY_ROOM, put_refusal_record, put_srq_record, put_success_record};
+pub use record::{REPLY_ROOM, SRQ_ROOM, put_refusal_record, put_srq_record, put_success_record};

@@ -16,6 +16,9 @@ use vx_rpc::{RpcRefusal, put_call, put_refusal, put_reply};
 /// The longest record of a reply, its mark included, in bytes.
 pub const REPLY_ROOM: usize = RECORD_MAX + 4;
 
+/// The longest record of an interrupt call, its mark included, in bytes: ten words and a handle of 40 bytes.
+pub const SRQ_ROOM: usize = 88;
+
 /// Writes the mark of a message of `len` bytes that stands behind it, and answers how long the record is.
 fn close_record(reply: &mut [u8], len: usize) -> usize
     requires fits { len + 4 ≤ length reply.old }
@@ -96,7 +99,7 @@ fn put_srq_message(interrupt: &Interrupt, out: &mut [u8]) -> usize
 
 /// Writes the record of an interrupt call, and answers how long it is.
 pub fn put_srq_record(interrupt: &Interrupt, reply: &mut [u8]) -> usize
-    requires { REPLY_ROOM ≤ length reply.old }
+    requires { SRQ_ROOM ≤ length reply.old }
     ensures record { take result reply.new ≡ srq_record (record { xid = interrupt.now.xid; program = interrupt.now.prog; version = interrupt.now.vers; handle = handle_shown interrupt.now.handle }) }
     ensures some { 0 < result }
     ensures within { result ≤ length reply.new }
