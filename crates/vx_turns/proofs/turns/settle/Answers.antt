@@ -1,0 +1,48 @@
+use Rattle.std.proofs.Common.{◌≡◌, max, true, false, Some, [], ◌∷◌, refl, ap, ◌∙◌, subst}
+use Rattle.vx_calls.specs.Reply as reply
+use Rattle.vx_gate.specs.History.{groups}
+use Rattle.vx_flow.specs.Event.{Answer}
+use Rattle.vx_flow.specs.Fine.{fine}
+use Rattle.vx_group.specs.Groups.{StandsFor}
+use Rattle.vx_group.specs.Seats.{Asked, is_up}
+use Rattle.vx_history.specs.Laws.{group_after}
+use Rattle.vx_turns.specs.Placing.{behind}
+use Rattle.vx_turns.specs.Turning.{seat_at}
+use Rattle.vx_turns.proofs.Moments.{fine-moment, one-moment}
+use Rattle.vx_turns.proofs.Seated.{seat-more, seat-answer}
+use Rattle.vx_turns.proofs.Making.{timely-now, turns}
+use Rattle.vx_turns.proofs.Owned.{own-seat, dialed-seat, may-answer}
+use Rattle.vx_turns.proofs.Outcomes.{is-channel}
+use Rattle.vx_turns.proofs.Channels.{settled-channel}
+use Rattle.vx_turns.proofs.turns.settle.Goals as goal
+
+pub turn-requires-clause-act : goal.turn-requires-clause-act
+turn-requires-clause-act g c = λ log kept fits stands. (
+  dialed-seat kept.fine c.args.conn c.requires.seat.0
+      (own-seat c.seats_law.ensures c.args.pass log kept.fine c.args.conn (Asked c.requires.seat.0 true) fits stands c.requires.seat.1),
+  λ answer act' kept' did.
+      may-answer c.args.pass c.args.conn (ap is_up c.requires.seat.1) (max kept.fine.state.moment c.args.now) false (Some c.args.up) false (reply.Error answer.error),
+)
+
+pub returns : goal.returns
+returns g c =
+    let t = c.turn.ensures in
+    let f = t.before.fine in
+    let conn = c.args.conn in
+    let now = max f.state.moment c.args.now in
+    let answer = c.turn.result.1 in
+    let event = Answer conn now false (Some c.args.up) false (reply.Error answer.error) in
+    let group = group_after f (event ∷ []) t.after.fine.state.moment in
+    let stands = subst (λ log. StandsFor t.after.fine (groups log)) t.seen t.stands_now in
+    record {
+      placed = record { before = t.log; group = group };
+      turns = turns c.args.now t
+          (timely-now c.args.now t.log f t.after.fine (event ∷ []) t.stood (one-moment event now refl) (fine-moment event f t.after.fine t.did.0));
+      now = now;
+      events = refl;
+      error_is = t.did.1;
+      chan_is = is-channel (behind c.args.pass.number (record { before = t.log; group = group })) t.after.fine conn c.args.up answer.chan stands t.did.2
+          (λ came. settled-channel f t.after.fine (groups t.log) conn now (reply.Error answer.error) t.stood
+          (subst (λ up. fine f (Answer conn now false (Some up) false (reply.Error answer.error)) ≡ Some t.after.fine) came t.did.0));
+      seat = seat-more c.args.pass.own c.turn.result.0.own group conn t.own ∙ seat-answer conn (seat_at c.args.pass conn);
+    }

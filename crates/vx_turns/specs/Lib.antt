@@ -1,0 +1,4 @@
+pub mod Placing
+pub mod Parts
+pub mod Acting
+pub mod Turning

@@ -1,0 +1,50 @@
+-- Groups at their places in the history of a gate, as a pass made them.
+use Rattle.std.specs.Prelude.{◌≡◌, ◌≤◌, ◌⊎◌, ℕ, List, [], ◌∷◌, ◌++◌, map, Some}
+use Rattle.std.specs.List.{All}
+use mathlib.Core.List.{IsPrefix}
+use Rattle.vx_gate.specs.declared.views.Made.{Made}
+use Rattle.vx_gate.specs.History.{made, groups, made_by, Lawful}
+use Rattle.vx_gate.specs.PassView.{PassView}
+use Rattle.vx_flow.specs.FineState.{FineState}
+use Rattle.vx_group.specs.Groups.{Group, last_moment, now_of, StandsFor}
+use Rattle.vx_group.specs.Owning.{MayAdd}
+
+-- a group, and the history before it
+pub record Placed : Type 0 where
+  pub before : List (Made Group)
+  pub group : Group
+
+-- the history up to and with the group, which the pass of this number made
+abbrev pub behind : ℕ → Placed → List (Made Group)
+behind number p = p.before ++ made number p.group ∷ []
+
+-- A pass of this number that had seen `seen` made these groups, one after the other, and no other; it has now seen `seen'`.
+abbrev pub Chain : ℕ → List (Made Group) → List Placed → List (Made Group) → Type 0
+Chain number seen [] seen' = seen' ≡ seen
+Chain number seen (p ∷ ps) seen' =
+    IsPrefix seen p.before × (made_by number p.before ≡ made_by number seen) × Chain number (behind number p) ps seen'
+
+-- a moment is the one that the group before keeps, or no later than the greatest that a clock has told
+abbrev pub IsTold : ℕ → ℕ → ℕ → Type 0
+IsTold kept told moment = (moment ≡ kept) ⊎ (moment ≤ told)
+
+-- So is the moment that the group keeps, and so is the moment of each of its events.
+pub record IsTimely (told : ℕ) (p : Placed) : Type 0 where
+  pub moment : IsTold (last_moment (groups p.before)) told p.group.moment
+  pub events : All (λ e. (now : ℕ) → now_of e ≡ Some now → IsTold (last_moment (groups p.before)) told now) p.group.events
+
+-- A pass made these groups, one after the other, at moments that a clock has told, up to this one.
+pub record Makes (told : ℕ) (pass : PassView Group) (placed : List Placed) (pass' : PassView Group) : Type 0 where
+  pub gate : pass'.gate ≡ pass.gate
+  pub number : pass'.number ≡ pass.number
+  pub parts : pass'.parts ≡ pass.parts
+  pub chain : Chain pass.number pass.seen placed pass'.seen
+  pub own : pass'.own ≡ pass.own ++ map (λ p. p.group) placed
+  pub timely : All (IsTimely told) placed
+
+-- What a pass has seen is a beginning of a gateway's history: a state stands for it, and each of its groups is one that its
+-- pass could add.
+pub record IsHistory (seen : List (Made Group)) : Type 0 where
+  pub state : FineState
+  pub stands : StandsFor state (groups seen)
+  pub lawful : Lawful MayAdd seen
