@@ -1,0 +1,48 @@
+-- How a session comes to its end: its stream was served, and then its connection goes.
+use Rattle.std.proofs.Common.{ℕ, List, [], ◌∷◌, arith}
+use Rattle.vx_calls.specs.declared.calls.Role.{Role}
+use Rattle.vx_gate.specs.History.{groups}
+use Rattle.vx_gate.specs.PassView.{PassView}
+use Rattle.vx_history.specs.Laws.{HeadlineOfGroupsLaw, OwnedLaw}
+use Rattle.vx_group.specs.Groups.{Group}
+use Rattle.vx_turns.specs.Placing.{IsHistory}
+use Rattle.vx_turns.specs.Turning.{Leaves}
+use Rattle.vx_session.specs.Outside.{LinkShown, DialShown}
+use Rattle.vx_session.specs.Progress.{placed}
+use Rattle.vx_session.specs.Stopping.{StreamServed}
+use Rattle.vx_session.specs.Ending.{Upholds, SessionDid}
+use Rattle.vx_session.specs.declared.sessions.End.{End}
+use Rattle.vx_session.proofs.Making.{makes-goes, makes-later}
+
+-- of a history that a pass has seen, all holds that is claimed
+upholds : HeadlineOfGroupsLaw → OwnedLaw → (pass : PassView Group) → IsHistory pass.seen → Upholds pass
+upholds headline owned pass h = record {
+  history = h;
+  headline = headline (groups pass.seen) h.state h.stands;
+  owned = owned pass.seen h.state h.lawful h.stands;
+}
+
+-- the stream was served, and then the connection went
+pub session-did : {L : Type 0} (stands : L → List ℕ → List ℕ → Type 0) → HeadlineOfGroupsLaw → OwnedLaw → (told : ℕ) (r : Role) (conn : ℕ) (pass mid pass' : PassView Group)
+    (link link' : L) (seen seen' : LinkShown) (dial dial' : DialShown) (how : End) → StreamServed stands told r conn pass link seen dial how mid link' seen' dial'
+    → Leaves mid conn pass' → SessionDid stands told r conn pass link seen dial how pass' link' seen' dial'
+session-did stands headline owned told r conn pass mid pass' link link' seen seen' dial dial' how served leaves =
+    let last = leaves.placed in
+    record {
+      items = served.items;
+      last = last;
+      front = served.front;
+      behind = served.behind;
+      written = served.written;
+      unsent = served.unsent;
+      makes = makes-goes told told pass mid pass' (placed served.items) (last ∷ []) (omega arith) served.progress.makes
+          (makes-later 0 told mid pass' (last ∷ []) (omega arith) leaves.turns.makes);
+      each = served.progress.each;
+      down = leaves.events;
+      bytes = served.progress.bytes;
+      goes = served.progress.goes;
+      wrote = served.wrote;
+      ended = served.ended;
+      rings = served.progress.rings;
+      upholds = upholds headline owned pass' leaves.turns.history;
+    }

@@ -1,0 +1,300 @@
+-- How the records of a stream are served, piece by piece, to its end or to where the session stops.
+use Rattle.std.proofs.Common.{◌≡◌, ◌≤◌, ◌+◌, ◌-◌, ◌^◌, ℕ, zero, suc, min, false, List, [], ◌∷◌, ◌++◌, length, Option, Some, None, IfSome, refl, sym, ap, subst, ◌∙◌, arith, append_assoc, append-nil}
+use Rattle.std.proofs.lemmas.List.{map-append, nil_from_length}
+use Rattle.std.proofs.lemmas.Grind.{flat_map-append}
+use Rattle.std.proofs.KnownBytes.{Consumes-kept, Keeps-trans}
+use Rattle.std.specs.Io.KnownBytes.{Consumes, IsAtEnd, Keeps}
+use Rattle.vx_io.specs.Faults.{Rose}
+use Rattle.vx_io.specs.Stands.{Gives, Stays, Goes-gives, Goes-stays}
+use Rattle.vx_calls.specs.declared.calls.Role.{Role}
+use Rattle.vx_calls.specs.declared.limits.TheConstants.{RECORD_MAX}
+use Rattle.vx_gate.specs.PassView.{PassView}
+use Rattle.vx_record.specs.Buffer.{BufState, fresh, step}
+use Rattle.vx_record.specs.Records.{Split, records}
+use Rattle.vx_record.specs.Runs.{Stream, beginning, taken_off, brought, run, is_too_long, Shows, PiecesLaw, CutLaw}
+use Rattle.vx_record.specs.declared.Feed.{Feed}
+use Rattle.vx_record.specs.declared.Feed.TheVariants as feed
+use Rattle.vx_group.specs.Groups.{Group}
+use Rattle.vx_group.specs.Seats.{Idle}
+use Rattle.vx_turns.specs.Turning.{seat_at}
+use Rattle.vx_session.specs.Outside.{LinkShown, LinkGoes, DialShown}
+use Rattle.vx_session.specs.Serving.{Item}
+use Rattle.vx_session.specs.Progress.{Progress, messages, replies}
+use Rattle.vx_session.specs.Streaming.{ServesPiece, PieceEnds, StopsReply}
+use Rattle.vx_session.specs.Stopping.{EndsSo, StreamServed, input_end}
+use Rattle.vx_session.specs.declared.sessions.End.{End}
+use Rattle.vx_session.specs.declared.sessions.End.TheVariants as end
+use Rattle.vx_session.proofs.Progressing.{link-goes, progress-none, progress-goes}
+
+-- ---- a stream that begins behind records
+
+-- the stream, with these records in front of its own
+abbrev behind : List (List ℕ) → Stream → Stream
+behind rs t = record { records = rs ++ t.records; buffer = t.buffer }
+
+-- a record that is taken off comes behind those in front
+taken_off-behind : (f : Feed) (rs ts : List (List ℕ)) (s : BufState) → taken_off f (rs ++ ts) s ≡ behind rs (taken_off f ts s)
+taken_off-behind feed.More rs ts s = refl
+taken_off-behind feed.Whole rs ts s =
+    let with : List (List ℕ) → Stream = λ all. record { records = all; buffer = fresh s.limit } in
+    ap with (append_assoc rs ts (s.kept ∷ []))
+taken_off-behind feed.TooLong rs ts s = refl
+
+-- what a stream makes of bytes is the same whatever records stand in front
+run-behind : (rs : List (List ℕ)) (t : Stream) (xs : List ℕ) → run (behind rs t) xs ≡ behind rs (run t xs)
+run-behind rs t [] = refl
+run-behind rs t (x ∷ xs) =
+    let s = step t.buffer x in
+    ap (λ u. run u xs) (taken_off-behind s.state rs t.records s) ∙ run-behind rs (brought t.records s) xs
+
+-- a stream that has come to these records and this buffer goes on as the buffer does, behind these records
+came-on : CutLaw → (t : Stream) (rs : List (List ℕ)) (b : BufState) (xs ys : List ℕ) → run t xs ≡ record { records = rs; buffer = b }
+    → run t (xs ++ ys) ≡ behind rs (run (record { records = []; buffer = b }) ys)
+came-on cut t rs b xs ys came =
+    let with : List (List ℕ) → Stream = λ all. record { records = all; buffer = b } in
+    cut t xs ys ∙ ap (λ u. run u ys) (came ∙ ap with (sym (append-nil rs))) ∙ run-behind rs (record { records = []; buffer = b }) ys
+
+-- a stream in one piece is the records of its bytes
+shown : PiecesLaw → (limit : ℕ) (xs : List ℕ) → Shows (records limit xs) (run (beginning limit) xs)
+shown pieces limit xs = subst (λ ys. Shows (records limit ys) (run (beginning limit) xs)) (append-nil xs) (pieces limit (xs ∷ []))
+
+-- ---- how a session ends
+
+-- what rose since a later moment rose since an earlier one
+rose-since : (a b c : ℕ) → a ≤ b → Rose b c → Rose a c
+rose-since a b c later rose = let risen : min (b + 1) (2 ^ 64 - 1) ≤ c = rose in omega arith
+
+-- the input ended so many bytes behind the last whole record
+input-ends : (seen : LinkShown) (r : Role) (items : List Item) (looked : Split) (seen' : LinkShown) (rest : ℕ) → looked.records ≡ messages items
+    → looked.too_long ≡ false → rest ≡ min (length looked.rest) (2 ^ 62) → IfSome seen.left (λ all. IsAtEnd seen'.left)
+    → EndsSo seen r items looked [] [] seen' (input_end rest)
+input-ends seen r items looked seen' zero recs long is last = (recs, nil_from_length looked.rest (omega arith), long, refl, refl, last)
+input-ends seen r items looked seen' (suc n) recs long is last = (recs, omega arith, is, long, refl, refl, last)
+
+-- a reply that stopped in its middle did so behind earlier items, too
+stops-behind : (seen mid seen' : LinkShown) (items items' : List Item) (unsent : List ℕ) → seen.send_faults ≤ mid.send_faults
+    → StopsReply mid items' unsent seen' → StopsReply seen (items ++ items') unsent seen'
+stops-behind seen mid seen' items items' unsent later s = record {
+  earlier = items ++ s.earlier;
+  last = s.last;
+  sent = s.sent;
+  items_are = ap (λ all. items ++ all) s.items_are ∙ sym (append_assoc items s.earlier (s.last ∷ []));
+  cut = s.cut;
+  some = s.some;
+  rose = rose-since seen.send_faults mid.send_faults seen'.send_faults later s.rose;
+}
+
+-- a session that stops in a piece stops so in its stream
+piece-ends : (seen mid seen' : LinkShown) (r : Role) (items items' : List Item) (looked : Split) (after unsent : List ℕ) (t : Stream) (b : BufState) (stop : End)
+    → seen.send_faults ≤ mid.send_faults → looked.records ≡ messages items ++ t.records → looked.too_long ≡ is_too_long t.buffer.state
+    → PieceEnds mid r items' after unsent t b seen' (Some stop) → EndsSo seen r (items ++ items') looked after unsent seen' stop
+piece-ends seen mid seen' r items items' looked after unsent t b end.Closed later recs long h = absurd h
+piece-ends seen mid seen' r items items' looked after unsent t b (end.CutShort n) later recs long h = absurd h
+piece-ends seen mid seen' r items items' looked after unsent t b (end.Junk n) later recs long h =
+    let ms = map-append (λ (i : Item). i.message) items items' in
+    let tail : List (List ℕ) = h.1 ∷ [] in
+    (h.0, h.1, recs ∙ ap (λ all. messages items ++ all) h.2 ∙ sym (append_assoc (messages items) (messages items') tail) ∙ ap (λ all. all ++ tail) (sym ms), h.3, h.4)
+piece-ends seen mid seen' r items items' looked after unsent t b end.TooLong later recs long h =
+    let ms = map-append (λ (i : Item). i.message) items items' in
+    (recs ∙ ap (λ all. messages items ++ all) h.1 ∙ sym ms, long ∙ ap is_too_long h.2, h.0)
+piece-ends seen mid seen' r items items' looked after unsent t b end.ReadFault later recs long h = absurd h
+piece-ends seen mid seen' r items items' looked after unsent t b end.WriteFault later recs long h =
+    let ms = map-append (λ (i : Item). i.message) items items' in
+    (recs ∙ ap (λ all. messages items ++ all) h.0 ∙ sym ms, stops-behind seen mid seen' items items' unsent later h.2)
+
+-- ---- what a receive did to the link
+
+-- it gave these bytes
+pub record Gave {L : Type 0} (stands : L → List ℕ → List ℕ → Type 0) (link link' : L) (seen : LinkShown) (bytes : List ℕ) (seen' : LinkShown) : Type 0 where
+  pub gives : Gives stands link link' bytes
+  pub goes : LinkGoes seen bytes seen'
+
+-- it gave nothing
+pub record Ended {L : Type 0} (stands : L → List ℕ → List ℕ → Type 0) (link link' : L) (seen seen' : LinkShown) : Type 0 where
+  pub stays : Stays stands link link'
+  pub left : Keeps seen.left seen'.left
+  pub peers : Keeps seen.peers seen'.peers
+  pub receives : seen.receive_faults ≤ seen'.receive_faults
+  pub sends : seen'.send_faults ≡ seen.send_faults
+
+-- a link that gave bytes, and then nothing
+goes-ended : {L : Type 0} (stands : L → List ℕ → List ℕ → Type 0) (link link' : L) (a b c : LinkShown) (xs : List ℕ) → LinkGoes a xs b → Ended stands link link' b c
+    → LinkGoes a xs c
+goes-ended stands link link' a b c xs goes e =
+    let r = goes.receives in
+    let s = goes.sends in
+    let r' = e.receives in
+    let s' = e.sends in
+    record {
+      left = Consumes-kept a.left b.left c.left xs goes.left e.left;
+      peers = Keeps-trans a.peers b.peers c.peers goes.peers e.peers;
+      receives = omega arith;
+      sends = omega arith;
+    }
+
+-- a link that told what it had left, and gave it up to its end, has nothing left where it tells that
+at-end : (first old new : Option (List ℕ)) (received : List ℕ) → Consumes first old received → IsAtEnd old → Keeps old new → IfSome first (λ all. IsAtEnd new)
+at-end None old new received consumes last keeps = tt
+at-end (Some all) None new received consumes last keeps = absurd consumes
+at-end (Some all) (Some rest) None received consumes last keeps = absurd keeps
+at-end (Some all) (Some rest) (Some later) received consumes last keeps = keeps ∙ last
+
+module _ {L : Type 0} (stands : L → List ℕ → List ℕ → Type 0) (r : Role) (conn : ℕ) where
+  -- The records of the stream so far were served, and the buffer has what came behind the last of them.
+  pub record Streamed (told : ℕ) (pass : PassView Group) (link : L) (seen : LinkShown) (dial : DialShown) (buffer : BufState)
+      (pass' : PassView Group) (link' : L) (seen' : LinkShown) (dial' : DialShown) : Type 0 where
+    pub items : List Item
+    pub received : List ℕ
+    pub written : List ℕ
+    pub progress : Progress stands told r conn pass link seen dial items received written pass' link' seen' dial'
+    pub wrote : replies items ≡ written
+    pub came : run (beginning RECORD_MAX) received ≡ record { records = messages items; buffer = buffer }
+    pub more : buffer.state ≡ feed.More
+    pub limit : buffer.limit ≡ RECORD_MAX
+    pub seat : seat_at pass' conn ≡ Idle r
+
+  -- nothing came yet
+  pub streamed-none : (told : ℕ) (pass : PassView Group) (link : L) (seen : LinkShown) (dial : DialShown) (buffer : BufState) → buffer ≡ fresh RECORD_MAX
+      → seat_at pass conn ≡ Idle r → Streamed told pass link seen dial buffer pass link seen dial
+  streamed-none told pass link seen dial buffer new seat =
+      let at : BufState → Stream = λ b. record { records = []; buffer = b } in
+      record {
+        items = [];
+        received = [];
+        written = [];
+        progress = progress-none stands r conn told pass link seen dial;
+        wrote = refl;
+        came = ap at (sym new);
+        more = ap (λ (b : BufState). b.state) new;
+        limit = ap (λ (b : BufState). b.limit) new;
+        seat = seat;
+      }
+
+  -- some records were served, the link gave a piece, and the records of that piece were served
+  piece-goes : (told told' : ℕ) (pass pass' pass'' : PassView Group) (a b c d : L) (sa sb sc sd : LinkShown) (dial dial' dial'' : DialShown)
+      (items items' : List Item) (received piece written written' : List ℕ) → told ≤ told'
+      → Progress stands told r conn pass a sa dial items received written pass' b sb dial' → Gave stands b c sb piece sc
+      → Progress stands told' r conn pass' c sc dial' items' [] written' pass'' d sd dial''
+      → Progress stands told' r conn pass a sa dial (items ++ items') (received ++ piece) (written ++ written') pass'' d sd dial''
+  piece-goes told told' pass pass' pass'' a b c d sa sb sc sd dial dial' dial'' items items' received piece written written' later before gave after =
+      let mid : Progress stands told r conn pass a sa dial items (received ++ piece) written pass' c sc dial' = record {
+        makes = before.makes;
+        each = before.each;
+        bytes = Goes-gives stands a b c written received piece before.bytes gave.gives;
+        goes = link-goes sa sb sc received piece before.goes gave.goes;
+        rings = before.rings;
+      } in
+      subst (λ all. Progress stands told' r conn pass a sa dial (items ++ items') all (written ++ written') pass'' d sd dial'') (append-nil (received ++ piece))
+      (progress-goes stands r conn told told' pass pass' pass'' a c d sa sc sd dial dial' dial'' items items' (received ++ piece) [] written written' later mid after)
+
+  -- a piece whose records were all served
+  pub streamed-goes : CutLaw → (told told' : ℕ) (pass pass' pass'' : PassView Group) (a b c d : L) (sa sb sc sd : LinkShown) (dial dial' dial'' : DialShown)
+      (buffer buffer' : BufState) (piece : List ℕ) (said : Option End) → told ≤ told' → Streamed told pass a sa dial buffer pass' b sb dial' → Gave stands b c sb piece sc
+      → ServesPiece stands told' r conn pass' c sc dial' buffer piece said pass'' d sd dial'' buffer' → said ≡ None → buffer'.limit ≡ RECORD_MAX
+      → Streamed told' pass a sa dial buffer' pass'' d sd dial''
+  streamed-goes cut told told' pass pass' pass'' a b c d sa sb sc sd dial dial' dial'' buffer buffer' piece said later so_far gave serves is limit =
+      let served : ServesPiece stands told' r conn pass' c sc dial' buffer piece None pass'' d sd dial'' buffer' =
+      subst (λ o. ServesPiece stands told' r conn pass' c sc dial' buffer piece o pass'' d sd dial'' buffer') is serves in
+      let items = so_far.items in
+      let items' = served.items in
+      let front : piece ≡ served.front =
+      served.cut ∙ ap (λ rest. served.front ++ rest) served.ends.0 ∙ append-nil served.front in
+      let at : List (List ℕ) → Stream = λ all. record { records = all; buffer = buffer' } in
+      let wrote' : replies items' ≡ served.written =
+      served.wrote ∙ ap (λ rest. served.written ++ rest) served.ends.1 ∙ append-nil served.written in
+      record {
+        items = items ++ items';
+        received = so_far.received ++ piece;
+        written = so_far.written ++ served.written;
+        progress = piece-goes told told' pass pass' pass'' a b c d sa sb sc sd dial dial' dial'' items items' so_far.received piece so_far.written served.written
+            later so_far.progress gave served.progress;
+        wrote = flat_map-append (λ (i : Item). i.reply) items items' ∙ ap (λ all. all ++ replies items') so_far.wrote ∙ ap (λ all. so_far.written ++ all) wrote';
+        came = ap (λ all. run (beginning RECORD_MAX) (so_far.received ++ all)) front
+            ∙ came-on cut (beginning RECORD_MAX) (messages items) buffer so_far.received served.front so_far.came
+            ∙ ap (behind (messages items)) served.ends.2
+            ∙ ap at (sym (map-append (λ (i : Item). i.message) items items'));
+        more = served.ends.3;
+        limit = limit;
+        seat = served.seat;
+      }
+
+  -- a piece in which the session stops
+  pub streamed-stops : PiecesLaw → CutLaw → (told told' : ℕ) (pass pass' pass'' : PassView Group) (a b c d : L) (sa sb sc sd : LinkShown) (dial dial' dial'' : DialShown)
+      (buffer buffer' : BufState) (piece : List ℕ) (said : Option End) (stop : End) → told ≤ told' → Streamed told pass a sa dial buffer pass' b sb dial'
+      → Gave stands b c sb piece sc → ServesPiece stands told' r conn pass' c sc dial' buffer piece said pass'' d sd dial'' buffer' → said ≡ Some stop
+      → StreamServed stands told' r conn pass a sa dial stop pass'' d sd dial''
+  streamed-stops pieces cut told told' pass pass' pass'' a b c d sa sb sc sd dial dial' dial'' buffer buffer' piece said stop later so_far gave serves is =
+      let served : ServesPiece stands told' r conn pass' c sc dial' buffer piece (Some stop) pass'' d sd dial'' buffer' =
+      subst (λ o. ServesPiece stands told' r conn pass' c sc dial' buffer piece o pass'' d sd dial'' buffer') is serves in
+      let items = so_far.items in
+      let items' = served.items in
+      let t : Stream = run (record { records = []; buffer = buffer }) served.front in
+      let front : List ℕ = so_far.received ++ served.front in
+      let all : front ++ served.behind ≡ so_far.received ++ piece =
+      append_assoc so_far.received served.front served.behind ∙ ap (λ rest. so_far.received ++ rest) (sym served.cut) in
+      let came : run (beginning RECORD_MAX) front ≡ behind (messages items) t =
+      came-on cut (beginning RECORD_MAX) (messages items) buffer so_far.received served.front so_far.came in
+      let shows = shown pieces RECORD_MAX front in
+      let sends : sa.send_faults ≤ sc.send_faults = (let x = so_far.progress.goes.sends in let y = gave.goes.sends in omega arith) in
+      record {
+        items = items ++ items';
+        front = front;
+        behind = served.behind;
+        written = so_far.written ++ served.written;
+        unsent = served.unsent;
+        progress = subst (λ bytes. Progress stands told' r conn pass a sa dial (items ++ items') bytes (so_far.written ++ served.written) pass'' d sd dial'') (sym all)
+            (piece-goes told told' pass pass' pass'' a b c d sa sb sc sd dial dial' dial'' items items' so_far.received piece so_far.written served.written
+            later so_far.progress gave served.progress);
+        wrote = flat_map-append (λ (i : Item). i.reply) items items' ∙ ap (λ out. out ++ replies items') so_far.wrote
+            ∙ ap (λ out. so_far.written ++ out) served.wrote ∙ sym (append_assoc so_far.written served.written served.unsent);
+        ended = piece-ends sa sc sd r items items' (records RECORD_MAX front) served.behind served.unsent t buffer' stop sends
+            (sym shows.records ∙ ap (λ (u : Stream). u.records) came) (sym shows.too_long ∙ ap (λ (u : Stream). is_too_long u.buffer.state) came) served.ends;
+      }
+
+  -- the stream so far, as far as its last byte, and how the session ends there
+  stream-done : PiecesLaw → (told : ℕ) (pass pass' : PassView Group) (a b c : L) (sa sb sc : LinkShown) (dial dial' : DialShown) (buffer : BufState) (how : End)
+      → (so_far : Streamed told pass a sa dial buffer pass' b sb dial') → Ended stands b c sb sc
+      → ((looked : Split) → looked.records ≡ messages so_far.items → looked.too_long ≡ false → buffer.rest ≡ min (length looked.rest) (2 ^ 62)
+      → EndsSo sa r so_far.items looked [] [] sc how)
+      → StreamServed stands told r conn pass a sa dial how pass' c sc dial'
+  stream-done pieces told pass pass' a b c sa sb sc dial dial' buffer how so_far ended ends =
+      let p = so_far.progress in
+      let shows = shown pieces RECORD_MAX so_far.received in
+      let came = so_far.came in
+      let long : (records RECORD_MAX so_far.received).too_long ≡ false =
+      sym shows.too_long ∙ ap (λ (u : Stream). is_too_long u.buffer.state) came ∙ ap is_too_long so_far.more in
+      let mid : Progress stands told r conn pass a sa dial so_far.items so_far.received so_far.written pass' c sc dial' = record {
+        makes = p.makes;
+        each = p.each;
+        bytes = Goes-stays stands a b c so_far.written so_far.received p.bytes ended.stays;
+        goes = goes-ended stands b c sa sb sc so_far.received p.goes ended;
+        rings = p.rings;
+      } in
+      record {
+        items = so_far.items;
+        front = so_far.received;
+        behind = [];
+        written = so_far.written;
+        unsent = [];
+        progress = subst (λ bytes. Progress stands told r conn pass a sa dial so_far.items bytes so_far.written pass' c sc dial') (sym (append-nil so_far.received)) mid;
+        wrote = so_far.wrote ∙ sym (append-nil so_far.written);
+        ended = ends (records RECORD_MAX so_far.received) (sym shows.records ∙ ap (λ (u : Stream). u.records) came) long
+            (ap (λ (u : Stream). u.buffer.rest) (sym came) ∙ shows.rest long);
+      }
+
+  -- the input ended behind the stream so far
+  pub streamed-ends : PiecesLaw → (told : ℕ) (pass pass' : PassView Group) (a b c : L) (sa sb sc : LinkShown) (dial dial' : DialShown) (buffer : BufState) (rest : ℕ)
+      → Streamed told pass a sa dial buffer pass' b sb dial' → Ended stands b c sb sc → rest ≡ buffer.rest → IsAtEnd sb.left
+      → StreamServed stands told r conn pass a sa dial (input_end rest) pass' c sc dial'
+  streamed-ends pieces told pass pass' a b c sa sb sc dial dial' buffer rest so_far ended is last =
+      let over : IfSome sa.left (λ all. IsAtEnd sc.left) = at-end sa.left sb.left sc.left so_far.received so_far.progress.goes.left last ended.left in
+      stream-done pieces told pass pass' a b c sa sb sc dial dial' buffer (input_end rest) so_far ended
+      (λ looked recs long n. input-ends sa r so_far.items looked sc rest recs long (is ∙ n) over)
+
+  -- a receive failed behind the stream so far
+  pub streamed-fails : PiecesLaw → (told : ℕ) (pass pass' : PassView Group) (a b c : L) (sa sb sc : LinkShown) (dial dial' : DialShown) (buffer : BufState)
+      → Streamed told pass a sa dial buffer pass' b sb dial' → Ended stands b c sb sc → Rose sb.receive_faults sc.receive_faults
+      → StreamServed stands told r conn pass a sa dial end.ReadFault pass' c sc dial'
+  streamed-fails pieces told pass pass' a b c sa sb sc dial dial' buffer so_far ended rose =
+      stream-done pieces told pass pass' a b c sa sb sc dial dial' buffer end.ReadFault so_far ended
+      (λ looked recs long n. (recs, long, refl, refl, rose-since sa.receive_faults sb.receive_faults sc.receive_faults so_far.progress.goes.receives rose))

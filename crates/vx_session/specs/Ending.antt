@@ -1,0 +1,49 @@
+-- What a whole session did.
+use Rattle.std.specs.Prelude.{◌≡◌, ℕ, List, [], ◌∷◌, ◌++◌}
+use Rattle.std.specs.List.{All}
+use Rattle.vx_io.specs.Stands.{Goes}
+use Rattle.vx_calls.specs.declared.calls.Role.{Role}
+use Rattle.vx_calls.specs.declared.limits.TheConstants.{RECORD_MAX}
+use Rattle.vx_gate.specs.History.{groups}
+use Rattle.vx_gate.specs.PassView.{PassView}
+use Rattle.vx_record.specs.Records.{records}
+use Rattle.vx_flow.specs.Event.{Down}
+use Rattle.vx_flow.specs.Headline.{Headline}
+use Rattle.vx_group.specs.Groups.{Group, events_of}
+use Rattle.vx_group.specs.Owning.{Owned}
+use Rattle.vx_turns.specs.Placing.{Placed, Makes, IsHistory}
+use Rattle.vx_session.specs.Outside.{LinkShown, LinkGoes, DialShown}
+use Rattle.vx_session.specs.Serving.{Item, Serves}
+use Rattle.vx_session.specs.Progress.{Rings, placed, calls, replies}
+use Rattle.vx_session.specs.Stopping.{EndsSo}
+use Rattle.vx_session.specs.declared.sessions.End.{End}
+
+-- All that is claimed of the history that the pass has seen: its events gather to a legal history of one gateway of one
+-- thread, with the laws of locks, heard bytes and interrupts; and each connection's calls and answers are of one pass.
+pub record Upholds (pass : PassView Group) : Type 0 where
+  pub history : IsHistory pass.seen
+  pub headline : Headline history.state.state.tables.abort_port (events_of (groups pass.seen))
+  pub owned : Owned pass.seen
+
+-- A session on a connection of this role: the records that it served, each before the next was read; the bytes `front` that it
+-- looked at, and those that it received behind them; the replies, of which the link took `written`; then the connection went.
+pub record SessionDid {L : Type 0} (stands : L → List ℕ → List ℕ → Type 0) (told : ℕ) (r : Role) (conn : ℕ) (pass : PassView Group) (link : L) (seen : LinkShown) (dial : DialShown)
+    (how : End) (pass' : PassView Group) (link' : L) (seen' : LinkShown) (dial' : DialShown) : Type 0 where
+  pub items : List Item
+  pub last : Placed
+  pub front : List ℕ
+  pub behind : List ℕ
+  pub written : List ℕ
+  pub unsent : List ℕ
+  -- the groups that the pass added: those of the records, in order, and the end of the connection
+  pub makes : Makes told pass (placed items ++ last ∷ []) pass'
+  pub each : All (Serves pass.number conn r) items
+  pub down : last.group.events ≡ Down conn ∷ []
+  -- the bytes that came and went
+  pub bytes : Goes stands link link' written (front ++ behind)
+  pub goes : LinkGoes seen (front ++ behind) seen'
+  pub wrote : replies items ≡ written ++ unsent
+  pub ended : EndsSo seen r items (records RECORD_MAX front) behind unsent seen' how
+  -- the dial's calls
+  pub rings : Rings dial (placed items) (calls items) dial'
+  pub upholds : Upholds pass'

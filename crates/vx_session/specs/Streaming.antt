@@ -1,0 +1,88 @@
+-- What a session makes of a piece of its stream.
+use Rattle.std.specs.Prelude.{◌≡◌, ◌<◌, ℕ, Bool, true, false, List, [], ◌∷◌, ◌++◌, length, Option, Some, None}
+use Rattle.vx_io.specs.Faults.{Rose}
+use Rattle.vx_io.specs.Stands.{Goes}
+use Rattle.vx_calls.specs.declared.calls.Role.{Role}
+use Rattle.vx_gate.specs.PassView.{PassView}
+use Rattle.vx_record.specs.Buffer.{BufState}
+use Rattle.vx_record.specs.Runs.{Stream, run}
+use Rattle.vx_record.specs.declared.Feed.TheVariants as feed
+use Rattle.vx_message.specs.Meaning as meant
+use Rattle.vx_message.specs.Meaning.{meaning}
+use Rattle.vx_group.specs.Groups.{Group}
+use Rattle.vx_group.specs.Seats.{Idle}
+use Rattle.vx_turns.specs.Turning.{seat_at}
+use Rattle.vx_session.specs.Outside.{LinkShown, LinkGoes, DialShown}
+use Rattle.vx_session.specs.Serving.{Item}
+use Rattle.vx_session.specs.Progress.{Progress, messages, replies}
+use Rattle.vx_session.specs.declared.sessions.End.{End}
+use Rattle.vx_session.specs.declared.sessions.End.TheVariants as end
+
+-- whether all bytes went: or some are left, and the link's count of faults rose
+abbrev pub IsSent : LinkShown → List ℕ → LinkShown → Bool → Type 0
+IsSent seen unsent seen' true = unsent ≡ []
+IsSent seen unsent seen' false = (0 < length unsent) × Rose seen.send_faults seen'.send_faults
+
+-- Bytes were handed to a link, which took a front of them: all, unless it failed.
+pub record SendsAll {L : Type 0} (stands : L → List ℕ → List ℕ → Type 0) (link : L) (seen : LinkShown) (bytes : List ℕ) (all : Bool) (link' : L) (seen' : LinkShown) : Type 0 where
+  pub sent : List ℕ
+  pub unsent : List ℕ
+  pub cut : bytes ≡ sent ++ unsent
+  pub took : Goes stands link link' sent []
+  pub goes : LinkGoes seen [] seen'
+  pub is_sent : IsSent seen unsent seen' all
+
+-- the last reply stopped in its middle, at a fault of the link
+pub record StopsReply (seen : LinkShown) (items : List Item) (unsent : List ℕ) (seen' : LinkShown) : Type 0 where
+  pub earlier : List Item
+  pub last : Item
+  pub sent : List ℕ
+  pub items_are : items ≡ earlier ++ last ∷ []
+  pub cut : last.reply ≡ sent ++ unsent
+  pub some : 0 < length unsent
+  pub rose : Rose seen.send_faults seen'.send_faults
+
+-- how a record ends, or why the session does: its reply went; it is junk; or its reply stopped in its middle
+abbrev pub WholeEnds : LinkShown → Role → List ℕ → List Item → List ℕ → LinkShown → Option End → Type 0
+WholeEnds seen r message items unsent seen' None = (messages items ≡ message ∷ []) × (unsent ≡ [])
+WholeEnds seen r message items unsent seen' (Some (end.Junk n)) =
+    (items ≡ []) × (unsent ≡ []) × (length message ≡ n) × (meaning message r ≡ meant.Junk)
+WholeEnds seen r message items unsent seen' (Some end.WriteFault) = (messages items ≡ message ∷ []) × StopsReply seen items unsent seen'
+WholeEnds seen r message items unsent seen' (Some _) = ⊥
+
+-- A whole record was served, or is junk.
+pub record ServesWhole {L : Type 0} (stands : L → List ℕ → List ℕ → Type 0) (told : ℕ) (r : Role) (conn : ℕ) (pass : PassView Group) (link : L) (seen : LinkShown) (dial : DialShown)
+    (message : List ℕ) (stop : Option End) (pass' : PassView Group) (link' : L) (seen' : LinkShown) (dial' : DialShown) : Type 0 where
+  pub items : List Item
+  pub written : List ℕ
+  pub unsent : List ℕ
+  pub progress : Progress stands told r conn pass link seen dial items [] written pass' link' seen' dial'
+  pub wrote : replies items ≡ written ++ unsent
+  pub ends : WholeEnds seen r message items unsent seen' stop
+
+-- how far a piece is looked at: to its end, or to the byte at which the session stops
+abbrev pub PieceEnds : LinkShown → Role → List Item → List ℕ → List ℕ → Stream → BufState → LinkShown → Option End → Type 0
+PieceEnds seen r items behind unsent at buffer seen' None =
+    (behind ≡ []) × (unsent ≡ []) × (at ≡ record { records = messages items; buffer = buffer }) × (buffer.state ≡ feed.More)
+PieceEnds seen r items behind unsent at buffer seen' (Some (end.Junk n)) =
+    (unsent ≡ []) × (junk : List ℕ) × (at.records ≡ messages items ++ junk ∷ []) × (length junk ≡ n) × (meaning junk r ≡ meant.Junk)
+PieceEnds seen r items behind unsent at buffer seen' (Some end.TooLong) =
+    (unsent ≡ []) × (at.records ≡ messages items) × (at.buffer.state ≡ feed.TooLong)
+PieceEnds seen r items behind unsent at buffer seen' (Some end.WriteFault) =
+    (at.records ≡ messages items) × (at.buffer.state ≡ feed.More) × StopsReply seen items unsent seen'
+PieceEnds seen r items behind unsent at buffer seen' (Some _) = ⊥
+
+-- A piece of a stream whose buffer stood so was looked at up to its end, or to the byte at which the session stops: `behind`
+-- is what stands behind that byte. The records in it were served.
+pub record ServesPiece {L : Type 0} (stands : L → List ℕ → List ℕ → Type 0) (told : ℕ) (r : Role) (conn : ℕ) (pass : PassView Group) (link : L) (seen : LinkShown) (dial : DialShown)
+    (buffer : BufState) (piece : List ℕ) (stop : Option End) (pass' : PassView Group) (link' : L) (seen' : LinkShown) (dial' : DialShown) (buffer' : BufState) : Type 0 where
+  pub items : List Item
+  pub front : List ℕ
+  pub behind : List ℕ
+  pub written : List ℕ
+  pub unsent : List ℕ
+  pub cut : piece ≡ front ++ behind
+  pub progress : Progress stands told r conn pass link seen dial items [] written pass' link' seen' dial'
+  pub wrote : replies items ≡ written ++ unsent
+  pub ends : PieceEnds seen r items behind unsent (run (record { records = []; buffer = buffer }) front) buffer' seen' stop
+  pub seat : seat_at pass' conn ≡ Idle r

@@ -1,0 +1,97 @@
+//! A call to the core, from its coming to its answer.
+ghost use Rattle.std.specs.Prelude.{◌≡◌, ◌≤◌, ◌<◌, ℕ, Bool, true, false, length, take, [], Some, None, option_map};
+ghost use Rattle.vx_calls.specs.declared.calls.Role.TheVariants as role;
+ghost use Rattle.vx_calls.specs.Call.{Call, call_shown};
+ghost use Rattle.vx_model.specs.One.{may_wait};
+ghost use Rattle.vx_model.specs.Held.{IsShort};
+ghost use Rattle.vx_message.specs.declared.record.TheConstants.{REPLY_ROOM};
+ghost use Rattle.vx_group.specs.Seats.{Idle, Asked};
+ghost use Rattle.vx_turns.specs.Turning.{seat_at};
+ghost use Rattle.vx_session.specs.Outside.{dial_shown};
+ghost use Rattle.vx_session.specs.Progress.{AnswersCall, AnswersDial};
+
+use std::sync::Wait;
+use vx_bus::Bus;
+use vx_calls::{CallRef, ReplyRef};
+use vx_core::Core;
+use vx_gate::{Pass, Turns};
+use vx_io::{Clock, Dial, DialOut, Pause};
+use vx_message::put_success_record;
+use vx_turns::{PollEnd, come, poll_again, settle};
+
+/// Has a call answered: it comes and is polled in one turn, and is polled again, with a pause outside the gate between two
+/// polls, until it is answered, or until it asks for a dial, which is made then. The record of the reply, of so many bytes,
+/// stands at the front of `reply`.
+pub(crate) fn answer_call<R: Wait, B: Bus, T: Turns<Core<B>>, C: Clock, P: Pause, D: Dial>(
+    rt: &R,
+    turns: &T,
+    pass: Pass<Core<B>>,
+    conn: u32,
+    xid: u32,
+    call: &CallRef<'_>,
+    clock: &mut C,
+    pause: &mut P,
+    dial: &mut D,
+    reply: &mut [u8],
+) -> (Pass<Core<B>>, usize)
+    requires gate { pass.gate ≡ T.gate turns.now }
+    requires seat { seat_at pass conn ≡ Idle role.Core }
+    requires waits { may_wait (call_shown call.now) ≡ true }
+    requires short { IsShort (call_shown call.now) }
+    requires room { REPLY_ROOM ≤ length reply.old }
+    ensures answers { AnswersCall (C.told clock.new) pass conn xid (call_shown call.now) (dial_shown D.calls D.faults dial.old) (take result.1 reply.new) result.0 (dial_shown D.calls D.faults dial.new) }
+    ensures seat { seat_at result.0 conn ≡ Idle role.Core }
+    ensures told { C.told clock.old ≤ C.told clock.new }
+    ensures some { 0 < result.1 }
+    ensures within { result.1 ≤ length reply.new }
+    ensures len { length reply.new ≡ length reply.old }
+{
+    let (mut pass, mut end) = come(rt, turns, pass, conn, xid, call, clock.now(), reply);
+    for _ in rt.forever() {
+        match end {
+            PollEnd::Replied { len } => return (pass, len),
+            PollEnd::Dial { host, port } => {
+                return answer_dial(rt, turns, pass, conn, xid, host, port, clock, dial, reply);
+            }
+            PollEnd::NotYet => {
+                pause.pause();
+                (pass, end) = poll_again(rt, turns, pass, conn, xid, clock.now(), reply);
+            }
+        }
+    }
+    unreachable!()
+}
+
+/// Makes the dial that a call asked for, has the call answered, and hands a stream that stands on to the pump of the channel
+/// that was made.
+fn answer_dial<R: Wait, B: Bus, T: Turns<Core<B>>, C: Clock, D: Dial>(
+    rt: &R,
+    turns: &T,
+    pass: Pass<Core<B>>,
+    conn: u32,
+    xid: u32,
+    host: u32,
+    port: u16,
+    clock: &mut C,
+    dial: &mut D,
+    reply: &mut [u8],
+) -> (Pass<Core<B>>, usize)
+    requires gate { pass.gate ≡ T.gate turns.now }
+    requires seat { (call : Call) × (seat_at pass conn ≡ Asked call true) }
+    requires room { REPLY_ROOM ≤ length reply.old }
+    ensures dials { AnswersDial (C.told clock.new) pass conn xid host port (dial_shown D.calls D.faults dial.old) (take result.1 reply.new) result.0 (dial_shown D.calls D.faults dial.new) }
+    ensures seat { seat_at result.0 conn ≡ Idle role.Core }
+    ensures told { C.told clock.old ≤ C.told clock.new }
+    ensures some { 0 < result.1 }
+    ensures within { result.1 ≤ length reply.new }
+    ensures len { length reply.new ≡ length reply.old }
+{
+    let up = dial.dial(host, port) == DialOut::Up;
+    let (pass, settled) = settle(rt, turns, pass, conn, up, clock.now());
+    if let Some(chan) = settled.chan {
+        dial.hand(rt, conn, chan);
+    }
+    let error = settled.error;
+    let len = put_success_record(xid, &ReplyRef::Error { error }, reply);
+    (pass, len)
+}

@@ -1,0 +1,21 @@
+//! Sessions: what one connection's thread does. It reads records from a link, has each call answered in turns at the gate round
+//! the core, writes the reply before it reads on, and ends with the connection.
+#![tactic(auto)]
+
+mod calls;
+#[cfg(test)]
+mod crossed;
+mod links;
+mod pieces;
+mod records;
+mod sending;
+mod sessions;
+mod still;
+#[cfg(test)]
+mod tests;
+mod tools;
+
+pub use links::{LinkDone, Linked, Tally, abort_link, core_link};
+pub use sending::send_all;
+pub use sessions::{End, NoMemory, Room, abort_session, core_session};
+pub use tools::Tools;

@@ -1,0 +1,20 @@
+//! Bytes that go out on a link.
+ghost use Rattle.std.specs.Prelude.{◌≡◌, ◌<◌, List, [], length, true, false, if◌then◌else◌};
+ghost use Rattle.vx_session.specs.Outside.{link_shown};
+ghost use Rattle.vx_session.specs.Streaming.{SendsAll};
+
+use vx_io::{Link, WriteOut};
+
+/// Hands bytes to the link, and what it didn't take again, until it has taken all; or answers false at its first fault.
+pub fn send_all<L: Link>(link: &mut L, bytes: &[u8]) -> bool
+    ensures { SendsAll L.stands link.old (link_shown L.left L.peers L.receive_faults L.send_faults link.old) bytes.now result link.new (link_shown L.left L.peers L.receive_faults L.send_faults link.new) }
+{
+    let mut sent = 0;
+    while sent < bytes.len() {
+        match link.send(&bytes[sent..]) {
+            WriteOut::Took(count) => sent += count,
+            WriteOut::Failed => return false,
+        }
+    }
+    true
+}

@@ -1,0 +1,22 @@
+//! What a server has of the outside world for its workers.
+use vx_io::{Clock, Dial, Pause, Streams};
+
+/// Makes what workers need: each gets clocks, pauses, dials and streams of its own.
+pub trait Tools {
+    type C: Clock;
+
+    type P: Pause;
+
+    type D: Dial;
+
+    type S: Streams;
+
+    fn clock(&mut self) -> Self::C;
+
+    fn pause(&mut self) -> Self::P;
+
+    fn dial(&mut self) -> Self::D;
+
+    /// The streams that the dials hand on.
+    fn streams(&mut self) -> Self::S;
+}
