@@ -1,0 +1,11 @@
+//! The pumps of interrupt channels, which write each interrupt that they take from a channel, and the turn that samples the SRQ
+//! line.
+#![tactic(auto)]
+
+mod pumps;
+mod samples;
+#[cfg(test)]
+mod tests;
+
+pub use pumps::{PumpEnd, pump};
+pub use samples::sample_turn;
