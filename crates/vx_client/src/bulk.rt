@@ -91,7 +91,8 @@ impl<L: Link> Client<L> {
         term: u8,
         into: &mut [u8],
     ) -> Result<ReadEnd, ClientErr>
-        ensures { IsRead L.stands L.left L.receive_faults L.send_faults lid opts.now term self.old self.new into.old into.new result }
+        ensures read { IsRead L.stands L.left L.receive_faults L.send_faults lid opts.now term self.old self.new into.old into.new result }
+        ensures within { IfOk result (λ e. e.len ≤ length into.new) }
     {
         let mut len = 0;
         loop {

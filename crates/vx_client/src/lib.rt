@@ -4,17 +4,27 @@
 //! A client makes its room when it is made and takes no memory after that. Calls are numbered 1, 2, 3 and so on modulo
 //! 2^32. A call that ended with `BadReply`, `Closed`, `ReadFault` or `WriteFault` leaves the client spent: no further one
 //! is sent.
+//!
+//! `call_run` is the program `vxcall`: one command of a user, by such calls.
 #![tactic(auto)]
 
 mod answers;
 mod bulk;
 mod calls;
 mod client;
+mod gains;
 mod inbox;
+mod lines;
 mod outbox;
+mod output;
+mod run;
+#[cfg(test)]
+mod run_tests;
 mod settling;
 #[cfg(test)]
 mod tests;
+mod words;
 
 pub use answers::{CallOpts, ClientErr, LinkMade, NewRefused, ReadEnd};
 pub use client::Client;
+pub use run::{call_over, call_run};

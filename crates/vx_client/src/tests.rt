@@ -9,7 +9,7 @@ use vx_io::MemLink;
 use vx_rpc::RpcRefusal;
 
 /// Numbers as words of a record, its mark in front.
-fn words(alloc: Global, numbers: &[u32]) -> Result<Vec<u8>, AllocError> {
+pub(crate) fn words(alloc: Global, numbers: &[u32]) -> Result<Vec<u8>, AllocError> {
     let mut bytes = Vec::new(alloc);
     for number in numbers {
         bytes.extend_from_slice(&number.to_be_bytes())?;

@@ -28,8 +28,8 @@ loop-end-preserved g c =
     reads-more _ _ c.loop-end.self _ _ into asked c.read_part.new.into _ len c.in_ok-end.end.len c.loop-end.invariant refl c.read_part.auto.into refl
     (subst Each c.if-end-ne0.false c.in_ok-end.ensures.read) (c.in_ok-end.ensures.some c.if-end-ne0.false (omega arith)) more
 
-pub returns-in_err-end : goal.returns-in_err-end
-returns-in_err-end g c =
+pub returns-in_err-end-clause-read : goal.returns-in_err-end-clause-read
+returns-in_err-end-clause-read g c =
     let p = err_from_is_err_and c.from_residual.result c.from_residual.ensures.1 in
     let same : c.from_residual.result ≡ Err c.in_err-end.field-0.0 = cc (p.1, p.2) in
     let into = c.loop-end.into in
@@ -37,8 +37,8 @@ returns-in_err-end g c =
     reads-end _ _ c.loop-end.self _ _ into (take (length into - len) (drop len into)) c.read_part.new.into _ len (Err c.in_err-end.field-0.0) _ c.loop-end.invariant refl refl
     c.in_err-end.ensures.read tt same
 
-pub returns-then-end-ne0 : goal.returns-then-end-ne0
-returns-then-end-ne0 g c =
+pub returns-then-end-ne0-clause-read : goal.returns-then-end-ne0-clause-read
+returns-then-end-ne0-clause-read g c =
     let into = c.loop-end.into in
     let len = c.loop-end.len in
     let asked : List ℕ = take (length into - len) (drop len into) in
@@ -52,3 +52,15 @@ returns-then-end-ne0 g c =
       | then-end-ne0-via-else-end-ne0+then-len-into w ↦ inr (let full = w.if-len-into.true in omega arith)
     ] in
     reads-end _ _ c.loop-end.self _ _ into asked c.read_part.new.into _ len (Ok c.in_ok-end.end) _ c.loop-end.invariant refl refl c.in_ok-end.ensures.read may refl
+
+pub returns-then-end-ne0-clause-within : goal.returns-then-end-ne0-clause-within
+returns-then-end-ne0-clause-within g c =
+    let into = c.loop-end.into in
+    let len = c.loop-end.len in
+    let asked : List ℕ = take (length into - len) (drop len into) in
+    let dropped = length-drop len into in
+    let taken = length-take (length into - len) (drop len into) in
+    let kept = same_len_mid len (length into - len) into c.read_part.new.into c.read_part.auto.into in
+    let within : c.in_ok-end.end.len ≤ length asked = c.in_ok-end.ensures.within in
+    let inside : len ≤ length into = c.loop-end.invariant.within in
+    omega arith
