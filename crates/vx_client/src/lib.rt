@@ -27,4 +27,4 @@ mod words;
 
 pub use answers::{CallOpts, ClientErr, LinkMade, NewRefused, ReadEnd};
 pub use client::Client;
-pub use run::{call_over, call_run};
+pub use run::{call_over, call_run, is_call};

@@ -1,6 +1,6 @@
 //! All that the program `vxcall` does: the words, the server, the calls, the line that is printed, and the status.
 
-ghost use Rattle.std.specs.Prelude.{◌≡◌, ◌≤◌, ◌++◌, length, map, string_bytes, IsSome, IfOk};
+ghost use Rattle.std.specs.Prelude.{◌≡◌, ◌≤◌, ◌++◌, length, map, string_bytes, is_some, IsSome, IfOk};
 ghost use Rattle.vx_client.specs.Asked.{command_shown, ask_shown, ask_of, line_sent};
 ghost use Rattle.vx_client.specs.Gaining.{IsAnswer};
 ghost use Rattle.vx_client.specs.Due.{IsPut};
@@ -145,8 +145,15 @@ fn over<L: Link, K: Sink>(
     )
 }
 
+/// Whether words have the form that `call_run` takes, so that `call_over` may be called with them.
+pub fn is_call(words: &[String]) -> bool
+    ensures { result ≡ is_some (ask_of (map string_bytes words.now)) }
+{
+    ask_of(words).is_some()
+}
+
 /// Does what the words ask over a client that has made no call, as `call_run` does once it has reached the server. The
-/// words have the form that `call_run` takes.
+/// words have the form that `call_run` takes (`is_call`).
 ///
 /// It answers 0, 3, 4, 5 or 6, as `call_run` does. At 5 it has sent nothing and printed nothing.
 pub fn call_over<L: Link, K: Sink>(

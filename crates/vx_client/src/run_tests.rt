@@ -318,6 +318,7 @@ fn calls_over_a_client(rt: HostRuntime) -> Result<(), Fail> {
     let link = MemLink::new(bytes, 7, Vec::new(alloc), Vec::new(alloc));
     let mut client = Client::new(alloc, link).map_err(|_| "no memory")?;
     let mut sink = MemSink::new(Vec::new(alloc), Vec::new(alloc));
+    assert!(rt; is_call(list.as_slice()));
     let status = call_over(alloc, list.as_slice(), &mut client, &mut sink);
     assert_eq!(rt; status, 0);
     assert_eq!(rt; sink.bytes(), b"done\n".as_slice());
