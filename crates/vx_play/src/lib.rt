@@ -18,4 +18,6 @@ mod table;
 #[cfg(test)]
 mod tests;
 
+pub use note::{Gone, Made, Note, Stop};
+pub use player::Player;
 pub use run::play_run;

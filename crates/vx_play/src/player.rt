@@ -1,5 +1,5 @@
 //! The player: the core over a simulated bus, and of each connection what comes in.
-ghost use Rattle.std.specs.Prelude.{◌≡◌, ◌≢◌, ℕ, ◌≤◌, ◌<◌, length, true, false, option_map, position, None, Some, IfOk, IfErr, IfSome, IfNone, IsSome, OnOk, map};
+ghost use Rattle.std.specs.Prelude.{◌≡◌, ◌≢◌, ℕ, ◌≤◌, ◌<◌, length, true, false, option_map, position, None, Some, IfOk, IfErr, IfSome, IfNone, IsSome, OnOk, map, []};
 ghost use Rattle.std.specs.Str.{bytes_eq};
 ghost use Rattle.vx_calls.specs.declared.calls.Role.TheVariants as role;
 ghost use Rattle.vx_script.specs.Command.{Command, Up, In, Down, At, Poll, Sample, Take, Dial, Inst, Plug, Pull, Set, Fail, step_shown};
@@ -8,7 +8,8 @@ ghost use Rattle.vx_script.specs.Words.{is_name};
 ghost use Rattle.vx_model.specs.State.{role_at, lives_as, pending_at};
 ghost use Rattle.vx_message.specs.declared.record.TheConstants.{REPLY_ROOM};
 ghost use Rattle.vx_play.specs.declared.streams.Incoming.{Incoming};
-ghost use Rattle.vx_play.specs.Stage.{Stage, SpareShown, beginning, cause_of};
+ghost use Rattle.vx_play.specs.Gateway.{gateway_of};
+ghost use Rattle.vx_play.specs.Stage.{Stage, SpareShown, beginning, beginning_over, cause_of};
 ghost use Rattle.vx_play.specs.PlayerState.{PlayerState, incoming_at};
 ghost use Rattle.vx_play.specs.Spares.{spare_shown};
 ghost use Rattle.vx_play.specs.Standing.{IsReady, Stands, IsPrintable, TakesTo, StopsFor, made_lines};
@@ -70,21 +71,46 @@ impl<I: Instrument> Player<I> {
     pub fn new(alloc: Global, rack: Vec<Spare<I>>) -> Result<Player<I>, AllocError>
         ensures { IfOk result (λ p. Stands p (beginning (map (spare_shown (λ i. I.view i)) rack.items))) }
     {
-        let reply = zeros(alloc, REPLY_ROOM)?;
         let Ok(bus) = SimBus::new(alloc) else {
             return Err(AllocError);
         };
-        match Core::start(alloc, bus, ABORT_PORT) {
-            Ok(core) => Ok(Player {
-                core,
-                incoming: BTreeMap::new(alloc),
-                reply,
-                rack,
-                moment: 0,
-            }),
+        let Ok(core) = Core::start(alloc, bus, ABORT_PORT) else {
+            return Err(AllocError);
+        };
+        match Player::over(alloc, core, rack) {
+            Ok(player) => Ok(player),
             Err(_) => Err(AllocError),
         }
     }
+
+    /// A player of a gateway of which no connection lives and that was told no moment above 0, as it starts, and with these
+    /// spare instruments. Where memory runs out the core comes back, and the spares are let go.
+    pub fn over(
+        alloc: Global,
+        core: Core<SimBus<I>>,
+        rack: Vec<Spare<I>>,
+    ) -> Result<Player<I>, Core<SimBus<I>>>
+        requires unconnected { core.fine.state.tables.connections ≡ [] }
+        requires early { core.fine.state.moment ≡ 0 }
+        ensures ok { IfOk result (λ p. Stands p (beginning_over (gateway_of core) (map (spare_shown (λ i. I.view i)) rack.items))) }
+        ensures err { IfErr result (λ back. back ≡ core) }
+    {
+        let Ok(reply) = zeros(alloc, REPLY_ROOM) else {
+            return Err(core);
+        };
+        Ok(Player {
+            core,
+            incoming: BTreeMap::new(alloc),
+            reply,
+            rack,
+            moment: 0,
+        })
+    }
+
+    /// What holds of every player that stands at a stage: a step may be taken. It does nothing when it runs.
+    pub fn is_ready(&self)
+        ensures { (stage : Stage) → Stands self.now stage → IsReady self.now }
+    {}
 
     /// The transfers of the last step that reached the core, in order.
     pub fn moves(&self) -> &[Transfer]
