@@ -1,0 +1,46 @@
+-- Steps of reading a source and of writing a text.
+use Rattle.std.proofs.Common.{◌≡◌, ℕ, ◌+◌, ◌-◌, ◌≤◌, List, ◌++◌, length, take, drop, refl, subst, sym, arith, length-append, length-drop}
+use Rattle.std.proofs.Math.Seq.{take-add}
+use Rattle.std.proofs.lemmas.List.{take_all}
+use Rattle.std.specs.Io.KnownBytes.{Appends, IsAtEnd, Keeps}
+use Rattle.std.proofs.KnownBytes.{Appends-trans, Consumes-trans, Consumes-kept, Consumes-whole}
+use Rattle.vx_text.specs.Ends.{End}
+use Rattle.vx_text.specs.Reading.{GivesAll, GivesPiece, GaveSoFar}
+use Rattle.vx_text.specs.Writing.{TookSoFar}
+
+pub gave-more : (most : ℕ) (before mid after : End) (old new : List ℕ) (room : ℕ) → GaveSoFar most before mid old → length old ≤ most → room ≤ most - length old + 1
+    → GivesPiece room old new mid after → mid.faults ≤ after.faults → GaveSoFar most before after new
+gave-more most before mid after old new room so_far below fits piece counted =
+    let len = length-append old piece.piece in
+    let whole : GaveSoFar most before after (old ++ piece.piece) = record {
+      given = Consumes-trans before.bytes mid.bytes after.bytes old piece.piece so_far.given piece.given;
+      within = (let b = piece.fits in omega arith);
+      counted = (let a = so_far.counted in omega arith);
+    } in
+    subst (GaveSoFar most before after) (sym piece.behind) whole
+
+pub took-more : (before mid after : End) (text : List ℕ) (done count : ℕ) → TookSoFar before mid text done
+    → count ≤ length (take (length text - done) (drop done text))
+    → Appends mid.bytes after.bytes (take count (take (length text - done) (drop done text))) → mid.faults ≤ after.faults → TookSoFar before after text (done + count)
+took-more before mid after text done count so_far fits took counted =
+    let len = length-drop done text in
+    let rest : take (length text - done) (drop done text) ≡ drop done text = take_all (length text - done) (drop done text) (omega arith) in
+    let count_fits : count ≤ length (drop done text) = subst (λ xs. count ≤ length xs) rest fits in
+    let taken : Appends mid.bytes after.bytes (take count (drop done text)) = subst (λ xs. Appends mid.bytes after.bytes (take count xs)) rest took in
+    let within : done ≤ length text = so_far.within in
+    let earlier : before.faults ≤ mid.faults = so_far.counted in
+    record {
+      within = omega arith;
+      taken = subst (Appends before.bytes after.bytes) (sym (take-add done count text)) (Appends-trans before.bytes mid.bytes after.bytes _ _ so_far.taken taken);
+      counted = omega arith;
+    }
+
+-- at its end a source has given all
+pub gave-all : (most : ℕ) (before mid after : End) (old new : List ℕ) → GaveSoFar most before mid old → length old ≤ most → new ≡ old → IsAtEnd mid.bytes
+    → Keeps mid.bytes after.bytes → GivesAll most before after new
+gave-all most before mid after old new so_far within same ended kept =
+    subst (GivesAll most before after) (sym same) (record {
+      given = Consumes-kept before.bytes mid.bytes after.bytes old so_far.given kept;
+      whole = Consumes-whole before.bytes mid.bytes old (λ all. all ≡ old) so_far.given ended refl;
+      within = within;
+    })

@@ -1,0 +1,4 @@
+pub mod Ends
+pub mod Reading
+pub mod Writing
+pub mod TextLines
