@@ -1,0 +1,50 @@
+-- What one line of a bench does.
+use Rattle.std.specs.Prelude.{◌≡◌, ℕ, ◌+◌, List, Some, Result, Ok, Err, ◌⊎◌}
+use Rattle.vx_script.specs.declared.Cause.{Cause}
+use Rattle.vx_script.specs.declared.Cause.TheVariants as cause
+use Rattle.vx_script.specs.Command.{Command}
+use Rattle.vx_script.specs.Grammar.{Reading, Skipped, Does, Outside}
+use Rattle.vx_text.specs.TextLines.{lines}
+use Rattle.vx_bench.specs.declared.stops.Stop.{Stop}
+use Rattle.vx_bench.specs.declared.stops.Stop.TheVariants as stop
+use Rattle.vx_bench.specs.Script.{Step, script, script_from, behind_steps}
+use Rattle.vx_bench.specs.SettingUp.{BenchState, refusal, Takes, SetsUp}
+
+-- what came of a command: it was taken, or it is refused and the bus is as it was
+abbrev pub TakesOrStops : BenchState → Command → BenchState → Result Unit Stop → Type 0
+TakesOrStops old command new (Ok done) = Takes old command new
+TakesOrStops old command new (Err (stop.Refused why)) = (refusal old command ≡ Some why) × (new.bus ≡ old.bus)
+TakesOrStops old command new (Err stop.NoMemory) = Unit {0}
+
+-- a line that says nothing changed nothing
+pub record IsSkipped (said : Reading) (old new : BenchState) : Type 0 where
+  pub skipped : said ≡ Skipped
+  pub same : new ≡ old
+
+-- a line's command was taken
+pub record IsTaken (said : Reading) (old new : BenchState) : Type 0 where
+  pub command : Command
+  pub said_is : said ≡ Does command
+  pub takes : Takes old command new
+
+-- a line outside the grammar
+pub record IsBad (said : Reading) (why : Cause) : Type 0 where
+  pub outside : said ≡ Outside
+  pub form : why ≡ cause.Form
+
+-- a line's command is refused
+pub record IsTurnedDown (said : Reading) (old : BenchState) (why : Cause) : Type 0 where
+  pub command : Command
+  pub said_is : said ≡ Does command
+  pub refused : refusal old command ≡ Some why
+
+abbrev pub EndsLine : Reading → BenchState → BenchState → Result Unit Stop → Type 0
+EndsLine said old new (Ok done) = IsSkipped said old new ⊎ IsTaken said old new
+EndsLine said old new (Err (stop.Refused why)) = (IsBad said why ⊎ IsTurnedDown said old why) × (new.bus ≡ old.bus)
+EndsLine said old new (Err stop.NoMemory) = Unit {0}
+
+-- a bench under way: the steps of so many lines are taken, and this text is what is left
+pub record UnderWay (text : List ℕ) (before : BenchState) (rest : List ℕ) (count : ℕ) (now : BenchState) : Type 0 where
+  pub steps : List Step
+  pub is_front : script text ≡ behind_steps steps (script_from (count + 1) (lines rest))
+  pub set_up : SetsUp before steps now

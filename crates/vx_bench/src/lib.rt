@@ -1,0 +1,15 @@
+//! The instruments that lines of a script describe: what each line's is, why it isn't attached, and a bench, a text of such
+//! lines alone, set up on a simulated bus.
+#![tactic(auto)]
+
+mod bench;
+mod shelf;
+mod stops;
+mod table;
+#[cfg(test)]
+mod tests;
+
+pub use bench::{BenchStop, set_up};
+pub use shelf::{refused_for, spare_place};
+pub use stops::Stop;
+pub use table::table_of;
