@@ -4,7 +4,18 @@ use super::*;
 use std::test::Fail;
 use vx_io::{MemSink, MemSource};
 
-/// Sources of ten bytes, read with room for so many: a piece's length, the read that fails, the most bytes, and what is read.
+/// The name of what was read of a source of the ten digits.
+fn name_of(input: &Input) -> &'static str {
+    match input {
+        Input::Whole(text) if text.as_slice() == b"0123456789".as_slice() => "whole",
+        Input::Whole(_) => "another text",
+        Input::TooLong => "long",
+        Input::Failed => "failed",
+        Input::NoMemory => "no memory",
+    }
+}
+
+// Sources of ten bytes: a piece's length, the read that fails, the most bytes, and what is read.
 #[test]
 fn whole_sources(rt: HostRuntime) -> Result<(), Fail> {
     let alloc = rt.alloc();
@@ -23,14 +34,8 @@ fn whole_sources(rt: HostRuntime) -> Result<(), Fail> {
         assert!(rt; 0 < piece);
         let bytes = b"0123456789".to_vec(alloc)?;
         let mut source = MemSource::new(bytes, piece, [fails].to_vec(alloc)?);
-        let found = match read_all(alloc, &mut source, most) {
-            Input::Whole(text) if text.as_slice() == b"0123456789".as_slice() => "whole",
-            Input::Whole(_) => "another text",
-            Input::TooLong => "long",
-            Input::Failed => "failed",
-            Input::NoMemory => "no memory",
-        };
-        assert_eq!(rt; found, told, "pieces of {piece}, at most {most}");
+        let input = read_all(alloc, &mut source, most);
+        assert_eq!(rt; name_of(&input), told, "pieces of {piece}, at most {most}");
     }
     Ok(())
 }

@@ -1,0 +1,5 @@
+pub mod Tabled
+pub mod Found
+pub mod Scripts
+pub mod Attached
+pub mod Setting

@@ -1,0 +1,84 @@
+-- Steps of setting a bench up line by line.
+use Rattle.std.proofs.Common.{◌≡◌, ℕ, ◌+◌, List, [], ◌∷◌, ◌++◌, None, refl, ap, sym, subst, ◌∙◌, inl, inr, ◌⊎◌, append-nil, Option, Some, Result, Ok, Err}
+use Rattle.vx_script.specs.declared.Cause.{Cause}
+use Rattle.vx_script.specs.declared.Step.{Step as LineStep}
+use Rattle.vx_script.specs.Command.{step_shown}
+use Rattle.vx_script.specs.Grammar.{Reading, Skipped, Does, Outside, reading}
+use Rattle.vx_script.specs.Reads.{Reads}
+use Rattle.vx_bench.specs.declared.stops.Stop.{Stop}
+use Rattle.vx_bench.specs.declared.stops.Stop.TheVariants as stop
+use Rattle.vx_text.specs.TextLines.{lines}
+use Rattle.vx_sim.specs.SimState.{SimState}
+use Rattle.vx_bench.specs.Script.{Step, script, script_from, behind_steps}
+use Rattle.vx_bench.specs.SettingUp.{BenchState, Takes, SetsUp, IsSetUp, IsStopped, IsRefused, IsOutside}
+use Rattle.vx_bench.specs.LineSet.{TakesOrStops, IsSkipped, IsTaken, IsBad, IsTurnedDown, EndsLine, UnderWay}
+use Rattle.vx_bench.proofs.Scripts.{behind-more, next-line, doing}
+
+-- a line's step was taken, or is refused
+pub line-ended : (said : Reading) (found : Option LineStep) (step : LineStep) (old new : BenchState) (ended : Result Unit Stop) → Reads said (Ok found)
+    → found ≡ Some step → TakesOrStops old (step_shown step) new ended → EndsLine said old new ended
+line-ended said found step old new (Ok done) reads some took = inr (record { command = step_shown step; said_is = doing said found step reads some; takes = took })
+line-ended said found step old new (Err (stop.Refused why)) reads some took =
+    (inr (record { command = step_shown step; said_is = doing said found step reads some; refused = took.0 }), took.1)
+line-ended said found step old new (Err stop.NoMemory) reads some took = tt
+
+-- one more step
+sets-more : (before mid after : BenchState) (steps : List Step) (step : Step) → SetsUp before steps mid → Takes mid step.command after
+    → SetsUp before (steps ++ step ∷ []) after
+sets-more before mid after [] step set_up takes = (after, subst (λ (b : BenchState). Takes b step.command after) set_up takes, refl)
+sets-more before mid after (s ∷ steps) step (next, took, rest) takes = (next, took, sets-more next mid after steps step rest takes)
+
+-- a bench begins
+pub begun : (text : List ℕ) (before : BenchState) → UnderWay text before text 0 before
+begun text before = record { steps = []; is_front = refl; set_up = refl }
+
+-- it goes on behind a line
+pub goes-on : (text : List ℕ) (before : BenchState) (rest line behind : List ℕ) (count : ℕ) (now next : BenchState) → UnderWay text before rest count now
+    → lines rest ≡ line ∷ lines behind → IsSkipped (reading line) now next ⊎ IsTaken (reading line) now next → UnderWay text before behind (count + 1) next
+goes-on text before rest line behind count now next u cut (inl k) = record {
+  steps = u.steps;
+  is_front = next-line text rest line behind count u.steps Skipped u.is_front cut k.skipped;
+  set_up = subst (SetsUp before u.steps) (sym k.same) u.set_up;
+}
+goes-on text before rest line behind count now next u cut (inr k) =
+    let step : Step = record { line = count + 1; command = k.command } in
+    record {
+      steps = u.steps ++ step ∷ [];
+      is_front = next-line text rest line behind count u.steps (Does k.command) u.is_front cut k.said_is
+          ∙ behind-more u.steps step (script_from (count + 1 + 1) (lines behind));
+      set_up = sets-more before now next u.steps step u.set_up k.takes;
+    }
+
+-- at the end of the text it is set up
+pub whole : (text : List ℕ) (before : BenchState) (rest : List ℕ) (count : ℕ) (now : BenchState) → UnderWay text before rest count now → rest ≡ []
+    → IsSetUp text before now
+whole text before rest count now u at_end =
+    let all : script text ≡ behind_steps u.steps (record { steps = []; bad = None }) =
+    u.is_front ∙ ap (λ xs. behind_steps u.steps (script_from (count + 1) (lines xs))) at_end in
+    let steps : (script text).steps ≡ u.steps = ap (λ s. s.steps) all ∙ append-nil u.steps in
+    record {
+      none_bad = ap (λ s. s.bad) all;
+      set_up = subst (λ (ss : List Step). SetsUp before ss now) (sym steps) u.set_up;
+    }
+
+-- at a line that is refused it stops
+pub stopped : (text : List ℕ) (before : BenchState) (rest line behind : List ℕ) (count : ℕ) (now : BenchState) (bus : SimState) (why : Cause)
+    → UnderWay text before rest count now → lines rest ≡ line ∷ lines behind → IsBad (reading line) why ⊎ IsTurnedDown (reading line) now why → bus ≡ now.bus
+    → IsStopped text before bus (count + 1) why
+stopped text before rest line behind count now bus why u cut how same =
+    record { steps = u.steps; end = now; set_up = u.set_up; bus_is = same; stops = by how }
+  where
+    by : IsBad (reading line) why ⊎ IsTurnedDown (reading line) now why
+        → IsRefused text u.steps now (count + 1) why ⊎ IsOutside text u.steps (count + 1) why
+    by (inl k) =
+        let all = next-line text rest line behind count u.steps Outside u.is_front cut k.outside in
+        inr (record { all = ap (λ s. s.steps) all ∙ append-nil u.steps; bad = ap (λ s. s.bad) all; form = k.form })
+    by (inr k) =
+        let all = next-line text rest line behind count u.steps (Does k.command) u.is_front cut k.said_is in
+        inl (record {
+          step = record { line = count + 1; command = k.command };
+          later = (script_from (count + 1 + 1) (lines behind)).steps;
+          next = ap (λ s. s.steps) all;
+          line_is = refl;
+          refused = k.refused;
+        })

@@ -1,0 +1,15 @@
+use Rattle.std.proofs.Common.{◌+◌, ◌≤◌, length, map}
+use Rattle.vx_bench.specs.Spares.{spare_shown}
+use Rattle.vx_bench.specs.SettingUp.{KeepsMeaning}
+use Rattle.vx_bench.specs.LineSet.{UnderWay}
+use Rattle.vx_bench.proofs.bench.set_lines.Given as goal
+
+abbrev pub invariant-loop-rest : goal.invariant-loop-rest
+invariant-loop-rest g l =
+    (l.line + length l.rest ≤ length l.text)
+    × UnderWay l.text (record { bus = l.initial.bus; rack = map (spare_shown (λ i. g.I.Instrument.view i)) l.initial.rack.items }) l.rest l.line
+    (record { bus = l.bus; rack = map (spare_shown (λ i. g.I.Instrument.view i)) l.rack.items })
+    × KeepsMeaning l.initial.bus l.bus
+
+abbrev pub decreases-loop-rest : goal.decreases-loop-rest
+decreases-loop-rest g l = length l.rest
