@@ -3,12 +3,13 @@ use Rattle.std.proofs.Common.{◌≡◌, ℕ, ◌≤◌, ◌<◌, List, ◌++◌
 use Rattle.std.proofs.lemmas.Bool.{false≢true}
 use Rattle.std.specs.Io.KnownBytes.{Appends, Consumes}
 use Rattle.vx_io.specs.Faults.{Rose}
-use Rattle.vx_play.specs.declared.input.TheConstants.{SCRIPT_MAX}
+use Rattle.vx_play.specs.declared.run.TheConstants.{SCRIPT_MAX}
 use Rattle.vx_play.specs.declared.run.Status.{Status}
 use Rattle.vx_play.specs.declared.run.Status.TheVariants as status
-use Rattle.vx_play.specs.Moving.{End, GivesAll}
+use Rattle.vx_text.specs.Ends.{End}
+use Rattle.vx_text.specs.Reading.{GivesAll}
 use Rattle.vx_play.specs.Item.{Item, Fault, text, last_line}
-use Rattle.vx_play.specs.Stage.{SpareShown}
+use Rattle.vx_bench.specs.Rack.{SpareShown}
 use Rattle.vx_play.specs.Play.{IsPlay}
 use Rattle.vx_play.specs.Ended as ended
 use Rattle.vx_play.specs.Ended.{EndsScript}
@@ -16,7 +17,7 @@ use Rattle.vx_play.specs.Outcome.{Ends, IsOutcome, status_number}
 use Rattle.vx_play.specs.Laws.{WritesWhole, Completes, whole_status}
 
 -- a source that tells a script gave it
-told_is : (before after : End) (bytes t : List ℕ) → GivesAll before after bytes → before.bytes ≡ Some t → t ≡ bytes
+told_is : (before after : End) (bytes t : List ℕ) → GivesAll SCRIPT_MAX before after bytes → before.bytes ≡ Some t → t ≡ bytes
 told_is before after bytes t read told = subst (λ o. IfSome o (λ all. all ≡ bytes)) told read.whole
 
 -- a source gives no more than it tells

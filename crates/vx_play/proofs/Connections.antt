@@ -24,8 +24,8 @@ use Rattle.vx_flow.specs.Fine.{fine}
 use Rattle.vx_play.specs.declared.note.Made.{Made}
 use Rattle.vx_play.specs.declared.note.Gone.TheVariants as gone
 use Rattle.vx_play.specs.declared.note.Note.TheVariants as note
-use Rattle.vx_play.specs.declared.note.Stop.{Stop}
-use Rattle.vx_play.specs.declared.note.Stop.TheVariants as stop
+use Rattle.vx_bench.specs.declared.stops.Stop.{Stop}
+use Rattle.vx_bench.specs.declared.stops.Stop.TheVariants as stop
 use Rattle.vx_play.specs.declared.streams.Incoming.{Incoming}
 use Rattle.vx_play.specs.Gateway.{Gateway, gateway_of, BusGoes, Happens}
 use Rattle.vx_play.specs.Stream.{Brought, NoEnd, Whole, TooLong, After, brought, by_split, kept_after}

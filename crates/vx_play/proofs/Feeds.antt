@@ -15,7 +15,7 @@ use Rattle.vx_kernel.specs.CoreState.{CoreState}
 use Rattle.vx_play.specs.declared.note.Gone.TheVariants as gone
 use Rattle.vx_play.specs.declared.note.Note.TheVariants as note
 use Rattle.vx_play.specs.declared.note.Made.{Made}
-use Rattle.vx_play.specs.declared.note.Stop.TheVariants as stop
+use Rattle.vx_bench.specs.declared.stops.Stop.TheVariants as stop
 use Rattle.vx_play.specs.declared.streams.Incoming.{Incoming}
 use Rattle.vx_play.specs.Gateway.{Gateway, gateway_of, Happens}
 use Rattle.vx_message.specs.Meaning.{Meaning, Junk, Answered, Asks, Aborts, meaning, xid_by}

@@ -1,5 +1,3 @@
-pub mod Moved
-pub mod Cut
 pub mod Limits
 pub mod Stepping
 pub mod Messages
@@ -9,7 +7,6 @@ pub mod Roles
 pub mod Shown
 pub mod Upholding
 pub mod Hearing
-pub mod Tabled
 pub mod Tweaked
 pub mod Calling
 pub mod PollMade

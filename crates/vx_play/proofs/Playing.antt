@@ -9,9 +9,10 @@ use Rattle.vx_script.specs.Reads.{Reads}
 use Rattle.vx_script.specs.declared.Cause.{Cause}
 use Rattle.vx_trace.specs.Output.{Output}
 use Rattle.vx_trace.specs.Text.{line_text}
-use Rattle.vx_play.specs.declared.note.Stop.{Stop}
-use Rattle.vx_play.specs.declared.note.Stop.TheVariants as stops
-use Rattle.vx_play.specs.Moving.{End, StopsIn}
+use Rattle.vx_bench.specs.declared.stops.Stop.{Stop}
+use Rattle.vx_bench.specs.declared.stops.Stop.TheVariants as stops
+use Rattle.vx_text.specs.Ends.{End}
+use Rattle.vx_text.specs.Writing.{StopsIn}
 use Rattle.vx_play.specs.Stage.{Stage}
 use Rattle.vx_play.specs.PlayerState.{PlayerState}
 use Rattle.vx_play.specs.Standing.{TakesTo, StopsFor}

@@ -13,7 +13,8 @@ use Rattle.vx_play.specs.declared.note.Note.{Note}
 use Rattle.vx_play.specs.declared.note.Note.TheVariants as note
 use Rattle.vx_play.specs.declared.printer.TheConstants.{MOVES_ROOM, NOTE_ROOM}
 use Rattle.vx_message.specs.declared.record.TheConstants.{REPLY_ROOM}
-use Rattle.vx_play.specs.Moving.{End, IsPut}
+use Rattle.vx_text.specs.Ends.{End}
+use Rattle.vx_text.specs.Writing.{IsPut}
 use Rattle.vx_play.specs.Item.{noted}
 use Rattle.vx_play.specs.Standing.{note_line, moves_lines, NoteWithin}
 use Rattle.vx_play.specs.Printing.{Writable, option_text, outputs_of}

@@ -1,12 +1,13 @@
 -- A player at the beginning of a play.
-use Rattle.std.proofs.Common.{◌≡◌, ℕ, ◌≤◌, ◌==◌, List, [], find, Option, None, option_map, refl, subst, sym, ap, ◌∙◌, arith}
+use Rattle.std.proofs.Common.{◌≡◌, ℕ, ◌==◌, List, [], find, Option, None, option_map, refl, subst, sym, ap, ◌∙◌, arith}
 use Rattle.vx_model.specs.State.{Tables, Connection, role_at}
 use Rattle.vx_flow.specs.FineState.{FineState, first_fine}
 use Rattle.vx_sim.specs.SimState.{SimState, first_state}
 use Rattle.vx_kernel.specs.CoreState.{CoreState}
 use Rattle.vx_calls.specs.declared.calls.Role.{Role}
 use Rattle.vx_play.specs.Gateway.{Gateway, gateway_of, first_gateway, abort_port}
-use Rattle.vx_play.specs.Stage.{SpareShown, beginning, beginning_over}
+use Rattle.vx_bench.specs.Rack.{SpareShown}
+use Rattle.vx_play.specs.Stage.{beginning, beginning_over}
 use Rattle.vx_play.specs.PlayerState.{PlayerState}
 use Rattle.vx_play.specs.Standing.{Stands, Holds}
 
@@ -33,6 +34,6 @@ over-stands core reply rack none early = record {
 pub fresh-stands : (player : PlayerState) (core : CoreState SimState) (rack : List SpareShown) → core.fine ≡ first_fine abort_port → core.bus ≡ first_state
     → Stands player (beginning_over (gateway_of core) rack) → Stands player (beginning rack)
 fresh-stands player core rack fine bus h =
-    let is : gateway_of core ≡ first_gateway =
-    ap (λ (f : FineState). the Gateway (record { fine = f; bus = core.bus })) fine ∙ ap (λ (b : SimState). the Gateway (record { fine = first_fine abort_port; bus = b })) bus in
+    let of : FineState → SimState → Gateway = λ f b. record { fine = f; bus = b } in
+    let is : gateway_of core ≡ first_gateway = ap (λ (f : FineState). of f core.bus) fine ∙ ap (λ (b : SimState). of (first_fine abort_port) b) bus in
     subst (λ (g : Gateway). Stands player (beginning_over g rack)) is h

@@ -12,7 +12,7 @@ use Rattle.vx_flow.specs.Event.{Event}
 use Rattle.vx_flow.specs.Event as event
 use Rattle.vx_flow.specs.Poll.{Ending, Answered, Waited, Locked, InTurn, Held, Dialed}
 use Rattle.vx_play.specs.Gateway.{Gateway}
-use Rattle.vx_play.specs.Script.{Step}
+use Rattle.vx_bench.specs.Script.{Step}
 use Rattle.vx_message.specs.Meaning.{Meaning, Junk, Asks, Aborts, meaning}
 use Rattle.vx_message.specs.Meaning as meant
 use Rattle.vx_play.specs.Stream.{Brought, NoEnd, Whole, TooLong, After, brought}

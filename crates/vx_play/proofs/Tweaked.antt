@@ -1,10 +1,8 @@
 -- What the player's changes of what hangs on the bus make of the stage that it stands at.
-use Rattle.std.proofs.Common.{◌≡◌, ℕ, suc, ◌+◌, ◌≤◌, ◌==◌, nat_lt, Bool, true, false, cond, not, List, [], ◌∷◌, ◌++◌, length, map, take, drop, find, position, get_or, Option, Some, None, option_map, Result, Ok, refl, sym, ap, subst, ◌∙◌, arith}
-use Rattle.std.proofs.lemmas.Bool.{cond-true, false≢true, ltb-true, ltb-false}
-use Rattle.std.proofs.lemmas.Option.{same_Some, cond_some, slice_get-get_or, slice_get_past}
-use Rattle.std.proofs.lemmas.List.{map-append, take-map, drop-map}
-use Rattle.std.proofs.lemmas.List.Folds.{find_at}
-use Rattle.std.specs.List.{list_any, position_or_len}
+use Rattle.std.proofs.Common.{◌≡◌, ℕ, suc, ◌≤◌, ◌==◌, Bool, true, cond, List, [], ◌∷◌, ◌++◌, length, map, take, drop, position, get_or, Option, Some, None, option_map, Result, Ok, refl, sym, ap, subst, ◌∙◌}
+use Rattle.std.proofs.lemmas.Bool.{cond-true, false≢true}
+use Rattle.std.proofs.lemmas.Option.{same_Some}
+use Rattle.std.specs.List.{list_any}
 use Rattle.std.specs.Str.{bytes_eq}
 use Rattle.vx_488.specs.declared.transfers.Addr.{Addr}
 use Rattle.vx_488.specs.declared.wire.Wire.{Wire}
@@ -29,16 +27,20 @@ use Rattle.vx_flow.specs.FineState.{FineState}
 use Rattle.vx_kernel.specs.CoreState.{CoreState}
 use Rattle.vx_play.specs.declared.note.Made.{Made}
 use Rattle.vx_play.specs.declared.note.Note.TheVariants as note
-use Rattle.vx_play.specs.declared.note.Stop.{Stop}
-use Rattle.vx_play.specs.declared.note.Stop.TheVariants as stopped
+use Rattle.vx_bench.specs.declared.stops.Stop.{Stop}
+use Rattle.vx_bench.specs.declared.stops.Stop.TheVariants as stopped
 use Rattle.vx_play.specs.Gateway.{Gateway, gateway_of, BusGoes}
-use Rattle.vx_play.specs.Stage.{SpareShown, Stage, tables_of, address, cause_of, rules_in, table_refused, spare_at, spare_refused, absent_at, refusal}
-use Rattle.vx_play.specs.Making.{Tweaks, AttachesTable, AttachesSpare, Makes}
-use Rattle.vx_play.specs.Play.{stream_after, xid_after, without_at, rack_after, moment_after}
+use Rattle.vx_bench.specs.Rack.{SpareShown, spare_at}
+use Rattle.vx_play.specs.Stage.{Stage, tables_of, absent_at, refusal}
+use Rattle.vx_bench.specs.Refusing.{address, cause_of, rules_in, table_refused, spare_refused}
+use Rattle.vx_play.specs.Making.{Tweaks, Makes}
+use Rattle.vx_bench.specs.Attaches.{AttachesTable, AttachesSpare}
+use Rattle.vx_play.specs.Play.{stream_after, xid_after, rack_after, moment_after}
 use Rattle.vx_play.specs.PlayerState.{PlayerState, incoming_at}
-use Rattle.vx_play.specs.Spares.{spare_shown}
+use Rattle.vx_bench.specs.Spares.{spare_shown}
 use Rattle.vx_play.specs.Standing.{Stands, Holds, TakesTo, StopsFor}
 use Rattle.vx_play.specs.Tweaking.{AttachChanges, AttachesOne, ChangesAt}
+use Rattle.vx_bench.proofs.Found.{spare-found, spare-missing, rack-left}
 use Rattle.vx_play.proofs.Stepping.{takes-to}
 
 -- ---- a cut
@@ -172,54 +174,6 @@ inst-takes stage p s text inst place kept old now core table place_is kept_is se
 
 -- ---- a spare attached
 
--- of a list that is seen otherwise, the first place at which a test holds, and what stands there
-module _ {X Y : Type 0} (f : X → Y) (q : Y → Bool) where
-  first-map : (xs : List X) → position_or_len q (map f xs) ≡ position_or_len (λ x. q (f x)) xs
-  first-map [] = refl
-  first-map (x ∷ xs) = ap (λ (n : ℕ). cond (not (q (f x))) (1 + n) 0) (first-map xs)
-
-  same-length : (xs : List X) → length (map f xs) ≡ length xs
-  same-length [] = refl
-  same-length (x ∷ xs) = ap suc (same-length xs)
-
-  position-map : (xs : List X) → position q (map f xs) ≡ position (λ x. q (f x)) xs
-  position-map xs =
-      ap (λ (n : ℕ). cond (nat_lt n (length (map f xs))) (Some n) None) (first-map xs)
-      ∙ ap (λ (m : ℕ). cond (nat_lt (position_or_len (λ x. q (f x)) xs) m) (Some (position_or_len (λ x. q (f x)) xs)) None) (same-length xs)
-
-  find-map : (xs : List X) → find q (map f xs) ≡ option_map f (find (λ x. q (f x)) xs)
-  find-map [] = refl
-  find-map (x ∷ xs) = by (q (f x)) (find-map xs)
-    where
-      by : (b : Bool) → find q (map f xs) ≡ option_map f (find (λ x. q (f x)) xs)
-          → cond b (Some (f x)) (find q (map f xs)) ≡ option_map f (cond b (Some x) (find (λ x. q (f x)) xs))
-      by true rest = refl
-      by false rest = rest
-
-  -- the rest of such a list
-  rest-map : (xs : List X) (i : ℕ) → map f (take i xs ++ drop (suc i) xs) ≡ take i (map f xs) ++ drop (i + 1) (map f xs)
-  rest-map xs i =
-      let next : suc i ≡ i + 1 = omega arith in
-      map-append f (take i xs) (drop (suc i) xs) ∙ ap (λ (l : List Y). l ++ map f (drop (suc i) xs)) (sym (take-map f i xs))
-      ∙ ap (λ (l : List Y). take i (map f xs) ++ l) (sym (drop-map f (suc i) xs) ∙ ap (λ (n : ℕ). drop n (map f xs)) next)
-
--- a choice that isn't there
-unchosen : (b : Bool) (n : ℕ) → cond b (Some n) None ≡ None → b ≡ false
-unchosen true n e = absurd (cc)
-unchosen false n e = refl
-
-module _ {X : Type 0} (p : X → Bool) where
-  found : (xs : List X) (i : ℕ) (x : X) → Some i ≡ position p xs → x ≡ get_or xs i x → find p xs ≡ Some x
-  found xs i x e is =
-      let at_first = cond_some (nat_lt (position_or_len p xs) (length xs)) (position_or_len p xs) i (sym e) in
-      find_at p xs ∙ slice_get-get_or xs (position_or_len p xs) x (ltb-true _ _ at_first.0) ∙ ap (λ (n : ℕ). Some (get_or xs n x)) at_first.1
-      ∙ ap (λ (y : X). Some y) (sym is)
-
-  not-found : (xs : List X) → None ≡ position p xs → find p xs ≡ None
-  not-found xs e =
-      find_at p xs ∙ slice_get_past xs (position_or_len p xs)
-      (ltb-false _ _ (unchosen (nat_lt (position_or_len p xs) (length xs)) (position_or_len p xs) (sym e)))
-
 -- why a step isn't taken
 stops-for : (stage : Stage) (command : Command) (why : Option Cause) (ended : Stop) → refusal stage command ≡ why
     → Some ended ≡ option_map (λ k. stopped.Refused k) why → StopsFor stage command ended
@@ -227,31 +181,14 @@ stops-for stage command None ended e told = absurd (cc)
 stops-for stage command (Some why) ended e told =
     subst (λ (t : Stop). StopsFor stage command t) (sym (same_Some ended (stopped.Refused why) told)) e
 
--- where the first spare of a name stands in two lists that are one
-pub shelf-place : {I : Type 0} (name : List ℕ) (shelf rack : List (Spare I)) (where_first : Option ℕ)
-    → where_first ≡ position (λ (x : Spare I). bytes_eq x.name.bytes name) shelf → shelf ≡ rack → where_first ≡ position (λ (x : Spare I). bytes_eq x.name.bytes name) rack
-shelf-place {I} name shelf rack where_first e same = subst (λ (xs : List (Spare I)). where_first ≡ position (λ (x : Spare I). bytes_eq x.name.bytes name) xs) same e
-
 module _ {I : Type 0} (view : I → View) (name : List ℕ) where
-  -- the first spare of the name, as the play sees it
-  spare-found : (rack : List (Spare I)) (place : ℕ) (spare : Spare I) → Some place ≡ position (λ (x : Spare I). bytes_eq x.name.bytes name) rack
-      → spare ≡ get_or rack place spare → spare_at (map (spare_shown view) rack) name ≡ Some (spare_shown view spare)
-  spare-found rack place spare e is =
-      find-map (spare_shown view) (λ (x : SpareShown). bytes_eq x.name name) rack
-      ∙ ap (λ (o : Option (Spare I)). option_map (spare_shown view) o) (found (λ (x : Spare I). bytes_eq x.name.bytes name) rack place spare e is)
-
-  spare-missing : (rack : List (Spare I)) → None ≡ position (λ (x : Spare I). bytes_eq x.name.bytes name) rack → spare_at (map (spare_shown view) rack) name ≡ None
-  spare-missing rack e =
-      find-map (spare_shown view) (λ (x : SpareShown). bytes_eq x.name name) rack
-      ∙ ap (λ (o : Option (Spare I)). option_map (spare_shown view) o) (not-found (λ (x : Spare I). bytes_eq x.name.bytes name) rack e)
-
   -- where there is no spare of the name, the step is refused
   pub spare-stops : (stage : Stage) (p : ℕ) (s : Option ℕ) (rack : List (Spare I)) (old now : PlayerState) → None ≡ position (λ (x : Spare I). bytes_eq x.name.bytes name) rack
       → old ≡ now → Stands now stage → old.rack ≡ map (spare_shown view) rack → refusal stage (Plug p s name) ≡ Some cause.Spare
   spare-stops stage p s rack old now e seen stands_now shown =
       let stands : Stands old stage = subst (λ (x : PlayerState). Stands x stage) (sym seen) stands_now in
       ap (λ (o : Option SpareShown). spare_refused stage.gateway.bus (address p s) o)
-      (ap (λ (r : List SpareShown). spare_at r name) (sym stands.rack ∙ shown) ∙ spare-missing rack e)
+      (ap (λ (r : List SpareShown). spare_at r name) (sym stands.rack ∙ shown) ∙ spare-missing view name rack e)
 
   -- where the bus refuses it, the step is refused
   pub plug-stops : (stage : Stage) (p : ℕ) (s : Option ℕ) (rack : List (Spare I)) (at_place : ℕ) (spare : Spare I) (place : Addr) (kept : Option I) (why : Attach)
@@ -268,7 +205,7 @@ module _ {I : Type 0} (view : I → View) (name : List ℕ) where
       attached a place (Boxed (view spare.inst)) (option_map (λ i. Boxed (view i)) kept) cut after (Some why) place_is
       (ap (λ (o : Option I). option_map (λ i. Boxed (view i)) o) kept_is) changes.2 in
       let here : spare_at stage.rack name ≡ Some (spare_shown view spare) =
-      ap (λ (r : List SpareShown). spare_at r name) (sym stands.rack ∙ shown) ∙ spare-found rack at_place spare e is in
+      ap (λ (r : List SpareShown). spare_at r name) (sym stands.rack ∙ shown) ∙ spare-found view name rack at_place spare e is in
       stops-for stage (Plug p s name) (cause_of (Some why)) ended
       (ap (λ (o : Option SpareShown). spare_refused stage.gateway.bus a o) here
       ∙ ap (λ (o : Option Attach). cause_of o) (sym (cut-refusal stage.gateway.bus cut a (cut-same stage.gateway.bus cut through)) ∙ came.0))
@@ -286,14 +223,10 @@ module _ {I : Type 0} (view : I → View) (name : List ℕ) where
       let came : AttachChanges a (Boxed (view spare.inst)) cut None core.bus =
       attached a place (Boxed (view spare.inst)) (option_map (λ i. Boxed (view i)) kept) cut core.bus None place_is
       (ap (λ (o : Option I). option_map (λ i. Boxed (view i)) o) kept_is) changes.2 in
-      let first : position (λ (x : SpareShown). bytes_eq x.name name) (map (spare_shown view) rack) ≡ Some at_place =
-      position-map (spare_shown view) (λ (x : SpareShown). bytes_eq x.name name) rack ∙ sym e in
       let rack_is : map (spare_shown view) rest ≡ rack_after old.rack (Plug p s name) =
-      ap (λ (r : List (Spare I)). map (spare_shown view) r) rest_is ∙ rest-map (spare_shown view) (λ (x : SpareShown). bytes_eq x.name name) rack at_place
-      ∙ ap (λ (o : Option ℕ). without_at (map (spare_shown view) rack) o) (sym first)
-      ∙ ap (λ (r : List SpareShown). rack_after r (Plug p s name)) (sym shown) in
+      rack-left view name rack rest at_place e rest_is ∙ ap (λ (r : List SpareShown). rack_after r (Plug p s name)) (sym shown) in
       let there : spare_at old.rack name ≡ Some (spare_shown view spare) =
-      ap (λ (r : List SpareShown). spare_at r name) shown ∙ spare-found rack at_place spare e is in
+      ap (λ (r : List SpareShown). spare_at r name) shown ∙ spare-found view name rack at_place spare e is in
       tweak-takes stage (Plug p s name) (IsAttached a (Boxed (view spare.inst))) old now core (map (spare_shown view) rest) cut seen stands fine_kept changes.1 came.1 rack_is
       (λ same known.
       ap (λ (o : Option SpareShown). spare_refused stage.gateway.bus a o) (ap (λ (r : List SpareShown). spare_at r name) known ∙ there)

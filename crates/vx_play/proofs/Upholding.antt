@@ -24,12 +24,13 @@ use Rattle.vx_flow.proofs.Lookups.{chosen, along-none, along-append}
 use Rattle.vx_flow.proofs.Earlier.{earlier_law-holds}
 use Rattle.vx_flow.proofs.Headline.{headline_law-holds}
 use Rattle.vx_play.specs.Gateway.{Gateway, Happens, abort_port}
-use Rattle.vx_play.specs.Script as script
+use Rattle.vx_bench.specs.Script as script
 use Rattle.vx_message.specs.Meaning.{Meaning, Junk, Asks, Aborts, meaning}
 use Rattle.vx_message.specs.Meaning as meant
 use Rattle.vx_play.specs.Stream.{Brought, NoEnd, Whole, TooLong, After, brought}
 use Rattle.vx_play.specs.Item.{Item, events}
-use Rattle.vx_play.specs.Stage.{SpareShown, Stage, tables_of, beginning}
+use Rattle.vx_bench.specs.Rack.{SpareShown}
+use Rattle.vx_play.specs.Stage.{Stage, tables_of, beginning}
 use Rattle.vx_play.specs.Making.{IsQuiet, PollMakes, Tweaks, MessageMakes, RecordMakes, PieceMakes, ChannelMakes, Makes}
 use Rattle.vx_play.specs.Play.{Plays}
 use Rattle.vx_play.specs.Upholding.{Upholds}

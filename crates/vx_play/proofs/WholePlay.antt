@@ -10,23 +10,29 @@ use Rattle.vx_io.specs.Faults.{Rose}
 use Rattle.vx_script.specs.declared.Cause.{Cause}
 use Rattle.vx_script.specs.declared.Cause.TheVariants as cause
 use Rattle.vx_script.specs.Cause.{cause_word}
-use Rattle.vx_script.specs.Grammar.{Reading, Skipped, Does, Outside, reading}
+use Rattle.vx_script.specs.Grammar.{Skipped, Does, Outside, reading}
 use Rattle.vx_trace.specs.Output.{Output}
 use Rattle.vx_trace.specs.Text.{line_text, is_cause}
 use Rattle.vx_play.specs.declared.printer.TheConstants.{NOTE_ROOM}
+use Rattle.vx_play.specs.declared.run.TheConstants.{SCRIPT_MAX}
 use Rattle.vx_play.specs.declared.run.Status.{Status}
 use Rattle.vx_play.specs.declared.run.Status.TheVariants as status
-use Rattle.vx_play.specs.Moving.{End, GivesAll, GivesTooMuch, StopsIn}
-use Rattle.vx_play.specs.Script.{Step, Script, lines, script, script_from, script_by}
+use Rattle.vx_text.specs.Ends.{End}
+use Rattle.vx_text.specs.Reading.{GivesAll, GivesTooMuch}
+use Rattle.vx_text.specs.Writing.{StopsIn}
+use Rattle.vx_bench.specs.Script.{Step, script, script_from, behind_steps}
+use Rattle.vx_text.specs.TextLines.{lines}
 use Rattle.vx_play.specs.Item.{Item, Fault, item_lines, outputs, text, last_line}
-use Rattle.vx_play.specs.Stage.{SpareShown, Stage, beginning}
+use Rattle.vx_bench.specs.Rack.{SpareShown}
+use Rattle.vx_play.specs.Stage.{Stage, beginning}
 use Rattle.vx_play.specs.Play.{Takes, Plays, IsPlay}
 use Rattle.vx_play.specs.PlayerState.{PlayerState}
 use Rattle.vx_play.specs.Standing.{Stands}
 use Rattle.vx_play.specs.LinePlayed.{IsSkipped, IsPlayed, IsCut, IsBad, IsTurnedDown, IsWanting}
 use Rattle.vx_play.specs.Ended as ended
-use Rattle.vx_play.specs.Ended.{UnderWay, IsFront, IsShort, WantsAtStep, behind_steps, PutsLast, EndsScript}
+use Rattle.vx_play.specs.Ended.{UnderWay, IsFront, IsShort, PutsLast, EndsScript}
 use Rattle.vx_play.specs.Outcome.{Ends, IsOutcome, ReadsTooMuch, is_command, long_line}
+use Rattle.vx_bench.proofs.Scripts.{behind-more, next-line}
 use Rattle.vx_play.proofs.Upholding.{plays-uphold}
 
 -- one more step of a play
@@ -43,14 +49,6 @@ text_more : (items : List Item) (item : Item) (shown : List Output) → item_lin
 text_more items item shown is =
     ap (λ ls. flat_map line_text ls) (flat_map-append item_lines items (item ∷ []) ∙ ap (λ ys. outputs items ++ ys) (append-nil (item_lines item) ∙ is))
     ∙ flat_map-append line_text (outputs items) shown
-
--- a script with a step in front
-abbrev onto : Step → Script → Script
-onto step rest = record { steps = step ∷ rest.steps; bad = rest.bad }
-
-behind_more : (steps : List Step) (step : Step) (rest : Script) → behind_steps steps (onto step rest) ≡ behind_steps (steps ++ step ∷ []) rest
-behind_more [] step rest = refl
-behind_more (s ∷ steps) step rest = ap (onto s) (behind_more steps step rest)
 
 -- less is a rise where more is
 rose_earlier : (early mid after : ℕ) → early ≤ mid → Rose mid after → Rose early after
@@ -74,13 +72,6 @@ stops-behind before mid after xs ys taken counted stops =
 -- nothing more was written
 kept : (before mid after : Option (List ℕ)) (xs : List ℕ) → Appends before mid xs → Appends mid after [] → Appends before after xs
 kept before mid after xs taken none = subst (Appends before after) (append-nil xs) (Appends-trans before mid after _ _ taken none)
-
--- what stands in front of the next line is its steps, and the next line
-next_line : (t rest line behind : List ℕ) (count : ℕ) (steps : List Step) (said : Reading) → script t ≡ behind_steps steps (script_from (count + 1) (lines rest))
-    → lines rest ≡ line ∷ lines behind → reading line ≡ said → script t ≡ behind_steps steps (script_by (count + 1) said (script_from (count + 1 + 1) (lines behind)))
-next_line t rest line behind count steps said front cut says =
-    front ∙ ap (λ ls. behind_steps steps (script_from (count + 1) ls)) cut
-    ∙ ap (λ r. behind_steps steps (script_by (count + 1) r (script_from (count + 1 + 1) (lines behind)))) says
 
 -- a play begins
 pub begun : (t : List ℕ) (rack : List SpareShown) (player : PlayerState) (ends : End) → Stands player (beginning rack) → UnderWay t rack t 0 player ends ends
@@ -107,7 +98,7 @@ goes-on t rack rest line behind count player next before mid after u cut how mor
       steps = u.steps;
       items = u.items;
       stage = u.stage;
-      is_front = next_line t rest line behind count u.steps Skipped u.is_front cut k.skipped;
+      is_front = next-line t rest line behind count u.steps Skipped u.is_front cut k.skipped;
       played = u.played;
       stands = k.stands;
       written = kept before.bytes mid.bytes after.bytes (text u.items) u.written k.kept;
@@ -119,8 +110,8 @@ goes-on t rack rest line behind count player next before mid after u cut how mor
           steps = u.steps ++ step ∷ [];
           items = u.items ++ k.takes.item ∷ [];
           stage = k.takes.after;
-          is_front = next_line t rest line behind count u.steps (Does k.command) u.is_front cut k.said_is
-              ∙ behind_more u.steps step (script_from (count + 1 + 1) (lines behind));
+          is_front = next-line t rest line behind count u.steps (Does k.command) u.is_front cut k.said_is
+              ∙ behind-more u.steps step (script_from (count + 1 + 1) (lines behind));
           played = plays_more (beginning rack) u.stage k.takes.after u.steps u.items step k.takes.item u.played k.takes.command_is k.takes.takes;
           stands = k.takes.stands;
           written = subst (Appends before.bytes after.bytes) (sym (text_more u.items k.takes.item k.lines k.takes.lines_are))
@@ -161,7 +152,7 @@ fault-played t rack rest line behind count player before mid after why u cut how
   where
     stopping : IsBad (reading line) why ⊎ IsTurnedDown (reading line) u.stage why → IsPlay t rack u.items (Some (record { line = count + 1; cause = why }))
     stopping (inl k) =
-        let all = next_line t rest line behind count u.steps Outside u.is_front cut k.outside in
+        let all = next-line t rest line behind count u.steps Outside u.is_front cut k.outside in
         record {
           steps = u.steps;
           end = u.stage;
@@ -169,7 +160,7 @@ fault-played t rack rest line behind count player before mid after why u cut how
           ends = inr (record { all = ap (λ s. s.steps) all ∙ append-nil u.steps; bad = ap (λ s. s.bad) all; form = k.form });
         }
     stopping (inr k) =
-        let all = next_line t rest line behind count u.steps (Does k.command) u.is_front cut k.said_is in
+        let all = next-line t rest line behind count u.steps (Does k.command) u.is_front cut k.said_is in
         let step : Step = record { line = count + 1; command = k.command } in
         let later : List Step = (script_from (count + 1 + 1) (lines behind)).steps in
         record {
@@ -187,8 +178,8 @@ pub cut-played : (t : List ℕ) (rack : List SpareShown) (rest line behind : Lis
 cut-played t rack rest line behind count player next before mid after u cut how =
     let k = how u.stage u.stands in
     let step : Step = record { line = count + 1; command = k.command } in
-    let all = next_line t rest line behind count u.steps (Does k.command) u.is_front cut k.said_is
-    ∙ behind_more u.steps step (script_from (count + 1 + 1) (lines behind)) in
+    let all = next-line t rest line behind count u.steps (Does k.command) u.is_front cut k.said_is
+    ∙ behind-more u.steps step (script_from (count + 1 + 1) (lines behind)) in
     let played = plays_more (beginning rack) u.stage k.takes.after u.steps u.items step k.takes.item u.played k.takes.command_is k.takes.takes in (
       u.items ++ k.takes.item ∷ [],
       record {
@@ -209,7 +200,7 @@ pub short-played : (t : List ℕ) (rack : List SpareShown) (rest line behind : L
 short-played t rack rest line behind count player before mid after u cut how =
     let short = how u.stage u.stands in
     let k = short.0 in
-    let all = next_line t rest line behind count u.steps (Does k.command) u.is_front cut k.said_is in
+    let all = next-line t rest line behind count u.steps (Does k.command) u.is_front cut k.said_is in
     let step : Step = record { line = count + 1; command = k.command } in
     let later : List Step = (script_from (count + 1 + 1) (lines behind)).steps in (
       u.items,
@@ -275,7 +266,7 @@ pub short-ended : (t : List ℕ) (own rack : List SpareShown) (before after : En
 short-ended t own rack before after alike (items, short, written) = inr (items, subst (λ r. IsShort t r items) alike short, written)
 
 -- what was read is played: what the script's end says is the outcome
-read_ended : (words : List (List ℕ)) (rack : List SpareShown) (ends : Ends) (bytes : List ℕ) (how : Status) → is_command words ≡ true → GivesAll ends.source ends.source_after bytes
+read_ended : (words : List (List ℕ)) (rack : List SpareShown) (ends : Ends) (bytes : List ℕ) (how : Status) → is_command words ≡ true → GivesAll SCRIPT_MAX ends.source ends.source_after bytes
     → EndsScript bytes rack ends.sink ends.sink_after how → IsOutcome words rack ends how
 read_ended words rack ends bytes status.Done command read how = record { command = command; bytes = bytes; read = read; ended = how }
 read_ended words rack ends bytes status.Usage command read how = absurd how
@@ -287,13 +278,13 @@ read_ended words rack ends bytes status.TooLong command read how = absurd how
 
 -- a script that was read ended so
 pub script-ended : (words : List (List ℕ)) (rack : List SpareShown) (ends : Ends) (bytes script_text : List ℕ) (how : Status) → is_command words ≡ true
-    → GivesAll ends.source ends.source_after bytes → script_text ≡ bytes → EndsScript script_text rack ends.sink ends.sink_after how → IsOutcome words rack ends how
+    → GivesAll SCRIPT_MAX ends.source ends.source_after bytes → script_text ≡ bytes → EndsScript script_text rack ends.sink ends.sink_after how → IsOutcome words rack ends how
 script-ended words rack ends bytes script_text how command read same ended =
     read_ended words rack ends bytes how command read (subst (λ t. EndsScript t rack ends.sink ends.sink_after how) same ended)
 
 -- a script that is too long ended so
 pub long-ended : (words : List (List ℕ)) (rack : List SpareShown) (ends : Ends) (result : Status) → is_command words ≡ true
-    → ((bytes : List ℕ) × GivesTooMuch ends.source ends.source_after bytes) → PutsLast status.TooLong long_line ends.sink ends.sink_after result → IsOutcome words rack ends result
+    → ((bytes : List ℕ) × GivesTooMuch SCRIPT_MAX ends.source ends.source_after bytes) → PutsLast status.TooLong long_line ends.sink ends.sink_after result → IsOutcome words rack ends result
 long-ended words rack ends result command (bytes, read) put = ending put
   where
     much : ReadsTooMuch words ends

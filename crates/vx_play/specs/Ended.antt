@@ -5,10 +5,13 @@ use Rattle.vx_play.specs.declared.run.Ending.{Ending}
 use Rattle.vx_play.specs.declared.run.Ending.TheVariants as ending
 use Rattle.vx_play.specs.declared.run.Status.{Status}
 use Rattle.vx_play.specs.declared.run.Status.TheVariants as status
-use Rattle.vx_play.specs.Moving.{End, StopsIn}
-use Rattle.vx_play.specs.Script.{Step, Script, lines, script, script_from}
+use Rattle.vx_text.specs.Ends.{End}
+use Rattle.vx_text.specs.Writing.{StopsIn}
+use Rattle.vx_bench.specs.Script.{Step, script, script_from, behind_steps}
+use Rattle.vx_text.specs.TextLines.{lines}
 use Rattle.vx_play.specs.Item.{Item, Fault, text, last_line}
-use Rattle.vx_play.specs.Stage.{SpareShown, Stage, beginning}
+use Rattle.vx_bench.specs.Rack.{SpareShown}
+use Rattle.vx_play.specs.Stage.{Stage, beginning}
 use Rattle.vx_play.specs.Play.{Plays, PlaysFront, IsPlay}
 use Rattle.vx_play.specs.Upholding.{Upholds}
 use Rattle.vx_play.specs.PlayerState.{PlayerState}
@@ -37,10 +40,6 @@ pub record WantsAtStep (script_text : List ℕ) (steps : List Step) (stage : Sta
 pub record IsShort (script_text : List ℕ) (rack : List SpareShown) (items : List Item) : Type 0 where
   pub front : IsFront script_text rack items
   pub wants : WantsAtStep script_text front.steps front.stage
-
--- steps, and behind them a script
-abbrev pub behind_steps : List Step → Script → Script
-behind_steps steps rest = record { steps = steps ++ rest.steps; bad = rest.bad }
 
 -- a play under way: so many lines are played, and this text is what is left
 pub record UnderWay (script_text : List ℕ) (rack : List SpareShown) (rest : List ℕ) (count : ℕ) (player : PlayerState) (before after : End) : Type 0 where

@@ -13,8 +13,8 @@ use Rattle.vx_flow.specs.Event as event
 use Rattle.vx_play.specs.declared.note.Gone.TheVariants as gone
 use Rattle.vx_play.specs.declared.note.Note.TheVariants as note
 use Rattle.vx_play.specs.declared.note.Made.{Made}
-use Rattle.vx_play.specs.declared.note.Stop.{Stop}
-use Rattle.vx_play.specs.declared.note.Stop.TheVariants as stop
+use Rattle.vx_bench.specs.declared.stops.Stop.{Stop}
+use Rattle.vx_bench.specs.declared.stops.Stop.TheVariants as stop
 use Rattle.vx_play.specs.declared.streams.Incoming.{Incoming}
 use Rattle.vx_play.specs.Gateway.{Gateway, gateway_of, Happens}
 use Rattle.vx_message.specs.Meaning.{Meaning, Junk, meaning, xid_by}

@@ -2,11 +2,11 @@
 use Rattle.std.specs.Prelude.{◌≡◌, ◌≤◌, ℕ, true, List, length, ◌++◌, Option, Some, None, ◌⊎◌}
 use Rattle.std.specs.Io.KnownBytes.{Appends}
 use Rattle.vx_io.specs.Faults.{Rose}
-use Rattle.vx_play.specs.declared.input.TheConstants.{SCRIPT_MAX}
+use Rattle.vx_play.specs.declared.run.TheConstants.{SCRIPT_MAX}
 use Rattle.vx_play.specs.declared.run.Status.{Status}
 use Rattle.vx_play.specs.declared.run.Status.TheVariants as status
 use Rattle.vx_play.specs.Item.{Item, Fault, text, last_line}
-use Rattle.vx_play.specs.Stage.{SpareShown}
+use Rattle.vx_bench.specs.Rack.{SpareShown}
 use Rattle.vx_play.specs.Play.{IsPlay}
 use Rattle.vx_play.specs.Outcome.{Ends, is_command, status_number}
 

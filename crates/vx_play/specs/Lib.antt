@@ -1,5 +1,3 @@
-pub mod Moving
-pub mod Script
 pub mod Stream
 pub mod Gateway
 pub mod Item
@@ -8,13 +6,11 @@ pub mod Hearing
 pub mod Making
 pub mod Play
 pub mod Upholding
-pub mod Spares
 pub mod PlayerState
 pub mod Standing
 pub mod Serving
 pub mod Feeding
 pub mod Tweaking
-pub mod Tabling
 pub mod Printing
 pub mod LinePlayed
 pub mod Ended

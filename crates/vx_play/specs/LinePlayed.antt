@@ -10,7 +10,8 @@ use Rattle.vx_trace.specs.Output.{Output}
 use Rattle.vx_trace.specs.Text.{line_text}
 use Rattle.vx_play.specs.declared.run.LineEnd.{LineEnd}
 use Rattle.vx_play.specs.declared.run.LineEnd.TheVariants as line_end
-use Rattle.vx_play.specs.Moving.{End, StopsIn}
+use Rattle.vx_text.specs.Ends.{End}
+use Rattle.vx_text.specs.Writing.{StopsIn}
 use Rattle.vx_play.specs.Stage.{Stage, refusal}
 use Rattle.vx_play.specs.PlayerState.{PlayerState}
 use Rattle.vx_play.specs.Standing.{Stands, TakesTo, WantsMemory}

@@ -1,19 +1,15 @@
 -- What each step of a play makes: the events in the gateway, the steps of its bus, and the line that there is to tell.
-use Rattle.std.specs.Prelude.{◌≡◌, ℕ, Bool, true, false, List, [], ◌∷◌, ◌++◌, Option, Some, None, Result, Ok}
+use Rattle.std.specs.Prelude.{◌≡◌, ℕ, Bool, true, false, List, [], ◌∷◌, ◌++◌, Option, Some, None}
 use Rattle.vx_calls.specs.declared.calls.Role.{Role}
 use Rattle.vx_calls.specs.declared.codes.ErrorCode.{ErrorCode}
 use Rattle.vx_calls.specs.Call.{Call}
 use Rattle.vx_calls.specs.Reply as reply
-use Rattle.vx_488.specs.declared.transfers.Addr.{Addr}
 use Rattle.vx_script.specs.Command.{Command, Up, In, Down, At, Poll, Sample, Take, Dial, Inst, Plug, Pull, Set, Fail}
 use Rattle.vx_trace.specs.Output.{Output, Out, Irq, IrqNone, IrqClosed, WaitLock, WaitTurn, WaitHeld, WaitDial, GoneDown, GoneJunk, GoneLong}
 use Rattle.vx_bus.specs.Steps.{Told, Cut}
-use Rattle.vx_table.specs.declared.TableErr.{TableErr}
-use Rattle.vx_table.specs.Table.{Rule, fresh_table}
-use Rattle.vx_sim.specs.Seats.{Table, Boxed}
 use Rattle.vx_sim.specs.Bench.{some_asks, some_refuses}
 use Rattle.vx_sim.specs.SimState.{SimState, Through}
-use Rattle.vx_sim.specs.Attaching.{IsAttached, without_place, IsSet}
+use Rattle.vx_sim.specs.Attaching.{without_place, IsSet}
 use Rattle.vx_srq.specs.Desk.{Channel, Given, Front, Empty, Gone, channel_at}
 use Rattle.vx_model.specs.State.{Pending, role_at, pending_at}
 use Rattle.vx_flow.specs.Event.{Event}
@@ -25,7 +21,10 @@ use Rattle.vx_play.specs.Hearing.{is_write, TakesHeard}
 use Rattle.vx_message.specs.Meaning.{Meaning, Junk, Asks, Aborts, meaning, record_of, reply_record, srq_record}
 use Rattle.vx_message.specs.Meaning as meant
 use Rattle.vx_play.specs.Stream.{Brought, NoEnd, Whole, TooLong, After, brought}
-use Rattle.vx_play.specs.Stage.{SpareShown, Stage, tables_of, address, rules_in, spare_at}
+use Rattle.vx_bench.specs.Rack.{spare_at}
+use Rattle.vx_play.specs.Stage.{Stage, tables_of}
+use Rattle.vx_bench.specs.Refusing.{address, rules_in}
+use Rattle.vx_bench.specs.Attaches.{AttachesTable, AttachesSpare}
 
 -- nothing happens in the gateway
 pub record IsQuiet (before : Gateway) (group : List Event) (after : Gateway) : Type 0 where
@@ -130,15 +129,6 @@ pub record Tweaks (before : Gateway) (Change : SimState → SimState → Type 0)
   pub bus : BusGoes before.bus (Cut ∷ []) cut
   pub change : Change cut after.bus
   pub told : note ≡ None
-
--- an instrument with these rules, or a spare, is attached
-abbrev pub AttachesTable : Addr → Option (Result (List Rule) TableErr) → SimState → SimState → Type 0
-AttachesTable a (Some (Ok rules)) old new = IsAttached a (Table (fresh_table rules)) old new
-AttachesTable a _ old new = ⊥
-
-abbrev pub AttachesSpare : Addr → Option SpareShown → SimState → SimState → Type 0
-AttachesSpare a (Some spare) old new = IsAttached a (Boxed spare.seen) old new
-AttachesSpare a None old new = ⊥
 
 -- what a command makes
 abbrev pub Makes : Stage → Command → List Event → Option Output → Gateway → Type 0

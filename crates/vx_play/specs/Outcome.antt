@@ -5,10 +5,13 @@ use Rattle.std.specs.Io.KnownBytes.{Appends}
 use Rattle.vx_io.specs.Faults.{Rose}
 use Rattle.vx_trace.specs.Output.{Usage, FaultLong}
 use Rattle.vx_trace.specs.Text.{line_text}
+use Rattle.vx_play.specs.declared.run.TheConstants.{SCRIPT_MAX}
 use Rattle.vx_play.specs.declared.run.Status.{Status}
 use Rattle.vx_play.specs.declared.run.Status.TheVariants as status
-use Rattle.vx_play.specs.Moving.{End, GivesAll, GivesTooMuch, StopsIn}
-use Rattle.vx_play.specs.Stage.{SpareShown}
+use Rattle.vx_text.specs.Ends.{End}
+use Rattle.vx_text.specs.Reading.{GivesAll, GivesTooMuch}
+use Rattle.vx_text.specs.Writing.{StopsIn}
+use Rattle.vx_bench.specs.Rack.{SpareShown}
 use Rattle.vx_play.specs.Ended.{EndsScript}
 
 -- the number of a status
@@ -49,13 +52,13 @@ pub record IsUnread (words : List (List ℕ)) (ends : Ends) : Type 0 where
 pub record ReadsTooMuch (words : List (List ℕ)) (ends : Ends) : Type 0 where
   pub command : is_command words ≡ true
   pub bytes : List ℕ
-  pub read : GivesTooMuch ends.source ends.source_after bytes
+  pub read : GivesTooMuch SCRIPT_MAX ends.source ends.source_after bytes
 
 -- the source gave a script, and its play ended so
 pub record PlaysScript (words : List (List ℕ)) (rack : List SpareShown) (ends : Ends) (how : Status) : Type 0 where
   pub command : is_command words ≡ true
   pub bytes : List ℕ
-  pub read : GivesAll ends.source ends.source_after bytes
+  pub read : GivesAll SCRIPT_MAX ends.source ends.source_after bytes
   pub ended : EndsScript bytes rack ends.sink ends.sink_after how
 
 -- how a play ends

@@ -1,15 +1,16 @@
 -- A play: its items, one for each step, and how it ends.
-use Rattle.std.specs.Prelude.{◌≡◌, ℕ, ◌+◌, ◌==◌, max, if◌then◌else◌, List, [], ◌∷◌, ◌++◌, take, drop, position, Option, Some, None, ◌⊎◌}
+use Rattle.std.specs.Prelude.{◌≡◌, ℕ, ◌==◌, max, if◌then◌else◌, List, [], ◌∷◌, ◌++◌, position, Option, Some, None, ◌⊎◌}
 use Rattle.std.specs.Str.{bytes_eq}
 use Rattle.vx_calls.specs.declared.calls.Role.{Role}
 use Rattle.vx_script.specs.declared.Cause.TheVariants as cause
 use Rattle.vx_script.specs.Command.{Command, Up, In, At, Plug}
 use Rattle.vx_model.specs.State.{role_at}
-use Rattle.vx_play.specs.Script.{Step, script}
+use Rattle.vx_bench.specs.Script.{Step, script}
 use Rattle.vx_play.specs.Stream.{Brought, Whole, brought, kept_after}
 use Rattle.vx_message.specs.Meaning.{meaning, xid_by}
 use Rattle.vx_play.specs.Item.{Item, Fault}
-use Rattle.vx_play.specs.Stage.{SpareShown, Stage, tables_of, beginning, refusal}
+use Rattle.vx_bench.specs.Rack.{SpareShown, without_at}
+use Rattle.vx_play.specs.Stage.{Stage, tables_of, beginning, refusal}
 use Rattle.vx_play.specs.Making.{Makes}
 
 -- the bytes of a connection's stream since its last whole record, after a command
@@ -33,11 +34,7 @@ xid_after s (In conn bytes) n =
     if n == conn then xid_brought (brought (s.streams conn) bytes) (role_at (tables_of s) conn) (s.xids conn) else s.xids n
 xid_after s _ n = s.xids n
 
--- the spares without the first of a name
-abbrev pub without_at : List SpareShown → Option ℕ → List SpareShown
-without_at rack None = rack
-without_at rack (Some i) = take i rack ++ drop (i + 1) rack
-
+-- the spares without the first of the name of a `plug`
 abbrev pub rack_after : List SpareShown → Command → List SpareShown
 rack_after rack (Plug p secondary name) = without_at rack (position (λ spare. bytes_eq spare.name name) rack)
 rack_after rack _ = rack

@@ -1,31 +1,18 @@
 -- Where a play stands, and which step is refused there.
-use Rattle.std.specs.Prelude.{ℕ, not, ◌==◌, if◌then◌else◌, List, [], find, Option, Some, None, is_none, is_some, Result, Ok, Err}
+use Rattle.std.specs.Prelude.{ℕ, not, ◌==◌, if◌then◌else◌, List, [], Option, Some, None, is_none, is_some}
 use Rattle.std.specs.List.{list_any}
-use Rattle.std.specs.Str.{bytes_eq, is_utf8}
-use Rattle.serde_json.specs.Data.{Data}
-use Rattle.serde_json.specs.Read.{read}
 use Rattle.vx_calls.specs.declared.calls.Role.TheVariants as role
 use Rattle.vx_488.specs.declared.transfers.Addr.{Addr}
 use Rattle.vx_script.specs.declared.Cause.{Cause}
 use Rattle.vx_script.specs.declared.Cause.TheVariants as cause
 use Rattle.vx_script.specs.Command.{Command, Up, In, Down, At, Poll, Sample, Take, Dial, Inst, Plug, Pull, Set, Fail}
-use Rattle.vx_inst.specs.View.{View}
-use Rattle.vx_table.specs.declared.TableErr.{TableErr}
-use Rattle.vx_table.specs.Table.{Rule}
-use Rattle.vx_table.specs.Spelling.{rules_of}
-use Rattle.vx_sim.specs.declared.attach.Attach.{Attach}
-use Rattle.vx_sim.specs.declared.attach.Attach.TheVariants as attach
 use Rattle.vx_sim.specs.Bench.{stands_at}
 use Rattle.vx_sim.specs.SimState.{SimState}
-use Rattle.vx_sim.specs.Attaching as attaching
 use Rattle.vx_model.specs.State.{Tables, role_at, lives_as, pending_at, has_room}
+use Rattle.vx_bench.specs.Rack.{SpareShown, spare_at}
+use Rattle.vx_bench.specs.Refusing.{address, rules_in, table_refused, spare_refused}
 use Rattle.vx_play.specs.Gateway.{Gateway, first_gateway}
 use Rattle.vx_play.specs.Stream.{Brought, After, brought}
-
--- a spare instrument: its name, and how it is seen from a bus
-pub record SpareShown : Type 0 where
-  pub name : List ℕ
-  pub seen : View
 
 -- where a play stands: the gateway; of each connection the stream bytes since its last whole record, and the xid of the last
 -- call that it kept; the spare instruments that are left; and the moment of the next steps, in milliseconds
@@ -47,43 +34,10 @@ beginning_over gateway rack = record (beginning rack) { gateway = gateway }
 abbrev pub tables_of : Stage → Tables
 tables_of s = s.gateway.fine.state.tables
 
--- a bus address of a step
-abbrev pub address : ℕ → Option ℕ → Addr
-address p s = record { p = p; s = s }
-
 -- why an `in` is refused: bytes follow a record
 abbrev pub refused_by : Brought → Option Cause
 refused_by After = Some cause.After
 refused_by _ = None
-
--- why an instrument isn't attached
-abbrev pub cause_of : Option Attach → Option Cause
-cause_of None = None
-cause_of (Some attach.OwnAddress) = Some cause.Own
-cause_of (Some (attach.Taken holder)) = Some cause.Taken
-cause_of (Some attach.Full) = Some cause.Bench
-
--- the rules that a text spells: no JSON, no table, or these (RFC 8259)
-abbrev pub rules_by : Option Data → Option (Result (List Rule) TableErr)
-rules_by None = None
-rules_by (Some value) = Some (rules_of value)
-
-abbrev pub rules_in : List ℕ → Option (Result (List Rule) TableErr)
-rules_in text = if is_utf8 text then rules_by (read text) else None
-
--- why no instrument with these rules is attached at the address
-abbrev pub table_refused : SimState → Addr → Option (Result (List Rule) TableErr) → Option Cause
-table_refused bus a None = Some cause.Json
-table_refused bus a (Some (Err why)) = Some cause.Rule
-table_refused bus a (Some (Ok rules)) = cause_of (attaching.refusal bus a)
-
--- the first spare of a name
-abbrev pub spare_at : List SpareShown → List ℕ → Option SpareShown
-spare_at rack name = find (λ spare. bytes_eq spare.name name) rack
-
-abbrev pub spare_refused : SimState → Addr → Option SpareShown → Option Cause
-spare_refused bus a None = Some cause.Spare
-spare_refused bus a (Some spare) = cause_of (attaching.refusal bus a)
 
 -- nobody stands at the address
 abbrev pub absent_at : SimState → Addr → Option Cause

@@ -17,8 +17,8 @@ use Rattle.vx_play.specs.declared.note.Gone.TheVariants as gone
 use Rattle.vx_play.specs.declared.note.Note.{Note}
 use Rattle.vx_play.specs.declared.note.Note.TheVariants as note
 use Rattle.vx_play.specs.declared.note.Made.{Made}
-use Rattle.vx_play.specs.declared.note.Stop.{Stop}
-use Rattle.vx_play.specs.declared.note.Stop.TheVariants as stop
+use Rattle.vx_bench.specs.declared.stops.Stop.{Stop}
+use Rattle.vx_bench.specs.declared.stops.Stop.TheVariants as stop
 use Rattle.vx_play.specs.Gateway.{gateway_of}
 use Rattle.vx_play.specs.Item.{Item, item_lines, noted}
 use Rattle.vx_play.specs.Stage.{Stage, tables_of, refusal}

@@ -2,10 +2,7 @@
 #![tactic(auto)]
 
 mod bench;
-mod input;
-mod lines;
 mod note;
-mod output;
 mod pieces;
 mod player;
 mod printer;
@@ -14,10 +11,10 @@ mod rows;
 mod run;
 mod serve;
 mod streams;
-mod table;
 #[cfg(test)]
 mod tests;
 
-pub use note::{Gone, Made, Note, Stop};
+pub use note::{Gone, Made, Note};
 pub use player::Player;
 pub use run::play_run;
+pub use vx_bench::Stop;

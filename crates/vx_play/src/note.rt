@@ -1,7 +1,6 @@
 ghost use Rattle.std.specs.Prelude.{◌≡◌, None};
 
 use vx_core::Why;
-use vx_script::Cause;
 
 /// How a connection ended.
 #[derive(Clone, Copy, Debug, PartialEq, Eq)]
@@ -54,11 +53,4 @@ impl Made {
     {
         Made { polled: None, note }
     }
-}
-
-/// Why a step isn't taken.
-#[derive(Clone, Copy, Debug)]
-pub enum Stop {
-    Refused(Cause),
-    NoMemory,
 }

@@ -11,10 +11,11 @@ ghost use Rattle.vx_play.specs.declared.streams.Incoming.{Incoming};
 ghost use Rattle.vx_play.specs.Gateway.{Gateway, gateway_of, Happens};
 ghost use Rattle.vx_play.specs.Feeding.{AnswersRecord, FeedsPiece, StopsPiece};
 
-use crate::note::{Gone, Made, Note, Stop};
+use crate::note::{Gone, Made, Note};
 use crate::serve::{Served, serve};
 use crate::streams::{Incoming, feed};
 use std::collections::BTreeMap;
+use vx_bench::Stop;
 use vx_calls::Role;
 use vx_core::Core;
 use vx_inst::Instrument;

@@ -9,29 +9,31 @@ ghost use Rattle.vx_model.specs.State.{role_at, lives_as, pending_at};
 ghost use Rattle.vx_message.specs.declared.record.TheConstants.{REPLY_ROOM};
 ghost use Rattle.vx_play.specs.declared.streams.Incoming.{Incoming};
 ghost use Rattle.vx_play.specs.Gateway.{gateway_of};
-ghost use Rattle.vx_play.specs.Stage.{Stage, SpareShown, beginning, beginning_over, cause_of};
+ghost use Rattle.vx_play.specs.Stage.{Stage, beginning, beginning_over};
+ghost use Rattle.vx_bench.specs.Rack.{SpareShown};
+ghost use Rattle.vx_bench.specs.Refusing.{cause_of};
 ghost use Rattle.vx_play.specs.PlayerState.{PlayerState, incoming_at};
-ghost use Rattle.vx_play.specs.Spares.{spare_shown};
+ghost use Rattle.vx_bench.specs.Spares.{spare_shown};
 ghost use Rattle.vx_play.specs.Standing.{IsReady, Stands, IsPrintable, TakesTo, StopsFor, made_lines};
 
 use crate::bench;
-use crate::input::zeros;
-use crate::note::{Gone, Made, Note, Stop};
+use crate::note::{Gone, Made, Note};
 use crate::pieces::{end, feed_piece};
 use crate::serve::{poll_call, succeed};
 use crate::streams::{self, Incoming};
-use crate::table::table_of;
 use std::alloc::{AllocError, Global};
 use std::collections::BTreeMap;
 use std::marker::Model;
 use vx_488::{Addr, Transfer};
+use vx_bench::{Stop, refused_for, spare_place, table_of};
 use vx_calls::{ReplyRef, Role, Taken};
 use vx_core::{Connect, Core};
 use vx_inst::Instrument;
 use vx_message::{REPLY_ROOM, put_srq_record};
 use vx_rack::Spare;
 use vx_script::{Cause, Step};
-use vx_sim::{Attach, SimBus};
+use vx_sim::SimBus;
+use vx_text::zeros;
 
 /// The port of the abort channel that a played gateway tells.
 pub const ABORT_PORT: u16 = 9011;
@@ -51,7 +53,7 @@ impl<I: Instrument> Model for Player<I> {
     ghost use Rattle.std.specs.Prelude.{◌≡◌, length, map};
     ghost use Rattle.vx_message.specs.declared.record.TheConstants.{REPLY_ROOM};
     ghost use Rattle.vx_play.specs.PlayerState.{PlayerState};
-    ghost use Rattle.vx_play.specs.Spares.{spare_shown};
+    ghost use Rattle.vx_bench.specs.Spares.{spare_shown};
 
     ghost Value = { PlayerState };
 
@@ -315,17 +317,6 @@ impl<I: Instrument> Player<I> {
     }
 }
 
-/// Why an instrument isn't attached, as a step is refused.
-fn refused_for(why: Attach) -> Stop
-    ensures { Some result ≡ option_map (λ cause. Stop.Refused cause) (cause_of (Some why)) }
-{
-    Stop::Refused(match why {
-        Attach::OwnAddress => Cause::Own,
-        Attach::Taken { .. } => Cause::Taken,
-        Attach::Full => Cause::Bench,
-    })
-}
-
 // What hangs on the bus.
 impl<I: Instrument> Player<I> {
     /// A table instrument is made of a JSON text and attached.
@@ -403,12 +394,4 @@ impl<I: Instrument> Player<I> {
         self.core.tweak(&mut bench::FailAfter::new(n));
         Made::QUIET
     }
-}
-
-/// Where the first spare of a name stands.
-fn spare_place<I: Instrument>(rack: &[Spare<I>], name: &[u8]) -> Option<usize>
-    ensures { result ≡ position (λ spare. bytes_eq spare.name.bytes name.now) rack.now }
-{
-    rack.iter()
-        .position(|spare| spare.name.as_str().as_bytes() == name)
 }

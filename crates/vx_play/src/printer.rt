@@ -5,8 +5,8 @@ ghost use Rattle.vx_trace.specs.Output.{line_shown};
 ghost use Rattle.vx_play.specs.declared.printer.TheConstants.{MOVES_ROOM, NOTE_ROOM, TEXT_ROOM};
 ghost use Rattle.vx_play.specs.Printing.{option_text, AreWritable, Writable};
 
-use crate::input::zeros;
 use std::alloc::{AllocError, Global};
+use vx_text::zeros;
 use vx_trace::{Line, put_line};
 
 /// Room for the longest line of a poll's transfers, in bytes: at most seven for each.

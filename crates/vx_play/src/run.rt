@@ -5,8 +5,8 @@ ghost use Rattle.vx_trace.specs.Output.{line_shown};
 ghost use Rattle.vx_trace.specs.Text.{line_text};
 ghost use Rattle.vx_script.specs.Grammar.{reading};
 ghost use Rattle.vx_play.specs.Stage.{Stage, beginning};
-ghost use Rattle.vx_play.specs.Spares.{spare_shown};
-ghost use Rattle.vx_play.specs.Moving.{IsPut};
+ghost use Rattle.vx_bench.specs.Spares.{spare_shown};
+ghost use Rattle.vx_text.specs.Writing.{IsPut};
 ghost use Rattle.vx_play.specs.Standing.{IsReady, Stands, IsPrintable, NoteWithin, made_lines, moves_lines, note_line as line_of_note, wait_line as line_of_wait, gone_line as line_of_end};
 ghost use Rattle.vx_play.specs.Printing.{outputs_of};
 ghost use Rattle.vx_play.specs.LinePlayed.{EndsLine};
@@ -14,20 +14,22 @@ ghost use Rattle.vx_play.specs.Ended.{EndsLines, EndsScript, PutsLast};
 ghost use Rattle.vx_play.specs.Outcome.{Ends, EndsSo, IsOutcome, is_command, status_number};
 ghost use Rattle.vx_play.specs.Laws.{Completes};
 
-use crate::input::{Input, read_all, zeros};
-use crate::lines::first_line;
-use crate::note::{Gone, Made, Note, Stop};
-use crate::output::{SinkFailed, put_all};
+use crate::note::{Gone, Made, Note};
 use crate::player::Player;
 use crate::printer::Printer;
 use std::alloc::Global;
 use vx_488::Transfer;
+use vx_bench::Stop;
 use vx_core::Why;
 use vx_inst::Instrument;
 use vx_io::{Sink, Source};
 use vx_rack::Spare;
 use vx_script::{Cause, LINE_MAX, read_step};
+use vx_text::{Input, SinkFailed, first_line, put_all, read_all, zeros};
 use vx_trace::Line;
+
+/// The longest script, in bytes.
+pub const SCRIPT_MAX: usize = 67_108_864;
 
 /// How a play ended, as the program's exit status tells it.
 #[derive(Clone, Copy, Debug, PartialEq, Eq)]
@@ -296,7 +298,7 @@ fn play<S: Source, K: Sink, I: Instrument>(
     }) result }
 {
     if is_command(words) {
-        match read_all(alloc, source) {
+        match read_all(alloc, source, SCRIPT_MAX) {
             Input::Whole(script) => play_script(alloc, &script, sink, rack),
             Input::TooLong => put_last(sink, b"fault long\n", Status::TooLong),
             Input::Failed => Status::SourceFailed,

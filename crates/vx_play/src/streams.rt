@@ -6,9 +6,9 @@ ghost use Rattle.vx_calls.specs.declared.limits.TheConstants.{RECORD_MAX};
 ghost use Rattle.vx_record.specs.Buffer.{fresh};
 ghost use Rattle.vx_play.specs.Feeding.{FeedsTo};
 
-use crate::note::Stop;
 use std::alloc::Global;
 use std::collections::BTreeMap;
+use vx_bench::Stop;
 use vx_calls::RECORD_MAX;
 use vx_record::{Fed, Feed, RecordBuf};
 

@@ -1,5 +1,6 @@
 use Rattle.std.proofs.Common.{Some, None, refl}
-use Rattle.vx_play.proofs.Tweaked.{shelf-place, spare-stops, plug-stops, plug-takes}
+use Rattle.vx_bench.proofs.Found.{shelf-place}
+use Rattle.vx_play.proofs.Tweaked.{spare-stops, plug-stops, plug-takes}
 use Rattle.vx_play.proofs.player.Player.plug.Goals as goal
 
 pub returns-in_default-clause-stopped : goal.returns-in_default-clause-stopped

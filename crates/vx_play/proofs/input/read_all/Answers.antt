@@ -1,9 +1,0 @@
-use Rattle.std.proofs.Common.{◌≤◌, subst, ◌∙◌}
-use Rattle.vx_play.proofs.Moved.{gave-all}
-use Rattle.vx_play.proofs.input.read_all.Goals as goal
-
-pub returns-in-End-clause-read : goal.returns-in-End-clause-read
-returns-in-End-clause-read g c =
-    let at_end = c.in-End.ensures.read in
-    gave-all _ (record { bytes = g.S.Source.left c.loop-piece.source; faults = g.S.Source.faults c.loop-piece.source }) _
-    c.loop-piece.bytes.items _ c.loop-piece.invariant.1 (subst (λ n. n ≤ 67108864) (c.len.ensures ∙ c.loop-piece.bytes.ok.0) c.loop-piece-test.true) at_end.0 at_end.1 at_end.2

@@ -1,7 +1,0 @@
--- The spare instruments as a play sees them.
-use Rattle.vx_inst.specs.View.{View}
-use Rattle.vx_rack.specs.declared.Spare.{Spare}
-use Rattle.vx_play.specs.Stage.{SpareShown}
-
-abbrev pub spare_shown : {I : Type 0} → (I → View) → Spare I → SpareShown
-spare_shown view spare = record { name = spare.name.bytes; seen = view spare.inst }
