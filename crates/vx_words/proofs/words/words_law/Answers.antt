@@ -1,0 +1,36 @@
+use Rattle.std.proofs.Common.{refl}
+use Rattle.clap.proofs.OnLiterals.{clap_on_literals}
+use Rattle.vx_words.specs.Meant.{rows, verdict}
+use Rattle.vx_words.proofs.words.words_law.Goals as goal
+
+pub returns-clause-none : goal.returns-clause-none
+unfolding clap_on_literals verdict rows
+returns-clause-none c = (refl, record { core = refl; abort = refl; sample = refl; workers = refl; limit = refl })
+
+pub returns-clause-some : goal.returns-clause-some
+unfolding clap_on_literals verdict rows
+returns-clause-some c = (refl, record { core = refl; abort = refl; sample = refl; workers = refl; limit = refl })
+
+pub returns-clause-above : goal.returns-clause-above
+unfolding clap_on_literals verdict
+returns-clause-above c = refl
+
+pub returns-clause-below : goal.returns-clause-below
+unfolding clap_on_literals verdict
+returns-clause-below c = refl
+
+pub returns-clause-twice : goal.returns-clause-twice
+unfolding clap_on_literals verdict
+returns-clause-twice c = refl
+
+pub returns-clause-stray : goal.returns-clause-stray
+unfolding clap_on_literals verdict
+returns-clause-stray c = refl
+
+pub returns-clause-help : goal.returns-clause-help
+unfolding clap_on_literals verdict
+returns-clause-help c = refl
+
+pub returns-clause-version : goal.returns-clause-version
+unfolding clap_on_literals verdict
+returns-clause-version c = refl

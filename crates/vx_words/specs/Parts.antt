@@ -1,0 +1,32 @@
+-- What a parse leaves of the options, and what an error of it is answered with.
+use Rattle.std.specs.Prelude.{◌≡◌, ◌≢◌, ℕ, ⊤, [], ◌∷◌, Some, codes}
+use Rattle.clap.specs.Values.{IsUnsignedIn}
+use Rattle.clap.specs.Matches.{first_value, one_text}
+use Rattle.clap.specs.Walk.{Text}
+use Rattle.clap.specs.declared.error.kind.ErrorKind.{ErrorKind}
+use Rattle.clap.specs.declared.error.kind.ErrorKind.TheVariants as kind
+use Rattle.clap.specs.declared.parser.matches.Found.{Found}
+use Rattle.vx_words.specs.Meant.{refused, told, verdict_of}
+use Rattle.vx_words.specs.declared.words.Asked.{Asked}
+use Rattle.vx_words.specs.declared.words.Asked.TheVariants as asked
+
+-- an option has a value, which writes a number in its range and is read as it stands
+abbrev pub HasNumber : Found → Text → ℕ → ℕ → Type 0
+HasNumber found name least most =
+    (text : Text) × (first_value found name ≡ Some text) × (one_text found name ≡ Some text)
+    × IsUnsignedIn least most text
+
+-- each of the five has one
+pub record IsGiven (found : Found) : Type 0 where
+  pub core : HasNumber found (codes "core") 1 65535
+  pub abort : HasNumber found (codes "abort") 1 65535
+  pub sample : HasNumber found (codes "sample") 1 60000
+  pub workers : HasNumber found (codes "workers") 1 64
+  pub limit : HasNumber found (codes "limit") 0 1000000
+
+-- the answer to an error of this kind, or want of memory
+abbrev pub Refuses : ErrorKind → Asked → Type 0
+Refuses k (asked.Serve o) = ⊥
+Refuses k (asked.Tell text) = verdict_of (k ∷ []) ≡ told
+Refuses k asked.Usage = (verdict_of (k ∷ []) ≡ refused) × (k ≢ kind.OutOfMemory)
+Refuses k asked.NoMemory = ⊤

@@ -1,0 +1,11 @@
+//! The words of the server program `vxgate`: its options, each a number in a range with a default.
+//!
+//! They are read with `clap`, as one simple command. Nothing is printed here, and no memory is taken but `clap`'s.
+#![tactic(auto)]
+
+mod command;
+#[cfg(test)]
+mod tests;
+mod words;
+
+pub use words::{Asked, Options, read_words};

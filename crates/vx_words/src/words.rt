@@ -1,0 +1,93 @@
+//! What words ask of the server.
+
+ghost use Rattle.std.specs.Prelude.{◌≡◌, [], ◌∷◌, codes, map, string_bytes};
+ghost use Rattle.clap.specs.Words.{found_of, kind_of, rows_of};
+ghost use Rattle.vx_words.specs.Meant.{Answers, IsInRange, IsSetBy, Sets, refused, told, usual, verdict};
+ghost use Rattle.vx_words.specs.Parts.{IsGiven, Refuses};
+
+use crate::command::vxgate;
+use clap::error::ErrorKind;
+use clap::{ArgMatches, Error};
+use std::alloc::Global;
+
+/// What the words set.
+#[derive(Clone, Copy, Debug, PartialEq, Eq)]
+pub struct Options {
+    /// The port of the core channel, 1 to 65,535.
+    pub core: u16,
+    /// The port of the abort channel, 1 to 65,535.
+    pub abort: u16,
+    /// Milliseconds between two samples of the SRQ line, 1 to 60,000.
+    pub sample: u32,
+    /// How many worker threads each channel has, 1 to 64.
+    pub workers: u32,
+    /// After how many core connections the server ends, up to 1,000,000, or 0 for no end.
+    pub limit: u32,
+}
+
+/// What words ask for.
+#[derive(Debug, Drop)]
+pub enum Asked {
+    /// To serve.
+    Serve(Options),
+    /// To print this text of `--help` or `--version` on standard output.
+    Tell(String),
+    /// Nothing: `clap` refuses them.
+    Usage,
+    /// Memory ran out while they were read.
+    NoMemory,
+}
+
+/// The numbers that words give.
+fn options_of(matches: &ArgMatches<'_>) -> Options
+    requires { IsGiven (found_of matches.now) }
+    ensures sets { Sets (rows_of (found_of matches.now)) result }
+    ensures range { IsInRange result }
+{
+    Options {
+        core: matches.get_one::<u16>("core").unwrap(),
+        abort: matches.get_one::<u16>("abort").unwrap(),
+        sample: matches.get_one::<u32>("sample").unwrap(),
+        workers: matches.get_one::<u32>("workers").unwrap(),
+        limit: matches.get_one::<u32>("limit").unwrap(),
+    }
+}
+
+/// What is asked for where `clap` gives no matches.
+fn refused(alloc: Global, error: &Error) -> Asked
+    ensures { Refuses (kind_of error.now) result }
+{
+    match error.kind() {
+        ErrorKind::OutOfMemory => Asked::NoMemory,
+        ErrorKind::DisplayHelp | ErrorKind::DisplayVersion => match error.to_string(alloc) {
+            Ok(text) => Asked::Tell(text),
+            Err(_) => Asked::NoMemory,
+        },
+        _ => Asked::Usage,
+    }
+}
+
+/// Reads the words behind the program's name.
+pub fn read_words(alloc: Global, words: &[String]) -> Asked
+    ensures answer { Answers (map string_bytes words.now) result }
+{
+    let Ok(command) = vxgate(alloc) else {
+        return Asked::NoMemory;
+    };
+    match command.try_get_matches_from(words) {
+        Ok(matches) => Asked::Serve(options_of(&matches)),
+        Err(error) => refused(alloc, &error),
+    }
+}
+
+/// A law: what some words mean. Each clause is worked out from what `clap` says of its commands.
+pub fn words_law()
+    ensures none { IsSetBy [] usual }
+    ensures some { IsSetBy (codes "--workers" ∷ codes "64" ∷ codes "--core=1" ∷ []) (record usual { workers = 64; core = 1 }) }
+    ensures above { verdict (codes "--workers" ∷ codes "65" ∷ []) ≡ refused }
+    ensures below { verdict (codes "--sample=0" ∷ []) ≡ refused }
+    ensures twice { verdict (codes "--limit" ∷ codes "1" ∷ codes "--limit" ∷ codes "1" ∷ []) ≡ refused }
+    ensures stray { verdict (codes "serve" ∷ []) ≡ refused }
+    ensures help { verdict (codes "--help" ∷ []) ≡ told }
+    ensures version { verdict (codes "--version" ∷ []) ≡ told }
+{}
