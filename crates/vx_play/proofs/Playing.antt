@@ -1,10 +1,10 @@
 -- Steps of playing one line.
-use Rattle.std.proofs.Common.{◌≡◌, List, Option, Some, Ok, ap, sym, subst}
+use Rattle.std.proofs.Common.{◌≡◌, List, Option, Some, Ok, subst}
 use Rattle.std.specs.List.{flat_map}
 use Rattle.std.specs.Io.KnownBytes.{Appends}
 use Rattle.vx_script.specs.declared.Step.{Step}
 use Rattle.vx_script.specs.Command.{step_shown}
-use Rattle.vx_script.specs.Grammar.{Reading, Skipped, Does, Outside}
+use Rattle.vx_script.specs.Grammar.{Reading}
 use Rattle.vx_script.specs.Reads.{Reads}
 use Rattle.vx_script.specs.declared.Cause.{Cause}
 use Rattle.vx_trace.specs.Output.{Output}
@@ -17,15 +17,7 @@ use Rattle.vx_play.specs.Stage.{Stage}
 use Rattle.vx_play.specs.PlayerState.{PlayerState}
 use Rattle.vx_play.specs.Standing.{TakesTo, StopsFor}
 use Rattle.vx_play.specs.LinePlayed.{IsPlayed, IsCut, IsTurnedDown, IsWanting}
-
--- a line of which a step was read says that step's command
-says : (said : Reading) (step : Step) → Reads said (Ok (Some step)) → said ≡ Does (step_shown step)
-says Skipped step reads = absurd reads
-says (Does command) step reads = ap Does (sym reads)
-says Outside step reads = absurd reads
-
-doing : (said : Reading) (found : Option Step) (step : Step) → Reads said (Ok found) → found ≡ Some step → said ≡ Does (step_shown step)
-doing said found step reads some = says said step (subst (λ o. Reads said (Ok o)) some reads)
+use Rattle.vx_bench.proofs.Scripts.{doing}
 
 -- a line whose step was taken, and its text written
 pub played-line : (said : Reading) (found : Option Step) (step : Step) (stage : Stage) (player : PlayerState) (before after : End) (lines : List Output)

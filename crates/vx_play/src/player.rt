@@ -85,8 +85,8 @@ impl<I: Instrument> Player<I> {
         }
     }
 
-    /// A player of a gateway of which no connection lives and that was told no moment above 0, as it starts, and with these
-    /// spare instruments. Where memory runs out the core comes back, and the spares are let go.
+    /// A player of a gateway of which no connection lives and whose moment is 0, as it starts, and with these spare
+    /// instruments. Where memory runs out the core comes back, and the spares are let go.
     pub fn over(
         alloc: Global,
         core: Core<SimBus<I>>,
