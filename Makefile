@@ -1,18 +1,41 @@
-# `make play` plays a script through the proved player; `make test` runs the gate. Both want the kit's `rt` on PATH.
+# `make play` plays a script through the proved player; `make serve` starts the server with a bench of simulated instruments;
+# `make install` puts the programs under PREFIX; `make test` runs the gate. All want the kit's `rt` on PATH.
 
 SCRIPT = examples/first-link.vxs
-PLAYER = crates/vxplay/out/vxplay
+BENCH = examples/bench.txt
+OPTIONS =
+PREFIX = /usr/local
 
-.PHONY: play player test
+PLAYER = crates/vxplay/out/vxplay
+SERVER = crates/vxgate/out/vxgate
+CLIENT = crates/vxcall/out/vxcall
+
+.PHONY: play serve install player server client test
 
 # SCRIPT=examples/refusals.vxs plays another script.
 play: player
 	$(PLAYER) run < $(SCRIPT)
 
-# Proves and builds the player and all below it; where nothing changed, it only plays an empty script. The lines of
-# rt itself go to standard error.
+# BENCH=my-bench.txt has other instruments, and OPTIONS='--core 9020 --abort 9021' other words. It ends with Ctrl-C.
+serve: server
+	$(SERVER) $(OPTIONS) < $(BENCH)
+
+# PREFIX=$HOME/.local puts them where no other user is concerned.
+install: player server client
+	install -d $(DESTDIR)$(PREFIX)/bin
+	install -m 755 $(PLAYER) $(SERVER) $(CLIENT) $(DESTDIR)$(PREFIX)/bin
+
+# Each of these proves and builds a program and all below it; where nothing changed, it only runs the program once. The lines
+# of rt itself go to standard error.
 player:
 	cd crates/vxplay && rt run -- run < /dev/null > /dev/null
+
+server:
+	cd crates/vxgate && rt run -- --version < /dev/null > /dev/null
+
+# without words the client ends with status 1
+client:
+	cd crates/vxcall && rt run < /dev/null > /dev/null || test -x out/vxcall
 
 test:
 	bash .ci/run

@@ -3,13 +3,13 @@ use vx_io::{Clock, Dial, Pause, Streams};
 
 /// Makes what workers need: each gets clocks, pauses, dials and streams of its own.
 pub trait Tools {
-    type C: Clock;
+    type C: Clock + Drop;
 
-    type P: Pause;
+    type P: Pause + Drop;
 
-    type D: Dial;
+    type D: Dial + Drop;
 
-    type S: Streams;
+    type S: Streams + Drop;
 
     fn clock(&mut self) -> Self::C;
 

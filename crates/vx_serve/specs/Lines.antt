@@ -1,0 +1,14 @@
+-- The lines that a server prints.
+use Rattle.std.specs.Prelude.{ℕ, List, ◌++◌, codes, decimal}
+
+-- the ports that are open: that of the core channel and that of the abort channel
+abbrev pub listening_line : ℕ → ℕ → List ℕ
+listening_line core abort = codes "listening " ++ decimal core ++ codes " " ++ decimal abort ++ codes "\n"
+
+-- how many core links were served
+abbrev pub served_line : ℕ → List ℕ
+served_line number = codes "served " ++ decimal number ++ codes "\n"
+
+-- the words have no form that the server knows
+abbrev pub usage_line : List ℕ
+usage_line = codes "usage: vxgate OPTIONS\n"

@@ -1,0 +1,81 @@
+//! The links of the core port: each is handed to the workers that serve them.
+ghost use Rattle.std.specs.Prelude.{◌≡◌, ◌≤◌, ◌^◌, ◌<◌, true, MatchOption, min};
+ghost use Rattle.vx_io.specs.Faults.{Rose};
+ghost use Rattle.vx_gate.specs.Gates.{gate_of};
+ghost use Rattle.vx_serve.specs.Running.{TookLinks, net_shown};
+
+use crate::workers::{CoreKit, Peer, Shared, serve_core};
+use crossbeam_channel::Sender;
+use std::alloc::Global;
+use std::mem;
+use std::sync::{Condvar, Mutex, Wait};
+use vx_core::Core;
+use vx_gate::Pass;
+use vx_inst::Instrument;
+use vx_io::{Accepted, Clock, Dial, Link, Net, Pause};
+use vx_session::Tally;
+use vx_sim::SimBus;
+
+/// Hands a core link to the workers. It waits where 64 links wait for one, and serves a link that comes back itself.
+fn hand_on<R: Wait, I: Instrument, L: Link + Drop, C: Clock, P: Pause, D: Dial>(
+    rt: &R,
+    alloc: Global,
+    links: &Sender<L>,
+    shared: &Shared<I>,
+    pass: Pass<Core<SimBus<I>>>,
+    link: L,
+    kit: &mut CoreKit<C, P, D>,
+) -> Pass<Core<SimBus<I>>>
+    requires gate { pass.gate ≡ gate_of shared.now.gate }
+    ensures gate { result.gate ≡ pass.gate }
+{
+    match links.send(rt, link) {
+        Ok(()) => pass,
+        Err(back) => serve_core(rt, alloc, shared, pass, back.into_inner(), kit),
+    }
+}
+
+/// Takes the links of the net's own port and hands them on, up to the limit, where that isn't 0, or until no more come, and
+/// answers how many there were, up to 2^64 - 1; none where a wait failed.
+pub(crate) fn accept_links<R: Wait, N: Net, I: Instrument, C: Clock, P: Pause, D: Dial>(
+    rt: &R,
+    alloc: Global,
+    net: &mut N,
+    limit: u32,
+    links: &Sender<Peer<N>>,
+    shared: &Shared<I>,
+    pass: Pass<Core<SimBus<I>>>,
+    kit: &mut CoreKit<C, P, D>,
+) -> Option<u64>
+where
+    Peer<N>: Drop,
+    requires open { N.is_open net.old ≡ true }
+    requires gate { pass.gate ≡ gate_of shared.now.gate }
+    ensures took { MatchOption result (Rose (N.faults net.old) (N.faults net.new))
+        (λ number. TookLinks limit (net_shown N.faults N.given N.ended net.old) (net_shown N.faults N.given N.ended net.new) number) }
+{
+    let mut pass = pass;
+    let mut number = 0u64;
+    for _ in rt.forever() {
+        if limit > 0 && number >= u64::from(limit) {
+            return Some(number);
+        }
+        match net.accept() {
+            Accepted::Peer(link) => {
+                number = number.saturating_add(1);
+                pass = hand_on(rt, alloc, links, shared, pass, link, kit);
+            }
+            Accepted::Ended => return Some(number),
+            Accepted::Failed => return None,
+        }
+    }
+    unreachable!()
+}
+
+/// Waits until so many links were served, and takes their count.
+pub(crate) fn wait_for<R: Wait>(rt: &R, tally: &Mutex<Tally>, added: &Condvar, number: u64) -> Tally
+    ensures { result ≡ number }
+{
+    let mut served = added.wait_while(rt, tally.lock(rt), |tally| tally.number() != number);
+    mem::replace(&mut *served, Tally::new())
+}

@@ -1,0 +1,416 @@
+//! The server: its words, its bench, its ports, its workers, and the links that it takes.
+ghost use Rattle.std.specs.Prelude.{◌≡◌, ◌≢◌, ◌≤◌, ◌<◌, ◌+◌, length, map, string_bytes, true, MatchOption};
+ghost use Rattle.vx_io.specs.Faults.{Rose};
+ghost use Rattle.vx_bus.specs.MemState.{first_means};
+ghost use Rattle.vx_gate.specs.Gates.{gate_of};
+ghost use Rattle.vx_words.specs.Meant.{IsInRange};
+ghost use Rattle.vx_script.specs.Cause.{cause_word};
+ghost use Rattle.vx_trace.specs.Output.{FaultLine};
+ghost use Rattle.vx_trace.specs.Text.{line_text};
+ghost use Rattle.vx_serve.specs.Running.{EndsRun, LinksEnd, LinksServed, net_shown};
+ghost use Rattle.vx_bench.specs.Spares.{spare_shown};
+ghost use Rattle.vx_serve.specs.Outcome.{Ends, EndsBenched, EndsOptioned, EndsSo, EndsStopped, PutsLast};
+
+use crate::accepting::{accept_links, wait_for};
+use crate::lines::{LINE_ROOM, fault_line, listening_line, served_line};
+use crate::starting::{Front, Unstarted, start_all, start_gateway};
+use crate::status::Status;
+use crate::workers::{CoreKit, Peer, Serve, Shared};
+use crossbeam_channel::Sender;
+use std::alloc::Global;
+use std::sync::Wait;
+use std::sync::atomic::Ordering;
+use vx_bench::{BenchStop, set_up};
+use vx_core::Core;
+use vx_gate::Pass;
+use vx_inst::Instrument;
+use vx_io::{Bound, Clock, Dial, DialOut, Net, Pause, Sink, Source, Spawner, Streams};
+use vx_rack::Spare;
+use vx_script::Cause;
+use vx_session::{Tally, Tools};
+use vx_sim::SimBus;
+use vx_text::{Input, put_all, read_all};
+use vx_words::{Asked, Options, read_words};
+
+/// The longest bench, in bytes.
+pub const BENCH_MAX: usize = 1_048_576;
+
+/// How a run of the server ended, and the links that it served.
+#[derive(Drop)]
+struct Ended {
+    status: Status,
+    tally: Tally,
+}
+
+impl Ended {
+    /// An end before a link was served.
+    fn early(status: Status) -> Ended
+        ensures { result.status ≡ status }
+    {
+        Ended {
+            status,
+            tally: Tally::new(),
+        }
+    }
+}
+
+/// Writes a line behind which nothing more comes.
+fn put_last<K: Sink>(sink: &mut K, line: &[u8], how: Status) -> Ended
+    ensures { PutsLast how line.now
+        (record { bytes = K.taken sink.old; faults = K.faults sink.old })
+        (record { bytes = K.taken sink.new; faults = K.faults sink.new }) result.status }
+{
+    match put_all(sink, line) {
+        Ok(()) => Ended::early(how),
+        Err(_) => Ended::early(Status::SinkFailed),
+    }
+}
+
+/// Writes the line of a bench of which a line is refused.
+fn put_fault<K: Sink>(sink: &mut K, line: u64, cause: Cause) -> Ended
+    ensures { PutsLast Status.BenchFault (line_text (FaultLine line (cause_word cause)))
+        (record { bytes = K.taken sink.old; faults = K.faults sink.old })
+        (record { bytes = K.taken sink.new; faults = K.faults sink.new }) result.status }
+{
+    let mut room = [0; LINE_ROOM];
+    let len = fault_line(line, cause, &mut room);
+    put_last(sink, &room[..len], Status::BenchFault)
+}
+
+/// Ends a server whose bench isn't set up.
+fn end_bench<K: Sink>(sink: &mut K, stop: BenchStop) -> Ended
+    ensures { EndsStopped stop
+        (record { bytes = K.taken sink.old; faults = K.faults sink.old })
+        (record { bytes = K.taken sink.new; faults = K.faults sink.new }) result.status }
+{
+    match stop {
+        BenchStop::Refused { line, cause } => put_fault(sink, line, cause),
+        BenchStop::NoMemory => Ended::early(Status::NoMemory),
+    }
+}
+
+/// Opens the core port and binds the abort port.
+fn open_ports<N: Net>(net: &mut N, core: u16, abort: u16) -> Option<N::Port>
+    ensures given { N.given net.new ≡ N.given net.old }
+    ensures ended { N.ended net.new ≡ N.ended net.old }
+    ensures counted { N.faults net.old ≤ N.faults net.new }
+    ensures opened { MatchOption result (Rose (N.faults net.old) (N.faults net.new)) (λ port. N.is_open net.new ≡ true) }
+{
+    match net.open(core) {
+        DialOut::Failed => None,
+        DialOut::Up => match net.bind(abort) {
+            Bound::Port(port) => Some(port),
+            Bound::Failed => None,
+        },
+    }
+}
+
+/// Takes links, waits until each was served, and tells how many there were.
+fn serve_announced<R: Wait, N: Net, I: Instrument, C: Clock, P: Pause, D: Dial, K: Sink>(
+    rt: &R,
+    alloc: Global,
+    limit: u32,
+    links: &Sender<Peer<N>>,
+    shared: &Shared<I>,
+    pass: Pass<Core<SimBus<I>>>,
+    kit: &mut CoreKit<C, P, D>,
+    net: &mut N,
+    sink: &mut K,
+) -> Ended
+where
+    Peer<N>: Drop,
+    requires open { N.is_open net.old ≡ true }
+    requires gate { pass.gate ≡ gate_of shared.now.gate }
+    ensures { LinksServed limit
+        (record { net = net_shown N.faults N.given N.ended net.old; sink = record { bytes = K.taken sink.old; faults = K.faults sink.old } })
+        (record { net = net_shown N.faults N.given N.ended net.new; sink = record { bytes = K.taken sink.new; faults = K.faults sink.new } })
+        result.tally result.status }
+{
+    let taken = accept_links(rt, alloc, net, limit, links, shared, pass, kit);
+    let Some(number) = taken else {
+        return Ended::early(Status::NetFailed);
+    };
+    let mut room = [0; LINE_ROOM];
+    let tally = wait_for(rt, &shared.tally, &shared.added, number);
+    match put_all(sink, served_line(number, &mut room)) {
+        Ok(()) => Ended {
+            status: Status::Served,
+            tally,
+        },
+        Err(_) => Ended {
+            status: Status::SinkFailed,
+            tally,
+        },
+    }
+}
+
+/// Announces the ports, and serves links at them.
+fn serve_links<R: Wait, N: Net, I: Instrument, C: Clock, P: Pause, D: Dial, K: Sink>(
+    rt: &R,
+    alloc: Global,
+    options: Options,
+    links: &Sender<Peer<N>>,
+    shared: &Shared<I>,
+    pass: Pass<Core<SimBus<I>>>,
+    kit: &mut CoreKit<C, P, D>,
+    net: &mut N,
+    sink: &mut K,
+) -> Ended
+where
+    Peer<N>: Drop,
+    requires open { N.is_open net.old ≡ true }
+    requires gate { pass.gate ≡ gate_of shared.now.gate }
+    ensures { LinksEnd options
+        (record { net = net_shown N.faults N.given N.ended net.old; sink = record { bytes = K.taken sink.old; faults = K.faults sink.old } })
+        (record { net = net_shown N.faults N.given N.ended net.new; sink = record { bytes = K.taken sink.new; faults = K.faults sink.new } })
+        result.tally result.status }
+{
+    let mut room = [0; LINE_ROOM];
+    match put_all(sink, listening_line(options.core, options.abort, &mut room)) {
+        Ok(()) => serve_announced(
+            rt,
+            alloc,
+            options.limit,
+            links,
+            shared,
+            pass,
+            kit,
+            net,
+            sink,
+        ),
+        Err(_) => Ended::early(Status::SinkFailed),
+    }
+}
+
+/// Serves links with all the workers that are started. The sampler ends with it.
+fn serve_front<
+    R: Wait,
+    N: Net,
+    I: Instrument,
+    C: Clock + Drop,
+    P: Pause + Drop,
+    D: Dial + Drop,
+    K: Sink,
+>(
+    rt: &R,
+    alloc: Global,
+    options: Options,
+    front: Front<Peer<N>, I, C, P, D>,
+    net: &mut N,
+    sink: &mut K,
+) -> Ended
+where
+    Peer<N>: Drop,
+    requires open { N.is_open net.old ≡ true }
+    ensures { LinksEnd options
+        (record { net = net_shown N.faults N.given N.ended net.old; sink = record { bytes = K.taken sink.old; faults = K.faults sink.old } })
+        (record { net = net_shown N.faults N.given N.ended net.new; sink = record { bytes = K.taken sink.new; faults = K.faults sink.new } })
+        result.tally result.status }
+{
+    let Front {
+        links,
+        seat,
+        mut kit,
+    } = front;
+    let (shared, pass) = seat.into_parts();
+    let ended = serve_links(
+        rt, alloc, options, &links, &shared, pass, &mut kit, net, sink,
+    );
+    shared.over.store(1, Ordering::SeqCst);
+    ended
+}
+
+/// Opens the ports, starts the workers, and serves links over the bus.
+fn serve_bus<R: Wait, N: Net, W: Spawner<Serve<N, X, I>>, X: Tools, K: Sink, I: Instrument>(
+    rt: &R,
+    alloc: Global,
+    options: Options,
+    bus: SimBus<I>,
+    net: &mut N,
+    spawner: &mut W,
+    tools: &mut X,
+    sink: &mut K,
+) -> Ended
+where
+    N::Port: Drop,
+    Peer<N>: Drop,
+    <X::S as Streams>::Peer: Drop,
+    requires range { IsInRange options }
+    requires fresh { bus.means ≡ first_means }
+    ensures { EndsRun options
+        (record { net = net_shown N.faults N.given N.ended net.old; sink = record { bytes = K.taken sink.old; faults = K.faults sink.old } }) (W.faults spawner.old)
+        (record { net = net_shown N.faults N.given N.ended net.new; sink = record { bytes = K.taken sink.new; faults = K.faults sink.new } }) (W.faults spawner.new)
+        result.tally result.status }
+{
+    let Some(port) = open_ports(net, options.core, options.abort) else {
+        return Ended::early(Status::NetFailed);
+    };
+    let Ok(seat) = start_gateway(alloc, bus, options.abort) else {
+        return Ended::early(Status::NoMemory);
+    };
+    match start_all::<N, W, X, I>(alloc, spawner, tools, seat, options, port) {
+        Ok(front) => serve_front(rt, alloc, options, front, net, sink),
+        Err(Unstarted::Refused) => Ended::early(Status::WorkerRefused),
+        Err(Unstarted::NoMemory) => Ended::early(Status::NoMemory),
+    }
+}
+
+/// Sets the bench up, and serves links over its bus.
+fn serve_bench<R: Wait, N: Net, W: Spawner<Serve<N, X, I>>, X: Tools, K: Sink, I: Instrument>(
+    rt: &R,
+    alloc: Global,
+    options: Options,
+    text: &[u8],
+    net: &mut N,
+    spawner: &mut W,
+    tools: &mut X,
+    sink: &mut K,
+    rack: Vec<Spare<I>>,
+) -> Ended
+where
+    N::Port: Drop,
+    Peer<N>: Drop,
+    <X::S as Streams>::Peer: Drop,
+    requires range { IsInRange options }
+    ensures { EndsBenched text.now (map (spare_shown (λ i. I.view i)) rack.items) options
+        (record { ports = record { net = net_shown N.faults N.given N.ended net.old; sink = record { bytes = K.taken sink.old; faults = K.faults sink.old } }; refused = W.faults spawner.old })
+        (record { ports = record { net = net_shown N.faults N.given N.ended net.new; sink = record { bytes = K.taken sink.new; faults = K.faults sink.new } }; refused = W.faults spawner.new })
+        result.tally result.status }
+{
+    let Ok(mut bus) = SimBus::new(alloc) else {
+        return Ended::early(Status::NoMemory);
+    };
+    let mut rack = rack;
+    match set_up(alloc, text, &mut bus, &mut rack) {
+        Ok(()) => serve_bus(rt, alloc, options, bus, net, spawner, tools, sink),
+        Err(stop) => end_bench(sink, stop),
+    }
+}
+
+/// Reads the bench, and serves links over its bus.
+fn serve_options<
+    R: Wait,
+    N: Net,
+    W: Spawner<Serve<N, X, I>>,
+    X: Tools,
+    S: Source,
+    K: Sink,
+    I: Instrument,
+>(
+    rt: &R,
+    alloc: Global,
+    options: Options,
+    bench: &mut S,
+    net: &mut N,
+    spawner: &mut W,
+    tools: &mut X,
+    sink: &mut K,
+    rack: Vec<Spare<I>>,
+) -> Ended
+where
+    N::Port: Drop,
+    Peer<N>: Drop,
+    <X::S as Streams>::Peer: Drop,
+    requires range { IsInRange options }
+    ensures { EndsOptioned options (map (spare_shown (λ i. I.view i)) rack.items) (record { bytes = S.left bench.old; faults = S.faults bench.old }) (record { bytes = S.left bench.new; faults = S.faults bench.new })
+        (record { ports = record { net = net_shown N.faults N.given N.ended net.old; sink = record { bytes = K.taken sink.old; faults = K.faults sink.old } }; refused = W.faults spawner.old })
+        (record { ports = record { net = net_shown N.faults N.given N.ended net.new; sink = record { bytes = K.taken sink.new; faults = K.faults sink.new } }; refused = W.faults spawner.new })
+        result.tally result.status }
+{
+    match read_all(alloc, bench, BENCH_MAX) {
+        Input::Whole(text) => serve_bench(
+            rt, alloc, options, &text, net, spawner, tools, sink, rack,
+        ),
+        Input::TooLong => put_last(sink, b"fault long\n", Status::BenchFault),
+        Input::Failed => Ended::early(Status::SourceFailed),
+        Input::NoMemory => Ended::early(Status::NoMemory),
+    }
+}
+
+/// Does what the words ask.
+fn serve_words<
+    R: Wait,
+    N: Net,
+    W: Spawner<Serve<N, X, I>>,
+    X: Tools,
+    S: Source,
+    K: Sink,
+    I: Instrument,
+>(
+    rt: &R,
+    alloc: Global,
+    words: &[String],
+    bench: &mut S,
+    net: &mut N,
+    spawner: &mut W,
+    tools: &mut X,
+    sink: &mut K,
+    rack: Vec<Spare<I>>,
+) -> Ended
+where
+    N::Port: Drop,
+    Peer<N>: Drop,
+    <X::S as Streams>::Peer: Drop,
+    ensures { Ends (map string_bytes words.now) (map (spare_shown (λ i. I.view i)) rack.items) (record { bytes = S.left bench.old; faults = S.faults bench.old }) (record { bytes = S.left bench.new; faults = S.faults bench.new })
+        (record { ports = record { net = net_shown N.faults N.given N.ended net.old; sink = record { bytes = K.taken sink.old; faults = K.faults sink.old } }; refused = W.faults spawner.old })
+        (record { ports = record { net = net_shown N.faults N.given N.ended net.new; sink = record { bytes = K.taken sink.new; faults = K.faults sink.new } }; refused = W.faults spawner.new })
+        result.tally result.status }
+{
+    match read_words(alloc, words) {
+        Asked::Serve(options) => serve_options(
+            rt, alloc, options, bench, net, spawner, tools, sink, rack,
+        ),
+        Asked::Tell(text) => put_last(sink, text.as_bytes(), Status::Told),
+        Asked::Usage => put_last(sink, b"usage: vxgate OPTIONS\n", Status::Usage),
+        Asked::NoMemory => Ended::early(Status::NoMemory),
+    }
+}
+
+/// All that the program `vxgate` does: its words, its bench, its net, its workers; what comes back is the exit status, and the
+/// count of the core links that were served.
+///
+/// It reads the words, and the bench to its end; opens the core port and binds the abort port; starts the workers; and then
+/// takes core links and hands them to the workers. The causes of each status are met in this order.
+///
+/// - 0, `listening CORE ABORT` and `served N`: N core links were taken, the limit or as many as the net gave, and each was
+///   served to its end. `--help` and `--version` are told with this status too.
+/// - 1, `usage: vxgate OPTIONS`: the words are refused; nothing else was touched.
+/// - 2, `fault line N CAUSE` or `fault long`: a line of the bench, counted from 1, is refused, or it has more than 1,048,576 bytes.
+/// - 3: the net failed.
+/// - 4: the spawner refused a worker, before the first link was taken.
+/// - 5: memory ran out, before the first link was taken.
+/// - 6: the sink failed; a front of what was due was written.
+/// - 7: the bench's source failed.
+pub fn serve_run<
+    R: Wait,
+    N: Net,
+    W: Spawner<Serve<N, X, I>>,
+    X: Tools,
+    S: Source,
+    K: Sink,
+    I: Instrument,
+>(
+    rt: &R,
+    alloc: Global,
+    words: &[String],
+    bench: &mut S,
+    net: &mut N,
+    spawner: &mut W,
+    tools: &mut X,
+    sink: &mut K,
+    rack: Vec<Spare<I>>,
+) -> (u8, Tally)
+where
+    N::Port: Drop,
+    Peer<N>: Drop,
+    <X::S as Streams>::Peer: Drop,
+    ensures outcome { EndsSo (map string_bytes words.now) (map (spare_shown (λ i. I.view i)) rack.items) (record { bytes = S.left bench.old; faults = S.faults bench.old }) (record { bytes = S.left bench.new; faults = S.faults bench.new })
+        (record { ports = record { net = net_shown N.faults N.given N.ended net.old; sink = record { bytes = K.taken sink.old; faults = K.faults sink.old } }; refused = W.faults spawner.old })
+        (record { ports = record { net = net_shown N.faults N.given N.ended net.new; sink = record { bytes = K.taken sink.new; faults = K.faults sink.new } }; refused = W.faults spawner.new })
+        result.1 result.0 }
+{
+    let Ended { status, tally } = serve_words(
+        rt, alloc, words, bench, net, spawner, tools, sink, rack,
+    );
+    (status.number(), tally)
+}

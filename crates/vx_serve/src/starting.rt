@@ -1,0 +1,230 @@
+//! What a server starts before it takes its first link: the gateway behind its gate, and the workers.
+ghost use Rattle.std.specs.Prelude.{◌≡◌, ◌≢◌, ◌+◌, ◌-◌, ◌*◌, ◌≤◌, ◌<◌, IfOk, IfErr};
+ghost use Rattle.std.specs.Arc.{arc_value};
+ghost use Rattle.vx_io.specs.Faults.{Rose};
+ghost use Rattle.vx_gate.specs.Gates.{gate_of};
+ghost use Rattle.vx_sim.specs.SimState.{SimState};
+ghost use Rattle.vx_bus.specs.MemState.{first_means};
+ghost use Rattle.vx_words.specs.Meant.{IsInRange};
+ghost use Rattle.vx_serve.specs.declared.starting.Unstarted.TheVariants.{NoMemory};
+ghost use Rattle.vx_serve.specs.Starting.{OnUnstarted};
+
+use crate::workers::{CoreKit, Duty, Peer, Seat, Serve, Shared};
+use crossbeam_channel::{Receiver, Sender, bounded};
+use std::alloc::{AllocError, Global};
+use std::sync::atomic::AtomicU64;
+use std::sync::{Arc, Condvar, Mutex};
+use vx_core::Core;
+use vx_gate::Gate;
+use vx_group::first_law;
+use vx_inst::Instrument;
+use vx_io::{Clock, Dial, Net, Pause, Spawner, Started, Streams};
+use vx_session::{Room, Tally, Tools};
+use vx_sim::SimBus;
+use vx_words::Options;
+
+/// Why the workers of a server aren't all started.
+#[derive(Clone, Copy, Debug, PartialEq, Eq)]
+pub enum Unstarted {
+    /// The spawner refused one.
+    Refused,
+    /// There was no memory for what one needs.
+    NoMemory,
+}
+
+impl From<AllocError> for Unstarted {
+    ghost from_gives = { λ _ e. e ≡ NoMemory };
+
+    fn from(_: AllocError) -> Unstarted {
+        Unstarted::NoMemory
+    }
+}
+
+/// How many links wait for a worker, at most.
+const LINKS_WAITING: usize = 64;
+
+/// What the one that takes core links has: where they go to, and what it wants to serve one itself.
+#[derive(Drop)]
+pub struct Front<L: Drop, I: Instrument, C: Clock + Drop, P: Pause + Drop, D: Dial + Drop> {
+    pub links: Sender<L>,
+    pub seat: Seat<I>,
+    pub kit: CoreKit<C, P, D>,
+}
+
+/// A gateway over the bus, on which nobody asked anything yet, behind a gate, and the seat with all parts of it.
+pub fn start_gateway<I: Instrument>(
+    alloc: Global,
+    bus: SimBus<I>,
+    abort_port: u16,
+) -> Result<Seat<I>, Unstarted>
+    requires fresh { bus.means ≡ first_means }
+    requires port { 0 < abort_port }
+    ensures parts { IfOk result (λ seat. seat.pass.parts ≡ 4294967296) }
+    ensures err { IfErr result (λ e. e ≡ Unstarted.NoMemory) }
+{
+    first_law();
+    let Ok(core) = Core::start(alloc, bus, abort_port) else {
+        return Err(Unstarted::NoMemory);
+    };
+    let Ok((gate, pass)) = Gate::start(alloc, core) else {
+        return Err(Unstarted::NoMemory);
+    };
+    let shared = Arc::new(
+        alloc,
+        Shared {
+            gate,
+            tally: Mutex::new(Tally::new()),
+            added: Condvar::new(),
+            over: AtomicU64::new(0),
+        },
+    );
+    match shared {
+        Ok(shared) => Ok(Seat::new(shared, pass)),
+        Err(_) => Err(Unstarted::NoMemory),
+    }
+}
+
+/// Starts a worker, by a part of the seat.
+fn start_worker<N: Net, W: Spawner<Serve<N, X, I>>, X: Tools, I: Instrument>(
+    alloc: Global,
+    spawner: &mut W,
+    seat: Seat<I>,
+    duty: Duty<N, X>,
+) -> Result<Seat<I>, Unstarted>
+where
+    N::Port: Drop,
+    Peer<N>: Drop,
+    <X::S as Streams>::Peer: Drop,
+    requires parts { 2 ≤ seat.pass.parts }
+    ensures parts { IfOk result (λ s. s.pass.parts ≡ seat.pass.parts - 1) }
+    ensures counted { W.faults spawner.old ≤ W.faults spawner.new }
+    ensures refused { OnUnstarted result (Rose (W.faults spawner.old) (W.faults spawner.new)) }
+{
+    let (seat, theirs) = seat.part()?;
+    match spawner.start(Serve::new(alloc, theirs, duty)) {
+        Started::Up => Ok(seat),
+        Started::Refused => Err(Unstarted::Refused),
+    }
+}
+
+/// The room of one session at a time.
+fn room(alloc: Global) -> Result<Room, Unstarted>
+    ensures { IfErr result (λ e. e ≡ NoMemory) }
+{
+    match Room::new(alloc) {
+        Ok(room) => Ok(room),
+        Err(_) => Err(Unstarted::NoMemory),
+    }
+}
+
+/// What serves one core link at a time.
+fn core_kit<X: Tools>(alloc: Global, tools: &mut X) -> Result<CoreKit<X::C, X::P, X::D>, Unstarted>
+    ensures { IfErr result (λ e. e ≡ NoMemory) }
+{
+    Ok(CoreKit {
+        clock: tools.clock(),
+        pause: tools.pause(),
+        dial: tools.dial(),
+        room: room(alloc)?,
+    })
+}
+
+/// Starts so many workers of core links, of abort links, and of streams that are handed over.
+fn start_threes<N: Net, W: Spawner<Serve<N, X, I>>, X: Tools, I: Instrument>(
+    alloc: Global,
+    spawner: &mut W,
+    tools: &mut X,
+    seat: Seat<I>,
+    workers: u32,
+    cores: &Receiver<Peer<N>>,
+    aborts: &Receiver<Peer<N>>,
+) -> Result<Seat<I>, Unstarted>
+where
+    N::Port: Drop,
+    Peer<N>: Drop,
+    <X::S as Streams>::Peer: Drop,
+    requires workers { workers ≤ 64 }
+    requires parts { 3 * workers < seat.pass.parts }
+    ensures parts { IfOk result (λ s. s.pass.parts + 3 * workers ≡ seat.pass.parts) }
+    ensures counted { W.faults spawner.old ≤ W.faults spawner.new }
+    ensures refused { OnUnstarted result (Rose (W.faults spawner.old) (W.faults spawner.new)) }
+{
+    let mut seat = seat;
+    for _ in 0..workers {
+        seat = start_three::<N, W, X, I>(alloc, spawner, tools, seat, cores, aborts)?;
+    }
+    Ok(seat)
+}
+
+/// Starts one worker of each.
+fn start_three<N: Net, W: Spawner<Serve<N, X, I>>, X: Tools, I: Instrument>(
+    alloc: Global,
+    spawner: &mut W,
+    tools: &mut X,
+    seat: Seat<I>,
+    cores: &Receiver<Peer<N>>,
+    aborts: &Receiver<Peer<N>>,
+) -> Result<Seat<I>, Unstarted>
+where
+    N::Port: Drop,
+    Peer<N>: Drop,
+    <X::S as Streams>::Peer: Drop,
+    requires parts { 3 < seat.pass.parts }
+    ensures parts { IfOk result (λ s. s.pass.parts + 3 ≡ seat.pass.parts) }
+    ensures counted { W.faults spawner.old ≤ W.faults spawner.new }
+    ensures refused { OnUnstarted result (Rose (W.faults spawner.old) (W.faults spawner.new)) }
+{
+    let links = cores.clone()?;
+    let kit = core_kit(alloc, tools)?;
+    let seat = start_worker(alloc, spawner, seat, Duty::Core { links, kit })?;
+    let links = aborts.clone()?;
+    let room = room(alloc)?;
+    let seat = start_worker(alloc, spawner, seat, Duty::Abort { links, room })?;
+    let (streams, pause) = (tools.streams(), tools.pause());
+    start_worker(alloc, spawner, seat, Duty::Pump { streams, pause })
+}
+
+/// Starts all workers of a server. The sampler comes last.
+pub fn start_all<N: Net, W: Spawner<Serve<N, X, I>>, X: Tools, I: Instrument>(
+    alloc: Global,
+    spawner: &mut W,
+    tools: &mut X,
+    seat: Seat<I>,
+    options: Options,
+    port: N::Port,
+) -> Result<Front<Peer<N>, I, X::C, X::P, X::D>, Unstarted>
+where
+    N::Port: Drop,
+    Peer<N>: Drop,
+    <X::S as Streams>::Peer: Drop,
+    requires range { IsInRange options }
+    requires parts { seat.pass.parts ≡ 4294967296 }
+    ensures counted { W.faults spawner.old ≤ W.faults spawner.new }
+    ensures refused { OnUnstarted result (Rose (W.faults spawner.old) (W.faults spawner.new)) }
+{
+    let (links, cores) = bounded(alloc, LINKS_WAITING)?;
+    let (abort_links, aborts) = bounded(alloc, LINKS_WAITING)?;
+    let kit = core_kit(alloc, tools)?;
+    let seat = start_threes::<N, W, X, I>(
+        alloc,
+        spawner,
+        tools,
+        seat,
+        options.workers,
+        &cores,
+        &aborts,
+    )?;
+    let accept = Duty::Accept {
+        port,
+        links: abort_links,
+        room: room(alloc)?,
+    };
+    let seat = start_worker(alloc, spawner, seat, accept)?;
+    let sample = Duty::Sample {
+        clock: tools.clock(),
+        pause: tools.pause(),
+        pauses: options.sample,
+    };
+    let seat = start_worker(alloc, spawner, seat, sample)?;
+    Ok(Front { links, seat, kit })
+}

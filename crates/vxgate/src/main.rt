@@ -1,0 +1,139 @@
+//! `vxgate OPTIONS`: serves VXI-11 clients over TCP, with the instruments that the bench on standard input describes.
+#![tactic(auto)]
+
+mod models;
+
+use crate::models::AnyModel;
+use arrayvec::ArrayString;
+use crossbeam_channel::{Receiver, Sender, bounded, unbounded};
+use std::alloc::{AllocError, Global};
+use std::env::{self, Env};
+use std::io::ErrorKind;
+use std::process::ExitCode;
+use std::thread;
+use vx_host::{Dialed, TcpTools, ThreadSpawner, start_threads};
+use vx_io::{Started, StdSink, StdSource, TcpNet};
+use vx_rack::{Asker, Echo, Meter, NoMemory, Slow, Spare};
+use vx_serve::{Serve, serve_run};
+
+/// The exit status where there is no memory for the words, the spare instruments, or what starts the workers.
+const NO_MEMORY: u8 = 5;
+
+/// How many spare instruments there are of each model.
+const SPARES: usize = 4;
+
+/// How many streams wait for a pump, at most.
+const STREAMS_WAITING: usize = 64;
+
+/// The work of a worker of this program.
+type Job = Serve<TcpNet<HostRuntime>, TcpTools<HostRuntime>, AnyModel>;
+
+/// Adds a spare instrument under a name of at most 16 bytes.
+fn add(rack: &mut Vec<Spare<AnyModel>>, name: &str, inst: AnyModel) -> Result<(), AllocError> {
+    let mut text = ArrayString::new();
+    if text.try_push_str(name).is_ok() {
+        rack.push(Spare { name: text, inst })?;
+    }
+    Ok(())
+}
+
+/// Four spare instruments of each model.
+fn rack_of(alloc: Global) -> Result<Vec<Spare<AnyModel>>, Unmade> {
+    let mut rack = Vec::new(alloc);
+    for _ in 0..SPARES {
+        add(&mut rack, "echo", AnyModel::Echo(Echo::new(alloc)?))?;
+        add(&mut rack, "meter", AnyModel::Meter(Meter::new(alloc)?))?;
+        add(&mut rack, "slow", AnyModel::Slow(Slow::new(alloc)?))?;
+        add(&mut rack, "asker", AnyModel::Asker(Asker::new(alloc)?))?;
+    }
+    Ok(rack)
+}
+
+/// The channels between the server, the thread that starts its workers, and its pumps.
+#[derive(Drop)]
+struct Channels {
+    jobs: Sender<Job>,
+    queue: Receiver<Job>,
+    answers: Sender<Started>,
+    started: Receiver<Started>,
+    pumps: Sender<Dialed>,
+    dialed: Receiver<Dialed>,
+}
+
+fn channels_of(alloc: Global) -> Result<Channels, AllocError> {
+    let (jobs, queue) = unbounded(alloc)?;
+    let (answers, started) = unbounded(alloc)?;
+    let (pumps, dialed) = bounded(alloc, STREAMS_WAITING)?;
+    Ok(Channels {
+        jobs,
+        queue,
+        answers,
+        started,
+        pumps,
+        dialed,
+    })
+}
+
+/// There was no memory for the spare instruments, or for what starts the workers.
+#[derive(Drop)]
+struct Unmade;
+
+impl From<AllocError> for Unmade {
+    fn from(_: AllocError) -> Unmade {
+        Unmade
+    }
+}
+
+impl From<NoMemory> for Unmade {
+    fn from(_: NoMemory) -> Unmade {
+        Unmade
+    }
+}
+
+/// One word that no option takes, in place of words of which one isn't UTF-8.
+fn refused(alloc: Global) -> Result<Vec<String>, AllocError> {
+    let mut words = Vec::new(alloc);
+    words.push(String::from_str(alloc, "\u{FFFD}")?)?;
+    Ok(words)
+}
+
+/// The words after the program's name.
+fn words_of<R: Env + AllocGlobal>(rt: &R) -> Result<Vec<String>, AllocError> {
+    match env::args(rt) {
+        Ok(words) => words.skip(1).collect(rt.alloc()),
+        Err(error) if error.kind() == ErrorKind::InvalidData => refused(rt.alloc()),
+        Err(_) => Err(AllocError),
+    }
+}
+
+/// Ends with the status of the server.
+fn main(rt: HostRuntime) -> ExitCode {
+    let alloc = rt.alloc();
+    let (Ok(words), Ok(rack), Ok(channels)) = (words_of(&rt), rack_of(alloc), channels_of(alloc))
+    else {
+        return ExitCode::from(NO_MEMORY);
+    };
+    let Channels {
+        jobs,
+        queue,
+        answers,
+        started,
+        pumps,
+        dialed,
+    } = channels;
+    if thread::spawn(&rt, move || start_threads(rt, queue, answers)).is_err() {
+        return ExitCode::from(NO_MEMORY);
+    }
+    let (status, _) = serve_run(
+        &rt,
+        alloc,
+        words.as_slice(),
+        &mut StdSource::new(rt.stdin()),
+        &mut TcpNet::new(rt),
+        &mut ThreadSpawner::new(rt, jobs, started),
+        &mut TcpTools::new(rt, pumps, dialed),
+        &mut StdSink::new(rt.stdout()),
+        rack,
+    );
+    ExitCode::from(status)
+}
