@@ -295,6 +295,22 @@ def a_reset_frees_a_lock():
         other.ask(write(4, 2, b"mine"), reply(4, 0, 4))
 
 
+def an_abort_ends_the_call_of_one_that_is_gone():
+    """Whoever knows the number of its link may end the call that keeps the bus and a lock."""
+    with Server() as server, Peer(server.core) as other, Peer(server.abort) as aborts:
+        peer = Peer(server.core)
+        peer.ask(create(1, b"gpib0,5", lock=1), created(1, 1, server))
+        peer.send(read(2, 1, io_timeout=0xFFFFFFFF))
+        other.ask(create(1, b"gpib0,5"), created(1, 2, server))
+        assert not peer.hears(0.3), "a silent device was read"
+        peer.reset()
+        other.send(lock(2, 2, WAITLOCK, 60000))
+        assert not other.hears(0.5), "a lock was given that a pending call keeps"
+        aborts.ask(call(1, DEVICE_ABORT, 1, program=ABORT), reply(1, 0))
+        other.expect(reply(2, 0))
+        other.ask(write(3, 2, b"mine"), reply(3, 0, 4))
+
+
 def junk_closes():
     """A record that is no call, and one above 66,560 bytes, end their connection and no other."""
     with Server() as server, Peer(server.core) as other:
@@ -458,6 +474,7 @@ CASES = [
     a_service_request,
     a_channel_that_nobody_takes,
     a_reset_frees_a_lock,
+    an_abort_ends_the_call_of_one_that_is_gone,
     junk_closes,
     a_record_in_any_pieces,
     the_greatest_write,
