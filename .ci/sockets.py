@@ -21,6 +21,7 @@ import subprocess
 import sys
 import tempfile
 import time
+from concurrent.futures import ThreadPoolExecutor
 
 HOST = "127.0.0.1"
 PATIENCE = 20  # seconds in which whatever is waited for has to come
@@ -233,6 +234,28 @@ def two_clients_on_two_devices():
         two.ask(call(8, DESTROY_LINK, 3), reply(8, 0))
         one.ask(write(7, 1, b"delta"), reply(7, 0, 5))
         one.ask(read(8, 1), reply(8, 0, BY_END, b"delta"))
+
+
+def locks_keep_clients_apart():
+    """Eight clients at once on one device: who holds the lock reads back the own bytes and nothing of another's."""
+    with Server() as server:
+        peers = [Peer(server.core) for _ in range(8)]
+        for link, peer in enumerate(peers, 1):
+            peer.ask(create(1, b"gpib0,5"), created(1, link, server))
+
+        def take_turns(link, peer):
+            data = b"client %d" % link
+            for xid in range(2, 102, 4):
+                peer.ask(lock(xid, link, WAITLOCK, 60000), reply(xid, 0))
+                peer.ask(write(xid + 1, link, data), reply(xid + 1, 0, len(data)))
+                peer.ask(read(xid + 2, link), reply(xid + 2, 0, BY_END, data))
+                peer.ask(call(xid + 3, UNLOCK, link), reply(xid + 3, 0))
+
+        with ThreadPoolExecutor(len(peers)) as pool:
+            for turns in [pool.submit(take_turns, link, peer) for link, peer in enumerate(peers, 1)]:
+                turns.result()
+        for peer in peers:
+            peer.stream.close()
 
 
 def a_read_is_aborted():
@@ -470,6 +493,7 @@ def expect_client(port, device, command, text, status):
 CASES = [
     a_link_by_its_bytes,
     two_clients_on_two_devices,
+    locks_keep_clients_apart,
     a_read_is_aborted,
     a_service_request,
     a_channel_that_nobody_takes,
