@@ -105,13 +105,18 @@ def start(words, **how):
 
 
 def two_free_ports():
-    """Two ports that nobody has, below those that the system gives to clients."""
-    found = []
-    while len(found) < 2:
-        port = random.randrange(20000, 30000)
-        with socket.socket() as probe:
-            if port not in found and probe.connect_ex((HOST, port)):
-                found.append(port)
+    """Two ports that nobody has on any address, below those that the system gives to clients."""
+    probes = []
+    while len(probes) < 2:
+        probe = socket.socket()
+        try:
+            probe.bind(("", random.randrange(20000, 30000)))
+            probes.append(probe)
+        except OSError:
+            probe.close()
+    found = [probe.getsockname()[1] for probe in probes]
+    for probe in probes:
+        probe.close()
     return found
 
 

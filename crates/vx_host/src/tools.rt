@@ -12,8 +12,8 @@ use std::time::Duration;
 use vx_io::{Dial, DialOut, Handed, StdClock, StdPause, Streams, TcpLink};
 use vx_session::Tools;
 
-/// How long a dial waits for its peer, in milliseconds.
-const DIAL_WAITS: u64 = 5_000;
+/// How long a dial waits for its peer to come up, and a send for it to take what it is sent, in milliseconds.
+const PEER_WAITS: u64 = 5_000;
 
 /// A stream that was dialed, for the channel `chan` of the connection `conn`.
 #[derive(Drop)]
@@ -46,18 +46,23 @@ impl<R: Sockets<Stream = TcpStream>> Dial for TcpDial<R> {
 
     ghost faults = { λ s. s };
 
-    /// Connects to this host and port. It fails where none answers within 5 seconds.
+    /// Connects to this host and port. It fails where none answers within 5 seconds. A send over the stream fails where its
+    /// peer takes nothing for as long, so that no peer keeps a pump for good; where the system refuses that, the stream is
+    /// taken as it is.
     fn dial(&mut self, host: u32, port: u16) -> DialOut
         ensures counted { self.old ≤ self.new }
         ensures failed { OnDialFailed result (self.new ≡ one_more self.old) }
     {
         let peer = SocketAddr::from((Ipv4Addr::from(host), port));
-        match TcpStream::connect_timeout(&self.rt, &peer, Duration::from_millis(DIAL_WAITS)) {
-            Ok(stream) => {
+        let patience = Duration::from_millis(PEER_WAITS);
+        let dialed = TcpStream::connect_timeout(&self.rt, &peer, patience);
+        match (dialed, &self.pumps) {
+            (Ok(stream), Some(_)) => {
+                let _ = stream.set_write_timeout(Some(patience));
                 self.stream = Some(stream);
                 DialOut::Up
             }
-            Err(_) => {
+            _ => {
                 self.faults = self.faults.saturating_add(1);
                 DialOut::Failed
             }
@@ -128,7 +133,7 @@ impl<R: Sockets<Stream = TcpStream> + SystemClock + Copy> Tools for TcpTools<R> 
         StdPause::new(self.rt)
     }
 
-    /// A dial. One that no channel could be made for drops the streams that stand.
+    /// A dial. Each dial of one that has no way to the pumps, since memory ran out, fails.
     fn dial(&mut self) -> TcpDial<R> {
         TcpDial {
             rt: self.rt,

@@ -1,13 +1,11 @@
--- What a sink took of two texts, one behind the other.
-use Rattle.std.proofs.Common.{◌≡◌, ℕ, ◌+◌, ◌-◌, ◌^◌, min, ◌≤◌, ◌<◌, le_trans, List, ◌++◌, length, sym, subst, inl, inr, arith, length-append}
+-- How a server ends that ended so behind its first steps.
+use Rattle.std.proofs.Common.{◌≡◌, ℕ, ◌+◌, ◌-◌, ◌^◌, min, ◌≤◌, ◌<◌, le_trans, sym, subst, ◌∙◌, inl, inr, arith}
 use Rattle.std.specs.Prelude.{◌⊎◌}
-use Rattle.std.proofs.Math.Seq.{take-append-add}
 use Rattle.std.proofs.Math.Nat.{min-le_left, min-le_right, le-min}
 use Rattle.std.specs.Io.KnownBytes.{Appends}
 use Rattle.std.proofs.KnownBytes.{Appends-trans}
 use Rattle.vx_io.specs.Faults.{Rose}
 use Rattle.vx_text.specs.Ends.{End}
-use Rattle.vx_text.specs.Writing.{StopsIn}
 use Rattle.vx_words.specs.declared.words.Options.{Options}
 use Rattle.vx_serve.specs.declared.status.Status.{Status}
 use Rattle.vx_serve.specs.declared.status.Status.TheVariants as status
@@ -20,19 +18,6 @@ rose_earlier early before after le rose =
     let b : min (early + 1) (2 ^ 64 - 1) ≤ before + 1 = le_trans (min-le_left (early + 1) (2 ^ 64 - 1)) (omega arith) in
     le_trans (le-min b (min-le_right (early + 1) (2 ^ 64 - 1))) rose
 
--- the sink failed in a text behind one that it took
-pub stops_behind : (before mid after : End) (xs ys : List ℕ) → Appends before.bytes mid.bytes xs → before.faults ≤ mid.faults → StopsIn mid after ys
-    → StopsIn before after (xs ++ ys)
-stops_behind before mid after xs ys taken counted stops =
-    let len = length-append xs ys in
-    let within : stops.count ≤ length ys = stops.within in
-    record {
-      rose = rose_earlier before.faults mid.faults after.faults counted stops.rose;
-      count = length xs + stops.count;
-      within = omega arith;
-      taken = subst (Appends before.bytes after.bytes) (sym (take-append-add xs ys stops.count)) (Appends-trans before.bytes mid.bytes after.bytes _ _ taken stops.taken);
-    }
-
 -- the end of a server that has announced its ports is its end with the line of them
 pub announced : (o : Options) (before : Ports) (mid : End) (after : Ports) (tally : ℕ) (how : Status) → Appends before.sink.bytes mid.bytes (first_line o)
     → before.sink.faults ≤ mid.faults → LinksServed o.limit (record { net = before.net; sink = mid }) after tally how → LinksEnd o before after tally how
@@ -41,7 +26,7 @@ announced o before mid after tally status.Served first counted s =
 announced o before mid after tally status.NetFailed first counted s =
     (s.0, subst (λ (e : End). Appends before.sink.bytes e.bytes (first_line o)) (sym s.1) first)
 announced o before mid after tally status.SinkFailed first counted s =
-    inr (s.0, s.1, stops_behind before.sink mid after.sink (first_line o) (served_line s.0) first counted s.2)
+    inr (s.0, record { mid = mid; taken = first; counted = counted; stops = s.1 })
 announced o before mid after tally status.Told first counted s = s
 announced o before mid after tally status.Usage first counted s = s
 announced o before mid after tally status.BenchFault first counted s = s
@@ -55,6 +40,7 @@ took_from : (limit : ℕ) (before mid after : NetShown) (number : ℕ) → mid.g
 took_from limit before mid after number given ended t = record {
   grew = subst (λ k. k ≤ after.given) given t.grew;
   number_is = subst (λ k. number ≡ min (after.given - k) (2 ^ 64 - 1)) given t.number_is;
+  within = t.within;
   why = subst (λ k. ((0 < limit) × (number ≡ limit)) ⊎ Rose k after.ended) ended t.why;
 }
 
@@ -66,9 +52,9 @@ started o before mid refused after refused' tally status.Served given ended coun
     (took_from o.limit before.net mid after.net tally given ended s.0, s.1)
 started o before mid refused after refused' tally status.NetFailed given ended counted s =
     inr (rose_earlier before.net.faults mid.faults after.net.faults counted s.0, s.1)
-started o before mid refused after refused' tally status.SinkFailed given ended counted (inl s) = inl s
+started o before mid refused after refused' tally status.SinkFailed given ended counted (inl s) = inl (s.0, s.1 ∙ given, s.2 ∙ ended)
 started o before mid refused after refused' tally status.SinkFailed given ended counted (inr s) =
-    inr (s.0, took_from o.limit before.net mid after.net s.0 given ended s.1, s.2)
+    inr (took_from o.limit before.net mid after.net tally given ended s.0, s.1)
 started o before mid refused after refused' tally status.Told given ended counted s = s
 started o before mid refused after refused' tally status.Usage given ended counted s = s
 started o before mid refused after refused' tally status.BenchFault given ended counted s = s

@@ -38,15 +38,15 @@ status_number status.SinkFailed = 6
 status_number status.SourceFailed = 7
 
 -- the net, the sink, and how many works the spawner has refused
-pub record Shop : Type 0 where
+pub record Outside : Type 0 where
   pub ports : Ports
   pub refused : ℕ
 
 -- the net and the spawner are as they were; and so is the sink
-abbrev pub IsUnserved : Shop → Shop → Type 0
+abbrev pub IsUnserved : Outside → Outside → Type 0
 IsUnserved before after = (after.ports.net ≡ before.ports.net) × (after.refused ≡ before.refused)
 
-abbrev pub IsSilent : Shop → Shop → Type 0
+abbrev pub IsSilent : Outside → Outside → Type 0
 IsSilent before after = IsUnserved before after × (after.ports.sink ≡ before.ports.sink)
 
 -- the line that is all that is due was written, or the sink failed in it
@@ -55,11 +55,11 @@ PutsLast due line before after how =
     ((how ≡ due) × Appends before.bytes after.bytes line) ⊎ ((how ≡ status.SinkFailed) × StopsIn before after line)
 
 -- nothing but that line came of it
-abbrev pub Tells : Status → List ℕ → Shop → Shop → Status → Type 0
+abbrev pub Tells : Status → List ℕ → Outside → Outside → Status → Type 0
 Tells due line before after how = IsUnserved before after × PutsLast due line before.ports.sink after.ports.sink how
 
 -- nothing came of it
-abbrev pub Stops : Status → Shop → Shop → Status → Type 0
+abbrev pub Stops : Status → Outside → Outside → Status → Type 0
 Stops why before after how = IsSilent before after × (how ≡ why)
 
 -- A line of the bench is the first that is refused: its line is all that is due. Or memory ran out: nothing is written.
@@ -68,7 +68,7 @@ EndsStopped (stop.Refused line why) before after how = PutsLast status.BenchFaul
 EndsStopped stop.NoMemory before after how = (after ≡ before) × (how ≡ status.NoMemory)
 
 -- By how the lines of the bench are set up: each is, and the server runs; or not, and it stops.
-abbrev pub EndsSet : Result Unit BenchStop → Options → Shop → Shop → ℕ → Status → Type 0
+abbrev pub EndsSet : Result Unit BenchStop → Options → Outside → Outside → ℕ → Status → Type 0
 EndsSet (Ok done) o before after tally how = EndsRun o before.ports before.refused after.ports after.refused tally how
 EndsSet (Err why) o before after tally how = IsUnserved before after × EndsStopped why before.ports.sink after.ports.sink how
 
@@ -77,40 +77,40 @@ abbrev pub first_bench : List SpareShown → BenchState
 first_bench rack = record { bus = first_state; rack = rack }
 
 -- With this bench, and these spares.
-pub record EndsBenched (text : List ℕ) (rack : List SpareShown) (o : Options) (before after : Shop) (tally : ℕ) (how : Status) : Type 0 where
+pub record EndsBenched (text : List ℕ) (rack : List SpareShown) (o : Options) (before after : Outside) (tally : ℕ) (how : Status) : Type 0 where
   pub set : Result Unit BenchStop
   pub end : BenchState
   pub sets : EndsBench text (first_bench rack) end set
   pub ends : EndsSet set o before after tally how
 
 -- By what reading the bench comes to: a text; more than a bench may have; a fault of the source; or memory ran out.
-abbrev pub EndsRead : Input → List SpareShown → Options → Shop → Shop → ℕ → Status → Type 0
+abbrev pub EndsRead : Input → List SpareShown → Options → Outside → Outside → ℕ → Status → Type 0
 EndsRead (input.Whole text) rack o before after tally how = EndsBenched text.items rack o before after tally how
 EndsRead input.TooLong rack o before after tally how = Tells status.BenchFault (line_text FaultLong) before after how
 EndsRead input.Failed rack o before after tally how = Stops status.SourceFailed before after how
 EndsRead input.NoMemory rack o before after tally how = Stops status.NoMemory before after how
 
 -- With these options.
-pub record EndsOptioned (o : Options) (rack : List SpareShown) (source source' : End) (before after : Shop) (tally : ℕ) (how : Status) : Type 0 where
+pub record EndsOptioned (o : Options) (rack : List SpareShown) (source source' : End) (before after : Outside) (tally : ℕ) (how : Status) : Type 0 where
   pub given : Input
   pub reads : IsInput BENCH_MAX source source' given
   pub ends : EndsRead given rack o before after tally how
 
 -- By what the words ask: to serve with options; for a text; nothing, since they are refused; or memory ran out. Where they
 -- don't ask to serve, the bench isn't read.
-abbrev pub EndsAsked : Asked → List SpareShown → End → End → Shop → Shop → ℕ → Status → Type 0
+abbrev pub EndsAsked : Asked → List SpareShown → End → End → Outside → Outside → ℕ → Status → Type 0
 EndsAsked (asked.Serve o) rack source source' before after tally how = EndsOptioned o rack source source' before after tally how
 EndsAsked (asked.Tell text) rack source source' before after tally how = (source' ≡ source) × Tells status.Told (string_bytes text) before after how
 EndsAsked asked.Usage rack source source' before after tally how = (source' ≡ source) × Tells status.Usage usage_line before after how
 EndsAsked asked.NoMemory rack source source' before after tally how = (source' ≡ source) × Stops status.NoMemory before after how
 
 -- How a server ends, with the number of the tally that it gives back.
-pub record Ends (words : List (List ℕ)) (rack : List SpareShown) (source source' : End) (before after : Shop) (tally : ℕ) (how : Status) : Type 0 where
+pub record Ends (words : List (List ℕ)) (rack : List SpareShown) (source source' : End) (before after : Outside) (tally : ℕ) (how : Status) : Type 0 where
   pub request : Asked
   pub asks : Answers words request
   pub ends : EndsAsked request rack source source' before after tally how
 
 -- It ends with the number of its status.
-abbrev pub EndsSo : List (List ℕ) → List SpareShown → End → End → Shop → Shop → ℕ → ℕ → Type 0
+abbrev pub EndsSo : List (List ℕ) → List SpareShown → End → End → Outside → Outside → ℕ → ℕ → Type 0
 EndsSo words rack source source' before after tally number =
     (how : Status) × (number ≡ status_number how) × Ends words rack source source' before after tally how

@@ -68,7 +68,7 @@ const TURNS: u64 = 1_000_000;
 /// How many bytes the links of each side took that are those of its replies, at their places.
 #[derive(Drop)]
 pub(crate) struct Counts {
-    core: AtomicU64,
+    pub core: AtomicU64,
     abort: AtomicU64,
     interrupt: AtomicU64,
 }

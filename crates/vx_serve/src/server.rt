@@ -13,7 +13,7 @@ ghost use Rattle.vx_serve.specs.Outcome.{Ends, EndsBenched, EndsOptioned, EndsSo
 
 use crate::accepting::{accept_links, wait_for};
 use crate::lines::{LINE_ROOM, fault_line, listening_line, served_line};
-use crate::starting::{Front, Unstarted, start_all, start_gateway};
+use crate::starting::{Acceptor, Unstarted, start_all, start_gateway};
 use crate::status::Status;
 use crate::workers::{CoreKit, Peer, Serve, Shared};
 use crossbeam_channel::Sender;
@@ -43,7 +43,7 @@ struct Ended {
 }
 
 impl Ended {
-    /// An end before a link was served.
+    /// An end of which no links are counted.
     fn early(status: Status) -> Ended
         ensures { result.status ≡ status }
     {
@@ -183,7 +183,7 @@ where
 }
 
 /// Serves links with all the workers that are started. The sampler ends with it.
-fn serve_front<
+fn serve_accepting<
     R: Wait,
     N: Net,
     I: Instrument,
@@ -195,7 +195,7 @@ fn serve_front<
     rt: &R,
     alloc: Global,
     options: Options,
-    front: Front<Peer<N>, I, C, P, D>,
+    acceptor: Acceptor<Peer<N>, I, C, P, D>,
     net: &mut N,
     sink: &mut K,
 ) -> Ended
@@ -207,11 +207,11 @@ where
         (record { net = net_shown N.faults N.given N.ended net.new; sink = record { bytes = K.taken sink.new; faults = K.faults sink.new } })
         result.tally result.status }
 {
-    let Front {
+    let Acceptor {
         links,
         seat,
         mut kit,
-    } = front;
+    } = acceptor;
     let (shared, pass) = seat.into_parts();
     let ended = serve_links(
         rt, alloc, options, &links, &shared, pass, &mut kit, net, sink,
@@ -249,7 +249,7 @@ where
         return Ended::early(Status::NoMemory);
     };
     match start_all::<N, W, X, I>(alloc, spawner, tools, seat, options, port) {
-        Ok(front) => serve_front(rt, alloc, options, front, net, sink),
+        Ok(acceptor) => serve_accepting(rt, alloc, options, acceptor, net, sink),
         Err(Unstarted::Refused) => Ended::early(Status::WorkerRefused),
         Err(Unstarted::NoMemory) => Ended::early(Status::NoMemory),
     }
@@ -282,7 +282,10 @@ where
     };
     let mut rack = rack;
     match set_up(alloc, text, &mut bus, &mut rack) {
-        Ok(()) => serve_bus(rt, alloc, options, bus, net, spawner, tools, sink),
+        Ok(()) => {
+            drop(rack);
+            serve_bus(rt, alloc, options, bus, net, spawner, tools, sink)
+        }
         Err(stop) => end_bench(sink, stop),
     }
 }
@@ -366,14 +369,14 @@ where
     }
 }
 
-/// All that the program `vxgate` does: its words, its bench, its net, its workers; what comes back is the exit status, and the
-/// count of the core links that were served.
+/// All that the program `vxgate` does: its words, its bench, its net, its workers; what comes back is the exit status and, at
+/// status 0, the count of the core links that were taken, each of which had its session or was refused one.
 ///
 /// It reads the words, and the bench to its end; opens the core port and binds the abort port; starts the workers; and then
 /// takes core links and hands them to the workers. The causes of each status are met in this order.
 ///
-/// - 0, `listening CORE ABORT` and `served N`: N core links were taken, the limit or as many as the net gave, and each was
-///   served to its end. `--help` and `--version` are told with this status too.
+/// - 0, `listening CORE ABORT` and `served N`: N core links were taken, the limit or as many as the net gave, and each came to its
+///   end. `--help` and `--version` are told with this status too.
 /// - 1, `usage: vxgate OPTIONS`: the words are refused; nothing else was touched.
 /// - 2, `fault line N CAUSE` or `fault long`: a line of the bench, counted from 1, is refused, or it has more than 1,048,576 bytes.
 /// - 3: the net failed.
@@ -381,6 +384,9 @@ where
 /// - 5: memory ran out, before the first link was taken.
 /// - 6: the sink failed; a front of what was due was written.
 /// - 7: the bench's source failed.
+///
+/// The sampler ends when this returns, and so do workers that are left without a link to serve; the taker of abort links ends
+/// with its port, and a pump with its streams.
 pub fn serve_run<
     R: Wait,
     N: Net,

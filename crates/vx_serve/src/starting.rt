@@ -45,7 +45,7 @@ const LINKS_WAITING: usize = 64;
 
 /// What the one that takes core links has: where they go to, and what it wants to serve one itself.
 #[derive(Drop)]
-pub struct Front<L: Drop, I: Instrument, C: Clock + Drop, P: Pause + Drop, D: Dial + Drop> {
+pub struct Acceptor<L: Drop, I: Instrument, C: Clock + Drop, P: Pause + Drop, D: Dial + Drop> {
     pub links: Sender<L>,
     pub seat: Seat<I>,
     pub kit: CoreKit<C, P, D>,
@@ -192,7 +192,7 @@ pub fn start_all<N: Net, W: Spawner<Serve<N, X, I>>, X: Tools, I: Instrument>(
     seat: Seat<I>,
     options: Options,
     port: N::Port,
-) -> Result<Front<Peer<N>, I, X::C, X::P, X::D>, Unstarted>
+) -> Result<Acceptor<Peer<N>, I, X::C, X::P, X::D>, Unstarted>
 where
     N::Port: Drop,
     Peer<N>: Drop,
@@ -226,5 +226,5 @@ where
         pauses: options.sample,
     };
     let seat = start_worker(alloc, spawner, seat, sample)?;
-    Ok(Front { links, seat, kit })
+    Ok(Acceptor { links, seat, kit })
 }

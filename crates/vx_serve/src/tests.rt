@@ -1,8 +1,9 @@
 //! Servers whose workers never run: the causes of each status, and what is written.
 use crate::BENCH_MAX;
-use crate::served::{Job, Ran, counts_of, net_of, run, run_over};
+use crate::served::{Job, Ran, Side, counts_of, net_of, run, run_over};
 use std::alloc::Global;
 use std::sync::Wait;
+use std::sync::atomic::Ordering;
 use std::test::Fail;
 use vx_io::{MemSink, MemSource, Spawner, Started};
 
@@ -211,6 +212,27 @@ fn run_disturbed<R: Wait>(
         &mut sink,
         &counts,
     )
+}
+
+// Workers that never ran leave no end of the channel, so each link comes back, and the server serves it itself: up to the
+// limit, or all that there are. The replies are those of links 1, 2 and 3, which differ in one byte from the first.
+#[test]
+fn links_that_come_back(rt: HostRuntime) -> Result<(), Fail> {
+    let alloc = rt.alloc();
+    let rows: [(&[&str], u64, u64, &str); 2] = [
+        (&["--limit", "2"], 2, 87, "listening 9010 9011\nserved 2\n"),
+        (&[], 3, 130, "listening 9010 9011\nserved 3\n"),
+    ];
+    for (words, number, bytes, text) in rows {
+        let counts = counts_of(alloc)?;
+        let mut net = net_of(alloc, &[Side::Short; 3], &[], &[], &counts)?;
+        let mut spawner = Idle::new(0);
+        let ran = run(&rt, alloc, words, "", &mut net, &mut spawner, &counts)?;
+        assert_eq!(rt; ran.text.as_str(), text);
+        assert_eq!(rt; ran.number, number);
+        assert_eq!(rt; counts.core.load(Ordering::SeqCst), bytes);
+    }
+    Ok(())
 }
 
 #[test]

@@ -15,7 +15,7 @@ use vx_pump::{pump, sample_turn};
 use vx_session::{Room, Tally, Tools, abort_link, core_link};
 use vx_sim::SimBus;
 
-/// What the workers of one server share: the gate round its gateway, and the count of the core links that they served.
+/// What the workers of one server share: the gate round its gateway, and the count of the core links that came to their end.
 #[derive(Drop)]
 pub struct Shared<I: Instrument> {
     pub gate: Gate<Core<SimBus<I>>>,
@@ -97,7 +97,7 @@ pub fn serve_core<R: Wait, I: Instrument, L: Link + Drop, C: Clock, P: Pause, D:
         &mut kit.room,
     );
     shared.tally.lock(rt).add(done);
-    shared.added.notify_all();
+    shared.added.notify_one();
     pass
 }
 

@@ -5,7 +5,7 @@ mod models;
 
 use crate::models::AnyModel;
 use arrayvec::ArrayString;
-use crossbeam_channel::{Receiver, Sender, bounded, unbounded};
+use crossbeam_channel::{Receiver, Sender, bounded};
 use std::alloc::{AllocError, Global};
 use std::env::{self, Env};
 use std::io::ErrorKind;
@@ -61,8 +61,8 @@ struct Channels {
 }
 
 fn channels_of(alloc: Global) -> Result<Channels, AllocError> {
-    let (jobs, queue) = unbounded(alloc)?;
-    let (answers, started) = unbounded(alloc)?;
+    let (jobs, queue) = bounded(alloc, 1)?;
+    let (answers, started) = bounded(alloc, 1)?;
     let (pumps, dialed) = bounded(alloc, STREAMS_WAITING)?;
     Ok(Channels {
         jobs,
@@ -121,9 +121,8 @@ fn main(rt: HostRuntime) -> ExitCode {
         pumps,
         dialed,
     } = channels;
-    if thread::spawn(&rt, move || start_threads(rt, queue, answers)).is_err() {
-        return ExitCode::from(NO_MEMORY);
-    }
+    // where the host has no thread for it, its ends of the channels are gone, and the spawner refuses each worker
+    let _ = thread::spawn(&rt, move || start_threads(rt, queue, answers));
     let (status, _) = serve_run(
         &rt,
         alloc,

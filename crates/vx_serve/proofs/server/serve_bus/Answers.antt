@@ -12,8 +12,8 @@ returns-in-Ok-start_all g c =
     (net_shown g.N.Net.faults g.N.Net.given g.N.Net.ended c.open_ports.new.net)
     (g.W.Spawner.faults c.args.spawner.now)
     (record {
-      net = net_shown g.N.Net.faults g.N.Net.given g.N.Net.ended c.serve_front.new.net;
-      sink = record { bytes = g.K.Sink.taken c.serve_front.new.sink; faults = g.K.Sink.faults c.serve_front.new.sink };
+      net = net_shown g.N.Net.faults g.N.Net.given g.N.Net.ended c.serve_accepting.new.net;
+      sink = record { bytes = g.K.Sink.taken c.serve_accepting.new.sink; faults = g.K.Sink.faults c.serve_accepting.new.sink };
     })
-    (g.W.Spawner.faults c.start_all.new.spawner) c.serve_front.result.tally c.serve_front.result.status
-    c.open_ports.ensures.given c.open_ports.ensures.ended c.open_ports.ensures.counted c.serve_front.ensures
+    (g.W.Spawner.faults c.start_all.new.spawner) c.serve_accepting.result.tally c.serve_accepting.result.status
+    c.open_ports.ensures.given c.open_ports.ensures.ended c.open_ports.ensures.counted c.serve_accepting.ensures
