@@ -12,6 +12,21 @@ pub record ClientState (L : Type 0) : Type 0 where
   -- the bytes that came behind that record
   pub kept : List ℕ
 
+-- what a client keeps beside its link
+pub record TalkState : Type 0 where
+  pub next : ℕ
+  pub spent : Bool
+  pub last : List ℕ
+  pub kept : List ℕ
+
+-- the client that keeps this, over a link
+abbrev pub over_link : {L : Type 0} → L → TalkState → ClientState L
+over_link link talk = record { link = link; next = talk.next; spent = talk.spent; last = talk.last; kept = talk.kept }
+
+-- a client with another link in place of its own
+abbrev pub with_link : {L K : Type 0} → ClientState L → K → ClientState K
+with_link c link = record { link = link; next = c.next; spent = c.spent; last = c.last; kept = c.kept }
+
 -- calls are numbered modulo 2^32 (RFC 5531, section 9, xid)
 abbrev pub number_after : ℕ → ℕ
 number_after n = (n + 1) % 2 ^ 32

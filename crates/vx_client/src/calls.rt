@@ -2,10 +2,8 @@
 
 ghost use Rattle.std.specs.Prelude.{◌≡◌, ◌≤◌, ◌<◌, length};
 ghost use Rattle.vx_calls.specs.Call as call;
-ghost use Rattle.vx_calls.specs.Call.{call_shown};
 ghost use Rattle.vx_client.specs.Exchange.{IsCalled};
 ghost use Rattle.vx_client.specs.Meaning.{made_of, stb_of, len_of, nothing_of, meaning};
-ghost use Rattle.vx_client.specs.Message.{IsSendable};
 ghost use Rattle.vx_client.specs.Calls.{generic, create, lock_call, command, channel, IsFilled};
 
 use crate::answers::{CallOpts, ClientErr, LinkMade};
@@ -37,15 +35,6 @@ fn copied(handle: &Handle) -> Handle
 }
 
 impl<L: Link> Client<L> {
-    /// Makes a call whose results are its error alone.
-    pub(crate) fn order(&mut self, call: &CallRef<'_>) -> Result<(), ClientErr>
-        requires { IsSendable (call_shown call.now) }
-        ensures { IsCalled L.stands L.left L.receive_faults L.send_faults self.old self.new (call_shown call.now) 0 nothing_of result }
-    {
-        self.ask(call, &mut [])?;
-        Ok(())
-    }
-
     /// create_link of this device text, of at most `DEVICE_MAX` bytes, with a lock where it is asked, for which the
     /// server may wait `lock_timeout` milliseconds. The client's identifier is sent as 0.
     ///

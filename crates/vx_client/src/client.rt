@@ -3,51 +3,69 @@
 ghost use Rattle.std.specs.Prelude.{◌≡◌, ◌≤◌, false, [], length, IfOk, IfErr};
 ghost use Rattle.vx_calls.specs.Call.{call_shown};
 ghost use Rattle.vx_record.specs.Buffer.{fresh};
+ghost use Rattle.vx_calls.specs.declared.limits.TheConstants.{WRITE_MAX};
+ghost use Rattle.vx_client.specs.State.{over_link, with_link};
 ghost use Rattle.vx_client.specs.Message.{call_record, IsSendable};
-ghost use Rattle.vx_client.specs.Meaning.{meaning};
+ghost use Rattle.vx_client.specs.Chunks.{write_call};
+ghost use Rattle.vx_client.specs.Meaning.{meaning, nothing_of};
 ghost use Rattle.vx_client.specs.Settled.{answer_of};
 ghost use Rattle.vx_client.specs.Exchange.{IsCalled};
 ghost use Rattle.vx_client.specs.Swapped.{IsSwapped, returned_by, settled_bad};
 ghost use Rattle.vx_client.specs.Calls.{IsFilled};
 
-use crate::answers::{ClientErr, NewRefused};
+use crate::answers::{CallOpts, ClientErr, NewRefused};
 use crate::inbox::{Brought, Inbox};
 use crate::outbox::{CALL_ROOM, put_record, send_all};
 use crate::settling::{Answer, Settled, settle};
 use std::alloc::Global;
 use std::marker::Model;
+use std::mem::swap;
 use vx_calls::{CallRef, RECORD_MAX};
 use vx_io::Link;
 
-/// A client of a VXI-11 server over a link, on the core channel. Contracts see its link, the number of its next call,
-/// whether it is spent, the record of its last reply, and the bytes that came behind that.
+/// What a client keeps of its calls, whatever link they go over: the number of the next one, whether a further one is
+/// sent, the record of the last reply, and the bytes that came behind that.
 #[derive(Drop)]
-pub struct Client<L> {
-    link: L,
+struct Talk {
     next: u32,
     spent: bool,
     room: Vec<u8>,
     inbox: Inbox,
 }
 
-impl<L> Model for Client<L> {
-    ghost use Rattle.vx_client.specs.State.{ClientState};
+impl Model for Talk {
+    ghost use Rattle.vx_client.specs.State.{TalkState};
 
-    ghost Value = { ClientState L };
+    ghost Value = { TalkState };
 
     ghost use Rattle.std.specs.Prelude.{◌≡◌, false, vec_len};
     ghost use Rattle.vx_client.specs.Inbox.{IsReady, last_of};
     ghost use Rattle.vx_client.specs.declared.outbox.TheConstants.{CALL_ROOM};
 
-    ghost view = { λ c. record {
-      link = c.link;
-      next = c.next;
-      spent = c.spent;
-      last = last_of c.inbox.reply;
-      kept = c.inbox.kept;
+    ghost view = { λ t. record {
+      next = t.next;
+      spent = t.spent;
+      last = last_of t.inbox.reply;
+      kept = t.inbox.kept;
     } };
 
-    ghost invariant = { λ c. (c.spent ≡ false → IsReady c.inbox.reply) × (vec_len c.room ≡ CALL_ROOM) };
+    ghost invariant = { λ t. (t.spent ≡ false → IsReady t.inbox.reply) × (vec_len t.room ≡ CALL_ROOM) };
+}
+
+/// A client of a VXI-11 server over a link, on the core channel. Contracts see its link, the number of its next call,
+/// whether it is spent, the record of its last reply, and the bytes that came behind that.
+#[derive(Drop)]
+pub struct Client<L> {
+    link: L,
+    talk: Talk,
+}
+
+impl<L> Model for Client<L> {
+    ghost use Rattle.vx_client.specs.State.{ClientState, over_link};
+
+    ghost Value = { ClientState L };
+
+    ghost view = { λ c. over_link c.link c.talk };
 }
 
 /// Sends the call of this number and receives the record of a reply into the inbox.
@@ -99,6 +117,46 @@ fn returned(settled: Settled, length: usize) -> Result<Answer, ClientErr>
     }
 }
 
+impl Talk {
+    /// Makes one call over a link and answers by the record that comes. The bytes of its results go to the front of
+    /// `into`.
+    fn ask<L: Link>(
+        &mut self,
+        link: &mut L,
+        call: &CallRef<'_>,
+        into: &mut [u8],
+    ) -> Result<Answer, ClientErr>
+        requires { IsSendable (call_shown call.now) }
+        ensures called { IsCalled L.stands L.left L.receive_faults L.send_faults (over_link link.old self.old) (over_link link.new self.new)
+            (call_shown call.now) (length into.old) answer_of result }
+        ensures into { IsFilled (meaning self.old.next (call_shown call.now) (length into.old) self.new.last) into.old into.new result }
+    {
+        if self.spent {
+            return Err(ClientErr::Spent);
+        }
+        let xid = self.next;
+        self.next = xid.wrapping_add(1);
+        self.spent = true;
+        self.inbox.begin();
+        exchange(link, self.room.as_mut_slice(), &mut self.inbox, xid, call)?;
+        let reply = self.inbox.last();
+        let length = reply.len();
+        let settled = settle(xid, call, reply, into);
+        self.spent = is_bad(settled);
+        returned(settled, length)
+    }
+
+    /// Makes a call whose results are its error alone over a link.
+    fn order<L: Link>(&mut self, link: &mut L, call: &CallRef<'_>) -> Result<(), ClientErr>
+        requires { IsSendable (call_shown call.now) }
+        ensures { IsCalled L.stands L.left L.receive_faults L.send_faults (over_link link.old self.old) (over_link link.new self.new)
+            (call_shown call.now) 0 nothing_of result }
+    {
+        self.ask(link, call, &mut [])?;
+        Ok(())
+    }
+}
+
 impl<L: Link> Client<L> {
     /// A client over `link` that has made no call. Its room is made here; where there is no memory for it, the link
     /// comes back.
@@ -112,13 +170,13 @@ impl<L: Link> Client<L> {
         let Ok(inbox) = Inbox::new(alloc) else {
             return Err(NewRefused { link });
         };
-        Ok(Client {
-            link,
+        let talk = Talk {
             next: 1,
             spent: false,
             room,
             inbox,
-        })
+        };
+        Ok(Client { link, talk })
     }
 
     /// The record that the last call got, without its marks: its reply, or what came in place of one. It is empty
@@ -127,7 +185,7 @@ impl<L: Link> Client<L> {
     pub fn last(&self) -> &[u8]
         ensures { result.now ≡ self.now.last }
     {
-        self.inbox.last()
+        self.talk.inbox.last()
     }
 
     /// The link, in whatever state the calls left it.
@@ -145,24 +203,49 @@ impl<L: Link> Client<L> {
             (length into.old) answer_of result }
         ensures into { IsFilled (meaning self.old.next (call_shown call.now) (length into.old) self.new.last) into.old into.new result }
     {
-        if self.spent {
-            return Err(ClientErr::Spent);
-        }
-        let xid = self.next;
-        self.next = xid.wrapping_add(1);
-        self.spent = true;
-        self.inbox.begin();
-        exchange(
-            &mut self.link,
-            self.room.as_mut_slice(),
-            &mut self.inbox,
-            xid,
-            call,
-        )?;
-        let reply = self.inbox.last();
-        let length = reply.len();
-        let settled = settle(xid, call, reply, into);
-        self.spent = is_bad(settled);
-        returned(settled, length)
+        self.talk.ask(&mut self.link, call, into)
+    }
+
+    /// Makes a call whose results are its error alone.
+    pub(crate) fn order(&mut self, call: &CallRef<'_>) -> Result<(), ClientErr>
+        requires { IsSendable (call_shown call.now) }
+        ensures { IsCalled L.stands L.left L.receive_faults L.send_faults self.old self.new (call_shown call.now) 0 nothing_of result }
+    {
+        self.talk.order(&mut self.link, call)
+    }
+}
+
+impl<L> Client<L> {
+    /// Goes over this link from now on, and gives the one that it went over.
+    pub fn swap_link(&mut self, link: &mut L)
+        ensures over { self.new ≡ with_link self.old link.old }
+        ensures given { link.new ≡ self.old.link }
+    {
+        swap(&mut self.link, link);
+    }
+
+    /// One device_write of at most `WRITE_MAX` bytes with these flags over another link, as the client's next call. Its own
+    /// link is left alone.
+    pub fn write_piece_over<K: Link>(
+        &mut self,
+        link: &mut K,
+        lid: u32,
+        opts: &CallOpts,
+        flags: u32,
+        bytes: &[u8],
+    ) -> Result<(), ClientErr>
+        requires { length bytes.now ≤ WRITE_MAX }
+        ensures called { IsCalled K.stands K.left K.receive_faults K.send_faults (with_link self.old link.old) (with_link self.new link.new)
+            (write_call lid opts.now flags bytes.now) 0 nothing_of result }
+        ensures own { self.new.link ≡ self.old.link }
+    {
+        let call = CallRef::Write {
+            lid,
+            io_timeout: opts.io_timeout,
+            lock_timeout: opts.lock_timeout,
+            flags,
+            bytes,
+        };
+        self.talk.order(link, &call)
     }
 }

@@ -6,7 +6,7 @@ use Rattle.vx_client.specs.Message.{call_record}
 use Rattle.vx_client.specs.Settled.{answer_of}
 use Rattle.vx_client.specs.Swapped.{IsSwapped}
 use Rattle.vx_client.proofs.Calling.{called-failed, called-replied, answer-settled, spent-settled, filled-settled}
-use Rattle.vx_client.proofs.client.Client.ask.Goals as goal
+use Rattle.vx_client.proofs.client.Talk.ask.Goals as goal
 
 pub returns-in_err-exchange-clause-called : goal.returns-in_err-exchange-clause-called
 returns-in_err-exchange-clause-called g c =
@@ -25,7 +25,7 @@ returns-in_err-exchange-clause-called g c =
     })
     refl
     (let Swapped : List ℕ → Type 0 =
-    λ kept. IsSwapped g.L.Link.stands g.L.Link.left g.L.Link.receive_faults g.L.Link.send_faults c.self.inside.link c.exchange.new.link kept c.exchange.new.inbox
+    λ kept. IsSwapped g.L.Link.stands g.L.Link.left g.L.Link.receive_faults g.L.Link.send_faults c.args.link.now c.exchange.new.link kept c.exchange.new.inbox
     (call_record c.self.inside.next (call_shown c.args.call.now)) (Err c.in_err-exchange.field-0.0) in
     subst Swapped c.begin.ensures.kept c.in_err-exchange.ensures.swapped)
     same)
@@ -48,7 +48,7 @@ returns-clause-called g c =
     (c.is_bad-self-inside.ensures
     ∙ spent-settled c.self.inside.next (length c.args.into.now) call c.last-reply.result.now last c.settle-settled.result c.last-reply.ensures.bytes c.settle-settled.ensures.settled)
     (let Swapped : List ℕ → Type 0 =
-    λ kept. IsSwapped g.L.Link.stands g.L.Link.left g.L.Link.receive_faults g.L.Link.send_faults c.self.inside.link c.exchange.new.link kept c.exchange.new.inbox
+    λ kept. IsSwapped g.L.Link.stands g.L.Link.left g.L.Link.receive_faults g.L.Link.send_faults c.args.link.now c.exchange.new.link kept c.exchange.new.inbox
     (call_record c.self.inside.next call) (Ok c.in_ok-exchange.field-0) in
     subst Swapped c.begin.ensures.kept c.in_ok-exchange.ensures.swapped)
     (answer-settled c.self.inside.next (length c.args.into.now) (length c.last-reply.result.now) call c.last-reply.result.now last c.settle-settled.result c.returned.result
