@@ -1,6 +1,6 @@
 //! The client and the one exchange that every call stands on.
 
-ghost use Rattle.std.specs.Prelude.{◌≡◌, ◌≤◌, false, [], length, IfOk, IfErr};
+ghost use Rattle.std.specs.Prelude.{◌≡◌, ◌≤◌, ◌<◌, ◌^◌, false, [], length, IfOk, IfErr};
 ghost use Rattle.vx_calls.specs.Call.{call_shown};
 ghost use Rattle.vx_record.specs.Buffer.{fresh};
 ghost use Rattle.vx_calls.specs.declared.limits.TheConstants.{WRITE_MAX};
@@ -146,6 +146,13 @@ impl Talk {
         returned(settled, length)
     }
 
+    /// The number of the next call.
+    fn number(&self) -> u32
+        ensures { result ≡ self.now.next }
+    {
+        self.next
+    }
+
     /// Makes a call whose results are its error alone over a link.
     fn order<L: Link>(&mut self, link: &mut L, call: &CallRef<'_>) -> Result<(), ClientErr>
         requires { IsSendable (call_shown call.now) }
@@ -238,7 +245,9 @@ impl<L> Client<L> {
         ensures called { IsCalled K.stands K.left K.receive_faults K.send_faults (with_link self.old link.old) (with_link self.new link.new)
             (write_call lid opts.now flags bytes.now) 0 nothing_of result }
         ensures own { self.new.link ≡ self.old.link }
+        ensures number { self.old.next < 2 ^ 32 }
     {
+        let _number = self.talk.number();
         let call = CallRef::Write {
             lid,
             io_timeout: opts.io_timeout,
