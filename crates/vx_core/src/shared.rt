@@ -114,6 +114,13 @@ impl<B: Bus> Core<B> {
         self.kernel.next_number()
     }
 
+    /// The greatest moment that was handed in, in milliseconds; 0 before the first.
+    pub fn moment(&self) -> u64
+        ensures { result ≡ self.now.fine.state.moment }
+    {
+        self.kernel.moment()
+    }
+
     /// The connection goes, and with it its call, its links with their locks and enables, and its channel. Its turn is cut;
     /// the transfers that it made stay made.
     pub fn disconnect(&mut self, conn: u32)

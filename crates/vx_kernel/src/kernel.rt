@@ -118,6 +118,13 @@ impl<B: Bus> Kernel<B> {
         self.bus.moment(self.moment);
     }
 
+    /// The greatest moment that was handed in, in milliseconds.
+    pub fn moment(&self) -> u64
+        ensures { result ≡ self.now.moment }
+    {
+        self.moment
+    }
+
     /// The bus's list is empty from here on.
     pub fn cut(&mut self)
         ensures kept { self.new ≡ record self.old { bus = self.new.bus } }
