@@ -38,12 +38,12 @@ use Rattle.vx_play.proofs.Roles.{tested-fine, answer-leaves}
 use Rattle.vx_play.proofs.Shown.{lines-shown}
 
 -- Events lead from one state to another, but for a later moment.
-record Leads (f : FineState) (group : List Event) (g : FineState) : Type 0 where
-  last : FineState
-  now : ℕ
-  goes : along fine (Some f) group ≡ Some last
-  late : last.state.moment ≤ now
-  at_now : g ≡ at_moment last now
+pub record Leads (f : FineState) (group : List Event) (g : FineState) : Type 0 where
+  pub last : FineState
+  pub now : ℕ
+  pub goes : along fine (Some f) group ≡ Some last
+  pub late : last.state.moment ≤ now
+  pub at_now : g ≡ at_moment last now
 
 -- ---- the moment behind a poll
 
@@ -121,7 +121,7 @@ poll-polled f conn now moves ending =
 -- ---- what each step leads to
 
 -- two lists of events, one after the other
-after-both : (f mid : FineState) (g : Option FineState) (xs ys : List Event) → along fine (Some f) xs ≡ Some mid → along fine (Some mid) ys ≡ g
+pub after-both : (f mid : FineState) (g : Option FineState) (xs ys : List Event) → along fine (Some f) xs ≡ Some mid → along fine (Some mid) ys ≡ g
     → along fine (Some f) (xs ++ ys) ≡ g
 after-both f mid g xs ys first second = along-append fine (Some f) xs ys ∙ ap (λ o. along fine o ys) first ∙ second
 
@@ -150,7 +150,7 @@ quiet-leads : (before after : Gateway) (group : List Event) → IsQuiet before g
 quiet-leads before after group h = none-leads before.fine after.fine group h.none (ap (λ (g : Gateway). g.fine) h.same)
 
 -- the events of a poll
-polls-leads : (old : FineState) (conn now : ℕ) (moves : List Transfer) (ending : Ending) (new : FineState) → Polls old conn now moves ending new
+pub polls-leads : (old : FineState) (conn now : ℕ) (moves : List Transfer) (ending : Ending) (new : FineState) → Polls old conn now moves ending new
     → Leads old (run_events old conn now moves ++ end_events conn now ending) new
 polls-leads old conn now moves ending new h =
     let group = run_events old conn now moves ++ end_events conn now ending in

@@ -9,7 +9,7 @@ mod printer;
 #[cfg(test)]
 mod rows;
 mod run;
-mod serve;
+pub mod serve;
 mod streams;
 #[cfg(test)]
 mod tests;
