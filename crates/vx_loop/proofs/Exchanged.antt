@@ -1,0 +1,350 @@
+-- What a write of a client that gave its results did in the gateway of its link.
+use Rattle.std.proofs.Common.{◌≡◌, ◌-◌, ◌≤◌, ◌<◌, ◌^◌, ◌==◌, ℕ, Bool, true, false, cond, List, [], ◌∷◌, ◌++◌, length, take, Option, Some, None, IfSome, Result, Ok, Err, ◌⊎◌, inl, inr, refl, sym, ap, ◌∙◌, subst, arith, append_assoc, append-nil}
+use Rattle.std.specs.Prelude.{OnOk}
+use Rattle.std.specs.Option.{option_map, option_and_then}
+use Rattle.std.specs.List.{flat_map}
+use Rattle.std.proofs.lemmas.Bool.{false≢true, eqb-true}
+use Rattle.std.proofs.lemmas.Option.{same_Some}
+use Rattle.std.proofs.lemmas.Grind.{flat_map-append}
+use Rattle.vx_calls.specs.declared.calls.Role.TheVariants as role
+use Rattle.vx_calls.specs.declared.calls.Proc.TheVariants as proc
+use Rattle.vx_calls.specs.declared.codes.ErrorCode.{ErrorCode}
+use Rattle.vx_calls.specs.declared.codes.ErrorCode.TheVariants as code
+use Rattle.vx_calls.specs.declared.limits.TheConstants.{RECORD_MAX, WRITE_MAX}
+use Rattle.vx_calls.specs.ErrorCode.{error_number}
+use Rattle.vx_calls.specs.Call.{Call}
+use Rattle.vx_calls.specs.Call as call
+use Rattle.vx_calls.specs.Reply.{Reply}
+use Rattle.vx_calls.specs.Reply as reply
+use Rattle.vx_xdr.specs.Spelling.{word}
+use Rattle.vx_record.specs.Records.{Split, records}
+use Rattle.vx_record.specs.Ends.{is_settled}
+use Rattle.vx_record.specs.Buffer.{fed}
+use Rattle.vx_488.specs.Heard.{heard}
+use Rattle.vx_model.specs.Calls.{sets_end}
+use Rattle.vx_flow.specs.FineState.{FineState}
+use Rattle.vx_flow.specs.Laws.{marked_bytes}
+use Rattle.vx_rpc.specs.Wording.{success_message}
+use Rattle.vx_rpc.specs.ReplyMeaning.{Success, reply_meaning}
+use Rattle.vx_rpc.proofs.LawLemmas.{served-sorted, success-read}
+use Rattle.vx_codec.specs.Row.{Contents, row_at, whole}
+use Rattle.vx_codec.specs.Asked.{number, arguments, CallFits}
+use Rattle.vx_codec.specs.Answered.{Outcome, Written, outcome_of, answered, results}
+use Rattle.vx_codec.proofs.Rows.{field-again, field-written}
+use Rattle.vx_codec.proofs.Written.{asked-again}
+use Rattle.vx_message.specs.Meaning.{Meaning, Junk, Asks, Aborts, by_sorting, by_arguments, meaning, record_of, reply_record}
+use Rattle.vx_message.specs.Meaning as meant
+use Rattle.vx_client.specs.State.{ClientState}
+use Rattle.vx_client.specs.Message.{message, call_record}
+use Rattle.vx_client.specs.Stream.{IsReply}
+use Rattle.vx_client.specs.Meaning as said
+use Rattle.vx_client.specs.Meaning.{error_of, is_bad, judged, can_be, results_meaning, returned, nothing_of}
+use Rattle.vx_client.specs.Exchange.{Exchange, Idle, Unsent, Unread, Ended, TooLong, Replied, KeepsReply, Asks as Asked, Exchanged, result_of, IsCalled}
+use Rattle.vx_client.proofs.Lengths.{arguments-short}
+use Rattle.vx_client.proofs.Meanings.{success-meaning}
+use Rattle.vx_model.specs.State.{lives_as}
+use Rattle.vx_flow.specs.Event.{Event}
+use Rattle.vx_bus.specs.Steps.{Step}
+use Rattle.vx_play.specs.Gateway.{Gateway, gateway_of}
+use Rattle.vx_play.specs.Item.{moved}
+use Rattle.vx_loop.specs.LoopState.{ServedState, LoopState, IsIdle}
+use Rattle.vx_loop.specs.Exchanges as exchange
+use Rattle.vx_loop.specs.Exchanges.{Adds, IsAnswered, Replies, IsExchange, Exchanges, streams_of, replies_of}
+use Rattle.vx_loop.specs.Standing.{IsOpen, IsWaiting, IsEnded, Went, Since, MarkedStands, IsKept}
+use Rattle.vx_loop.specs.Heard.{IsResting, IsPieceHeard}
+use Rattle.vx_loop.proofs.Streams.{first_buffer, IsWhole, whole-by, brought-whole, whole-some, record-whole, whole-unique, none-yet}
+use Rattle.vx_loop.proofs.Happening.{adds-none, adds-append}
+use Rattle.vx_loop.proofs.Going.{waits-some}
+use Rattle.vx_loop.proofs.Calling.{marked-from}
+use Rattle.vx_loop.proofs.Hearing.{IsOneCall, one-call, call-heard, call-replies}
+
+-- ---- the one exchange of a record and its reply
+
+-- both parts of nothing
+pub none-parts : (xs ys : List ℕ) → xs ++ ys ≡ [] → (xs ≡ []) × (ys ≡ [])
+none-parts [] ys h = (refl, h)
+none-parts (x ∷ xs) ys h = absurd (cc)
+
+-- a reply at the front of what came
+pub reply-whole : (front reply : List ℕ) → (records RECORD_MAX front).records ≡ reply ∷ [] → is_settled (records RECORD_MAX (take (length front - 1) front)) ≡ false
+    → IsWhole front reply
+reply-whole [] reply whole shortest = absurd (let none : [] ≡ reply ∷ [] = ap (λ (s : Split). s.records) (sym none-yet) ∙ whole in cc)
+reply-whole (x ∷ xs) reply whole shortest = whole-by (x ∷ xs) reply (omega arith) shortest whole
+
+-- a reply is a record of one fragment
+pub replied-record : (m : Meaning) (group : List Event) (r : List ℕ) → Replies m group r → (text : List ℕ) × (r ≡ record_of text)
+replied-record Junk group r h = absurd h
+replied-record (meant.Answered text) group r h = (text, h.1)
+replied-record (Asks xid asked) group r h = (success_message xid ++ results h.0, h.2)
+replied-record (Aborts xid lid) group r h = absurd h
+
+-- what happened from a gateway to another, behind an exchange, without a transfer
+pub record IsStill (before : Gateway) (s : ServedState) : Type 0 where
+  pub group : List Event
+  pub steps : List Step
+  pub adds : Adds before group steps (gateway_of s.core)
+  pub still : flat_map moved group ≡ []
+  pub same : lives_as s.core.fine.state.tables 1 role.Core ≡ true → gateway_of s.core ≡ before
+
+-- a whole record was exchanged for a whole reply, and the link is idle again
+pub record IsExchanged (start : Gateway) (s : ServedState) (text reply behind : List ℕ) : Type 0 where
+  pub x : exchange.Exchange
+  pub mid : Gateway
+  pub exchanged : IsExchange start x mid
+  pub message_is : x.message ≡ text
+  pub reply_is : IsWhole x.reply reply
+  pub none_behind : behind ≡ []
+  pub idle : IsIdle s
+  pub after : IsStill mid s
+
+pub still-by : (mid : Gateway) (s : ServedState) (part : List ℕ) → part ≡ [] → s.left ≡ [] → IsOpen mid s part ⊎ IsWaiting mid s part ⊎ IsEnded mid s part
+    → IsIdle s × IsStill mid s
+still-by mid s part none nothing (inl o) = (
+  record { answered = o.answered; fresh_is = o.held ∙ ap (fed first_buffer) none; given = nothing },
+  record { group = []; steps = []; adds = subst (λ g. Adds mid [] [] g) (sym o.same) (adds-none mid); still = refl; same = λ lives. o.same },
+)
+still-by mid s part none nothing (inr (inl w)) = absurd (waits-some mid s part w none)
+still-by mid s part none nothing (inr (inr e)) = (
+  record { answered = e.answered; fresh_is = e.fresh_is none; given = nothing },
+  record { group = e.group; steps = e.steps; adds = e.adds; still = e.still none; same = λ lives. absurd (false≢true (sym e.gone ∙ lives)) },
+)
+
+module _ (start : Gateway) (s : ServedState) (text got reply behind : List ℕ) (short : length text ≤ RECORD_MAX) (w : Went start s (record_of text) got) (r : IsReply got reply behind) where
+  front-whole : IsWhole r.front reply
+  front-whole = reply-whole r.front reply r.whole r.shortest
+
+  exchanged-by : (done : List exchange.Exchange) → Exchanges start done w.reached → record_of text ≡ streams_of done ++ w.open_part → got ++ s.left ≡ replies_of done
+      → IsExchanged start s text reply behind
+  exchanged-by [] h taken_is given_is =
+      let none = none-parts got s.left given_is in
+      let front = none-parts r.front behind (sym r.cut ∙ none.0) in
+      let some = whole-some r.front reply front-whole in
+      let len = ap (λ (xs : List ℕ). length xs) front.0 in
+      absurd (omega arith)
+  exchanged-by (x ∷ xs) (mid, first, more) taken_is given_is =
+      let here = brought-whole x.stream x.message first.whole in
+      let sent = record-whole text short in
+      let cut = whole-unique x.stream (record_of text) (streams_of xs ++ w.open_part) [] x.message text here sent
+      (sym (append_assoc x.stream (streams_of xs) w.open_part) ∙ sym taken_is ∙ sym (append-nil (record_of text))) in
+      let rest = none-parts (streams_of xs) w.open_part cut.1 in
+      let said_text = replied-record _ x.group x.reply first.replies in
+      let short_reply = first.short in
+      let len = ap (λ (ys : List ℕ). length ys) said_text.1 in
+      let replied = record-whole said_text.0 (omega arith) in
+      let reply_whole : IsWhole x.reply said_text.0 = subst (λ ys. IsWhole ys said_text.0) (sym said_text.1) replied in
+      let nothing_more = only xs rest.0 mid more in
+      let given : r.front ++ (behind ++ s.left) ≡ x.reply ++ [] =
+      sym (append_assoc r.front behind s.left) ∙ ap (λ ys. ys ++ s.left) (sym r.cut) ∙ given_is ∙ ap (λ ys. x.reply ++ ys) nothing_more.1 in
+      let back = whole-unique r.front x.reply (behind ++ s.left) [] reply said_text.0 front-whole reply_whole given in
+      let left = none-parts behind s.left back.1 in
+      let still = still-by w.reached s w.open_part rest.1 left.1 w.stands in
+      record {
+        x = x;
+        mid = mid;
+        exchanged = first;
+        message_is = same-message x.stream (record_of text) x.message text cut.0 here sent;
+        reply_is = subst (λ ys. IsWhole ys reply) back.0 front-whole;
+        none_behind = left.0;
+        idle = still.0;
+        after = subst (λ g. IsStill g s) nothing_more.0 still.1;
+      }
+    where
+      same-message : (a b m n : List ℕ) → a ≡ b → IsWhole a m → IsWhole b n → m ≡ n
+      same-message a b m n same first second = sym first.kept ∙ ap (λ ys. (fed first_buffer ys).kept) same ∙ second.kept
+
+      only : (xs : List exchange.Exchange) → streams_of xs ≡ [] → (mid : Gateway) → Exchanges mid xs w.reached → (w.reached ≡ mid) × (replies_of xs ≡ [])
+      only [] none mid more = (more, refl)
+      only (y ∷ ys) none mid more =
+          let parts = none-parts y.stream (streams_of ys) none in
+          let some = whole-some y.stream y.message (brought-whole y.stream y.message more.1.whole) in
+          let len = ap (λ (zs : List ℕ). length zs) parts.0 in
+          absurd (omega arith)
+
+  pub one-exchange : IsExchanged start s text reply behind
+  one-exchange = exchanged-by w.done w.exchanged w.taken_is w.given_is
+
+-- ---- the call, and what its reply says
+
+-- a call's message is read as the call
+module _ (xid lid io_timeout lock_timeout flags : ℕ) (bytes : List ℕ) (numbered : xid < 2 ^ 32) (fits : CallFits (call.Write lid io_timeout lock_timeout flags bytes)) where
+  abbrev the_write : Call
+  the_write = call.Write lid io_timeout lock_timeout flags bytes
+
+  message-asks : meaning (message xid the_write) role.Core ≡ Asks xid the_write
+  message-asks = ap by_sorting (served-sorted role.Core proc.Write xid (arguments the_write) numbered refl) ∙ ap (by_arguments xid) (asked-again the_write fits)
+
+-- the error of a write's results is the first word
+written-error : (e n : ℕ) (o : Outcome) → e < 2 ^ 32 → answered proc.Write (word e ++ word n) ≡ Some o → error_of o ≡ e
+written-error e n o small h =
+    by (row_at (number ∷ []) (word n))
+    (ap (λ found. whole (option_map (λ (f : Contents (number ∷ number ∷ []) × List ℕ). (outcome_of Written f.0, f.1))
+    (option_and_then (λ (first : ℕ × List ℕ). option_map (λ (others : Contents (number ∷ []) × List ℕ). ((first.0, others.0), others.1)) (row_at (number ∷ []) first.1)) found)))
+    (sym (field-again number e (word e) (word n) (field-written number e small))) ∙ h)
+  where
+    by : (found : Option (Contents (number ∷ []) × List ℕ))
+        → whole (option_map (λ (f : Contents (number ∷ number ∷ []) × List ℕ). (outcome_of Written f.0, f.1)) (option_map (λ (others : Contents (number ∷ []) × List ℕ). ((e, others.0), others.1)) found)) ≡ Some o
+        → error_of o ≡ e
+    by None h = cc
+    by (Some (v, [])) h = ap error_of (sym (same_Some _ o h))
+    by (Some (v, b ∷ bs)) h = cc
+
+-- only one code has number 0
+zero-ok : (e : ErrorCode) → error_number e ≡ 0 → e ≡ code.Ok
+zero-ok code.Ok h = refl
+zero-ok code.Syntax h = absurd (omega arith)
+zero-ok code.NotAccessible h = absurd (omega arith)
+zero-ok code.InvalidLink h = absurd (omega arith)
+zero-ok code.Parameter h = absurd (omega arith)
+zero-ok code.NoChannel h = absurd (omega arith)
+zero-ok code.NotSupported h = absurd (omega arith)
+zero-ok code.NoResources h = absurd (omega arith)
+zero-ok code.Locked h = absurd (omega arith)
+zero-ok code.NotHeld h = absurd (omega arith)
+zero-ok code.Timeout h = absurd (omega arith)
+zero-ok code.BusFault h = absurd (omega arith)
+zero-ok code.InvalidAddress h = absurd (omega arith)
+zero-ok code.Abort h = absurd (omega arith)
+zero-ok code.ChannelUp h = absurd (omega arith)
+
+small-error : (e : ErrorCode) → error_number e < 2 ^ 32
+small-error code.Ok = omega arith
+small-error code.Syntax = omega arith
+small-error code.NotAccessible = omega arith
+small-error code.InvalidLink = omega arith
+small-error code.Parameter = omega arith
+small-error code.NoChannel = omega arith
+small-error code.NotSupported = omega arith
+small-error code.NoResources = omega arith
+small-error code.Locked = omega arith
+small-error code.NotHeld = omega arith
+small-error code.Timeout = omega arith
+small-error code.BusFault = omega arith
+small-error code.InvalidAddress = omega arith
+small-error code.Abort = omega arith
+small-error code.ChannelUp = omega arith
+
+-- results that are an answer have error 0
+judged-done : (c : Call) (room : ℕ) (o d : Outcome) → judged c room o ≡ said.Done d → error_of o ≡ 0
+judged-done c room o d h = by (can_be c room o) (error_of o == 0) refl h where
+  by : (can zero : Bool) → (error_of o == 0) ≡ zero → cond can (cond zero (said.Done o) (said.Failed (error_of o))) said.Bad ≡ said.Done d → error_of o ≡ 0
+  by true true is h = eqb-true (error_of o) 0 is
+  by true false is h = absurd (cc)
+  by false zero is h = absurd (cc)
+
+results-done : (c : Call) (room : ℕ) (found : Option Outcome) (d : Outcome) → results_meaning c room found ≡ said.Done d → (o : Outcome) × (found ≡ Some o) × (error_of o ≡ 0)
+results-done c room None d h = absurd (cc)
+results-done c room (Some o) d h = (o, refl, judged-done c room o d h)
+
+-- a call that returned its results had them
+returned-done : {X : Type 0} (view : Outcome → X) (len : ℕ) (m : said.Meaning) (x : X) → returned view len m ≡ Ok x → (o : Outcome) × (m ≡ said.Done o)
+returned-done view len (said.Done o) x h = (o, refl)
+returned-done view len (said.Failed n) x h = absurd (cc)
+returned-done view len (said.Refused r) x h = absurd (cc)
+returned-done view len said.Bad x h = absurd (cc)
+
+-- it got a reply
+pub record GotReply (stands : LoopState → List ℕ → List ℕ → Type 0) (left : LoopState → Option (List ℕ)) (old new : ClientState LoopState) (c : Call) : Type 0 where
+  pub reply : List ℕ
+  pub keeps : KeepsReply old new c 0 reply
+  pub asks : Asked stands left old new c (λ stream got. IsReply stream reply new.kept)
+  pub outcome : Outcome
+  pub done : said.meaning old.next c 0 reply ≡ said.Done outcome
+
+got-reply : (stands : LoopState → List ℕ → List ℕ → Type 0) (left : LoopState → Option (List ℕ)) (receives sends : LoopState → ℕ) (old new : ClientState LoopState) (c : Call)
+    (how : Exchange) (done : Unit {0}) → Exchanged stands left receives sends old new c 0 how → result_of nothing_of old.next c 0 how ≡ Ok done → GotReply stands left old new c
+got-reply stands left receives sends old new c Idle done h is = absurd (cc)
+got-reply stands left receives sends old new c Unsent done h is = absurd (cc)
+got-reply stands left receives sends old new c Unread done h is = absurd (cc)
+got-reply stands left receives sends old new c Ended done h is = absurd (cc)
+got-reply stands left receives sends old new c TooLong done h is = absurd (cc)
+got-reply stands left receives sends old new c (Replied reply) done h is =
+    let found = returned-done nothing_of (length reply) (said.meaning old.next c 0 reply) done is in
+    record { reply = reply; keeps = h.0; asks = h.1; outcome = found.0; done = found.1 }
+
+-- ---- one write
+
+module _ (old new : ClientState LoopState) (lid io_timeout lock_timeout flags : ℕ) (bytes : List ℕ) (numbered : old.next < 2 ^ 32)
+    (fits : CallFits (call.Write lid io_timeout lock_timeout flags bytes)) (small : length bytes ≤ WRITE_MAX) (s t : ServedState) (k : IsKept s) (rests : IsResting old s)
+    (serves : new.link.served ≡ Some t) where
+  abbrev asked_now : Call
+  asked_now = call.Write lid io_timeout lock_timeout flags bytes
+
+  message-short : length (message old.next asked_now) ≤ RECORD_MAX
+  message-short = let args = arguments-short asked_now small in omega arith
+
+  piece-by : (g : GotReply (MarkedStands old.link) (λ l. None) old new asked_now) → Went (gateway_of s.core) t (call_record old.next asked_now) g.asks.got
+      → IsPieceHeard old new lid (marked_bytes (sets_end flags) bytes) s
+  piece-by g w =
+      let came : IsReply g.asks.got g.reply new.kept = subst (λ xs. IsReply (xs ++ g.asks.got) g.reply new.kept) rests.none_kept g.asks.came in
+      let e = one-exchange (gateway_of s.core) t (message old.next asked_now) g.asks.got g.reply new.kept message-short w came in
+      let is : meaning e.x.message role.Core ≡ Asks old.next asked_now =
+      ap (λ m. meaning m role.Core) e.message_is ∙ message-asks old.next lid io_timeout lock_timeout flags bytes numbered fits in
+      let replies : Replies (Asks old.next asked_now) e.x.group e.x.reply = subst (λ m. Replies m e.x.group e.x.reply) is e.exchanged.replies in
+      let told = replies.0 in
+      let one = one-call s.core.fine asked_now told e.x.group e.exchanged.adds.last k.reached (k.calm rests.idle.answered) replies.1 e.exchanged.adds.events in
+      let kind = call-replies s.core.fine e.exchanged.adds.last e.x.group lid io_timeout lock_timeout flags bytes told one in
+      let text = success_message old.next ++ results told in
+      let short = e.exchanged.short in
+      let len = ap (λ (ys : List ℕ). length ys) replies.2 in
+      let reply_text : g.reply ≡ text =
+      sym e.reply_is.kept ∙ ap (λ ys. (fed first_buffer ys).kept) replies.2 ∙ (record-whole text (omega arith)).kept in
+      let reads : Success old.next (results told) ≡ reply_meaning g.reply = sym (ap reply_meaning reply_text ∙ success-read old.next (results told) numbered) in
+      let means = success-meaning old.next old.next 0 asked_now g.reply (results told) proc.Write (answered proc.Write (results told)) reads refl refl refl in
+      let had = results-done asked_now 0 (answered proc.Write (results told)) g.outcome (sym means ∙ g.done) in
+      let error = kind.0.0 in
+      let size = kind.0.1 in
+      let read : answered proc.Write (word (error_number error) ++ word size) ≡ Some had.0 = ap (λ (r : Reply). answered proc.Write (results r)) (sym kind.0.2) ∙ had.1 in
+      let zero = zero-ok error (sym (written-error (error_number error) size had.0 (small-error error) read) ∙ had.2) in
+      let ok : told ≡ reply.Write code.Ok size = kind.0.2 ∙ ap (λ c. reply.Write c size) zero in
+      let one_ok = subst (λ r. IsOneCall s.core.fine asked_now r e.x.group e.exchanged.adds.last) ok one in
+      let moves : flat_map moved (e.x.group ++ e.after.group) ≡ flat_map moved e.x.group =
+      flat_map-append moved e.x.group e.after.group ∙ ap (λ ms. flat_map moved e.x.group ++ ms) e.after.still ∙ append-nil (flat_map moved e.x.group) in
+      record {
+        then_served = t;
+        rests = record {
+          serves = serves;
+          idle = e.idle;
+          fit = g.keeps.spent ∙ ap is_bad g.done;
+          none_kept = e.none_behind;
+        };
+        alive = one.lives;
+        links = λ lives.
+            ap (λ (h : Gateway). h.fine.state.tables.links) (e.after.same lives) ∙ ap (λ (f : FineState). f.state.tables.links) e.exchanged.adds.at_now ∙ kind.1;
+        hears = λ a device.
+            (let heard_now = call-heard s.core.fine e.exchanged.adds.last e.x.group lid io_timeout lock_timeout flags size bytes a device.link one_ok device.live device.target in
+            record {
+              group = e.x.group ++ e.after.group;
+              steps = e.x.steps ++ e.after.steps;
+              adds = adds-append (gateway_of s.core) e.mid (gateway_of t.core) e.x.group e.after.group e.x.steps e.after.steps e.exchanged.adds e.after.adds;
+              here = ap (heard a s.core.fine.state.wire) moves ∙ heard_now.0;
+              elsewhere = λ b ne. ap (heard b s.core.fine.state.wire) moves ∙ heard_now.1 b ne;
+            });
+      }
+
+-- a write of one piece, over a link that was looked at from its start
+pub piece-heard : (old new : ClientState LoopState) (lid io_timeout lock_timeout flags : ℕ) (bytes : List ℕ) (done : Unit {0}) → old.next < 2 ^ 32
+    → CallFits (call.Write lid io_timeout lock_timeout flags bytes) → length bytes ≤ WRITE_MAX → IfSome old.link.served IsKept
+    → IsCalled (MarkedStands old.link) (λ l. None) (λ l. l.receive_faults) (λ l. l.send_faults) old new (call.Write lid io_timeout lock_timeout flags bytes) 0 nothing_of (Ok done)
+    → (s : ServedState) → IsResting old s → IsPieceHeard old new lid (marked_bytes (sets_end flags) bytes) s
+piece-heard old new lid io_timeout lock_timeout flags bytes done numbered fits small kept called s rests =
+    let c = call.Write lid io_timeout lock_timeout flags bytes in
+    let g = got-reply (MarkedStands old.link) (λ l. None) (λ l. l.receive_faults) (λ l. l.send_faults) old new c called.how done called.exchanged (sym called.answer) in
+    let k : IsKept s = subst (λ o. IfSome o IsKept) rests.serves kept in
+    let since = (marked-from old.link new.link (call_record old.next c) g.asks.got g.asks.moved.goes).1 s rests.serves rests.idle in
+    by new.link.served refl g k since
+  where
+    by : (o : Option ServedState) → new.link.served ≡ o
+        → (g : GotReply (MarkedStands old.link) (λ l. None) old new (call.Write lid io_timeout lock_timeout flags bytes)) → IsKept s
+        → Since (gateway_of s.core) o (call_record old.next (call.Write lid io_timeout lock_timeout flags bytes)) g.asks.got
+        → IsPieceHeard old new lid (marked_bytes (sets_end flags) bytes) s
+    by None is g k since = absurd since
+    by (Some t) is g k since = piece-by old new lid io_timeout lock_timeout flags bytes numbered fits small s t k rests is g since
+
+-- what holds of a result that is there
+pub on-ok : {E : Type 0} (r : Result (Unit {0}) E) (P : Type 0) → ((done : Unit {0}) → r ≡ Ok done → P) → OnOk r P
+on-ok (Ok done) P f = f done refl
+on-ok (Err e) P f = tt
+
+pub at-ok : {E : Type 0} (r : Result (Unit {0}) E) (P : Type 0) (done : Unit {0}) → r ≡ Ok done → OnOk r P → P
+at-ok (Ok found) P done is p = p
+at-ok (Err e) P done is p = absurd (cc)

@@ -1,0 +1,108 @@
+-- What happens in a gateway, one part after the other.
+use Rattle.std.proofs.Common.{◌≡◌, ◌≤◌, ℕ, List, [], ◌∷◌, ◌++◌, Option, Some, None, refl, sym, ap, ◌∙◌, subst, arith}
+use Rattle.std.specs.List.{flat_map}
+use Rattle.std.proofs.lemmas.Grind.{flat_map-append}
+use Rattle.vx_bus.specs.Steps.{Step, Went, Held, Failed, Told, Cut}
+use Rattle.vx_sim.specs.SimState.{SimState}
+use Rattle.vx_sim.specs.Laws.{transfers}
+use Rattle.vx_488.specs.declared.wire.Wire.{Wire}
+use Rattle.vx_model.specs.Lists.{along}
+use Rattle.vx_model.specs.State.{Tables}
+use Rattle.vx_flow.specs.Event.{Event}
+use Rattle.vx_flow.specs.FineState.{FineState, Turn, first_fine}
+use Rattle.vx_flow.specs.Fine.{fine}
+use Rattle.vx_flow.specs.Poll.{at_moment}
+use Rattle.vx_flow.specs.Sound.{TurnStands, IsSound}
+use Rattle.vx_flow.proofs.Lookups.{along-append}
+use Rattle.vx_flow.proofs.Earlier.{earlier_law-holds}
+use Rattle.vx_flow.proofs.Gathering.{fine-gathers}
+use Rattle.vx_play.specs.Gateway.{Gateway, BusGoes}
+use Rattle.vx_play.specs.Item.{moved}
+use Rattle.vx_loop.specs.Exchanges.{Adds}
+use Rattle.vx_loop.specs.Standing.{IsReached}
+
+-- the transfers of one list of steps and then another
+pub transfers-append : (xs ys : List Step) → transfers (xs ++ ys) ≡ transfers xs ++ transfers ys
+transfers-append [] ys = refl
+transfers-append (Went t ∷ xs) ys = ap (λ ts. t ∷ ts) (transfers-append xs ys)
+transfers-append (Held asked ∷ xs) ys = transfers-append xs ys
+transfers-append (Failed asked ∷ xs) ys = transfers-append xs ys
+transfers-append (Told now ∷ xs) ys = transfers-append xs ys
+transfers-append (Cut ∷ xs) ys = transfers-append xs ys
+
+-- the bus goes through one list and then another
+bus-append : (a b c : SimState) (xs ys : List Step) → BusGoes a xs b → BusGoes b ys c → BusGoes a (xs ++ ys) c
+bus-append a b c [] ys first second = subst (λ s. BusGoes s ys c) first second
+bus-append a b c (x ∷ xs) ys first second = (first.0, first.1, bus-append first.0 b c xs ys first.2 second)
+
+-- nothing happens
+pub adds-none : (g : Gateway) → Adds g [] [] g
+adds-none g = record { last = g.fine; events = refl; late = omega arith; at_now = refl; bus = refl; moves = refl }
+
+-- events that are allowed behind a state at a later moment
+pub along-later : (first last : FineState) (f g : FineState) (xs ys : List Event) → along fine (Some first) xs ≡ Some last → last.state.moment ≤ f.state.moment
+    → f ≡ at_moment last f.state.moment → along fine (Some f) ys ≡ Some g
+    → (moment : ℕ) × (along fine (Some first) (xs ++ ys) ≡ Some (at_moment g moment)) × (moment ≤ g.state.moment)
+along-later first last f g xs ys led late at goes =
+    let more = earlier_law-holds last g f.state.moment ys late (ap (λ x. along fine (Some x) ys) (sym at) ∙ goes) in
+    (more.0, along-append fine (Some first) xs ys ∙ ap (λ o. along fine o ys) led ∙ more.1, more.2)
+
+-- one part and then another
+pub adds-append : (a b c : Gateway) (xs ys : List Event) (ss ts : List Step) → Adds a xs ss b → Adds b ys ts c → Adds a (xs ++ ys) (ss ++ ts) c
+adds-append a b c xs ys ss ts first second =
+    let led = along-later a.fine first.last b.fine second.last xs ys first.events first.late first.at_now second.events in
+    let late = second.late in
+    let early = led.2 in
+    record {
+      last = at_moment second.last led.0;
+      events = led.1;
+      late = omega arith;
+      at_now = second.at_now;
+      bus = bus-append a.bus b.bus c.bus ss ts first.bus second.bus;
+      moves =
+          transfers-append ss ts ∙ ap (λ ms. ms ++ transfers ts) first.moves ∙ ap (λ ms. flat_map moved xs ++ ms) second.moves
+          ∙ sym (flat_map-append moved xs ys);
+    }
+
+-- a state with a history has one behind what happens
+pub reached-more : (a b : Gateway) (xs : List Event) (ss : List Step) → IsReached a.fine → Adds a xs ss b → IsReached b.fine
+reached-more a b xs ss r h =
+    let led = along-later (first_fine r.abort_port) r.last a.fine h.last r.history xs r.allowed r.late r.at_now h.events in
+    let late = h.late in
+    let early = led.2 in
+    record {
+      abort_port = r.abort_port;
+      history = r.history ++ xs;
+      last = at_moment h.last led.0;
+      allowed = led.1;
+      late = omega arith;
+      at_now = h.at_now;
+    }
+
+-- what holds between events holds at a later moment
+later-stands : (t : Tables) (before wire : Wire) (moment now : ℕ) (turn : Option Turn) → moment ≤ now → TurnStands t before wire moment turn → TurnStands t before wire now turn
+later-stands t before wire moment now None late h = h
+later-stands t before wire moment now (Some u) late h = record {
+  asked = h.asked;
+  link = h.link;
+  job = h.job;
+  call_at = h.call_at;
+  on_link = h.on_link;
+  has_job = h.has_job;
+  in_role = h.in_role;
+  made = h.made;
+  on_plan = h.on_plan;
+  came = h.came;
+  began = let b = h.began in omega arith;
+  passes = h.passes;
+  unmarked = h.unmarked;
+}
+
+pub reached-sound : (f : FineState) → IsReached f → IsSound f
+reached-sound f r =
+    let sound = (fine-gathers r.abort_port r.history r.last r.allowed).sound in
+    let late = r.late in
+    subst IsSound (sym r.at_now) (record {
+      turn_stands = later-stands r.last.state.tables r.last.before r.last.state.wire r.last.state.moment f.state.moment r.last.turn late sound.turn_stands;
+      have_come = λ conn p at. (let came = sound.have_come conn p at in omega arith);
+    })

@@ -1,0 +1,127 @@
+-- A link as it is made.
+use Rattle.std.proofs.Common.{◌≡◌, ◌==◌, ℕ, Bool, true, false, cond, ◌&&◌, List, [], ◌∷◌, Some, None, Result, Ok, Err, refl, sym, ap, ◌∙◌, subst, arith}
+use Rattle.std.specs.Prelude.{OnOk, OnErr, IfOk, is_err, nat_le}
+use Rattle.std.proofs.lemmas.Bool.{false≢true, true≢false, and_parts, eqb-true}
+use Rattle.std.proofs.lemmas.Option.{cond_some, none-some}
+use Rattle.vx_calls.specs.declared.calls.Role.TheVariants as role
+use Rattle.vx_calls.specs.declared.limits.TheConstants.{RECORD_MAX}
+use Rattle.vx_record.specs.Buffer.{BufState, fresh}
+use Rattle.vx_bus.specs.Steps.{Cut}
+use Rattle.vx_sim.specs.SimState.{SimState}
+use Rattle.vx_srq.specs.Desk as desk
+use Rattle.vx_model.specs.Lists.{along}
+use Rattle.vx_model.specs.State.{State, pending_at, has_room, with_connection}
+use Rattle.vx_model.specs.Entry as entry
+use Rattle.vx_model.specs.One.{one}
+use Rattle.vx_flow.specs.Event.{Up, Sample}
+use Rattle.vx_flow.specs.FineState.{FineState, first_fine}
+use Rattle.vx_flow.specs.Fine.{fine, fine_after}
+use Rattle.vx_flow.proofs.Lookups.{mapped}
+use Rattle.std.specs.Option.{option_map}
+use Rattle.std.proofs.lemmas.Bool.Decides.{nat_tests}
+use Rattle.vx_flow.specs.Laws.{fine_along}
+use Rattle.vx_kernel.specs.CoreState.{CoreState}
+use Rattle.vx_play.specs.Gateway.{BusGoes}
+use Rattle.vx_play.proofs.Messages.{step-made}
+use Rattle.vx_loop.specs.LoopState.{unconnected, IsUnconnected, IsBeginning}
+use Rattle.vx_loop.specs.Standing.{IsReached, IsKept}
+
+-- what holds of a failed result, and of one that didn't fail
+pub on-err : {A E : Type 0} (r : Result A E) (P : Type 0) → is_err r ≡ true → OnErr r P → P
+on-err (Ok a) P h p = absurd (false≢true h)
+on-err (Err e) P h p = p
+
+pub on-ok : {A E : Type 0} (r : Result A E) (P : Type 0) → is_err r ≡ false → OnOk r P → P
+on-ok (Ok a) P h p = p
+on-ok (Err e) P h p = absurd (true≢false h)
+
+pub if-ok : {A E : Type 0} (r : Result A E) (P : A → Type 0) → is_err r ≡ false → IfOk r P → (a : A) × P a
+if-ok (Ok a) P h p = (a, p)
+if-ok (Err e) P h p = absurd (true≢false h)
+
+-- the gateway before is one that was sampled, once
+abbrev sampled_state : ℕ → Bool → ℕ → State
+sampled_state port level moment =
+    let s = (first_fine port).state in record s { tables = record s.tables { desk = desk.sampled s.tables.desk level }; moment = moment }
+
+abbrev Samples : ℕ → Bool → ℕ → Bool → Type 0
+Samples port level moment b =
+    option_map (fine_after (first_fine port) (Sample moment level) []) (cond b (Some (sampled_state port level moment)) None) ≡ Some (unconnected port level moment)
+
+sampled-first : (port : ℕ) (level : Bool) (moment : ℕ) → fine_along port (Sample moment level ∷ []) ≡ Some (unconnected port level moment)
+sampled-first port true moment = let early : nat_le 0 moment ≡ true = grind (arith, nat_tests) in subst (Samples port true moment) (sym early) refl
+sampled-first port false moment = let early : nat_le 0 moment ≡ true = grind (arith, nat_tests) in subst (Samples port false moment) (sym early) refl
+
+-- a connection that comes up on it
+module _ (port : ℕ) (level : Bool) (moment conn : ℕ) (g : FineState) (h : fine (unconnected port level moment) (Up conn role.Core) ≡ Some g) where
+  abbrev start_fine : FineState
+  start_fine = unconnected port level moment
+
+  abbrev up_state : State
+  up_state = record start_fine.state { tables = with_connection start_fine.state.tables role.Core }
+
+  -- has number 1
+  comes-up : (conn ≡ 1) × (g ≡ fine_after start_fine (Up conn role.Core) [] up_state)
+  comes-up =
+      let made = mapped (fine_after start_fine (Up conn role.Core) []) (one start_fine.state (entry.Up conn role.Core)) g (step-made start_fine g (Up conn role.Core) h) in
+      let parts = cond_some ((conn == 1) && has_room start_fine.state.tables role.Core) up_state made.0 made.1 in (
+        eqb-true conn 1 (and_parts (conn == 1) (has_room start_fine.state.tables role.Core) parts.0).0,
+        sym made.2 ∙ ap (fine_after start_fine (Up conn role.Core) []) (sym parts.1),
+      )
+
+  up-fine : fine start_fine (Up 1 role.Core) ≡ Some g
+  up-fine = subst (λ n. fine start_fine (Up n role.Core) ≡ Some g) comes-up.0 h
+
+  up-turn : g.turn ≡ None
+  up-turn = ap (λ (f : FineState). f.turn) comes-up.1
+
+  up-none : pending_at g.state.tables 1 ≡ None
+  up-none = ap (λ (f : FineState). pending_at f.state.tables 1) comes-up.1
+
+  up-reached : IsReached g
+  up-reached = record {
+    abort_port = port;
+    history = Sample moment level ∷ Up 1 role.Core ∷ [];
+    last = g;
+    allowed = ap (λ o. along fine o (Up 1 role.Core ∷ [])) (sampled-first port level moment) ∙ up-fine;
+    late = omega arith;
+    at_now = refl;
+  }
+
+-- the link is kept as it is made
+pub new-kept : (f : FineState) (conn : ℕ) (core : CoreState SimState) (buffer : BufState) (xid now : ℕ) (left : List ℕ) → IsUnconnected f
+    → fine f (Up conn role.Core) ≡ Some core.fine → buffer ≡ fresh RECORD_MAX → now ≡ core.fine.state.moment
+    → IsKept (record { core = core; buffer = buffer; xid = xid; left = left; moment = now })
+new-kept f conn core buffer xid now left alone up fresh_is now_is =
+    let port = f.state.tables.abort_port in
+    let level = f.state.tables.desk.level in
+    let moment = f.state.moment in
+    let h : fine (unconnected port level moment) (Up conn role.Core) ≡ Some core.fine = subst (λ (x : FineState). fine x (Up conn role.Core) ≡ Some core.fine) alone up in
+    record {
+      late = omega arith;
+      limit = ap (λ (b : BufState). b.limit) fresh_is;
+      waits = ap (λ (b : BufState). b.state) fresh_is;
+      reached = up-reached port level moment conn core.fine h;
+      own = λ u is. absurd (none-some u (sym (up-turn port level moment conn core.fine h) ∙ is));
+      calm = λ none. up-turn port level moment conn core.fine h;
+    }
+
+-- and has just begun
+pub new-begins : (f : FineState) (conn : ℕ) (core : CoreState SimState) (buffer : BufState) (xid now : ℕ) (left : List ℕ) → IsUnconnected f
+    → fine f (Up conn role.Core) ≡ Some core.fine → buffer ≡ fresh RECORD_MAX → left ≡ []
+    → IsBeginning (record { core = core; buffer = buffer; xid = xid; left = left; moment = now })
+new-begins f conn core buffer xid now left alone up fresh_is none =
+    let port = f.state.tables.abort_port in
+    let level = f.state.tables.desk.level in
+    let moment = f.state.moment in
+    let h : fine (unconnected port level moment) (Up conn role.Core) ≡ Some core.fine = subst (λ (x : FineState). fine x (Up conn role.Core) ≡ Some core.fine) alone up in
+    record {
+      idle = record { answered = up-none port level moment conn core.fine h; fresh_is = fresh_is; given = none };
+      before = f;
+      alone = alone;
+      up = subst (λ (x : FineState). fine x (Up 1 role.Core) ≡ Some core.fine) (sym alone) (up-fine port level moment conn core.fine h);
+    }
+
+-- a bus that was cut has the instruments that it had
+pub new-bench : (old new : SimState) → BusGoes old (Cut ∷ []) new → new.bench ≡ old.bench
+new-bench old new w = ap (λ (s : SimState). s.bench) w.2 ∙ w.1.1.2

@@ -1,0 +1,230 @@
+-- Whole records on a stream, and the one way to cut a stream into them.
+use Rattle.std.proofs.Common.{◌≡◌, ℕ, suc, ◌+◌, ◌-◌, ◌<◌, ◌≤◌, Bool, true, false, cond, List, [], ◌∷◌, ◌++◌, length, take, refl, sym, ap, subst, ◌∙◌, inl, inr, ◌⊎◌, arith, append-nil}
+use Rattle.std.specs.Prelude.{nat_lt}
+use Rattle.std.proofs.lemmas.Bool.Decides.{nat_tests}
+use Rattle.std.proofs.lemmas.Bool.{false≢true}
+use Rattle.std.proofs.lemmas.List.{length-take}
+use Rattle.vx_calls.specs.declared.limits.TheConstants.{RECORD_MAX}
+use Rattle.vx_record.specs.declared.Feed.{Feed}
+use Rattle.vx_record.specs.declared.Feed.TheVariants as feed
+use Rattle.vx_record.specs.Fragments.{last_header}
+use Rattle.vx_record.specs.Records.{Split, records}
+use Rattle.vx_record.specs.Buffer.{BufState, fresh, step, fed, taken}
+use Rattle.vx_record.specs.Ends.{is_settled, IsEnd, FeedEnds}
+use Rattle.vx_record.proofs.Feeding.{fed-stopped, taken-more, taken-stopped}
+use Rattle.vx_record.proofs.Ends.{fed-append, feed-ends}
+use Rattle.vx_record.proofs.Headers.{fragment_length-last_header}
+use Rattle.vx_record.proofs.Spelling.{records-finished, records-open}
+use Rattle.vx_message.specs.Meaning.{record_of}
+use Rattle.vx_play.specs.Stream as brings
+use Rattle.vx_play.specs.Stream.{Brought, by_split, brought_by}
+
+-- the buffer that begins a record
+abbrev pub first_buffer : BufState
+first_buffer = fresh RECORD_MAX
+
+-- these bytes are one whole record of this message, with nothing behind it
+pub record IsWhole (stream message : List ℕ) : Type 0 where
+  pub state : (fed first_buffer stream).state ≡ feed.Whole
+  pub kept : (fed first_buffer stream).kept ≡ message
+  pub all : taken first_buffer stream ≡ length stream
+
+-- a record that is whole, or too long, takes no more
+whole-stops : (s : BufState) → s.state ≡ feed.Whole → s.state ≡ feed.More → ⊥
+whole-stops s h e = let both : feed.Whole ≡ feed.More = sym h ∙ e in cc
+
+is-open : (state : Feed) → (state ≡ feed.More) ⊎ (state ≡ feed.More → ⊥)
+is-open feed.More = inl refl
+is-open feed.Whole = inr (λ e. cc)
+is-open feed.TooLong = inr (λ e. cc)
+
+-- ---- what a feed takes
+
+-- it takes no more than there is
+pub taken-within : (s : BufState) (xs : List ℕ) → taken s xs ≤ length xs
+taken-within s [] = omega arith
+taken-within s (x ∷ xs) = by (is-open s.state) (taken-within (step s x) xs) where
+  by : (s.state ≡ feed.More) ⊎ (s.state ≡ feed.More → ⊥) → taken (step s x) xs ≤ length xs → taken s (x ∷ xs) ≤ suc (length xs)
+  by (inl more) rest = let is = taken-more s x xs more in omega arith
+  by (inr stopped) rest = let is = taken-stopped s (x ∷ xs) stopped in omega arith
+
+-- of one list and then another
+taken-append : (s : BufState) (xs ys : List ℕ) → taken s (xs ++ ys) ≡ taken s xs + taken (fed s xs) ys
+taken-append s [] ys = omega arith
+taken-append s (x ∷ xs) ys = by (is-open s.state) (taken-append (step s x) xs ys) where
+  by : (s.state ≡ feed.More) ⊎ (s.state ≡ feed.More → ⊥) → taken (step s x) (xs ++ ys) ≡ taken (step s x) xs + taken (fed (step s x) xs) ys
+      → taken s (x ∷ xs ++ ys) ≡ taken s (x ∷ xs) + taken (fed s (x ∷ xs)) ys
+  by (inl more) rest = let a = taken-more s x (xs ++ ys) more in let b = taken-more s x xs more in omega arith
+  by (inr stopped) rest =
+      let a = taken-stopped s (x ∷ xs ++ ys) stopped in
+      let b = taken-stopped s (x ∷ xs) stopped in
+      let c : taken (fed s (x ∷ xs)) ys ≡ 0 = ap (λ t. taken t ys) (fed-stopped s (x ∷ xs) stopped) ∙ taken-stopped s ys stopped in
+      omega arith
+
+-- the part that it takes brings it where the whole does
+pub fed-taken : (s : BufState) (xs : List ℕ) → (fed s (take (taken s xs) xs) ≡ fed s xs) × (taken s (take (taken s xs) xs) ≡ taken s xs)
+fed-taken s [] = (refl, refl)
+fed-taken s (x ∷ xs) = by (is-open s.state) (fed-taken (step s x) xs) where
+  by : (s.state ≡ feed.More) ⊎ (s.state ≡ feed.More → ⊥)
+      → (fed (step s x) (take (taken (step s x) xs) xs) ≡ fed (step s x) xs) × (taken (step s x) (take (taken (step s x) xs) xs) ≡ taken (step s x) xs)
+      → (fed s (take (taken s (x ∷ xs)) (x ∷ xs)) ≡ fed s (x ∷ xs)) × (taken s (take (taken s (x ∷ xs)) (x ∷ xs)) ≡ taken s (x ∷ xs))
+  by (inl more) rest =
+      let n = taken (step s x) xs in
+      let is : taken s (x ∷ xs) ≡ suc n = taken-more s x xs more in
+      let P : ℕ → Type 0 = λ m. (fed s (take m (x ∷ xs)) ≡ fed s (x ∷ xs)) × (taken s (take m (x ∷ xs)) ≡ m) in
+      subst P (sym is) (rest.0, taken-more s x (take n xs) more ∙ ap suc rest.1)
+  by (inr stopped) rest =
+      let is : taken s (x ∷ xs) ≡ 0 = taken-stopped s (x ∷ xs) stopped in
+      let P : ℕ → Type 0 = λ m. (fed s (take m (x ∷ xs)) ≡ fed s (x ∷ xs)) × (taken s (take m (x ∷ xs)) ≡ m) in
+      subst P (sym is) (sym (fed-stopped s (x ∷ xs) stopped), refl)
+
+-- ---- whole records
+
+-- an empty stream has no record
+pub none-yet : records RECORD_MAX [] ≡ record { records = []; rest = []; too_long = false }
+none-yet = records-open RECORD_MAX [] [] tt (omega arith) (inl (omega arith))
+
+-- where a buffer stands, in the words of a stream
+abbrev pub brought_of : Feed → List ℕ → Brought
+brought_of feed.More kept = brings.NoEnd
+brought_of feed.Whole kept = brings.Whole kept
+brought_of feed.TooLong kept = brings.TooLong
+
+by_end : (state : Feed) (kept : List ℕ) (split : Split) → IsEnd state kept split → by_split split.records split.too_long ≡ brought_of state kept
+by_end feed.More kept split h = ap (λ rs. by_split rs split.too_long) h.0 ∙ ap (by_split []) h.1
+by_end feed.Whole kept split h = ap (λ rs. by_split rs split.too_long) h
+by_end feed.TooLong kept split h = ap (λ rs. by_split rs split.too_long) h.0 ∙ ap (by_split []) h.1
+
+cond-false : {A : Type 0} (b : Bool) (x y : A) → b ≡ false → cond b x y ≡ y
+cond-false b x y e = ap (λ t. cond t x y) e
+
+cond-true : {A : Type 0} (b : Bool) (x y : A) → b ≡ true → cond b x y ≡ x
+cond-true b x y e = ap (λ t. cond t x y) e
+
+-- a piece that a buffer takes whole brings what the buffer stands at
+pub brought-is : (part piece : List ℕ) (buffer : BufState) → buffer ≡ fed first_buffer part → buffer.state ≡ feed.More → 0 < length piece
+    → taken buffer piece ≡ length piece → brought_by (part ++ piece) ≡ brought_of (fed buffer piece).state (fed buffer piece).kept
+brought-is part piece buffer held waits some all =
+    let fresh_waits : (fed first_buffer part).state ≡ feed.More = ap (λ (b : BufState). b.state) (sym held) ∙ waits in
+    let ends : FeedEnds RECORD_MAX (part ++ piece) (fed buffer piece) (taken buffer piece) (length piece) =
+    subst (λ b. FeedEnds RECORD_MAX (part ++ piece) (fed b piece) (taken b piece) (length piece)) (sym held) (feed-ends RECORD_MAX part piece fresh_waits some) in
+    cond-false _ brings.After _ (ends.open_before all) ∙ by_end (fed buffer piece).state (fed buffer piece).kept (records RECORD_MAX (part ++ piece)) (ends.ends all)
+
+-- a stream that isn't settled before its last byte is taken whole
+taken-whole : (took len : ℕ) (settled : Bool) → took ≤ len → settled ≡ false → (took < len → settled ≡ true) → took ≡ len
+taken-whole took len settled within open_before h = by (nat_lt took len) refl where
+  by : (b : Bool) → nat_lt took len ≡ b → took ≡ len
+  by true e = let short : took < len = grind (arith, nat_tests) in absurd (false≢true (sym open_before ∙ h short))
+  by false e = let all : len ≤ took = grind (arith, nat_tests) in omega arith
+
+-- a stream whose split is one record, and that isn't settled before its last byte, is a whole record
+end-whole : (state : Feed) (kept message : List ℕ) (split : Split) → IsEnd state kept split → split.records ≡ message ∷ [] → (state ≡ feed.Whole) × (kept ≡ message)
+end-whole feed.More kept message split h is = let both : [] ≡ message ∷ [] = sym h.0 ∙ is in absurd (cc)
+end-whole feed.TooLong kept message split h is = let both : [] ≡ message ∷ [] = sym h.0 ∙ is in absurd (cc)
+end-whole feed.Whole kept message split h is = let both : kept ∷ [] ≡ message ∷ [] = sym h ∙ is in (refl, cc)
+
+pub whole-by : (stream message : List ℕ) → 0 < length stream → is_settled (records RECORD_MAX (take (length stream - 1) stream)) ≡ false
+    → (records RECORD_MAX stream).records ≡ message ∷ [] → IsWhole stream message
+whole-by stream message some open_before is =
+    let ends = feed-ends RECORD_MAX [] stream refl some in
+    let all = taken-whole (taken first_buffer stream) (length stream) _ (taken-within first_buffer stream) open_before ends.settled_before in
+    let end = end-whole (fed first_buffer stream).state (fed first_buffer stream).kept message (records RECORD_MAX stream) (ends.ends all) is in
+    record { state = end.0; kept = end.1; all = all }
+
+-- what a stream brings that brings a record
+split-one : (rs : List (List ℕ)) (too_long : Bool) (message : List ℕ) → by_split rs too_long ≡ brings.Whole message → (rest : List (List ℕ)) × (rs ≡ message ∷ rest)
+split-one [] false message h = absurd (cc)
+split-one [] true message h = absurd (cc)
+split-one (r ∷ rs) too_long message h = let same : r ≡ message = cc in (rs, ap (λ x. x ∷ rs) same)
+
+brought-split : (settled : Bool) (split : Split) (message : List ℕ) → cond settled brings.After (by_split split.records split.too_long) ≡ brings.Whole message
+    → (settled ≡ false) × (by_split split.records split.too_long ≡ brings.Whole message)
+brought-split true split message h = absurd (cc)
+brought-split false split message h = (refl, h)
+
+end-brought : (state : Feed) (kept message : List ℕ) → brought_of state kept ≡ brings.Whole message → (state ≡ feed.Whole) × (kept ≡ message)
+end-brought feed.More kept message h = absurd (cc)
+end-brought feed.TooLong kept message h = absurd (cc)
+end-brought feed.Whole kept message h = (refl, cc)
+
+pub brought-whole : (stream message : List ℕ) → brought_by stream ≡ brings.Whole message → IsWhole stream message
+brought-whole [] message h =
+    let parts = brought-split _ (records RECORD_MAX []) message h in
+    let none : by_split [] false ≡ brings.Whole message = ap (λ (s : Split). by_split s.records s.too_long) (sym none-yet) ∙ parts.1 in
+    absurd (cc)
+brought-whole (x ∷ xs) message h =
+    let stream : List ℕ = x ∷ xs in
+    let parts = brought-split _ (records RECORD_MAX stream) message h in
+    let ends = feed-ends RECORD_MAX [] stream refl (omega arith) in
+    let all = taken-whole (taken first_buffer stream) (length stream) _ (taken-within first_buffer stream) parts.0 ends.settled_before in
+    let end = end-brought (fed first_buffer stream).state (fed first_buffer stream).kept message
+    (sym (by_end (fed first_buffer stream).state (fed first_buffer stream).kept (records RECORD_MAX stream) (ends.ends all)) ∙ parts.1) in
+    record { state = end.0; kept = end.1; all = all }
+
+-- and it brings the record
+pub whole-brought : (stream message : List ℕ) → IsWhole stream message → brought_by stream ≡ brings.Whole message
+whole-brought [] message w = absurd (let both : feed.More ≡ feed.Whole = w.state in cc)
+whole-brought (x ∷ xs) message w =
+    brought-is [] (x ∷ xs) first_buffer refl refl (omega arith) w.all ∙ ap (λ st. brought_of st (fed first_buffer (x ∷ xs)).kept) w.state ∙ ap brings.Whole w.kept
+
+-- a whole record has a byte
+pub whole-some : (stream message : List ℕ) → IsWhole stream message → 0 < length stream
+whole-some [] message w = absurd (let both : feed.More ≡ feed.Whole = w.state in cc)
+whole-some (x ∷ xs) message w = omega arith
+
+-- ---- a message as a record of one fragment
+
+part-open : (message : List ℕ) → length message ≤ RECORD_MAX
+    → (records RECORD_MAX (take (length (record_of message) - 1) (record_of message))) ≡ record {
+      records = [];
+      rest = take (length (record_of message) - 1) (record_of message);
+      too_long = false;
+    }
+part-open [] short = records-open RECORD_MAX [] _ tt (omega arith) (inl (omega arith))
+part-open (b ∷ bs) short =
+    let header = last_header (length (b ∷ bs)) in
+    let len = fragment_length-last_header (length (b ∷ bs)) (omega arith) in
+    let body = length-take (length bs) (b ∷ bs) in
+    let at : length (record_of (b ∷ bs)) - 1 ≡ suc (suc (suc (suc (length bs)))) = omega arith in
+    subst (λ n. records RECORD_MAX (take n (record_of (b ∷ bs))) ≡ record { records = []; rest = take n (record_of (b ∷ bs)); too_long = false }) (sym at)
+    (records-open RECORD_MAX [] (header ++ take (length bs) (b ∷ bs)) tt (omega arith)
+    (inr (header, take (length bs) (b ∷ bs), refl, refl, (omega arith), (omega arith))))
+
+pub record-whole : (message : List ℕ) → length message ≤ RECORD_MAX → IsWhole (record_of message) message
+record-whole message short =
+    let all = records-finished RECORD_MAX [] message [] tt (omega arith) (omega arith) in
+    let is : (records RECORD_MAX (record_of message)).records ≡ message ∷ [] =
+    ap (λ xs. (records RECORD_MAX xs).records) (sym (append-nil (record_of message))) ∙ ap (λ (s : Split). s.records) all
+    ∙ ap (λ (s : Split). message ∷ s.records) none-yet in
+    whole-by (record_of message) message (omega arith) (ap is_settled (part-open message short)) is
+
+-- ---- a stream is cut into records in one way
+
+-- two fronts of a list of the same length
+fronts : (a b xs ys : List ℕ) → a ++ xs ≡ b ++ ys → length a ≡ length b → (a ≡ b) × (xs ≡ ys)
+fronts [] [] xs ys h e = (refl, h)
+fronts [] (y ∷ b) xs ys h e = absurd (omega arith)
+fronts (x ∷ a) [] xs ys h e = absurd (omega arith)
+fronts (x ∷ a) (y ∷ b) xs ys h e =
+    let first : x ≡ y = cc in
+    let rest : a ++ xs ≡ b ++ ys = cc in
+    let both = fronts a b xs ys rest (omega arith) in
+    (ap (λ c. c ∷ a) first ∙ ap (λ c. y ∷ c) both.0, both.1)
+
+taken-front : (a xs message : List ℕ) → IsWhole a message → taken first_buffer (a ++ xs) ≡ length a
+taken-front a xs message w =
+    let n = taken-append first_buffer a xs in
+    let none = taken-stopped (fed first_buffer a) xs (whole-stops (fed first_buffer a) w.state) in
+    let all = w.all in
+    omega arith
+
+pub whole-unique : (a b xs ys m n : List ℕ) → IsWhole a m → IsWhole b n → a ++ xs ≡ b ++ ys → (a ≡ b) × (xs ≡ ys)
+whole-unique a b xs ys m n w v h =
+    fronts a b xs ys h (sym (taken-front a xs m w) ∙ ap (taken first_buffer) h ∙ taken-front b ys n v)
+
+-- a stream with no whole record doesn't begin with one
+pub open-front : (a xs part m : List ℕ) → IsWhole a m → (fed first_buffer part).state ≡ feed.More → part ≡ a ++ xs → ⊥
+open-front a xs part m w waits h =
+    let stays : fed first_buffer (a ++ xs) ≡ fed first_buffer a = fed-append first_buffer a xs ∙ fed-stopped (fed first_buffer a) xs (whole-stops (fed first_buffer a) w.state) in
+    let both : feed.Whole ≡ feed.More = sym w.state ∙ ap (λ (s : BufState). s.state) (sym stays) ∙ ap (λ ps. (fed first_buffer ps).state) (sym h) ∙ waits in
+    cc

@@ -1,0 +1,53 @@
+-- What the instruments hear of a write over a link to a gateway.
+use Rattle.std.specs.Prelude.{◌≡◌, ◌≢◌, ℕ, true, false, List, [], Some}
+use Rattle.std.specs.List.{flat_map}
+use Rattle.vx_calls.specs.declared.targets.Target.TheVariants.{Device}
+use Rattle.vx_488.specs.declared.transfers.Addr.{Addr}
+use Rattle.vx_488.specs.Heard.{Byte, heard}
+use Rattle.vx_bus.specs.Steps.{Step}
+use Rattle.vx_links.specs.Table.{Link}
+use Rattle.vx_calls.specs.declared.calls.Role.TheVariants as role
+use Rattle.vx_model.specs.State.{link_of, lives_as}
+use Rattle.vx_flow.specs.Event.{Event}
+use Rattle.vx_play.specs.Gateway.{Gateway, gateway_of}
+use Rattle.vx_play.specs.Item.{moved}
+use Rattle.vx_client.specs.State.{ClientState}
+use Rattle.vx_loop.specs.LoopState.{ServedState, LoopState, IsIdle}
+use Rattle.vx_loop.specs.Exchanges.{Adds}
+
+-- What happened in a gateway let an address hear these bytes, in order, and every other one none: of the transfers of the turns'
+-- moves, from the bus as it was before.
+pub record Hears (before after : Gateway) (a : Addr) (bytes : List Byte) : Type 0 where
+  pub group : List Event
+  pub steps : List Step
+  pub adds : Adds before group steps after
+  pub here : heard a before.fine.state.wire (flat_map moved group) ≡ bytes
+  pub elsewhere : (b : Addr) → b ≢ a → heard b before.fine.state.wire (flat_map moved group) ≡ []
+
+-- a client whose link is to this gateway, between calls: it keeps no byte behind the last reply, and isn't spent
+pub record IsResting (c : ClientState LoopState) (s : ServedState) : Type 0 where
+  pub serves : c.link.served ≡ Some s
+  pub idle : IsIdle s
+  pub fit : c.spent ≡ false
+  pub none_kept : c.kept ≡ []
+
+-- a live link of connection 1 to a device
+pub record IsToDevice (s : ServedState) (lid : ℕ) (a : Addr) : Type 0 where
+  pub link : Link
+  pub live : link_of s.core.fine.state.tables 1 lid ≡ Some link
+  pub target : link.target ≡ Device a.p a.s
+
+-- Over a client between calls one device_write did this to the device that its link is to; and the client is between calls
+-- again. The connection lived, and where it still does the links are the same.
+pub record IsPieceHeard (old new : ClientState LoopState) (lid : ℕ) (bytes : List Byte) (s : ServedState) : Type 0 where
+  pub then_served : ServedState
+  pub rests : IsResting new then_served
+  pub alive : lives_as s.core.fine.state.tables 1 role.Core ≡ true
+  pub links : lives_as then_served.core.fine.state.tables 1 role.Core ≡ true → then_served.core.fine.state.tables.links ≡ s.core.fine.state.tables.links
+  pub hears : (a : Addr) → IsToDevice s lid a → Hears (gateway_of s.core) (gateway_of then_served.core) a bytes
+
+-- so did a write in pieces
+pub record IsHeard (old new : ClientState LoopState) (lid : ℕ) (bytes : List Byte) (s : ServedState) : Type 0 where
+  pub then_served : ServedState
+  pub rests : IsResting new then_served
+  pub hears : (a : Addr) → IsToDevice s lid a → Hears (gateway_of s.core) (gateway_of then_served.core) a bytes

@@ -1,0 +1,56 @@
+-- What contracts see of a link to connection 1 of a gateway.
+use Rattle.std.specs.Prelude.{◌≡◌, ℕ, Bool, List, [], Option, Some, None}
+use Rattle.vx_calls.specs.declared.calls.Role.TheVariants as role
+use Rattle.vx_calls.specs.declared.limits.TheConstants.{RECORD_MAX}
+use Rattle.vx_record.specs.Buffer.{BufState, fresh}
+use Rattle.vx_sim.specs.SimState.{SimState}
+use Rattle.vx_srq.specs.Desk as desk
+use Rattle.vx_model.specs.State.{pending_at, first_tables, first}
+use Rattle.vx_flow.specs.Event.{Up}
+use Rattle.vx_flow.specs.FineState.{FineState, first_fine}
+use Rattle.vx_flow.specs.Fine.{fine}
+use Rattle.vx_kernel.specs.CoreState.{CoreState}
+
+-- a gateway that serves a link
+pub record ServedState : Type 0 where
+  pub core : CoreState SimState
+  -- what has come of the next record
+  pub buffer : BufState
+  -- the xid of the last call that came
+  pub xid : ℕ
+  -- what is left to give of the last reply
+  pub left : List ℕ
+  -- the moment of the last poll, in milliseconds
+  pub moment : ℕ
+
+pub record LoopState : Type 0 where
+  -- none only while the gateway is looked at apart from the link
+  pub served : Option ServedState
+  -- how many receives failed, and how many sends
+  pub receive_faults : ℕ
+  pub send_faults : ℕ
+
+-- no call is pending, no part of a record has come, and no byte of a reply is left to give
+pub record IsIdle (s : ServedState) : Type 0 where
+  pub answered : pending_at s.core.fine.state.tables 1 ≡ None
+  pub fresh_is : s.buffer ≡ fresh RECORD_MAX
+  pub given : s.left ≡ []
+
+-- a gateway on which no connection was ever made: it may have sampled the SRQ line
+abbrev pub unconnected : (abort_port : ℕ) (level : Bool) (moment : ℕ) → FineState
+unconnected abort_port level moment = record (first_fine abort_port) {
+  state = record (first abort_port) {
+    tables = record (first_tables abort_port) { desk = record desk.empty { level = level } };
+    moment = moment;
+  };
+}
+
+abbrev pub IsUnconnected : FineState → Type 0
+IsUnconnected f = f ≡ unconnected f.state.tables.abort_port f.state.tables.desk.level f.state.moment
+
+-- a link as it is made: connection 1 has come up on a gateway that had none before, and nothing else has happened on it
+pub record IsBeginning (s : ServedState) : Type 0 where
+  pub idle : IsIdle s
+  pub before : FineState
+  pub alone : IsUnconnected before
+  pub up : fine before (Up 1 role.Core) ≡ Some s.core.fine

@@ -1,0 +1,16 @@
+//! A gateway over a simulated bus as a link: what is sent over it comes on connection 1 of the gateway, and what is
+//! received are the gateway's replies. A client over such a link talks to the gateway in the same thread, and what its
+//! writes let the instruments hear is proved from the one end to the other.
+#![tactic(auto)]
+
+mod laws;
+mod link;
+mod marked;
+mod served;
+#[cfg(test)]
+mod tests;
+mod through;
+
+pub use laws::resting_law;
+pub use link::{LoopLink, LoopRefused};
+pub use through::through_client;
