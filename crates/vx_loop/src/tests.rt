@@ -36,83 +36,122 @@ fn client(alloc: Global) -> Result<Client<LoopLink<Echo>>, Fail> {
     Ok(Client::new(alloc, link(alloc)?).map_err(|_| "no memory")?)
 }
 
-#[test]
-fn a_write_goes_through(rt: HostRuntime) -> Result<(), Fail> {
-    let alloc = rt.alloc();
-    let mut client = client(alloc)?;
-    let made = client
-        .create_link(false, 0, b"gpib0,5")
-        .map_err(|_| "no link")?;
+/// A client over a link to a gateway with nothing on its bus that was told the last moment.
+fn late_client(alloc: Global) -> Result<Client<LoopLink<Echo>>, Fail> {
+    let bus = SimBus::new(alloc).map_err(|_| "no memory")?;
+    let mut core: Core<SimBus<Echo>> = Core::start(alloc, bus, 9011).map_err(|_| "no memory")?;
+    core.sample(u64::MAX);
+    let link = LoopLink::new(alloc, core).map_err(|_| "no memory")?;
+    Ok(Client::new(alloc, link).map_err(|_| "no memory")?)
+}
+
+/// What `through_client` answers for a write over a link that takes at least a byte.
+fn write(
+    client: &mut Client<LoopLink<Echo>>,
+    made: Result<LinkMade, ClientErr>,
+    bytes: &[u8],
+) -> Result<(), ClientErr> {
+    match made {
+        Ok(link) if link.max >= 1 => through_client(client, &link, &OPTS, bytes),
+        Ok(_) => Err(ClientErr::Spent),
+        Err(e) => Err(e),
+    }
+}
+
+/// Whether a write of these bytes goes through, in two pieces, and is read back.
+fn goes_through(client: &mut Client<LoopLink<Echo>>, bytes: &[u8], into: &mut [u8]) -> bool {
+    let made = client.create_link(false, 0, b"gpib0,5");
     let want = LinkMade {
         lid: 1,
         abort_port: 9011,
         max: 65536,
     };
-    assert_eq!(rt; made, want);
-    let mut bytes = vec![in alloc; 0u8; 100_000]?;
-    for (i, byte) in bytes.iter_mut().enumerate() {
-        *byte = (i % 251) as u8;
-    }
-    if made.max == 65536 {
-        let done = through_client(&mut client, &made, &OPTS, bytes.as_slice());
-        assert_eq!(rt; done, Ok(()));
-    }
     // The last reply is that of call 3, with error 0, and tells the size of the second piece, 34,464.
     let last = [
         0, 0, 0, 3, 0, 0, 0, 1, 0, 0, 0, 0, 0, 0, 0, 0, 0, 0, 0, 0, 0, 0, 0, 0, 0, 0, 0, 0, 0, 0,
         0x86, 0xA0,
     ];
-    assert_eq!(rt; client.last(), last.as_slice());
-    let mut into = vec![in alloc; 0u8; 100_000]?;
-    let read = client.read(1, &OPTS, 0, into.as_mut_slice());
     let end = ReadEnd {
         len: 100_000,
         reason: 5,
     };
-    assert_eq!(rt; read, Ok(end));
+    made == Ok(want)
+        && write(client, made, bytes) == Ok(())
+        && client.last() == last.as_slice()
+        && client.read(1, &OPTS, 0, into) == Ok(end)
+}
+
+#[test]
+fn a_write_goes_through(rt: HostRuntime) -> Result<(), Fail> {
+    let alloc = rt.alloc();
+    let mut bytes = vec![in alloc; 0u8; 100_000]?;
+    for (i, byte) in bytes.iter_mut().enumerate() {
+        *byte = (i % 251) as u8;
+    }
+    let mut into = vec![in alloc; 0u8; 100_000]?;
+    let mut client = client(alloc)?;
+    let went = goes_through(&mut client, bytes.as_slice(), into.as_mut_slice());
+    assert!(rt; went);
     assert_eq!(rt; into.as_slice(), bytes.as_slice());
     Ok(())
 }
 
+/// Whether each call of a link to the device is answered, and a write goes through between them.
+fn orders_are_answered(client: &mut Client<LoopLink<Echo>>) -> bool {
+    let made = client.create_link(true, 0, b"gpib0,5");
+    client.readstb(1, &OPTS) == Ok(0)
+        && client.trigger(1, &OPTS) == Ok(())
+        && client.clear(1, &OPTS) == Ok(())
+        && write(client, made, b"B") == Ok(())
+        && client.remote(1, &OPTS) == Ok(())
+        && client.local(1, &OPTS) == Ok(())
+        && client.unlock(1) == Ok(())
+        && client.lock(1, &OPTS) == Ok(())
+        && write(client, made, b"C") == Ok(())
+        && client.destroy_link(1) == Ok(())
+        && client.destroy_link(1) == Err(ClientErr::Device(4))
+}
+
 #[test]
-fn each_call_is_answered(rt: HostRuntime) -> Result<(), Fail> {
-    let alloc = rt.alloc();
-    let mut client = client(alloc)?;
-    let made = client
-        .create_link(true, 0, b"gpib0,5")
-        .map_err(|_| "no link")?;
-    assert_eq!(rt; made.lid, 1);
+fn each_order_is_answered(rt: HostRuntime) -> Result<(), Fail> {
+    let mut client = client(rt.alloc())?;
+    assert!(rt; orders_are_answered(&mut client));
+    Ok(())
+}
+
+/// Whether the calls for interrupts are answered; a dial fails: no channel.
+fn interrupts_are_answered(client: &mut Client<LoopLink<Echo>>) -> bool {
+    let made = client.create_link(false, 0, b"gpib0,5");
     let handle = Handle {
         bytes: ArrayVec::new(),
     };
-    assert_eq!(rt; client.readstb(1, &OPTS), Ok(0));
-    assert_eq!(rt; client.trigger(1, &OPTS), Ok(()));
-    assert_eq!(rt; client.clear(1, &OPTS), Ok(()));
-    assert_eq!(rt; client.remote(1, &OPTS), Ok(()));
-    assert_eq!(rt; client.local(1, &OPTS), Ok(()));
-    assert_eq!(rt; client.enable_srq(1, true, &handle), Ok(()));
-    // A dial fails: no channel.
-    let channel = client.create_intr_chan(0x7F000001, 9012, 0x0607B1, 1);
-    assert_eq!(rt; channel, Err(ClientErr::Device(6)));
-    assert_eq!(rt; client.destroy_intr_chan(), Err(ClientErr::Device(6)));
-    // Between any two calls a write goes through.
-    if made.max == 65536 {
-        let done = through_client(&mut client, &made, &OPTS, b"B");
-        assert_eq!(rt; done, Ok(()));
-    }
-    assert_eq!(rt; client.unlock(1), Ok(()));
+    made.is_ok()
+        && client.enable_srq(1, true, &handle) == Ok(())
+        && client.create_intr_chan(0x7F000001, 9012, 0x0607B1, 1) == Err(ClientErr::Device(6))
+        && client.destroy_intr_chan() == Err(ClientErr::Device(6))
+}
+
+#[test]
+fn each_call_for_interrupts_is_answered(rt: HostRuntime) -> Result<(), Fail> {
+    let mut client = client(rt.alloc())?;
+    assert!(rt; interrupts_are_answered(&mut client));
+    Ok(())
+}
+
+/// Whether a command of the bus is refused on a device, and sends its byte on the interface.
+fn commands_are_answered(client: &mut Client<LoopLink<Echo>>) -> bool {
     let mut into = [0u8; 2];
-    let refused = client.docmd(1, &OPTS, 0x020000, &[0x3F], &mut into);
-    assert_eq!(rt; refused, Err(ClientErr::Device(8)));
-    // On the interface it sends a command byte, which the reply has again.
-    let bus = client.create_link(false, 0, b"gpib0");
-    assert_eq!(rt; bus.map(|m| m.lid), Ok(2));
-    let sent = client.docmd(2, &OPTS, 0x020000, &[0x3F], &mut into);
-    assert_eq!(rt; sent, Ok(1));
-    assert_eq!(rt; into, [0x3F, 0]);
-    assert_eq!(rt; client.lock(1, &OPTS), Ok(()));
-    assert_eq!(rt; client.destroy_link(1), Ok(()));
-    assert_eq!(rt; client.destroy_link(1), Err(ClientErr::Device(4)));
+    client.create_link(false, 0, b"gpib0,5").is_ok()
+        && client.create_link(false, 0, b"gpib0").is_ok()
+        && client.docmd(1, &OPTS, 0x020000, &[0x3F], &mut into) == Err(ClientErr::Device(8))
+        && client.docmd(2, &OPTS, 0x020000, &[0x3F], &mut into) == Ok(1)
+        && into == [0x3F, 0]
+}
+
+#[test]
+fn a_command_of_the_bus_is_answered(rt: HostRuntime) -> Result<(), Fail> {
+    let mut client = client(rt.alloc())?;
+    assert!(rt; commands_are_answered(&mut client));
     Ok(())
 }
 
@@ -120,13 +159,19 @@ fn each_call_is_answered(rt: HostRuntime) -> Result<(), Fail> {
 #[test]
 fn a_call_that_waits_is_polled(rt: HostRuntime) -> Result<(), Fail> {
     let mut client = client(rt.alloc())?;
-    let made = client
-        .create_link(false, 0, b"gpib0,6")
-        .map_err(|_| "no link")?;
-    if made.max == 65536 {
-        let done = through_client(&mut client, &made, &OPTS, b"A");
-        assert_eq!(rt; done, Err(ClientErr::Device(15)));
-    }
+    let made = client.create_link(false, 0, b"gpib0,6");
+    let done = write(&mut client, made, b"A");
+    assert_eq!(rt; done, Err(ClientErr::Device(15)));
+    Ok(())
+}
+
+// Nobody takes the byte, and no later moment is left to poll at.
+#[test]
+fn a_receive_at_the_last_moment_fails(rt: HostRuntime) -> Result<(), Fail> {
+    let mut client = late_client(rt.alloc())?;
+    let made = client.create_link(false, 0, b"gpib0,6");
+    let done = write(&mut client, made, b"A");
+    assert_eq!(rt; done, Err(ClientErr::ReadFault));
     Ok(())
 }
 
@@ -154,15 +199,20 @@ fn a_command_is_done(rt: HostRuntime) -> Result<(), Fail> {
     Ok(())
 }
 
+/// Whether a record of one byte, which is no call, fails, and ends the connection.
+fn junk_fails(link: &mut LoopLink<Echo>) -> bool {
+    let mut into = [0u8; 8];
+    link.send(&[0x80, 0, 0, 1]) == WriteOut::Took(4)
+        && link.receive(&mut into) == ReadOut::End
+        && link.send(&[0]) == WriteOut::Failed
+        && link.send(&[0, 1]) == WriteOut::Took(2)
+        && link.receive(&mut into) == ReadOut::End
+}
+
 #[test]
 fn a_record_that_is_no_call_fails(rt: HostRuntime) -> Result<(), Fail> {
     let mut link = link(rt.alloc())?;
-    let mut into = [0u8; 8];
-    assert_eq!(rt; link.send(&[0x80, 0, 0, 1]), WriteOut::Took(4));
-    assert_eq!(rt; link.receive(&mut into), ReadOut::End);
-    assert_eq!(rt; link.send(&[0]), WriteOut::Failed);
-    assert_eq!(rt; link.send(&[0, 1]), WriteOut::Took(2));
-    assert_eq!(rt; link.receive(&mut into), ReadOut::End);
+    assert!(rt; junk_fails(&mut link));
     Ok(())
 }
 
@@ -170,50 +220,41 @@ fn a_record_that_is_no_call_fails(rt: HostRuntime) -> Result<(), Fail> {
 fn a_record_that_is_too_long_fails(rt: HostRuntime) -> Result<(), Fail> {
     let mut link = link(rt.alloc())?;
     // 66,561 bytes
-    assert_eq!(rt; link.send(&[0x80, 1, 4, 1, 0]), WriteOut::Failed);
+    let sent = link.send(&[0x80, 1, 4, 1, 0]);
+    assert_eq!(rt; sent, WriteOut::Failed);
     Ok(())
+}
+
+/// The null procedure, as call 1.
+const NULL: [u8; 44] = [
+    0x80, 0, 0, 40, 0, 0, 0, 1, 0, 0, 0, 0, 0, 0, 0, 2, 0, 6, 7, 0xAF, 0, 0, 0, 1, 0, 0, 0, 0, 0,
+    0, 0, 0, 0, 0, 0, 0, 0, 0, 0, 0, 0, 0, 0, 0,
+];
+
+/// Whether its reply is given once, in parts of at most 20 bytes; and what comes before a whole reply was received ends the
+/// connection.
+fn reply_is_given(link: &mut LoopLink<Echo>, into: &mut [u8; 20], rest: &mut [u8; 20]) -> bool {
+    link.send(&NULL) == WriteOut::Took(44)
+        && link.receive(into) == ReadOut::Got(20)
+        && link.receive(rest) == ReadOut::Got(8)
+        && link.receive(rest) == ReadOut::End
+        && link.send(&NULL) == WriteOut::Took(44)
+        && link.send(&NULL) == WriteOut::Took(44)
+        && link.receive(rest) == ReadOut::Got(20)
+        && link.receive(rest) == ReadOut::Got(8)
+        && link.send(&NULL) == WriteOut::Took(44)
+        && link.receive(rest) == ReadOut::End
 }
 
 #[test]
 fn a_reply_comes_in_parts_once(rt: HostRuntime) -> Result<(), Fail> {
     let mut link = link(rt.alloc())?;
-    // the null procedure, as call 1
-    let null = [
-        0x80, 0, 0, 40, 0, 0, 0, 1, 0, 0, 0, 0, 0, 0, 0, 2, 0, 6, 7, 0xAF, 0, 0, 0, 1, 0, 0, 0, 0,
-        0, 0, 0, 0, 0, 0, 0, 0, 0, 0, 0, 0, 0, 0, 0, 0,
-    ];
-    assert_eq!(rt; link.send(&null), WriteOut::Took(44));
     let mut into = [9u8; 20];
-    assert_eq!(rt; link.receive(&mut into), ReadOut::Got(20));
+    let mut rest = [9u8; 20];
+    assert!(rt; reply_is_given(&mut link, &mut into, &mut rest));
     let first = [
         0x80, 0, 0, 24, 0, 0, 0, 1, 0, 0, 0, 1, 0, 0, 0, 0, 0, 0, 0, 0,
     ];
     assert_eq!(rt; into, first);
-    assert_eq!(rt; link.receive(&mut into), ReadOut::Got(8));
-    assert_eq!(rt; &into[..8], [0u8; 8].as_slice());
-    assert_eq!(rt; link.receive(&mut into), ReadOut::End);
-    // what comes before a whole reply was received ends the connection
-    assert_eq!(rt; link.send(&null), WriteOut::Took(44));
-    assert_eq!(rt; link.send(&null), WriteOut::Took(44));
-    assert_eq!(rt; link.receive(&mut into), ReadOut::End);
-    Ok(())
-}
-
-// At the last moment nobody takes the byte, and no later moment is left to poll at.
-#[test]
-fn a_receive_at_the_last_moment_fails(rt: HostRuntime) -> Result<(), Fail> {
-    let alloc = rt.alloc();
-    let bus = SimBus::new(alloc).map_err(|_| "no memory")?;
-    let mut core: Core<SimBus<Echo>> = Core::start(alloc, bus, 9011).map_err(|_| "no memory")?;
-    core.sample(u64::MAX);
-    let link = LoopLink::new(alloc, core).map_err(|_| "no memory")?;
-    let mut client = Client::new(alloc, link).map_err(|_| "no memory")?;
-    let made = client
-        .create_link(false, 0, b"gpib0,6")
-        .map_err(|_| "no link")?;
-    if made.max == 65536 {
-        let done = through_client(&mut client, &made, &OPTS, b"A");
-        assert_eq!(rt; done, Err(ClientErr::ReadFault));
-    }
     Ok(())
 }
