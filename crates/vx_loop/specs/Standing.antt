@@ -1,14 +1,15 @@
 -- For which bytes taken and given a link to a gateway stands.
-use Rattle.std.specs.Prelude.{◌≡◌, ◌≤◌, ℕ, true, false, is_some, List, [], ◌∷◌, ◌++◌, Option, Some, None, ◌⊎◌}
+use Rattle.std.specs.Prelude.{◌≡◌, ◌≤◌, ◌-◌, ◌^◌, ℕ, true, false, is_some, List, [], ◌∷◌, ◌++◌, Option, Some, None, ◌⊎◌}
 use Rattle.std.specs.List.{list_all, flat_map}
 use Rattle.vx_io.specs.Stands.{Goes}
 use Rattle.vx_calls.specs.declared.calls.Role.TheVariants as role
 use Rattle.vx_calls.specs.declared.limits.TheConstants.{RECORD_MAX}
 use Rattle.vx_calls.specs.Call.{Call}
 use Rattle.vx_record.specs.Buffer.{fresh, fed}
-use Rattle.vx_record.specs.declared.Feed.TheVariants.{More}
+use Rattle.vx_record.specs.declared.Feed.TheVariants.{More, TooLong}
+use Rattle.vx_record.specs.declared.Feed.TheVariants as feed
 use Rattle.vx_bus.specs.Steps.{Step}
-use Rattle.vx_message.specs.Meaning.{Asks, meaning}
+use Rattle.vx_message.specs.Meaning.{Asks, Junk, meaning}
 use Rattle.vx_model.specs.State.{pending_at, lives_as}
 use Rattle.vx_flow.specs.Event.{Event, Arrive}
 use Rattle.vx_flow.specs.FineState.{FineState, Turn}
@@ -110,3 +111,19 @@ pub record EndsTo (old new : ServedState) : Type 0 where
 pub record WaitsTo (old new : ServedState) : Type 0 where
   pub kept : IsKept new
   pub went : (start : Gateway) (taken given : List ℕ) → Went start old taken given → Went start new taken given
+
+-- a call waits at the last moment
+pub record IsUnanswered (s : ServedState) : Type 0 where
+  pub last : 2 ^ 64 - 1 ≤ s.moment
+  pub pending : is_some (pending_at s.core.fine.state.tables 1) ≡ true
+
+-- no call waits, and nothing of a reply is left
+pub record IsDrained (s : ServedState) : Type 0 where
+  pub answered : pending_at s.core.fine.state.tables 1 ≡ None
+  pub none_left : s.left ≡ []
+
+-- these bytes end a record that is too long, or that is no call
+abbrev pub IsRefused : ServedState → List ℕ → Type 0
+IsRefused s bytes =
+    (fed s.buffer bytes).state ≡ TooLong
+    ⊎ ((fed s.buffer bytes).state ≡ feed.Whole) × (meaning (fed s.buffer bytes).kept role.Core ≡ Junk)

@@ -92,7 +92,8 @@ impl<I: Instrument> Link for LoopLink<I> {
     ghost use Rattle.vx_io.specs.Faults.{Rose};
     ghost use Rattle.vx_io.specs.Outs.{IfGot, IfTook, OnEnd, OnReadFailed, OnWriteFailed};
     ghost use Rattle.vx_io.specs.Stands.{Gives, Takes, Stays};
-    ghost use Rattle.vx_loop.specs.Standing.{StandsFor, GoesOn};
+    ghost use Rattle.std.specs.Prelude.{IfSome};
+    ghost use Rattle.vx_loop.specs.Standing.{StandsFor, GoesOn, IsUnanswered, IsDrained, IsRefused};
 
     ghost stands = { StandsFor };
 
@@ -110,6 +111,10 @@ impl<I: Instrument> Link for LoopLink<I> {
         ensures went { IfGot result (λ n. GoesOn self.old self.new [] (take n into.new)) }
         ensures stayed { OnEnd result (GoesOn self.old self.new [] []) }
         ensures broke { OnReadFailed result (GoesOn self.old self.new [] []) }
+
+        // It fails only where the last moment comes before the answer, and ends only where nothing is left to give.
+        ensures last { OnReadFailed result (IfSome self.new.served IsUnanswered) }
+        ensures drained { OnEnd result (IfSome self.new.served IsDrained) }
 
         // What every link says.
         ensures counted { self.old.receive_faults ≤ self.new.receive_faults }
@@ -141,6 +146,9 @@ impl<I: Instrument> Link for LoopLink<I> {
         // What it did, whatever the link stood for before.
         ensures went { IfTook result (λ n. GoesOn self.old self.new (take n from.now) []) }
         ensures broke { OnWriteFailed result (GoesOn self.old self.new [] []) }
+
+        // It fails only where the bytes end a record that is no call, or is too long.
+        ensures cause { OnWriteFailed result (IfSome self.old.served (λ s. IsRefused s from.now)) }
 
         // What every link says.
         ensures counted { self.old.send_faults ≤ self.new.send_faults }

@@ -6,10 +6,10 @@ ghost use Rattle.vx_calls.specs.declared.calls.Role.TheVariants as role;
 ghost use Rattle.vx_calls.specs.declared.limits.TheConstants.{RECORD_MAX};
 ghost use Rattle.vx_model.specs.State.{connection_at, pending_at, lives_as};
 ghost use Rattle.vx_message.specs.declared.record.TheConstants.{REPLY_ROOM};
-ghost use Rattle.vx_message.specs.Meaning.{meaning};
+ghost use Rattle.vx_message.specs.Meaning.{meaning, Junk};
 ghost use Rattle.vx_play.specs.Gateway.{Gateway, gateway_of};
 ghost use Rattle.vx_loop.specs.LoopState.{IsBeginning, IsUnconnected};
-ghost use Rattle.vx_loop.specs.Standing.{IsKept, IsReached, Went, EndsTo, WaitsTo};
+ghost use Rattle.vx_loop.specs.Standing.{IsKept, IsReached, IsRefused, Went, EndsTo, WaitsTo};
 ghost use Rattle.vx_loop.specs.Serving.{reply_len, Serves, Continues, IsFit};
 
 use std::alloc::Global;
@@ -83,6 +83,7 @@ fn answer<I: Instrument>(
     requires short { length message.now ≤ RECORD_MAX }
     requires room { length reply.old ≡ REPLY_ROOM }
     ensures junk { IfNone result (gateway_of core.new ≡ gateway_of core.old) }
+    ensures means { IfNone result (meaning message.now role.Core ≡ Junk) }
     ensures served { IfSome result (λ len. Serves (gateway_of core.old) (meaning message.now role.Core) xid.new (gateway_of core.new) (take len reply.new)) }
     ensures within { IfSome result (λ len. len ≤ REPLY_ROOM) }
     ensures late { core.new.fine.state.moment ≤ now }
@@ -124,6 +125,7 @@ fn refuse_dial<I: Instrument>(
     requires late { core.old.fine.state.moment ≤ now }
     requires room { length reply.old ≡ REPLY_ROOM }
     ensures continues { Continues (gateway_of core.old) xid (gateway_of core.new) (take result reply.new) }
+    ensures settled { pending_at core.new.fine.state.tables 1 ≡ None }
     ensures within { result ≤ REPLY_ROOM }
     ensures late { core.new.fine.state.moment ≤ now }
     ensures room { length reply.new ≡ REPLY_ROOM }
@@ -220,6 +222,7 @@ impl<I: Instrument> Serving<I> {
         ensures took { IfSome result (λ n. (0 < n) × (n ≤ length from.now) × IsKept self.new
             × ((start : Gateway) (taken given : List ℕ) → Went start self.old taken given → Went start self.new (taken ++ take n from.now) given)) }
         ensures broke { IfNone result (EndsTo self.old self.new) }
+        ensures cause { IfNone result (IsRefused self.old from.now) }
     {
         let fed = self.buffer.feed(from);
         match fed.state {
@@ -274,7 +277,8 @@ impl<I: Instrument> Serving<I> {
         requires kept { IsKept self.old }
         requires pending { is_some (pending_at self.old.core.fine.state.tables 1) ≡ true }
         requires dialed { list_any (λ n. n == 1) self.old.core.fine.dialed ≡ true }
-        ensures { WaitsTo self.old self.new }
+        ensures waits { WaitsTo self.old self.new }
+        ensures settled { pending_at self.new.core.fine.state.tables 1 ≡ None }
     {
         self.from = 0;
         self.to = refuse_dial(&mut self.core, self.xid, self.moment, &mut self.reply);
@@ -285,6 +289,7 @@ impl<I: Instrument> Serving<I> {
         requires kept { IsKept self.old }
         requires pending { is_some (pending_at self.old.core.fine.state.tables 1) ≡ true }
         ensures waits { WaitsTo self.old self.new }
+        ensures last { result ≡ false → (2 ^ 64 - 1 ≤ self.new.moment) × (is_some (pending_at self.new.core.fine.state.tables 1) ≡ true) }
         ensures later { result ≡ true → (self.old.moment < self.new.moment) × (self.new.moment < 2 ^ 64) }
     {
         if self.moment == u64::MAX {
@@ -300,7 +305,9 @@ impl<I: Instrument> Serving<I> {
     /// It isn't answered, where the last moment comes first.
     pub(crate) fn wait(&mut self) -> bool
         requires kept { IsKept self.old }
-        ensures { WaitsTo self.old self.new }
+        ensures waits { WaitsTo self.old self.new }
+        ensures last { result ≡ false → (2 ^ 64 - 1 ≤ self.new.moment) × (is_some (pending_at self.new.core.fine.state.tables 1) ≡ true) }
+        ensures answered { result ≡ true → pending_at self.new.core.fine.state.tables 1 ≡ None }
     {
         while self.is_waiting() {
             if self.is_dialing() {
@@ -319,6 +326,8 @@ impl<I: Instrument> Serving<I> {
         requires some { 0 < length into.old }
         requires kept { IsKept self.old }
         ensures kept { IsKept self.new }
+        ensures count { result ≡ min (length self.old.left) (length into.old) }
+        ensures same { (self.new.core ≡ self.old.core) × (self.new.left ≡ drop result self.old.left) }
         ensures within { result ≤ length into.new }
         ensures went { (start : Gateway) (taken given : List ℕ) → Went start self.old taken given → Went start self.new taken (given ++ take result into.new) }
     {

@@ -3,7 +3,7 @@ use Rattle.vx_calls.specs.Reply as reply
 use Rattle.vx_play.specs.Gateway.{gateway_of}
 use Rattle.vx_loop.specs.Serving.{Continues}
 use Rattle.vx_loop.proofs.Continuing.{dial-continues}
-use Rattle.vx_loop.proofs.Turns.{answer-moment}
+use Rattle.vx_loop.proofs.Turns.{answer-moment, answer-ends}
 use Rattle.vx_loop.proofs.served.refuse_dial.Goals as goal
 
 pub returns-clause-continues : goal.returns-clause-continues
@@ -22,3 +22,8 @@ returns-clause-late g c =
     let late = c.requires.late in
     let top : max before.state.moment c.args.now ≡ c.args.now = omega arith in
     omega arith
+
+pub returns-clause-settled : goal.returns-clause-settled
+returns-clause-settled g c =
+    let before = c.args.core.now.fine in
+    answer-ends before c.settle-error.new.self.fine (max before.state.moment c.args.now) false (Some false) false (reply.Error c.settle-error.result.error) c.settle-error.ensures.fine

@@ -21,8 +21,8 @@ refuse_dial-self-inside-requires-clause-fit g c =
     let k : IsKept s = subst IsKept (sym c.self.view_is) c.requires.kept in
     fit-gateway (gateway_of c.self.inside.core) (kept-gateway s k)
 
-pub returns : goal.returns
-returns g c =
+pub returns-clause-waits : goal.returns-clause-waits
+returns-clause-waits g c =
     let s : ServedState = record {
       core = c.self.inside.core;
       buffer = c.self.inside.buffer;

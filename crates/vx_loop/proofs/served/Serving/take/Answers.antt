@@ -28,6 +28,7 @@ returns-in-More g c =
     let made = take-more s c.args.from.now c.feed-fed.result.took c.feed-fed.new.self k free (c.feed-fed.ensures.more c.in-More.is) c.feed-fed.ensures.after waits c.feed-fed.ensures.limit in
     record {
       broke = tt;
+      cause = tt;
       took = (
         c.feed-fed.ensures.some c.requires.some,
         c.feed-fed.ensures.within,
@@ -65,6 +66,7 @@ returns-in-Some g c =
     λ xs. record { core = c.answer-served.new.core; buffer = c.restart.new.self; xid = c.answer-served.new.xid; left = take n xs; moment = c.self.inside.moment } in
     record {
       broke = tt;
+      cause = tt;
       took = (
         some,
         c.feed-fed.ensures.within,
