@@ -33,9 +33,9 @@ player:
 server:
 	cd crates/vxgate && rt run -- --version < /dev/null > /dev/null
 
-# without words the client ends with status 1
+# without words the client ends with status 1, so that it was made shows that it was proved
 client:
-	cd crates/vxcall && rt run < /dev/null > /dev/null || test -x out/vxcall
+	cd crates/vxcall && rm -f out/vxcall && { rt run < /dev/null > /dev/null || test -x out/vxcall; }
 
 test:
 	bash .ci/run
