@@ -6,7 +6,7 @@ ghost use Rattle.vx_gate.specs.PassView.{GateId};
 ghost use Rattle.vx_gate.specs.Turning.{MayTurn, Turned};
 
 use crate::acts::{Act, Kept};
-use crate::holding::{self, Room};
+use crate::holding::{self, Room, WORDS};
 use crate::passes::{Pass, PassOf};
 use crate::plays::{Meet, OneHistory};
 use crate::views::View;
@@ -18,7 +18,7 @@ use std::sync::Wait;
 /// A gate round a `K`. It takes its memory at the start, and each other call takes none.
 pub struct Gate<K: Kept> {
     table: Table<K, View<<K as Kept>::Group>, (), OneHistory, Global>,
-    ghost sized: { (table.shared.table_id.words ≡ 33) × (table.shared.table_id.slots ≡ 1) },
+    ghost sized: { (table.shared.table_id.words ≡ 112) × (table.shared.table_id.slots ≡ 1) },
 }
 
 /// There was no memory for the gate. The value comes back.
@@ -54,7 +54,7 @@ impl<K: Kept> Gate<K> {
             slots.destroy_empty();
             return Err(GateRefused { value });
         }
-        match Table::new(alloc, &[0; 33], slots, &()) {
+        match Table::new(alloc, &[0; WORDS], slots, &()) {
             Ok((table, seat)) => Ok((Gate { table }, PassOf::of(seat))),
             Err(Refused { slots }) => Err(GateRefused { value: only(slots) }),
         }
@@ -95,7 +95,7 @@ impl<K: Kept> Gate<K> {
     }
 
     /// Runs the act on the value, in the pass's turn, and adds the group of the run to the history. It waits until
-    /// the ticket that it draws is served; from 2^62 tickets on it never returns.
+    /// the ticket that it draws is served, mostly asleep; from 2^62 tickets on it never returns.
     pub fn turn<R: Wait, A: Act<K>>(
         &self,
         rt: &R,

@@ -10,39 +10,31 @@ ghost use Rattle.vx_gate.specs.Places.{IsTable, IsSame, Ran};
 use crate::acts::{Act, Kept};
 use crate::plays::{Count, Draw, Learn, Leave, Look, Marks, OneHistory, Part, Serve};
 use crate::views::View;
+use crate::waiting;
 use atomic_table::{Seat, Shared};
 use std::marker::Brand;
 use std::snapshot::Snapshot;
 use std::sync::Wait;
-use std::{hint, thread};
 
 pub(crate) type Room<K> = Shared<K, View<<K as Kept>::Group>, (), OneHistory>;
 
 pub(crate) type Place<K> = Seat<K, View<<K as Kept>::Group>>;
 
-// Indexes of words in the table, 128 bytes apart, so that they share no cache line.
+// Words of the table.
+pub(crate) const WORDS: usize = 112;
+
+// Indexes of those that steps change, 128 bytes apart, so that they share no cache line.
 pub(crate) const TICKET: usize = 0;
 
 pub(crate) const SERVING: usize = 16;
 
 pub(crate) const COUNT: usize = 32;
 
+// The first of the doors, words that only sleepers have to do with. They stand behind the others, to the end.
+pub(crate) const DOOR: usize = 48;
+
 // Tickets do not wrap: from this one on a turn waits for ever.
 const LAST: u64 = 1 << 62;
-
-// Looks of the pass that is next before it leaves the processor to another thread.
-const LOOKS: u32 = 32;
-
-// Lets a little time pass between two looks, and returns the number of looks so far. Who isn't next leaves the
-// processor at once.
-fn look_again(looks: u32, ahead: u64) -> u32 {
-    if ahead == 1 && looks < LOOKS {
-        hint::spin_loop();
-        return looks + 1;
-    }
-    thread::yield_now();
-    looks
-}
 
 pub(crate) fn draw<K: Kept>(room: &Room<K>, place: &mut Place<K>) -> u64
     requires table { IsTable room.now.table_id × (place.old.table_id ≡ room.now.table_id) }
@@ -89,7 +81,7 @@ pub(crate) fn take<K: Kept, B: Marks<K::Group>, R: Wait>(
         if served == ticket {
             return;
         }
-        looks = look_again(looks, ticket.wrapping_sub(served));
+        looks = waiting::pause(rt, room, ticket, served, looks);
     }
     unreachable!()
 }
@@ -144,6 +136,7 @@ pub(crate) fn run_and_count<K: Kept, A: Act<K>>(
     answer
 }
 
+// Ends the turn, and wakes whoever sleeps and is near now.
 pub(crate) fn serve<K: Kept>(room: &Room<K>, place: &mut Place<K>, ticket: u64)
     requires table { IsTable room.now.table_id × (place.old.table_id ≡ room.now.table_id) }
     requires counted { (place.old.me.0.stage ≡ Counted ticket) × (ticket < 2 ^ 62) }
@@ -152,6 +145,7 @@ pub(crate) fn serve<K: Kept>(room: &Room<K>, place: &mut Place<K>, ticket: u64)
     ensures idle { place.new.me ≡ (at_stage Idle place.old.me.0, []) }
 {
     room.fetch_add::<Serve>(place, SERVING, 1);
+    waiting::wake(room, ticket + 1);
 }
 
 // A look that changes nothing, and tells what the rule knows of the pass.
