@@ -1,0 +1,165 @@
+#!/usr/bin/env python3
+"""Measures servers and gates beside each other, and prints one table in Markdown.
+
+    bench.py [OPTIONS] NAME=PROGRAM ..
+
+Each NAME is a column. PROGRAM is a `vxgate`, or `:PORT` for a server that runs on this host already and has echoes at the
+addresses 5 to 8. `--gate NAME=PROGRAM` adds a `vx_gate_rate` to the column. All programs of a row are measured in turn, run by
+run, so that what else the machine does meets all of them alike. Half of the rows are measured alone, and half beside as many
+busy threads as the machine has processors.
+
+A query is a device_write of six bytes and the device_read of them, over the loopback; the load is `load.c`, which `cc` compiles.
+"""
+import argparse
+import os
+import socket
+import statistics
+import subprocess
+import sys
+import tempfile
+import time
+
+HERE = os.path.dirname(os.path.realpath(__file__))
+BENCH = "".join(f"plug {address} echo\n" for address in range(5, 9))
+WORKERS = 64  # the most that a vxgate has
+PATIENCE = 60  # seconds that a run may take beyond its own
+BUSY = "while True: pass"
+
+
+def words():
+    parser = argparse.ArgumentParser(description=__doc__.split("\n")[0])
+    numbers = lambda text: [int(word) for word in text.split(",")]
+    pair = lambda text: tuple(text.split("=", 1)) if "=" in text else parser.error(f"no NAME=PROGRAM: {text}")
+    parser.add_argument("servers", nargs="*", type=pair, metavar="NAME=PROGRAM")
+    parser.add_argument("--gate", action="append", default=[], type=pair, metavar="NAME=PROGRAM")
+    parser.add_argument("--connections", type=numbers, default=[1, 2, 4, 16, 64], help="how many at once (1,2,4,16,64)")
+    parser.add_argument("--threads", type=numbers, default=[1, 2, 4, 16], help="how many at a gate (1,2,4,16)")
+    parser.add_argument("--runs", type=int, default=5, help="of each figure (5)")
+    parser.add_argument("--seconds", type=float, default=2.0, help="a run (2)")
+    parser.add_argument("--only", choices=["alone", "busy"], help="leave the other half out")
+    return parser.parse_args()
+
+
+def run(*command):
+    done = subprocess.run(command, stdin=subprocess.DEVNULL, capture_output=True, text=True, timeout=PATIENCE)
+    if done.returncode:
+        sys.exit(f"bench: {' '.join(command)}: status {done.returncode}\n{done.stderr}")
+    return done.stdout
+
+
+def free_port():
+    with socket.socket() as probe:
+        probe.bind(("127.0.0.1", 0))
+        return probe.getsockname()[1]
+
+
+def start_server(program, started):
+    """The port of the server, which is started unless it runs already."""
+    if program.startswith(":"):
+        return int(program[1:])
+    core, abort = free_port(), free_port()
+    command = [program, "--workers", str(WORKERS), "--core", str(core), "--abort", str(abort)]
+    server = subprocess.Popen(command, stdin=subprocess.PIPE, stdout=subprocess.DEVNULL)
+    started.append(server)
+    server.stdin.write(BENCH.encode())
+    server.stdin.close()
+    until = time.monotonic() + PATIENCE
+    while time.monotonic() < until and server.poll() is None:
+        with socket.socket() as probe:
+            if probe.connect_ex(("127.0.0.1", core)) == 0:
+                return core
+        time.sleep(0.05)
+    sys.exit(f"bench: {program} doesn't listen")
+
+
+def queries(load, port, connections, seconds):
+    """Queries a second, and the time of one at the 99th of a hundred, in milliseconds."""
+    said = dict(word.split("=") for word in run(load, str(port), str(connections), str(seconds)).split())
+    return int(said["queries"]) / float(said["seconds"]), float(said["last"]) / 1000
+
+
+def timed_turns(program, threads, turns):
+    """The seconds that so many turns of each thread take, with the start of the program."""
+    began = time.monotonic()
+    said = run(program, str(threads), str(turns))
+    if int(said) != threads * turns:
+        sys.exit(f"bench: {program} took {said.strip()} turns, and not {threads * turns}")
+    return time.monotonic() - began
+
+
+def turns(program, threads, seconds):
+    """Turns a second, of as many turns as take about so long."""
+    each = 100
+    while (took := timed_turns(program, threads, each)) < seconds / 4:
+        each *= 4
+    each = max(1, int(each * seconds / took))
+    return threads * each / timed_turns(program, threads, each), None
+
+
+def measured(figure, programs, runs):
+    """For each name its runs, made in turn."""
+    found = {name: [] for name in programs}
+    for _ in range(runs):
+        for name, program in programs.items():
+            found[name].append(figure(program))
+    return found
+
+
+def cells(found):
+    """The rate, as its median with the worst and the best run, and the median of the times."""
+    if not found:
+        return ["", ""]
+    rates = sorted(rate for rate, _ in found)
+    times = [time for _, time in found if time is not None]
+    rate = f"{statistics.median(rates):,.0f} ({rates[0]:,.0f} to {rates[-1]:,.0f})"
+    return [rate, f"{statistics.median(times):.2f} ms" if times else ""]
+
+
+def row(what, found, names):
+    line = [what] + [cell for name in names for cell in cells(found.get(name))]
+    print("| " + " | ".join(line) + " |", flush=True)
+
+
+def counted(number, what):
+    return f"{number} {what}" if number == 1 else f"{number} {what}s"
+
+
+def half(asked, load, names, how):
+    """The rows that are measured alone, or those beside busy processors."""
+    started = []
+    try:
+        ports = {name: start_server(program, started) for name, program in asked.servers}
+        busy = os.cpu_count() if how == "busy" else 0
+        started += [subprocess.Popen([sys.executable, "-c", BUSY]) for _ in range(busy)]
+        where = f"beside {busy} busy threads" if busy else "alone"
+        for number in asked.connections if ports else []:
+            figure = lambda port: queries(load, port, number, asked.seconds)
+            row(f"{counted(number, 'connection')}, {where}", measured(figure, ports, asked.runs), names)
+        gates = dict(asked.gate)
+        for number in asked.threads if gates else []:
+            figure = lambda program: turns(program, number, asked.seconds)
+            row(f"{counted(number, 'thread')} at the gate, {where}", measured(figure, gates, asked.runs), names)
+    finally:
+        for process in started:
+            process.kill()
+            process.wait()
+
+
+def main():
+    asked = words()
+    names = list(dict(asked.servers + asked.gate))
+    if not names:
+        sys.exit("bench: name a program, as NAME=PROGRAM")
+    print(f"{asked.runs} runs of {asked.seconds:g} seconds, {os.cpu_count()} processors: the median, and the worst and best run; queries a second, or turns.\n")
+    print("| | " + " | ".join(f"{name} | 99th of a hundred" for name in names) + " |")
+    print("|---|" + "---:|---:|" * len(names), flush=True)
+    with tempfile.TemporaryDirectory() as folder:
+        load = f"{folder}/load"
+        run("cc", "-O2", "-pthread", "-o", load, f"{HERE}/load.c")
+        for how in ["alone", "busy"]:
+            if asked.only in (None, how):
+                half(asked, load, names, how)
+
+
+if __name__ == "__main__":
+    main()
