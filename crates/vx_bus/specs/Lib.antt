@@ -1,4 +1,1 @@
-pub mod Means
-pub mod Steps
-pub mod Walks
 pub mod MemState

@@ -1,17 +1,17 @@
 -- A bus over memory: the bytes that it gives, and which of its moving calls are held or fail.
-use Rattle.std.specs.Prelude.{◌≡◌, ℕ, ◌+◌, Bool, if◌then◌else◌, List, [], ◌∷◌, ◌++◌, drop, None, Some}
-use Rattle.vx_io.specs.Faults.{one_more, fails_next}
+use Rattle.std.specs.Prelude.{◌≡◌, ℕ, ◌+◌, Bool, if◌then◌else◌, List, [], ◌∷◌, ◌++◌, drop, Some}
+use Rattle.vx_io_traits.specs.Faults.{one_more, fails_next}
 use Rattle.vx_488.specs.declared.transfers.Transfer.{Transfer}
 use Rattle.vx_488.specs.declared.transfers.Transfer.TheVariants.{Cmd, Put, Got, Ren, Atn, Ifc, Own}
-use Rattle.vx_488.specs.Wire.{first_wire, step}
-use Rattle.vx_bus.specs.declared.asks.Ask.{Ask}
-use Rattle.vx_bus.specs.declared.asks.Ask.TheVariants as ask
-use Rattle.vx_bus.specs.declared.asks.Move.{Move}
-use Rattle.vx_bus.specs.declared.asks.Move.TheVariants as answer
-use Rattle.vx_bus.specs.declared.asks.GetOut.{GetOut}
-use Rattle.vx_bus.specs.declared.asks.GetOut.TheVariants as get
-use Rattle.vx_bus.specs.Means.{Means}
-use Rattle.vx_bus.specs.Steps.{Step, Went, Held, Failed, Told, Cut, ask_for, move_step, get_step}
+use Rattle.vx_488.specs.Wire.{step}
+use Rattle.vx_bus_traits.specs.declared.asks.Ask.{Ask}
+use Rattle.vx_bus_traits.specs.declared.asks.Ask.TheVariants as ask
+use Rattle.vx_bus_traits.specs.declared.asks.Move.{Move}
+use Rattle.vx_bus_traits.specs.declared.asks.Move.TheVariants as answer
+use Rattle.vx_bus_traits.specs.declared.asks.GetOut.{GetOut}
+use Rattle.vx_bus_traits.specs.declared.asks.GetOut.TheVariants as get
+use Rattle.vx_bus_traits.specs.Means.{Means}
+use Rattle.vx_bus_traits.specs.Steps.{Step, Went, Held, Failed, Told, Cut, ask_for, move_step, get_step}
 
 pub record MemState : Type 0 where
   -- what it means to whoever asks it
@@ -23,10 +23,6 @@ pub record MemState : Type 0 where
   pub fails : List ℕ
   -- how many moving calls there were
   pub calls : ℕ
-
--- a bus that nobody has asked yet
-abbrev pub first_means : Means
-first_means = record { wire = first_wire; moves = []; asks = 0; holds = 0; faults = 0; refused = None }
 
 -- what the lists say of the next moving call: one that is told to fail fails, also where it is told to be held
 abbrev pub next_move : MemState → Move

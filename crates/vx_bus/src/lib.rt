@@ -1,13 +1,8 @@
-//! What the gateway asks of an IEEE 488 bus, as a trait with one form over memory: transfers that go, are held or
-//! fail one at a time, and the list of those that went.
+//! The trait of an IEEE 488 bus, which stands in `vx_bus_traits`, with a form over memory, whose bytes, holds and faults a
+//! test chooses. Nothing but tests stands on this crate.
 #![tactic(auto)]
 
-mod asks;
-mod bus;
 mod memory;
-#[cfg(test)]
-mod tests;
 
-pub use asks::{ASK_MAX, Ask, GetOut, Move};
-pub use bus::{Bus, Tweak};
 pub use memory::{MemBus, NoMemory};
+pub use vx_bus_traits::{ASK_MAX, Ask, Bus, GetOut, Move, Tweak};

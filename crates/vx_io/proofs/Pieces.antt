@@ -3,9 +3,9 @@ use Rattle.std.proofs.Common.{◌≡◌, ℕ, ◌+◌, ◌-◌, ◌≤◌, List,
 use Rattle.std.proofs.lemmas.List.{drop-drop}
 use Rattle.std.proofs.Math.Seq.{take-add}
 use Rattle.std.proofs.lemmas.Grind.{common_steps}
-use Rattle.vx_io.specs.Faults.{one_more}
+use Rattle.vx_io_traits.specs.Faults.{one_more}
 use Rattle.vx_io.specs.LinkState.{LinkState, after_receive}
-use Rattle.vx_io.specs.declared.ReadOut.TheVariants.{Got}
+use Rattle.vx_io_traits.specs.declared.ReadOut.TheVariants.{Got}
 
 -- the piece in the slice is a front of what is left from a place on
 pub copied : (left held bytes old new : List ℕ) (at n : ℕ) → left ≡ drop at bytes → held ≡ bytes → at ≤ length bytes

@@ -1,10 +1,10 @@
 -- A dial over memory: the calls that it tells, and which of its dials fail.
 use Rattle.std.specs.Prelude.{◌≡◌, ℕ, Bool, true, false, List, [], ◌∷◌, Option, None, Some, if◌then◌else◌}
-use Rattle.vx_io.specs.Faults.{one_more, fails_next}
-use Rattle.vx_io.specs.Rung.{AddsCalls}
-use Rattle.vx_io.specs.declared.dials.Rang.{Rang}
-use Rattle.vx_io.specs.declared.dials.DialOut.{DialOut}
-use Rattle.vx_io.specs.declared.dials.DialOut.TheVariants.{Up, Failed}
+use Rattle.vx_io_traits.specs.Faults.{one_more, fails_next}
+use Rattle.vx_io_traits.specs.Rung.{AddsCalls}
+use Rattle.vx_io_traits.specs.declared.dials.Rang.{Rang}
+use Rattle.vx_io_traits.specs.declared.dials.DialOut.{DialOut}
+use Rattle.vx_io_traits.specs.declared.dials.DialOut.TheVariants.{Up, Failed}
 
 pub record DialState : Type 0 where
   -- the calls that it tells, behind those that it was made with

@@ -1,14 +1,7 @@
-pub mod Faults
-pub mod Outs
 pub mod SourceState
 pub mod SinkState
-pub mod Stands
 pub mod LinkState
-pub mod Rung
-pub mod Accepts
-pub mod Handing
 pub mod NetState
-pub mod Reached
 pub mod ReachState
 pub mod SocketState
 pub mod ClockState

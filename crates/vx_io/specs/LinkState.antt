@@ -1,12 +1,12 @@
 -- A link over memory: what it gave and has left to give, in which pieces, what it took, and which of its calls fail.
 use Rattle.std.specs.Prelude.{◌≡◌, ℕ, List, ◌++◌, take, drop}
-use Rattle.vx_io.specs.Faults.{one_more}
+use Rattle.vx_io_traits.specs.Faults.{one_more}
 use Rattle.vx_io.specs.SourceState.{SourceState, read_answer, read_slice}
 use Rattle.vx_io.specs.SinkState.{SinkState, IsWriteAnswer}
-use Rattle.vx_io.specs.declared.ReadOut.{ReadOut}
-use Rattle.vx_io.specs.declared.ReadOut.TheVariants.{Got, End, Failed}
-use Rattle.vx_io.specs.declared.WriteOut.{WriteOut}
-use Rattle.vx_io.specs.declared.WriteOut.TheVariants.{Took, Failed as Refused}
+use Rattle.vx_io_traits.specs.declared.ReadOut.{ReadOut}
+use Rattle.vx_io_traits.specs.declared.ReadOut.TheVariants.{Got, End, Failed}
+use Rattle.vx_io_traits.specs.declared.WriteOut.{WriteOut}
+use Rattle.vx_io_traits.specs.declared.WriteOut.TheVariants.{Took, Failed as Refused}
 
 pub record LinkState : Type 0 where
   -- the bytes that it gave

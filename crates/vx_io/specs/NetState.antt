@@ -1,12 +1,12 @@
 -- A net over memory: the links that its ports have left to give, and which of its calls fail.
 use Rattle.std.specs.Prelude.{ℕ, ◌+◌, Bool, true, List, [], ◌∷◌, drop, if◌then◌else◌}
-use Rattle.vx_io.specs.Faults.{one_more, fails_next}
-use Rattle.vx_io.specs.declared.dials.DialOut.{DialOut}
-use Rattle.vx_io.specs.declared.dials.DialOut.TheVariants.{Up, Failed as Unopened}
-use Rattle.vx_io.specs.declared.listeners.Accepted.{Accepted}
-use Rattle.vx_io.specs.declared.listeners.Accepted.TheVariants.{Peer, Ended, Failed}
-use Rattle.vx_io.specs.declared.listeners.Bound.{Bound}
-use Rattle.vx_io.specs.declared.listeners.Bound.TheVariants.{Port, Failed as Unbound}
+use Rattle.vx_io_traits.specs.Faults.{one_more, fails_next}
+use Rattle.vx_io_traits.specs.declared.dials.DialOut.{DialOut}
+use Rattle.vx_io_traits.specs.declared.dials.DialOut.TheVariants.{Up, Failed as Unopened}
+use Rattle.vx_io_traits.specs.declared.listeners.Accepted.{Accepted}
+use Rattle.vx_io_traits.specs.declared.listeners.Accepted.TheVariants.{Peer, Ended, Failed}
+use Rattle.vx_io_traits.specs.declared.listeners.Bound.{Bound}
+use Rattle.vx_io_traits.specs.declared.listeners.Bound.TheVariants.{Port, Failed as Unbound}
 
 pub record NetState (L : Type 0) : Type 0 where
   -- the links that its own port has left to give

@@ -1,12 +1,12 @@
 -- A reach over memory: the link that it stands for, the host and port at which it answers `Up`, and what it counted.
 use Rattle.std.specs.Prelude.{◌≡◌, ℕ, ◌+◌, ◌-◌, ◌^◌, min, Bool, true, List, Option, Some}
-use Rattle.vx_io.specs.Faults.{one_more}
-use Rattle.vx_io.specs.declared.ReadOut.{ReadOut}
-use Rattle.vx_io.specs.declared.ReadOut.TheVariants.{Failed as ReadFailed}
-use Rattle.vx_io.specs.declared.WriteOut.{WriteOut}
-use Rattle.vx_io.specs.declared.WriteOut.TheVariants.{Failed as WriteFailed}
-use Rattle.vx_io.specs.declared.dials.DialOut.{DialOut}
-use Rattle.vx_io.specs.declared.dials.DialOut.TheVariants.{Up, Failed}
+use Rattle.vx_io_traits.specs.Faults.{one_more}
+use Rattle.vx_io_traits.specs.declared.ReadOut.{ReadOut}
+use Rattle.vx_io_traits.specs.declared.ReadOut.TheVariants.{Failed as ReadFailed}
+use Rattle.vx_io_traits.specs.declared.WriteOut.{WriteOut}
+use Rattle.vx_io_traits.specs.declared.WriteOut.TheVariants.{Failed as WriteFailed}
+use Rattle.vx_io_traits.specs.declared.dials.DialOut.{DialOut}
+use Rattle.vx_io_traits.specs.declared.dials.DialOut.TheVariants.{Up, Failed}
 
 pub record ReachState (L : Type 0) : Type 0 where
   -- the link that it is from its first reach with `Up` on

@@ -1,8 +1,8 @@
 -- A sink over memory: what it took, and which of its writes fail.
 use Rattle.std.specs.Prelude.{◌≡◌, ℕ, true, List, ◌++◌, take}
-use Rattle.vx_io.specs.Faults.{one_more, fails_next}
-use Rattle.vx_io.specs.declared.WriteOut.{WriteOut}
-use Rattle.vx_io.specs.declared.WriteOut.TheVariants.{Took, Failed}
+use Rattle.vx_io_traits.specs.Faults.{one_more, fails_next}
+use Rattle.vx_io_traits.specs.declared.WriteOut.{WriteOut}
+use Rattle.vx_io_traits.specs.declared.WriteOut.TheVariants.{Took, Failed}
 
 pub record SinkState : Type 0 where
   -- the bytes that it took, behind those that its room held

@@ -1,8 +1,8 @@
 -- A source over memory: what it has left to give, in which pieces, and which of its reads fail.
 use Rattle.std.specs.Prelude.{ℕ, ◌==◌, min, List, ◌++◌, length, take, drop, if◌then◌else◌}
-use Rattle.vx_io.specs.Faults.{one_more, fails_next}
-use Rattle.vx_io.specs.declared.ReadOut.{ReadOut}
-use Rattle.vx_io.specs.declared.ReadOut.TheVariants.{Got, End, Failed}
+use Rattle.vx_io_traits.specs.Faults.{one_more, fails_next}
+use Rattle.vx_io_traits.specs.declared.ReadOut.{ReadOut}
+use Rattle.vx_io_traits.specs.declared.ReadOut.TheVariants.{Got, End, Failed}
 
 pub record SourceState : Type 0 where
   -- the bytes that it has left to give

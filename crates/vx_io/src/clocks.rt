@@ -1,28 +1,12 @@
-//! Clocks, which tell moments in milliseconds, and pauses between two looks at what isn't there yet.
+//! A clock of the moments of a list, and the system's clock and pause.
 
-ghost use Rattle.std.specs.Prelude.{◌≡◌, ℕ, ◌≤◌, max};
+ghost use Rattle.std.specs.Prelude.{◌≡◌, ◌≤◌, max};
 
 use std::marker::Model;
 use std::rt::Clock as SystemClock;
 use std::thread;
 use std::time::Duration;
-
-/// Tells moments, in milliseconds from a beginning of its own.
-pub trait Clock {
-    // The greatest moment that it has told, 0 at first.
-    ghost told: { Self → ℕ };
-
-    /// The moment now. A clock may tell an earlier moment than before.
-    fn now(&mut self) -> u64
-        ensures rises { told self.old ≤ told self.new }
-        ensures within { result ≤ told self.new }
-        ensures told { told self.new ≡ max (told self.old) result };
-}
-
-/// Lets a little time pass.
-pub trait Pause {
-    fn pause(&mut self);
-}
+use vx_io_traits::{Clock, Pause};
 
 /// A clock that tells the moments of a list in turn, and at its end the last of them again, or 0 of an empty list.
 #[derive(Drop)]

@@ -1,14 +1,14 @@
-//! The forms over memory, whose pieces and faults a test chooses.
+//! A source and a sink over memory, whose pieces and faults a test chooses.
 
 ghost use Rattle.std.specs.Prelude.{◌≡◌, ◌<◌, ◌≤◌, ◌++◌, min, Some, length, take, drop};
 ghost use Rattle.std.specs.Io.KnownBytes.{Appends, Consumes, IsAtEnd, Keeps};
-ghost use Rattle.vx_io.specs.Faults.{Rose};
-ghost use Rattle.vx_io.specs.Outs.{IfGot, IfTook, OnEnd, OnReadFailed, OnWriteFailed};
+ghost use Rattle.vx_io_traits.specs.Faults.{Rose};
+ghost use Rattle.vx_io_traits.specs.Outs.{IfGot, IfTook, OnEnd, OnReadFailed, OnWriteFailed};
 ghost use Rattle.vx_io.specs.SourceState.{SourceState, read_answer, read_slice, after_read};
 ghost use Rattle.vx_io.specs.SinkState.{SinkState, IsWriteAnswer, after_write};
 
-use super::{ReadOut, Sink, Source, WriteOut};
 use std::marker::Model;
+use vx_io_traits::{ReadOut, Sink, Source, WriteOut};
 
 /// A source of the bytes of a list, in pieces of a chosen length, of which chosen reads fail.
 #[derive(Drop)]

@@ -1,58 +1,9 @@
-//! Nets: what opens ports, and takes the links of peers at one of its own.
+//! A port and a net over memory, whose links and faults a test chooses.
 
-ghost use Rattle.std.specs.Prelude.{◌≡◌, ℕ, ◌≤◌, ◌||◌, Bool, true};
-ghost use Rattle.vx_io.specs.Faults.{Rose};
-ghost use Rattle.vx_io.specs.Rung.{OnDialFailed, is_up};
-ghost use Rattle.vx_io.specs.Accepts.{OnAcceptFailed, OnBindFailed, given_after, ended_after};
-
-use super::dials::DialOut;
-use super::links::Link;
-use super::listeners::{Accepted, Bound, Listen};
 use std::collections::VecDeque;
 use std::marker::Model;
 use std::mem;
-
-/// A net, which opens one port of its own and takes that port's links, and binds other ports.
-pub trait Net {
-    type Port: Listen;
-
-    // Whether its own port is open.
-    ghost is_open: { Self → Bool };
-
-    // How many calls failed: a `u64` that stays at its greatest value.
-    ghost faults: { Self → ℕ };
-
-    // How many links its own port gave.
-    ghost given: { Self → ℕ };
-
-    // How often its own port told that no more links come: a `u64` that stays at its greatest value.
-    ghost ended: { Self → ℕ };
-
-    /// Opens the net's own port, which takes links from now on. Where that fails, a port that was open stays so.
-    fn open(&mut self, port: u16) -> DialOut
-        ensures counted { faults self.old ≤ faults self.new }
-        ensures opened { is_open self.new ≡ (is_up result || is_open self.old) }
-        ensures given { given self.new ≡ given self.old }
-        ensures ended { ended self.new ≡ ended self.old }
-        ensures failed { OnDialFailed result (Rose (faults self.old) (faults self.new)) };
-
-    /// Waits for the next link of its own port, which is open.
-    fn accept(&mut self) -> Accepted<<Self::Port as Listen>::Peer>
-        requires { is_open self.old ≡ true }
-        ensures counted { faults self.old ≤ faults self.new }
-        ensures opened { is_open self.new ≡ true }
-        ensures given { given self.new ≡ given_after result (given self.old) }
-        ensures ended { ended self.new ≡ ended_after result (ended self.old) }
-        ensures failed { OnAcceptFailed result (Rose (faults self.old) (faults self.new)) };
-
-    /// Binds another port, which takes links from now on.
-    fn bind(&mut self, port: u16) -> Bound<Self::Port>
-        ensures counted { faults self.old ≤ faults self.new }
-        ensures opened { is_open self.new ≡ is_open self.old }
-        ensures given { given self.new ≡ given self.old }
-        ensures ended { ended self.new ≡ ended self.old }
-        ensures failed { OnBindFailed result (Rose (faults self.old) (faults self.new)) };
-}
+use vx_io_traits::{Accepted, Bound, DialOut, Link, Listen, Net};
 
 /// A port that gives the links of a list, and has no faults.
 #[derive(Drop)]
@@ -71,8 +22,8 @@ impl<L> Model for MemPort<L> {
 
 impl<L: Link> Listen for MemPort<L> {
     ghost use Rattle.std.specs.Prelude.{◌≡◌, ◌≤◌, drop};
-    ghost use Rattle.vx_io.specs.Faults.{Rose};
-    ghost use Rattle.vx_io.specs.Accepts.{OnAcceptFailed};
+    ghost use Rattle.vx_io_traits.specs.Faults.{Rose};
+    ghost use Rattle.vx_io_traits.specs.Accepts.{OnAcceptFailed};
     ghost use Rattle.vx_io.specs.NetState.{next_link};
 
     type Peer = L;
@@ -130,7 +81,7 @@ impl<L> Model for MemNet<L> {
 
 impl<L> MemNet<L> {
     ghost use Rattle.std.specs.Prelude.{◌≡◌, ◌≤◌, true, false};
-    ghost use Rattle.vx_io.specs.Faults.{Rose, fails_next};
+    ghost use Rattle.vx_io_traits.specs.Faults.{Rose, fails_next};
     ghost use Rattle.vx_io.specs.NetState.{counted, after_fault};
 
     /// A net whose own port gives the links `core`; the first port that it binds gives the links `abort`, and each later
@@ -177,9 +128,9 @@ impl<L> MemNet<L> {
 
 impl<L: Link> Net for MemNet<L> {
     ghost use Rattle.std.specs.Prelude.{◌≡◌, ◌≤◌, ◌||◌, true};
-    ghost use Rattle.vx_io.specs.Faults.{Rose};
-    ghost use Rattle.vx_io.specs.Rung.{OnDialFailed, is_up};
-    ghost use Rattle.vx_io.specs.Accepts.{OnAcceptFailed, OnBindFailed, given_after, ended_after};
+    ghost use Rattle.vx_io_traits.specs.Faults.{Rose};
+    ghost use Rattle.vx_io_traits.specs.Rung.{OnDialFailed, is_up};
+    ghost use Rattle.vx_io_traits.specs.Accepts.{OnAcceptFailed, OnBindFailed, given_after, ended_after};
     ghost use Rattle.vx_io.specs.NetState.{open_answer, after_open, accept_answer, after_accept, bind_answer, after_bind};
 
     type Port = MemPort<L>;

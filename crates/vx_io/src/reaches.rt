@@ -1,38 +1,7 @@
-//! Reaches: what connects to a host and port that a user names, and is then the link to it.
+//! A reach over memory, which answers `Up` at one host and port.
 
-ghost use Rattle.std.specs.Prelude.{◌≡◌, ℕ, ◌<◌, ◌≤◌, List, Option, None};
-ghost use Rattle.std.specs.Io.KnownBytes.{Keeps};
-ghost use Rattle.vx_io.specs.Faults.{Rose};
-ghost use Rattle.vx_io.specs.Rung.{OnDialFailed};
-ghost use Rattle.vx_io.specs.Stands.{Stays};
-ghost use Rattle.vx_io.specs.Reached.{AnswersAt};
-
-use super::dials::DialOut;
-use super::links::Link;
-use super::{ReadOut, WriteOut};
 use std::marker::Model;
-
-/// A link to a host and port that is yet to be named: the link that its last reach with `Up` made. Until then its receives
-/// and sends fail.
-pub trait Reach: Link {
-    // How many reaches were refused: a `u64` that stays at its greatest value.
-    ghost refused: { Self → ℕ };
-
-    // The one host and port at which a reach answers `Up`, where it can tell them: the bytes of the host's text, and the
-    // port.
-    ghost place: { Self → Option (List ℕ × ℕ) } = { λ _. None };
-
-    /// Connects to a port of a host. It takes and gives no byte, and counts no fault of a receive or a send.
-    fn reach(&mut self, host: &str, port: u16) -> DialOut
-        ensures counted { refused self.old ≤ refused self.new }
-        ensures place { place self.new ≡ place self.old }
-        ensures answers { AnswersAt (place self.old) host.now port result }
-        ensures failed { OnDialFailed result (Rose (refused self.old) (refused self.new)) }
-        ensures receives { Self.receive_faults self.new ≡ Self.receive_faults self.old }
-        ensures sends { Self.send_faults self.new ≡ Self.send_faults self.old }
-        ensures left { Keeps (Self.left self.old) (Self.left self.new) }
-        ensures stays { Stays Self.stands self.old self.new };
-}
+use vx_io_traits::{DialOut, Link, Reach, ReadOut, WriteOut};
 
 /// A reach that answers `Up` at one host and port, and is then the link that it was made with. A receive and a send before
 /// that fail, and count as faults of it.
@@ -104,11 +73,11 @@ impl<L> MemReach<L> {
 }
 
 impl<L: Link> Link for MemReach<L> {
-    ghost use Rattle.std.specs.Prelude.{◌≡◌, ℕ, ◌<◌, ◌≤◌, true, false, length, take};
+    ghost use Rattle.std.specs.Prelude.{◌≡◌, ◌<◌, ◌≤◌, true, false, length, take};
     ghost use Rattle.std.specs.Io.KnownBytes.{Consumes, IsAtEnd, Keeps};
-    ghost use Rattle.vx_io.specs.Faults.{Rose};
-    ghost use Rattle.vx_io.specs.Outs.{IfGot, IfTook, OnEnd, OnReadFailed, OnWriteFailed};
-    ghost use Rattle.vx_io.specs.Stands.{Gives, Takes, Stays};
+    ghost use Rattle.vx_io_traits.specs.Faults.{Rose};
+    ghost use Rattle.vx_io_traits.specs.Outs.{IfGot, IfTook, OnEnd, OnReadFailed, OnWriteFailed};
+    ghost use Rattle.vx_io_traits.specs.Stands.{Gives, Takes, Stays};
     ghost use Rattle.vx_io.specs.ReachState.{with_early, IsEarlyReceive, IsEarlySend, IsLinkCall};
 
     ghost stands = { λ s. L.stands s.link };
@@ -183,10 +152,10 @@ impl<L: Link> Link for MemReach<L> {
 impl<L: Link> Reach for MemReach<L> {
     ghost use Rattle.std.specs.Prelude.{◌≡◌, ◌≤◌};
     ghost use Rattle.std.specs.Io.KnownBytes.{Keeps};
-    ghost use Rattle.vx_io.specs.Faults.{Rose};
-    ghost use Rattle.vx_io.specs.Rung.{OnDialFailed};
-    ghost use Rattle.vx_io.specs.Stands.{Stays};
-    ghost use Rattle.vx_io.specs.Reached.{AnswersAt};
+    ghost use Rattle.vx_io_traits.specs.Faults.{Rose};
+    ghost use Rattle.vx_io_traits.specs.Rung.{OnDialFailed};
+    ghost use Rattle.vx_io_traits.specs.Stands.{Stays};
+    ghost use Rattle.vx_io_traits.specs.Reached.{AnswersAt};
     ghost use Rattle.vx_io.specs.ReachState.{place_of, with_early, after_reach};
 
     ghost refused = { λ s. s.refused };

@@ -2,17 +2,17 @@
 //! the bytes of a real stream; each is seen as its counts.
 
 ghost use Rattle.std.specs.Prelude.{◌≡◌, ◌<◌, ◌≤◌, ◌||◌, true, false, length, None};
-ghost use Rattle.vx_io.specs.Faults.{one_more};
-ghost use Rattle.vx_io.specs.Outs.{IfGot, IfTook, OnEnd, OnReadFailed, OnWriteFailed};
-ghost use Rattle.vx_io.specs.Rung.{OnDialFailed, is_up};
-ghost use Rattle.vx_io.specs.Accepts.{OnAcceptFailed, OnBindFailed, GoesOn, given_after};
+ghost use Rattle.vx_io_traits.specs.Faults.{one_more};
+ghost use Rattle.vx_io_traits.specs.Outs.{IfGot, IfTook, OnEnd, OnReadFailed, OnWriteFailed};
+ghost use Rattle.vx_io_traits.specs.Rung.{OnDialFailed, is_up};
+ghost use Rattle.vx_io_traits.specs.Accepts.{OnAcceptFailed, OnBindFailed, GoesOn, given_after};
 ghost use Rattle.vx_io.specs.SocketState.{TellsNone};
 
 use super::standard::{TRIES, read_retrying, write_retrying};
-use super::{Accepted, Bound, DialOut, Link, Listen, Net, Reach, ReadOut, WriteOut};
 use std::io::ErrorKind;
 use std::marker::Model;
 use std::net::{Ipv4Addr, Net as Sockets, TcpListener, TcpStream};
+use vx_io_traits::{Accepted, Bound, DialOut, Link, Listen, Net, Reach, ReadOut, WriteOut};
 
 /// A link over a TCP stream of the system.
 #[derive(Drop)]

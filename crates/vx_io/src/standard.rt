@@ -1,12 +1,12 @@
 //! The standard library's readers and writers as a source and a sink: the trusted edge, a few lines each.
 
 ghost use Rattle.std.specs.Prelude.{◌≡◌, ◌<◌, ◌≤◌, IfSome, None, length};
-ghost use Rattle.vx_io.specs.Faults.{one_more};
-ghost use Rattle.vx_io.specs.Outs.{IfGot, IfTook, OnEnd, OnReadFailed, OnWriteFailed};
+ghost use Rattle.vx_io_traits.specs.Faults.{one_more};
+ghost use Rattle.vx_io_traits.specs.Outs.{IfGot, IfTook, OnEnd, OnReadFailed, OnWriteFailed};
 
-use super::{ReadOut, Sink, Source, WriteOut};
 use std::io::{Error, ErrorKind, Read, Write};
 use std::marker::Model;
+use vx_io_traits::{ReadOut, Sink, Source, WriteOut};
 
 /// How often in all a call is made that a signal interrupts.
 pub(super) const TRIES: u32 = 64;

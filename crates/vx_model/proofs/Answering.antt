@@ -19,16 +19,16 @@ use Rattle.vx_488.specs.declared.wire.Wire.{Wire}
 use Rattle.vx_plan.specs.declared.tasks.Task.{Task}
 use Rattle.vx_plan.specs.Roles.{has_role}
 use Rattle.vx_plan.specs.Plan.{Stand}
-use Rattle.vx_model.specs.State.{Pending, Tables, State, pending_at}
-use Rattle.vx_model.specs.Calls.{is_bus_call, asks_dial}
-use Rattle.vx_model.specs.Checks.{NamedLink, NoLink, DeadLink, OnLink, named_link, check}
-use Rattle.vx_model.specs.Lines.{Lines, Refused, Waiting, Passed, holder_against, checks_pass, later_lines}
-use Rattle.vx_model.specs.Effects.{task_on, task_of, stopped_reply, create, effect, settle}
-use Rattle.vx_model.specs.Decide.{Outside, is_quiet, settles, may_tell, may_have_made, is_nothing, begun_between, has_job_role, is_part_of, bus_answer, dialed_answer, by_lines, passed_fits, lines_fit, stand_on, turn_answer}
-use Rattle.vx_model.specs.Entry.{Answer}
-use Rattle.vx_model.specs.One.{one, call_fits, answer_to, if_reply}
-use Rattle.vx_model.specs.Serving.{served_reply}
-use Rattle.vx_model.proofs.Walks.{passed-says}
+use Rattle.vx_rules.specs.State.{Pending, Tables, State, pending_at}
+use Rattle.vx_rules.specs.Calls.{is_bus_call, asks_dial}
+use Rattle.vx_rules.specs.Checks.{NamedLink, NoLink, DeadLink, OnLink, named_link, check}
+use Rattle.vx_rules.specs.Lines.{Lines, Refused, Waiting, Passed, holder_against, checks_pass, later_lines}
+use Rattle.vx_rules.specs.Effects.{task_on, task_of, stopped_reply, create, effect, settle}
+use Rattle.vx_rules.specs.Decide.{Outside, is_quiet, settles, may_tell, may_have_made, is_nothing, begun_between, has_job_role, is_part_of, bus_answer, dialed_answer, by_lines, passed_fits, lines_fit, stand_on, turn_answer}
+use Rattle.vx_rules.specs.Entry.{Answer}
+use Rattle.vx_rules.specs.One.{one, call_fits, answer_to, if_reply}
+use Rattle.vx_rules.specs.Serving.{served_reply}
+use Rattle.vx_rules.proofs.Walks.{passed-says}
 use Rattle.vx_model.specs.Stepping.{Goes, closed, ended, answer_at, stopped_at, refusal_fits, open_job, lines_at, stood_at, turn_at}
 
 -- ---- the reply that is told

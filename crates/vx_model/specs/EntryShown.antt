@@ -4,7 +4,7 @@ use Rattle.vx_calls.specs.Reply.{reply_shown}
 use Rattle.vx_srq.specs.Shown.{given_shown}
 use Rattle.vx_model.specs.declared.entry.EntryRef.{EntryRef}
 use Rattle.vx_model.specs.declared.entry.EntryRef.TheVariants as seen
-use Rattle.vx_model.specs.Entry.{Entry, Up, Down, Arrive, Answer, Abort, Sample, Take}
+use Rattle.vx_rules.specs.Entry.{Entry, Up, Down, Arrive, Answer, Abort, Sample, Take}
 
 abbrev pub entry_shown : EntryRef → Entry
 entry_shown (seen.Up conn role) = Up conn role

@@ -3,7 +3,7 @@ use Rattle.vx_plan.specs.Plan as plan
 use Rattle.vx_model.specs.declared.plain.stand.Stand.{Stand}
 use Rattle.vx_model.specs.declared.plain.stand.Stand.TheVariants as seen
 use Rattle.vx_model.specs.declared.plain.answering.Told.{Told}
-use Rattle.vx_model.specs.Decide.{Outside}
+use Rattle.vx_rules.specs.Decide.{Outside}
 
 -- where transfers stand in a job
 abbrev pub stand_shown : Stand → plan.Stand

@@ -9,12 +9,12 @@ use Rattle.vx_488.specs.Wire.{wire_after}
 use Rattle.vx_plan.specs.declared.tasks.Task.{Task}
 use Rattle.vx_plan.specs.Plan.{Slot, Stand, fits}
 use Rattle.vx_plan.specs.Laws.{most_transfers}
-use Rattle.vx_model.specs.State.{Pending, Tables, State, with_pending}
-use Rattle.vx_model.specs.Checks.{named_link}
-use Rattle.vx_model.specs.Lines.{Lines, first_lines, lets_pass}
-use Rattle.vx_model.specs.Effects.{task_of, stopped_reply}
-use Rattle.vx_model.specs.Decide.{Outside, settles, decide, turn_fits, may_tell, may_have_made, is_nothing, begun_between, turn_answer, stand_on}
-use Rattle.vx_model.specs.One.{answered, if_reply}
+use Rattle.vx_rules.specs.State.{Pending, Tables, State, with_pending}
+use Rattle.vx_rules.specs.Checks.{named_link}
+use Rattle.vx_rules.specs.Lines.{Lines, first_lines, lets_pass}
+use Rattle.vx_rules.specs.Effects.{task_of, stopped_reply}
+use Rattle.vx_rules.specs.Decide.{Outside, settles, decide, turn_fits, may_tell, may_have_made, is_nothing, begun_between, turn_answer, stand_on}
+use Rattle.vx_rules.specs.One.{answered, if_reply}
 
 -- the entry was taken and leads to this state, or it was refused and the state is the same
 abbrev pub Goes : Option State → State → Bool → State → Type 0

@@ -1,16 +1,10 @@
-//! The gateway of one thread: the definitions that everything else is measured by, and a plain program that computes
-//! them.
+//! The gateway of one thread as a plain, slow program that computes the definitions of `vx_rules`. Nothing but tests stands
+//! on it.
 #![tactic(auto)]
 
 mod entry;
-mod laws;
 mod plain;
-mod tables;
 
 pub use entry::EntryRef;
-pub use laws::{link_numbers, locks_apart, numbers_given_once, one_reply, passed_calls};
 pub use plain::Plain;
-pub use tables::{Connect, Lines, NoMemory, Request, Tables, may_wait};
-
-#[cfg(test)]
-mod tests;
+pub use vx_rules::NoMemory;

@@ -6,11 +6,11 @@ ghost use Rattle.vx_calls.specs.Reply.{reply_shown};
 ghost use Rattle.vx_srq.specs.Desk.{channel_at};
 ghost use Rattle.vx_srq.specs.Shown.{given_shown};
 ghost use Rattle.vx_488.specs.Wire.{wire_after};
-ghost use Rattle.vx_model.specs.State as state;
-ghost use Rattle.vx_model.specs.Calls.{proc_of};
-ghost use Rattle.vx_model.specs.Entry as entry;
+ghost use Rattle.vx_rules.specs.State as state;
+ghost use Rattle.vx_rules.specs.Calls.{proc_of};
+ghost use Rattle.vx_rules.specs.Entry as entry;
 ghost use Rattle.vx_model.specs.EntryShown.{entry_shown};
-ghost use Rattle.vx_model.specs.One.{one};
+ghost use Rattle.vx_rules.specs.One.{one};
 ghost use Rattle.vx_model.specs.Stepping.{Goes, closed, IsOrderly};
 
 mod answering;
@@ -18,13 +18,13 @@ mod replies;
 mod stand;
 
 use crate::entry::EntryRef;
-use crate::tables::{Connect, NoMemory, Tables, may_wait};
 use answering::Told;
 use replies::same_taken;
 use std::alloc::Global;
 use std::marker::Model;
 use vx_488::{Transfer, Wire};
 use vx_calls::{CallRef, ErrorCode, Proc, Role, Taken};
+use vx_rules::{Connect, NoMemory, Tables, may_wait};
 
 /// The gateway of one thread. A contract sees it as its `State`: the tables, the bus and the greatest moment handed in so
 /// far, in milliseconds.
@@ -37,7 +37,7 @@ pub struct Plain {
 }
 
 impl Model for Plain {
-    ghost use Rattle.vx_model.specs.State.{State};
+    ghost use Rattle.vx_rules.specs.State.{State};
 
     ghost Value = { State };
 

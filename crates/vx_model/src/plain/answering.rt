@@ -7,24 +7,23 @@ ghost use Rattle.vx_calls.specs.Reply as reply;
 ghost use Rattle.vx_488.specs.Wire.{wire_after};
 ghost use Rattle.vx_plan.specs.declared.tasks.Task.{Task};
 ghost use Rattle.vx_plan.specs.Plan as plans;
-ghost use Rattle.vx_model.specs.State.{Pending, pending_at};
-ghost use Rattle.vx_model.specs.Calls as calls;
-ghost use Rattle.vx_model.specs.Decide as decides;
-ghost use Rattle.vx_model.specs.Entry as entry;
-ghost use Rattle.vx_model.specs.Lines as lines;
-ghost use Rattle.vx_model.specs.One.{one, may_leave};
-ghost use Rattle.vx_model.specs.Serving.{IsDoable};
+ghost use Rattle.vx_rules.specs.State.{Pending, pending_at};
+ghost use Rattle.vx_rules.specs.Calls as calls;
+ghost use Rattle.vx_rules.specs.Decide as decides;
+ghost use Rattle.vx_rules.specs.Entry as entry;
+ghost use Rattle.vx_rules.specs.Lines as lines;
+ghost use Rattle.vx_rules.specs.One.{one, may_leave};
+ghost use Rattle.vx_rules.specs.Serving.{IsDoable};
 ghost use Rattle.vx_model.specs.Stepping.{Goes, IsOrderly, answer_at, stopped_at, turn_at, stood_at, lines_at, refusal_fits, open_job};
 ghost use Rattle.vx_model.specs.StepShown.{outside_shown};
 
-use crate::laws::passed_calls;
 use crate::plain::Plain;
 use crate::plain::replies::{Done, bytes_got, is_whole_reply, puts_made, same_reply};
 use crate::plain::stand::{Stand, stand_on};
-use crate::tables::{Lines, NoMemory, has_passed};
 use vx_488::Transfer;
 use vx_calls::{ErrorCode, ReplyRef};
 use vx_plan::{Task, needs};
+use vx_rules::{Lines, NoMemory, has_passed, passed_calls};
 
 /// What comes to an answer from outside: the moment at which the call's turn began and the transfers that it made, whether
 /// the bus failed, how a dial went, and the level that a bus status tells.

@@ -11,14 +11,14 @@ ghost use Rattle.vx_plan.specs.Laws.{most_transfers};
 ghost use Rattle.vx_plan.specs.Places.{last_after};
 ghost use Rattle.vx_plan.specs.Results as results;
 ghost use Rattle.vx_plan.specs.Transfers.{got_of};
-ghost use Rattle.vx_model.specs.One.{same_given};
+ghost use Rattle.vx_rules.specs.One.{same_given};
 ghost use Rattle.vx_model.specs.Stepping.{byte_of};
 
-use crate::tables::NoMemory;
 use std::alloc::Global;
 use vx_488::{Transfer, Wire};
 use vx_calls::{ErrorCode, Interrupt, ReplyRef, Taken};
 use vx_plan::Task;
+use vx_rules::NoMemory;
 
 /// Whether two errors are one.
 pub(crate) fn same_error(a: ErrorCode, b: ErrorCode) -> bool

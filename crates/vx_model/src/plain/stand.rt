@@ -6,7 +6,7 @@ ghost use Rattle.vx_plan.specs.Plan as plans;
 ghost use Rattle.vx_plan.specs.Transfers.{same_transfer};
 ghost use Rattle.vx_plan.specs.Tasks.{plan};
 ghost use Rattle.vx_plan.specs.Places.{slot_wanted, place_after};
-ghost use Rattle.vx_model.specs.Serving.{IsDoable};
+ghost use Rattle.vx_rules.specs.Serving.{IsDoable};
 ghost use Rattle.vx_model.specs.Stepping.{fits_next};
 ghost use Rattle.vx_model.specs.StepShown.{stand_shown};
 

@@ -1,7 +1,7 @@
 use Rattle.std.proofs.Common.{◌≤◌, ◌-◌, ◌++◌, arith, ap, sym, refl, ◌∙◌, length, take, drop}
 use Rattle.std.proofs.lemmas.Grind.{common_steps}
 use Rattle.vx_io.specs.LinkState.{LinkState, after_receive}
-use Rattle.vx_io.specs.declared.ReadOut.TheVariants.{Got}
+use Rattle.vx_io_traits.specs.declared.ReadOut.TheVariants.{Got}
 use Rattle.vx_io.proofs.Pieces.{copied, given_after, left_after, moved}
 use Rattle.vx_io.proofs.links.MemLinkLink.receive.Goals as goal
 

@@ -4,9 +4,9 @@ use Rattle.vx_calls.specs.declared.codes.ErrorCode.TheVariants as code
 use Rattle.vx_calls.specs.Reply.{reply_shown}
 use Rattle.vx_model.specs.StepShown.{outside_shown}
 use Rattle.vx_plan.specs.Roles.{has_role}
-use Rattle.vx_model.specs.State.{State, pending_at}
-use Rattle.vx_model.specs.Calls.{bytes_of}
-use Rattle.vx_model.specs.Serving.{IsDoable}
+use Rattle.vx_rules.specs.State.{State, pending_at}
+use Rattle.vx_rules.specs.Calls.{bytes_of}
+use Rattle.vx_rules.specs.Serving.{IsDoable}
 use Rattle.vx_model.specs.Stepping.{answer_at, stopped_at, turn_at}
 use Rattle.vx_model.proofs.Answering.{jobless-is, turn-is, roleless-is, roleless-loud, roleless-unfit, goes_as}
 use Rattle.vx_model.proofs.plain.Plain.bus.Goals as goal

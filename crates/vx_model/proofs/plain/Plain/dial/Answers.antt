@@ -2,10 +2,10 @@ use Rattle.std.proofs.Common.{◌≡◌, true, Some, sym, ap, subst, ◌∙◌}
 use Rattle.std.specs.Prelude.{is_some}
 use Rattle.vx_calls.specs.Reply.{reply_shown, same_reply}
 use Rattle.vx_model.specs.StepShown.{outside_shown}
-use Rattle.vx_model.specs.State.{State, Pending, pending_at}
-use Rattle.vx_model.specs.Lines.{first_lines}
-use Rattle.vx_model.specs.Effects.{settle}
-use Rattle.vx_model.specs.Serving.{can_settle}
+use Rattle.vx_rules.specs.State.{State, Pending, pending_at}
+use Rattle.vx_rules.specs.Lines.{first_lines}
+use Rattle.vx_rules.specs.Effects.{settle}
+use Rattle.vx_rules.specs.Serving.{can_settle}
 use Rattle.vx_model.specs.Stepping.{closed}
 use Rattle.vx_model.proofs.Answering.{dial-taken}
 use Rattle.vx_model.proofs.plain.Plain.dial.Goals as goal

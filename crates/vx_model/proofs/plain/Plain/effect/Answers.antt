@@ -1,10 +1,10 @@
 use Rattle.std.proofs.Common.{Some, refl, sym, ap, ◌∙◌}
 use Rattle.vx_calls.specs.Reply.{reply_shown, same_reply}
 use Rattle.vx_model.specs.StepShown.{outside_shown}
-use Rattle.vx_model.specs.State.{State, pending_at}
-use Rattle.vx_model.specs.Checks.{named_link}
-use Rattle.vx_model.specs.Effects.{effect}
-use Rattle.vx_model.specs.Serving.{served_reply}
+use Rattle.vx_rules.specs.State.{State, pending_at}
+use Rattle.vx_rules.specs.Checks.{named_link}
+use Rattle.vx_rules.specs.Effects.{effect}
+use Rattle.vx_rules.specs.Serving.{served_reply}
 use Rattle.vx_model.specs.Stepping.{closed}
 use Rattle.vx_model.proofs.Answering.{effect-taken, effect-other, effect-loud, effect-unfit}
 use Rattle.vx_model.proofs.plain.Plain.effect.Goals as goal

@@ -2,7 +2,7 @@ use Rattle.std.proofs.Common.{sym, subst}
 use Rattle.std.specs.Prelude.{IfOk}
 use Rattle.vx_model.specs.declared.entry.EntryRef.{EntryRef}
 use Rattle.vx_model.specs.EntryShown.{entry_shown}
-use Rattle.vx_model.specs.One.{one}
+use Rattle.vx_rules.specs.One.{one}
 use Rattle.vx_model.specs.Stepping.{Goes}
 use Rattle.vx_model.proofs.plain.Plain.go.Goals as goal
 

@@ -1,9 +1,9 @@
 use Rattle.std.proofs.Common.{sym, ap, subst, ◌∙◌}
-use Rattle.vx_model.specs.State.{State, pending_at}
-use Rattle.vx_model.specs.Serving.{IsDoable}
+use Rattle.vx_rules.specs.State.{State, pending_at}
+use Rattle.vx_rules.specs.Serving.{IsDoable}
 use Rattle.vx_model.specs.Stepping.{IsOrderly}
 use Rattle.vx_model.specs.StepShown.{stand_shown}
-use Rattle.vx_model.proofs.Doable.{orderly, part_on}
+use Rattle.vx_model.proofs.Orderly.{orderly, part_on}
 use Rattle.vx_model.proofs.Answering.{some_pending}
 use Rattle.vx_model.proofs.plain.Plain.is_part_of.Goals as goal
 

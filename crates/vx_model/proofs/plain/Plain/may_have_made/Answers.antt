@@ -1,8 +1,8 @@
 use Rattle.std.proofs.Common.{◌||◌, ◌&&◌, sym, ap, ◌∙◌}
-use Rattle.vx_model.specs.Checks.{named_link}
-use Rattle.vx_model.specs.Lines.{lets_pass}
-use Rattle.vx_model.specs.Effects.{task_of}
-use Rattle.vx_model.specs.Decide.{is_part_of}
+use Rattle.vx_rules.specs.Checks.{named_link}
+use Rattle.vx_rules.specs.Lines.{lets_pass}
+use Rattle.vx_rules.specs.Effects.{task_of}
+use Rattle.vx_rules.specs.Decide.{is_part_of}
 use Rattle.vx_model.proofs.Answering.{part_open}
 use Rattle.vx_model.proofs.plain.Plain.may_have_made.Goals as goal
 

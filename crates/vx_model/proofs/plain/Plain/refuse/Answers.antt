@@ -1,7 +1,7 @@
 use Rattle.std.proofs.Common.{refl, sym, ◌∙◌}
 use Rattle.vx_calls.specs.Reply.{reply_shown}
 use Rattle.vx_model.specs.StepShown.{outside_shown}
-use Rattle.vx_model.specs.State.{pending_at}
+use Rattle.vx_rules.specs.State.{pending_at}
 use Rattle.vx_model.specs.Stepping.{answer_at, stopped_at}
 use Rattle.vx_model.proofs.Answering.{refused-is, refused-loud, refused-unfit, goes_as}
 use Rattle.vx_model.proofs.plain.Plain.refuse.Goals as goal

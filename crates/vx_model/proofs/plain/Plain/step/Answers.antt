@@ -1,5 +1,5 @@
 use Rattle.vx_model.specs.EntryShown.{entry_shown}
-use Rattle.vx_model.specs.One.{one}
+use Rattle.vx_rules.specs.One.{one}
 use Rattle.vx_model.proofs.Answering.{yes_is, state_is}
 use Rattle.vx_model.proofs.plain.Plain.step.Goals as goal
 

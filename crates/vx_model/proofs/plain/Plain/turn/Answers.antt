@@ -5,11 +5,11 @@ use Rattle.vx_model.specs.StepShown.{outside_shown, stand_shown}
 use Rattle.vx_plan.specs.Plan as plans
 use Rattle.vx_plan.specs.Plan.{stand}
 use Rattle.vx_plan.specs.Tasks.{plan}
-use Rattle.vx_model.specs.State.{State, pending_at}
-use Rattle.vx_model.specs.Calls.{bytes_of}
-use Rattle.vx_model.specs.Serving.{IsDoable}
+use Rattle.vx_rules.specs.State.{State, pending_at}
+use Rattle.vx_rules.specs.Calls.{bytes_of}
+use Rattle.vx_rules.specs.Serving.{IsDoable}
 use Rattle.vx_model.specs.Stepping.{IsOrderly, turn_at, stood_at}
-use Rattle.vx_model.proofs.Doable.{orderly, whole_on, part_on}
+use Rattle.vx_model.proofs.Orderly.{orderly, whole_on, part_on}
 use Rattle.vx_model.proofs.Answering.{some_pending, turn-dialed, turn-unbegun, turn-stood, goes_as, goes_any}
 use Rattle.vx_model.proofs.plain.Plain.turn.Goals as goal
 

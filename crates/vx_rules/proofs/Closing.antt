@@ -1,0 +1,64 @@
+-- What holds of the fields of the tables after a change of some of them.
+use Rattle.std.proofs.Common.{◌≡◌, ℕ, Bool, true, false, cond, not, ◌&&◌, List, map, Option, Some, refl, sym, ap, subst, ◌∙◌}
+use Rattle.std.specs.Option.{option_map}
+use Rattle.std.proofs.lemmas.Option.{same_Some}
+use Rattle.vx_links.specs.Table.{Table}
+use Rattle.vx_locks.specs.Locks.{Lock}
+use Rattle.vx_srq.specs.Desk.{Desk, Port, risen_port, sampled}
+use Rattle.vx_rules.specs.declared.tables.rows.Row.{Row}
+use Rattle.vx_rules.specs.declared.tables.rows.Asked.{Asked}
+use Rattle.vx_rules.specs.State.{Pending, Connection, Tables, without_connection}
+use Rattle.vx_rules.specs.Rows.{pending_of, asked_call}
+use Rattle.vx_rules.specs.Sound.{IsSound}
+use Rattle.vx_rules.proofs.Keeping.{without_connection-sound}
+
+-- tables with other connections, or another desk
+abbrev pub with_rows : Tables → List Connection → Tables
+with_rows t cs = record t { connections = cs }
+
+abbrev pub with_desk : Tables → Desk → Tables
+with_desk t d = record t { desk = d }
+
+abbrev pub with_locks : Tables → List Lock → Tables
+with_locks t ks = record t { locks = ks }
+
+pub rows_sound : (t : Tables) (now cs : List Connection) → now ≡ cs → IsSound (with_rows t cs) → IsSound (with_rows t now)
+rows_sound t now cs e sound = subst (λ xs. IsSound (with_rows t xs)) (sym e) sound
+
+pub desk_sound : (t : Tables) (now d : Desk) → now ≡ d → IsSound (with_desk t d) → IsSound (with_desk t now)
+desk_sound t now d e sound = subst (λ x. IsSound (with_desk t x)) (sym e) sound
+
+pub locks_sound : (t : Tables) (now ks : List Lock) → now ≡ ks → IsSound (with_locks t ks) → IsSound (with_locks t now)
+locks_sound t now ks e sound = subst (λ x. IsSound (with_locks t x)) (sym e) sound
+
+-- four parts changed
+abbrev pub changed : Tables → List Connection → Table → List Lock → Desk → Tables
+changed t cs links locks desk = record t { connections = cs; links = links; locks = locks; desk = desk }
+
+pub changed_is : (t : Tables) (cs cs' : List Connection) (links links' : Table) (locks locks' : List Lock) (desk desk' : Desk)
+    → cs ≡ cs' → links ≡ links' → locks ≡ locks' → desk ≡ desk' → changed t cs links locks desk ≡ changed t cs' links' locks' desk'
+changed_is t cs cs' links links' locks locks' desk desk' c l k d =
+    ap (λ x. changed t x links locks desk) c ∙ ap (λ x. changed t cs' x locks desk) l ∙ ap (λ x. changed t cs' links' x desk) k ∙ ap (changed t cs' links' locks') d
+
+pub gone_sound : (t : Tables) (conn : ℕ) (cs : List Connection) (links : Table) (locks : List Lock) (desk : Desk) → IsSound t
+    → changed t cs links locks desk ≡ without_connection t conn → IsSound (changed t cs links locks desk)
+gone_sound t conn cs links locks desk s e = subst IsSound (sym e) (without_connection-sound t conn s)
+
+-- a sample leaves the number of the next channel
+pub sampled_next : (d : Desk) (level : Bool) → (sampled d level).next_channel ≡ d.next_channel
+sampled_next d level = at (level && not d.level) (map (risen_port d.enables) d.ports)
+  where
+    at : (b : Bool) (ps : List Port) → (cond b (record d { ports = ps; level = level }) (record d { level = level })).next_channel ≡ d.next_channel
+    at true ps = refl
+    at false ps = refl
+
+-- the pending call of a row that was found
+pub pending_is : (r : Row) (a : Asked) (o : Option Pending) (p : Pending) → pending_of r ≡ o → r.asked ≡ Some a → o ≡ Some p
+    → asked_call a r.text.bytes.items r.handle.bytes.items ≡ p
+pending_is r a o p seen has here = same_Some _ p (at r.asked has ∙ seen ∙ here)
+  where
+    at : (x : Option Asked) → x ≡ Some a → Some (asked_call a r.text.bytes.items r.handle.bytes.items) ≡ option_map (λ b. asked_call b r.text.bytes.items r.handle.bytes.items) x
+    at x e = ap (option_map (λ b. asked_call b r.text.bytes.items r.handle.bytes.items)) (sym e)
+
+pub seen_pending : (r : Row) (a : Asked) → r.asked ≡ Some a → pending_of r ≡ Some (asked_call a r.text.bytes.items r.handle.bytes.items)
+seen_pending r a has = ap (option_map (λ b. asked_call b r.text.bytes.items r.handle.bytes.items)) has

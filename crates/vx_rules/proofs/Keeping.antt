@@ -1,0 +1,271 @@
+-- What holds of the tables stays at each change of them.
+use Rattle.std.proofs.Common.{◌≡◌, ◌<◌, ℕ, Bool, true, false, cond, not, ◌||◌, ◌&&◌, ◌==◌, List, [], ◌∷◌, map, Option, Some, None, is_some, refl, sym, ap, subst, ◌∙◌, arith, lit≤}
+use Rattle.std.specs.Prelude.{nat_lt}
+use Rattle.std.specs.List.{find, filter, list_any, All}
+use Rattle.std.proofs.lemmas.Bool.{false≢true, and_parts, and_left, or_left, or_right, eqb-true, false_from_ne_true, not_from_false}
+use Rattle.std.proofs.lemmas.Bool.Decides.{Decides-eqb}
+use Rattle.std.proofs.lemmas.List.Elements.{All-cons, All-head, All-tail, All-push, All-weaker, All-map, All-filter}
+use Rattle.std.proofs.lemmas.List.Folds.{list_any-append}
+use Rattle.std.proofs.lemmas.List.Filters.{length-filter_both}
+use Rattle.std.proofs.lemmas.List.Kept.{AllPairs-filter}
+use Rattle.std.specs.Option.{option_map}
+use Rattle.vx_calls.specs.declared.calls.Role.{Role}
+use Rattle.vx_calls.specs.declared.calls.Role.TheVariants as role
+use Rattle.vx_calls.specs.declared.targets.Target.{Target}
+use Rattle.vx_links.specs.Table.{Link, Table, IsNumbered, is_full, is_live}
+use Rattle.vx_links.proofs.Numbers.{Rises, numbered-with_link}
+use Rattle.vx_locks.specs.Locks.{holds, is_blocked, with_lock, without_lock}
+use Rattle.vx_locks.proofs.Apart.{Apart, apart-with_lock, apart-without_lock}
+use Rattle.vx_srq.specs.Desk.{Desk, Port, Channel, Enable, with_channel, with_new_channel, with_enable, enable_put, sampled, taken, port_with, port_taken, risen_port}
+use Rattle.vx_rules.specs.State.{Pending, Connection, Tables, first_tables, same_role, with_pending, with_connection, without_connection, with_link, without_link, is_lock_of}
+use Rattle.vx_rules.specs.One.{marked, mark_on}
+use Rattle.vx_rules.specs.Sound.{IsSound, IsHeld, IsOwned, IsAdded, IsAsked, has_port}
+use Rattle.vx_rules.proofs.Finds.{any_kept, found_holds, All-kept, All-update}
+
+-- a gateway as it starts
+pub first-sound : (abort_port : ℕ) → IsSound (first_tables abort_port)
+first-sound abort_port = record {
+  numbered = record {
+    rising = λ i j d before h. absurd (omega arith);
+    given = λ k d h. absurd (omega arith);
+    few = omega arith;
+    first = omega arith;
+    last = lit≤ tt;
+  };
+  apart = λ i j d before h. absurd (omega arith);
+  held = λ k d h. absurd (omega arith);
+  owned = λ k d h. absurd (omega arith);
+  added = λ k d h. absurd (omega arith);
+  asked = λ k d h. absurd (omega arith);
+}
+
+-- links that a filter leaves stay in order
+numbered-filter : (t : Table) (p : Link → Bool) → IsNumbered t → IsNumbered (record t { links = filter p t.links })
+numbered-filter t p n = record {
+  rising = AllPairs-filter Rises p t.links n.rising;
+  given = All-filter p (λ l. (0 < l.number) × (l.number < t.next)) t.links n.given;
+  few = omega (arith, n.few, length-filter_both (λ l. not (p l)) p (λ l. twice (p l)) t.links);
+  first = n.first;
+  last = n.last;
+}
+  where
+    twice : (b : Bool) → b ≡ not (not b)
+    twice true = refl
+    twice false = refl
+
+-- one link more
+pub with_link-sound : (t : Tables) (conn : ℕ) (named : Target) → IsSound t → is_full t.links ≡ false → IsSound (with_link t conn named)
+with_link-sound t conn named s room = record {
+  numbered = numbered-with_link t.links conn named s.numbered room;
+  apart = s.apart;
+  held = All-weaker (IsHeld t) (IsHeld (with_link t conn named)) (λ k h. list_any-append (λ l. l.number == k.link) t.links.links _ ∙ or_left _ _ h) t.locks s.held;
+  owned = All-weaker (IsOwned t) (IsOwned (with_link t conn named))
+      (λ e h. list_any-append (λ l. (l.number == e.link) && (l.connection == e.connection)) t.links.links _ ∙ or_left _ _ h) t.desk.enables s.owned;
+  added = s.added;
+  asked = s.asked;
+}
+
+-- a link that lives takes a lock
+pub with_lock-sound : (t : Tables) (lid : ℕ) (named : Target) → IsSound t → is_live t.links lid ≡ true → holds t.locks lid ≡ false
+    → is_blocked t.locks lid named ≡ false → IsSound (record t { locks = with_lock t.locks lid named })
+with_lock-sound t lid named s live none free = record {
+  numbered = s.numbered;
+  apart = apart-with_lock t.locks lid named s.apart none free;
+  held = All-push (IsHeld t) t.locks (record { link = lid; target = named }) s.held live;
+  owned = s.owned;
+  added = s.added;
+  asked = s.asked;
+}
+
+-- a link's lock goes
+pub without_lock-sound : (t : Tables) (lid : ℕ) → IsSound t → IsSound (record t { locks = without_lock t.locks lid })
+without_lock-sound t lid s = record {
+  numbered = s.numbered;
+  apart = apart-without_lock t.locks lid s.apart;
+  held = All-filter (λ k. not (k.link == lid)) (IsHeld t) t.locks s.held;
+  owned = s.owned;
+  added = s.added;
+  asked = s.asked;
+}
+
+-- a number that passes one test fails the other where the two numbers differ
+not_both : (n lid m conn k : ℕ) → not (k == lid) ≡ true → (n == k) ≡ true → not ((n == lid) && (m == conn)) ≡ true
+not_both n lid m conn k other same =
+    not_from_false _ (and_left _ _ (false_from_ne_true (n == lid) (λ e. false≢true (sym (ap not (is k lid (sym (eqb-true n k same) ∙ eqb-true n lid e))) ∙ other))))
+  where
+    is : (a b : ℕ) → a ≡ b → (a == b) ≡ true
+    is a b e = (Decides-eqb a b).1 e
+
+not_both-owned : (n lid m conn k o : ℕ) → not (k == lid) ≡ true → ((n == k) && (m == o)) ≡ true → not ((n == lid) && (m == conn)) ≡ true
+not_both-owned n lid m conn k o other same = not_both n lid m conn k other (and_parts _ _ same).0
+
+-- a link goes
+pub without_link-sound : (t : Tables) (conn lid : ℕ) → IsSound t → IsSound (without_link t conn lid)
+without_link-sound t conn lid s = record {
+  numbered = numbered-filter t.links (λ l. not ((l.number == lid) && (l.connection == conn))) s.numbered;
+  apart = apart-without_lock t.locks lid s.apart;
+  held = All-kept (IsHeld t) (IsHeld (without_link t conn lid)) (λ k. not (k.link == lid)) t.locks
+      (λ k other live. any_kept (λ l. l.number == k.link) (λ l. not ((l.number == lid) && (l.connection == conn))) t.links.links
+      (λ l same. not_both l.number lid l.connection conn k.link other same) live) s.held;
+  owned = All-kept (IsOwned t) (IsOwned (without_link t conn lid)) (λ e. not (e.link == lid)) t.desk.enables
+      (λ e other live. any_kept (λ l. (l.number == e.link) && (l.connection == e.connection)) (λ l. not ((l.number == lid) && (l.connection == conn))) t.links.links
+      (λ l same. not_both-owned l.number lid l.connection conn e.link e.connection other same) live) s.owned;
+  added = s.added;
+  asked = s.asked;
+}
+
+-- a link that lives and isn't the connection's still lives where the connection's links are gone
+others_live : (xs : List Link) (n conn : ℕ) → not (list_any (λ l. (l.number == n) && (l.connection == conn)) xs) ≡ true → list_any (λ l. l.number == n) xs ≡ true
+    → list_any (λ l. l.number == n) (filter (λ l. not (l.connection == conn)) xs) ≡ true
+others_live [] n conn none live = live
+others_live (x ∷ xs) n conn none live = at (x.number == n) refl (x.connection == conn) none live (λ a b. others_live xs n conn a b)
+  where
+    at : (b : Bool) → (x.number == n) ≡ b → (c : Bool) → not ((b && c) || list_any (λ l. (l.number == n) && (l.connection == conn)) xs) ≡ true → (b || list_any (λ l. l.number == n) xs) ≡ true
+        → (not (list_any (λ l. (l.number == n) && (l.connection == conn)) xs) ≡ true → list_any (λ l. l.number == n) xs ≡ true
+        → list_any (λ l. l.number == n) (filter (λ l. not (l.connection == conn)) xs) ≡ true)
+        → list_any (λ l. l.number == n) (cond (not c) (x ∷ filter (λ l. not (l.connection == conn)) xs) (filter (λ l. not (l.connection == conn)) xs)) ≡ true
+    at true is true none live rest = absurd (false≢true none)
+    at true is false none live rest = or_left _ _ is
+    at false is true none live rest = rest none live
+    at false is false none live rest = or_right (x.number == n) _ (rest none live)
+
+other_owner : (m conn o : ℕ) → not (o == conn) ≡ true → (m == o) ≡ true → not (m == conn) ≡ true
+other_owner m conn o other same = subst (λ k. not (k == conn) ≡ true) (sym (eqb-true m o same)) other
+
+-- a connection goes
+pub without_connection-sound : (t : Tables) (conn : ℕ) → IsSound t → IsSound (without_connection t conn)
+without_connection-sound t conn s = record {
+  numbered = numbered-filter t.links (λ l. not (l.connection == conn)) s.numbered;
+  apart = AllPairs-filter Apart (λ k. not (is_lock_of t.links.links conn k)) t.locks s.apart;
+  held = All-kept (IsHeld t) (IsHeld (without_connection t conn)) (λ k. not (is_lock_of t.links.links conn k)) t.locks
+      (λ k other live. others_live t.links.links k.link conn other live) s.held;
+  owned = All-kept (IsOwned t) (IsOwned (without_connection t conn)) (λ e. not (e.connection == conn)) t.desk.enables
+      (λ e other live. any_kept (λ l. (l.number == e.link) && (l.connection == e.connection)) (λ l. not (l.connection == conn)) t.links.links
+      (λ l same. other_owner l.connection conn e.connection other (and_parts _ _ same).1) live) s.owned;
+  added = All-kept (IsAdded t) (IsAdded (without_connection t conn)) (λ c. not (c.number == conn)) t.connections
+      (λ c other was core. any_kept (λ p. p.connection == c.number) (λ p. not (p.connection == conn)) t.desk.ports
+      (λ p same. other_owner p.connection conn c.number other same) (was core)) s.added;
+  asked = All-filter (λ c. not (c.number == conn)) IsAsked t.connections s.asked;
+}
+
+-- a desk with the same enables and connections
+pub same_desk-sound : (t : Tables) (d : Desk) → IsSound t → d.enables ≡ t.desk.enables → ((n : ℕ) → has_port d n ≡ has_port t.desk n) → IsSound (record t { desk = d })
+same_desk-sound t d s enables ports = record {
+  numbered = s.numbered;
+  apart = s.apart;
+  held = s.held;
+  owned = subst (All (IsOwned t)) (sym enables) s.owned;
+  added = All-weaker (IsAdded t) (IsAdded (record t { desk = d })) (λ c was core. ports c.number ∙ was core) t.connections s.added;
+  asked = s.asked;
+}
+
+-- ports that are changed stay their connections'
+ports_stay : (f : Port → Port) → ((p : Port) → (f p).connection ≡ p.connection) → (ps : List Port) (n : ℕ) → list_any (λ p. p.connection == n) (map f ps) ≡ list_any (λ p. p.connection == n) ps
+ports_stay f same [] n = refl
+ports_stay f same (p ∷ ps) n = ap (λ m. (m == n) || list_any (λ q. q.connection == n) (map f ps)) (same p) ∙ ap (λ b. (p.connection == n) || b) (ports_stay f same ps n)
+
+port_with-stays : (conn : ℕ) (channel : Option Channel) (p : Port) → (port_with conn channel p).connection ≡ p.connection
+port_with-stays conn channel p = at (p.connection == conn)
+  where
+    at : (b : Bool) → (cond b (record p { channel = channel }) p).connection ≡ p.connection
+    at true = refl
+    at false = refl
+
+port_taken-stays : (conn number : ℕ) (p : Port) → (port_taken conn number p).connection ≡ p.connection
+port_taken-stays conn number p = at (p.connection == conn) _
+  where
+    at : (b : Bool) (c : Option Channel) → (cond b (record p { channel = c }) p).connection ≡ p.connection
+    at true c = refl
+    at false c = refl
+
+pub with_channel-sound : (t : Tables) (conn : ℕ) (channel : Option Channel) → IsSound t → IsSound (record t { desk = with_channel t.desk conn channel })
+with_channel-sound t conn channel s = same_desk-sound t (with_channel t.desk conn channel) s refl (ports_stay (port_with conn channel) (port_with-stays conn channel) t.desk.ports)
+
+pub with_new_channel-sound : (t : Tables) (conn program version : ℕ) → IsSound t → IsSound (record t { desk = with_new_channel t.desk conn program version })
+with_new_channel-sound t conn program version s =
+    same_desk-sound t (with_new_channel t.desk conn program version) s refl (ports_stay (port_with conn _) (port_with-stays conn _) t.desk.ports)
+
+pub taken-sound : (t : Tables) (conn number : ℕ) → IsSound t → IsSound (record t { desk = taken t.desk conn number })
+taken-sound t conn number s = same_desk-sound t (taken t.desk conn number) s refl (ports_stay (port_taken conn number) (port_taken-stays conn number) t.desk.ports)
+
+pub sampled-sound : (t : Tables) (level : Bool) → IsSound t → IsSound (record t { desk = sampled t.desk level })
+sampled-sound t level s = at (level && not t.desk.level)
+  where
+    at : (b : Bool) → IsSound (record t { desk = cond b (record t.desk { ports = map (risen_port t.desk.enables) t.desk.ports; level = level }) (record t.desk { level = level }) })
+    at true = same_desk-sound t (record t.desk { ports = map (risen_port t.desk.enables) t.desk.ports; level = level }) s refl (ports_stay (risen_port t.desk.enables) (λ p. refl) t.desk.ports)
+    at false = same_desk-sound t (record t.desk { level = level }) s refl (λ n. refl)
+
+-- an enable comes to its place
+All-enable_put : (P : Enable → Type 0) (e : Enable) (es : List Enable) → P e → All P es → All P (enable_put e es)
+All-enable_put P e [] here all = All-cons P e [] here all
+All-enable_put P e (f ∷ fs) here all = at (nat_lt e.link f.link) (e.link == f.link) (All-enable_put P e fs here (All-tail P f fs all))
+  where
+    at : (below same : Bool) → All P (enable_put e fs) → All P (cond below (e ∷ f ∷ fs) (cond same (e ∷ fs) (f ∷ enable_put e fs)))
+    at true same rest = All-cons P e (f ∷ fs) here all
+    at false true rest = All-cons P e fs here (All-tail P f fs all)
+    at false false rest = All-cons P f (enable_put e fs) (All-head P f fs all) rest
+
+pub with_enable-sound : (t : Tables) (e : Enable) → IsSound t → IsOwned t e → IsSound (record t { desk = with_enable t.desk e })
+with_enable-sound t e s owned = record {
+  numbered = s.numbered;
+  apart = s.apart;
+  held = s.held;
+  owned = All-enable_put (IsOwned t) e t.desk.enables owned s.owned;
+  added = s.added;
+  asked = s.asked;
+}
+
+-- a connection more
+pub with_connection-sound : (t : Tables) (r : Role) → IsSound t → IsSound (with_connection t r)
+with_connection-sound t role.Core s =
+    let new : Connection = record { number = t.next_connection; role = role.Core; pending = None } in
+    record {
+      numbered = s.numbered;
+      apart = s.apart;
+      held = s.held;
+      owned = s.owned;
+      added = All-push (IsAdded (with_connection t role.Core)) t.connections new
+          (All-weaker (IsAdded t) (IsAdded (with_connection t role.Core)) (λ c was core. list_any-append (λ p. p.connection == c.number) t.desk.ports _ ∙ or_left _ _ (was core)) t.connections s.added)
+          (λ core. list_any-append (λ p. p.connection == t.next_connection) t.desk.ports _ ∙ or_right (list_any (λ p. p.connection == t.next_connection) t.desk.ports) _ (or_left _ _ ((Decides-eqb t.next_connection t.next_connection).1 refl)));
+      asked = All-push IsAsked t.connections new s.asked (λ h. absurd (false≢true h));
+    }
+with_connection-sound t role.Abort s =
+    let new : Connection = record { number = t.next_connection; role = role.Abort; pending = None } in
+    record {
+      numbered = s.numbered;
+      apart = s.apart;
+      held = s.held;
+      owned = s.owned;
+      added = All-push (IsAdded t) t.connections new s.added (λ core. absurd (false≢true core));
+      asked = All-push IsAsked t.connections new s.asked (λ h. absurd (false≢true h));
+    }
+
+-- a call of a core connection comes, or a call goes
+pub with_pending-sound : (t : Tables) (conn : ℕ) (p : Option Pending) → IsSound t
+    → ((c : Connection) → find (λ k. k.number == conn) t.connections ≡ Some c → is_some p ≡ true → same_role c.role role.Core ≡ true) → IsSound (with_pending t conn p)
+with_pending-sound t conn p s core = record {
+  numbered = s.numbered;
+  apart = s.apart;
+  held = s.held;
+  owned = s.owned;
+  added = All-update (IsAdded t) (λ c. c.number == conn) (λ c. record c { pending = p }) t.connections (λ c found. found_holds (IsAdded t) (λ k. k.number == conn) t.connections c s.added found) s.added;
+  asked = All-update IsAsked (λ c. c.number == conn) (λ c. record c { pending = p }) t.connections core s.asked;
+}
+
+pub ended-sound : (t : Tables) (conn : ℕ) → IsSound t → IsSound (with_pending t conn None)
+ended-sound t conn s = with_pending-sound t conn None s (λ c found none. absurd (false≢true none))
+
+-- calls are marked
+mapped_some : {A B : Type 0} (f : A → B) (o : Option A) → is_some (option_map f o) ≡ is_some o
+mapped_some f None = refl
+mapped_some f (Some x) = refl
+
+pub marked-sound : (t : Tables) (lid : ℕ) → IsSound t → IsSound (marked t lid)
+marked-sound t lid s = record {
+  numbered = s.numbered;
+  apart = s.apart;
+  held = s.held;
+  owned = s.owned;
+  added = All-map (IsAdded t) (mark_on lid) t.connections (λ k d h. s.added k d h);
+  asked = All-map IsAsked (mark_on lid) t.connections (λ k d h some. s.asked k d h (sym (mapped_some _ _) ∙ some));
+}
