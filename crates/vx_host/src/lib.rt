@@ -3,8 +3,6 @@
 #![tactic(auto)]
 
 mod spawner;
-#[cfg(test)]
-mod tests;
 mod tools;
 
 pub use spawner::{ThreadSpawner, start_threads};

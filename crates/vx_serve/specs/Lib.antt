@@ -1,4 +1,1 @@
-pub mod Lines
-pub mod Running
-pub mod Outcome
 pub mod Starting

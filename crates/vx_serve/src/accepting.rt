@@ -1,8 +1,8 @@
 //! The links of the core port: each is handed to the workers that serve them.
 ghost use Rattle.std.specs.Prelude.{◌≡◌, ◌≤◌, ◌^◌, ◌<◌, true, MatchOption, min};
-ghost use Rattle.vx_io.specs.Faults.{Rose};
+ghost use Rattle.vx_io_traits.specs.Faults.{Rose};
 ghost use Rattle.vx_gate.specs.Gates.{gate_of};
-ghost use Rattle.vx_serve.specs.Running.{TookLinks, net_shown};
+ghost use Rattle.vx_ending.specs.Running.{TookLinks, net_shown};
 
 use crate::workers::{CoreKit, Peer, Shared, serve_core};
 use crossbeam_channel::Sender;
@@ -10,9 +10,10 @@ use std::alloc::Global;
 use std::mem;
 use std::sync::{Condvar, Mutex, Wait};
 use vx_core::Core;
+use vx_ending::next_link;
 use vx_gate::Pass;
 use vx_inst::Instrument;
-use vx_io::{Accepted, Clock, Dial, Link, Net, Pause};
+use vx_io_traits::{Accepted, Clock, Dial, Link, Net, Pause};
 use vx_session::Tally;
 use vx_sim::SimBus;
 
@@ -57,14 +58,8 @@ where
     let mut pass = pass;
     let mut number = 0u64;
     for _ in rt.forever() {
-        if limit > 0 && number >= u64::from(limit) {
-            return Some(number);
-        }
-        match net.accept() {
-            Accepted::Peer(link) => {
-                number = number.saturating_add(1);
-                pass = hand_on(rt, alloc, links, shared, pass, link, kit);
-            }
+        match next_link(net, limit, &mut number) {
+            Accepted::Peer(link) => pass = hand_on(rt, alloc, links, shared, pass, link, kit),
             Accepted::Ended => return Some(number),
             Accepted::Failed => return None,
         }

@@ -2,16 +2,10 @@
 #![tactic(auto)]
 
 mod accepting;
-mod lines;
-#[cfg(test)]
-mod served;
 mod server;
 mod starting;
-mod status;
-#[cfg(test)]
-mod tests;
 mod workers;
 
-pub use server::{BENCH_MAX, serve_run};
-pub use status::Status;
+pub use server::serve_run;
+pub use vx_ending::{BENCH_MAX, Status};
 pub use workers::Serve;

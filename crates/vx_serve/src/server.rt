@@ -1,39 +1,28 @@
 //! The server: its words, its bench, its ports, its workers, and the links that it takes.
-ghost use Rattle.std.specs.Prelude.{◌≡◌, ◌≢◌, ◌≤◌, ◌<◌, ◌+◌, length, map, string_bytes, true, MatchOption};
-ghost use Rattle.vx_io.specs.Faults.{Rose};
-ghost use Rattle.vx_bus.specs.MemState.{first_means};
+ghost use Rattle.std.specs.Prelude.{◌≡◌, map, string_bytes, true};
+ghost use Rattle.vx_bus_traits.specs.Means.{first_means};
 ghost use Rattle.vx_gate.specs.Gates.{gate_of};
 ghost use Rattle.vx_words.specs.Meant.{IsInRange};
-ghost use Rattle.vx_script.specs.Cause.{cause_word};
-ghost use Rattle.vx_trace.specs.Output.{FaultLine};
-ghost use Rattle.vx_trace.specs.Text.{line_text};
-ghost use Rattle.vx_serve.specs.Running.{EndsRun, LinksEnd, LinksServed, net_shown};
 ghost use Rattle.vx_bench.specs.Spares.{spare_shown};
-ghost use Rattle.vx_serve.specs.Outcome.{Ends, EndsBenched, EndsOptioned, EndsSo, EndsStopped, PutsLast};
+ghost use Rattle.vx_ending.specs.Running.{EndsRun, LinksEnd, LinksServed, net_shown};
+ghost use Rattle.vx_ending.specs.Outcome.{Ends, EndsSo};
 
 use crate::accepting::{accept_links, wait_for};
-use crate::lines::{LINE_ROOM, fault_line, listening_line, served_line};
 use crate::starting::{Acceptor, Unstarted, start_all, start_gateway};
-use crate::status::Status;
 use crate::workers::{CoreKit, Peer, Serve, Shared};
 use crossbeam_channel::Sender;
 use std::alloc::Global;
 use std::sync::Wait;
 use std::sync::atomic::Ordering;
-use vx_bench::{BenchStop, set_up};
 use vx_core::Core;
+use vx_ending::{Status, announce, open_ports, prepare, tell_served};
 use vx_gate::Pass;
 use vx_inst::Instrument;
-use vx_io::{Bound, Clock, Dial, DialOut, Net, Pause, Sink, Source, Spawner, Streams};
+use vx_io_traits::{Clock, Dial, Net, Pause, Sink, Source, Spawner, Streams};
 use vx_rack::Spare;
-use vx_script::Cause;
 use vx_session::{Tally, Tools};
 use vx_sim::SimBus;
-use vx_text::{Input, put_all, read_all};
-use vx_words::{Asked, Options, read_words};
-
-/// The longest bench, in bytes.
-pub const BENCH_MAX: usize = 1_048_576;
+use vx_words::Options;
 
 /// How a run of the server ended, and the links that it served.
 #[derive(Drop)]
@@ -51,57 +40,6 @@ impl Ended {
             status,
             tally: Tally::new(),
         }
-    }
-}
-
-/// Writes a line behind which nothing more comes.
-fn put_last<K: Sink>(sink: &mut K, line: &[u8], how: Status) -> Ended
-    ensures { PutsLast how line.now
-        (record { bytes = K.taken sink.old; faults = K.faults sink.old })
-        (record { bytes = K.taken sink.new; faults = K.faults sink.new }) result.status }
-{
-    match put_all(sink, line) {
-        Ok(()) => Ended::early(how),
-        Err(_) => Ended::early(Status::SinkFailed),
-    }
-}
-
-/// Writes the line of a bench of which a line is refused.
-fn put_fault<K: Sink>(sink: &mut K, line: u64, cause: Cause) -> Ended
-    ensures { PutsLast Status.BenchFault (line_text (FaultLine line (cause_word cause)))
-        (record { bytes = K.taken sink.old; faults = K.faults sink.old })
-        (record { bytes = K.taken sink.new; faults = K.faults sink.new }) result.status }
-{
-    let mut room = [0; LINE_ROOM];
-    let len = fault_line(line, cause, &mut room);
-    put_last(sink, &room[..len], Status::BenchFault)
-}
-
-/// Ends a server whose bench isn't set up.
-fn end_bench<K: Sink>(sink: &mut K, stop: BenchStop) -> Ended
-    ensures { EndsStopped stop
-        (record { bytes = K.taken sink.old; faults = K.faults sink.old })
-        (record { bytes = K.taken sink.new; faults = K.faults sink.new }) result.status }
-{
-    match stop {
-        BenchStop::Refused { line, cause } => put_fault(sink, line, cause),
-        BenchStop::NoMemory => Ended::early(Status::NoMemory),
-    }
-}
-
-/// Opens the core port and binds the abort port.
-fn open_ports<N: Net>(net: &mut N, core: u16, abort: u16) -> Option<N::Port>
-    ensures given { N.given net.new ≡ N.given net.old }
-    ensures ended { N.ended net.new ≡ N.ended net.old }
-    ensures counted { N.faults net.old ≤ N.faults net.new }
-    ensures opened { MatchOption result (Rose (N.faults net.old) (N.faults net.new)) (λ port. N.is_open net.new ≡ true) }
-{
-    match net.open(core) {
-        DialOut::Failed => None,
-        DialOut::Up => match net.bind(abort) {
-            Bound::Port(port) => Some(port),
-            Bound::Failed => None,
-        },
     }
 }
 
@@ -130,18 +68,9 @@ where
     let Some(number) = taken else {
         return Ended::early(Status::NetFailed);
     };
-    let mut room = [0; LINE_ROOM];
     let tally = wait_for(rt, &shared.tally, &shared.added, number);
-    match put_all(sink, served_line(number, &mut room)) {
-        Ok(()) => Ended {
-            status: Status::Served,
-            tally,
-        },
-        Err(_) => Ended {
-            status: Status::SinkFailed,
-            tally,
-        },
-    }
+    let status = tell_served(sink, number);
+    Ended { status, tally }
 }
 
 /// Announces the ports, and serves links at them.
@@ -165,8 +94,7 @@ where
         (record { net = net_shown N.faults N.given N.ended net.new; sink = record { bytes = K.taken sink.new; faults = K.faults sink.new } })
         result.tally result.status }
 {
-    let mut room = [0; LINE_ROOM];
-    match put_all(sink, listening_line(options.core, options.abort, &mut room)) {
+    match announce(sink, options.core, options.abort) {
         Ok(()) => serve_announced(
             rt,
             alloc,
@@ -255,81 +183,6 @@ where
     }
 }
 
-/// Sets the bench up, and serves links over its bus.
-fn serve_bench<R: Wait, N: Net, W: Spawner<Serve<N, X, I>>, X: Tools, K: Sink, I: Instrument>(
-    rt: &R,
-    alloc: Global,
-    options: Options,
-    text: &[u8],
-    net: &mut N,
-    spawner: &mut W,
-    tools: &mut X,
-    sink: &mut K,
-    rack: Vec<Spare<I>>,
-) -> Ended
-where
-    N::Port: Drop,
-    Peer<N>: Drop,
-    <X::S as Streams>::Peer: Drop,
-    requires range { IsInRange options }
-    ensures { EndsBenched text.now (map (spare_shown (λ i. I.view i)) rack.items) options
-        (record { ports = record { net = net_shown N.faults N.given N.ended net.old; sink = record { bytes = K.taken sink.old; faults = K.faults sink.old } }; refused = W.faults spawner.old })
-        (record { ports = record { net = net_shown N.faults N.given N.ended net.new; sink = record { bytes = K.taken sink.new; faults = K.faults sink.new } }; refused = W.faults spawner.new })
-        result.tally result.status }
-{
-    let Ok(mut bus) = SimBus::new(alloc) else {
-        return Ended::early(Status::NoMemory);
-    };
-    let mut rack = rack;
-    match set_up(alloc, text, &mut bus, &mut rack) {
-        Ok(()) => {
-            drop(rack);
-            serve_bus(rt, alloc, options, bus, net, spawner, tools, sink)
-        }
-        Err(stop) => end_bench(sink, stop),
-    }
-}
-
-/// Reads the bench, and serves links over its bus.
-fn serve_options<
-    R: Wait,
-    N: Net,
-    W: Spawner<Serve<N, X, I>>,
-    X: Tools,
-    S: Source,
-    K: Sink,
-    I: Instrument,
->(
-    rt: &R,
-    alloc: Global,
-    options: Options,
-    bench: &mut S,
-    net: &mut N,
-    spawner: &mut W,
-    tools: &mut X,
-    sink: &mut K,
-    rack: Vec<Spare<I>>,
-) -> Ended
-where
-    N::Port: Drop,
-    Peer<N>: Drop,
-    <X::S as Streams>::Peer: Drop,
-    requires range { IsInRange options }
-    ensures { EndsOptioned options (map (spare_shown (λ i. I.view i)) rack.items) (record { bytes = S.left bench.old; faults = S.faults bench.old }) (record { bytes = S.left bench.new; faults = S.faults bench.new })
-        (record { ports = record { net = net_shown N.faults N.given N.ended net.old; sink = record { bytes = K.taken sink.old; faults = K.faults sink.old } }; refused = W.faults spawner.old })
-        (record { ports = record { net = net_shown N.faults N.given N.ended net.new; sink = record { bytes = K.taken sink.new; faults = K.faults sink.new } }; refused = W.faults spawner.new })
-        result.tally result.status }
-{
-    match read_all(alloc, bench, BENCH_MAX) {
-        Input::Whole(text) => serve_bench(
-            rt, alloc, options, &text, net, spawner, tools, sink, rack,
-        ),
-        Input::TooLong => put_last(sink, b"fault long\n", Status::BenchFault),
-        Input::Failed => Ended::early(Status::SourceFailed),
-        Input::NoMemory => Ended::early(Status::NoMemory),
-    }
-}
-
 /// Does what the words ask.
 fn serve_words<
     R: Wait,
@@ -359,13 +212,12 @@ where
         (record { ports = record { net = net_shown N.faults N.given N.ended net.new; sink = record { bytes = K.taken sink.new; faults = K.faults sink.new } }; refused = W.faults spawner.new })
         result.tally result.status }
 {
-    match read_words(alloc, words) {
-        Asked::Serve(options) => serve_options(
-            rt, alloc, options, bench, net, spawner, tools, sink, rack,
-        ),
-        Asked::Tell(text) => put_last(sink, text.as_bytes(), Status::Told),
-        Asked::Usage => put_last(sink, b"usage: vxgate OPTIONS\n", Status::Usage),
-        Asked::NoMemory => Ended::early(Status::NoMemory),
+    let mut rack = rack;
+    let prepared = prepare(alloc, words, bench, &mut rack, sink);
+    drop(rack);
+    match prepared {
+        Ok((options, bus)) => serve_bus(rt, alloc, options, bus, net, spawner, tools, sink),
+        Err(status) => Ended::early(status),
     }
 }
 

@@ -1,15 +1,15 @@
 //! What a server starts before it takes its first link: the gateway behind its gate, and the workers.
 ghost use Rattle.std.specs.Prelude.{◌≡◌, ◌≢◌, ◌+◌, ◌-◌, ◌*◌, ◌≤◌, ◌<◌, IfOk, IfErr};
 ghost use Rattle.std.specs.Arc.{arc_value};
-ghost use Rattle.vx_io.specs.Faults.{Rose};
+ghost use Rattle.vx_io_traits.specs.Faults.{Rose};
 ghost use Rattle.vx_gate.specs.Gates.{gate_of};
 ghost use Rattle.vx_sim.specs.SimState.{SimState};
-ghost use Rattle.vx_bus.specs.MemState.{first_means};
+ghost use Rattle.vx_bus_traits.specs.Means.{first_means};
 ghost use Rattle.vx_words.specs.Meant.{IsInRange};
 ghost use Rattle.vx_serve.specs.declared.starting.Unstarted.TheVariants.{NoMemory};
 ghost use Rattle.vx_serve.specs.Starting.{OnUnstarted};
 
-use crate::workers::{CoreKit, Duty, Peer, Seat, Serve, Shared};
+use crate::workers::{CoreKit, Duty, Pauses, Peer, Seat, Serve, Shared};
 use crossbeam_channel::{Receiver, Sender, bounded};
 use std::alloc::{AllocError, Global};
 use std::sync::atomic::AtomicU64;
@@ -18,7 +18,7 @@ use vx_core::Core;
 use vx_gate::Gate;
 use vx_group::first_law;
 use vx_inst::Instrument;
-use vx_io::{Clock, Dial, Net, Pause, Spawner, Started, Streams};
+use vx_io_traits::{Clock, Dial, Net, Pause, Spawner, Started, Streams};
 use vx_session::{Room, Tally, Tools};
 use vx_sim::SimBus;
 use vx_words::Options;
@@ -42,6 +42,33 @@ impl From<AllocError> for Unstarted {
 
 /// How many links wait for a worker, at most.
 const LINKS_WAITING: usize = 64;
+
+/// Where the links of the two ports go in.
+#[derive(Drop)]
+struct Givers<L: Drop> {
+    cores: Sender<L>,
+    aborts: Sender<L>,
+}
+
+/// Where they come out, for the workers that serve them. Where these are gone, each link comes back.
+#[derive(Drop)]
+struct Takers<L: Drop> {
+    cores: Receiver<L>,
+    aborts: Receiver<L>,
+}
+
+/// The ways of the links of both ports to the workers.
+fn queues<L: Drop>(alloc: Global) -> Result<(Givers<L>, Takers<L>), Unstarted>
+    ensures { IfErr result (λ e. e ≡ NoMemory) }
+{
+    let (core_links, cores) = bounded(alloc, LINKS_WAITING)?;
+    let (abort_links, aborts) = bounded(alloc, LINKS_WAITING)?;
+    let givers = Givers {
+        cores: core_links,
+        aborts: abort_links,
+    };
+    Ok((givers, Takers { cores, aborts }))
+}
 
 /// What the one that takes core links has: where they go to, and what it wants to serve one itself.
 #[derive(Drop)]
@@ -129,41 +156,97 @@ fn core_kit<X: Tools>(alloc: Global, tools: &mut X) -> Result<CoreKit<X::C, X::P
     })
 }
 
+/// A worker that serves core links.
+fn core_duty<N: Net, X: Tools>(
+    alloc: Global,
+    tools: &mut X,
+    links: &Receiver<Peer<N>>,
+) -> Result<Duty<N, X>, Unstarted>
+where
+    N::Port: Drop,
+    Peer<N>: Drop,
+    <X::S as Streams>::Peer: Drop,
+    ensures { IfErr result (λ e. e ≡ NoMemory) }
+{
+    let links = links.clone()?;
+    let kit = core_kit(alloc, tools)?;
+    Ok(Duty::Core { links, kit })
+}
+
+/// A worker that serves abort links.
+fn abort_duty<N: Net, X: Tools>(
+    alloc: Global,
+    links: &Receiver<Peer<N>>,
+) -> Result<Duty<N, X>, Unstarted>
+where
+    N::Port: Drop,
+    Peer<N>: Drop,
+    <X::S as Streams>::Peer: Drop,
+    ensures { IfErr result (λ e. e ≡ NoMemory) }
+{
+    let links = links.clone()?;
+    let room = room(alloc)?;
+    Ok(Duty::Abort { links, room })
+}
+
+/// The worker that takes the links of the abort port.
+fn accept_duty<N: Net, X: Tools>(
+    alloc: Global,
+    port: N::Port,
+    links: Sender<Peer<N>>,
+) -> Result<Duty<N, X>, Unstarted>
+where
+    N::Port: Drop,
+    Peer<N>: Drop,
+    <X::S as Streams>::Peer: Drop,
+    ensures { IfErr result (λ e. e ≡ NoMemory) }
+{
+    let room = room(alloc)?;
+    Ok(Duty::Accept { port, links, room })
+}
+
+/// So many pauses in a row.
+fn pauses<X: Tools>(tools: &mut X, times: u32) -> Pauses<X::P> {
+    Pauses {
+        one: tools.pause(),
+        times,
+    }
+}
+
 /// Starts so many workers of core links, of abort links, and of streams that are handed over.
 fn start_threes<N: Net, W: Spawner<Serve<N, X, I>>, X: Tools, I: Instrument>(
     alloc: Global,
     spawner: &mut W,
     tools: &mut X,
     seat: Seat<I>,
-    workers: u32,
-    cores: &Receiver<Peer<N>>,
-    aborts: &Receiver<Peer<N>>,
+    options: Options,
+    takers: &Takers<Peer<N>>,
 ) -> Result<Seat<I>, Unstarted>
 where
     N::Port: Drop,
     Peer<N>: Drop,
     <X::S as Streams>::Peer: Drop,
-    requires workers { workers ≤ 64 }
-    requires parts { 3 * workers < seat.pass.parts }
-    ensures parts { IfOk result (λ s. s.pass.parts + 3 * workers ≡ seat.pass.parts) }
+    requires workers { options.workers ≤ 64 }
+    requires parts { 3 * options.workers < seat.pass.parts }
+    ensures parts { IfOk result (λ s. s.pass.parts + 3 * options.workers ≡ seat.pass.parts) }
     ensures counted { W.faults spawner.old ≤ W.faults spawner.new }
     ensures refused { OnUnstarted result (Rose (W.faults spawner.old) (W.faults spawner.new)) }
 {
     let mut seat = seat;
-    for _ in 0..workers {
-        seat = start_three::<N, W, X, I>(alloc, spawner, tools, seat, cores, aborts)?;
+    for _ in 0..options.workers {
+        seat = start_three::<N, W, X, I>(alloc, spawner, tools, seat, options.sample, takers)?;
     }
     Ok(seat)
 }
 
-/// Starts one worker of each.
+/// Starts one worker of each. The one of streams makes `sample` pauses in a row.
 fn start_three<N: Net, W: Spawner<Serve<N, X, I>>, X: Tools, I: Instrument>(
     alloc: Global,
     spawner: &mut W,
     tools: &mut X,
     seat: Seat<I>,
-    cores: &Receiver<Peer<N>>,
-    aborts: &Receiver<Peer<N>>,
+    sample: u32,
+    takers: &Takers<Peer<N>>,
 ) -> Result<Seat<I>, Unstarted>
 where
     N::Port: Drop,
@@ -174,14 +257,15 @@ where
     ensures counted { W.faults spawner.old ≤ W.faults spawner.new }
     ensures refused { OnUnstarted result (Rose (W.faults spawner.old) (W.faults spawner.new)) }
 {
-    let links = cores.clone()?;
-    let kit = core_kit(alloc, tools)?;
-    let seat = start_worker(alloc, spawner, seat, Duty::Core { links, kit })?;
-    let links = aborts.clone()?;
-    let room = room(alloc)?;
-    let seat = start_worker(alloc, spawner, seat, Duty::Abort { links, room })?;
-    let (streams, pause) = (tools.streams(), tools.pause());
-    start_worker(alloc, spawner, seat, Duty::Pump { streams, pause })
+    let core = core_duty(alloc, tools, &takers.cores)?;
+    let seat = start_worker(alloc, spawner, seat, core)?;
+    let abort = abort_duty(alloc, &takers.aborts)?;
+    let seat = start_worker(alloc, spawner, seat, abort)?;
+    let pump = Duty::Pump {
+        streams: tools.streams(),
+        pause: pauses(tools, sample),
+    };
+    start_worker(alloc, spawner, seat, pump)
 }
 
 /// Starts all workers of a server. The sampler comes last.
@@ -202,28 +286,40 @@ where
     ensures counted { W.faults spawner.old ≤ W.faults spawner.new }
     ensures refused { OnUnstarted result (Rose (W.faults spawner.old) (W.faults spawner.new)) }
 {
-    let (links, cores) = bounded(alloc, LINKS_WAITING)?;
-    let (abort_links, aborts) = bounded(alloc, LINKS_WAITING)?;
+    let (givers, takers) = queues(alloc)?;
+    let seat = start_threes::<N, W, X, I>(alloc, spawner, tools, seat, options, &takers)?;
+    drop(takers);
+    start_last::<N, W, X, I>(alloc, spawner, tools, seat, options.sample, port, givers)
+}
+
+/// Starts the worker that takes abort links, and the sampler, which makes `sample` pauses between two looks.
+fn start_last<N: Net, W: Spawner<Serve<N, X, I>>, X: Tools, I: Instrument>(
+    alloc: Global,
+    spawner: &mut W,
+    tools: &mut X,
+    seat: Seat<I>,
+    sample: u32,
+    port: N::Port,
+    givers: Givers<Peer<N>>,
+) -> Result<Acceptor<Peer<N>, I, X::C, X::P, X::D>, Unstarted>
+where
+    N::Port: Drop,
+    Peer<N>: Drop,
+    <X::S as Streams>::Peer: Drop,
+    requires parts { 3 ≤ seat.pass.parts }
+    ensures counted { W.faults spawner.old ≤ W.faults spawner.new }
+    ensures refused { OnUnstarted result (Rose (W.faults spawner.old) (W.faults spawner.new)) }
+{
+    let Givers {
+        cores: links,
+        aborts,
+    } = givers;
+    let accept = accept_duty(alloc, port, aborts)?;
     let kit = core_kit(alloc, tools)?;
-    let seat = start_threes::<N, W, X, I>(
-        alloc,
-        spawner,
-        tools,
-        seat,
-        options.workers,
-        &cores,
-        &aborts,
-    )?;
-    let accept = Duty::Accept {
-        port,
-        links: abort_links,
-        room: room(alloc)?,
-    };
     let seat = start_worker(alloc, spawner, seat, accept)?;
     let sample = Duty::Sample {
         clock: tools.clock(),
-        pause: tools.pause(),
-        pauses: options.sample,
+        pause: pauses(tools, sample),
     };
     let seat = start_worker(alloc, spawner, seat, sample)?;
     Ok(Acceptor { links, seat, kit })

@@ -10,7 +10,7 @@ use std::sync::{Arc, Condvar, Mutex, Wait};
 use vx_core::Core;
 use vx_gate::{Gate, Pass};
 use vx_inst::Instrument;
-use vx_io::{Accepted, Clock, Dial, Handed, Link, Listen, Net, Pause, Streams, Work};
+use vx_io_traits::{Accepted, Clock, Dial, Handed, Link, Listen, Net, Pause, Streams, Work};
 use vx_pump::{pump, sample_turn};
 use vx_session::{Room, Tally, Tools, abort_link, core_link};
 use vx_sim::SimBus;
@@ -33,6 +33,21 @@ pub struct CoreKit<C: Clock, P: Pause, D: Dial> {
     pub pause: P,
     pub dial: D,
     pub room: Room,
+}
+
+/// So many pauses, one after the other.
+#[derive(Drop)]
+pub struct Pauses<P: Pause> {
+    pub one: P,
+    pub times: u32,
+}
+
+impl<P: Pause> Pause for Pauses<P> {
+    fn pause(&mut self) {
+        for _ in 0..self.times {
+            self.one.pause();
+        }
+    }
 }
 
 /// The right of one worker to take turns at the gate of its server.
@@ -122,10 +137,11 @@ where
         links: Receiver<Peer<N>>,
         room: Room,
     },
-    /// It writes the interrupts of channels to the streams that dials hand over.
+    /// It writes the interrupts of channels to the streams that dials hand over. Interrupts come at samples alone, so it looks
+    /// for one as seldom as the sampler looks at the SRQ line.
     Pump {
         streams: X::S,
-        pause: X::P,
+        pause: Pauses<X::P>,
     },
     /// It takes the links of the abort port and hands them to the abort workers, or serves one that comes back.
     Accept {
@@ -133,11 +149,10 @@ where
         links: Sender<Peer<N>>,
         room: Room,
     },
-    /// It looks at the SRQ line, and then pauses so many times.
+    /// It looks at the SRQ line, and then pauses.
     Sample {
         clock: X::C,
-        pause: X::P,
-        pauses: u32,
+        pause: Pauses<X::P>,
     },
 }
 
@@ -181,11 +196,7 @@ where
             Duty::Accept { port, links, room } => accept_aborts(
                 rt, alloc, seat, port, &links, room,
             ),
-            Duty::Sample {
-                clock,
-                pause,
-                pauses,
-            } => sample_on(rt, seat, clock, pause, pauses),
+            Duty::Sample { clock, pause } => sample_on(rt, seat, clock, pause),
         }
     }
 }
@@ -313,13 +324,12 @@ fn run_pump<R: Wait, I: Instrument, L: Link + Drop, P: Pause>(
     pass
 }
 
-/// Looks at the SRQ line again and again until the server ends, with so many pauses between two looks.
+/// Looks at the SRQ line again and again until the server ends, and pauses between two looks.
 fn sample_on<R: Wait, I: Instrument, C: Clock + Drop, P: Pause + Drop>(
     rt: &R,
     seat: Seat<I>,
     clock: C,
     pause: P,
-    pauses: u32,
 ) {
     let Seat { shared, mut pass } = seat;
     let mut clock = clock;
@@ -329,8 +339,6 @@ fn sample_on<R: Wait, I: Instrument, C: Clock + Drop, P: Pause + Drop>(
             return;
         }
         pass = sample_turn(rt, &shared.gate, pass, &mut clock);
-        for _ in 0..pauses {
-            pause.pause();
-        }
+        pause.pause();
     }
 }

@@ -4,8 +4,6 @@
 #![tactic(auto)]
 
 mod command;
-#[cfg(test)]
-mod tests;
 mod words;
 
 pub use words::{Asked, Options, read_words};

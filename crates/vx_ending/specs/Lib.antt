@@ -1,0 +1,5 @@
+pub mod Lines
+pub mod Running
+pub mod Outcome
+pub mod Preparing
+pub mod Taking
