@@ -4,8 +4,8 @@ use Rattle.std.proofs.lemmas.List.{take_at, take-take, length-take-le, drop-take
 use Rattle.std.proofs.lemmas.Grind.{common_steps}
 use Rattle.std.proofs.KnownBytes.{Consumes-nil, Consumes-trans, Consumes-kept, Consumes-whole}
 use Rattle.vx_calls.specs.declared.limits.TheConstants.{RECORD_MAX}
-use Rattle.vx_io.specs.Faults.{Rose}
-use Rattle.vx_io.specs.Stands.{Goes-none, Goes-goes, Goes-stays}
+use Rattle.vx_io_traits.specs.Faults.{Rose}
+use Rattle.vx_io_traits.specs.Stands.{Goes-none, Goes-goes, Goes-stays}
 use Rattle.vx_record.specs.Buffer.{BufState, fresh, step, fed, taken}
 use Rattle.vx_record.specs.Records.{Split, records}
 use Rattle.vx_record.specs.Ends.{is_settled, is_settled_by, IsEnd, FeedEnds}

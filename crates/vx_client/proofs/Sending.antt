@@ -4,8 +4,8 @@ use Rattle.std.proofs.Math.Seq.{take-add}
 use Rattle.std.proofs.lemmas.List.{take_all, take_at, drop_at, take-append-le, length-take-le}
 use Rattle.std.specs.Io.KnownBytes.{Keeps}
 use Rattle.std.proofs.KnownBytes.{Keeps-refl, Keeps-trans}
-use Rattle.vx_io.specs.Faults.{Rose}
-use Rattle.vx_io.specs.Stands.{Goes, Takes, Stays, Goes-none, Goes-takes, Goes-stays}
+use Rattle.vx_io_traits.specs.Faults.{Rose}
+use Rattle.vx_io_traits.specs.Stands.{Goes, Takes, Stays, Goes-none, Goes-takes, Goes-stays}
 use Rattle.vx_client.specs.Exchange.{StopsIn}
 use borrow.Rule.Slice.PartMut.{put_mid, post_of}
 

@@ -2,7 +2,7 @@
 use Rattle.std.specs.Prelude.{ℕ, ◌≤◌, List, [], ◌∷◌, ◌++◌, codes, decimal, length, take, Option, Result, Ok, Err}
 use Rattle.std.specs.Io.KnownBytes.{Appends}
 use Rattle.hex.specs.Hex.{encode_upper}
-use Rattle.vx_io.specs.Faults.{Rose}
+use Rattle.vx_io_traits.specs.Faults.{Rose}
 use Rattle.vx_client.specs.Gaining.{Gain, Bytes, Status, Done}
 use Rattle.vx_client.specs.declared.answers.ClientErr.{ClientErr}
 use Rattle.vx_client.specs.declared.answers.ClientErr.TheVariants as err

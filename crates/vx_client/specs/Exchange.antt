@@ -4,8 +4,8 @@ use Rattle.std.specs.Io.KnownBytes.{Consumes, Keeps}
 use Rattle.vx_calls.specs.declared.limits.TheConstants.{RECORD_MAX}
 use Rattle.vx_calls.specs.Call.{Call}
 use Rattle.vx_codec.specs.Answered.{Outcome}
-use Rattle.vx_io.specs.Faults.{Rose}
-use Rattle.vx_io.specs.Stands.{Goes}
+use Rattle.vx_io_traits.specs.Faults.{Rose}
+use Rattle.vx_io_traits.specs.Stands.{Goes}
 use Rattle.vx_client.specs.State.{ClientState, number_after}
 use Rattle.vx_client.specs.Message.{call_record}
 use Rattle.vx_client.specs.Meaning.{meaning, is_bad, returned}

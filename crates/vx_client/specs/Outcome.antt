@@ -1,12 +1,12 @@
 -- How a call of a user ends: for each status, what was sent and received, what was printed, and why.
 use Rattle.std.specs.Prelude.{◌≡◌, ℕ, false, List, [], Option, Some, None, Result, Ok, Err, ◌⊎◌}
 use Rattle.std.specs.Io.KnownBytes.{Appends, Keeps}
-use Rattle.vx_io.specs.Faults.{Rose}
-use Rattle.vx_io.specs.Stands.{Stays}
-use Rattle.vx_io.specs.Rung.{OnDialFailed}
-use Rattle.vx_io.specs.Reached.{AnswersAt}
-use Rattle.vx_io.specs.declared.dials.DialOut.{DialOut}
-use Rattle.vx_io.specs.declared.dials.DialOut.TheVariants.{Up, Failed}
+use Rattle.vx_io_traits.specs.Faults.{Rose}
+use Rattle.vx_io_traits.specs.Stands.{Stays}
+use Rattle.vx_io_traits.specs.Rung.{OnDialFailed}
+use Rattle.vx_io_traits.specs.Reached.{AnswersAt}
+use Rattle.vx_io_traits.specs.declared.dials.DialOut.{DialOut}
+use Rattle.vx_io_traits.specs.declared.dials.DialOut.TheVariants.{Up, Failed}
 use Rattle.vx_client.specs.State.{ClientState}
 use Rattle.vx_client.specs.Asked.{Ask, ask_of}
 use Rattle.vx_client.specs.Gaining.{Gain, Asks, IsError}
@@ -100,7 +100,7 @@ pub record Reaching (R : Type 0) : Type 1 where
   pub refused : R → ℕ
   pub place : R → Option (List ℕ × ℕ)
 
--- the server's host and port were tried once, with this answer, and no byte was sent or received
+-- the server's host and port were tried, the last time with this answer, and no byte was sent or received
 pub record Tries {R : Type 0} (r : Reaching R) (ask : Ask) (old new : R) (answer : DialOut) : Type 0 where
   pub answers : AnswersAt (r.place old) ask.host ask.port answer
   pub rose : OnDialFailed answer (Rose (r.refused old) (r.refused new))

@@ -9,7 +9,7 @@ ghost use Rattle.vx_client.specs.Parts.{ReadsPart, IsRead};
 use crate::answers::{CallOpts, ClientErr, LinkMade, ReadEnd};
 use crate::client::Client;
 use vx_calls::{CallRef, WRITE_MAX};
-use vx_io::Link;
+use vx_io_traits::Link;
 
 /// All flags but END (VXI-11, Device_Flags).
 const NO_END: u32 = 0xFFFF_FFF7;

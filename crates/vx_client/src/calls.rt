@@ -10,7 +10,7 @@ use crate::answers::{CallOpts, ClientErr, LinkMade};
 use crate::client::Client;
 use arrayvec::ArrayVec;
 use vx_calls::{CallRef, DEVICE_MAX, Generic, HANDLE_MAX, Handle, WRITE_MAX};
-use vx_io::Link;
+use vx_io_traits::Link;
 
 /// The parameters that five calls share.
 fn generic_parms(lid: u32, opts: &CallOpts) -> Generic

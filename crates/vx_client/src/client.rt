@@ -21,7 +21,7 @@ use std::alloc::Global;
 use std::marker::Model;
 use std::mem::swap;
 use vx_calls::{CallRef, RECORD_MAX};
-use vx_io::Link;
+use vx_io_traits::Link;
 
 /// What a client keeps of its calls, whatever link they go over: the number of the next one, whether a further one is
 /// sent, the record of the last reply, and the bytes that came behind that.

@@ -8,7 +8,7 @@ use crate::answers::{CallOpts, ClientErr, LinkMade};
 use crate::client::Client;
 use crate::words::{Ask, Command};
 use vx_calls::DEVICE_MAX;
-use vx_io::Link;
+use vx_io_traits::Link;
 
 /// The most bytes that a command reads.
 pub(crate) const READ_MAX: usize = 65536;
@@ -28,7 +28,7 @@ const WITH_END: CallOpts = CallOpts {
 };
 
 /// What a command gained.
-#[derive(Clone, Copy, Debug)]
+#[derive(Clone, Copy)]
 pub(crate) enum Gained {
     /// So many bytes stand at the front of the room.
     Bytes(usize),

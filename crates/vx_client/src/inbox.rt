@@ -7,7 +7,7 @@ ghost use Rattle.vx_client.specs.Inbox.{IsReady, last_of, Refills, IsBrought};
 use std::alloc::Global;
 use std::marker::Model;
 use vx_calls::RECORD_MAX;
-use vx_io::{Link, ReadOut};
+use vx_io_traits::{Link, ReadOut};
 use vx_record::{Fed, Feed, RecordBuf};
 
 /// The most stream bytes of a reply, the headers of its fragments included.
@@ -17,11 +17,11 @@ pub(crate) const REPLY_STREAM_MAX: usize = 1_048_576;
 const PIECE: usize = 65_536;
 
 /// There was no memory for the room.
-#[derive(Clone, Copy, Debug)]
+#[derive(Clone, Copy)]
 pub(crate) struct NoMemory;
 
 /// Whether there are bytes that no reply has used.
-#[derive(Clone, Copy, Debug)]
+#[derive(Clone, Copy)]
 pub(crate) enum Refill {
     Some,
     End,
@@ -29,7 +29,7 @@ pub(crate) enum Refill {
 }
 
 /// What the stream brought for a reply.
-#[derive(Clone, Copy, Debug)]
+#[derive(Clone, Copy)]
 pub(crate) enum Brought {
     /// A whole record.
     Record,

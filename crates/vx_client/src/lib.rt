@@ -18,11 +18,7 @@ mod lines;
 mod outbox;
 mod output;
 mod run;
-#[cfg(test)]
-mod run_tests;
 mod settling;
-#[cfg(test)]
-mod tests;
 mod words;
 
 pub use answers::{CallOpts, ClientErr, LinkMade, NewRefused, ReadEnd};

@@ -10,7 +10,7 @@ ghost use Rattle.vx_client.specs.Exchange.{IsSent};
 
 use vx_calls::{CallRef, Proc, RECORD_MAX};
 use vx_codec::put_args;
-use vx_io::{Link, WriteOut};
+use vx_io_traits::{Link, WriteOut};
 use vx_record::mark;
 use vx_rpc::put_call;
 
@@ -112,7 +112,7 @@ pub(crate) fn put_record(xid: u32, call: &CallRef<'_>, out: &mut [u8]) -> usize
 }
 
 /// A send failed.
-#[derive(Clone, Copy, Debug)]
+#[derive(Clone, Copy)]
 pub(crate) struct SendFailed;
 
 /// Sends all of a text.

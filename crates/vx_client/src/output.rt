@@ -3,10 +3,10 @@
 ghost use Rattle.std.specs.Prelude.{◌≡◌, ◌≤◌};
 ghost use Rattle.vx_client.specs.Due.{IsPut};
 
-use vx_io::{Sink, WriteOut};
+use vx_io_traits::{Sink, WriteOut};
 
 /// The sink failed.
-#[derive(Clone, Copy, Debug)]
+#[derive(Clone, Copy)]
 pub(crate) struct SinkFailed;
 
 /// Writes all of a line.

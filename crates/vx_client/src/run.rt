@@ -14,10 +14,10 @@ use crate::output::put_all;
 use crate::words::{Ask, Command, ask_of};
 use std::alloc::{AllocError, Global};
 use vx_calls::DEVICE_MAX;
-use vx_io::{DialOut, Link, Reach, Sink};
+use vx_io_traits::{DialOut, Link, Reach, Sink};
 
 /// How a call ended, as the program's exit status tells it.
-#[derive(Clone, Copy, Debug, PartialEq, Eq)]
+#[derive(Clone, Copy)]
 pub(crate) enum Status {
     /// 0: each call gave its results.
     Done,

@@ -13,7 +13,7 @@ use vx_codec::{Results, read_results};
 use vx_rpc::{ReplyRead, RpcRefusal, read_reply};
 
 /// What calls return of their results; what a call's results lack is 0.
-#[derive(Clone, Copy, Debug)]
+#[derive(Clone, Copy)]
 pub(crate) struct Answer {
     pub(crate) made: LinkMade,
     pub(crate) stb: u8,
@@ -22,7 +22,7 @@ pub(crate) struct Answer {
 }
 
 /// What a record came to for a call.
-#[derive(Clone, Copy, Debug)]
+#[derive(Clone, Copy)]
 pub(crate) enum Settled {
     Done(Answer),
     Failed(u32),

@@ -8,7 +8,7 @@ ghost use Rattle.vx_client.specs.Asked.{is_positive, port_of, bare_command, text
 use vx_calls::DEVICE_MAX;
 
 /// What is asked of a device.
-#[derive(Clone, Copy, Debug)]
+#[derive(Clone, Copy)]
 pub(crate) enum Command<'a> {
     /// Write this text, and read what the device says to it.
     Query(&'a [u8]),
@@ -25,7 +25,7 @@ pub(crate) enum Command<'a> {
 }
 
 /// What a user asks.
-#[derive(Clone, Copy, Debug)]
+#[derive(Clone, Copy)]
 pub(crate) struct Ask<'a> {
     /// The server's host.
     pub host: &'a str,

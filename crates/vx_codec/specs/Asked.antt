@@ -1,6 +1,6 @@
 -- The arguments of each procedure (VXI-11, the structures named after the procedures): their fields, their bytes and
 -- the call.
-use Rattle.std.specs.Prelude.{◌≡◌, ◌<◌, ◌≤◌, ◌^◌, ℕ, List, [], ◌∷◌, ◌++◌, length, Option, option_map}
+use Rattle.std.specs.Prelude.{◌≡◌, Bool, true, false, ◌<◌, ◌≤◌, ◌^◌, ℕ, List, [], ◌∷◌, ◌++◌, length, Option, option_map}
 use Rattle.vx_xdr.specs.Spelling.{Word, Signed, Flag, Opaque, spelling, word, opaque}
 use Rattle.vx_calls.specs.declared.limits.TheConstants.{DEVICE_MAX, HANDLE_MAX}
 use Rattle.vx_calls.specs.declared.calls.Generic.{Generic}
@@ -169,3 +169,16 @@ IsPuttable (CreateLink client lock lock_timeout device) = length device ≤ DEVI
 IsPuttable (Write lid io_timeout lock_timeout flags bytes) = length bytes < 2 ^ 32
 IsPuttable (Docmd lid flags io_timeout lock_timeout cmd big size bytes) = length bytes < 2 ^ 32
 IsPuttable _ = Unit {0}
+
+-- a call that has no Device_GenericParms, and neither makes a link, writes to it nor reads from it
+abbrev pub is_other : Call → Bool
+is_other Null = false
+is_other (CreateLink client lock lock_timeout device) = false
+is_other (Write lid io_timeout lock_timeout flags bytes) = false
+is_other (Read lid request io_timeout lock_timeout flags term) = false
+is_other (ReadStb g) = false
+is_other (Trigger g) = false
+is_other (Clear g) = false
+is_other (Remote g) = false
+is_other (Local g) = false
+is_other _ = true

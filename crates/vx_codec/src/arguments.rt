@@ -1,10 +1,10 @@
-ghost use Rattle.std.specs.Prelude.{◌≡◌, ◌<◌, ◌≤◌, ◌↔◌, ◌^◌, IfOk, IfSome, IfNone, OnErr, IsErr, length, option_map, Some};
+ghost use Rattle.std.specs.Prelude.{◌≡◌, ◌<◌, ◌≤◌, ◌↔◌, IfOk, IfSome, IfNone, OnErr, IsErr, length, option_map, Some, true};
 ghost use Rattle.vx_xdr.specs.Spelling.{opaque};
 ghost use Rattle.vx_xdr.specs.Writing.{WritesFirst};
 ghost use Rattle.vx_calls.specs.declared.calls.Proc.TheVariants as proc;
 ghost use Rattle.vx_calls.specs.Call.{Call, call_shown};
 ghost use Rattle.vx_codec.specs.Row.{Gives, field_at, row_at, RowFits};
-ghost use Rattle.vx_codec.specs.Asked.{Asks, arguments, asked, bytes_to, call_at, generic, generic_bytes, generic_of, IsPuttable, generic_values, proc_of};
+ghost use Rattle.vx_codec.specs.Asked.{Asks, arguments, asked, bytes_to, call_at, generic, generic_bytes, generic_of, IsPuttable, generic_values, is_other, proc_of};
 
 use crate::fields::{Field, bytes, flag, low_byte, number, put_fields, signed};
 use arrayvec::ArrayVec;
@@ -56,6 +56,36 @@ fn read<'a>(r: &mut Reader<'a>) -> Option<CallRef<'a>>
         flags: number(r)?,
         term: low_byte(r)?,
     })
+}
+
+fn read_stb<'a>(r: &mut Reader<'a>) -> Option<CallRef<'a>>
+    ensures { Gives call_shown result r.new (call_at proc.ReadStb r.old) }
+{
+    Some(CallRef::ReadStb(generic_parms(r)?))
+}
+
+fn trigger<'a>(r: &mut Reader<'a>) -> Option<CallRef<'a>>
+    ensures { Gives call_shown result r.new (call_at proc.Trigger r.old) }
+{
+    Some(CallRef::Trigger(generic_parms(r)?))
+}
+
+fn clear<'a>(r: &mut Reader<'a>) -> Option<CallRef<'a>>
+    ensures { Gives call_shown result r.new (call_at proc.Clear r.old) }
+{
+    Some(CallRef::Clear(generic_parms(r)?))
+}
+
+fn remote<'a>(r: &mut Reader<'a>) -> Option<CallRef<'a>>
+    ensures { Gives call_shown result r.new (call_at proc.Remote r.old) }
+{
+    Some(CallRef::Remote(generic_parms(r)?))
+}
+
+fn local<'a>(r: &mut Reader<'a>) -> Option<CallRef<'a>>
+    ensures { Gives call_shown result r.new (call_at proc.Local r.old) }
+{
+    Some(CallRef::Local(generic_parms(r)?))
 }
 
 fn lock<'a>(r: &mut Reader<'a>) -> Option<CallRef<'a>>
@@ -122,6 +152,24 @@ fn create_intr<'a>(r: &mut Reader<'a>) -> Option<CallRef<'a>>
     })
 }
 
+fn unlock<'a>(r: &mut Reader<'a>) -> Option<CallRef<'a>>
+    ensures { Gives call_shown result r.new (call_at proc.Unlock r.old) }
+{
+    Some(CallRef::Unlock { lid: number(r)? })
+}
+
+fn destroy_link<'a>(r: &mut Reader<'a>) -> Option<CallRef<'a>>
+    ensures { Gives call_shown result r.new (call_at proc.DestroyLink r.old) }
+{
+    Some(CallRef::DestroyLink { lid: number(r)? })
+}
+
+fn device_abort<'a>(r: &mut Reader<'a>) -> Option<CallRef<'a>>
+    ensures { Gives call_shown result r.new (call_at proc.DeviceAbort r.old) }
+{
+    Some(CallRef::DeviceAbort { lid: number(r)? })
+}
+
 fn call<'a>(proc: Proc, r: &mut Reader<'a>) -> Option<CallRef<'a>>
     ensures { Gives call_shown result r.new (call_at proc r.old) }
 {
@@ -130,19 +178,19 @@ fn call<'a>(proc: Proc, r: &mut Reader<'a>) -> Option<CallRef<'a>>
         Proc::CreateLink => create_link(r),
         Proc::Write => write(r),
         Proc::Read => read(r),
-        Proc::ReadStb => Some(CallRef::ReadStb(generic_parms(r)?)),
-        Proc::Trigger => Some(CallRef::Trigger(generic_parms(r)?)),
-        Proc::Clear => Some(CallRef::Clear(generic_parms(r)?)),
-        Proc::Remote => Some(CallRef::Remote(generic_parms(r)?)),
-        Proc::Local => Some(CallRef::Local(generic_parms(r)?)),
+        Proc::ReadStb => read_stb(r),
+        Proc::Trigger => trigger(r),
+        Proc::Clear => clear(r),
+        Proc::Remote => remote(r),
+        Proc::Local => local(r),
         Proc::Lock => lock(r),
-        Proc::Unlock => Some(CallRef::Unlock { lid: number(r)? }),
+        Proc::Unlock => unlock(r),
         Proc::EnableSrq => enable_srq(r),
         Proc::Docmd => docmd(r),
-        Proc::DestroyLink => Some(CallRef::DestroyLink { lid: number(r)? }),
+        Proc::DestroyLink => destroy_link(r),
         Proc::CreateIntr => create_intr(r),
         Proc::DestroyIntr => Some(CallRef::DestroyIntr),
-        Proc::DeviceAbort => Some(CallRef::DeviceAbort { lid: number(r)? }),
+        Proc::DeviceAbort => device_abort(r),
     }
 }
 
@@ -234,6 +282,20 @@ pub fn put_args(call: &CallRef<'_>, out: &mut [u8]) -> Result<usize, Full>
         CallRef::Clear(generic) => put_generic(*generic, out),
         CallRef::Remote(generic) => put_generic(*generic, out),
         CallRef::Local(generic) => put_generic(*generic, out),
+        _ => put_other_args(call, out),
+    }
+}
+
+/// The same of the calls that have neither Device_GenericParms nor make, write to or read from a link.
+fn put_other_args(call: &CallRef<'_>, out: &mut [u8]) -> Result<usize, Full>
+    requires other { is_other (call_shown call.now) ≡ true }
+    requires puttable { IsPuttable (call_shown call.now) }
+    ensures ok { IfOk result (λ n. WritesFirst (arguments (call_shown call.now)) out.old n out.new) }
+    ensures full { IsErr result ↔ (length out.old < length (arguments (call_shown call.now))) }
+    ensures err { OnErr result (out.new ≡ out.old) }
+    ensures again { asked (proc_of (call_shown call.now)) (arguments (call_shown call.now)) ≡ Some (call_shown call.now) }
+{
+    match call {
         CallRef::Lock {
             lid,
             flags,
@@ -300,6 +362,7 @@ pub fn put_args(call: &CallRef<'_>, out: &mut [u8]) -> Result<usize, Full>
         ),
         CallRef::DestroyIntr => put_fields(&[], out),
         CallRef::DeviceAbort { lid } => put_fields(&[Field::Word(*lid)], out),
+        _ => unreachable!(),
     }
 }
 

@@ -1,4 +1,4 @@
-ghost use Rattle.std.specs.Prelude.{◌≡◌, ◌+◌, ◌<◌, ◌≤◌, ◌↔◌, ◌^◌, IsTrue, IfSome, IfOk, OnErr, IsErr, length};
+ghost use Rattle.std.specs.Prelude.{◌≡◌, ◌+◌, ◌<◌, ◌≤◌, ◌↔◌, IsTrue, IfSome, IfOk, OnErr, IsErr, length};
 ghost use Rattle.vx_xdr.specs.Spelling.{Word, Signed, Flag};
 ghost use Rattle.vx_xdr.specs.Writing.{Writes, WritesFirst};
 ghost use Rattle.vx_codec.specs.Row.{Whole, LowByte, Gives, field_at};

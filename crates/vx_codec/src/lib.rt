@@ -13,6 +13,3 @@ pub use laws::{
     answered_again, answered_is_spelled, asked_again, asked_is_spelled, no_prefix, one_spelling,
 };
 pub use results::{Results, put_results, read_results};
-
-#[cfg(test)]
-mod tests;

@@ -1,6 +1,6 @@
 -- A call over a link that is looked at from its start, as the link itself knows it.
 use Rattle.std.proofs.Common.{ℕ, List, [], take, Option, Result, inl, refl, sym, subst}
-use Rattle.vx_io.specs.Stands.{Goes, Goes-none}
+use Rattle.vx_io_traits.specs.Stands.{Goes, Goes-none}
 use Rattle.vx_calls.specs.Call.{Call}
 use Rattle.vx_codec.specs.Answered.{Outcome}
 use Rattle.vx_client.specs.State.{ClientState}

@@ -15,7 +15,7 @@ use Rattle.vx_calls.specs.Call.{Call}
 use Rattle.vx_calls.specs.Reply as reply
 use Rattle.vx_488.specs.declared.transfers.Transfer.{Transfer}
 use Rattle.vx_plan.specs.Plan.{Slot}
-use Rattle.vx_bus.specs.Steps.{Step, Went, Told, Cut}
+use Rattle.vx_bus_traits.specs.Steps.{Step, Went, Told, Cut}
 use Rattle.vx_sim.specs.Bench.{some_asks, some_refuses}
 use Rattle.vx_sim.specs.SimState.{Through}
 use Rattle.vx_sim.specs.Laws.{transfers}
@@ -23,10 +23,10 @@ use Rattle.vx_trace.specs.Output.{Output, Out}
 use Rattle.vx_message.specs.declared.record.TheConstants.{REPLY_ROOM}
 use Rattle.vx_message.specs.Meaning.{Meaning, Junk, Asks, Aborts, xid_by, record_of, reply_record}
 use Rattle.vx_message.specs.Meaning as meant
-use Rattle.vx_model.specs.Lists.{along}
-use Rattle.vx_model.specs.State.{Connection, State, connection_at, lives_as, has_role_of, same_role}
-use Rattle.vx_model.specs.Entry as entry
-use Rattle.vx_model.specs.One.{abort_reply, abort_tables}
+use Rattle.vx_rules.specs.Lists.{along}
+use Rattle.vx_rules.specs.State.{Connection, State, connection_at, lives_as, has_role_of, same_role}
+use Rattle.vx_rules.specs.Entry as entry
+use Rattle.vx_rules.specs.One.{abort_reply, abort_tables}
 use Rattle.vx_flow.specs.Event.{Event, Arrive, Answer, Abort, Begin, Dial}
 use Rattle.vx_flow.specs.FineState.{FineState, Turn, turn_after}
 use Rattle.vx_flow.specs.Fine.{fine}

@@ -21,7 +21,7 @@ use Rattle.vx_record.specs.Records.{Split, records}
 use Rattle.vx_record.specs.Ends.{is_settled}
 use Rattle.vx_record.specs.Buffer.{fed}
 use Rattle.vx_488.specs.Heard.{heard}
-use Rattle.vx_model.specs.Calls.{sets_end}
+use Rattle.vx_rules.specs.Calls.{sets_end}
 use Rattle.vx_flow.specs.FineState.{FineState}
 use Rattle.vx_flow.specs.Laws.{marked_bytes}
 use Rattle.vx_rpc.specs.Wording.{success_message}
@@ -42,9 +42,9 @@ use Rattle.vx_client.specs.Meaning.{error_of, is_bad, judged, can_be, results_me
 use Rattle.vx_client.specs.Exchange.{Exchange, Idle, Unsent, Unread, Ended, TooLong, Replied, KeepsReply, Asks as Asked, Exchanged, result_of, IsCalled}
 use Rattle.vx_client.proofs.Lengths.{arguments-short}
 use Rattle.vx_client.proofs.Meanings.{success-meaning}
-use Rattle.vx_model.specs.State.{lives_as}
+use Rattle.vx_rules.specs.State.{lives_as}
 use Rattle.vx_flow.specs.Event.{Event}
-use Rattle.vx_bus.specs.Steps.{Step}
+use Rattle.vx_bus_traits.specs.Steps.{Step}
 use Rattle.vx_play.specs.Gateway.{Gateway, gateway_of}
 use Rattle.vx_play.specs.Item.{moved}
 use Rattle.vx_loop.specs.LoopState.{ServedState, LoopState, IsIdle}

@@ -2,12 +2,12 @@
 use Rattle.std.proofs.Common.{◌≡◌, ◌≤◌, ℕ, List, [], ◌∷◌, ◌++◌, Option, Some, None, refl, sym, ap, ◌∙◌, subst, arith}
 use Rattle.std.specs.List.{flat_map}
 use Rattle.std.proofs.lemmas.Grind.{flat_map-append}
-use Rattle.vx_bus.specs.Steps.{Step, Went, Held, Failed, Told, Cut}
+use Rattle.vx_bus_traits.specs.Steps.{Step, Went, Held, Failed, Told, Cut}
 use Rattle.vx_sim.specs.SimState.{SimState}
 use Rattle.vx_sim.specs.Laws.{transfers}
 use Rattle.vx_488.specs.declared.wire.Wire.{Wire}
-use Rattle.vx_model.specs.Lists.{along}
-use Rattle.vx_model.specs.State.{Tables}
+use Rattle.vx_rules.specs.Lists.{along}
+use Rattle.vx_rules.specs.State.{Tables}
 use Rattle.vx_flow.specs.Event.{Event}
 use Rattle.vx_flow.specs.FineState.{FineState, Turn, first_fine}
 use Rattle.vx_flow.specs.Fine.{fine}

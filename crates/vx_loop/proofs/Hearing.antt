@@ -25,17 +25,17 @@ use Rattle.vx_plan.specs.Roles.{has_role}
 use Rattle.vx_plan.specs.declared.tasks.Task.TheVariants as task
 use Rattle.vx_plan.specs.Results.{puts_made, whole_reply}
 use Rattle.vx_links.specs.Table.{Link, Table}
-use Rattle.vx_model.specs.Lists.{along}
-use Rattle.vx_model.specs.State.{Pending, Connection, Tables, State, connection_at, pending_at, with_pending, lives_as, has_role_of, is_idle, link_of}
-use Rattle.vx_model.specs.Calls.{sets_end, has_passed, bytes_of, is_big}
-use Rattle.vx_model.specs.Checks.{link_found}
-use Rattle.vx_model.specs.Lines.{Lines, Refused, Waiting, Passed, first_lines}
-use Rattle.vx_model.specs.Effects.{task_of, stopped_reply}
-use Rattle.vx_model.specs.Decide.{Outside, is_quiet, level_fits, turn_answer, job_answer, bus_answer, stand_on, by_lines, decide, settles}
-use Rattle.vx_model.specs.Entry as entry
-use Rattle.vx_model.specs.Entry.{Entry}
-use Rattle.vx_model.specs.One.{one, may_wait, arrived}
-use Rattle.vx_model.specs.Legal.{legal_state}
+use Rattle.vx_rules.specs.Lists.{along}
+use Rattle.vx_rules.specs.State.{Pending, Connection, Tables, State, connection_at, pending_at, with_pending, lives_as, has_role_of, is_idle, link_of}
+use Rattle.vx_rules.specs.Calls.{sets_end, has_passed, bytes_of, is_big}
+use Rattle.vx_rules.specs.Checks.{link_found}
+use Rattle.vx_rules.specs.Lines.{Lines, Refused, Waiting, Passed, first_lines}
+use Rattle.vx_rules.specs.Effects.{task_of, stopped_reply}
+use Rattle.vx_rules.specs.Decide.{Outside, is_quiet, level_fits, turn_answer, job_answer, bus_answer, stand_on, by_lines, decide, settles}
+use Rattle.vx_rules.specs.Entry as entry
+use Rattle.vx_rules.specs.Entry.{Entry}
+use Rattle.vx_rules.specs.One.{one, may_wait, arrived}
+use Rattle.vx_rules.specs.Legal.{legal_state}
 use Rattle.vx_flow.specs.Event.{Event, Arrive, Answer}
 use Rattle.vx_flow.specs.FineState.{FineState, Turn, before_turn, begun_of, turn_of, turn_after}
 use Rattle.vx_flow.specs.Fine.{fine}

@@ -1,12 +1,12 @@
 -- A link as a caller knows it, and as it is looked at from a start on.
 use Rattle.std.proofs.Common.{◌≡◌, ℕ, List, [], ◌++◌, Some, sym, subst, append_assoc, append-nil}
-use Rattle.vx_io.specs.declared.ReadOut.{ReadOut}
-use Rattle.vx_io.specs.declared.ReadOut.TheVariants.{Got, End, Failed}
-use Rattle.vx_io.specs.declared.WriteOut.{WriteOut}
-use Rattle.vx_io.specs.declared.WriteOut.TheVariants.{Took, Failed as Refused}
-use Rattle.vx_io.specs.Outs.{IfGot, IfTook, OnEnd, OnReadFailed, OnWriteFailed}
-use Rattle.vx_io.specs.Stands.{Gives, Takes, Stays, Goes}
-use Rattle.vx_play.specs.Gateway.{gateway_of}
+use Rattle.vx_io_traits.specs.declared.ReadOut.{ReadOut}
+use Rattle.vx_io_traits.specs.declared.ReadOut.TheVariants.{Got, End, Failed}
+use Rattle.vx_io_traits.specs.declared.WriteOut.{WriteOut}
+use Rattle.vx_io_traits.specs.declared.WriteOut.TheVariants.{Took, Failed as Refused}
+use Rattle.vx_io_traits.specs.Outs.{IfGot, IfTook, OnEnd, OnReadFailed, OnWriteFailed}
+use Rattle.vx_io_traits.specs.Stands.{Gives, Takes, Stays, Goes}
+use Rattle.vx_play.specs.Gateway.{Gateway, gateway_of}
 use Rattle.vx_loop.specs.LoopState.{ServedState, LoopState}
 use Rattle.vx_loop.specs.Standing.{Went, Since, StandsFor, GoesOn, MarkedStands, EndsTo}
 
@@ -82,9 +82,16 @@ failed-both (Got n) P Q R p q f = tt
 failed-both End P Q R p q f = tt
 failed-both Failed P Q R p q f = f p q
 
--- ---- a connection that has ended
+-- ---- what a gateway did, as its link did it
 
+-- a link whose gateway took bytes and gave none went on so
+pub went-goes : (old : LoopState) (s new : ServedState) (faults sends : ℕ) (bytes : List ℕ) → old.served ≡ Some s
+    → ((start : Gateway) (taken given : List ℕ) → Went start s taken given → Went start new (taken ++ bytes) given)
+    → GoesOn old (record { served = Some new; receive_faults = faults; send_faults = sends }) bytes []
+went-goes old s new faults sends bytes is went start taken given since =
+    subst (Went start new (taken ++ bytes)) (sym (append-nil given)) (went start taken given (subst (λ o. Since start o taken given) is since))
+
+-- and so did one whose connection ended by then
 pub ended-goes : (old : LoopState) (s new : ServedState) (faults sends : ℕ) (bytes : List ℕ) → old.served ≡ Some s → EndsTo s new
     → GoesOn old (record { served = Some new; receive_faults = faults; send_faults = sends }) bytes []
-ended-goes old s new faults sends bytes is e start taken given since =
-    subst (Went start new (taken ++ bytes)) (sym (append-nil given)) (e.went start taken given bytes (subst (λ o. Since start o taken given) is since))
+ended-goes old s new faults sends bytes is e = went-goes old s new faults sends bytes is (λ start taken given w. e.went start taken given bytes w)

@@ -15,11 +15,11 @@ use Rattle.vx_488.specs.Wire.{step, wire_after}
 use Rattle.vx_488.specs.Heard.{Byte, heard}
 use Rattle.vx_links.specs.Table.{Link, Table}
 use Rattle.vx_srq.specs.Desk.{sampled, taken, given}
-use Rattle.vx_model.specs.Lists.{along}
-use Rattle.vx_model.specs.State.{State, connection_at, pending_at, lives_as, is_idle, has_room, with_connection, with_pending, without_connection}
-use Rattle.vx_model.specs.Calls.{sets_end}
-use Rattle.vx_model.specs.Entry as entry
-use Rattle.vx_model.specs.One.{may_wait, arrived, abort_reply, abort_tables, same_given}
+use Rattle.vx_rules.specs.Lists.{along}
+use Rattle.vx_rules.specs.State.{State, connection_at, pending_at, lives_as, is_idle, has_room, with_connection, with_pending, without_connection}
+use Rattle.vx_rules.specs.Calls.{sets_end}
+use Rattle.vx_rules.specs.Entry as entry
+use Rattle.vx_rules.specs.One.{may_wait, arrived, abort_reply, abort_tables, same_given}
 use Rattle.vx_flow.specs.Event.{Event, Up, Down, Arrive, Answer, Abort, Sample, Take, Begin, Move, Dial}
 use Rattle.vx_flow.specs.FineState.{FineState}
 use Rattle.vx_flow.specs.Fine.{outside, may_begin, may_dial, may_move, fine_after, without_dial, fine_step, fine}

@@ -6,13 +6,13 @@ use Rattle.std.proofs.lemmas.Option.{cond_some, none-some}
 use Rattle.vx_calls.specs.declared.calls.Role.TheVariants as role
 use Rattle.vx_calls.specs.declared.limits.TheConstants.{RECORD_MAX}
 use Rattle.vx_record.specs.Buffer.{BufState, fresh}
-use Rattle.vx_bus.specs.Steps.{Cut}
+use Rattle.vx_bus_traits.specs.Steps.{Cut}
 use Rattle.vx_sim.specs.SimState.{SimState}
 use Rattle.vx_srq.specs.Desk as desk
-use Rattle.vx_model.specs.Lists.{along}
-use Rattle.vx_model.specs.State.{State, pending_at, has_room, with_connection}
-use Rattle.vx_model.specs.Entry as entry
-use Rattle.vx_model.specs.One.{one}
+use Rattle.vx_rules.specs.Lists.{along}
+use Rattle.vx_rules.specs.State.{State, pending_at, has_room, with_connection}
+use Rattle.vx_rules.specs.Entry as entry
+use Rattle.vx_rules.specs.One.{one}
 use Rattle.vx_flow.specs.Event.{Up, Sample}
 use Rattle.vx_flow.specs.FineState.{FineState, first_fine}
 use Rattle.vx_flow.specs.Fine.{fine, fine_after}

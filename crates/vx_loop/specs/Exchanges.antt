@@ -5,11 +5,11 @@ use Rattle.vx_calls.specs.declared.calls.Role.TheVariants as role
 use Rattle.vx_calls.specs.declared.limits.TheConstants.{RECORD_MAX}
 use Rattle.vx_calls.specs.Call.{Call}
 use Rattle.vx_calls.specs.Reply.{Reply}
-use Rattle.vx_bus.specs.Steps.{Step}
+use Rattle.vx_bus_traits.specs.Steps.{Step}
 use Rattle.vx_sim.specs.Laws.{transfers}
 use Rattle.vx_message.specs.Meaning.{Meaning, Junk, Asks, Aborts, meaning, record_of, reply_record}
 use Rattle.vx_message.specs.Meaning as meant
-use Rattle.vx_model.specs.Lists.{along}
+use Rattle.vx_rules.specs.Lists.{along}
 use Rattle.vx_flow.specs.Event.{Event, Arrive, Answer, Begin, Move, Dial}
 use Rattle.vx_flow.specs.FineState.{FineState}
 use Rattle.vx_flow.specs.Fine.{fine}

@@ -4,10 +4,10 @@ use Rattle.std.specs.List.{list_all}
 use Rattle.vx_calls.specs.declared.limits.TheConstants.{RECORD_MAX}
 use Rattle.vx_calls.specs.Call.{Call}
 use Rattle.vx_calls.specs.Reply.{Reply}
-use Rattle.vx_bus.specs.Steps.{Step}
+use Rattle.vx_bus_traits.specs.Steps.{Step}
 use Rattle.vx_message.specs.Meaning.{Meaning, Junk, Asks, Aborts, record_of, reply_record}
 use Rattle.vx_message.specs.Meaning as meant
-use Rattle.vx_model.specs.State.{pending_at}
+use Rattle.vx_rules.specs.State.{pending_at}
 use Rattle.vx_flow.specs.Event.{Event, Arrive, Answer}
 use Rattle.vx_flow.specs.FineState.{Turn}
 use Rattle.vx_flow.specs.Sound.{IsSound}

@@ -1,16 +1,16 @@
 -- For which bytes taken and given a link to a gateway stands.
 use Rattle.std.specs.Prelude.{◌≡◌, ◌≤◌, ◌-◌, ◌^◌, ℕ, true, false, is_some, List, [], ◌∷◌, ◌++◌, Option, Some, None, ◌⊎◌}
 use Rattle.std.specs.List.{list_all, flat_map}
-use Rattle.vx_io.specs.Stands.{Goes}
+use Rattle.vx_io_traits.specs.Stands.{Goes}
 use Rattle.vx_calls.specs.declared.calls.Role.TheVariants as role
 use Rattle.vx_calls.specs.declared.limits.TheConstants.{RECORD_MAX}
 use Rattle.vx_calls.specs.Call.{Call}
 use Rattle.vx_record.specs.Buffer.{fresh, fed}
 use Rattle.vx_record.specs.declared.Feed.TheVariants.{More, TooLong}
 use Rattle.vx_record.specs.declared.Feed.TheVariants as feed
-use Rattle.vx_bus.specs.Steps.{Step}
+use Rattle.vx_bus_traits.specs.Steps.{Step}
 use Rattle.vx_message.specs.Meaning.{Asks, Junk, meaning}
-use Rattle.vx_model.specs.State.{pending_at, lives_as}
+use Rattle.vx_rules.specs.State.{pending_at, lives_as}
 use Rattle.vx_flow.specs.Event.{Event, Arrive}
 use Rattle.vx_flow.specs.FineState.{FineState, Turn}
 use Rattle.vx_flow.specs.Laws.{fine_along}

@@ -7,8 +7,6 @@ mod laws;
 mod link;
 mod marked;
 mod served;
-#[cfg(test)]
-mod tests;
 mod through;
 
 pub use laws::resting_law;

@@ -9,7 +9,7 @@ use std::alloc::Global;
 use std::marker::Model;
 use vx_core::Core;
 use vx_inst::Instrument;
-use vx_io::{Link, ReadOut, WriteOut};
+use vx_io_traits::{Link, ReadOut, WriteOut};
 use vx_sim::SimBus;
 
 /// There was no memory for a link; the gateway comes back.
@@ -89,9 +89,9 @@ impl<I: Instrument> LoopLink<I> {
 impl<I: Instrument> Link for LoopLink<I> {
     ghost use Rattle.std.specs.Prelude.{◌≡◌, ◌<◌, ◌≤◌, [], None, length, take};
     ghost use Rattle.std.specs.Io.KnownBytes.{Consumes, IsAtEnd, Keeps};
-    ghost use Rattle.vx_io.specs.Faults.{Rose};
-    ghost use Rattle.vx_io.specs.Outs.{IfGot, IfTook, OnEnd, OnReadFailed, OnWriteFailed};
-    ghost use Rattle.vx_io.specs.Stands.{Gives, Takes, Stays};
+    ghost use Rattle.vx_io_traits.specs.Faults.{Rose};
+    ghost use Rattle.vx_io_traits.specs.Outs.{IfGot, IfTook, OnEnd, OnReadFailed, OnWriteFailed};
+    ghost use Rattle.vx_io_traits.specs.Stands.{Gives, Takes, Stays};
     ghost use Rattle.std.specs.Prelude.{IfSome};
     ghost use Rattle.vx_loop.specs.Standing.{StandsFor, GoesOn, IsUnanswered, IsDrained, IsRefused};
 
@@ -161,14 +161,7 @@ impl<I: Instrument> Link for LoopLink<I> {
         let Some(served) = &mut self.served else {
             return WriteOut::Took(from.len());
         };
-        if served.is_gone() {
-            return WriteOut::Took(from.len());
-        }
-        if served.is_busy() {
-            served.end();
-            return WriteOut::Took(from.len());
-        }
-        match served.take(from) {
+        match served.accept(from) {
             Some(count) => WriteOut::Took(count),
             None => {
                 self.send_faults = self.send_faults.saturating_add(1);

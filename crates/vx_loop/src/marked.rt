@@ -7,7 +7,7 @@ ghost use Rattle.vx_loop.specs.LoopState.{LoopState};
 use crate::link::LoopLink;
 use std::marker::{Brand, Model, PhantomData};
 use vx_inst::Instrument;
-use vx_io::{Link, ReadOut, WriteOut};
+use vx_io_traits::{Link, ReadOut, WriteOut};
 
 // The link as it is at the start. A call at `Brand` picks it from its arguments.
 pub(crate) trait Mark {
@@ -55,9 +55,9 @@ impl<I: Instrument, M> Marked<I, M> {
 impl<I: Instrument, M: Mark> Link for Marked<I, M> {
     ghost use Rattle.std.specs.Prelude.{◌≡◌, ◌<◌, ◌≤◌, None, length, take};
     ghost use Rattle.std.specs.Io.KnownBytes.{Consumes, IsAtEnd, Keeps};
-    ghost use Rattle.vx_io.specs.Faults.{Rose};
-    ghost use Rattle.vx_io.specs.Outs.{IfGot, IfTook, OnEnd, OnReadFailed, OnWriteFailed};
-    ghost use Rattle.vx_io.specs.Stands.{Gives, Takes, Stays};
+    ghost use Rattle.vx_io_traits.specs.Faults.{Rose};
+    ghost use Rattle.vx_io_traits.specs.Outs.{IfGot, IfTook, OnEnd, OnReadFailed, OnWriteFailed};
+    ghost use Rattle.vx_io_traits.specs.Stands.{Gives, Takes, Stays};
     ghost use Rattle.vx_loop.specs.Standing.{MarkedStands};
 
     ghost stands = { MarkedStands M.start };

@@ -4,7 +4,7 @@ ghost use Rattle.std.specs.Prelude.{◌≡◌, ◌≤◌, ◌<◌, ◌+◌, ◌-
 ghost use Rattle.std.specs.List.{list_any};
 ghost use Rattle.vx_calls.specs.declared.calls.Role.TheVariants as role;
 ghost use Rattle.vx_calls.specs.declared.limits.TheConstants.{RECORD_MAX};
-ghost use Rattle.vx_model.specs.State.{connection_at, pending_at, lives_as};
+ghost use Rattle.vx_rules.specs.State.{connection_at, pending_at, lives_as};
 ghost use Rattle.vx_message.specs.declared.record.TheConstants.{REPLY_ROOM};
 ghost use Rattle.vx_message.specs.Meaning.{meaning, Junk};
 ghost use Rattle.vx_play.specs.Gateway.{Gateway, gateway_of};
@@ -187,7 +187,7 @@ impl<I: Instrument> Serving<I> {
     }
 
     /// Whether the connection has ended.
-    pub(crate) fn is_gone(&self) -> bool
+    fn is_gone(&self) -> bool
         ensures ended { result ≡ true → IsKept self.now → EndsTo self.now self.now }
         ensures there { result ≡ false → IsSome (connection_at self.now.core.fine.state.tables 1) }
         ensures lives { result ≡ false → pending_at self.now.core.fine.state.tables 1 ≡ None → lives_as self.now.core.fine.state.tables 1 role.Core ≡ true }
@@ -196,7 +196,7 @@ impl<I: Instrument> Serving<I> {
     }
 
     /// Ends the connection. What is left of a reply may still be given.
-    pub(crate) fn end(&mut self)
+    fn end(&mut self)
         requires kept { IsKept self.old }
         requires there { IsSome (connection_at self.old.core.fine.state.tables 1) }
         ensures { EndsTo self.old self.new }
@@ -206,7 +206,7 @@ impl<I: Instrument> Serving<I> {
     }
 
     /// Whether a call has no answer yet, or bytes of a reply are left to give.
-    pub(crate) fn is_busy(&self) -> bool
+    fn is_busy(&self) -> bool
         ensures { result ≡ false → (pending_at self.now.core.fine.state.tables 1 ≡ None) × (self.now.left ≡ []) }
     {
         self.core.pending(CONN) || self.from < self.to
@@ -214,7 +214,7 @@ impl<I: Instrument> Serving<I> {
 
     /// Takes bytes up to the end of a record, which is served, and answers how many. There are none where they end a
     /// record that is no call, or is too long: the connection has ended then.
-    pub(crate) fn take(&mut self, from: &[u8]) -> Option<usize>
+    fn take(&mut self, from: &[u8]) -> Option<usize>
         requires some { 0 < length from.now }
         requires kept { IsKept self.old }
         requires lives { lives_as self.old.core.fine.state.tables 1 role.Core ≡ true }
@@ -256,6 +256,26 @@ impl<I: Instrument> Serving<I> {
                 None
             }
         }
+    }
+
+    /// Takes bytes as `take` does where the connection is idle. It takes all of them where the connection has ended, and where
+    /// it ends now, since a call or its reply is under way.
+    pub(crate) fn accept(&mut self, from: &[u8]) -> Option<usize>
+        requires some { 0 < length from.now }
+        requires kept { IsKept self.old }
+        ensures took { IfSome result (λ n. (0 < n) × (n ≤ length from.now) × IsKept self.new
+            × ((start : Gateway) (taken given : List ℕ) → Went start self.old taken given → Went start self.new (taken ++ take n from.now) given)) }
+        ensures broke { IfNone result (EndsTo self.old self.new) }
+        ensures cause { IfNone result (IsRefused self.old from.now) }
+    {
+        if self.is_gone() {
+            return Some(from.len());
+        }
+        if self.is_busy() {
+            self.end();
+            return Some(from.len());
+        }
+        self.take(from)
     }
 
     /// Whether a call has no answer yet.

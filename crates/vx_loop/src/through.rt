@@ -1,7 +1,7 @@
 //! A write of a client through a gateway in the same thread.
 
 ghost use Rattle.std.specs.Prelude.{◌≡◌, ◌≤◌, ◌<◌, ◌^◌, min, length, None, OnOk};
-ghost use Rattle.vx_model.specs.Calls.{sets_end};
+ghost use Rattle.vx_rules.specs.Calls.{sets_end};
 ghost use Rattle.vx_flow.specs.Laws.{marked_bytes};
 ghost use Rattle.vx_client.specs.State.{with_link};
 ghost use Rattle.vx_client.specs.Exchange.{IsCalled};
@@ -22,6 +22,13 @@ use vx_inst::Instrument;
 /// All flags but END (VXI-11, Device_Flags).
 const NO_END: u32 = 0xFFFF_FFF7;
 
+/// Puts a link in the place of another, which is dropped.
+fn put_back<I: Instrument>(place: &mut LoopLink<I>, link: LoopLink<I>)
+    ensures { place.new ≡ link }
+{
+    *place = link;
+}
+
 /// One device_write over a link that stands aside from the client's own, which is looked at from its state before.
 fn write_marked<I: Instrument, M: Mark>(
     client: &mut Client<LoopLink<I>>,
@@ -40,7 +47,7 @@ fn write_marked<I: Instrument, M: Mark>(
 {
     let mut marked = Marked::<I, M>::new(replace(link, LoopLink::vacant()));
     let result = client.write_piece_over(&mut marked, lid, opts, flags, bytes);
-    *link = marked.into_link();
+    put_back(link, marked.into_link());
     result
 }
 

@@ -11,18 +11,18 @@ use Rattle.vx_calls.specs.declared.calls.Role.TheVariants as role
 use Rattle.vx_calls.specs.declared.codes.ErrorCode.{ErrorCode}
 use Rattle.vx_calls.specs.Reply.{Reply, same_reply}
 use Rattle.vx_calls.specs.Reply as reply
-use Rattle.vx_bus.specs.Steps.{Told, Cut}
+use Rattle.vx_bus_traits.specs.Steps.{Told, Cut}
 use Rattle.vx_sim.specs.Bench.{some_asks}
 use Rattle.vx_sim.specs.SimState.{SimState, Through}
-use Rattle.vx_bus.specs.Walks.{Walk}
+use Rattle.vx_bus_traits.specs.Walks.{Walk}
 use Rattle.vx_script.specs.Command.{Command, At, Poll, Sample, Take, Dial}
 use Rattle.vx_script.specs.declared.Cause.TheVariants as cause
 use Rattle.vx_trace.specs.Output.{Output, Out, IrqClosed}
 use Rattle.vx_srq.specs.Desk.{Given, Channel, channel_at, sampled, taken, given}
-use Rattle.vx_model.specs.State.{Connection, State, connection_at, pending_at, role_at, lives_as, has_role_of}
-use Rattle.vx_model.specs.Decide.{Outside, decide}
-use Rattle.vx_model.specs.Entry as entry
-use Rattle.vx_model.specs.One.{one, answered, answer_to, answer, if_reply, same_given}
+use Rattle.vx_rules.specs.State.{Connection, State, connection_at, pending_at, role_at, lives_as, has_role_of}
+use Rattle.vx_rules.specs.Decide.{Outside, decide}
+use Rattle.vx_rules.specs.Entry as entry
+use Rattle.vx_rules.specs.One.{one, answered, answer_to, answer, if_reply, same_given}
 use Rattle.vx_flow.specs.Event.{Event}
 use Rattle.vx_flow.specs.Event as event
 use Rattle.vx_flow.specs.FineState.{FineState}

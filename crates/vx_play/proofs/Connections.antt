@@ -10,13 +10,13 @@ use Rattle.vx_record.specs.declared.Feed.TheVariants as feed
 use Rattle.vx_record.specs.Records.{Split, records}
 use Rattle.vx_record.specs.Ends.{FeedEnds, IsEnd}
 use Rattle.vx_record.proofs.Ends.{feed-ends, fed-append}
-use Rattle.vx_bus.specs.Steps.{Cut}
+use Rattle.vx_bus_traits.specs.Steps.{Cut}
 use Rattle.vx_script.specs.declared.Cause.TheVariants as cause
 use Rattle.vx_script.specs.Command.{Command, Up, In, Down}
 use Rattle.vx_trace.specs.Output.{Output}
-use Rattle.vx_model.specs.Lists.{along}
-use Rattle.vx_model.specs.State.{Pending, role_at, pending_at, has_room, with_connection}
-use Rattle.vx_model.specs.Entry as entry
+use Rattle.vx_rules.specs.Lists.{along}
+use Rattle.vx_rules.specs.State.{Pending, role_at, pending_at, has_room, with_connection}
+use Rattle.vx_rules.specs.Entry as entry
 use Rattle.vx_flow.specs.Event.{Event}
 use Rattle.vx_flow.specs.Event as event
 use Rattle.vx_flow.specs.FineState.{FineState}

@@ -8,7 +8,7 @@ use Rattle.vx_record.specs.Buffer.{fresh, fed, taken}
 use Rattle.vx_record.specs.declared.Fed.{Fed}
 use Rattle.vx_record.specs.declared.Feed.{Feed}
 use Rattle.vx_script.specs.declared.Cause.TheVariants as cause
-use Rattle.vx_bus.specs.Steps.{Cut}
+use Rattle.vx_bus_traits.specs.Steps.{Cut}
 use Rattle.vx_sim.specs.SimState.{SimState}
 use Rattle.vx_flow.specs.Event as event
 use Rattle.vx_kernel.specs.CoreState.{CoreState}

@@ -17,18 +17,18 @@ use Rattle.vx_488.proofs.AddressCommands.{listen_byte, talk_byte, secondary_byte
 use Rattle.vx_plan.specs.Plan.{Slot, Stand, Whole, Part, Off, stand}
 use Rattle.vx_plan.specs.Tasks.{unl, mta, listener, ended_poll, puts, just, write_plan, IsTargetPlain, IsSecondaryPlain}
 use Rattle.vx_links.specs.Table.{Link}
-use Rattle.vx_bus.specs.Steps.{Step, Went, Told, Cut}
+use Rattle.vx_bus_traits.specs.Steps.{Step, Went, Told, Cut}
 use Rattle.vx_sim.specs.Bench.{some_asks, some_refuses}
 use Rattle.vx_sim.specs.SimState.{Through}
 use Rattle.vx_sim.specs.Laws.{transfers, is_quiet, only_puts, TakesAll}
 use Rattle.vx_sim.proofs.Hears.{heard-taken}
-use Rattle.vx_model.specs.Lists.{along}
-use Rattle.vx_model.specs.State.{Pending, Tables, pending_at, link_of}
-use Rattle.vx_model.specs.Calls.{sets_end}
-use Rattle.vx_model.specs.Checks.{link_found, named_link}
-use Rattle.vx_model.specs.Effects.{task_of}
-use Rattle.vx_model.specs.Serving.{IsPlainLink}
-use Rattle.vx_model.specs.Decide.{stand_of_job}
+use Rattle.vx_rules.specs.Lists.{along}
+use Rattle.vx_rules.specs.State.{Pending, Tables, pending_at, link_of}
+use Rattle.vx_rules.specs.Calls.{sets_end}
+use Rattle.vx_rules.specs.Checks.{link_found, named_link}
+use Rattle.vx_rules.specs.Effects.{task_of}
+use Rattle.vx_rules.specs.Serving.{IsPlainLink}
+use Rattle.vx_rules.specs.Decide.{stand_of_job}
 use Rattle.vx_flow.specs.Event.{Begin, Move}
 use Rattle.vx_flow.specs.FineState.{Turn, FineState}
 use Rattle.vx_flow.specs.Fine.{call_stand, turn_stand, is_on, goes_on, may_begin, may_move, comes_in_turn, fine_step, fine}

@@ -21,13 +21,13 @@ use Rattle.vx_rpc.specs.Procedure.{serves}
 use Rattle.vx_codec.specs.Asked.{Asks, IsPuttable, arguments, arguments_of, call_of}
 use Rattle.vx_codec.specs.Row.{Contents}
 use Rattle.vx_trace.specs.Output.{Out}
-use Rattle.vx_bus.specs.Steps.{Told, Cut}
+use Rattle.vx_bus_traits.specs.Steps.{Told, Cut}
 use Rattle.vx_sim.specs.SimState.{SimState}
-use Rattle.vx_model.specs.Lists.{update_first}
-use Rattle.vx_model.specs.State.{Pending, Connection, Tables, State, connection_at, pending_at, role_at, lives_as, has_role_of, same_role, is_idle, with_pending}
-use Rattle.vx_model.specs.Entry as entry
-use Rattle.vx_model.specs.One.{may_wait, arrived}
-use Rattle.vx_model.specs.Held.{IsShort}
+use Rattle.vx_rules.specs.Lists.{update_first}
+use Rattle.vx_rules.specs.State.{Pending, Connection, Tables, State, connection_at, pending_at, role_at, lives_as, has_role_of, same_role, is_idle, with_pending}
+use Rattle.vx_rules.specs.Entry as entry
+use Rattle.vx_rules.specs.One.{may_wait, arrived}
+use Rattle.vx_rules.specs.Held.{IsShort}
 use Rattle.vx_flow.specs.Event.{Event, Up, Down, Arrive, Abort}
 use Rattle.vx_flow.specs.FineState.{FineState}
 use Rattle.vx_flow.specs.Fine.{comes_in_turn, fine_step, fine}

@@ -5,10 +5,10 @@ use Rattle.std.proofs.Math.Nat.{max-eq_right}
 use Rattle.vx_calls.specs.declared.replies.ReplyRef.{ReplyRef}
 use Rattle.vx_calls.specs.Reply.{reply_shown}
 use Rattle.vx_488.specs.declared.transfers.Transfer.{Transfer}
-use Rattle.vx_bus.specs.Steps.{Told, Cut}
+use Rattle.vx_bus_traits.specs.Steps.{Told, Cut}
 use Rattle.vx_sim.specs.Bench.{some_asks, some_refuses}
 use Rattle.vx_sim.specs.SimState.{SimState, Through}
-use Rattle.vx_model.specs.Serving.{IsPlainLink}
+use Rattle.vx_rules.specs.Serving.{IsPlainLink}
 use Rattle.vx_flow.specs.Event as event
 use Rattle.vx_flow.specs.FineState.{FineState}
 use Rattle.vx_flow.specs.Poll.{Ending, Answered, Waited, Dialed, begins, run_events, end_events, moved_events}

@@ -1,6 +1,6 @@
 -- A player at the beginning of a play.
 use Rattle.std.proofs.Common.{◌≡◌, ℕ, ◌==◌, List, [], find, Option, None, option_map, refl, subst, sym, ap, ◌∙◌, arith}
-use Rattle.vx_model.specs.State.{Tables, Connection, role_at}
+use Rattle.vx_rules.specs.State.{Tables, Connection, role_at}
 use Rattle.vx_flow.specs.FineState.{FineState, first_fine}
 use Rattle.vx_sim.specs.SimState.{SimState, first_state}
 use Rattle.vx_kernel.specs.CoreState.{CoreState}

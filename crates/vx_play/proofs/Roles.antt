@@ -14,12 +14,12 @@ use Rattle.vx_488.specs.declared.transfers.Transfer.{Transfer}
 use Rattle.vx_488.specs.Wire.{wire_after}
 use Rattle.vx_links.specs.Table.{is_live}
 use Rattle.vx_srq.specs.Desk.{given, taken, sampled}
-use Rattle.vx_model.specs.Lists.{update_first, along}
-use Rattle.vx_model.specs.State.{Pending, Connection, Tables, State, connection_at, pending_at, role_at, lives_as, is_idle, has_room, with_pending, with_connection, without_connection}
-use Rattle.vx_model.specs.Lines.{first_lines}
-use Rattle.vx_model.specs.Decide.{Outside, settles, decide}
-use Rattle.vx_model.specs.Entry as entry
-use Rattle.vx_model.specs.One.{one, may_wait, arrived, answered, answer_to, answer, if_reply, mark_on, marked, abort_reply, abort_tables, same_given}
+use Rattle.vx_rules.specs.Lists.{update_first, along}
+use Rattle.vx_rules.specs.State.{Pending, Connection, Tables, State, connection_at, pending_at, role_at, lives_as, is_idle, has_room, with_pending, with_connection, without_connection}
+use Rattle.vx_rules.specs.Lines.{first_lines}
+use Rattle.vx_rules.specs.Decide.{Outside, settles, decide}
+use Rattle.vx_rules.specs.Entry as entry
+use Rattle.vx_rules.specs.One.{one, may_wait, arrived, answered, answer_to, answer, if_reply, mark_on, marked, abort_reply, abort_tables, same_given}
 use Rattle.vx_flow.specs.Event.{Event, Up, Down, Arrive, Answer, Abort, Sample, Take, Begin, Move, Dial}
 use Rattle.vx_flow.specs.FineState.{FineState}
 use Rattle.vx_flow.specs.Fine.{comes_in_turn, wire_for, outside, is_answered, may_begin, may_dial, may_move, fine_after, as_one, without_dial, answered_fine, fine_answer, fine_step, fine}

@@ -2,7 +2,7 @@
 use Rattle.std.proofs.Common.{◌≡◌, ◌≤◌, ℕ, None, refl, ap}
 use Rattle.std.specs.Prelude.{◌++◌}
 use Rattle.vx_script.specs.Command.{Command}
-use Rattle.vx_model.specs.State.{role_at}
+use Rattle.vx_rules.specs.State.{role_at}
 use Rattle.vx_play.specs.declared.note.Made.{Made}
 use Rattle.vx_play.specs.Gateway.{gateway_of}
 use Rattle.vx_play.specs.Item.{noted}

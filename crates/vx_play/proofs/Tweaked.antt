@@ -6,8 +6,8 @@ use Rattle.std.specs.List.{list_any}
 use Rattle.std.specs.Str.{bytes_eq}
 use Rattle.vx_488.specs.declared.transfers.Addr.{Addr}
 use Rattle.vx_488.specs.declared.wire.Wire.{Wire}
-use Rattle.vx_bus.specs.Means.{Means}
-use Rattle.vx_bus.specs.Steps.{Cut}
+use Rattle.vx_bus_traits.specs.Means.{Means}
+use Rattle.vx_bus_traits.specs.Steps.{Cut}
 use Rattle.vx_inst.specs.View.{View}
 use Rattle.vx_rack.specs.declared.Spare.{Spare}
 use Rattle.vx_table.specs.declared.TableErr.{TableErr}
@@ -22,7 +22,7 @@ use Rattle.vx_sim.specs.Attaching as attaching
 use Rattle.vx_script.specs.declared.Cause.{Cause}
 use Rattle.vx_script.specs.declared.Cause.TheVariants as cause
 use Rattle.vx_script.specs.Command.{Command, Inst, Plug, Pull, Set, Fail}
-use Rattle.vx_model.specs.State.{role_at}
+use Rattle.vx_rules.specs.State.{role_at}
 use Rattle.vx_flow.specs.FineState.{FineState}
 use Rattle.vx_kernel.specs.CoreState.{CoreState}
 use Rattle.vx_play.specs.declared.note.Made.{Made}

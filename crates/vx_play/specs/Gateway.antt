@@ -1,9 +1,9 @@
 -- The gateway of a play: its state between interleaved events, and its bus with the instruments on it.
 use Rattle.std.specs.Prelude.{◌≡◌, ℕ, List, Some}
-use Rattle.vx_bus.specs.Steps.{Step}
-use Rattle.vx_bus.specs.Walks.{Walk}
+use Rattle.vx_bus_traits.specs.Steps.{Step}
+use Rattle.vx_bus_traits.specs.Walks.{Walk}
 use Rattle.vx_sim.specs.SimState.{SimState, first_state, Through}
-use Rattle.vx_model.specs.Lists.{along}
+use Rattle.vx_rules.specs.Lists.{along}
 use Rattle.vx_flow.specs.Event.{Event}
 use Rattle.vx_flow.specs.FineState.{FineState, first_fine}
 use Rattle.vx_flow.specs.Fine.{fine}

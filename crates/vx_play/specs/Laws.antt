@@ -1,7 +1,7 @@
 -- When a play is written whole.
 use Rattle.std.specs.Prelude.{◌≡◌, ◌≤◌, ℕ, true, List, length, ◌++◌, Option, Some, None, ◌⊎◌}
 use Rattle.std.specs.Io.KnownBytes.{Appends}
-use Rattle.vx_io.specs.Faults.{Rose}
+use Rattle.vx_io_traits.specs.Faults.{Rose}
 use Rattle.vx_play.specs.declared.run.TheConstants.{SCRIPT_MAX}
 use Rattle.vx_play.specs.declared.run.Status.{Status}
 use Rattle.vx_play.specs.declared.run.Status.TheVariants as status

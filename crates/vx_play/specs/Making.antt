@@ -6,12 +6,12 @@ use Rattle.vx_calls.specs.Call.{Call}
 use Rattle.vx_calls.specs.Reply as reply
 use Rattle.vx_script.specs.Command.{Command, Up, In, Down, At, Poll, Sample, Take, Dial, Inst, Plug, Pull, Set, Fail}
 use Rattle.vx_trace.specs.Output.{Output, Out, Irq, IrqNone, IrqClosed, WaitLock, WaitTurn, WaitHeld, WaitDial, GoneDown, GoneJunk, GoneLong}
-use Rattle.vx_bus.specs.Steps.{Told, Cut}
+use Rattle.vx_bus_traits.specs.Steps.{Told, Cut}
 use Rattle.vx_sim.specs.Bench.{some_asks, some_refuses}
 use Rattle.vx_sim.specs.SimState.{SimState, Through}
 use Rattle.vx_sim.specs.Attaching.{without_place, IsSet}
 use Rattle.vx_srq.specs.Desk.{Channel, Given, Front, Empty, Gone, channel_at}
-use Rattle.vx_model.specs.State.{Pending, role_at, pending_at}
+use Rattle.vx_rules.specs.State.{Pending, role_at, pending_at}
 use Rattle.vx_flow.specs.Event.{Event}
 use Rattle.vx_flow.specs.Event as event
 use Rattle.vx_flow.specs.Poll.{Ending, Answered, Waited, Locked, InTurn, Held, Dialed, run_events, end_events}

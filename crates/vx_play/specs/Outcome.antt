@@ -2,7 +2,7 @@
 use Rattle.std.specs.Prelude.{◌≡◌, ℕ, Bool, true, false, List, [], ◌∷◌, codes, ◌⊎◌}
 use Rattle.std.specs.Str.{bytes_eq}
 use Rattle.std.specs.Io.KnownBytes.{Appends}
-use Rattle.vx_io.specs.Faults.{Rose}
+use Rattle.vx_io_traits.specs.Faults.{Rose}
 use Rattle.vx_trace.specs.Output.{Usage, FaultLong}
 use Rattle.vx_trace.specs.Text.{line_text}
 use Rattle.vx_play.specs.declared.run.TheConstants.{SCRIPT_MAX}

@@ -4,7 +4,7 @@ use Rattle.std.specs.Str.{bytes_eq}
 use Rattle.vx_calls.specs.declared.calls.Role.{Role}
 use Rattle.vx_script.specs.declared.Cause.TheVariants as cause
 use Rattle.vx_script.specs.Command.{Command, Up, In, At, Plug}
-use Rattle.vx_model.specs.State.{role_at}
+use Rattle.vx_rules.specs.State.{role_at}
 use Rattle.vx_bench.specs.Script.{Step, script}
 use Rattle.vx_play.specs.Stream.{Brought, Whole, brought, kept_after}
 use Rattle.vx_message.specs.Meaning.{meaning, xid_by}

@@ -4,11 +4,11 @@ use Rattle.std.specs.List.{flat_map}
 use Rattle.vx_calls.specs.declared.calls.Role.TheVariants as role
 use Rattle.vx_calls.specs.Call.{Call}
 use Rattle.vx_calls.specs.Call as call
-use Rattle.vx_bus.specs.declared.asks.TheConstants.{ASK_MAX}
+use Rattle.vx_bus_traits.specs.declared.asks.TheConstants.{ASK_MAX}
 use Rattle.vx_trace.specs.Output.{Output}
 use Rattle.vx_sim.specs.SimState.{SimState}
-use Rattle.vx_model.specs.State.{Tables, is_idle, lives_as}
-use Rattle.vx_model.specs.One.{may_wait}
+use Rattle.vx_rules.specs.State.{Tables, is_idle, lives_as}
+use Rattle.vx_rules.specs.One.{may_wait}
 use Rattle.vx_flow.specs.Event.{Event}
 use Rattle.vx_kernel.specs.CoreState.{CoreState}
 use Rattle.vx_play.specs.declared.note.Made.{Made}

@@ -8,7 +8,7 @@ use Rattle.vx_script.specs.declared.Cause.TheVariants as cause
 use Rattle.vx_script.specs.Command.{Command, Up, In, Down, At, Poll, Sample, Take, Dial, Inst, Plug, Pull, Set, Fail}
 use Rattle.vx_sim.specs.Bench.{stands_at}
 use Rattle.vx_sim.specs.SimState.{SimState}
-use Rattle.vx_model.specs.State.{Tables, role_at, lives_as, pending_at, has_room}
+use Rattle.vx_rules.specs.State.{Tables, role_at, lives_as, pending_at, has_room}
 use Rattle.vx_bench.specs.Rack.{SpareShown, spare_at}
 use Rattle.vx_bench.specs.Refusing.{address, rules_in, table_refused, spare_refused}
 use Rattle.vx_play.specs.Gateway.{Gateway, first_gateway}

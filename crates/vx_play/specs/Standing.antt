@@ -3,14 +3,14 @@ use Rattle.std.specs.Prelude.{◌≡◌, ◌≤◌, ◌<◌, ℕ, List, [], ◌�
 use Rattle.vx_calls.specs.declared.calls.Role.{Role}
 use Rattle.vx_calls.specs.declared.limits.TheConstants.{RECORD_MAX}
 use Rattle.vx_488.specs.declared.transfers.Transfer.{Transfer}
-use Rattle.vx_bus.specs.declared.asks.TheConstants.{ASK_MAX}
+use Rattle.vx_bus_traits.specs.declared.asks.TheConstants.{ASK_MAX}
 use Rattle.vx_record.specs.Buffer.{fresh, fed}
 use Rattle.vx_record.specs.declared.Feed.TheVariants.{More}
 use Rattle.vx_script.specs.Command.{Command, Up, Inst}
 use Rattle.vx_trace.specs.Output.{Output, Bus, Out, Irq, IrqNone, IrqClosed, WaitLock, WaitTurn, WaitHeld, WaitDial, GoneDown, GoneJunk, GoneLong}
 use Rattle.vx_kernel.specs.declared.ended.Why.{Why}
 use Rattle.vx_kernel.specs.declared.ended.Why.TheVariants as why
-use Rattle.vx_model.specs.State.{role_at}
+use Rattle.vx_rules.specs.State.{role_at}
 use Rattle.vx_play.specs.declared.streams.Incoming.{Incoming}
 use Rattle.vx_play.specs.declared.note.Gone.{Gone}
 use Rattle.vx_play.specs.declared.note.Gone.TheVariants as gone

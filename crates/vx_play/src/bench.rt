@@ -5,7 +5,7 @@ ghost use Rattle.vx_sim.specs.Seats.{Table, Boxed};
 
 use std::alloc::Global;
 use vx_488::Addr;
-use vx_bus::Tweak;
+use vx_bus_traits::Tweak;
 use vx_inst::Instrument;
 use vx_sim::{Attach, SimBus};
 use vx_table::TableInst;

@@ -6,13 +6,9 @@ mod note;
 mod pieces;
 mod player;
 mod printer;
-#[cfg(test)]
-mod rows;
 mod run;
 pub mod serve;
 mod streams;
-#[cfg(test)]
-mod tests;
 
 pub use note::{Gone, Made, Note};
 pub use player::Player;

@@ -3,8 +3,8 @@ ghost use Rattle.std.specs.Prelude.{◌≡◌, ◌≢◌, ℕ, ◌≤◌, ◌<�
 ghost use Rattle.std.specs.Ordering.{nat_cmp};
 ghost use Rattle.std.specs.BTreeMap.{get};
 ghost use Rattle.vx_calls.specs.declared.limits.TheConstants.{RECORD_MAX};
-ghost use Rattle.vx_bus.specs.Steps.{Cut};
-ghost use Rattle.vx_model.specs.State.{connection_at, lives_as, role_at, pending_at};
+ghost use Rattle.vx_bus_traits.specs.Steps.{Cut};
+ghost use Rattle.vx_rules.specs.State.{connection_at, lives_as, role_at, pending_at};
 ghost use Rattle.vx_flow.specs.Event as event;
 ghost use Rattle.vx_message.specs.declared.record.TheConstants.{REPLY_ROOM};
 ghost use Rattle.vx_play.specs.declared.streams.Incoming.{Incoming};

@@ -5,7 +5,7 @@ ghost use Rattle.vx_calls.specs.declared.calls.Role.TheVariants as role;
 ghost use Rattle.vx_script.specs.Command.{Command, Up, In, Down, At, Poll, Sample, Take, Dial, Inst, Plug, Pull, Set, Fail, step_shown};
 ghost use Rattle.vx_script.specs.Plain.{IsPlainStep, IsAddress};
 ghost use Rattle.vx_script.specs.Words.{is_name};
-ghost use Rattle.vx_model.specs.State.{role_at, lives_as, pending_at};
+ghost use Rattle.vx_rules.specs.State.{role_at, lives_as, pending_at};
 ghost use Rattle.vx_message.specs.declared.record.TheConstants.{REPLY_ROOM};
 ghost use Rattle.vx_play.specs.declared.streams.Incoming.{Incoming};
 ghost use Rattle.vx_play.specs.Gateway.{gateway_of};

@@ -1,10 +1,11 @@
 //! A whole play: the words, the source read to its end, its lines one after the other, and the last line.
-ghost use Rattle.std.specs.Prelude.{◌≡◌, ℕ, ◌≤◌, length, map, option_map, string_bytes};
+ghost use Rattle.std.specs.Prelude.{◌≡◌, ℕ, ◌≤◌, List, length, map, option_map, string_bytes};
 ghost use Rattle.std.specs.List.{flat_map};
 ghost use Rattle.vx_trace.specs.Output.{line_shown};
 ghost use Rattle.vx_trace.specs.Text.{line_text};
 ghost use Rattle.vx_script.specs.Grammar.{reading};
 ghost use Rattle.vx_play.specs.Stage.{Stage, beginning};
+ghost use Rattle.vx_bench.specs.Rack.{SpareShown};
 ghost use Rattle.vx_bench.specs.Spares.{spare_shown};
 ghost use Rattle.vx_text.specs.Writing.{IsPut};
 ghost use Rattle.vx_play.specs.Standing.{IsReady, Stands, IsPrintable, NoteWithin, made_lines, moves_lines, note_line as line_of_note, wait_line as line_of_wait, gone_line as line_of_end};
@@ -22,7 +23,7 @@ use vx_488::Transfer;
 use vx_bench::Stop;
 use vx_core::Why;
 use vx_inst::Instrument;
-use vx_io::{Sink, Source};
+use vx_io_traits::{Sink, Source};
 use vx_rack::Spare;
 use vx_script::{Cause, LINE_MAX, read_step};
 use vx_text::{Input, SinkFailed, first_line, put_all, read_all, zeros};
@@ -237,27 +238,22 @@ fn put_last<K: Sink>(sink: &mut K, line: &[u8], how: Status) -> Status
     }
 }
 
-/// Plays a script with these spare instruments, and writes its last line.
-fn play_script<I: Instrument, K: Sink>(
+/// Plays a script with a player that begins, and writes its last line. `room` is for the bytes of an `in`.
+fn play_over<I: Instrument, K: Sink>(
     alloc: Global,
     script: &[u8],
+    player: &mut Player<I>,
+    printer: &mut Printer,
+    room: &mut [u8],
     sink: &mut K,
-    rack: Vec<Spare<I>>,
 ) -> Status
-    ensures ended { EndsScript script.now (map (spare_shown (λ i. I.view i)) rack.items)
+    requires room { LINE_MAX ≤ length room.old }
+    requires begins { Stands player.old (beginning player.old.rack) }
+    ensures ended { (rack : List SpareShown) → player.old.rack ≡ rack → EndsScript script.now rack
         (record { bytes = K.taken sink.old; faults = K.faults sink.old })
         (record { bytes = K.taken sink.new; faults = K.faults sink.new }) result }
 {
-    let Ok(mut player) = Player::new(alloc, rack) else {
-        return Status::NoMemory;
-    };
-    let Ok(mut printer) = Printer::new(alloc) else {
-        return Status::NoMemory;
-    };
-    let Ok(mut room) = zeros(alloc, LINE_MAX) else {
-        return Status::NoMemory;
-    };
-    match play_lines(alloc, script, &mut player, &mut printer, &mut room, sink) {
+    match play_lines(alloc, script, player, printer, room, sink) {
         Ending::Whole => put_last(sink, printer.line(&Line::Done), Status::Done),
         Ending::Fault { line, cause } => {
             let word = cause.word();
@@ -269,6 +265,44 @@ fn play_script<I: Instrument, K: Sink>(
         }
         Ending::SinkFailed => Status::SinkFailed,
         Ending::NoMemory => Status::NoMemory,
+    }
+}
+
+/// Plays a script with a player that begins, in room that is made for it, and writes its last line.
+fn play_in_room<I: Instrument, K: Sink>(
+    alloc: Global,
+    script: &[u8],
+    player: &mut Player<I>,
+    sink: &mut K,
+) -> Status
+    requires begins { Stands player.old (beginning player.old.rack) }
+    ensures ended { (rack : List SpareShown) → player.old.rack ≡ rack → EndsScript script.now rack
+        (record { bytes = K.taken sink.old; faults = K.faults sink.old })
+        (record { bytes = K.taken sink.new; faults = K.faults sink.new }) result }
+{
+    let Ok(mut printer) = Printer::new(alloc) else {
+        return Status::NoMemory;
+    };
+    let Ok(mut room) = zeros(alloc, LINE_MAX) else {
+        return Status::NoMemory;
+    };
+    play_over(alloc, script, player, &mut printer, &mut room, sink)
+}
+
+/// Plays a script with these spare instruments, and writes its last line.
+fn play_script<I: Instrument, K: Sink>(
+    alloc: Global,
+    script: &[u8],
+    sink: &mut K,
+    rack: Vec<Spare<I>>,
+) -> Status
+    ensures ended { EndsScript script.now (map (spare_shown (λ i. I.view i)) rack.items)
+        (record { bytes = K.taken sink.old; faults = K.faults sink.old })
+        (record { bytes = K.taken sink.new; faults = K.faults sink.new }) result }
+{
+    match Player::new(alloc, rack) {
+        Ok(mut player) => play_in_room(alloc, script, &mut player, sink),
+        Err(_) => Status::NoMemory,
     }
 }
 

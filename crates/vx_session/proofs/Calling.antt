@@ -5,12 +5,12 @@ use Rattle.std.specs.List.{flat_map}
 use Rattle.std.proofs.lemmas.List.{map-append}
 use Rattle.std.proofs.lemmas.List.Sums.{sum_by-append}
 use Rattle.std.proofs.lemmas.Grind.{flat_map-append}
-use Rattle.vx_io.specs.Faults.{Rose}
-use Rattle.vx_io.specs.Rung.{AddsCalls, OnDialFailed, is_up, dialed, handed}
-use Rattle.vx_io.specs.declared.dials.DialOut.{DialOut}
-use Rattle.vx_io.specs.declared.dials.DialOut.TheVariants as dialout
-use Rattle.vx_io.specs.declared.dials.Rang.{Rang}
-use Rattle.vx_io.specs.declared.dials.Rang.TheVariants as rang
+use Rattle.vx_io_traits.specs.Faults.{Rose}
+use Rattle.vx_io_traits.specs.Rung.{AddsCalls, OnDialFailed, is_up, dialed, handed}
+use Rattle.vx_io_traits.specs.declared.dials.DialOut.{DialOut}
+use Rattle.vx_io_traits.specs.declared.dials.DialOut.TheVariants as dialout
+use Rattle.vx_io_traits.specs.declared.dials.Rang.{Rang}
+use Rattle.vx_io_traits.specs.declared.dials.Rang.TheVariants as rang
 use Rattle.vx_calls.specs.declared.calls.Role.TheVariants as role
 use Rattle.vx_calls.specs.declared.codes.ErrorCode.{ErrorCode}
 use Rattle.vx_calls.specs.Call.{Call}

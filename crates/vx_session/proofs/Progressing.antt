@@ -6,9 +6,9 @@ use Rattle.std.proofs.lemmas.List.{map-append}
 use Rattle.std.proofs.lemmas.List.Concat.{flat_map-append}
 use Rattle.std.proofs.lemmas.List.Elements.{All-nil, All-append}
 use Rattle.std.proofs.lemmas.List.Sums.{sum_by-append}
-use Rattle.vx_io.specs.declared.dials.Rang.{Rang}
-use Rattle.vx_io.specs.Rung.{AddsCalls}
-use Rattle.vx_io.specs.Stands.{Goes-none, Goes-goes}
+use Rattle.vx_io_traits.specs.declared.dials.Rang.{Rang}
+use Rattle.vx_io_traits.specs.Rung.{AddsCalls}
+use Rattle.vx_io_traits.specs.Stands.{Goes-none, Goes-goes}
 use Rattle.vx_calls.specs.declared.calls.Role.{Role}
 use Rattle.vx_gate.specs.PassView.{PassView}
 use Rattle.vx_group.specs.Groups.{Group, events_of}

@@ -16,8 +16,8 @@ use Rattle.vx_rpc.specs.Procedure.{serves}
 use Rattle.vx_rpc.specs.Wording.{success_message}
 use Rattle.vx_codec.specs.Asked.{Asks, IsPuttable, arguments, arguments_of, call_of}
 use Rattle.vx_codec.specs.Row.{Contents}
-use Rattle.vx_model.specs.One.{may_wait}
-use Rattle.vx_model.specs.Held.{IsShort}
+use Rattle.vx_rules.specs.One.{may_wait}
+use Rattle.vx_rules.specs.Held.{IsShort}
 use Rattle.vx_gate.specs.PassView.{PassView}
 use Rattle.vx_message.specs.Meaning.{Meaning, Junk, Answered, Aborts, meaning, by_call, record_of, reply_record}
 use Rattle.vx_message.specs.Meaning as meant

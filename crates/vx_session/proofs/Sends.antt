@@ -4,8 +4,8 @@ use Rattle.std.specs.Io.KnownBytes.{Consumes, Keeps}
 use Rattle.std.proofs.KnownBytes.{Consumes-nil, Keeps-refl}
 use Rattle.std.proofs.Math.Seq.{take-add}
 use Rattle.std.proofs.lemmas.List.{take_all}
-use Rattle.vx_io.specs.Faults.{Rose}
-use Rattle.vx_io.specs.Stands.{Goes, Takes, Stays, Goes-none, Goes-takes, Goes-stays}
+use Rattle.vx_io_traits.specs.Faults.{Rose}
+use Rattle.vx_io_traits.specs.Stands.{Goes, Takes, Stays, Goes-none, Goes-takes, Goes-stays}
 use Rattle.vx_session.specs.Outside.{LinkShown, LinkGoes}
 use Rattle.vx_session.specs.Streaming.{SendsAll}
 use Rattle.vx_session.proofs.Progressing.{link-goes}

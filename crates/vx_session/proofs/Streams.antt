@@ -1,11 +1,12 @@
 -- How the records of a stream are served, piece by piece, to its end or to where the session stops.
-use Rattle.std.proofs.Common.{◌≡◌, ◌≤◌, ◌+◌, ◌-◌, ◌^◌, ℕ, zero, suc, min, false, List, [], ◌∷◌, ◌++◌, length, Option, Some, None, IfSome, refl, sym, ap, subst, ◌∙◌, arith, append_assoc, append-nil}
+use Rattle.std.proofs.Common.{◌≡◌, ◌≤◌, ◌+◌, ◌-◌, ◌^◌, ℕ, zero, suc, min, false, List, [], ◌∷◌, ◌++◌, length, Option, Some, None, IfSome, ◌⊎◌, inl, inr, refl, sym, ap, subst, ◌∙◌, arith, append_assoc, append-nil}
 use Rattle.std.proofs.lemmas.List.{map-append, nil_from_length}
+use Rattle.std.proofs.lemmas.Option.{none-some, same_Some}
 use Rattle.std.proofs.lemmas.Grind.{flat_map-append}
 use Rattle.std.proofs.KnownBytes.{Consumes-kept, Keeps-trans}
 use Rattle.std.specs.Io.KnownBytes.{Consumes, IsAtEnd, Keeps}
-use Rattle.vx_io.specs.Faults.{Rose}
-use Rattle.vx_io.specs.Stands.{Gives, Stays, Goes-gives, Goes-stays}
+use Rattle.vx_io_traits.specs.Faults.{Rose}
+use Rattle.vx_io_traits.specs.Stands.{Goes-gives, Goes-stays}
 use Rattle.vx_calls.specs.declared.calls.Role.{Role}
 use Rattle.vx_calls.specs.declared.limits.TheConstants.{RECORD_MAX}
 use Rattle.vx_gate.specs.PassView.{PassView}
@@ -21,7 +22,7 @@ use Rattle.vx_session.specs.Outside.{LinkShown, LinkGoes, DialShown}
 use Rattle.vx_session.specs.Serving.{Item}
 use Rattle.vx_session.specs.Progress.{Progress, messages, replies}
 use Rattle.vx_session.specs.Streaming.{ServesPiece, PieceEnds, StopsReply}
-use Rattle.vx_session.specs.Stopping.{EndsSo, StreamServed, input_end}
+use Rattle.vx_session.specs.Stopping.{EndsSo, StreamServed, Gave, Ended, PieceServed, NoPiece, NextServed, input_end}
 use Rattle.vx_session.specs.declared.sessions.End.{End}
 use Rattle.vx_session.specs.declared.sessions.End.TheVariants as end
 use Rattle.vx_session.proofs.Progressing.{link-goes, progress-none, progress-goes}
@@ -104,19 +105,6 @@ piece-ends seen mid seen' r items items' looked after unsent t b end.WriteFault 
 
 -- ---- what a receive did to the link
 
--- it gave these bytes
-pub record Gave {L : Type 0} (stands : L → List ℕ → List ℕ → Type 0) (link link' : L) (seen : LinkShown) (bytes : List ℕ) (seen' : LinkShown) : Type 0 where
-  pub gives : Gives stands link link' bytes
-  pub goes : LinkGoes seen bytes seen'
-
--- it gave nothing
-pub record Ended {L : Type 0} (stands : L → List ℕ → List ℕ → Type 0) (link link' : L) (seen seen' : LinkShown) : Type 0 where
-  pub stays : Stays stands link link'
-  pub left : Keeps seen.left seen'.left
-  pub peers : Keeps seen.peers seen'.peers
-  pub receives : seen.receive_faults ≤ seen'.receive_faults
-  pub sends : seen'.send_faults ≡ seen.send_faults
-
 -- a link that gave bytes, and then nothing
 goes-ended : {L : Type 0} (stands : L → List ℕ → List ℕ → Type 0) (link link' : L) (a b c : LinkShown) (xs : List ℕ) → LinkGoes a xs b → Ended stands link link' b c
     → LinkGoes a xs c
@@ -188,7 +176,7 @@ module _ {L : Type 0} (stands : L → List ℕ → List ℕ → Type 0) (r : Rol
       (progress-goes stands r conn told told' pass pass' pass'' a c d sa sc sd dial dial' dial'' items items' (received ++ piece) [] written written' later mid after)
 
   -- a piece whose records were all served
-  pub streamed-goes : CutLaw → (told told' : ℕ) (pass pass' pass'' : PassView Group) (a b c d : L) (sa sb sc sd : LinkShown) (dial dial' dial'' : DialShown)
+  streamed-goes : CutLaw → (told told' : ℕ) (pass pass' pass'' : PassView Group) (a b c d : L) (sa sb sc sd : LinkShown) (dial dial' dial'' : DialShown)
       (buffer buffer' : BufState) (piece : List ℕ) (said : Option End) → told ≤ told' → Streamed told pass a sa dial buffer pass' b sb dial' → Gave stands b c sb piece sc
       → ServesPiece stands told' r conn pass' c sc dial' buffer piece said pass'' d sd dial'' buffer' → said ≡ None → buffer'.limit ≡ RECORD_MAX
       → Streamed told' pass a sa dial buffer' pass'' d sd dial''
@@ -219,7 +207,7 @@ module _ {L : Type 0} (stands : L → List ℕ → List ℕ → Type 0) (r : Rol
       }
 
   -- a piece in which the session stops
-  pub streamed-stops : PiecesLaw → CutLaw → (told told' : ℕ) (pass pass' pass'' : PassView Group) (a b c d : L) (sa sb sc sd : LinkShown) (dial dial' dial'' : DialShown)
+  streamed-stops : PiecesLaw → CutLaw → (told told' : ℕ) (pass pass' pass'' : PassView Group) (a b c d : L) (sa sb sc sd : LinkShown) (dial dial' dial'' : DialShown)
       (buffer buffer' : BufState) (piece : List ℕ) (said : Option End) (stop : End) → told ≤ told' → Streamed told pass a sa dial buffer pass' b sb dial'
       → Gave stands b c sb piece sc → ServesPiece stands told' r conn pass' c sc dial' buffer piece said pass'' d sd dial'' buffer' → said ≡ Some stop
       → StreamServed stands told' r conn pass a sa dial stop pass'' d sd dial''
@@ -283,7 +271,7 @@ module _ {L : Type 0} (stands : L → List ℕ → List ℕ → Type 0) (r : Rol
       }
 
   -- the input ended behind the stream so far
-  pub streamed-ends : PiecesLaw → (told : ℕ) (pass pass' : PassView Group) (a b c : L) (sa sb sc : LinkShown) (dial dial' : DialShown) (buffer : BufState) (rest : ℕ)
+  streamed-ends : PiecesLaw → (told : ℕ) (pass pass' : PassView Group) (a b c : L) (sa sb sc : LinkShown) (dial dial' : DialShown) (buffer : BufState) (rest : ℕ)
       → Streamed told pass a sa dial buffer pass' b sb dial' → Ended stands b c sb sc → rest ≡ buffer.rest → IsAtEnd sb.left
       → StreamServed stands told r conn pass a sa dial (input_end rest) pass' c sc dial'
   streamed-ends pieces told pass pass' a b c sa sb sc dial dial' buffer rest so_far ended is last =
@@ -292,9 +280,48 @@ module _ {L : Type 0} (stands : L → List ℕ → List ℕ → Type 0) (r : Rol
       (λ looked recs long n. input-ends sa r so_far.items looked sc rest recs long (is ∙ n) over)
 
   -- a receive failed behind the stream so far
-  pub streamed-fails : PiecesLaw → (told : ℕ) (pass pass' : PassView Group) (a b c : L) (sa sb sc : LinkShown) (dial dial' : DialShown) (buffer : BufState)
+  streamed-fails : PiecesLaw → (told : ℕ) (pass pass' : PassView Group) (a b c : L) (sa sb sc : LinkShown) (dial dial' : DialShown) (buffer : BufState)
       → Streamed told pass a sa dial buffer pass' b sb dial' → Ended stands b c sb sc → Rose sb.receive_faults sc.receive_faults
       → StreamServed stands told r conn pass a sa dial end.ReadFault pass' c sc dial'
   streamed-fails pieces told pass pass' a b c sa sb sc dial dial' buffer so_far ended rose =
       stream-done pieces told pass pass' a b c sa sb sc dial dial' buffer end.ReadFault so_far ended
       (λ looked recs long n. (recs, long, refl, refl, rose-since sa.receive_faults sb.receive_faults sc.receive_faults so_far.progress.goes.receives rose))
+
+  -- the next piece of the stream was served, and the session goes on
+  pub streamed-on : CutLaw → (told told' : ℕ) (pass pass' pass'' : PassView Group) (a b d : L) (sa sb sd : LinkShown) (dial dial' dial'' : DialShown)
+      (buffer buffer' : BufState) (said : Option End) → told ≤ told' → Streamed told pass a sa dial buffer pass' b sb dial'
+      → NextServed stands told told' r conn pass' b sb dial' buffer said pass'' d sd dial'' buffer' → said ≡ None → buffer'.limit ≡ RECORD_MAX
+      → Streamed told' pass a sa dial buffer' pass'' d sd dial''
+  streamed-on cut told told' pass pass' pass'' a b d sa sb sd dial dial' dial'' buffer buffer' said later so_far (inl next) is limit =
+      streamed-goes cut told told' pass pass' pass'' a b next.mid d sa sb next.mid_seen sd dial dial' dial'' buffer buffer' next.piece said later so_far next.gave next.serves is limit
+  streamed-on cut told told' pass pass' pass'' a b d sa sb sd dial dial' dial'' buffer buffer' said later so_far (inr last) is limit =
+      absurd (none-some last.how (sym is ∙ last.stops))
+
+  -- no piece came behind the stream so far
+  no-piece : PiecesLaw → (told : ℕ) (pass pass' : PassView Group) (a b c : L) (sa sb sc : LinkShown) (dial dial' : DialShown) (buffer : BufState) (how : End)
+      → Streamed told pass a sa dial buffer pass' b sb dial' → Ended stands b c sb sc
+      → ((how ≡ end.ReadFault) × Rose sb.receive_faults sc.receive_faults) ⊎ ((how ≡ input_end buffer.rest) × IsAtEnd sb.left)
+      → StreamServed stands told r conn pass a sa dial how pass' c sc dial'
+  no-piece pieces told pass pass' a b c sa sb sc dial dial' buffer how so_far ended (inl failed) =
+      subst (λ e. StreamServed stands told r conn pass a sa dial e pass' c sc dial') (sym failed.0)
+      (streamed-fails pieces told pass pass' a b c sa sb sc dial dial' buffer so_far ended failed.1)
+  no-piece pieces told pass pass' a b c sa sb sc dial dial' buffer how so_far ended (inr over) =
+      subst (λ e. StreamServed stands told r conn pass a sa dial e pass' c sc dial') (sym over.0)
+      (streamed-ends pieces told pass pass' a b c sa sb sc dial dial' buffer buffer.rest so_far ended refl over.1)
+
+  -- the session stops in the next piece, or there is none
+  pub streamed-last : PiecesLaw → CutLaw → (told told' : ℕ) (pass pass' pass'' : PassView Group) (a b d : L) (sa sb sd : LinkShown) (dial dial' dial'' : DialShown)
+      (buffer buffer' : BufState) (said : Option End) (stop : End) → told ≤ told' → Streamed told pass a sa dial buffer pass' b sb dial'
+      → NextServed stands told told' r conn pass' b sb dial' buffer said pass'' d sd dial'' buffer' → said ≡ Some stop
+      → StreamServed stands told' r conn pass a sa dial stop pass'' d sd dial''
+  streamed-last pieces cut told told' pass pass' pass'' a b d sa sb sd dial dial' dial'' buffer buffer' said stop later so_far (inl next) is =
+      streamed-stops pieces cut told told' pass pass' pass'' a b next.mid d sa sb next.mid_seen sd dial dial' dial'' buffer buffer' next.piece said stop later so_far next.gave next.serves is
+  streamed-last pieces cut told told' pass pass' pass'' a b d sa sb sd dial dial' dial'' buffer buffer' said stop later so_far (inr last) is =
+      let so : StreamServed stands told r conn pass a sa dial last.how pass' d sd dial' = no-piece pieces told pass pass' a b d sa sb sd dial dial' buffer last.how so_far last.ended last.why in
+      let by_dial : StreamServed stands told r conn pass a sa dial last.how pass' d sd dial'' =
+      subst (λ x. StreamServed stands told r conn pass a sa dial last.how pass' d sd x) (sym last.dial_is) so in
+      let by_pass : StreamServed stands told r conn pass a sa dial last.how pass'' d sd dial'' =
+      subst (λ p. StreamServed stands told r conn pass a sa dial last.how p d sd dial'') (sym last.pass_is) by_dial in
+      let by_told : StreamServed stands told' r conn pass a sa dial last.how pass'' d sd dial'' =
+      subst (λ t. StreamServed stands t r conn pass a sa dial last.how pass'' d sd dial'') (sym last.told_is) by_pass in
+      subst (λ e. StreamServed stands told' r conn pass a sa dial e pass'' d sd dial'') (same_Some last.how stop (sym last.stops ∙ is)) by_told

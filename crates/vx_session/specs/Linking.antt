@@ -2,8 +2,8 @@
 use Rattle.std.specs.Prelude.{◌≡◌, ℕ, List, Ok, Err}
 use Rattle.vx_calls.specs.declared.calls.Role.{Role}
 use Rattle.vx_gate.specs.PassView.{PassView}
-use Rattle.vx_model.specs.declared.tables.Connect.{Connect}
-use Rattle.vx_model.specs.declared.tables.Connect.TheVariants as connect
+use Rattle.vx_rules.specs.declared.tables.Connect.{Connect}
+use Rattle.vx_rules.specs.declared.tables.Connect.TheVariants as connect
 use Rattle.vx_group.specs.Groups.{Group}
 use Rattle.vx_turns.specs.Turning.{Joins}
 use Rattle.vx_session.specs.Outside.{LinkShown, DialShown}

@@ -1,7 +1,7 @@
 -- What a session can know of its link and its dial.
 use Rattle.std.specs.Prelude.{◌≤◌, ◌+◌, ◌-◌, ◌^◌, ℕ, min, Bool, true, false, List, Option, Some, None}
 use Rattle.std.specs.Io.KnownBytes.{Consumes, Keeps}
-use Rattle.vx_io.specs.declared.dials.Rang.{Rang}
+use Rattle.vx_io_traits.specs.declared.dials.Rang.{Rang}
 use Rattle.vx_flow.specs.Event.{Event, Answer}
 
 -- a link: what it has left to give and the peers that it has had, where it tells them; its counts of faults

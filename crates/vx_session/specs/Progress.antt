@@ -1,9 +1,9 @@
 -- How far a session has come.
 use Rattle.std.specs.Prelude.{◌≡◌, ◌≤◌, ◌<◌, ℕ, List, [], ◌∷◌, map, length, count_by, take, Option, Some, None}
 use Rattle.std.specs.List.{All, flat_map}
-use Rattle.vx_io.specs.Rung.{AddsCalls}
-use Rattle.vx_io.specs.Stands.{Goes}
-use Rattle.vx_io.specs.declared.dials.Rang.{Rang}
+use Rattle.vx_io_traits.specs.Rung.{AddsCalls}
+use Rattle.vx_io_traits.specs.Stands.{Goes}
+use Rattle.vx_io_traits.specs.declared.dials.Rang.{Rang}
 use Rattle.vx_calls.specs.declared.calls.Role.{Role}
 use Rattle.vx_calls.specs.declared.calls.Role.TheVariants as role
 use Rattle.vx_calls.specs.Call.{Call}

@@ -1,7 +1,7 @@
 -- How one record on a connection is served: the groups that its call adds to the history, and its reply.
 use Rattle.std.specs.Prelude.{◌≡◌, ℕ, Bool, true, false, List, [], ◌∷◌, ◌++◌, Option, Some, None}
-use Rattle.vx_io.specs.declared.dials.Rang.{Rang}
-use Rattle.vx_io.specs.declared.dials.Rang.TheVariants as rang
+use Rattle.vx_io_traits.specs.declared.dials.Rang.{Rang}
+use Rattle.vx_io_traits.specs.declared.dials.Rang.TheVariants as rang
 use Rattle.vx_calls.specs.declared.calls.Role.{Role}
 use Rattle.vx_calls.specs.declared.codes.ErrorCode.{ErrorCode}
 use Rattle.vx_calls.specs.Call.{Call}

@@ -1,18 +1,20 @@
 -- Why a session stops reading.
-use Rattle.std.specs.Prelude.{◌≡◌, ◌<◌, ◌^◌, ℕ, zero, suc, min, true, false, List, [], ◌∷◌, ◌++◌, length, IfSome}
-use Rattle.std.specs.Io.KnownBytes.{IsAtEnd}
-use Rattle.vx_io.specs.Faults.{Rose}
+use Rattle.std.specs.Prelude.{◌≡◌, ◌≤◌, ◌<◌, ◌^◌, ℕ, zero, suc, min, true, false, List, [], ◌∷◌, ◌++◌, length, Option, Some, IfSome, ◌⊎◌}
+use Rattle.std.specs.Io.KnownBytes.{IsAtEnd, Keeps}
+use Rattle.vx_io_traits.specs.Faults.{Rose}
+use Rattle.vx_io_traits.specs.Stands.{Gives, Stays}
 use Rattle.vx_calls.specs.declared.calls.Role.{Role}
 use Rattle.vx_calls.specs.declared.limits.TheConstants.{RECORD_MAX}
 use Rattle.vx_gate.specs.PassView.{PassView}
+use Rattle.vx_record.specs.Buffer.{BufState}
 use Rattle.vx_record.specs.Records.{Split, records}
 use Rattle.vx_message.specs.Meaning as meant
 use Rattle.vx_message.specs.Meaning.{meaning}
 use Rattle.vx_group.specs.Groups.{Group}
-use Rattle.vx_session.specs.Outside.{LinkShown, DialShown}
+use Rattle.vx_session.specs.Outside.{LinkShown, LinkGoes, DialShown}
 use Rattle.vx_session.specs.Serving.{Item}
 use Rattle.vx_session.specs.Progress.{Progress, messages, replies}
-use Rattle.vx_session.specs.Streaming.{StopsReply}
+use Rattle.vx_session.specs.Streaming.{StopsReply, ServesPiece}
 use Rattle.vx_session.specs.declared.sessions.End.{End}
 use Rattle.vx_session.specs.declared.sessions.End.TheVariants as end
 
@@ -53,3 +55,43 @@ pub record StreamServed {L : Type 0} (stands : L → List ℕ → List ℕ → T
   pub progress : Progress stands told r conn pass link seen dial items (front ++ behind) written pass' link' seen' dial'
   pub wrote : replies items ≡ written ++ unsent
   pub ended : EndsSo seen r items (records RECORD_MAX front) behind unsent seen' how
+
+-- a receive gave these bytes
+pub record Gave {L : Type 0} (stands : L → List ℕ → List ℕ → Type 0) (link link' : L) (seen : LinkShown) (bytes : List ℕ) (seen' : LinkShown) : Type 0 where
+  pub gives : Gives stands link link' bytes
+  pub goes : LinkGoes seen bytes seen'
+
+-- a receive gave nothing
+pub record Ended {L : Type 0} (stands : L → List ℕ → List ℕ → Type 0) (link link' : L) (seen seen' : LinkShown) : Type 0 where
+  pub stays : Stays stands link link'
+  pub left : Keeps seen.left seen'.left
+  pub peers : Keeps seen.peers seen'.peers
+  pub receives : seen.receive_faults ≤ seen'.receive_faults
+  pub sends : seen'.send_faults ≡ seen.send_faults
+
+-- a piece came, and its records were served
+pub record PieceServed {L : Type 0} (stands : L → List ℕ → List ℕ → Type 0) (told : ℕ) (r : Role) (conn : ℕ) (pass : PassView Group) (link : L) (seen : LinkShown) (dial : DialShown)
+    (buffer : BufState) (stop : Option End) (pass' : PassView Group) (link' : L) (seen' : LinkShown) (dial' : DialShown) (buffer' : BufState) : Type 0 where
+  pub piece : List ℕ
+  pub mid : L
+  pub mid_seen : LinkShown
+  pub gave : Gave stands link mid seen piece mid_seen
+  pub serves : ServesPiece stands told r conn pass mid mid_seen dial buffer piece stop pass' link' seen' dial' buffer'
+
+-- no piece came: the receive failed, or the input ended with these bytes in the buffer
+pub record NoPiece {L : Type 0} (stands : L → List ℕ → List ℕ → Type 0) (before told : ℕ) (pass : PassView Group) (link : L) (seen : LinkShown) (dial : DialShown)
+    (buffer : BufState) (stop : Option End) (pass' : PassView Group) (link' : L) (seen' : LinkShown) (dial' : DialShown) : Type 0 where
+  pub how : End
+  pub stops : stop ≡ Some how
+  pub ended : Ended stands link link' seen seen'
+  pub why : ((how ≡ end.ReadFault) × Rose seen.receive_faults seen'.receive_faults) ⊎ ((how ≡ input_end buffer.rest) × IsAtEnd seen.left)
+  pub told_is : told ≡ before
+  pub pass_is : pass' ≡ pass
+  pub dial_is : dial' ≡ dial
+
+-- The next piece of a stream was served, or there is none. The clock had told `before`, and has told `told`.
+abbrev pub NextServed : {L : Type 0} → (L → List ℕ → List ℕ → Type 0) → (before told : ℕ) → Role → ℕ → PassView Group → L → LinkShown → DialShown → BufState → Option End
+    → PassView Group → L → LinkShown → DialShown → BufState → Type 0
+NextServed stands before told r conn pass link seen dial buffer stop pass' link' seen' dial' buffer' =
+    PieceServed stands told r conn pass link seen dial buffer stop pass' link' seen' dial' buffer'
+    ⊎ NoPiece stands before told pass link seen dial buffer stop pass' link' seen' dial'

@@ -1,7 +1,7 @@
 -- What a session makes of a piece of its stream.
 use Rattle.std.specs.Prelude.{◌≡◌, ◌<◌, ℕ, Bool, true, false, List, [], ◌∷◌, ◌++◌, length, Option, Some, None}
-use Rattle.vx_io.specs.Faults.{Rose}
-use Rattle.vx_io.specs.Stands.{Goes}
+use Rattle.vx_io_traits.specs.Faults.{Rose}
+use Rattle.vx_io_traits.specs.Stands.{Goes}
 use Rattle.vx_calls.specs.declared.calls.Role.{Role}
 use Rattle.vx_gate.specs.PassView.{PassView}
 use Rattle.vx_record.specs.Buffer.{BufState}

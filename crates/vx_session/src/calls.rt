@@ -2,8 +2,8 @@
 ghost use Rattle.std.specs.Prelude.{◌≡◌, ◌≤◌, ◌<◌, ℕ, Bool, true, false, length, take, [], Some, None, option_map};
 ghost use Rattle.vx_calls.specs.declared.calls.Role.TheVariants as role;
 ghost use Rattle.vx_calls.specs.Call.{Call, call_shown};
-ghost use Rattle.vx_model.specs.One.{may_wait};
-ghost use Rattle.vx_model.specs.Held.{IsShort};
+ghost use Rattle.vx_rules.specs.One.{may_wait};
+ghost use Rattle.vx_rules.specs.Held.{IsShort};
 ghost use Rattle.vx_message.specs.declared.record.TheConstants.{REPLY_ROOM};
 ghost use Rattle.vx_group.specs.Seats.{Idle, Asked};
 ghost use Rattle.vx_turns.specs.Turning.{seat_at};
@@ -11,11 +11,11 @@ ghost use Rattle.vx_session.specs.Outside.{dial_shown};
 ghost use Rattle.vx_session.specs.Progress.{AnswersCall, AnswersDial};
 
 use std::sync::Wait;
-use vx_bus::Bus;
+use vx_bus_traits::Bus;
 use vx_calls::{CallRef, ReplyRef};
 use vx_core::Core;
 use vx_gate::{Pass, Turns};
-use vx_io::{Clock, Dial, DialOut, Pause};
+use vx_io_traits::{Clock, Dial, DialOut, Pause};
 use vx_message::put_success_record;
 use vx_turns::{PollEnd, come, poll_again, settle};
 

@@ -3,16 +3,12 @@
 #![tactic(auto)]
 
 mod calls;
-#[cfg(test)]
-mod crossed;
 mod links;
 mod pieces;
 mod records;
 mod sending;
 mod sessions;
 mod still;
-#[cfg(test)]
-mod tests;
 mod tools;
 
 pub use links::{LinkDone, Linked, Tally, abort_link, core_link};

@@ -8,11 +8,11 @@ use crate::sessions::{End, Room, abort_session, core_session};
 use std::alloc::Global;
 use std::marker::Model;
 use std::sync::Wait;
-use vx_bus::Bus;
+use vx_bus_traits::Bus;
 use vx_calls::Role;
 use vx_core::{Connect, Core};
 use vx_gate::{Pass, Turns};
-use vx_io::{Clock, Dial, Link, Pause};
+use vx_io_traits::{Clock, Dial, Link, Pause};
 use vx_turns::join;
 
 /// How a link's work ended.

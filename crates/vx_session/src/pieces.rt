@@ -12,11 +12,11 @@ use crate::records::serve_record;
 use crate::sending::send_all;
 use crate::sessions::End;
 use std::sync::Wait;
-use vx_bus::Bus;
+use vx_bus_traits::Bus;
 use vx_calls::Role;
 use vx_core::Core;
 use vx_gate::{Pass, Turns};
-use vx_io::{Clock, Dial, Link, Pause};
+use vx_io_traits::{Clock, Dial, Link, Pause};
 use vx_record::{Feed, RecordBuf};
 
 /// Serves the record that is whole in the buffer, and begins the next; or says why the session ends.

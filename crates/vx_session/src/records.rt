@@ -2,7 +2,7 @@
 ghost use Rattle.std.specs.Prelude.{◌≡◌, ◌≤◌, ◌<◌, true, length, take, IfSome, IfNone};
 ghost use Rattle.vx_calls.specs.declared.calls.Role.TheVariants as role;
 ghost use Rattle.vx_calls.specs.Call.{call_shown};
-ghost use Rattle.vx_model.specs.Held.{IsShort};
+ghost use Rattle.vx_rules.specs.Held.{IsShort};
 ghost use Rattle.vx_calls.specs.declared.limits.TheConstants.{RECORD_MAX};
 ghost use Rattle.vx_message.specs.declared.record.TheConstants.{REPLY_ROOM};
 ghost use Rattle.vx_message.specs.Meaning.{meaning, Junk};
@@ -13,12 +13,12 @@ ghost use Rattle.vx_session.specs.Progress.{MessageDoes, CallDoes, IsRipe};
 
 use crate::calls::answer_call;
 use std::sync::Wait;
-use vx_bus::Bus;
+use vx_bus_traits::Bus;
 use vx_calls::{CallRef, ReplyRef, Role};
 use vx_codec::read_args;
 use vx_core::Core;
 use vx_gate::{Pass, Turns};
-use vx_io::{Clock, Dial, Pause};
+use vx_io_traits::{Clock, Dial, Pause};
 use vx_message::{put_refusal_record, put_success_record};
 use vx_rpc::{RpcRefusal, Sorted, sort_call};
 use vx_turns::abort;

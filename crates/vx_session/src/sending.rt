@@ -3,7 +3,7 @@ ghost use Rattle.std.specs.Prelude.{◌≡◌, ◌<◌, List, [], length, true, 
 ghost use Rattle.vx_session.specs.Outside.{link_shown};
 ghost use Rattle.vx_session.specs.Streaming.{SendsAll};
 
-use vx_io::{Link, WriteOut};
+use vx_io_traits::{Link, WriteOut};
 
 /// Hands bytes to the link, and what it didn't take again, until it has taken all; or answers false at its first fault.
 pub fn send_all<L: Link>(link: &mut L, bytes: &[u8]) -> bool

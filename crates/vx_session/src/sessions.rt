@@ -4,23 +4,24 @@ ghost use Rattle.vx_calls.specs.declared.calls.Role.TheVariants as role;
 ghost use Rattle.vx_calls.specs.declared.limits.TheConstants.{RECORD_MAX};
 ghost use Rattle.vx_message.specs.declared.record.TheConstants.{REPLY_ROOM};
 ghost use Rattle.vx_record.specs.Buffer.{fresh};
+ghost use Rattle.vx_record.specs.declared.Feed.TheVariants as feed;
 ghost use Rattle.vx_group.specs.Seats.{Idle};
 ghost use Rattle.vx_turns.specs.Turning.{seat_at};
 ghost use Rattle.vx_session.specs.Outside.{link_shown, dial_shown, no_dial};
 ghost use Rattle.vx_session.specs.Ending.{SessionDid};
-ghost use Rattle.vx_session.specs.Stopping.{StreamServed, input_end};
+ghost use Rattle.vx_session.specs.Stopping.{NextServed, StreamServed, input_end};
 
 use crate::pieces::serve_piece;
 use crate::still::Still;
 use std::alloc::Global;
 use std::marker::Model;
 use std::sync::Wait;
-use vx_bus::Bus;
+use vx_bus_traits::Bus;
 use vx_calls::{RECORD_MAX, Role};
 use vx_core::Core;
 use vx_gate::{Pass, Turns};
 use vx_history::{headline_law, owned_law};
-use vx_io::{Clock, Dial, Link, Pause, ReadOut};
+use vx_io_traits::{Clock, Dial, Link, Pause, ReadOut};
 use vx_message::REPLY_ROOM;
 use vx_record::{RecordBuf, cut_law, pieces_law};
 use vx_turns::leave;
@@ -92,6 +93,47 @@ impl Room {
     }
 }
 
+/// Receives the next piece of a connection's stream and serves its records; says why the session ends, where it does.
+fn serve_next<R: Wait, B: Bus, T: Turns<Core<B>>, L: Link, C: Clock, P: Pause, D: Dial>(
+    rt: &R,
+    turns: &T,
+    pass: Pass<Core<B>>,
+    conn: u32,
+    role: Role,
+    link: &mut L,
+    clock: &mut C,
+    pause: &mut P,
+    dial: &mut D,
+    incoming: &mut RecordBuf,
+    piece: &mut [u8],
+    reply: &mut [u8],
+) -> (Pass<Core<B>>, Option<End>)
+    requires gate { pass.gate ≡ T.gate turns.now }
+    requires seat { seat_at pass conn ≡ Idle role }
+    requires more { incoming.old.state ≡ feed.More }
+    requires limit { incoming.old.limit ≡ RECORD_MAX }
+    requires piece { 0 < length piece.old }
+    requires room { REPLY_ROOM ≤ length reply.old }
+    ensures serves { NextServed L.stands (C.told clock.old) (C.told clock.new) role conn pass link.old (link_shown L.left L.peers L.receive_faults L.send_faults link.old) (dial_shown D.calls D.faults dial.old)
+        incoming.old result.1 result.0 link.new (link_shown L.left L.peers L.receive_faults L.send_faults link.new) (dial_shown D.calls D.faults dial.new) incoming.new }
+    ensures seat { seat_at result.0 conn ≡ Idle role }
+    ensures limit { incoming.new.limit ≡ RECORD_MAX }
+    ensures told { C.told clock.old ≤ C.told clock.new }
+    ensures piece { length piece.new ≡ length piece.old }
+    ensures len { length reply.new ≡ length reply.old }
+{
+    match link.receive(piece) {
+        ReadOut::Failed => (pass, Some(End::ReadFault)),
+        ReadOut::End => (pass, Some(end_of_input(incoming.rest()))),
+        ReadOut::Got(count) => {
+            let piece = &piece[..count];
+            serve_piece(
+                rt, turns, pass, conn, role, link, clock, pause, dial, incoming, piece, reply,
+            )
+        }
+    }
+}
+
 /// Serves the records of a connection's stream, to its end or to where it stops.
 fn serve_stream<R: Wait, B: Bus, T: Turns<Core<B>>, L: Link, C: Clock, P: Pause, D: Dial>(
     rt: &R,
@@ -124,29 +166,12 @@ fn serve_stream<R: Wait, B: Bus, T: Turns<Core<B>>, L: Link, C: Clock, P: Pause,
     cut_law();
     let mut pass = pass;
     for _ in rt.forever() {
-        match link.receive(piece) {
-            ReadOut::Failed => return (pass, End::ReadFault),
-            ReadOut::End => return (pass, end_of_input(incoming.rest())),
-            ReadOut::Got(count) => {
-                let (served, end) = serve_piece(
-                    rt,
-                    turns,
-                    pass,
-                    conn,
-                    role,
-                    link,
-                    clock,
-                    pause,
-                    dial,
-                    incoming,
-                    &piece[..count],
-                    reply,
-                );
-                pass = served;
-                if let Some(end) = end {
-                    return (pass, end);
-                }
-            }
+        let (served, end) = serve_next(
+            rt, turns, pass, conn, role, link, clock, pause, dial, incoming, piece, reply,
+        );
+        pass = served;
+        if let Some(end) = end {
+            return (pass, end);
         }
     }
     unreachable!()

@@ -1,10 +1,10 @@
 //! What stands in for a clock, a pause and a dial where a session needs none: an abort session waits for nobody.
 ghost use Rattle.std.specs.Prelude.{◌≡◌, ◌≤◌, max, None, [], ◌∷◌};
-ghost use Rattle.vx_io.specs.Faults.{Rose};
-ghost use Rattle.vx_io.specs.Rung.{AddsCalls, OnDialFailed, dialed, handed};
+ghost use Rattle.vx_io_traits.specs.Faults.{Rose};
+ghost use Rattle.vx_io_traits.specs.Rung.{AddsCalls, OnDialFailed, dialed, handed};
 
 use std::sync::Wait;
-use vx_io::{Clock, Dial, DialOut, Pause};
+use vx_io_traits::{Clock, Dial, DialOut, Pause};
 
 /// Tells moment 0, pauses for no time, and dials nobody.
 #[derive(Drop)]

@@ -1,5 +1,5 @@
 //! What a server has of the outside world for its workers.
-use vx_io::{Clock, Dial, Pause, Streams};
+use vx_io_traits::{Clock, Dial, Pause, Streams};
 
 /// Makes what workers need: each gets clocks, pauses, dials and streams of its own.
 pub trait Tools {

@@ -4,6 +4,8 @@ use Rattle.std.specs.List.{All}
 use Rattle.hex.specs.Hex.{encode_upper}
 use Rattle.vx_trace.specs.declared.put.Tail.{Tail}
 use Rattle.vx_trace.specs.declared.put.Tail.TheVariants as tail
+use Rattle.vx_trace.specs.declared.put.Parts.{Parts}
+use Rattle.vx_trace.specs.declared.put.Parts.TheVariants as parts
 use Rattle.vx_trace.specs.Text.{moves_text, IsByteTransfer}
 
 abbrev pub tail_text : Tail → List ℕ
@@ -32,3 +34,21 @@ tail_room (tail.Moves moves) = 7 * length moves.now
 -- as many bytes as a line has at most whose number has so many digits
 abbrev pub numbered_room : List ℕ → ℕ → List ℕ → Tail → ℕ
 numbered_room front digits middle tail = 1 + length front + digits + length middle + tail_room tail
+
+-- the text of a line's parts
+abbrev pub parts_text : Parts → List ℕ
+parts_text (parts.Text text) = text.now
+parts_text (parts.About front conn middle tail) = numbered_text front.now conn middle.now tail
+parts_text (parts.Fault line word) = codes "fault line " ++ decimal line ++ codes " " ++ word.now ++ codes "\n"
+
+-- what the parts hold is such as their types hold
+abbrev pub PartsFit : Parts → Type 0
+PartsFit (parts.Text text) = ⊤
+PartsFit (parts.About front conn middle tail) = (conn < 2 ^ 32) × TailFits tail
+PartsFit (parts.Fault line word) = line < 2 ^ 64
+
+-- as many bytes as the parts have at most, whatever their first number
+abbrev pub parts_room : Parts → ℕ
+parts_room (parts.Text text) = length text.now
+parts_room (parts.About front conn middle tail) = numbered_room front.now 10 middle.now tail
+parts_room (parts.Fault line word) = 33 + length word.now

@@ -13,6 +13,3 @@ pub use laws::{one_end, one_text};
 pub use lines::{Full, Line};
 pub use put::put_line;
 pub use read::read_line;
-
-#[cfg(test)]
-mod tests;

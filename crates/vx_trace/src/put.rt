@@ -4,14 +4,14 @@ ghost use Rattle.std.specs.List.{All};
 ghost use Rattle.hex.specs.Hex.{encode_upper};
 ghost use Rattle.vx_trace.specs.Output.{line_shown};
 ghost use Rattle.vx_trace.specs.Text.{IsWhole, IsLine, HasRanges, IsByteTransfer, line_text, text_room, transfer_text, moves_text};
-ghost use Rattle.vx_trace.specs.Numbered.{TailFits, tail_text, tail_room, numbered_text, numbered_room};
+ghost use Rattle.vx_trace.specs.Numbered.{TailFits, tail_text, tail_room, numbered_text, numbered_room, PartsFit, parts_text, parts_room};
 ghost use Rattle.vx_trace.specs.Writing.{WritesFirst, Puts, overwritten};
 
 use crate::lines::{Full, Line};
 use vx_488::Transfer;
 
 /// What stands behind a line's number.
-#[derive(Clone, Copy, Debug)]
+#[derive(Clone, Copy)]
 enum Tail<'a> {
     Number(u32),
     Word(&'a [u8]),
@@ -19,6 +19,17 @@ enum Tail<'a> {
     Hex(&'a [u8]),
     /// Each transfer with a space before it.
     Moves(&'a [Transfer]),
+}
+
+/// The parts of a line.
+#[derive(Clone, Copy)]
+enum Parts<'a> {
+    /// A text as it stands.
+    Text(&'static [u8]),
+    /// A text, the number of a connection, another text, and a tail.
+    About(&'static [u8], u32, &'static [u8], Tail<'a>),
+    /// The number of a script's line, and the name of a cause.
+    Fault { line: u64, word: &'a [u8] },
 }
 
 // ---- how much room is left behind a text
@@ -255,37 +266,52 @@ fn put_text(out: &mut [u8], text: &[u8]) -> Result<usize, Full>
     Ok(put(out, 0, text))
 }
 
+fn parts_of<'a>(line: &Line<'a>) -> Parts<'a>
+    ensures text { parts_text result ≡ line_text (line_shown line.now) }
+    ensures fits { PartsFit result → HasRanges (line_shown line.now) }
+    ensures room { IsWhole (line_shown line.now) → parts_room result ≤ text_room (line_shown line.now) }
+{
+    match *line {
+        Line::Bus { conn, moves } => Parts::About(b"bus ", conn, b"", Tail::Moves(moves)),
+        Line::Out { conn, bytes } => Parts::About(b"out ", conn, b" ", Tail::Hex(bytes)),
+        Line::Irq { conn, bytes } => Parts::About(b"irq ", conn, b" ", Tail::Hex(bytes)),
+        Line::IrqNone { conn } => Parts::About(b"irq ", conn, b" ", Tail::Word(b"none")),
+        Line::IrqClosed { conn } => Parts::About(b"irq ", conn, b" ", Tail::Word(b"closed")),
+        Line::WaitLock { conn, lid } => Parts::About(b"wait ", conn, b" lock ", Tail::Number(lid)),
+        Line::WaitTurn { conn, by } => Parts::About(b"wait ", conn, b" turn ", Tail::Number(by)),
+        Line::WaitHeld { conn } => Parts::About(b"wait ", conn, b" ", Tail::Word(b"held")),
+        Line::WaitDial { conn } => Parts::About(b"wait ", conn, b" ", Tail::Word(b"dial")),
+        Line::GoneDown { conn } => Parts::About(b"gone ", conn, b" ", Tail::Word(b"down")),
+        Line::GoneJunk { conn } => Parts::About(b"gone ", conn, b" ", Tail::Word(b"junk")),
+        Line::GoneLong { conn } => Parts::About(b"gone ", conn, b" ", Tail::Word(b"long")),
+        Line::Done => Parts::Text(b"done\n"),
+        Line::FaultLine { line, word } => Parts::Fault { line, word },
+        Line::FaultLong => Parts::Text(b"fault long\n"),
+        Line::Usage => Parts::Text(b"usage: vxplay COMMAND\n"),
+    }
+}
+
+/// Writes the parts of a line, where there is room for them.
+fn put_line_parts(out: &mut [u8], parts: &Parts<'_>) -> Result<usize, Full>
+    ensures puts { Puts (parts_text parts.now) out.old result out.new }
+    ensures fits { OnOk result (PartsFit parts.now) }
+    ensures room { OnErr result (length out.old < parts_room parts.now) }
+{
+    match *parts {
+        Parts::Text(text) => put_text(out, text),
+        Parts::About(front, conn, middle, tail) => put_about(out, front, conn, middle, &tail),
+        Parts::Fault { line, word } => {
+            put_numbered(out, b"fault line ", line, b" ", &Tail::Word(word))
+        }
+    }
+}
+
 fn write_line(line: &Line<'_>, out: &mut [u8]) -> Result<usize, Full>
     ensures puts { Puts (line_text (line_shown line.now)) out.old result out.new }
     ensures fits { OnOk result (HasRanges (line_shown line.now)) }
     ensures room { OnErr result (IsWhole (line_shown line.now) → length out.old < text_room (line_shown line.now)) }
 {
-    match *line {
-        Line::Bus { conn, moves } => put_about(out, b"bus ", conn, b"", &Tail::Moves(moves)),
-        Line::Out { conn, bytes } => put_about(out, b"out ", conn, b" ", &Tail::Hex(bytes)),
-        Line::Irq { conn, bytes } => put_about(out, b"irq ", conn, b" ", &Tail::Hex(bytes)),
-        Line::IrqNone { conn } => put_about(out, b"irq ", conn, b" ", &Tail::Word(b"none")),
-        Line::IrqClosed { conn } => put_about(out, b"irq ", conn, b" ", &Tail::Word(b"closed")),
-        Line::WaitLock { conn, lid } => put_about(
-            out,
-            b"wait ",
-            conn,
-            b" lock ",
-            &Tail::Number(lid),
-        ),
-        Line::WaitTurn { conn, by } => put_about(out, b"wait ", conn, b" turn ", &Tail::Number(by)),
-        Line::WaitHeld { conn } => put_about(out, b"wait ", conn, b" ", &Tail::Word(b"held")),
-        Line::WaitDial { conn } => put_about(out, b"wait ", conn, b" ", &Tail::Word(b"dial")),
-        Line::GoneDown { conn } => put_about(out, b"gone ", conn, b" ", &Tail::Word(b"down")),
-        Line::GoneJunk { conn } => put_about(out, b"gone ", conn, b" ", &Tail::Word(b"junk")),
-        Line::GoneLong { conn } => put_about(out, b"gone ", conn, b" ", &Tail::Word(b"long")),
-        Line::Done => put_text(out, b"done\n"),
-        Line::FaultLine { line, word } => {
-            put_numbered(out, b"fault line ", line, b" ", &Tail::Word(word))
-        }
-        Line::FaultLong => put_text(out, b"fault long\n"),
-        Line::Usage => put_text(out, b"usage: vxplay COMMAND\n"),
-    }
+    put_line_parts(out, &parts_of(line))
 }
 
 /// Writes a line that is whole (`Line::is_whole`), its LF included, to the front of `out`, and answers its length in

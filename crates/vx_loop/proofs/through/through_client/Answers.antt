@@ -1,6 +1,6 @@
 use Rattle.std.proofs.Common.{◌≡◌, ℕ, None, Err, refl, subst, arith}
 use Rattle.std.proofs.lemmas.Result.{err_from_is_err_and}
-use Rattle.vx_model.specs.Calls.{sets_end}
+use Rattle.vx_rules.specs.Calls.{sets_end}
 use Rattle.vx_client.specs.Chunks.{chunks, IsWritten}
 use Rattle.vx_client.proofs.Chunks.{leads-all, leads-on, leads-failed, leads-last}
 use Rattle.vx_loop.specs.LoopState.{LoopState}

@@ -3,7 +3,7 @@ use Rattle.vx_client.specs.State.{ClientState, with_link}
 use Rattle.vx_client.specs.Exchange.{IsCalled}
 use Rattle.vx_client.specs.Chunks.{write_call}
 use Rattle.vx_client.specs.Meaning.{nothing_of}
-use Rattle.vx_model.specs.Calls.{sets_end}
+use Rattle.vx_rules.specs.Calls.{sets_end}
 use Rattle.vx_flow.specs.Laws.{marked_bytes}
 use Rattle.vx_loop.specs.LoopState.{LoopState}
 use Rattle.vx_loop.specs.Heard.{IsResting, IsPieceHeard}

@@ -2,7 +2,7 @@ use Rattle.std.proofs.Common.{◌≡◌, ◌≤◌, length, Some, IsSome, sym, a
 use Rattle.std.specs.BTreeMap.{get}
 use Rattle.std.proofs.lemmas.Option.{same_Some}
 use Rattle.vx_calls.specs.declared.limits.TheConstants.{RECORD_MAX}
-use Rattle.vx_model.specs.State.{connection_at}
+use Rattle.vx_rules.specs.State.{connection_at}
 use Rattle.vx_play.specs.declared.serve.Served.TheVariants as served
 use Rattle.vx_play.specs.Gateway.{Gateway, gateway_of}
 use Rattle.vx_message.specs.Meaning.{meaning}

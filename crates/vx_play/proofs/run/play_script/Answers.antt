@@ -1,37 +1,8 @@
-use Rattle.std.proofs.Common.{Some, None, ap, ◌∙◌}
-use Rattle.vx_trace.specs.Output.{FaultLine}
-use Rattle.vx_trace.specs.Text.{line_text}
-use Rattle.vx_play.specs.declared.run.Status.TheVariants as status
 use Rattle.vx_play.proofs.Ready.{begins-own}
-use Rattle.vx_play.proofs.WholePlay.{last-written, cut-ended, short-ended, fault-writable}
 use Rattle.vx_play.proofs.run.play_script.Goals as goal
 
-pub play_lines-requires-clause-begins : goal.play_lines-requires-clause-begins
-play_lines-requires-clause-begins g c = begins-own _ _ c.in-Ok.ensures
+pub play_in_room-requires : goal.play_in_room-requires
+play_in_room-requires g c = record { begins = begins-own _ _ c.in-Ok.ensures }
 
-pub returns-in-Whole : goal.returns-in-Whole
-returns-in-Whole g c =
-    record {
-      ended = last-written _ _ _ status.Done None _
-          (record { bytes = g.K.Sink.taken c.args.sink.now; faults = g.K.Sink.faults c.args.sink.now }) _ _ _
-          c.in-Ok.ensures.rack (λ whole. whole) c.in-Whole.ensures.ended c.in-Whole.ensures.counted c.line.ensures c.put_last.ensures.put;
-    }
-
-pub line-requires-in-Fault : goal.line-requires-in-Fault
-line-requires-in-Fault g c =
-    let writable = fault-writable c.in-Fault.cause _ c.word-word.ensures in record { whole = writable.0; fits = writable.1 }
-
-pub returns-in-Fault : goal.returns-in-Fault
-returns-in-Fault g c =
-    record {
-      ended = last-written _ _ _ status.Fault (Some (record { line = c.in-Fault.line; cause = c.in-Fault.cause })) _
-          (record { bytes = g.K.Sink.taken c.args.sink.now; faults = g.K.Sink.faults c.args.sink.now }) _ _ _
-          c.in-Ok.ensures.rack (λ whole. (whole.0, record { line = c.in-Fault.line; cause = c.in-Fault.cause }, whole.1, whole.2)) c.in-Fault.ensures.ended c.in-Fault.ensures.counted
-          (c.line-in-Fault.ensures ∙ ap (λ word. line_text (FaultLine c.in-Fault.line word)) c.word-word.ensures) c.put_last-in-Fault.ensures.put;
-    }
-
-pub returns-in-SinkFailed : goal.returns-in-SinkFailed
-returns-in-SinkFailed g c = record { ended = cut-ended _ _ _ _ _ c.in-Ok.ensures.rack c.in-SinkFailed.ensures.ended }
-
-pub returns : goal.returns
-returns g c = record { ended = short-ended _ _ _ _ _ c.in-Ok.ensures.rack c.in-NoMemory.ensures.ended }
+pub returns-in-Ok : goal.returns-in-Ok
+returns-in-Ok g c = record { ended = c.play_in_room.ensures.ended _ c.in-Ok.ensures.rack }

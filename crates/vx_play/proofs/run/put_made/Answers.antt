@@ -1,5 +1,5 @@
 use Rattle.std.proofs.Common.{length, sym, subst, ap, ◌∙◌, ◌≤◌, IsSome}
-use Rattle.vx_bus.specs.declared.asks.TheConstants.{ASK_MAX}
+use Rattle.vx_bus_traits.specs.declared.asks.TheConstants.{ASK_MAX}
 use Rattle.vx_text.specs.declared.output.SinkFailed.{SinkFailed}
 use Rattle.vx_play.specs.Standing.{NoteWithin, moves_lines, note_line}
 use Rattle.vx_play.proofs.Printed.{moves-writable, note-writable, lines-put}

@@ -1,9 +1,9 @@
 use Rattle.std.proofs.Common.{◌≡◌, refl, sym, ◌∙◌, subst, take}
 use denote.Enum.Bare.{sameb}
-use Rattle.vx_io.specs.contracts.dials.DialOut.{the_type}
-use Rattle.vx_io.specs.declared.dials.DialOut.{DialOut}
-use Rattle.vx_io.specs.declared.dials.DialOut.TheVariants as dialout
-use Rattle.vx_io.specs.Rung.{is_up}
+use Rattle.vx_io_traits.specs.contracts.dials.DialOut.{the_type}
+use Rattle.vx_io_traits.specs.declared.dials.DialOut.{DialOut}
+use Rattle.vx_io_traits.specs.declared.dials.DialOut.TheVariants as dialout
+use Rattle.vx_io_traits.specs.Rung.{is_up}
 use Rattle.vx_session.specs.Outside.{dial_shown}
 use Rattle.vx_session.specs.Progress.{AnswersDial}
 use Rattle.vx_session.proofs.Calling.{Dials, dials-so, dial-answered, dial-failed}

@@ -1,4 +1,4 @@
-use Rattle.std.proofs.Common.{take, ◌∙◌, sym, ap}
+use Rattle.std.proofs.Common.{take, refl, ◌∙◌, sym, ap, arith}
 use Rattle.vx_calls.specs.Call.{call_shown}
 use Rattle.vx_turns.specs.Turning.{seat_at}
 use Rattle.vx_session.specs.Outside.{dial_shown}
@@ -9,6 +9,33 @@ pub returns-in-Null-clause-does : goal.returns-in-Null-clause-does
 returns-in-Null-clause-does g c =
     null-does (g.C.Clock.told c.args.clock.now) c.args.pass c.args.conn c.args.xid (call_shown c.args.call.now) (dial_shown g.D.Dial.calls g.D.Dial.faults c.args.dial.now)
     (take c.put_success_record.result c.put_success_record.new.reply) (ap call_shown c.in-Null.is) c.put_success_record.ensures.record
+
+pub returns-in-Null-clause-seat : goal.returns-in-Null-clause-seat
+returns-in-Null-clause-seat g c = refl
+
+pub returns-in-Null-clause-told : goal.returns-in-Null-clause-told
+returns-in-Null-clause-told g c = omega arith
+
+pub returns-in-Null-clause-some : goal.returns-in-Null-clause-some
+returns-in-Null-clause-some g c = c.put_success_record.ensures.some
+
+pub returns-in-Null-clause-within : goal.returns-in-Null-clause-within
+returns-in-Null-clause-within g c = c.put_success_record.ensures.within
+
+pub returns-in-Null-clause-len : goal.returns-in-Null-clause-len
+returns-in-Null-clause-len g c = c.put_success_record.ensures.len
+
+pub returns-in-DeviceAbort-clause-told : goal.returns-in-DeviceAbort-clause-told
+returns-in-DeviceAbort-clause-told g c = omega arith
+
+pub returns-in-DeviceAbort-clause-some : goal.returns-in-DeviceAbort-clause-some
+returns-in-DeviceAbort-clause-some g c = c.put_success_record-in-DeviceAbort.ensures.some
+
+pub returns-in-DeviceAbort-clause-within : goal.returns-in-DeviceAbort-clause-within
+returns-in-DeviceAbort-clause-within g c = c.put_success_record-in-DeviceAbort.ensures.within
+
+pub returns-in-DeviceAbort-clause-len : goal.returns-in-DeviceAbort-clause-len
+returns-in-DeviceAbort-clause-len g c = c.put_success_record-in-DeviceAbort.ensures.len
 
 pub returns-in-DeviceAbort-clause-does : goal.returns-in-DeviceAbort-clause-does
 returns-in-DeviceAbort-clause-does g c =

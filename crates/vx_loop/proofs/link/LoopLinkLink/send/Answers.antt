@@ -1,29 +1,27 @@
-use Rattle.std.proofs.Common.{rules, ◌≡◌, [], Some, length, take, sym, ap, ◌∙◌, subst, IfSome, arith}
+use Rattle.std.proofs.Common.{rules, ◌≡◌, [], Some, take, sym, ap, ◌∙◌}
 use Rattle.vx_loop.specs.LoopState.{LoopState}
-use Rattle.vx_loop.specs.Standing.{IsKept}
-use Rattle.vx_loop.proofs.Looking.{goes-takes, goes-stays, ended-goes}
+use Rattle.vx_loop.proofs.Looking.{goes-takes, goes-stays, went-goes, ended-goes}
 use Rattle.vx_loop.proofs.link.LoopLinkLink.send.Goals as goal
 
-pub returns-then-is_gone-clause-went : goal.returns-then-is_gone-clause-went
-returns-then-is_gone-clause-went g c =
+pub returns-in-Some-accept-clause-went : goal.returns-in-Some-accept-clause-went
+returns-in-Some-accept-clause-went g c =
     let old = c.args.self.now in
     let s = c.in-Some.served in
     let is : old.served ≡ Some s = ap (λ (l : LoopState). l.served) (sym c.self.view_is) ∙ c.in-Some.is in
-    let kept : IsKept s = subst (λ o. IfSome o IsKept) c.in-Some.is c.self.invariant in
-    ended-goes old s s old.receive_faults old.send_faults (take (length c.args.from.now) c.args.from.now) is (c.is_gone.ensures.ended c.if-is_gone.true kept)
+    let n = c.in-Some-accept.count in
+    went-goes old s c.accept.new.self old.receive_faults old.send_faults (take n c.args.from.now) is c.in-Some-accept.ensures.took.3
 
-pub returns-then-is_gone-clause-took : goal.returns-then-is_gone-clause-took
-returns-then-is_gone-clause-took g c =
+pub returns-in-Some-accept-clause-took : goal.returns-in-Some-accept-clause-took
+returns-in-Some-accept-clause-took g c =
     let old = c.args.self.now in
     let s = c.in-Some.served in
     let is : old.served ≡ Some s = ap (λ (l : LoopState). l.served) (sym c.self.view_is) ∙ c.in-Some.is in
-    let kept : IsKept s = subst (λ o. IfSome o IsKept) c.in-Some.is c.self.invariant in
-    let bytes = take (length c.args.from.now) c.args.from.now in
-    let some = c.requires in (
-      omega arith,
-      omega arith,
-      goes-takes old (record old { served = Some s }) bytes
-          (ended-goes old s s old.receive_faults old.send_faults bytes is (c.is_gone.ensures.ended c.if-is_gone.true kept)),
+    let n = c.in-Some-accept.count in
+    let took = c.in-Some-accept.ensures.took in
+    let bytes = take n c.args.from.now in (
+      took.0,
+      took.1,
+      goes-takes old (record old { served = Some c.accept.new.self }) bytes (went-goes old s c.accept.new.self old.receive_faults old.send_faults bytes is took.3),
     )
 
 pub returns-in-None-clause-failed : goal.returns-in-None-clause-failed
@@ -33,6 +31,6 @@ returns-in-None-clause-failed g c =
     let is : old.served ≡ Some s = ap (λ (l : LoopState). l.served) (sym c.self.view_is) ∙ c.in-Some.is in
     let sends = c.saturating_add-self-inside.result in (
       search rules,
-      goes-stays old (record { served = Some c.take.new.self; receive_faults = old.receive_faults; send_faults = sends })
-          (ended-goes old s c.take.new.self old.receive_faults sends [] is c.in-None.ensures.broke),
+      goes-stays old (record { served = Some c.accept.new.self; receive_faults = old.receive_faults; send_faults = sends })
+          (ended-goes old s c.accept.new.self old.receive_faults sends [] is c.in-None.ensures.broke),
     )

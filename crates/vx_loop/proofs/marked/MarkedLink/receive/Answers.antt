@@ -1,6 +1,6 @@
 use Rattle.std.proofs.Common.{subst, take}
-use Rattle.vx_io.specs.Faults.{Rose}
-use Rattle.vx_io.specs.Stands.{Gives, Stays}
+use Rattle.vx_io_traits.specs.Faults.{Rose}
+use Rattle.vx_io_traits.specs.Stands.{Gives, Stays}
 use Rattle.vx_loop.specs.LoopState.{LoopState}
 use Rattle.vx_loop.specs.Standing.{MarkedStands}
 use Rattle.vx_loop.proofs.Looking.{marked-gives, marked-stays, got-both, end-both, failed-both}

@@ -1,6 +1,6 @@
 use Rattle.std.proofs.Common.{subst, take}
-use Rattle.vx_io.specs.Faults.{Rose}
-use Rattle.vx_io.specs.Stands.{Takes, Stays}
+use Rattle.vx_io_traits.specs.Faults.{Rose}
+use Rattle.vx_io_traits.specs.Stands.{Takes, Stays}
 use Rattle.vx_loop.specs.LoopState.{LoopState}
 use Rattle.vx_loop.specs.Standing.{MarkedStands}
 use Rattle.vx_loop.proofs.Looking.{marked-takes, marked-stays, took-both, refused-both}

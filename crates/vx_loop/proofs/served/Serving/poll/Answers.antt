@@ -2,7 +2,7 @@ use Rattle.std.proofs.Common.{◌≡◌, ◌+◌, ℕ, List, true, take, drop, s
 use Rattle.std.specs.Prelude.{is_some}
 use Rattle.std.proofs.lemmas.List.{with_items_is}
 use Rattle.std.specs.Vec.{with_items}
-use Rattle.vx_model.specs.State.{pending_at}
+use Rattle.vx_rules.specs.State.{pending_at}
 use Rattle.vx_play.specs.Gateway.{gateway_of}
 use Rattle.vx_loop.specs.LoopState.{ServedState}
 use Rattle.vx_loop.specs.Standing.{IsKept, WaitsTo}

@@ -2,7 +2,7 @@ use Rattle.std.proofs.Common.{◌≡◌, true, ℕ, List, [], ◌++◌, None, ta
 use Rattle.std.proofs.lemmas.List.{with_items_is}
 use Rattle.vx_record.specs.Buffer.{BufState, fresh}
 use Rattle.vx_calls.specs.declared.calls.Role.TheVariants as role
-use Rattle.vx_model.specs.State.{pending_at, lives_as}
+use Rattle.vx_rules.specs.State.{pending_at, lives_as}
 use Rattle.vx_loop.specs.LoopState.{ServedState}
 use Rattle.vx_loop.specs.Standing.{IsKept, Went, EndsTo}
 use Rattle.vx_loop.proofs.Going.{IsFree, take-more, take-whole, gone_state, ends-to}

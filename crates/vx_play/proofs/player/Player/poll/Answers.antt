@@ -3,7 +3,7 @@ use Rattle.std.proofs.lemmas.List.{with_items_is}
 use denote.Param.{param}
 use Rattle.vx_calls.specs.declared.calls.Role.TheVariants as role
 use Rattle.vx_script.specs.Command.{Poll}
-use Rattle.vx_model.specs.State.{lives_as}
+use Rattle.vx_rules.specs.State.{lives_as}
 use Rattle.vx_play.specs.contracts.player.Player.{the_view}
 use Rattle.vx_play.specs.PlayerState.{PlayerState, incoming_at}
 use Rattle.vx_play.specs.Standing.{Stands, TakesTo, made_lines}

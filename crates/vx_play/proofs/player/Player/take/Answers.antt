@@ -8,7 +8,7 @@ use Rattle.vx_srq.specs.Desk.{Channel, channel_at}
 use Rattle.vx_srq.specs.Shown.{given_shown}
 use Rattle.vx_script.specs.Command.{Take}
 use Rattle.vx_trace.specs.Output.{Irq}
-use Rattle.vx_model.specs.State.{lives_as}
+use Rattle.vx_rules.specs.State.{lives_as}
 use Rattle.vx_play.specs.declared.note.Made.{Made}
 use Rattle.vx_play.specs.declared.note.Note.TheVariants as note
 use Rattle.vx_play.specs.contracts.player.Player.{the_view}
