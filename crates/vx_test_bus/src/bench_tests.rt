@@ -1,0 +1,351 @@
+//! Benches on a bus with nothing on it, with two spare instruments of the name `echo`.
+
+use crate::rows::compare;
+use arrayvec::ArrayString;
+use std::alloc::Global;
+use std::fmt::Write;
+use std::test::Fail;
+use vx_488::Addr;
+use vx_bench::*;
+use vx_rack::{Echo, Spare};
+use vx_script::Cause;
+use vx_sim::SimBus;
+
+/// A spare instrument of the name `echo`.
+fn spare_echo(alloc: Global) -> Result<Spare<Echo>, Fail> {
+    let name = ArrayString::from("echo").map_err(|_| "too long")?;
+    let inst = Echo::new(alloc).map_err(|_| "no memory")?;
+    Ok(Spare { name, inst })
+}
+
+/// Two of them.
+fn two_echoes(alloc: Global) -> Result<Vec<Spare<Echo>>, Fail> {
+    let mut rack = Vec::with_capacity(alloc, 2)?;
+    push_echoes(alloc, &mut rack)?;
+    Ok(rack)
+}
+
+fn push_echoes(alloc: Global, rack: &mut Vec<Spare<Echo>>) -> Result<(), Fail> {
+    for _ in 0..2 {
+        rack.push(spare_echo(alloc)?)?;
+    }
+    Ok(())
+}
+
+/// How a bench ends, how many spares are left, and whether instruments stand at 5, at 6 and at 7,8 then.
+type Ended = (Option<BenchStop>, usize, [bool; 3]);
+
+/// Sets a bench up on a bus.
+fn set_on(alloc: Global, text: &[u8], bus: &mut SimBus<Echo>) -> Result<Ended, Fail> {
+    let mut rack = two_echoes(alloc)?;
+    let stop = set_up(alloc, text, bus, &mut rack).err();
+    Ok((stop, rack.len(), standing(bus)))
+}
+
+/// Sets a bench up on a bus with nothing on it.
+fn end_of(alloc: Global, text: &[u8]) -> Result<Ended, Fail> {
+    let mut bus = SimBus::new(alloc).map_err(|_| "no memory")?;
+    set_on(alloc, text, &mut bus)
+}
+
+/// Whether instruments stand at 5, at 6 and at 7,8.
+fn standing(bus: &mut SimBus<Echo>) -> [bool; 3] {
+    [
+        stands(bus, 5, None),
+        stands(bus, 6, None),
+        stands(bus, 7, Some(8)),
+    ]
+}
+
+/// Whether an instrument stands at an address.
+fn stands(bus: &mut SimBus<Echo>, p: u8, s: Option<u8>) -> bool {
+    bus.set_status(Addr { p, s }, 0).is_ok()
+}
+
+const NONE: [bool; 3] = [false; 3];
+
+const FIVE: [bool; 3] = [true, false, false];
+
+const FIVE_SIX: [bool; 3] = [true, true, false];
+
+const FIVE_SEVEN: [bool; 3] = [true, false, true];
+
+const BENCHES: [(&[u8], Ended); 24] = [
+    (b"", (None, 2, NONE)),
+    (b"\n# a bench\n\n#", (None, 2, NONE)),
+    (
+        b"inst 5 {\"rules\":[{\"in\":\"*IDN?\",\"out\":\"ACME,1\\n\"}]}\n# an echo\n\nplug 7,8 echo",
+        (None, 1, FIVE_SEVEN),
+    ),
+    (b"plug 6 echo\nplug 5 echo\n", (None, 0, FIVE_SIX)),
+    // Steps that are none of a bench, and lines outside the grammar; the skipped ones count.
+    (
+        b"at 1\n",
+        (
+            Some(BenchStop::Refused {
+                line: 1,
+                cause: Cause::Form,
+            }),
+            2,
+            NONE,
+        ),
+    ),
+    (
+        b"up 1 core\n",
+        (
+            Some(BenchStop::Refused {
+                line: 1,
+                cause: Cause::Form,
+            }),
+            2,
+            NONE,
+        ),
+    ),
+    (
+        b"in 1 80\nplug 5 echo\n",
+        (
+            Some(BenchStop::Refused {
+                line: 1,
+                cause: Cause::Form,
+            }),
+            2,
+            NONE,
+        ),
+    ),
+    (
+        b"down 1\n",
+        (
+            Some(BenchStop::Refused {
+                line: 1,
+                cause: Cause::Form,
+            }),
+            2,
+            NONE,
+        ),
+    ),
+    (
+        b"poll 1\n",
+        (
+            Some(BenchStop::Refused {
+                line: 1,
+                cause: Cause::Form,
+            }),
+            2,
+            NONE,
+        ),
+    ),
+    (
+        b"take 1\n",
+        (
+            Some(BenchStop::Refused {
+                line: 1,
+                cause: Cause::Form,
+            }),
+            2,
+            NONE,
+        ),
+    ),
+    (
+        b"dial 1 ok\n",
+        (
+            Some(BenchStop::Refused {
+                line: 1,
+                cause: Cause::Form,
+            }),
+            2,
+            NONE,
+        ),
+    ),
+    (
+        b"\n#\nplug 5 echo\nsample\n",
+        (
+            Some(BenchStop::Refused {
+                line: 4,
+                cause: Cause::Form,
+            }),
+            1,
+            FIVE,
+        ),
+    ),
+    (
+        b"plug 5 echo\npull 5\n",
+        (
+            Some(BenchStop::Refused {
+                line: 2,
+                cause: Cause::Form,
+            }),
+            1,
+            FIVE,
+        ),
+    ),
+    (
+        b"plug 5 echo\nset 5 41\n",
+        (
+            Some(BenchStop::Refused {
+                line: 2,
+                cause: Cause::Form,
+            }),
+            1,
+            FIVE,
+        ),
+    ),
+    (
+        b"fail 1\n",
+        (
+            Some(BenchStop::Refused {
+                line: 1,
+                cause: Cause::Form,
+            }),
+            2,
+            NONE,
+        ),
+    ),
+    (
+        b"plug 5 echo\n\nplug 31 echo\n",
+        (
+            Some(BenchStop::Refused {
+                line: 3,
+                cause: Cause::Form,
+            }),
+            1,
+            FIVE,
+        ),
+    ),
+    (
+        b"plug 5 echo\r\n",
+        (
+            Some(BenchStop::Refused {
+                line: 1,
+                cause: Cause::Form,
+            }),
+            2,
+            NONE,
+        ),
+    ),
+    // Instruments that aren't attached.
+    (
+        b"plug 0 echo\n",
+        (
+            Some(BenchStop::Refused {
+                line: 1,
+                cause: Cause::Own,
+            }),
+            1,
+            NONE,
+        ),
+    ),
+    (
+        b"plug 5 echo\nplug 5 echo\n",
+        (
+            Some(BenchStop::Refused {
+                line: 2,
+                cause: Cause::Taken,
+            }),
+            0,
+            FIVE,
+        ),
+    ),
+    (
+        b"plug 5 nobody\n",
+        (
+            Some(BenchStop::Refused {
+                line: 1,
+                cause: Cause::Spare,
+            }),
+            2,
+            NONE,
+        ),
+    ),
+    (
+        b"plug 5 echo\nplug 6 echo\nplug 7,8 echo\n",
+        (
+            Some(BenchStop::Refused {
+                line: 3,
+                cause: Cause::Spare,
+            }),
+            0,
+            FIVE_SIX,
+        ),
+    ),
+    (
+        b"inst 5 []\n",
+        (
+            Some(BenchStop::Refused {
+                line: 1,
+                cause: Cause::Rule,
+            }),
+            2,
+            NONE,
+        ),
+    ),
+    (
+        b"inst 5 {\n",
+        (
+            Some(BenchStop::Refused {
+                line: 1,
+                cause: Cause::Json,
+            }),
+            2,
+            NONE,
+        ),
+    ),
+    (
+        b"inst 5 \n",
+        (
+            Some(BenchStop::Refused {
+                line: 1,
+                cause: Cause::Json,
+            }),
+            2,
+            NONE,
+        ),
+    ),
+];
+
+#[test]
+fn benches(rt: HostRuntime) -> Result<(), Fail> {
+    for (row, (text, ended)) in BENCHES.iter().enumerate() {
+        compare(&rt, row, &end_of(rt.alloc(), text)?, ended);
+    }
+    Ok(())
+}
+
+/// A bench of 31 tables, and then one more instrument.
+fn full_text(alloc: Global) -> Result<String, Fail> {
+    let mut text = String::new(alloc);
+    for secondary in 0..=30u8 {
+        writeln!(text, "inst 5,{secondary} {{\"rules\":[]}}")?;
+    }
+    text.push_str("plug 6 echo\n")?;
+    Ok(text)
+}
+
+// The 32nd instrument.
+#[test]
+fn full_bench(rt: HostRuntime) -> Result<(), Fail> {
+    let text = full_text(rt.alloc())?;
+    let full = BenchStop::Refused {
+        line: 32,
+        cause: Cause::Bench,
+    };
+    let ended = end_of(rt.alloc(), text.as_bytes())?;
+    compare(&rt, 0, &ended.0, &Some(full));
+    Ok(())
+}
+
+const LONG: BenchStop = BenchStop::Refused {
+    line: 1,
+    cause: Cause::Form,
+};
+
+// A line as long as may be, and one byte longer.
+const LENGTHS: [(usize, Option<BenchStop>); 2] = [(1_048_576, None), (1_048_577, Some(LONG))];
+
+#[test]
+fn long_lines(rt: HostRuntime) -> Result<(), Fail> {
+    for (row, (len, stop)) in LENGTHS.iter().enumerate() {
+        let text = vec![in rt.alloc(); b'#'; *len]?;
+        compare(&rt, row, &end_of(rt.alloc(), &text)?.0, stop);
+    }
+    Ok(())
+}

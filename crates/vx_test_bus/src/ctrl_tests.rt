@@ -1,0 +1,349 @@
+//! Tables of turns on a bus over memory.
+
+ghost use Rattle.std.specs.Prelude.{◌≡◌, ◌≤◌, IfOk, length};
+ghost use Rattle.vx_calls.specs.declared.limits.TheConstants.{WRITE_MAX};
+ghost use Rattle.vx_plan.specs.Tasks.{IsPlainTask, HasBytes};
+ghost use Rattle.vx_bus_traits.specs.Means.{first_means};
+ghost use Rattle.vx_ctrl.specs.Turns.{HasRoom};
+
+use crate::rows::compare;
+use crate::tasks::{has_bytes, has_room, is_plain};
+use std::alloc::Global;
+use std::process::Abort;
+use std::test::Fail;
+use vx_488::Transfer::{self, Cmd, Got, Put};
+use vx_bus::{Bus, MemBus};
+use vx_calls::Target;
+use vx_ctrl::*;
+use vx_plan::Task;
+
+const DEVICE: Target = Target::Device { p: 5, s: Some(3) };
+
+const PRIMARY: Target = Target::Device { p: 5, s: None };
+
+/// What a bus gives, and which of its moving calls are held or fail.
+struct Bench {
+    gets: &'static [(u8, bool)],
+    holds: &'static [u64],
+    fails: &'static [u64],
+}
+
+const READY: Bench = Bench {
+    gets: &[],
+    holds: &[],
+    fails: &[],
+};
+
+// What the bus gives is 65, and then 66 with END.
+const GIVES: Bench = Bench {
+    gets: &[(65, false), (66, true)],
+    holds: &[],
+    fails: &[],
+};
+
+fn told_bus(alloc: Global, bench: &Bench) -> Result<MemBus, Fail>
+    ensures { IfOk result (λ bus. bus.means ≡ first_means) }
+{
+    let gets = bench.gets.to_vec(alloc)?;
+    let holds = bench.holds.to_vec(alloc)?;
+    let fails = bench.fails.to_vec(alloc)?;
+    Ok(MemBus::new(alloc, gets, holds, fails).map_err(|_| "no memory")?)
+}
+
+/// Why a turn stopped, how many bytes it moved, and the reason of a read.
+type Told = (Went, u32, u32);
+
+fn told(turn: &Turn, went: Went) -> Told {
+    (went, turn.moved(), turn.reason())
+}
+
+/// A turn goes once.
+fn go_once(bus: &mut MemBus, task: Task, bytes: &[u8], room: &mut [u8]) -> Told
+    requires plain { IsPlainTask task }
+    requires bytes { HasBytes task bytes.now }
+    requires short { length bytes.now ≤ WRITE_MAX }
+    requires room { HasRoom task (length room.old) }
+    requires fresh { bus.old.means ≡ first_means }
+{
+    let mut turn = Turn::begin(task, &bus.wire(), 0);
+    let went = turn.go(bus, bytes, room);
+    told(&turn, went)
+}
+
+/// A turn goes, and goes again behind a cut.
+fn go_twice(bus: &mut MemBus, task: Task, bytes: &[u8], room: &mut [u8]) -> (Told, Told)
+    requires plain { IsPlainTask task }
+    requires bytes { HasBytes task bytes.now }
+    requires short { length bytes.now ≤ WRITE_MAX }
+    requires room { HasRoom task (length room.old) }
+    requires fresh { bus.old.means ≡ first_means }
+{
+    let mut turn = Turn::begin(task, &bus.wire(), 0);
+    let first = turn.go(bus, bytes, room);
+    let held = told(&turn, first);
+    bus.cut();
+    let second = turn.go(bus, bytes, room);
+    (held, told(&turn, second))
+}
+
+/// A turn that goes once, its job's bytes, and what comes of it.
+struct Row {
+    bench: Bench,
+    task: Task,
+    bytes: &'static [u8],
+    told: Told,
+    moves: &'static [Transfer],
+    // what stands in the room behind it, which is as long
+    room: &'static [u8],
+}
+
+/// A job goes once, where it is one that a turn takes. What it told, if it went.
+fn go_row(bus: &mut MemBus, row: &Row, room: &mut [u8]) -> Option<Told>
+    requires { bus.old.means ≡ first_means }
+{
+    if !is_plain(&row.task)
+        || !has_bytes(&row.task, row.bytes)
+        || !has_room(&row.task, room.len())
+    {
+        return None;
+    }
+    Some(go_once(bus, row.task, row.bytes, room))
+}
+
+/// Goes through rows, each on a bus of its own, and compares what each told, its transfers, and what stands in its room.
+fn go_rows(rt: &impl Abort, alloc: Global, rows: &[Row]) -> Result<(), Fail> {
+    for (number, row) in rows.iter().enumerate() {
+        let mut room = vec![in alloc; 0u8; row.room.len()]?;
+        let mut bus = told_bus(alloc, &row.bench)?;
+        let told = go_row(&mut bus, row, &mut room);
+        let found = (told, bus.moves(), room.as_slice());
+        compare(rt, number, &found, &(Some(row.told), row.moves, row.room));
+    }
+    Ok(())
+}
+
+// A write, a clear and a remote of a device with a secondary address.
+const TO_A_DEVICE: [Row; 3] = [
+    Row {
+        bench: READY,
+        task: Task::Write {
+            t: DEVICE,
+            len: 2,
+            end: true,
+        },
+        bytes: b"A\n",
+        told: (Went::Finished, 2, 0),
+        moves: &[
+            Cmd(0x3F),
+            Cmd(0x40),
+            Cmd(0x25),
+            Cmd(0x63),
+            Put { b: 65, end: false },
+            Put { b: 10, end: true },
+        ],
+        room: &[],
+    },
+    Row {
+        bench: READY,
+        task: Task::Clear { t: DEVICE },
+        bytes: &[],
+        told: (Went::Finished, 0, 0),
+        moves: &[Cmd(0x3F), Cmd(0x25), Cmd(0x63), Cmd(0x04)],
+        room: &[],
+    },
+    Row {
+        bench: READY,
+        task: Task::Remote { t: DEVICE },
+        bytes: &[],
+        told: (Went::Finished, 0, 0),
+        moves: &[Transfer::Ren(true), Cmd(0x3F), Cmd(0x25), Cmd(0x63)],
+        room: &[],
+    },
+];
+
+#[test]
+fn sends_to_a_device(rt: HostRuntime) -> Result<(), Fail> {
+    go_rows(&rt, rt.alloc(), &TO_A_DEVICE)
+}
+
+const READS: [Row; 4] = [
+    Row {
+        bench: GIVES,
+        task: Task::Read {
+            t: PRIMARY,
+            max: 10,
+            stop: None,
+        },
+        bytes: &[],
+        told: (Went::Finished, 2, 4),
+        moves: &[
+            Cmd(0x3F),
+            Cmd(0x20),
+            Cmd(0x45),
+            Got { b: 65, end: false },
+            Got { b: 66, end: true },
+        ],
+        room: b"AB\0\0\0\0\0\0\0\0",
+    },
+    Row {
+        bench: GIVES,
+        task: Task::Read {
+            t: PRIMARY,
+            max: 1,
+            stop: None,
+        },
+        bytes: &[],
+        told: (Went::Finished, 1, 1),
+        moves: &[Cmd(0x3F), Cmd(0x20), Cmd(0x45), Got { b: 65, end: false }],
+        room: b"A",
+    },
+    Row {
+        bench: GIVES,
+        task: Task::Read {
+            t: PRIMARY,
+            max: 2,
+            stop: Some(66),
+        },
+        bytes: &[],
+        told: (Went::Finished, 2, 7),
+        moves: &[
+            Cmd(0x3F),
+            Cmd(0x20),
+            Cmd(0x45),
+            Got { b: 65, end: false },
+            Got { b: 66, end: true },
+        ],
+        room: b"AB",
+    },
+    Row {
+        bench: GIVES,
+        task: Task::Read {
+            t: PRIMARY,
+            max: 0,
+            stop: None,
+        },
+        bytes: &[],
+        told: (Went::Finished, 0, 1),
+        moves: &[],
+        room: &[],
+    },
+];
+
+#[test]
+fn reads_up_to_a_reason(rt: HostRuntime) -> Result<(), Fail> {
+    go_rows(&rt, rt.alloc(), &READS)
+}
+
+const POLLS: [Row; 1] = [Row {
+    bench: Bench {
+        gets: &[(0x50, false)],
+        holds: &[],
+        fails: &[],
+    },
+    task: Task::Stb { t: PRIMARY },
+    bytes: &[],
+    told: (Went::Finished, 1, 0),
+    moves: &[
+        Cmd(0x3F),
+        Cmd(0x20),
+        Cmd(0x18),
+        Cmd(0x45),
+        Got {
+            b: 0x50,
+            end: false,
+        },
+        Cmd(0x19),
+        Cmd(0x5F),
+    ],
+    room: &[0x50],
+}];
+
+#[test]
+fn polls_a_status_byte(rt: HostRuntime) -> Result<(), Fail> {
+    go_rows(&rt, rt.alloc(), &POLLS)
+}
+
+const WRITE: Task = Task::Write {
+    t: PRIMARY,
+    len: 2,
+    end: true,
+};
+
+const HOLDS: Bench = Bench {
+    gets: &[],
+    holds: &[4],
+    fails: &[],
+};
+
+// The second call fails; and of another write the fourth, which is the first byte, is held once.
+const STOPS: [Row; 2] = [
+    Row {
+        bench: Bench {
+            gets: &[],
+            holds: &[],
+            fails: &[2],
+        },
+        task: WRITE,
+        bytes: b"A\n",
+        told: (Went::Broken, 0, 0),
+        moves: &[Cmd(0x3F)],
+        room: &[],
+    },
+    Row {
+        bench: HOLDS,
+        task: WRITE,
+        bytes: b"A\n",
+        told: (Went::Held, 0, 0),
+        moves: &[Cmd(0x3F), Cmd(0x40), Cmd(0x25)],
+        room: &[],
+    },
+];
+
+#[test]
+fn stops_where_the_bus_does(rt: HostRuntime) -> Result<(), Fail> {
+    go_rows(&rt, rt.alloc(), &STOPS)
+}
+
+// The bytes that a turn puts behind a hold.
+const BEHIND_A_HOLD: &[Transfer] = &[Put { b: 65, end: false }, Put { b: 10, end: true }];
+
+#[test]
+fn goes_on_behind_a_hold(rt: HostRuntime) -> Result<(), Fail> {
+    let mut bus = told_bus(rt.alloc(), &HOLDS)?;
+    let gone = go_twice(&mut bus, WRITE, b"A\n", &mut []);
+    let wanted = ((Went::Held, 0, 0), (Went::Finished, 2, 0));
+    compare(&rt, 0, &(gone, bus.moves()), &(wanted, BEHIND_A_HOLD));
+    Ok(())
+}
+
+/// How many transfers there are, which is the last, and how many of those behind the front are the first byte's.
+fn summary(moves: &[Transfer]) -> (usize, Option<Transfer>, usize) {
+    let bytes = moves
+        .iter()
+        .skip(4)
+        .filter(|t| **t == Put { b: 7, end: false });
+    (moves.len(), moves.last().copied(), bytes.count())
+}
+
+// The longest write there is, in one go.
+#[test]
+fn writes_65536_bytes(rt: HostRuntime) -> Result<(), Fail> {
+    let bytes = vec![in rt.alloc(); 7u8; 65536]?;
+    let mut bus = told_bus(rt.alloc(), &READY)?;
+    let write = Task::Write {
+        t: DEVICE,
+        len: 65536,
+        end: true,
+    };
+    let gone = go_once(&mut bus, write, &bytes, &mut []);
+    compare(
+        &rt,
+        0,
+        &(gone, summary(bus.moves())),
+        &(
+            (Went::Finished, 65536, 0),
+            (65540, Some(Put { b: 7, end: true }), 65535),
+        ),
+    );
+    Ok(())
+}

@@ -1,0 +1,287 @@
+//! Instruments in boxes and of any kind, and what one is made of.
+
+ghost use Rattle.std.specs.Prelude.{◌≡◌, true};
+ghost use Rattle.vx_inst.specs.Laws.{takes_byte, Takes, status_byte, IsPolled, IsSound, IsStatus};
+
+use crate::rows::compare;
+use std::test::Fail;
+use vx_inst::*;
+
+/// An instrument that keeps a byte until END comes, and has one byte to give from the beginning.
+#[derive(Drop)]
+struct Latch {
+    taken: Option<u8>,
+    given: Option<u8>,
+    stb: u8,
+    asks: bool,
+    ghost status: { IsStatus stb },
+}
+
+impl Instrument for Latch {
+    ghost use Rattle.std.specs.Prelude.{true, map, is_none};
+    ghost use Rattle.std.specs.Option.{option_to_list};
+
+    ghost view = { λ latch. record { inbox = option_to_list latch.taken; out = map (λ b. record { value = b; end = true }) (option_to_list latch.given); stb = latch.stb; rqs = latch.asks; ready = is_none latch.taken } };
+
+    fn can_take(&self) -> bool {
+        self.taken.is_none()
+    }
+
+    fn take(&mut self, b: u8, end: bool) {
+        self.taken = if end { None } else { Some(b) };
+    }
+
+    fn can_give(&self) -> bool {
+        self.taken.is_none() && self.given.is_some()
+    }
+
+    fn give(&mut self) -> (u8, bool) {
+        match self.given.take() {
+            Some(b) => (b, true),
+            None => (0, true),
+        }
+    }
+
+    fn poll(&mut self) -> u8 {
+        let asked = self.asks;
+        self.asks = false;
+        if asked { self.stb + 64 } else { self.stb }
+    }
+
+    fn requests(&self) -> bool {
+        self.asks
+    }
+
+    fn clear(&mut self) {
+        self.taken = None;
+        self.given = None;
+    }
+
+    fn trigger(&mut self) {
+        self.asks = true;
+    }
+
+    fn local(&mut self) {}
+
+    fn set_status(&mut self, b: u8) {
+        self.stb = b / 128 * 128 + b % 64;
+        self.asks = b / 64 % 2 == 1;
+    }
+
+    fn moment(&mut self, _now: u64) {}
+}
+
+/// An instrument at its place, as a bus keeps it.
+#[derive(Drop)]
+struct Placed {
+    at: u8,
+    inst: Box<dyn Instrument>,
+}
+
+/// Hands a byte to a boxed instrument, where it can take one.
+fn offer(placed: &mut Placed, b: u8, end: bool) -> bool
+    ensures can { result ≡ takes_byte (view placed.old.inst) }
+    ensures takes { result ≡ true → Takes (view placed.old.inst) b end (view placed.new.inst) }
+    ensures sound { IsSound (view placed.new.inst) }
+    ensures stays { placed.new.at ≡ placed.old.at }
+{
+    let can = placed.inst.can_take();
+    if can {
+        placed.inst.take(b, end);
+    }
+    can
+}
+
+/// Asks a boxed instrument for its status byte.
+fn ask(placed: &mut Placed) -> u8
+    ensures status { result ≡ status_byte (view placed.old.inst) }
+    ensures polled { IsPolled (view placed.old.inst) (view placed.new.inst) }
+{
+    placed.inst.poll()
+}
+
+/// A latch that has 10 to give, with this status byte.
+fn make_latch(stb: u8) -> Latch
+    requires { IsStatus stb }
+{
+    Latch {
+        taken: None,
+        given: Some(10),
+        stb,
+        asks: false,
+    }
+}
+
+/// Gets a byte of a boxed instrument, where it has one.
+fn release(placed: &mut Placed) -> Option<(u8, bool)> {
+    if placed.inst.can_give() {
+        Some(placed.inst.give())
+    } else {
+        None
+    }
+}
+
+/// Offers 65 with END, gets two bytes, offers 66 and 67, and 68 behind a clear.
+fn offer_all(placed: &mut Placed) -> ([bool; 4], [Option<(u8, bool)>; 2]) {
+    let first = offer(placed, 65, true);
+    let given = [release(placed), release(placed)];
+    let second = offer(placed, 66, false);
+    let third = offer(placed, 67, true);
+    placed.inst.clear();
+    let cleared = offer(placed, 68, true);
+    ([first, second, third, cleared], given)
+}
+
+/// Polls once, twice behind a trigger, and twice with another status byte.
+fn poll_all(placed: &mut Placed) -> (bool, [u8; 5]) {
+    let idle = ask(placed);
+    placed.inst.trigger();
+    let requests = placed.inst.requests();
+    let asking = [ask(placed), ask(placed)];
+    placed.inst.set_status(0xFF);
+    let set = [ask(placed), ask(placed)];
+    (requests, [idle, asking[0], asking[1], set[0], set[1]])
+}
+
+// A caller of boxed instruments names their views, before a call and after it.
+#[test]
+fn boxed(rt: HostRuntime) -> Result<(), Fail> {
+    let inst = Box::new(rt.alloc(), make_latch(0))?;
+    let mut placed = Placed { at: 5, inst };
+    let offered = offer_all(&mut placed);
+    let polled = poll_all(&mut placed);
+    compare(
+        &rt,
+        0,
+        &(offered, polled, placed.at),
+        &(
+            ([true, true, false, true], [Some((10, true)), None]),
+            (true, [0, 64, 0, 0xFF, 0xBF]),
+            5,
+        ),
+    );
+    Ok(())
+}
+
+/// Keeps a byte, where it may, and forgets it. Answers whether it may, whether the byte is kept, and whether it is forgotten.
+fn keep_one(body: &mut Body) -> [bool; 3] {
+    let can = body.can_take();
+    if can {
+        body.keep(b'A');
+    }
+    let is_kept = body.message() == b"A".as_slice();
+    body.forget();
+    [can, is_kept, body.message().is_empty()]
+}
+
+/// Gets a byte, where there is one.
+fn give_one(body: &mut Body) -> Option<(u8, bool)> {
+    if body.can_give() {
+        Some(body.give())
+    } else {
+        None
+    }
+}
+
+/// Gets one byte of nothing, and three of a reply of two.
+fn reply_once(body: &mut Body) -> [Option<(u8, bool)>; 4] {
+    let nothing = give_one(body);
+    body.reply(b"BC");
+    [nothing, give_one(body), give_one(body), give_one(body)]
+}
+
+/// Polls twice with a status byte that asks.
+fn poll_twice(body: &mut Body) -> (bool, [u8; 2]) {
+    body.set_status(80);
+    (body.requests(), [body.poll(), body.poll()])
+}
+
+// A body keeps a message, gives a reply with END on its last byte, and answers polls.
+#[test]
+fn body(rt: HostRuntime) -> Result<(), Fail> {
+    let mut body = Body::new(rt.alloc())?;
+    let found = (
+        keep_one(&mut body),
+        reply_once(&mut body),
+        poll_twice(&mut body),
+    );
+    compare(
+        &rt,
+        0,
+        &found,
+        &(
+            [true; 3],
+            [None, Some((b'B', false)), Some((b'C', true)), None],
+            (true, [80, 16]),
+        ),
+    );
+    Ok(())
+}
+
+/// Hands a byte to an instrument of any kind, where it can take one.
+fn hand<I: Instrument>(inst: &mut I, b: u8, end: bool) -> bool
+    ensures can { result ≡ takes_byte (I.view inst.old) }
+    ensures takes { result ≡ true → Takes (I.view inst.old) b end (I.view inst.new) }
+{
+    let can = inst.can_take();
+    if can {
+        inst.take(b, end);
+    }
+    can
+}
+
+/// The same of a box: it is seen as the instrument inside.
+fn hand_boxed(inst: &mut Box<dyn Instrument + Send>, b: u8, end: bool) -> bool
+    ensures can { result ≡ takes_byte (view inst.old) }
+    ensures takes { result ≡ true → Takes (view inst.old) b end (view inst.new) }
+{
+    hand(inst, b, end)
+}
+
+/// Gets a byte of an instrument of any kind, where it has one.
+fn get<I: Instrument>(inst: &mut I) -> Option<(u8, bool)> {
+    if inst.can_give() {
+        Some(inst.give())
+    } else {
+        None
+    }
+}
+
+/// Goes through what else there is to ask of an instrument of any kind, and answers its status bytes.
+fn serve<I: Instrument>(inst: &mut I) -> [u8; 3] {
+    inst.trigger();
+    inst.local();
+    inst.moment(5);
+    let asking = if inst.requests() { inst.poll() } else { 0 };
+    let asked = inst.poll();
+    inst.set_status(0xFF);
+    [asking, asked, inst.poll()]
+}
+
+/// Gets two bytes, hands three, and one behind a clear.
+fn hand_all(inst: &mut Box<dyn Instrument + Send>) -> ([Option<(u8, bool)>; 2], [bool; 4]) {
+    let given = [get(inst), get(inst)];
+    let first = hand(inst, 65, true);
+    let second = hand_boxed(inst, 66, false);
+    let third = hand(inst, 67, false);
+    inst.clear();
+    let cleared = hand_boxed(inst, 68, true);
+    (given, [first, second, third, cleared])
+}
+
+// A boxed instrument goes where one of any kind is wanted.
+#[test]
+fn boxed_for_any(rt: HostRuntime) -> Result<(), Fail> {
+    let mut inst: Box<dyn Instrument + Send> = Box::new(rt.alloc(), make_latch(1))?;
+    let found = (hand_all(&mut inst), serve(&mut inst));
+    compare(
+        &rt,
+        0,
+        &found,
+        &(
+            ([Some((10, true)), None], [true, true, false, true]),
+            [65, 1, 0xFF],
+        ),
+    );
+    Ok(())
+}

@@ -1,0 +1,27 @@
+//! The first lines of texts.
+
+use vx_text::*;
+
+// Texts, their first lines, and what stands behind those.
+const TEXTS: [(&[u8], &[u8], &[u8]); 5] = [
+    (b"up 1 core\nsample\n", b"up 1 core", b"sample\n"),
+    (b"\nsample", b"", b"sample"),
+    (b"sample\n", b"sample", b""),
+    (b"sample", b"sample", b""),
+    (b"a\r\n\n", b"a\r", b"\n"),
+];
+
+fn cut(text: &[u8]) -> Option<(&[u8], &[u8])> {
+    if text.is_empty() {
+        None
+    } else {
+        Some(first_line(text))
+    }
+}
+
+#[test]
+fn first_lines(rt: HostRuntime) {
+    for (text, line, rest) in TEXTS {
+        assert_eq!(rt; cut(text), Some((line, rest)));
+    }
+}

@@ -1,0 +1,418 @@
+//! A client over a link to a gateway with an instrument at 5 that gives back what it is sent.
+
+ghost use Rattle.std.specs.Prelude.{IfOk};
+ghost use Rattle.vx_loop.specs.LoopState.{IsUnconnected};
+
+use crate::client_run_tests::line_words;
+use crate::client_tests::{Answer, Got};
+use arrayvec::ArrayVec;
+use std::alloc::Global;
+use std::test::Fail;
+use vx_488::Addr;
+use vx_calls::{DEVICE_MAX, Handle};
+use vx_client::{CallOpts, Client, ClientErr, LinkMade, ReadEnd, call_run};
+use vx_core::Core;
+use vx_io::{Link, MemReach, MemSink, ReadOut, WriteOut};
+use vx_loop::{LoopLink, through_client};
+use vx_rack::Echo;
+use vx_sim::SimBus;
+
+type Looped = Client<LoopLink<Echo>>;
+
+const OPTS: CallOpts = CallOpts {
+    flags: 8,
+    io_timeout: 10000,
+    lock_timeout: 0,
+};
+
+/// The first link that is made.
+const LINK: LinkMade = LinkMade {
+    lid: 1,
+    abort_port: 9011,
+    max: 65536,
+};
+
+/// A gateway with that instrument.
+fn echoing(alloc: Global) -> Result<Core<SimBus<Echo>>, &'static str>
+    ensures { IfOk result (λ core. IsUnconnected core.fine) }
+{
+    let echo = Echo::new(alloc).map_err(|_| "no memory")?;
+    let mut bus = SimBus::new(alloc).map_err(|_| "no memory")?;
+    bus.attach_box(Addr { p: 5, s: None }, echo)
+        .map_err(|_| "not attached")?;
+    Core::start(alloc, bus, 9011).map_err(|_| "no memory")
+}
+
+/// A gateway with nothing on its bus that was told the last moment.
+fn late(alloc: Global) -> Result<Core<SimBus<Echo>>, &'static str>
+    ensures { IfOk result (λ core. IsUnconnected core.fine) }
+{
+    let bus = SimBus::new(alloc).map_err(|_| "no memory")?;
+    let mut core = Core::start(alloc, bus, 9011).map_err(|_| "no memory")?;
+    core.sample(u64::MAX);
+    Ok(core)
+}
+
+/// Either.
+fn core(alloc: Global, is_late: bool) -> Result<Core<SimBus<Echo>>, &'static str>
+    ensures { IfOk result (λ core. IsUnconnected core.fine) }
+{
+    if is_late { late(alloc) } else { echoing(alloc) }
+}
+
+/// A link to it.
+fn link(alloc: Global, is_late: bool) -> Result<LoopLink<Echo>, &'static str> {
+    let core = core(alloc, is_late)?;
+    LoopLink::new(alloc, core).map_err(|_| "no memory")
+}
+
+/// A client over that.
+fn client(alloc: Global, is_late: bool) -> Result<Looped, &'static str> {
+    let link = link(alloc, is_late)?;
+    Client::new(alloc, link).map_err(|_| "no memory")
+}
+
+/// Whether a write of these bytes goes through, in two pieces, and is read back.
+fn goes_through(client: &mut Looped, bytes: &[u8], into: &mut [u8]) -> bool {
+    // The last reply is that of call 3, with error 0, and tells the size of the second piece, 34,464.
+    let last = [
+        0, 0, 0, 3, 0, 0, 0, 1, 0, 0, 0, 0, 0, 0, 0, 0, 0, 0, 0, 0, 0, 0, 0, 0, 0, 0, 0, 0, 0, 0,
+        0x86, 0xA0,
+    ];
+    let end = ReadEnd {
+        len: 100_000,
+        reason: 5,
+    };
+    client.create_link(false, 0, b"gpib0,5") == Ok(LINK)
+        && through_client(client, &LINK, &OPTS, bytes) == Ok(())
+        && client.last() == last.as_slice()
+        && client.read(1, &OPTS, 0, into) == Ok(end)
+        && &*into == bytes
+}
+
+/// The same for a text over a client of its own.
+fn text_goes_through(alloc: Global, bytes: &[u8], into: &mut [u8]) -> Result<bool, Fail> {
+    let mut client = client(alloc, false)?;
+    Ok(goes_through(&mut client, bytes, into))
+}
+
+#[test]
+fn a_write_goes_through(rt: HostRuntime) -> Result<(), Fail> {
+    let alloc = rt.alloc();
+    let mut bytes = vec![in alloc; 0u8; 100_000]?;
+    for (i, byte) in bytes.iter_mut().enumerate() {
+        *byte = (i % 251) as u8;
+    }
+    let mut into = vec![in alloc; 0u8; 100_000]?;
+    assert!(rt; text_goes_through(alloc, bytes.as_slice(), into.as_mut_slice())?);
+    Ok(())
+}
+
+/// A call of a client. Those that name a link name 1.
+#[derive(Clone, Copy)]
+enum Ask {
+    Create { lock: bool, device: &'static [u8] },
+    Write(&'static [u8]),
+    ReadStb,
+    Trigger,
+    Clear,
+    Remote,
+    Local,
+    Lock,
+    Unlock,
+    Destroy,
+    EnableSrq,
+    CreateIntr,
+    DestroyIntr,
+    /// The command byte 0x3F over this link, into two bytes.
+    Docmd(u32),
+}
+
+const DONE: Answer = Ok(Got::Done);
+
+const MADE: Answer = Ok(Got::Link(LINK));
+
+/// Calls of a client over a gateway, and what stands in the two bytes behind them, which are 0 before.
+struct Row {
+    is_late: bool,
+    steps: &'static [(Ask, Answer)],
+    room: [u8; 2],
+}
+
+const ROWS: [Row; 5] = [
+    // Each call of a link to the device, and writes between them.
+    Row {
+        is_late: false,
+        steps: &[
+            (
+                Ask::Create {
+                    lock: true,
+                    device: b"gpib0,5",
+                },
+                MADE,
+            ),
+            (Ask::ReadStb, Ok(Got::Status(0))),
+            (Ask::Trigger, DONE),
+            (Ask::Clear, DONE),
+            (Ask::Write(b"B"), DONE),
+            (Ask::Remote, DONE),
+            (Ask::Local, DONE),
+            (Ask::Unlock, DONE),
+            (Ask::Lock, DONE),
+            (Ask::Write(b"C"), DONE),
+            (Ask::Destroy, DONE),
+            (Ask::Destroy, Err(ClientErr::Device(4))),
+        ],
+        room: [0, 0],
+    },
+    // Those for interrupts. A dial fails: no channel.
+    Row {
+        is_late: false,
+        steps: &[
+            (
+                Ask::Create {
+                    lock: false,
+                    device: b"gpib0,5",
+                },
+                MADE,
+            ),
+            (Ask::EnableSrq, DONE),
+            (Ask::CreateIntr, Err(ClientErr::Device(6))),
+            (Ask::DestroyIntr, Err(ClientErr::Device(6))),
+        ],
+        room: [0, 0],
+    },
+    // A command of the bus is refused on a device, and sends its byte on the interface.
+    Row {
+        is_late: false,
+        steps: &[
+            (
+                Ask::Create {
+                    lock: false,
+                    device: b"gpib0,5",
+                },
+                MADE,
+            ),
+            (
+                Ask::Create {
+                    lock: false,
+                    device: b"gpib0",
+                },
+                Ok(Got::Link(LinkMade {
+                    lid: 2,
+                    abort_port: 9011,
+                    max: 65536,
+                })),
+            ),
+            (Ask::Docmd(1), Err(ClientErr::Device(8))),
+            (Ask::Docmd(2), Ok(Got::Bytes(1))),
+        ],
+        room: [0x3F, 0],
+    },
+    // Nobody takes the byte until the timeout has passed.
+    Row {
+        is_late: false,
+        steps: &[
+            (
+                Ask::Create {
+                    lock: false,
+                    device: b"gpib0,6",
+                },
+                MADE,
+            ),
+            (Ask::Write(b"A"), Err(ClientErr::Device(15))),
+        ],
+        room: [0, 0],
+    },
+    // Nobody takes the byte, and no later moment is left to poll at.
+    Row {
+        is_late: true,
+        steps: &[
+            (
+                Ask::Create {
+                    lock: false,
+                    device: b"gpib0,6",
+                },
+                MADE,
+            ),
+            (Ask::Write(b"A"), Err(ClientErr::ReadFault)),
+        ],
+        room: [0, 0],
+    },
+];
+
+fn no_handle() -> Handle {
+    Handle {
+        bytes: ArrayVec::new(),
+    }
+}
+
+/// What a call answers that gives nothing.
+fn order(client: &mut Looped, ask: Ask) -> Result<(), ClientErr> {
+    match ask {
+        Ask::Write(bytes) => through_client(client, &LINK, &OPTS, bytes),
+        Ask::Trigger => client.trigger(1, &OPTS),
+        Ask::Clear => client.clear(1, &OPTS),
+        Ask::Remote => client.remote(1, &OPTS),
+        Ask::Local => client.local(1, &OPTS),
+        Ask::Lock => client.lock(1, &OPTS),
+        Ask::Unlock => client.unlock(1),
+        Ask::Destroy => client.destroy_link(1),
+        Ask::EnableSrq => client.enable_srq(1, true, &no_handle()),
+        Ask::CreateIntr => client.create_intr_chan(0x7F000001, 9012, 0x0607B1, 1),
+        Ask::DestroyIntr => client.destroy_intr_chan(),
+        _ => Err(ClientErr::Spent),
+    }
+}
+
+/// What a call answers.
+fn answer(client: &mut Looped, ask: Ask, room: &mut [u8; 2]) -> Answer {
+    match ask {
+        Ask::Create { lock, device } => client
+            .create_link(lock, 0, &device[..device.len().min(DEVICE_MAX)])
+            .map(Got::Link),
+        Ask::ReadStb => client.readstb(1, &OPTS).map(Got::Status),
+        Ask::Docmd(lid) => client
+            .docmd(lid, &OPTS, 0x020000, &[0x3F], room)
+            .map(Got::Bytes),
+        _ => order(client, ask).map(|_| Got::Done),
+    }
+}
+
+/// Whether the calls of a row are answered as it says.
+fn is_answered(client: &mut Looped, row: &Row) -> bool {
+    let mut room = [0; 2];
+    let mut same = true;
+    for (ask, want) in row.steps {
+        same = same && answer(client, *ask, &mut room) == *want;
+    }
+    same && room == row.room
+}
+
+/// Whether a row holds.
+fn holds(alloc: Global, row: &Row) -> Result<bool, Fail> {
+    let mut client = client(alloc, row.is_late)?;
+    Ok(is_answered(&mut client, row))
+}
+
+#[test]
+fn calls_are_answered(rt: HostRuntime) -> Result<(), Fail> {
+    for (i, row) in ROWS.iter().enumerate() {
+        assert!(rt; holds(rt.alloc(), row)?, "row {i}");
+    }
+    Ok(())
+}
+
+/// Whether a command over a link ends with a status and prints a text.
+fn comes_so(
+    alloc: Global,
+    words: &[String],
+    reach: MemReach<LoopLink<Echo>>,
+    status: u8,
+    text: &str,
+) -> bool {
+    let mut sink = MemSink::new(Vec::new(alloc), Vec::new(alloc));
+    let (number, _) = call_run(alloc, words, reach, &mut sink);
+    number == status && sink.bytes() == text.as_bytes()
+}
+
+/// The same for the words of a line.
+fn line_comes_so(alloc: Global, line: &str, status: u8, text: &str) -> Result<bool, Fail> {
+    let list = line_words(alloc, line)?;
+    let host = String::from_str(alloc, "h")?;
+    let link = link(alloc, false)?;
+    let reach = MemReach::new(link, host, 9010);
+    Ok(comes_so(alloc, list.as_slice(), reach, status, text))
+}
+
+#[test]
+fn a_command_is_done(rt: HostRuntime) -> Result<(), Fail> {
+    for (line, status, text) in [
+        ("h 9010 gpib0,5 query A", 0, "410A\n"),
+        ("h 9010 gpib0,31 query A", 3, "error 21\n"),
+    ] {
+        assert!(rt; line_comes_so(rt.alloc(), line, status, text)?, "{line}");
+    }
+    Ok(())
+}
+
+/// A send over a link and what it answers, or a receive of at most so many bytes, at most 20, what it answers, and the front
+/// of what came.
+#[derive(Clone, Copy)]
+enum Act {
+    Send(&'static [u8], WriteOut),
+    Receive(usize, ReadOut, &'static [u8]),
+}
+
+/// The null procedure, as call 1.
+const NULL: [u8; 44] = [
+    0x80, 0, 0, 40, 0, 0, 0, 1, 0, 0, 0, 0, 0, 0, 0, 2, 0, 6, 7, 0xAF, 0, 0, 0, 1, 0, 0, 0, 0, 0,
+    0, 0, 0, 0, 0, 0, 0, 0, 0, 0, 0, 0, 0, 0, 0,
+];
+
+/// The first 20 bytes of its reply.
+const REPLY: [u8; 20] = [
+    0x80, 0, 0, 24, 0, 0, 0, 1, 0, 0, 0, 1, 0, 0, 0, 0, 0, 0, 0, 0,
+];
+
+/// What a link does by turns.
+const ACTS: [&[Act]; 3] = [
+    // A record of one byte, which is no call, fails, and ends the connection.
+    &[
+        Act::Send(&[0x80, 0, 0, 1], WriteOut::Took(4)),
+        Act::Receive(8, ReadOut::End, &[]),
+        Act::Send(&[0], WriteOut::Failed),
+        Act::Send(&[0, 1], WriteOut::Took(2)),
+        Act::Receive(8, ReadOut::End, &[]),
+    ],
+    // So does one of 66,561 bytes, which is too long.
+    &[Act::Send(&[0x80, 1, 4, 1, 0], WriteOut::Failed)],
+    // A reply is given once, in parts of at most 20 bytes; and what comes before a whole reply was received ends the
+    // connection.
+    &[
+        Act::Send(&NULL, WriteOut::Took(44)),
+        Act::Receive(20, ReadOut::Got(20), &REPLY),
+        Act::Receive(20, ReadOut::Got(8), &[]),
+        Act::Receive(20, ReadOut::End, &[]),
+        Act::Send(&NULL, WriteOut::Took(44)),
+        Act::Send(&NULL, WriteOut::Took(44)),
+        Act::Receive(20, ReadOut::Got(20), &[]),
+        Act::Receive(20, ReadOut::Got(8), &[]),
+        Act::Send(&NULL, WriteOut::Took(44)),
+        Act::Receive(20, ReadOut::End, &[]),
+    ],
+];
+
+/// Whether a send or a receive is answered so.
+fn acts_so(link: &mut LoopLink<Echo>, act: Act) -> bool {
+    match act {
+        Act::Send(bytes, want) => !bytes.is_empty() && link.send(bytes) == want,
+        Act::Receive(most, want, front) => {
+            let mut room = [9u8; 20];
+            link.receive(&mut room[..most.clamp(1, 20)]) == want && room.starts_with(front)
+        }
+    }
+}
+
+/// Whether a link answers all of these so.
+fn acts(link: &mut LoopLink<Echo>, list: &[Act]) -> bool {
+    let mut same = true;
+    for act in list {
+        same = same && acts_so(link, *act);
+    }
+    same
+}
+
+/// The same of a link of its own.
+fn link_acts(alloc: Global, list: &[Act]) -> Result<bool, Fail> {
+    let mut link = link(alloc, false)?;
+    Ok(acts(&mut link, list))
+}
+
+#[test]
+fn records_are_answered(rt: HostRuntime) -> Result<(), Fail> {
+    for (i, list) in ACTS.iter().enumerate() {
+        assert!(rt; link_acts(rt.alloc(), list)?, "row {i}");
+    }
+    Ok(())
+}

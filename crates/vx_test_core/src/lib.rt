@@ -1,0 +1,17 @@
+//! Tests of the shared gateway, its turns and its sessions.
+#![tactic(auto)]
+
+#[cfg(test)]
+mod core_tests;
+#[cfg(test)]
+mod gateways;
+#[cfg(test)]
+mod kernel_tests;
+#[cfg(test)]
+mod pump_tests;
+#[cfg(test)]
+mod session_crossed;
+#[cfg(test)]
+mod session_tests;
+#[cfg(test)]
+mod turns_tests;

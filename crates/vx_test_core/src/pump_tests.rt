@@ -1,0 +1,252 @@
+//! Pumps of the channel of a connection with two interrupts in its outbox. The record is the one of RFC 5531, section 9, and of
+//! VXI-11, device_intr_srq.
+ghost use Rattle.std.specs.Prelude.{◌≡◌, ◌≤◌, true, length, IfSome};
+ghost use Rattle.vx_calls.specs.Call.{call_shown};
+ghost use Rattle.vx_calls.specs.declared.calls.Role.TheVariants as role;
+ghost use Rattle.vx_rules.specs.One.{may_wait};
+ghost use Rattle.vx_rules.specs.Held.{IsShort};
+ghost use Rattle.vx_message.specs.declared.record.TheConstants.{REPLY_ROOM};
+ghost use Rattle.vx_gate.specs.Gates.{gate_of};
+ghost use Rattle.vx_group.specs.Seats.{Idle};
+ghost use Rattle.vx_turns.specs.Turning.{seat_at};
+
+use crate::gateways::{PORT, Pauses, are_words};
+use arrayvec::ArrayVec;
+use std::alloc::{AllocError, Global};
+use std::sync::Wait;
+use std::test::Fail;
+use vx_488::Addr;
+use vx_bus_traits::Bus;
+use vx_calls::{CallRef, Handle, Role};
+use vx_core::Core;
+use vx_gate::{Gate, Pass, Turns};
+use vx_group::first_law;
+use vx_io::{MemClock, MemLink};
+use vx_message::REPLY_ROOM;
+use vx_pump::{PumpEnd, pump, sample_turn};
+use vx_rack::Echo;
+use vx_sim::SimBus;
+use vx_turns::{PollEnd, come, join, settle};
+
+type Asking = Core<SimBus<Echo>>;
+
+/// An instrument stands at 5, and asks for service.
+fn hang(bus: &mut SimBus<Echo>, echo: Echo) -> bool
+    ensures { bus.new.means ≡ bus.old.means }
+{
+    let at = Addr { p: 5, s: None };
+    match bus.attach_box(at, echo) {
+        Err(_) => false,
+        Ok(()) => match bus.set_status(at, 0x40) {
+            Err(_) => false,
+            Ok(()) => true,
+        },
+    }
+}
+
+/// A gate round a gateway whose bus has an instrument that asks for service, and its pass.
+fn gateway(alloc: Global) -> Option<(Gate<Asking>, Pass<Asking>)>
+    ensures { IfSome result (λ r. r.1.gate ≡ gate_of r.0) }
+{
+    first_law();
+    let Ok(echo) = Echo::new(alloc) else {
+        return None;
+    };
+    let Ok(mut bus) = SimBus::new(alloc) else {
+        return None;
+    };
+    if !hang(&mut bus, echo) {
+        return None;
+    }
+    let Ok(core) = Core::start(alloc, bus, PORT) else {
+        return None;
+    };
+    match Gate::start(alloc, core) {
+        Ok(started) => Some(started),
+        Err(_) => None,
+    }
+}
+
+/// A handle of one byte.
+fn handle(byte: u8) -> Handle {
+    let mut bytes = ArrayVec::new();
+    let _ = bytes.try_push(byte);
+    Handle { bytes }
+}
+
+/// Has a call answered that waits for nothing.
+fn ask<R: Wait, B: Bus, T: Turns<Core<B>>>(
+    rt: &R,
+    turns: &T,
+    pass: Pass<Core<B>>,
+    conn: u32,
+    call: &CallRef<'_>,
+    reply: &mut [u8],
+) -> Option<Pass<Core<B>>>
+    requires gate { pass.gate ≡ T.gate turns.now }
+    requires seat { seat_at pass conn ≡ Idle role.Core }
+    requires waits { may_wait (call_shown call.now) ≡ true }
+    requires short { IsShort (call_shown call.now) }
+    requires room { REPLY_ROOM ≤ length reply.old }
+    ensures gate { IfSome result (λ p. p.gate ≡ T.gate turns.now) }
+    ensures seat { IfSome result (λ p. seat_at p conn ≡ Idle role.Core) }
+    ensures len { length reply.new ≡ length reply.old }
+{
+    match come(rt, turns, pass, conn, 1, call, 0, reply) {
+        (pass, PollEnd::Replied { .. }) => Some(pass),
+        _ => None,
+    }
+}
+
+/// Has a connection's channel made, of number 1.
+fn make_channel<R: Wait, B: Bus, T: Turns<Core<B>>>(
+    rt: &R,
+    turns: &T,
+    pass: Pass<Core<B>>,
+    conn: u32,
+    reply: &mut [u8],
+) -> Option<Pass<Core<B>>>
+    requires gate { pass.gate ≡ T.gate turns.now }
+    requires seat { seat_at pass conn ≡ Idle role.Core }
+    requires room { REPLY_ROOM ≤ length reply.old }
+    ensures gate { IfSome result (λ p. p.gate ≡ T.gate turns.now) }
+    ensures seat { IfSome result (λ p. seat_at p conn ≡ Idle role.Core) }
+    ensures len { length reply.new ≡ length reply.old }
+{
+    let channel = CallRef::CreateIntr {
+        host: 0x7F000001,
+        port: 9012,
+        prog: 0x0607B1,
+        vers: 1,
+        family: 0,
+    };
+    match come(rt, turns, pass, conn, 2, &channel, 0, reply) {
+        (pass, PollEnd::Dial { .. }) => Some(settle(rt, turns, pass, conn, true, 0).0),
+        _ => None,
+    }
+}
+
+/// Has a link made to the instrument, and enabled with a handle of this byte.
+fn make_link<R: Wait, B: Bus, T: Turns<Core<B>>>(
+    rt: &R,
+    turns: &T,
+    pass: Pass<Core<B>>,
+    conn: u32,
+    lid: u32,
+    byte: u8,
+    reply: &mut [u8],
+) -> Option<Pass<Core<B>>>
+    requires gate { pass.gate ≡ T.gate turns.now }
+    requires seat { seat_at pass conn ≡ Idle role.Core }
+    requires room { REPLY_ROOM ≤ length reply.old }
+    ensures gate { IfSome result (λ p. p.gate ≡ T.gate turns.now) }
+    ensures seat { IfSome result (λ p. seat_at p conn ≡ Idle role.Core) }
+    ensures len { length reply.new ≡ length reply.old }
+{
+    let link = CallRef::CreateLink {
+        client: 0,
+        lock: false,
+        lock_timeout: 0,
+        device: b"gpib0,5",
+    };
+    let pass = ask(rt, turns, pass, conn, &link, reply)?;
+    let enable = CallRef::EnableSrq {
+        lid,
+        enable: true,
+        handle: handle(byte),
+    };
+    ask(rt, turns, pass, conn, &enable, reply)
+}
+
+/// Makes a connection with an interrupt channel and two links to the instrument, enabled with the handles `a` and `b`; then
+/// the line is looked at.
+fn enabled<R: Wait, B: Bus, T: Turns<Core<B>>>(
+    rt: &R,
+    alloc: Global,
+    turns: &T,
+    pass: Pass<Core<B>>,
+    reply: &mut [u8],
+) -> Option<Pass<Core<B>>>
+    requires gate { pass.gate ≡ T.gate turns.now }
+    requires room { REPLY_ROOM ≤ length reply.old }
+    ensures { IfSome result (λ p. p.gate ≡ T.gate turns.now) }
+{
+    let (pass, joined) = join(rt, alloc, turns, pass, Role::Core);
+    let Ok(conn) = joined else {
+        return None;
+    };
+    let pass = make_channel(rt, turns, pass, conn, reply)?;
+    let pass = make_link(rt, turns, pass, conn, 1, b'a', reply)?;
+    let pass = make_link(rt, turns, pass, conn, 2, b'b', reply)?;
+    let mut clock = MemClock::new(Vec::new(alloc));
+    Some(sample_turn(rt, turns, pass, &mut clock))
+}
+
+/// Pumps a channel of connection 1, with two interrupts in the outbox of its channel 1.
+fn pump_enabled<R: Wait, B: Bus, T: Turns<Core<B>>>(
+    rt: &R,
+    alloc: Global,
+    turns: &T,
+    pass: Pass<Core<B>>,
+    chan: u32,
+    link: &mut MemLink,
+    reply: &mut [u8],
+) -> Option<PumpEnd>
+    requires gate { pass.gate ≡ T.gate turns.now }
+    requires room { REPLY_ROOM ≤ length reply.old }
+{
+    let pass = enabled(rt, alloc, turns, pass, reply)?;
+    let mut pauses = Pauses { count: 0 };
+    Some(pump(rt, turns, pass, 1, chan, link, &mut pauses).1)
+}
+
+/// The same at a gate of its own.
+fn run_pump<R: Wait>(
+    rt: &R,
+    alloc: Global,
+    chan: u32,
+    link: &mut MemLink,
+    reply: &mut [u8],
+) -> Option<PumpEnd>
+    requires room { REPLY_ROOM ≤ length reply.old }
+{
+    let (gate, pass) = gateway(alloc)?;
+    pump_enabled(rt, alloc, &gate, pass, chan, link, reply)
+}
+
+/// The record of the first interrupt.
+const TAKEN: [u32; 13] = [
+    0x80000030, 1, 0, 2, 0x0607B1, 1, 30, 0, 0, 0, 0, 1, 0x61000000,
+];
+
+/// How the pump of a channel ends whose link fails at its call of this number, and whether the link took these words.
+fn pumped<R: Wait>(
+    rt: &R,
+    alloc: Global,
+    chan: u32,
+    fails: u64,
+    took: &[u32],
+) -> Result<(Option<PumpEnd>, bool), AllocError> {
+    let mut reply = vec![in alloc; 0; REPLY_ROOM]?;
+    let fails = vec![in alloc; fails; 1]?;
+    let mut link = MemLink::new(Vec::new(alloc), 1, Vec::new(alloc), fails);
+    let end = run_pump(rt, alloc, chan, &mut link, &mut reply);
+    Ok((end, are_words(link.bytes(), took)))
+}
+
+/// A channel of connection 1, the call of the link that fails, how the pump ends, and what the link took.
+const ROWS: [(u32, u64, PumpEnd, &[u32]); 4] = [
+    (1, 1, PumpEnd::WriteFault, &[]),
+    (1, 2, PumpEnd::WriteFault, &TAKEN),
+    (2, 9, PumpEnd::ChannelGone, &[]),
+    (0, 9, PumpEnd::ChannelGone, &[]),
+];
+
+#[test]
+fn a_pump_writes_interrupts(rt: HostRuntime) -> Result<(), Fail> {
+    for &(chan, fails, end, took) in &ROWS {
+        let came = pumped(&rt, rt.alloc(), chan, fails, took)?;
+        assert_eq!(rt; came, (Some(end), true), "of channel {chan}");
+    }
+    Ok(())
+}

@@ -1,0 +1,270 @@
+//! Links that are served, each by a gateway of its own. The records are those of RFC 5531, sections 9 and 11, and of VXI-11.
+ghost use Rattle.std.specs.Prelude.{◌≡◌};
+
+use crate::gateways::{Pauses, are_words, gateway, words};
+use std::alloc::{AllocError, Global};
+use std::sync::Wait;
+use std::test::Fail;
+use vx_io::{MemClock, MemDial, MemLink, Rang};
+use vx_session::{End, LinkDone, Linked, Room, Tally, abort_link, core_link};
+
+/// A link, what is outside of its session, and what is to come of it.
+#[derive(Clone, Copy)]
+struct Row {
+    name: &'static str,
+    /// The words that the link gives, and bytes behind them.
+    gives: &'static [u32],
+    rest: &'static [u8],
+    /// How many bytes a receive gives, at most.
+    piece: usize,
+    /// Which of its calls fail, of receives and sends together.
+    fails: &'static [u64],
+    /// Which moving calls of the bus are held.
+    holds: &'static [u64],
+    moments: &'static [u64],
+    /// Which dials fail.
+    dial_fails: &'static [u64],
+    how: Linked,
+    took: &'static [u32],
+    rang: &'static [Rang],
+}
+
+/// A create_link: xid 1, client 42, no lock, the device `gpib0,5`.
+const CREATE: [u32; 17] = [
+    0x80000040, 1, 0, 2, 0x0607AF, 1, 10, 0, 0, 0, 0, 42, 0, 0, 7, 0x67706962, 0x302C3500,
+];
+
+/// Its reply: error 0, link 1, the abort port, and at most 65,536 bytes a write.
+const CREATED: [u32; 11] = [0x80000028, 1, 1, 0, 0, 0, 0, 0, 1, 9011, 65536];
+
+/// The create_link, of which nothing fails.
+const PLAIN: Row = Row {
+    name: "a create_link",
+    gives: &CREATE,
+    rest: &[],
+    piece: 100,
+    fails: &[],
+    holds: &[],
+    moments: &[],
+    dial_fails: &[],
+    how: Linked::Ended(End::Closed),
+    took: &CREATED,
+    rang: &[],
+};
+
+const HOST: u32 = 0x7F000001;
+
+const ROWS: [Row; 10] = [
+    PLAIN,
+    Row {
+        name: "a create_link by single bytes",
+        piece: 1,
+        ..PLAIN
+    },
+    Row {
+        name: "an input that ends in a record",
+        gives: &[0x80000040, 1],
+        rest: &[0, 0],
+        piece: 4,
+        how: Linked::Ended(End::CutShort { bytes: 10 }),
+        took: &[],
+        ..PLAIN
+    },
+    Row {
+        name: "a record of one byte",
+        gives: &[0x80000001],
+        rest: &[0],
+        piece: 4,
+        how: Linked::Ended(End::Junk { length: 1 }),
+        took: &[],
+        ..PLAIN
+    },
+    Row {
+        name: "a record that is too long",
+        gives: &[0x80010401],
+        piece: 4,
+        how: Linked::Ended(End::TooLong),
+        took: &[],
+        ..PLAIN
+    },
+    Row {
+        name: "a receive that fails",
+        piece: 68,
+        fails: &[1],
+        how: Linked::Ended(End::ReadFault),
+        took: &[],
+        ..PLAIN
+    },
+    Row {
+        name: "a send that fails",
+        piece: 68,
+        fails: &[2],
+        how: Linked::Ended(End::WriteFault),
+        took: &[],
+        ..PLAIN
+    },
+    Row {
+        name: "a receive that fails behind a reply",
+        piece: 68,
+        fails: &[3],
+        how: Linked::Ended(End::ReadFault),
+        ..PLAIN
+    },
+    // create_link of `gpib0,6`, and a device_write of one byte with an io_timeout of 100 ms; the byte behind UNL, MTA and MLA
+    // is held, and held again
+    Row {
+        name: "a write that times out",
+        gives: &[
+            0x80000040, 1, 0, 2, 0x0607AF, 1, 10, 0, 0, 0, 0, 0, 0, 0, 7, 0x67706962, 0x302C3600,
+            0x80000040, 2, 0, 2, 0x0607AF, 1, 11, 0, 0, 0, 0, 1, 100, 0, 8, 1, 0x41000000,
+        ],
+        piece: 4096,
+        holds: &[4, 5],
+        moments: &[0, 0, 100],
+        took: &[
+            0x80000028, 1, 1, 0, 0, 0, 0, 0, 1, 9011, 65536, 0x80000020, 2, 1, 0, 0, 0, 0, 15, 0,
+        ],
+        ..PLAIN
+    },
+    // create_intr_chan to 127.0.0.1, port 9012, twice
+    Row {
+        name: "a dial that fails, and one that stands",
+        gives: &[
+            0x8000003C, 1, 0, 2, 0x0607AF, 1, 25, 0, 0, 0, 0, 0x7F000001, 9012, 0x0607B1, 1, 0,
+            0x8000003C, 2, 0, 2, 0x0607AF, 1, 25, 0, 0, 0, 0, 0x7F000001, 9012, 0x0607B1, 1, 0,
+        ],
+        piece: 4096,
+        dial_fails: &[1],
+        took: &[
+            0x8000001C, 1, 1, 0, 0, 0, 0, 6, 0x8000001C, 2, 1, 0, 0, 0, 0, 0,
+        ],
+        rang: &[
+            Rang::Dialed {
+                host: HOST,
+                port: 9012,
+                up: false,
+            },
+            Rang::Dialed {
+                host: HOST,
+                port: 9012,
+                up: true,
+            },
+            Rang::Handed { conn: 1, chan: 1 },
+        ],
+        ..PLAIN
+    },
+];
+
+/// A link that gives these words and bytes, so many bytes a receive, and of which these calls fail.
+fn link_of(
+    alloc: Global,
+    gives: &[u32],
+    rest: &[u8],
+    piece: usize,
+    fails: &[u64],
+) -> Result<MemLink, AllocError> {
+    let fails = fails.to_vec(alloc)?;
+    let gives = words(alloc, gives, rest)?;
+    Ok(MemLink::new(gives, piece.max(1), Vec::new(alloc), fails))
+}
+
+/// What a session has beside its link.
+#[derive(Drop)]
+struct Outside {
+    clock: MemClock,
+    pauses: Pauses,
+    dial: MemDial,
+    room: Room,
+}
+
+fn make_outside(alloc: Global, moments: &[u64], fails: &[u64]) -> Result<Outside, Fail> {
+    let moments = moments.to_vec(alloc)?;
+    let fails = fails.to_vec(alloc)?;
+    let room = Room::new(alloc).map_err(|_| "no memory")?;
+    Ok(Outside {
+        room,
+        clock: MemClock::new(moments),
+        pauses: Pauses { count: 0 },
+        dial: MemDial::new(Vec::new(alloc), fails),
+    })
+}
+
+/// Serves a core link by a gateway of its own.
+fn serve<R: Wait>(
+    rt: &R,
+    alloc: Global,
+    holds: &[u64],
+    link: MemLink,
+    outside: &mut Outside,
+) -> Option<LinkDone<MemLink>> {
+    let (gate, pass) = gateway(alloc, holds)?;
+    let (_pass, done) = core_link(
+        rt,
+        alloc,
+        &gate,
+        pass,
+        link,
+        &mut outside.clock,
+        &mut outside.pauses,
+        &mut outside.dial,
+        &mut outside.room,
+    );
+    Some(done)
+}
+
+/// What came of a link: how it ended, how many links a count counts before and behind it, whether it took these words, and
+/// whether its dial was told these calls.
+type Came = (Linked, [u64; 2], bool, bool);
+
+fn seen(done: LinkDone<MemLink>, dial: &MemDial, took: &[u32], rang: &[Rang]) -> Came {
+    let how = *done.how();
+    let took = are_words(done.link().bytes(), took);
+    let mut tally = Tally::new();
+    let before = tally.number();
+    tally.add(done);
+    let counted = [before, tally.number()];
+    (how, counted, took, dial.calls() == Some(rang))
+}
+
+/// Serves the link of a row.
+fn serve_row<R: Wait>(rt: &R, alloc: Global, row: &Row) -> Result<Came, Fail> {
+    let mut outside = make_outside(alloc, row.moments, row.dial_fails)?;
+    let link = link_of(alloc, row.gives, row.rest, row.piece, row.fails)?;
+    let done = serve(rt, alloc, row.holds, link, &mut outside).ok_or("no memory")?;
+    Ok(seen(done, &outside.dial, row.took, row.rang))
+}
+
+#[test]
+fn links_are_served(rt: HostRuntime) -> Result<(), Fail> {
+    for row in &ROWS {
+        let came = serve_row(&rt, rt.alloc(), row)?;
+        assert_eq!(rt; came, (row.how, [0, 1], true, true), "of {}", row.name);
+    }
+    Ok(())
+}
+
+/// Serves an abort link by a gateway of its own.
+fn serve_abort<R: Wait>(
+    rt: &R,
+    alloc: Global,
+    link: &mut MemLink,
+    room: &mut Room,
+) -> Option<Linked> {
+    let (gate, pass) = gateway(alloc, &[])?;
+    let (_pass, how) = abort_link(rt, alloc, &gate, pass, link, room);
+    Some(how)
+}
+
+// a device_abort of link 9, which isn't there
+#[test]
+fn aborts_a_link_that_is_not_there(rt: HostRuntime) -> Result<(), Fail> {
+    let alloc = rt.alloc();
+    let gives = [0x8000002C, 1, 0, 2, 0x0607B0, 1, 1, 0, 0, 0, 0, 9];
+    let took = [0x8000001C, 1, 1, 0, 0, 0, 0, 4];
+    let mut room = Room::new(alloc).map_err(|_| "no memory")?;
+    let mut link = link_of(alloc, &gives, &[], 4096, &[])?;
+    let how = serve_abort(&rt, alloc, &mut link, &mut room);
+    let came = (how, are_words(link.bytes(), &took));
+    assert_eq!(rt; came, (Some(Linked::Ended(End::Closed)), true));
+    Ok(())
+}

@@ -1,0 +1,5 @@
+//! Tests of the gate.
+#![tactic(auto)]
+
+#[cfg(test)]
+mod gate_tests;

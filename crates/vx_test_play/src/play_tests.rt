@@ -1,0 +1,332 @@
+//! Plays whose words, source or sink fail, and scripts that are too long for a file. Other scripts are rows of the program
+//! `vx_rows`. Records are composed by hand from their words; the record's mark stands first.
+
+use arrayvec::ArrayString;
+use std::alloc::{AllocError, Global};
+use std::test::Fail;
+use vx_io::{MemSink, MemSource, ReadOut, Source};
+use vx_play::*;
+use vx_rack::{Echo, Spare};
+
+/// Words that are no command.
+const NO_COMMANDS: [&[&str]; 6] = [
+    &[],
+    &["play"],
+    &["run", "x"],
+    &["RUN"],
+    &[""],
+    &["--version"],
+];
+
+/// Sinks in front of which those words stand: the write that fails, if one does, the status, and what is printed.
+const SINKS: [(&[u64], u8, &[u8]); 2] = [(&[], 1, b"usage: vxplay COMMAND\n"), (&[1], 4, b"")];
+
+/// A text, so many times.
+type Piece = (&'static str, usize);
+
+/// What a play prints.
+#[derive(Clone, Copy)]
+enum Printed {
+    /// These pieces, one behind the other.
+    All(&'static [Piece]),
+    /// A front of this text, and not all of it.
+    FrontOf(&'static str),
+}
+
+/// A play of a script in pieces, whose source gives at most so many bytes at once. The reads and writes of these numbers
+/// fail.
+#[derive(Clone, Copy)]
+struct Row {
+    name: &'static str,
+    script: &'static [Piece],
+    read: usize,
+    read_fails: &'static [u64],
+    write_fails: &'static [u64],
+    status: u8,
+    printed: Printed,
+}
+
+/// A script that prints three lines.
+const THREE_LINES: &[Piece] = &[("up 1 core\ndown 1\nup 2 core\ndown 2\n", 1)];
+
+/// What it prints.
+const THREE_PRINTED: Printed = Printed::FrontOf("gone 1 down\ngone 2 down\ndone\n");
+
+const ROWS: [Row; 12] = [
+    // A source whose second read fails: nothing is written.
+    Row {
+        name: "second read fails, a byte a read",
+        script: THREE_LINES,
+        read: 1,
+        read_fails: &[2],
+        write_fails: &[],
+        status: 2,
+        printed: Printed::All(&[]),
+    },
+    Row {
+        name: "second read fails, ten bytes a read",
+        script: THREE_LINES,
+        read: 10,
+        read_fails: &[2],
+        write_fails: &[],
+        status: 2,
+        printed: Printed::All(&[]),
+    },
+    Row {
+        name: "second read fails, at the end",
+        script: THREE_LINES,
+        read: 100,
+        read_fails: &[2],
+        write_fails: &[],
+        status: 2,
+        printed: Printed::All(&[]),
+    },
+    // Sinks of which a write fails: a front of the text.
+    Row {
+        name: "no room for the last line",
+        script: &[],
+        read: 100,
+        read_fails: &[],
+        write_fails: &[1],
+        status: 4,
+        printed: Printed::FrontOf("done\n"),
+    },
+    Row {
+        name: "no room for a fault",
+        script: &[("UP 1 core\n", 1)],
+        read: 100,
+        read_fails: &[],
+        write_fails: &[1],
+        status: 4,
+        printed: Printed::FrontOf("fault line 1 form\n"),
+    },
+    Row {
+        name: "first write fails",
+        script: THREE_LINES,
+        read: 100,
+        read_fails: &[],
+        write_fails: &[1],
+        status: 4,
+        printed: THREE_PRINTED,
+    },
+    Row {
+        name: "second write fails",
+        script: THREE_LINES,
+        read: 100,
+        read_fails: &[],
+        write_fails: &[2],
+        status: 4,
+        printed: THREE_PRINTED,
+    },
+    Row {
+        name: "third write fails",
+        script: THREE_LINES,
+        read: 100,
+        read_fails: &[],
+        write_fails: &[3],
+        status: 4,
+        printed: THREE_PRINTED,
+    },
+    // A script of a byte more than one may have; a line as long as may be, and one byte longer.
+    Row {
+        name: "long script",
+        script: &[("\n", 67_108_865)],
+        read: 65_536,
+        read_fails: &[],
+        write_fails: &[],
+        status: 6,
+        printed: Printed::All(&[("fault long\n", 1)]),
+    },
+    Row {
+        name: "longest line",
+        script: &[("#", 1_048_576)],
+        read: 65_536,
+        read_fails: &[],
+        write_fails: &[],
+        status: 0,
+        printed: Printed::All(&[("done\n", 1)]),
+    },
+    Row {
+        name: "long line",
+        script: &[("#", 1_048_577)],
+        read: 65_536,
+        read_fails: &[],
+        write_fails: &[],
+        status: 3,
+        printed: Printed::All(&[("fault line 1 form\n", 1)]),
+    },
+    // A write of 65,536 bytes is made whole; one of a byte more is refused before anything is put.
+    Row {
+        name: "longest write",
+        script: &[
+            (
+                "plug 5 echo
+up 1 core
+in 1 80000040000000010000000000000002000607AF000000010000000A000000000000000000000000000000000000000000000000000000000000000767706962302C3500
+in 1 8001003C000000020000000000000002000607AF000000010000000B000000000000000000000000000000000000000100002710000000000000000800010000",
+                1,
+            ),
+            ("41", 65_536),
+            (
+                "
+in 1 80010040000000030000000000000002000607AF000000010000000B000000000000000000000000000000000000000100002710000000000000000800010001",
+                1,
+            ),
+            ("41", 65_537),
+            ("000000\n", 1),
+        ],
+        read: 4096,
+        read_fails: &[],
+        write_fails: &[],
+        status: 0,
+        printed: Printed::All(&[
+            (
+                "out 1 8000002800000001000000010000000000000000000000000000000000000000000000010000233300010000
+bus 1 c3F c40 c25",
+                1,
+            ),
+            (" p41", 65_535),
+            (
+                " P41
+out 1 800000200000000200000001000000000000000000000000000000000000000000010000
+out 1 800000200000000300000001000000000000000000000000000000000000000500000000
+done
+",
+                1,
+            ),
+        ]),
+    },
+];
+
+/// The create_link of xid 1 and client 42 for the text gpib0,5, in fragments of 10 bytes, of none, and of 54, the last.
+const FRAGMENTS: &str =
+    "0000000A0000000100000000000000000000800000360002000607AF000000010000000A000000000000000000000000000000000000002A00000000000000000000000767706962302C3500";
+
+/// What is printed where it is answered: error 0, link 1, port 9011, 65536 bytes.
+const ONE_LINK: &[u8] =
+    b"out 1 8000002800000001000000010000000000000000000000000000000000000000000000010000233300010000\ndone\n";
+
+/// Adds a spare instrument of the name `echo`.
+fn add_echo(alloc: Global, rack: &mut Vec<Spare<Echo>>) -> Result<(), AllocError> {
+    let mut name = ArrayString::new();
+    match (name.try_push_str("echo"), Echo::new(alloc)) {
+        (Ok(()), Ok(inst)) => rack.push(Spare { name, inst }).map_err(|_| AllocError),
+        _ => Err(AllocError),
+    }
+}
+
+/// Plays these words with one spare instrument, and answers the status.
+fn play(
+    alloc: Global,
+    words: &[&str],
+    source: &mut MemSource,
+    sink: &mut MemSink,
+) -> Result<u8, AllocError> {
+    let mut owned = Vec::new(alloc);
+    for word in words {
+        owned.push(String::from_str(alloc, word)?)?;
+    }
+    let mut rack = Vec::new(alloc);
+    add_echo(alloc, &mut rack)?;
+    Ok(play_run(alloc, &owned, source, sink, rack))
+}
+
+/// Whether words that are no command end so, and leave the source unread: its first read, which fails, is still to come.
+fn is_usage(
+    alloc: Global,
+    words: &[&str],
+    write_fails: &[u64],
+    status: u8,
+    text: &[u8],
+) -> Result<bool, AllocError> {
+    let mut source = MemSource::new(Vec::new(alloc), 1, [1u64].to_vec(alloc)?);
+    let mut sink = MemSink::new(Vec::new(alloc), write_fails.to_vec(alloc)?);
+    let ended = play(alloc, words, &mut source, &mut sink)?;
+    Ok(ended == status && sink.bytes() == text && source.read(&mut [0]) == ReadOut::Failed)
+}
+
+#[test]
+fn words_that_are_no_command(rt: HostRuntime) -> Result<(), Fail> {
+    for words in NO_COMMANDS {
+        for (write_fails, status, text) in SINKS {
+            assert!(rt;
+                is_usage(rt.alloc(), words, write_fails, status, text)?,
+                "{words:?} with status {status}"
+            );
+        }
+    }
+    Ok(())
+}
+
+/// The text of pieces.
+fn text_of(alloc: Global, pieces: &[Piece]) -> Result<Vec<u8>, AllocError> {
+    let mut text = Vec::new(alloc);
+    for (piece, times) in pieces {
+        for _ in 0..*times {
+            text.extend_from_slice(piece.as_bytes())?;
+        }
+    }
+    Ok(text)
+}
+
+/// Whether a text is that of pieces.
+fn is_text_of(text: &[u8], pieces: &[Piece]) -> bool {
+    let mut rest = text;
+    for (piece, times) in pieces {
+        for _ in 0..*times {
+            match rest.strip_prefix(piece.as_bytes()) {
+                Some(behind) => rest = behind,
+                None => return false,
+            }
+        }
+    }
+    rest.is_empty()
+}
+
+fn is_printed(text: &[u8], printed: Printed) -> bool {
+    match printed {
+        Printed::All(pieces) => is_text_of(text, pieces),
+        Printed::FrontOf(whole) => whole.as_bytes().starts_with(text) && text.len() < whole.len(),
+    }
+}
+
+/// Whether a row's play ends as it says.
+fn is_right(alloc: Global, row: &Row) -> Result<bool, AllocError> {
+    let script = text_of(alloc, row.script)?;
+    let mut source = MemSource::new(script, row.read.max(1), row.read_fails.to_vec(alloc)?);
+    let mut sink = MemSink::new(Vec::new(alloc), row.write_fails.to_vec(alloc)?);
+    let status = play(alloc, &["run"], &mut source, &mut sink)?;
+    Ok(status == row.status && is_printed(sink.bytes(), row.printed))
+}
+
+#[test]
+fn plays(rt: HostRuntime) -> Result<(), Fail> {
+    for row in &ROWS {
+        assert!(rt; is_right(rt.alloc(), row)?, "{}", row.name);
+    }
+    Ok(())
+}
+
+/// Whether the link is made where the stream comes in two pieces, cut behind so many digits.
+fn is_made_of_two(alloc: Global, digits: usize) -> Result<bool, AllocError> {
+    let Some((front, rest)) = FRAGMENTS.split_at_checked(digits) else {
+        return Ok(false);
+    };
+    let script = format!(in alloc; "up 1 core\nin 1 {front}\nin 1 {rest}\n")?;
+    let mut source = MemSource::new(script.into_bytes(), 100, Vec::new(alloc));
+    let mut sink = MemSink::new(Vec::new(alloc), Vec::new(alloc));
+    let status = play(alloc, &["run"], &mut source, &mut sink)?;
+    Ok(status == 0 && sink.bytes() == ONE_LINK)
+}
+
+// A record in fragments, cut in two behind each of its bytes but the last.
+#[test]
+fn streams_cut_anywhere(rt: HostRuntime) -> Result<(), Fail> {
+    for cut in 1..76 {
+        assert!(rt;
+            is_made_of_two(rt.alloc(), 2 * cut)?,
+            "cut behind byte {cut}"
+        );
+    }
+    Ok(())
+}

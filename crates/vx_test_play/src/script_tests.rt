@@ -1,0 +1,291 @@
+//! What lines of a script say, and the words of causes. Lines outside the grammar are rows of the program `vx_rows`.
+
+use std::alloc::{AllocError, Global};
+use std::test::Fail;
+use vx_calls::Role;
+use vx_script::*;
+
+type Read<'a> = Result<Option<Step<'a>>, Cause>;
+
+/// Lines, each with what it says.
+const LINES: [(&[u8], Read<'static>); 40] = [
+    (b"", Ok(None)),
+    (b"#", Ok(None)),
+    (b"#x", Ok(None)),
+    (b"# up 1 core", Ok(None)),
+    (
+        b"up 1 core",
+        Ok(Some(Step::Up {
+            conn: 1,
+            role: Role::Core,
+        })),
+    ),
+    (
+        b"up 2147483647 core",
+        Ok(Some(Step::Up {
+            conn: 2_147_483_647,
+            role: Role::Core,
+        })),
+    ),
+    (
+        b"up 1 abort",
+        Ok(Some(Step::Up {
+            conn: 1,
+            role: Role::Abort,
+        })),
+    ),
+    (b"down 3", Ok(Some(Step::Down { conn: 3 }))),
+    (
+        b"in 1 00",
+        Ok(Some(Step::In {
+            conn: 1,
+            bytes: b"\x00",
+        })),
+    ),
+    (
+        b"in 1 0aFF",
+        Ok(Some(Step::In {
+            conn: 1,
+            bytes: b"\x0A\xFF",
+        })),
+    ),
+    (
+        b"in 2147483647 7F",
+        Ok(Some(Step::In {
+            conn: 2_147_483_647,
+            bytes: b"\x7F",
+        })),
+    ),
+    (b"poll 1", Ok(Some(Step::Poll { conn: 1 }))),
+    (b"take 64", Ok(Some(Step::Take { conn: 64 }))),
+    (b"dial 1 ok", Ok(Some(Step::Dial { conn: 1, up: true }))),
+    (b"dial 2 fail", Ok(Some(Step::Dial { conn: 2, up: false }))),
+    (b"sample", Ok(Some(Step::Sample))),
+    (b"at 0", Ok(Some(Step::At(0)))),
+    (b"at 10", Ok(Some(Step::At(10)))),
+    (b"at 18446744073709551615", Ok(Some(Step::At(u64::MAX)))),
+    (b"fail 1", Ok(Some(Step::Fail(1)))),
+    (b"fail 4294967295", Ok(Some(Step::Fail(u32::MAX)))),
+    (
+        b"inst 5 {}",
+        Ok(Some(Step::Inst {
+            p: 5,
+            s: None,
+            text: b"{}",
+        })),
+    ),
+    (
+        b"inst 0 {}",
+        Ok(Some(Step::Inst {
+            p: 0,
+            s: None,
+            text: b"{}",
+        })),
+    ),
+    (
+        b"inst 30,30 {}",
+        Ok(Some(Step::Inst {
+            p: 30,
+            s: Some(30),
+            text: b"{}",
+        })),
+    ),
+    (
+        b"inst 5,0 []",
+        Ok(Some(Step::Inst {
+            p: 5,
+            s: Some(0),
+            text: b"[]",
+        })),
+    ),
+    (
+        b"inst 5 ",
+        Ok(Some(Step::Inst {
+            p: 5,
+            s: None,
+            text: b"",
+        })),
+    ),
+    (
+        b"inst 5  ",
+        Ok(Some(Step::Inst {
+            p: 5,
+            s: None,
+            text: b" ",
+        })),
+    ),
+    (
+        b"inst 5 {} x",
+        Ok(Some(Step::Inst {
+            p: 5,
+            s: None,
+            text: b"{} x",
+        })),
+    ),
+    (
+        b"inst 5 {}\r",
+        Ok(Some(Step::Inst {
+            p: 5,
+            s: None,
+            text: b"{}\r",
+        })),
+    ),
+    (
+        b"inst 5 \xFF\x00",
+        Ok(Some(Step::Inst {
+            p: 5,
+            s: None,
+            text: b"\xFF\x00",
+        })),
+    ),
+    (
+        b"plug 5 echo",
+        Ok(Some(Step::Plug {
+            p: 5,
+            s: None,
+            name: b"echo",
+        })),
+    ),
+    (
+        b"plug 5,1 slow",
+        Ok(Some(Step::Plug {
+            p: 5,
+            s: Some(1),
+            name: b"slow",
+        })),
+    ),
+    (
+        b"plug 5 a",
+        Ok(Some(Step::Plug {
+            p: 5,
+            s: None,
+            name: b"a",
+        })),
+    ),
+    (
+        b"plug 5 abcdefghijklmnop",
+        Ok(Some(Step::Plug {
+            p: 5,
+            s: None,
+            name: b"abcdefghijklmnop",
+        })),
+    ),
+    (
+        b"plug 5 zzz",
+        Ok(Some(Step::Plug {
+            p: 5,
+            s: None,
+            name: b"zzz",
+        })),
+    ),
+    (b"pull 5", Ok(Some(Step::Pull { p: 5, s: None }))),
+    (b"pull 0,30", Ok(Some(Step::Pull { p: 0, s: Some(30) }))),
+    (
+        b"set 5 00",
+        Ok(Some(Step::Set {
+            p: 5,
+            s: None,
+            b: 0,
+        })),
+    ),
+    (
+        b"set 5 fF",
+        Ok(Some(Step::Set {
+            p: 5,
+            s: None,
+            b: 255,
+        })),
+    ),
+    (
+        b"set 30,2 41",
+        Ok(Some(Step::Set {
+            p: 30,
+            s: Some(2),
+            b: 65,
+        })),
+    ),
+];
+
+/// The causes, each with its word.
+const WORDS: [(Cause, &[u8]); 14] = [
+    (Cause::Form, b"form"),
+    (Cause::Number, b"number"),
+    (Cause::Full, b"full"),
+    (Cause::Conn, b"conn"),
+    (Cause::Busy, b"busy"),
+    (Cause::After, b"after"),
+    (Cause::Idle, b"idle"),
+    (Cause::Json, b"json"),
+    (Cause::Rule, b"rule"),
+    (Cause::Spare, b"spare"),
+    (Cause::Own, b"own"),
+    (Cause::Taken, b"taken"),
+    (Cause::Bench, b"bench"),
+    (Cause::Absent, b"absent"),
+];
+
+/// Whether a line of at most 64 bytes says this.
+fn says(line: &[u8], wanted: &Read) -> bool {
+    let mut room = [0u8; 64];
+    line.len() <= 64 && read_step(line, &mut room[..line.len()]) == *wanted
+}
+
+#[test]
+fn lines(rt: HostRuntime) {
+    for (line, wanted) in LINES {
+        assert!(rt; says(line, &wanted), "of {line:?}");
+    }
+}
+
+#[test]
+fn words(rt: HostRuntime) {
+    for (cause, word) in WORDS {
+        assert_eq!(rt; cause.word(), word);
+    }
+}
+
+/// A line that begins so, and goes on with `#` up to so many bytes.
+fn long_line(alloc: Global, front: &[u8], len: usize) -> Result<Vec<u8>, AllocError> {
+    let mut line = front.to_vec(alloc)?;
+    line.resize(len, b'#')?;
+    Ok(line)
+}
+
+/// What such a line says where it isn't too long.
+fn said_by(line: &[u8]) -> Read<'_> {
+    match line.strip_prefix(b"inst 5 ".as_slice()) {
+        Some(text) => Ok(Some(Step::Inst {
+            p: 5,
+            s: None,
+            text,
+        })),
+        None => Ok(None),
+    }
+}
+
+/// Whether such a line, with room for its bytes, is read, or is too long.
+fn is_long_line(line: &[u8], room: &mut [u8], is_read: bool) -> bool {
+    let wanted = if is_read {
+        said_by(line)
+    } else {
+        Err(Cause::Form)
+    };
+    line.len() == room.len() && read_step(line, room) == wanted
+}
+
+// The longest line has 1,048,576 bytes; one that is longer is outside the grammar, even where it would be skipped.
+#[test]
+fn long_lines(rt: HostRuntime) -> Result<(), Fail> {
+    let table: [(&[u8], usize, bool); 4] = [
+        (b"#", 1_048_576, true),
+        (b"#", 1_048_577, false),
+        (b"inst 5 ", 1_048_576, true),
+        (b"inst 5 ", 1_048_577, false),
+    ];
+    for (front, len, is_read) in table {
+        let line = long_line(rt.alloc(), front, len)?;
+        let mut room = long_line(rt.alloc(), b"", len)?;
+        assert!(rt; is_long_line(&line, &mut room, is_read), "of {len} bytes");
+    }
+    Ok(())
+}

@@ -1,0 +1,268 @@
+ghost use Rattle.std.specs.Prelude.{◌≡◌, ◌<◌, ◌≤◌, true, length, IsTrue};
+ghost use Rattle.vx_trace.specs.Text.{is_cause};
+
+use vx_488::Transfer;
+use vx_trace::*;
+
+const READ: [Transfer; 5] = [
+    Transfer::Cmd(0x3F),
+    Transfer::Cmd(0x20),
+    Transfer::Cmd(0x45),
+    Transfer::Got {
+        b: 0x41,
+        end: false,
+    },
+    Transfer::Got { b: 0x42, end: true },
+];
+
+const OTHERS: [Transfer; 10] = [
+    Transfer::Put {
+        b: 0x0A,
+        end: false,
+    },
+    Transfer::Put { b: 0xFF, end: true },
+    Transfer::Ren(true),
+    Transfer::Ren(false),
+    Transfer::Atn(true),
+    Transfer::Atn(false),
+    Transfer::Ifc,
+    Transfer::Own(0),
+    Transfer::Own(30),
+    Transfer::Own(255),
+];
+
+/// Each kind of line, beside its text.
+const LINES: [(Line<'static>, &[u8]); 22] = [
+    (
+        Line::Bus {
+            conn: 1,
+            moves: &READ,
+        },
+        b"bus 1 c3F c20 c45 g41 G42\n",
+    ),
+    (
+        Line::Bus {
+            conn: 4294967295,
+            moves: &OTHERS,
+        },
+        b"bus 4294967295 p0A PFF ren1 ren0 atn1 atn0 ifc own0 own30 own255\n",
+    ),
+    (
+        Line::Out {
+            conn: 3,
+            bytes: b"\x80\x00\x00\x02\x0A\xF9",
+        },
+        b"out 3 800000020AF9\n",
+    ),
+    (
+        Line::Irq {
+            conn: 20,
+            bytes: b"\x80\x00\x00\x00",
+        },
+        b"irq 20 80000000\n",
+    ),
+    (Line::IrqNone { conn: 1 }, b"irq 1 none\n"),
+    (Line::IrqClosed { conn: 1 }, b"irq 1 closed\n"),
+    (
+        Line::WaitLock {
+            conn: 2,
+            lid: 1073741823,
+        },
+        b"wait 2 lock 1073741823\n",
+    ),
+    (Line::WaitTurn { conn: 2, by: 1 }, b"wait 2 turn 1\n"),
+    (Line::WaitHeld { conn: 2 }, b"wait 2 held\n"),
+    (
+        Line::WaitDial { conn: 2147483647 },
+        b"wait 2147483647 dial\n",
+    ),
+    (Line::GoneDown { conn: 5 }, b"gone 5 down\n"),
+    (Line::GoneJunk { conn: 0 }, b"gone 0 junk\n"),
+    (Line::GoneLong { conn: 5 }, b"gone 5 long\n"),
+    (Line::Done, b"done\n"),
+    (
+        Line::FaultLine {
+            line: 1,
+            word: b"form",
+        },
+        b"fault line 1 form\n",
+    ),
+    (
+        Line::FaultLine {
+            line: 67108865,
+            word: b"number",
+        },
+        b"fault line 67108865 number\n",
+    ),
+    (
+        Line::FaultLine {
+            line: 18446744073709551615,
+            word: b"absent",
+        },
+        b"fault line 18446744073709551615 absent\n",
+    ),
+    (
+        Line::FaultLine {
+            line: 3,
+            word: b"own",
+        },
+        b"fault line 3 own\n",
+    ),
+    (
+        Line::FaultLine {
+            line: 3,
+            word: b"json",
+        },
+        b"fault line 3 json\n",
+    ),
+    (
+        Line::FaultLine {
+            line: 3,
+            word: b"taken",
+        },
+        b"fault line 3 taken\n",
+    ),
+    (Line::FaultLong, b"fault long\n"),
+    (Line::Usage, b"usage: vxplay COMMAND\n"),
+];
+
+/// Whether a line is written as this text, into room for 72 bytes of which the rest stays as it was.
+fn is_written(line: &Line, text: &[u8]) -> bool {
+    let mut out = [b'#'; 72];
+    line.is_whole()
+        && put_line(line, &mut out) == Ok(text.len())
+        && out
+            .strip_prefix(text)
+            .is_some_and(|rest| rest.first() == Some(&b'#'))
+}
+
+/// Whether a line has no room in a byte less than its text has.
+fn is_full(line: &Line, text: &[u8]) -> bool {
+    let mut out = [0; 72];
+    line.is_whole()
+        && text.len() <= 72
+        && put_line(line, &mut out[..text.len().saturating_sub(1)]) == Err(Full)
+}
+
+/// Whether a text of at most 72 bytes is read as this line, or as none.
+fn is_read(text: &[u8], line: Option<Line>) -> bool {
+    let len = text.len();
+    let mut moves = [Transfer::Ifc; 72];
+    let mut bytes = [0; 72];
+    len <= 72 && read_line(text, &mut moves[..len], &mut bytes[..len]) == line
+}
+
+// Each line is written, and read back.
+#[test]
+fn lines(rt: HostRuntime) {
+    for (line, text) in LINES {
+        let both_ways = is_written(&line, text)
+            && is_full(&line, text)
+            && is_read(text, Some(line));
+        assert!(rt; both_ways, "of {line:?}");
+    }
+}
+
+/// Texts that are no output line.
+const NO_LINES: [&[u8]; 44] = [
+    b"",
+    b"\n",
+    b"done",
+    b"done\n\n",
+    b"done \n",
+    b" done\n",
+    b"done\r\n",
+    b"Done\n",
+    b"usage\n",
+    b"usage: vxplay command\n",
+    b"fault\n",
+    b"fault line\n",
+    b"fault line 1\n",
+    b"fault line 1 \n",
+    b"fault line 1 forms\n",
+    b"fault line 1 form form\n",
+    b"fault line 01 form\n",
+    b"fault line 18446744073709551616 form\n",
+    b"bus 1\n",
+    b"bus 1 \n",
+    b"bus 1 c3F \n",
+    b"bus 1 c3F  c20\n",
+    b"bus  1 c3F\n",
+    b"bus 1  c3F\n",
+    b"bus c3F\n",
+    b"bus 1 c3f\n",
+    b"bus 1 c3\n",
+    b"bus 1 c3F2\n",
+    b"bus 1 C3F\n",
+    b"bus 1 ren2\n",
+    b"bus 1 ren\n",
+    b"bus 1 own\n",
+    b"bus 1 own030\n",
+    b"bus 1 own256\n",
+    b"bus 4294967296 ifc\n",
+    b"out 1\n",
+    b"out 1 \n",
+    b"out 1 0\n",
+    b"out 1 0a\n",
+    b"out 1 0A 0A\n",
+    b"out +1 0A\n",
+    b"irq 1 NONE\n",
+    b"wait 1 lock\n",
+    b"gone 1 up\n",
+];
+
+#[test]
+fn no_lines(rt: HostRuntime) {
+    for text in NO_LINES {
+        assert!(rt; is_read(text, None), "of {text:?}");
+    }
+}
+
+/// One room for all lines of a caller, whatever their numbers: a bus line of at most 8 transfers is written.
+fn put_bus(conn: u32, moves: &[Transfer], out: &mut [u8; 72]) -> bool
+    requires some { 0 < length moves.now }
+    requires few { length moves.now ≤ 8 }
+    ensures { result ≡ true }
+{
+    put_line(&Line::Bus { conn, moves }, out).is_ok()
+}
+
+/// A reply of at most 28 bytes is written.
+fn put_out(conn: u32, bytes: &[u8], out: &mut [u8; 72]) -> bool
+    requires some { 0 < length bytes.now }
+    requires few { length bytes.now ≤ 28 }
+    ensures { result ≡ true }
+{
+    put_line(&Line::Out { conn, bytes }, out).is_ok()
+}
+
+/// A refused step is written, whatever its cause.
+fn put_fault(line: u64, word: &[u8], out: &mut [u8; 72]) -> bool
+    requires { IsTrue (is_cause word.now) }
+    ensures { result ≡ true }
+{
+    put_line(&Line::FaultLine { line, word }, out).is_ok()
+}
+
+/// The longest lines of their kinds, into one room: whether each was written, and what stands at its last place.
+fn longest_lines() -> [(bool, u8); 4] {
+    let mut out = [0; 72];
+    let lock = Line::WaitLock {
+        conn: u32::MAX,
+        lid: u32::MAX,
+    };
+    [
+        (
+            put_bus(u32::MAX, &[Transfer::Own(255); 8], &mut out),
+            out[70],
+        ),
+        (put_out(u32::MAX, &[0xAA; 28], &mut out), out[71]),
+        (put_fault(u64::MAX, b"absent", &mut out), out[38]),
+        (put_line(&lock, &mut out) == Ok(32), out[31]),
+    ]
+}
+
+#[test]
+fn longest(rt: HostRuntime) {
+    assert_eq!(rt; longest_lines(), [(true, b'\n'); 4]);
+}

@@ -1,0 +1,520 @@
+//! Servers with real threads: a client's link is served, and interrupts and aborts go their ways while it lives. Records are
+//! composed by hand from their words.
+ghost use Rattle.std.specs.Prelude.{None};
+
+use arrayvec::ArrayString;
+use crossbeam_channel::{Receiver, Sender, unbounded};
+use std::alloc::{AllocError, Global};
+use std::sync::atomic::{AtomicU64, Ordering};
+use std::sync::{Arc, Wait};
+use std::test::Fail;
+use std::thread::{self, Threads};
+use vx_host::{ThreadSpawner, start_threads};
+use vx_io::{
+    Clock, Dial, DialOut, Handed, Link, MemNet, MemSink, MemSource, Pause, ReadOut, Spawner,
+    Streams, WriteOut,
+};
+use vx_rack::{Asker, Spare};
+use vx_serve::{Serve, serve_run};
+use vx_session::Tools;
+
+// create_link of `gpib0,5`, xid 1
+const CREATE: [u8; 68] =
+    *b"\x80\0\0@\0\0\0\x01\0\0\0\0\0\0\0\x02\0\x06\x07\xaf\0\0\0\x01\0\0\0\x0a\0\0\0\0\0\0\0\0\0\0\0\0\0\0\0\0\0\0\0\0\0\0\0\0\0\0\0\0\0\0\0\x07gpib0,5\0";
+
+// create_intr_chan to 127.0.0.1, port 9012, xid 2
+const CHANNEL: [u8; 64] =
+    *b"\x80\0\0<\0\0\0\x02\0\0\0\0\0\0\0\x02\0\x06\x07\xaf\0\0\0\x01\0\0\0\x19\0\0\0\0\0\0\0\0\0\0\0\0\0\0\0\0\x7f\0\0\x01\0\0#4\0\x06\x07\xb1\0\0\0\x01\0\0\0\0";
+
+// device_enable_srq of link 1 with the handle `a`, xid 3
+const ENABLE: [u8; 60] =
+    *b"\x80\0\08\0\0\0\x03\0\0\0\0\0\0\0\x02\0\x06\x07\xaf\0\0\0\x01\0\0\0\x14\0\0\0\0\0\0\0\0\0\0\0\0\0\0\0\0\0\0\0\x01\0\0\0\x01\0\0\0\x01a\0\0\0";
+
+// device_write of `A` to link 1 with END, xid 4
+const WRITE: [u8; 68] =
+    *b"\x80\0\0@\0\0\0\x04\0\0\0\0\0\0\0\x02\0\x06\x07\xaf\0\0\0\x01\0\0\0\x0b\0\0\0\0\0\0\0\0\0\0\0\0\0\0\0\0\0\0\0\x01\0\0'\x10\0\0\0\0\0\0\0\x08\0\0\0\x01A\0\0\0";
+
+// device_abort of link 1, xid 1
+const ABORT: [u8; 48] =
+    *b"\x80\0\0,\0\0\0\x01\0\0\0\0\0\0\0\x02\0\x06\x07\xb0\0\0\0\x01\0\0\0\x01\0\0\0\0\0\0\0\0\0\0\0\0\0\0\0\0\0\0\0\x01";
+
+// the reply to create_link: link 1, abort port 9011, at most 65,536 bytes
+const CREATED: [u8; 44] =
+    *b"\x80\0\0(\0\0\0\x01\0\0\0\x01\0\0\0\0\0\0\0\0\0\0\0\0\0\0\0\0\0\0\0\0\0\0\0\x01\0\0#3\0\x01\0\0";
+
+// the reply to create_intr_chan
+const CHANNEL_MADE: [u8; 32] =
+    *b"\x80\0\0\x1c\0\0\0\x02\0\0\0\x01\0\0\0\0\0\0\0\0\0\0\0\0\0\0\0\0\0\0\0\0";
+
+// the reply to device_enable_srq
+const ENABLED: [u8; 32] =
+    *b"\x80\0\0\x1c\0\0\0\x03\0\0\0\x01\0\0\0\0\0\0\0\0\0\0\0\0\0\0\0\0\0\0\0\0";
+
+// the reply to device_write: one byte
+const WRITTEN: [u8; 36] =
+    *b"\x80\0\0 \0\0\0\x04\0\0\0\x01\0\0\0\0\0\0\0\0\0\0\0\0\0\0\0\0\0\0\0\0\0\0\0\x01";
+
+// the reply to device_abort
+const ABORTED: [u8; 32] =
+    *b"\x80\0\0\x1c\0\0\0\x01\0\0\0\x01\0\0\0\0\0\0\0\0\0\0\0\0\0\0\0\0\0\0\0\0";
+
+// the interrupt call with the handle `a`, xid 1
+const INTERRUPT: [u8; 52] =
+    *b"\x80\0\00\0\0\0\x01\0\0\0\0\0\0\0\x02\0\x06\x07\xb1\0\0\0\x01\0\0\0\x1e\0\0\0\0\0\0\0\0\0\0\0\0\0\0\0\0\0\0\0\x01a\0\0\0";
+
+/// The most turns that a link waits for another.
+const TURNS: u64 = 1_000_000;
+
+/// How many bytes the links of each side took that are those of its replies, at their places.
+#[derive(Drop)]
+pub(crate) struct Counts {
+    core: AtomicU64,
+    abort: AtomicU64,
+    interrupt: AtomicU64,
+}
+
+/// Waits until a count is there, and says whether it is.
+fn comes(count: &AtomicU64, most: u64) -> bool {
+    for _ in 0..TURNS {
+        if count.load(Ordering::SeqCst) >= most {
+            return true;
+        }
+        thread::yield_now();
+    }
+    false
+}
+
+/// Which link.
+#[derive(Clone, Copy, Debug, PartialEq, Eq)]
+pub(crate) enum Side {
+    /// It makes a link and ends its input.
+    Short,
+    /// It makes a link and an interrupt channel, asks for service, and ends its input once the abort link was answered.
+    Core,
+    /// It aborts once the interrupt came.
+    Abort,
+    /// It takes the interrupt.
+    Interrupt,
+}
+
+/// The record that a side gives in its step of this number, once it may; none at its end.
+fn record_of(side: Side, counts: &Counts, step: u64) -> &'static [u8] {
+    match (side, step) {
+        (Side::Short | Side::Core, 0) => &CREATE,
+        (Side::Core, 1) => &CHANNEL,
+        (Side::Core, 2) => &ENABLE,
+        (Side::Core, 3) => &WRITE,
+        (Side::Core, _) if comes(&counts.abort, 32) => &[],
+        (Side::Abort, 0) if comes(&counts.interrupt, 52) => &ABORT,
+        _ => &[],
+    }
+}
+
+/// The byte that is due at a place of all that a side takes.
+fn due(side: Side, place: usize) -> Option<u8> {
+    let parts: [&[u8]; 4] = match side {
+        Side::Short => [&CREATED, &[], &[], &[]],
+        Side::Core => [&CREATED, &CHANNEL_MADE, &ENABLED, &WRITTEN],
+        Side::Abort => [&ABORTED, &[], &[], &[]],
+        Side::Interrupt => [&INTERRUPT, &[], &[], &[]],
+    };
+    let mut at = place;
+    for part in parts {
+        if at < part.len() {
+            return Some(part[at]);
+        }
+        at -= part.len();
+    }
+    None
+}
+
+/// A link of a side: it gives a record a receive, and compares each byte that it takes with the one that is due.
+#[derive(Drop)]
+pub(crate) struct Comparing {
+    side: Side,
+    counts: Arc<Counts, Global>,
+    gave: u64,
+    took: usize,
+}
+
+impl Comparing {
+    fn new(side: Side, counts: Arc<Counts, Global>) -> Comparing {
+        Comparing {
+            side,
+            counts,
+            gave: 0,
+            took: 0,
+        }
+    }
+
+    fn count(&self) -> &AtomicU64 {
+        match self.side {
+            Side::Short | Side::Core => &self.counts.core,
+            Side::Abort => &self.counts.abort,
+            Side::Interrupt => &self.counts.interrupt,
+        }
+    }
+}
+
+impl Link for Comparing {
+    ghost stands = { λ _ taken given. ⊥ };
+
+    ghost left = { λ _. None };
+
+    ghost receive_faults = { λ _. 0 };
+
+    ghost send_faults = { λ _. 0 };
+
+    fn receive(&mut self, into: &mut [u8]) -> ReadOut {
+        let record = record_of(self.side, &self.counts, self.gave);
+        let count = record.len().min(into.len());
+        if count == 0 {
+            return ReadOut::End;
+        }
+        into[..count].copy_from_slice(&record[..count]);
+        self.gave = self.gave.saturating_add(1);
+        ReadOut::Got(count)
+    }
+
+    fn send(&mut self, from: &[u8]) -> WriteOut {
+        for byte in from {
+            if due(self.side, self.took) == Some(*byte) {
+                self.count().fetch_add(1, Ordering::SeqCst);
+            }
+            self.took = self.took.saturating_add(1);
+        }
+        WriteOut::Took(from.len())
+    }
+}
+
+/// Tells one more each time.
+#[derive(Drop)]
+pub(crate) struct Counting {
+    told: u64,
+}
+
+impl Clock for Counting {
+    ghost told = { λ c. c.told };
+
+    fn now(&mut self) -> u64 {
+        self.told = self.told.saturating_add(1);
+        self.told
+    }
+}
+
+/// Gives the processor away.
+#[derive(Drop)]
+pub(crate) struct Yields;
+
+impl Pause for Yields {
+    fn pause(&mut self) {
+        thread::yield_now();
+    }
+}
+
+/// Answers `Up`, and hands a link that compares interrupts on.
+#[derive(Drop)]
+pub(crate) struct Handing {
+    counts: Option<Arc<Counts, Global>>,
+    streams: Option<Sender<Channel>>,
+}
+
+#[derive(Drop)]
+struct Channel {
+    conn: u32,
+    chan: u32,
+    link: Comparing,
+}
+
+impl Dial for Handing {
+    ghost calls = { λ _. None };
+
+    ghost faults = { λ _. 0 };
+
+    fn dial(&mut self, _host: u32, _port: u16) -> DialOut {
+        DialOut::Up
+    }
+
+    fn hand<R: Wait>(&mut self, rt: &R, conn: u32, chan: u32) {
+        if let (Some(counts), Some(streams)) = (self.counts.take(), &self.streams) {
+            let link = Comparing::new(Side::Interrupt, counts);
+            let _ = streams.send(rt, Channel { conn, chan, link });
+        }
+    }
+}
+
+/// The links that dials hand on.
+#[derive(Drop)]
+pub(crate) struct Handled {
+    streams: Option<Receiver<Channel>>,
+}
+
+impl Streams for Handled {
+    type Peer = Comparing;
+
+    fn next<R: Wait>(&mut self, rt: &R) -> Handed<Comparing> {
+        let Some(streams) = &self.streams else {
+            return Handed::Ended;
+        };
+        match streams.recv(rt) {
+            Ok(Channel { conn, chan, link }) => Handed::Stream { conn, chan, link },
+            Err(_) => Handed::Ended,
+        }
+    }
+}
+
+/// The tools of these tests.
+#[derive(Drop)]
+pub(crate) struct Bag {
+    counts: Arc<Counts, Global>,
+    streams: Sender<Channel>,
+    dialed: Receiver<Channel>,
+}
+
+impl Tools for Bag {
+    type C = Counting;
+
+    type P = Yields;
+
+    type D = Handing;
+
+    type S = Handled;
+
+    fn clock(&mut self) -> Counting {
+        Counting { told: 0 }
+    }
+
+    fn pause(&mut self) -> Yields {
+        Yields
+    }
+
+    fn dial(&mut self) -> Handing {
+        Handing {
+            counts: Arc::try_clone(&self.counts).ok(),
+            streams: self.streams.clone().ok(),
+        }
+    }
+
+    fn streams(&mut self) -> Handled {
+        Handled {
+            streams: self.dialed.clone().ok(),
+        }
+    }
+}
+
+/// The work of a worker of these tests.
+pub(crate) type Job = Serve<MemNet<Comparing>, Bag, Asker>;
+
+/// One spare `asker`.
+fn askers(alloc: Global) -> Result<Vec<Spare<Asker>>, Fail> {
+    let inst = Asker::new(alloc).map_err(|_| "no memory")?;
+    let mut name = ArrayString::new();
+    let _ = name.try_push_str("asker");
+    let mut rack = Vec::new(alloc);
+    rack.push(Spare { name, inst })?;
+    Ok(rack)
+}
+
+fn counts_of(alloc: Global) -> Result<Arc<Counts, Global>, AllocError> {
+    let counts = Counts {
+        core: AtomicU64::new(0),
+        abort: AtomicU64::new(0),
+        interrupt: AtomicU64::new(0),
+    };
+    Ok(Arc::new(alloc, counts)?)
+}
+
+fn links_of(
+    alloc: Global,
+    sides: &[Side],
+    counts: &Arc<Counts, Global>,
+) -> Result<Vec<Comparing>, AllocError> {
+    let mut links = Vec::new(alloc);
+    for side in sides {
+        links.push(Comparing::new(*side, Arc::try_clone(counts)?))?;
+    }
+    Ok(links)
+}
+
+/// A net with the links of a row, of which the row's calls fail.
+fn net_of(
+    alloc: Global,
+    row: &Row,
+    counts: &Arc<Counts, Global>,
+) -> Result<MemNet<Comparing>, AllocError> {
+    let core = links_of(alloc, row.core, counts)?;
+    let abort = links_of(alloc, row.abort, counts)?;
+    Ok(MemNet::new(core, abort, row.fails.to_vec(alloc)?))
+}
+
+fn bag_of(alloc: Global, counts: &Arc<Counts, Global>) -> Result<Bag, AllocError> {
+    let counts = Arc::try_clone(counts)?;
+    let (streams, dialed) = unbounded(alloc)?;
+    Ok(Bag {
+        counts,
+        streams,
+        dialed,
+    })
+}
+
+fn words_of(alloc: Global, row: &Row) -> Result<Vec<String>, AllocError> {
+    let mut words = Vec::new(alloc);
+    for word in row.words {
+        words.push(String::from_str(alloc, word)?)?;
+    }
+    Ok(words)
+}
+
+/// The bench of a row, and so many LFs behind it.
+fn source_of(alloc: Global, row: &Row) -> Result<MemSource, AllocError> {
+    let mut bench = row.bench.as_bytes().to_vec(alloc)?;
+    bench.resize(row.bench.len().saturating_add(row.lines), b'\n')?;
+    Ok(MemSource::new(bench, 4096, row.reads.to_vec(alloc)?))
+}
+
+/// A server: its words; its bench, and how many LFs are behind that; the links of its net at its two ports; which reads of the
+/// bench, which writes, and which calls of the net fail, each counted from 1; which worker is refused, where it isn't 0. And
+/// then how it ends.
+#[derive(Clone, Copy)]
+pub(crate) struct Row {
+    pub words: &'static [&'static str],
+    pub bench: &'static str,
+    pub lines: usize,
+    pub core: &'static [Side],
+    pub abort: &'static [Side],
+    pub reads: &'static [u64],
+    pub writes: &'static [u64],
+    pub fails: &'static [u64],
+    pub refuses: u64,
+    pub ends: Ends,
+}
+
+/// How a server ended: its status, what it wrote, and the number of its tally; and how many bytes that were due the core links
+/// took, the abort links, and the peers of interrupt channels.
+#[derive(Clone, Copy, Debug, PartialEq, Eq)]
+pub(crate) struct Ends {
+    pub status: u8,
+    pub text: &'static str,
+    pub number: u64,
+    pub bytes: [u64; 3],
+}
+
+/// Runs a server with these ends, and answers its status and the number of its tally.
+fn run<R: Wait, W: Spawner<Job>>(
+    rt: &R,
+    alloc: Global,
+    row: &Row,
+    counts: &Arc<Counts, Global>,
+    spawner: &mut W,
+    sink: &mut MemSink,
+) -> Result<(u8, u64), Fail> {
+    let words = words_of(alloc, row)?;
+    let mut source = source_of(alloc, row)?;
+    let mut net = net_of(alloc, row, counts)?;
+    let mut tools = bag_of(alloc, counts)?;
+    let rack = askers(alloc)?;
+    let (status, tally) = serve_run(
+        rt,
+        alloc,
+        words.as_slice(),
+        &mut source,
+        &mut net,
+        spawner,
+        &mut tools,
+        sink,
+        rack,
+    );
+    Ok((status, tally.number()))
+}
+
+/// Whether the server of a row ends as it says.
+pub(crate) fn ends_so<R: Wait, W: Spawner<Job>>(
+    rt: &R,
+    alloc: Global,
+    row: &Row,
+    spawner: &mut W,
+) -> Result<bool, Fail> {
+    let counts = counts_of(alloc)?;
+    let mut sink = MemSink::new(Vec::new(alloc), row.writes.to_vec(alloc)?);
+    let (status, number) = run(rt, alloc, row, &counts, spawner, &mut sink)?;
+    let bytes = [
+        counts.core.load(Ordering::SeqCst),
+        counts.abort.load(Ordering::SeqCst),
+        counts.interrupt.load(Ordering::SeqCst),
+    ];
+    let is_told = sink.bytes() == row.ends.text.as_bytes();
+    Ok(is_told && (status, number, bytes) == (row.ends.status, row.ends.number, row.ends.bytes))
+}
+
+/// The same with a thread for each worker, until all of them have ended.
+fn ends_so_in_threads<R: Threads + Wait + Copy + Send + 'static>(
+    rt: R,
+    alloc: Global,
+    row: &Row,
+) -> Result<bool, Fail> {
+    let (jobs, queue) = unbounded::<Job, Global>(alloc)?;
+    let (answers, started) = unbounded(alloc)?;
+    let starter = thread::spawn(&rt, move || start_threads(rt, queue, answers)).map_err(
+        |_| "no thread",
+    )?;
+    let mut spawner = ThreadSpawner::new(rt, jobs, started);
+    let so = ends_so(&rt, alloc, row, &mut spawner);
+    drop(spawner);
+    starter.join(&rt);
+    so
+}
+
+/// One worker of each kind.
+const ONE: &[&str] = &["--workers", "1"];
+
+/// One core link, which makes a link of the gateway.
+static SHORT: Row = Row {
+    words: ONE,
+    bench: "",
+    lines: 0,
+    core: &[Side::Short],
+    abort: &[],
+    reads: &[],
+    writes: &[],
+    fails: &[],
+    refuses: 0,
+    ends: Ends {
+        status: 0,
+        text: "listening 9010 9011\nserved 1\n",
+        number: 1,
+        bytes: [44, 0, 0],
+    },
+};
+
+/// A core link that asks for service and is interrupted, and an abort link. Its replies have 44 bytes, 32, 32 and 36.
+static INTERRUPTED: Row = Row {
+    words: ONE,
+    bench: "plug 5 asker\n",
+    lines: 0,
+    core: &[Side::Core],
+    abort: &[Side::Abort],
+    reads: &[],
+    writes: &[],
+    fails: &[],
+    refuses: 0,
+    ends: Ends {
+        status: 0,
+        text: "listening 9010 9011\nserved 1\n",
+        number: 1,
+        bytes: [144, 32, 52],
+    },
+};
+
+#[test]
+fn a_link_is_served(rt: HostRuntime) -> Result<(), Fail> {
+    let is_so = ends_so_in_threads(rt, rt.alloc(), &SHORT)?;
+    assert!(rt; is_so);
+    Ok(())
+}
+
+#[test]
+fn an_interrupt_and_an_abort(rt: HostRuntime) -> Result<(), Fail> {
+    let is_so = ends_so_in_threads(rt, rt.alloc(), &INTERRUPTED)?;
+    assert!(rt; is_so);
+    Ok(())
+}

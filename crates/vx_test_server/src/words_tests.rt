@@ -1,0 +1,165 @@
+//! Words, and what is asked by them, with ample memory.
+
+use std::alloc::{AllocError, Global};
+use std::test::Fail;
+use vx_words::{Asked, Options, read_words};
+
+/// What words ask for that stand between the spaces of a line.
+fn asked(alloc: Global, line: &str) -> Result<Asked, AllocError> {
+    let mut words = Vec::new(alloc);
+    for word in line.split(' ').filter(|word| !word.is_empty()) {
+        words.push(String::from_str(alloc, word)?)?;
+    }
+    Ok(read_words(alloc, words.as_slice()))
+}
+
+/// The numbers of options: core, abort, sample, workers, limit.
+fn numbers(alloc: Global, options: Options) -> Result<String, AllocError> {
+    let Options {
+        core,
+        abort,
+        sample,
+        workers,
+        limit,
+    } = options;
+    format!(in alloc; "{core} {abort} {sample} {workers} {limit}")
+}
+
+/// What a line is answered with: the numbers that it sets, the text that is told, or that it is refused.
+fn answer(alloc: Global, line: &str) -> Result<String, AllocError> {
+    match asked(alloc, line)? {
+        Asked::Serve(options) => numbers(alloc, options),
+        Asked::Tell(text) => Ok(text),
+        Asked::Usage => String::from_str(alloc, "refused"),
+        Asked::NoMemory => String::from_str(alloc, "no memory"),
+    }
+}
+
+/// What is answered with a line that is refused.
+const NO: &str = "refused";
+
+/// The version.
+const VERSION: &str = "vxgate 0.1.0\n";
+
+/// Lines of words, and what each is answered with.
+const ROWS: [(&str, &str); 52] = [
+    // no word sets an option
+    ("", "9010 9011 10 16 0"),
+    ("--", "9010 9011 10 16 0"),
+    // each option sets its number
+    ("--core 1", "1 9011 10 16 0"),
+    ("--core 65535", "65535 9011 10 16 0"),
+    ("--core=9010", "9010 9011 10 16 0"),
+    ("--abort 1", "9010 1 10 16 0"),
+    ("--abort=65535", "9010 65535 10 16 0"),
+    ("--sample 1", "9010 9011 1 16 0"),
+    ("--sample 60000", "9010 9011 60000 16 0"),
+    ("--workers 1", "9010 9011 10 1 0"),
+    ("--workers 64", "9010 9011 10 64 0"),
+    ("--limit 0", "9010 9011 10 16 0"),
+    ("--limit 1000000", "9010 9011 10 16 1000000"),
+    // all of them, in any order
+    (
+        "--core 1024 --abort 1025 --sample 250 --workers 4 --limit 7",
+        "1024 1025 250 4 7",
+    ),
+    (
+        "--limit=7 --workers=4 --sample=250 --abort=1025 --core=1024",
+        "1024 1025 250 4 7",
+    ),
+    // a number may have a plus and zeros
+    ("--workers +4", "9010 9011 10 4 0"),
+    ("--workers 0004", "9010 9011 10 4 0"),
+    // above or below a range
+    ("--core 0", NO),
+    ("--core 65536", NO),
+    ("--abort 0", NO),
+    ("--abort 65536", NO),
+    ("--sample 0", NO),
+    ("--sample 60001", NO),
+    ("--workers 0", NO),
+    ("--workers 65", NO),
+    ("--limit 1000001", NO),
+    ("--limit 18446744073709551616", NO),
+    // no number
+    ("--core x", NO),
+    ("--core 9010x", NO),
+    ("--core 0x1F90", NO),
+    ("--core 1.0", NO),
+    ("--core=-1", NO),
+    ("--core=", NO),
+    ("--core=+", NO),
+    // no value, or another option where it should stand
+    ("--workers", NO),
+    ("--core --abort 1", NO),
+    ("--core -1", NO),
+    // an option twice
+    ("--workers 4 --workers 4", NO),
+    ("--core=1 --core 2", NO),
+    // other words, and the program's name
+    ("--port 9010", NO),
+    ("--work 4", NO),
+    ("-w 4", NO),
+    ("--Core 1", NO),
+    ("serve", NO),
+    ("vxgate", NO),
+    ("help", NO),
+    ("--core 1 2", NO),
+    ("-- --core", NO),
+    // the first fault counts
+    ("--workers 65 --help", NO),
+    ("--port --help", NO),
+    // the version is told
+    ("--version", VERSION),
+    ("-V", VERSION),
+];
+
+/// Lines that ask for the help.
+const HELPS: [&str; 4] = ["--help", "-h", "--workers 64 --help", "--help --port"];
+
+/// What the help tells, among others.
+const PARTS: [&str; 14] = [
+    "A VXI-11 gateway to a GPIB bus\n",
+    "Usage: vxgate [OPTIONS]\n",
+    "--core <PORT>",
+    "[default: 9010]",
+    "--abort <PORT>",
+    "[default: 9011]",
+    "--sample <MS>",
+    "[default: 10]",
+    "--workers <N>",
+    "[default: 16]",
+    "--limit <N>",
+    "[default: 0]",
+    "-h, --help",
+    "-V, --version",
+];
+
+/// Whether a line is answered with this text.
+fn is_answered(alloc: Global, line: &str, text: &str) -> Result<bool, AllocError> {
+    Ok(answer(alloc, line)?.as_str() == text)
+}
+
+/// Whether a line is answered with each part of the help.
+fn is_helped(alloc: Global, line: &str) -> Result<bool, AllocError> {
+    let text = answer(alloc, line)?;
+    Ok(PARTS.iter().all(|part| text.contains(*part)))
+}
+
+#[test]
+fn words_are_answered(rt: HostRuntime) -> Result<(), Fail> {
+    for (line, text) in ROWS {
+        let is_right = is_answered(rt.alloc(), line, text)?;
+        assert!(rt; is_right, "{line}");
+    }
+    Ok(())
+}
+
+#[test]
+fn help_tells_each_option(rt: HostRuntime) -> Result<(), Fail> {
+    for line in HELPS {
+        let is_right = is_helped(rt.alloc(), line)?;
+        assert!(rt; is_right, "{line}");
+    }
+    Ok(())
+}
