@@ -1,0 +1,152 @@
+//! Plays the scripts of the folder that it runs in, and tells which of them print otherwise than is written down.
+//!
+//! A file `NAME.vxs` is a script; a file `NAME.each` holds a script of one line in each of its lines. Beside it the file
+//! `NAME.out` has what each of them must print, and behind that a last line `status N`, with the exit status. For `plug`
+//! lines there are two spare instruments of each model that takes bytes: `echo`, `slow` and `asker`.
+#![tactic(auto)]
+
+use arrayvec::ArrayString;
+use std::alloc::{AllocError, AllocFailed, Global};
+use std::fs::{self, read_dir};
+use std::io;
+use std::rt::Files;
+use vx_inst::Instrument;
+use vx_io::{MemSink, MemSource};
+use vx_play::play_run;
+use vx_rack::{Asker, Echo, NoMemory, Slow, Spare};
+
+/// How many spare instruments there are of each model.
+const SPARES: usize = 2;
+
+/// An instrument of any model.
+type Boxed = Box<dyn Instrument + Send>;
+
+/// There was no memory.
+#[derive(Drop)]
+struct Unmade;
+
+impl From<AllocError> for Unmade {
+    fn from(_: AllocError) -> Unmade {
+        Unmade
+    }
+}
+
+impl<T: Drop> From<AllocFailed<T>> for Unmade {
+    fn from(_: AllocFailed<T>) -> Unmade {
+        Unmade
+    }
+}
+
+impl From<NoMemory> for Unmade {
+    fn from(_: NoMemory) -> Unmade {
+        Unmade
+    }
+}
+
+/// Adds a spare instrument under a name of at most 16 bytes.
+fn add(rack: &mut Vec<Spare<Boxed>>, name: &str, inst: Boxed) -> Result<(), AllocError> {
+    let mut text = ArrayString::new();
+    if text.try_push_str(name).is_ok() {
+        rack.push(Spare { name: text, inst })?;
+    }
+    Ok(())
+}
+
+/// Plays a script, and answers its status. What it prints goes to the sink.
+fn play(alloc: Global, script: &[u8], sink: &mut MemSink) -> Result<u8, Unmade> {
+    let words = vec![in alloc; String::from_str(alloc, "run")?]?;
+    let mut source = MemSource::new(script.to_vec(alloc)?, 100, Vec::new(alloc));
+    let mut rack = Vec::new(alloc);
+    for _ in 0..SPARES {
+        add(&mut rack, "echo", Box::new(alloc, Echo::new(alloc)?)?)?;
+        add(&mut rack, "slow", Box::new(alloc, Slow::new(alloc)?)?)?;
+        add(&mut rack, "asker", Box::new(alloc, Asker::new(alloc)?)?)?;
+    }
+    Ok(play_run(alloc, &words, &mut source, sink, rack))
+}
+
+/// Whether a text and a line with the status behind it are what is written down.
+fn is_written(alloc: Global, text: &[u8], status: u8, written: &[u8]) -> Result<bool, AllocError> {
+    let last = format!(in alloc; "status {status}\n")?;
+    Ok(written.strip_suffix(last.as_bytes()) == Some(text))
+}
+
+/// Whether a script prints otherwise than is written down.
+fn differs(alloc: Global, script: &[u8], written: &[u8]) -> Result<bool, AllocError> {
+    let mut sink = MemSink::new(Vec::new(alloc), Vec::new(alloc));
+    let Ok(status) = play(alloc, script, &mut sink) else {
+        return Err(AllocError);
+    };
+    Ok(!is_written(alloc, sink.bytes(), status, written)?)
+}
+
+/// How many scripts were played, and how many of them print otherwise than is written down.
+#[derive(Clone, Copy, Default)]
+struct Tally {
+    rows: u64,
+    differ: u64,
+}
+
+impl Tally {
+    fn count(&mut self, differs: bool) {
+        self.rows = self.rows.saturating_add(1);
+        self.differ = self.differ.saturating_add(u64::from(differs));
+    }
+}
+
+/// Plays the one script of a file.
+fn play_whole<R: Files + Print + AllocGlobal>(
+    rt: &R,
+    name: &str,
+    tally: &mut Tally,
+) -> io::Result<()> {
+    let script = fs::read(rt, format!(in rt.alloc(); "{name}.vxs")?)?;
+    let written = fs::read(rt, format!(in rt.alloc(); "{name}.out")?)?;
+    let differs = differs(rt.alloc(), &script, &written)?;
+    tally.count(differs);
+    if differs {
+        println!(rt; "differs {name}")?;
+    }
+    Ok(())
+}
+
+/// Plays each line of a file.
+fn play_each<R: Files + Print + AllocGlobal>(
+    rt: &R,
+    name: &str,
+    tally: &mut Tally,
+) -> io::Result<()> {
+    let scripts = fs::read(rt, format!(in rt.alloc(); "{name}.each")?)?;
+    let written = fs::read(rt, format!(in rt.alloc(); "{name}.out")?)?;
+    for (place, script) in scripts.split_inclusive(|b| *b == b'\n').enumerate() {
+        let differs = differs(rt.alloc(), script, &written)?;
+        tally.count(differs);
+        if differs {
+            println!(rt; "differs {name} {place}")?;
+        }
+    }
+    Ok(())
+}
+
+/// The names of the files in the folder, in order.
+fn files_of<R: Files + AllocGlobal + Clone + Drop>(rt: &R) -> io::Result<Vec<String>> {
+    let mut files = Vec::new(rt.alloc());
+    for entry in read_dir(rt, ".")? {
+        files.push(String::from_str(rt.alloc(), entry?.file_name())?)?;
+    }
+    files.sort()?;
+    Ok(files)
+}
+
+fn main(rt: HostRuntime) -> io::Result<()> {
+    let mut tally = Tally::default();
+    for file in &files_of(&rt)? {
+        if let Some(name) = file.strip_suffix(".vxs") {
+            play_whole(&rt, name, &mut tally)?;
+        } else if let Some(name) = file.strip_suffix(".each") {
+            play_each(&rt, name, &mut tally)?;
+        }
+    }
+    let Tally { rows, differ } = tally;
+    println!(rt; "{rows} rows, {differ} differ")
+}
