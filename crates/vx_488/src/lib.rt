@@ -13,6 +13,3 @@ pub use laws::{address_bytes, addressing, heard_appends, reached_appends, wire_a
 pub use listeners::Listeners;
 pub use transfers::{ADDRESS_MAX, Addr, Line, Transfer};
 pub use wire::{Pending, Wire};
-
-#[cfg(test)]
-mod tests;

@@ -6,8 +6,6 @@ mod bench;
 mod shelf;
 mod stops;
 mod table;
-#[cfg(test)]
-mod tests;
 
 pub use bench::{BenchStop, set_up};
 pub use shelf::{refused_for, spare_place};

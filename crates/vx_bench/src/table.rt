@@ -40,32 +40,3 @@ fn table_from(alloc: Global, value: &Value) -> Result<TableInst, Stop>
         },
     }
 }
-
-#[cfg(test)]
-mod tests {
-    use super::*;
-
-    // A table gives an instrument, where memory doesn't run out.
-    #[test]
-    fn a_table(rt: HostRuntime) {
-        let text = r#"{"rules":[{"in":"*IDN?","out":"ACME,1\n"}]}"#;
-        assert!(rt; table_of(rt.alloc(), text.as_bytes()).is_ok());
-    }
-
-    #[test]
-    fn no_tables(rt: HostRuntime) {
-        let texts: [(&[u8], Cause); 5] = [
-            (b"[]", Cause::Rule),
-            (br#"{"rules":[{"out":"x"}]}"#, Cause::Rule),
-            (b"ACME,1", Cause::Json),
-            (b"", Cause::Json),
-            (b"\xFF", Cause::Json),
-        ];
-        for (text, cause) in texts {
-            match table_of(rt.alloc(), text) {
-                Err(Stop::Refused(why)) => assert_eq!(rt; why, cause, "the text {text:?}"),
-                _ => assert!(rt; false, "the text {text:?}"),
-            }
-        }
-    }
-}

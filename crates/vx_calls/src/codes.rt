@@ -60,31 +60,3 @@ impl ErrorCode {
         }
     }
 }
-
-#[cfg(test)]
-mod tests {
-    use super::*;
-
-    #[test]
-    fn numbers(rt: HostRuntime) {
-        for (code, want) in [
-            (ErrorCode::Ok, 0),
-            (ErrorCode::Syntax, 1),
-            (ErrorCode::NotAccessible, 3),
-            (ErrorCode::InvalidLink, 4),
-            (ErrorCode::Parameter, 5),
-            (ErrorCode::NoChannel, 6),
-            (ErrorCode::NotSupported, 8),
-            (ErrorCode::NoResources, 9),
-            (ErrorCode::Locked, 11),
-            (ErrorCode::NotHeld, 12),
-            (ErrorCode::Timeout, 15),
-            (ErrorCode::BusFault, 17),
-            (ErrorCode::InvalidAddress, 21),
-            (ErrorCode::Abort, 23),
-            (ErrorCode::ChannelUp, 29),
-        ] {
-            assert_eq!(rt; code.number(), want, "of {code:?}");
-        }
-    }
-}

@@ -20,12 +20,12 @@ use Rattle.vx_488.specs.declared.transfers.Transfer.{Transfer}
 use Rattle.vx_488.specs.declared.wire.Wire.{Wire}
 use Rattle.vx_488.specs.Wire.{first_wire}
 use Rattle.vx_plan.specs.Plan.{Part}
-use Rattle.vx_bus.specs.Means.{Means}
+use Rattle.vx_bus_traits.specs.Means.{Means}
 use Rattle.vx_srq.specs.Desk.{Srq, Given, Front, Empty, Gone, given, taken, sampled}
-use Rattle.vx_model.specs.State.{Tables, State, connection_at, lives_as, is_idle, has_room, with_pending, with_connection, without_connection, first_tables}
-use Rattle.vx_model.specs.Entry as entry
-use Rattle.vx_model.specs.Entry.{Entry}
-use Rattle.vx_model.specs.One.{one, may_wait, arrived, same_srq, same_given, abort_reply, abort_tables}
+use Rattle.vx_rules.specs.State.{Tables, State, connection_at, lives_as, is_idle, has_room, with_pending, with_connection, without_connection, first_tables}
+use Rattle.vx_rules.specs.Entry as entry
+use Rattle.vx_rules.specs.Entry.{Entry}
+use Rattle.vx_rules.specs.One.{one, may_wait, arrived, same_srq, same_given, abort_reply, abort_tables}
 use Rattle.vx_flow.specs.Event.{Event, Up, Down, Arrive, Abort, Sample, Take}
 use Rattle.vx_flow.specs.FineState.{Turn, FineState, turn_after}
 use Rattle.vx_flow.specs.Fine.{fine, fine_step, fine_after, as_one, comes_in_turn, is_whole, is_answer_of, turn_stand, wire_before, without_dial}

@@ -24,16 +24,16 @@ use Rattle.vx_488.specs.Wire.{wire_after}
 use Rattle.vx_links.specs.Table.{Link, is_live}
 use Rattle.vx_locks.specs.Locks.{holds, with_lock}
 use Rattle.vx_srq.specs.Desk.{Desk, Port, Channel, Given, port_at, channel_at, port_with, with_channel, without_port, queued_on, handles_of, risen_port, is_rise, sampled, given, taken_from, taken}
-use Rattle.vx_model.specs.State.{Pending, Connection, Tables, State, same_role, connection_at, pending_at, lives_as, is_idle, count_of, has_room, with_pending, with_connection, without_connection}
-use Rattle.vx_model.specs.Lists.{update_first}
-use Rattle.vx_model.specs.Calls.{link_named, is_bus_call, asks_dial}
-use Rattle.vx_model.specs.Checks.{NamedLink, NoLink, DeadLink, OnLink, named_link}
-use Rattle.vx_model.specs.Lines.{Lines, Refused, Waiting, Passed, first_lines}
-use Rattle.vx_model.specs.Effects.{task_of, stopped_reply, create, locked, effect_on, effect, settle}
-use Rattle.vx_model.specs.Decide.{Outside, is_quiet, bus_answer, dialed_answer, by_lines, settles, decide}
-use Rattle.vx_model.specs.Entry as entry
-use Rattle.vx_model.specs.One.{one, may_wait, arrived, answered, answer_to, answer, if_reply, names, mark_call, mark_on, marked, abort_reply, abort_tables, same_given}
-use Rattle.vx_model.proofs.Finds.{All-kept}
+use Rattle.vx_rules.specs.State.{Pending, Connection, Tables, State, same_role, connection_at, pending_at, lives_as, is_idle, count_of, has_room, with_pending, with_connection, without_connection}
+use Rattle.vx_rules.specs.Lists.{update_first}
+use Rattle.vx_rules.specs.Calls.{link_named, is_bus_call, asks_dial}
+use Rattle.vx_rules.specs.Checks.{NamedLink, NoLink, DeadLink, OnLink, named_link}
+use Rattle.vx_rules.specs.Lines.{Lines, Refused, Waiting, Passed, first_lines}
+use Rattle.vx_rules.specs.Effects.{task_of, stopped_reply, create, locked, effect_on, effect, settle}
+use Rattle.vx_rules.specs.Decide.{Outside, is_quiet, bus_answer, dialed_answer, by_lines, settles, decide}
+use Rattle.vx_rules.specs.Entry as entry
+use Rattle.vx_rules.specs.One.{one, may_wait, arrived, answered, answer_to, answer, if_reply, names, mark_call, mark_on, marked, abort_reply, abort_tables, same_given}
+use Rattle.vx_rules.proofs.Finds.{All-kept}
 use Rattle.vx_flow.specs.Event.{Event, Up, Down, Arrive, Answer, Abort, Sample, Take, Begin, Move, Dial}
 use Rattle.vx_flow.specs.FineState.{FineState}
 use Rattle.vx_flow.specs.Fine.{comes_in_turn, wire_for, outside, passes_lines, is_answered, may_begin, may_dial, may_move, fine_after, as_one, without_dial, answered_fine, fine_answer, fine_step, fine}

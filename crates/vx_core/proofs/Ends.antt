@@ -9,14 +9,14 @@ use Rattle.vx_calls.specs.Reply.{Reply}
 use Rattle.vx_488.specs.declared.transfers.Transfer.{Transfer}
 use Rattle.vx_488.specs.declared.wire.Wire.{Wire}
 use Rattle.vx_488.specs.Wire.{wire_after}
-use Rattle.vx_bus.specs.Means.{Means}
-use Rattle.vx_bus.specs.Steps.{Step, Went}
-use Rattle.vx_bus.specs.Walks.{Walk}
-use Rattle.vx_model.specs.Lists.{along}
-use Rattle.vx_model.specs.State.{Pending, Tables, State, pending_at, with_pending}
-use Rattle.vx_model.specs.Lines.{first_lines}
-use Rattle.vx_model.specs.Decide.{Outside, decide, has_job_role}
-use Rattle.vx_model.specs.One.{answer, answered, answer_to, if_reply}
+use Rattle.vx_bus_traits.specs.Means.{Means}
+use Rattle.vx_bus_traits.specs.Steps.{Step, Went}
+use Rattle.vx_bus_traits.specs.Walks.{Walk}
+use Rattle.vx_rules.specs.Lists.{along}
+use Rattle.vx_rules.specs.State.{Pending, Tables, State, pending_at, with_pending}
+use Rattle.vx_rules.specs.Lines.{first_lines}
+use Rattle.vx_rules.specs.Decide.{Outside, decide, has_job_role}
+use Rattle.vx_rules.specs.One.{answer, answered, answer_to, if_reply}
 use Rattle.vx_calls.specs.Reply.{same_reply}
 use Rattle.vx_flow.specs.Event.{Event, Answer, Begin, Move}
 use Rattle.vx_flow.specs.FineState.{Turn, FineState, turn_of, turn_after}

@@ -4,10 +4,10 @@ use Rattle.std.specs.Prelude.{IsSome, max}
 use Rattle.vx_488.specs.declared.transfers.Transfer.{Transfer}
 use Rattle.vx_488.specs.declared.wire.Wire.{Wire}
 use Rattle.vx_plan.specs.Plan.{Part}
-use Rattle.vx_bus.specs.Means.{Means}
-use Rattle.vx_bus.specs.Steps.{Step, Told, Cut}
-use Rattle.vx_bus.specs.Walks.{Walk}
-use Rattle.vx_model.specs.State.{Pending, pending_at}
+use Rattle.vx_bus_traits.specs.Means.{Means}
+use Rattle.vx_bus_traits.specs.Steps.{Step, Told, Cut}
+use Rattle.vx_bus_traits.specs.Walks.{Walk}
+use Rattle.vx_rules.specs.State.{Pending, pending_at}
 use Rattle.vx_flow.specs.FineState.{Turn, FineState}
 use Rattle.vx_flow.specs.Fine.{turn_stand}
 use Rattle.vx_flow.specs.Sound.{TurnStands, IsSound}

@@ -7,11 +7,11 @@ use Rattle.vx_488.specs.declared.transfers.Transfer.{Transfer}
 use Rattle.vx_488.specs.declared.wire.Wire.{Wire}
 use Rattle.vx_488.specs.Wire.{wire_after}
 use Rattle.vx_plan.specs.Plan.{Stand, Whole, Part, Off}
-use Rattle.vx_bus.specs.Means.{Means}
+use Rattle.vx_bus_traits.specs.Means.{Means}
 use Rattle.vx_ctrl.specs.Turns.{TurnState, HasMade}
 use Rattle.vx_ctrl.specs.Goes.{Begins, HoldsBytes}
-use Rattle.vx_model.specs.State.{Tables, pending_at}
-use Rattle.vx_model.specs.Decide.{stand_on, stand_of_job}
+use Rattle.vx_rules.specs.State.{Tables, pending_at}
+use Rattle.vx_rules.specs.Decide.{stand_on, stand_of_job}
 use Rattle.vx_flow.specs.Event.{Event, Answer}
 use Rattle.vx_flow.specs.FineState.{Turn, FineState, turn_after}
 use Rattle.vx_flow.specs.Fine.{fine, fine_step, is_whole, is_answer_of, comes_in_turn, turn_stand, call_stand}

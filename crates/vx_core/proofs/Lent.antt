@@ -12,14 +12,14 @@ use Rattle.vx_plan.specs.Plan.{Stand, Whole, Part, Off, stand}
 use Rattle.vx_plan.specs.Tasks.{plan}
 use Rattle.vx_plan.specs.Laws.{most_transfers}
 use Rattle.vx_plan.proofs.Turns.{bound-law}
-use Rattle.vx_bus.specs.declared.asks.TheConstants.{ASK_MAX}
-use Rattle.vx_bus.specs.Means.{Means}
-use Rattle.vx_bus.specs.Steps.{Step}
-use Rattle.vx_model.specs.Lists.{along}
-use Rattle.vx_model.specs.State.{Pending, pending_at}
-use Rattle.vx_model.specs.Calls.{bytes_of}
-use Rattle.vx_model.specs.Lines.{lets_pass}
-use Rattle.vx_model.specs.Decide.{stand_of_job}
+use Rattle.vx_bus_traits.specs.declared.asks.TheConstants.{ASK_MAX}
+use Rattle.vx_bus_traits.specs.Means.{Means}
+use Rattle.vx_bus_traits.specs.Steps.{Step}
+use Rattle.vx_rules.specs.Lists.{along}
+use Rattle.vx_rules.specs.State.{Pending, pending_at}
+use Rattle.vx_rules.specs.Calls.{bytes_of}
+use Rattle.vx_rules.specs.Lines.{lets_pass}
+use Rattle.vx_rules.specs.Decide.{stand_of_job}
 use Rattle.vx_flow.specs.Event.{Begin, Move}
 use Rattle.vx_flow.specs.FineState.{Turn, FineState}
 use Rattle.vx_flow.specs.Fine.{fine, fine_after, may_move, goes_on, is_on, turn_stand, call_stand, job_of}

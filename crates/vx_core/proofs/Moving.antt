@@ -20,17 +20,17 @@ use Rattle.vx_plan.specs.Results.{whole_reply}
 use Rattle.vx_plan.specs.Tasks.{plan, is_own_task, IsPlainTask}
 use Rattle.vx_plan.proofs.Turns.{own_stays-law}
 use Rattle.vx_flow.proofs.Whom.{just-front}
-use Rattle.vx_bus.specs.Means.{Means}
-use Rattle.vx_bus.specs.Steps.{Step, Went}
-use Rattle.vx_bus.specs.Walks.{Walk}
+use Rattle.vx_bus_traits.specs.Means.{Means}
+use Rattle.vx_bus_traits.specs.Steps.{Step, Went}
+use Rattle.vx_bus_traits.specs.Walks.{Walk}
 use Rattle.vx_ctrl.specs.declared.turn.Went.{Went as Outcome}
 use Rattle.vx_ctrl.specs.declared.turn.Went.TheVariants as went
 use Rattle.vx_ctrl.specs.Turns.{TurnState, HasMade}
 use Rattle.vx_ctrl.specs.Goes.{go_steps, refused_steps, outcome_stand}
-use Rattle.vx_model.specs.State.{Pending, pending_at, count_of}
-use Rattle.vx_model.specs.Calls.{bytes_of, is_big, io_timeout_of, has_passed}
-use Rattle.vx_model.specs.Effects.{stopped_reply}
-use Rattle.vx_model.specs.Decide.{stand_of_job, level_fits}
+use Rattle.vx_rules.specs.State.{Pending, pending_at, count_of}
+use Rattle.vx_rules.specs.Calls.{bytes_of, is_big, io_timeout_of, has_passed}
+use Rattle.vx_rules.specs.Effects.{stopped_reply}
+use Rattle.vx_rules.specs.Decide.{stand_of_job, level_fits}
 use Rattle.vx_flow.specs.Event.{Event, Answer}
 use Rattle.vx_flow.specs.FineState.{Turn, FineState, turn_of, moves_of}
 use Rattle.vx_flow.specs.Fine.{fine, job_of, turn_stand, call_stand}

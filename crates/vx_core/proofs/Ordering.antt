@@ -11,18 +11,18 @@ use Rattle.vx_calls.specs.Reply.{Reply}
 use Rattle.vx_488.specs.declared.transfers.Transfer.{Transfer}
 use Rattle.vx_plan.specs.declared.tasks.Task.{Task}
 use Rattle.vx_plan.specs.Roles.{has_role}
-use Rattle.vx_bus.specs.Means.{Means}
-use Rattle.vx_bus.specs.Steps.{Step}
-use Rattle.vx_model.specs.Lists.{along}
-use Rattle.vx_model.specs.State.{Pending, Tables, pending_at, count_of}
-use Rattle.vx_model.specs.Calls.{is_bus_call, is_lock_call, asks_dial}
-use Rattle.vx_model.specs.Checks.{named_link}
-use Rattle.vx_model.specs.Dials.{dials_to}
-use Rattle.vx_model.specs.Lines as lines
-use Rattle.vx_model.specs.Lines.{first_lines, lock_request}
-use Rattle.vx_model.specs.Shown.{lines_shown}
-use Rattle.vx_model.specs.declared.tables.lines.Lines.{Lines}
-use Rattle.vx_model.specs.Effects.{stopped_reply, effect}
+use Rattle.vx_bus_traits.specs.Means.{Means}
+use Rattle.vx_bus_traits.specs.Steps.{Step}
+use Rattle.vx_rules.specs.Lists.{along}
+use Rattle.vx_rules.specs.State.{Pending, Tables, pending_at, count_of}
+use Rattle.vx_rules.specs.Calls.{is_bus_call, is_lock_call, asks_dial}
+use Rattle.vx_rules.specs.Checks.{named_link}
+use Rattle.vx_rules.specs.Dials.{dials_to}
+use Rattle.vx_rules.specs.Lines as lines
+use Rattle.vx_rules.specs.Lines.{first_lines, lock_request}
+use Rattle.vx_rules.specs.Shown.{lines_shown}
+use Rattle.vx_rules.specs.declared.tables.lines.Lines.{Lines}
+use Rattle.vx_rules.specs.Effects.{stopped_reply, effect}
 use Rattle.vx_flow.specs.Event.{Begin}
 use Rattle.vx_flow.specs.FineState.{Turn, FineState, turn_of, moves_of}
 use Rattle.vx_flow.specs.Fine.{fine, job_of, wire_for, waits_for, waits_for_turn, on_conflict, turn_target, may_begin, without_dial}

@@ -14,15 +14,15 @@ use Rattle.vx_calls.specs.Reply.{Reply, same_reply}
 use Rattle.vx_calls.specs.Reply as reply
 use Rattle.vx_calls.proofs.Laws.{same_reply-refl}
 use Rattle.vx_srq.specs.Desk.{channel_at, has_number}
-use Rattle.vx_bus.specs.Means.{Means}
-use Rattle.vx_bus.specs.Steps.{Step, Told, Cut}
-use Rattle.vx_bus.specs.Walks.{Walk}
-use Rattle.vx_model.specs.State.{Pending, Tables, State, pending_at, with_pending}
-use Rattle.vx_model.specs.Checks.{check_channel}
-use Rattle.vx_model.specs.Lines.{Passed, first_lines, checked_lines}
-use Rattle.vx_model.specs.Effects.{settle}
-use Rattle.vx_model.specs.Decide.{Outside, by_lines, has_job_role}
-use Rattle.vx_model.specs.One.{answer, answered, answer_to, if_reply}
+use Rattle.vx_bus_traits.specs.Means.{Means}
+use Rattle.vx_bus_traits.specs.Steps.{Step, Told, Cut}
+use Rattle.vx_bus_traits.specs.Walks.{Walk}
+use Rattle.vx_rules.specs.State.{Pending, Tables, State, pending_at, with_pending}
+use Rattle.vx_rules.specs.Checks.{check_channel}
+use Rattle.vx_rules.specs.Lines.{Passed, first_lines, checked_lines}
+use Rattle.vx_rules.specs.Effects.{settle}
+use Rattle.vx_rules.specs.Decide.{Outside, by_lines, has_job_role}
+use Rattle.vx_rules.specs.One.{answer, answered, answer_to, if_reply}
 use Rattle.vx_flow.specs.Event.{Event, Answer}
 use Rattle.vx_flow.specs.FineState.{Turn, FineState, turn_of, turn_after}
 use Rattle.vx_flow.specs.Fine.{fine_step, fine_after, outside, wire_for, is_answered, passes_lines, may_answer, waits_for_turn, answered_fine, without_dial, job_of}

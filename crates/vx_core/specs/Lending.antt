@@ -5,10 +5,10 @@ use denote.RattleType.{RattleType}
 use Rattle.std.specs.Io.BufRead.{Rests}
 use Rattle.vx_calls.specs.declared.limits.TheConstants.{WRITE_MAX}
 use Rattle.vx_calls.specs.Reply.{reply_shown}
-use Rattle.vx_bus.specs.declared.asks.TheConstants.{ASK_MAX}
-use Rattle.vx_bus.specs.Means.{Means}
-use Rattle.vx_bus.specs.Steps.{Step, Told, Cut}
-use Rattle.vx_bus.specs.declared.bus.Bus.{Ghosts}
+use Rattle.vx_bus_traits.specs.declared.asks.TheConstants.{ASK_MAX}
+use Rattle.vx_bus_traits.specs.Means.{Means}
+use Rattle.vx_bus_traits.specs.Steps.{Step, Told, Cut}
+use Rattle.vx_bus_traits.specs.declared.bus.Bus.{Ghosts}
 use Rattle.vx_flow.specs.Poll.{Ending, Answered, Waited, Dialed}
 use Rattle.vx_kernel.specs.CoreState.{CoreState}
 use Rattle.vx_kernel.specs.Given.{reply_bytes}

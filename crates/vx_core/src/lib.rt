@@ -6,10 +6,8 @@ mod kept;
 mod order;
 mod polled;
 mod shared;
-#[cfg(test)]
-mod tests;
 
 pub use polled::Polled;
 pub use shared::{Core, StartRefused};
 pub use vx_kernel::{Settled, Why};
-pub use vx_model::Connect;
+pub use vx_rules::Connect;

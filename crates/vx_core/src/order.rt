@@ -1,18 +1,18 @@
 //! A poll of a call, by the order of answers.
 ghost use Rattle.std.specs.Prelude.{◌≡◌, ◌≤◌, true, Some, IsSome};
 ghost use Rattle.vx_calls.specs.declared.limits.TheConstants.{WRITE_MAX};
-ghost use Rattle.vx_model.specs.State.{Pending, pending_at};
-ghost use Rattle.vx_model.specs.Calls as calls;
+ghost use Rattle.vx_rules.specs.State.{Pending, pending_at};
+ghost use Rattle.vx_rules.specs.Calls as calls;
 ghost use Rattle.vx_kernel.specs.Ending.{ended_len};
 ghost use Rattle.vx_kernel.specs.Keeping.{Keeps};
 ghost use Rattle.vx_kernel.specs.Polling.{Leaves, EndsFrom};
 ghost use Rattle.vx_kernel.specs.Turning.{HasHeard, HasPassed, HasTurn, IsFree};
 
-use vx_bus::Bus;
+use vx_bus_traits::Bus;
 use vx_calls::ErrorCode;
 use vx_ctrl::Went;
 use vx_kernel::{Ended, Kernel, Ran, Why};
-use vx_model::Lines;
+use vx_rules::Lines;
 
 /// Answers the call of a connection by the first line of the order of answers that holds, or says why it isn't answered.
 pub(crate) fn poll<B: Bus>(kernel: &mut Kernel<B>, conn: u32, now: u64) -> Ended

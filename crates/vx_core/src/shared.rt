@@ -7,14 +7,14 @@ ghost use Rattle.vx_calls.specs.Reply as reply;
 ghost use Rattle.vx_calls.specs.declared.codes.ErrorCode.TheVariants as code;
 ghost use Rattle.vx_calls.specs.declared.calls.Role.TheVariants as role;
 ghost use Rattle.vx_488.specs.Wire.{first_wire};
-ghost use Rattle.vx_bus.specs.Steps.{Told, Cut};
-ghost use Rattle.vx_bus.specs.Walks.{Walk};
+ghost use Rattle.vx_bus_traits.specs.Steps.{Told, Cut};
+ghost use Rattle.vx_bus_traits.specs.Walks.{Walk};
 ghost use Rattle.vx_srq.specs.Desk.{channel_at};
 ghost use Rattle.vx_srq.specs.Shown.{given_shown};
-ghost use Rattle.vx_model.specs.State.{connection_at, pending_at, role_at, is_idle, lives_as, has_room};
-ghost use Rattle.vx_model.specs.One.{may_wait};
-ghost use Rattle.vx_model.specs.Held.{IsShort};
-ghost use Rattle.vx_model.specs.Serving.{IsPlainLink};
+ghost use Rattle.vx_rules.specs.State.{connection_at, pending_at, role_at, is_idle, lives_as, has_room};
+ghost use Rattle.vx_rules.specs.One.{may_wait};
+ghost use Rattle.vx_rules.specs.Held.{IsShort};
+ghost use Rattle.vx_rules.specs.Serving.{IsPlainLink};
 ghost use Rattle.vx_flow.specs.Event.{Up, Down, Arrive, Answer, Abort, Sample, Take};
 ghost use Rattle.vx_flow.specs.FineState.{first_fine};
 ghost use Rattle.vx_flow.specs.Fine.{fine};
@@ -26,10 +26,10 @@ use crate::polled::Polled;
 use std::alloc::Global;
 use std::marker::Model;
 use vx_488::Transfer;
-use vx_bus::{Bus, Tweak};
+use vx_bus_traits::{Bus, Tweak};
 use vx_calls::{CallRef, ErrorCode, Role, Taken};
 use vx_kernel::{Ended, Kernel, Rooms, Settled};
-use vx_model::{Connect, Tables};
+use vx_rules::{Connect, Tables};
 
 /// Memory ran out as the core was to start; the bus comes back.
 #[derive(Drop)]

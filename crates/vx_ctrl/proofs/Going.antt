@@ -5,9 +5,9 @@ use Rattle.vx_488.specs.declared.transfers.Transfer.{Transfer}
 use Rattle.vx_488.specs.declared.wire.Wire.{Wire}
 use Rattle.vx_488.specs.Wire.{wire_after}
 use Rattle.vx_488.specs.Laws.{WireAppendsLaw}
-use Rattle.vx_bus.specs.Means.{Means}
-use Rattle.vx_bus.specs.Steps.{Step, Went}
-use Rattle.vx_bus.specs.Walks.{StepsTo, Walk}
+use Rattle.vx_bus_traits.specs.Means.{Means}
+use Rattle.vx_bus_traits.specs.Steps.{Step, Went}
+use Rattle.vx_bus_traits.specs.Walks.{StepsTo, Walk}
 use Rattle.vx_plan.specs.declared.tasks.Task.{Task}
 use Rattle.vx_plan.specs.declared.tasks.Place.{Place}
 use Rattle.vx_plan.specs.declared.tasks.Next.{Next}
@@ -25,7 +25,7 @@ use Rattle.vx_ctrl.specs.declared.asking.Asked.TheVariants.{Made, Stopped}
 use Rattle.vx_ctrl.specs.Turns.{TurnState, HasMade, HasRoom, GetsBytes, with_bytes, stored, moved_on}
 use Rattle.vx_ctrl.specs.Goes.{Begins, Goes, refused_steps, go_steps, outcome_stand, HoldsBytes}
 use Rattle.vx_ctrl.specs.Asking.{Asks, IsPlainNext}
-use Rattle.vx_bus.specs.declared.asks.TheConstants.{ASK_MAX}
+use Rattle.vx_bus_traits.specs.declared.asks.TheConstants.{ASK_MAX}
 use Rattle.vx_488.specs.declared.transfers.Transfer.TheVariants.{Got}
 use Rattle.vx_ctrl.proofs.Sizes.{most_gets}
 use Rattle.vx_ctrl.proofs.Fares.{own-short, moved-short, step-short, moved-got, room-left, gets-some, gets-bytes, length-bytes_got, bytes_got-append}

@@ -2,8 +2,8 @@
 use Rattle.std.proofs.Common.{◌≡◌, List, [], ◌∷◌, ◌++◌, refl, sym, ap, ◌∙◌, subst, arith, append_assoc, add-zero, ◌+◌, length}
 use Rattle.std.proofs.lemmas.List.{append-nil}
 use Rattle.vx_488.specs.Wire.{wire_after}
-use Rattle.vx_bus.specs.Means.{Means}
-use Rattle.vx_bus.specs.Steps.{Step, Path}
+use Rattle.vx_bus_traits.specs.Means.{Means}
+use Rattle.vx_bus_traits.specs.Steps.{Step, Path}
 use Rattle.vx_ctrl.specs.Laws.{WentLaw}
 
 -- a path over one list, and one over another from there on, is a path over both

@@ -2,13 +2,13 @@
 use Rattle.std.specs.Prelude.{◌≡◌, ◌≤◌, ⊤, Option, Some, None}
 use Rattle.vx_488.specs.declared.transfers.Transfer.{Transfer}
 use Rattle.vx_488.specs.declared.transfers.Transfer.TheVariants.{Got}
-use Rattle.vx_bus.specs.declared.asks.Move.{Move}
-use Rattle.vx_bus.specs.declared.asks.Move.TheVariants as move
-use Rattle.vx_bus.specs.declared.asks.GetOut.{GetOut}
-use Rattle.vx_bus.specs.declared.asks.GetOut.TheVariants as get
-use Rattle.vx_bus.specs.Means.{Means}
-use Rattle.vx_bus.specs.Steps.{Step, Went, Held, Failed}
-use Rattle.vx_bus.specs.Walks.{StepsTo}
+use Rattle.vx_bus_traits.specs.declared.asks.Move.{Move}
+use Rattle.vx_bus_traits.specs.declared.asks.Move.TheVariants as move
+use Rattle.vx_bus_traits.specs.declared.asks.GetOut.{GetOut}
+use Rattle.vx_bus_traits.specs.declared.asks.GetOut.TheVariants as get
+use Rattle.vx_bus_traits.specs.Means.{Means}
+use Rattle.vx_bus_traits.specs.Steps.{Step, Went, Held, Failed}
+use Rattle.vx_bus_traits.specs.Walks.{StepsTo}
 use Rattle.vx_plan.specs.declared.tasks.Next.{Next}
 use Rattle.vx_plan.specs.declared.tasks.Next.TheVariants as next
 use Rattle.vx_plan.specs.Plan.{Slot}

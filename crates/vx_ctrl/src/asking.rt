@@ -1,12 +1,12 @@
 //! One ask of a bus: for what a job wants next.
 ghost use Rattle.std.specs.Prelude.{◌≡◌, ◌<◌, slice_index};
-ghost use Rattle.vx_bus.specs.declared.asks.TheConstants.{ASK_MAX};
+ghost use Rattle.vx_bus_traits.specs.declared.asks.TheConstants.{ASK_MAX};
 ghost use Rattle.vx_plan.specs.Places.{slot_wanted};
 ghost use Rattle.vx_ctrl.specs.Asking.{sent_as, got_as, Asks, IsPlainNext};
 
 use crate::turn::Went;
 use vx_488::{Line, Transfer};
-use vx_bus::{Bus, GetOut, Move};
+use vx_bus_traits::{Bus, GetOut, Move};
 use vx_plan::Next;
 
 /// What an ask came to.

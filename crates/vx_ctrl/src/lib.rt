@@ -3,8 +3,6 @@
 
 mod asking;
 mod laws;
-#[cfg(test)]
-mod tests;
 mod turn;
 
 pub use laws::{walk_appends, walk_went};

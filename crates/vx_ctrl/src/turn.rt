@@ -4,7 +4,7 @@ ghost use Rattle.vx_488.specs.declared.transfers.Transfer.{Transfer};
 ghost use Rattle.vx_488.specs.declared.wire.Wire.{Wire};
 ghost use Rattle.vx_488.specs.Wire.{wire_after};
 ghost use Rattle.vx_plan.specs.Transfers.{is_got};
-ghost use Rattle.vx_bus.specs.declared.asks.TheConstants.{ASK_MAX};
+ghost use Rattle.vx_bus_traits.specs.declared.asks.TheConstants.{ASK_MAX};
 ghost use Rattle.vx_plan.specs.Plan.{Plan, next_slot};
 ghost use Rattle.vx_plan.specs.Places.{Reaches};
 ghost use Rattle.vx_plan.specs.Tasks.{plan, IsPlainTask, HasBytes};
@@ -16,7 +16,7 @@ ghost use Rattle.vx_ctrl.specs.Goes.{Goes, Begins, HoldsBytes};
 use crate::asking::{Asked, ask};
 use std::marker::Model;
 use vx_488::{Transfer, Wire, wire_appends};
-use vx_bus::Bus;
+use vx_bus_traits::Bus;
 use vx_plan::{Place, Task, few_transfers, first_place, next_move, place_goes_on};
 
 /// Why a turn stopped for now.

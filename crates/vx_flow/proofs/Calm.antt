@@ -13,10 +13,10 @@ use Rattle.vx_calls.specs.Call.{Call}
 use Rattle.vx_links.specs.Table.{Link, is_live}
 use Rattle.vx_locks.specs.Locks.{holder_of}
 use Rattle.vx_srq.specs.Desk.{Given, taken, sampled}
-use Rattle.vx_model.specs.Calls.{link_named}
-use Rattle.vx_model.specs.State.{Pending, Tables, pending_at, link_of, lives_as, is_idle, has_room, with_pending, with_connection}
-use Rattle.vx_model.specs.Entry as entry
-use Rattle.vx_model.specs.One.{one, may_wait, arrived, names, mark_call, marked, abort_reply, abort_tables}
+use Rattle.vx_rules.specs.Calls.{link_named}
+use Rattle.vx_rules.specs.State.{Pending, Tables, pending_at, link_of, lives_as, is_idle, has_room, with_pending, with_connection}
+use Rattle.vx_rules.specs.Entry as entry
+use Rattle.vx_rules.specs.One.{one, may_wait, arrived, names, mark_call, marked, abort_reply, abort_tables}
 use Rattle.vx_flow.specs.Event.{Event, Up, Arrive, Abort, Sample, Take, Dial}
 use Rattle.vx_flow.specs.FineState.{Turn, FineState, turn_after}
 use Rattle.vx_flow.specs.Fine.{may_dial, without_dial, fine_after, fine_step}

@@ -14,12 +14,12 @@ use Rattle.vx_calls.specs.Reply.{Reply}
 use Rattle.vx_488.specs.declared.wire.Wire.{Wire}
 use Rattle.vx_links.specs.Table.{Link}
 use Rattle.vx_locks.specs.Locks.{holds, holder_of, with_lock}
-use Rattle.vx_model.specs.Calls.{is_bus_call, is_lock_call, asks_dial}
-use Rattle.vx_model.specs.State.{Pending, Connection, Tables, pending_at, link_of, with_pending}
-use Rattle.vx_model.specs.Checks.{NamedLink, NoLink, DeadLink, OnLink, named_link}
-use Rattle.vx_model.specs.Lines.{Lines, Refused, Waiting, Passed, named_request, lock_request, first_lines}
-use Rattle.vx_model.specs.Effects.{task_of, stopped_reply, create, locked, effect_on, effect, settle}
-use Rattle.vx_model.specs.Decide.{Outside, is_quiet, bus_answer, dialed_answer, by_lines, settles, decide}
+use Rattle.vx_rules.specs.Calls.{is_bus_call, is_lock_call, asks_dial}
+use Rattle.vx_rules.specs.State.{Pending, Connection, Tables, pending_at, link_of, with_pending}
+use Rattle.vx_rules.specs.Checks.{NamedLink, NoLink, DeadLink, OnLink, named_link}
+use Rattle.vx_rules.specs.Lines.{Lines, Refused, Waiting, Passed, named_request, lock_request, first_lines}
+use Rattle.vx_rules.specs.Effects.{task_of, stopped_reply, create, locked, effect_on, effect, settle}
+use Rattle.vx_rules.specs.Decide.{Outside, is_quiet, bus_answer, dialed_answer, by_lines, settles, decide}
 use Rattle.vx_flow.specs.Fine.{on_conflict}
 use Rattle.vx_flow.specs.Sound.{HaveCome}
 use Rattle.vx_flow.proofs.Rows.{pending-other, pending-here, link-made, link-left}

@@ -9,14 +9,14 @@ use Rattle.vx_calls.specs.Reply.{Reply, same_reply}
 use Rattle.vx_488.specs.declared.wire.Wire.{Wire}
 use Rattle.vx_488.specs.Wire.{wire_after}
 use Rattle.vx_links.specs.Table.{Link}
-use Rattle.vx_model.specs.Calls.{is_bus_call, asks_dial}
-use Rattle.vx_model.specs.State.{Pending, Tables, State, pending_at, with_pending}
-use Rattle.vx_model.specs.Checks.{OnLink, named_link, check}
-use Rattle.vx_model.specs.Lines.{Lines, Refused, Waiting, Passed, holder_against, lock_lines, checked_lines, later_lines, first_lines}
-use Rattle.vx_model.specs.Effects.{task_of, effect}
-use Rattle.vx_model.specs.Decide.{Outside, is_quiet, stand_on, bus_answer, dialed_answer, by_lines, settles, decide, is_nothing, begun_between, may_tell, has_job_role, may_have_made, lines_fit, turn_fits}
-use Rattle.vx_model.specs.Entry as entry
-use Rattle.vx_model.specs.One.{one, answer, answer_to, answered, if_reply, call_fits}
+use Rattle.vx_rules.specs.Calls.{is_bus_call, asks_dial}
+use Rattle.vx_rules.specs.State.{Pending, Tables, State, pending_at, with_pending}
+use Rattle.vx_rules.specs.Checks.{OnLink, named_link, check}
+use Rattle.vx_rules.specs.Lines.{Lines, Refused, Waiting, Passed, holder_against, lock_lines, checked_lines, later_lines, first_lines}
+use Rattle.vx_rules.specs.Effects.{task_of, effect}
+use Rattle.vx_rules.specs.Decide.{Outside, is_quiet, stand_on, bus_answer, dialed_answer, by_lines, settles, decide, is_nothing, begun_between, may_tell, has_job_role, may_have_made, lines_fit, turn_fits}
+use Rattle.vx_rules.specs.Entry as entry
+use Rattle.vx_rules.specs.One.{one, answer, answer_to, answered, if_reply, call_fits}
 use Rattle.vx_flow.specs.FineState.{Turn}
 use Rattle.vx_flow.specs.Fine.{is_whole}
 use Rattle.vx_flow.specs.Sound.{Passes, Stands}

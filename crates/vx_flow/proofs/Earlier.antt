@@ -9,10 +9,10 @@ use Rattle.vx_srq.specs.Desk.{given, taken, sampled}
 use Rattle.vx_488.specs.Wire.{wire_after}
 use Rattle.std.proofs.lemmas.Bool.{and_parts, and_from, cond-true, leb-true, le-leb}
 use Rattle.std.proofs.lemmas.Option.{none-some, same_Some}
-use Rattle.vx_model.specs.Lists.{along}
-use Rattle.vx_model.specs.Decide.{Outside, decide}
-use Rattle.vx_model.specs.State.{Pending, Tables, State, pending_at, connection_at, lives_as, is_idle, has_room, with_pending, with_connection, without_connection}
-use Rattle.vx_model.specs.One.{may_wait, arrived, answer, answered, answer_to, if_reply, same_given, abort_reply, abort_tables}
+use Rattle.vx_rules.specs.Lists.{along}
+use Rattle.vx_rules.specs.Decide.{Outside, decide}
+use Rattle.vx_rules.specs.State.{Pending, Tables, State, pending_at, connection_at, lives_as, is_idle, has_room, with_pending, with_connection, without_connection}
+use Rattle.vx_rules.specs.One.{may_wait, arrived, answer, answered, answer_to, if_reply, same_given, abort_reply, abort_tables}
 use Rattle.vx_flow.specs.Event.{Event, Up, Down, Arrive, Answer, Abort, Sample, Take, Begin, Move, Dial}
 use Rattle.vx_flow.specs.FineState.{FineState}
 use Rattle.vx_flow.specs.Fine.{comes_in_turn, fine_after, fine_step, fine, is_answered, outside, answered_fine, wire_for, may_begin, may_dial, may_move, without_dial}

@@ -11,13 +11,13 @@ use Rattle.vx_488.specs.declared.wire.Wire.{Wire}
 use Rattle.vx_plan.specs.Plan.{Stand, Whole, Part, Off}
 use Rattle.vx_links.specs.Table.{Link}
 use Rattle.vx_locks.specs.Locks.{Lock, keeps_off, holder_of, with_lock}
-use Rattle.vx_model.specs.State.{Pending, Tables, State, connection_at, pending_at, without_connection, is_lock_of}
-use Rattle.vx_model.specs.Checks.{named_link}
-use Rattle.vx_model.specs.Lines.{lets_pass}
-use Rattle.vx_model.specs.Effects.{task_of}
-use Rattle.vx_model.specs.Decide.{is_nothing, is_part, stand_on, is_part_of, may_have_made}
-use Rattle.vx_model.specs.Entry as entry
-use Rattle.vx_model.specs.One.{may_leave}
+use Rattle.vx_rules.specs.State.{Pending, Tables, State, connection_at, pending_at, without_connection, is_lock_of}
+use Rattle.vx_rules.specs.Checks.{named_link}
+use Rattle.vx_rules.specs.Lines.{lets_pass}
+use Rattle.vx_rules.specs.Effects.{task_of}
+use Rattle.vx_rules.specs.Decide.{is_nothing, is_part, stand_on, is_part_of, may_have_made}
+use Rattle.vx_rules.specs.Entry as entry
+use Rattle.vx_rules.specs.One.{may_leave}
 use Rattle.vx_flow.specs.Event.{Down}
 use Rattle.vx_flow.specs.FineState.{Turn, FineState, before_turn, moves_of}
 use Rattle.vx_flow.specs.Fine.{is_whole, without_dial, fine_step, wire_before}

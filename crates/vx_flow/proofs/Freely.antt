@@ -19,14 +19,14 @@ use Rattle.vx_488.proofs.Appends.{reached-append}
 use Rattle.vx_plan.specs.Tasks.{plan, IsTargetPlain}
 use Rattle.vx_links.specs.Table.{Link}
 use Rattle.vx_locks.specs.Locks.{Lock, keeps_off, holder_of}
-use Rattle.vx_model.specs.Calls.{link_named, bytes_of}
-use Rattle.vx_model.specs.State.{Pending, Tables, State, connection_at, pending_at, link_of, without_connection}
-use Rattle.vx_model.specs.Checks.{OnLink, link_found, link_by_number, named_link}
-use Rattle.vx_model.specs.Lines.{lets_pass}
-use Rattle.vx_model.specs.Effects.{task_on}
-use Rattle.vx_model.specs.Decide.{Outside, stand_on}
-use Rattle.vx_model.specs.Entry.{Entry, Up, Down, Arrive, Answer, Abort, Sample, Take}
-use Rattle.vx_model.specs.One.{one, may_leave}
+use Rattle.vx_rules.specs.Calls.{link_named, bytes_of}
+use Rattle.vx_rules.specs.State.{Pending, Tables, State, connection_at, pending_at, link_of, without_connection}
+use Rattle.vx_rules.specs.Checks.{OnLink, link_found, link_by_number, named_link}
+use Rattle.vx_rules.specs.Lines.{lets_pass}
+use Rattle.vx_rules.specs.Effects.{task_on}
+use Rattle.vx_rules.specs.Decide.{Outside, stand_on}
+use Rattle.vx_rules.specs.Entry.{Entry, Up, Down, Arrive, Answer, Abort, Sample, Take}
+use Rattle.vx_rules.specs.One.{one, may_leave}
 use Rattle.vx_flow.specs.Event.{Move}
 use Rattle.vx_flow.specs.FineState.{Turn, FineState, before_turn}
 use Rattle.vx_flow.specs.Fine.{is_whole, is_on, goes_on, turn_stand, comes_in_turn, fine_step}

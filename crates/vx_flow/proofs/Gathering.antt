@@ -1,11 +1,11 @@
 -- Interleaved events gather to a history of the gateway of one thread.
 use Rattle.std.proofs.Common.{◌≡◌, ◌≤◌, ℕ, true, List, [], ◌∷◌, Option, Some, None, refl, sym, ap, ◌∙◌, subst, arith}
 use Rattle.std.proofs.lemmas.Option.{none-some, same_Some}
-use Rattle.vx_model.specs.Lists.{along}
-use Rattle.vx_model.specs.State.{Pending}
-use Rattle.vx_model.specs.Checks.{named_link}
-use Rattle.vx_model.specs.Effects.{task_of}
-use Rattle.vx_model.specs.One.{one}
+use Rattle.vx_rules.specs.Lists.{along}
+use Rattle.vx_rules.specs.State.{Pending}
+use Rattle.vx_rules.specs.Checks.{named_link}
+use Rattle.vx_rules.specs.Effects.{task_of}
+use Rattle.vx_rules.specs.One.{one}
 use Rattle.vx_flow.specs.Event.{Event, Up, Down, Arrive, Answer, Abort, Sample, Take, Begin, Move, Dial}
 use Rattle.vx_flow.specs.FineState.{FineState, first_fine, before_turn, turn_after}
 use Rattle.vx_flow.specs.Fine.{comes_in_turn, fine_step, fine}

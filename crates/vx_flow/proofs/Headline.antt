@@ -1,11 +1,11 @@
 -- All that is claimed of a list of interleaved events that are allowed, from the laws of each part.
 use Rattle.std.proofs.Common.{◌≡◌, ℕ, List, ◌∷◌, ◌++◌, Option, Some, None, refl, sym, ap, ◌∙◌}
 use Rattle.std.proofs.lemmas.Option.{none-some}
-use Rattle.vx_model.specs.Lists.{along}
-use Rattle.vx_model.specs.State.{State, first}
-use Rattle.vx_model.specs.Entry.{Entry, Answer}
-use Rattle.vx_model.specs.One.{one}
-use Rattle.vx_model.specs.Legal.{legal_state}
+use Rattle.vx_rules.specs.Lists.{along}
+use Rattle.vx_rules.specs.State.{State, first}
+use Rattle.vx_rules.specs.Entry.{Entry, Answer}
+use Rattle.vx_rules.specs.One.{one}
+use Rattle.vx_rules.specs.Legal.{legal_state}
 use Rattle.vx_calls.specs.declared.codes.ErrorCode.TheVariants as code
 use Rattle.vx_calls.specs.Reply as reply
 use Rattle.vx_flow.specs.Event.{Event, Move}

@@ -25,12 +25,12 @@ use Rattle.vx_plan.specs.Tasks.{unl, mta, listener, ended_poll, puts, write_plan
 use Rattle.vx_plan.specs.Roles.{has_role}
 use Rattle.vx_plan.proofs.Walks.{whole-law}
 use Rattle.vx_links.specs.Table.{Link}
-use Rattle.vx_model.specs.Calls.{sets_end, has_passed}
-use Rattle.vx_model.specs.State.{Pending, Tables, State, pending_at, link_of}
-use Rattle.vx_model.specs.Checks.{link_found, named_link, check}
-use Rattle.vx_model.specs.Lines.{Lines, Refused, Waiting, Passed, holder_against, lock_lines, checked_lines, later_lines, first_lines}
-use Rattle.vx_model.specs.Effects.{task_of, stopped_reply}
-use Rattle.vx_model.specs.Decide.{Outside, is_quiet, stand_on, turn_answer, job_answer, bus_answer, by_lines, settles, decide}
+use Rattle.vx_rules.specs.Calls.{sets_end, has_passed}
+use Rattle.vx_rules.specs.State.{Pending, Tables, State, pending_at, link_of}
+use Rattle.vx_rules.specs.Checks.{link_found, named_link, check}
+use Rattle.vx_rules.specs.Lines.{Lines, Refused, Waiting, Passed, holder_against, lock_lines, checked_lines, later_lines, first_lines}
+use Rattle.vx_rules.specs.Effects.{task_of, stopped_reply}
+use Rattle.vx_rules.specs.Decide.{Outside, is_quiet, stand_on, turn_answer, job_answer, bus_answer, by_lines, settles, decide}
 use Rattle.vx_flow.specs.Laws.{marked_bytes, HeardLaw, HeardOnInterfaceLaw}
 use Rattle.vx_flow.proofs.Lookups.{mapped}
 use Rattle.vx_flow.proofs.Whom.{whole-just, heard-puts, heard-addressed}

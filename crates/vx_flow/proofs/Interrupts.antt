@@ -5,7 +5,7 @@ use Rattle.std.specs.Option.{option_map}
 use Rattle.std.proofs.lemmas.Bool.{eqb-true, ne_eqb, cases_eq}
 use Rattle.std.proofs.lemmas.Option.{same_Some}
 use Rattle.vx_srq.specs.Desk.{Desk, Port, Channel, port_at, channel_at, port_with, with_channel, with_port, without_port, risen_port, queued_on, handles_of, sampled, taken_from, port_taken, taken}
-use Rattle.vx_model.specs.State.{State}
+use Rattle.vx_rules.specs.State.{State}
 use Rattle.vx_flow.specs.Laws.{ClosedLaw}
 use Rattle.vx_flow.proofs.Lookups.{find_append-some, find_append-none, find-filter, find_filter-gone, find-map, found_passes, chosen}
 

@@ -20,13 +20,13 @@ use Rattle.vx_plan.proofs.Walks.{left_after-none}
 use Rattle.vx_plan.proofs.Turns.{own_stays-law}
 use Rattle.vx_links.specs.Table.{Link}
 use Rattle.vx_locks.specs.Locks.{holder_of}
-use Rattle.vx_model.specs.State.{Pending, Tables}
-use Rattle.vx_model.specs.Calls.{is_bus_call, is_lock_call, bytes_of}
-use Rattle.vx_model.specs.Docmd.{Command, BusAddress, command_of, command_task}
-use Rattle.vx_model.specs.Checks.{NamedLink, NoLink, DeadLink, OnLink, named_link, is_interface, check_command, check_on, check}
-use Rattle.vx_model.specs.Lines.{LockRequest, holder_against, checks_pass, lets_pass}
-use Rattle.vx_model.specs.Effects.{task_on, task_of}
-use Rattle.vx_model.specs.Decide.{stand_on}
+use Rattle.vx_rules.specs.State.{Pending, Tables}
+use Rattle.vx_rules.specs.Calls.{is_bus_call, is_lock_call, bytes_of}
+use Rattle.vx_rules.specs.Docmd.{Command, BusAddress, command_of, command_task}
+use Rattle.vx_rules.specs.Checks.{NamedLink, NoLink, DeadLink, OnLink, named_link, is_interface, check_command, check_on, check}
+use Rattle.vx_rules.specs.Lines.{LockRequest, holder_against, checks_pass, lets_pass}
+use Rattle.vx_rules.specs.Effects.{task_on, task_of}
+use Rattle.vx_rules.specs.Decide.{stand_on}
 use Rattle.vx_flow.specs.Fine.{is_whole}
 use Rattle.vx_flow.specs.Sound.{Passes}
 

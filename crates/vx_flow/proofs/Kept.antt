@@ -9,14 +9,14 @@ use Rattle.vx_plan.specs.Plan.{Off}
 use Rattle.vx_plan.specs.Tasks.{is_own_task}
 use Rattle.vx_links.specs.Table.{Link}
 use Rattle.vx_locks.specs.Locks.{holder_of}
-use Rattle.vx_model.specs.Calls.{link_named, bytes_of}
-use Rattle.vx_model.specs.State.{Pending, Tables, pending_at, link_of}
-use Rattle.vx_model.specs.Checks.{OnLink, link_found, link_by_number, named_link}
-use Rattle.vx_model.specs.Effects.{task_of}
-use Rattle.vx_model.specs.Decide.{is_nothing, stand_on, stand_of_job}
-use Rattle.vx_model.specs.Lists.{along}
-use Rattle.vx_model.specs.Entry.{Entry}
-use Rattle.vx_model.specs.One.{one}
+use Rattle.vx_rules.specs.Calls.{link_named, bytes_of}
+use Rattle.vx_rules.specs.State.{Pending, Tables, pending_at, link_of}
+use Rattle.vx_rules.specs.Checks.{OnLink, link_found, link_by_number, named_link}
+use Rattle.vx_rules.specs.Effects.{task_of}
+use Rattle.vx_rules.specs.Decide.{is_nothing, stand_on, stand_of_job}
+use Rattle.vx_rules.specs.Lists.{along}
+use Rattle.vx_rules.specs.Entry.{Entry}
+use Rattle.vx_rules.specs.One.{one}
 use Rattle.vx_flow.specs.Event.{Event}
 use Rattle.vx_flow.specs.FineState.{Turn, FineState, before_turn}
 use Rattle.vx_flow.specs.Fine.{call_stand, is_whole, turn_stand, is_answer_of, comes_in_turn, wire_before}

@@ -3,7 +3,7 @@ use Rattle.std.proofs.Common.{◌≡◌, Bool, true, false, cond, List, [], ◌�
 use Rattle.std.specs.Option.{option_map, option_and_then}
 use Rattle.std.specs.List.{find, filter}
 use Rattle.std.proofs.lemmas.Bool.{cond-true, cond-false, true≢false, false≢true}
-use Rattle.vx_model.specs.Lists.{update_first, along}
+use Rattle.vx_rules.specs.Lists.{update_first, along}
 
 -- what was found before is found with more behind it
 pub find_append-some : {X : Type 0} (q : X → Bool) (xs ys : List X) (x : X) → find q xs ≡ Some x → find q (xs ++ ys) ≡ Some x

@@ -17,14 +17,14 @@ use Rattle.vx_plan.specs.declared.tasks.Task.{Task}
 use Rattle.vx_plan.specs.Plan.{Stand, Whole, Part, Off}
 use Rattle.vx_plan.specs.Roles.{has_role}
 use Rattle.vx_links.specs.Table.{Link}
-use Rattle.vx_model.specs.Calls.{is_bus_call, asks_dial}
-use Rattle.vx_model.specs.State.{Pending, Tables, State, pending_at, with_pending}
-use Rattle.vx_model.specs.Checks.{OnLink, named_link, check_on, check}
-use Rattle.vx_model.specs.Lines.{Lines, Refused, Waiting, Passed, holder_against, checked_lines, later_lines, lets_pass}
-use Rattle.vx_model.specs.Effects.{task_on, task_of, stopped_reply, effect}
-use Rattle.vx_model.specs.Decide.{Outside, is_quiet, stand_on, turn_answer, job_answer, bus_answer, dialed_answer, passed_answer, by_lines, settles, decide, is_nothing, begun_between, may_tell, is_part, has_job_role, is_part_of, may_have_made, passed_fits, lines_fit, turn_fits}
-use Rattle.vx_model.specs.Entry as entry
-use Rattle.vx_model.specs.One.{one, answer, answer_to, answered, if_reply, call_fits, may_leave}
+use Rattle.vx_rules.specs.Calls.{is_bus_call, asks_dial}
+use Rattle.vx_rules.specs.State.{Pending, Tables, State, pending_at, with_pending}
+use Rattle.vx_rules.specs.Checks.{OnLink, named_link, check_on, check}
+use Rattle.vx_rules.specs.Lines.{Lines, Refused, Waiting, Passed, holder_against, checked_lines, later_lines, lets_pass}
+use Rattle.vx_rules.specs.Effects.{task_on, task_of, stopped_reply, effect}
+use Rattle.vx_rules.specs.Decide.{Outside, is_quiet, stand_on, turn_answer, job_answer, bus_answer, dialed_answer, passed_answer, by_lines, settles, decide, is_nothing, begun_between, may_tell, is_part, has_job_role, is_part_of, may_have_made, passed_fits, lines_fit, turn_fits}
+use Rattle.vx_rules.specs.Entry as entry
+use Rattle.vx_rules.specs.One.{one, answer, answer_to, answered, if_reply, call_fits, may_leave}
 use Rattle.vx_flow.specs.Sound.{Passes}
 use Rattle.vx_flow.proofs.Lookups.{mapped, gone_on, chosen}
 use Rattle.vx_flow.proofs.Jobs.{bus-job, job-link, against, passes-parts}

@@ -29,17 +29,17 @@ use Rattle.vx_plan.proofs.Turns.{own_stays-law}
 use Rattle.vx_links.specs.Table.{Link, Table, is_live, is_at, uses_address}
 use Rattle.vx_locks.specs.Locks.{holds, with_lock}
 use Rattle.vx_srq.specs.Desk.{sampled, taken}
-use Rattle.vx_model.specs.Lists.{along}
-use Rattle.vx_model.specs.State.{Pending, Tables, State, first, connection_at, pending_at, lives_as, is_idle, has_room, with_pending, with_connection, without_connection}
-use Rattle.vx_model.specs.Calls.{is_bus_call, bytes_of}
-use Rattle.vx_model.specs.Docmd.{Command, BusAddress, command_of, number_in, has_length, takes_number, takes_input, command_task}
-use Rattle.vx_model.specs.Checks.{NamedLink, NoLink, DeadLink, OnLink, named_link, is_interface, check_command, check_on}
-use Rattle.vx_model.specs.Effects.{task_on, create, locked, effect_on, effect, settle}
-use Rattle.vx_model.specs.Lines.{Lines, first_lines}
-use Rattle.vx_model.specs.Decide.{Outside, settles}
-use Rattle.vx_model.specs.Entry.{Entry, Up, Down, Arrive, Answer, Abort, Sample, Take}
-use Rattle.vx_model.specs.One.{one, may_wait, arrived, marked, abort_reply, abort_tables, may_leave}
-use Rattle.vx_model.specs.Legal.{legal_state}
+use Rattle.vx_rules.specs.Lists.{along}
+use Rattle.vx_rules.specs.State.{Pending, Tables, State, first, connection_at, pending_at, lives_as, is_idle, has_room, with_pending, with_connection, without_connection}
+use Rattle.vx_rules.specs.Calls.{is_bus_call, bytes_of}
+use Rattle.vx_rules.specs.Docmd.{Command, BusAddress, command_of, number_in, has_length, takes_number, takes_input, command_task}
+use Rattle.vx_rules.specs.Checks.{NamedLink, NoLink, DeadLink, OnLink, named_link, is_interface, check_command, check_on}
+use Rattle.vx_rules.specs.Effects.{task_on, create, locked, effect_on, effect, settle}
+use Rattle.vx_rules.specs.Lines.{Lines, first_lines}
+use Rattle.vx_rules.specs.Decide.{Outside, settles}
+use Rattle.vx_rules.specs.Entry.{Entry, Up, Down, Arrive, Answer, Abort, Sample, Take}
+use Rattle.vx_rules.specs.One.{one, may_wait, arrived, marked, abort_reply, abort_tables, may_leave}
+use Rattle.vx_rules.specs.Legal.{legal_state}
 use Rattle.vx_flow.proofs.Lookups.{along-none}
 use Rattle.vx_flow.proofs.Jobs.{bus-job}
 use Rattle.vx_flow.proofs.Changes.{Found, Same, Settled, Effected, decide-found}

@@ -26,11 +26,11 @@ use Rattle.vx_plan.specs.Whole as whole
 use Rattle.vx_plan.specs.Whole.{Fits, Fill, IsWhole}
 use Rattle.vx_plan.specs.Tasks.{unl, unt, spe, spd, sdc, get, gtl, mla, mta, listener, talker, ended_poll, puts, just, plan, IsSecondaryPlain}
 use Rattle.vx_links.specs.Table.{Link}
-use Rattle.vx_model.specs.State.{Tables}
-use Rattle.vx_model.specs.Calls.{bytes_of, sets_end, sets_stop}
-use Rattle.vx_model.specs.Checks.{is_interface, check_command, check_on}
-use Rattle.vx_model.specs.Docmd.{command_of}
-use Rattle.vx_model.specs.Effects.{task_on}
+use Rattle.vx_rules.specs.State.{Tables}
+use Rattle.vx_rules.specs.Calls.{bytes_of, sets_end, sets_stop}
+use Rattle.vx_rules.specs.Checks.{is_interface, check_command, check_on}
+use Rattle.vx_rules.specs.Docmd.{command_of}
+use Rattle.vx_rules.specs.Effects.{task_on}
 use Rattle.vx_flow.proofs.Whom.{fill-this, whole-just, At, quiet, listener-goes, talker-goes, all-same, puts-reach, gots-reach}
 
 -- a whole list without a read

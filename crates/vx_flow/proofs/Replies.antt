@@ -8,13 +8,13 @@ use Rattle.std.proofs.lemmas.Option.{cond_some, none-some, same_Some}
 use Rattle.vx_calls.specs.Reply.{Reply, same_reply}
 use Rattle.vx_488.specs.declared.wire.Wire.{Wire}
 use Rattle.vx_488.specs.Wire.{wire_after}
-use Rattle.vx_model.specs.Calls.{is_bus_call, is_lock_call}
-use Rattle.vx_model.specs.State.{Pending, Tables, State, pending_at, with_pending}
-use Rattle.vx_model.specs.Checks.{named_link}
-use Rattle.vx_model.specs.Lines.{Passed, lock_request, first_lines}
-use Rattle.vx_model.specs.Decide.{Outside, settles, decide, has_job_role, turn_fits}
-use Rattle.vx_model.specs.Entry as entry
-use Rattle.vx_model.specs.One.{answer, answer_to, answered, if_reply}
+use Rattle.vx_rules.specs.Calls.{is_bus_call, is_lock_call}
+use Rattle.vx_rules.specs.State.{Pending, Tables, State, pending_at, with_pending}
+use Rattle.vx_rules.specs.Checks.{named_link}
+use Rattle.vx_rules.specs.Lines.{Passed, lock_request, first_lines}
+use Rattle.vx_rules.specs.Decide.{Outside, settles, decide, has_job_role, turn_fits}
+use Rattle.vx_rules.specs.Entry as entry
+use Rattle.vx_rules.specs.One.{answer, answer_to, answered, if_reply}
 use Rattle.vx_flow.specs.Event.{Answer}
 use Rattle.vx_flow.specs.FineState.{Turn, FineState, before_turn, turn_of, begun_of, moves_of, turn_after}
 use Rattle.vx_flow.specs.Fine.{job_of, is_whole, turn_stand, comes_in_turn, turn_target, call_target, target_on, on_conflict, waits_for_turn, wire_for, outside, passes_lines, is_answered, without_dial, answered_fine, fine_step, wire_before}

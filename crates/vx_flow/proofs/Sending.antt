@@ -22,15 +22,15 @@ use Rattle.vx_488.specs.Wire.{wire_after}
 use Rattle.vx_links.specs.Table.{Link, is_live}
 use Rattle.vx_locks.specs.Locks.{holds, with_lock}
 use Rattle.vx_srq.specs.Desk.{Desk, Enable, Channel, OUTBOX, Srq, Given, Front, Empty, Gone, channel_at, with_channel, with_new_channel, new_channel, handles_of, queued_on, risen_port, is_rise, sampled, front_given, given_by, given, front_taken, taken_from, taken}
-use Rattle.vx_model.specs.State.{Pending, Tables, State, first, connection_at, pending_at, lives_as, is_idle, has_room, with_pending, with_connection, without_connection}
-use Rattle.vx_model.specs.Lists.{along}
-use Rattle.vx_model.specs.Lines.{Lines}
-use Rattle.vx_model.specs.Checks.{NamedLink, NoLink, DeadLink, OnLink, named_link}
-use Rattle.vx_model.specs.Effects.{create, locked, effect_on, effect, settle}
-use Rattle.vx_model.specs.Decide.{Outside, decide}
-use Rattle.vx_model.specs.Entry.{Entry, Up, Down, Arrive, Answer, Abort, Sample, Take}
-use Rattle.vx_model.specs.One.{one, may_wait, arrived, may_leave, answered, answer_to, answer, call_fits, if_reply, marked, abort_reply, abort_tables, same_srq, same_given}
-use Rattle.vx_model.specs.Legal.{Due, is_rise_at, is_enabled, due_of, due_in, has_channel, handles_due, queued_along}
+use Rattle.vx_rules.specs.State.{Pending, Tables, State, first, connection_at, pending_at, lives_as, is_idle, has_room, with_pending, with_connection, without_connection}
+use Rattle.vx_rules.specs.Lists.{along}
+use Rattle.vx_rules.specs.Lines.{Lines}
+use Rattle.vx_rules.specs.Checks.{NamedLink, NoLink, DeadLink, OnLink, named_link}
+use Rattle.vx_rules.specs.Effects.{create, locked, effect_on, effect, settle}
+use Rattle.vx_rules.specs.Decide.{Outside, decide}
+use Rattle.vx_rules.specs.Entry.{Entry, Up, Down, Arrive, Answer, Abort, Sample, Take}
+use Rattle.vx_rules.specs.One.{one, may_wait, arrived, may_leave, answered, answer_to, answer, call_fits, if_reply, marked, abort_reply, abort_tables, same_srq, same_given}
+use Rattle.vx_rules.specs.Legal.{Due, is_rise_at, is_enabled, due_of, due_in, has_channel, handles_due, queued_along}
 use Rattle.vx_flow.specs.Laws.{srqs_of, sent, QueuedLaw}
 use Rattle.vx_flow.proofs.Lookups.{mapped, gone_on, chosen, along-none}
 use Rattle.vx_flow.proofs.Changes.{Found, Same, Settled, Effected, decide-found}

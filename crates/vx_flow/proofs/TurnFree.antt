@@ -11,12 +11,12 @@ use Rattle.vx_488.specs.declared.wire.Wire.{Wire}
 use Rattle.vx_488.specs.Wire.{wire_after}
 use Rattle.vx_links.specs.Table.{Link}
 use Rattle.vx_locks.specs.Locks.{holder_of}
-use Rattle.vx_model.specs.Lists.{along}
-use Rattle.vx_model.specs.Calls.{is_bus_call}
-use Rattle.vx_model.specs.State.{Pending, Tables, State, pending_at}
-use Rattle.vx_model.specs.Checks.{OnLink, named_link}
-use Rattle.vx_model.specs.Lines.{Lines, Refused, Waiting, Passed, later_lines, first_lines}
-use Rattle.vx_model.specs.Decide.{has_job_role}
+use Rattle.vx_rules.specs.Lists.{along}
+use Rattle.vx_rules.specs.Calls.{is_bus_call}
+use Rattle.vx_rules.specs.State.{Pending, Tables, State, pending_at}
+use Rattle.vx_rules.specs.Checks.{OnLink, named_link}
+use Rattle.vx_rules.specs.Lines.{Lines, Refused, Waiting, Passed, later_lines, first_lines}
+use Rattle.vx_rules.specs.Decide.{has_job_role}
 use Rattle.vx_flow.specs.Event.{Event, Up, Down, Arrive, Answer, Abort, Sample, Take, Begin, Move, Dial}
 use Rattle.vx_flow.specs.FineState.{Turn, FineState, first_fine, before_turn, turn_after}
 use Rattle.vx_flow.specs.Fine.{job_of, is_passed, may_begin, may_move, comes_in_turn, fine_after, fine_step, fine}

@@ -10,11 +10,11 @@ use Rattle.vx_plan.specs.declared.tasks.Task.{Task}
 use Rattle.vx_plan.specs.Plan.{Slot, Reading, Plan, Stand, Whole, Part, Off, stand_of, stand}
 use Rattle.vx_plan.specs.Tasks.{plan}
 use Rattle.vx_plan.specs.Roles.{has_role}
-use Rattle.vx_model.specs.Calls.{bytes_of}
-use Rattle.vx_model.specs.State.{Pending, Tables, State, pending_at}
-use Rattle.vx_model.specs.Checks.{named_link}
-use Rattle.vx_model.specs.Lines.{lets_pass}
-use Rattle.vx_model.specs.Decide.{stand_on, has_job_role}
+use Rattle.vx_rules.specs.Calls.{bytes_of}
+use Rattle.vx_rules.specs.State.{Pending, Tables, State, pending_at}
+use Rattle.vx_rules.specs.Checks.{named_link}
+use Rattle.vx_rules.specs.Lines.{lets_pass}
+use Rattle.vx_rules.specs.Decide.{stand_on, has_job_role}
 use Rattle.vx_flow.specs.Event.{Begin, Move}
 use Rattle.vx_flow.specs.FineState.{Turn, FineState}
 use Rattle.vx_flow.specs.Fine.{job_of, is_whole, is_on, may_begin, goes_on, turn_stand, fine_after, fine_step}

@@ -8,9 +8,9 @@ use Rattle.vx_calls.specs.declared.codes.ErrorCode.TheVariants as code
 use Rattle.vx_calls.specs.Call as call
 use Rattle.vx_calls.specs.Reply as reply
 use Rattle.vx_srq.specs.Desk.{Front, Gone, channel_at}
-use Rattle.vx_model.specs.State.{State, first}
-use Rattle.vx_model.specs.Entry.{Entry, Up, Arrive, Answer, Sample, Take}
-use Rattle.vx_model.specs.Legal.{legal_state, queued_along}
+use Rattle.vx_rules.specs.State.{State, first}
+use Rattle.vx_rules.specs.Entry.{Entry, Up, Arrive, Answer, Sample, Take}
+use Rattle.vx_rules.specs.Legal.{legal_state, queued_along}
 use Rattle.vx_flow.specs.Laws.{srqs_of}
 
 -- gpib0,5, and the handle of its link

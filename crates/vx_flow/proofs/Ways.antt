@@ -15,16 +15,16 @@ use Rattle.vx_488.specs.declared.wire.Wire.{Wire}
 use Rattle.vx_488.specs.Wire.{wire_after}
 use Rattle.vx_plan.specs.declared.tasks.Task.{Task}
 use Rattle.vx_plan.specs.Plan.{Stand, Whole, Part}
-use Rattle.vx_model.specs.Lists.{along}
-use Rattle.vx_model.specs.State.{Pending, Tables, State, pending_at}
+use Rattle.vx_rules.specs.Lists.{along}
+use Rattle.vx_rules.specs.State.{Pending, Tables, State, pending_at}
 use Rattle.vx_plan.specs.Roles.{has_role}
 use Rattle.vx_plan.specs.Results.{whole_reply}
-use Rattle.vx_model.specs.Calls.{is_bus_call, is_lock_call, asks_dial, bytes_of, is_big, io_timeout_of, has_passed}
-use Rattle.vx_model.specs.Checks.{named_link}
-use Rattle.vx_model.specs.Effects.{stopped_reply, task_of}
-use Rattle.vx_model.specs.Lines.{Lines, Refused, Waiting, Passed, first_lines, later_lines, lets_pass, lock_request}
-use Rattle.vx_model.specs.Decide.{Outside, decide, by_lines, has_job_role, bus_answer, turn_answer, stand_on, is_quiet, level_fits}
-use Rattle.vx_model.specs.One.{answer, answered, answer_to, if_reply}
+use Rattle.vx_rules.specs.Calls.{is_bus_call, is_lock_call, asks_dial, bytes_of, is_big, io_timeout_of, has_passed}
+use Rattle.vx_rules.specs.Checks.{named_link}
+use Rattle.vx_rules.specs.Effects.{stopped_reply, task_of}
+use Rattle.vx_rules.specs.Lines.{Lines, Refused, Waiting, Passed, first_lines, later_lines, lets_pass, lock_request}
+use Rattle.vx_rules.specs.Decide.{Outside, decide, by_lines, has_job_role, bus_answer, turn_answer, stand_on, is_quiet, level_fits}
+use Rattle.vx_rules.specs.One.{answer, answered, answer_to, if_reply}
 use Rattle.vx_flow.specs.Event.{Event, Answer, Begin, Move, Dial}
 use Rattle.vx_flow.specs.FineState.{Turn, FineState, turn_of, begun_of, moves_of, turn_after}
 use Rattle.vx_flow.specs.Fine.{comes_in_turn, fine_after, fine_step, fine, is_answered, passes_lines, outside, answered_fine, wire_for, wire_before, waits_for, waits_for_turn, turn_stand, is_whole, is_answer_of, is_on, is_passed, goes_on, may_begin, may_dial, without_dial, job_of, on_conflict, turn_target}

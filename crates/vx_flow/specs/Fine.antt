@@ -10,14 +10,14 @@ use Rattle.vx_488.specs.declared.wire.Wire.{Wire}
 use Rattle.vx_488.specs.Wire.{wire_after}
 use Rattle.vx_plan.specs.declared.tasks.Task.{Task}
 use Rattle.vx_plan.specs.Plan.{Stand, Whole, Off}
-use Rattle.vx_model.specs.State.{Pending, Tables, State, connection_at, pending_at, without_connection}
-use Rattle.vx_model.specs.Calls.{is_bus_call, is_lock_call, asks_dial}
-use Rattle.vx_model.specs.Checks.{NamedLink, NoLink, DeadLink, OnLink, named_link}
-use Rattle.vx_model.specs.Lines.{LockRequest, Lines, Passed, lock_request, first_lines, lets_pass}
-use Rattle.vx_model.specs.Effects.{task_of}
-use Rattle.vx_model.specs.Decide.{Outside, stand_of_job, has_job_role, settles}
-use Rattle.vx_model.specs.Entry as entry
-use Rattle.vx_model.specs.One.{one, answer, if_reply}
+use Rattle.vx_rules.specs.State.{Pending, Tables, State, connection_at, pending_at, without_connection}
+use Rattle.vx_rules.specs.Calls.{is_bus_call, is_lock_call, asks_dial}
+use Rattle.vx_rules.specs.Checks.{NamedLink, NoLink, DeadLink, OnLink, named_link}
+use Rattle.vx_rules.specs.Lines.{LockRequest, Lines, Passed, lock_request, first_lines, lets_pass}
+use Rattle.vx_rules.specs.Effects.{task_of}
+use Rattle.vx_rules.specs.Decide.{Outside, stand_of_job, has_job_role, settles}
+use Rattle.vx_rules.specs.Entry as entry
+use Rattle.vx_rules.specs.One.{one, answer, if_reply}
 use Rattle.vx_flow.specs.Event.{Event, Up, Down, Arrive, Answer, Abort, Sample, Take, Begin, Move, Dial}
 use Rattle.vx_flow.specs.FineState.{Turn, FineState, turn_of, begun_of, moves_of, turn_after}
 

@@ -2,7 +2,7 @@
 use Rattle.std.specs.Prelude.{ℕ, ◌==◌, if◌then◌else◌, List, [], ◌++◌, Option, Some, None}
 use Rattle.vx_488.specs.declared.transfers.Transfer.{Transfer}
 use Rattle.vx_488.specs.declared.wire.Wire.{Wire}
-use Rattle.vx_model.specs.State.{State, first}
+use Rattle.vx_rules.specs.State.{State, first}
 use Rattle.vx_flow.specs.Event.{Event, Down, Answer, Begin, Move}
 
 -- the turn under way: the connection whose call it is of, the moment at which it began, in milliseconds, and the transfers

@@ -1,7 +1,7 @@
 -- Interleaved events, gathered to entries of one thread: each answer, and each end of a connection, with all that its turn did.
 use Rattle.std.specs.Prelude.{List, [], ◌∷◌, ◌++◌, Option, None}
-use Rattle.vx_model.specs.Entry as entry
-use Rattle.vx_model.specs.Entry.{Entry}
+use Rattle.vx_rules.specs.Entry as entry
+use Rattle.vx_rules.specs.Entry.{Entry}
 use Rattle.vx_flow.specs.Event.{Event, Up, Down, Arrive, Answer, Abort, Sample, Take, Begin, Move, Dial}
 use Rattle.vx_flow.specs.FineState.{Turn, turn_of, begun_of, moves_of, turn_after}
 

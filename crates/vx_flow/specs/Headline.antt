@@ -11,11 +11,11 @@ use Rattle.vx_488.specs.Listening.{has_address}
 use Rattle.vx_488.specs.Heard.{reached, heard}
 use Rattle.vx_links.specs.Table.{Link}
 use Rattle.vx_srq.specs.Desk.{Channel, channel_at, handles_of, queued_on}
-use Rattle.vx_model.specs.State.{State, first, pending_at, link_of}
-use Rattle.vx_model.specs.Calls.{sets_end}
-use Rattle.vx_model.specs.Entry.{Entry, Answer, Sample}
-use Rattle.vx_model.specs.One.{one}
-use Rattle.vx_model.specs.Legal.{legal_state, queued_along}
+use Rattle.vx_rules.specs.State.{State, first, pending_at, link_of}
+use Rattle.vx_rules.specs.Calls.{sets_end}
+use Rattle.vx_rules.specs.Entry.{Entry, Answer, Sample}
+use Rattle.vx_rules.specs.One.{one}
+use Rattle.vx_rules.specs.Legal.{legal_state, queued_along}
 use Rattle.vx_flow.specs.Event.{Event, Move}
 use Rattle.vx_flow.specs.FineState.{FineState, before_turn}
 use Rattle.vx_flow.specs.Gather.{gather}

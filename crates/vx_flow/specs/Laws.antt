@@ -14,13 +14,13 @@ use Rattle.vx_488.specs.Heard.{Byte, reached, heard}
 use Rattle.vx_links.specs.Table.{Link}
 use Rattle.vx_locks.specs.Locks.{Lock, holder_of}
 use Rattle.vx_srq.specs.Desk.{Channel, Srq, Front, channel_at, handles_of, queued_on}
-use Rattle.vx_model.specs.Lists.{along}
-use Rattle.vx_model.specs.State.{Pending, State, first, pending_at, link_of}
-use Rattle.vx_model.specs.Calls.{link_named, sets_end}
-use Rattle.vx_model.specs.Checks.{OnLink, named_link}
-use Rattle.vx_model.specs.Entry.{Entry, Answer, Down, Sample, Take}
-use Rattle.vx_model.specs.One.{one}
-use Rattle.vx_model.specs.Legal.{legal_state, queued_along}
+use Rattle.vx_rules.specs.Lists.{along}
+use Rattle.vx_rules.specs.State.{Pending, State, first, pending_at, link_of}
+use Rattle.vx_rules.specs.Calls.{link_named, sets_end}
+use Rattle.vx_rules.specs.Checks.{OnLink, named_link}
+use Rattle.vx_rules.specs.Entry.{Entry, Answer, Down, Sample, Take}
+use Rattle.vx_rules.specs.One.{one}
+use Rattle.vx_rules.specs.Legal.{legal_state, queued_along}
 use Rattle.vx_flow.specs.Event.{Event, Move}
 use Rattle.vx_flow.specs.FineState.{Turn, FineState, first_fine, before_turn}
 use Rattle.vx_flow.specs.Fine.{fine, job_of}

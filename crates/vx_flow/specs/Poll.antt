@@ -3,11 +3,11 @@ use Rattle.std.specs.Prelude.{◌≡◌, ◌≤◌, ℕ, Bool, true, false, ◌&
 use Rattle.vx_calls.specs.Reply.{Reply}
 use Rattle.vx_488.specs.declared.transfers.Transfer.{Transfer}
 use Rattle.vx_plan.specs.Plan.{Whole, Part}
-use Rattle.vx_model.specs.Lists.{along}
-use Rattle.vx_model.specs.State.{Pending, pending_at}
-use Rattle.vx_model.specs.Calls.{io_timeout_of, has_passed}
-use Rattle.vx_model.specs.Dials.{dials_to}
-use Rattle.vx_model.specs.Lines.{Lines, Waiting, Passed, first_lines}
+use Rattle.vx_rules.specs.Lists.{along}
+use Rattle.vx_rules.specs.State.{Pending, pending_at}
+use Rattle.vx_rules.specs.Calls.{io_timeout_of, has_passed}
+use Rattle.vx_rules.specs.Dials.{dials_to}
+use Rattle.vx_rules.specs.Lines.{Lines, Waiting, Passed, first_lines}
 use Rattle.vx_flow.specs.Event.{Event, Answer, Begin, Move, Dial}
 use Rattle.vx_flow.specs.FineState.{Turn, FineState, turn_of}
 use Rattle.vx_flow.specs.Fine.{fine, wire_for, waits_for, may_begin, turn_stand, is_passed}

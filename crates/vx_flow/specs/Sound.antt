@@ -8,10 +8,10 @@ use Rattle.vx_plan.specs.Plan.{Off}
 use Rattle.vx_plan.specs.Roles.{has_role}
 use Rattle.vx_links.specs.Table.{Link}
 use Rattle.vx_locks.specs.Locks.{holder_of}
-use Rattle.vx_model.specs.State.{Pending, Tables, pending_at}
-use Rattle.vx_model.specs.Checks.{OnLink, named_link, check_on}
-use Rattle.vx_model.specs.Effects.{task_on}
-use Rattle.vx_model.specs.Decide.{is_nothing, stand_on}
+use Rattle.vx_rules.specs.State.{Pending, Tables, pending_at}
+use Rattle.vx_rules.specs.Checks.{OnLink, named_link, check_on}
+use Rattle.vx_rules.specs.Effects.{task_on}
+use Rattle.vx_rules.specs.Decide.{is_nothing, stand_on}
 use Rattle.vx_flow.specs.FineState.{Turn, FineState}
 use Rattle.vx_flow.specs.Fine.{is_whole}
 

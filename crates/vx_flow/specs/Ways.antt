@@ -9,13 +9,13 @@ use Rattle.vx_plan.specs.declared.tasks.Task.{Task}
 use Rattle.vx_plan.specs.Plan.{Whole, Part}
 use Rattle.vx_plan.specs.Roles.{has_role}
 use Rattle.vx_plan.specs.Results.{whole_reply}
-use Rattle.vx_model.specs.State.{Pending, Tables, pending_at, with_pending}
-use Rattle.vx_model.specs.Calls.{is_bus_call, asks_dial, io_timeout_of, bytes_of, is_big, has_passed}
-use Rattle.vx_model.specs.Checks.{named_link}
-use Rattle.vx_model.specs.Dials.{dials_to}
-use Rattle.vx_model.specs.Lines.{Refused, Waiting, Passed}
-use Rattle.vx_model.specs.Effects.{stopped_reply, effect}
-use Rattle.vx_model.specs.Decide.{level_fits}
+use Rattle.vx_rules.specs.State.{Pending, Tables, pending_at, with_pending}
+use Rattle.vx_rules.specs.Calls.{is_bus_call, asks_dial, io_timeout_of, bytes_of, is_big, has_passed}
+use Rattle.vx_rules.specs.Checks.{named_link}
+use Rattle.vx_rules.specs.Dials.{dials_to}
+use Rattle.vx_rules.specs.Lines.{Refused, Waiting, Passed}
+use Rattle.vx_rules.specs.Effects.{stopped_reply, effect}
+use Rattle.vx_rules.specs.Decide.{level_fits}
 use Rattle.vx_flow.specs.FineState.{Turn, FineState, turn_of, moves_of, turn_without}
 use Rattle.vx_flow.specs.Event.{Begin}
 use Rattle.vx_flow.specs.Fine.{job_of, fine, wire_for, wire_before, waits_for, waits_for_turn, turn_stand, without_dial}

@@ -14,12 +14,12 @@ use Rattle.vx_488.specs.declared.transfers.Transfer.{Transfer}
 use Rattle.vx_488.specs.declared.wire.Wire.{Wire}
 use Rattle.vx_links.specs.Table.{Link}
 use Rattle.vx_locks.specs.Locks.{holds, with_lock}
-use Rattle.vx_model.specs.State.{Pending, Tables, State, pending_at, with_pending}
-use Rattle.vx_model.specs.Checks.{NamedLink, NoLink, DeadLink, OnLink, named_link}
-use Rattle.vx_model.specs.Lines.{Lines, first_lines}
-use Rattle.vx_model.specs.Effects.{create, locked, effect_on, effect, settle}
-use Rattle.vx_model.specs.Decide.{Outside, settles, decide}
-use Rattle.vx_model.specs.One.{answer, answer_to, answered, if_reply}
+use Rattle.vx_rules.specs.State.{Pending, Tables, State, pending_at, with_pending}
+use Rattle.vx_rules.specs.Checks.{NamedLink, NoLink, DeadLink, OnLink, named_link}
+use Rattle.vx_rules.specs.Lines.{Lines, first_lines}
+use Rattle.vx_rules.specs.Effects.{create, locked, effect_on, effect, settle}
+use Rattle.vx_rules.specs.Decide.{Outside, settles, decide}
+use Rattle.vx_rules.specs.One.{answer, answer_to, answered, if_reply}
 use Rattle.vx_flow.specs.Event.{Event, Answer}
 use Rattle.vx_flow.specs.FineState.{FineState}
 use Rattle.vx_flow.specs.Fine.{outside, is_answered, wire_for, without_dial, answered_fine, fine_step}

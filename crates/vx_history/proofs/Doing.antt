@@ -10,9 +10,9 @@ use Rattle.vx_calls.specs.ErrorCode.{same_error}
 use Rattle.vx_calls.specs.Call.{Call}
 use Rattle.vx_488.specs.Wire.{wire_after}
 use Rattle.vx_srq.specs.Desk.{given, taken, sampled}
-use Rattle.vx_model.specs.Entry as entry
-use Rattle.vx_model.specs.State.{Pending, Connection, Tables, State, same_role, connection_at, role_at, pending_at, has_role_of, lives_as, is_idle, has_room, with_pending, with_connection, without_connection}
-use Rattle.vx_model.specs.One.{one, may_wait, arrived, same_given, abort_reply, abort_tables}
+use Rattle.vx_rules.specs.Entry as entry
+use Rattle.vx_rules.specs.State.{Pending, Connection, Tables, State, same_role, connection_at, role_at, pending_at, has_role_of, lives_as, is_idle, has_room, with_pending, with_connection, without_connection}
+use Rattle.vx_rules.specs.One.{one, may_wait, arrived, same_given, abort_reply, abort_tables}
 use Rattle.vx_flow.specs.Event.{Event, Up, Down, Arrive, Answer, Abort, Sample, Take, Begin, Move, Dial}
 use Rattle.vx_flow.specs.FineState.{FineState}
 use Rattle.vx_flow.specs.Fine.{without_dial, may_begin, may_move, may_dial, comes_in_turn, fine_after, fine_step, fine}

@@ -5,9 +5,9 @@ use Rattle.std.specs.List.{All}
 use Rattle.std.proofs.lemmas.Option.{none-some, same_Some}
 use Rattle.std.proofs.lemmas.List.Elements.{All-nil, All-cons}
 use Rattle.vx_links.specs.Table.{is_live}
-use Rattle.vx_model.specs.Lists.{along}
-use Rattle.vx_model.specs.State.{Tables, with_pending, with_connection}
-use Rattle.vx_model.specs.One.{marked, abort_tables}
+use Rattle.vx_rules.specs.Lists.{along}
+use Rattle.vx_rules.specs.State.{Tables, with_pending, with_connection}
+use Rattle.vx_rules.specs.One.{marked, abort_tables}
 use Rattle.vx_flow.specs.Event.{Event, Up, Down, Arrive, Answer, Abort, Sample, Take, Begin, Move, Dial}
 use Rattle.vx_flow.specs.FineState.{FineState}
 use Rattle.vx_flow.specs.Fine.{fine}

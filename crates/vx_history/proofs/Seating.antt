@@ -7,8 +7,8 @@ use Rattle.std.proofs.lemmas.Option.{none-some, same_Some}
 use Rattle.vx_calls.specs.declared.calls.Role.{Role}
 use Rattle.vx_calls.specs.declared.calls.Role.TheVariants as role
 use Rattle.vx_calls.specs.Call.{Call}
-use Rattle.vx_model.specs.State.{Pending, Connection, Tables, role_at, pending_at}
-use Rattle.vx_model.specs.One.{arrived}
+use Rattle.vx_rules.specs.State.{Pending, Connection, Tables, role_at, pending_at}
+use Rattle.vx_rules.specs.One.{arrived}
 use Rattle.vx_flow.specs.Event.{Event, Up, Down, Arrive, Answer, Abort, Sample, Take, Begin, Move, Dial}
 use Rattle.vx_flow.specs.FineState.{FineState}
 use Rattle.vx_flow.specs.Fine.{without_dial}

@@ -4,8 +4,8 @@ use Rattle.std.specs.List.{All}
 use Rattle.std.proofs.lemmas.List.Elements.{All-push, All-weaker}
 use Rattle.std.proofs.lemmas.List.Concat.{flat_map-append}
 use Rattle.vx_488.specs.declared.wire.Wire.{Wire}
-use Rattle.vx_model.specs.Lists.{along}
-use Rattle.vx_model.specs.State.{Tables}
+use Rattle.vx_rules.specs.Lists.{along}
+use Rattle.vx_rules.specs.State.{Tables}
 use Rattle.vx_flow.specs.FineState.{Turn, FineState, first_fine}
 use Rattle.vx_flow.specs.Fine.{fine}
 use Rattle.vx_flow.specs.Poll.{at_moment}

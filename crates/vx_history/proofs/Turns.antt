@@ -5,7 +5,7 @@ use Rattle.std.proofs.lemmas.Option.{none-some, same_Some}
 use Rattle.vx_gate.specs.declared.views.Made.{Made}
 use Rattle.vx_gate.specs.History.{groups, made_by, Lawful}
 use Rattle.vx_gate.proofs.Histories.{made_by_mine, made_by_other}
-use Rattle.vx_model.specs.Lists.{along}
+use Rattle.vx_rules.specs.Lists.{along}
 use Rattle.vx_flow.specs.Event.{Event}
 use Rattle.vx_flow.specs.FineState.{FineState, first_fine}
 use Rattle.vx_flow.specs.Fine.{fine}

@@ -4,8 +4,6 @@
 
 mod body;
 mod boxed;
-#[cfg(test)]
-mod tests;
 
 ghost use Rattle.std.specs.Prelude.{◌≡◌, true};
 ghost use Rattle.vx_inst.specs.View.{View};

@@ -6,7 +6,7 @@ use Rattle.std.proofs.lemmas.Bool.{false≢true, eqb-true}
 use Rattle.std.proofs.lemmas.Bool.Decides.{nat_tests}
 use Rattle.std.proofs.lemmas.Option.{same_Some}
 use Rattle.std.proofs.lemmas.List.Elements.{All-filter, All-push, All-weaker}
-use Rattle.vx_bus.specs.Means.{Means}
+use Rattle.vx_bus_traits.specs.Means.{Means}
 use Rattle.vx_calls.specs.declared.calls.Role.TheVariants as role
 use Rattle.vx_calls.specs.declared.codes.ErrorCode.{ErrorCode}
 use Rattle.vx_calls.specs.declared.codes.ErrorCode.TheVariants as code
@@ -18,16 +18,16 @@ use Rattle.vx_calls.specs.Call as call
 use Rattle.vx_calls.specs.Reply.{Reply}
 use Rattle.vx_srq.specs.Desk.{channel_at}
 use Rattle.vx_links.specs.Table.{Link}
-use Rattle.vx_model.specs.State.{Pending, Connection, Tables, connection_at, pending_at, count_of, same_role}
-use Rattle.vx_model.specs.Sound.{IsSound, IsAsked}
-use Rattle.vx_model.specs.Calls.{asks_dial}
-use Rattle.vx_model.specs.Checks.{NamedLink, NoLink, DeadLink, OnLink, named_link, asks_channel, numbers_asked, check}
-use Rattle.vx_model.specs.Dials.{dials_to}
-use Rattle.vx_model.specs.Lines.{checks_pass, lets_pass}
-use Rattle.vx_model.specs.PassLaws.{PassedLets}
-use Rattle.vx_model.specs.Effects as effects
-use Rattle.vx_model.proofs.Walks.{passed-says}
-use Rattle.vx_model.proofs.Finds.{found_passes, found_holds, found_among, All-kept}
+use Rattle.vx_rules.specs.State.{Pending, Connection, Tables, connection_at, pending_at, count_of, same_role}
+use Rattle.vx_rules.specs.Sound.{IsSound, IsAsked}
+use Rattle.vx_rules.specs.Calls.{asks_dial}
+use Rattle.vx_rules.specs.Checks.{NamedLink, NoLink, DeadLink, OnLink, named_link, asks_channel, numbers_asked, check}
+use Rattle.vx_rules.specs.Dials.{dials_to}
+use Rattle.vx_rules.specs.Lines.{checks_pass, lets_pass}
+use Rattle.vx_rules.specs.PassLaws.{PassedLets}
+use Rattle.vx_rules.specs.Effects as effects
+use Rattle.vx_rules.proofs.Walks.{passed-says}
+use Rattle.vx_rules.proofs.Finds.{found_passes, found_holds, found_among, All-kept}
 use Rattle.vx_flow.specs.Fine.{wire_for, without_dial}
 use Rattle.vx_kernel.specs.declared.running.Running.{Running}
 use Rattle.vx_kernel.specs.Given.{reply_bytes}

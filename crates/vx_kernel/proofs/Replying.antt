@@ -28,10 +28,10 @@ use Rattle.vx_ctrl.specs.Turns.{TurnState, GetsBytes, moved_by, reason_by}
 use Rattle.vx_ctrl.specs.Goes.{HoldsBytes}
 use Rattle.vx_ctrl.proofs.Sizes.{most_puts, most_gets}
 use Rattle.vx_ctrl.proofs.Fares.{fares, length-gots, length-bytes_got, moved-got}
-use Rattle.vx_model.specs.Effects.{stopped_reply}
-use Rattle.vx_bus.specs.Means.{Means}
-use Rattle.vx_model.specs.Calls.{bytes_of}
-use Rattle.vx_model.specs.Decide.{stand_of_job}
+use Rattle.vx_rules.specs.Effects.{stopped_reply}
+use Rattle.vx_bus_traits.specs.Means.{Means}
+use Rattle.vx_rules.specs.Calls.{bytes_of}
+use Rattle.vx_rules.specs.Decide.{stand_of_job}
 use Rattle.vx_flow.specs.FineState.{Turn, turn_of, moves_of}
 use Rattle.vx_flow.specs.Fine.{call_stand, turn_stand}
 use Rattle.vx_kernel.specs.declared.running.Running.{Running}

@@ -15,9 +15,9 @@ use Rattle.vx_calls.specs.Call as call
 use Rattle.vx_488.specs.declared.transfers.Transfer.{Transfer}
 use Rattle.vx_488.specs.declared.wire.Wire.{Wire}
 use Rattle.vx_488.specs.Wire.{wire_after}
-use Rattle.vx_bus.specs.declared.asks.TheConstants.{ASK_MAX}
-use Rattle.vx_bus.specs.Means.{Means}
-use Rattle.vx_bus.specs.Steps.{Step}
+use Rattle.vx_bus_traits.specs.declared.asks.TheConstants.{ASK_MAX}
+use Rattle.vx_bus_traits.specs.Means.{Means}
+use Rattle.vx_bus_traits.specs.Steps.{Step}
 use Rattle.vx_plan.specs.declared.tasks.Task.{Task}
 use Rattle.vx_plan.specs.declared.tasks.Task.TheVariants.{Read, Stb}
 use Rattle.vx_plan.specs.Plan.{Plan, Off, stand_of, stand}
@@ -28,16 +28,16 @@ use Rattle.vx_ctrl.specs.declared.turn.Went.{Went}
 use Rattle.vx_ctrl.specs.declared.turn.Went.TheVariants as went
 use Rattle.vx_ctrl.specs.Turns.{TurnState, HasMade, HasRoom, GetsBytes}
 use Rattle.vx_ctrl.specs.Goes.{Begins, Goes, HoldsBytes, outcome_stand}
-use Rattle.vx_model.specs.State.{Pending, Tables, pending_at, link_of}
-use Rattle.vx_model.specs.Calls.{link_named, bytes_of, is_bus_call, is_lock_call}
-use Rattle.vx_model.specs.Docmd.{Command, SendCommand, BusStatus, AtnControl, RenControl, PassControl, BusAddress, IfcControl, command_of, takes_input, takes_number, number_in, command_task}
-use Rattle.vx_model.specs.Checks.{NamedLink, NoLink, DeadLink, OnLink, link_found, link_by_number, named_link, is_interface, check_command, check_on, check}
-use Rattle.vx_model.specs.Lines.{LockRequest, lock_request, created_request, checks_pass, lets_pass}
-use Rattle.vx_model.specs.Effects.{task_on, task_of}
-use Rattle.vx_model.specs.Serving.{IsDoable}
-use Rattle.vx_model.specs.PassLaws.{PassedLets}
-use Rattle.vx_model.specs.declared.tables.lines.Request.{Request}
-use Rattle.vx_model.specs.Shown.{request_shown}
+use Rattle.vx_rules.specs.State.{Pending, Tables, pending_at, link_of}
+use Rattle.vx_rules.specs.Calls.{link_named, bytes_of, is_bus_call, is_lock_call}
+use Rattle.vx_rules.specs.Docmd.{Command, SendCommand, BusStatus, AtnControl, RenControl, PassControl, BusAddress, IfcControl, command_of, takes_input, takes_number, number_in, command_task}
+use Rattle.vx_rules.specs.Checks.{NamedLink, NoLink, DeadLink, OnLink, link_found, link_by_number, named_link, is_interface, check_command, check_on, check}
+use Rattle.vx_rules.specs.Lines.{LockRequest, lock_request, created_request, checks_pass, lets_pass}
+use Rattle.vx_rules.specs.Effects.{task_on, task_of}
+use Rattle.vx_rules.specs.Serving.{IsDoable}
+use Rattle.vx_rules.specs.PassLaws.{PassedLets}
+use Rattle.vx_rules.specs.declared.tables.lines.Request.{Request}
+use Rattle.vx_rules.specs.Shown.{request_shown}
 use Rattle.vx_flow.specs.FineState.{Turn}
 use Rattle.vx_flow.specs.Fine.{job_of, wire_for, target_on, call_target, turn_target, on_conflict, waits_for}
 use Rattle.vx_flow.specs.Sound.{Stands, TurnStands}

@@ -1,7 +1,7 @@
 -- A core as its callers see it.
 use Rattle.std.specs.Prelude.{Option}
 use Rattle.std.specs.Option.{option_map}
-use Rattle.vx_bus.specs.Means.{Means}
+use Rattle.vx_bus_traits.specs.Means.{Means}
 use Rattle.vx_flow.specs.FineState.{FineState}
 use Rattle.vx_flow.specs.Poll.{Ending}
 use Rattle.vx_kernel.specs.KernelState.{KernelState}

@@ -8,11 +8,11 @@ use Rattle.vx_calls.specs.Call as call
 use Rattle.vx_srq.specs.Desk.{channel_at}
 use Rattle.vx_plan.specs.Tasks.{IsPlainTask, HasBytes}
 use Rattle.vx_plan.specs.Plan.{Part}
-use Rattle.vx_bus.specs.Means.{Means}
+use Rattle.vx_bus_traits.specs.Means.{Means}
 use Rattle.vx_ctrl.specs.Turns.{GetsBytes}
 use Rattle.vx_ctrl.specs.Goes.{Begins, HoldsBytes}
-use Rattle.vx_model.specs.State.{Pending, Tables, pending_at, count_of}
-use Rattle.vx_model.specs.Calls.{bytes_of}
+use Rattle.vx_rules.specs.State.{Pending, Tables, pending_at, count_of}
+use Rattle.vx_rules.specs.Calls.{bytes_of}
 use Rattle.vx_flow.specs.FineState.{Turn}
 use Rattle.vx_flow.specs.Fine.{job_of, turn_stand}
 use Rattle.vx_flow.specs.Sound.{IsSound}

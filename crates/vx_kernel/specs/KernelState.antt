@@ -2,7 +2,7 @@
 use Rattle.std.specs.Prelude.{ℕ, List, Option}
 use Rattle.vx_488.specs.declared.transfers.Transfer.{Transfer}
 use Rattle.vx_488.specs.declared.wire.Wire.{Wire}
-use Rattle.vx_model.specs.State.{Tables}
+use Rattle.vx_rules.specs.State.{Tables}
 use Rattle.vx_kernel.specs.declared.running.Running.{Running}
 use Rattle.vx_kernel.specs.declared.ended.Ended.{Ended}
 

@@ -5,12 +5,12 @@ use Rattle.vx_488.specs.declared.transfers.Transfer.{Transfer}
 use Rattle.vx_plan.specs.declared.tasks.Task.{Task}
 use Rattle.vx_plan.specs.Plan.{Slot, left_after, next_slot}
 use Rattle.vx_plan.specs.Tasks.{plan}
-use Rattle.vx_bus.specs.Means.{Means}
-use Rattle.vx_bus.specs.Steps.{Step, Went, Held, Failed, Told, Cut}
-use Rattle.vx_bus.specs.Walks.{Walk}
+use Rattle.vx_bus_traits.specs.Means.{Means}
+use Rattle.vx_bus_traits.specs.Steps.{Step, Went, Held, Failed, Told, Cut}
+use Rattle.vx_bus_traits.specs.Walks.{Walk}
 use Rattle.vx_ctrl.specs.Goes.{ask_of}
-use Rattle.vx_model.specs.State.{Pending}
-use Rattle.vx_model.specs.Calls.{bytes_of}
+use Rattle.vx_rules.specs.State.{Pending}
+use Rattle.vx_rules.specs.Calls.{bytes_of}
 use Rattle.vx_flow.specs.FineState.{Turn, FineState, turn_of}
 use Rattle.vx_flow.specs.Fine.{job_of}
 use Rattle.vx_flow.specs.Poll as poll

@@ -2,8 +2,8 @@
 use Rattle.std.specs.Prelude.{ℕ, not, ◌==◌, if◌then◌else◌, List, [], filter, Option, Some, None}
 use Rattle.vx_488.specs.declared.transfers.Transfer.{Transfer}
 use Rattle.vx_488.specs.declared.wire.Wire.{Wire}
-use Rattle.vx_bus.specs.Means.{Means}
-use Rattle.vx_model.specs.State.{with_pending}
+use Rattle.vx_bus_traits.specs.Means.{Means}
+use Rattle.vx_rules.specs.State.{with_pending}
 use Rattle.vx_flow.specs.FineState.{Turn, FineState}
 use Rattle.vx_kernel.specs.declared.running.Running.{Running}
 use Rattle.vx_kernel.specs.KernelState.{KernelState}

@@ -1,14 +1,14 @@
 -- The turn of a call, as it begins and goes on.
 use Rattle.std.specs.Prelude.{◌≡◌, ℕ, if◌then◌else◌, [], ◌++◌, Option, Some, None, IsSome}
 use Rattle.vx_488.specs.Wire.{wire_after}
-use Rattle.vx_bus.specs.Means.{Means}
-use Rattle.vx_bus.specs.Steps.{Step}
+use Rattle.vx_bus_traits.specs.Means.{Means}
+use Rattle.vx_bus_traits.specs.Steps.{Step}
 use Rattle.vx_ctrl.specs.declared.turn.Went.{Went}
 use Rattle.vx_ctrl.specs.Turns.{TurnState}
 use Rattle.vx_ctrl.specs.Goes.{Goes}
-use Rattle.vx_model.specs.State.{Pending, pending_at}
-use Rattle.vx_model.specs.Calls.{bytes_of}
-use Rattle.vx_model.specs.Lines.{Passed}
+use Rattle.vx_rules.specs.State.{Pending, pending_at}
+use Rattle.vx_rules.specs.Calls.{bytes_of}
+use Rattle.vx_rules.specs.Lines.{Passed}
 use Rattle.vx_flow.specs.FineState.{Turn, FineState}
 use Rattle.vx_flow.specs.Fine.{wire_for, waits_for}
 use Rattle.vx_flow.specs.Poll.{lines_at}

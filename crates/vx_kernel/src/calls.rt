@@ -5,24 +5,24 @@ ghost use Rattle.vx_calls.specs.declared.limits.TheConstants.{WRITE_MAX};
 ghost use Rattle.vx_calls.specs.Call.{call_shown};
 ghost use Rattle.vx_srq.specs.Desk as desk;
 ghost use Rattle.vx_srq.specs.Shown.{given_shown};
-ghost use Rattle.vx_model.specs.State as state;
-ghost use Rattle.vx_model.specs.State.{Pending, pending_at};
-ghost use Rattle.vx_model.specs.Calls as calls;
-ghost use Rattle.vx_model.specs.Lines.{first_lines};
-ghost use Rattle.vx_model.specs.Shown.{lines_shown};
-ghost use Rattle.vx_model.specs.One.{may_wait, arrived, abort_reply, abort_tables};
-ghost use Rattle.vx_model.specs.Held.{IsShort};
-ghost use Rattle.vx_model.specs.Sound.{IsSound};
-ghost use Rattle.vx_model.specs.Serving.{IsPlainLink};
+ghost use Rattle.vx_rules.specs.State as state;
+ghost use Rattle.vx_rules.specs.State.{Pending, pending_at};
+ghost use Rattle.vx_rules.specs.Calls as calls;
+ghost use Rattle.vx_rules.specs.Lines.{first_lines};
+ghost use Rattle.vx_rules.specs.Shown.{lines_shown};
+ghost use Rattle.vx_rules.specs.One.{may_wait, arrived, abort_reply, abort_tables};
+ghost use Rattle.vx_rules.specs.Held.{IsShort};
+ghost use Rattle.vx_rules.specs.Sound.{IsSound};
+ghost use Rattle.vx_rules.specs.Serving.{IsPlainLink};
 ghost use Rattle.vx_kernel.specs.Shown.{own_of, left};
 
 use crate::ended::Ended;
 use crate::kernel::Kernel;
 use std::alloc::Global;
 use vx_488::Transfer;
-use vx_bus::{Bus, Tweak};
+use vx_bus_traits::{Bus, Tweak};
 use vx_calls::{CallRef, ErrorCode, Role, Taken};
-use vx_model::{Connect, Lines};
+use vx_rules::{Connect, Lines};
 
 impl<B: Bus> Kernel<B> {
     /// Takes a connection of this role, and gives its number. A refusal changes nothing.

@@ -1,11 +1,11 @@
 //! What the core keeps, and its small changes.
 ghost use Rattle.std.specs.Prelude.{◌≡◌, ◌==◌, ◌++◌, ℕ, max, not, filter, true, None, Some, [], ◌∷◌, if◌then◌else◌, IfOk, IfErr, length, vec_capacity, ◌≤◌};
-ghost use Rattle.vx_bus.specs.declared.asks.TheConstants.{ASK_MAX};
+ghost use Rattle.vx_bus_traits.specs.declared.asks.TheConstants.{ASK_MAX};
 ghost use Rattle.vx_calls.specs.declared.limits.TheConstants.{ROLE_MAX, WRITE_MAX};
 ghost use Rattle.vx_488.specs.Wire.{first_wire};
-ghost use Rattle.vx_bus.specs.Steps.{Told, Cut};
-ghost use Rattle.vx_bus.specs.Walks.{Walk};
-ghost use Rattle.vx_model.specs.State.{first_tables, with_pending};
+ghost use Rattle.vx_bus_traits.specs.Steps.{Told, Cut};
+ghost use Rattle.vx_bus_traits.specs.Walks.{Walk};
+ghost use Rattle.vx_rules.specs.State.{first_tables, with_pending};
 ghost use Rattle.vx_kernel.specs.KernelState.{KernelState};
 ghost use Rattle.vx_kernel.specs.Shown.{cut_means, own_of, running_of, closed, left};
 
@@ -14,9 +14,9 @@ use crate::running::Running;
 use std::alloc::{AllocError, Global};
 use std::marker::Model;
 use vx_488::{Transfer, Wire};
-use vx_bus::{ASK_MAX, Bus};
+use vx_bus_traits::{ASK_MAX, Bus};
 use vx_calls::{ROLE_MAX, WRITE_MAX};
-use vx_model::Tables;
+use vx_rules::Tables;
 
 /// The tables, the bus, and the turn under way. The room takes the bytes of a read, and of a reply.
 #[derive(Drop)]
@@ -37,7 +37,7 @@ pub struct Kernel<B: Bus> {
 
 impl<B: Bus> Model for Kernel<B> {
     ghost use Rattle.std.specs.Prelude.{◌≡◌, ◌≤◌, length, vec_capacity};
-    ghost use Rattle.vx_bus.specs.declared.asks.TheConstants.{ASK_MAX};
+    ghost use Rattle.vx_bus_traits.specs.declared.asks.TheConstants.{ASK_MAX};
     ghost use Rattle.vx_calls.specs.declared.limits.TheConstants.{ROLE_MAX, WRITE_MAX};
     ghost use Rattle.vx_kernel.specs.KernelState.{KernelState};
 

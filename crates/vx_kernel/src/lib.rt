@@ -9,8 +9,6 @@ mod kernel;
 mod moves;
 mod replies;
 mod running;
-#[cfg(test)]
-mod tests;
 
 pub use ended::{Ended, Ran, Settled, Why};
 pub use given::Given;

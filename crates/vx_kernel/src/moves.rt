@@ -1,7 +1,7 @@
 //! What a poll of a call may do: its turn on the bus begins, goes on or ends, it has its effect, or a dial is asked for.
 ghost use Rattle.std.specs.Prelude.{◌≡◌, ◌≤◌, ◌==◌, ◌++◌, [], ◌∷◌, ℕ, Bool, true, false, not, max, length, ◌+◌, Some, None, IsSome, if◌then◌else◌, ◌||◌, option_map};
 ghost use Rattle.vx_calls.specs.declared.limits.TheConstants.{WRITE_MAX};
-ghost use Rattle.vx_bus.specs.declared.asks.TheConstants.{ASK_MAX};
+ghost use Rattle.vx_bus_traits.specs.declared.asks.TheConstants.{ASK_MAX};
 ghost use Rattle.vx_kernel.specs.declared.running.Running.{Running};
 ghost use Rattle.vx_calls.specs.declared.codes.ErrorCode.TheVariants as code;
 ghost use Rattle.vx_calls.specs.Reply.{Reply};
@@ -11,11 +11,11 @@ ghost use Rattle.vx_plan.specs.Roles.{has_role};
 ghost use Rattle.vx_plan.specs.Results as results;
 ghost use Rattle.vx_srq.specs.Desk.{channel_at, has_number};
 ghost use Rattle.vx_calls.specs.Reply as reply;
-ghost use Rattle.vx_model.specs.State.{Pending, Tables, pending_at};
-ghost use Rattle.vx_model.specs.Calls as calls;
-ghost use Rattle.vx_model.specs.Checks.{named_link};
-ghost use Rattle.vx_model.specs.Dials.{dials_to};
-ghost use Rattle.vx_model.specs.Effects as effects;
+ghost use Rattle.vx_rules.specs.State.{Pending, Tables, pending_at};
+ghost use Rattle.vx_rules.specs.Calls as calls;
+ghost use Rattle.vx_rules.specs.Checks.{named_link};
+ghost use Rattle.vx_rules.specs.Dials.{dials_to};
+ghost use Rattle.vx_rules.specs.Effects as effects;
 ghost use Rattle.vx_flow.specs.FineState as flow;
 ghost use Rattle.vx_flow.specs.FineState.{turn_of, moves_of};
 ghost use Rattle.vx_flow.specs.Fine as fine;
@@ -33,11 +33,11 @@ use crate::given::Given;
 use crate::kernel::Kernel;
 use crate::replies::{finished, level_told, moved_by};
 use crate::running::Running;
-use vx_bus::Bus;
+use vx_bus_traits::Bus;
 use vx_calls::{ErrorCode, conflicts};
 use vx_ctrl::{Turn, Went};
-use vx_model::passed_calls;
 use vx_plan::{few_transfers, needs};
+use vx_rules::passed_calls;
 
 impl<B: Bus> Kernel<B> {
     /// The connection whose turn the call waits for: a bus call waits for every other's, and a lock call for one on a

@@ -13,7 +13,7 @@ ghost use Rattle.vx_kernel.specs.Replying.{level_told};
 
 use crate::given::Given;
 use vx_488::Wire;
-use vx_bus::Bus;
+use vx_bus_traits::Bus;
 use vx_calls::ErrorCode;
 use vx_ctrl::Turn;
 use vx_plan::Task;

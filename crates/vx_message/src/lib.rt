@@ -4,7 +4,5 @@
 #![tactic(auto)]
 
 mod record;
-#[cfg(test)]
-mod tests;
 
 pub use record::{REPLY_ROOM, SRQ_ROOM, put_refusal_record, put_srq_record, put_success_record};

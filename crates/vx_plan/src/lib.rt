@@ -11,6 +11,3 @@ pub use laws::{
     place_goes_on, prefix_free, read_moved, small_place, wants_nothing, whole_lists, write_moved,
 };
 pub use tasks::{Next, Place, Task, first_place, needs, next_move};
-
-#[cfg(test)]
-mod tests;

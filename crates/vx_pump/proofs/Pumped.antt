@@ -5,8 +5,8 @@ use Rattle.std.proofs.lemmas.List.{map-append}
 use Rattle.std.proofs.lemmas.List.Concat.{flat_map-append}
 use Rattle.std.proofs.lemmas.List.Elements.{All-nil, All-push}
 use Rattle.std.specs.List.{All}
-use Rattle.vx_io.specs.Faults.{Rose}
-use Rattle.vx_io.specs.Stands.{Goes, Goes-none, Goes-goes}
+use Rattle.vx_io_traits.specs.Faults.{Rose}
+use Rattle.vx_io_traits.specs.Stands.{Goes, Goes-none, Goes-goes}
 use Rattle.vx_gate.specs.PassView.{PassView}
 use Rattle.vx_srq.specs.Desk.{Given, Srq, Front, Empty, Gone}
 use Rattle.vx_message.specs.Meaning.{srq_record}

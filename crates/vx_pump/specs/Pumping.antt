@@ -1,8 +1,8 @@
 -- What a pump of a channel did.
 use Rattle.std.specs.Prelude.{◌≡◌, ◌≢◌, ◌<◌, ℕ, List, [], ◌∷◌, ◌++◌, map, length}
 use Rattle.std.specs.List.{All, flat_map}
-use Rattle.vx_io.specs.Faults.{Rose}
-use Rattle.vx_io.specs.Stands.{Goes}
+use Rattle.vx_io_traits.specs.Faults.{Rose}
+use Rattle.vx_io_traits.specs.Stands.{Goes}
 use Rattle.vx_gate.specs.PassView.{PassView}
 use Rattle.vx_srq.specs.Desk.{Given, Srq, Front, Empty, Gone}
 use Rattle.vx_message.specs.Meaning.{srq_record}

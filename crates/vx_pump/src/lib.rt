@@ -4,8 +4,6 @@
 
 mod pumps;
 mod samples;
-#[cfg(test)]
-mod tests;
 
 pub use pumps::{PumpEnd, pump};
 pub use samples::sample_turn;

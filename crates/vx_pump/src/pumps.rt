@@ -4,11 +4,11 @@ ghost use Rattle.vx_session.specs.Outside.{link_shown};
 ghost use Rattle.vx_pump.specs.Pumping.{Pumps};
 
 use std::sync::Wait;
-use vx_bus::Bus;
+use vx_bus_traits::Bus;
 use vx_calls::Taken;
 use vx_core::Core;
 use vx_gate::{Pass, Turns};
-use vx_io::{Link, Pause};
+use vx_io_traits::{Link, Pause};
 use vx_message::{SRQ_ROOM, put_srq_record};
 use vx_session::send_all;
 use vx_turns::take;

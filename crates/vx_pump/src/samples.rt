@@ -3,10 +3,10 @@ ghost use Rattle.std.specs.Prelude.{◌≡◌, ◌≤◌};
 ghost use Rattle.vx_turns.specs.Turning.{Samples};
 
 use std::sync::Wait;
-use vx_bus::Bus;
+use vx_bus_traits::Bus;
 use vx_core::Core;
 use vx_gate::{Pass, Turns};
-use vx_io::Clock;
+use vx_io_traits::Clock;
 use vx_turns::sample;
 
 /// Looks at the SRQ line in one turn at the gate, at a moment that the clock tells, in milliseconds: at a rise each enabled

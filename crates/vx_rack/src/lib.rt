@@ -8,8 +8,6 @@ mod asker;
 mod echo;
 mod meter;
 mod slow;
-#[cfg(test)]
-mod tests;
 
 use arrayvec::ArrayString;
 pub use asker::Asker;

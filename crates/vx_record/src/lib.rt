@@ -7,8 +7,6 @@
 
 mod buffer;
 mod laws;
-#[cfg(test)]
-mod tests;
 
 ghost use Rattle.std.specs.Prelude.{◌≡◌, ◌<◌, ◌^◌};
 ghost use Rattle.vx_record.specs.Fragments.{last_header};

@@ -17,6 +17,3 @@ pub use put::{put_call, put_refusal, put_reply};
 pub use read::{ReplyRead, read_reply};
 pub use refusal::RpcRefusal;
 pub use sort::{Sorted, sort_call};
-
-#[cfg(test)]
-mod tests;

@@ -1,4 +1,4 @@
-ghost use Rattle.std.specs.Prelude.{◌≡◌, List, ℕ, drop};
+ghost use Rattle.std.specs.Prelude.{◌≡◌, List, ℕ};
 ghost use Rattle.vx_xdr.specs.Spelling.{Word};
 ghost use Rattle.vx_xdr.specs.Reading.{reading};
 ghost use Rattle.vx_rpc.specs.Header.{accepted_body};

@@ -1,5 +1,4 @@
 ghost use Rattle.std.specs.Prelude.{◌≡◌, IfSome, IsTrue};
-ghost use Rattle.vx_xdr.specs.Reading.{Gives};
 ghost use Rattle.vx_rpc.specs.Procedure.{program, procedure, serves};
 ghost use Rattle.vx_rpc.specs.Header.{call_body};
 ghost use Rattle.vx_rpc.specs.Sorting.{sorting_shown, sorted, sorted_body, IsServed, RefusesByHeader, ArgsEnd, ArgsBehind};

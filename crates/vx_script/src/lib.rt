@@ -161,6 +161,3 @@ pub fn read_step<'a>(line: &'a [u8], bytes: &'a mut [u8]) -> Result<Option<Step<
         None => Err(Cause::Form),
     }
 }
-
-#[cfg(test)]
-mod tests;

@@ -7,8 +7,8 @@ use Rattle.vx_488.specs.declared.commands.Command.{Command}
 use Rattle.vx_488.specs.declared.commands.Command.TheVariants as command
 use Rattle.vx_488.specs.Command.{command_of}
 use Rattle.vx_488.specs.Heard.{Byte, heard}
-use Rattle.vx_bus.specs.Steps.{Step, Went, Told}
-use Rattle.vx_bus.specs.Walks.{Walk}
+use Rattle.vx_bus_traits.specs.Steps.{Step, Went, Told}
+use Rattle.vx_bus_traits.specs.Walks.{Walk}
 use Rattle.vx_sim.specs.Seats.{Seat, TakesByte}
 use Rattle.vx_sim.specs.SimState.{SimState, Through}
 

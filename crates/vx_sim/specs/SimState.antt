@@ -1,13 +1,13 @@
 -- A bus with instruments on it, and how it changes by each step.
 use Rattle.std.specs.Prelude.{◌≡◌, ℕ, ◌+◌, ◌-◌, ◌==◌, nat_lt, max, Bool, true, false, if◌then◌else◌, List, [], ◌∷◌, ◌++◌, Option, None, Some}
-use Rattle.vx_io.specs.Faults.{one_more}
+use Rattle.vx_io_traits.specs.Faults.{one_more}
 use Rattle.vx_488.specs.declared.transfers.Transfer.{Transfer}
 use Rattle.vx_488.specs.Wire.{step}
-use Rattle.vx_bus.specs.declared.asks.Ask.{Ask}
-use Rattle.vx_bus.specs.declared.asks.Ask.TheVariants as ask
-use Rattle.vx_bus.specs.Means.{Means}
-use Rattle.vx_bus.specs.MemState.{first_means}
-use Rattle.vx_bus.specs.Steps.{Step, Went, Held, Failed, Told, Cut, ask_for}
+use Rattle.vx_bus_traits.specs.declared.asks.Ask.{Ask}
+use Rattle.vx_bus_traits.specs.declared.asks.Ask.TheVariants as ask
+use Rattle.vx_bus_traits.specs.Means.{Means}
+use Rattle.vx_bus_traits.specs.Means.{first_means}
+use Rattle.vx_bus_traits.specs.Steps.{Step, Went, Held, Failed, Told, Cut, ask_for}
 use Rattle.vx_sim.specs.declared.signals.Signal.TheVariants as signal
 use Rattle.vx_sim.specs.Seats.{Placed, Receives}
 use Rattle.vx_sim.specs.Bench.{BenchWhere, everyone, BenchAfter, holds_put, holds_get}

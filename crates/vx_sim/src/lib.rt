@@ -10,8 +10,6 @@ mod laws;
 mod places;
 mod signals;
 mod sim;
-#[cfg(test)]
-mod tests;
 
 pub use attach::{Absent, Attach, Refused};
 pub use laws::heard_is_taken;

@@ -4,7 +4,7 @@ ghost use Rattle.std.specs.Prelude.{◌≡◌, ◌<◌, ◌≤◌, ◌+◌, leng
 ghost use Rattle.std.specs.List.{list_any};
 ghost use Rattle.vx_488.specs.declared.transfers.Transfer.TheVariants.{Cmd, Put, Ren, Ifc, Own};
 ghost use Rattle.vx_488.specs.Address.{is_bus_address};
-ghost use Rattle.vx_bus.specs.Steps.{Went, Held, Failed, Told, Cut, move_step, get_step, line_transfer, IsStepped};
+ghost use Rattle.vx_bus_traits.specs.Steps.{Went, Held, Failed, Told, Cut, move_step, get_step, line_transfer, IsStepped};
 ghost use Rattle.vx_sim.specs.Seats.{Table, Boxed};
 ghost use Rattle.vx_sim.specs.Bench.{stands_at, some_asks, some_refuses, holds_put, holds_get};
 ghost use Rattle.vx_sim.specs.SimState.{first_state, is_next, nearer, means_after, Through};
@@ -19,7 +19,7 @@ use crate::{NoMemory, PLACES_MAX};
 use std::alloc::Global;
 use std::marker::Model;
 use vx_488::{Addr, Line, Transfer, Wire, command_of};
-use vx_bus::{ASK_MAX, Ask, Bus, GetOut, Move};
+use vx_bus_traits::{ASK_MAX, Ask, Bus, GetOut, Move};
 use vx_inst::Instrument;
 use vx_table::TableInst;
 
@@ -45,7 +45,7 @@ pub struct SimBus<I: Instrument> {
 
 impl<I: Instrument> Model for SimBus<I> {
     ghost use Rattle.std.specs.Prelude.{◌≤◌, vec_len, vec_capacity};
-    ghost use Rattle.vx_bus.specs.declared.asks.TheConstants.{ASK_MAX};
+    ghost use Rattle.vx_bus_traits.specs.declared.asks.TheConstants.{ASK_MAX};
     ghost use Rattle.vx_sim.specs.SimState.{SimState};
 
     ghost Value = { SimState };
@@ -286,7 +286,7 @@ fn nearer(failing: Option<u32>) -> Option<u32>
 impl<I: Instrument> Bus for SimBus<I> {
     ghost use Rattle.std.specs.Prelude.{◌≡◌, ◌<◌, ◌≤◌};
     ghost use Rattle.vx_488.specs.declared.transfers.Transfer.TheVariants.{Cmd, Put, Ifc, Own};
-    ghost use Rattle.vx_bus.specs.Steps.{Told, Cut, move_step, get_step, line_transfer, IsStepped};
+    ghost use Rattle.vx_bus_traits.specs.Steps.{Told, Cut, move_step, get_step, line_transfer, IsStepped};
     ghost use Rattle.vx_sim.specs.Bench.{some_asks, some_refuses};
     ghost use Rattle.vx_sim.specs.SimState.{Through};
 

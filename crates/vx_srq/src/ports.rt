@@ -35,7 +35,6 @@ pub(crate) fn find_port(ports: &[PortRow], conn: u32) -> Option<&PortRow>
 }
 
 /// Whether a port is this connection's.
-#[cfg(test)]
 pub(crate) fn has_port(ports: &[PortRow], conn: u32) -> bool
     ensures { result ≡ list_any (λ r. r.conn == conn) ports.now }
 {

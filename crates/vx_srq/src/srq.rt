@@ -1,4 +1,4 @@
-ghost use Rattle.std.specs.Prelude.{◌≡◌, ℕ, ◌<◌, ◌≤◌, ◌+◌, ◌==◌, not, false, true, length, filter, is_some, is_ok, IfOk, OnOk, OnErr};
+ghost use Rattle.std.specs.Prelude.{◌≡◌, ℕ, ◌<◌, ◌≤◌, ◌+◌, ◌==◌, not, false, true, length, filter, nat_lt, is_some, is_ok, IfOk, OnOk, OnErr};
 ghost use Rattle.std.specs.List.{list_any, All, AllPairs};
 ghost use Rattle.std.specs.Option.{option_map, IfSome};
 ghost use Rattle.vx_calls.specs.declared.limits.TheConstants.{LINK_MAX, CONNECTION_LAST};
@@ -8,7 +8,7 @@ ghost use Rattle.vx_srq.specs.Told.{channel_told, told_of};
 
 use crate::enables::{EnableRow, put};
 use crate::ports::{
-    ChannelRow, PortRow, close_channel, drop_front, find_port, front, open_channel, rise,
+    ChannelRow, PortRow, close_channel, drop_front, find_port, front, has_port, open_channel, rise,
 };
 use std::alloc::Global;
 use std::collections::VecDeque;
@@ -98,6 +98,13 @@ impl Srq {
         }
     }
 
+    /// Whether the connection was added, and didn't go.
+    pub fn is_added(&self, conn: u32) -> bool
+        ensures { result ≡ desk.is_added self.now conn }
+    {
+        has_port(&self.ports, conn)
+    }
+
     /// The connection goes, and with it its channel and the enables of its links.
     pub fn gone(&mut self, conn: u32)
         ensures { self.new ≡ desk.without_port self.old conn }
@@ -181,6 +188,13 @@ impl Srq {
         );
     }
 
+    /// Whether fewer than 256 links have an enable: then there is room for that of any link.
+    pub fn has_room(&self) -> bool
+        ensures { result ≡ nat_lt (length self.now.enables) LINK_MAX }
+    {
+        self.enables.len() < LINK_MAX as usize
+    }
+
     /// The enable of a link goes.
     pub fn forget(&mut self, lid: u32)
         ensures { self.new ≡ desk.without_enable self.old lid }
@@ -242,226 +256,5 @@ fn told(channel: Option<ChannelRow>) -> Option<Channel>
             vers: c.vers,
         }),
         None => None,
-    }
-}
-
-#[cfg(test)]
-mod tests {
-    use super::*;
-    use crate::ports::has_port;
-    use Step::{Add, Close, Enable, Forget, Left, Make, Sample, Take};
-    use arrayvec::ArrayVec;
-    use std::process::Abort;
-    use std::test::Fail;
-
-    const NO_MEMORY: &str = "no memory";
-
-    /// What a take gave: an xid with the first byte of a handle, or nothing.
-    #[derive(Clone, Copy, Debug, PartialEq, Eq)]
-    enum Given {
-        Interrupt(u32, u8),
-        Empty,
-        Gone,
-    }
-
-    /// A call, and what it is to answer.
-    #[derive(Clone, Copy, Debug)]
-    enum Step {
-        Add(u32),
-        Left(u32),
-        Make(u32, u32),
-        Close(u32, bool),
-        Enable(u32, u32, bool, u8),
-        Forget(u32),
-        Sample(bool),
-        Take(u32, u32, Given),
-    }
-
-    fn told_by(taken: Taken) -> Given {
-        match taken {
-            Taken::Srq(i) => Given::Interrupt(i.xid, first(&i.handle)),
-            Taken::Empty => Given::Empty,
-            Taken::Gone => Given::Gone,
-        }
-    }
-
-    fn first(handle: &Handle) -> u8 {
-        handle.bytes.as_slice().first().copied().unwrap_or(0)
-    }
-
-    fn is_added(srq: &Srq, conn: u32) -> bool
-        ensures { result ≡ desk.is_added srq.now conn }
-    {
-        has_port(&srq.ports, conn)
-    }
-
-    fn has_room(srq: &Srq) -> bool
-        ensures { result ≡ true → (lid : ℕ) → length (filter (λ e. not (e.link == lid)) srq.now.enables) < LINK_MAX }
-    {
-        srq.enables.len() < LINK_MAX as usize
-    }
-
-    fn make(rt: &impl Abort, srq: &mut Srq, conn: u32) -> Result<u32, NoNumber> {
-        assert!(rt; is_added(srq, conn) && srq.channel(conn).is_none());
-        srq.make(conn, 395185, 1)
-    }
-
-    fn enable(rt: &impl Abort, srq: &mut Srq, conn: u32, lid: u32, on: bool, letter: u8) {
-        let mut bytes = ArrayVec::new();
-        bytes.push(letter);
-        assert!(rt; is_added(srq, conn));
-        assert!(rt; has_room(srq));
-        srq.enable(conn, lid, on, Handle { bytes });
-    }
-
-    fn run(rt: &impl Abort, srq: &mut Srq, steps: &[Step]) {
-        for step in steps {
-            match *step {
-                Add(conn) => assert_eq!(rt; srq.add(conn), Ok(())),
-                Left(conn) => srq.gone(conn),
-                Make(conn, chan) => assert_eq!(rt; make(rt, srq, conn), Ok(chan)),
-                Close(conn, open) => assert_eq!(rt; srq.close(conn), open),
-                Enable(conn, lid, on, letter) => enable(rt, srq, conn, lid, on, letter),
-                Forget(lid) => srq.forget(lid),
-                Sample(level) => srq.sample(level),
-                Take(conn, chan, want) => {
-                    assert_eq!(rt; told_by(srq.take(conn, chan)), want, "at {step:?}");
-                }
-            }
-        }
-    }
-
-    #[test]
-    fn three_links(rt: HostRuntime) -> Result<(), Fail> {
-        let mut srq = Srq::new(rt.alloc()).map_err(|_| NO_MEMORY)?;
-        assert!(rt; srq.has_number());
-        run(
-            &rt,
-            &mut srq,
-            &[
-                Add(1),
-                Add(2),
-                Add(3),
-                Make(1, 1),
-                Make(2, 2),
-                Enable(2, 2, true, b'b'),
-                Enable(3, 3, true, b'c'),
-                Enable(1, 1, true, b'a'),
-                Sample(true),
-                Sample(true),
-                Take(1, 1, Given::Interrupt(1, b'a')),
-                Take(1, 1, Given::Empty),
-                Take(2, 1, Given::Gone),
-                Take(2, 2, Given::Interrupt(1, b'b')),
-                Take(3, 2, Given::Gone),
-                Take(4, 1, Given::Gone),
-                Sample(false),
-                Sample(true),
-                Take(1, 1, Given::Interrupt(2, b'a')),
-                Take(2, 2, Given::Interrupt(2, b'b')),
-            ],
-        );
-        let want = Channel {
-            chan: 2,
-            prog: 395185,
-            vers: 1,
-        };
-        assert_eq!(rt; srq.channel(2), Some(want));
-        assert_eq!(rt; srq.channel(3), None);
-        Ok(())
-    }
-
-    #[test]
-    fn flags(rt: HostRuntime) -> Result<(), Fail> {
-        let mut srq = Srq::new(rt.alloc()).map_err(|_| NO_MEMORY)?;
-        run(
-            &rt,
-            &mut srq,
-            &[
-                Add(1),
-                Make(1, 1),
-                Enable(1, 9, true, b'z'),
-                Enable(1, 5, true, b'x'),
-                Enable(1, 7, true, b'y'),
-                Sample(true),
-                Take(1, 1, Given::Interrupt(1, b'x')),
-                Take(1, 1, Given::Interrupt(2, b'y')),
-                Enable(1, 9, false, b'w'),
-                Forget(7),
-                Sample(false),
-                Sample(true),
-                Take(1, 1, Given::Interrupt(3, b'z')),
-                Take(1, 1, Given::Interrupt(4, b'x')),
-                Take(1, 1, Given::Empty),
-                Close(1, true),
-                Close(1, false),
-                Take(1, 1, Given::Gone),
-                Enable(1, 9, true, b'v'),
-                Make(1, 2),
-                Sample(false),
-                Sample(true),
-                Take(1, 1, Given::Gone),
-                Take(1, 2, Given::Interrupt(1, b'x')),
-                Take(1, 2, Given::Interrupt(2, b'v')),
-                Sample(false),
-                Sample(true),
-                Close(1, true),
-                Make(1, 3),
-                Take(1, 3, Given::Empty),
-                Left(1),
-                Take(1, 3, Given::Gone),
-                Add(1),
-                Make(1, 4),
-                Sample(false),
-                Sample(true),
-                Take(1, 4, Given::Empty),
-            ],
-        );
-        Ok(())
-    }
-
-    #[test]
-    fn overflow(rt: HostRuntime) -> Result<(), Fail> {
-        let mut srq = Srq::new(rt.alloc()).map_err(|_| NO_MEMORY)?;
-        run(
-            &rt,
-            &mut srq,
-            &[
-                Add(1),
-                Add(2),
-                Make(1, 1),
-                Make(2, 2),
-                Enable(1, 1, true, b'a'),
-                Enable(2, 2, true, b'b'),
-            ],
-        );
-        for xid in 1..=1024 {
-            run(
-                &rt,
-                &mut srq,
-                &[
-                    Sample(true),
-                    Take(2, 2, Given::Interrupt(xid, b'b')),
-                    Sample(false),
-                ],
-            );
-        }
-        assert!(rt; srq.channel(1).is_some(), "1,024 interrupts wait");
-        run(&rt, &mut srq, &[Sample(true)]);
-        assert!(rt; srq.channel(1).is_none(), "1,025 are too many");
-        assert!(rt; srq.channel(2).is_some(), "the other goes on");
-        run(
-            &rt,
-            &mut srq,
-            &[
-                Take(1, 1, Given::Gone),
-                Make(1, 3),
-                Take(1, 3, Given::Empty),
-                Sample(false),
-                Sample(true),
-                Take(1, 3, Given::Interrupt(1, b'a')),
-            ],
-        );
-        Ok(())
     }
 }

@@ -13,8 +13,6 @@ ghost use Rattle.vx_table.specs.Spelling.{rules_of};
 
 mod row;
 mod spelled;
-#[cfg(test)]
-mod tests;
 
 use row::{Row, place_of, rows_of};
 use serde_json::Value;

@@ -1,7 +1,7 @@
 -- What reading a whole source does to the bytes that it tells.
 use Rattle.std.specs.Prelude.{◌≡◌, ℕ, ◌+◌, ◌≤◌, ◌<◌, List, ◌++◌, length, IfSome}
 use Rattle.std.specs.Io.KnownBytes.{Consumes, IsAtEnd, Keeps}
-use Rattle.vx_io.specs.Faults.{Rose}
+use Rattle.vx_io_traits.specs.Faults.{Rose}
 use Rattle.vx_text.specs.declared.input.Piece.{Piece}
 use Rattle.vx_text.specs.declared.input.Piece.TheVariants as piece
 use Rattle.vx_text.specs.declared.input.Input.{Input}

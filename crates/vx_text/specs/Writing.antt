@@ -1,7 +1,7 @@
 -- What writing a whole text does to the bytes that a sink tells.
 use Rattle.std.specs.Prelude.{ℕ, ◌≤◌, List, Result, Ok, Err, length, take}
 use Rattle.std.specs.Io.KnownBytes.{Appends}
-use Rattle.vx_io.specs.Faults.{Rose}
+use Rattle.vx_io_traits.specs.Faults.{Rose}
 use Rattle.vx_text.specs.Ends.{End}
 
 -- so far a sink took a front of the text

@@ -3,7 +3,7 @@ ghost use Rattle.std.specs.Prelude.{◌≡◌, ◌≤◌, ◌<◌, length, IfOk}
 ghost use Rattle.vx_text.specs.Reading.{IsInput, IsPiece};
 
 use std::alloc::{AllocError, Global};
-use vx_io::{ReadOut, Source};
+use vx_io_traits::{ReadOut, Source};
 
 /// How many bytes are asked of the source at once.
 const PIECE: usize = 65_536;

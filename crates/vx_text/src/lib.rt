@@ -4,8 +4,6 @@
 mod input;
 mod lines;
 mod output;
-#[cfg(test)]
-mod tests;
 
 pub use input::{Input, read_all, zeros};
 pub use lines::first_line;

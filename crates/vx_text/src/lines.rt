@@ -21,25 +21,3 @@ pub fn first_line(text: &[u8]) -> (&[u8], &[u8])
         None => (text, &text[text.len()..]),
     }
 }
-
-#[cfg(test)]
-mod tests {
-    use super::*;
-
-    #[test]
-    fn first_lines(rt: HostRuntime) {
-        let texts: [(&[u8], &[u8], &[u8]); 5] = [
-            (b"up 1 core\nsample\n", b"up 1 core", b"sample\n"),
-            (b"\nsample", b"", b"sample"),
-            (b"sample\n", b"sample", b""),
-            (b"sample", b"sample", b""),
-            (b"a\r\n\n", b"a\r", b"\n"),
-        ];
-        for (text, line, rest) in texts {
-            assert!(rt; !text.is_empty());
-            let cut = first_line(text);
-            assert_eq!(rt; cut.0, line);
-            assert_eq!(rt; cut.1, rest);
-        }
-    }
-}

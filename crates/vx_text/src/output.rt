@@ -1,8 +1,8 @@
 //! A text written to its end.
-ghost use Rattle.std.specs.Prelude.{◌≡◌, ◌≤◌};
+ghost use Rattle.std.specs.Prelude.{◌≤◌};
 ghost use Rattle.vx_text.specs.Writing.{IsPut};
 
-use vx_io::{Sink, WriteOut};
+use vx_io_traits::{Sink, WriteOut};
 
 /// The sink failed.
 #[derive(Clone, Copy, Debug)]

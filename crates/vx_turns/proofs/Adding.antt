@@ -7,12 +7,12 @@ use Rattle.vx_calls.specs.declared.calls.Role.{Role}
 use Rattle.vx_calls.specs.declared.calls.Role.TheVariants as role
 use Rattle.vx_calls.specs.Call.{Call}
 use Rattle.vx_488.specs.declared.transfers.Transfer.{Transfer}
-use Rattle.vx_bus.specs.Means.{Means}
+use Rattle.vx_bus_traits.specs.Means.{Means}
 use Rattle.vx_srq.specs.Desk.{Given, Gone}
-use Rattle.vx_model.specs.Lists.{along}
-use Rattle.vx_model.specs.State.{Connection, Tables, connection_at, role_at, pending_at}
-use Rattle.vx_model.specs.One.{arrived}
-use Rattle.vx_model.specs.declared.tables.Connect.{Connect}
+use Rattle.vx_rules.specs.Lists.{along}
+use Rattle.vx_rules.specs.State.{Connection, Tables, connection_at, role_at, pending_at}
+use Rattle.vx_rules.specs.One.{arrived}
+use Rattle.vx_rules.specs.declared.tables.Connect.{Connect}
 use Rattle.vx_flow.specs.Event.{Event, Up, Arrive, Take}
 use Rattle.vx_flow.specs.FineState.{FineState}
 use Rattle.vx_flow.specs.Fine.{fine}

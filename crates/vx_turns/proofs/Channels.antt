@@ -13,16 +13,16 @@ use Rattle.vx_488.specs.declared.wire.Wire.{Wire}
 use Rattle.vx_plan.specs.declared.tasks.Task.{Task}
 use Rattle.vx_plan.specs.Roles.{has_role}
 use Rattle.vx_srq.specs.Desk.{Desk, Port, Channel, channel_at, port_with, new_channel, with_new_channel}
-use Rattle.vx_model.specs.State.{Pending, Tables, State, pending_at}
-use Rattle.vx_model.specs.Calls.{is_bus_call, asks_dial}
-use Rattle.vx_model.specs.Checks.{named_link}
-use Rattle.vx_model.specs.Lines.{Lines, Refused, Waiting, Passed, first_lines}
-use Rattle.vx_model.specs.Effects.{task_of, settle}
-use Rattle.vx_model.specs.Decide.{Outside, job_answer, bus_answer, by_lines, decide}
-use Rattle.vx_model.specs.One.{answer, answer_to, answered, if_reply}
-use Rattle.vx_model.specs.Sound.{has_port}
-use Rattle.vx_model.proofs.Granting.{port_of}
-use Rattle.vx_model.proofs.Walks.{legal-sound}
+use Rattle.vx_rules.specs.State.{Pending, Tables, State, pending_at}
+use Rattle.vx_rules.specs.Calls.{is_bus_call, asks_dial}
+use Rattle.vx_rules.specs.Checks.{named_link}
+use Rattle.vx_rules.specs.Lines.{Lines, Refused, Waiting, Passed, first_lines}
+use Rattle.vx_rules.specs.Effects.{task_of, settle}
+use Rattle.vx_rules.specs.Decide.{Outside, job_answer, bus_answer, by_lines, decide}
+use Rattle.vx_rules.specs.One.{answer, answer_to, answered, if_reply}
+use Rattle.vx_rules.specs.Sound.{has_port}
+use Rattle.vx_rules.proofs.Granting.{port_of}
+use Rattle.vx_rules.proofs.Walks.{legal-sound}
 use Rattle.vx_flow.specs.Event.{Event, Answer}
 use Rattle.vx_flow.specs.FineState.{FineState, before_turn}
 use Rattle.vx_flow.specs.Fine.{outside, is_answered, wire_for, answered_fine, comes_in_turn, fine_step, fine}

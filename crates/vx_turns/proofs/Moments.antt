@@ -7,7 +7,7 @@ use Rattle.std.proofs.lemmas.List.Elements.{All-nil, All-cons, All-head, All-tai
 use Rattle.vx_calls.specs.Call.{Call}
 use Rattle.vx_calls.specs.Reply.{Reply}
 use Rattle.vx_488.specs.declared.transfers.Transfer.{Transfer}
-use Rattle.vx_model.specs.Lists.{along}
+use Rattle.vx_rules.specs.Lists.{along}
 use Rattle.vx_flow.specs.Event.{Event, Up, Down, Arrive, Answer, Abort, Sample, Take, Begin, Move, Dial}
 use Rattle.vx_flow.specs.FineState.{FineState}
 use Rattle.vx_flow.specs.Fine.{fine}

@@ -8,9 +8,9 @@ use Rattle.vx_gate.specs.declared.views.Made.{Made}
 use Rattle.vx_gate.specs.History.{groups}
 use Rattle.vx_gate.specs.PassView.{PassView}
 use Rattle.vx_srq.specs.Desk.{Channel, Given, channel_at}
-use Rattle.vx_model.specs.State.{Connection, connection_at}
-use Rattle.vx_model.specs.declared.tables.Connect.{Connect}
-use Rattle.vx_model.specs.declared.tables.Connect.TheVariants as connect
+use Rattle.vx_rules.specs.State.{Connection, connection_at}
+use Rattle.vx_rules.specs.declared.tables.Connect.{Connect}
+use Rattle.vx_rules.specs.declared.tables.Connect.TheVariants as connect
 use Rattle.vx_flow.specs.Event.{Up, Take}
 use Rattle.vx_flow.specs.FineState.{FineState}
 use Rattle.vx_kernel.specs.CoreState.{CoreState}

@@ -16,7 +16,7 @@ use Rattle.vx_gate.specs.declared.views.Made.{Made}
 use Rattle.vx_gate.specs.History.{groups}
 use Rattle.vx_gate.specs.PassView.{PassView}
 use Rattle.vx_gate.specs.Turning.{Fits}
-use Rattle.vx_model.specs.State.{Connection, Tables, same_role, connection_at, role_at, pending_at, has_role_of, lives_as, is_idle}
+use Rattle.vx_rules.specs.State.{Connection, Tables, same_role, connection_at, role_at, pending_at, has_role_of, lives_as, is_idle}
 use Rattle.vx_flow.specs.Event.{Event, Down, Arrive, Answer, Abort, Begin, Move, Dial}
 use Rattle.vx_flow.specs.FineState.{FineState}
 use Rattle.vx_flow.specs.Poll.{Ending}

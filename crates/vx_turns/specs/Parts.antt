@@ -5,7 +5,7 @@ use Rattle.vx_calls.specs.declared.calls.Role.TheVariants as role
 use Rattle.vx_calls.specs.declared.codes.ErrorCode.{ErrorCode}
 use Rattle.vx_calls.specs.Reply as reply
 use Rattle.vx_488.specs.declared.transfers.Transfer.{Transfer}
-use Rattle.vx_model.specs.Dials.{dials_to}
+use Rattle.vx_rules.specs.Dials.{dials_to}
 use Rattle.vx_flow.specs.Event.{Event, Answer, Begin}
 use Rattle.vx_flow.specs.Poll.{Ending, Answered, Waited, Dialed, moved_events, end_events}
 use Rattle.vx_group.specs.Seats.{Seat, Idle, Asked}

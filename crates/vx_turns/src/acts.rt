@@ -7,9 +7,9 @@ ghost use Rattle.vx_calls.specs.Call.{call_shown};
 ghost use Rattle.vx_calls.specs.Reply as reply;
 ghost use Rattle.vx_srq.specs.Desk.{channel_at};
 ghost use Rattle.vx_srq.specs.Shown.{given_shown};
-ghost use Rattle.vx_model.specs.State.{connection_at, pending_at, is_idle, lives_as};
-ghost use Rattle.vx_model.specs.One.{may_wait};
-ghost use Rattle.vx_model.specs.Held.{IsShort};
+ghost use Rattle.vx_rules.specs.State.{connection_at, pending_at, is_idle, lives_as};
+ghost use Rattle.vx_rules.specs.One.{may_wait};
+ghost use Rattle.vx_rules.specs.Held.{IsShort};
 ghost use Rattle.vx_flow.specs.Event.{Down, Answer, Abort, Sample, Take};
 ghost use Rattle.vx_flow.specs.Fine.{fine};
 ghost use Rattle.vx_message.specs.declared.record.TheConstants.{REPLY_ROOM};
@@ -19,7 +19,7 @@ ghost use Rattle.vx_turns.specs.Acting.{Says, PollDid, ComeDid, Connects, poll_e
 ghost use Rattle.vx_turns.specs.Parts.{settled_events};
 
 use std::alloc::Global;
-use vx_bus::Bus;
+use vx_bus_traits::Bus;
 use vx_calls::{CallRef, ErrorCode, Role, Taken};
 use vx_core::{Connect, Core, Polled, Settled};
 use vx_gate::Act;

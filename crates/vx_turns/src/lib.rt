@@ -3,8 +3,6 @@
 #![tactic(auto)]
 
 mod acts;
-#[cfg(test)]
-mod tests;
 mod turns;
 
 pub use acts::PollEnd;

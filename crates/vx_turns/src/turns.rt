@@ -3,8 +3,8 @@ ghost use Rattle.std.specs.Prelude.{◌≡◌, ◌≤◌, ℕ, Bool, true, lengt
 ghost use Rattle.vx_calls.specs.declared.calls.Role.TheVariants as role;
 ghost use Rattle.vx_calls.specs.Call.{Call, call_shown};
 ghost use Rattle.vx_srq.specs.Shown.{given_shown};
-ghost use Rattle.vx_model.specs.One.{may_wait};
-ghost use Rattle.vx_model.specs.Held.{IsShort};
+ghost use Rattle.vx_rules.specs.One.{may_wait};
+ghost use Rattle.vx_rules.specs.Held.{IsShort};
 ghost use Rattle.vx_message.specs.declared.record.TheConstants.{REPLY_ROOM};
 ghost use Rattle.vx_group.specs.Seats.{Idle, Asked, is_up};
 ghost use Rattle.vx_turns.specs.Turning.{seat_at, Comes, PollsAgain, Settles, Aborts, Leaves, Joins, Samples, TakesTurn};
@@ -12,7 +12,7 @@ ghost use Rattle.vx_turns.specs.Turning.{seat_at, Comes, PollsAgain, Settles, Ab
 use crate::acts::{AbortLink, Again, Come, ConnectAs, Leave, PollEnd, SampleAt, Settle, TakeFrom};
 use std::alloc::Global;
 use std::sync::Wait;
-use vx_bus::Bus;
+use vx_bus_traits::Bus;
 use vx_calls::{CallRef, ErrorCode, Role, Taken};
 use vx_core::{Connect, Core, Settled};
 use vx_gate::{Pass, Turns};

@@ -12,6 +12,3 @@ pub use fault::{Full, XdrErr};
 pub use laws::{no_prefix, one_spelling, read_again, read_is_spelled, same_word, spelling_spells};
 pub use reader::Reader;
 pub use writer::Writer;
-
-#[cfg(test)]
-mod tests;

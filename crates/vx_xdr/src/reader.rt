@@ -1,4 +1,4 @@
-ghost use Rattle.std.specs.Prelude.{◌≡◌, ◌+◌, ◌<◌, ◌≤◌, ◌↔◌, ◌==◌, ◌^◌, Ok, Err, IfOk, IfErr, IsTrue, [], length};
+ghost use Rattle.std.specs.Prelude.{◌≡◌, ◌+◌, ◌<◌, ◌≤◌, ◌↔◌, ◌==◌, Ok, Err, IfOk, IfErr, IsTrue, [], length};
 ghost use Rattle.std.specs.List.{list_all};
 ghost use Rattle.vx_xdr.specs.Spelling.{Word, Signed, Flag, Opaque, pad_len};
 ghost use Rattle.vx_xdr.specs.Reading.{Gives, reading, flag_of};

@@ -1,4 +1,4 @@
-use Rattle.vx_bus.specs.Walks.{StepsTo}
+use Rattle.vx_bus_traits.specs.Walks.{StepsTo}
 use Rattle.vx_ctrl.proofs.Walking.{path-append, path-split}
 use Rattle.vx_ctrl.proofs.laws.walk_appends.Goals as goal
 

@@ -1,5 +1,5 @@
 use Rattle.vx_srq.specs.Shown.{given_shown}
-use Rattle.vx_model.specs.State.{connection_at}
+use Rattle.vx_rules.specs.State.{connection_at}
 use Rattle.vx_history.specs.Laws.{group_after}
 use Rattle.vx_turns.specs.Acting.{take_events}
 use Rattle.vx_turns.proofs.Making.{turns}

@@ -1,5 +1,5 @@
 use Rattle.std.proofs.Common.{◌-◌, length}
-use Rattle.vx_bus.specs.declared.asks.TheConstants.{ASK_MAX}
+use Rattle.vx_bus_traits.specs.declared.asks.TheConstants.{ASK_MAX}
 use Rattle.vx_ctrl.proofs.Going.{Going}
 use Rattle.vx_ctrl.proofs.turn.Turn.go.Given as goal
 

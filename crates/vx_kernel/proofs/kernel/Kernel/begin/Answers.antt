@@ -1,8 +1,8 @@
 use Rattle.std.proofs.Common.{◌≡◌, true, Some, sym, ◌∙◌, subst}
 use Rattle.std.specs.Prelude.{is_some}
-use Rattle.vx_model.specs.State.{Pending}
-use Rattle.vx_model.specs.Calls.{bytes_of, is_bus_call}
-use Rattle.vx_model.specs.State.{pending_at}
+use Rattle.vx_rules.specs.State.{Pending}
+use Rattle.vx_rules.specs.Calls.{bytes_of, is_bus_call}
+use Rattle.vx_rules.specs.State.{pending_at}
 use Rattle.vx_kernel.specs.declared.running.Running.{Running}
 use Rattle.vx_kernel.specs.KernelState.{KernelState}
 use Rattle.vx_kernel.specs.Keeping.{Holds}

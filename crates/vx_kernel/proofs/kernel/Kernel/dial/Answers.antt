@@ -2,7 +2,7 @@ use Rattle.std.proofs.Common.{◌≡◌, ◌≤◌, ◌<◌, ◌==◌, ◌++◌,
 use Rattle.std.specs.Vec.{vec_capacity}
 use Rattle.std.proofs.lemmas.Fn.{filter_same}
 use Rattle.vx_calls.specs.declared.limits.TheConstants.{ROLE_MAX}
-use Rattle.vx_model.specs.Sound.{IsSound}
+use Rattle.vx_rules.specs.Sound.{IsSound}
 use Rattle.vx_flow.specs.Fine.{without_dial}
 use Rattle.vx_kernel.specs.KernelState.{KernelState}
 use Rattle.vx_kernel.specs.Keeping.{KeepsDials}

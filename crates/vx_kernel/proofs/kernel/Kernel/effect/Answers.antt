@@ -1,10 +1,10 @@
 use Rattle.std.proofs.Common.{◌≡◌, true, false, Some, length, ap, sym, subst, ◌∙◌, arith}
 use Rattle.std.specs.Prelude.{IsSome}
 use Rattle.vx_calls.specs.Reply.{reply_shown}
-use Rattle.vx_model.specs.State.{pending_at}
-use Rattle.vx_model.specs.Lines.{lets_pass}
-use Rattle.vx_model.specs.Checks.{named_link}
-use Rattle.vx_model.specs.Effects as effects
+use Rattle.vx_rules.specs.State.{pending_at}
+use Rattle.vx_rules.specs.Lines.{lets_pass}
+use Rattle.vx_rules.specs.Checks.{named_link}
+use Rattle.vx_rules.specs.Effects as effects
 use Rattle.vx_flow.specs.Poll as poll
 use Rattle.vx_kernel.specs.KernelState.{KernelState}
 use Rattle.vx_kernel.specs.Shown.{own_of, closed}

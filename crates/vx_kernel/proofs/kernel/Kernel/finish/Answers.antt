@@ -7,8 +7,8 @@ use Rattle.vx_plan.specs.Tasks.{HasBytes}
 use Rattle.vx_plan.specs.Results.{whole_reply}
 use Rattle.vx_ctrl.specs.Turns.{HasMade, GetsBytes}
 use Rattle.vx_ctrl.specs.Goes.{HoldsBytes}
-use Rattle.vx_model.specs.State.{Pending, pending_at}
-use Rattle.vx_model.specs.Calls.{bytes_of, is_big}
+use Rattle.vx_rules.specs.State.{Pending, pending_at}
+use Rattle.vx_rules.specs.Calls.{bytes_of, is_big}
 use Rattle.vx_flow.specs.Poll.{Answered}
 use Rattle.vx_flow.specs.Poll as poll
 use Rattle.vx_kernel.specs.declared.running.Running.{Running}

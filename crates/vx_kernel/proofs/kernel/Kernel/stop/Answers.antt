@@ -3,8 +3,8 @@ use Rattle.std.proofs.lemmas.List.{length-take-le}
 use Rattle.vx_calls.specs.declared.limits.TheConstants.{WRITE_MAX}
 use Rattle.vx_calls.specs.Reply.{Reply, reply_shown}
 use Rattle.vx_488.specs.declared.transfers.Transfer.{Transfer}
-use Rattle.vx_model.specs.State.{Pending, pending_at}
-use Rattle.vx_model.specs.Effects.{stopped_reply}
+use Rattle.vx_rules.specs.State.{Pending, pending_at}
+use Rattle.vx_rules.specs.Effects.{stopped_reply}
 use Rattle.vx_flow.specs.FineState.{turn_of, moves_of}
 use Rattle.vx_flow.specs.Poll.{Answered}
 use Rattle.vx_kernel.specs.Shown.{turn_shown}

@@ -1,7 +1,7 @@
 use Rattle.std.proofs.Common.{◌≡◌, ◌==◌, true, Option, Some, sym, ap, ◌∙◌, subst}
 use Rattle.std.specs.Prelude.{is_some, not}
-use Rattle.vx_model.specs.State.{Pending, pending_at}
-use Rattle.vx_model.specs.declared.tables.lines.Request.{Request}
+use Rattle.vx_rules.specs.State.{Pending, pending_at}
+use Rattle.vx_rules.specs.declared.tables.lines.Request.{Request}
 use Rattle.vx_flow.specs.FineState.{Turn}
 use Rattle.vx_flow.specs.Fine.{wire_for, waits_for}
 use Rattle.vx_kernel.specs.KernelState.{KernelState}
