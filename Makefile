@@ -1,5 +1,6 @@
-# `make play` plays a script through the proved player; `make serve` starts the server with a bench of simulated instruments;
-# `make install` puts the programs under PREFIX; `make test` runs the gate. All want the kit's `rt` on PATH.
+# `make try` plays a script without a proof, `make play` through the proved player; `make serve` starts the server with a bench of
+# simulated instruments; `make install` puts the programs under PREFIX; `make test` runs the gate; `make bench` measures. All want
+# the kit's `rt` on PATH.
 
 SCRIPT = examples/first-link.vxs
 BENCH = examples/bench.txt
@@ -9,8 +10,17 @@ PREFIX = /usr/local
 PLAYER = crates/vxplay/out/vxplay
 SERVER = crates/vxgate/out/vxgate
 CLIENT = crates/vxcall/out/vxcall
+RATE = crates/vx_gate_rate/out/vx_gate_rate
 
-.PHONY: play serve install player server client test
+# what `make bench` measures beside this server and this gate, as 'NAME=PROGRAM .. --gate NAME=PROGRAM'
+OTHERS =
+
+.PHONY: try play serve install player server client rate test bench
+
+# the same script without a proof
+try:
+	@echo "nothing is proved here: make play proves what it plays" >&2
+	cd crates/vxplay && rt try -- run < ../../$(SCRIPT)
 
 # SCRIPT=examples/refusals.vxs plays another script.
 play: player
@@ -36,6 +46,14 @@ server:
 # without words the client ends with status 1, so that it was made shows that it was proved
 client:
 	cd crates/vxcall && rm -f out/vxcall && { rt run < /dev/null > /dev/null || test -x out/vxcall; }
+
+# a program that takes turns at a gate on some threads
+rate:
+	cd crates/vx_gate_rate && rt run -- 1 1 < /dev/null > /dev/null
+
+# It takes some ten minutes, and wants a C compiler as cc and a machine that does nothing else. bench/bench.py says what it prints.
+bench: server rate
+	python3 bench/bench.py $(OTHERS) this=$(SERVER) --gate this=$(RATE)
 
 test:
 	bash .ci/run
