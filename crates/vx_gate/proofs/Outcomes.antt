@@ -25,7 +25,7 @@ use Rattle.vx_gate.proofs.Lists.{prefix_refl, prefix_more, prefix_both}
 use Rattle.vx_gate.proofs.Histories.{made_by_mine, Lawful_more}
 use Rattle.vx_gate.proofs.Rules as rules
 
-at_rest : (z y : GateId) (st : Stage) → Rests st → gate_at z st ≡ y → y.words ≡ 112 → (st ≡ Idle) × (z ≡ y)
+at_rest : (z y : GateId) (st : Stage) → Rests st → gate_at z st ≡ y → y.words ≡ 64 → (st ≡ Idle) × (z ≡ y)
 at_rest z y Idle h e wide = (refl, e)
 at_rest z y Spent h e wide = let w : 0 ≡ y.words = ap (λ (x : TableId). x.words) e in absurd (omega arith)
 at_rest z y (Drawn u) h e wide = absurd h
@@ -34,7 +34,7 @@ at_rest z y (Counted u) h e wide = absurd h
 
 module _ {K G : Type 0} where
   -- a pass of a gate has an idle seat of its table
-  pub seated : (s : Seat K (View G)) (p : PassView G) (y : GateId) → pass_view s ≡ p → IsPass s → p.gate ≡ y → y.words ≡ 112 → (s.me.0.stage ≡ Idle) × (s.table_id ≡ y)
+  pub seated : (s : Seat K (View G)) (p : PassView G) (y : GateId) → pass_view s ≡ p → IsPass s → p.gate ≡ y → y.words ≡ 64 → (s.me.0.stage ≡ Idle) × (s.table_id ≡ y)
   seated s p y shown is e wide = at_rest s.table_id y s.me.0.stage is.rests (ap (λ (x : PassView G). x.gate) shown ∙ e) wide
 
 module _ {G : Type 0} where
@@ -54,7 +54,7 @@ module _ {G : Type 0} where
 
 module _ {K G : Type 0} (stands : K → List G → Type 0) (may_add : List G → G → Type 0) where
   -- the gate at its start
-  pub opening_ruled : (words : List ℕ) (items : List K) (value : K) → length words ≡ 112 → get_or words 0 0 ≡ 0 → get_or words 16 0 ≡ 0 → get_or words 32 0 ≡ 0 → items ≡ value ∷ [] → stands value []
+  pub opening_ruled : (words : List ℕ) (items : List K) (value : K) → length words ≡ 64 → get_or words 0 0 ≡ 0 → get_or words 16 0 ≡ 0 → get_or words 32 0 ≡ 0 → items ≡ value ∷ [] → stands value []
       → Ruled stands may_add (opening words items first_view)
   opening_ruled words items value wide a b c e stood = subst (λ (l : List K). Ruled stands may_add (opening words l first_view)) (sym e) record {
     wide = wide;

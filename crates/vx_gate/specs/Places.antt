@@ -9,7 +9,7 @@ use Rattle.vx_gate.specs.Steps.{with_group}
 
 -- the table has a gate's words and its slot
 abbrev pub IsTable : TableId → Type 0
-IsTable z = (z.words ≡ 112) × (z.slots ≡ 1)
+IsTable z = (z.words ≡ 64) × (z.slots ≡ 1)
 
 module _ {K G : Type 0} where
   -- it is a seat of the same table with the same number

@@ -1,5 +1,5 @@
 -- The rule of the gate's table. Word 0 is the next ticket, word 16 the ticket that is served and word 32 the number of groups; the one slot is the value.
--- The words from 48 on are doors, to be slept on: no step is on them, and nothing is said of them.
+-- The words from 48 on are there to be slept on: no step is on them, and nothing is said of them.
 -- Of the history `log` only the length is in a word. A view's place in the list is the number of its pass.
 use Rattle.std.specs.Prelude.{◌≡◌, ◌≢◌, ℕ, ◌+◌, ◌^◌, ◌<◌, ◌≤◌, List, ◌&&◌, cond, length, slice_index, sum_by, nat_le, nat_lt, ◌==◌}
 use mathlib.Core.List.{IsPrefix}
@@ -120,5 +120,5 @@ pub record Fair {K G : Type 0} (stands : K → List G → Type 0) (may_add : Lis
   pub out : 0 < sum_by holds_turn views → get_elem? homes 0 ≡ some none
 
 pub record Ruled {K G : Type 0} (stands : K → List G → Type 0) (may_add : List G → G → Type 0) (s : State K (View G)) : Type 0 where
-  pub wide : length s.words ≡ 112
+  pub wide : length s.words ≡ 64
   pub fair : Fair stands may_add (slice_index s.words 0) (slice_index s.words 16) (slice_index s.words 32) s.homes s.views

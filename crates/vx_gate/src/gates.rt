@@ -10,6 +10,7 @@ use crate::holding::{self, Room, WORDS};
 use crate::passes::{Pass, PassOf};
 use crate::plays::{Meet, OneHistory};
 use crate::views::View;
+use crate::waiting;
 use atomic_table::{Refused, Table};
 use std::alloc::{AllocFailed, Global};
 use std::marker::Brand;
@@ -18,7 +19,7 @@ use std::sync::Wait;
 /// A gate round a `K`. It takes its memory at the start, and each other call takes none.
 pub struct Gate<K: Kept> {
     table: Table<K, View<<K as Kept>::Group>, (), OneHistory, Global>,
-    ghost sized: { (table.shared.table_id.words ≡ 112) × (table.shared.table_id.slots ≡ 1) },
+    ghost sized: { (table.shared.table_id.words ≡ 64) × (table.shared.table_id.slots ≡ 1) },
 }
 
 /// There was no memory for the gate. The value comes back.
@@ -94,8 +95,9 @@ impl<K: Kept> Gate<K> {
         PassOf::of(place)
     }
 
-    /// Runs the act on the value, in the pass's turn, and adds the group of the run to the history. It waits until
-    /// the ticket that it draws is served, mostly asleep; from 2^62 tickets on it never returns.
+    /// Runs the act on the value, in the pass's turn, and adds the group of the run to the history. It waits for a while,
+    /// at most some 50 milliseconds, while other passes are in line, then draws a ticket and waits until that is served; it
+    /// looks first and then sleeps. From 2^62 tickets on it never returns.
     pub fn turn<R: Wait, A: Act<K>>(
         &self,
         rt: &R,
@@ -108,6 +110,7 @@ impl<K: Kept> Gate<K> {
     {
         let room = &self.table.shared;
         let mut place = pass.into_seat();
+        waiting::stay_outside(rt, room);
         let ticket = holding::draw(room, &mut place);
         holding::take::<K, Brand, R>(rt, room, &mut place, ticket);
         let answer = holding::run_and_count(room, &mut place, ticket, act);

@@ -21,7 +21,7 @@ pub(crate) type Room<K> = Shared<K, View<<K as Kept>::Group>, (), OneHistory>;
 pub(crate) type Place<K> = Seat<K, View<<K as Kept>::Group>>;
 
 // Words of the table.
-pub(crate) const WORDS: usize = 112;
+pub(crate) const WORDS: usize = 64;
 
 // Indexes of those that steps change, 128 bytes apart, so that they share no cache line.
 pub(crate) const TICKET: usize = 0;
@@ -30,8 +30,8 @@ pub(crate) const SERVING: usize = 16;
 
 pub(crate) const COUNT: usize = 32;
 
-// The first of the doors, words that only sleepers have to do with. They stand behind the others, to the end.
-pub(crate) const DOOR: usize = 48;
+// The one that is slept on outside the line. No step changes it.
+pub(crate) const OUTSIDE: usize = 48;
 
 // Tickets do not wrap: from this one on a turn waits for ever.
 const LAST: u64 = 1 << 62;
@@ -81,7 +81,7 @@ pub(crate) fn take<K: Kept, B: Marks<K::Group>, R: Wait>(
         if served == ticket {
             return;
         }
-        looks = waiting::pause(rt, room, ticket, served, looks);
+        looks = waiting::pause(rt, room, served, looks);
     }
     unreachable!()
 }
@@ -136,7 +136,7 @@ pub(crate) fn run_and_count<K: Kept, A: Act<K>>(
     answer
 }
 
-// Ends the turn, and wakes whoever sleeps and is near now.
+// Ends the turn, and wakes whoever sleeps and may be next.
 pub(crate) fn serve<K: Kept>(room: &Room<K>, place: &mut Place<K>, ticket: u64)
     requires table { IsTable room.now.table_id × (place.old.table_id ≡ room.now.table_id) }
     requires counted { (place.old.me.0.stage ≡ Counted ticket) × (ticket < 2 ^ 62) }

@@ -1,55 +1,68 @@
-//! How whoever waits for its turn spends the time between two looks, and who is woken after a turn.
+//! How a pass spends the time until its ticket is served, outside the line and in it, and who is woken after a turn.
+//!
+//! Whoever holds a ticket while it sleeps, or while another program has its processor, keeps all behind it waiting. So a pass
+//! waits outside, without a ticket, while somebody is in line: then the line is short, and mostly awake.
 //!
 //! To sleep, to wake and to peek are no steps of the rule: they take no seat and tell nothing, so only a look shows that a
-//! ticket is served. A wake too many costs a look, and one too few at most the longest sleep at a door.
+//! ticket is served. A wake too many costs a look, and one too few at most the longest sleep.
 ghost use Rattle.std.specs.Prelude.{◌≡◌, ◌<◌};
 ghost use Rattle.vx_gate.specs.Places.{IsTable};
 
 use crate::acts::Kept;
-use crate::holding::{DOOR, Room, SERVING, TICKET};
+use crate::holding::{OUTSIDE, Room, SERVING, TICKET};
 use std::hint;
 use std::sync::Wait;
 use std::time::Duration;
 
-// Doors. With no more passes in line than doors, each sleeps at a door of its own.
-const DOORS: u64 = 64;
-
-// What every door has for ever.
+// What the word that is slept on outside the line has for ever.
 const CLOSED: u32 = 0;
 
 // The kernel compares a word by the 32 low bits.
 const COMPARED: u64 = 1 << 32;
 
-// The longest sleep at a door, in milliseconds. Nothing but its wakes is there to end such a sleep earlier, and one is
-// missed by who goes to sleep while it is given.
+// Looks of a pass outside the line before it sleeps there, some 100 microseconds: in less the line is mostly empty for a moment.
+const LOOKS_OUTSIDE: u32 = 3_000;
+
+// Sleeps of a pass outside the line. After them it draws a ticket, however long the line is: so it waits for others no more.
+const SLEEPS_OUTSIDE: u32 = 50;
+
+// The longest sleep outside the line, in milliseconds.
 const LONGEST_SLEEP: u64 = 1;
 
-// Whoever is at most so many turns from its own is near: it looks, and sleeps at no door.
-const NEAR: u64 = 2;
+// Looks of a pass in line before it sleeps, some 30 microseconds: a turn is mostly shorter, and a sleep dearer.
+const LOOKS_IN_LINE: u32 = 1_000;
 
-// Looks of one that is near before it sleeps, some 10 microseconds: a turn is mostly shorter, and a sleep dearer.
-const LOOKS: u32 = 200;
+// Of so many turns that leave nobody in line one wakes who sleeps outside, since nothing shows whether somebody does.
+const QUIET_TURNS: u64 = 16;
 
-// Lets some time pass after a look that found another ticket served, and returns the number of looks so far.
-pub(crate) fn pause<K: Kept, R: Wait>(
-    rt: &R,
-    room: &Room<K>,
-    ticket: u64,
-    served: u64,
-    looks: u32,
-) -> u32
+// How many tickets that were drawn aren't served yet, where this one is.
+fn in_line<K: Kept>(room: &Room<K>, served: u64) -> u64
     requires { IsTable room.now.table_id }
 {
-    if ticket.wrapping_sub(served) > NEAR {
-        room.park_timeout(
-            rt,
-            door(ticket),
-            CLOSED,
-            Duration::from_millis(LONGEST_SLEEP),
-        );
-        return looks;
+    room.peek(TICKET).wrapping_sub(served)
+}
+
+// Waits outside until nobody is in line, or for as long as a pass waits there.
+pub(crate) fn stay_outside<K: Kept, R: Wait>(rt: &R, room: &Room<K>)
+    requires { IsTable room.now.table_id }
+{
+    for looks in 0..LOOKS_OUTSIDE + SLEEPS_OUTSIDE {
+        if in_line(room, room.peek(SERVING)) == 0 {
+            return;
+        }
+        if looks < LOOKS_OUTSIDE {
+            hint::spin_loop();
+        } else {
+            room.park_timeout(rt, OUTSIDE, CLOSED, Duration::from_millis(LONGEST_SLEEP));
+        }
     }
-    if looks < LOOKS {
+}
+
+// Lets some time pass after a look that found another ticket served, and returns the number of looks so far.
+pub(crate) fn pause<K: Kept, R: Wait>(rt: &R, room: &Room<K>, served: u64, looks: u32) -> u32
+    requires { IsTable room.now.table_id }
+{
+    if looks < LOOKS_IN_LINE {
         hint::spin_loop();
         return looks + 1;
     }
@@ -58,25 +71,13 @@ pub(crate) fn pause<K: Kept, R: Wait>(
     looks
 }
 
-// Wakes whoever sleeps and is near, now that the ticket is served. A pass is woken at its door at each distance that is
-// near, since it may miss the first wake. Where no other ticket was drawn nobody sleeps, and no call is made.
+// Wakes who sleeps in line, now that this ticket is served, or now and then, where nobody is in line, one who sleeps outside.
 pub(crate) fn wake<K: Kept>(room: &Room<K>, served: u64)
     requires { IsTable room.now.table_id }
 {
-    let waiting = room.peek(TICKET).wrapping_sub(served);
-    if waiting > 0 {
+    if in_line(room, served) > 0 {
         room.wake_all(SERVING);
+    } else if served % QUIET_TURNS == 0 {
+        room.wake_one(OUTSIDE);
     }
-    for ahead in 1..=NEAR {
-        if ahead < waiting {
-            room.wake_all(door(served.wrapping_add(ahead)));
-        }
-    }
-}
-
-// The door of the ticket.
-fn door(ticket: u64) -> usize
-    ensures { result < 112 }
-{
-    DOOR + (ticket % DOORS) as usize
 }
