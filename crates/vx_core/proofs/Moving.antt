@@ -4,7 +4,7 @@ use Rattle.std.specs.Prelude.{IsSome, is_some, not, ◌||◌}
 use Rattle.std.specs.Option.{option_and_then}
 use Rattle.std.proofs.lemmas.Bool.{cases_Bool, false≢true, cond-true, eq-eqb, eqb-true}
 use Rattle.std.proofs.lemmas.Option.{same_Some}
-use Rattle.vx_calls.specs.declared.limits.TheConstants.{ROLE_MAX, WRITE_MAX}
+use Rattle.vx_calls.specs.declared.limits.TheConstants.{ROLE_MAX, READ_MAX}
 use Rattle.vx_calls.specs.declared.codes.ErrorCode.{ErrorCode}
 use Rattle.vx_calls.specs.declared.codes.ErrorCode.TheVariants as code
 use Rattle.vx_calls.specs.Reply.{Reply}
@@ -348,7 +348,7 @@ pub gone-ends : {B : Type 0} (means : B → Means) (through : B → Step → B �
     → IsTold (moved_on (fine_of means k) (turn_by k r) (means m.bus).moves) conn gone.asked (srq m.bus) (ndac m.bus) (Answered ran level told)
     → Polls (fine_of means k) conn k.moment (means m.bus).moves (Answered ran level told)
     (over (moved_on (fine_of means k) (turn_by k r) (means m.bus).moves) conn k.moment k.tables)
-    → ended_shown ended new.room ≡ Answered ran level told → ended_len ended ≤ WRITE_MAX
+    → ended_shown ended new.room ≡ Answered ran level told → ended_len ended ≤ READ_MAX
     → EndsFrom means through srq ndac k conn ended new
 gone-ends {B} means through srq ndac k conn r outcome m new ended ran level told holds gone kept refused is_told polls shown within =
     let f : FineState = fine_of means k in
@@ -400,7 +400,7 @@ pub gone-finished : {B : Type 0} (means : B → Means) (through : B → Step →
     → new ≡ record (closed m conn) { room = new.room }
     → ((p : Pending) → pending_at m.tables conn ≡ Some p → ended_shown ended new.room ≡ Answered Finished (level_told s.turn.task (srq m.bus) (ndac m.bus))
     (whole_reply s.turn.task (bytes_of p.call) m.before (is_big p.call) (level_told s.turn.task (srq m.bus) (ndac m.bus)) m.made))
-    → ended_len ended ≤ WRITE_MAX → EndsFrom means through srq ndac k conn ended new
+    → ended_len ended ≤ READ_MAX → EndsFrom means through srq ndac k conn ended new
 gone-finished {B} means through srq ndac k conn r s m new ended holds gone running kept reply within =
     let f : FineState = fine_of means k in
     let u : Turn = turn_by k r in
@@ -432,7 +432,7 @@ pub gone-broken : {B : Type 0} (means : B → Means) (through : B → Step → B
     (m new : KernelState B) (ended : Ended) → Holds means k → (gone : HasGone means through k conn r went.Broken m) → new ≡ closed m conn
     → ((p : Pending) → pending_at m.tables conn ≡ Some p
     → ended_shown ended new.room ≡ Answered Broken false (stopped_reply p.call code.BusFault (moves_of (turn_of (turn_shown m.running m.made) conn))))
-    → ended_len ended ≤ WRITE_MAX → EndsFrom means through srq ndac k conn ended new
+    → ended_len ended ≤ READ_MAX → EndsFrom means through srq ndac k conn ended new
 gone-broken {B} means through srq ndac k conn r m new ended holds gone kept reply within =
     let f : FineState = fine_of means k in
     let u : Turn = turn_by k r in
@@ -458,7 +458,7 @@ pub gone-timeout : {B : Type 0} (means : B → Means) (through : B → Step → 
     → new ≡ closed m conn
     → ((p : Pending) → pending_at m.tables conn ≡ Some p
     → ended_shown ended new.room ≡ Answered Paused false (stopped_reply p.call code.Timeout (moves_of (turn_of (turn_shown m.running m.made) conn))))
-    → ended_len ended ≤ WRITE_MAX → EndsFrom means through srq ndac k conn ended new
+    → ended_len ended ≤ READ_MAX → EndsFrom means through srq ndac k conn ended new
 gone-timeout {B} means through srq ndac k conn r s m new ended holds gone running late kept reply within =
     let f : FineState = fine_of means k in
     let u : Turn = turn_by k r in

@@ -8,6 +8,7 @@ use Rattle.vx_488.specs.Laws.{WireAppendsLaw}
 use Rattle.vx_bus_traits.specs.Means.{Means}
 use Rattle.vx_bus_traits.specs.Steps.{Step, Went}
 use Rattle.vx_bus_traits.specs.Walks.{StepsTo, Walk}
+use Rattle.vx_plan.specs.declared.tasks.TheConstants.{TURN_MAX}
 use Rattle.vx_plan.specs.declared.tasks.Task.{Task}
 use Rattle.vx_plan.specs.declared.tasks.Place.{Place}
 use Rattle.vx_plan.specs.declared.tasks.Next.{Next}
@@ -18,7 +19,7 @@ use Rattle.vx_plan.specs.Transfers.{is_got}
 use Rattle.vx_plan.specs.Tasks.{IsPlainTask}
 use Rattle.vx_calls.specs.declared.limits.TheConstants.{WRITE_MAX}
 use Rattle.vx_plan.specs.Places.{Reaches, place_after, slot_wanted}
-use Rattle.vx_plan.specs.Laws.{FitsNext, PlaceGoesOnLaw, BoundLaw, most_transfers}
+use Rattle.vx_plan.specs.Laws.{FitsNext, PlaceGoesOnLaw, BoundLaw}
 use Rattle.vx_ctrl.specs.declared.turn.Went.{Went as Outcome}
 use Rattle.vx_ctrl.specs.declared.turn.Went.TheVariants as went
 use Rattle.vx_ctrl.specs.declared.asking.Asked.TheVariants.{Made, Stopped}
@@ -242,7 +243,7 @@ module _ {B : Type 0} (means : B → Means) (through : B → Step → B → Type
   pub own-in : first.place.own ≤ 30 → turn.place.own ≤ 30
   own-in h = omega (arith, under.has_made.own, begins.2.had_made.own)
 
-  few : BoundLaw → length begins.1 + length (means now).moves ≤ most_transfers
+  few : BoundLaw → length begins.1 + length (means now).moves ≤ TURN_MAX
   few law =
       let r = under.has_made.reaches in
       omega (

@@ -68,8 +68,8 @@ impl Turn {
 
     /// Goes on, one transfer after the other, until the job is done or the bus holds or fails.
     ///
-    /// `bytes` are those of the job, at most 65,536. The bytes that are got stand in `room` at their places: a read
-    /// wants room for as many as it may get, up to 65,536, a serial poll for one. The bus was cut before.
+    /// `bytes` are those of the job, at most `WRITE_MAX`. The bytes that are got stand in `room` at their places: a read
+    /// wants room for as many as it may get, up to `READ_MAX`, a serial poll for one. The bus was cut before.
     pub fn go<B: Bus>(&mut self, bus: &mut B, bytes: &[u8], room: &mut [u8]) -> Went
         requires plain { IsPlainTask self.old.task }
         requires own { self.old.place.own ≤ 30 }

@@ -2,11 +2,11 @@
 use Rattle.std.specs.Prelude.{◌≡◌, ◌+◌, ◌≤◌, ◌<◌, ℕ, ◌==◌, false, List, length, Some, None}
 use Rattle.std.specs.List.{All, IsDistinct}
 use Rattle.vx_calls.specs.declared.calls.Role.TheVariants as role
-use Rattle.vx_calls.specs.declared.limits.TheConstants.{CONNECTION_LAST, ROLE_MAX, WRITE_MAX}
+use Rattle.vx_calls.specs.declared.limits.TheConstants.{CONNECTION_LAST, ROLE_MAX}
 use Rattle.vx_calls.specs.Call.{Call}
 use Rattle.vx_calls.specs.Call as call
 use Rattle.vx_srq.specs.Desk.{channel_at}
-use Rattle.vx_plan.specs.Tasks.{IsPlainTask, HasBytes}
+use Rattle.vx_plan.specs.Tasks.{IsPlainTask, HasBytes, most_bytes}
 use Rattle.vx_plan.specs.Plan.{Part}
 use Rattle.vx_bus_traits.specs.Means.{Means}
 use Rattle.vx_ctrl.specs.Turns.{GetsBytes}
@@ -28,7 +28,7 @@ pub record RunsTurn {B : Type 0} (means : B → Means) (k : KernelState B) (r : 
   pub job_is : job_of k.tables r.conn asked ≡ Some r.turn.task
   pub plain : IsPlainTask r.turn.task
   pub sent : HasBytes r.turn.task (bytes_of asked.call)
-  pub few : length (bytes_of asked.call) ≤ WRITE_MAX
+  pub few : length (bytes_of asked.call) ≤ most_bytes r.turn.task
   pub own : k.before.own ≤ 30
   pub begins : Begins r.turn k.before (bytes_of asked.call) k.made (means k.bus)
   pub holds : GetsBytes r.turn.task → HoldsBytes r.turn k.made k.room

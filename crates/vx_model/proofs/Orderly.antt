@@ -13,7 +13,7 @@ use Rattle.vx_plan.specs.Plan.{Plan, Stand, Whole, Part, Off, done, left_after, 
 use Rattle.vx_plan.specs.Tasks.{plan, is_own_task, IsPlainTask}
 use Rattle.vx_plan.proofs.Walks.{left_after-none}
 use Rattle.vx_plan.proofs.Fitting.{same_transfer-is}
-use Rattle.vx_plan.proofs.Turns.{bound-law, own_stays-law}
+use Rattle.vx_plan.proofs.Turns.{bound-law, most_bytes-within, own_stays-law}
 use Rattle.vx_rules.specs.Serving.{IsDoable}
 use Rattle.vx_model.specs.Stepping.{IsOrderly}
 
@@ -54,7 +54,7 @@ pub orderly : (job : Task) (bytes : List ℕ) (w : Wire) (ts : List Transfer) �
     → stand (plan job bytes w.polling w.own) ts ≢ Off → IsOrderly w ts
 orderly job bytes w ts h d on = record {
   own = own_after job bytes w.polling w.own w ts h d.plain on;
-  few = bound-law job bytes w.polling w.own ts d.few on;
+  few = bound-law job bytes w.polling w.own ts (omega (arith, d.few, most_bytes-within job)) on;
 }
 
 -- so does no transfer

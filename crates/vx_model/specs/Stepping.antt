@@ -8,7 +8,7 @@ use Rattle.vx_488.specs.declared.wire.Wire.{Wire}
 use Rattle.vx_488.specs.Wire.{wire_after}
 use Rattle.vx_plan.specs.declared.tasks.Task.{Task}
 use Rattle.vx_plan.specs.Plan.{Slot, Stand, fits}
-use Rattle.vx_plan.specs.Laws.{most_transfers}
+use Rattle.vx_plan.specs.declared.tasks.TheConstants.{TURN_MAX}
 use Rattle.vx_rules.specs.State.{Pending, Tables, State, with_pending}
 use Rattle.vx_rules.specs.Checks.{named_link}
 use Rattle.vx_rules.specs.Lines.{Lines, first_lines, lets_pass}
@@ -24,7 +24,7 @@ Goes found old false now = (found ≡ None) × (now ≡ old)
 -- a call's transfers leave an own address of at most 30, and there are no more of them than the longest job makes
 pub record IsOrderly (w : Wire) (moves : List Transfer) : Type 0 where
   pub own : (wire_after w moves).own ≤ 30
-  pub few : length moves ≤ most_transfers
+  pub few : length moves ≤ TURN_MAX
 
 -- whether something is wanted, and a transfer is that
 abbrev pub fits_next : Option Slot → Transfer → Bool

@@ -1,6 +1,6 @@
 -- The plan of each job on the bus (IEEE 488.1, 2.13; VXI-11.2, device_docmd).
 use Rattle.std.specs.Prelude.{◌≡◌, ℕ, ◌+◌, Bool, true, false, ◌==◌, ◌≤◌, min, ⊤, length, if◌then◌else◌, List, [], ◌∷◌, ◌++◌, map, Option, Some, None}
-use Rattle.vx_calls.specs.declared.limits.TheConstants.{WRITE_MAX}
+use Rattle.vx_calls.specs.declared.limits.TheConstants.{DOCMD_MAX, READ_MAX, WRITE_MAX}
 use Rattle.vx_calls.specs.declared.targets.Target.{Target}
 use Rattle.vx_calls.specs.declared.targets.Target.TheVariants.{Interface, Device}
 use Rattle.vx_488.specs.declared.transfers.Transfer.{Transfer}
@@ -76,7 +76,7 @@ just ts = record { front = map This ts; reading = None }
 -- these transfers, and then a read of at most so many bytes; a read of none makes no transfer at all
 abbrev pub reading : List Transfer → ℕ → Option ℕ → Plan
 reading ts max stop =
-    if max == 0 then just [] else record { front = map This ts; reading = Some (record { most = min max WRITE_MAX; stop = stop }) }
+    if max == 0 then just [] else record { front = map This ts; reading = Some (record { most = min max READ_MAX; stop = stop }) }
 
 abbrev pub write_plan : Target → Bool → List ℕ → Bool → ℕ → Plan
 write_plan Interface end bytes polling own = just (puts end bytes)
@@ -131,6 +131,11 @@ abbrev pub HasBytes : Task → List ℕ → Type 0
 HasBytes (Write t len end) bytes = length bytes ≡ len
 HasBytes (Commands len) bytes = length bytes ≡ len
 HasBytes _ bytes = ⊤
+
+-- the most bytes that a call may bring to its job: those of a device_write, or else those of a device_docmd
+abbrev pub most_bytes : Task → ℕ
+most_bytes (Write t len end) = WRITE_MAX
+most_bytes _ = DOCMD_MAX
 
 abbrev pub IsSecondaryPlain : Option ℕ → Type 0
 IsSecondaryPlain None = ⊤

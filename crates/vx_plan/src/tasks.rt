@@ -12,7 +12,11 @@ use crate::moves::{
     next_put, only_move, poll_end_step, poll_tail,
 };
 use vx_488::Wire;
-use vx_calls::Target;
+use vx_calls::{Target, WRITE_MAX};
+
+/// The most transfers of one turn: those of the longest device_write, behind the end of serial poll mode, unlisten, the
+/// gateway's own address, and both parts of the device's. A read and a device_docmd make no more.
+pub const TURN_MAX: u32 = WRITE_MAX + 5;
 
 /// A job on the bus.
 #[derive(Clone, Copy, Debug, PartialEq, Eq)]

@@ -1,6 +1,6 @@
 -- The commands of device_docmd (after VXI-11.2): their numbers, the input of each, and the job that each is.
 use Rattle.std.specs.Prelude.{ℕ, ◌+◌, ◌*◌, Bool, true, not, ◌&&◌, ◌==◌, nat_le, if◌then◌else◌, List, [], ◌∷◌, length, Option, Some, None}
-use Rattle.vx_calls.specs.declared.limits.TheConstants.{WRITE_MAX}
+use Rattle.vx_calls.specs.declared.limits.TheConstants.{DOCMD_MAX}
 use Rattle.vx_plan.specs.declared.tasks.Task.{Task}
 use Rattle.vx_plan.specs.declared.tasks.Task.TheVariants.{Commands, Status, Atn, Ren, Pass, Own, Ifc}
 use Rattle.vx_links.specs.Table.{Table, uses_address}
@@ -43,7 +43,7 @@ number_in big bytes = if big then big_number bytes else little_number bytes
 
 -- how long the input has to be
 abbrev pub has_length : Command → ℕ → Bool
-has_length SendCommand n = nat_le n WRITE_MAX
+has_length SendCommand n = nat_le n DOCMD_MAX
 has_length BusStatus n = n == 2
 has_length AtnControl n = n == 2
 has_length RenControl n = n == 2

@@ -5,7 +5,7 @@ ghost use Rattle.vx_links.specs.Table.{Table, uses_address};
 ghost use Rattle.vx_rules.specs.Docmd as docmd;
 ghost use Rattle.vx_rules.specs.Shown.{command_shown};
 
-use vx_calls::WRITE_MAX;
+use vx_calls::DOCMD_MAX;
 use vx_links::Links;
 use vx_plan::Task;
 
@@ -86,7 +86,7 @@ pub(crate) fn takes_input(command: Command, own: u8, links: &Links, big: bool, i
     ensures { result ≡ docmd.takes_input (command_shown command) own links.now big input.now }
 {
     match command {
-        Command::SendCommand => input.len() <= WRITE_MAX as usize,
+        Command::SendCommand => input.len() <= DOCMD_MAX as usize,
         Command::BusStatus => input.len() == 2 && is_selector(word_in(big, input)),
         Command::AtnControl | Command::RenControl => input.len() == 2,
         Command::PassControl => input.len() == 4 && is_other(long_in(big, input), own),
