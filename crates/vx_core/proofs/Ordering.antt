@@ -8,6 +8,7 @@ use Rattle.vx_calls.specs.declared.calls.Role.TheVariants as role
 use Rattle.vx_calls.specs.declared.codes.ErrorCode.{ErrorCode}
 use Rattle.vx_calls.specs.declared.codes.ErrorCode.TheVariants as code
 use Rattle.vx_calls.specs.Reply.{Reply}
+use Rattle.vx_488.specs.declared.transfers.TheConstants.{ADDRESS_MAX}
 use Rattle.vx_488.specs.declared.transfers.Transfer.{Transfer}
 use Rattle.vx_plan.specs.declared.tasks.Task.{Task}
 use Rattle.vx_plan.specs.Roles.{has_role}
@@ -242,7 +243,7 @@ has-begun {B} means k new conn has heard passed none job has_it begins =
     let bus : new.bus ≡ k.bus = ap (λ (s : KernelState B). s.bus) begins.kept in
     let holds : Holds means new = record {
       sound = stays_sound-law f (fine_of means new) (Begin conn k.moment) heard.keeps.holds.sound leads;
-      own = subst (λ b. (means b).wire.own ≤ 30) (sym bus) heard.keeps.holds.own;
+      own = subst (λ b. (means b).wire.own ≤ ADDRESS_MAX) (sym bus) heard.keeps.holds.own;
       runs = λ s at. subst (RunsTurn means new) (same_Some r s (sym is ∙ at)) begins.runs;
       dials = subst (λ (s : KernelState B). KeepsDials s.tables s.dialed) (sym begins.kept) heard.keeps.holds.dials;
       few = subst (λ (s : KernelState B). count_of s.tables role.Core ≤ ROLE_MAX) (sym begins.kept) heard.keeps.holds.few;

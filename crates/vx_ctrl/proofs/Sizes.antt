@@ -4,6 +4,7 @@ use Rattle.std.proofs.lemmas.Bool.{eqb-false, le-leb}
 use Rattle.vx_calls.specs.declared.limits.TheConstants.{READ_MAX}
 use Rattle.vx_calls.specs.declared.targets.Target.{Target}
 use Rattle.vx_calls.specs.declared.targets.Target.TheVariants.{Interface, Device}
+use Rattle.vx_488.specs.declared.transfers.TheConstants.{ADDRESS_MAX}
 use Rattle.vx_488.specs.declared.transfers.Transfer.{Transfer}
 use Rattle.vx_488.specs.declared.transfers.Transfer.TheVariants as transfer
 use Rattle.vx_plan.specs.declared.tasks.Task.{Task}
@@ -28,7 +29,7 @@ is_line _ = false
 
 -- an own address above 30
 abbrev pub is_high : Transfer → Bool
-is_high (transfer.Own a) = not (leb a 30)
+is_high (transfer.Own a) = not (leb a ADDRESS_MAX)
 is_high _ = false
 
 -- a plan with at most so many command bytes, bytes put and bytes got, and at most one other transfer
@@ -229,6 +230,6 @@ plan-sized (Atn on) bytes polling own plain has =
 plan-sized (Ren on) bytes polling own plain has = one-line on
 plan-sized (Pass p) bytes polling own plain has = sized _ 3 0 0 0 8 (commands-counts (0x3F ∷ (0x40 + p) ∷ 0x09 ∷ [])) (omega arith) (omega arith)
 plan-sized (Own p) bytes polling own plain has =
-    sized _ 0 0 0 1 8 (record { of_commands = refl; of_puts = refl; of_gets = refl; of_lines = refl; of_high = omega (arith, ap (λ low. one_if (not low)) (le-leb p 30 plain)) }) (omega arith) (omega arith)
+    sized _ 0 0 0 1 8 (record { of_commands = refl; of_puts = refl; of_gets = refl; of_lines = refl; of_high = omega (arith, ap (λ low. one_if (not low)) (le-leb p ADDRESS_MAX plain)) }) (omega arith) (omega arith)
 plan-sized Ifc bytes polling own plain has =
     sized _ 0 0 0 1 8 (record { of_commands = refl; of_puts = refl; of_gets = refl; of_lines = refl; of_high = refl }) (omega arith) (omega arith)

@@ -12,6 +12,7 @@ use Rattle.vx_calls.specs.declared.targets.Target.{Target}
 use Rattle.vx_calls.specs.Target.{conflict}
 use Rattle.vx_calls.specs.Call.{Call}
 use Rattle.vx_calls.specs.Call as call
+use Rattle.vx_488.specs.declared.transfers.TheConstants.{ADDRESS_MAX}
 use Rattle.vx_488.specs.declared.transfers.Transfer.{Transfer}
 use Rattle.vx_488.specs.declared.wire.Wire.{Wire}
 use Rattle.vx_488.specs.Wire.{wire_after}
@@ -179,7 +180,7 @@ begins-turn {B} means k conn turn w made job p holds at has doable same none tas
     let running : Running = record { conn = conn; turn = turn } in
     let N : Wire → List Transfer → KernelState B = λ v ts. record k { running = Some running; before = v; made = ts } in
     let P : List Transfer → Type 0 = λ ts. BeginsTurn means k conn (N w ts) in
-    let Own : Wire → Type 0 = λ v. v.own ≤ 30 in
+    let Own : Wire → Type 0 = λ v. v.own ≤ ADDRESS_MAX in
     subst P (sym none) (record {
       running = running;
       of_call = refl;
@@ -252,8 +253,8 @@ pub few-with : {B : Type 0} (means : B → Means) (k : KernelState B) (conn : �
 few-with means k conn r bytes m same = subst (λ (bs : List ℕ). length bs ≤ WRITE_MAX) (sym same) m.few
 
 -- its own address is 0 to 30
-pub turn-own : {B : Type 0} (means : B → Means) (k : KernelState B) (r : Running) → RunsTurn means k r → r.turn.place.own ≤ 30
-turn-own means k r runs = subst (λ n. n ≤ 30) (sym runs.begins.had_made.own) runs.own
+pub turn-own : {B : Type 0} (means : B → Means) (k : KernelState B) (r : Running) → RunsTurn means k r → r.turn.place.own ≤ ADDRESS_MAX
+turn-own means k r runs = subst (λ n. n ≤ ADDRESS_MAX) (sym runs.begins.had_made.own) runs.own
 
 -- a list that a turn made has at most as many transfers as the longest job
 stands-on : (outcome : Went) (left : Plan) → stand_of (Some left) ≡ outcome_stand outcome → stand_of (Some left) ≢ Off

@@ -3,6 +3,7 @@ use Rattle.std.specs.Prelude.{◌≡◌, ℕ, ◌≤◌, Bool, true, false, ◌&
 use Rattle.std.specs.Option.{option_map}
 use Rattle.vx_calls.specs.declared.codes.ErrorCode.{ErrorCode}
 use Rattle.vx_calls.specs.Reply.{Reply}
+use Rattle.vx_488.specs.declared.transfers.TheConstants.{ADDRESS_MAX}
 use Rattle.vx_488.specs.declared.transfers.Transfer.{Transfer}
 use Rattle.vx_488.specs.declared.wire.Wire.{Wire}
 use Rattle.vx_488.specs.Wire.{wire_after}
@@ -23,7 +24,7 @@ Goes found old false now = (found ≡ None) × (now ≡ old)
 
 -- a call's transfers leave an own address of at most 30, and there are no more of them than the longest job makes
 pub record IsOrderly (w : Wire) (moves : List Transfer) : Type 0 where
-  pub own : (wire_after w moves).own ≤ 30
+  pub own : (wire_after w moves).own ≤ ADDRESS_MAX
   pub few : length moves ≤ TURN_MAX
 
 -- whether something is wanted, and a transfer is that

@@ -3,6 +3,7 @@ use Rattle.std.specs.Prelude.{◌≡◌, ℕ, ◌+◌, Bool, true, false, ◌==�
 use Rattle.vx_calls.specs.declared.limits.TheConstants.{DOCMD_MAX, READ_MAX, WRITE_MAX}
 use Rattle.vx_calls.specs.declared.targets.Target.{Target}
 use Rattle.vx_calls.specs.declared.targets.Target.TheVariants.{Interface, Device}
+use Rattle.vx_488.specs.declared.transfers.TheConstants.{ADDRESS_MAX}
 use Rattle.vx_488.specs.declared.transfers.Transfer.{Transfer}
 use Rattle.vx_488.specs.declared.transfers.Transfer.TheVariants as transfer
 use Rattle.vx_plan.specs.declared.tasks.Task.{Task}
@@ -139,11 +140,11 @@ most_bytes _ = DOCMD_MAX
 
 abbrev pub IsSecondaryPlain : Option ℕ → Type 0
 IsSecondaryPlain None = ⊤
-IsSecondaryPlain (Some s) = s ≤ 30
+IsSecondaryPlain (Some s) = s ≤ ADDRESS_MAX
 
 abbrev pub IsTargetPlain : Target → Type 0
 IsTargetPlain Interface = ⊤
-IsTargetPlain (Device p s) = (p ≤ 30) × IsSecondaryPlain s
+IsTargetPlain (Device p s) = (p ≤ ADDRESS_MAX) × IsSecondaryPlain s
 
 abbrev pub IsDevice : Target → Type 0
 IsDevice Interface = ⊥
@@ -158,8 +159,8 @@ IsPlainTask (Clear t) = IsTargetPlain t
 IsPlainTask (Trigger t) = IsTargetPlain t
 IsPlainTask (Remote t) = IsTargetPlain t
 IsPlainTask (Local t) = IsTargetPlain t
-IsPlainTask (Pass p) = p ≤ 30
-IsPlainTask (Own p) = p ≤ 30
+IsPlainTask (Pass p) = p ≤ ADDRESS_MAX
+IsPlainTask (Own p) = p ≤ ADDRESS_MAX
 IsPlainTask _ = ⊤
 
 -- the job is to take a new own address

@@ -14,6 +14,7 @@ use Rattle.vx_calls.specs.declared.targets.Target.TheVariants.{Interface, Device
 use Rattle.vx_calls.specs.Target.{IsReachable}
 use Rattle.vx_calls.specs.Call.{Call}
 use Rattle.vx_calls.specs.Call as call
+use Rattle.vx_488.specs.declared.transfers.TheConstants.{ADDRESS_MAX}
 use Rattle.vx_488.specs.declared.transfers.Transfer.{Transfer}
 use Rattle.vx_488.specs.declared.transfers.Transfer.TheVariants as transfer
 use Rattle.vx_488.specs.declared.wire.Wire.{Wire}
@@ -75,11 +76,11 @@ command_doable own links big bytes RenControl h = record { plain = tt; sent = tt
 command_doable own links big bytes PassControl h =
     let n = number_in big bytes in
     let both = and_parts (length bytes == 4) (takes_number PassControl own links n) h in
-    record { plain = leb-true n 30 (and_parts (nat_le n 30) (not (n == own)) both.1).0; sent = tt; few = short (length bytes) 4 both.0 (omega arith) }
+    record { plain = leb-true n ADDRESS_MAX (and_parts (nat_le n ADDRESS_MAX) (not (n == own)) both.1).0; sent = tt; few = short (length bytes) 4 both.0 (omega arith) }
 command_doable own links big bytes BusAddress h =
     let n = number_in big bytes in
     let both = and_parts (length bytes == 4) (takes_number BusAddress own links n) h in
-    record { plain = leb-true n 30 (and_parts (nat_le n 30) (not (uses_address links n)) both.1).0; sent = tt; few = short (length bytes) 4 both.0 (omega arith) }
+    record { plain = leb-true n ADDRESS_MAX (and_parts (nat_le n ADDRESS_MAX) (not (uses_address links n)) both.1).0; sent = tt; few = short (length bytes) 4 both.0 (omega arith) }
 command_doable own links big bytes IfcControl h = record { plain = tt; sent = tt; few = short (length bytes) 0 (and_parts _ _ h).0 (omega arith) }
 
 -- the job of a call on a link that its checks let pass can be done
