@@ -3,6 +3,7 @@ use Rattle.std.proofs.Common.{◌≡◌, ◌≢◌, ℕ, zero, suc, ◌+◌, ◌
 use Rattle.std.specs.Bool.{beq}
 use Rattle.std.proofs.lemmas.Bool.{leb-true, le-leb, le-ltb, lt-ltb, and_parts, and_from, or_from, or_parts, or_left, cond-true, cond-false, false≢true, ne_eqb, false_from_ne_true}
 use Rattle.std.specs.List.{list_any}
+use Rattle.vx_488.specs.declared.transfers.TheConstants.{ADDRESS_MAX}
 use Rattle.vx_488.specs.declared.transfers.Addr.{Addr}
 use Rattle.vx_488.specs.Address.{secondary_place, secondary_at, place, address_at, same_address, is_secondary, is_bus_address}
 use Rattle.vx_488.specs.Listening.{has_address, inserted, without_address, flagged}
@@ -15,11 +16,11 @@ secondary_at-place (Some s) = ap secondary_at (add-one s)
 
 secondary_place-within : (s : Option ℕ) → is_secondary s ≡ true → secondary_place s < 32
 secondary_place-within None h = omega arith
-secondary_place-within (Some s) h = omega (arith, leb-true s 30 h)
+secondary_place-within (Some s) h = omega (arith, leb-true s ADDRESS_MAX h)
 
 pub address_at-place : (a : Addr) → is_bus_address a ≡ true → address_at (place a) ≡ a
 address_at-place a h =
-    let both = and_parts (leb a.p 30) (is_secondary a.s) h in
+    let both = and_parts (leb a.p ADDRESS_MAX) (is_secondary a.s) h in
     let within = secondary_place-within a.s both.1 in
     let quotient : place a / 32 ≡ a.p = omega arith in
     let remainder : place a % 32 ≡ secondary_place a.s = omega arith in
@@ -30,11 +31,11 @@ address_at-place a h =
 -- each of the 992 places is a bus address's
 is_secondary-at : (k : ℕ) → k < 32 → is_secondary (secondary_at k) ≡ true
 is_secondary-at zero h = refl
-is_secondary-at (suc k) h = le-leb k 30 (omega arith)
+is_secondary-at (suc k) h = le-leb k ADDRESS_MAX (omega arith)
 
 pub is_bus_address-at : (i : ℕ) → i < 992 → is_bus_address (address_at i) ≡ true
 is_bus_address-at i h =
-    and_from (leb (i / 32) 30) (is_secondary (secondary_at (i % 32))) (le-leb (i / 32) 30 (omega arith)) (is_secondary-at (i % 32) (omega arith))
+    and_from (leb (i / 32) ADDRESS_MAX) (is_secondary (secondary_at (i % 32))) (le-leb (i / 32) ADDRESS_MAX (omega arith)) (is_secondary-at (i % 32) (omega arith))
 
 -- a bus address at this place is the one there, and at any other it isn't
 same_address-here : (a : Addr) (i : ℕ) → place a ≡ i → address_at (place a) ≡ a → same_address a (address_at i) ≡ true

@@ -1,5 +1,6 @@
 -- Addresses on the bus: which are one, and their order.
 use Rattle.std.specs.Prelude.{ℕ, ◌+◌, ◌*◌, ◌/◌, ◌%◌, Bool, true, false, ◌&&◌, ◌==◌, nat_le, zero, suc, Option, Some, None}
+use Rattle.vx_488.specs.declared.transfers.TheConstants.{ADDRESS_MAX}
 use Rattle.vx_488.specs.declared.transfers.Addr.{Addr}
 
 -- the address at this primary alone, and at this primary and secondary
@@ -38,7 +39,7 @@ address_at i = record { p = i / 32; s = secondary_at (i % 32) }
 -- both parts are at most 30 (IEEE 488.1, 2.6)
 abbrev pub is_secondary : Option ℕ → Bool
 is_secondary None = true
-is_secondary (Some s) = nat_le s 30
+is_secondary (Some s) = nat_le s ADDRESS_MAX
 
 abbrev pub is_bus_address : Addr → Bool
-is_bus_address a = nat_le a.p 30 && is_secondary a.s
+is_bus_address a = nat_le a.p ADDRESS_MAX && is_secondary a.s

@@ -1,5 +1,6 @@
 -- Laws of lists of transfers: what holds of one list and then another, and what addressing a device leaves.
 use Rattle.std.specs.Prelude.{◌≡◌, ◌≤◌, ℕ, ◌+◌, true, List, [], ◌∷◌, ◌++◌, Option, Some, None}
+use Rattle.vx_488.specs.declared.transfers.TheConstants.{ADDRESS_MAX}
 use Rattle.vx_488.specs.declared.transfers.Addr.{Addr}
 use Rattle.vx_488.specs.declared.transfers.Transfer.{Transfer}
 use Rattle.vx_488.specs.declared.transfers.Transfer.TheVariants.{Cmd}
@@ -25,13 +26,13 @@ HeardAppendsLaw = (a : Addr) (w : Wire) (xs ys : List Transfer) → heard a w (x
 
 -- the command bytes that carry an address (IEEE 488.1, table of multiline interface messages)
 abbrev pub ListenByteLaw : Type 0
-ListenByteLaw = (p : ℕ) → p ≤ 30 → command_of (0x20 + p) ≡ Listen p
+ListenByteLaw = (p : ℕ) → p ≤ ADDRESS_MAX → command_of (0x20 + p) ≡ Listen p
 
 abbrev pub TalkByteLaw : Type 0
-TalkByteLaw = (p : ℕ) → p ≤ 30 → command_of (0x40 + p) ≡ Talk p
+TalkByteLaw = (p : ℕ) → p ≤ ADDRESS_MAX → command_of (0x40 + p) ≡ Talk p
 
 abbrev pub SecondaryByteLaw : Type 0
-SecondaryByteLaw = (s : ℕ) → s ≤ 30 → command_of (0x60 + s) ≡ Secondary s
+SecondaryByteLaw = (s : ℕ) → s ≤ ADDRESS_MAX → command_of (0x60 + s) ≡ Secondary s
 
 -- the command of a device's secondary address, where it has one
 abbrev pub secondary_command : Option ℕ → List Transfer

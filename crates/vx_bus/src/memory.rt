@@ -1,6 +1,7 @@
 //! The bus over memory, whose bytes, holds and faults a test chooses.
 
 ghost use Rattle.std.specs.Prelude.{◌≡◌, ◌<◌, ◌≤◌, false, IfOk};
+ghost use Rattle.vx_488.specs.declared.transfers.TheConstants.{ADDRESS_MAX};
 ghost use Rattle.vx_488.specs.declared.transfers.Transfer.TheVariants.{Cmd, Put, Ifc, Own};
 ghost use Rattle.vx_bus_traits.specs.Means.{first_means};
 ghost use Rattle.vx_bus_traits.specs.Steps.{Went, Held, Failed, Told, Cut, move_step, get_step, line_transfer, IsStepped};
@@ -267,7 +268,7 @@ impl Bus for MemBus {
     /// Makes this the gateway's own address, 0 to 30, unless the lists say that the call fails or is held.
     fn own(&mut self, address: u8) -> Move
         requires room { self.old.means.asks < ASK_MAX }
-        requires address { address ≤ 30 }
+        requires address { address ≤ ADDRESS_MAX }
         ensures answer { result ≡ next_move self.old }
         ensures after { self.new ≡ after self.old (move_step (Own address) result) }
         ensures stepped { IsStepped self.old.means (move_step (Own address) result) self.new.means }

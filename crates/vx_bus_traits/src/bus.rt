@@ -1,5 +1,6 @@
 //! The trait of a bus.
 ghost use Rattle.std.specs.Prelude.{◌≡◌, ◌<◌, ◌≤◌, ℕ, Bool};
+ghost use Rattle.vx_488.specs.declared.transfers.TheConstants.{ADDRESS_MAX};
 ghost use Rattle.vx_488.specs.declared.transfers.Transfer.TheVariants.{Cmd, Put, Ifc, Own};
 ghost use Rattle.vx_bus_traits.specs.Means.{Means};
 ghost use Rattle.vx_bus_traits.specs.Steps.{Step, Told, Cut, move_step, get_step, line_transfer, IsStepped};
@@ -55,7 +56,7 @@ pub trait Bus {
     /// Makes this the gateway's own address, 0 to 30.
     fn own(&mut self, address: u8) -> Move
         requires room { (means self.old).asks < ASK_MAX }
-        requires address { address ≤ 30 }
+        requires address { address ≤ ADDRESS_MAX }
         ensures stepped { IsStepped (means self.old) (move_step (Own address) result) (means self.new) }
         ensures through { through self.old (move_step (Own address) result) self.new };
 

@@ -1,6 +1,7 @@
 -- The device text of a create_link, what it names, and when two targets conflict.
 use Rattle.std.specs.Prelude.{◌≢◌, ◌≤◌, ⊤, ℕ, ◌+◌, ◌-◌, ◌*◌, Bool, true, false, not, ◌&&◌, ◌||◌, ◌==◌, nat_le, if◌then◌else◌, List, [], ◌∷◌, fold, Option, Some, None, Result, Ok, Err}
 use Rattle.std.specs.List.{list_all, slice_split}
+use Rattle.vx_calls.specs.declared.targets.TheConstants.{ADDRESS_MAX}
 use Rattle.vx_calls.specs.declared.codes.ErrorCode.{ErrorCode}
 use Rattle.vx_calls.specs.declared.codes.ErrorCode.TheVariants as code
 use Rattle.vx_calls.specs.declared.targets.Target.{Target}
@@ -42,7 +43,7 @@ is_gateway _ = false
 
 -- a bus address is 0 to 30
 abbrev pub is_address : ℕ → Bool
-is_address n = nat_le n 30
+is_address n = nat_le n ADDRESS_MAX
 
 -- the device at these addresses, which isn't the gateway itself
 abbrev pub device_at : ℕ → ℕ → Option ℕ → Result Target ErrorCode
@@ -100,8 +101,8 @@ names_device text own = has_addresses own (comma_parts text)
 -- a device that a gateway with this own address can reach: its addresses are 0 to 30, and it isn't the gateway
 abbrev pub IsReachable : ℕ → Target → Type 0
 IsReachable own Interface = ⊤
-IsReachable own (Device p None) = (p ≤ 30) × (p ≢ own)
-IsReachable own (Device p (Some s)) = (p ≤ 30) × (p ≢ own) × (s ≤ 30)
+IsReachable own (Device p None) = (p ≤ ADDRESS_MAX) × (p ≢ own)
+IsReachable own (Device p (Some s)) = (p ≤ ADDRESS_MAX) × (p ≢ own) × (s ≤ ADDRESS_MAX)
 
 -- either is the interface, or both have one primary address
 abbrev pub conflict : Target → Target → Bool

@@ -10,11 +10,24 @@ pub const LINK_MAX: u32 = 256;
 /// The greatest number of a link. The least is 1.
 pub const LINK_LAST: u32 = 0x3FFF_FFFF;
 
-/// The longest data of one device_write, of one device_read and of one device_docmd, in bytes.
+/// The longest data of one device_write, in bytes. No call brings more: [`DOCMD_MAX`] is no greater.
 pub const WRITE_MAX: u32 = 65536;
 
-/// The longest record of a connection's stream, in bytes, its fragments taken together and their headers left out.
+/// The longest data of one device_read, in bytes, however many it asks for.
+pub const READ_MAX: u32 = 65536;
+
+/// The longest input of one device_docmd, in bytes.
+pub const DOCMD_MAX: u32 = 65536;
+
+/// The longest record on a connection of the gateway, in bytes, its fragments taken together and their headers left out.
 pub const RECORD_MAX: usize = 66560;
+
+/// The longest record of a reply that a client takes, in bytes, counted in the same way.
+pub const REPLY_MAX: usize = 66560;
+
+/// The most bytes that a client sends in one device_write, where the server takes so many: a piece of what it writes has
+/// the smaller of this and the server's maxRecvSize (VXI-11, create_link).
+pub const PIECE_MAX: u32 = 65536;
 
 /// The longest device text of a create_link, in bytes.
 pub const DEVICE_MAX: usize = 255;

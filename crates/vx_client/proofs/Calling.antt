@@ -3,7 +3,7 @@ use Rattle.std.proofs.Common.{◌≡◌, ℕ, ◌≤◌, ◌+◌, true, false, L
 use Rattle.std.specs.Io.KnownBytes.{Consumes, Keeps}
 use Rattle.std.proofs.KnownBytes.{Consumes-trans}
 use Rattle.vx_io_traits.specs.Stands.{Goes, Goes-goes}
-use Rattle.vx_calls.specs.declared.limits.TheConstants.{RECORD_MAX}
+use Rattle.vx_calls.specs.declared.limits.TheConstants.{REPLY_MAX}
 use Rattle.vx_calls.specs.Call.{Call}
 use Rattle.vx_codec.specs.Answered.{Outcome}
 use Rattle.vx_client.specs.State.{ClientState, number_after}
@@ -155,7 +155,7 @@ result-error view other xid call room Idle e h = let k : err.Spent ≡ e = cc in
 result-error view other xid call room Unsent e h = let k : err.WriteFault ≡ e = cc in ap Err k
 result-error view other xid call room Unread e h = let k : err.ReadFault ≡ e = cc in ap Err k
 result-error view other xid call room Ended e h = let k : err.Closed ≡ e = cc in ap Err k
-result-error view other xid call room TooLong e h = let k : err.BadReply (RECORD_MAX + 1) ≡ e = cc in ap Err k
+result-error view other xid call room TooLong e h = let k : err.BadReply (REPLY_MAX + 1) ≡ e = cc in ap Err k
 result-error view other xid call room (Replied reply) e h = returned-error view other (length reply) (meaning xid call room reply) e h
 
 -- at an Ok it takes a part of the value

@@ -1,11 +1,12 @@
 -- How long the arguments of a call are.
-use Rattle.std.proofs.Common.{◌≡◌, ℕ, ◌+◌, ◌≤◌, List, ◌++◌, length, arith, length-append}
+use Rattle.std.proofs.Common.{◌≡◌, ℕ, ◌+◌, ◌-◌, ◌≤◌, List, ◌++◌, length, arith, length-append}
 use Rattle.std.proofs.Math.ListN.{length-replicate}
 use Rattle.vx_xdr.specs.Spelling.{padding, pad_len}
 use Rattle.vx_calls.specs.Call.{Call}
 use Rattle.vx_calls.specs.Call as call
 use Rattle.vx_codec.specs.Asked.{arguments, IsPuttable}
 use Rattle.vx_client.specs.Message.{IsSendable}
+use Rattle.vx_client.specs.declared.outbox.TheConstants.{CALL_MAX}
 
 -- at most three zeros stand behind the bytes of an opaque
 padded-short : (v : List ℕ) → length (v ++ padding (length v)) ≤ length v + 3
@@ -16,7 +17,7 @@ padded-short v =
     omega arith
 
 -- what a client sends fits into a record behind the header of a call
-pub arguments-short : (c : Call) → IsSendable c → length (arguments c) ≤ 66520
+pub arguments-short : (c : Call) → IsSendable c → length (arguments c) ≤ CALL_MAX - 40
 arguments-short call.Null h = omega arith
 arguments-short (call.CreateLink client lock lock_timeout device) h = let e = padded-short device in omega arith
 arguments-short (call.Write lid io_timeout lock_timeout flags bytes) h = let e = padded-short bytes in omega arith

@@ -3,7 +3,7 @@ use Rattle.std.proofs.Common.{◌≡◌, ℕ, zero, suc, ◌+◌, ◌-◌, ◌�
 use Rattle.std.proofs.lemmas.List.{take_at, take-take, length-take-le, drop-take, length-take}
 use Rattle.std.proofs.lemmas.Grind.{common_steps}
 use Rattle.std.proofs.KnownBytes.{Consumes-nil, Consumes-trans, Consumes-kept, Consumes-whole}
-use Rattle.vx_calls.specs.declared.limits.TheConstants.{RECORD_MAX}
+use Rattle.vx_calls.specs.declared.limits.TheConstants.{REPLY_MAX}
 use Rattle.vx_io_traits.specs.Faults.{Rose}
 use Rattle.vx_io_traits.specs.Stands.{Goes-none, Goes-goes, Goes-stays}
 use Rattle.vx_record.specs.Buffer.{BufState, fresh, step, fed, taken}
@@ -54,15 +54,15 @@ taken-front s (b ∷ bs) = taken-front_at s.state s b bs refl (taken-front (step
 
 -- where a stream stands behind the bytes that a buffer took of a piece
 pub record TakenEnds (used part : List ℕ) (new : BufState) : Type 0 where
-  pub shortest : is_settled (records RECORD_MAX (take (length (used ++ part) - 1) (used ++ part))) ≡ false
-  pub ends : IsEnd new.state new.kept (records RECORD_MAX (used ++ part))
-  pub held : new ≡ fed (fresh RECORD_MAX) (used ++ part)
+  pub shortest : is_settled (records REPLY_MAX (take (length (used ++ part) - 1) (used ++ part))) ≡ false
+  pub ends : IsEnd new.state new.kept (records REPLY_MAX (used ++ part))
+  pub held : new ≡ fed (fresh REPLY_MAX) (used ++ part)
 
-pub taken_ends : (used piece : List ℕ) (old new : BufState) (n : ℕ) → old ≡ fed (fresh RECORD_MAX) used → old.state ≡ More → new ≡ fed old piece
+pub taken_ends : (used piece : List ℕ) (old new : BufState) (n : ℕ) → old ≡ fed (fresh REPLY_MAX) used → old.state ≡ More → new ≡ fed old piece
     → n ≡ taken old piece → 0 < n → n ≤ length piece → TakenEnds used (take n piece) new
 taken_ends used piece old new n held more new_is n_is some within =
     let part : List ℕ = take n piece in
-    let s : BufState = fed (fresh RECORD_MAX) used in
+    let s : BufState = fed (fresh REPLY_MAX) used in
     let len : length part ≡ n = length-take-le n piece within in
     let more' : s.state ≡ More = subst (λ b. b.state ≡ More) held more in
     let n_at : n ≡ taken s piece = n_is ∙ ap (λ b. taken b piece) held in
@@ -70,11 +70,11 @@ taken_ends used piece old new n held more new_is n_is some within =
     subst (λ k. taken s (take k piece) ≡ k) (sym n_at) (taken-front s piece) ∙ sym len in
     let same : fed s part ≡ new =
     ap (λ k. fed s (take k piece)) n_at ∙ fed-front s piece ∙ ap (λ b. fed b piece) (sym held) ∙ sym new_is in
-    let law : FeedEnds RECORD_MAX (used ++ part) (fed s part) (taken s part) (length part) = feed-ends RECORD_MAX used part more' (omega arith) in
+    let law : FeedEnds REPLY_MAX (used ++ part) (fed s part) (taken s part) (length part) = feed-ends REPLY_MAX used part more' (omega arith) in
     record {
       shortest = law.open_before took;
-      ends = subst (λ b. IsEnd b.state b.kept (records RECORD_MAX (used ++ part))) same (law.ends took);
-      held = sym same ∙ sym (fed-append (fresh RECORD_MAX) used part);
+      ends = subst (λ b. IsEnd b.state b.kept (records REPLY_MAX (used ++ part))) same (law.ends took);
+      held = sym same ∙ sym (fed-append (fresh REPLY_MAX) used part);
     }
 
 -- ---- a reply that is read
@@ -86,21 +86,21 @@ pub record ReadSoFar {L : Type 0} (stands : L → List ℕ → List ℕ → Type
   pub got : List ℕ
   pub gave : Gave stands left first now got
   pub stream : before ++ got ≡ used ++ s.kept
-  pub held : s.reply ≡ fed (fresh RECORD_MAX) used
+  pub held : s.reply ≡ fed (fresh REPLY_MAX) used
   pub more : s.reply.state ≡ More
-  pub unsettled : is_settled (records RECORD_MAX used) ≡ false
+  pub unsettled : is_settled (records REPLY_MAX used) ≡ false
   pub count : room + length used ≡ REPLY_STREAM_MAX
   pub counted : receives first ≤ receives now
   pub apart : sends now ≡ sends first
 
 -- a stream of no bytes has no record
-none-settled : is_settled (records RECORD_MAX []) ≡ false
+none-settled : is_settled (records REPLY_MAX []) ≡ false
 unfolding records
 none-settled = refl
 
 -- at first it gave nothing
 pub read-none : {L : Type 0} (stands : L → List ℕ → List ℕ → Type 0) (left : L → Option (List ℕ)) (receives sends : L → ℕ) (l : L) (s : InboxState)
-    → s.reply ≡ fresh RECORD_MAX → ReadSoFar stands left receives sends l l s.kept s REPLY_STREAM_MAX
+    → s.reply ≡ fresh REPLY_MAX → ReadSoFar stands left receives sends l l s.kept s REPLY_STREAM_MAX
 read-none stands left receives sends l s none = record {
   used = [];
   got = [];
@@ -203,8 +203,8 @@ read-fed stands left receives sends first now before s t room n so_far on more =
     let piece_len = length-take room s.kept in
     let behind : TakenEnds so_far.used part t.reply =
     taken_ends so_far.used piece s.reply t.reply n so_far.held so_far.more on.reply on.took on.some (omega arith) in
-    let ended : IsEnd More t.reply.kept (records RECORD_MAX (so_far.used ++ part)) =
-    subst (λ f. IsEnd f t.reply.kept (records RECORD_MAX (so_far.used ++ part))) more behind.ends in
+    let ended : IsEnd More t.reply.kept (records REPLY_MAX (so_far.used ++ part)) =
+    subst (λ f. IsEnd f t.reply.kept (records REPLY_MAX (so_far.used ++ part))) more behind.ends in
     let len : length part ≡ n = length-take-le n piece (omega arith) in
     let both = length-append so_far.used part in
     let count : room + length so_far.used ≡ REPLY_STREAM_MAX = so_far.count in
@@ -215,7 +215,7 @@ read-fed stands left receives sends first now before s t room n so_far on more =
       stream = so_far.stream ∙ fed_cut so_far.used s t room n on;
       held = behind.held;
       more = more;
-      unsettled = unsettled_at (records RECORD_MAX (so_far.used ++ part)) ended.0 ended.1;
+      unsettled = unsettled_at (records REPLY_MAX (so_far.used ++ part)) ended.0 ended.1;
       count = omega arith;
       counted = so_far.counted;
       apart = so_far.apart;
@@ -232,8 +232,8 @@ read-whole stands left receives sends first now before s t room n so_far on whol
     let piece_len = length-take room s.kept in
     let behind : TakenEnds so_far.used part t.reply =
     taken_ends so_far.used piece s.reply t.reply n so_far.held so_far.more on.reply on.took on.some (omega arith) in
-    let ended : IsEnd Whole t.reply.kept (records RECORD_MAX (so_far.used ++ part)) =
-    subst (λ f. IsEnd f t.reply.kept (records RECORD_MAX (so_far.used ++ part))) whole behind.ends in
+    let ended : IsEnd Whole t.reply.kept (records REPLY_MAX (so_far.used ++ part)) =
+    subst (λ f. IsEnd f t.reply.kept (records REPLY_MAX (so_far.used ++ part))) whole behind.ends in
     let len : length part ≡ n = length-take-le n piece (omega arith) in
     let both = length-append so_far.used part in
     let count : room + length so_far.used ≡ REPLY_STREAM_MAX = so_far.count in (
@@ -262,8 +262,8 @@ read-long_header stands left receives sends first now before s t room n so_far o
     let piece_len = length-take room s.kept in
     let behind : TakenEnds so_far.used part t.reply =
     taken_ends so_far.used piece s.reply t.reply n so_far.held so_far.more on.reply on.took on.some (omega arith) in
-    let ended : IsEnd TooLong t.reply.kept (records RECORD_MAX (so_far.used ++ part)) =
-    subst (λ f. IsEnd f t.reply.kept (records RECORD_MAX (so_far.used ++ part))) long behind.ends in
+    let ended : IsEnd TooLong t.reply.kept (records REPLY_MAX (so_far.used ++ part)) =
+    subst (λ f. IsEnd f t.reply.kept (records REPLY_MAX (so_far.used ++ part))) long behind.ends in
     let len : length part ≡ n = length-take-le n piece (omega arith) in
     let both = length-append so_far.used part in
     let count : room + length so_far.used ≡ REPLY_STREAM_MAX = so_far.count in (
@@ -286,7 +286,7 @@ read-long_stream stands left receives sends first now before s room so_far none 
     let used_len : length so_far.used ≡ REPLY_STREAM_MAX = omega arith in
     let len : length (before ++ so_far.got) ≡ length (so_far.used ++ s.kept) = ap length stream in
     let front : take REPLY_STREAM_MAX (before ++ so_far.got) ≡ so_far.used = ap (take REPLY_STREAM_MAX) stream ∙ take_at so_far.used s.kept REPLY_STREAM_MAX used_len in
-    (so_far.got, so_far.gave, (by_length (omega arith) (ap (λ xs. is_settled (records RECORD_MAX xs)) front ∙ so_far.unsettled), last-none s.reply More so_far.more tt))
+    (so_far.got, so_far.gave, (by_length (omega arith) (ap (λ xs. is_settled (records REPLY_MAX xs)) front ∙ so_far.unsettled), last-none s.reply More so_far.more tt))
 
 -- the stream so far is open
 pub read-open : {L : Type 0} (stands : L → List ℕ → List ℕ → Type 0) (left : L → Option (List ℕ)) (receives sends : L → ℕ) (first now : L)
@@ -295,7 +295,7 @@ read-open stands left receives sends first now before s room so_far none =
     let all : before ++ so_far.got ≡ so_far.used = so_far.stream ∙ ap (λ xs. so_far.used ++ xs) none ∙ append-nil so_far.used in
     let len : length (before ++ so_far.got) ≡ length so_far.used = ap length all in
     let count : room + length so_far.used ≡ REPLY_STREAM_MAX = so_far.count in
-    record { unsettled = ap (λ xs. is_settled (records RECORD_MAX xs)) all ∙ so_far.unsettled; within = omega arith }
+    record { unsettled = ap (λ xs. is_settled (records REPLY_MAX xs)) all ∙ so_far.unsettled; within = omega arith }
 
 -- the input ended
 pub read-ended : {L : Type 0} (stands : L → List ℕ → List ℕ → Type 0) (left : L → Option (List ℕ)) (receives sends : L → ℕ) (first mid now : L)

@@ -1,7 +1,7 @@
 -- One call for one reply.
 use Rattle.std.specs.Prelude.{◌≡◌, ℕ, ◌+◌, ◌≤◌, true, false, List, [], ◌++◌, length, take, Option, Result, Ok, Err}
 use Rattle.std.specs.Io.KnownBytes.{Consumes, Keeps}
-use Rattle.vx_calls.specs.declared.limits.TheConstants.{RECORD_MAX}
+use Rattle.vx_calls.specs.declared.limits.TheConstants.{REPLY_MAX}
 use Rattle.vx_calls.specs.Call.{Call}
 use Rattle.vx_codec.specs.Answered.{Outcome}
 use Rattle.vx_io_traits.specs.Faults.{Rose}
@@ -88,7 +88,7 @@ result_of view xid call room Idle = Err err.Spent
 result_of view xid call room Unsent = Err err.WriteFault
 result_of view xid call room Unread = Err err.ReadFault
 result_of view xid call room Ended = Err err.Closed
-result_of view xid call room TooLong = Err (err.BadReply (RECORD_MAX + 1))
+result_of view xid call room TooLong = Err (err.BadReply (REPLY_MAX + 1))
 result_of view xid call room (Replied reply) = returned view (length reply) (meaning xid call room reply)
 
 -- a call of a client: it sends the record of its arguments and answers by the bytes that come, into room for so many

@@ -1,6 +1,6 @@
 -- What a client does for what is asked: it makes a link, does the command over it, and destroys it.
 use Rattle.std.specs.Prelude.{◌≡◌, ℕ, ◌≤◌, min, false, List, length, take, Option, Result, Ok, Err}
-use Rattle.vx_calls.specs.declared.limits.TheConstants.{WRITE_MAX}
+use Rattle.vx_calls.specs.declared.limits.TheConstants.{PIECE_MAX}
 use Rattle.vx_calls.specs.Call as call
 use Rattle.vx_client.specs.State.{ClientState}
 use Rattle.vx_client.specs.Exchange.{IsCalled}
@@ -14,7 +14,7 @@ use Rattle.vx_client.specs.declared.answers.LinkMade.{LinkMade}
 use Rattle.vx_client.specs.declared.answers.ReadEnd.{ReadEnd}
 use Rattle.vx_client.specs.declared.answers.ClientErr.{ClientErr}
 use Rattle.vx_client.specs.declared.answers.ClientErr.TheVariants as err
-use Rattle.vx_client.specs.declared.gains.TheConstants.{READ_MAX}
+use Rattle.vx_client.specs.declared.gains.TheConstants.{GAIN_MAX}
 use Rattle.vx_client.specs.declared.gains.Gained as declared
 use Rattle.vx_client.specs.declared.gains.Gained.TheVariants as seen
 
@@ -40,13 +40,13 @@ abbrev pub read_gain : List ℕ → Result ReadEnd ClientErr → Result Gain Cli
 read_gain filled (Ok e) = Ok (Bytes (take e.len filled))
 read_gain filled (Err e) = Err e
 
--- a read of at most `READ_MAX` bytes
+-- a read of at most `GAIN_MAX` bytes
 pub record ReadsAll {L : Type 0} (stands : L → List ℕ → List ℕ → Type 0) (left : L → Option (List ℕ)) (receives sends : L → ℕ)
     (old new : ClientState L) (lid : ℕ) (result : Result Gain ClientErr) : Type 0 where
   pub room : List ℕ
   pub filled : List ℕ
   pub end : Result ReadEnd ClientErr
-  pub size : length room ≡ READ_MAX
+  pub size : length room ≡ GAIN_MAX
   pub read : IsRead stands left receives sends lid plain 0 old new room filled end
   pub gain : result ≡ read_gain filled end
 
@@ -60,7 +60,7 @@ pub record SendsLine {L : Type 0} (stands : L → List ℕ → List ℕ → Type
     (old new : ClientState L) (made : LinkMade) (line : List ℕ) (result : Result Gain ClientErr) (Then : ClientState L → Type 0) : Type 0 where
   pub mid : ClientState L
   pub answer : Result Unit ClientErr
-  pub written : IsWritten stands left receives sends old mid made.lid with_end (chunks (min made.max WRITE_MAX) line) answer
+  pub written : IsWritten stands left receives sends old mid made.lid with_end (chunks (min made.max PIECE_MAX) line) answer
   pub behind : Behind answer mid new result Then
 
 -- a command over a link that was made

@@ -1,7 +1,7 @@
 -- What a client received, and how a reply comes out of it.
 use Rattle.std.specs.Prelude.{◌≡◌, ℕ, ◌<◌, List, [], ◌++◌, length, Option, IfSome}
 use Rattle.std.specs.Io.KnownBytes.{Consumes, IsAtEnd, Keeps}
-use Rattle.vx_calls.specs.declared.limits.TheConstants.{RECORD_MAX}
+use Rattle.vx_calls.specs.declared.limits.TheConstants.{REPLY_MAX}
 use Rattle.vx_io_traits.specs.Faults.{Rose}
 use Rattle.vx_io_traits.specs.Stands.{Goes, Stays}
 use Rattle.vx_record.specs.Buffer.{BufState, fresh}
@@ -30,7 +30,7 @@ last_of s = last_at s.state s.kept
 
 -- a buffer in which the next record may begin: it has nothing, or a whole record
 abbrev pub IsReadyAt : Feed → BufState → Type 0
-IsReadyAt feed.More s = s ≡ fresh RECORD_MAX
+IsReadyAt feed.More s = s ≡ fresh REPLY_MAX
 IsReadyAt feed.Whole s = Unit {0}
 IsReadyAt feed.TooLong s = ⊥
 

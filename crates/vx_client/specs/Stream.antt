@@ -1,6 +1,6 @@
 -- The record of a reply at the front of what a client receives.
 use Rattle.std.specs.Prelude.{◌≡◌, ℕ, ◌-◌, ◌<◌, ◌≤◌, true, false, List, [], ◌∷◌, ◌++◌, length, take}
-use Rattle.vx_calls.specs.declared.limits.TheConstants.{RECORD_MAX}
+use Rattle.vx_calls.specs.declared.limits.TheConstants.{REPLY_MAX}
 use Rattle.vx_client.specs.declared.inbox.TheConstants.{REPLY_STREAM_MAX}
 use Rattle.vx_record.specs.Records.{records}
 use Rattle.vx_record.specs.Ends.{is_settled}
@@ -10,17 +10,17 @@ use Rattle.vx_record.specs.Ends.{is_settled}
 pub record IsReply (stream reply behind : List ℕ) : Type 0 where
   pub front : List ℕ
   pub cut : stream ≡ front ++ behind
-  pub whole : (records RECORD_MAX front).records ≡ reply ∷ []
-  pub shortest : is_settled (records RECORD_MAX (take (length front - 1) front)) ≡ false
+  pub whole : (records REPLY_MAX front).records ≡ reply ∷ []
+  pub shortest : is_settled (records REPLY_MAX (take (length front - 1) front)) ≡ false
   pub within : length front ≤ REPLY_STREAM_MAX
 
 -- no front of the stream has a reply, and a header in it takes its record above the limit, or it has too many bytes
 pub data IsTooLong (stream : List ℕ) : Type 0 where
-  by_header : (front behind : List ℕ) → stream ≡ front ++ behind → length front ≤ REPLY_STREAM_MAX → (records RECORD_MAX front).records ≡ []
-      → (records RECORD_MAX front).too_long ≡ true → IsTooLong stream
-  by_length : REPLY_STREAM_MAX < length stream → is_settled (records RECORD_MAX (take REPLY_STREAM_MAX stream)) ≡ false → IsTooLong stream
+  by_header : (front behind : List ℕ) → stream ≡ front ++ behind → length front ≤ REPLY_STREAM_MAX → (records REPLY_MAX front).records ≡ []
+      → (records REPLY_MAX front).too_long ≡ true → IsTooLong stream
+  by_length : REPLY_STREAM_MAX < length stream → is_settled (records REPLY_MAX (take REPLY_STREAM_MAX stream)) ≡ false → IsTooLong stream
 
 -- the stream has no reply yet, and may still bring one
 pub record IsOpen (stream : List ℕ) : Type 0 where
-  pub unsettled : is_settled (records RECORD_MAX stream) ≡ false
+  pub unsettled : is_settled (records REPLY_MAX stream) ≡ false
   pub within : length stream ≤ REPLY_STREAM_MAX

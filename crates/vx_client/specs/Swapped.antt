@@ -1,7 +1,7 @@
 -- What sending a call and receiving its reply does to a link and an inbox.
 use Rattle.std.specs.Prelude.{◌≡◌, ℕ, ◌+◌, Bool, true, false, List, [], ◌++◌, Option, Result, Ok, Err}
 use Rattle.std.specs.Io.KnownBytes.{Keeps}
-use Rattle.vx_calls.specs.declared.limits.TheConstants.{RECORD_MAX}
+use Rattle.vx_calls.specs.declared.limits.TheConstants.{REPLY_MAX}
 use Rattle.vx_io_traits.specs.Faults.{Rose}
 use Rattle.vx_record.specs.declared.Feed.TheVariants as feed
 use Rattle.vx_client.specs.Exchange.{StopsIn, Moved}
@@ -32,7 +32,7 @@ IsSwapped stands left receives sends old new kept s text (Err err.ReadFault) =
 IsSwapped stands left receives sends old new kept s text (Err err.Closed) =
     Swaps stands left old new kept text (λ stream got. IsOpen stream × IsAll left old got) × (last_of s.reply ≡ [])
 IsSwapped stands left receives sends old new kept s text (Err (err.BadReply n)) =
-    (n ≡ RECORD_MAX + 1) × Swaps stands left old new kept text (λ stream got. IsTooLong stream) × (last_of s.reply ≡ [])
+    (n ≡ REPLY_MAX + 1) × Swaps stands left old new kept text (λ stream got. IsTooLong stream) × (last_of s.reply ≡ [])
 IsSwapped stands left receives sends old new kept s text (Err err.Spent) = ⊥
 IsSwapped stands left receives sends old new kept s text (Err (err.Device n)) = ⊥
 IsSwapped stands left receives sends old new kept s text (Err (err.Rpc r)) = ⊥

@@ -9,7 +9,7 @@ pub enum ClientErr {
     Device(u32),
     /// The server refused the call.
     Rpc(RpcRefusal),
-    /// What came is no reply to this call: a record of so many bytes, `RECORD_MAX` + 1 for every longer one.
+    /// What came is no reply to this call: a record of so many bytes, `REPLY_MAX` + 1 for every longer one.
     BadReply {
         /// How many bytes the record has.
         length: usize,

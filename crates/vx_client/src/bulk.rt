@@ -8,7 +8,7 @@ ghost use Rattle.vx_client.specs.Parts.{ReadsPart, IsRead};
 
 use crate::answers::{CallOpts, ClientErr, LinkMade, ReadEnd};
 use crate::client::Client;
-use vx_calls::{CallRef, WRITE_MAX};
+use vx_calls::{CallRef, PIECE_MAX};
 use vx_io_traits::Link;
 
 /// All flags but END (VXI-11, Device_Flags).
@@ -23,7 +23,7 @@ impl<L: Link> Client<L> {
         flags: u32,
         bytes: &[u8],
     ) -> Result<(), ClientErr>
-        requires { length bytes.now ≤ WRITE_MAX }
+        requires { length bytes.now ≤ PIECE_MAX }
         ensures { IsCalled L.stands L.left L.receive_faults L.send_faults self.old self.new (write_call lid opts.now flags bytes.now) 0 nothing_of result }
     {
         self.order(&CallRef::Write {
@@ -35,13 +35,13 @@ impl<L: Link> Client<L> {
         })
     }
 
-    /// device_write, in pieces of the smaller of `made.max` and `WRITE_MAX` bytes, the last one shorter, and at least
+    /// device_write, in pieces of the smaller of `made.max` and `PIECE_MAX` bytes, the last one shorter, and at least
     /// one. The flag END of `opts` stands on the last piece alone. It ends at the first piece that fails.
     pub fn write(&mut self, made: &LinkMade, opts: &CallOpts, bytes: &[u8]) -> Result<(), ClientErr>
         requires { 1 ≤ made.now.max }
-        ensures { IsWritten L.stands L.left L.receive_faults L.send_faults self.old self.new made.now.lid opts.now (chunks (min made.now.max WRITE_MAX) bytes.now) result }
+        ensures { IsWritten L.stands L.left L.receive_faults L.send_faults self.old self.new made.now.lid opts.now (chunks (min made.now.max PIECE_MAX) bytes.now) result }
     {
-        let most = made.max.min(WRITE_MAX) as usize;
+        let most = made.max.min(PIECE_MAX) as usize;
         let mut rest = bytes;
         while rest.len() > most {
             self.write_piece(made.lid, opts, opts.flags & NO_END, &rest[..most])?;

@@ -9,7 +9,7 @@ ghost use Rattle.vx_client.specs.Calls.{generic, create, lock_call, command, cha
 use crate::answers::{CallOpts, ClientErr, LinkMade};
 use crate::client::Client;
 use arrayvec::ArrayVec;
-use vx_calls::{CallRef, DEVICE_MAX, Generic, HANDLE_MAX, Handle, WRITE_MAX};
+use vx_calls::{CallRef, DEVICE_MAX, DOCMD_MAX, Generic, HANDLE_MAX, Handle};
 use vx_io_traits::Link;
 
 /// The parameters that five calls share.
@@ -122,7 +122,7 @@ impl<L: Link> Client<L> {
         })
     }
 
-    /// device_docmd with `bytes` as its data, of at most `WRITE_MAX` bytes, in network order and with datasize 1. The
+    /// device_docmd with `bytes` as its data, of at most `DOCMD_MAX` bytes, in network order and with datasize 1. The
     /// data of the reply go to the front of `into`, and the answer is how many these are.
     ///
     /// `into` is at least as long as `bytes`, and at least 2. A reply with more bytes than `into` has is a `BadReply`.
@@ -134,7 +134,7 @@ impl<L: Link> Client<L> {
         bytes: &[u8],
         into: &mut [u8],
     ) -> Result<usize, ClientErr>
-        requires bytes { length bytes.now ≤ WRITE_MAX }
+        requires bytes { length bytes.now ≤ DOCMD_MAX }
         requires room { length bytes.now ≤ length into.old }
         requires two { 2 ≤ length into.old }
         ensures called { IsCalled L.stands L.left L.receive_faults L.send_faults self.old self.new (command lid opts.now cmd bytes.now) (length into.old) len_of result }

@@ -3,7 +3,7 @@
 ghost use Rattle.std.specs.Prelude.{◌≡◌, ◌≤◌, ◌<◌, ◌^◌, false, [], length, IfOk, IfErr};
 ghost use Rattle.vx_calls.specs.Call.{call_shown};
 ghost use Rattle.vx_record.specs.Buffer.{fresh};
-ghost use Rattle.vx_calls.specs.declared.limits.TheConstants.{WRITE_MAX};
+ghost use Rattle.vx_calls.specs.declared.limits.TheConstants.{PIECE_MAX};
 ghost use Rattle.vx_client.specs.State.{over_link, with_link};
 ghost use Rattle.vx_client.specs.Message.{call_record, IsSendable};
 ghost use Rattle.vx_client.specs.Chunks.{write_call};
@@ -20,7 +20,7 @@ use crate::settling::{Answer, Settled, settle};
 use std::alloc::Global;
 use std::marker::Model;
 use std::mem::swap;
-use vx_calls::{CallRef, RECORD_MAX};
+use vx_calls::{CallRef, REPLY_MAX};
 use vx_io_traits::Link;
 
 /// What a client keeps of its calls, whatever link they go over: the number of the next one, whether a further one is
@@ -78,7 +78,7 @@ fn exchange<L: Link>(
 ) -> Result<(), ClientErr>
     requires sendable { IsSendable (call_shown call.now) }
     requires room { CALL_ROOM ≤ length room.old }
-    requires inbox { inbox.old.reply ≡ fresh RECORD_MAX }
+    requires inbox { inbox.old.reply ≡ fresh REPLY_MAX }
     ensures swapped { IsSwapped L.stands L.left L.receive_faults L.send_faults link.old link.new inbox.old.kept inbox.new
         (call_record xid (call_shown call.now)) result }
     ensures receives { L.receive_faults link.old ≤ L.receive_faults link.new }
@@ -91,7 +91,7 @@ fn exchange<L: Link>(
     match inbox.read_record(link) {
         Brought::Record => Ok(()),
         Brought::TooLong => Err(ClientErr::BadReply {
-            length: RECORD_MAX + 1,
+            length: REPLY_MAX + 1,
         }),
         Brought::End => Err(ClientErr::Closed),
         Brought::Failed => Err(ClientErr::ReadFault),
@@ -187,7 +187,7 @@ impl<L: Link> Client<L> {
     }
 
     /// The record that the last call got, without its marks: its reply, or what came in place of one. It is empty
-    /// where that call got none, where its record was longer than `RECORD_MAX` bytes, and before the first call. A
+    /// where that call got none, where its record was longer than `REPLY_MAX` bytes, and before the first call. A
     /// call that answered `Spent` leaves it as it was.
     pub fn last(&self) -> &[u8]
         ensures { result.now ≡ self.now.last }
@@ -231,7 +231,7 @@ impl<L> Client<L> {
         swap(&mut self.link, link);
     }
 
-    /// One device_write of at most `WRITE_MAX` bytes with these flags over another link, as the client's next call. Its own
+    /// One device_write of at most `PIECE_MAX` bytes with these flags over another link, as the client's next call. Its own
     /// link is left alone.
     pub fn write_piece_over<K: Link>(
         &mut self,
@@ -241,7 +241,7 @@ impl<L> Client<L> {
         flags: u32,
         bytes: &[u8],
     ) -> Result<(), ClientErr>
-        requires { length bytes.now ≤ WRITE_MAX }
+        requires { length bytes.now ≤ PIECE_MAX }
         ensures called { IsCalled K.stands K.left K.receive_faults K.send_faults (with_link self.old link.old) (with_link self.new link.new)
             (write_call lid opts.now flags bytes.now) 0 nothing_of result }
         ensures own { self.new.link ≡ self.old.link }

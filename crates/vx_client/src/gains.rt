@@ -11,7 +11,7 @@ use vx_calls::DEVICE_MAX;
 use vx_io_traits::Link;
 
 /// The most bytes that a command reads.
-pub(crate) const READ_MAX: usize = 65536;
+pub(crate) const GAIN_MAX: usize = 65536;
 
 /// No flags; a device may take 10 seconds, and no call waits for a lock.
 const PLAIN: CallOpts = CallOpts {
@@ -40,7 +40,7 @@ pub(crate) enum Gained {
 
 /// Reads into the room.
 fn read<L: Link>(client: &mut Client<L>, lid: u32, room: &mut [u8]) -> Result<Gained, ClientErr>
-    requires { length room.old ≡ READ_MAX }
+    requires { length room.old ≡ GAIN_MAX }
     ensures read { ReadsAll L.stands L.left L.receive_faults L.send_faults client.old client.new lid (result_shown room.new result) }
     ensures within { IfOk result (IsWithin (length room.new)) }
 {
@@ -58,7 +58,7 @@ fn perform<L: Link>(
 ) -> Result<Gained, ClientErr>
     requires max { 1 ≤ made.now.max }
     requires line { line.now ≡ line_sent (command_shown command) }
-    requires room { length room.old ≡ READ_MAX }
+    requires room { length room.old ≡ GAIN_MAX }
     ensures performed { Performs L.stands L.left L.receive_faults L.send_faults client.old client.new made.now (command_shown command.entry) (result_shown room.new result) }
     ensures within { IfOk result (IsWithin (length room.new)) }
 {
@@ -93,7 +93,7 @@ pub(crate) fn make_calls<L: Link>(
 ) -> Result<Gained, ClientErr>
     requires device { length ask.now.device.now ≤ DEVICE_MAX }
     requires line { line.now ≡ line_sent (command_shown ask.now.command) }
-    requires room { length room.old ≡ READ_MAX }
+    requires room { length room.old ≡ GAIN_MAX }
     requires fit { client.old.spent ≡ false }
     ensures asked { Asks L.stands L.left L.receive_faults L.send_faults client.old client.new ask.now.device.now (command_shown ask.now.command) (result_shown room.new result) }
     ensures within { IfOk result (IsWithin (length room.new)) }

@@ -6,7 +6,7 @@ ghost use Rattle.vx_client.specs.Inbox.{IsReady, last_of, Refills, IsBrought};
 
 use std::alloc::Global;
 use std::marker::Model;
-use vx_calls::RECORD_MAX;
+use vx_calls::REPLY_MAX;
 use vx_io_traits::{Link, ReadOut};
 use vx_record::{Fed, Feed, RecordBuf};
 
@@ -54,7 +54,7 @@ pub(crate) struct Inbox {
 impl Model for Inbox {
     ghost use Rattle.std.specs.Prelude.{◌≡◌, ◌<◌, ◌≤◌, ◌↔◌, IsTrue, drop, take, vec_len};
     ghost use Rattle.vx_record.specs.declared.Feed.TheVariants.{Whole};
-    ghost use Rattle.vx_calls.specs.declared.limits.TheConstants.{RECORD_MAX};
+    ghost use Rattle.vx_calls.specs.declared.limits.TheConstants.{REPLY_MAX};
     ghost use Rattle.vx_client.specs.Inbox.{InboxState};
 
     ghost Value = { InboxState };
@@ -65,18 +65,18 @@ impl Model for Inbox {
     } };
 
     ghost invariant = { λ b. (0 < vec_len b.room) × (b.from ≤ b.to) × (b.to ≤ vec_len b.room)
-        × (b.reply.limit ≡ RECORD_MAX) × (IsTrue b.whole ↔ (b.reply.state ≡ Whole)) };
+        × (b.reply.limit ≡ REPLY_MAX) × (IsTrue b.whole ↔ (b.reply.state ≡ Whole)) };
 }
 
 impl Inbox {
     /// An inbox into which nothing has come.
     pub(crate) fn new(alloc: Global) -> Result<Inbox, NoMemory>
-        ensures { IfOk result (λ b. (b.kept ≡ []) × (b.reply ≡ fresh RECORD_MAX)) }
+        ensures { IfOk result (λ b. (b.kept ≡ []) × (b.reply ≡ fresh REPLY_MAX)) }
     {
         let Ok(room) = vec![in alloc; 0; PIECE] else {
             return Err(NoMemory);
         };
-        let Ok(reply) = RecordBuf::new(alloc, RECORD_MAX) else {
+        let Ok(reply) = RecordBuf::new(alloc, REPLY_MAX) else {
             return Err(NoMemory);
         };
         Ok(Inbox {
@@ -92,7 +92,7 @@ impl Inbox {
     pub(crate) fn begin(&mut self)
         requires { IsReady self.old.reply }
         ensures kept { self.new.kept ≡ self.old.kept }
-        ensures reply { self.new.reply ≡ fresh RECORD_MAX }
+        ensures reply { self.new.reply ≡ fresh REPLY_MAX }
     {
         if self.whole {
             self.reply.next();
@@ -103,7 +103,7 @@ impl Inbox {
     /// The record of the last reply, or nothing where none is whole.
     pub(crate) fn last(&self) -> &[u8]
         ensures bytes { result.now ≡ last_of self.now.reply }
-        ensures fits { length result.now ≤ RECORD_MAX }
+        ensures fits { length result.now ≤ REPLY_MAX }
     {
         if self.whole { self.reply.whole() } else { &[] }
     }
@@ -151,7 +151,7 @@ impl Inbox {
 
     /// Reads the record of one reply off the front of the stream.
     pub(crate) fn read_record<L: Link>(&mut self, link: &mut L) -> Brought
-        requires { self.old.reply ≡ fresh RECORD_MAX }
+        requires { self.old.reply ≡ fresh REPLY_MAX }
         ensures brought { IsBrought L.stands L.left L.receive_faults link.old link.new self.old.kept self.new result }
         ensures receives { L.receive_faults link.old ≤ L.receive_faults link.new }
         ensures sends { L.send_faults link.new ≡ L.send_faults link.old }

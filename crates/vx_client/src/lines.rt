@@ -6,11 +6,11 @@ ghost use Rattle.vx_client.specs.Gaining.{IsWithin, IsAnswer, IsError, gain_show
 ghost use Rattle.vx_client.specs.Due.{error_line, gain_line, line_due};
 
 use crate::answers::ClientErr;
-use crate::gains::{Gained, READ_MAX};
+use crate::gains::{GAIN_MAX, Gained};
 use itoa::Buffer;
 
-/// The longest line, its LF included: that of `READ_MAX` bytes.
-pub(crate) const LINE_ROOM: usize = 2 * READ_MAX + 1;
+/// The longest line, its LF included: that of `GAIN_MAX` bytes.
+pub(crate) const LINE_ROOM: usize = 2 * GAIN_MAX + 1;
 
 /// Bytes in upper case hexadecimal, and LF.
 fn hex_line<'a>(bytes: &[u8], out: &'a mut [u8]) -> &'a [u8]
@@ -61,7 +61,7 @@ fn error_line(error: ClientErr, out: &mut [u8]) -> &[u8]
 /// What was gained; bytes that were read stand at the front of the room.
 fn gain_line<'a>(gained: Gained, room: &[u8], out: &'a mut [u8]) -> &'a [u8]
     requires within { IsWithin (length room.now) gained }
-    requires read { length room.now ≤ READ_MAX }
+    requires read { length room.now ≤ GAIN_MAX }
     requires room { LINE_ROOM ≤ length out.old }
     ensures { result.now ≡ gain_line (gain_shown room.now gained) }
 {
@@ -80,7 +80,7 @@ pub(crate) fn line_of<'a>(
 ) -> &'a [u8]
     requires within { IfOk came (IsWithin (length room.now)) }
     requires answer { IsAnswer came }
-    requires read { length room.now ≤ READ_MAX }
+    requires read { length room.now ≤ GAIN_MAX }
     requires room { LINE_ROOM ≤ length out.old }
     ensures { result.now ≡ line_due (result_shown room.now came) }
 {

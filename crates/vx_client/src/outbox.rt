@@ -8,14 +8,18 @@ ghost use Rattle.vx_rpc.specs.Procedure.{proc_number};
 ghost use Rattle.vx_client.specs.Message.{record_of, message, call_record, IsSendable};
 ghost use Rattle.vx_client.specs.Exchange.{IsSent};
 
-use vx_calls::{CallRef, Proc, RECORD_MAX};
+use vx_calls::{CallRef, PIECE_MAX, Proc};
 use vx_codec::put_args;
 use vx_io_traits::{Link, WriteOut};
 use vx_record::mark;
 use vx_rpc::put_call;
 
+/// The longest message of a call that a client sends, in bytes: its data, at most `PIECE_MAX` or `DOCMD_MAX`, and no more than
+/// so many for its header (40, RFC 5531, section 9) and its other arguments.
+pub(crate) const CALL_MAX: usize = PIECE_MAX as usize + 1024;
+
 /// The longest record of a call, its mark included, in bytes.
-pub(crate) const CALL_ROOM: usize = RECORD_MAX + 4;
+pub(crate) const CALL_ROOM: usize = CALL_MAX + 4;
 
 /// The program of the core channel (VXI-11, DEVICE_CORE).
 const CORE: u32 = 0x0607AF;
@@ -73,9 +77,9 @@ fn number(procedure: Proc) -> u32
 /// Writes the message of a call at the front of `out`, and answers how long it is.
 fn put_message(xid: u32, call: &CallRef<'_>, out: &mut [u8]) -> usize
     requires sendable { IsSendable (call_shown call.now) }
-    requires room { RECORD_MAX ≤ length out.old }
+    requires room { CALL_MAX ≤ length out.old }
     ensures text { take result out.new ≡ message xid (call_shown call.now) }
-    ensures len { result ≤ RECORD_MAX }
+    ensures len { result ≤ CALL_MAX }
 {
     let proc = number(procedure(call));
     let Ok(head) = put_call(xid, CORE, 1, proc, out) else {

@@ -8,7 +8,7 @@ ghost use Rattle.vx_client.specs.Outcome.{IsUncalled, IsOver, IsServed, IsAskRun
 
 use crate::answers::ClientErr;
 use crate::client::Client;
-use crate::gains::{Gained, READ_MAX, make_calls};
+use crate::gains::{GAIN_MAX, Gained, make_calls};
 use crate::lines::{LINE_ROOM, line_of};
 use crate::output::put_all;
 use crate::words::{Ask, Command, ask_of};
@@ -102,7 +102,7 @@ fn tell<L: Link, K: Sink>(
     requires device { length ask.now.device.now ≤ DEVICE_MAX }
     requires client { IsUncalled client.old }
     requires line { line.now ≡ line_sent (command_shown ask.now.command) }
-    requires room { length room.old ≡ READ_MAX }
+    requires room { length room.old ≡ GAIN_MAX }
     requires out { LINE_ROOM ≤ length out.old }
     ensures { IsOver L.stands L.left L.receive_faults L.send_faults (ask_shown ask.now) client.old client.new
         (record { bytes = K.taken sink.old; faults = K.faults sink.old })
@@ -129,7 +129,7 @@ fn over<L: Link, K: Sink>(
     let Ok(line) = sent_line(alloc, ask.command) else {
         return Status::NoMemory;
     };
-    let Ok(mut room) = vec![in alloc; 0; READ_MAX] else {
+    let Ok(mut room) = vec![in alloc; 0; GAIN_MAX] else {
         return Status::NoMemory;
     };
     let Ok(mut out) = vec![in alloc; 0; LINE_ROOM] else {

@@ -16,6 +16,7 @@ use Rattle.vx_calls.specs.declared.codes.ErrorCode.{ErrorCode}
 use Rattle.vx_calls.specs.ErrorCode.{same_error}
 use Rattle.vx_calls.specs.Call.{Call}
 use Rattle.vx_calls.proofs.Laws.{same_error-refl}
+use Rattle.vx_488.specs.declared.transfers.TheConstants.{ADDRESS_MAX}
 use Rattle.vx_488.specs.declared.transfers.Transfer.{Transfer}
 use Rattle.vx_488.specs.declared.wire.Wire.{Wire}
 use Rattle.vx_488.specs.Wire.{first_wire}
@@ -274,7 +275,7 @@ pub first_keeps : {B : Type 0} (means : B → Means) (bus : B) (room : List ℕ)
 first_keeps means bus room abort_port wire = record {
   holds = record {
     sound = record { turn_stands = refl; have_come = λ conn p at. absurd (none-some p at) };
-    own = subst (λ (w : Wire). w.own ≤ 30) (sym wire) (omega arith);
+    own = subst (λ (w : Wire). w.own ≤ ADDRESS_MAX) (sym wire) (omega arith);
     runs = λ r is. absurd (none-some r is);
     dials = record { each = All-nil (IsDialed (first_tables abort_port)); once = distinct-none; numbers = omega arith };
     few = omega arith;

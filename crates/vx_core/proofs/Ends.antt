@@ -4,7 +4,7 @@ use Rattle.std.specs.Prelude.{if◌then◌else◌, nat_le, is_none, is_some, ◌
 use Rattle.std.specs.Option.{option_map, option_and_then}
 use Rattle.std.proofs.lemmas.Bool.{and_parts, cond-true, eq-eqb, true≢false}
 use Rattle.std.proofs.lemmas.Option.{same_Some}
-use Rattle.vx_calls.specs.declared.limits.TheConstants.{WRITE_MAX}
+use Rattle.vx_calls.specs.declared.limits.TheConstants.{READ_MAX}
 use Rattle.vx_calls.specs.Reply.{Reply}
 use Rattle.vx_488.specs.declared.transfers.Transfer.{Transfer}
 use Rattle.vx_488.specs.declared.wire.Wire.{Wire}
@@ -209,7 +209,7 @@ no-asks b conn p moves ran none still =
 pub still-ends : {B : Type 0} (means : B → Means) (through : B → Step → B → Type 0) (srq ndac : B → Bool) (k : KernelState B) (conn : ℕ) (after : Tables)
     (given : Reply) (ended : Ended) → Holds means k → (means k.bus).moves ≡ []
     → Polls (fine_of means k) conn k.moment [] (Answered Still false given) (over (fine_of means k) conn k.moment after)
-    → ended_shown ended k.room ≡ Answered Still false given → ended_len ended ≤ WRITE_MAX
+    → ended_shown ended k.room ≡ Answered Still false given → ended_len ended ≤ READ_MAX
     → EndsFrom means through srq ndac k conn ended (closed (record k { tables = after }) conn)
 still-ends {B} means through srq ndac k conn after given ended holds cut polls shown within =
     let f : FineState = fine_of means k in
@@ -236,7 +236,7 @@ still-ends {B} means through srq ndac k conn after given ended holds cut polls s
 pub waits-ends : {B : Type 0} (means : B → Means) (through : B → Step → B → Type 0) (srq ndac : B → Bool) (k : KernelState B) (conn : ℕ) (why : Why) (ended : Ended)
     → Keeps means k → (means k.bus).moves ≡ [] → ran_of (Waited why) ≡ Still
     → Polls (fine_of means k) conn k.moment [] (Waited why) (fine_of means k)
-    → ended_shown ended k.room ≡ Waited why → ended_len ended ≤ WRITE_MAX
+    → ended_shown ended k.room ≡ Waited why → ended_len ended ≤ READ_MAX
     → EndsFrom means through srq ndac k conn ended k
 waits-ends {B} means through srq ndac k conn why ended keeps cut still polls shown within =
     let f : FineState = fine_of means k in
@@ -259,7 +259,7 @@ pub dials-ends : {B : Type 0} (means : B → Means) (through : B → Step → B 
     → Keeps means k → (means k.bus).moves ≡ []
     → KeepsDials k.tables (without_dial k.dialed conn ++ conn ∷ [])
     → Polls (fine_of means k) conn k.moment [] (Dialed host port) (record (fine_of means k) { dialed = without_dial k.dialed conn ++ conn ∷ [] })
-    → ended_shown ended k.room ≡ Dialed host port → ended_len ended ≤ WRITE_MAX
+    → ended_shown ended k.room ≡ Dialed host port → ended_len ended ≤ READ_MAX
     → EndsFrom means through srq ndac k conn ended (record k { dialed = without_dial k.dialed conn ++ conn ∷ [] })
 dials-ends {B} means through srq ndac k conn host port ended keeps cut dials polls shown within =
     let f : FineState = fine_of means k in

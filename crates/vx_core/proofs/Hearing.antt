@@ -1,6 +1,7 @@
 -- A poll as it begins: the bus is cut and told the moment.
 use Rattle.std.proofs.Common.{◌≡◌, ◌≤◌, ℕ, Bool, List, [], ◌∷◌, Option, Some, None, sym, ap, ◌∙◌, subst, arith}
 use Rattle.std.specs.Prelude.{IsSome, max}
+use Rattle.vx_488.specs.declared.transfers.TheConstants.{ADDRESS_MAX}
 use Rattle.vx_488.specs.declared.transfers.Transfer.{Transfer}
 use Rattle.vx_488.specs.declared.wire.Wire.{Wire}
 use Rattle.vx_plan.specs.Plan.{Part}
@@ -64,7 +65,7 @@ heard-keeps {B} means k bus moment keeps late cut =
     record {
       holds = record {
         sound = subst IsSound (sym (heard-at means k bus moment wire)) (later-sound (fine_of means k) moment h.sound late);
-        own = subst (λ (w : Wire). w.own ≤ 30) (sym wire) h.own;
+        own = subst (λ (w : Wire). w.own ≤ ADDRESS_MAX) (sym wire) h.own;
         runs = λ r at.
             let x = h.runs r at in
             record {

@@ -3,6 +3,7 @@ use Rattle.std.proofs.Common.{◌≡◌, ◌≢◌, ◌≤◌, ℕ, ◌⊎◌, i
 use Rattle.std.proofs.lemmas.Bool.{true≢false, false≢true}
 use Rattle.std.proofs.lemmas.Cmp.{nat_eq_equiv}
 use Rattle.std.proofs.lemmas.Option.{none-some}
+use Rattle.vx_488.specs.declared.transfers.TheConstants.{ADDRESS_MAX}
 use Rattle.vx_488.specs.declared.transfers.Transfer.{Transfer}
 use Rattle.vx_488.specs.declared.wire.Wire.{Wire}
 use Rattle.vx_488.specs.Wire.{wire_after}
@@ -109,7 +110,7 @@ leaves-runs means old new e holds running room leaves h r is =
       plain = runs.plain;
       sent = runs.sent;
       few = runs.few;
-      own = subst (λ (w : Wire). w.own ≤ 30) (sym leaves.before) runs.own;
+      own = subst (λ (w : Wire). w.own ≤ ADDRESS_MAX) (sym leaves.before) runs.own;
       begins = begins-same r.turn old.before new.before _ old.made new.made (means old.bus) (means new.bus) leaves.before leaves.made leaves.wire runs.begins;
       holds = λ gets.
           subst (λ (x : List Transfer). HoldsBytes r.turn x new.room) (sym leaves.made)
@@ -130,7 +131,7 @@ pub keeps-after : {B : Type 0} (means : B → Means) (old new : KernelState B) (
 keeps-after {B} means old new e still holds leaves h = record {
   holds = record {
     sound = stays_sound-law f g e holds.sound h;
-    own = subst (λ (w : Wire). w.own ≤ 30) (sym leaves.wire) holds.own;
+    own = subst (λ (w : Wire). w.own ≤ ADDRESS_MAX) (sym leaves.wire) holds.own;
     runs = runs leaves.running;
     dials = dials-after f g e still holds.dials h;
     few = few-after f g e holds.few h;
@@ -186,7 +187,7 @@ keeps-later {B} means k bus moment wire le keeps = record {
           (later-turn k.tables (fine_of means k).before (means k.bus).wire k.moment moment (fine_of means k).turn le keeps.holds.sound.turn_stands);
       have_come = λ conn p at. let came = keeps.holds.sound.have_come conn p at in omega (arith, came, le);
     };
-    own = subst (λ (w : Wire). w.own ≤ 30) (sym wire) keeps.holds.own;
+    own = subst (λ (w : Wire). w.own ≤ ADDRESS_MAX) (sym wire) keeps.holds.own;
     runs = runs;
     dials = keeps.holds.dials;
     few = keeps.holds.few;

@@ -4,15 +4,14 @@ use Rattle.std.specs.Prelude.{not, ◌&&◌}
 use Rattle.std.specs.Option.{option_map}
 use Rattle.std.proofs.lemmas.Bool.{and_parts, eqb-true}
 use Rattle.std.proofs.lemmas.List.{length-append, length-take}
-use Rattle.vx_calls.specs.declared.limits.TheConstants.{WRITE_MAX}
+use Rattle.vx_calls.specs.declared.limits.TheConstants.{READ_MAX, WRITE_MAX}
 use Rattle.vx_calls.specs.Reply.{Reply}
 use Rattle.vx_488.specs.declared.transfers.Transfer.{Transfer}
+use Rattle.vx_plan.specs.declared.tasks.TheConstants.{TURN_MAX}
 use Rattle.vx_plan.specs.declared.tasks.Task.{Task}
 use Rattle.vx_plan.specs.Plan.{Stand, Whole, Part, Off, stand}
 use Rattle.vx_plan.specs.Tasks.{plan}
-use Rattle.vx_plan.specs.Laws.{most_transfers}
 use Rattle.vx_plan.proofs.Turns.{bound-law}
-use Rattle.vx_bus_traits.specs.declared.asks.TheConstants.{ASK_MAX}
 use Rattle.vx_bus_traits.specs.Means.{Means}
 use Rattle.vx_bus_traits.specs.Steps.{Step}
 use Rattle.vx_rules.specs.Lists.{along}
@@ -54,12 +53,12 @@ goes-so f conn (Some p) h = (p, refl, (and_parts (not p.aborted) (lets_pass f.st
 
 -- the transfers of a turn's move are as few as its plan's
 few-of-job : (f : FineState) (u : Turn) (conn : ℕ) (moves : List Transfer) (p : Pending) → u.connection ≡ conn → pending_at f.state.tables conn ≡ Some p
-    → lets_pass f.state.tables f.state.wire.own conn p ≡ true → is_on (turn_stand f u (u.moves ++ moves)) ≡ true → length moves ≤ ASK_MAX
+    → lets_pass f.state.tables f.state.wire.own conn p ≡ true → is_on (turn_stand f u (u.moves ++ moves)) ≡ true → length moves ≤ TURN_MAX
 few-of-job f u conn moves p own at lets on = by (job_of f.state.tables u.connection p) refl where
   here : pending_at f.state.tables u.connection ≡ Some p
   here = ap (pending_at f.state.tables) own ∙ at
 
-  by : (o : Option Task) → job_of f.state.tables u.connection p ≡ o → length moves ≤ ASK_MAX
+  by : (o : Option Task) → job_of f.state.tables u.connection p ≡ o → length moves ≤ TURN_MAX
   by None e =
       let off : false ≡ true = sym (ap (λ q. is_on (call_stand f.state.tables f.before u.connection (u.moves ++ moves) q)) here
       ∙ ap (λ j. is_on (stand_of_job f.before p.call (u.moves ++ moves) j)) e) ∙ on in
@@ -69,15 +68,15 @@ few-of-job f u conn moves p own at lets on = by (job_of f.state.tables u.connect
       ap (call_stand f.state.tables f.before u.connection (u.moves ++ moves)) here ∙ ap (stand_of_job f.before p.call (u.moves ++ moves)) e in
       let few : length (bytes_of p.call) ≤ WRITE_MAX =
       few-bytes f.state.tables f.state.wire.own conn p job lets (ap (λ n. job_of f.state.tables n p) (sym own) ∙ e) in
-      let most : length (u.moves ++ moves) ≤ most_transfers =
+      let most : length (u.moves ++ moves) ≤ TURN_MAX =
       bound-law job (bytes_of p.call) f.before.polling f.before.own (u.moves ++ moves) few (on-so _ (ap is_on (sym stands) ∙ on)) in
       omega (arith, length-append u.moves moves, most)
 
-move-few : (f g : FineState) (conn : ℕ) (moves : List Transfer) → fine f (Move conn moves) ≡ Some g → length moves ≤ ASK_MAX
+move-few : (f g : FineState) (conn : ℕ) (moves : List Transfer) → fine f (Move conn moves) ≡ Some g → length moves ≤ TURN_MAX
 move-few f g conn moves h =
     by f.turn (chosen (may_move f conn moves f.turn) (Some (fine_after f (Move conn moves) f.dialed (record f.state { wire = wire_after f.state.wire moves }))) g
     (stepped f g (Move conn moves) h)).0 where
-      by : (turn : Option Turn) → may_move f conn moves turn ≡ true → length moves ≤ ASK_MAX
+      by : (turn : Option Turn) → may_move f conn moves turn ≡ true → length moves ≤ TURN_MAX
       by None x = cc
       by (Some u) x =
           let tests = and_parts ((u.connection == conn) && goes_on f.state conn (pending_at f.state.tables conn)) (is_on (turn_stand f u (u.moves ++ moves))) x in
@@ -85,18 +84,18 @@ move-few f g conn moves h =
           let goes = goes-so f conn (pending_at f.state.tables conn) both.1 in
           few-of-job f u conn moves goes.0 (eqb-true u.connection conn both.0) goes.1 goes.2 tests.1
 
--- a poll makes at most as many transfers as a bus may be asked for
-polls-few : (f g : FineState) (conn now : ℕ) (moves : List Transfer) (ending : Ending) → Polls f conn now moves ending g → length moves ≤ ASK_MAX
+-- a poll makes at most as many transfers as a turn may
+polls-few : (f g : FineState) (conn now : ℕ) (moves : List Transfer) (ending : Ending) → Polls f conn now moves ending g → length moves ≤ TURN_MAX
 polls-few f g conn now moves ending polls = by moves polls.runs_to where
-  begun : (o : Option FineState) (ts : List Transfer) → along fine o (Move conn ts ∷ []) ≡ Some polls.behind → length ts ≤ ASK_MAX
+  begun : (o : Option FineState) (ts : List Transfer) → along fine o (Move conn ts ∷ []) ≡ Some polls.behind → length ts ≤ TURN_MAX
   begun None ts x = cc
   begun (Some mid) ts x = move-few mid polls.behind conn ts x
 
-  at : (b : Bool) (ts : List Transfer) → along fine (Some f) (cond b (Begin conn now ∷ []) [] ++ Move conn ts ∷ []) ≡ Some polls.behind → length ts ≤ ASK_MAX
+  at : (b : Bool) (ts : List Transfer) → along fine (Some f) (cond b (Begin conn now ∷ []) [] ++ Move conn ts ∷ []) ≡ Some polls.behind → length ts ≤ TURN_MAX
   at true ts x = begun (fine f (Begin conn now)) ts x
   at false ts x = move-few f polls.behind conn ts x
 
-  by : (ts : List Transfer) → along fine (Some f) (cond (begins f conn now) (Begin conn now ∷ []) [] ++ moved_events conn ts) ≡ Some polls.behind → length ts ≤ ASK_MAX
+  by : (ts : List Transfer) → along fine (Some f) (cond (begins f conn now) (Begin conn now ∷ []) [] ++ moved_events conn ts) ≡ Some polls.behind → length ts ≤ TURN_MAX
   by [] x = omega arith
   by (t ∷ ts) x = at (begins f conn now) (t ∷ ts) x
 
@@ -129,5 +128,5 @@ given-few (given.Write error size) room = omega arith
 given-few (given.Stb error stb) room = omega arith
 given-few (given.Error error) room = omega arith
 
-pub lent-fits : (g : Given) (room : List ℕ) (reply : Reply) → reply ≡ given_reply g room → given_len g ≤ WRITE_MAX → length (reply_bytes reply) ≤ WRITE_MAX
+pub lent-fits : (g : Given) (room : List ℕ) (reply : Reply) → reply ≡ given_reply g room → given_len g ≤ READ_MAX → length (reply_bytes reply) ≤ READ_MAX
 lent-fits g room reply e within = omega (arith, ap (λ r. length (reply_bytes r)) e, given-few g room, within)

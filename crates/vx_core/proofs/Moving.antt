@@ -4,11 +4,12 @@ use Rattle.std.specs.Prelude.{IsSome, is_some, not, ◌||◌}
 use Rattle.std.specs.Option.{option_and_then}
 use Rattle.std.proofs.lemmas.Bool.{cases_Bool, false≢true, cond-true, eq-eqb, eqb-true}
 use Rattle.std.proofs.lemmas.Option.{same_Some}
-use Rattle.vx_calls.specs.declared.limits.TheConstants.{ROLE_MAX, WRITE_MAX}
+use Rattle.vx_calls.specs.declared.limits.TheConstants.{ROLE_MAX, READ_MAX}
 use Rattle.vx_calls.specs.declared.codes.ErrorCode.{ErrorCode}
 use Rattle.vx_calls.specs.declared.codes.ErrorCode.TheVariants as code
 use Rattle.vx_calls.specs.Reply.{Reply}
 use Rattle.vx_calls.specs.declared.calls.Role.TheVariants as role
+use Rattle.vx_488.specs.declared.transfers.TheConstants.{ADDRESS_MAX}
 use Rattle.vx_488.specs.declared.transfers.Transfer.{Transfer}
 use Rattle.vx_488.specs.declared.transfers.Transfer.TheVariants as transfer
 use Rattle.vx_488.specs.declared.wire.Wire.{Wire}
@@ -81,23 +82,23 @@ own-job : (job : Task) → is_own_task job ≡ true → (n : ℕ) × (job ≡ ta
 own-job (task.Own n) h = (n, refl)
 own-job _ h = absurd (false≢true h)
 
-own-front : (n : ℕ) (ts more : List Transfer) (w : Wire) → w.own ≤ 30 → n ≤ 30 → ts ++ more ≡ transfer.Own n ∷ [] → (wire_after w ts).own ≤ 30
+own-front : (n : ℕ) (ts more : List Transfer) (w : Wire) → w.own ≤ ADDRESS_MAX → n ≤ ADDRESS_MAX → ts ++ more ≡ transfer.Own n ∷ [] → (wire_after w ts).own ≤ ADDRESS_MAX
 own-front n [] more w h within e = h
-own-front n (t ∷ []) more w h within e = let same : t ≡ transfer.Own n = cc in subst (λ x. (step w x).own ≤ 30) (sym same) within
+own-front n (t ∷ []) more w h within e = let same : t ≡ transfer.Own n = cc in subst (λ x. (step w x).own ≤ ADDRESS_MAX) (sym same) within
 own-front n (t ∷ u ∷ us) more w h within e = cc
 
 -- a list on the plan of a job with addresses up to 30 leaves an own address up to 30
-own-after : (job : Task) (bytes : List ℕ) (polling : Bool) (own : ℕ) (ts : List Transfer) (w : Wire) → w.own ≤ 30 → IsPlainTask job → stand (plan job bytes polling own) ts ≢ Off
-    → (wire_after w ts).own ≤ 30
+own-after : (job : Task) (bytes : List ℕ) (polling : Bool) (own : ℕ) (ts : List Transfer) (w : Wire) → w.own ≤ ADDRESS_MAX → IsPlainTask job → stand (plan job bytes polling own) ts ≢ Off
+    → (wire_after w ts).own ≤ ADDRESS_MAX
 own-after job bytes polling own ts w h within on = by (cases_Bool (is_own_task job)) where
-  new : (n : ℕ) → IsPlainTask (task.Own n) → stand (plan (task.Own n) bytes polling own) ts ≢ Off → (wire_after w ts).own ≤ 30
+  new : (n : ℕ) → IsPlainTask (task.Own n) → stand (plan (task.Own n) bytes polling own) ts ≢ Off → (wire_after w ts).own ≤ ADDRESS_MAX
   new n within on = let end = just-front (transfer.Own n ∷ []) ts on in own-front n ts end.0 w h within end.1
 
-  by : (is_own_task job ≡ true) ⊎ (is_own_task job ≡ false) → (wire_after w ts).own ≤ 30
+  by : (is_own_task job ≡ true) ⊎ (is_own_task job ≡ false) → (wire_after w ts).own ≤ ADDRESS_MAX
   by (inl e) =
       let is = own-job job e in
       new is.0 (subst IsPlainTask is.1 within) (subst (λ j. stand (plan j bytes polling own) ts ≢ Off) is.1 on)
-  by (inr e) = subst (λ n. n ≤ 30) (sym (own_stays-law job bytes polling own ts w e on)) h
+  by (inr e) = subst (λ n. n ≤ ADDRESS_MAX) (sym (own_stays-law job bytes polling own ts w e on)) h
 
 -- what is left of a plan isn't off it
 left-on : (p : Option Plan) (left : Plan) → p ≡ Some left → stand_of p ≢ Off
@@ -144,7 +145,7 @@ pub record HasGone {B : Type 0} (means : B → Means) (through : B → Step → 
   pub from : (turn_stand (fine_of means k) (turn_by k r) k.made ≡ Part) ⊎ ((means m.bus).moves ≡ [])
   pub to : turn_stand (fine_of means k) (turn_by k r) (k.made ++ (means m.bus).moves) ≡ outcome_stand outcome
   pub after : fine_of means m ≡ moved_on (fine_of means k) (turn_by k r) (means m.bus).moves
-  pub own : (means m.bus).wire.own ≤ 30
+  pub own : (means m.bus).wire.own ≤ ADDRESS_MAX
   pub runs : (s : Running) → m.running ≡ Some s → RunsTurn means m s
   pub tables : m.tables ≡ k.tables
   pub dialed : m.dialed ≡ k.dialed
@@ -211,7 +212,7 @@ has-gone {B} means through k conn outcome m has went =
           ∙ ap (λ w. M w went.turn.begun k.before) went.wire
           ∙ ap (λ b. M (wire_after (means k.bus).wire moves) b k.before) went.begun
           ∙ ap (M (wire_after (means k.bus).wire moves) r.turn.begun) (sym before);
-      own = subst (λ (w : Wire). w.own ≤ 30) (sym wire_now)
+      own = subst (λ (w : Wire). w.own ≤ ADDRESS_MAX) (sym wire_now)
           (own-after r.turn.task (bytes_of p.call) k.before.polling k.before.own (k.made ++ moves) k.before old.own old.plain
           (left-on (left_after (Some (plan_at k.before p r.turn.task)) (k.made ++ moves)) went.goes.left later));
       runs = λ s is. subst (RunsTurn means m) (same_Some ran s (sym running ∙ is)) went.runs;
@@ -348,7 +349,7 @@ pub gone-ends : {B : Type 0} (means : B → Means) (through : B → Step → B �
     → IsTold (moved_on (fine_of means k) (turn_by k r) (means m.bus).moves) conn gone.asked (srq m.bus) (ndac m.bus) (Answered ran level told)
     → Polls (fine_of means k) conn k.moment (means m.bus).moves (Answered ran level told)
     (over (moved_on (fine_of means k) (turn_by k r) (means m.bus).moves) conn k.moment k.tables)
-    → ended_shown ended new.room ≡ Answered ran level told → ended_len ended ≤ WRITE_MAX
+    → ended_shown ended new.room ≡ Answered ran level told → ended_len ended ≤ READ_MAX
     → EndsFrom means through srq ndac k conn ended new
 gone-ends {B} means through srq ndac k conn r outcome m new ended ran level told holds gone kept refused is_told polls shown within =
     let f : FineState = fine_of means k in
@@ -400,7 +401,7 @@ pub gone-finished : {B : Type 0} (means : B → Means) (through : B → Step →
     → new ≡ record (closed m conn) { room = new.room }
     → ((p : Pending) → pending_at m.tables conn ≡ Some p → ended_shown ended new.room ≡ Answered Finished (level_told s.turn.task (srq m.bus) (ndac m.bus))
     (whole_reply s.turn.task (bytes_of p.call) m.before (is_big p.call) (level_told s.turn.task (srq m.bus) (ndac m.bus)) m.made))
-    → ended_len ended ≤ WRITE_MAX → EndsFrom means through srq ndac k conn ended new
+    → ended_len ended ≤ READ_MAX → EndsFrom means through srq ndac k conn ended new
 gone-finished {B} means through srq ndac k conn r s m new ended holds gone running kept reply within =
     let f : FineState = fine_of means k in
     let u : Turn = turn_by k r in
@@ -432,7 +433,7 @@ pub gone-broken : {B : Type 0} (means : B → Means) (through : B → Step → B
     (m new : KernelState B) (ended : Ended) → Holds means k → (gone : HasGone means through k conn r went.Broken m) → new ≡ closed m conn
     → ((p : Pending) → pending_at m.tables conn ≡ Some p
     → ended_shown ended new.room ≡ Answered Broken false (stopped_reply p.call code.BusFault (moves_of (turn_of (turn_shown m.running m.made) conn))))
-    → ended_len ended ≤ WRITE_MAX → EndsFrom means through srq ndac k conn ended new
+    → ended_len ended ≤ READ_MAX → EndsFrom means through srq ndac k conn ended new
 gone-broken {B} means through srq ndac k conn r m new ended holds gone kept reply within =
     let f : FineState = fine_of means k in
     let u : Turn = turn_by k r in
@@ -458,7 +459,7 @@ pub gone-timeout : {B : Type 0} (means : B → Means) (through : B → Step → 
     → new ≡ closed m conn
     → ((p : Pending) → pending_at m.tables conn ≡ Some p
     → ended_shown ended new.room ≡ Answered Paused false (stopped_reply p.call code.Timeout (moves_of (turn_of (turn_shown m.running m.made) conn))))
-    → ended_len ended ≤ WRITE_MAX → EndsFrom means through srq ndac k conn ended new
+    → ended_len ended ≤ READ_MAX → EndsFrom means through srq ndac k conn ended new
 gone-timeout {B} means through srq ndac k conn r s m new ended holds gone running late kept reply within =
     let f : FineState = fine_of means k in
     let u : Turn = turn_by k r in

@@ -3,11 +3,12 @@ use Rattle.std.proofs.Common.{◌≡◌, ◌≤◌, ◌==◌, ℕ, Bool, true, f
 use Rattle.std.specs.Prelude.{is_some, is_none, not, ◌&&◌, ◌||◌}
 use Rattle.std.proofs.lemmas.Bool.{cond-true, eq-eqb}
 use Rattle.std.proofs.lemmas.Option.{same_Some}
-use Rattle.vx_calls.specs.declared.limits.TheConstants.{ROLE_MAX, WRITE_MAX}
+use Rattle.vx_calls.specs.declared.limits.TheConstants.{ROLE_MAX, READ_MAX}
 use Rattle.vx_calls.specs.declared.calls.Role.TheVariants as role
 use Rattle.vx_calls.specs.declared.codes.ErrorCode.{ErrorCode}
 use Rattle.vx_calls.specs.declared.codes.ErrorCode.TheVariants as code
 use Rattle.vx_calls.specs.Reply.{Reply}
+use Rattle.vx_488.specs.declared.transfers.TheConstants.{ADDRESS_MAX}
 use Rattle.vx_488.specs.declared.transfers.Transfer.{Transfer}
 use Rattle.vx_plan.specs.declared.tasks.Task.{Task}
 use Rattle.vx_plan.specs.Roles.{has_role}
@@ -60,7 +61,7 @@ lines-so means k conn said told p h is at =
 still-so : {B : Type 0} (means : B → Means) (through : B → Step → B → Type 0) (srq ndac : B → Bool) (k new : KernelState B) (conn : ℕ) (after : Tables)
     (given : Reply) (ended : Ended) → HasHeard means k conn → new ≡ closed (record k { tables = after }) conn
     → Polls (fine_of means k) conn k.moment [] (Answered Still false given) (over (fine_of means k) conn k.moment after)
-    → ended_shown ended new.room ≡ Answered Still false given → ended_len ended ≤ WRITE_MAX
+    → ended_shown ended new.room ≡ Answered Still false given → ended_len ended ≤ READ_MAX
     → EndsFrom means through srq ndac k conn ended new
 still-so {B} means through srq ndac k new conn after given ended heard kept polls shown within =
     let room : new.room ≡ k.room = ap (λ (s : KernelState B). s.room) kept in
@@ -75,7 +76,7 @@ pub refused-ends : {B : Type 0} (means : B → Means) (through : B → Step → 
     → new ≡ closed k conn
     → ((p : Pending) → pending_at k.tables conn ≡ Some p
     → ended_shown ended new.room ≡ Answered Still false (stopped_reply p.call error (moves_of (turn_of (turn_shown k.running k.made) conn))))
-    → ended_len ended ≤ WRITE_MAX → EndsFrom means through srq ndac k conn ended new
+    → ended_len ended ≤ READ_MAX → EndsFrom means through srq ndac k conn ended new
 refused-ends means through srq ndac k new conn error ended heard says kept reply within =
     let p = the_pending (pending_at k.tables conn) heard.pending in
     still-so means through srq ndac k new conn k.tables _ ended heard kept
@@ -150,7 +151,7 @@ pub effect-ends : {B : Type 0} (means : B → Means) (through : B → Step → B
     → ((p : Pending) → pending_at k.tables conn ≡ Some p → (given : Reply) × (after : Tables)
     × (effect k.tables (own_of means k conn) conn (named_link k.tables conn p.call) p.call ≡ Some (given, after))
     × (ended_shown ended new.room ≡ Answered Still false given) × (new ≡ closed (record k { tables = after }) conn))
-    → ended_len ended ≤ WRITE_MAX → EndsFrom means through srq ndac k conn ended new
+    → ended_len ended ≤ READ_MAX → EndsFrom means through srq ndac k conn ended new
 effect-ends {B} means through srq ndac k new conn ended heard passed free kinds has_effect within =
     let f : FineState = fine_of means k in
     let p = the_pending (pending_at k.tables conn) heard.pending in
@@ -198,7 +199,7 @@ pub no-role-ends : {B : Type 0} (means : B → Means) (through : B → Step → 
     → has ≡ false → same ≡ k → new ≡ closed same conn
     → ((p : Pending) → pending_at same.tables conn ≡ Some p
     → ended_shown ended new.room ≡ Answered Still false (stopped_reply p.call code.BusFault (moves_of (turn_of (turn_shown same.running same.made) conn))))
-    → ended_len ended ≤ WRITE_MAX → EndsFrom means through srq ndac k conn ended new
+    → ended_len ended ≤ READ_MAX → EndsFrom means through srq ndac k conn ended new
 no-role-ends {B} means through srq ndac k same new conn has ended heard passed none job lacks is kept reply within =
     let f : FineState = fine_of means k in
     let p = the_pending (pending_at k.tables conn) heard.pending in
@@ -242,7 +243,7 @@ has-begun {B} means k new conn has heard passed none job has_it begins =
     let bus : new.bus ≡ k.bus = ap (λ (s : KernelState B). s.bus) begins.kept in
     let holds : Holds means new = record {
       sound = stays_sound-law f (fine_of means new) (Begin conn k.moment) heard.keeps.holds.sound leads;
-      own = subst (λ b. (means b).wire.own ≤ 30) (sym bus) heard.keeps.holds.own;
+      own = subst (λ b. (means b).wire.own ≤ ADDRESS_MAX) (sym bus) heard.keeps.holds.own;
       runs = λ s at. subst (RunsTurn means new) (same_Some r s (sym is ∙ at)) begins.runs;
       dials = subst (λ (s : KernelState B). KeepsDials s.tables s.dialed) (sym begins.kept) heard.keeps.holds.dials;
       few = subst (λ (s : KernelState B). count_of s.tables role.Core ≤ ROLE_MAX) (sym begins.kept) heard.keeps.holds.few;

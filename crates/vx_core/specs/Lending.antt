@@ -3,9 +3,9 @@ use Rattle.std.specs.Prelude.{◌≡◌, ◌≤◌, ℕ, max, Bool, List, [], �
 use Rattle.std.specs.Borrow.{MutBor, Fml}
 use denote.RattleType.{RattleType}
 use Rattle.std.specs.Io.BufRead.{Rests}
-use Rattle.vx_calls.specs.declared.limits.TheConstants.{WRITE_MAX}
+use Rattle.vx_calls.specs.declared.limits.TheConstants.{READ_MAX}
 use Rattle.vx_calls.specs.Reply.{reply_shown}
-use Rattle.vx_bus_traits.specs.declared.asks.TheConstants.{ASK_MAX}
+use Rattle.vx_plan.specs.declared.tasks.TheConstants.{TURN_MAX}
 use Rattle.vx_bus_traits.specs.Means.{Means}
 use Rattle.vx_bus_traits.specs.Steps.{Step, Told, Cut}
 use Rattle.vx_bus_traits.specs.declared.bus.Bus.{Ghosts}
@@ -25,9 +25,9 @@ Shows (polled.NotYet why) (Waited waits) = why_shown why ≡ waits
 Shows (polled.Dial host port) (Dialed h p) = (host ≡ h) × (port ≡ p)
 Shows _ _ = ⊥
 
--- a reply has no more bytes than a write may have
+-- a reply has no more bytes than a read may get
 abbrev pub PollFits : Polled → Type 0
-PollFits (polled.Answer given) = length (reply_bytes (reply_shown given)) ≤ WRITE_MAX
+PollFits (polled.Answer given) = length (reply_bytes (reply_shown given)) ≤ READ_MAX
 PollFits _ = Unit {0}
 
 -- what a poll leaves of a core
@@ -36,8 +36,8 @@ pub record PollLeaves {B : Type 0} (means : B → Means) (through : B → Step �
   pub ending : Ending
   pub last : new.last ≡ Some ending
   pub shows : Shows result ending
-  -- fewer transfers than a bus may be asked for
-  pub few : length (means new.bus).moves ≤ ASK_MAX
+  -- no more transfers than a turn may make
+  pub few : length (means new.bus).moves ≤ TURN_MAX
   pub over : PollsOver means through srq ndac old.fine old.bus conn (max old.fine.state.moment now) (Cut ∷ Told (max old.fine.state.moment now) ∷ [])
       ending new.fine new.bus
 

@@ -1,6 +1,6 @@
 //! A poll of a call, by the order of answers.
 ghost use Rattle.std.specs.Prelude.{◌≡◌, ◌≤◌, true, Some, IsSome};
-ghost use Rattle.vx_calls.specs.declared.limits.TheConstants.{WRITE_MAX};
+ghost use Rattle.vx_calls.specs.declared.limits.TheConstants.{READ_MAX};
 ghost use Rattle.vx_rules.specs.State.{Pending, pending_at};
 ghost use Rattle.vx_rules.specs.Calls as calls;
 ghost use Rattle.vx_kernel.specs.Ending.{ended_len};
@@ -20,7 +20,7 @@ pub(crate) fn poll<B: Bus>(kernel: &mut Kernel<B>, conn: u32, now: u64) -> Ended
     requires keeps { Keeps B.means kernel.old }
     ensures keeps { Keeps B.means kernel.new }
     ensures last { kernel.new.last ≡ Some result }
-    ensures within { ended_len result ≤ WRITE_MAX }
+    ensures within { ended_len result ≤ READ_MAX }
     ensures leaves { Leaves B.means B.through B.srq_level B.ndac_level kernel.old conn now result kernel.new }
 {
     kernel.hear(now);

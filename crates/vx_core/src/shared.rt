@@ -6,6 +6,7 @@ ghost use Rattle.vx_calls.specs.Call.{call_shown};
 ghost use Rattle.vx_calls.specs.Reply as reply;
 ghost use Rattle.vx_calls.specs.declared.codes.ErrorCode.TheVariants as code;
 ghost use Rattle.vx_calls.specs.declared.calls.Role.TheVariants as role;
+ghost use Rattle.vx_488.specs.declared.transfers.TheConstants.{ADDRESS_MAX};
 ghost use Rattle.vx_488.specs.Wire.{first_wire};
 ghost use Rattle.vx_bus_traits.specs.Steps.{Told, Cut};
 ghost use Rattle.vx_bus_traits.specs.Walks.{Walk};
@@ -239,7 +240,7 @@ impl<B: Bus> Core<B> {
         ensures wire { self.now.fine.state.wire ≡ (B.means self.now.bus).wire }
         ensures sound { IsSound self.now.fine }
         ensures links { All IsPlainLink self.now.fine.state.tables.links.links }
-        ensures own { self.now.fine.before.own ≤ 30 }
+        ensures own { self.now.fine.before.own ≤ ADDRESS_MAX }
     {
         self.kernel.has_plain_links();
     }

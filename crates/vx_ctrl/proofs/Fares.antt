@@ -5,6 +5,7 @@ use Rattle.std.proofs.lemmas.List.Elements.{filter_map-append}
 use Rattle.std.proofs.lemmas.List.Sums.{sum_by-cons, count_by-le-length}
 use Rattle.std.proofs.lemmas.Bool.{leb-true}
 use Rattle.vx_calls.specs.declared.targets.Target.{Target}
+use Rattle.vx_488.specs.declared.transfers.TheConstants.{ADDRESS_MAX}
 use Rattle.vx_488.specs.declared.transfers.Transfer.{Transfer}
 use Rattle.vx_488.specs.declared.transfers.Transfer.TheVariants as transfer
 use Rattle.vx_plan.specs.declared.tasks.Task.{Task}
@@ -151,8 +152,8 @@ length-bytes_got ts = length-map (gots ts) (λ g. g.0)
 pub bytes_got-append : (xs ys : List Transfer) → bytes_got (xs ++ ys) ≡ bytes_got xs ++ bytes_got ys
 bytes_got-append xs ys = ap (map (λ g. g.0)) (filter_map-append got_of xs ys) ∙ map-append (λ g. g.0) (gots xs) (gots ys)
 
-low : (a : ℕ) (small : Bool) → leb a 30 ≡ small → one_if (not small) ≤ 0 → a ≤ 30
-low a true e h = leb-true a 30 e
+low : (a : ℕ) (small : Bool) → leb a ADDRESS_MAX ≡ small → one_if (not small) ≤ 0 → a ≤ ADDRESS_MAX
+low a true e h = leb-true a ADDRESS_MAX e
 low a false e h = absurd (omega arith)
 
 -- A place that a list reached: how many data bytes it moved, and how many others it made.
@@ -173,8 +174,8 @@ module _ (task : Task) (bytes : List ℕ) (ts : List Transfer) (left : Plan) (pl
   pub step-short : place.step ≤ 9
   step-short = omega (arith, step-is, others-few task ts left has)
 
-  pub own-short : (a : ℕ) → next_slot left ≡ Some (This (transfer.Own a)) → a ≤ 30
-  own-short a h = low a (leb a 30) refl (omega (arith, wanted-one is_high false left (This (transfer.Own a)) has.opens h, has.high))
+  pub own-short : (a : ℕ) → next_slot left ≡ Some (This (transfer.Own a)) → a ≤ ADDRESS_MAX
+  own-short a h = low a (leb a ADDRESS_MAX) refl (omega (arith, wanted-one is_high false left (This (transfer.Own a)) has.opens h, has.high))
 
   -- where a byte is got next the job is one that gets bytes, all that it moved were got, and there is room for one more
   pub gets-some : (slot : Option Slot) (t : Transfer) → slot ≡ next_slot left → FitsNext slot t → is_got t ≡ true

@@ -1,6 +1,7 @@
 -- A turn that goes on: what it made of its plan since it began to go.
 use Rattle.std.proofs.Common.{◌≡◌, ◌≢◌, ℕ, ◌+◌, ◌-◌, ◌<◌, true, ◌≤◌, List, [], ◌∷◌, ◌++◌, map, length, take, count_by, Option, Some, None, refl, sym, ap, ◌∙◌, subst, arith, append_assoc, length-append}
 use Rattle.std.proofs.lemmas.List.{map-append, append-nil, length-take}
+use Rattle.vx_488.specs.declared.transfers.TheConstants.{ADDRESS_MAX}
 use Rattle.vx_488.specs.declared.transfers.Transfer.{Transfer}
 use Rattle.vx_488.specs.declared.wire.Wire.{Wire}
 use Rattle.vx_488.specs.Wire.{wire_after}
@@ -8,6 +9,7 @@ use Rattle.vx_488.specs.Laws.{WireAppendsLaw}
 use Rattle.vx_bus_traits.specs.Means.{Means}
 use Rattle.vx_bus_traits.specs.Steps.{Step, Went}
 use Rattle.vx_bus_traits.specs.Walks.{StepsTo, Walk}
+use Rattle.vx_plan.specs.declared.tasks.TheConstants.{TURN_MAX}
 use Rattle.vx_plan.specs.declared.tasks.Task.{Task}
 use Rattle.vx_plan.specs.declared.tasks.Place.{Place}
 use Rattle.vx_plan.specs.declared.tasks.Next.{Next}
@@ -18,7 +20,7 @@ use Rattle.vx_plan.specs.Transfers.{is_got}
 use Rattle.vx_plan.specs.Tasks.{IsPlainTask}
 use Rattle.vx_calls.specs.declared.limits.TheConstants.{WRITE_MAX}
 use Rattle.vx_plan.specs.Places.{Reaches, place_after, slot_wanted}
-use Rattle.vx_plan.specs.Laws.{FitsNext, PlaceGoesOnLaw, BoundLaw, most_transfers}
+use Rattle.vx_plan.specs.Laws.{FitsNext, PlaceGoesOnLaw, BoundLaw}
 use Rattle.vx_ctrl.specs.declared.turn.Went.{Went as Outcome}
 use Rattle.vx_ctrl.specs.declared.turn.Went.TheVariants as went
 use Rattle.vx_ctrl.specs.declared.asking.Asked.TheVariants.{Made, Stopped}
@@ -134,7 +136,7 @@ pub record Going {B : Type 0} (means : B → Means) (through : B → Step → B 
 -- what a caller of a turn that goes keeps to
 pub record Ready (first : TurnState) (bytes room : List ℕ) (means : Means) : Type 0 where
   pub plain : IsPlainTask first.task
-  pub own : first.place.own ≤ 30
+  pub own : first.place.own ≤ ADDRESS_MAX
   pub short : length bytes ≤ WRITE_MAX
   pub has_room : HasRoom first.task (length room)
   pub cut : means.moves ≡ []
@@ -239,10 +241,10 @@ module _ {B : Type 0} (means : B → Means) (through : B → Step → B → Type
   pub plain-in : IsPlainTask turn.task
   plain-in = plain-now
 
-  pub own-in : first.place.own ≤ 30 → turn.place.own ≤ 30
+  pub own-in : first.place.own ≤ ADDRESS_MAX → turn.place.own ≤ ADDRESS_MAX
   own-in h = omega (arith, under.has_made.own, begins.2.had_made.own)
 
-  few : BoundLaw → length begins.1 + length (means now).moves ≤ most_transfers
+  few : BoundLaw → length begins.1 + length (means now).moves ≤ TURN_MAX
   few law =
       let r = under.has_made.reaches in
       omega (

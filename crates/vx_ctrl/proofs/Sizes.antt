@@ -1,9 +1,10 @@
 -- How many transfers of each kind the plan of a job may want.
 use Rattle.std.proofs.Common.{◌≡◌, ℕ, ◌+◌, ◌≤◌, min, Bool, true, false, not, cond, leb, ◌==◌, List, [], ◌∷◌, ◌++◌, map, length, Option, Some, None, refl, ap, subst, arith}
 use Rattle.std.proofs.lemmas.Bool.{eqb-false, le-leb}
-use Rattle.vx_calls.specs.declared.limits.TheConstants.{WRITE_MAX}
+use Rattle.vx_calls.specs.declared.limits.TheConstants.{READ_MAX}
 use Rattle.vx_calls.specs.declared.targets.Target.{Target}
 use Rattle.vx_calls.specs.declared.targets.Target.TheVariants.{Interface, Device}
+use Rattle.vx_488.specs.declared.transfers.TheConstants.{ADDRESS_MAX}
 use Rattle.vx_488.specs.declared.transfers.Transfer.{Transfer}
 use Rattle.vx_488.specs.declared.transfers.Transfer.TheVariants as transfer
 use Rattle.vx_plan.specs.declared.tasks.Task.{Task}
@@ -28,7 +29,7 @@ is_line _ = false
 
 -- an own address above 30
 abbrev pub is_high : Transfer → Bool
-is_high (transfer.Own a) = not (leb a 30)
+is_high (transfer.Own a) = not (leb a ADDRESS_MAX)
 is_high _ = false
 
 -- a plan with at most so many command bytes, bytes put and bytes got, and at most one other transfer
@@ -113,11 +114,11 @@ sized slots commands puts gets lines most k h one = record {
 }
 
 sized-read : (front : List ℕ) (max : ℕ) (stop : Option ℕ) → length front ≤ 8
-    → Sized 8 0 (min max WRITE_MAX) (reading (map transfer.Cmd front) max stop)
+    → Sized 8 0 (min max READ_MAX) (reading (map transfer.Cmd front) max stop)
 sized-read front max stop h = by (max == 0) refl
   where
     by : (none : Bool) → (max == 0) ≡ none
-        → Sized 8 0 (min max WRITE_MAX) (cond none (just []) (record { front = map This (map transfer.Cmd front); reading = Some (record { most = min max WRITE_MAX; stop = stop }) }))
+        → Sized 8 0 (min max READ_MAX) (cond none (just []) (record { front = map This (map transfer.Cmd front); reading = Some (record { most = min max READ_MAX; stop = stop }) }))
     by true e = record {
       commands_at_most = omega arith;
       puts_at_most = omega arith;
@@ -151,7 +152,7 @@ write-sized t end bytes polling own = by t polling
     by (Device p (Some s)) true = sized _ 5 n 0 0 8 (behind (0x19 ∷ 0x3F ∷ (0x40 + own) ∷ (0x20 + p) ∷ (0x60 + s) ∷ []) _ 0 n 0 0 k) (omega arith) (omega arith)
     by (Device p (Some s)) false = sized _ 4 n 0 0 8 (behind (0x3F ∷ (0x40 + own) ∷ (0x20 + p) ∷ (0x60 + s) ∷ []) _ 0 n 0 0 k) (omega arith) (omega arith)
 
-read-sized : (t : Target) (max : ℕ) (stop : Option ℕ) (polling : Bool) (own : ℕ) → Sized 8 0 (min max WRITE_MAX) (read_plan t max stop polling own)
+read-sized : (t : Target) (max : ℕ) (stop : Option ℕ) (polling : Bool) (own : ℕ) → Sized 8 0 (min max READ_MAX) (read_plan t max stop polling own)
 read-sized Interface max stop polling own = sized-read [] max stop (omega arith)
 read-sized (Device p None) max stop true own = sized-read (0x19 ∷ 0x3F ∷ (0x20 + own) ∷ (0x40 + p) ∷ []) max stop (omega arith)
 read-sized (Device p None) max stop false own = sized-read (0x3F ∷ (0x20 + own) ∷ (0x40 + p) ∷ []) max stop (omega arith)
@@ -206,7 +207,7 @@ most_puts (Write t len end) = len
 most_puts _ = 0
 
 abbrev pub most_gets : Task → ℕ
-most_gets (Read t max stop) = min max WRITE_MAX
+most_gets (Read t max stop) = min max READ_MAX
 most_gets (Stb t) = 1
 most_gets _ = 0
 
@@ -229,6 +230,6 @@ plan-sized (Atn on) bytes polling own plain has =
 plan-sized (Ren on) bytes polling own plain has = one-line on
 plan-sized (Pass p) bytes polling own plain has = sized _ 3 0 0 0 8 (commands-counts (0x3F ∷ (0x40 + p) ∷ 0x09 ∷ [])) (omega arith) (omega arith)
 plan-sized (Own p) bytes polling own plain has =
-    sized _ 0 0 0 1 8 (record { of_commands = refl; of_puts = refl; of_gets = refl; of_lines = refl; of_high = omega (arith, ap (λ low. one_if (not low)) (le-leb p 30 plain)) }) (omega arith) (omega arith)
+    sized _ 0 0 0 1 8 (record { of_commands = refl; of_puts = refl; of_gets = refl; of_lines = refl; of_high = omega (arith, ap (λ low. one_if (not low)) (le-leb p ADDRESS_MAX plain)) }) (omega arith) (omega arith)
 plan-sized Ifc bytes polling own plain has =
     sized _ 0 0 0 1 8 (record { of_commands = refl; of_puts = refl; of_gets = refl; of_lines = refl; of_high = refl }) (omega arith) (omega arith)

@@ -1,5 +1,6 @@
 -- What one ask of a bus comes to.
 use Rattle.std.specs.Prelude.{◌≡◌, ◌≤◌, ⊤, Option, Some, None}
+use Rattle.vx_488.specs.declared.transfers.TheConstants.{ADDRESS_MAX}
 use Rattle.vx_488.specs.declared.transfers.Transfer.{Transfer}
 use Rattle.vx_488.specs.declared.transfers.Transfer.TheVariants.{Got}
 use Rattle.vx_bus_traits.specs.declared.asks.Move.{Move}
@@ -40,5 +41,5 @@ Asks means through _ _ old new = ⊥
 
 -- a new own address is 0 to 30
 abbrev pub IsPlainNext : Next → Type 0
-IsPlainNext (next.Own a) = a ≤ 30
+IsPlainNext (next.Own a) = a ≤ ADDRESS_MAX
 IsPlainNext _ = ⊤

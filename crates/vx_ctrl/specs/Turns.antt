@@ -1,6 +1,6 @@
 -- A turn on the bus, and the list of transfers that it has made.
 use Rattle.std.specs.Prelude.{◌≡◌, ℕ, ◌+◌, ◌≤◌, min, ⊤, List, ◌++◌, length, take, drop, slice_set, count_by}
-use Rattle.vx_calls.specs.declared.limits.TheConstants.{WRITE_MAX}
+use Rattle.vx_calls.specs.declared.limits.TheConstants.{READ_MAX}
 use Rattle.vx_488.specs.declared.transfers.Transfer.{Transfer}
 use Rattle.vx_488.specs.declared.transfers.Transfer.TheVariants.{Got}
 use Rattle.vx_488.specs.declared.wire.Wire.{Wire}
@@ -25,7 +25,7 @@ pub record HasMade (turn : TurnState) (w : Wire) (bytes : List ℕ) (made : List
 
 -- a read wants room for all the bytes that it may get, a serial poll for one
 abbrev pub HasRoom : Task → ℕ → Type 0
-HasRoom (Read t max stop) room = min max WRITE_MAX ≤ room
+HasRoom (Read t max stop) room = min max READ_MAX ≤ room
 HasRoom (Stb t) room = 1 ≤ room
 HasRoom _ room = ⊤
 

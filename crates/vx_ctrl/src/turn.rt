@@ -1,5 +1,6 @@
 ghost use Rattle.std.specs.Prelude.{◌≡◌, ◌≤◌, ◌<◌, ◌-◌, ◌^◌, ℕ, true, List, [], ◌++◌, length};
 ghost use Rattle.vx_calls.specs.declared.limits.TheConstants.{WRITE_MAX};
+ghost use Rattle.vx_488.specs.declared.transfers.TheConstants.{ADDRESS_MAX};
 ghost use Rattle.vx_488.specs.declared.transfers.Transfer.{Transfer};
 ghost use Rattle.vx_488.specs.declared.wire.Wire.{Wire};
 ghost use Rattle.vx_488.specs.Wire.{wire_after};
@@ -52,7 +53,7 @@ impl Turn {
     /// A turn that begins now, at this moment in milliseconds, and has made no transfer yet.
     pub fn begin(task: Task, wire: &Wire, now: u64) -> Turn
         requires plain { IsPlainTask task }
-        requires own { wire.now.own ≤ 30 }
+        requires own { wire.now.own ≤ ADDRESS_MAX }
         ensures task { result.task ≡ task }
         ensures begun { result.begun ≡ now }
         ensures nothing { (bytes : List ℕ) → HasBytes task bytes
@@ -68,11 +69,11 @@ impl Turn {
 
     /// Goes on, one transfer after the other, until the job is done or the bus holds or fails.
     ///
-    /// `bytes` are those of the job, at most 65,536. The bytes that are got stand in `room` at their places: a read
-    /// wants room for as many as it may get, up to 65,536, a serial poll for one. The bus was cut before.
+    /// `bytes` are those of the job, at most `WRITE_MAX`. The bytes that are got stand in `room` at their places: a read
+    /// wants room for as many as it may get, up to `READ_MAX`, a serial poll for one. The bus was cut before.
     pub fn go<B: Bus>(&mut self, bus: &mut B, bytes: &[u8], room: &mut [u8]) -> Went
         requires plain { IsPlainTask self.old.task }
-        requires own { self.old.place.own ≤ 30 }
+        requires own { self.old.place.own ≤ ADDRESS_MAX }
         requires short { length bytes.now ≤ WRITE_MAX }
         requires room { HasRoom self.old.task (length room.old) }
         requires cut { (B.means bus.old).moves ≡ [] }
@@ -106,7 +107,7 @@ impl Turn {
     /// Asks the bus for what its job wants next.
     fn ask<B: Bus>(&self, bus: &mut B, bytes: &[u8]) -> Asked
         requires plain { IsPlainTask self.now.task }
-        requires own { self.now.place.own ≤ 30 }
+        requires own { self.now.place.own ≤ ADDRESS_MAX }
         requires reached { (ts : List Transfer) × (left : Plan) × Reaches self.now.task bytes.now ts left self.now.place }
         requires asks { (B.means bus.old).asks < ASK_MAX }
         ensures { (ts : List Transfer) (left : Plan) → Reaches self.now.task bytes.now ts left self.now.place

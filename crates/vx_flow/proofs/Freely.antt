@@ -10,6 +10,7 @@ use Rattle.vx_calls.specs.declared.targets.Target.{Target}
 use Rattle.vx_calls.specs.declared.targets.Target.TheVariants.{Interface, Device}
 use Rattle.vx_calls.specs.Target.{conflict}
 use Rattle.vx_calls.specs.Call.{Call}
+use Rattle.vx_488.specs.declared.transfers.TheConstants.{ADDRESS_MAX}
 use Rattle.vx_488.specs.declared.transfers.Addr.{Addr}
 use Rattle.vx_488.specs.declared.transfers.Transfer.{Transfer}
 use Rattle.vx_488.specs.declared.wire.Wire.{Wire}
@@ -113,7 +114,7 @@ number-is : (t : Tables) (conn lid : ℕ) (l : Link) → link_of t conn lid ≡ 
 number-is t conn lid l h =
     eqb-true l.number lid (and_parts (l.number == lid) (l.connection == conn) (found_passes (λ k. (k.number == lid) && (k.connection == conn)) t.links.links l h)).0
 
-made-free : (t : Tables) (w : Wire) (conn : ℕ) (p : Pending) (moves : List Transfer) → AllPlain t → w.own ≤ 30 → Made t w conn p moves
+made-free : (t : Tables) (w : Wire) (conn : ℕ) (p : Pending) (moves : List Transfer) → AllPlain t → w.own ≤ ADDRESS_MAX → Made t w conn p moves
     → AreFree (link_named p.call) t.locks (reached w moves)
 made-free t w conn p moves all small m = by m.link.target refl where
   link : (lid : ℕ) × (link_named p.call ≡ Some lid) × (link_of t conn lid ≡ Some m.link)
@@ -182,7 +183,7 @@ all-back P [] ys h = h
 all-back P (x ∷ xs) ys h = all-back P xs ys (All-tail P x (xs ++ ys) h)
 
 -- what a turn makes is made with what it made before
-more-free : (t : Tables) (before now : Wire) (moment : ℕ) (u : Turn) (moves : List Transfer) (s : Stands t before now moment u) → AllPlain t → before.own ≤ 30
+more-free : (t : Tables) (before now : Wire) (moment : ℕ) (u : Turn) (moves : List Transfer) (s : Stands t before now moment u) → AllPlain t → before.own ≤ ADDRESS_MAX
     → Made t before u.connection s.asked (u.moves ++ moves) → AreFree (link_named s.asked.call) t.locks (reached now moves)
 more-free t before now moment u moves s all small m =
     let free = made-free t before u.connection s.asked (u.moves ++ moves) all small m in
@@ -191,7 +192,7 @@ more-free t before now moment u moves s all small m =
     subst (λ w. AreFree (link_named s.asked.call) t.locks (reached w moves)) (sym s.made) behind
 
 move-free : (s : State) (turn : Option Turn) (before : Wire) (dialed : List ℕ) (g : FineState) (conn : ℕ) (moves : List Transfer)
-    → IsSound (in_turn s turn before dialed) → AllPlain s.tables → before.own ≤ 30 → IsOpen (in_turn s turn before dialed)
+    → IsSound (in_turn s turn before dialed) → AllPlain s.tables → before.own ≤ ADDRESS_MAX → IsOpen (in_turn s turn before dialed)
     → fine_step (in_turn s turn before dialed) (Move conn moves) ≡ Some g → AreFree (link_called s conn) s.tables.locks (reached s.wire moves)
 move-free s None before dialed g conn moves sound all small more h = cc
 move-free s (Some u) before dialed g conn moves sound all small more h =

@@ -11,6 +11,7 @@ use Rattle.vx_calls.specs.Call.{Call}
 use Rattle.vx_calls.specs.Call as call
 use Rattle.vx_calls.specs.Reply.{Reply}
 use Rattle.vx_calls.specs.Reply as reply
+use Rattle.vx_488.specs.declared.transfers.TheConstants.{ADDRESS_MAX}
 use Rattle.vx_488.specs.declared.transfers.Addr.{Addr}
 use Rattle.vx_488.specs.declared.transfers.Transfer.{Transfer}
 use Rattle.vx_488.specs.declared.wire.Wire.{Wire}
@@ -182,7 +183,7 @@ others_dont a b ne = by (cases_Bool (same_address a b)) where
   by (inl e) = absurd (ne (same_address-equal a b e))
   by (inr e) = ap (λ c. c || false) e
 
-heard-there : (w : Wire) (p : ℕ) (s : Option ℕ) (end : Bool) (bytes : List ℕ) (moves : List Transfer) → IsTargetPlain (Device p s) → w.own ≤ 30
+heard-there : (w : Wire) (p : ℕ) (s : Option ℕ) (end : Bool) (bytes : List ℕ) (moves : List Transfer) → IsTargetPlain (Device p s) → w.own ≤ ADDRESS_MAX
     → stand (write_plan (Device p s) end bytes w.polling w.own) moves ≡ Whole → (a : Addr) → (hears : Bool) → has_address (record { p = p; s = s } ∷ []) a ≡ hears
     → heard a w moves ≡ (if hears then marked_bytes end bytes else [])
 heard-there w p s end bytes moves plain small stands a hears is =

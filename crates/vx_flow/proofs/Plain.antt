@@ -17,6 +17,7 @@ use Rattle.vx_calls.specs.Target.{comma_parts, is_name, is_number, is_gateway, i
 use Rattle.vx_calls.specs.Call.{Call}
 use Rattle.vx_calls.specs.Call as call
 use Rattle.vx_calls.specs.Reply.{Reply}
+use Rattle.vx_488.specs.declared.transfers.TheConstants.{ADDRESS_MAX}
 use Rattle.vx_488.specs.declared.transfers.Transfer.{Transfer}
 use Rattle.vx_488.specs.declared.transfers.Transfer.TheVariants as transfer
 use Rattle.vx_488.specs.declared.wire.Wire.{Wire}
@@ -60,12 +61,12 @@ chosen-reachable own false x e h = tt
 device-reachable : (own p : ℕ) (s : Option ℕ) → FoundReachable own (device_at own p s)
 device-reachable own p None =
     chosen-reachable own (is_address p && not (p == own)) (Ok (Device p None)) code.InvalidAddress
-    (λ e. let both = and_parts (is_address p) (not (p == own)) e in (leb-true p 30 both.0, eqb-false p own (not-true (p == own) both.1)))
+    (λ e. let both = and_parts (is_address p) (not (p == own)) e in (leb-true p ADDRESS_MAX both.0, eqb-false p own (not-true (p == own) both.1)))
 device-reachable own p (Some s) =
     chosen-reachable own (is_address p && not (p == own) && is_address s) (Ok (Device p (Some s))) code.InvalidAddress
     (λ e. let both = and_parts (is_address p && not (p == own)) (is_address s) e in
     let first = and_parts (is_address p) (not (p == own)) both.0 in
-    (leb-true p 30 first.0, eqb-false p own (not-true (p == own) first.1), leb-true s 30 both.1))
+    (leb-true p ADDRESS_MAX first.0, eqb-false p own (not-true (p == own) first.1), leb-true s ADDRESS_MAX both.1))
 
 behind-reachable : (own : ℕ) (name : List ℕ) (x : Result Target ErrorCode) → FoundReachable own x → FoundReachable own (behind name x)
 behind-reachable own name x h = chosen-reachable own (is_gateway name) x code.NotAccessible (λ e. h)
@@ -182,7 +183,7 @@ OwnHas P _ = Unit {0}
 
 -- what holds of each address up to 30 that no live link uses
 abbrev OfUnused : (ℕ → Type 0) → Table → Type 0
-OfUnused P links = (n : ℕ) → n ≤ 30 → uses_address links n ≡ false → P n
+OfUnused P links = (n : ℕ) → n ≤ ADDRESS_MAX → uses_address links n ≡ false → P n
 
 takes : (b : Bool) → cond b None (Some code.Parameter) ≡ None → b ≡ true
 takes true h = refl
@@ -193,8 +194,8 @@ command-has : (P : ℕ → Type 0) (t : Tables) (own : ℕ) (big : Bool) (bytes 
 command-has P t own big bytes BusAddress unused h =
     let n = number_in big bytes in
     let both = and_parts (has_length BusAddress (length bytes)) (takes_number BusAddress own t.links n) (takes (takes_input BusAddress own t.links big bytes) h) in
-    let number = and_parts (nat_le n 30) (not (uses_address t.links n)) both.1 in
-    unused n (leb-true n 30 number.0) (not-true (uses_address t.links n) number.1)
+    let number = and_parts (nat_le n ADDRESS_MAX) (not (uses_address t.links n)) both.1 in
+    unused n (leb-true n ADDRESS_MAX number.0) (not-true (uses_address t.links n) number.1)
 command-has P t own big bytes _ unused h = tt
 
 -- a job that a call is, whose checks pass, takes no own address above 30, and none that a live link uses
@@ -265,10 +266,10 @@ all-unused n own (l ∷ ls) none all =
 -- The gateway can reach the devices of all live links, whose addresses are plain; its own address is at most 30.
 pub record IsPlain (s : State) : Type 0 where
   pub links : AllPlain s.tables
-  pub own : s.wire.own ≤ 30
+  pub own : s.wire.own ≤ ADDRESS_MAX
   pub reachable : AllReachable s.wire.own s.tables.links.links
 
-is-plain : (s : State) → s.wire.own ≤ 30 → AllReachable s.wire.own s.tables.links.links → IsPlain s
+is-plain : (s : State) → s.wire.own ≤ ADDRESS_MAX → AllReachable s.wire.own s.tables.links.links → IsPlain s
 is-plain s own reachable = record {
   links = All-weaker (IsLinkReachable s.wire.own) IsLinkPlain (λ l h. reachable-plain s.wire.own l.target h) s.tables.links.links reachable;
   own = own;
@@ -307,7 +308,7 @@ one-plain (Down conn moves) s t plain h =
     let made = leave-made s conn moves (pending_at s.tables conn) leaves in
     let links = s.tables.links.links in
     subst IsPlain parts.1 (is-plain (record s { tables = without_connection s.tables conn; wire = wire_after s.wire moves })
-    (leave-own (λ n. n ≤ 30) s conn moves (λ n le none. le) plain.own made)
+    (leave-own (λ n. n ≤ ADDRESS_MAX) s conn moves (λ n le none. le) plain.own made)
     (All-filter (λ l. not (l.connection == conn)) (IsLinkReachable (wire_after s.wire moves).own) links
     (leave-own (λ n. AllReachable n links) s conn moves (λ n le none. all-unused n s.wire.own links none plain.reachable) plain.reachable made)))
 one-plain (Arrive conn asked now) s t plain h =
@@ -319,7 +320,7 @@ one-plain (Answer conn now begun moves failed dialed level told) s t plain h =
     let a = answer-parts s t conn now o told h in
     let made = answer-made s.tables s.wire conn a.asked now o a.decided a.fits a.found in
     subst IsPlain a.is (is-plain (record { tables = with_pending a.decided.1 conn None; wire = wire_after s.wire moves; moment = now })
-    (any-own (λ n. n ≤ 30) s.tables s.wire conn a.asked moves (λ n le none. le) plain.own made)
+    (any-own (λ n. n ≤ ADDRESS_MAX) s.tables s.wire conn a.asked moves (λ n le none. le) plain.own made)
     (answer-reachable s.tables s.wire conn a.asked (first_lines s.tables s.wire.own conn (settles o) a.asked now) a.decided moves
     (decide-found s.tables s.wire conn a.asked now o a.decided a.found) plain.reachable made))
 one-plain (Abort conn lid told) s t plain h =

@@ -8,9 +8,10 @@ use Rattle.std.proofs.lemmas.List.Elements.{All-nil}
 use Rattle.vx_calls.specs.declared.codes.ErrorCode.{ErrorCode}
 use Rattle.vx_calls.specs.declared.codes.ErrorCode.TheVariants as code
 use Rattle.vx_calls.specs.declared.targets.Target.TheVariants.{Device}
-use Rattle.vx_calls.specs.declared.limits.TheConstants.{WRITE_MAX}
+use Rattle.vx_calls.specs.declared.limits.TheConstants.{READ_MAX}
 use Rattle.vx_calls.specs.Call.{Call}
 use Rattle.vx_calls.specs.Call as call
+use Rattle.vx_488.specs.declared.transfers.TheConstants.{ADDRESS_MAX}
 use Rattle.vx_488.specs.declared.transfers.Addr.{Addr}
 use Rattle.vx_488.specs.declared.transfers.Transfer.{Transfer}
 use Rattle.vx_488.specs.declared.transfers.Transfer.TheVariants as transfer
@@ -48,15 +49,15 @@ first-goes P w true xs rest = rest (step w spd)
 first-goes P w false xs rest = rest w
 
 -- UNL and the gateway's own address reach nobody
-unlisten-talk : (P : Addr → Type 0) (w : Wire) (own : ℕ) (ts : List Transfer) → own ≤ 30 → ((v : Wire) → v.listeners ≡ [] → All P (reached v ts)) → All P (reached w (unl ∷ mta own ∷ ts))
+unlisten-talk : (P : Addr → Type 0) (w : Wire) (own : ℕ) (ts : List Transfer) → own ≤ ADDRESS_MAX → ((v : Wire) → v.listeners ≡ [] → All P (reached v ts)) → All P (reached w (unl ∷ mta own ∷ ts))
 unlisten-talk P w own ts small rest =
     quiet P (step w unl) (0x40 + own) (Talk own) ts (talk_byte own small) refl (rest (on_command (step w unl) (Talk own)) refl)
 
-unlisten-listen : (P : Addr → Type 0) (w : Wire) (own : ℕ) (ts : List Transfer) → own ≤ 30 → ((v : Wire) → All P (reached v ts)) → All P (reached w (unl ∷ mla own ∷ ts))
+unlisten-listen : (P : Addr → Type 0) (w : Wire) (own : ℕ) (ts : List Transfer) → own ≤ ADDRESS_MAX → ((v : Wire) → All P (reached v ts)) → All P (reached w (unl ∷ mla own ∷ ts))
 unlisten-listen P w own ts small rest =
     quiet P (step w unl) (0x20 + own) (Listen own) ts (listen_byte own small) refl (rest (on_command (step w unl) (Listen own)))
 
-module _ (w : Wire) (p : ℕ) (s : Option ℕ) (within : p ≤ 30) (plain : IsSecondaryPlain s) (small : w.own ≤ 30) where
+module _ (w : Wire) (p : ℕ) (s : Option ℕ) (within : p ≤ ADDRESS_MAX) (plain : IsSecondaryPlain s) (small : w.own ≤ ADDRESS_MAX) where
   abbrev here : Addr
   here = record { p = p; s = s }
 
@@ -79,7 +80,7 @@ module _ (w : Wire) (p : ℕ) (s : Option ℕ) (within : p ≤ 30) (plain : IsSe
 
   read-reaches : (max : ℕ) (stop : Option ℕ) (bytes : List ℕ) (ts : List Transfer) → IsWhole (plan (task.Read (Device p s) max stop) bytes w.polling w.own) ts → All (At p) (reached w ts)
   read-reaches max stop bytes ts made = by (max == 0) refl made where
-    some : IsWhole (record { front = map This front; reading = Some (record { most = min max WRITE_MAX; stop = stop }) }) ts → All (At p) (reached w ts)
+    some : IsWhole (record { front = map This front; reading = Some (record { most = min max READ_MAX; stop = stop }) }) ts → All (At p) (reached w ts)
     some h =
         let read = h.4 in
         subst (λ y. All (At p) (reached w y))
@@ -87,7 +88,7 @@ module _ (w : Wire) (p : ℕ) (s : Option ℕ) (within : p ≤ 30) (plain : IsSe
         (ended-goes (At p) w w.polling (unl ∷ mla w.own ∷ talker p s) (map whole.got read.0 ++ whole.got read.1 ∷ []) (λ v. read-goes v read.0 read.1))
 
     by : (b : Bool) → (max == 0) ≡ b
-        → IsWhole (cond b (just []) (record { front = map This front; reading = Some (record { most = min max WRITE_MAX; stop = stop }) })) ts → All (At p) (reached w ts)
+        → IsWhole (cond b (just []) (record { front = map This front; reading = Some (record { most = min max READ_MAX; stop = stop }) })) ts → All (At p) (reached w ts)
     by true e h = just-reaches (At p) w [] ts h (All-nil (At p))
     by false e h = some h
 

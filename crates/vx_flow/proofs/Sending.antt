@@ -21,7 +21,8 @@ use Rattle.vx_488.specs.declared.wire.Wire.{Wire}
 use Rattle.vx_488.specs.Wire.{wire_after}
 use Rattle.vx_links.specs.Table.{Link, is_live}
 use Rattle.vx_locks.specs.Locks.{holds, with_lock}
-use Rattle.vx_srq.specs.Desk.{Desk, Enable, Channel, OUTBOX, Srq, Given, Front, Empty, Gone, channel_at, with_channel, with_new_channel, new_channel, handles_of, queued_on, risen_port, is_rise, sampled, front_given, given_by, given, front_taken, taken_from, taken}
+use Rattle.vx_srq.specs.declared.srq.TheConstants.{OUTBOX_MAX}
+use Rattle.vx_srq.specs.Desk.{Desk, Enable, Channel, Srq, Given, Front, Empty, Gone, channel_at, with_channel, with_new_channel, new_channel, handles_of, queued_on, risen_port, is_rise, sampled, front_given, given_by, given, front_taken, taken_from, taken}
 use Rattle.vx_rules.specs.State.{Pending, Tables, State, first, connection_at, pending_at, lives_as, is_idle, has_room, with_pending, with_connection, without_connection}
 use Rattle.vx_rules.specs.Lists.{along}
 use Rattle.vx_rules.specs.Lines.{Lines}
@@ -435,7 +436,7 @@ risen-kept mine s level took queued k = by (channel_at d mine) refl (channel-ris
   by None here after =
       kept-same mine u took (λ n. took n ++ []) queued (λ n. queued n ++ rise_queues mine s n) (λ n. append-nil (took n))
       (λ n. ap (λ x. queued n ++ x) (rise-none mine s n here) ∙ append-nil (queued n)) (kept-changed mine d u took queued (Shut (le_self d.next_channel) after) k)
-  by (Some c) here after = full c here (nat_le (length (c.outbox ++ more)) OUTBOX) after
+  by (Some c) here after = full c here (nat_le (length (c.outbox ++ more)) OUTBOX_MAX) after
 
 sampled-kept : (mine : ℕ) (s : State) (level : Bool) (took : ℕ → List Srq) (queued : ℕ → List (List ℕ)) → Kept mine s.tables.desk took queued
     → Kept mine (sampled s.tables.desk level) (λ n. took n ++ []) (λ n. queued n ++ cond (is_rise s.tables.desk.level level && has_channel s mine n) (handles_due mine (due_in s)) [])

@@ -5,6 +5,7 @@ use Rattle.std.specs.Prelude.{pos, option_and_then}
 use Rattle.std.specs.List.{flat_map}
 use Rattle.vx_calls.specs.declared.calls.Role.TheVariants as role
 use Rattle.vx_calls.specs.declared.codes.ErrorCode.TheVariants as code
+use Rattle.vx_calls.specs.declared.limits.TheConstants.{WRITE_MAX}
 use Rattle.vx_calls.specs.Call as call
 use Rattle.vx_calls.specs.Reply as reply
 use Rattle.vx_srq.specs.Desk.{Front, Gone, channel_at}
@@ -24,7 +25,7 @@ handle = 7 ∷ 9 ∷ []
 abbrev history : List Entry
 history =
     Up 1 role.Core
-    ∷ Arrive 1 (call.CreateLink (pos 1) false 0 text) 10 ∷ Answer 1 10 0 [] false None false (reply.CreateLink code.Ok 1 9011 65536)
+    ∷ Arrive 1 (call.CreateLink (pos 1) false 0 text) 10 ∷ Answer 1 10 0 [] false None false (reply.CreateLink code.Ok 1 9011 WRITE_MAX)
     ∷ Arrive 1 (call.EnableSrq 1 true handle) 20 ∷ Answer 1 20 0 [] false None false (reply.Error code.Ok)
     ∷ Arrive 1 (call.CreateIntr 0 1025 0x607B1 1 0) 30 ∷ Answer 1 31 0 [] false (Some true) false (reply.Error code.Ok)
     ∷ Sample 40 true ∷ Take 1 1 (Front (record { xid = 1; program = 0x607B1; version = 1; handle = handle }))

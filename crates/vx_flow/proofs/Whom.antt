@@ -5,6 +5,7 @@ use Rattle.std.specs.Option.{option_to_list}
 use Rattle.std.specs.List.{All}
 use Rattle.std.proofs.lemmas.Bool.{cond-true, and_from, le-leb}
 use Rattle.std.proofs.lemmas.List.Elements.{All-nil, All-cons, All-head, All-tail}
+use Rattle.vx_488.specs.declared.transfers.TheConstants.{ADDRESS_MAX}
 use Rattle.vx_488.specs.declared.transfers.Addr.{Addr}
 use Rattle.vx_488.specs.declared.transfers.Transfer.{Transfer}
 use Rattle.vx_488.specs.declared.transfers.Transfer.TheVariants as transfer
@@ -80,23 +81,23 @@ without_address-last a = ap (λ b. cond (not b) (a ∷ []) []) (same_address-ref
 
 secondary-plain : (s : Option ℕ) → IsSecondaryPlain s → is_secondary s ≡ true
 secondary-plain None h = refl
-secondary-plain (Some s) h = le-leb s 30 h
+secondary-plain (Some s) h = le-leb s ADDRESS_MAX h
 
-bus-address : (p : ℕ) (s : Option ℕ) → p ≤ 30 → IsSecondaryPlain s → is_bus_address (record { p = p; s = s }) ≡ true
-bus-address p s h plain = and_from _ _ (le-leb p 30 h) (secondary-plain s plain)
+bus-address : (p : ℕ) (s : Option ℕ) → p ≤ ADDRESS_MAX → IsSecondaryPlain s → is_bus_address (record { p = p; s = s }) ≡ true
+bus-address p s h plain = and_from _ _ (le-leb p ADDRESS_MAX h) (secondary-plain s plain)
 
 -- where nobody listens, a device that is addressed listens alone
-listens-first : (p : ℕ) (xs : List Addr) → p ≤ 30 → xs ≡ [] → with_address (primary p) xs ≡ primary p ∷ []
+listens-first : (p : ℕ) (xs : List Addr) → p ≤ ADDRESS_MAX → xs ≡ [] → with_address (primary p) xs ≡ primary p ∷ []
 listens-first p xs h empty = ap (with_address (primary p)) empty ∙ with_address-first (primary p) (bus-address p None h tt)
 
-listens-second : (p s : ℕ) (xs : List Addr) → p ≤ 30 → s ≤ 30 → xs ≡ primary p ∷ [] → with_address (secondary p s) (without_address (primary p) xs) ≡ secondary p s ∷ []
+listens-second : (p s : ℕ) (xs : List Addr) → p ≤ ADDRESS_MAX → s ≤ ADDRESS_MAX → xs ≡ primary p ∷ [] → with_address (secondary p s) (without_address (primary p) xs) ≡ secondary p s ∷ []
 listens-second p s xs h plain one =
     ap (λ ys. with_address (secondary p s) (without_address (primary p) ys)) one
     ∙ ap (with_address (secondary p s)) (without_address-last (primary p))
     ∙ with_address-first (secondary p s) (bus-address p (Some s) h plain)
 
 -- a device is made the one listener, and then more is done
-pub listener-goes : (P : Addr → Type 0) (w : Wire) (p : ℕ) (s : Option ℕ) (ts : List Transfer) → p ≤ 30 → IsSecondaryPlain s → w.listeners ≡ []
+pub listener-goes : (P : Addr → Type 0) (w : Wire) (p : ℕ) (s : Option ℕ) (ts : List Transfer) → p ≤ ADDRESS_MAX → IsSecondaryPlain s → w.listeners ≡ []
     → ((v : Wire) → v.listeners ≡ record { p = p; s = s } ∷ [] → All P (reached v ts)) → All P (reached w (listener p s ++ ts))
 listener-goes P w p None ts h plain empty rest =
     quiet P w (0x20 + p) (Listen p) ts (listen_byte p h) refl (rest (on_command w (Listen p)) (listens-first p w.listeners h empty))
@@ -107,7 +108,7 @@ listener-goes P w p (Some s) ts h plain empty rest =
     (rest (on_command v (Secondary s)) (listens-second p s v.listeners h plain (listens-first p w.listeners h empty))))
 
 -- or the talker
-pub talker-goes : (P : Addr → Type 0) (w : Wire) (p : ℕ) (s : Option ℕ) (ts : List Transfer) → p ≤ 30 → IsSecondaryPlain s
+pub talker-goes : (P : Addr → Type 0) (w : Wire) (p : ℕ) (s : Option ℕ) (ts : List Transfer) → p ≤ ADDRESS_MAX → IsSecondaryPlain s
     → ((v : Wire) → v.talker ≡ Some (record { p = p; s = s }) → All P (reached v ts)) → All P (reached w (talker p s ++ ts))
 talker-goes P w p None ts h plain rest =
     quiet P w (0x40 + p) (Talk p) ts (talk_byte p h) refl (rest (on_command w (Talk p)) refl)
@@ -150,7 +151,7 @@ heard-puts a w end bytes = by (has_address w.listeners a) refl where
     misses (b ∷ c ∷ bs) = ap (λ h. cond h (record { value = b; end = false } ∷ []) [] ++ heard a w (puts end (c ∷ bs))) e ∙ misses (c ∷ bs)
 
 -- of the commands that address a device nobody hears anything
-heard-listener : (a : Addr) (w : Wire) (p : ℕ) (s : Option ℕ) (ts : List Transfer) → p ≤ 30 → IsSecondaryPlain s → w.listeners ≡ []
+heard-listener : (a : Addr) (w : Wire) (p : ℕ) (s : Option ℕ) (ts : List Transfer) → p ≤ ADDRESS_MAX → IsSecondaryPlain s → w.listeners ≡ []
     → (v : Wire) × (v.listeners ≡ record { p = p; s = s } ∷ []) × (heard a w (listener p s ++ ts) ≡ heard a v ts)
 heard-listener a w p None ts h plain empty = (
   step w (mla p),
@@ -166,12 +167,12 @@ heard-listener a w p (Some s) ts h plain empty = (
 )
 
 -- the gateway talks, and the device listens alone
-heard-unlisten : (a : Addr) (w : Wire) (own p : ℕ) (s : Option ℕ) (ts : List Transfer) → own ≤ 30 → p ≤ 30 → IsSecondaryPlain s
+heard-unlisten : (a : Addr) (w : Wire) (own p : ℕ) (s : Option ℕ) (ts : List Transfer) → own ≤ ADDRESS_MAX → p ≤ ADDRESS_MAX → IsSecondaryPlain s
     → (v : Wire) × (v.listeners ≡ record { p = p; s = s } ∷ []) × (heard a w (unl ∷ mta own ∷ listener p s ++ ts) ≡ heard a v ts)
 heard-unlisten a w own p s ts small h plain =
     heard-listener a (step (step w unl) (mta own)) p s ts h plain (ap (λ c. (on_command (step w unl) c).listeners) (talk_byte own small))
 
-pub heard-addressed : (a : Addr) (w : Wire) (polling : Bool) (own p : ℕ) (s : Option ℕ) (ts : List Transfer) → own ≤ 30 → p ≤ 30 → IsSecondaryPlain s
+pub heard-addressed : (a : Addr) (w : Wire) (polling : Bool) (own p : ℕ) (s : Option ℕ) (ts : List Transfer) → own ≤ ADDRESS_MAX → p ≤ ADDRESS_MAX → IsSecondaryPlain s
     → (v : Wire) × (v.listeners ≡ record { p = p; s = s } ∷ []) × (heard a w (ended_poll polling ++ unl ∷ mta own ∷ listener p s ++ ts) ≡ heard a v ts)
 heard-addressed a w true own p s ts small h plain = heard-unlisten a (step w spd) own p s ts small h plain
 heard-addressed a w false own p s ts small h plain = heard-unlisten a w own p s ts small h plain

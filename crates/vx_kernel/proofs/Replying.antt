@@ -3,7 +3,7 @@ use Rattle.std.proofs.Common.{◌≡◌, ℕ, ◌+◌, ◌/◌, ◌%◌, ◌<◌
 use Rattle.std.proofs.lemmas.List.{append-nil, length-take-le}
 use Rattle.std.specs.Option.{option_map_or}
 use mir.Val.{bool_byte}
-use Rattle.vx_calls.specs.declared.limits.TheConstants.{WRITE_MAX}
+use Rattle.vx_calls.specs.declared.limits.TheConstants.{READ_MAX}
 use Rattle.vx_calls.specs.declared.targets.Target.{Target}
 use Rattle.vx_calls.specs.declared.targets.Target.TheVariants.{Interface, Device}
 use Rattle.vx_calls.specs.declared.codes.ErrorCode.{ErrorCode}
@@ -20,7 +20,7 @@ use Rattle.vx_plan.specs.declared.tasks.Place.{Place}
 use Rattle.vx_plan.specs.Transfers.{is_got}
 use Rattle.vx_plan.specs.Plan.{This, AnyByte, Plan, Whole, left_after, stand_of, stand}
 use Rattle.vx_plan.specs.Whole.{Fill, IsWhole}
-use Rattle.vx_plan.specs.Tasks.{spd, unt, plan, poll_plan, IsPlainTask, IsDevice}
+use Rattle.vx_plan.specs.Tasks.{spd, unt, plan, poll_plan, most_bytes, IsPlainTask, IsDevice}
 use Rattle.vx_plan.specs.Results.{gots, bytes_got, puts_made, last_of, two_bytes, read_reason, whole_reply}
 use Rattle.vx_plan.specs.Places.{Reaches}
 use Rattle.vx_plan.proofs.Walks.{whole-law}
@@ -66,11 +66,16 @@ gets-no_puts (Read t max stop) h = refl
 gets-no_puts (Stb t) h = refl
 gets-no_puts task h = absurd h
 
--- no job gets more than 65,536 bytes
-most-small : (task : Task) → most_gets task ≤ WRITE_MAX
+-- no job gets more bytes than a read may
+most-small : (task : Task) → most_gets task ≤ READ_MAX
 most-small (Read t max stop) = omega arith
 most-small (Stb t) = omega arith
 most-small task = omega arith
+
+-- a job but a write brings no more bytes than a read may get
+pub brings-few : (task : Task) → ((t : Target) (len : ℕ) (end : Bool) → task ≡ Write t len end → ⊥) → most_bytes task ≤ READ_MAX
+brings-few (Write t len end) none = absurd (none t len end refl)
+brings-few task none = omega arith
 
 -- a read or a serial poll gets bytes
 pub either-gets : (task : Task) → ((t : Target) × (max : ℕ) × (stop : Option ℕ) × (task ≡ Read t max stop)) ⊎ ((t : Target) × (task ≡ Stb t)) → GetsBytes task
@@ -103,9 +108,9 @@ pub has-got : (turn : TurnState) (bytes : List ℕ) (made : List Transfer) (left
 has-got turn bytes made left gets plain reaches moved m room holds =
     (none-put turn.task bytes made left turn.place plain reaches (gets-no_puts turn.task gets), sym (ap (λ n. take n room) m ∙ holds))
 
--- and that is at most 65,536
+-- and that is no more than a read may
 pub got-few : (task : Task) (bytes : List ℕ) (made : List Transfer) (left : Plan) (place : Place) → GetsBytes task → IsPlainTask task
-    → Reaches task bytes made left place → place.moved ≤ WRITE_MAX
+    → Reaches task bytes made left place → place.moved ≤ READ_MAX
 got-few task bytes made left place gets plain reaches =
     let f = fares task bytes made left place plain reaches in
     let n : place.moved ≡ count_by is_got made = moved-got task bytes made left place plain reaches gets ∙ length-gots made in
@@ -230,13 +235,13 @@ own-running (Some q) conn r e = by (q.conn == conn) e
 
 -- how many bytes a list put, and how many it got, which stand in front of the room
 pub record Counts (moves : List Transfer) (room : List ℕ) (puts : ℕ × ℕ) : Type 0 where
-  pub few : puts.1 ≤ WRITE_MAX
+  pub few : puts.1 ≤ READ_MAX
   pub puts_is : puts_made moves ≡ puts.0
   pub got_is : bytes_got moves ≡ take puts.1 room
 
 -- of the connection's own turn these are its bytes
 pub counts-some : (running : Option Running) (made : List Transfer) (conn : ℕ) (r : Running) (room : List ℕ) (puts : ℕ × ℕ)
-    → running_of running conn ≡ Some r → puts.1 ≤ WRITE_MAX → (puts_made made ≡ puts.0) × (bytes_got made ≡ take puts.1 room)
+    → running_of running conn ≡ Some r → puts.1 ≤ READ_MAX → (puts_made made ≡ puts.0) × (bytes_got made ≡ take puts.1 room)
     → Counts (moves_of (turn_of (turn_shown running made) conn)) room puts
 counts-some None made conn r room puts e few both = cc
 counts-some (Some q) made conn r room puts e few both = by (q.conn == conn) e
@@ -266,7 +271,7 @@ stopped-front _ error moves room n h e = refl
 
 -- and they are few
 pub stopped-few : (asked : Call) (error : ErrorCode) (moves : List Transfer) (room : List ℕ) (n : ℕ) → n ≤ length room → bytes_got moves ≡ take n room
-    → n ≤ WRITE_MAX → length (reply_bytes (stopped_reply asked error moves)) ≤ WRITE_MAX
+    → n ≤ READ_MAX → length (reply_bytes (stopped_reply asked error moves)) ≤ READ_MAX
 stopped-few (call.Read lid request io_timeout lock_timeout flags term) error moves room n h e few =
     omega (arith, ap length e ∙ length-take-le n room h)
 stopped-few _ error moves room n h e few = omega arith

@@ -5,24 +5,25 @@ use Rattle.std.specs.Option.{option_map}
 use Rattle.std.proofs.lemmas.Bool.{and_parts, leb-true, eqb-true}
 use Rattle.std.proofs.lemmas.List.{length-append}
 use Rattle.std.proofs.lemmas.Option.{same_Some}
-use Rattle.vx_calls.specs.declared.limits.TheConstants.{WRITE_MAX}
+use Rattle.vx_calls.specs.declared.limits.TheConstants.{DOCMD_MAX, READ_MAX, WRITE_MAX}
 use Rattle.vx_calls.specs.declared.codes.ErrorCode.{ErrorCode}
 use Rattle.vx_calls.specs.declared.codes.ErrorCode.TheVariants as code
 use Rattle.vx_calls.specs.declared.targets.Target.{Target}
 use Rattle.vx_calls.specs.Target.{conflict}
 use Rattle.vx_calls.specs.Call.{Call}
 use Rattle.vx_calls.specs.Call as call
+use Rattle.vx_488.specs.declared.transfers.TheConstants.{ADDRESS_MAX}
 use Rattle.vx_488.specs.declared.transfers.Transfer.{Transfer}
 use Rattle.vx_488.specs.declared.wire.Wire.{Wire}
 use Rattle.vx_488.specs.Wire.{wire_after}
-use Rattle.vx_bus_traits.specs.declared.asks.TheConstants.{ASK_MAX}
 use Rattle.vx_bus_traits.specs.Means.{Means}
 use Rattle.vx_bus_traits.specs.Steps.{Step}
+use Rattle.vx_plan.specs.declared.tasks.TheConstants.{TURN_MAX}
 use Rattle.vx_plan.specs.declared.tasks.Task.{Task}
 use Rattle.vx_plan.specs.declared.tasks.Task.TheVariants.{Read, Stb}
 use Rattle.vx_plan.specs.Plan.{Plan, Off, stand_of, stand}
-use Rattle.vx_plan.specs.Tasks.{plan, IsPlainTask, HasBytes}
-use Rattle.vx_plan.specs.Laws.{BoundLaw, most_transfers}
+use Rattle.vx_plan.specs.Tasks.{plan, IsPlainTask, HasBytes, most_bytes}
+use Rattle.vx_plan.specs.Laws.{BoundLaw}
 use Rattle.vx_links.specs.Table.{Link, Table}
 use Rattle.vx_ctrl.specs.declared.turn.Went.{Went}
 use Rattle.vx_ctrl.specs.declared.turn.Went.TheVariants as went
@@ -127,7 +128,7 @@ no-job t own conn p h b n =
     let e : check t own conn false (named_link t conn p.call) p.call ≡ None = checked _ _ h in
     no-job-found t own conn (link_of t conn m.0) p.call (subst P m.1 e) b (subst Q m.1 n)
 
--- ---- a call that nothing is against brings at most 65,536 bytes
+-- ---- a call that nothing is against brings no more bytes than a device_write may
 
 few-in : (b : Bool) → cond b None (Some code.Parameter) ≡ None → b ≡ true
 few-in true h = refl
@@ -137,7 +138,7 @@ few-sent : (n k : ℕ) → (n == k) ≡ true → k ≤ 4 → n ≤ WRITE_MAX
 few-sent n k same small = let e = eqb-true n k same in omega (arith, e, small)
 
 few-command : (own : ℕ) (links : Table) (big : Bool) (bytes : List ℕ) (c : Command) → takes_input c own links big bytes ≡ true → length bytes ≤ WRITE_MAX
-few-command own links big bytes SendCommand h = leb-true (length bytes) WRITE_MAX (and_parts _ _ h).0
+few-command own links big bytes SendCommand h = omega (arith, leb-true (length bytes) DOCMD_MAX (and_parts _ _ h).0)
 few-command own links big bytes BusStatus h = few-sent (length bytes) 2 (and_parts (length bytes == 2) (takes_number BusStatus own links (number_in big bytes)) h).0 (omega arith)
 few-command own links big bytes AtnControl h = few-sent (length bytes) 2 (and_parts _ _ h).0 (omega arith)
 few-command own links big bytes RenControl h = few-sent (length bytes) 2 (and_parts _ _ h).0 (omega arith)
@@ -162,7 +163,7 @@ few-found t own conn NoLink asked job e has = cc
 few-found t own conn DeadLink asked job e has = cc
 few-found t own conn (OnLink l) asked job e has = few-on t own l asked e
 
--- a call with a job brings at most 65,536 bytes, where nothing is against it
+-- so does a call with a job
 pub few-bytes : (t : Tables) (own conn : ℕ) (p : Pending) (job : Task) → lets_pass t own conn p ≡ true → job_of t conn p ≡ Some job → length (bytes_of p.call) ≤ WRITE_MAX
 few-bytes t own conn p job h has = few-found t own conn (named_link t conn p.call) p.call job (checked _ _ h) has
 
@@ -179,7 +180,7 @@ begins-turn {B} means k conn turn w made job p holds at has doable same none tas
     let running : Running = record { conn = conn; turn = turn } in
     let N : Wire → List Transfer → KernelState B = λ v ts. record k { running = Some running; before = v; made = ts } in
     let P : List Transfer → Type 0 = λ ts. BeginsTurn means k conn (N w ts) in
-    let Own : Wire → Type 0 = λ v. v.own ≤ 30 in
+    let Own : Wire → Type 0 = λ v. v.own ≤ ADDRESS_MAX in
     subst P (sym none) (record {
       running = running;
       of_call = refl;
@@ -191,7 +192,7 @@ begins-turn {B} means k conn turn w made job p holds at has doable same none tas
         job_is = has ∙ ap Some (sym task);
         plain = subst IsPlainTask (sym task) doable.plain;
         sent = subst (λ x. HasBytes x (bytes_of p.call)) (sym task) doable.sent;
-        few = doable.few;
+        few = subst (λ x. length (bytes_of p.call) ≤ most_bytes x) (sym task) doable.few;
         own = subst Own (sym same) holds.own;
         begins = record {
           left = plan job (bytes_of p.call) w.polling w.own;
@@ -213,7 +214,7 @@ pub own-running : (r s : Running) (conn : ℕ) → running_of (Some r) conn ≡ 
 own-running r s conn h = let both = of-conn (r.conn == conn) r s h in (eqb-true r.conn conn both.0, both.1)
 
 -- its room is long enough
-has-room : (job : Task) (n : ℕ) → n ≡ WRITE_MAX → HasRoom job n
+has-room : (job : Task) (n : ℕ) → n ≡ READ_MAX → HasRoom job n
 has-room (Read t max stop) n e = omega arith
 has-room (Stb t) n e = omega arith
 has-room _ n e = tt
@@ -252,10 +253,10 @@ pub few-with : {B : Type 0} (means : B → Means) (k : KernelState B) (conn : �
 few-with means k conn r bytes m same = subst (λ (bs : List ℕ). length bs ≤ WRITE_MAX) (sym same) m.few
 
 -- its own address is 0 to 30
-pub turn-own : {B : Type 0} (means : B → Means) (k : KernelState B) (r : Running) → RunsTurn means k r → r.turn.place.own ≤ 30
-turn-own means k r runs = subst (λ n. n ≤ 30) (sym runs.begins.had_made.own) runs.own
+pub turn-own : {B : Type 0} (means : B → Means) (k : KernelState B) (r : Running) → RunsTurn means k r → r.turn.place.own ≤ ADDRESS_MAX
+turn-own means k r runs = subst (λ n. n ≤ ADDRESS_MAX) (sym runs.begins.had_made.own) runs.own
 
--- a list that a turn made has at most as many transfers as a bus takes asks
+-- a list that a turn made has at most as many transfers as the longest job
 stands-on : (outcome : Went) (left : Plan) → stand_of (Some left) ≡ outcome_stand outcome → stand_of (Some left) ≢ Off
 stands-on went.Finished left e = λ off. cc
 stands-on went.Held left e = λ off. cc
@@ -263,12 +264,12 @@ stands-on went.Broken left e = λ off. cc
 
 pub few-made : {B : Type 0} (means : B → Means) (through : B → Step → B → Type 0) (turn : TurnState) (w : Wire) (bytes : List ℕ) (made moves : List Transfer)
     (outcome : Went) (bus after : B) → BoundLaw → length bytes ≤ WRITE_MAX → Goes means through turn w bytes made moves outcome bus after
-    → length made + length moves ≤ ASK_MAX
+    → length made + length moves ≤ TURN_MAX
 few-made means through turn w bytes made moves outcome bus after law few goes =
     let reaches = goes.has_made.reaches in
     let on : stand (plan turn.task bytes turn.place.polling turn.place.own) (made ++ moves) ≢ Off =
     subst (λ o. stand_of o ≢ Off) (sym reaches.goes) (stands-on outcome goes.left goes.stands) in
-    let most : length (made ++ moves) ≤ most_transfers = law turn.task bytes turn.place.polling turn.place.own (made ++ moves) few on in
+    let most : length (made ++ moves) ≤ TURN_MAX = law turn.task bytes turn.place.polling turn.place.own (made ++ moves) few on in
     omega (arith, length-append made moves, most)
 
 -- the turn of a call goes on, with the bus's transfers as its own
@@ -290,7 +291,7 @@ went-on {B} means through k r bus room bytes turn outcome runs same goes goes_on
       job_is = runs.job_is ∙ ap Some (sym task);
       plain = subst IsPlainTask (sym task) runs.plain;
       sent = subst (λ x. HasBytes x (bytes_of asked.call)) (sym task) runs.sent;
-      few = runs.few;
+      few = subst (λ x. length (bytes_of asked.call) ≤ most_bytes x) (sym task) runs.few;
       own = runs.own;
       begins = subst (λ (bs : List ℕ). Begins turn k.before bs (k.made ++ (means bus).moves) (means bus)) same (goes_on k.before k.made b);
       holds = λ gets. let g = subst GetsBytes task gets in holds k.before k.made b g (runs.holds g);

@@ -1,12 +1,13 @@
 -- What a core keeps between its calls.
 use Rattle.std.specs.Prelude.{◌≡◌, ◌+◌, ◌≤◌, ◌<◌, ℕ, ◌==◌, false, List, length, Some, None}
 use Rattle.std.specs.List.{All, IsDistinct}
+use Rattle.vx_488.specs.declared.transfers.TheConstants.{ADDRESS_MAX}
 use Rattle.vx_calls.specs.declared.calls.Role.TheVariants as role
-use Rattle.vx_calls.specs.declared.limits.TheConstants.{CONNECTION_LAST, ROLE_MAX, WRITE_MAX}
+use Rattle.vx_calls.specs.declared.limits.TheConstants.{CONNECTION_LAST, ROLE_MAX}
 use Rattle.vx_calls.specs.Call.{Call}
 use Rattle.vx_calls.specs.Call as call
 use Rattle.vx_srq.specs.Desk.{channel_at}
-use Rattle.vx_plan.specs.Tasks.{IsPlainTask, HasBytes}
+use Rattle.vx_plan.specs.Tasks.{IsPlainTask, HasBytes, most_bytes}
 use Rattle.vx_plan.specs.Plan.{Part}
 use Rattle.vx_bus_traits.specs.Means.{Means}
 use Rattle.vx_ctrl.specs.Turns.{GetsBytes}
@@ -28,8 +29,8 @@ pub record RunsTurn {B : Type 0} (means : B → Means) (k : KernelState B) (r : 
   pub job_is : job_of k.tables r.conn asked ≡ Some r.turn.task
   pub plain : IsPlainTask r.turn.task
   pub sent : HasBytes r.turn.task (bytes_of asked.call)
-  pub few : length (bytes_of asked.call) ≤ WRITE_MAX
-  pub own : k.before.own ≤ 30
+  pub few : length (bytes_of asked.call) ≤ most_bytes r.turn.task
+  pub own : k.before.own ≤ ADDRESS_MAX
   pub begins : Begins r.turn k.before (bytes_of asked.call) k.made (means k.bus)
   pub holds : GetsBytes r.turn.task → HoldsBytes r.turn k.made k.room
 
@@ -56,7 +57,7 @@ pub record KeepsDials (t : Tables) (dialed : List ℕ) : Type 0 where
 -- what a core keeps at each moment of a call
 pub record Holds {B : Type 0} (means : B → Means) (k : KernelState B) : Type 0 where
   pub sound : IsSound (fine_of means k)
-  pub own : (means k.bus).wire.own ≤ 30
+  pub own : (means k.bus).wire.own ≤ ADDRESS_MAX
   pub runs : (r : Running) → k.running ≡ Some r → RunsTurn means k r
   pub dials : KeepsDials k.tables k.dialed
   pub few : count_of k.tables role.Core ≤ ROLE_MAX

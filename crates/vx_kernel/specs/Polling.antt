@@ -1,6 +1,6 @@
 -- What a poll leaves: the events that it made, and the steps of the bus.
 use Rattle.std.specs.Prelude.{◌≡◌, ◌≤◌, ℕ, Bool, false, max, List, [], ◌∷◌, ◌++◌, map, Option, Some, None, option_and_then}
-use Rattle.vx_calls.specs.declared.limits.TheConstants.{WRITE_MAX}
+use Rattle.vx_calls.specs.declared.limits.TheConstants.{READ_MAX}
 use Rattle.vx_488.specs.declared.transfers.Transfer.{Transfer}
 use Rattle.vx_plan.specs.declared.tasks.Task.{Task}
 use Rattle.vx_plan.specs.Plan.{Slot, left_after, next_slot}
@@ -71,5 +71,5 @@ pub record EndsFrom {B : Type 0} (means : B → Means) (through : B → Step →
     (ended : Ended) (new : KernelState B) : Type 0 where
   pub keeps : Keeps means new
   pub moment : new.moment ≡ old.moment
-  pub within : ended_len ended ≤ WRITE_MAX
+  pub within : ended_len ended ≤ READ_MAX
   pub over : PollsOver means through srq ndac (fine_of means old) old.bus conn old.moment [] (ended_shown ended new.room) (fine_of means new) new.bus

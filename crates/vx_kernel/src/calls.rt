@@ -1,7 +1,7 @@
 //! The calls that need no turn, and what a core tells.
 ghost use Rattle.std.specs.Prelude.{◌≡◌, ◌≤◌, ◌==◌, ◌↔◌, true, false, max, length, Some, IsSome, is_some, IfOk, OnOk, OnErr, IsErrOf, option_map};
 ghost use Rattle.std.specs.List.{list_any, All};
-ghost use Rattle.vx_calls.specs.declared.limits.TheConstants.{WRITE_MAX};
+ghost use Rattle.vx_calls.specs.declared.limits.TheConstants.{READ_MAX};
 ghost use Rattle.vx_calls.specs.Call.{call_shown};
 ghost use Rattle.vx_srq.specs.Desk as desk;
 ghost use Rattle.vx_srq.specs.Shown.{given_shown};
@@ -169,10 +169,10 @@ impl<B: Bus> Kernel<B> {
         self.bus.moves()
     }
 
-    /// The room, with the bytes of the last reply at its front. It has 65,536 bytes.
+    /// The room, with the bytes of the last reply at its front. It has as many as a read may get.
     pub fn room(&self) -> &[u8]
         ensures room { result.now ≡ self.now.room }
-        ensures len { length result.now ≡ WRITE_MAX }
+        ensures len { length result.now ≡ READ_MAX }
     {
         self.room.as_slice()
     }

@@ -1,7 +1,7 @@
 //! What the core keeps, and its small changes.
 ghost use Rattle.std.specs.Prelude.{◌≡◌, ◌==◌, ◌++◌, ℕ, max, not, filter, true, None, Some, [], ◌∷◌, if◌then◌else◌, IfOk, IfErr, length, vec_capacity, ◌≤◌};
-ghost use Rattle.vx_bus_traits.specs.declared.asks.TheConstants.{ASK_MAX};
-ghost use Rattle.vx_calls.specs.declared.limits.TheConstants.{ROLE_MAX, WRITE_MAX};
+ghost use Rattle.vx_calls.specs.declared.limits.TheConstants.{READ_MAX, ROLE_MAX};
+ghost use Rattle.vx_plan.specs.declared.tasks.TheConstants.{TURN_MAX};
 ghost use Rattle.vx_488.specs.Wire.{first_wire};
 ghost use Rattle.vx_bus_traits.specs.Steps.{Told, Cut};
 ghost use Rattle.vx_bus_traits.specs.Walks.{Walk};
@@ -14,8 +14,9 @@ use crate::running::Running;
 use std::alloc::{AllocError, Global};
 use std::marker::Model;
 use vx_488::{Transfer, Wire};
-use vx_bus_traits::{ASK_MAX, Bus};
-use vx_calls::{ROLE_MAX, WRITE_MAX};
+use vx_bus_traits::Bus;
+use vx_calls::{READ_MAX, ROLE_MAX};
+use vx_plan::TURN_MAX;
 use vx_rules::Tables;
 
 /// The tables, the bus, and the turn under way. The room takes the bytes of a read, and of a reply.
@@ -37,8 +38,8 @@ pub struct Kernel<B: Bus> {
 
 impl<B: Bus> Model for Kernel<B> {
     ghost use Rattle.std.specs.Prelude.{◌≡◌, ◌≤◌, length, vec_capacity};
-    ghost use Rattle.vx_bus_traits.specs.declared.asks.TheConstants.{ASK_MAX};
-    ghost use Rattle.vx_calls.specs.declared.limits.TheConstants.{ROLE_MAX, WRITE_MAX};
+    ghost use Rattle.vx_plan.specs.declared.tasks.TheConstants.{TURN_MAX};
+    ghost use Rattle.vx_calls.specs.declared.limits.TheConstants.{READ_MAX, ROLE_MAX};
     ghost use Rattle.vx_kernel.specs.KernelState.{KernelState};
 
     ghost Value = { KernelState B };
@@ -55,25 +56,26 @@ impl<B: Bus> Model for Kernel<B> {
       last = k.last;
     } };
 
-    ghost invariant = { λ k. (ASK_MAX ≤ vec_capacity k.made) × (length k.room.items ≡ WRITE_MAX) × (ROLE_MAX ≤ vec_capacity k.dialed) };
+    ghost invariant = { λ k. (TURN_MAX ≤ vec_capacity k.made) × (length k.room.items ≡ READ_MAX) × (ROLE_MAX ≤ vec_capacity k.dialed) };
 }
 
-/// The room of a kernel, which is made once: for the transfers of a turn, the bytes of a read, and dials.
+/// The room of a kernel, which is made once: for the transfers of a turn, the bytes of a read, and dials. What a reply to a
+/// device_docmd has stands in the room of a read: `DOCMD_MAX` is no greater than `READ_MAX`.
 #[derive(Drop)]
 pub struct Rooms {
     made: Vec<Transfer>,
     room: Vec<u8>,
     dialed: Vec<u32>,
-    ghost wide: { (ASK_MAX ≤ vec_capacity made) × (made.items ≡ []) },
-    ghost long: { length room.items ≡ WRITE_MAX },
+    ghost wide: { (TURN_MAX ≤ vec_capacity made) × (made.items ≡ []) },
+    ghost long: { length room.items ≡ READ_MAX },
     ghost roomy: { (ROLE_MAX ≤ vec_capacity dialed) × (dialed.items ≡ []) },
 }
 
 impl Rooms {
     pub fn new(alloc: Global) -> Result<Rooms, AllocError> {
         Ok(Rooms {
-            made: Vec::with_capacity(alloc, ASK_MAX as usize)?,
-            room: vec![in alloc; 0; WRITE_MAX as usize]?,
+            made: Vec::with_capacity(alloc, TURN_MAX as usize)?,
+            room: vec![in alloc; 0; READ_MAX as usize]?,
             dialed: Vec::with_capacity(alloc, ROLE_MAX)?,
         })
     }

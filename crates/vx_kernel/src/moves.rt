@@ -1,7 +1,7 @@
 //! What a poll of a call may do: its turn on the bus begins, goes on or ends, it has its effect, or a dial is asked for.
 ghost use Rattle.std.specs.Prelude.{◌≡◌, ◌≤◌, ◌==◌, ◌++◌, [], ◌∷◌, ℕ, Bool, true, false, not, max, length, ◌+◌, Some, None, IsSome, if◌then◌else◌, ◌||◌, option_map};
-ghost use Rattle.vx_calls.specs.declared.limits.TheConstants.{WRITE_MAX};
-ghost use Rattle.vx_bus_traits.specs.declared.asks.TheConstants.{ASK_MAX};
+ghost use Rattle.vx_calls.specs.declared.limits.TheConstants.{READ_MAX};
+ghost use Rattle.vx_plan.specs.declared.tasks.TheConstants.{TURN_MAX};
 ghost use Rattle.vx_kernel.specs.declared.running.Running.{Running};
 ghost use Rattle.vx_calls.specs.declared.codes.ErrorCode.TheVariants as code;
 ghost use Rattle.vx_calls.specs.Reply.{Reply};
@@ -107,7 +107,7 @@ impl<B: Bus> Kernel<B> {
         ensures effect { (p : Pending) → pending_at self.old.tables conn ≡ Some p → (given : Reply) × (after : Tables)
             × (effects.effect self.old.tables (own_of B.means self.old conn) conn (named_link self.old.tables conn p.call) p.call ≡ Some (given, after))
             × (ended_shown result self.new.room ≡ Answered (ran_shown Ran.Still) false given) × (self.new ≡ closed (record self.old { tables = after }) conn) }
-        ensures within { ended_len result ≤ WRITE_MAX }
+        ensures within { ended_len result ≤ READ_MAX }
     {
         passed_calls();
         let own = self.own_for(conn);
@@ -168,7 +168,7 @@ impl<B: Bus> Kernel<B> {
 
     /// The transfers that the bus made are the turn's.
     fn keep_moves(&mut self)
-        requires { length self.old.made + length (B.means self.old.bus).moves ≤ ASK_MAX }
+        requires { length self.old.made + length (B.means self.old.bus).moves ≤ TURN_MAX }
         ensures { self.new ≡ record self.old { made = self.old.made ++ (B.means self.old.bus).moves } }
     {
         match self.made.extend_from_slice(self.bus.moves()) {
@@ -195,7 +195,7 @@ impl<B: Bus> Kernel<B> {
             (level_told turn.now.task (B.srq_level self.old.bus) (B.ndac_level self.old.bus))
             (results.whole_reply turn.now.task (calls.bytes_of p.call) self.old.before (calls.is_big p.call)
             (level_told turn.now.task (B.srq_level self.old.bus) (B.ndac_level self.old.bus)) self.old.made) }
-        ensures within { ended_len result ≤ WRITE_MAX }
+        ensures within { ended_len result ≤ READ_MAX }
     {
         let level = level_told(turn.task(), &self.bus);
         let is_big = self.tables.is_big(conn);
@@ -216,7 +216,7 @@ impl<B: Bus> Kernel<B> {
         ensures kept { self.new ≡ closed self.old conn }
         ensures reply { (p : Pending) → pending_at self.old.tables conn ≡ Some p → ended_shown result self.new.room ≡ Answered (ran_shown ran) false
             (effects.stopped_reply p.call error (moves_of (turn_of (turn_shown self.old.running self.old.made) conn))) }
-        ensures within { ended_len result ≤ WRITE_MAX }
+        ensures within { ended_len result ≤ READ_MAX }
     {
         let (puts, got) = match self.own_turn(conn) {
             Some(running) => moved_by(&running.turn),

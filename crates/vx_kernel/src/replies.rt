@@ -2,9 +2,9 @@
 ghost use Rattle.std.specs.Prelude.{◌≡◌, ◌≤◌, ℕ, Bool, List, [], length, take, Some, if◌then◌else◌};
 ghost use Rattle.vx_488.specs.declared.transfers.Transfer.{Transfer};
 ghost use Rattle.vx_488.specs.declared.wire.Wire.{Wire};
-ghost use Rattle.vx_calls.specs.declared.limits.TheConstants.{WRITE_MAX};
+ghost use Rattle.vx_calls.specs.declared.limits.TheConstants.{READ_MAX};
 ghost use Rattle.vx_plan.specs.Plan.{Plan, Whole, stand_of};
-ghost use Rattle.vx_plan.specs.Tasks.{IsPlainTask, HasBytes};
+ghost use Rattle.vx_plan.specs.Tasks.{IsPlainTask, HasBytes, most_bytes};
 ghost use Rattle.vx_plan.specs.Results.{whole_reply, status_number, two_bytes, bytes_got, puts_made};
 ghost use Rattle.vx_ctrl.specs.Turns.{HasMade, GetsBytes};
 ghost use Rattle.vx_ctrl.specs.Goes.{HoldsBytes};
@@ -75,13 +75,13 @@ pub fn finished(
 ) -> Given
     requires plain { IsPlainTask turn.now.task }
     requires sent { HasBytes turn.now.task bytes.now }
-    requires short { length bytes.now ≤ WRITE_MAX }
-    requires room { length room.old ≡ WRITE_MAX }
+    requires short { length bytes.now ≤ most_bytes turn.now.task }
+    requires room { length room.old ≡ READ_MAX }
     ensures reply { (w : Wire) (made : List Transfer) (left : Plan) → HasMade turn.now w bytes.now made left → stand_of (Some left) ≡ Whole
         → (GetsBytes turn.now.task → HoldsBytes turn.now made room.old)
         → given_reply result room.new ≡ whole_reply turn.now.task bytes.now wire.now is_big level made }
-    ensures len { (w : Wire) (made : List Transfer) (left : Plan) → HasMade turn.now w bytes.now made left → given_len result ≤ WRITE_MAX }
-    ensures room { length room.new ≡ WRITE_MAX }
+    ensures len { (w : Wire) (made : List Transfer) (left : Plan) → HasMade turn.now w bytes.now made left → given_len result ≤ READ_MAX }
+    ensures room { length room.new ≡ READ_MAX }
 {
     let error = ErrorCode::Ok;
     match turn.task() {
@@ -118,7 +118,7 @@ pub fn moved_by(turn: &Turn) -> (u32, usize)
     ensures moved { (w : Wire) (bytes : List ℕ) (made : List Transfer) (left : Plan) (room : List ℕ) → HasMade turn.now w bytes made left
         → (GetsBytes turn.now.task → HoldsBytes turn.now made room)
         → (puts_made made ≡ result.0) × (bytes_got made ≡ take result.1 room) }
-    ensures within { (w : Wire) (bytes : List ℕ) (made : List Transfer) (left : Plan) → HasMade turn.now w bytes made left → result.1 ≤ WRITE_MAX }
+    ensures within { (w : Wire) (bytes : List ℕ) (made : List Transfer) (left : Plan) → HasMade turn.now w bytes made left → result.1 ≤ READ_MAX }
 {
     match turn.task() {
         Task::Write { .. } => (turn.moved(), 0),

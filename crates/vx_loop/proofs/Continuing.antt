@@ -9,7 +9,6 @@ use Rattle.std.proofs.lemmas.List.Folds.{list_all-append}
 use Rattle.vx_calls.specs.declared.calls.Role.{Role}
 use Rattle.vx_calls.specs.declared.calls.Role.TheVariants as role
 use Rattle.vx_calls.specs.declared.codes.ErrorCode.{ErrorCode}
-use Rattle.vx_calls.specs.declared.limits.TheConstants.{RECORD_MAX}
 use Rattle.vx_calls.specs.ErrorCode.{same_error}
 use Rattle.vx_calls.specs.Call.{Call}
 use Rattle.vx_calls.specs.Reply as reply
@@ -173,7 +172,7 @@ silent : (room : List ℕ) (n : Note) (line : Output) → note_line room n ≡ S
 silent room n line h none = silent-by room n (sym (shown-noted room n) ∙ ap shown h ∙ none)
 
 -- it fits the room
-pub note-short : (room : List ℕ) (n : Note) → length room ≡ REPLY_ROOM → length (take (reply_len n) room) ≤ RECORD_MAX + 4
+pub note-short : (room : List ℕ) (n : Note) → length room ≡ REPLY_ROOM → length (take (reply_len n) room) ≤ REPLY_ROOM
 note-short room n full = let len = length-take (reply_len n) room in omega arith
 
 pub note-within : (room : List ℕ) (n : Note) → length room ≡ REPLY_ROOM → NoteWithin (length room) n → reply_len n ≤ REPLY_ROOM

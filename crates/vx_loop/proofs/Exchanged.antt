@@ -10,7 +10,7 @@ use Rattle.vx_calls.specs.declared.calls.Role.TheVariants as role
 use Rattle.vx_calls.specs.declared.calls.Proc.TheVariants as proc
 use Rattle.vx_calls.specs.declared.codes.ErrorCode.{ErrorCode}
 use Rattle.vx_calls.specs.declared.codes.ErrorCode.TheVariants as code
-use Rattle.vx_calls.specs.declared.limits.TheConstants.{RECORD_MAX, WRITE_MAX}
+use Rattle.vx_calls.specs.declared.limits.TheConstants.{PIECE_MAX, RECORD_MAX, REPLY_MAX}
 use Rattle.vx_calls.specs.ErrorCode.{error_number}
 use Rattle.vx_calls.specs.Call.{Call}
 use Rattle.vx_calls.specs.Call as call
@@ -65,8 +65,8 @@ pub none-parts : (xs ys : List ℕ) → xs ++ ys ≡ [] → (xs ≡ []) × (ys �
 none-parts [] ys h = (refl, h)
 none-parts (x ∷ xs) ys h = absurd (cc)
 
--- a reply at the front of what came
-pub reply-whole : (front reply : List ℕ) → (records RECORD_MAX front).records ≡ reply ∷ [] → is_settled (records RECORD_MAX (take (length front - 1) front)) ≡ false
+-- a reply at the front of what came, as long as a client takes, is a record that a connection may bring: the two are the same
+pub reply-whole : (front reply : List ℕ) → (records REPLY_MAX front).records ≡ reply ∷ [] → is_settled (records REPLY_MAX (take (length front - 1) front)) ≡ false
     → IsWhole front reply
 reply-whole [] reply whole shortest = absurd (let none : [] ≡ reply ∷ [] = ap (λ (s : Split). s.records) (sym none-yet) ∙ whole in cc)
 reply-whole (x ∷ xs) reply whole shortest = whole-by (x ∷ xs) reply (omega arith) shortest whole
@@ -264,7 +264,7 @@ got-reply stands left receives sends old new c (Replied reply) done h is =
 -- ---- one write
 
 module _ (old new : ClientState LoopState) (lid io_timeout lock_timeout flags : ℕ) (bytes : List ℕ) (numbered : old.next < 2 ^ 32)
-    (fits : CallFits (call.Write lid io_timeout lock_timeout flags bytes)) (small : length bytes ≤ WRITE_MAX) (s t : ServedState) (k : IsKept s) (rests : IsResting old s)
+    (fits : CallFits (call.Write lid io_timeout lock_timeout flags bytes)) (small : length bytes ≤ PIECE_MAX) (s t : ServedState) (k : IsKept s) (rests : IsResting old s)
     (serves : new.link.served ≡ Some t) where
   abbrev asked_now : Call
   asked_now = call.Write lid io_timeout lock_timeout flags bytes
@@ -323,7 +323,7 @@ module _ (old new : ClientState LoopState) (lid io_timeout lock_timeout flags : 
 
 -- a write of one piece, over a link that was looked at from its start
 pub piece-heard : (old new : ClientState LoopState) (lid io_timeout lock_timeout flags : ℕ) (bytes : List ℕ) (done : Unit {0}) → old.next < 2 ^ 32
-    → CallFits (call.Write lid io_timeout lock_timeout flags bytes) → length bytes ≤ WRITE_MAX → IfSome old.link.served IsKept
+    → CallFits (call.Write lid io_timeout lock_timeout flags bytes) → length bytes ≤ PIECE_MAX → IfSome old.link.served IsKept
     → IsCalled (MarkedStands old.link) (λ l. None) (λ l. l.receive_faults) (λ l. l.send_faults) old new (call.Write lid io_timeout lock_timeout flags bytes) 0 nothing_of (Ok done)
     → (s : ServedState) → IsResting old s → IsPieceHeard old new lid (marked_bytes (sets_end flags) bytes) s
 piece-heard old new lid io_timeout lock_timeout flags bytes done numbered fits small kept called s rests =

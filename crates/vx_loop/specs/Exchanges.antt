@@ -1,14 +1,14 @@
 -- What is exchanged over a link to a gateway: records that come, each with what it makes in the gateway and its reply.
-use Rattle.std.specs.Prelude.{◌≡◌, ◌+◌, ◌≤◌, ℕ, Bool, true, false, ◌==◌, List, [], ◌∷◌, ◌++◌, length, Option, Some}
+use Rattle.std.specs.Prelude.{◌≡◌, ◌≤◌, ℕ, Bool, true, false, ◌==◌, List, [], ◌∷◌, ◌++◌, length, Option, Some}
 use Rattle.std.specs.List.{list_all, flat_map}
 use Rattle.vx_calls.specs.declared.calls.Role.TheVariants as role
-use Rattle.vx_calls.specs.declared.limits.TheConstants.{RECORD_MAX}
 use Rattle.vx_calls.specs.Call.{Call}
 use Rattle.vx_calls.specs.Reply.{Reply}
 use Rattle.vx_bus_traits.specs.Steps.{Step}
 use Rattle.vx_sim.specs.Laws.{transfers}
 use Rattle.vx_message.specs.Meaning.{Meaning, Junk, Asks, Aborts, meaning, record_of, reply_record}
 use Rattle.vx_message.specs.Meaning as meant
+use Rattle.vx_message.specs.declared.record.TheConstants.{REPLY_ROOM}
 use Rattle.vx_rules.specs.Lists.{along}
 use Rattle.vx_flow.specs.Event.{Event, Arrive, Answer, Begin, Move, Dial}
 use Rattle.vx_flow.specs.FineState.{FineState}
@@ -67,7 +67,7 @@ pub record IsExchange (before : Gateway) (x : Exchange) (after : Gateway) : Type
   pub whole : brought_by x.stream ≡ Whole x.message
   pub adds : Adds before x.group x.steps after
   pub replies : Replies (meaning x.message role.Core) x.group x.reply
-  pub short : length x.reply ≤ RECORD_MAX + 4
+  pub short : length x.reply ≤ REPLY_ROOM
 
 -- these, one after the other
 abbrev pub Exchanges : Gateway → List Exchange → Gateway → Type 0

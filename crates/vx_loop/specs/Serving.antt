@@ -1,12 +1,12 @@
 -- What serving a record, and polling its call again, leave of a gateway and of what is given.
-use Rattle.std.specs.Prelude.{◌≡◌, ◌+◌, ◌≤◌, ℕ, Bool, true, is_some, List, [], ◌∷◌, ◌++◌, length, Option, Some, None, ◌⊎◌}
+use Rattle.std.specs.Prelude.{◌≡◌, ◌≤◌, ℕ, Bool, true, is_some, List, [], ◌∷◌, ◌++◌, length, Option, Some, None, ◌⊎◌}
 use Rattle.std.specs.List.{list_all}
-use Rattle.vx_calls.specs.declared.limits.TheConstants.{RECORD_MAX}
 use Rattle.vx_calls.specs.Call.{Call}
 use Rattle.vx_calls.specs.Reply.{Reply}
 use Rattle.vx_bus_traits.specs.Steps.{Step}
 use Rattle.vx_message.specs.Meaning.{Meaning, Junk, Asks, Aborts, record_of, reply_record}
 use Rattle.vx_message.specs.Meaning as meant
+use Rattle.vx_message.specs.declared.record.TheConstants.{REPLY_ROOM}
 use Rattle.vx_rules.specs.State.{pending_at}
 use Rattle.vx_flow.specs.Event.{Event, Arrive, Answer}
 use Rattle.vx_flow.specs.FineState.{Turn}
@@ -38,7 +38,7 @@ pub record IsReplied (before : Gateway) (xid : ℕ) (after : Gateway) (left : Li
   pub turn_is : list_all of_turn turn ≡ true
   pub adds : Adds before (turn ++ Answer 1 now failed dialed level told ∷ []) steps after
   pub left_is : left ≡ reply_record xid told
-  pub short : length left ≤ RECORD_MAX + 4
+  pub short : length left ≤ REPLY_ROOM
   pub answered : pending_at after.fine.state.tables 1 ≡ None
   pub over : after.fine.turn ≡ None
 
@@ -67,6 +67,6 @@ pub record CallsOn (before : Gateway) (xid : ℕ) (asked : Call) (after : Gatewa
 -- what a message leaves: a call comes; another that has a reply is answered without the gateway
 abbrev pub Serves : Gateway → Meaning → ℕ → Gateway → List ℕ → Type 0
 Serves before Junk xid after left = ⊥
-Serves before (meant.Answered message) xid after left = (after ≡ before) × (left ≡ record_of message) × (length left ≤ RECORD_MAX + 4)
+Serves before (meant.Answered message) xid after left = (after ≡ before) × (left ≡ record_of message) × (length left ≤ REPLY_ROOM)
 Serves before (Asks number asked) xid after left = (xid ≡ number) × CallsOn before number asked after left
 Serves before (Aborts number lid) xid after left = ⊥

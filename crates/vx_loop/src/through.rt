@@ -15,7 +15,7 @@ use crate::link::LoopLink;
 use crate::marked::{Mark, Marked};
 use std::marker::Brand;
 use std::mem::replace;
-use vx_calls::WRITE_MAX;
+use vx_calls::PIECE_MAX;
 use vx_client::{CallOpts, Client, ClientErr, LinkMade};
 use vx_inst::Instrument;
 
@@ -38,7 +38,7 @@ fn write_marked<I: Instrument, M: Mark>(
     flags: u32,
     bytes: &[u8],
 ) -> Result<(), ClientErr>
-    requires short { length bytes.now ≤ WRITE_MAX }
+    requires short { length bytes.now ≤ PIECE_MAX }
     requires start { M.start ≡ link.old }
     ensures called { IsCalled (MarkedStands link.old) (λ _. None) (λ l. l.receive_faults) (λ l. l.send_faults)
         (with_link client.old link.old) (with_link client.new link.new) (write_call lid opts.now flags bytes.now) 0 nothing_of result }
@@ -64,7 +64,7 @@ fn write_piece<I: Instrument>(
     flags: u32,
     bytes: &[u8],
 ) -> Result<(), ClientErr>
-    requires short { length bytes.now ≤ WRITE_MAX }
+    requires short { length bytes.now ≤ PIECE_MAX }
     ensures called { IsCalled StandsFor (λ _. None) (λ l. l.receive_faults) (λ l. l.send_faults) client.old client.new
         (write_call lid opts.now flags bytes.now) 0 nothing_of result }
     ensures heard { OnOk result ((s : ServedState) → IsResting client.old s → IsPieceHeard client.old client.new lid (marked_bytes (sets_end flags) bytes.now) s) }
@@ -79,7 +79,7 @@ fn write_piece<I: Instrument>(
     result
 }
 
-/// `Client::write` over a link to a gateway: device_write in pieces of the smaller of `made.max` and `WRITE_MAX` bytes, the
+/// `Client::write` over a link to a gateway: device_write in pieces of the smaller of `made.max` and `PIECE_MAX` bytes, the
 /// last one shorter, and at least one, with the flag END of `opts` on the last alone.
 ///
 /// On `Ok`, where the client was between two calls as this one began and its link is to a device, what that device's
@@ -93,10 +93,10 @@ pub fn through_client<I: Instrument>(
 ) -> Result<(), ClientErr>
     requires { 1 ≤ made.now.max }
     ensures written { IsWritten StandsFor (λ _. None) (λ l. l.receive_faults) (λ l. l.send_faults) client.old client.new made.now.lid opts.now
-        (chunks (min made.now.max WRITE_MAX) bytes.now) result }
+        (chunks (min made.now.max PIECE_MAX) bytes.now) result }
     ensures heard { OnOk result ((s : ServedState) → IsResting client.old s → IsHeard client.old client.new made.now.lid (marked_bytes (sets_end opts.now.flags) bytes.now) s) }
 {
-    let most = made.max.min(WRITE_MAX) as usize;
+    let most = made.max.min(PIECE_MAX) as usize;
     let mut rest = bytes;
     while rest.len() > most {
         write_piece(client, made.lid, opts, opts.flags & NO_END, &rest[..most])?;

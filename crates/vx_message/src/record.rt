@@ -8,13 +8,15 @@ ghost use Rattle.vx_srq.specs.Shown.{handle_shown};
 ghost use Rattle.vx_codec.specs.Answered.{results, IsPuttableReply};
 ghost use Rattle.vx_message.specs.Meaning.{record_of, reply_record, srq_record, intr_srq};
 
-use vx_calls::{Interrupt, RECORD_MAX, ReplyRef};
+use vx_calls::{Interrupt, READ_MAX, ReplyRef};
 use vx_codec::{put_results, put_srq};
 use vx_record::mark;
 use vx_rpc::{RpcRefusal, put_call, put_refusal, put_reply};
 
-/// The longest record of a reply, its mark included, in bytes.
-pub const REPLY_ROOM: usize = RECORD_MAX + 4;
+/// The longest record of a reply, in bytes: that of the longest device_read, with the mark (4), the header of an accepted
+/// reply (24, RFC 5531, section 9), and the read's error, reason and length (12). A device_docmd's is no longer. It is also
+/// room for an interrupt call, of [`SRQ_ROOM`] bytes.
+pub const REPLY_ROOM: usize = READ_MAX as usize + 40;
 
 /// The longest record of an interrupt call, its mark included, in bytes: ten words and a handle of 40 bytes.
 pub const SRQ_ROOM: usize = 88;
@@ -66,7 +68,7 @@ fn put_success(xid: u32, answer: &ReplyRef<'_>, out: &mut [u8]) -> usize
 /// Writes the record of a reply to a call that was executed, with these results, and answers how long it is.
 pub fn put_success_record(xid: u32, answer: &ReplyRef<'_>, reply: &mut [u8]) -> usize
     requires puttable { IsPuttableReply (reply_shown answer.now) }
-    requires short { 24 + length (results (reply_shown answer.now)) ≤ RECORD_MAX }
+    requires short { 28 + length (results (reply_shown answer.now)) ≤ REPLY_ROOM }
     requires room { REPLY_ROOM ≤ length reply.old }
     ensures record { take result reply.new ≡ reply_record xid (reply_shown answer.now) }
     ensures some { 0 < result }

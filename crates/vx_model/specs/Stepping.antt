@@ -3,12 +3,13 @@ use Rattle.std.specs.Prelude.{◌≡◌, ℕ, ◌≤◌, Bool, true, false, ◌&
 use Rattle.std.specs.Option.{option_map}
 use Rattle.vx_calls.specs.declared.codes.ErrorCode.{ErrorCode}
 use Rattle.vx_calls.specs.Reply.{Reply}
+use Rattle.vx_488.specs.declared.transfers.TheConstants.{ADDRESS_MAX}
 use Rattle.vx_488.specs.declared.transfers.Transfer.{Transfer}
 use Rattle.vx_488.specs.declared.wire.Wire.{Wire}
 use Rattle.vx_488.specs.Wire.{wire_after}
 use Rattle.vx_plan.specs.declared.tasks.Task.{Task}
 use Rattle.vx_plan.specs.Plan.{Slot, Stand, fits}
-use Rattle.vx_plan.specs.Laws.{most_transfers}
+use Rattle.vx_plan.specs.declared.tasks.TheConstants.{TURN_MAX}
 use Rattle.vx_rules.specs.State.{Pending, Tables, State, with_pending}
 use Rattle.vx_rules.specs.Checks.{named_link}
 use Rattle.vx_rules.specs.Lines.{Lines, first_lines, lets_pass}
@@ -23,8 +24,8 @@ Goes found old false now = (found ≡ None) × (now ≡ old)
 
 -- a call's transfers leave an own address of at most 30, and there are no more of them than the longest job makes
 pub record IsOrderly (w : Wire) (moves : List Transfer) : Type 0 where
-  pub own : (wire_after w moves).own ≤ 30
-  pub few : length moves ≤ most_transfers
+  pub own : (wire_after w moves).own ≤ ADDRESS_MAX
+  pub few : length moves ≤ TURN_MAX
 
 -- whether something is wanted, and a transfer is that
 abbrev pub fits_next : Option Slot → Transfer → Bool

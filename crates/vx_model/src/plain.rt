@@ -5,6 +5,7 @@ ghost use Rattle.vx_calls.specs.Call.{call_shown};
 ghost use Rattle.vx_calls.specs.Reply.{reply_shown};
 ghost use Rattle.vx_srq.specs.Desk.{channel_at};
 ghost use Rattle.vx_srq.specs.Shown.{given_shown};
+ghost use Rattle.vx_488.specs.declared.transfers.TheConstants.{ADDRESS_MAX};
 ghost use Rattle.vx_488.specs.Wire.{wire_after};
 ghost use Rattle.vx_rules.specs.State as state;
 ghost use Rattle.vx_rules.specs.Calls.{proc_of};
@@ -186,7 +187,7 @@ impl Plain {
 
     /// The bus makes these transfers.
     fn transfer(&mut self, moves: &[Transfer])
-        requires { (wire_after self.old.wire moves.now).own ≤ 30 }
+        requires { (wire_after self.old.wire moves.now).own ≤ ADDRESS_MAX }
         ensures { self.new ≡ record self.old { wire = wire_after self.old.wire moves.now } }
     {
         self.wire = wire_after(self.wire, moves);
@@ -194,7 +195,7 @@ impl Plain {
 
     /// The call of a connection is over at this moment, with these transfers.
     fn close(&mut self, conn: u32, now: u64, moves: &[Transfer])
-        requires { (wire_after self.old.wire moves.now).own ≤ 30 }
+        requires { (wire_after self.old.wire moves.now).own ≤ ADDRESS_MAX }
         ensures { self.new ≡ closed self.old conn now moves.now self.old.tables }
     {
         self.tables.end_call(conn);

@@ -7,7 +7,7 @@ use Rattle.std.proofs.lemmas.List.{map-append}
 use Rattle.std.proofs.lemmas.Bool.{false≢true, true≢false, and_from, and_parts, ne_eqb}
 use Rattle.std.proofs.lemmas.Bool.Decides.{nat_tests}
 use Rattle.std.proofs.lemmas.Option.{slice_get-map, slice_get_within, slice_get_past, slice_get-get_or, same_Some}
-use Rattle.vx_calls.specs.declared.limits.TheConstants.{WRITE_MAX}
+use Rattle.vx_calls.specs.declared.limits.TheConstants.{READ_MAX}
 use Rattle.vx_calls.specs.declared.targets.Target.{Target}
 use Rattle.vx_calls.specs.declared.targets.Target.TheVariants.{Interface, Device}
 use Rattle.vx_488.specs.declared.transfers.Transfer.{Transfer}
@@ -258,7 +258,7 @@ wanted-get false bytes moved = refl
 
 -- the read of a job
 abbrev reading_of : ℕ → Option ℕ → Reading
-reading_of max stop = record { most = min max WRITE_MAX; stop = stop }
+reading_of max stop = record { most = min max READ_MAX; stop = stop }
 
 -- the plan of a read of some bytes
 reading-some : (fixed : List Transfer) (max : ℕ) (stop : Option ℕ) → (max ≡ 0 → ⊥)
@@ -272,7 +272,7 @@ next-reading : (task : Task) (max : ℕ) (stop : Option ℕ) (place : Place) (ge
     → slot_wanted get bytes place.moved ≡ next_slot left
 next-reading task max stop place get ts left bytes some is last moved goes =
     let r = reading_of max stop in
-    let least : 1 ≤ min max WRITE_MAX = omega arith in
+    let least : 1 ≤ min max READ_MAX = omega arith in
     let at = (walk-read task r None ts left least refl goes).at in
     ap (λ m. slot_wanted m bytes place.moved) is ∙ wanted-get (is_read_over max stop place.last place.moved) bytes place.moved
     ∙ ap (λ l. if is_read_over max stop l place.moved then None else Some AnyByte) last

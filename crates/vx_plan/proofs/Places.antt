@@ -5,7 +5,7 @@ use Rattle.std.specs.List.{count_by, list_any}
 use Rattle.std.proofs.lemmas.List.{length-map}
 use Rattle.std.proofs.lemmas.Bool.{false≢true, true≢false, or_from}
 use Rattle.std.proofs.lemmas.Option.{none-some, same_Some}
-use Rattle.vx_calls.specs.declared.limits.TheConstants.{WRITE_MAX}
+use Rattle.vx_calls.specs.declared.limits.TheConstants.{READ_MAX, WRITE_MAX}
 use Rattle.vx_calls.specs.declared.targets.Target.{Target}
 use Rattle.vx_calls.specs.declared.targets.Target.TheVariants.{Interface, Device}
 use Rattle.vx_488.specs.declared.transfers.Transfer.{Transfer}
@@ -95,7 +95,7 @@ puts-clean end (b ∷ c ∷ bs) = puts-clean end (c ∷ bs)
 
 reading-clean : (fixed : List Transfer) (max : ℕ) (stop : Option ℕ) → all_lines fixed ≡ true → Clean is_put false (reading fixed max stop)
 reading-clean fixed max stop h = by (max == 0) where
-  by : (e : Bool) → Clean is_put false (if e then just [] else record { front = map This fixed; reading = Some (record { most = min max WRITE_MAX; stop = stop }) })
+  by : (e : Bool) → Clean is_put false (if e then just [] else record { front = map This fixed; reading = Some (record { most = min max READ_MAX; stop = stop }) })
   by true = (refl, refl)
   by false = (lines-clean is_put false line-put fixed h, refl)
 
@@ -254,7 +254,7 @@ small-both task xs ys raw lines short all fewer =
 
 small-reading : (task : Task) (fixed : List Transfer) (max : ℕ) (stop : Option ℕ) → is_raw task ≡ false → all_lines fixed ≡ true → length fixed ≤ 8 → Small task (reading fixed max stop)
 small-reading task fixed max stop raw lines short = by (max == 0) where
-  by : (e : Bool) → Small task (if e then just [] else record { front = map This fixed; reading = Some (record { most = min max WRITE_MAX; stop = stop }) })
+  by : (e : Bool) → Small task (if e then just [] else record { front = map This fixed; reading = Some (record { most = min max READ_MAX; stop = stop }) })
   by true = (omega arith, omega arith)
   by false =
       let first = small-lines task fixed raw lines short in

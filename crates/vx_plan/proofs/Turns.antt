@@ -5,7 +5,7 @@ use Rattle.std.specs.List.{count_by, list_any}
 use Rattle.std.proofs.lemmas.List.{length-map}
 use Rattle.std.proofs.lemmas.Bool.{false≢true, true≢false, eqb-false, or_parts, or_from}
 use Rattle.std.proofs.lemmas.Option.{none-some, same_Some}
-use Rattle.vx_calls.specs.declared.limits.TheConstants.{WRITE_MAX}
+use Rattle.vx_calls.specs.declared.limits.TheConstants.{READ_MAX, WRITE_MAX}
 use Rattle.vx_calls.specs.declared.targets.Target.{Target}
 use Rattle.vx_calls.specs.declared.targets.Target.TheVariants.{Interface, Device}
 use Rattle.vx_488.specs.declared.transfers.Transfer.{Transfer}
@@ -17,15 +17,16 @@ use Rattle.vx_488.specs.declared.commands.Command.{Command}
 use Rattle.vx_488.specs.declared.commands.Command.TheVariants as command
 use Rattle.vx_488.specs.Command.{command_of}
 use Rattle.vx_488.specs.Wire.{talks_elsewhere, on_secondary, on_take_control, on_command, step, wire_after}
+use Rattle.vx_plan.specs.declared.tasks.TheConstants.{TURN_MAX}
 use Rattle.vx_plan.specs.declared.tasks.Task.{Task}
 use Rattle.vx_plan.specs.declared.tasks.Task.TheVariants as task
 use Rattle.vx_plan.specs.declared.tasks.Place.{Place}
 use Rattle.vx_plan.specs.Transfers.{is_own, got_of}
 use Rattle.vx_plan.specs.Plan.{Slot, This, AnyByte, Reading, Plan, ends_with, is_stop, fits, left_after_one, left_after, Part, Off, stand_of}
-use Rattle.vx_plan.specs.Tasks.{ended_poll, secondary_part, unl, spe, spd, unt, mla, mta, listener, talker, puts, just, reading, command_list, remote_list, plan, is_own_task, sdc, dcl, get, gtl}
+use Rattle.vx_plan.specs.Tasks.{ended_poll, secondary_part, unl, spe, spd, unt, mla, mta, listener, talker, puts, just, reading, command_list, remote_list, plan, most_bytes, is_own_task, sdc, dcl, get, gtl}
 use Rattle.vx_plan.specs.Results.{last_got}
 use Rattle.vx_plan.specs.Places.{carries_data, last_after}
-use Rattle.vx_plan.specs.Laws.{PlaceGoesOnLaw, most_transfers, BoundLaw, PartBoundLaw, SteadyLaw, OwnStaysLaw}
+use Rattle.vx_plan.specs.Laws.{PlaceGoesOnLaw, BoundLaw, PartBoundLaw, SteadyLaw, OwnStaysLaw}
 use Rattle.vx_plan.proofs.Fitting.{same_transfer-is}
 use Rattle.vx_plan.proofs.Walks.{off-stays, left_after-append, one-goes}
 use Rattle.vx_plan.proofs.Counts.{count-behind, last_got-behind}
@@ -132,14 +133,14 @@ pub length-secondary : (s : Option ℕ) → length (secondary_part s) ≤ 1
 length-secondary None = omega arith
 length-secondary (Some s) = omega arith
 
-length-command : (t : Target) (device interface : Transfer) (polling : Bool) → length (command_list t device interface polling) ≤ most_transfers
+length-command : (t : Target) (device interface : Transfer) (polling : Bool) → length (command_list t device interface polling) ≤ TURN_MAX
 length-command Interface device interface polling = omega arith
 length-command (Device p None) device interface true = omega arith
 length-command (Device p None) device interface false = omega arith
 length-command (Device p (Some s)) device interface true = omega arith
 length-command (Device p (Some s)) device interface false = omega arith
 
-length-remote : (t : Target) (polling : Bool) → length (remote_list t polling) ≤ most_transfers
+length-remote : (t : Target) (polling : Bool) → length (remote_list t polling) ≤ TURN_MAX
 length-remote Interface polling = omega arith
 length-remote (Device p None) true = omega arith
 length-remote (Device p None) false = omega arith
@@ -147,14 +148,14 @@ length-remote (Device p (Some s)) true = omega arith
 length-remote (Device p (Some s)) false = omega arith
 
 abbrev Roomy : Plan → Type 0
-Roomy p = IsSome p.reading × (room p ≤ most_transfers)
+Roomy p = IsSome p.reading × (room p ≤ TURN_MAX)
 
-room-just : (ts : List Transfer) → length ts ≤ most_transfers → Roomy (just ts)
+room-just : (ts : List Transfer) → length ts ≤ TURN_MAX → Roomy (just ts)
 room-just ts h = (tt, omega (arith, length-map ts This))
 
 room-reading : (fixed : List Transfer) (max : ℕ) (stop : Option ℕ) → length fixed ≤ 5 → Roomy (reading fixed max stop)
 room-reading fixed max stop h = by (max == 0) refl where
-  by : (e : Bool) → (max == 0) ≡ e → Roomy (if e then just [] else record { front = map This fixed; reading = Some (record { most = min max WRITE_MAX; stop = stop }) })
+  by : (e : Bool) → (max == 0) ≡ e → Roomy (if e then just [] else record { front = map This fixed; reading = Some (record { most = min max READ_MAX; stop = stop }) })
   by true e = (tt, omega arith)
   by false e =
       let some = eqb-false max 0 e in
@@ -200,6 +201,11 @@ room-plan (task.Ren on) bytes polling own h = (tt, omega arith)
 room-plan (task.Pass p) bytes polling own h = (tt, omega arith)
 room-plan (task.Own p) bytes polling own h = (tt, omega arith)
 room-plan task.Ifc bytes polling own h = (tt, omega arith)
+
+-- no job brings more bytes than a device_write may
+pub most_bytes-within : (task : Task) → most_bytes task ≤ WRITE_MAX
+most_bytes-within (task.Write t len end) = omega arith
+most_bytes-within task = omega arith
 
 pub bound-law : BoundLaw
 bound-law task bytes polling own ts short h =
@@ -318,7 +324,7 @@ own-secondary (Some s) = refl
 
 own-reading : (fixed : List Transfer) (max : ℕ) (stop : Option ℕ) → no_own fixed → has_own (reading fixed max stop).front ≡ false
 own-reading fixed max stop h = by (max == 0) where
-  by : (e : Bool) → has_own (if e then just [] else record { front = map This fixed; reading = Some (record { most = min max WRITE_MAX; stop = stop }) }).front ≡ false
+  by : (e : Bool) → has_own (if e then just [] else record { front = map This fixed; reading = Some (record { most = min max READ_MAX; stop = stop }) }).front ≡ false
   by true = refl
   by false = h
 

@@ -5,6 +5,7 @@ use Rattle.vx_calls.specs.declared.limits.TheConstants.{WRITE_MAX}
 use Rattle.vx_488.specs.declared.transfers.Transfer.{Transfer}
 use Rattle.vx_488.specs.declared.wire.Wire.{Wire}
 use Rattle.vx_488.specs.Wire.{wire_after}
+use Rattle.vx_plan.specs.declared.tasks.TheConstants.{TURN_MAX}
 use Rattle.vx_plan.specs.declared.tasks.Task.{Task}
 use Rattle.vx_plan.specs.declared.tasks.Task.TheVariants.{Write, Read}
 use Rattle.vx_calls.specs.declared.targets.Target.{Target}
@@ -48,19 +49,15 @@ PlaceGoesOnLaw = (task : Task) (bytes : List ℕ) (ts : List Transfer) (left : P
     → Reaches task bytes ts left place → FitsNext (next_slot left) t
     → (left' : Plan) × (left_after_one left t ≡ Some left') × Reaches task bytes (ts ++ t ∷ []) left' (place_after task place t)
 
--- the longest job: 65,536 bytes behind SPD, UNL, the own address, and the target's primary and secondary one
-abbrev pub most_transfers : ℕ
-most_transfers = WRITE_MAX + 5
-
--- a list that doesn't leave the plan of a job with at most 65,536 bytes has at most so many transfers
+-- a list that doesn't leave the plan of a job with at most `WRITE_MAX` bytes has at most so many transfers
 abbrev pub BoundLaw : Type 0
 BoundLaw = (task : Task) (bytes : List ℕ) (polling : Bool) (own : ℕ) (ts : List Transfer)
-    → length bytes ≤ WRITE_MAX → stand (plan task bytes polling own) ts ≢ Off → length ts ≤ most_transfers
+    → length bytes ≤ WRITE_MAX → stand (plan task bytes polling own) ts ≢ Off → length ts ≤ TURN_MAX
 
 -- a list that is a part of its job has fewer
 abbrev pub PartBoundLaw : Type 0
 PartBoundLaw = (task : Task) (bytes : List ℕ) (polling : Bool) (own : ℕ) (ts : List Transfer)
-    → length bytes ≤ WRITE_MAX → stand (plan task bytes polling own) ts ≡ Part → length ts < most_transfers
+    → length bytes ≤ WRITE_MAX → stand (plan task bytes polling own) ts ≡ Part → length ts < TURN_MAX
 
 -- no list that doesn't leave the plan of another job than that of a new own address has an `Own`
 abbrev pub SteadyLaw : Type 0
@@ -76,7 +73,7 @@ OwnStaysLaw = (task : Task) (bytes : List ℕ) (polling : Bool) (own : ℕ) (ts 
 abbrev pub WantsNothingLaw : Type 0
 WantsNothingLaw = (p left : Plan) (ts : List Transfer) → left_after (Some p) ts ≡ Some left → (next_slot left ≡ None) ↔ (stand p ts ≡ Whole)
 
--- a turn makes at most 8 transfers without a data byte, and of a job with at most 65,536 bytes it moves no more
+-- a turn makes at most 8 transfers without a data byte, and of a job with at most `WRITE_MAX` bytes it moves no more
 abbrev pub SmallPlaceLaw : Type 0
 SmallPlaceLaw = (task : Task) (bytes : List ℕ) (ts : List Transfer) (left : Plan) (place : Place)
     → length bytes ≤ WRITE_MAX → Reaches task bytes ts left place → (place.step ≤ 8) × (place.moved ≤ WRITE_MAX)

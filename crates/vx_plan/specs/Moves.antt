@@ -2,7 +2,7 @@
 use Rattle.std.specs.Prelude.{◌≡◌, ℕ, ◌+◌, Bool, false, ◌||◌, ◌==◌, min, if◌then◌else◌, List, length, Option, Some}
 use Rattle.std.specs.List.{slice_get}
 use Rattle.std.specs.Option.{option_map, option_map_or}
-use Rattle.vx_calls.specs.declared.limits.TheConstants.{WRITE_MAX}
+use Rattle.vx_calls.specs.declared.limits.TheConstants.{READ_MAX}
 use Rattle.vx_488.specs.declared.transfers.Transfer.{Transfer}
 use Rattle.vx_488.specs.declared.transfers.Transfer.TheVariants as transfer
 use Rattle.vx_plan.specs.declared.tasks.Next.{Next}
@@ -28,7 +28,7 @@ IsMoveAt fixed step move = (bytes : List ℕ) (moved : ℕ) → slot_wanted move
 
 -- a read is over after this last byte, or where so many bytes came
 abbrev pub is_read_over : ℕ → Option ℕ → Option (ℕ × Bool) → ℕ → Bool
-is_read_over max stop last moved = option_map_or (λ g. g.1 || is_stop stop g.0) last false || (moved == min max WRITE_MAX)
+is_read_over max stop last moved = option_map_or (λ g. g.1 || is_stop stop g.0) last false || (moved == min max READ_MAX)
 
 -- what a serial poll does behind its front: the status byte, then SPD and UNT
 abbrev pub poll_tail : ℕ → ℕ → Next

@@ -1,8 +1,9 @@
 -- The plan of each job on the bus (IEEE 488.1, 2.13; VXI-11.2, device_docmd).
 use Rattle.std.specs.Prelude.{◌≡◌, ℕ, ◌+◌, Bool, true, false, ◌==◌, ◌≤◌, min, ⊤, length, if◌then◌else◌, List, [], ◌∷◌, ◌++◌, map, Option, Some, None}
-use Rattle.vx_calls.specs.declared.limits.TheConstants.{WRITE_MAX}
+use Rattle.vx_calls.specs.declared.limits.TheConstants.{DOCMD_MAX, READ_MAX, WRITE_MAX}
 use Rattle.vx_calls.specs.declared.targets.Target.{Target}
 use Rattle.vx_calls.specs.declared.targets.Target.TheVariants.{Interface, Device}
+use Rattle.vx_488.specs.declared.transfers.TheConstants.{ADDRESS_MAX}
 use Rattle.vx_488.specs.declared.transfers.Transfer.{Transfer}
 use Rattle.vx_488.specs.declared.transfers.Transfer.TheVariants as transfer
 use Rattle.vx_plan.specs.declared.tasks.Task.{Task}
@@ -76,7 +77,7 @@ just ts = record { front = map This ts; reading = None }
 -- these transfers, and then a read of at most so many bytes; a read of none makes no transfer at all
 abbrev pub reading : List Transfer → ℕ → Option ℕ → Plan
 reading ts max stop =
-    if max == 0 then just [] else record { front = map This ts; reading = Some (record { most = min max WRITE_MAX; stop = stop }) }
+    if max == 0 then just [] else record { front = map This ts; reading = Some (record { most = min max READ_MAX; stop = stop }) }
 
 abbrev pub write_plan : Target → Bool → List ℕ → Bool → ℕ → Plan
 write_plan Interface end bytes polling own = just (puts end bytes)
@@ -132,13 +133,18 @@ HasBytes (Write t len end) bytes = length bytes ≡ len
 HasBytes (Commands len) bytes = length bytes ≡ len
 HasBytes _ bytes = ⊤
 
+-- the most bytes that a call may bring to its job: those of a device_write, or else those of a device_docmd
+abbrev pub most_bytes : Task → ℕ
+most_bytes (Write t len end) = WRITE_MAX
+most_bytes _ = DOCMD_MAX
+
 abbrev pub IsSecondaryPlain : Option ℕ → Type 0
 IsSecondaryPlain None = ⊤
-IsSecondaryPlain (Some s) = s ≤ 30
+IsSecondaryPlain (Some s) = s ≤ ADDRESS_MAX
 
 abbrev pub IsTargetPlain : Target → Type 0
 IsTargetPlain Interface = ⊤
-IsTargetPlain (Device p s) = (p ≤ 30) × IsSecondaryPlain s
+IsTargetPlain (Device p s) = (p ≤ ADDRESS_MAX) × IsSecondaryPlain s
 
 abbrev pub IsDevice : Target → Type 0
 IsDevice Interface = ⊥
@@ -153,8 +159,8 @@ IsPlainTask (Clear t) = IsTargetPlain t
 IsPlainTask (Trigger t) = IsTargetPlain t
 IsPlainTask (Remote t) = IsTargetPlain t
 IsPlainTask (Local t) = IsTargetPlain t
-IsPlainTask (Pass p) = p ≤ 30
-IsPlainTask (Own p) = p ≤ 30
+IsPlainTask (Pass p) = p ≤ ADDRESS_MAX
+IsPlainTask (Own p) = p ≤ ADDRESS_MAX
 IsPlainTask _ = ⊤
 
 -- the job is to take a new own address

@@ -32,12 +32,12 @@ pub fn place_goes_on()
     ensures { PlaceGoesOnLaw }
 {}
 
-/// No list that keeps to a plan has more than 65,541 transfers.
+/// No list that keeps to a plan has more than [`TURN_MAX`](crate::TURN_MAX) transfers.
 pub fn few_transfers()
     ensures { BoundLaw }
 {}
 
-/// A list that is a part of its job has fewer than 65,541 transfers.
+/// A list that is a part of its job has fewer.
 pub fn part_is_shorter()
     ensures { PartBoundLaw }
 {}
@@ -57,7 +57,7 @@ pub fn wants_nothing()
     ensures { WantsNothingLaw }
 {}
 
-/// A place counts at most 8 steps and at most 65,536 bytes.
+/// A place counts at most 8 steps, and no more bytes than a device_write may have.
 pub fn small_place()
     ensures { SmallPlaceLaw }
 {}

@@ -10,4 +10,4 @@ pub use laws::{
     appends, few_transfers, goes_on, no_other_own, own_stays, part_is_shorter, part_lists,
     place_goes_on, prefix_free, read_moved, small_place, wants_nothing, whole_lists, write_moved,
 };
-pub use tasks::{Next, Place, Task, first_place, needs, next_move};
+pub use tasks::{Next, Place, TURN_MAX, Task, first_place, needs, next_move};

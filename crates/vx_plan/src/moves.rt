@@ -9,7 +9,7 @@ ghost use Rattle.vx_plan.specs.Places.{slot_wanted};
 ghost use Rattle.vx_plan.specs.Moves.{IsStep, is_read_over, poll_tail, tail_after, move_at};
 
 use crate::tasks::{Next, Place};
-use vx_calls::WRITE_MAX;
+use vx_calls::READ_MAX;
 
 /// Go to local.
 pub const GTL: u8 = 0x01;
@@ -131,7 +131,7 @@ pub fn next_get(max: u32, stop: Option<u8>, place: &Place) -> Next
         None => false,
         Some((b, end)) => end || stop == Some(b),
     };
-    if stopped || place.moved == max.min(WRITE_MAX) {
+    if stopped || place.moved == max.min(READ_MAX) {
         Next::Finished
     } else {
         Next::Get

@@ -1,5 +1,6 @@
 //! Jobs, the place of a turn in one, and the next move from there.
 ghost use Rattle.std.specs.Prelude.{◌≡◌, ◌≤◌, [], ◌∷◌, Some};
+ghost use Rattle.vx_488.specs.declared.transfers.TheConstants.{ADDRESS_MAX};
 ghost use Rattle.vx_488.specs.declared.transfers.Transfer.{Transfer};
 ghost use Rattle.vx_488.specs.declared.transfers.Transfer.TheVariants.{Cmd};
 ghost use Rattle.vx_plan.specs.Tasks.{IsPlainTask, IsTargetPlain, command_list, remote_list, unl, mta, tct};
@@ -12,7 +13,11 @@ use crate::moves::{
     next_put, only_move, poll_end_step, poll_tail,
 };
 use vx_488::Wire;
-use vx_calls::Target;
+use vx_calls::{Target, WRITE_MAX};
+
+/// The most transfers of one turn: those of the longest device_write, behind the end of serial poll mode, unlisten, the
+/// gateway's own address, and both parts of the device's. A read and a device_docmd make no more.
+pub const TURN_MAX: u32 = WRITE_MAX + 5;
 
 /// A job on the bus.
 #[derive(Clone, Copy, Debug, PartialEq, Eq)]
@@ -123,7 +128,7 @@ pub fn first_place(wire: &Wire) -> Place
 /// What a job wants next at this place, in constant time (IEEE 488.1, 2.13; VXI-11.2, device_docmd).
 pub fn next_move(task: &Task, place: &Place) -> Next
     requires plain { IsPlainTask task.now }
-    requires own { place.now.own ≤ 30 }
+    requires own { place.now.own ≤ ADDRESS_MAX }
     requires reached { IsReached task.now place.now }
     ensures { IsNextMove task.now place.now result }
 {
@@ -148,7 +153,7 @@ pub fn next_move(task: &Task, place: &Place) -> Next
 /// A write: the gateway talks and the device listens, and then the data.
 fn next_of_write(t: Target, len: u32, end: bool, place: &Place) -> Next
     requires plain { IsTargetPlain t }
-    requires own { place.now.own ≤ 30 }
+    requires own { place.now.own ≤ ADDRESS_MAX }
     ensures { IsNextMove (Task.Write t len end) place.now result }
 {
     let put = next_put(len, end, place.moved);
@@ -161,7 +166,7 @@ fn next_of_write(t: Target, len: u32, end: bool, place: &Place) -> Next
 /// A read: the gateway listens and the device talks, and then the bytes. A read of no bytes makes no move at all.
 fn next_of_read(t: Target, max: u32, stop: Option<u8>, place: &Place) -> Next
     requires plain { IsTargetPlain t }
-    requires own { place.now.own ≤ 30 }
+    requires own { place.now.own ≤ ADDRESS_MAX }
     ensures { IsNextMove (Task.Read t max stop) place.now result }
 {
     if max == 0 {
@@ -177,7 +182,7 @@ fn next_of_read(t: Target, max: u32, stop: Option<u8>, place: &Place) -> Next
 /// A serial poll: the gateway listens, and the device talks in serial poll mode.
 fn next_of_poll(t: Target, place: &Place) -> Next
     requires plain { IsTargetPlain t }
-    requires own { place.now.own ≤ 30 }
+    requires own { place.now.own ≤ ADDRESS_MAX }
     ensures { IsNextMove (Task.Stb t) place.now result }
 {
     match t {
@@ -237,7 +242,7 @@ fn next_of_commands(len: u32, place: &Place) -> Next
 
 /// Control goes to the device at this primary address.
 fn next_of_pass(p: u8, place: &Place) -> Next
-    requires { p ≤ 30 }
+    requires { p ≤ ADDRESS_MAX }
     ensures { IsMoveAt (unl ∷ mta p ∷ tct ∷ []) place.now.step result }
 {
     match place.step {

@@ -10,6 +10,7 @@ use Rattle.vx_calls.specs.declared.targets.Target.{Target}
 use Rattle.vx_calls.specs.declared.targets.Target.TheVariants.{Interface, Device}
 use Rattle.vx_calls.specs.Call.{Call}
 use Rattle.vx_calls.specs.Call as call
+use Rattle.vx_488.specs.declared.transfers.TheConstants.{ADDRESS_MAX}
 use Rattle.vx_488.specs.declared.transfers.Transfer.{Transfer}
 use Rattle.vx_488.specs.declared.wire.Wire.{Wire}
 use Rattle.vx_488.specs.Heard.{heard}
@@ -59,7 +60,7 @@ ended-quiet true = refl
 ended-quiet false = refl
 
 -- a device is made a listener so
-listener-quiet : (p : ℕ) (s : Option ℕ) → p ≤ 30 → IsSecondaryPlain s → all_quiet (listener p s) ≡ true
+listener-quiet : (p : ℕ) (s : Option ℕ) → p ≤ ADDRESS_MAX → IsSecondaryPlain s → all_quiet (listener p s) ≡ true
 listener-quiet p None h plain = and_from _ _ (ap is_quiet (listen_byte p h)) refl
 listener-quiet p (Some s) h plain = and_from _ _ (ap is_quiet (listen_byte p h)) (and_from _ _ (ap is_quiet (secondary_byte s plain)) refl)
 
@@ -70,7 +71,7 @@ puts-quiet end (b ∷ []) = refl
 puts-quiet end (b ∷ c ∷ bs) = puts-quiet end (c ∷ bs)
 
 -- all that a write to a device makes
-addressed-quiet : (p : ℕ) (s : Option ℕ) (end : Bool) (bytes : List ℕ) (polling : Bool) (own : ℕ) → IsTargetPlain (Device p s) → own ≤ 30
+addressed-quiet : (p : ℕ) (s : Option ℕ) (end : Bool) (bytes : List ℕ) (polling : Bool) (own : ℕ) → IsTargetPlain (Device p s) → own ≤ ADDRESS_MAX
     → all_quiet (ended_poll polling ++ unl ∷ mta own ∷ listener p s ++ puts end bytes) ≡ true
 addressed-quiet p s end bytes polling own plain small =
     quiet-both (ended_poll polling ++ unl ∷ mta own ∷ listener p s) (puts end bytes)
@@ -87,14 +88,14 @@ just-quiet xs ts quiet on =
     (quiet-parts ts front.0 (ap all_quiet front.1 ∙ quiet)).0
 
 -- to the plan of a write
-plan-quiet : (t : Target) (end : Bool) (bytes : List ℕ) (polling : Bool) (own : ℕ) (ts : List Transfer) → IsTargetPlain t → own ≤ 30
+plan-quiet : (t : Target) (end : Bool) (bytes : List ℕ) (polling : Bool) (own : ℕ) (ts : List Transfer) → IsTargetPlain t → own ≤ ADDRESS_MAX
     → stand (write_plan t end bytes polling own) ts ≢ Off → all_quiet ts ≡ true
 plan-quiet Interface end bytes polling own ts plain small on = just-quiet (puts end bytes) ts (puts-quiet end bytes) on
 plan-quiet (Device p s) end bytes polling own ts plain small on =
     just-quiet (ended_poll polling ++ unl ∷ mta own ∷ listener p s ++ puts end bytes) ts (addressed-quiet p s end bytes polling own plain small) on
 
 -- to the job of a call that writes
-call-quiet : (t : Tables) (w : Wire) (conn : ℕ) (asked : Call) (ts : List Transfer) → All IsPlainLink t.links.links → w.own ≤ 30 → is_write asked ≡ true
+call-quiet : (t : Tables) (w : Wire) (conn : ℕ) (asked : Call) (ts : List Transfer) → All IsPlainLink t.links.links → w.own ≤ ADDRESS_MAX → is_write asked ≡ true
     → stand_of_job w asked ts (task_of (named_link t conn asked) asked) ≢ Off → all_quiet ts ≡ true
 call-quiet t w conn (call.Write lid io_timeout lock_timeout flags bytes) ts plain small is on = by (link_of t conn lid) refl on where
   by : (o : Option Link) → link_of t conn lid ≡ o
@@ -118,7 +119,7 @@ record Writes (f : FineState) (conn : ℕ) (p : Pending) : Type 0 where
   call_at : pending_at f.state.tables conn ≡ Some p
   writes : is_write p.call ≡ true
   links : All IsPlainLink f.state.tables.links.links
-  own : f.before.own ≤ 30
+  own : f.before.own ≤ ADDRESS_MAX
 
 -- a turn may go on with these transfers
 turn-quiet : (f : FineState) (conn : ℕ) (p : Pending) (moves : List Transfer) (turn : Option Turn) → Writes f conn p → may_move f conn moves turn ≡ true
@@ -158,7 +159,7 @@ begun-writes f mid conn now p sound w h =
     let free = is_none f.turn && nat_le f.state.moment now in
     let parts = cond_some (free && may_begin f.state conn now (pending_at f.state.tables conn)) _ mid step in
     let none = (and_parts (is_none f.turn) (nat_le f.state.moment now) (and_parts free (may_begin f.state conn now (pending_at f.state.tables conn)) parts.0).0).0 in
-    let small : f.state.wire.own ≤ 30 = subst (λ (v : Wire). v.own ≤ 30) (wire-is f sound none) w.own in
+    let small : f.state.wire.own ≤ ADDRESS_MAX = subst (λ (v : Wire). v.own ≤ ADDRESS_MAX) (wire-is f sound none) w.own in
     subst (λ m. Writes m conn p) parts.1 (record { call_at = w.call_at; writes = w.writes; links = w.links; own = small })
 
 -- the transfers of a poll of a write
@@ -210,7 +211,7 @@ pub write-taken : (before after : Gateway) (conn now : ℕ) (ending : Ending)
     → PollsOver (λ s. s.means) Through (λ s. some_asks s.bench) (λ s. some_refuses s.means.wire s.bench) before.fine before.bus conn now (Cut ∷ Told now ∷ []) ending after.fine after.bus
     → IsSound before.fine
     → All IsPlainLink before.fine.state.tables.links.links
-    → before.fine.before.own ≤ 30
+    → before.fine.before.own ≤ ADDRESS_MAX
     → (p : Pending) → pending_at before.fine.state.tables conn ≡ Some p → is_write p.call ≡ true → TakesHeard before.bus now after.bus.means.moves after.bus
 write-taken before after conn now ending over sound links own p at is =
     let moves = after.bus.means.moves in

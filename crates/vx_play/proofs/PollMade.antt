@@ -4,6 +4,7 @@ use Rattle.std.specs.List.{flat_map, All}
 use Rattle.std.proofs.Math.Nat.{max-eq_right}
 use Rattle.vx_calls.specs.declared.replies.ReplyRef.{ReplyRef}
 use Rattle.vx_calls.specs.Reply.{reply_shown}
+use Rattle.vx_488.specs.declared.transfers.TheConstants.{ADDRESS_MAX}
 use Rattle.vx_488.specs.declared.transfers.Transfer.{Transfer}
 use Rattle.vx_bus_traits.specs.Steps.{Told, Cut}
 use Rattle.vx_sim.specs.Bench.{some_asks, some_refuses}
@@ -92,7 +93,7 @@ poll-late old new conn now result late leaves =
 
 -- A poll makes its events, and the line of its note.
 pub poll-made : (old new : CoreState SimState) (conn now xid : ℕ) (result : Polled) (room : List ℕ) (told : Note) → old.fine.state.moment ≤ now
-    → IsSound old.fine → All IsPlainLink old.fine.state.tables.links.links → old.fine.before.own ≤ 30 → (leaves : Leaves old conn now result new)
+    → IsSound old.fine → All IsPlainLink old.fine.state.tables.links.links → old.fine.before.own ≤ ADDRESS_MAX → (leaves : Leaves old conn now result new)
     → note_line room told ≡ Some (poll_line conn xid leaves.ending) → NoteWithin (length room) told
     → MadeBy (PollMakes (gateway_of old) conn now xid) room (record { polled = Some conn; note = told }) new
 poll-made old new conn now xid result room told late sound links own leaves line within =
@@ -116,7 +117,7 @@ poll-made old new conn now xid result room told late sound links own leaves line
 
 -- by what the poll gave
 pub answer-made : (old new : CoreState SimState) (conn now xid len : ℕ) (given : ReplyRef) (room : List ℕ) → old.fine.state.moment ≤ now
-    → IsSound old.fine → All IsPlainLink old.fine.state.tables.links.links → old.fine.before.own ≤ 30 → Leaves old conn now (polled.Answer given) new
+    → IsSound old.fine → All IsPlainLink old.fine.state.tables.links.links → old.fine.before.own ≤ ADDRESS_MAX → Leaves old conn now (polled.Answer given) new
     → take len room ≡ reply_record xid (reply_shown given) → 0 < len → len ≤ length room
     → MadeBy (PollMakes (gateway_of old) conn now xid) room (record { polled = Some conn; note = note.Replied conn len }) new
 answer-made old new conn now xid len given room late sound links own leaves is some within =
@@ -124,14 +125,14 @@ answer-made old new conn now xid len given room late sound links own leaves is s
     (answer-line leaves.ending given conn xid (take len room) leaves.shows is) (some, within)
 
 pub waits-made : (old new : CoreState SimState) (conn now xid : ℕ) (w : Why) (room : List ℕ) → old.fine.state.moment ≤ now
-    → IsSound old.fine → All IsPlainLink old.fine.state.tables.links.links → old.fine.before.own ≤ 30 → Leaves old conn now (polled.NotYet w) new
+    → IsSound old.fine → All IsPlainLink old.fine.state.tables.links.links → old.fine.before.own ≤ ADDRESS_MAX → Leaves old conn now (polled.NotYet w) new
     → MadeBy (PollMakes (gateway_of old) conn now xid) room (record { polled = Some conn; note = note.Waiting conn w }) new
 waits-made old new conn now xid w room late sound links own leaves =
     poll-made old new conn now xid (polled.NotYet w) room (note.Waiting conn w) late sound links own leaves
     (waits-line leaves.ending w conn xid leaves.shows) tt
 
 pub dial-made : (old new : CoreState SimState) (conn now xid host port : ℕ) (room : List ℕ) → old.fine.state.moment ≤ now
-    → IsSound old.fine → All IsPlainLink old.fine.state.tables.links.links → old.fine.before.own ≤ 30 → Leaves old conn now (polled.Dial host port) new
+    → IsSound old.fine → All IsPlainLink old.fine.state.tables.links.links → old.fine.before.own ≤ ADDRESS_MAX → Leaves old conn now (polled.Dial host port) new
     → MadeBy (PollMakes (gateway_of old) conn now xid) room (record { polled = Some conn; note = note.Dialing conn }) new
 dial-made old new conn now xid host port room late sound links own leaves =
     poll-made old new conn now xid (polled.Dial host port) room (note.Dialing conn) late sound links own leaves

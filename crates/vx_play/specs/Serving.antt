@@ -4,7 +4,7 @@ use Rattle.std.specs.List.{flat_map}
 use Rattle.vx_calls.specs.declared.calls.Role.TheVariants as role
 use Rattle.vx_calls.specs.Call.{Call}
 use Rattle.vx_calls.specs.Call as call
-use Rattle.vx_bus_traits.specs.declared.asks.TheConstants.{ASK_MAX}
+use Rattle.vx_plan.specs.declared.tasks.TheConstants.{TURN_MAX}
 use Rattle.vx_trace.specs.Output.{Output}
 use Rattle.vx_sim.specs.SimState.{SimState}
 use Rattle.vx_rules.specs.State.{Tables, is_idle, lives_as}
@@ -27,7 +27,7 @@ pub record MadeBy (StepMakes : List Event → Option Output → Gateway → Type
   pub makes : StepMakes group (note_line room made.note) (gateway_of after)
   pub lines : flat_map bus_lines group ≡ moves_lines made.polled after.bus.means.moves
   pub note : NoteWithin (length room) made.note
-  pub few : IsSome made.polled → length after.bus.means.moves ≤ ASK_MAX
+  pub few : IsSome made.polled → length after.bus.means.moves ≤ TURN_MAX
 
 -- a record for a connection stands at the front of the room
 pub record Tells (room : List ℕ) (conn : ℕ) (told : List ℕ) (made : Made) : Type 0 where

@@ -78,7 +78,7 @@ fn refuse(conn: u32, xid: u32, refusal: RpcRefusal, reply: &mut [u8]) -> Made
 /// Answers a call that the gateway answered so.
 pub fn succeed(conn: u32, xid: u32, answer: &ReplyRef<'_>, reply: &mut [u8]) -> Made
     requires puttable { IsPuttableReply (reply_shown answer.now) }
-    requires short { 24 + length (results (reply_shown answer.now)) ≤ RECORD_MAX }
+    requires short { 28 + length (results (reply_shown answer.now)) ≤ REPLY_ROOM }
     requires room { REPLY_ROOM ≤ length reply.old }
     ensures made { Tells reply.new conn (reply_record xid (reply_shown answer.now)) result }
     ensures len { length reply.new ≡ length reply.old }

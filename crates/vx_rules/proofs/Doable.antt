@@ -6,7 +6,7 @@ use Rattle.std.specs.Option.{option_map}
 use Rattle.std.specs.Result.{IfOk}
 use Rattle.std.proofs.lemmas.Bool.{cases_Bool, false≢true, and_parts, leb-true, eqb-true}
 use Rattle.std.proofs.lemmas.Option.{same_Some}
-use Rattle.vx_calls.specs.declared.limits.TheConstants.{WRITE_MAX}
+use Rattle.vx_calls.specs.declared.limits.TheConstants.{DOCMD_MAX, WRITE_MAX}
 use Rattle.vx_calls.specs.declared.codes.ErrorCode.{ErrorCode}
 use Rattle.vx_calls.specs.declared.codes.ErrorCode.TheVariants as code
 use Rattle.vx_calls.specs.declared.targets.Target.{Target}
@@ -14,6 +14,7 @@ use Rattle.vx_calls.specs.declared.targets.Target.TheVariants.{Interface, Device
 use Rattle.vx_calls.specs.Target.{IsReachable}
 use Rattle.vx_calls.specs.Call.{Call}
 use Rattle.vx_calls.specs.Call as call
+use Rattle.vx_488.specs.declared.transfers.TheConstants.{ADDRESS_MAX}
 use Rattle.vx_488.specs.declared.transfers.Transfer.{Transfer}
 use Rattle.vx_488.specs.declared.transfers.Transfer.TheVariants as transfer
 use Rattle.vx_488.specs.declared.wire.Wire.{Wire}
@@ -22,10 +23,10 @@ use Rattle.vx_plan.specs.declared.tasks.Task.{Task}
 use Rattle.vx_plan.specs.declared.tasks.Task.TheVariants as task
 use Rattle.vx_plan.specs.Transfers.{same_transfer}
 use Rattle.vx_plan.specs.Plan.{Plan, Stand, Whole, Part, Off, done, left_after, stand_of, stand}
-use Rattle.vx_plan.specs.Tasks.{plan, is_own_task, IsTargetPlain, IsDevice, IsPlainTask}
+use Rattle.vx_plan.specs.Tasks.{plan, is_own_task, IsTargetPlain, IsDevice, IsPlainTask, most_bytes}
 use Rattle.vx_plan.proofs.Walks.{left_after-none}
 use Rattle.vx_plan.proofs.Fitting.{same_transfer-is}
-use Rattle.vx_plan.proofs.Turns.{bound-law, own_stays-law}
+use Rattle.vx_plan.proofs.Turns.{bound-law, most_bytes-within, own_stays-law}
 use Rattle.vx_links.specs.Table.{Link, Table, uses_address}
 use Rattle.vx_rules.specs.State.{Pending, Tables, link_of}
 use Rattle.vx_rules.specs.Calls.{link_named, bytes_of}
@@ -62,12 +63,12 @@ device_is Interface e h = cc
 device_is (Device p s) e h = tt
 
 -- a command of device_docmd that takes its input is a job that can be done
-short : (n k : ℕ) → (n == k) ≡ true → k ≤ 4 → n ≤ WRITE_MAX
+short : (n k : ℕ) → (n == k) ≡ true → k ≤ 4 → n ≤ DOCMD_MAX
 short n k same small = let e = eqb-true n k same in omega (arith, e, small)
 
 -- a command that takes its input: its number is an address up to 30, and its bytes are few
 command_doable : (own : ℕ) (links : Table) (big : Bool) (bytes : List ℕ) (c : Command) → takes_input c own links big bytes ≡ true → IsDoable (command_task c big bytes) bytes
-command_doable own links big bytes SendCommand h = record { plain = tt; sent = refl; few = leb-true (length bytes) WRITE_MAX (and_parts _ _ h).0 }
+command_doable own links big bytes SendCommand h = record { plain = tt; sent = refl; few = leb-true (length bytes) DOCMD_MAX (and_parts _ _ h).0 }
 command_doable own links big bytes BusStatus h =
     record { plain = tt; sent = tt; few = short (length bytes) 2 (and_parts (length bytes == 2) (takes_number BusStatus own links (number_in big bytes)) h).0 (omega arith) }
 command_doable own links big bytes AtnControl h = record { plain = tt; sent = tt; few = short (length bytes) 2 (and_parts _ _ h).0 (omega arith) }
@@ -75,11 +76,11 @@ command_doable own links big bytes RenControl h = record { plain = tt; sent = tt
 command_doable own links big bytes PassControl h =
     let n = number_in big bytes in
     let both = and_parts (length bytes == 4) (takes_number PassControl own links n) h in
-    record { plain = leb-true n 30 (and_parts (nat_le n 30) (not (n == own)) both.1).0; sent = tt; few = short (length bytes) 4 both.0 (omega arith) }
+    record { plain = leb-true n ADDRESS_MAX (and_parts (nat_le n ADDRESS_MAX) (not (n == own)) both.1).0; sent = tt; few = short (length bytes) 4 both.0 (omega arith) }
 command_doable own links big bytes BusAddress h =
     let n = number_in big bytes in
     let both = and_parts (length bytes == 4) (takes_number BusAddress own links n) h in
-    record { plain = leb-true n 30 (and_parts (nat_le n 30) (not (uses_address links n)) both.1).0; sent = tt; few = short (length bytes) 4 both.0 (omega arith) }
+    record { plain = leb-true n ADDRESS_MAX (and_parts (nat_le n ADDRESS_MAX) (not (uses_address links n)) both.1).0; sent = tt; few = short (length bytes) 4 both.0 (omega arith) }
 command_doable own links big bytes IfcControl h = record { plain = tt; sent = tt; few = short (length bytes) 0 (and_parts _ _ h).0 (omega arith) }
 
 -- the job of a call on a link that its checks let pass can be done
@@ -104,10 +105,15 @@ doable t own l (call.Docmd lid flags io_timeout lock_timeout cmd big size bytes)
       subst (λ j. IsDoable j bytes) (same_Some (command_task c big bytes) job e) (command_doable own t.links big bytes c (passes (takes_input c own t.links big bytes) code.Parameter h))
 doable t own l _ job plain h e = cc
 
--- a call on a link that its checks let pass brings at most 65,536 bytes
+-- a call on a link that its checks let pass brings no more bytes than a device_write may
 command_few : (own : ℕ) (links : Table) (big : Bool) (bytes : List ℕ) (o : Option Command) (t : Tables) → check_command t own big bytes o ≡ None → length bytes ≤ WRITE_MAX
 command_few own links big bytes None t h = cc
-command_few own links big bytes (Some c) t h = (command_doable own t.links big bytes c (passes (takes_input c own t.links big bytes) code.Parameter h)).few
+command_few own links big bytes (Some c) t h =
+    omega (
+      arith,
+      (command_doable own t.links big bytes c (passes (takes_input c own t.links big bytes) code.Parameter h)).few,
+      most_bytes-within (command_task c big bytes),
+    )
 
 -- so does each call on a link
 pub few_bytes : (t : Tables) (own : ℕ) (l : Link) (asked : Call) → check_on t own l asked ≡ None → length (bytes_of asked) ≤ WRITE_MAX
@@ -134,7 +140,7 @@ named_found t conn (Some lid) l h all = by (link_of t conn lid) refl h where
 checks_on : (t : Tables) (own conn : ℕ) (p : Pending) (l : Link) → lets_pass t own conn p ≡ true → named_link t conn p.call ≡ OnLink l → check_on t own l p.call ≡ None
 checks_on t own conn p l lets named = ap (λ a. check t own conn false a p.call) (sym named) ∙ (lets-says _ _ lets).checks
 
--- so it brings at most 65,536 bytes
+-- so it brings no more than these
 pub passed_few : (t : Tables) (own conn : ℕ) (p : Pending) (l : Link) → lets_pass t own conn p ≡ true → named_link t conn p.call ≡ OnLink l → length (bytes_of p.call) ≤ WRITE_MAX
 passed_few t own conn p l lets named = few_bytes t own l p.call (checks_on t own conn p l lets named)
 

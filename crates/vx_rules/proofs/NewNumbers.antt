@@ -4,6 +4,7 @@ use Rattle.std.proofs.Common.{◌≡◌, ℕ, true, false, List, [], ◌∷◌, 
 use Rattle.std.specs.Prelude.{pos}
 use Rattle.vx_calls.specs.declared.calls.Role.TheVariants as role
 use Rattle.vx_calls.specs.declared.codes.ErrorCode.TheVariants as code
+use Rattle.vx_calls.specs.declared.limits.TheConstants.{WRITE_MAX}
 use Rattle.vx_calls.specs.Call as call
 use Rattle.vx_calls.specs.Reply as reply
 use Rattle.vx_rules.specs.State.{first}
@@ -18,9 +19,9 @@ text = 103 ∷ 112 ∷ 105 ∷ 98 ∷ 48 ∷ 44 ∷ 53 ∷ []
 abbrev history : List Entry
 history =
     Up 1 role.Core
-    ∷ Arrive 1 (call.CreateLink (pos 1) false 0 text) 10 ∷ Answer 1 10 0 [] false None false (reply.CreateLink code.Ok 1 9011 65536)
+    ∷ Arrive 1 (call.CreateLink (pos 1) false 0 text) 10 ∷ Answer 1 10 0 [] false None false (reply.CreateLink code.Ok 1 9011 WRITE_MAX)
     ∷ Arrive 1 (call.DestroyLink 1) 20 ∷ Answer 1 20 0 [] false None false (reply.Error code.Ok)
-    ∷ Arrive 1 (call.CreateLink (pos 1) false 0 text) 30 ∷ Answer 1 30 0 [] false None false (reply.CreateLink code.Ok 2 9011 65536)
+    ∷ Arrive 1 (call.CreateLink (pos 1) false 0 text) 30 ∷ Answer 1 30 0 [] false None false (reply.CreateLink code.Ok 2 9011 WRITE_MAX)
     ∷ Arrive 1 (call.CreateIntr 0 1025 0x607B1 1 0) 40 ∷ Answer 1 41 0 [] false (Some true) false (reply.Error code.Ok)
     ∷ Arrive 1 call.DestroyIntr 50 ∷ Answer 1 50 0 [] false None false (reply.Error code.Ok)
     ∷ Arrive 1 (call.CreateIntr 0 1025 0x607B1 1 0) 60 ∷ Answer 1 61 0 [] false (Some true) false (reply.Error code.Ok)

@@ -1,6 +1,7 @@
 -- The commands of device_docmd (after VXI-11.2): their numbers, the input of each, and the job that each is.
 use Rattle.std.specs.Prelude.{ℕ, ◌+◌, ◌*◌, Bool, true, not, ◌&&◌, ◌==◌, nat_le, if◌then◌else◌, List, [], ◌∷◌, length, Option, Some, None}
-use Rattle.vx_calls.specs.declared.limits.TheConstants.{WRITE_MAX}
+use Rattle.vx_488.specs.declared.transfers.TheConstants.{ADDRESS_MAX}
+use Rattle.vx_calls.specs.declared.limits.TheConstants.{DOCMD_MAX}
 use Rattle.vx_plan.specs.declared.tasks.Task.{Task}
 use Rattle.vx_plan.specs.declared.tasks.Task.TheVariants.{Commands, Status, Atn, Ren, Pass, Own, Ifc}
 use Rattle.vx_links.specs.Table.{Table, uses_address}
@@ -43,7 +44,7 @@ number_in big bytes = if big then big_number bytes else little_number bytes
 
 -- how long the input has to be
 abbrev pub has_length : Command → ℕ → Bool
-has_length SendCommand n = nat_le n WRITE_MAX
+has_length SendCommand n = nat_le n DOCMD_MAX
 has_length BusStatus n = n == 2
 has_length AtnControl n = n == 2
 has_length RenControl n = n == 2
@@ -55,8 +56,8 @@ has_length IfcControl n = n == 0
 -- selector 1 to 8; an address up to 30 that isn't the own one; one that is no live link's primary address
 abbrev pub takes_number : Command → ℕ → Table → ℕ → Bool
 takes_number BusStatus own t n = nat_le 1 n && nat_le n 8
-takes_number PassControl own t n = nat_le n 30 && not (n == own)
-takes_number BusAddress own t n = nat_le n 30 && not (uses_address t n)
+takes_number PassControl own t n = nat_le n ADDRESS_MAX && not (n == own)
+takes_number BusAddress own t n = nat_le n ADDRESS_MAX && not (uses_address t n)
 takes_number _ own t n = true
 
 -- whether the command takes this input

@@ -6,7 +6,7 @@ use Rattle.vx_calls.specs.Reply.{Reply}
 use Rattle.vx_calls.specs.Reply as reply
 use Rattle.vx_srq.specs.Desk.{with_new_channel}
 use Rattle.vx_plan.specs.declared.tasks.Task.{Task}
-use Rattle.vx_plan.specs.Tasks.{IsPlainTask, IsTargetPlain, HasBytes}
+use Rattle.vx_plan.specs.Tasks.{IsPlainTask, IsTargetPlain, HasBytes, most_bytes}
 use Rattle.vx_links.specs.Table.{Link}
 use Rattle.vx_calls.specs.Call.{Call}
 use Rattle.vx_calls.specs.Call as call
@@ -32,8 +32,8 @@ served_reply t _ = reply.Error code.Ok
 abbrev pub IsPlainLink : Link → Type 0
 IsPlainLink l = IsTargetPlain l.target
 
--- a job that can be done on the bus: its addresses are at most 30, and these are its bytes, at most 65,536
+-- a job that can be done on the bus: its addresses are at most 30, and these are its bytes, no more than it may have
 pub record IsDoable (job : Task) (bytes : List ℕ) : Type 0 where
   pub plain : IsPlainTask job
   pub sent : HasBytes job bytes
-  pub few : length bytes ≤ WRITE_MAX
+  pub few : length bytes ≤ most_bytes job

@@ -35,7 +35,7 @@ pub enum End {
     CutShort { bytes: usize },
     /// A whole record of this length is no call.
     Junk { length: usize },
-    /// A record goes above 66,560 bytes.
+    /// A record goes above [`RECORD_MAX`] bytes.
     TooLong,
     /// A receive failed.
     ReadFault,

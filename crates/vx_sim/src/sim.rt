@@ -2,6 +2,7 @@
 
 ghost use Rattle.std.specs.Prelude.{◌≡◌, ◌<◌, ◌≤◌, ◌+◌, length, None, Some, true, IfOk, MatchResult, is_ok};
 ghost use Rattle.std.specs.List.{list_any};
+ghost use Rattle.vx_488.specs.declared.transfers.TheConstants.{ADDRESS_MAX};
 ghost use Rattle.vx_488.specs.declared.transfers.Transfer.TheVariants.{Cmd, Put, Ren, Ifc, Own};
 ghost use Rattle.vx_488.specs.Address.{is_bus_address};
 ghost use Rattle.vx_bus_traits.specs.Steps.{Went, Held, Failed, Told, Cut, move_step, get_step, line_transfer, IsStepped};
@@ -374,7 +375,7 @@ impl<I: Instrument> Bus for SimBus<I> {
     /// Makes this the gateway's own address, 0 to 30, unless this is the call that is told to fail.
     fn own(&mut self, address: u8) -> Move
         requires room { self.old.means.asks < ASK_MAX }
-        requires address { address ≤ 30 }
+        requires address { address ≤ ADDRESS_MAX }
         ensures stepped { IsStepped self.old.means (move_step (Own address) result) self.new.means }
         ensures through { Through self.old (move_step (Own address) result) self.new }
     {

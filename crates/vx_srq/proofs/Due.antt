@@ -5,7 +5,8 @@ use Rattle.std.proofs.lemmas.Bool.Decides.{nat_tests}
 use Rattle.std.proofs.lemmas.List.Elements.{filter-append}
 use Rattle.vx_calls.specs.declared.calls.Handle.{Handle}
 use Rattle.vx_srq.specs.declared.enables.EnableRow.{EnableRow}
-use Rattle.vx_srq.specs.Desk.{Enable, handles_of, OUTBOX}
+use Rattle.vx_srq.specs.declared.srq.TheConstants.{OUTBOX_MAX}
+use Rattle.vx_srq.specs.Desk.{Enable, handles_of}
 use Rattle.vx_srq.specs.Shown.{enable_shown, handle_shown}
 
 -- the handles that these rows give to a connection
@@ -52,13 +53,13 @@ due_within rows conn n =
 
 -- where an outbox is full with the handles of the first rows, and the next row gives one, all are too many
 pub too_many : (waiting : List Handle) (before : List (List ℕ)) (rows : List EnableRow) (conn i : ℕ) (r : EnableRow) → i < length rows → r ≡ get_or rows i r
-    → r.on ≡ true → r.conn ≡ conn → map handle_shown waiting ≡ before ++ due (take i rows) conn → OUTBOX ≤ length waiting
-    → nat_le (length (before ++ due rows conn)) OUTBOX ≡ false
+    → r.on ≡ true → r.conn ≡ conn → map handle_shown waiting ≡ before ++ due (take i rows) conn → OUTBOX_MAX ≤ length waiting
+    → nat_le (length (before ++ due rows conn)) OUTBOX_MAX ≡ false
 too_many waiting before rows conn i r within read on owned queued full =
     let gives_it : gives r conn ≡ true = ap (λ b. b && (r.conn == conn)) on ∙ eq-eqb r.conn conn owned in
     let one_more : due (take (i + 1) rows) conn ≡ due (take i rows) conn ++ handle_shown r.handle ∷ [] =
     due_more rows conn i r within read ∙ ap (λ b. due (take i rows) conn ++ cond b (handle_shown r.handle ∷ []) []) gives_it in
-    let above : OUTBOX < length (before ++ due rows conn) =
+    let above : OUTBOX_MAX < length (before ++ due rows conn) =
     omega (
       arith,
       length-map waiting handle_shown,

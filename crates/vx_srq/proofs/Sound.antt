@@ -10,7 +10,8 @@ use Rattle.std.proofs.lemmas.List.Kept.{AllPairs-cons, AllPairs-filter}
 use Rattle.std.proofs.lemmas.List.Filters.{length-filter_both}
 use Rattle.vx_calls.specs.declared.limits.TheConstants.{LINK_MAX, CONNECTION_LAST}
 use Rattle.vx_srq.specs.Desk as desk
-use Rattle.vx_srq.specs.Desk.{OUTBOX, Channel, Port, Enable, Desk, IsSound, IsBelow, HasChannelBelow, LinksRise, enable_put, port_with, queued_on, risen_port, handles_of, is_rise, taken_from, front_taken, port_taken}
+use Rattle.vx_srq.specs.declared.srq.TheConstants.{OUTBOX_MAX}
+use Rattle.vx_srq.specs.Desk.{Channel, Port, Enable, Desk, IsSound, IsBelow, HasChannelBelow, LinksRise, enable_put, port_with, queued_on, risen_port, handles_of, is_rise, taken_from, front_taken, port_taken}
 use Rattle.vx_srq.proofs.Places.{rise_head, rise_tail}
 
 abbrev Rises : Enable → Enable → Type 0
@@ -33,10 +34,10 @@ below_more next (Some c) h = (h.0, h.1, omega (arith, h.2))
 -- a channel that queues
 below_queued : (next : ℕ) (handles : List (List ℕ)) (o : Option Channel) → IfSome o (IsBelow next) → IfSome (option_and_then (queued_on handles) o) (IsBelow next)
 below_queued next handles None h = tt
-below_queued next handles (Some c) h = at (nat_le (length (c.outbox ++ handles)) OUTBOX) refl
+below_queued next handles (Some c) h = at (nat_le (length (c.outbox ++ handles)) OUTBOX_MAX) refl
   where
-    at : (b : Bool) → nat_le (length (c.outbox ++ handles)) OUTBOX ≡ b → IfSome (if b then Some (record c { outbox = c.outbox ++ handles }) else None) (IsBelow next)
-    at true e = (leb-true (length (c.outbox ++ handles)) OUTBOX e, h.1, h.2)
+    at : (b : Bool) → nat_le (length (c.outbox ++ handles)) OUTBOX_MAX ≡ b → IfSome (if b then Some (record c { outbox = c.outbox ++ handles }) else None) (IsBelow next)
+    at true e = (leb-true (length (c.outbox ++ handles)) OUTBOX_MAX e, h.1, h.2)
     at false e = tt
 
 -- a channel whose front is taken

@@ -3,10 +3,7 @@ use Rattle.std.specs.Prelude.{ℕ, ◌<◌, ◌≤◌, ◌+◌, ◌%◌, ◌^◌
 use Rattle.std.specs.Option.{option_map, IfSome}
 use Rattle.std.specs.List.{list_any, All, AllPairs}
 use Rattle.vx_calls.specs.declared.limits.TheConstants.{CONNECTION_LAST, LINK_MAX}
-
--- the most interrupts that wait in an outbox
-abbrev pub OUTBOX : ℕ
-OUTBOX = 1024
+use Rattle.vx_srq.specs.declared.srq.TheConstants.{OUTBOX_MAX}
 
 -- An interrupt channel: its number, the program and version that its calls have, the xid of the next one, and the
 -- handles that wait to go out, in order.
@@ -97,7 +94,7 @@ handles_of enables conn = map (λ e. e.handle) (filter (λ e. e.on && (e.connect
 
 -- a channel with these handles behind those that wait, or none where there would be more than an outbox takes
 abbrev pub queued_on : List (List ℕ) → Channel → Option Channel
-queued_on handles c = if nat_le (length (c.outbox ++ handles)) OUTBOX then Some (record c { outbox = c.outbox ++ handles }) else None
+queued_on handles c = if nat_le (length (c.outbox ++ handles)) OUTBOX_MAX then Some (record c { outbox = c.outbox ++ handles }) else None
 
 -- what a rise does to a connection: a channel queues the handles of its enabled links, or is closed
 abbrev pub risen_port : List Enable → Port → Port
@@ -166,7 +163,7 @@ LinksRise enables = AllPairs (λ a b. a.link < b.link) enables
 
 -- a channel's outbox has no more than it takes, and its number was given out before this one
 abbrev pub IsBelow : ℕ → Channel → Type 0
-IsBelow next c = (length c.outbox ≤ OUTBOX) × (0 < c.number) × (c.number < next)
+IsBelow next c = (length c.outbox ≤ OUTBOX_MAX) × (0 < c.number) × (c.number < next)
 
 -- so is the channel of a port, where it has one
 abbrev pub HasChannelBelow : ℕ → Port → Type 0

@@ -8,7 +8,8 @@ use Rattle.vx_calls.specs.declared.replies.Taken.TheVariants as seen
 use Rattle.vx_srq.specs.declared.ports.ChannelRow.{ChannelRow}
 use Rattle.vx_srq.specs.declared.ports.PortRow.{PortRow}
 use Rattle.vx_srq.specs.declared.enables.EnableRow.{EnableRow}
-use Rattle.vx_srq.specs.Desk.{OUTBOX, Channel, Port, Enable, Given, Front, Empty, Gone}
+use Rattle.vx_srq.specs.declared.srq.TheConstants.{OUTBOX_MAX}
+use Rattle.vx_srq.specs.Desk.{Channel, Port, Enable, Given, Front, Empty, Gone}
 
 -- the bytes of a handle
 abbrev pub handle_shown : Handle → List ℕ
@@ -34,5 +35,5 @@ given_shown seen.Gone = Gone
 
 -- the room of an outbox stands, and no more than it takes waits in it
 pub record HasRoom (r : PortRow) : Type 0 where
-  pub room : OUTBOX ≤ deque_capacity r.outbox
-  pub few : length r.outbox.items ≤ OUTBOX
+  pub room : OUTBOX_MAX ≤ deque_capacity r.outbox
+  pub few : length r.outbox.items ≤ OUTBOX_MAX

@@ -2,7 +2,8 @@ ghost use Rattle.std.specs.Prelude.{◌≡◌, ◌≤◌, ◌==◌, ◌++◌, na
 ghost use Rattle.std.specs.Option.{option_copied, option_map, option_and_then};
 ghost use Rattle.std.specs.List.{list_any, All};
 ghost use Rattle.std.specs.VecDeque.{deque_capacity};
-ghost use Rattle.vx_srq.specs.Desk.{port_with, risen_port, port_taken, given_by, front_given, handles_of, OUTBOX};
+ghost use Rattle.vx_srq.specs.declared.srq.TheConstants.{OUTBOX_MAX};
+ghost use Rattle.vx_srq.specs.Desk.{port_with, risen_port, port_taken, given_by, front_given, handles_of};
 ghost use Rattle.vx_srq.specs.Shown.{channel_shown, port_shown, enable_shown, handle_shown, given_shown, HasRoom};
 
 use crate::enables::{EnableRow, copied};
@@ -109,12 +110,12 @@ fn rise_at(port: &mut PortRow, enables: &[EnableRow])
 /// Puts the handles of the connection's enabled links behind those that wait. Answers false, and may have put some, where
 /// they are more than the outbox takes.
 fn queue(conn: u32, outbox: &mut VecDeque<Handle>, enables: &[EnableRow]) -> bool
-    requires room { OUTBOX ≤ deque_capacity outbox.old }
-    requires few { length outbox.old.items ≤ OUTBOX }
-    ensures fits { result ≡ nat_le (length (map handle_shown outbox.old.items ++ handles_of (map enable_shown enables.now) conn)) OUTBOX }
+    requires room { OUTBOX_MAX ≤ deque_capacity outbox.old }
+    requires few { length outbox.old.items ≤ OUTBOX_MAX }
+    ensures fits { result ≡ nat_le (length (map handle_shown outbox.old.items ++ handles_of (map enable_shown enables.now) conn)) OUTBOX_MAX }
     ensures queued { result ≡ true → map handle_shown outbox.new.items ≡ map handle_shown outbox.old.items ++ handles_of (map enable_shown enables.now) conn }
     ensures room { deque_capacity outbox.new ≡ deque_capacity outbox.old }
-    ensures few { length outbox.new.items ≤ OUTBOX }
+    ensures few { length outbox.new.items ≤ OUTBOX_MAX }
 {
     for enable in enables {
         if enable.on && enable.conn == conn {

@@ -6,7 +6,7 @@ ghost use Rattle.vx_plan.specs.Tasks.{IsPlainTask, IsTargetPlain, HasBytes};
 ghost use Rattle.vx_ctrl.specs.Turns.{HasRoom};
 
 use vx_488::ADDRESS_MAX;
-use vx_calls::{Target, WRITE_MAX};
+use vx_calls::{READ_MAX, Target, WRITE_MAX};
 use vx_plan::Task;
 
 /// Whether both parts of a target's address are at most 30.
@@ -58,7 +58,7 @@ pub fn has_room(task: &Task, room: usize) -> bool
     ensures { IsTrue result → HasRoom task.now room }
 {
     match *task {
-        Task::Read { max, .. } => max.min(WRITE_MAX) as usize <= room,
+        Task::Read { max, .. } => max.min(READ_MAX) as usize <= room,
         Task::Stb { .. } => room > 0,
         _ => true,
     }

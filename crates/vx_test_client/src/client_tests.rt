@@ -334,7 +334,7 @@ const REPLIES: [Row; 12] = [
         more: &[(Ask::Unlock, SPENT)],
         ..ONE
     },
-    // A record of RECORD_MAX + 1 bytes.
+    // A record of REPLY_MAX + 1 bytes.
     Row {
         gives: &[0x80010401],
         piece: 1,

@@ -7,7 +7,7 @@ ghost use Rattle.vx_calls.specs.Reply.{same_reply, reply_shown};
 ghost use Rattle.vx_calls.specs.Reply as replies;
 ghost use Rattle.vx_srq.specs.Desk.{Srq};
 ghost use Rattle.vx_srq.specs.Shown.{given_shown};
-ghost use Rattle.vx_plan.specs.Laws.{most_transfers};
+ghost use Rattle.vx_plan.specs.declared.tasks.TheConstants.{TURN_MAX};
 ghost use Rattle.vx_plan.specs.Places.{last_after};
 ghost use Rattle.vx_plan.specs.Results as results;
 ghost use Rattle.vx_plan.specs.Transfers.{got_of};
@@ -190,7 +190,7 @@ fn last_after(before: Option<(u8, bool)>, t: Transfer) -> Option<(u8, bool)>
 
 /// How many data bytes transfers put.
 pub(crate) fn puts_made(moves: &[Transfer]) -> u32
-    requires { length moves.now ≤ most_transfers }
+    requires { length moves.now ≤ TURN_MAX }
     ensures { result ≡ results.puts_made moves.now }
 {
     moves.iter().filter(|t| is_put(t)).count() as u32

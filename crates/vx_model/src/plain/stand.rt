@@ -1,6 +1,7 @@
 //! Where a list of transfers stands in a job.
 ghost use Rattle.std.specs.Prelude.{◌≡◌, ◌≤◌, slice_index};
 ghost use Rattle.vx_calls.specs.declared.limits.TheConstants.{WRITE_MAX};
+ghost use Rattle.vx_488.specs.declared.transfers.TheConstants.{ADDRESS_MAX};
 ghost use Rattle.vx_488.specs.declared.transfers.Transfer.TheVariants.{Cmd, Put, Ren, Atn, Own};
 ghost use Rattle.vx_plan.specs.Plan as plans;
 ghost use Rattle.vx_plan.specs.Transfers.{same_transfer};
@@ -23,7 +24,7 @@ pub(crate) enum Stand {
 
 /// Where these transfers stand in a job with these bytes that began on this bus.
 pub(crate) fn stand_on(task: &Task, wire: &Wire, bytes: &[u8], list: &[Transfer]) -> Stand
-    requires own { wire.now.own ≤ 30 }
+    requires own { wire.now.own ≤ ADDRESS_MAX }
     requires doable { IsDoable task.now bytes.now }
     ensures { stand_shown result ≡ plans.stand (plan task.now bytes.now wire.now.polling wire.now.own) list.now }
 {

@@ -5,7 +5,8 @@ ghost use Rattle.vx_links.specs.Table.{Table, uses_address};
 ghost use Rattle.vx_rules.specs.Docmd as docmd;
 ghost use Rattle.vx_rules.specs.Shown.{command_shown};
 
-use vx_calls::WRITE_MAX;
+use vx_488::ADDRESS_MAX;
+use vx_calls::DOCMD_MAX;
 use vx_links::Links;
 use vx_plan::Task;
 
@@ -20,9 +21,6 @@ pub(crate) enum Command {
     BusAddress,
     IfcControl,
 }
-
-/// The greatest bus address (IEEE 488.1, 2.6).
-const ADDRESS_MAX: u32 = 30;
 
 /// The command of this number.
 pub(crate) fn command_of(cmd: u32) -> Option<Command>
@@ -86,7 +84,7 @@ pub(crate) fn takes_input(command: Command, own: u8, links: &Links, big: bool, i
     ensures { result ≡ docmd.takes_input (command_shown command) own links.now big input.now }
 {
     match command {
-        Command::SendCommand => input.len() <= WRITE_MAX as usize,
+        Command::SendCommand => input.len() <= DOCMD_MAX as usize,
         Command::BusStatus => input.len() == 2 && is_selector(word_in(big, input)),
         Command::AtnControl | Command::RenControl => input.len() == 2,
         Command::PassControl => input.len() == 4 && is_other(long_in(big, input), own),
@@ -104,16 +102,16 @@ fn is_selector(n: u16) -> bool
 
 /// An address of another than the gateway.
 fn is_other(n: u32, own: u8) -> bool
-    ensures { result ≡ (nat_le n 30 && not (n == own)) }
+    ensures { result ≡ (nat_le n ADDRESS_MAX && not (n == own)) }
 {
-    n <= ADDRESS_MAX && n != u32::from(own)
+    n <= u32::from(ADDRESS_MAX) && n != u32::from(own)
 }
 
 /// An address that is no live link's.
 fn is_free(n: u32, links: &Links) -> bool
-    ensures { result ≡ (nat_le n 30 && not (uses_address links.now n)) }
+    ensures { result ≡ (nat_le n ADDRESS_MAX && not (uses_address links.now n)) }
 {
-    n <= ADDRESS_MAX && !links.uses(n as u8)
+    n <= u32::from(ADDRESS_MAX) && !links.uses(n as u8)
 }
 
 /// The job that a command with this input is. It takes the input.

@@ -373,7 +373,6 @@ fn task_on(link: LinkRow, call: Kept, text: &[u8]) -> Option<Task>
 
 /// The job of a device_docmd. Its command takes its input.
 fn docmd_task(cmd: u32, big: bool, text: &[u8]) -> Option<Task>
-    requires short { length text.now ≤ WRITE_MAX }
     requires takes { TakesInput cmd big text.now }
     ensures { result ≡ option_map (λ c. docmd.command_task c big text.now) (docmd.command_of cmd) }
 {

@@ -1,6 +1,6 @@
 use Rattle.std.proofs.Common.{sym, ◌∙◌, subst, arith}
 use Rattle.vx_ctrl.specs.Turns.{GetsBytes}
-use Rattle.vx_kernel.proofs.Replying.{read-whole, poll-whole, got-few}
+use Rattle.vx_kernel.proofs.Replying.{brings-few, read-whole, poll-whole, got-few}
 use Rattle.vx_kernel.proofs.replies.finished.Goals as goal
 
 pub returns-in-Read-clause-reply : goal.returns-in-Read-clause-reply
@@ -18,3 +18,13 @@ pub returns-in-Stb-clause-reply : goal.returns-in-Stb-clause-reply
 returns-in-Stb-clause-reply c = λ w made left has whole holds.
     poll-whole c.args.turn.now c.in-Stb.t (sym c.task.ensures ∙ c.in-Stb.is) c.requires.plain c.args.bytes.now c.args.wire.now c.args.is_big c.args.level made
     left has.reaches whole c.args.room.now holds
+
+pub put_bytes-requires : goal.put_bytes-requires
+put_bytes-requires c =
+    let few = brings-few c.args.turn.now.task (λ t len end e. c.in_default.not-Write t len end (c.task.ensures ∙ e)) in
+    omega (arith, few, c.requires.short, c.requires.room)
+
+pub returns-in_default-clause-len : goal.returns-in_default-clause-len
+returns-in_default-clause-len c = λ w made left has.
+    let few = brings-few c.args.turn.now.task (λ t len end e. c.in_default.not-Write t len end (c.task.ensures ∙ e)) in
+    omega (arith, few, c.requires.short)

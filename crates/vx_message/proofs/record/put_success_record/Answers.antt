@@ -1,13 +1,13 @@
-use Rattle.std.proofs.Common.{◌≤◌, ap, ◌∙◌, arith}
-use Rattle.vx_calls.specs.declared.limits.TheConstants.{RECORD_MAX}
+use Rattle.std.proofs.Common.{◌-◌, ◌≤◌, ap, ◌∙◌, arith}
+use Rattle.vx_message.specs.declared.record.TheConstants.{REPLY_ROOM}
 use Rattle.vx_message.specs.Meaning.{record_of}
 use Rattle.vx_message.proofs.Recorded.{behind-mark}
 use Rattle.vx_message.proofs.record.put_success_record.Goals as goal
 
 pub returns-clause-record : goal.returns-clause-record
 returns-clause-record c =
-    let within : c.put_success-len.result ≤ RECORD_MAX = (let len = c.put_success-len.ensures.len in omega arith) in
+    let within : c.put_success-len.result ≤ REPLY_ROOM - 4 = (let len = c.put_success-len.ensures.len in omega arith) in
     c.close_record.ensures.record
     ∙ ap record_of (
-    behind-mark c.args.reply.now c.put_success-len.new.out c.put_success-len.result RECORD_MAX c.requires.room c.put_success-len.auto.out within
+    behind-mark c.args.reply.now c.put_success-len.new.out c.put_success-len.result (REPLY_ROOM - 4) (omega (arith, c.requires.room)) c.put_success-len.auto.out within
     ∙ c.put_success-len.ensures.message)

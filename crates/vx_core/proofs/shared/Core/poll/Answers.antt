@@ -1,5 +1,5 @@
 use Rattle.std.proofs.Common.{◌≤◌, refl, ap, ◌∙◌, subst, arith}
-use Rattle.vx_calls.specs.declared.limits.TheConstants.{WRITE_MAX}
+use Rattle.vx_calls.specs.declared.limits.TheConstants.{READ_MAX}
 use Rattle.vx_kernel.specs.declared.ended.Ended.TheVariants as ended
 use Rattle.vx_kernel.specs.Given.{given_reply}
 use Rattle.vx_kernel.specs.Ending.{ended_len}
@@ -9,7 +9,7 @@ use Rattle.vx_core.proofs.shared.Core.poll.Goals as goal
 
 pub lend-requires : goal.lend-requires
 lend-requires g c =
-    let within = subst (λ e. ended_len e ≤ WRITE_MAX) c.in-Answered.is c.poll.ensures.within in
+    let within = subst (λ e. ended_len e ≤ READ_MAX) c.in-Answered.is c.poll.ensures.within in
     omega (arith, within, c.room.ensures.len)
 
 pub returns-in-Answered : goal.returns-in-Answered
@@ -24,7 +24,7 @@ returns-in-Answered g c =
             c.in-Answered.is shows,
       ),
       record {
-        fits = lent-fits c.in-Answered.given c.poll.new.kernel.room _ shows (subst (λ e. ended_len e ≤ WRITE_MAX) c.in-Answered.is c.poll.ensures.within);
+        fits = lent-fits c.in-Answered.given c.poll.new.kernel.room _ shows (subst (λ e. ended_len e ≤ READ_MAX) c.in-Answered.is c.poll.ensures.within);
         after = tt;
       },
     )

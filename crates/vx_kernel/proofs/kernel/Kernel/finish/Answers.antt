@@ -1,9 +1,8 @@
 use Rattle.std.proofs.Common.{◌≡◌, ◌≤◌, ℕ, List, Bool, Some, length, drop, sym, ap, ◌∙◌, subst}
 use Rattle.std.proofs.lemmas.List.{take_at}
-use Rattle.vx_calls.specs.declared.limits.TheConstants.{WRITE_MAX}
 use Rattle.vx_plan.specs.declared.tasks.Task.{Task}
 use Rattle.vx_plan.specs.Plan.{Whole, stand_of}
-use Rattle.vx_plan.specs.Tasks.{HasBytes}
+use Rattle.vx_plan.specs.Tasks.{HasBytes, most_bytes}
 use Rattle.vx_plan.specs.Results.{whole_reply}
 use Rattle.vx_ctrl.specs.Turns.{HasMade, GetsBytes}
 use Rattle.vx_ctrl.specs.Goes.{HoldsBytes}
@@ -37,7 +36,7 @@ finished-given-requires-clause-short g c =
     let runs = c.requires.holds.runs r c.requires.turn in
     let bytes : c.bytes-bytes.result.now ≡ bytes_of runs.asked.call =
     c.bytes-bytes.ensures runs.asked (ap (λ k. pending_at k.tables c.args.conn) c.self.view_is ∙ runs.call_at) in
-    let P : List ℕ → Type 0 = λ bytes. length bytes ≤ WRITE_MAX in
+    let P : List ℕ → Type 0 = λ bytes. length bytes ≤ most_bytes c.args.turn.now.task in
     subst P (sym bytes) runs.few
 
 pub returns-clause-within : goal.returns-clause-within

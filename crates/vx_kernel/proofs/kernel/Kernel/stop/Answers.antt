@@ -1,6 +1,6 @@
 use Rattle.std.proofs.Common.{◌≡◌, ◌≤◌, ℕ, false, List, Some, length, take, sym, ap, ◌∙◌, subst, arith}
 use Rattle.std.proofs.lemmas.List.{length-take-le}
-use Rattle.vx_calls.specs.declared.limits.TheConstants.{WRITE_MAX}
+use Rattle.vx_calls.specs.declared.limits.TheConstants.{READ_MAX}
 use Rattle.vx_calls.specs.Reply.{Reply, reply_shown}
 use Rattle.vx_488.specs.declared.transfers.Transfer.{Transfer}
 use Rattle.vx_rules.specs.State.{Pending, pending_at}
@@ -33,7 +33,7 @@ slice_bounds-stopped-end g c =
       | in-None w ↦
           subst (Counts moves k.room) (sym w.puts-is) (counts-none k.running k.made c.args.conn k.room (sym c.own_turn.ensures ∙ w.in-None.is))
     ] in
-    let long : length c.deref.result.now ≡ WRITE_MAX = ap length c.deref.ensures.value ∙ c.self.invariant.1 in
+    let long : length c.deref.result.now ≡ READ_MAX = ap length c.deref.ensures.value ∙ c.self.invariant.1 in
     sym (length-take-le c.match-own_turn.puts.1 c.deref.result.now (omega (arith, counts.few, long)))
 
 counted : (g : _) (c : goal.After-close g) → Counts (moves_of (turn_of (turn_shown c.args.self.now.running c.args.self.now.made) c.args.conn)) c.args.self.now.room c.match-own_turn.puts
@@ -52,7 +52,7 @@ counted g c =
           subst (Counts moves k.room) (sym w.puts-is) (counts-none k.running k.made c.args.conn k.room (sym c.own_turn.ensures ∙ w.in-None.is))
     ]
 
-long : (g : _) (c : goal.After-close g) → length c.args.self.now.room ≡ WRITE_MAX
+long : (g : _) (c : goal.After-close g) → length c.args.self.now.room ≡ READ_MAX
 long g c = sym (ap (λ k. length k.room) c.self.view_is) ∙ c.self.invariant.1
 
 shown : (g : _) (c : goal.After-close g) (p : Pending) → pending_at c.args.self.now.tables c.args.conn ≡ Some p

@@ -5,11 +5,8 @@ use Rattle.vx_rules.specs.Held.{kept_call}
 use Rattle.vx_rules.specs.Input.{HasInput}
 use Rattle.vx_rules.proofs.tables.lines.task_on.Goals as goal
 
-pub docmd_task-requires-clause-takes : goal.docmd_task-requires-clause-takes
-docmd_task-requires-clause-takes c = subst (λ k. HasInput (kept_call k c.args.text.now [])) c.in-Docmd.is (c.requires.takes [])
-
-pub docmd_task-requires-clause-short : goal.docmd_task-requires-clause-short
-docmd_task-requires-clause-short c = subst (λ k. length (bytes_of (kept_call k c.args.text.now [])) ≤ WRITE_MAX) c.in-Docmd.is (c.requires.short [])
+pub docmd_task-requires : goal.docmd_task-requires
+docmd_task-requires c = record { takes = subst (λ k. HasInput (kept_call k c.args.text.now [])) c.in-Docmd.is (c.requires.takes []) }
 
 pub overflow_cast-result : goal.overflow_cast-result
 overflow_cast-result c =
