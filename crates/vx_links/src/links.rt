@@ -65,6 +65,13 @@ impl Links {
         self.rows.len() >= LINK_MAX as usize || self.next > LINK_LAST
     }
 
+    /// The number that comes next, up to 2^30, which is never given.
+    pub fn next_number(&self) -> u32
+        ensures { result ≡ self.now.next }
+    {
+        self.next
+    }
+
     /// Makes a link of this connection, and gives its number: 1, 2, 3 and so on up to 2^30 - 1, none twice.
     ///
     /// # Errors

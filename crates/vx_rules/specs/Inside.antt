@@ -1,5 +1,5 @@
 -- What the fields of a `Tables` hold, as the tables of a gateway, and what is true of them.
-use Rattle.std.specs.Prelude.{◌≡◌, ◌≤◌, ◌+◌, map}
+use Rattle.std.specs.Prelude.{◌≤◌, ◌+◌, map}
 use Rattle.std.specs.List.{All}
 use Rattle.vx_calls.specs.declared.limits.TheConstants.{CONNECTION_LAST}
 use Rattle.vx_rules.specs.declared.tables.Tables.TheInside.{Inside}
@@ -18,11 +18,8 @@ tables_of t = record {
   abort_port = t.abort_port;
 }
 
--- the tables are sound, the numbers of connections have not run past the last, the next link's and the next channel's
--- number are those of their tables, and the addresses of links are at most 30
+-- the tables are sound, the numbers of connections have not run past the last, and the addresses of links are at most 30
 pub record IsKept (t : Inside) : Type 0 where
   pub sound : IsSound (tables_of t)
   pub numbers : t.next ≤ CONNECTION_LAST + 1
-  pub channels : t.next_channel ≡ t.srq.next_channel
-  pub links : t.next_link ≡ t.links.next
   pub plain : All IsPlainLink t.links.links

@@ -60,10 +60,6 @@ pub struct Tables {
     links: Links,
     locks: Locks,
     srq: Srq,
-    /// The number of the next link, as `links` has it.
-    next_link: u32,
-    /// The number of the next channel, as `srq` has it.
-    next_channel: u32,
     abort_port: u16,
 }
 
@@ -99,8 +95,6 @@ impl Tables {
             links,
             locks,
             srq,
-            next_link: 1,
-            next_channel: 1,
             abort_port,
         })
     }
@@ -287,6 +281,13 @@ impl Tables {
             Some(channel) => Some(channel.chan),
             None => None,
         }
+    }
+
+    /// The level of SRQ at the last sample; false before the first.
+    pub fn level(&self) -> bool
+        ensures { result ≡ self.now.desk.level }
+    {
+        self.srq.level()
     }
 
     /// What holds of all tables: numbers of links rise; no link holds two locks, and no two locks are on conflicting

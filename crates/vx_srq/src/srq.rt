@@ -160,6 +160,21 @@ impl Srq {
         self.next <= CONNECTION_LAST
     }
 
+    /// The number of the next channel, up to 2^31, which is never given.
+    pub fn next_channel(&self) -> u32
+        ensures number { result ≡ self.now.next_channel }
+        ensures range { result ≤ CONNECTION_LAST + 1 }
+    {
+        self.next
+    }
+
+    /// The level of SRQ at the last sample; false before the first.
+    pub fn level(&self) -> bool
+        ensures { result ≡ self.now.level }
+    {
+        self.level
+    }
+
     /// The connection's channel goes, with its outbox. Answers whether there was one. The enables of links stay.
     pub fn close(&mut self, conn: u32) -> bool
         ensures open { result ≡ is_some (desk.channel_at self.old conn) }

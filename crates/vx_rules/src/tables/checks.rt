@@ -160,8 +160,9 @@ impl Tables {
         if settling {
             self.srq.has_number()
         } else {
-            self.next_channel <= CONNECTION_LAST
-                && count_asking(&self.rows, conn) <= (CONNECTION_LAST - self.next_channel) as usize
+            let next = self.srq.next_channel();
+            next <= CONNECTION_LAST
+                && count_asking(&self.rows, conn) <= (CONNECTION_LAST - next) as usize
         }
     }
 }

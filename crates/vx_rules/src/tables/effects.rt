@@ -64,7 +64,7 @@ impl Tables {
         let row = self.held(conn);
         let asked = asked_of(row);
         match asked.call {
-            Kept::CreateLink { .. } => link_reply(self.next_link, self.abort_port),
+            Kept::CreateLink { .. } => link_reply(self.links.next_number(), self.abort_port),
             _ => done(),
         }
     }
@@ -96,7 +96,6 @@ impl Tables {
         let Ok(lid) = self.links.insert(conn, target) else {
             unreachable!()
         };
-        self.next_link += 1;
         take_if(&mut self.locks, lock, lid, target);
         link_reply(lid, self.abort_port)
     }
@@ -196,7 +195,6 @@ impl Tables {
         let Ok(_) = self.srq.make(conn, prog, vers) else {
             unreachable!()
         };
-        self.next_channel += 1;
         done()
     }
 

@@ -15,7 +15,5 @@ invariant_of-self c =
           (ap (map connection_of) written ∙ c.mark_calls.ensures ∙ ap (λ rs. map (mark_on c.args.lid) (map connection_of rs)) c.deref_mut.ensures.value)
           (marked-sound (tables_of c.self.inside) c.args.lid c.self.invariant.sound);
       numbers = c.self.invariant.numbers;
-      channels = c.self.invariant.channels;
-      links = c.self.invariant.links;
       plain = c.self.invariant.plain;
     }

@@ -29,7 +29,5 @@ invariant_of-self c =
           (with_pending-sound t c.args.conn (Some (arrived asked c.args.now)) c.self.invariant.sound
           (λ k found some. core-is (connection_at t c.args.conn) k (and_parts _ _ idle).0 found));
       numbers = c.self.invariant.numbers;
-      channels = c.self.invariant.channels;
-      links = c.self.invariant.links;
       plain = c.self.invariant.plain;
     }

@@ -1,4 +1,4 @@
-use Rattle.std.proofs.Common.{None, sym, ap, ◌∙◌}
+use Rattle.std.proofs.Common.{None}
 use Rattle.vx_rules.specs.Inside.{tables_of}
 use Rattle.vx_rules.proofs.Keeping.{with_channel-sound}
 use Rattle.vx_rules.proofs.Closing.{desk_sound}
@@ -8,7 +8,5 @@ pub invariant_of-self : goal.invariant_of-self
 invariant_of-self c = record {
   sound = desk_sound (tables_of c.self.inside) _ _ c.close.ensures.closed (with_channel-sound (tables_of c.self.inside) c.args.conn None c.self.invariant.sound);
   numbers = c.self.invariant.numbers;
-  channels = c.self.invariant.channels ∙ sym (ap (λ d. d.next_channel) c.close.ensures.closed);
-  links = c.self.invariant.links;
   plain = c.self.invariant.plain;
 }

@@ -20,8 +20,6 @@ invariant_of-self c =
           (removed_is t c.args.conn c.args.lid c.remove.new.self c.self.invariant.sound.numbered own c.remove.ensures.links) c.free.ensures.locks c.forget.ensures))
           (without_link-sound t c.args.conn c.args.lid c.self.invariant.sound);
       numbers = c.self.invariant.numbers;
-      channels = c.self.invariant.channels ∙ sym (ap (λ d. d.next_channel) c.forget.ensures);
-      links = c.self.invariant.links ∙ sym (ap (λ l. l.next) c.remove.ensures.links);
       plain = subst (λ l. All IsPlainLink l.links) (sym c.remove.ensures.links) (All-filter (λ l. not (l.number == c.args.lid)) IsPlainLink t.links.links c.self.invariant.plain);
     }
 

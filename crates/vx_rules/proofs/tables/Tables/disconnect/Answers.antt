@@ -1,4 +1,4 @@
-use Rattle.std.proofs.Common.{◌==◌, not, sym, ap, subst, ◌∙◌}
+use Rattle.std.proofs.Common.{◌==◌, not, sym, subst}
 use Rattle.std.specs.List.{All}
 use Rattle.std.proofs.lemmas.List.Elements.{All-filter}
 use Rattle.vx_rules.specs.Serving.{IsPlainLink}
@@ -13,7 +13,5 @@ invariant_of-self c =
       sound = gone_sound t c.args.conn _ _ _ _ c.self.invariant.sound
           (changed_is t _ _ _ _ _ _ _ _ c.drop_row.ensures c.drop_links.ensures.links c.drop_links.ensures.locks c.gone.ensures);
       numbers = c.self.invariant.numbers;
-      channels = c.self.invariant.channels ∙ sym (ap (λ d. d.next_channel) c.gone.ensures);
-      links = c.self.invariant.links ∙ sym (ap (λ l. l.next) c.drop_links.ensures.links);
       plain = subst (λ l. All IsPlainLink l.links) (sym c.drop_links.ensures.links) (All-filter (λ l. not (l.connection == c.args.conn)) IsPlainLink t.links.links c.self.invariant.plain);
     }

@@ -1,4 +1,4 @@
-use Rattle.std.proofs.Common.{◌≡◌, ◌&&◌, ◌==◌, true, sym, ap, ◌∙◌}
+use Rattle.std.proofs.Common.{◌≡◌, ◌&&◌, ◌==◌, true, ap, ◌∙◌}
 use Rattle.std.proofs.lemmas.Bool.{and_parts}
 use Rattle.vx_rules.specs.Inside.{tables_of}
 use Rattle.vx_rules.specs.Sound.{owns}
@@ -22,7 +22,5 @@ invariant_of-self c =
     record {
       sound = desk_sound t _ _ c.enable.ensures (with_enable-sound t _ c.self.invariant.sound own);
       numbers = c.self.invariant.numbers;
-      channels = c.self.invariant.channels ∙ sym (ap (λ d. d.next_channel) c.enable.ensures);
-      links = c.self.invariant.links;
       plain = c.self.invariant.plain;
     }

@@ -17,7 +17,5 @@ invariant_of-self c =
           ∙ ap (λ rs. update_first (λ k. k.number == c.args.conn) (λ k. record k { pending = None }) (map connection_of rs)) c.deref_mut.ensures.value)
           (ended-sound (tables_of c.self.inside) c.args.conn c.self.invariant.sound);
       numbers = c.self.invariant.numbers;
-      channels = c.self.invariant.channels;
-      links = c.self.invariant.links;
       plain = c.self.invariant.plain;
     }

@@ -7,7 +7,5 @@ pub invariant_of-self : goal.invariant_of-self
 invariant_of-self c = record {
   sound = locks_sound (tables_of c.self.inside) _ _ c.free.ensures.locks (without_lock-sound (tables_of c.self.inside) c.args.lid c.self.invariant.sound);
   numbers = c.self.invariant.numbers;
-  channels = c.self.invariant.channels;
-  links = c.self.invariant.links;
   plain = c.self.invariant.plain;
 }

@@ -1,4 +1,4 @@
-use Rattle.std.proofs.Common.{◌≡◌, ◌+◌, false, sym, ap, subst, ◌∙◌}
+use Rattle.std.proofs.Common.{◌≡◌, false, sym, ap, subst, ◌∙◌}
 use Rattle.std.specs.List.{All}
 use Rattle.std.proofs.lemmas.List.Elements.{All-push}
 use Rattle.vx_rules.specs.Serving.{IsPlainLink}
@@ -37,8 +37,6 @@ invariant_of-self c =
           (sym (made_is t c.args.conn c.args.lock c.args.target c.insert.new.self c.in-Ok.lid c.take_if.new.locks c.in-Ok.ensures.added c.in-Ok.ensures.number c.take_if.ensures))
           (create-sound t c.args.conn c.args.lock c.args.target c.self.invariant.sound room (λ l. ap (λ s. holder_of s.locks 0 c.args.target) c.self.view_is ∙ c.requires.free l));
       numbers = c.self.invariant.numbers;
-      channels = c.self.invariant.channels;
-      links = ap (λ n. n + 1) c.self.invariant.links ∙ sym (ap (λ l. l.next) c.in-Ok.ensures.added);
       plain = subst (λ l. All IsPlainLink l.links) (sym c.in-Ok.ensures.added)
           (All-push IsPlainLink t.links.links (record { number = t.links.next; connection = c.args.conn; target = c.args.target }) c.self.invariant.plain c.requires.plain);
     }

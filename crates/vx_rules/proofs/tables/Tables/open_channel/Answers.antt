@@ -1,4 +1,3 @@
-use Rattle.std.proofs.Common.{◌+◌, sym, ap, ◌∙◌}
 use Rattle.vx_rules.specs.Inside.{tables_of}
 use Rattle.vx_rules.proofs.Keeping.{with_new_channel-sound}
 use Rattle.vx_rules.proofs.Closing.{desk_sound}
@@ -8,7 +7,5 @@ pub invariant_of-self : goal.invariant_of-self
 invariant_of-self c = record {
   sound = desk_sound (tables_of c.self.inside) _ _ c.in-Ok.ensures.made (with_new_channel-sound (tables_of c.self.inside) c.args.conn c.args.prog c.args.vers c.self.invariant.sound);
   numbers = c.self.invariant.numbers;
-  channels = ap (λ n. n + 1) c.self.invariant.channels ∙ sym (ap (λ d. d.next_channel) c.in-Ok.ensures.made);
-  links = c.self.invariant.links;
   plain = c.self.invariant.plain;
 }

@@ -1,4 +1,3 @@
-use Rattle.std.proofs.Common.{sym, ap, ◌∙◌}
 use Rattle.vx_rules.specs.Inside.{tables_of}
 use Rattle.vx_rules.proofs.Keeping.{taken-sound}
 use Rattle.vx_rules.proofs.Closing.{desk_sound}
@@ -8,7 +7,5 @@ pub invariant_of-self : goal.invariant_of-self
 invariant_of-self c = record {
   sound = desk_sound (tables_of c.self.inside) _ _ c.take.ensures.taken (taken-sound (tables_of c.self.inside) c.args.conn c.args.chan c.self.invariant.sound);
   numbers = c.self.invariant.numbers;
-  channels = c.self.invariant.channels ∙ sym (ap (λ d. d.next_channel) c.take.ensures.taken);
-  links = c.self.invariant.links;
   plain = c.self.invariant.plain;
 }

@@ -46,8 +46,6 @@ invariant_of-self c =
     record {
       sound = subst IsSound (sym kept) (locked-sound t (link_shown row) c.self.invariant.sound (ap (λ n. is_live t.links n) c.in-Some.ensures.number ∙ sym c.in-Some.ensures.live) free);
       numbers = c.self.invariant.numbers;
-      channels = c.self.invariant.channels;
-      links = c.self.invariant.links;
       plain = c.self.invariant.plain;
     }
 
