@@ -271,6 +271,7 @@ pub first_keeps : {B : Type 0} (means : B → Means) (bus : B) (room : List ℕ)
       room = room;
       dialed = [];
       last = None;
+      began = false;
     })
 first_keeps means bus room abort_port wire = record {
   holds = record {
@@ -421,6 +422,7 @@ pub starts : {B : Type 0} (means : B → Means) (k : KernelState B) (bus : B) (t
       room = k.room;
       dialed = [];
       last = None;
+      began = false;
     }
     → Keeps means k
 starts {B} means k bus t abort_port wire empty is = subst (Keeps means) (sym (is ∙ ap of empty)) (first_keeps means bus k.room abort_port wire)
@@ -436,4 +438,5 @@ starts {B} means k bus t abort_port wire empty is = subst (Keeps means) (sym (is
       room = k.room;
       dialed = [];
       last = None;
+      began = false;
     }

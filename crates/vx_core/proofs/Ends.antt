@@ -80,7 +80,7 @@ begun-so f b conn now h =
     ((and_parts (is_none f.turn) (nat_le f.state.moment now) tests.0).0, tests.1, same_Some (begun_now f conn now) b parts.1)
 
 -- a turn that begins runs on
-begun-runs : (f : FineState) (conn now : ℕ) (p : Pending) → pending_at f.state.tables conn ≡ Some p → may_begin f.state conn now (pending_at f.state.tables conn) ≡ true
+pub begun-runs : (f : FineState) (conn now : ℕ) (p : Pending) → pending_at f.state.tables conn ≡ Some p → may_begin f.state conn now (pending_at f.state.tables conn) ≡ true
     → runs (begun_now f conn now) conn now p ≡ true
 begun-runs f conn now p at may =
     let u : Turn = record { connection = conn; begun = now; moves = [] } in

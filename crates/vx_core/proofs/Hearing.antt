@@ -145,12 +145,12 @@ earlier-over {B} means through srq ndac f g bus mid after conn now ending late w
     }
 
 -- what a poll leaves, once its end is noted
-pub poll-leaves : {B : Type 0} (means : B → Means) (through : B → Step → B → Type 0) (srq ndac : B → Bool) (k heard left new : KernelState B) (conn now : ℕ) (ended : Ended)
+pub poll-leaves : {B : Type 0} (means : B → Means) (through : B → Step → B → Type 0) (srq ndac : B → Bool) (k heard left new : KernelState B) (conn now : ℕ) (ended : Ended) (began : Bool)
     → heard ≡ record k { bus = heard.bus; moment = max k.moment now } → means heard.bus ≡ cut_means (means k.bus)
     → Walk means through k.bus (Cut ∷ Told (max k.moment now) ∷ []) heard.bus
-    → EndsFrom means through srq ndac heard conn ended left → new ≡ record left { last = Some ended }
+    → EndsFrom means through srq ndac heard conn ended left → new ≡ record left { last = Some ended; began = began }
     → Leaves means through srq ndac k conn now ended new
-poll-leaves {B} means through srq ndac k heard left new conn now ended kept cut walk ends noted =
+poll-leaves {B} means through srq ndac k heard left new conn now ended began kept cut walk ends noted =
     let n : ℕ = max k.moment now in
     let moment : heard.moment ≡ n = ap (λ (s : KernelState B). s.moment) kept in
     let wire : (means heard.bus).wire ≡ (means k.bus).wire = ap (λ (m : Means). m.wire) cut in
@@ -161,8 +161,8 @@ poll-leaves {B} means through srq ndac k heard left new conn now ended kept cut 
     (earlier-over means through srq ndac (fine_of means k) (fine_of means left) k.bus heard.bus left.bus conn n (ended_shown ended left.room) (omega arith) walk over)
 
 -- and what the core keeps then
-pub noted-keeps : {B : Type 0} (means : B → Means) (left new : KernelState B) (ended : Ended) → Keeps means left → new ≡ record left { last = Some ended } → Keeps means new
-noted-keeps {B} means left new ended keeps noted =
+pub noted-keeps : {B : Type 0} (means : B → Means) (left new : KernelState B) (ended : Ended) (began : Bool) → Keeps means left → new ≡ record left { last = Some ended; began = began } → Keeps means new
+noted-keeps {B} means left new ended began keeps noted =
     let h = keeps.holds in
     subst (Keeps means) (sym noted) (record {
       holds = record {

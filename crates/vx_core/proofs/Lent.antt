@@ -1,5 +1,5 @@
 -- What a poll leaves of a core, with its reply lent.
-use Rattle.std.proofs.Common.{◌≡◌, ◌≢◌, ◌≤◌, ◌==◌, ℕ, Bool, true, false, cond, List, [], ◌∷◌, ◌++◌, length, take, Option, Some, None, refl, sym, ap, ◌∙◌, subst, arith}
+use Rattle.std.proofs.Common.{◌≡◌, ◌≢◌, ◌≤◌, ◌==◌, ℕ, Bool, true, false, cond, List, [], ◌∷◌, ◌++◌, length, take, Option, Some, None, max, refl, sym, ap, ◌∙◌, subst, arith}
 use Rattle.std.specs.Prelude.{not, ◌&&◌}
 use Rattle.std.specs.Option.{option_map}
 use Rattle.std.proofs.lemmas.Bool.{and_parts, eqb-true}
@@ -29,6 +29,7 @@ use Rattle.vx_kernel.specs.declared.given.Given.{Given}
 use Rattle.vx_kernel.specs.declared.given.Given.TheVariants as given
 use Rattle.vx_kernel.specs.KernelState.{KernelState}
 use Rattle.vx_kernel.specs.CoreState.{CoreState, core_of}
+use Rattle.vx_kernel.specs.Shown.{fine_of}
 use Rattle.vx_kernel.specs.Given.{given_reply, given_len, reply_bytes}
 use Rattle.vx_kernel.specs.Ending.{ended_shown}
 use Rattle.vx_kernel.specs.Polling.{Leaves}
@@ -103,14 +104,16 @@ polls-few f g conn now moves ending polls = by moves polls.runs_to where
 
 -- a core leaves what its kernel does
 pub core-leaves : {B : Type 0} (means : B → Means) (through : B → Step → B → Type 0) (srq ndac : B → Bool) (old : CoreState B) (k new : KernelState B) (conn now : ℕ)
-    (ended told : Ended) (result : Polled) → core_of means k ≡ old → new.last ≡ Some ended → Leaves means through srq ndac k conn now ended new → ended ≡ told
+    (ended told : Ended) (result : Polled) → core_of means k ≡ old → new.last ≡ Some ended
+    → new.began ≡ begins (fine_of means k) conn (max k.moment now) → Leaves means through srq ndac k conn now ended new → ended ≡ told
     → Shows result (ended_shown told new.room) → PollLeaves means through srq ndac old conn now result (core_of means new)
-core-leaves {B} means through srq ndac old k new conn now ended told result view last leaves is shows =
+core-leaves {B} means through srq ndac old k new conn now ended told result view last began leaves is shows =
     let P : CoreState B → Type 0 = λ s. PollLeaves means through srq ndac s conn now result (core_of means new) in
     subst P view (record {
       ending = ended_shown ended new.room;
       last = ap (option_map (λ e. ended_shown e new.room)) last;
       shows = subst (λ e. Shows result (ended_shown e new.room)) (sym is) shows;
+      began = began;
       few = polls-few _ _ _ _ _ _ leaves.polls;
       over = leaves;
     })

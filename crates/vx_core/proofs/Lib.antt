@@ -7,3 +7,4 @@ pub mod Moving
 pub mod Ordering
 pub mod Hearing
 pub mod Lent
+pub mod Began

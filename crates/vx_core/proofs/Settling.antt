@@ -246,3 +246,12 @@ settles-walk {B} means through k mid new old conn now up error view keeps dialin
     let same : new.bus ≡ mid.bus = ap (λ (x : KernelState B). x.bus) made.2 in
     subst (λ (o : CoreState B). Walk means through o.bus (Cut ∷ Told (max o.fine.state.moment now) ∷ []) new.bus) view
     (subst (λ (b : B). Walk means through k.bus (Cut ∷ Told (max k.moment now) ∷ []) b) (sym same) walk)
+
+-- and so is what it tells of the last poll
+pub settles-began : {B : Type 0} (means : B → Means) (k mid new : KernelState B) (old : CoreState B) (conn now : ℕ) (up : Bool) (error : ErrorCode)
+    → core_of means k ≡ old → Keeps means k → list_any (λ n. n == conn) old.fine.dialed ≡ true → mid ≡ record k { bus = mid.bus; moment = max k.moment now }
+    → SettlesSo mid conn up error new → new.began ≡ old.began
+settles-began {B} means k mid new old conn now up error view keeps dialing is so =
+    let d = dialed-still means k mid old conn (max k.moment now) view keeps dialing is in
+    let made = so d.asked d.call_at in
+    ap (λ (x : KernelState B). x.began) made.2 ∙ ap (λ (x : KernelState B). x.began) is ∙ ap (λ (o : CoreState B). o.began) view

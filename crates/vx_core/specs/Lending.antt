@@ -9,7 +9,7 @@ use Rattle.vx_plan.specs.declared.tasks.TheConstants.{TURN_MAX}
 use Rattle.vx_bus_traits.specs.Means.{Means}
 use Rattle.vx_bus_traits.specs.Steps.{Step, Told, Cut}
 use Rattle.vx_bus_traits.specs.declared.bus.Bus.{Ghosts}
-use Rattle.vx_flow.specs.Poll.{Ending, Answered, Waited, Dialed}
+use Rattle.vx_flow.specs.Poll.{Ending, Answered, Waited, Dialed, begins}
 use Rattle.vx_kernel.specs.CoreState.{CoreState}
 use Rattle.vx_kernel.specs.Given.{reply_bytes}
 use Rattle.vx_kernel.specs.Ending.{why_shown}
@@ -36,6 +36,8 @@ pub record PollLeaves {B : Type 0} (means : B → Means) (through : B → Step �
   pub ending : Ending
   pub last : new.last ≡ Some ending
   pub shows : Shows result ending
+  -- it began its call's turn where none was under way and the call's might begin
+  pub began : new.began ≡ begins old.fine conn (max old.fine.state.moment now)
   -- no more transfers than a turn may make
   pub few : length (means new.bus).moves ≤ TURN_MAX
   pub over : PollsOver means through srq ndac old.fine old.bus conn (max old.fine.state.moment now) (Cut ∷ Told (max old.fine.state.moment now) ∷ [])

@@ -1,9 +1,11 @@
 //! A poll of a call, by the order of answers.
-ghost use Rattle.std.specs.Prelude.{◌≡◌, ◌≤◌, true, Some, IsSome};
+ghost use Rattle.std.specs.Prelude.{◌≡◌, ◌≤◌, ◌&&◌, not, true, max, Some, IsSome};
 ghost use Rattle.vx_calls.specs.declared.limits.TheConstants.{READ_MAX};
 ghost use Rattle.vx_rules.specs.State.{Pending, pending_at};
 ghost use Rattle.vx_rules.specs.Calls as calls;
-ghost use Rattle.vx_kernel.specs.Ending.{ended_len};
+ghost use Rattle.vx_flow.specs.Poll.{begins};
+ghost use Rattle.vx_kernel.specs.Shown.{fine_of};
+ghost use Rattle.vx_kernel.specs.Ending.{ended_len, has_run};
 ghost use Rattle.vx_kernel.specs.Keeping.{Keeps};
 ghost use Rattle.vx_kernel.specs.Polling.{Leaves, EndsFrom};
 ghost use Rattle.vx_kernel.specs.Turning.{HasHeard, HasPassed, HasTurn, IsFree};
@@ -20,13 +22,23 @@ pub(crate) fn poll<B: Bus>(kernel: &mut Kernel<B>, conn: u32, now: u64) -> Ended
     requires keeps { Keeps B.means kernel.old }
     ensures keeps { Keeps B.means kernel.new }
     ensures last { kernel.new.last ≡ Some result }
+    ensures began { kernel.new.began ≡ begins (fine_of B.means kernel.old) conn (max kernel.old.moment now) }
     ensures within { ended_len result ≤ READ_MAX }
     ensures leaves { Leaves B.means B.through B.srq_level B.ndac_level kernel.old conn now result kernel.new }
 {
+    let had_turn = kernel.has_turn();
     kernel.hear(now);
     let ended = answer(kernel, conn);
-    kernel.note_end(ended);
+    let began = began_by(had_turn, ended);
+    kernel.note_end(ended, began);
     ended
+}
+
+/// Whether a poll that ended so began its call's turn: none was under way before it, and it went on with one.
+fn began_by(had_turn: bool, ended: Ended) -> bool
+    ensures { result ≡ (not had_turn && has_run ended) }
+{
+    !had_turn && ended.has_run()
 }
 
 /// The first lines of the order of answers, and those behind them.

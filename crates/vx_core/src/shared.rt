@@ -69,6 +69,7 @@ impl<B: Bus> Core<B> {
         requires port { 0 < abort_port }
         ensures fine { IfOk result (λ core. core.fine ≡ first_fine abort_port) }
         ensures bus { IfOk result (λ core. core.bus ≡ bus) }
+        ensures began { IfOk result (λ core. core.began ≡ false) }
         ensures err { IfErr result (λ refused. refused.bus ≡ bus) }
     {
         let Ok(rooms) = Rooms::new(alloc) else {
@@ -86,6 +87,7 @@ impl<B: Bus> Core<B> {
     pub fn connect(&mut self, alloc: Global, role: Role) -> Result<u32, Connect>
         ensures ok { IfOk result (λ conn. fine self.old.fine (Up conn role) ≡ Some self.new.fine) }
         ensures walk { OnOk result (Walk B.means B.through self.old.bus (Cut ∷ []) self.new.bus) }
+        ensures began { self.new.began ≡ self.old.began }
         ensures full { IsErrOf result Connect.Full ↔ (has_room self.old.fine.state.tables role ≡ false) }
         ensures err { OnErr result (self.new ≡ self.old) }
     {
@@ -128,6 +130,7 @@ impl<B: Bus> Core<B> {
         requires { IsSome (connection_at self.old.fine.state.tables conn) }
         ensures fine { fine self.old.fine (Down conn) ≡ Some self.new.fine }
         ensures walk { Walk B.means B.through self.old.bus (Cut ∷ []) self.new.bus }
+        ensures began { self.new.began ≡ self.old.began }
     {
         self.kernel.cut();
         self.kernel.disconnect(conn);
@@ -140,6 +143,7 @@ impl<B: Bus> Core<B> {
         requires short { IsShort (call_shown call.now) }
         ensures fine { fine self.old.fine (Arrive conn (call_shown call.now) (max self.old.fine.state.moment now)) ≡ Some self.new.fine }
         ensures walk { Walk B.means B.through self.old.bus (Cut ∷ Told (max self.old.fine.state.moment now) ∷ []) self.new.bus }
+        ensures began { self.new.began ≡ self.old.began }
     {
         self.kernel.hear(now);
         self.kernel.arrive(conn, call);
@@ -159,6 +163,13 @@ impl<B: Bus> Core<B> {
         }
     }
 
+    /// Whether the last poll began its call's turn on the bus; false before the first. No other call changes it.
+    pub fn began(&self) -> bool
+        ensures { result ≡ self.now.began }
+    {
+        self.kernel.began()
+    }
+
     /// Whether the last poll of the connection's pending call asked for a dial.
     pub fn dialing(&self, conn: u32) -> bool
         ensures { result ≡ list_any (λ n. n == conn) self.now.fine.dialed }
@@ -173,6 +184,7 @@ impl<B: Bus> Core<B> {
         ensures error { result.error ≡ (if up then code.Ok else code.NoChannel) }
         ensures chan { result.chan ≡ (if up then option_map (λ c. c.number) (channel_at self.new.fine.state.tables.desk conn) else None) }
         ensures walk { Walk B.means B.through self.old.bus (Cut ∷ Told (max self.old.fine.state.moment now) ∷ []) self.new.bus }
+        ensures began { self.new.began ≡ self.old.began }
     {
         self.kernel.hear(now);
         self.kernel.settle(conn, up)
@@ -184,6 +196,7 @@ impl<B: Bus> Core<B> {
         requires { lives_as self.old.fine.state.tables conn role.Abort ≡ true }
         ensures fine { fine self.old.fine (Abort conn lid result) ≡ Some self.new.fine }
         ensures walk { Walk B.means B.through self.old.bus (Cut ∷ []) self.new.bus }
+        ensures began { self.new.began ≡ self.old.began }
     {
         let _ = conn;
         self.kernel.cut();
@@ -194,9 +207,17 @@ impl<B: Bus> Core<B> {
     pub fn sample(&mut self, now: u64)
         ensures fine { fine self.old.fine (Sample (max self.old.fine.state.moment now) (B.srq_level self.new.bus)) ≡ Some self.new.fine }
         ensures walk { Walk B.means B.through self.old.bus (Cut ∷ Told (max self.old.fine.state.moment now) ∷ []) self.new.bus }
+        ensures began { self.new.began ≡ self.old.began }
     {
         self.kernel.hear(now);
         self.kernel.sample();
+    }
+
+    /// The level of the SRQ line at the last sample; false before the first.
+    pub fn level(&self) -> bool
+        ensures { result ≡ self.now.fine.state.tables.desk.level }
+    {
+        self.kernel.level()
     }
 
     /// The number of the connection's interrupt channel, where it has one.
@@ -212,6 +233,7 @@ impl<B: Bus> Core<B> {
         requires { IsSome (connection_at self.old.fine.state.tables conn) }
         ensures fine { fine self.old.fine (Take conn chan (given_shown result)) ≡ Some self.new.fine }
         ensures walk { Walk B.means B.through self.old.bus (Cut ∷ []) self.new.bus }
+        ensures began { self.new.began ≡ self.old.began }
     {
         self.kernel.cut();
         self.kernel.take(conn, chan)
@@ -222,6 +244,7 @@ impl<B: Bus> Core<B> {
         ensures fine { self.new.fine ≡ self.old.fine }
         ensures changes { (cut : B) × Walk B.means B.through self.old.bus (Cut ∷ []) cut × A.changes act.old cut result act.new self.new.bus }
         ensures means { B.means self.new.bus ≡ cut_means (B.means self.old.bus) }
+        ensures began { self.new.began ≡ self.old.began }
     {
         self.kernel.cut();
         self.kernel.tweak(act)

@@ -67,8 +67,8 @@ pub doable-some : (o : Option Task) (job : Task) (bytes : List ℕ) → IfSome o
 doable-some o job bytes h e = subst (λ (x : Option Task). IfSome x (λ task. IsDoable task bytes)) e h
 
 -- what a kernel keeps
-abbrev pub kernel_of : {B : Type 0} → B → Tables → ℕ → Option Running → Wire → List Transfer → List ℕ → List ℕ → Option Ended → KernelState B
-kernel_of bus tables moment running before made room dialed last = record {
+abbrev pub kernel_of : {B : Type 0} → B → Tables → ℕ → Option Running → Wire → List Transfer → List ℕ → List ℕ → Option Ended → Bool → KernelState B
+kernel_of bus tables moment running before made room dialed last began = record {
   bus = bus;
   tables = tables;
   moment = moment;
@@ -78,6 +78,7 @@ kernel_of bus tables moment running before made room dialed last = record {
   room = room;
   dialed = dialed;
   last = last;
+  began = began;
 }
 
 -- ---- a bus call that nothing is against has a job

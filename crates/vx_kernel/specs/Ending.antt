@@ -1,5 +1,5 @@
 -- How a poll ended, as events know it.
-use Rattle.std.specs.Prelude.{ℕ, List}
+use Rattle.std.specs.Prelude.{ℕ, Bool, true, false, List}
 use Rattle.vx_flow.specs.Poll as poll
 use Rattle.vx_kernel.specs.declared.ended.Why.{Why}
 use Rattle.vx_kernel.specs.declared.ended.Why.TheVariants as why
@@ -30,3 +30,10 @@ ended_shown (ended.Dialed host port) room = poll.Dialed host port
 abbrev pub ended_len : Ended → ℕ
 ended_len (ended.Answered r level given) = given_len given
 ended_len _ = 0
+
+-- whether the poll went on with its call's turn
+abbrev pub has_run : Ended → Bool
+has_run (ended.Answered ran.Still level given) = false
+has_run (ended.Answered _ level given) = true
+has_run (ended.Waited why.Held) = true
+has_run _ = false

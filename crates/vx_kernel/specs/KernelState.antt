@@ -1,5 +1,5 @@
 -- What the core keeps.
-use Rattle.std.specs.Prelude.{ℕ, List, Option}
+use Rattle.std.specs.Prelude.{ℕ, Bool, List, Option}
 use Rattle.vx_488.specs.declared.transfers.Transfer.{Transfer}
 use Rattle.vx_488.specs.declared.wire.Wire.{Wire}
 use Rattle.vx_rules.specs.State.{Tables}
@@ -19,3 +19,5 @@ pub record KernelState (B : Type 0) : Type 0 where
   -- the connections of whose calls a dial was asked for
   pub dialed : List ℕ
   pub last : Option Ended
+  -- whether the last poll began its call's turn
+  pub began : Bool

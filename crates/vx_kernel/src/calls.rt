@@ -70,6 +70,13 @@ impl<B: Bus> Kernel<B> {
         self.tables.channel(conn)
     }
 
+    /// The level of SRQ at the last sample; false before the first.
+    pub fn level(&self) -> bool
+        ensures { result ≡ self.now.tables.desk.level }
+    {
+        self.tables.level()
+    }
+
     /// What the first lines of the order of answers say of a connection's call, on the bus that it is measured on.
     pub fn lines(&self, conn: u32) -> Lines
         requires { IsSome (pending_at self.now.tables conn) }
@@ -155,11 +162,19 @@ impl<B: Bus> Kernel<B> {
         act.apply(&mut self.bus)
     }
 
-    /// Keeps how a poll ended.
-    pub fn note_end(&mut self, ended: Ended)
-        ensures { self.new ≡ record self.old { last = Some ended } }
+    /// Keeps how a poll ended, and whether it began its call's turn.
+    pub fn note_end(&mut self, ended: Ended, began: bool)
+        ensures { self.new ≡ record self.old { last = Some ended; began = began } }
     {
         self.last = Some(ended);
+        self.began = began;
+    }
+
+    /// Whether the last poll began its call's turn.
+    pub fn began(&self) -> bool
+        ensures { result ≡ self.now.began }
+    {
+        self.began
     }
 
     /// The transfers since the bus's list was cut.

@@ -1,3 +1,5 @@
+ghost use Rattle.std.specs.Prelude.{◌≡◌};
+
 use crate::given::Given;
 use vx_calls::ErrorCode;
 
@@ -34,6 +36,24 @@ pub enum Ended {
     Waited(Why),
     /// With a dial that is asked for.
     Dialed { host: u32, port: u16 },
+}
+
+impl Ended {
+    ghost use Rattle.vx_kernel.specs.Ending.{has_run};
+
+    /// Whether the poll went on with its call's turn.
+    pub fn has_run(&self) -> bool
+        ensures { result ≡ has_run self.now }
+    {
+        match *self {
+            Ended::Answered {
+                ran: Ran::Still,
+                ..
+            } => false,
+            Ended::Answered { .. } | Ended::Waited(Why::Held) => true,
+            _ => false,
+        }
+    }
 }
 
 /// What became of a create_intr_chan whose dial was made.

@@ -1,5 +1,5 @@
 //! What the core keeps, and its small changes.
-ghost use Rattle.std.specs.Prelude.{◌≡◌, ◌==◌, ◌++◌, ℕ, max, not, filter, true, None, Some, [], ◌∷◌, if◌then◌else◌, IfOk, IfErr, length, vec_capacity, ◌≤◌};
+ghost use Rattle.std.specs.Prelude.{◌≡◌, ◌==◌, ◌++◌, ℕ, max, not, filter, true, false, None, Some, [], ◌∷◌, if◌then◌else◌, IfOk, IfErr, length, vec_capacity, ◌≤◌};
 ghost use Rattle.vx_calls.specs.declared.limits.TheConstants.{READ_MAX, ROLE_MAX};
 ghost use Rattle.vx_plan.specs.declared.tasks.TheConstants.{TURN_MAX};
 ghost use Rattle.vx_488.specs.Wire.{first_wire};
@@ -34,6 +34,8 @@ pub struct Kernel<B: Bus> {
     /// The connections of whose calls a dial was asked for.
     pub(crate) dialed: Vec<u32>,
     pub(crate) last: Option<Ended>,
+    /// Whether the last poll began its call's turn.
+    pub(crate) began: bool,
 }
 
 impl<B: Bus> Model for Kernel<B> {
@@ -54,6 +56,7 @@ impl<B: Bus> Model for Kernel<B> {
       room = k.room.items;
       dialed = k.dialed.items;
       last = k.last;
+      began = k.began;
     } };
 
     ghost invariant = { λ k. (TURN_MAX ≤ vec_capacity k.made) × (length k.room.items ≡ READ_MAX) × (ROLE_MAX ≤ vec_capacity k.dialed) };
@@ -94,6 +97,7 @@ impl<B: Bus> Kernel<B> {
           room = result.room;
           dialed = [];
           last = None;
+          began = false;
         } }
     {
         Kernel {
@@ -106,6 +110,7 @@ impl<B: Bus> Kernel<B> {
             room: rooms.room,
             dialed: rooms.dialed,
             last: None,
+            began: false,
         }
     }
 

@@ -106,7 +106,7 @@ pub core-takes : (p : PlayerState) (stage : Stage) (command : Command) (core : C
     → ((n : ℕ) → role_at core.fine.state.tables n ≡ role_at p.core.fine.state.tables n)
     → stream_after stage command ≡ stage.streams → xid_after stage command ≡ stage.xids → rack_after stage.rack command ≡ stage.rack
     → moment_after stage.moment command ≡ stage.moment
-    → TakesTo stage command (made_lines (record p { core = core; reply = room }) made) (record p { core = core; reply = room })
+    → TakesTo stage command (made_lines (record p { core = core; reply = room }) made) made.answered (record p { core = core; reply = room })
 core-takes p stage command core room made stands allowed makes late roles streams xids rack moment =
     takes-to stage command (record p { core = core; reply = room }) made allowed makes late (stands.moment ∙ sym moment) (stands.rack ∙ sym rack)
     (λ n.
@@ -116,13 +116,14 @@ core-takes p stage command core room made stands allowed makes late roles stream
     (subst (λ x. Holds (role_at (tables_of stage) n) (incoming_at p.incoming n) (stage.streams n) (x n)) (sym xids) (stands.incoming n))))
 
 -- the moment comes
-pub at-takes : (p : PlayerState) (stage : Stage) (later : ℕ) → Stands p stage → TakesTo stage (At later) [] (record p { moment = max p.moment later })
+pub at-takes : (p : PlayerState) (stage : Stage) (later : ℕ) → Stands p stage → TakesTo stage (At later) [] None (record p { moment = max p.moment later })
 at-takes p stage later stands =
-    takes-to stage (At later) (record p { moment = max p.moment later }) (record { polled = None; note = note.Nothing }) refl
+    takes-to stage (At later) (record p { moment = max p.moment later }) (record { polled = None; note = note.Nothing; answered = None }) refl
     (record {
       group = [];
       makes = (record { none = refl; same = stands.gateway }, refl);
       lines = refl;
+      answered = refl;
       note = tt;
       few = λ h. absurd (false≢true h);
     }) (let late : p.core.fine.state.moment ≤ p.moment = stands.late in omega arith) (ap (λ n. max n later) stands.moment) stands.rack
@@ -134,15 +135,16 @@ at-takes p stage later stands =
 pub sample-takes : (p : PlayerState) (stage : Stage) (core : CoreState SimState) → Stands p stage
     → fine p.core.fine (event.Sample (max p.core.fine.state.moment p.moment) (some_asks core.bus.bench)) ≡ Some core.fine
     → Walk (λ (s : SimState). s.means) Through p.core.bus (Cut ∷ Told (max p.core.fine.state.moment p.moment) ∷ []) core.bus
-    → TakesTo stage Sample [] (record p { core = core })
+    → TakesTo stage Sample [] None (record p { core = core })
 sample-takes p stage core stands went walk =
     let at : max p.core.fine.state.moment p.moment ≡ p.moment = max-eq_right stands.late in
     let now = max p.core.fine.state.moment p.moment in
-    let made : Made = record { polled = None; note = note.Nothing } in
+    let made : Made = record { polled = None; note = note.Nothing; answered = None } in
     let made_by : MadeBy (λ group line after. SampleMakes (gateway_of p.core) now group line after) p.reply made core = record {
       group = event.Sample now (some_asks core.bus.bench) ∷ [];
       makes = record { events = refl; happens = record { events = went; bus = walk }; told = refl };
       lines = refl;
+      answered = refl;
       note = tt;
       few = λ h. absurd (false≢true h);
     } in
@@ -213,7 +215,7 @@ pub poll-takes : (p : PlayerState) (stage : Stage) (core : CoreState SimState) (
     → lives_as p.core.fine.state.tables conn role.Core ≡ true → is_some (pending_at p.core.fine.state.tables conn) ≡ true
     → IfSome (incoming_at p.incoming conn) (λ kept. xid ≡ kept.xid)
     → MadeBy (PollMakes (gateway_of p.core) conn p.moment xid) room made core → core.fine.state.moment ≤ p.moment
-    → TakesTo stage (Poll conn) (made_lines (record p { core = core; reply = room }) made) (record p { core = core; reply = room })
+    → TakesTo stage (Poll conn) (made_lines (record p { core = core; reply = room }) made) made.answered (record p { core = core; reply = room })
 poll-takes p stage core room made conn xid stands known pending is makes late =
     let lives = at-stage p stage (λ f. lives_as f.state.tables conn role.Core) true stands known in
     let some = some-not-none (pending_at (tables_of stage) conn) (at-stage p stage (λ f. is_some (pending_at f.state.tables conn)) true stands pending) in
@@ -233,13 +235,14 @@ pub dial-takes : (p : PlayerState) (stage : Stage) (core : CoreState SimState) (
     → fine p.core.fine (event.Answer conn (max p.core.fine.state.moment p.moment) false (Some up) false (reply.Error error)) ≡ Some core.fine
     → Walk (λ (s : SimState). s.means) Through p.core.bus (Cut ∷ Told (max p.core.fine.state.moment p.moment) ∷ []) core.bus
     → Tells room conn (reply_record xid (reply.Error error)) made
-    → TakesTo stage (Dial conn up) (made_lines (record p { core = core; reply = room }) made) (record p { core = core; reply = room })
+    → TakesTo stage (Dial conn up) (made_lines (record p { core = core; reply = room }) (record { polled = None; note = made.note; answered = Some error }))
+    (Some error) (record p { core = core; reply = room })
 dial-takes p stage core room made conn xid up error stands known dialed is went walk tells =
     let lives = at-stage p stage (λ f. lives_as f.state.tables conn role.Core) true stands known in
     let asked = at-stage p stage (λ f. list_any (λ n. n == conn) f.dialed) true stands dialed in
     let at : max p.core.fine.state.moment p.moment ≡ p.moment = max-eq_right stands.late in
     let now = max p.core.fine.state.moment p.moment in
-    let told : Made = record { polled = None; note = note.Replied conn tells.len } in
+    let told : Made = record { polled = None; note = note.Replied conn tells.len; answered = Some error } in
     let made_by : MadeBy (λ group line after. DialMakes (gateway_of p.core) conn now xid up group line after) room told core = record {
       group = event.Answer conn now false (Some up) false (reply.Error error) ∷ [];
       makes = record {
@@ -249,13 +252,15 @@ dial-takes p stage core room made conn xid up error stands known dialed is went 
         told = ap (λ bytes. Some (Out conn bytes)) tells.record_is;
       };
       lines = refl;
+      answered = refl;
       note = (tells.some, tells.within);
       few = λ h. absurd (false≢true h);
     } in
-    core-takes p stage (Dial conn up) core room made stands
+    core-takes p stage (Dial conn up) core room (record { polled = None; note = made.note; answered = Some error }) stands
     (cond-false _ (Some cause.Conn) (cond (list_any (λ n. n == conn) stage.gateway.fine.dialed) None (Some cause.Idle)) (ap not lives)
     ∙ cond-true _ None (Some cause.Idle) asked)
-    (subst (λ m. MadeBy (λ group line after. DialMakes stage.gateway conn stage.moment (stage.xids conn) up group line after) room m core) (sym tells.made_is)
+    (subst (λ (m : Made). MadeBy (λ group line after. DialMakes stage.gateway conn stage.moment (stage.xids conn) up group line after) room
+    (record { polled = None; note = m.note; answered = Some error }) core) (sym tells.made_is)
     (subst (λ x. MadeBy (λ group line after. DialMakes stage.gateway conn stage.moment x up group line after) room told core) (xid-is p stage conn xid stands known is)
     (subst (λ m. MadeBy (λ group line after. DialMakes stage.gateway conn m xid up group line after) room told core) (at ∙ stands.moment)
     (subst (λ g. MadeBy (λ group line after. DialMakes g conn now xid up group line after) room told core) stands.gateway made_by))))
@@ -271,16 +276,17 @@ none-mapped (Some c) h = absurd (cc)
 -- where the connection has no channel
 pub none-takes : (p : PlayerState) (stage : Stage) (conn : ℕ) → Stands p stage → lives_as p.core.fine.state.tables conn role.Core ≡ true
     → None ≡ option_map (λ (c : Channel). c.number) (channel_at p.core.fine.state.tables.desk conn)
-    → TakesTo stage (Take conn) (IrqClosed conn ∷ []) p
+    → TakesTo stage (Take conn) (IrqClosed conn ∷ []) None p
 none-takes p stage conn stands known none =
     let lives = at-stage p stage (λ f. lives_as f.state.tables conn role.Core) true stands known in
-    let made : Made = record { polled = None; note = note.NoChannel conn } in
+    let made : Made = record { polled = None; note = note.NoChannel conn; answered = None } in
     let free : channel_at (tables_of stage).desk conn ≡ None =
     subst (λ (g : Gateway). channel_at g.fine.state.tables.desk conn ≡ None) stands.gateway (none-mapped (channel_at p.core.fine.state.tables.desk conn) none) in
     let made_by : MadeBy (λ group line after. ChannelMakes stage.gateway conn None group line after) p.reply made p.core = record {
       group = [];
       makes = (record { none = refl; same = stands.gateway }, refl);
       lines = refl;
+      answered = refl;
       note = tt;
       few = λ h. absurd (false≢true h);
     } in
@@ -303,15 +309,16 @@ pub take-takes : (p : PlayerState) (stage : Stage) (core : CoreState SimState) (
     → Some chan ≡ option_map (λ (c : Channel). c.number) (channel_at p.core.fine.state.tables.desk conn)
     → fine p.core.fine (event.Take conn chan told) ≡ Some core.fine → Walk (λ (s : SimState). s.means) Through p.core.bus (Cut ∷ []) core.bus
     → note_line room noted ≡ Some (take_line conn told) → NoteWithin (length room) noted
-    → TakesTo stage (Take conn) (made_lines (record p { core = core; reply = room }) (record { polled = None; note = noted })) (record p { core = core; reply = room })
+    → TakesTo stage (Take conn) (made_lines (record p { core = core; reply = room }) (record { polled = None; note = noted; answered = None })) None (record p { core = core; reply = room })
 take-takes p stage core room noted conn chan told stands known has went walk shown within =
     let lives = at-stage p stage (λ f. lives_as f.state.tables conn role.Core) true stands known in
-    let made : Made = record { polled = None; note = noted } in
+    let made : Made = record { polled = None; note = noted; answered = None } in
     let made_by : MadeBy (λ group line after. ChannelMakes (gateway_of p.core) conn (channel_at p.core.fine.state.tables.desk conn) group line after) room made core = record {
       group = event.Take conn chan told ∷ [];
       makes = channel-makes (gateway_of p.core) (gateway_of core) conn chan (channel_at p.core.fine.state.tables.desk conn) told (note_line room noted) has
           (record { events = went; bus = walk }) shown;
       lines = refl;
+      answered = refl;
       note = within;
       few = λ h. absurd (false≢true h);
     } in

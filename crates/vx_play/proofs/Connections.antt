@@ -167,9 +167,9 @@ pub up-takes : (stage : Stage) (old new : PlayerState) (conn n : ℕ) (r : Role)
     → fine old.core.fine (event.Up n r) ≡ Some new.core.fine → BusGoes old.core.bus (Cut ∷ []) new.core.bus
     → incoming_at new.incoming conn ≡ Some (record { buffer = fresh RECORD_MAX; xid = 0 })
     → ((m : ℕ) → m ≢ conn → incoming_at new.incoming m ≡ incoming_at old.incoming m) → new.rack ≡ old.rack → new.moment ≡ old.moment
-    → TakesTo stage (Up conn r) (made_lines new (record { polled = None; note = note.Nothing })) new
+    → TakesTo stage (Up conn r) (made_lines new (record { polled = None; note = note.Nothing; answered = None })) None new
 up-takes stage old new conn n r stands at came walk here others rack moment =
-    let made : Made = record { polled = None; note = note.Nothing } in
+    let made : Made = record { polled = None; note = note.Nothing; answered = None } in
     let same : n ≡ conn = (came-up old.core.fine new.core.fine n r came).number ∙ sym at in
     let up : fine old.core.fine (event.Up conn r) ≡ Some new.core.fine = subst (λ k. fine old.core.fine (event.Up k r) ≡ Some new.core.fine) same came in
     let lives = up-lives old.core.fine new.core.fine conn r up in
@@ -178,7 +178,7 @@ up-takes stage old new conn n r stands at came walk here others rack moment =
     let happens : Happens stage.gateway (event.Up conn r ∷ []) (Cut ∷ []) (gateway_of new.core) =
     subst (λ g. Happens g (event.Up conn r ∷ []) (Cut ∷ []) (gateway_of new.core)) stands.gateway (record { events = up; bus = walk }) in
     takes-to stage (Up conn r) new made (up-came stage old new.core.fine conn n r stands at came)
-    (record { group = event.Up conn r ∷ []; makes = (refl, happens, refl); lines = refl; note = tt; few = λ polled. absurd (false≢true polled) })
+    (record { group = event.Up conn r ∷ []; makes = (refl, happens, refl); lines = refl; answered = refl; note = tt; few = λ polled. absurd (false≢true polled) })
     (omega arith) (moment ∙ stands.moment) (rack ∙ stands.rack)
     (behind stage (Up conn r) conn old new stands
     (record {
@@ -219,9 +219,9 @@ behind-gone before command conn old new stands went here others streams xids =
 pub down-takes : (stage : Stage) (old new : PlayerState) (conn : ℕ) (r : Role) → Stands old stage → role_at old.core.fine.state.tables conn ≡ Some r
     → Happens (gateway_of old.core) (event.Down conn ∷ []) (Cut ∷ []) (gateway_of new.core) → incoming_at new.incoming conn ≡ None
     → ((m : ℕ) → m ≢ conn → incoming_at new.incoming m ≡ incoming_at old.incoming m) → new.rack ≡ old.rack → new.moment ≡ old.moment
-    → TakesTo stage (Down conn) (made_lines new (record { polled = None; note = note.Ended conn gone.Down })) new
+    → TakesTo stage (Down conn) (made_lines new (record { polled = None; note = note.Ended conn gone.Down; answered = None })) None new
 down-takes stage old new conn r stands live went here others rack moment =
-    let made : Made = record { polled = None; note = note.Ended conn gone.Down } in
+    let made : Made = record { polled = None; note = note.Ended conn gone.Down; answered = None } in
     let down : fine old.core.fine (event.Down conn) ≡ Some new.core.fine = went.events in
     let still : new.core.fine.state.moment ≡ old.core.fine.state.moment = down-moment old.core.fine new.core.fine conn down in
     let late : old.core.fine.state.moment ≤ old.moment = stands.late in
@@ -232,6 +232,7 @@ down-takes stage old new conn r stands live went here others rack moment =
       group = event.Down conn ∷ [];
       makes = record { events = refl; happens = happens; told = refl };
       lines = refl;
+      answered = refl;
       note = tt;
       few = λ polled. absurd (false≢true polled);
     })
@@ -380,7 +381,7 @@ fed-holds stage old new conn r kept piece f =
 -- a piece that isn't refused, by what it brings
 fed-takes : (stage : Stage) (old new : PlayerState) (conn : ℕ) (r : Role) (kept : Incoming) (piece : List ℕ) (b : Brought) (made : Made) → Fed stage old new conn r kept piece
     → brought (stage.streams conn) piece ≡ b → refused_by b ≡ None → MadeBy (PieceMakes (gateway_of old.core) conn old.moment b) new.reply made new.core
-    → HoldsBehind stage (In conn piece) new → TakesTo stage (In conn piece) (made_lines new made) new
+    → HoldsBehind stage (In conn piece) new → TakesTo stage (In conn piece) (made_lines new made) made.answered new
 fed-takes stage old new conn r kept piece b made f is allowed made_by holds =
     let late = f.late in
     let moment = f.moment in
@@ -391,7 +392,7 @@ fed-takes stage old new conn r kept piece b made f is allowed made_by holds =
 more-takes : (stage : Stage) (old new : PlayerState) (conn : ℕ) (r : Role) (kept : Incoming) (piece : List ℕ) → Fed stage old new conn r kept piece
     → brought (stage.streams conn) piece ≡ NoEnd → (fed kept.buffer piece).state ≡ feed.More → gateway_of new.core ≡ gateway_of old.core
     → incoming_at new.incoming conn ≡ Some (record kept { buffer = fed kept.buffer piece })
-    → TakesTo stage (In conn piece) (made_lines new (record { polled = None; note = note.Nothing })) new
+    → TakesTo stage (In conn piece) (made_lines new (record { polled = None; note = note.Nothing; answered = None })) None new
 more-takes stage old new conn r kept piece f is more same there =
     let holds = fed-holds stage old new conn r kept piece f in
     let roles : (m : ℕ) → role_at new.core.fine.state.tables m ≡ role_at old.core.fine.state.tables m = λ m. ap (λ (g : Gateway). role_at g.fine.state.tables m) same in
@@ -401,8 +402,8 @@ more-takes stage old new conn r kept piece f is more same there =
     here-stream stage conn piece ∙ ap (λ b. kept_after b (stage.streams conn ++ piece)) is in
     let xid : xid_after stage (In conn piece) conn ≡ stage.xids conn =
     here-xid stage conn piece ∙ ap (λ b. xid_brought b (role_at (tables_of stage) conn) (stage.xids conn)) is in
-    fed-takes stage old new conn r kept piece NoEnd (record { polled = None; note = note.Nothing }) f is refl
-    (record { group = []; makes = (record { none = refl; same = same }, refl); lines = refl; note = tt; few = λ polled. absurd (false≢true polled) })
+    fed-takes stage old new conn r kept piece NoEnd (record { polled = None; note = note.Nothing; answered = None }) f is refl
+    (record { group = []; makes = (record { none = refl; same = same }, refl); lines = refl; answered = refl; note = tt; few = λ polled. absurd (false≢true polled) })
     (behind stage (In conn piece) conn old new f.stands
     (record { roles = λ m ne. roles m; incoming = f.others; streams = λ m ne. other-stream stage conn m piece ne; xids = λ m ne. other-xid stage conn m piece ne })
     (holds-some _ r _ (record kept { buffer = fed kept.buffer piece }) _ _ (roles conn ∙ f.live) there
@@ -412,13 +413,14 @@ more-takes stage old new conn r kept piece f is more same there =
 long-takes : (stage : Stage) (old new : PlayerState) (conn : ℕ) (r : Role) (kept : Incoming) (piece : List ℕ) → Fed stage old new conn r kept piece
     → brought (stage.streams conn) piece ≡ TooLong → Happens (gateway_of old.core) (event.Down conn ∷ []) (Cut ∷ []) (gateway_of new.core)
     → incoming_at new.incoming conn ≡ None
-    → TakesTo stage (In conn piece) (made_lines new (record { polled = None; note = note.Ended conn gone.Long })) new
+    → TakesTo stage (In conn piece) (made_lines new (record { polled = None; note = note.Ended conn gone.Long; answered = None })) None new
 long-takes stage old new conn r kept piece f is went there =
-    fed-takes stage old new conn r kept piece TooLong (record { polled = None; note = note.Ended conn gone.Long }) f is refl
+    fed-takes stage old new conn r kept piece TooLong (record { polled = None; note = note.Ended conn gone.Long; answered = None }) f is refl
     (record {
       group = event.Down conn ∷ [];
       makes = record { events = refl; happens = went; told = refl };
       lines = refl;
+      answered = refl;
       note = tt;
       few = λ polled. absurd (false≢true polled);
     })
@@ -466,7 +468,7 @@ record-behind stage old new conn r kept piece made m f means is made_by there = 
 record-takes : (stage : Stage) (old new : PlayerState) (conn : ℕ) (r : Role) (kept : Incoming) (piece : List ℕ) (made : Made) → Fed stage old new conn r kept piece
     → brought (stage.streams conn) piece ≡ Whole (fed kept.buffer piece).kept
     → AnswersRecord (gateway_of old.core) conn old.moment r (record kept { buffer = fed kept.buffer piece }) new.reply (incoming_at new.incoming conn) made new.core
-    → TakesTo stage (In conn piece) (made_lines new made) new
+    → TakesTo stage (In conn piece) (made_lines new made) made.answered new
 record-takes stage old new conn r kept piece made f is answers =
     let message = (fed kept.buffer piece).kept in
     fed-takes stage old new conn r kept piece (Whole message) made f is refl
@@ -476,7 +478,7 @@ record-takes stage old new conn r kept piece made f is answers =
 -- a piece that was taken, whatever it brought
 pub piece-takes : (stage : Stage) (old new : PlayerState) (conn : ℕ) (r : Role) (kept : Incoming) (piece : List ℕ) (made : Made) → Fed stage old new conn r kept piece
     → FeedMakes (gateway_of old.core) conn old.moment r (record kept { buffer = fed kept.buffer piece }) new.reply (incoming_at new.incoming conn) made new.core (fed kept.buffer piece).state
-    → TakesTo stage (In conn piece) (made_lines new made) new
+    → TakesTo stage (In conn piece) (made_lines new made) made.answered new
 piece-takes stage old new conn r kept piece made f makes = by (fed kept.buffer piece).state refl makes where
   holds : HoldsStream kept (stage.streams conn) (stage.xids conn)
   holds = fed-holds stage old new conn r kept piece f
@@ -486,12 +488,12 @@ piece-takes stage old new conn r kept piece made f makes = by (fed kept.buffer p
 
   by : (state : Feed) → (fed kept.buffer piece).state ≡ state
       → FeedMakes (gateway_of old.core) conn old.moment r (record kept { buffer = fed kept.buffer piece }) new.reply (incoming_at new.incoming conn) made new.core state
-      → TakesTo stage (In conn piece) (made_lines new made) new
+      → TakesTo stage (In conn piece) (made_lines new made) made.answered new
   by feed.More is h =
-      subst (λ k. TakesTo stage (In conn piece) (made_lines new k) new) (sym h.2) (more-takes stage old new conn r kept piece f (brings feed.More is) is h.0 h.1)
+      subst (λ k. TakesTo stage (In conn piece) (made_lines new k) k.answered new) (sym h.2) (more-takes stage old new conn r kept piece f (brings feed.More is) is h.0 h.1)
   by feed.Whole is h = record-takes stage old new conn r kept piece made f (brings feed.Whole is) h
   by feed.TooLong is h =
-      subst (λ k. TakesTo stage (In conn piece) (made_lines new k) new) (sym h.2) (long-takes stage old new conn r kept piece f (brings feed.TooLong is) h.0 h.1)
+      subst (λ k. TakesTo stage (In conn piece) (made_lines new k) k.answered new) (sym h.2) (long-takes stage old new conn r kept piece f (brings feed.TooLong is) h.0 h.1)
 
 -- there is room for what it made
 pub piece-printable : (new : PlayerState) (g : Gateway) (conn now : ℕ) (r : Role) (fed_kept : Incoming) (after_kept : Option Incoming) (made : Made) (state : Feed)
@@ -540,9 +542,9 @@ if-err P R (Err why) h f = f why h
 -- a piece that was taken
 pub pieces-taken : (player old new : PlayerState) (conn : ℕ) (r : Role) (piece room : List ℕ) (result : Result Made Stop) → old ≡ player
     → PieceFed old new conn r piece room result
-    → IfOk result (λ made. (stage : Stage) → Stands player stage → TakesTo stage (In conn piece) (made_lines new made) new)
+    → IfOk result (λ made. (stage : Stage) → Stands player stage → TakesTo stage (In conn piece) (made_lines new made) made.answered new)
 pieces-taken player old new conn r piece room result view p =
-    if-ok _ (λ made. (stage : Stage) → Stands player stage → TakesTo stage (In conn piece) (made_lines new made) new) _ result p.taken p.known
+    if-ok _ (λ made. (stage : Stage) → Stands player stage → TakesTo stage (In conn piece) (made_lines new made) made.answered new) _ result p.taken p.known
     (λ made feeds known stage stands.
     let found = some-of (incoming_at old.incoming conn) known in
     let kept : Incoming = found.0 in

@@ -59,9 +59,9 @@ record-answered g after conn now r was kept room after_kept made xid same live x
 pub record-junk : (before mid after : CoreState SimState) (conn now : ℕ) (r : Role) (was kept : Incoming) (room : List ℕ) (after_kept : Option Incoming)
     → was ≡ kept → meaning was.buffer.kept r ≡ Junk → gateway_of mid ≡ gateway_of before
     → Happens (gateway_of mid) (event.Down conn ∷ []) (Cut ∷ []) (gateway_of after) → after_kept ≡ None
-    → AnswersRecord (gateway_of before) conn now r kept room after_kept (record { polled = None; note = note.Ended conn gone.Junk }) after
+    → AnswersRecord (gateway_of before) conn now r kept room after_kept (record { polled = None; note = note.Ended conn gone.Junk; answered = None }) after
 record-junk before mid after conn now r was kept room after_kept same junk stays went none =
-    let made : Made = record { polled = None; note = note.Ended conn gone.Junk } in
+    let made : Made = record { polled = None; note = note.Ended conn gone.Junk; answered = None } in
     let P : Incoming → Type 0 = λ k. AnswersRecord (gateway_of before) conn now r k room after_kept made after in
     let Q : Meaning → Type 0 = λ m. MadeBy (MessageMakes (gateway_of before) conn now m) room made after in
     let from : Happens (gateway_of before) (event.Down conn ∷ []) (Cut ∷ []) (gateway_of after) =
@@ -71,6 +71,7 @@ record-junk before mid after conn now r was kept room after_kept same junk stays
         group = event.Down conn ∷ [];
         makes = record { events = refl; happens = from; told = refl };
         lines = refl;
+        answered = refl;
         note = tt;
         few = λ polled. absurd (false≢true polled);
       });

@@ -215,6 +215,7 @@ answered-made g after conn now message room made same tells =
       group = [];
       makes = (record { none = refl; same = same }, ap (λ r. Some (Out conn r)) tells.record_is);
       lines = refl;
+      answered = refl;
       note = (tells.some, tells.within);
       few = λ polled. absurd (false≢true polled);
     })
@@ -242,6 +243,7 @@ aborted-serves before after conn now xid lid m error room made is went walk tell
           told = ap (λ r. Some (Out conn r)) tells.record_is;
         };
         lines = refl;
+        answered = refl;
         note = (tells.some, tells.within);
         few = λ polled. absurd (false≢true polled);
       }),
@@ -268,6 +270,7 @@ called-serves before mid after conn now told xid m asked room made is at came wa
           events = refl;
         };
         lines = polled.lines;
+        answered = polled.answered;
         note = polled.note;
         few = polled.few;
       },

@@ -2,6 +2,7 @@
 use Rattle.std.proofs.Common.{◌≡◌, List, Option, Some, Ok, subst}
 use Rattle.std.specs.List.{flat_map}
 use Rattle.std.specs.Io.KnownBytes.{Appends}
+use Rattle.vx_calls.specs.declared.codes.ErrorCode.{ErrorCode}
 use Rattle.vx_script.specs.declared.Step.{Step}
 use Rattle.vx_script.specs.Command.{step_shown}
 use Rattle.vx_script.specs.Grammar.{Reading}
@@ -20,25 +21,27 @@ use Rattle.vx_play.specs.LinePlayed.{IsPlayed, IsCut, IsTurnedDown, IsWanting}
 use Rattle.vx_bench.proofs.Scripts.{doing}
 
 -- a line whose step was taken, and its text written
-pub played-line : (said : Reading) (found : Option Step) (step : Step) (stage : Stage) (player : PlayerState) (before after : End) (lines : List Output)
-    → Reads said (Ok found) → found ≡ Some step → TakesTo stage (step_shown step) lines player
+pub played-line : (said : Reading) (found : Option Step) (step : Step) (stage : Stage) (player : PlayerState) (before after : End) (lines : List Output) (answered : Option ErrorCode)
+    → Reads said (Ok found) → found ≡ Some step → TakesTo stage (step_shown step) lines answered player
     → Appends before.bytes after.bytes (flat_map line_text lines) → IsPlayed said stage player before after
-played-line said found step stage player before after lines reads some takes written = record {
+played-line said found step stage player before after lines answered reads some takes written = record {
   command = step_shown step;
   said_is = doing said found step reads some;
   lines = lines;
+  answered = answered;
   takes = takes;
   written = written;
 }
 
 -- a line whose step was taken, and the sink failed at its text
-pub cut-line : (said : Reading) (found : Option Step) (step : Step) (stage : Stage) (player : PlayerState) (before after : End) (lines : List Output)
-    → Reads said (Ok found) → found ≡ Some step → TakesTo stage (step_shown step) lines player
+pub cut-line : (said : Reading) (found : Option Step) (step : Step) (stage : Stage) (player : PlayerState) (before after : End) (lines : List Output) (answered : Option ErrorCode)
+    → Reads said (Ok found) → found ≡ Some step → TakesTo stage (step_shown step) lines answered player
     → StopsIn before after (flat_map line_text lines) → IsCut said stage player before after
-cut-line said found step stage player before after lines reads some takes stopped = record {
+cut-line said found step stage player before after lines answered reads some takes stopped = record {
   command = step_shown step;
   said_is = doing said found step reads some;
   lines = lines;
+  answered = answered;
   takes = takes;
   stops = stopped;
 }

@@ -22,7 +22,7 @@ HoldsBehind before command new =
 pub takes-to : (before : Stage) (command : Command) (new : PlayerState) (made : Made) → refusal before command ≡ None
     → MadeBy (Makes before command) new.reply made new.core → new.core.fine.state.moment ≤ new.moment
     → new.moment ≡ moment_after before.moment command → new.rack ≡ rack_after before.rack command → HoldsBehind before command new
-    → TakesTo before command (made_lines new made) new
+    → TakesTo before command (made_lines new made) made.answered new
 takes-to before command new made allowed made_by late moment rack incoming =
     let after : Stage = record {
       gateway = gateway_of new.core;
@@ -36,6 +36,7 @@ takes-to before command new made allowed made_by late moment rack incoming =
       after = after;
       command_is = refl;
       lines_are = ap (λ lines. lines ++ noted (note_line new.reply made.note)) made_by.lines;
+      answered_is = made_by.answered;
       takes = record {
         allowed = allowed;
         makes = made_by.makes;

@@ -77,14 +77,14 @@ record Leaves (stage : Stage) (command : Command) : Type 0 where
 
 -- nothing is told of a change
 quiet : Made
-quiet = record { polled = None; note = note.Nothing }
+quiet = record { polled = None; note = note.Nothing; answered = None }
 
 -- a change that isn't refused takes the player to the next stage
 tweak-takes : (stage : Stage) (command : Command) (Change : SimState → SimState → Type 0) (old now : PlayerState) (core : CoreState SimState) (rack : List SpareShown)
     (cut : SimState) → old ≡ now → Stands now stage → core.fine ≡ old.core.fine → BusGoes old.core.bus (Cut ∷ []) cut → Change cut core.bus
     → rack ≡ rack_after old.rack command → (Same stage.gateway.bus cut → stage.rack ≡ old.rack → refusal stage command ≡ None)
     → (stage.rack ≡ old.rack → (after : Gateway) → Tweaks stage.gateway Change [] None after → Makes stage command [] None after)
-    → Leaves stage command → TakesTo stage command [] (record old { core = core; rack = rack })
+    → Leaves stage command → TakesTo stage command [] None (record old { core = core; rack = rack })
 unfolding quiet
 tweak-takes stage command Change old now core rack cut seen stands_now fine_kept went change rack_is allowed makes leaves =
     let stands : Stands old stage = subst (λ (p : PlayerState). Stands p stage) (sym seen) stands_now in
@@ -97,6 +97,7 @@ tweak-takes stage command Change old now core rack cut seen stands_now fine_kept
       group = [];
       makes = makes shown (gateway_of core) (record { none = refl; fine = fine_is; cut = cut; bus = through; change = change; told = refl });
       lines = refl;
+      answered = refl;
       note = tt;
       few = λ some. absurd (false≢true some);
     })
@@ -114,7 +115,7 @@ tweak-takes stage command Change old now core rack cut seen stands_now fine_kept
 
 pub fail-takes : (stage : Stage) (n m : ℕ) (old now : PlayerState) (core : CoreState SimState) → m ≡ n → old ≡ now → Stands now stage → core.fine ≡ old.core.fine
     → ((cut : SimState) × BusGoes old.core.bus (Cut ∷ []) cut × (core.bus ≡ record cut { failing = Some m }))
-    → TakesTo stage (Fail n) [] (record old { core = core })
+    → TakesTo stage (Fail n) [] None (record old { core = core })
 fail-takes stage n m old now core e seen stands kept changes =
     let cut : SimState = changes.0 in
     tweak-takes stage (Fail n) (λ o s. s ≡ record o { failing = Some n }) old now core old.rack cut seen stands kept changes.1
@@ -123,7 +124,7 @@ fail-takes stage n m old now core e seen stands kept changes =
 
 pub set-takes : (stage : Stage) (p : ℕ) (s : Option ℕ) (b : ℕ) (answer : Bool) (old now : PlayerState) (core : CoreState SimState) → old ≡ now → Stands now stage
     → core.fine ≡ old.core.fine → ((cut : SimState) × BusGoes old.core.bus (Cut ∷ []) cut × ChangesAt (address p s) (IsSet (address p s) b) cut answer core.bus)
-    → answer ≡ true → TakesTo stage (Set p s b) [] (record old { core = core })
+    → answer ≡ true → TakesTo stage (Set p s b) [] None (record old { core = core })
 set-takes stage p s b answer old now core seen stands kept changes reached =
     let change = changes.2 in
     tweak-takes stage (Set p s b) (IsSet (address p s) b) old now core old.rack changes.0 seen stands kept changes.1 (change.change reached) refl
@@ -133,7 +134,7 @@ set-takes stage p s b answer old now core seen stands kept changes reached =
 pub pull-takes : (stage : Stage) (p : ℕ) (s : Option ℕ) (place : Addr) (answer : Bool) (old now : PlayerState) (core : CoreState SimState) → place ≡ address p s
     → old ≡ now → Stands now stage → core.fine ≡ old.core.fine
     → ((cut : SimState) × BusGoes old.core.bus (Cut ∷ []) cut × ChangesAt place (λ o n. n ≡ without_place place o) cut answer core.bus)
-    → answer ≡ true → TakesTo stage (Pull p s) [] (record old { core = core })
+    → answer ≡ true → TakesTo stage (Pull p s) [] None (record old { core = core })
 pull-takes stage p s place answer old now core e seen stands kept changes reached =
     let cut : SimState = changes.0 in
     let change : ChangesAt (address p s) (λ o n. n ≡ without_place (address p s) o) cut answer core.bus =
@@ -158,7 +159,7 @@ pub inst-takes : (stage : Stage) (p : ℕ) (s : Option ℕ) (text : List ℕ) (i
     (core : CoreState SimState) → ((rules : List Rule) × (rules_in text ≡ Some (Ok rules)) × (inst ≡ fresh_table rules)) → place ≡ address p s → kept ≡ Some inst
     → old ≡ now → Stands now stage → core.fine ≡ old.core.fine
     → ((cut : SimState) × BusGoes old.core.bus (Cut ∷ []) cut × AttachesOne place (option_map (λ t. Table t) kept) cut None core.bus)
-    → TakesTo stage (Inst p s text) [] (record old { core = core })
+    → TakesTo stage (Inst p s text) [] None (record old { core = core })
 inst-takes stage p s text inst place kept old now core table place_is kept_is seen stands fine_kept changes =
     let cut : SimState = changes.0 in
     let a : Addr = address p s in
@@ -216,7 +217,7 @@ module _ {I : Type 0} (view : I → View) (name : List ℕ) where
       → rest ≡ take at_place rack ++ drop (suc at_place) rack → place ≡ address p s → kept ≡ Some spare.inst → old ≡ now → Stands now stage
       → old.rack ≡ map (spare_shown view) rack → core.fine ≡ old.core.fine
       → ((cut : SimState) × BusGoes old.core.bus (Cut ∷ []) cut × AttachesOne place (option_map (λ i. Boxed (view i)) kept) cut None core.bus)
-      → TakesTo stage (Plug p s name) [] (record old { core = core; rack = map (spare_shown view) rest })
+      → TakesTo stage (Plug p s name) [] None (record old { core = core; rack = map (spare_shown view) rest })
   plug-takes stage p s rack rest at_place spare place kept old now core e is rest_is place_is kept_is seen stands shown fine_kept changes =
       let cut : SimState = changes.0 in
       let a : Addr = address p s in

@@ -44,11 +44,11 @@ pub record AnswersRecord (before : Gateway) (conn now : ℕ) (r : Role) (kept : 
 -- what a piece of a stream made, by the state in which it leaves the buffer, all of it taken
 abbrev pub FeedMakes : Gateway → ℕ → ℕ → Role → Incoming → List ℕ → Option Incoming → Made → CoreState SimState → Feed → Type 0
 FeedMakes before conn now r fed_kept room after_kept made after feed.More =
-    (gateway_of after ≡ before) × (after_kept ≡ Some fed_kept) × (made ≡ record { polled = None; note = note.Nothing })
+    (gateway_of after ≡ before) × (after_kept ≡ Some fed_kept) × (made ≡ record { polled = None; note = note.Nothing; answered = None })
 FeedMakes before conn now r fed_kept room after_kept made after feed.Whole = AnswersRecord before conn now r fed_kept room after_kept made after
 FeedMakes before conn now r fed_kept room after_kept made after feed.TooLong =
     Happens before (event.Down conn ∷ []) (Cut ∷ []) (gateway_of after) × (after_kept ≡ None)
-    × (made ≡ record { polled = None; note = note.Ended conn gone.Long })
+    × (made ≡ record { polled = None; note = note.Ended conn gone.Long; answered = None })
 
 -- the buffer takes the whole piece, and what stands in it then is answered
 pub record FeedsPiece (before : Gateway) (conn now : ℕ) (r : Role) (kept : Incoming) (piece room : List ℕ) (after_kept : Option Incoming) (made : Made)

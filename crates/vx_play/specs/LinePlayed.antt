@@ -1,7 +1,8 @@
 -- What playing one line of a script does.
-use Rattle.std.specs.Prelude.{◌≡◌, List, [], Some, ◌⊎◌}
+use Rattle.std.specs.Prelude.{◌≡◌, List, [], Option, Some, ◌⊎◌}
 use Rattle.std.specs.List.{flat_map}
 use Rattle.std.specs.Io.KnownBytes.{Appends}
+use Rattle.vx_calls.specs.declared.codes.ErrorCode.{ErrorCode}
 use Rattle.vx_script.specs.declared.Cause.{Cause}
 use Rattle.vx_script.specs.declared.Cause.TheVariants as cause
 use Rattle.vx_script.specs.Command.{Command}
@@ -27,7 +28,8 @@ pub record IsPlayed (said : Reading) (stage : Stage) (player : PlayerState) (bef
   pub command : Command
   pub said_is : said ≡ Does command
   pub lines : List Output
-  pub takes : TakesTo stage command lines player
+  pub answered : Option ErrorCode
+  pub takes : TakesTo stage command lines answered player
   pub written : Appends before.bytes after.bytes (flat_map line_text lines)
 
 -- a line's command was taken, and the sink failed at its text
@@ -35,7 +37,8 @@ pub record IsCut (said : Reading) (stage : Stage) (player : PlayerState) (before
   pub command : Command
   pub said_is : said ≡ Does command
   pub lines : List Output
-  pub takes : TakesTo stage command lines player
+  pub answered : Option ErrorCode
+  pub takes : TakesTo stage command lines answered player
   pub stops : StopsIn before after (flat_map line_text lines)
 
 -- a line outside the grammar

@@ -16,16 +16,18 @@ use Rattle.vx_play.specs.declared.note.Note.TheVariants as note
 use Rattle.vx_play.specs.declared.serve.Served.{Served}
 use Rattle.vx_play.specs.declared.serve.Served.TheVariants as served
 use Rattle.vx_play.specs.Gateway.{Gateway, gateway_of}
-use Rattle.vx_play.specs.Item.{bus_lines}
+use Rattle.vx_play.specs.Item.{bus_lines, answer_errors, errors_of}
 use Rattle.vx_message.specs.Meaning.{Meaning, Junk, xid_by}
 use Rattle.vx_play.specs.Making.{MessageMakes}
 use Rattle.vx_play.specs.Standing.{note_line, moves_lines, NoteWithin}
 
--- A step made this: events and a line such as the step makes, with the lines of its transfers, and with room for both
+-- A step made this: events and a line such as the step makes, with the lines of its transfers, with room for both, and with the
+-- error of the one answer among the events, where there is one
 pub record MadeBy (StepMakes : List Event → Option Output → Gateway → Type 0) (room : List ℕ) (made : Made) (after : CoreState SimState) : Type 0 where
   pub group : List Event
   pub makes : StepMakes group (note_line room made.note) (gateway_of after)
   pub lines : flat_map bus_lines group ≡ moves_lines made.polled after.bus.means.moves
+  pub answered : flat_map answer_errors group ≡ errors_of made.answered
   pub note : NoteWithin (length room) made.note
   pub few : IsSome made.polled → length after.bus.means.moves ≤ TURN_MAX
 
@@ -35,7 +37,7 @@ pub record Tells (room : List ℕ) (conn : ℕ) (told : List ℕ) (made : Made) 
   pub some : 0 < len
   pub within : len ≤ length room
   pub record_is : take len room ≡ told
-  pub made_is : made ≡ record { polled = None; note = note.Replied conn len }
+  pub made_is : made ≡ record { polled = None; note = note.Replied conn len; answered = None }
 
 -- a call may come on the connection: one that the core keeps on a core connection without a call, a device_abort on an abort
 -- connection

@@ -1,6 +1,8 @@
 -- A player that stands at a stage of a play, and what a step leaves of it.
 use Rattle.std.specs.Prelude.{◌≡◌, ◌≤◌, ◌<◌, ℕ, List, [], ◌∷◌, ◌++◌, length, take, Option, Some, None, IfSome, IsSome}
+use Rattle.std.specs.List.{flat_map}
 use Rattle.vx_calls.specs.declared.calls.Role.{Role}
+use Rattle.vx_calls.specs.declared.codes.ErrorCode.{ErrorCode}
 use Rattle.vx_calls.specs.declared.limits.TheConstants.{RECORD_MAX}
 use Rattle.vx_488.specs.declared.transfers.Transfer.{Transfer}
 use Rattle.vx_plan.specs.declared.tasks.TheConstants.{TURN_MAX}
@@ -20,7 +22,7 @@ use Rattle.vx_play.specs.declared.note.Made.{Made}
 use Rattle.vx_bench.specs.declared.stops.Stop.{Stop}
 use Rattle.vx_bench.specs.declared.stops.Stop.TheVariants as stop
 use Rattle.vx_play.specs.Gateway.{gateway_of}
-use Rattle.vx_play.specs.Item.{Item, item_lines, noted}
+use Rattle.vx_play.specs.Item.{Item, item_lines, noted, answer_errors, errors_of}
 use Rattle.vx_play.specs.Stage.{Stage, tables_of, refusal}
 use Rattle.vx_play.specs.Play.{Takes}
 use Rattle.vx_play.specs.PlayerState.{PlayerState, incoming_at}
@@ -93,12 +95,14 @@ pub record IsPrintable (player : PlayerState) (made : Made) : Type 0 where
   pub note : NoteWithin (length player.reply) made.note
   pub few : IsSome made.polled → length player.core.bus.means.moves ≤ TURN_MAX
 
--- a command was taken, with these lines: the player stands at the next stage
-pub record TakesTo (before : Stage) (command : Command) (lines : List Output) (player : PlayerState) : Type 0 where
+-- a command was taken, with these lines, and with this error of the one answer to a call, where there is one: the player stands at
+-- the next stage
+pub record TakesTo (before : Stage) (command : Command) (lines : List Output) (answered : Option ErrorCode) (player : PlayerState) : Type 0 where
   pub item : Item
   pub after : Stage
   pub command_is : item.command ≡ command
   pub lines_are : item_lines item ≡ lines
+  pub answered_is : flat_map answer_errors item.group ≡ errors_of answered
   pub takes : Takes before item after
   pub stands : Stands player after
 

@@ -1,5 +1,6 @@
 ghost use Rattle.std.specs.Prelude.{◌≡◌, None};
 
+use vx_calls::ErrorCode;
 use vx_core::Why;
 
 /// How a connection ended.
@@ -33,11 +34,13 @@ pub enum Note {
     Ended { conn: u32, how: Gone },
 }
 
-/// What a step made: the connection whose call was polled, where one was, and what there is to tell.
+/// What a step made: the connection whose call was polled, where one was, what there is to tell, and the error of the answer,
+/// `Ok` included, where the step answered a call that the gateway kept.
 #[derive(Clone, Copy, Debug)]
 pub struct Made {
     pub polled: Option<u32>,
     pub note: Note,
+    pub answered: Option<ErrorCode>,
 }
 
 impl Made {
@@ -45,12 +48,17 @@ impl Made {
     pub const QUIET: Made = Made {
         polled: None,
         note: Note::Nothing,
+        answered: None,
     };
 
-    /// No call was polled, and this is to be told.
+    /// No call was polled or answered, and this is to be told.
     pub fn of(note: Note) -> Made
-        ensures { result ≡ record { polled = None; note = note } }
+        ensures { result ≡ record { polled = None; note = note; answered = None } }
     {
-        Made { polled: None, note }
+        Made {
+            polled: None,
+            note,
+            answered: None,
+        }
     }
 }

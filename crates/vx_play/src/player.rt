@@ -133,7 +133,7 @@ impl<I: Instrument> Player<I> {
     pub fn step(&mut self, alloc: Global, step: &Step<'_>) -> Result<Made, Stop>
         requires plain { IsPlainStep step.now }
         requires ready { IsReady self.old }
-        ensures taken { IfOk result (λ made. (stage : Stage) → Stands self.old stage → TakesTo stage (step_shown step.now) (made_lines self.new made) self.new) }
+        ensures taken { IfOk result (λ made. (stage : Stage) → Stands self.old stage → TakesTo stage (step_shown step.now) (made_lines self.new made) made.answered self.new) }
         ensures stopped { IfErr result (λ stop. (stage : Stage) → Stands self.old stage → StopsFor stage (step_shown step.now) stop) }
         ensures printable { IfOk result (IsPrintable self.new) }
     {
@@ -160,7 +160,7 @@ impl<I: Instrument> Player<I> {
     /// A connection comes up.
     fn up(&mut self, alloc: Global, conn: u32, role: Role) -> Result<Made, Stop>
         requires ready { IsReady self.old }
-        ensures taken { IfOk result (λ made. (stage : Stage) → Stands self.old stage → TakesTo stage (Up conn role) (made_lines self.new made) self.new) }
+        ensures taken { IfOk result (λ made. (stage : Stage) → Stands self.old stage → TakesTo stage (Up conn role) (made_lines self.new made) made.answered self.new) }
         ensures stopped { IfErr result (λ stop. (stage : Stage) → Stands self.old stage → StopsFor stage (Up conn role) stop) }
         ensures printable { IfOk result (IsPrintable self.new) }
     {
@@ -179,7 +179,7 @@ impl<I: Instrument> Player<I> {
     /// A connection goes down.
     fn down(&mut self, conn: u32) -> Result<Made, Stop>
         requires ready { IsReady self.old }
-        ensures taken { IfOk result (λ made. (stage : Stage) → Stands self.old stage → TakesTo stage (Down conn) (made_lines self.new made) self.new) }
+        ensures taken { IfOk result (λ made. (stage : Stage) → Stands self.old stage → TakesTo stage (Down conn) (made_lines self.new made) made.answered self.new) }
         ensures stopped { IfErr result (λ stop. (stage : Stage) → Stands self.old stage → StopsFor stage (Down conn) stop) }
         ensures printable { IfOk result (IsPrintable self.new) }
     {
@@ -199,7 +199,7 @@ impl<I: Instrument> Player<I> {
     fn piece(&mut self, conn: u32, bytes: &[u8]) -> Result<Made, Stop>
         requires bytes { 0 < length bytes.now }
         requires ready { IsReady self.old }
-        ensures taken { IfOk result (λ made. (stage : Stage) → Stands self.old stage → TakesTo stage (In conn bytes.now) (made_lines self.new made) self.new) }
+        ensures taken { IfOk result (λ made. (stage : Stage) → Stands self.old stage → TakesTo stage (In conn bytes.now) (made_lines self.new made) made.answered self.new) }
         ensures stopped { IfErr result (λ stop. (stage : Stage) → Stands self.old stage → StopsFor stage (In conn bytes.now) stop) }
         ensures printable { IfOk result (IsPrintable self.new) }
     {
@@ -247,7 +247,7 @@ impl<I: Instrument> Player<I> {
     /// The moment of the next steps comes, where it is later.
     fn at(&mut self, moment: u64) -> Made
         requires ready { IsReady self.old }
-        ensures taken { (stage : Stage) → Stands self.old stage → TakesTo stage (At moment) (made_lines self.new result) self.new }
+        ensures taken { (stage : Stage) → Stands self.old stage → TakesTo stage (At moment) (made_lines self.new result) result.answered self.new }
         ensures printable { IsPrintable self.new result }
     {
         self.moment = self.moment.max(moment);
@@ -257,7 +257,7 @@ impl<I: Instrument> Player<I> {
     /// A connection's call is polled.
     fn poll(&mut self, conn: u32) -> Result<Made, Stop>
         requires ready { IsReady self.old }
-        ensures taken { IfOk result (λ made. (stage : Stage) → Stands self.old stage → TakesTo stage (Poll conn) (made_lines self.new made) self.new) }
+        ensures taken { IfOk result (λ made. (stage : Stage) → Stands self.old stage → TakesTo stage (Poll conn) (made_lines self.new made) made.answered self.new) }
         ensures stopped { IfErr result (λ stop. (stage : Stage) → Stands self.old stage → StopsFor stage (Poll conn) stop) }
         ensures printable { IfOk result (IsPrintable self.new) }
     {
@@ -272,7 +272,7 @@ impl<I: Instrument> Player<I> {
     /// The SRQ line is looked at.
     fn sample(&mut self) -> Made
         requires ready { IsReady self.old }
-        ensures taken { (stage : Stage) → Stands self.old stage → TakesTo stage Sample (made_lines self.new result) self.new }
+        ensures taken { (stage : Stage) → Stands self.old stage → TakesTo stage Sample (made_lines self.new result) result.answered self.new }
         ensures printable { IsPrintable self.new result }
     {
         self.core.sample(self.moment);
@@ -282,7 +282,7 @@ impl<I: Instrument> Player<I> {
     /// An interrupt is taken from a connection's channel.
     fn take(&mut self, conn: u32) -> Result<Made, Stop>
         requires ready { IsReady self.old }
-        ensures taken { IfOk result (λ made. (stage : Stage) → Stands self.old stage → TakesTo stage (Take conn) (made_lines self.new made) self.new) }
+        ensures taken { IfOk result (λ made. (stage : Stage) → Stands self.old stage → TakesTo stage (Take conn) (made_lines self.new made) made.answered self.new) }
         ensures stopped { IfErr result (λ stop. (stage : Stage) → Stands self.old stage → StopsFor stage (Take conn) stop) }
         ensures printable { IfOk result (IsPrintable self.new) }
     {
@@ -303,7 +303,7 @@ impl<I: Instrument> Player<I> {
     /// The dial that a connection's call asked for came up, or failed.
     fn dial(&mut self, conn: u32, up: bool) -> Result<Made, Stop>
         requires ready { IsReady self.old }
-        ensures taken { IfOk result (λ made. (stage : Stage) → Stands self.old stage → TakesTo stage (Dial conn up) (made_lines self.new made) self.new) }
+        ensures taken { IfOk result (λ made. (stage : Stage) → Stands self.old stage → TakesTo stage (Dial conn up) (made_lines self.new made) made.answered self.new) }
         ensures stopped { IfErr result (λ stop. (stage : Stage) → Stands self.old stage → StopsFor stage (Dial conn up) stop) }
         ensures printable { IfOk result (IsPrintable self.new) }
     {
@@ -313,7 +313,12 @@ impl<I: Instrument> Player<I> {
         }
         let xid = self.xid(conn);
         let error = self.core.settle(conn, up, self.moment).error;
-        Ok(succeed(conn, xid, &ReplyRef::Error { error }, &mut self.reply))
+        let note = succeed(conn, xid, &ReplyRef::Error { error }, &mut self.reply).note;
+        Ok(Made {
+            polled: None,
+            note,
+            answered: Some(error),
+        })
     }
 }
 
@@ -323,7 +328,7 @@ impl<I: Instrument> Player<I> {
     fn inst(&mut self, alloc: Global, p: u8, s: Option<u8>, text: &[u8]) -> Result<Made, Stop>
         requires address { IsAddress p s }
         requires ready { IsReady self.old }
-        ensures taken { IfOk result (λ made. (stage : Stage) → Stands self.old stage → TakesTo stage (Inst p s text.now) (made_lines self.new made) self.new) }
+        ensures taken { IfOk result (λ made. (stage : Stage) → Stands self.old stage → TakesTo stage (Inst p s text.now) (made_lines self.new made) made.answered self.new) }
         ensures stopped { IfErr result (λ stop. (stage : Stage) → Stands self.old stage → StopsFor stage (Inst p s text.now) stop) }
         ensures printable { IfOk result (IsPrintable self.new) }
     {
@@ -339,7 +344,7 @@ impl<I: Instrument> Player<I> {
     fn plug(&mut self, p: u8, s: Option<u8>, name: &[u8]) -> Result<Made, Stop>
         requires address { IsAddress p s }
         requires ready { IsReady self.old }
-        ensures taken { IfOk result (λ made. (stage : Stage) → Stands self.old stage → TakesTo stage (Plug p s name.now) (made_lines self.new made) self.new) }
+        ensures taken { IfOk result (λ made. (stage : Stage) → Stands self.old stage → TakesTo stage (Plug p s name.now) (made_lines self.new made) made.answered self.new) }
         ensures stopped { IfErr result (λ stop. (stage : Stage) → Stands self.old stage → StopsFor stage (Plug p s name.now) stop) }
         ensures printable { IfOk result (IsPrintable self.new) }
     {
@@ -358,7 +363,7 @@ impl<I: Instrument> Player<I> {
     fn pull(&mut self, p: u8, s: Option<u8>) -> Result<Made, Stop>
         requires address { IsAddress p s }
         requires ready { IsReady self.old }
-        ensures taken { IfOk result (λ made. (stage : Stage) → Stands self.old stage → TakesTo stage (Pull p s) (made_lines self.new made) self.new) }
+        ensures taken { IfOk result (λ made. (stage : Stage) → Stands self.old stage → TakesTo stage (Pull p s) (made_lines self.new made) made.answered self.new) }
         ensures stopped { IfErr result (λ stop. (stage : Stage) → Stands self.old stage → StopsFor stage (Pull p s) stop) }
         ensures printable { IfOk result (IsPrintable self.new) }
     {
@@ -372,7 +377,7 @@ impl<I: Instrument> Player<I> {
     /// An instrument gets a status byte.
     fn set(&mut self, p: u8, s: Option<u8>, b: u8) -> Result<Made, Stop>
         requires ready { IsReady self.old }
-        ensures taken { IfOk result (λ made. (stage : Stage) → Stands self.old stage → TakesTo stage (Set p s b) (made_lines self.new made) self.new) }
+        ensures taken { IfOk result (λ made. (stage : Stage) → Stands self.old stage → TakesTo stage (Set p s b) (made_lines self.new made) made.answered self.new) }
         ensures stopped { IfErr result (λ stop. (stage : Stage) → Stands self.old stage → StopsFor stage (Set p s b) stop) }
         ensures printable { IfOk result (IsPrintable self.new) }
     {
@@ -388,7 +393,7 @@ impl<I: Instrument> Player<I> {
     fn fail(&mut self, n: u32) -> Made
         requires count { 1 ≤ n }
         requires ready { IsReady self.old }
-        ensures taken { (stage : Stage) → Stands self.old stage → TakesTo stage (Fail n) (made_lines self.new result) self.new }
+        ensures taken { (stage : Stage) → Stands self.old stage → TakesTo stage (Fail n) (made_lines self.new result) result.answered self.new }
         ensures printable { IsPrintable self.new result }
     {
         self.core.tweak(&mut bench::FailAfter::new(n));

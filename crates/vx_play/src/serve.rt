@@ -11,13 +11,14 @@ ghost use Rattle.vx_message.specs.declared.record.TheConstants.{REPLY_ROOM};
 ghost use Rattle.vx_rules.specs.State.{is_idle, lives_as, pending_at, role_at};
 ghost use Rattle.vx_rules.specs.One.{may_wait};
 ghost use Rattle.vx_rules.specs.Held.{IsShort};
+ghost use Rattle.vx_play.specs.Item.{reply_error};
 ghost use Rattle.vx_play.specs.Gateway.{gateway_of};
 ghost use Rattle.vx_message.specs.Meaning.{meaning, by_call, record_of, reply_record};
 ghost use Rattle.vx_play.specs.Making.{MessageMakes, CallMakes, AbortMakes, PollMakes};
 ghost use Rattle.vx_play.specs.Serving.{MadeBy, Tells, Serves, IsRipe};
 
 use crate::note::{Made, Note};
-use vx_calls::{CallRef, ReplyRef, Role};
+use vx_calls::{CallRef, ErrorCode, ReplyRef, Role};
 use vx_codec::read_args;
 use vx_core::{Core, Polled};
 use vx_inst::Instrument;
@@ -118,6 +119,21 @@ fn serve_call<I: Instrument>(
     }
 }
 
+/// The error of a reply; `Ok` for one that has none.
+fn error_of(answer: &ReplyRef<'_>) -> ErrorCode
+    ensures { result ≡ reply_error (reply_shown answer.now) }
+{
+    match *answer {
+        ReplyRef::Null => ErrorCode::Ok,
+        ReplyRef::CreateLink { error, .. } => error,
+        ReplyRef::Write { error, .. } => error,
+        ReplyRef::Read { error, .. } => error,
+        ReplyRef::Stb { error, .. } => error,
+        ReplyRef::Docmd { error, .. } => error,
+        ReplyRef::Error { error } => error,
+    }
+}
+
 /// Polls the call that a connection keeps, of this xid, at this moment.
 pub fn poll_call<I: Instrument>(
     core: &mut Core<SimBus<I>>,
@@ -138,14 +154,17 @@ pub fn poll_call<I: Instrument>(
         Polled::Answer(answer) => Made {
             polled: Some(conn),
             note: succeed(conn, xid, &answer, reply).note,
+            answered: Some(error_of(&answer)),
         },
         Polled::NotYet(why) => Made {
             polled: Some(conn),
             note: Note::Waiting { conn, why },
+            answered: None,
         },
         Polled::Dial { .. } => Made {
             polled: Some(conn),
             note: Note::Dialing { conn },
+            answered: None,
         },
     }
 }

@@ -14,4 +14,6 @@ mod session_crossed;
 #[cfg(test)]
 mod session_tests;
 #[cfg(test)]
+mod told_tests;
+#[cfg(test)]
 mod turns_tests;

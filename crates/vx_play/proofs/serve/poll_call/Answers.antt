@@ -14,9 +14,9 @@ returns-in-Answer-clause-made g c =
     let is : c.poll.result ≡ polled.Answer c.in-Answer.answer = cc in
     let leaves = subst (λ (r : Polled). Leaves c.args.core.now c.args.conn c.args.now r c.poll.follows.lender-at-none) is c.poll.follows.holds-at-none in
     subst (λ (m : Made). MadeBy (PollMakes (gateway_of c.args.core.now) c.args.conn c.args.now c.args.xid) c.succeed.new.reply
-    (record { polled = Some c.args.conn; note = m.note }) c.poll.follows.lender-at-none) (sym tells.made_is)
-    (answer-made c.args.core.now c.poll.follows.lender-at-none c.args.conn c.args.now c.args.xid tells.len c.in-Answer.answer c.succeed.new.reply
-    c.requires.late c.is_sound.ensures.sound c.is_sound.ensures.links c.is_sound.ensures.own leaves tells.record_is tells.some tells.within)
+    (record { polled = Some c.args.conn; note = m.note; answered = Some c.error_of.result }) c.poll.follows.lender-at-none) (sym tells.made_is)
+    (answer-made c.args.core.now c.poll.follows.lender-at-none c.args.conn c.args.now c.args.xid tells.len c.in-Answer.answer c.error_of.result c.succeed.new.reply
+    c.requires.late c.is_sound.ensures.sound c.is_sound.ensures.links c.is_sound.ensures.own leaves tells.record_is c.error_of.ensures tells.some tells.within)
 
 pub returns-in-NotYet-clause-made : goal.returns-in-NotYet-clause-made
 returns-in-NotYet-clause-made g c =

@@ -20,7 +20,7 @@ returns-in-Answered g c =
         λ _. tt,
         core-leaves g.B.Bus.means g.B.Bus.through g.B.Bus.srq_level g.B.Bus.ndac_level c.args.self.now c.self.inside.kernel c.poll.new.kernel c.args.conn c.args.now
             c.poll.result (ended.Answered c.in-Answered.ran c.in-Answered.level c.in-Answered.given)
-            (polled.Answer c.lend.result) c.self.view_is c.poll.ensures.last c.poll.ensures.leaves
+            (polled.Answer c.lend.result) c.self.view_is c.poll.ensures.last c.poll.ensures.began c.poll.ensures.leaves
             c.in-Answered.is shows,
       ),
       record {
@@ -35,7 +35,7 @@ returns-in-Waited g c = (
     refl,
     λ _. tt,
     core-leaves g.B.Bus.means g.B.Bus.through g.B.Bus.srq_level g.B.Bus.ndac_level c.args.self.now c.self.inside.kernel c.poll.new.kernel c.args.conn c.args.now
-        c.poll.result (ended.Waited c.in-Waited.why) (polled.NotYet c.in-Waited.why) c.self.view_is c.poll.ensures.last c.poll.ensures.leaves c.in-Waited.is refl,
+        c.poll.result (ended.Waited c.in-Waited.why) (polled.NotYet c.in-Waited.why) c.self.view_is c.poll.ensures.last c.poll.ensures.began c.poll.ensures.leaves c.in-Waited.is refl,
   ),
   record { fits = tt; after = tt },
 )

@@ -13,14 +13,14 @@ use Rattle.vx_kernel.proofs.kernel.Kernel.begin.Goals as goal
 pub job-requires-clause-passes : goal.job-requires-clause-passes
 job-requires-clause-passes g c =
     let i = c.self.inside in
-    let k : KernelState g.row.B.Denot = kernel_of i.bus i.tables i.moment i.running i.before i.made.items i.room.items i.dialed.items i.last in
+    let k : KernelState g.row.B.Denot = kernel_of i.bus i.tables i.moment i.running i.before i.made.items i.room.items i.dialed.items i.last i.began in
     let P : KernelState g.row.B.Denot → Type 0 = λ k. HasPassed g.B.Bus.means k c.args.conn in
     passes g.B.Bus.means k c.args.conn c.passed_calls.ensures.passed (subst P (sym c.self.view_is) c.requires.passed)
 
 pub unreachable-requires : goal.unreachable-requires
 unreachable-requires g c =
     let i = c.self.inside in
-    let k : KernelState g.row.B.Denot = kernel_of i.bus i.tables i.moment i.running i.before i.made.items i.room.items i.dialed.items i.last in
+    let k : KernelState g.row.B.Denot = kernel_of i.bus i.tables i.moment i.running i.before i.made.items i.room.items i.dialed.items i.last i.began in
     let P : KernelState g.row.B.Denot → Type 0 = λ k. HasPassed g.B.Bus.means k c.args.conn in
     let Q : KernelState g.row.B.Denot → Type 0 = λ k. (p : Pending) → pending_at k.tables c.args.conn ≡ Some p → is_bus_call p.call ≡ true in
     let R : KernelState g.row.B.Denot → Type 0 = λ k. is_some (pending_at k.tables c.args.conn) ≡ true in
@@ -39,7 +39,7 @@ begin-requires-clause-plain g c =
 pub returns-then-has_role-clause-begun : goal.returns-then-has_role-clause-begun
 returns-then-has_role-clause-begun g c = λ yes.
     let i = c.self.inside in
-    let k : KernelState g.row.B.Denot = kernel_of i.bus i.tables i.moment i.running i.before i.made.items i.room.items i.dialed.items i.last in
+    let k : KernelState g.row.B.Denot = kernel_of i.bus i.tables i.moment i.running i.before i.made.items i.room.items i.dialed.items i.last i.began in
     let R : KernelState g.row.B.Denot → Type 0 = λ k. is_some (pending_at k.tables c.args.conn) ≡ true in
     let H : KernelState g.row.B.Denot → Type 0 = λ k. Holds g.B.Bus.means k in
     let p = the_pending (pending_at i.tables c.args.conn) (subst R (sym c.self.view_is) c.requires.pending) in

@@ -13,7 +13,7 @@ use Rattle.vx_kernel.proofs.kernel.Kernel.waits_for.Goals as goal
 pub returns-in-Some-Some : goal.returns-in-Some-Some
 returns-in-Some-Some g c =
     let i = c.self.inside in
-    let k : KernelState g.row.B.Denot = kernel_of i.bus i.tables i.moment i.running i.before i.made.items i.room.items i.dialed.items i.last in
+    let k : KernelState g.row.B.Denot = kernel_of i.bus i.tables i.moment i.running i.before i.made.items i.room.items i.dialed.items i.last i.began in
     let P : KernelState g.row.B.Denot → Type 0 = λ k. (p : Pending) (u : Turn) → pending_at k.tables c.args.conn ≡ Some p → turn_shown k.running k.made ≡ Some u
     → c.conflicts.result ≡ waits_for k.tables (wire_for (fine_of g.B.Bus.means k) c.args.conn).own c.args.conn p u in
     let H : KernelState g.row.B.Denot → Type 0 = λ k. Holds g.B.Bus.means k in

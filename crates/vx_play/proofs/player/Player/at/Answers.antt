@@ -1,4 +1,4 @@
-use Rattle.std.proofs.Common.{sym, subst, []}
+use Rattle.std.proofs.Common.{sym, subst, [], None}
 use denote.Param.{param}
 use Rattle.vx_script.specs.Command.{At}
 use Rattle.vx_play.specs.contracts.player.Player.{the_view}
@@ -10,5 +10,5 @@ use Rattle.vx_play.proofs.player.Player.at.Goals as goal
 pub returns-clause-taken : goal.returns-clause-taken
 returns-clause-taken g c = λ stage stands.
     let p : PlayerState = the_view (param 0 g.row.I) g.I.Instrument c.self.inside in
-    subst (λ m. TakesTo stage (At c.args.moment) [] (record p { moment = m })) (sym c.max-self-inside.ensures)
+    subst (λ m. TakesTo stage (At c.args.moment) [] None (record p { moment = m })) (sym c.max-self-inside.ensures)
     (at-takes p stage c.args.moment (subst (λ q. Stands q stage) (sym c.self.view_is) stands))

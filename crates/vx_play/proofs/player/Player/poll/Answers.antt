@@ -14,7 +14,7 @@ pub returns-clause-taken : goal.returns-clause-taken
 returns-clause-taken g c = λ stage stands.
     let p : PlayerState = the_view (param 0 g.row.I) g.I.Instrument c.self.inside in
     let room = with_items_is c.self.inside.reply c.poll_call.new.reply (c.poll_call.auto.reply ∙ c.deref_mut.ensures.len) in
-    subst (λ xs. TakesTo stage (Poll c.args.conn) (made_lines (record p { core = c.poll_call.new.core; reply = xs }) c.poll_call.result)
+    subst (λ xs. TakesTo stage (Poll c.args.conn) (made_lines (record p { core = c.poll_call.new.core; reply = xs }) c.poll_call.result) c.poll_call.result.answered
     (record p { core = c.poll_call.new.core; reply = xs })) (sym room)
     (poll-takes p stage c.poll_call.new.core c.poll_call.new.reply c.poll_call.result c.args.conn c.xid-xid.result
     (subst (λ q. Stands q stage) (sym c.self.view_is) stands)

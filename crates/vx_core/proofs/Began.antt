@@ -1,0 +1,103 @@
+-- Whether a poll began its call's turn, told by how it ended.
+use Rattle.std.proofs.Common.{◌≡◌, ℕ, Bool, true, false, cond, List, [], ◌∷◌, ◌++◌, Option, Some, None, refl, sym, ap, ◌∙◌}
+use Rattle.std.specs.Prelude.{not, is_none, is_some, ◌&&◌}
+use Rattle.std.proofs.lemmas.Bool.{and_parts, true≢false, false≢true}
+use Rattle.std.proofs.lemmas.Option.{same_Some}
+use Rattle.vx_488.specs.declared.transfers.Transfer.{Transfer}
+use Rattle.vx_rules.specs.Lists.{along}
+use Rattle.vx_rules.specs.State.{Pending, pending_at}
+use Rattle.vx_flow.specs.Event.{Begin, Move}
+use Rattle.vx_flow.specs.FineState.{Turn, FineState, turn_of}
+use Rattle.vx_flow.specs.Fine.{fine, fine_after, may_begin, may_move, is_passed}
+use Rattle.vx_flow.specs.Poll as poll
+use Rattle.vx_flow.specs.Poll.{Ran, Ending, Polls, RanTo, begins, moved_events, lines_at, runs, ran_of}
+use Rattle.vx_488.specs.Wire.{wire_after}
+use Rattle.vx_kernel.specs.declared.running.Running.{Running}
+use Rattle.vx_kernel.specs.declared.ended.Why.TheVariants as why
+use Rattle.vx_kernel.specs.declared.ended.Ran.TheVariants as ran
+use Rattle.vx_kernel.specs.declared.ended.Ended.{Ended}
+use Rattle.vx_kernel.specs.declared.ended.Ended.TheVariants as ended
+use Rattle.vx_kernel.specs.Shown.{turn_shown}
+use Rattle.vx_kernel.specs.Ending.{ended_shown, has_run}
+use Rattle.vx_core.proofs.Ends.{chosen, stepped, begun-so, begun-runs}
+
+-- whether a poll went so far with its call's turn
+abbrev is_run : Ran → Bool
+is_run poll.Still = false
+is_run poll.Finished = true
+is_run poll.Paused = true
+is_run poll.Broken = true
+
+-- as the kernel has it
+run-shown : (e : Ended) (room : List ℕ) → has_run e ≡ is_run (ran_of (ended_shown e room))
+run-shown (ended.Answered ran.Still level given) room = refl
+run-shown (ended.Answered ran.Finished level given) room = refl
+run-shown (ended.Answered ran.Paused level given) room = refl
+run-shown (ended.Answered ran.Broken level given) room = refl
+run-shown (ended.Waited (why.Locked by)) room = refl
+run-shown (ended.Waited (why.Turn by)) room = refl
+run-shown (ended.Waited why.Held) room = refl
+run-shown (ended.Dialed host port) room = refl
+
+free-shown : (o : Option Running) (made : List Transfer) → not (is_some o) ≡ is_none (turn_shown o made)
+free-shown None made = refl
+free-shown (Some r) made = refl
+
+no-and : (b : Bool) → (b && false) ≡ false
+no-and true = refl
+no-and false = refl
+
+-- a poll that begins its call's turn goes on with it
+begun-run : (f b : FineState) (conn now : ℕ) (p : Pending) (moves : List Transfer) (ran : Ran) → pending_at f.state.tables conn ≡ Some p
+    → along fine (fine f (Begin conn now)) (moved_events conn moves) ≡ Some b → RanTo b conn now p moves ran → is_run ran ≡ true
+begun-run f b conn now p moves poll.Still at x h =
+    let so = begun-so f b conn now (sym (ap (λ ts. along fine (fine f (Begin conn now)) (moved_events conn ts)) h.1) ∙ x) in
+    absurd (true≢false (sym (begun-runs f conn now p at so.1) ∙ ap (λ g. runs g conn now p) so.2 ∙ h.0))
+begun-run f b conn now p moves poll.Finished at x h = refl
+begun-run f b conn now p moves poll.Paused at x h = refl
+begun-run f b conn now p moves poll.Broken at x h = refl
+
+-- where no turn is under way, one that doesn't begin it moves nothing
+unmoved : (f b : FineState) (conn : ℕ) (moves : List Transfer) → f.turn ≡ None → along fine (Some f) (moved_events conn moves) ≡ Some b → b.turn ≡ None
+unmoved f b conn [] none x = ap (λ (g : FineState). g.turn) (sym (same_Some f b x)) ∙ none
+unmoved f b conn (t ∷ ts) none x =
+    let parts = chosen (may_move f conn (t ∷ ts) f.turn) (Some (fine_after f (Move conn (t ∷ ts)) f.dialed (record f.state { wire = wire_after f.state.wire (t ∷ ts) }))) b
+    (stepped f b (Move conn (t ∷ ts)) x) in
+    absurd (false≢true (sym (ap (may_move f conn (t ∷ ts)) none) ∙ parts.0))
+
+-- and doesn't go on
+unbegun-run : (f b : FineState) (conn now : ℕ) (p : Pending) (moves : List Transfer) (ran : Ran) → f.turn ≡ None
+    → along fine (Some f) (moved_events conn moves) ≡ Some b → RanTo b conn now p moves ran → is_run ran ≡ false
+unbegun-run f b conn now p moves ran none x = by ran where
+  off : runs b conn now p ≡ false
+  off = ap (λ t. is_passed (lines_at b conn now p) && is_some (turn_of t conn)) (unmoved f b conn moves none x) ∙ no-and (is_passed (lines_at b conn now p))
+
+  by : (ran : Ran) → RanTo b conn now p moves ran → is_run ran ≡ false
+  by poll.Still h = refl
+  by poll.Finished h = absurd (true≢false (sym h.0 ∙ off))
+  by poll.Paused h = absurd (true≢false (sym h.0 ∙ off))
+  by poll.Broken h = absurd (true≢false (sym h.0 ∙ off))
+
+unbegun : (f b : FineState) (conn now : ℕ) (p : Pending) (moves : List Transfer) (ran : Ran) (turn : Option Turn) → f.turn ≡ turn
+    → along fine (Some f) (moved_events conn moves) ≡ Some b → RanTo b conn now p moves ran → false ≡ (is_none turn && is_run ran)
+unbegun f b conn now p moves ran None is x h = sym (unbegun-run f b conn now p moves ran is x h)
+unbegun f b conn now p moves ran (Some u) is x h = refl
+
+-- A poll began its call's turn exactly where none was under way and it went on with one.
+pub polls-began : (f g : FineState) (conn now : ℕ) (moves : List Transfer) (ending : Ending) → Polls f conn now moves ending g
+    → begins f conn now ≡ (is_none f.turn && is_run (ran_of ending))
+polls-began f g conn now moves ending polls = by (begins f conn now) refl polls.runs_to where
+  by : (b : Bool) → begins f conn now ≡ b → along fine (Some f) (cond b (Begin conn now ∷ []) [] ++ moved_events conn moves) ≡ Some polls.behind
+      → b ≡ (is_none f.turn && is_run (ran_of ending))
+  by true is x =
+      sym (ap (λ b. b && is_run (ran_of ending)) (and_parts (is_none f.turn) (may_begin f.state conn now (pending_at f.state.tables conn)) is).0
+      ∙ begun-run f polls.behind conn now polls.asked moves (ran_of ending) polls.call_at x polls.ran)
+  by false is x = unbegun f polls.behind conn now polls.asked moves (ran_of ending) f.turn refl x polls.ran
+
+-- so a kernel tells it
+pub began-so : (f g : FineState) (conn now : ℕ) (moves : List Transfer) (o : Option Running) (made : List Transfer) (e : Ended) (room : List ℕ)
+    → f.turn ≡ turn_shown o made → Polls f conn now moves (ended_shown e room) g → (not (is_some o) && has_run e) ≡ begins f conn now
+began-so f g conn now moves o made e room turn polls =
+    ap (λ b. b && has_run e) (free-shown o made ∙ ap is_none (sym turn))
+    ∙ ap (λ b. is_none f.turn && b) (run-shown e room)
+    ∙ sym (polls-began f g conn now moves (ended_shown e room) polls)

@@ -1,0 +1,123 @@
+//! What a core tells of its last poll, and of its last sample.
+ghost use Rattle.std.specs.Prelude.{◌≡◌, true};
+ghost use Rattle.vx_bus_traits.specs.Means.{first_means};
+ghost use Rattle.vx_calls.specs.Call.{call_shown};
+ghost use Rattle.vx_rules.specs.One.{may_wait};
+ghost use Rattle.vx_rules.specs.Held.{IsShort};
+
+use crate::gateways::PORT;
+use std::alloc::Global;
+use std::test::Fail;
+use vx_488::Addr;
+use vx_bus::MemBus;
+use vx_calls::{CallRef, Role};
+use vx_core::Core;
+use vx_rack::Echo;
+use vx_sim::SimBus;
+
+/// Polls the call of connection 1, and tells whether that began its turn; none where it has no call.
+fn polled(core: &mut Core<MemBus>) -> Option<bool> {
+    if !core.pending(1) {
+        return None;
+    }
+    let _ = core.poll(1, 0);
+    Some(core.began())
+}
+
+/// The same of a call that comes now.
+fn asked(core: &mut Core<MemBus>, call: &CallRef<'_>) -> Option<bool>
+    requires waits { may_wait (call_shown call.now) ≡ true }
+    requires short { IsShort (call_shown call.now) }
+{
+    if core.role(1) != Some(Role::Core) || core.pending(1) {
+        return None;
+    }
+    core.arrive(1, call, 0);
+    polled(core)
+}
+
+/// What is told at first; of a create_link, a write, a write that is held, and its next poll; and behind a sample.
+fn told(core: &mut Core<MemBus>, alloc: Global) -> [Option<bool>; 6] {
+    let first = core.began();
+    let _ = core.connect(alloc, Role::Core);
+    let link = CallRef::CreateLink {
+        client: 1,
+        lock: false,
+        lock_timeout: 0,
+        device: b"gpib0,5",
+    };
+    let write = CallRef::Write {
+        lid: 1,
+        io_timeout: 1000,
+        lock_timeout: 0,
+        flags: 8,
+        bytes: b"A",
+    };
+    let linked = asked(core, &link);
+    let whole = asked(core, &write);
+    let held = asked(core, &write);
+    core.sample(0);
+    let sampled = core.began();
+    [
+        Some(first),
+        linked,
+        whole,
+        held,
+        Some(sampled),
+        polled(core),
+    ]
+}
+
+#[test]
+fn polls_that_begin(rt: HostRuntime) -> Result<(), Fail> {
+    let alloc = rt.alloc();
+    let none = Vec::new(alloc);
+    // a write makes four transfers: the sixth is of the second one
+    let holds = [6u64].as_slice().to_vec(alloc)?;
+    let bus = MemBus::new(alloc, none, holds, Vec::new(alloc)).map_err(|_| "no memory")?;
+    let mut core = Core::start(alloc, bus, PORT).map_err(|_| "no memory")?;
+    let wanted = [
+        Some(false),
+        Some(false),
+        Some(true),
+        Some(true),
+        Some(true),
+        Some(false),
+    ];
+    assert_eq!(rt; told(&mut core, alloc), wanted);
+    Ok(())
+}
+
+/// An instrument stands at 5, with this status byte.
+fn hang(bus: &mut SimBus<Echo>, echo: Echo, status: u8) -> bool
+    ensures { bus.new.means ≡ bus.old.means }
+{
+    let at = Addr { p: 5, s: None };
+    match bus.attach_box(at, echo) {
+        Err(_) => false,
+        Ok(()) => match bus.set_status(at, status) {
+            Err(_) => false,
+            Ok(()) => true,
+        },
+    }
+}
+
+/// The level of SRQ that is told before a sample and behind it, where an instrument has this status byte.
+fn levels(alloc: Global, status: u8) -> Result<[bool; 2], Fail> {
+    let echo = Echo::new(alloc)?;
+    let mut bus = SimBus::new(alloc)?;
+    if !hang(&mut bus, echo, status) {
+        return Err("not attached".into());
+    }
+    let mut core = Core::start(alloc, bus, PORT).map_err(|_| "no memory")?;
+    let before = core.level();
+    core.sample(0);
+    Ok([before, core.level()])
+}
+
+#[test]
+fn sampled_levels(rt: HostRuntime) -> Result<(), Fail> {
+    let told = [levels(rt.alloc(), 0x40)?, levels(rt.alloc(), 0)?];
+    assert_eq!(rt; told, [[false, true], [false, false]]);
+    Ok(())
+}
