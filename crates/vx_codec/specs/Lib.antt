@@ -2,3 +2,4 @@ pub mod Row
 pub mod Asked
 pub mod Answered
 pub mod Text
+pub mod ProvedLaws

@@ -16,3 +16,4 @@ pub mod LinePlayed
 pub mod Ended
 pub mod Outcome
 pub mod Laws
+pub mod ProvedLaws

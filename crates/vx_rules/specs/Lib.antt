@@ -20,3 +20,4 @@ pub mod Shown
 pub mod Input
 pub mod Serving
 pub mod PassLaws
+pub mod ProvedLaws

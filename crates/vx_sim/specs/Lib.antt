@@ -4,3 +4,4 @@ pub mod SimState
 pub mod Attaching
 pub mod Shown
 pub mod Laws
+pub mod ProvedLaws
