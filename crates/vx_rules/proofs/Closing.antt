@@ -1,10 +1,10 @@
 -- What holds of the fields of the tables after a change of some of them.
-use Rattle.std.proofs.Common.{◌≡◌, ℕ, Bool, true, false, cond, not, ◌&&◌, List, map, Option, Some, refl, sym, ap, subst, ◌∙◌}
+use Rattle.std.proofs.Common.{◌≡◌, ℕ, List, Option, Some, sym, ap, subst, ◌∙◌}
 use Rattle.std.specs.Option.{option_map}
 use Rattle.std.proofs.lemmas.Option.{same_Some}
 use Rattle.vx_links.specs.Table.{Table}
 use Rattle.vx_locks.specs.Locks.{Lock}
-use Rattle.vx_srq.specs.Desk.{Desk, Port, risen_port, sampled}
+use Rattle.vx_srq.specs.Desk.{Desk}
 use Rattle.vx_rules.specs.declared.tables.rows.Row.{Row}
 use Rattle.vx_rules.specs.declared.tables.rows.Asked.{Asked}
 use Rattle.vx_rules.specs.State.{Pending, Connection, Tables, without_connection}
@@ -43,14 +43,6 @@ changed_is t cs cs' links links' locks locks' desk desk' c l k d =
 pub gone_sound : (t : Tables) (conn : ℕ) (cs : List Connection) (links : Table) (locks : List Lock) (desk : Desk) → IsSound t
     → changed t cs links locks desk ≡ without_connection t conn → IsSound (changed t cs links locks desk)
 gone_sound t conn cs links locks desk s e = subst IsSound (sym e) (without_connection-sound t conn s)
-
--- a sample leaves the number of the next channel
-pub sampled_next : (d : Desk) (level : Bool) → (sampled d level).next_channel ≡ d.next_channel
-sampled_next d level = at (level && not d.level) (map (risen_port d.enables) d.ports)
-  where
-    at : (b : Bool) (ps : List Port) → (cond b (record d { ports = ps; level = level }) (record d { level = level })).next_channel ≡ d.next_channel
-    at true ps = refl
-    at false ps = refl
 
 -- the pending call of a row that was found
 pub pending_is : (r : Row) (a : Asked) (o : Option Pending) (p : Pending) → pending_of r ≡ o → r.asked ≡ Some a → o ≡ Some p
