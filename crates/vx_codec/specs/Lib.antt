@@ -3,3 +3,4 @@ pub mod Asked
 pub mod Answered
 pub mod Text
 pub mod ProvedLaws
+pub use Rattle.vx_xdr.specs.Spelling

@@ -24,8 +24,8 @@ use Rattle.vx_calls.specs.Reply.{Reply, same_reply}
 use Rattle.vx_488.specs.declared.transfers.Transfer.{Transfer}
 use Rattle.vx_488.specs.declared.wire.Wire.{Wire}
 use Rattle.vx_488.specs.Wire.{wire_after}
-use Rattle.vx_links.specs.Table.{Link, is_live}
-use Rattle.vx_locks.specs.Locks.{holds, with_lock}
+use Rattle.vx_rules.specs.Table.{Link, is_live}
+use Rattle.vx_rules.specs.Locks.{holds, with_lock}
 use Rattle.vx_srq.specs.Desk.{Desk, Port, Channel, Given, port_at, channel_at, port_with, with_channel, without_port, queued_on, handles_of, risen_port, is_rise, sampled, given, taken_from, taken}
 use Rattle.vx_srq.specs.ProvedLaws.{port_with-stays, sampled-next}
 use Rattle.vx_rules.specs.State.{Pending, Connection, Tables, State, same_role, connection_at, pending_at, lives_as, is_idle, count_of, has_room, with_pending, with_connection, without_connection}

@@ -20,7 +20,7 @@ use Rattle.vx_calls.specs.Call.{Call}
 use Rattle.vx_calls.specs.Call as call
 use Rattle.vx_calls.specs.Reply.{Reply}
 use Rattle.vx_srq.specs.Desk.{channel_at}
-use Rattle.vx_links.specs.Table.{Link}
+use Rattle.vx_rules.specs.Table.{Link}
 use Rattle.vx_rules.specs.State.{Pending, Connection, Tables, connection_at, pending_at, count_of, same_role}
 use Rattle.vx_rules.specs.Sound.{IsSound, IsAsked}
 use Rattle.vx_rules.specs.Calls.{asks_dial}

@@ -23,7 +23,7 @@ use Rattle.vx_plan.specs.declared.tasks.Task.TheVariants.{Read, Stb}
 use Rattle.vx_plan.specs.Plan.{Plan, Off, stand_of, stand}
 use Rattle.vx_plan.specs.Tasks.{plan, IsPlainTask, HasBytes}
 use Rattle.vx_plan.specs.Laws.{BoundLaw, most_transfers}
-use Rattle.vx_links.specs.Table.{Link}
+use Rattle.vx_rules.specs.Table.{Link}
 use Rattle.vx_ctrl.specs.declared.turn.Went.{Went}
 use Rattle.vx_ctrl.specs.declared.turn.Went.TheVariants as went
 use Rattle.vx_ctrl.specs.Turns.{TurnState, HasMade, HasRoom, GetsBytes}

@@ -1,7 +1,7 @@
 -- How long the bytes of a handle are in a message.
 use Rattle.std.proofs.Common.{◌≡◌, ◌+◌, ◌≤◌, ℕ, List, length, arith, length-append}
 use Rattle.std.proofs.lemmas.List.{length-replicate}
-use Rattle.vx_xdr.specs.Spelling.{opaque, padding, pad_len}
+use Rattle.vx_codec.specs.Spelling.{opaque, padding, pad_len}
 
 -- at most 40 bytes and their zeros are no more than that
 padded-short : (n : ℕ) → n ≤ 40 → n + pad_len n ≤ 40

@@ -17,3 +17,4 @@ pub mod Ended
 pub mod Outcome
 pub mod Laws
 pub mod ProvedLaws
+pub use Rattle.vx_trace.specs.Output

@@ -5,3 +5,4 @@ pub mod Attaching
 pub mod Shown
 pub mod Laws
 pub mod ProvedLaws
+pub use Rattle.vx_bus_traits.specs.Means

@@ -2,7 +2,7 @@ use Rattle.std.proofs.Common.{◌≡◌, ◌<◌, ◌≤◌, ◌-◌, length, dr
 use Rattle.std.proofs.lemmas.List.{take_all}
 use Rattle.vx_lemmas.specs.Slices.{two-parts}
 use Rattle.vx_rpc.specs.Wording.{call_message}
-use Rattle.vx_xdr.specs.Spelling.{opaque}
+use Rattle.vx_codec.specs.Spelling.{opaque}
 use Rattle.vx_srq.specs.Shown.{handle_shown}
 use Rattle.vx_message.specs.Meaning.{intr_srq}
 use Rattle.vx_message.proofs.Recorded.{opaque-short}
