@@ -1,5 +1,5 @@
 -- What the commands that carry an address leave of the bus.
-use Rattle.std.proofs.Common.{◌≡◌, ℕ, ◌+◌, ◌-◌, ◌%◌, ◌≤◌, true, not, cond, eqb, ltb, leb, List, [], ◌∷◌, Option, Some, None, refl, ap, ◌∙◌, arith}
+use Rattle.std.proofs.Common.{◌≡◌, ℕ, ◌+◌, ◌-◌, ◌%◌, ◌≤◌, true, eqb, ltb, leb, List, [], ◌∷◌, Option, Some, None, refl, ap, ◌∙◌, arith}
 use Rattle.std.proofs.lemmas.Bool.{leb-true, le-leb, and_parts, and_from, cond-true, cond-false, lt-ltb, le-ltb, ne_eqb}
 use Rattle.vx_488.specs.declared.transfers.TheConstants.{ADDRESS_MAX}
 use Rattle.vx_488.specs.declared.commands.Command.TheVariants.{Listen, Talk, Secondary}
@@ -7,11 +7,11 @@ use Rattle.vx_488.specs.declared.transfers.Addr.{Addr}
 use Rattle.vx_488.specs.declared.wire.Pending.TheVariants as pending
 use Rattle.vx_488.specs.declared.wire.Wire.{Wire}
 use Rattle.vx_488.specs.Address.{primary, secondary, is_secondary, is_bus_address}
-use Rattle.vx_488.specs.Listening.{with_address, without_address}
-use Rattle.vx_488.specs.Flags.{same_address-refl}
+use Rattle.vx_488.specs.Listening.{with_address}
 use Rattle.vx_488.specs.Command.{command_of_code, command_of}
 use Rattle.vx_488.specs.Wire.{settled, on_command, wire_after}
 use Rattle.vx_488.specs.Laws.{listen_commands, talk_commands, ListenByteLaw, TalkByteLaw, SecondaryByteLaw, OneListenerLaw, TalkerLaw}
+use Rattle.vx_488.specs.ProvedLaws.{with_address-first, without_address-last}
 
 -- the codes of each group, less where the group begins
 listen_code : (c p : ℕ) → c ≡ 0x20 + p → p ≤ ADDRESS_MAX → command_of_code c ≡ Listen p
@@ -58,13 +58,6 @@ talking w p a = record w { talker = Some a; pending = pending.Talk p }
 -- both parts of a bus address are at most 30
 within-30 : (a : Addr) → is_bus_address a ≡ true → (a.p ≤ ADDRESS_MAX) × (is_secondary a.s ≡ true)
 within-30 a h = let both = and_parts (leb a.p ADDRESS_MAX) (is_secondary a.s) h in (leb-true a.p ADDRESS_MAX both.0, both.1)
-
--- a bus address put into no list, and its primary alone taken out again
-with_address-first : (a : Addr) → is_bus_address a ≡ true → with_address a [] ≡ a ∷ []
-with_address-first a h = cond-true (is_bus_address a) _ _ h
-
-without_address-last : (a : Addr) → without_address a (a ∷ []) ≡ []
-without_address-last a = ap (λ b. cond (not b) (a ∷ []) []) (same_address-refl a)
 
 is_bus_address-from : (p : ℕ) (s : Option ℕ) → p ≤ ADDRESS_MAX → is_secondary s ≡ true → is_bus_address (record { p = p; s = s }) ≡ true
 is_bus_address-from p s h in' = and_from (leb p ADDRESS_MAX) (is_secondary s) (le-leb p ADDRESS_MAX h) in'

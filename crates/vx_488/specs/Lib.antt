@@ -5,3 +5,4 @@ pub mod Command
 pub mod Wire
 pub mod Heard
 pub mod Laws
+pub mod ProvedLaws

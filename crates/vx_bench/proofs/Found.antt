@@ -6,6 +6,7 @@ use Rattle.std.proofs.lemmas.List.{map-append, take-map, drop-map}
 use Rattle.std.proofs.lemmas.List.Folds.{find_at}
 use Rattle.std.specs.List.{position_or_len}
 use Rattle.std.specs.Str.{bytes_eq}
+use Rattle.vx_lemmas.specs.Conditions.{unchosen}
 use Rattle.vx_inst.specs.View.{View}
 use Rattle.vx_rack.specs.declared.Spare.{Spare}
 use Rattle.vx_bench.specs.Rack.{SpareShown, spare_at, without_at, without_spare}
@@ -41,11 +42,6 @@ module _ {X Y : Type 0} (f : X → Y) (q : Y → Bool) where
       let next : suc i ≡ i + 1 = omega arith in
       map-append f (take i xs) (drop (suc i) xs) ∙ ap (λ (l : List Y). l ++ map f (drop (suc i) xs)) (sym (take-map f i xs))
       ∙ ap (λ (l : List Y). take i (map f xs) ++ l) (sym (drop-map f (suc i) xs) ∙ ap (λ (n : ℕ). drop n (map f xs)) next)
-
--- a choice that isn't there
-unchosen : (b : Bool) (n : ℕ) → cond b (Some n) None ≡ None → b ≡ false
-unchosen true n e = absurd (cc)
-unchosen false n e = refl
 
 module _ {X : Type 0} (p : X → Bool) where
   found : (xs : List X) (i : ℕ) (x : X) → Some i ≡ position p xs → x ≡ get_or xs i x → find p xs ≡ Some x

@@ -6,3 +6,4 @@ pub mod Tabling
 pub mod Attaches
 pub mod SettingUp
 pub mod LineSet
+pub mod ProvedLaws

@@ -1,3 +1,4 @@
 pub mod Means
 pub mod Steps
 pub mod Walks
+pub use Rattle.vx_io_traits.specs.Faults

@@ -1,10 +1,11 @@
 -- The tests of two errors and of two replies answer true exactly where they are one. A crate above calls reply_laws.
-use Rattle.std.proofs.Common.{◌≡◌, ℕ, Bool, true, false, ◌&&◌, List, refl, sym, ◌∙◌, ap}
+use Rattle.std.proofs.Common.{◌≡◌, ℕ, true, ◌&&◌, refl, sym, ◌∙◌, ap}
 use Rattle.std.specs.Prelude.{◌==◌, if◌then◌else◌}
-use Rattle.std.proofs.lemmas.Bool.{false≢true}
+use Rattle.std.proofs.lemmas.Bool.{false≢true, and_parts}
 use Rattle.std.specs.Str.{bytes_eq}
 use Rattle.std.proofs.lemmas.Bool.Decides.{Decides-eqb}
 use Rattle.std.proofs.lemmas.Slice.Eq.{bytes_eq-Decides}
+use Rattle.vx_lemmas.specs.Conditions.{eqb-self, self_bytes}
 use Rattle.vx_calls.specs.declared.codes.ErrorCode.{ErrorCode}
 use Rattle.vx_calls.specs.declared.codes.ErrorCode.TheVariants as code
 use Rattle.vx_calls.specs.ErrorCode.{error_number, same_error}
@@ -53,55 +54,44 @@ same_number a b e = sym (error_of-number a) ∙ ap error_of e ∙ error_of-numbe
 same : (m n : ℕ) → (m == n) ≡ true → m ≡ n
 same m n e = (Decides-eqb m n).0 e
 
-self : (n : ℕ) → (n == n) ≡ true
-self n = (Decides-eqb n n).1 refl
-
 -- no two errors are the same but those that are one
 pub same_error-is : (a b : ErrorCode) → same_error a b ≡ true → a ≡ b
 same_error-is a b e = same_number a b (same (error_number a) (error_number b) e)
 
 pub same_error-refl : (a : ErrorCode) → same_error a a ≡ true
-same_error-refl a = self (error_number a)
-
-both : (a b : Bool) → (a && b) ≡ true → (a ≡ true) × (b ≡ true)
-both true true e = (refl, refl)
-both true false e = absurd (false≢true e)
-both false b e = absurd (false≢true e)
-
-self_bytes : (xs : List ℕ) → bytes_eq xs xs ≡ true
-self_bytes xs = (bytes_eq-Decides xs xs).1 refl
+same_error-refl a = eqb-self (error_number a)
 
 -- no two replies are the same but those that are one
 pub same_reply-is : SameReplyIs
 same_reply-is Null Null e = refl
 same_reply-is (CreateLink e l p m) (CreateLink f k q n) h =
-    let h₁ = both (same_error e f && (l == k) && (p == q)) (m == n) h in
-    let h₂ = both (same_error e f && (l == k)) (p == q) h₁.0 in
-    let h₃ = both (same_error e f) (l == k) h₂.0 in
+    let h₁ = and_parts (same_error e f && (l == k) && (p == q)) (m == n) h in
+    let h₂ = and_parts (same_error e f && (l == k)) (p == q) h₁.0 in
+    let h₃ = and_parts (same_error e f) (l == k) h₂.0 in
     let error = same_error-is e f h₃.0 in
     let lid = same l k h₃.1 in
     let port = same p q h₂.1 in
     let max = same m n h₁.1 in
     cc
 same_reply-is (Write e n) (Write f m) h =
-    let parts = both (same_error e f) (n == m) h in
+    let parts = and_parts (same_error e f) (n == m) h in
     let error = same_error-is e f parts.0 in
     let size = same n m parts.1 in
     cc
 same_reply-is (Read e r bs) (Read f q cs) h =
-    let h₁ = both (same_error e f && (r == q)) (bytes_eq bs cs) h in
-    let h₂ = both (same_error e f) (r == q) h₁.0 in
+    let h₁ = and_parts (same_error e f && (r == q)) (bytes_eq bs cs) h in
+    let h₂ = and_parts (same_error e f) (r == q) h₁.0 in
     let error = same_error-is e f h₂.0 in
     let reason = same r q h₂.1 in
     let bytes = (bytes_eq-Decides bs cs).0 h₁.1 in
     cc
 same_reply-is (Stb e n) (Stb f m) h =
-    let parts = both (same_error e f) (n == m) h in
+    let parts = and_parts (same_error e f) (n == m) h in
     let error = same_error-is e f parts.0 in
     let stb = same n m parts.1 in
     cc
 same_reply-is (Docmd e bs) (Docmd f cs) h =
-    let parts = both (same_error e f) (bytes_eq bs cs) h in
+    let parts = and_parts (same_error e f) (bytes_eq bs cs) h in
     let error = same_error-is e f parts.0 in
     let bytes = (bytes_eq-Decides bs cs).0 parts.1 in
     cc
@@ -110,9 +100,9 @@ same_reply-is _ _ h = absurd (false≢true h)
 
 pub same_reply-refl : SameReplyRefl
 same_reply-refl Null = refl
-same_reply-refl (CreateLink e l p m) = rw (same_error-refl e, self l, self p, self m) refl
-same_reply-refl (Write e n) = rw (same_error-refl e, self n) refl
-same_reply-refl (Read e r bs) = rw (same_error-refl e, self r, self_bytes bs) refl
-same_reply-refl (Stb e n) = rw (same_error-refl e, self n) refl
+same_reply-refl (CreateLink e l p m) = rw (same_error-refl e, eqb-self l, eqb-self p, eqb-self m) refl
+same_reply-refl (Write e n) = rw (same_error-refl e, eqb-self n) refl
+same_reply-refl (Read e r bs) = rw (same_error-refl e, eqb-self r, self_bytes bs) refl
+same_reply-refl (Stb e n) = rw (same_error-refl e, eqb-self n) refl
 same_reply-refl (Docmd e bs) = rw (same_error-refl e, self_bytes bs) refl
 same_reply-refl (Error e) = same_error-refl e

@@ -7,6 +7,7 @@ use Rattle.std.proofs.lemmas.List.Splits.{slice_split_first}
 use Rattle.std.proofs.lemmas.Bool.Decides.{nat_tests, Decides-eqb}
 use Rattle.vx_calls.specs.Target.{is_digit, is_number, comma_parts, is_name, lower, is_gateway, target_of_parts}
 use Rattle.std.specs.Option.{option_map_or, option_to_list}
+use Rattle.std.proofs.Math.Bool.{and-false}
 
 abbrev pub is_comma : ℕ → Bool
 is_comma c = c == 44
@@ -90,10 +91,6 @@ data Parted (s : List ℕ) : Type 0 where
 parted-comma : (c : ℕ) (cs : List ℕ) → c ≡ 44 → Parted cs → Parted (c ∷ cs)
 parted-comma c cs e (single whole) = more [] cs [] (rw (e, whole) refl) (rw e refl)
 parted-comma c cs e (more q r rs parts none) = more [] q (r ∷ rs) (rw (e, parts) refl) (rw e refl)
-
-and-false : (a : Bool) → (a && false) ≡ false
-and-false true = refl
-and-false false = refl
 
 parted-letter : (c : ℕ) (cs : List ℕ) → (c == 44) ≡ false → Parted cs → Parted (c ∷ cs)
 parted-letter c cs e (single whole) = single (rw (e, whole) refl)

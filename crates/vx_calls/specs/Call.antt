@@ -1,5 +1,5 @@
 -- A call as plain data: what a `CallRef` shows.
-use Rattle.std.specs.Prelude.{ℕ, ℤ, Bool, List}
+use Rattle.std.specs.Prelude.{ℕ, ℤ, Bool, List, []}
 use Rattle.vx_calls.specs.declared.calls.Generic.{Generic}
 use Rattle.vx_calls.specs.declared.calls.CallRef.{CallRef}
 use Rattle.vx_calls.specs.declared.calls.CallRef.TheVariants as seen
@@ -43,3 +43,10 @@ call_shown (seen.DestroyLink lid) = DestroyLink lid
 call_shown (seen.CreateIntr host port prog vers family) = CreateIntr host port prog vers family
 call_shown seen.DestroyIntr = DestroyIntr
 call_shown (seen.DeviceAbort lid) = DeviceAbort lid
+
+-- the device text or the data of a call
+abbrev pub text_of : Call → List ℕ
+text_of (CreateLink client lock lock_timeout device) = device
+text_of (Write lid io_timeout lock_timeout flags bytes) = bytes
+text_of (Docmd lid flags io_timeout lock_timeout cmd big size bytes) = bytes
+text_of _ = []

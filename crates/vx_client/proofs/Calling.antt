@@ -1,7 +1,8 @@
 -- What an exchange says of a call of a client.
-use Rattle.std.proofs.Common.{◌≡◌, ℕ, ◌≤◌, ◌+◌, true, false, List, [], ◌++◌, Option, Some, None, length, Result, Ok, Err, is_err, refl, ap, sym, subst, ◌∙◌, append-nil}
-use Rattle.std.specs.Io.KnownBytes.{Consumes, Keeps}
+use Rattle.std.proofs.Common.{◌≡◌, ℕ, ◌≤◌, ◌+◌, true, false, List, [], ◌++◌, Option, length, Result, Ok, Err, is_err, refl, ap, sym, subst, ◌∙◌, append-nil}
+use Rattle.std.specs.Io.KnownBytes.{Keeps}
 use Rattle.std.proofs.KnownBytes.{Consumes-trans}
+use Rattle.vx_lemmas.specs.Options.{keeps-consumes}
 use Rattle.vx_io_traits.specs.Stands.{Goes, Goes-goes}
 use Rattle.vx_calls.specs.declared.limits.TheConstants.{REPLY_MAX}
 use Rattle.vx_calls.specs.Call.{Call}
@@ -191,11 +192,6 @@ pub sent-ok : {L E : Type 0} (stands : L → List ℕ → List ℕ → Type 0) (
 sent-ok stands sends old new text (Ok done) h sent = sent
 sent-ok stands sends old new text (Err failed) h sent = absurd (cc)
 
-consumes-none : (a b : Option (List ℕ)) → Keeps a b → Consumes a b []
-consumes-none None b h = tt
-consumes-none (Some xs) None h = absurd h
-consumes-none (Some xs) (Some ys) h = sym h
-
 -- sending a text and then receiving bytes moves both
 pub swaps-of : {L : Type 0} (stands : L → List ℕ → List ℕ → Type 0) (left : L → Option (List ℕ)) (old mid new : L) (kept text sent got : List ℕ)
     (Came : List ℕ → List ℕ → Type 0) → sent ≡ text → Goes stands old mid sent [] → Keeps (left old) (left mid) → Gave stands left mid new got → Came (kept ++ got) got
@@ -204,7 +200,7 @@ swaps-of stands left old mid new kept text sent got Came sent_is goes keeps gave
   got = got;
   moved = record {
     goes = subst (λ xs. Goes stands old new xs got) (append-nil sent ∙ sent_is) (Goes-goes stands old mid new sent [] [] got goes gave.goes);
-    given = Consumes-trans (left old) (left mid) (left new) [] got (consumes-none (left old) (left mid) keeps) gave.given;
+    given = Consumes-trans (left old) (left mid) (left new) [] got (keeps-consumes (left old) (left mid) keeps) gave.given;
   };
   came = came;
 }

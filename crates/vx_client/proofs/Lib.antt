@@ -5,7 +5,6 @@ pub mod Meanings
 pub mod Calling
 pub mod Chunks
 pub mod Parts
-pub mod Printing
 pub mod Ports
 pub mod Fitting
 pub mod Commands

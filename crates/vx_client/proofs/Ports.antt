@@ -1,27 +1,14 @@
 -- Ports that are read.
 use Rattle.std.proofs.Common.{◌≡◌, ℕ, ◌^◌, ◌<◌, true, List, [], ◌∷◌, length, Some, Result, Ok, Err, refl, ap, arith, inl, inr}
-use Rattle.std.specs.Prelude.{not, ◌==◌, nat_le}
+use Rattle.std.specs.Prelude.{not, ◌==◌}
 use Rattle.std.specs.List.{list_all}
 use Rattle.std.specs.Result.{result_ok, OkIff}
 use Rattle.std.specs.Str.Parse.{digits_value, ParsesUnsigned}
-use Rattle.std.proofs.lemmas.Bool.{and_parts, and_from, leb-true, le-leb, lt-leb, cases_lt}
-use Rattle.std.proofs.lemmas.Str.Parse.{IsNumeralModel, IsDigitsTest, numerals_by_value, parse_digits}
+use Rattle.std.proofs.lemmas.Bool.{and_parts, le-leb, lt-leb, cases_lt}
+use Rattle.std.proofs.lemmas.Str.Parse.{parse_digits}
+use Rattle.vx_lemmas.specs.Decimal.{own}
 use Rattle.vx_calls.specs.Target.{is_digit}
 use Rattle.vx_client.specs.Asked.{is_positive, port_of}
-
-tells : IsDigitsTest (λ ds. list_all is_digit ds ≡ true)
-tells = record {
-  empty = refl;
-  parts = λ c cs h.
-      let both = and_parts (is_digit c) (list_all is_digit cs) h in
-      let range = and_parts (nat_le 48 c) (nat_le c 57) both.0 in
-      ((leb-true 48 c range.0, leb-true c 57 range.1), both.1);
-  more = λ c cs h rest. and_from (is_digit c) (list_all is_digit cs) (and_from (nat_le 48 c) (nat_le c 57) (le-leb 48 c h.0) (le-leb c 57 h.1)) rest;
-}
-
--- the digits of a text are those that `parse` reads
-own : IsNumeralModel (λ ds. list_all is_digit ds ≡ true) (digits_value 10)
-own = numerals_by_value (λ ds. list_all is_digit ds ≡ true) tells
 
 -- digits, at least one
 record Digits (text : List ℕ) : Type 0 where

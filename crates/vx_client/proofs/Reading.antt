@@ -7,10 +7,11 @@ use Rattle.vx_calls.specs.declared.limits.TheConstants.{REPLY_MAX}
 use Rattle.vx_io_traits.specs.Faults.{Rose}
 use Rattle.vx_io_traits.specs.Stands.{Goes-none, Goes-goes, Goes-stays}
 use Rattle.vx_record.specs.Buffer.{BufState, fresh, step, fed, taken}
-use Rattle.vx_record.specs.Records.{Split, records}
-use Rattle.vx_record.specs.Ends.{is_settled, is_settled_by, IsEnd, FeedEnds}
+use Rattle.vx_record.specs.Records.{records}
+use Rattle.vx_record.specs.Ends.{is_settled, IsEnd, FeedEnds}
 use Rattle.vx_record.specs.declared.Feed.{Feed}
 use Rattle.vx_record.specs.declared.Feed.TheVariants.{More, Whole, TooLong}
+use Rattle.vx_record.specs.ProvedLaws.{settled-none}
 use Rattle.vx_record.proofs.Ends.{feed-ends, fed-append}
 use Rattle.vx_record.proofs.Feeding.{fed-stopped, taken-stopped, taken-more}
 use Rattle.vx_client.specs.Stream.{by_header, by_length, IsOpen}
@@ -151,10 +152,6 @@ last_none-at TooLong kept h = refl
 pub last-none : (b : BufState) (f : Feed) → b.state ≡ f → IsUnfinished f → last_of b ≡ []
 last-none b f e h = ap (λ k. last_at k b.kept) e ∙ last_none-at f b.kept h
 
--- no record and none too long is nothing settled
-pub unsettled_at : (split : Split) → split.records ≡ [] → split.too_long ≡ false → is_settled split ≡ false
-unsettled_at split none short = ap (λ rs. is_settled_by rs split.too_long) none ∙ short
-
 -- a front of a front
 take-min : (m n : ℕ) (xs : List ℕ) → take m (take n xs) ≡ take (min m n) xs
 take-min m n [] = grind (arith, common_steps)
@@ -215,7 +212,7 @@ read-fed stands left receives sends first now before s t room n so_far on more =
       stream = so_far.stream ∙ fed_cut so_far.used s t room n on;
       held = behind.held;
       more = more;
-      unsettled = unsettled_at (records REPLY_MAX (so_far.used ++ part)) ended.0 ended.1;
+      unsettled = settled-none (records REPLY_MAX (so_far.used ++ part)) ended.0 ended.1;
       count = omega arith;
       counted = so_far.counted;
       apart = so_far.apart;

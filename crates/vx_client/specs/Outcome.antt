@@ -7,10 +7,12 @@ use Rattle.vx_io_traits.specs.Rung.{OnDialFailed}
 use Rattle.vx_io_traits.specs.Reached.{AnswersAt}
 use Rattle.vx_io_traits.specs.declared.dials.DialOut.{DialOut}
 use Rattle.vx_io_traits.specs.declared.dials.DialOut.TheVariants.{Up, Failed}
+use Rattle.vx_text.specs.Ends.{End}
+use Rattle.vx_text.specs.Writing.{StopsIn}
 use Rattle.vx_client.specs.State.{ClientState}
 use Rattle.vx_client.specs.Asked.{Ask, ask_of}
 use Rattle.vx_client.specs.Gaining.{Gain, Asks, IsError}
-use Rattle.vx_client.specs.Due.{End, FailsIn, line_due, usage_line, unreachable_line}
+use Rattle.vx_client.specs.Due.{line_due, usage_line, unreachable_line}
 use Rattle.vx_client.specs.declared.answers.ClientErr.{ClientErr}
 use Rattle.vx_client.specs.declared.answers.ClientErr.TheVariants as err
 use Rattle.vx_client.specs.declared.run.Status.{Status}
@@ -29,7 +31,7 @@ status_number status.SinkFailed = 6
 -- a line was written by a call that ends so, or the sink failed in it
 abbrev pub PutsLine : Status → List ℕ → End → End → Status → Type 0
 PutsLine how line before after result =
-    ((result ≡ how) × Appends before.bytes after.bytes line) ⊎ ((result ≡ status.SinkFailed) × FailsIn before after line)
+    ((result ≡ how) × Appends before.bytes after.bytes line) ⊎ ((result ≡ status.SinkFailed) × StopsIn before after line)
 
 -- a client over a link that has made no call
 abbrev pub new_client : {L : Type 0} → L → ClientState L
@@ -64,7 +66,7 @@ pub record TellsFront {L : Type 0} (stands : L → List ℕ → List ℕ → Typ
     (ask : Ask) (old new : ClientState L) (before after : End) : Type 0 where
   pub result : Result Gain ClientErr
   pub asked : Asks stands left receives sends old new ask.device ask.command result
-  pub fails : FailsIn before after (line_due result)
+  pub fails : StopsIn before after (line_due result)
 
 -- how a call ends once there is a client
 abbrev pub IsOver : {L : Type 0} → (L → List ℕ → List ℕ → Type 0) → (L → Option (List ℕ)) → (L → ℕ) → (L → ℕ)
@@ -149,8 +151,8 @@ IsRun r words old new before after status.Usage = (ask_of words ≡ None) × (ne
 IsRun r words old new before after status.Unreachable = Misses r words old new × Appends before.bytes after.bytes unreachable_line
 -- the sink failed in either line, or in that of what the command came to
 IsRun r words old new before after status.SinkFailed =
-    ((ask_of words ≡ None) × (new ≡ old) × FailsIn before after usage_line)
-    ⊎ (Misses r words old new × FailsIn before after unreachable_line)
+    ((ask_of words ≡ None) × (new ≡ old) × StopsIn before after usage_line)
+    ⊎ (Misses r words old new × StopsIn before after unreachable_line)
     ⊎ Reaches r words old new before after status.SinkFailed
 -- there was no memory for a client, or for its calls: nothing was sent, and nothing written
 IsRun r words old new before after status.NoMemory =

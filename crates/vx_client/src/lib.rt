@@ -16,7 +16,6 @@ mod gains;
 mod inbox;
 mod lines;
 mod outbox;
-mod output;
 mod run;
 mod settling;
 mod words;

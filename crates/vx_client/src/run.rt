@@ -3,18 +3,17 @@
 ghost use Rattle.std.specs.Prelude.{◌≡◌, ◌≤◌, ◌++◌, length, map, string_bytes, is_some, IsSome, IfOk};
 ghost use Rattle.vx_client.specs.Asked.{command_shown, ask_shown, ask_of, line_sent};
 ghost use Rattle.vx_client.specs.Gaining.{IsAnswer};
-ghost use Rattle.vx_client.specs.Due.{IsPut};
 ghost use Rattle.vx_client.specs.Outcome.{IsUncalled, IsOver, IsServed, IsAskRun, IsRun, EndsOver, EndsRun, PutsLine, result_status, status_number};
 
 use crate::answers::ClientErr;
 use crate::client::Client;
 use crate::gains::{GAIN_MAX, Gained, make_calls};
 use crate::lines::{LINE_ROOM, line_of};
-use crate::output::put_all;
 use crate::words::{Ask, Command, ask_of};
 use std::alloc::{AllocError, Global};
 use vx_calls::DEVICE_MAX;
 use vx_io_traits::{DialOut, Link, Reach, Sink};
+use vx_text::put_all;
 
 /// How a call ended, as the program's exit status tells it.
 #[derive(Clone, Copy)]

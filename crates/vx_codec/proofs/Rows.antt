@@ -5,6 +5,7 @@ use Rattle.std.specs.Option.{option_map, option_and_then}
 use Rattle.std.specs.Result.{result_ok}
 use Rattle.std.proofs.lemmas.List.{append_cancel_right, length-append}
 use Rattle.std.proofs.lemmas.Option.{same_Some}
+use Rattle.vx_lemmas.specs.Options.{gone_on, mapped}
 use Rattle.vx_xdr.specs.declared.fault.XdrErr.{XdrErr}
 use Rattle.vx_xdr.specs.Spelling.{Kind, Word, Value, AreBytes, Spells, spelling, word}
 use Rattle.vx_xdr.specs.Reading.{reading, word_at}
@@ -83,23 +84,15 @@ pub record TakesRow (row : List FieldKind) (values : Contents row) (bytes rest :
   pub parts : bytes ≡ front ++ rest
   pub rest_fits : AreBytes rest
 
-and_then-from : {X Y : Type 0} (f : X → Option Y) (o : Option X) (y : Y) → option_and_then f o ≡ Some y → (x : X) × (o ≡ Some x) × (f x ≡ Some y)
-and_then-from f (Some x) y e = (x, refl, e)
-and_then-from f None y e = absurd cc
-
-pub map-from : {X Y : Type 0} (f : X → Y) (o : Option X) (y : Y) → option_map f o ≡ Some y → (x : X) × (o ≡ Some x) × (f x ≡ y)
-map-from f (Some x) y e = (x, refl, same_Some (f x) y e)
-map-from f None y e = absurd cc
-
 pub row-takes : (row : List FieldKind) (values : Contents row) (bytes rest : List ℕ) → AreBytes bytes → row_at row bytes ≡ Some (values, rest) → TakesRow row values bytes rest
 row-takes [] values bytes rest h e =
     let same : bytes ≡ rest = ap (λ (p : Unit {0} × List ℕ). p.1) (same_Some (tt, bytes) (values, rest) e) in
     record { front = []; spells = refl; parts = same; rest_fits = subst AreBytes same h }
 row-takes (field ∷ row) values bytes rest h e =
     let join : Content field × List ℕ → Option (Contents (field ∷ row) × List ℕ) = λ f. option_map (λ o. ((f.0, o.0), o.1)) (row_at row f.1) in
-    let first = and_then-from join (field_at field bytes) (values, rest) e in
+    let first = gone_on join (field_at field bytes) (values, rest) e in
     let x = first.0 in
-    let second = map-from (λ (o : Contents row × List ℕ). ((x.0, o.0), o.1)) (row_at row x.1) (values, rest) first.2 in
+    let second = mapped (λ (o : Contents row × List ℕ). ((x.0, o.0), o.1)) (row_at row x.1) (values, rest) first.2 in
     let o = second.0 in
     let t = field-takes field x.0 bytes x.1 h first.1 in
     let u = row-takes row o.0 x.1 o.1 t.rest_fits second.1 in
@@ -132,7 +125,7 @@ pub whole-takes : {X : Type 0} (row : List FieldKind) (view : Contents row → X
 whole-takes {X} row view x bytes h e =
     let seen : Contents row × List ℕ → X × List ℕ = λ found. (view found.0, found.1) in
     let all = whole-from (option_map seen (row_at row bytes)) x e in
-    let from = map-from seen (row_at row bytes) (x, []) all in
+    let from = mapped seen (row_at row bytes) (x, []) all in
     let t = row-takes row from.0.0 bytes from.0.1 h from.1 in
     let end : from.0.1 ≡ [] = ap (λ (p : X × List ℕ). p.1) from.2 in
     let same : t.front ≡ bytes = sym (t.parts ∙ ap (λ (z : List ℕ). t.front ++ z) end ∙ append-nil t.front) in

@@ -6,10 +6,9 @@ use Rattle.std.proofs.lemmas.Bool.{cond-true, le-leb, and_from, cases_Bool, eq-e
 use Rattle.std.proofs.lemmas.List.Elements.{All-nil}
 use Rattle.std.proofs.lemmas.Option.{none-some}
 use Rattle.std.proofs.lemmas.Map.Made.{IsDistinct-from_AllPairs}
-use Rattle.std.proofs.lemmas.Slice.Eq.{bytes_eq-Decides}
 use Rattle.std.proofs.lemmas.Bool.Decides.{Decides-eqb}
 use Rattle.std.specs.List.{IsDistinct}
-use Rattle.std.specs.Str.{bytes_eq}
+use Rattle.vx_lemmas.specs.Conditions.{eqb-self, self_bytes}
 use Rattle.vx_calls.specs.declared.calls.Role.{Role}
 use Rattle.vx_calls.specs.declared.calls.Role.TheVariants as role
 use Rattle.vx_calls.specs.declared.codes.ErrorCode.{ErrorCode}
@@ -144,19 +143,11 @@ samples means k bus now srq keeps cut =
     calm means k bus (record k.tables { desk = sampled k.tables.desk srq }) m (Sample m srq) (entry.Sample m srq) refl (λ turn. refl) refl keeps (cut-wire means k bus cut)
     (cond-true (nat_le k.moment m) _ _ (late k.moment now))
 
--- an interrupt call is taken
-self : (n : ℕ) → (n == n) ≡ true
-self n = eq-eqb n n refl
-
--- so do bytes and themselves
-self_bytes : (bs : List ℕ) → bytes_eq bs bs ≡ true
-self_bytes bs = (bytes_eq-Decides bs bs).1 refl
-
--- so do an interrupt call and itself
+-- an interrupt call is the same as itself
 same_srq-refl : (a : Srq) → same_srq a a ≡ true
-same_srq-refl a = rw (self a.xid, self a.program, self a.version, self_bytes a.handle) refl
+same_srq-refl a = rw (eqb-self a.xid, eqb-self a.program, eqb-self a.version, self_bytes a.handle) refl
 
--- and so do what is given and itself
+-- so is what is given
 same_given-refl : (a : Given) → same_given a a ≡ true
 same_given-refl (Front a) = same_srq-refl a
 same_given-refl Empty = refl

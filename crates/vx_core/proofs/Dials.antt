@@ -2,12 +2,15 @@
 use Rattle.std.proofs.Common.{◌≡◌, ◌≢◌, ◌≤◌, ◌<◌, ◌+◌, ◌==◌, ℕ, Bool, true, false, cond, not, ◌&&◌, ◌||◌, List, [], ◌∷◌, ◌++◌, map, length, count_by, ◌⊎◌, inl, inr, Option, Some, None, is_some, Result, Ok, Err, refl, sym, ap, subst, ◌∙◌, arith}
 use Rattle.std.specs.Prelude.{is_none, nat_le, option_and_then}
 use Rattle.std.specs.Option.{option_map}
-use Rattle.std.specs.List.{find, filter, list_any}
-use Rattle.std.proofs.lemmas.Bool.{false≢true, and_parts, eqb-true, eq-eqb, ne_eqb, ltb-true}
+use Rattle.std.specs.List.{filter, list_any}
+use Rattle.std.proofs.lemmas.Bool.{false≢true, and_parts, eqb-true, ne_eqb, ltb-true}
 use Rattle.std.proofs.lemmas.Option.{cond_some, none-some}
 use Rattle.std.proofs.lemmas.List.Elements.{All-weaker}
 use Rattle.std.proofs.lemmas.List.Filters.{length-filter_both, sum_by-filter_both}
 use Rattle.std.proofs.lemmas.List.Sums.{sum_by-cons, sum_by_push}
+use Rattle.vx_lemmas.specs.Conditions.{chosen, other-number}
+use Rattle.vx_lemmas.specs.Options.{mapped, gone_on}
+use Rattle.vx_lemmas.specs.Lists.{found_passes}
 use Rattle.vx_calls.specs.declared.calls.Role.{Role}
 use Rattle.vx_calls.specs.declared.calls.Role.TheVariants as role
 use Rattle.vx_calls.specs.declared.codes.ErrorCode.{ErrorCode}
@@ -21,9 +24,10 @@ use Rattle.vx_calls.specs.Reply.{Reply, same_reply}
 use Rattle.vx_488.specs.declared.transfers.Transfer.{Transfer}
 use Rattle.vx_488.specs.declared.wire.Wire.{Wire}
 use Rattle.vx_488.specs.Wire.{wire_after}
-use Rattle.vx_links.specs.Table.{Link, is_live}
-use Rattle.vx_locks.specs.Locks.{holds, with_lock}
+use Rattle.vx_rules.specs.Table.{Link, is_live}
+use Rattle.vx_rules.specs.Locks.{holds, with_lock}
 use Rattle.vx_srq.specs.Desk.{Desk, Port, Channel, Given, port_at, channel_at, port_with, with_channel, without_port, queued_on, handles_of, risen_port, is_rise, sampled, given, taken_from, taken}
+use Rattle.vx_srq.specs.ProvedLaws.{port_with-stays, sampled-next}
 use Rattle.vx_rules.specs.State.{Pending, Connection, Tables, State, same_role, connection_at, pending_at, lives_as, is_idle, count_of, has_room, with_pending, with_connection, without_connection}
 use Rattle.vx_rules.specs.Lists.{update_first}
 use Rattle.vx_rules.specs.Calls.{link_named, is_bus_call, asks_dial}
@@ -33,11 +37,12 @@ use Rattle.vx_rules.specs.Effects.{task_of, stopped_reply, create, locked, effec
 use Rattle.vx_rules.specs.Decide.{Outside, is_quiet, bus_answer, dialed_answer, by_lines, settles, decide}
 use Rattle.vx_rules.specs.Entry as entry
 use Rattle.vx_rules.specs.One.{one, may_wait, arrived, answered, answer_to, answer, if_reply, names, mark_call, mark_on, marked, abort_reply, abort_tables, same_given}
+use Rattle.vx_rules.specs.ProvedLaws.{up-next, pending-same}
 use Rattle.vx_rules.proofs.Finds.{All-kept}
 use Rattle.vx_flow.specs.Event.{Event, Up, Down, Arrive, Answer, Abort, Sample, Take, Begin, Move, Dial}
 use Rattle.vx_flow.specs.FineState.{FineState}
 use Rattle.vx_flow.specs.Fine.{comes_in_turn, wire_for, outside, passes_lines, is_answered, may_begin, may_dial, may_move, fine_after, as_one, without_dial, answered_fine, fine_answer, fine_step, fine}
-use Rattle.vx_flow.proofs.Lookups.{find-map, found_passes, mapped, gone_on, chosen}
+use Rattle.vx_flow.proofs.Lookups.{find-map}
 use Rattle.vx_flow.proofs.Rows.{pending-other, pending-up, pending-others, pending-marked}
 use Rattle.vx_flow.proofs.Changes.{decide-found, found-connections}
 use Rattle.vx_flow.proofs.Interrupts.{channel_of, channel-risen, channel-up, channel-down, channel-taken}
@@ -70,15 +75,10 @@ free-up : (t : Tables) (r : Role) (n : ℕ) → channel_at t.desk n ≡ None →
 free-up t role.Core n h = channel-up t.desk t.next_connection n ∙ h
 free-up t role.Abort n h = h
 
--- it takes no channel number
-next-up : (t : Tables) (r : Role) → (with_connection t r).desk.next_channel ≡ t.desk.next_channel
-next-up t role.Core = refl
-next-up t role.Abort = refl
-
 -- the dials behind it
 up-dials : (t : Tables) (r : Role) (dialed : List ℕ) → KeepsDials t dialed → KeepsDials (with_connection t r) dialed
 up-dials t r dialed k =
-    kept-dials t (with_connection t r) dialed (λ n d. still-dialed t (with_connection t r) n (pending-up t r n) (free-up t r n) d) (next-up t r) k
+    kept-dials t (with_connection t r) dialed (λ n d. still-dialed t (with_connection t r) n (pending-up t r n) (free-up t r n) d) (up-next t r) k
 
 -- a call that comes on a connection without one
 idle-other : (t : Tables) (conn n : ℕ) → pending_at t conn ≡ None → IsDialed t n → conn ≢ n
@@ -122,18 +122,11 @@ free-sampled d level n h = by (is_rise d.level level) where
   by true = channel-risen d level n ∙ ap (option_and_then (queued_on (handles_of d.enables n))) h
   by false = h
 
--- and takes no channel number
-next-sampled : (d : Desk) (level : Bool) → (sampled d level).next_channel ≡ d.next_channel
-next-sampled d level = by (is_rise d.level level) where
-  by : (b : Bool) → (cond b (record d { ports = map (risen_port d.enables) d.ports; level = level }) (record d { level = level })).next_channel ≡ d.next_channel
-  by true = refl
-  by false = refl
-
 -- the dials behind it
 sample-dials : (t : Tables) (level : Bool) (dialed : List ℕ) → KeepsDials t dialed → KeepsDials (record t { desk = sampled t.desk level }) dialed
 sample-dials t level dialed k =
     kept-dials t (record t { desk = sampled t.desk level }) dialed
-    (λ n d. still-dialed t (record t { desk = sampled t.desk level }) n refl (free-sampled t.desk level n) d) (next-sampled t.desk level) k
+    (λ n d. still-dialed t (record t { desk = sampled t.desk level }) n refl (free-sampled t.desk level n) d) (sampled-next t.desk level) k
 
 -- and so does a take
 free-taken : (d : Desk) (conn number n : ℕ) → channel_at d n ≡ None → channel_at (taken d conn number) n ≡ None
@@ -152,11 +145,7 @@ take-dials t conn number dialed k =
 
 -- ---- the dial of a call that is over
 
--- a connection whose dial isn't taken away is another one
-other-number : (n conn : ℕ) → not (n == conn) ≡ true → conn ≢ n
-other-number n conn h e = false≢true (sym (ap not (eq-eqb n conn (sym e))) ∙ h)
-
--- where it is taken away, no more are left
+-- where a dial is taken away, no more are left
 fewer-left : (dialed : List ℕ) (conn : ℕ) → length (without_dial dialed conn) ≤ length dialed
 fewer-left dialed conn = omega (arith, length-filter_both (λ n. not (n == conn)) (λ n. not (not (n == conn))) (λ n. refl) dialed)
 
@@ -203,11 +192,7 @@ down-dials t conn dialed k = record {
   numbers = omega (arith, fewer-left dialed conn, k.numbers);
 }
 
--- a call that is answered
-pending-same : (t u : Tables) (n : ℕ) → u.connections ≡ t.connections → pending_at u n ≡ pending_at t n
-pending-same t u n h = ap (λ cs. option_and_then (λ (c : Connection). c.pending) (find (λ c. c.number == n) cs)) h
-
--- the dials behind it, where a channel number that it gives was left
+-- the dials behind a call that is answered, where a channel number that it gives was left
 answered-dials : (t u : Tables) (conn given : ℕ) (dialed : List ℕ) → u.connections ≡ t.connections → LeavesChannels t u conn given
     → length (without_dial dialed conn) + given ≤ length dialed → KeepsDials t dialed → KeepsDials (with_pending u conn None) (without_dial dialed conn)
 answered-dials t u conn given dialed same leaves left k = record {
@@ -222,16 +207,9 @@ answered-dials t u conn given dialed same leaves left k = record {
 -- ---- what an answer leaves of the channels of others
 
 -- another connection's channel stays where one is put or closed
-put-port : (conn : ℕ) (channel : Option Channel) (p : Port) → (port_with conn channel p).connection ≡ p.connection
-put-port conn channel p = by (p.connection == conn) where
-  by : (b : Bool) → (cond b (record p { channel = channel }) p).connection ≡ p.connection
-  by true = refl
-  by false = refl
-
--- so that of another connection is as it was
 channel-other : (d : Desk) (conn n : ℕ) (channel : Option Channel) → conn ≢ n → channel_at (with_channel d conn channel) n ≡ channel_at d n
 channel-other d conn n channel ne =
-    ap channel_of (find-map (λ p. p.connection == n) (port_with conn channel) (λ p. ap (λ m. m == n) (put-port conn channel p)) d.ports)
+    ap channel_of (find-map (λ p. p.connection == n) (port_with conn channel) (λ p. ap (λ m. m == n) (port_with-stays conn channel p)) d.ports)
     ∙ by (port_at d n) refl
   where
     by : (o : Option Port) → port_at d n ≡ o → channel_of (option_map (port_with conn channel) o) ≡ channel_of o

@@ -2,8 +2,9 @@
 use Rattle.std.proofs.Common.{◌≡◌, ◌≤◌, ◌==◌, ℕ, Bool, true, false, cond, ◌⊎◌, inl, inr, List, [], ◌∷◌, ◌++◌, map, append-nil, Option, Some, None, refl, sym, ap, ◌∙◌, subst}
 use Rattle.std.specs.Prelude.{if◌then◌else◌, nat_le, is_none, is_some, ◌&&◌}
 use Rattle.std.specs.Option.{option_map, option_and_then}
-use Rattle.std.proofs.lemmas.Bool.{and_parts, cond-true, eq-eqb, true≢false}
+use Rattle.std.proofs.lemmas.Bool.{and_parts, cond-true, true≢false}
 use Rattle.std.proofs.lemmas.Option.{same_Some}
+use Rattle.vx_lemmas.specs.Conditions.{chosen, eqb-self}
 use Rattle.vx_calls.specs.declared.limits.TheConstants.{READ_MAX}
 use Rattle.vx_calls.specs.Reply.{Reply}
 use Rattle.vx_488.specs.declared.transfers.Transfer.{Transfer}
@@ -20,10 +21,11 @@ use Rattle.vx_rules.specs.One.{answer, answered, answer_to, if_reply}
 use Rattle.vx_calls.specs.Reply.{same_reply}
 use Rattle.vx_flow.specs.Event.{Event, Answer, Begin, Move}
 use Rattle.vx_flow.specs.FineState.{Turn, FineState, turn_of, turn_after}
-use Rattle.vx_flow.specs.Fine.{fine, fine_step, comes_in_turn, may_begin, may_move, is_passed, job_of, wire_for, wire_before, outside, answered_fine, is_answered, without_dial}
+use Rattle.vx_flow.specs.Fine.{fine, may_begin, may_move, is_passed, job_of, wire_for, wire_before, outside, answered_fine, is_answered, without_dial}
 use Rattle.vx_flow.specs.Sound.{IsSound}
 use Rattle.vx_flow.specs.Poll.{Why, Ran, Still, Ending, Answered, Waited, Dialed, Polls, begins, begun_events, moved_events, run_events, at_moment, is_broken, RanTo, runs, ran_of}
 use Rattle.vx_flow.specs.Ways.{turn_left_by, over, moved_on, begun_now}
+use Rattle.vx_flow.specs.ProvedLaws.{step-made}
 use Rattle.vx_flow.proofs.Gathering.{stays_sound-law}
 use Rattle.vx_kernel.specs.declared.running.Running.{Running}
 use Rattle.vx_kernel.specs.declared.ended.Ended.{Ended}
@@ -33,18 +35,6 @@ use Rattle.vx_kernel.specs.Ending.{ended_shown, ended_len}
 use Rattle.vx_kernel.specs.Keeping.{KeepsDials, Holds, Keeps}
 use Rattle.vx_kernel.specs.Polling.{wanted, refused_ask, asks, PollsOver, EndsFrom}
 use Rattle.vx_core.proofs.Keeping.{LeavesTurn, keeps-after}
-
--- what a test chose, where it chose anything
-pub chosen : {A : Type 0} (b : Bool) (o : Option A) (x : A) → cond b o None ≡ Some x → (b ≡ true) × (o ≡ Some x)
-chosen true o x h = (refl, h)
-chosen false o x h = cc
-
-eqb-self : (n : ℕ) → (n == n) ≡ true
-eqb-self n = eq-eqb n n refl
-
--- an event that is allowed comes in turn, and then its own test passes
-pub stepped : (f g : FineState) (e : Event) → fine f e ≡ Some g → fine_step f e ≡ Some g
-stepped f g e h = (chosen (comes_in_turn f e f.turn) (fine_step f e) g h).1
 
 -- ---- the state behind a poll's transfers
 
@@ -67,7 +57,7 @@ behind-own f b conn now u moves turn h = by moves (sym (ap (λ es. along fine (S
         before = wire_before (turn_after now (Move conn (t ∷ ts))) (wire_after f.state.wire (t ∷ ts)) f.before;
         dialed = f.dialed;
       } in
-      let parts = chosen (may_move f conn (t ∷ ts) f.turn) (Some (At f.turn)) b (stepped f b (Move conn (t ∷ ts)) x) in
+      let parts = chosen (may_move f conn (t ∷ ts) f.turn) (Some (At f.turn)) b (step-made f b (Move conn (t ∷ ts)) x) in
       sym (same_Some (At f.turn) b parts.1) ∙ ap At turn
 
 -- what a beginning leads to, where it is allowed
@@ -75,7 +65,7 @@ pub begun-so : (f b : FineState) (conn now : ℕ) → fine f (Begin conn now) �
     → (is_none f.turn ≡ true) × (may_begin f.state conn now (pending_at f.state.tables conn) ≡ true) × (begun_now f conn now ≡ b)
 begun-so f b conn now h =
     let may = may_begin f.state conn now (pending_at f.state.tables conn) in
-    let parts = chosen (is_none f.turn && nat_le f.state.moment now && may) (Some (begun_now f conn now)) b (stepped f b (Begin conn now) h) in
+    let parts = chosen (is_none f.turn && nat_le f.state.moment now && may) (Some (begun_now f conn now)) b (step-made f b (Begin conn now) h) in
     let tests = and_parts (is_none f.turn && nat_le f.state.moment now) may parts.0 in
     ((and_parts (is_none f.turn) (nat_le f.state.moment now) tests.0).0, tests.1, same_Some (begun_now f conn now) b parts.1)
 
@@ -120,7 +110,7 @@ answered-now : (f g : FineState) (conn now : ℕ) (failed : Bool) (dialed : Opti
     → fine f (Answer conn now failed dialed level told) ≡ Some g → g.state.moment ≡ now
 answered-now f g conn now failed dialed level told h =
     let allowed = chosen (nat_le f.state.moment now && is_answered f conn now o (pending_at f.state.tables conn))
-    (option_map (answered_fine f e conn) (option_and_then (if_reply told) (answer s conn now o))) g (stepped f g e h) in
+    (option_map (answered_fine f e conn) (option_and_then (if_reply told) (answer s conn now o))) g (step-made f g e h) in
     by_call (pending_at f.state.tables conn) allowed.1 where
       o : Outside
       o = outside f conn failed dialed level

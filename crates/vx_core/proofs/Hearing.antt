@@ -1,5 +1,5 @@
 -- A poll as it begins: the bus is cut and told the moment.
-use Rattle.std.proofs.Common.{◌≡◌, ◌≤◌, ℕ, Bool, List, [], ◌∷◌, Option, Some, None, sym, ap, ◌∙◌, subst, arith}
+use Rattle.std.proofs.Common.{◌≡◌, ◌≤◌, ℕ, Bool, List, [], ◌∷◌, Some, sym, ap, ◌∙◌, subst, arith}
 use Rattle.std.specs.Prelude.{IsSome, max}
 use Rattle.vx_488.specs.declared.transfers.TheConstants.{ADDRESS_MAX}
 use Rattle.vx_488.specs.declared.transfers.Transfer.{Transfer}
@@ -11,8 +11,9 @@ use Rattle.vx_bus_traits.specs.Walks.{Walk}
 use Rattle.vx_rules.specs.State.{Pending, pending_at}
 use Rattle.vx_flow.specs.FineState.{Turn, FineState}
 use Rattle.vx_flow.specs.Fine.{turn_stand}
-use Rattle.vx_flow.specs.Sound.{TurnStands, IsSound}
+use Rattle.vx_flow.specs.Sound.{IsSound}
 use Rattle.vx_flow.specs.Poll.{Ran, Still, Finished, Paused, Broken, Locked, InTurn, Held, Ending, Answered, Waited, Dialed, RanTo, EndsBy, ran_of, run_events, end_events, at_moment}
+use Rattle.vx_flow.specs.ProvedLaws.{later-sound}
 use Rattle.vx_flow.proofs.Earlier.{earlier_law-holds}
 use Rattle.vx_kernel.specs.declared.ended.Ended.{Ended}
 use Rattle.vx_kernel.specs.KernelState.{KernelState}
@@ -21,27 +22,6 @@ use Rattle.vx_kernel.specs.Ending.{ended_shown}
 use Rattle.vx_kernel.specs.Keeping.{Keeps}
 use Rattle.vx_kernel.specs.Turning.{HasHeard}
 use Rattle.vx_kernel.specs.Polling.{asks, IsTold, PollsOver, Leaves, EndsFrom}
-
--- what holds between events holds at a later moment
-later-sound : (f : FineState) (now : ℕ) → IsSound f → f.state.moment ≤ now → IsSound (at_moment f now)
-later-sound f now h late = record { turn_stands = by f.turn h.turn_stands; have_come = λ conn p at. omega (arith, h.have_come conn p at, late) } where
-  by : (turn : Option Turn) → TurnStands f.state.tables f.before f.state.wire f.state.moment turn → TurnStands f.state.tables f.before f.state.wire now turn
-  by None s = s
-  by (Some u) s = record {
-    asked = s.asked;
-    link = s.link;
-    job = s.job;
-    call_at = s.call_at;
-    on_link = s.on_link;
-    has_job = s.has_job;
-    in_role = s.in_role;
-    made = s.made;
-    on_plan = s.on_plan;
-    came = s.came;
-    began = omega (arith, s.began, late);
-    passes = s.passes;
-    unmarked = s.unmarked;
-  }
 
 -- the state of a core that was told a moment
 heard-at : {B : Type 0} (means : B → Means) (k : KernelState B) (bus : B) (moment : ℕ) → (means bus).wire ≡ (means k.bus).wire

@@ -3,6 +3,7 @@ use Rattle.std.proofs.Common.{◌≡◌, ◌≢◌, ◌≤◌, ℕ, ◌⊎◌, i
 use Rattle.std.proofs.lemmas.Bool.{true≢false, false≢true}
 use Rattle.std.proofs.lemmas.Cmp.{nat_eq_equiv}
 use Rattle.std.proofs.lemmas.Option.{none-some}
+use Rattle.vx_lemmas.specs.Conditions.{chosen}
 use Rattle.vx_488.specs.declared.transfers.TheConstants.{ADDRESS_MAX}
 use Rattle.vx_488.specs.declared.transfers.Transfer.{Transfer}
 use Rattle.vx_488.specs.declared.wire.Wire.{Wire}
@@ -11,13 +12,13 @@ use Rattle.vx_plan.specs.Plan.{Stand, Whole, Part, Off}
 use Rattle.vx_bus_traits.specs.Means.{Means}
 use Rattle.vx_ctrl.specs.Turns.{TurnState, HasMade}
 use Rattle.vx_ctrl.specs.Goes.{Begins, HoldsBytes}
-use Rattle.vx_rules.specs.State.{Tables, pending_at}
+use Rattle.vx_rules.specs.State.{pending_at}
 use Rattle.vx_rules.specs.Decide.{stand_on, stand_of_job}
 use Rattle.vx_flow.specs.Event.{Event, Answer}
 use Rattle.vx_flow.specs.FineState.{Turn, FineState, turn_after}
 use Rattle.vx_flow.specs.Fine.{fine, fine_step, is_whole, is_answer_of, comes_in_turn, turn_stand, call_stand}
 use Rattle.vx_flow.specs.Sound.{Stands, TurnStands, IsSound}
-use Rattle.vx_flow.proofs.Lookups.{chosen}
+use Rattle.vx_flow.specs.ProvedLaws.{later-stands}
 use Rattle.vx_flow.proofs.Kept.{turn-stand, open_cond}
 use Rattle.vx_flow.proofs.Gathering.{fine-goes, stays_sound-law, call_stays-law}
 use Rattle.vx_kernel.specs.declared.running.Running.{Running}
@@ -158,25 +159,6 @@ keeps-after {B} means old new e still holds leaves h = record {
 
 -- ---- and at a later moment
 
--- the turn under way stands at a later moment as it stood
-later-turn : (t : Tables) (before now : Wire) (m m' : ℕ) (turn : Option Turn) → m ≤ m' → TurnStands t before now m turn → TurnStands t before now m' turn
-later-turn t before now m m' None le h = h
-later-turn t before now m m' (Some u) le h = record {
-  asked = h.asked;
-  link = h.link;
-  job = h.job;
-  call_at = h.call_at;
-  on_link = h.on_link;
-  has_job = h.has_job;
-  in_role = h.in_role;
-  made = h.made;
-  on_plan = h.on_plan;
-  came = h.came;
-  began = omega (arith, h.began, le);
-  passes = h.passes;
-  unmarked = h.unmarked;
-}
-
 -- what a core keeps it keeps at a later moment, on a bus whose lines and addresses are as they were
 pub keeps-later : {B : Type 0} (means : B → Means) (k : KernelState B) (bus : B) (moment : ℕ) → (means bus).wire ≡ (means k.bus).wire → k.moment ≤ moment
     → Keeps means k → Keeps means (record k { bus = bus; moment = moment })
@@ -184,7 +166,7 @@ keeps-later {B} means k bus moment wire le keeps = record {
   holds = record {
     sound = record {
       turn_stands = subst TurnOn (sym wire)
-          (later-turn k.tables (fine_of means k).before (means k.bus).wire k.moment moment (fine_of means k).turn le keeps.holds.sound.turn_stands);
+          (later-stands k.tables (fine_of means k).before (means k.bus).wire k.moment moment (fine_of means k).turn le keeps.holds.sound.turn_stands);
       have_come = λ conn p at. let came = keeps.holds.sound.have_come conn p at in omega (arith, came, le);
     };
     own = subst (λ (w : Wire). w.own ≤ ADDRESS_MAX) (sym wire) keeps.holds.own;

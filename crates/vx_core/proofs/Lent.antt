@@ -1,15 +1,16 @@
 -- What a poll leaves of a core, with its reply lent.
-use Rattle.std.proofs.Common.{◌≡◌, ◌≢◌, ◌≤◌, ◌==◌, ℕ, Bool, true, false, cond, List, [], ◌∷◌, ◌++◌, length, take, Option, Some, None, max, refl, sym, ap, ◌∙◌, subst, arith}
+use Rattle.std.proofs.Common.{◌≡◌, ◌≤◌, ◌==◌, ℕ, Bool, true, false, cond, List, [], ◌∷◌, ◌++◌, length, take, Option, Some, None, max, refl, sym, ap, ◌∙◌, subst, arith}
 use Rattle.std.specs.Prelude.{not, ◌&&◌}
 use Rattle.std.specs.Option.{option_map}
 use Rattle.std.proofs.lemmas.Bool.{and_parts, eqb-true}
 use Rattle.std.proofs.lemmas.List.{length-append, length-take}
+use Rattle.vx_lemmas.specs.Conditions.{chosen}
 use Rattle.vx_calls.specs.declared.limits.TheConstants.{READ_MAX, WRITE_MAX}
 use Rattle.vx_calls.specs.Reply.{Reply}
 use Rattle.vx_488.specs.declared.transfers.Transfer.{Transfer}
 use Rattle.vx_plan.specs.declared.tasks.TheConstants.{TURN_MAX}
 use Rattle.vx_plan.specs.declared.tasks.Task.{Task}
-use Rattle.vx_plan.specs.Plan.{Stand, Whole, Part, Off, stand}
+use Rattle.vx_plan.specs.Plan.{stand}
 use Rattle.vx_plan.specs.Tasks.{plan}
 use Rattle.vx_plan.proofs.Turns.{bound-law}
 use Rattle.vx_bus_traits.specs.Means.{Means}
@@ -23,6 +24,7 @@ use Rattle.vx_flow.specs.Event.{Begin, Move}
 use Rattle.vx_flow.specs.FineState.{Turn, FineState}
 use Rattle.vx_flow.specs.Fine.{fine, fine_after, may_move, goes_on, is_on, turn_stand, call_stand, job_of}
 use Rattle.vx_flow.specs.Poll.{Ending, Polls, begins, moved_events}
+use Rattle.vx_flow.specs.ProvedLaws.{on-is, step-made}
 use Rattle.vx_488.specs.Wire.{wire_after}
 use Rattle.vx_kernel.specs.declared.ended.Ended.{Ended}
 use Rattle.vx_kernel.specs.declared.given.Given.{Given}
@@ -36,15 +38,8 @@ use Rattle.vx_kernel.specs.Polling.{Leaves}
 use Rattle.vx_kernel.proofs.Turning.{few-bytes}
 use Rattle.vx_core.specs.declared.polled.Polled.{Polled}
 use Rattle.vx_core.specs.Lending.{Shows, PollLeaves}
-use Rattle.vx_core.proofs.Ends.{chosen, stepped}
 
 -- ---- a poll makes few transfers
-
--- a stand that isn't off
-on-so : (s : Stand) → is_on s ≡ true → s ≢ Off
-on-so Whole h = λ off. cc
-on-so Part h = λ off. cc
-on-so Off h = cc
 
 -- a call that goes on is there, and nothing is against it
 goes-so : (f : FineState) (conn : ℕ) (o : Option Pending) → goes_on f.state conn o ≡ true
@@ -70,13 +65,13 @@ few-of-job f u conn moves p own at lets on = by (job_of f.state.tables u.connect
       let few : length (bytes_of p.call) ≤ WRITE_MAX =
       few-bytes f.state.tables f.state.wire.own conn p job lets (ap (λ n. job_of f.state.tables n p) (sym own) ∙ e) in
       let most : length (u.moves ++ moves) ≤ TURN_MAX =
-      bound-law job (bytes_of p.call) f.before.polling f.before.own (u.moves ++ moves) few (on-so _ (ap is_on (sym stands) ∙ on)) in
+      bound-law job (bytes_of p.call) f.before.polling f.before.own (u.moves ++ moves) few (on-is _ (ap is_on (sym stands) ∙ on)) in
       omega (arith, length-append u.moves moves, most)
 
 move-few : (f g : FineState) (conn : ℕ) (moves : List Transfer) → fine f (Move conn moves) ≡ Some g → length moves ≤ TURN_MAX
 move-few f g conn moves h =
     by f.turn (chosen (may_move f conn moves f.turn) (Some (fine_after f (Move conn moves) f.dialed (record f.state { wire = wire_after f.state.wire moves }))) g
-    (stepped f g (Move conn moves) h)).0 where
+    (step-made f g (Move conn moves) h)).0 where
       by : (turn : Option Turn) → may_move f conn moves turn ≡ true → length moves ≤ TURN_MAX
       by None x = cc
       by (Some u) x =

@@ -2,8 +2,9 @@
 use Rattle.std.proofs.Common.{◌≡◌, ◌≢◌, ◌≤◌, ◌==◌, ℕ, Bool, true, false, cond, ◌⊎◌, inl, inr, List, [], ◌∷◌, ◌++◌, map, append-nil, Option, Some, None, refl, sym, ap, ◌∙◌, subst, arith}
 use Rattle.std.specs.Prelude.{IsSome, is_some, not, ◌||◌}
 use Rattle.std.specs.Option.{option_and_then}
-use Rattle.std.proofs.lemmas.Bool.{cases_Bool, false≢true, cond-true, eq-eqb, eqb-true}
+use Rattle.std.proofs.lemmas.Bool.{cases_Bool, cond-true, eq-eqb, eqb-true}
 use Rattle.std.proofs.lemmas.Option.{same_Some}
+use Rattle.std.proofs.Math.Bool.{or-true}
 use Rattle.vx_calls.specs.declared.limits.TheConstants.{ROLE_MAX, READ_MAX}
 use Rattle.vx_calls.specs.declared.codes.ErrorCode.{ErrorCode}
 use Rattle.vx_calls.specs.declared.codes.ErrorCode.TheVariants as code
@@ -16,9 +17,10 @@ use Rattle.vx_488.specs.declared.wire.Wire.{Wire}
 use Rattle.vx_488.specs.Wire.{step, wire_after}
 use Rattle.vx_plan.specs.declared.tasks.Task.{Task}
 use Rattle.vx_plan.specs.declared.tasks.Task.TheVariants as task
-use Rattle.vx_plan.specs.Plan.{Slot, Plan, Reading, Part, Off, stand_of, stand, left_after, left_after_one, next_slot}
+use Rattle.vx_plan.specs.Plan.{Slot, Plan, Reading, Part, Off, stand_of, stand, left_after, next_slot}
 use Rattle.vx_plan.specs.Results.{whole_reply}
 use Rattle.vx_plan.specs.Tasks.{plan, is_own_task, IsPlainTask}
+use Rattle.vx_plan.specs.ProvedLaws.{left_after-none, left_after-append, left-on, own-job}
 use Rattle.vx_plan.proofs.Turns.{own_stays-law}
 use Rattle.vx_flow.proofs.Whom.{just-front}
 use Rattle.vx_bus_traits.specs.Means.{Means}
@@ -55,32 +57,18 @@ use Rattle.vx_core.proofs.Ends.{behind-own, sound-along, answer-ends, fine-close
 
 -- ---- plans
 
--- nothing is left behind a list that leaves its plan
-none-left : (ts : List Transfer) → left_after None ts ≡ None
-none-left [] = refl
-none-left (t ∷ ts) = none-left ts
-
--- what is left after two lists
-left-append : (p : Option Plan) (ts us : List Transfer) → left_after p (ts ++ us) ≡ left_after (left_after p ts) us
-left-append p [] us = refl
-left-append p (t ∷ ts) us = left-append (option_and_then (λ left. left_after_one left t) p) ts us
-
 -- a list that doesn't leave its plan is a part of it, or nothing goes on behind it
 part-or-still : (p : Option Plan) (ts us : List Transfer) (left later : Plan) → left_after p ts ≡ Some left → left_after p (ts ++ us) ≡ Some later
     → (stand_of (Some left) ≡ Part) ⊎ (us ≡ [])
-part-or-still p ts us left later h then_so = by left.front left.reading us (sym (ap (λ o. left_after o us) h) ∙ sym (left-append p ts us) ∙ then_so) where
+part-or-still p ts us left later h then_so = by left.front left.reading us (sym (ap (λ o. left_after o us) h) ∙ sym (left_after-append p ts us) ∙ then_so) where
   by : (front : List Slot) (reading : Option Reading) (us : List Transfer) → left_after (Some (record { front = front; reading = reading })) us ≡ Some later
       → (stand_of (Some (record { front = front; reading = reading })) ≡ Part) ⊎ (us ≡ [])
   by [] None [] x = inr refl
-  by [] None (t ∷ ts) x = let none = none-left ts in cc
+  by [] None (t ∷ ts) x = let none = left_after-none ts in cc
   by [] (Some r) us x = inl refl
   by (slot ∷ slots) reading us x = inl refl
 
 -- ---- the gateway's own address
-
-own-job : (job : Task) → is_own_task job ≡ true → (n : ℕ) × (job ≡ task.Own n)
-own-job (task.Own n) h = (n, refl)
-own-job _ h = absurd (false≢true h)
 
 own-front : (n : ℕ) (ts more : List Transfer) (w : Wire) → w.own ≤ ADDRESS_MAX → n ≤ ADDRESS_MAX → ts ++ more ≡ transfer.Own n ∷ [] → (wire_after w ts).own ≤ ADDRESS_MAX
 own-front n [] more w h within e = h
@@ -99,14 +87,6 @@ own-after job bytes polling own ts w h within on = by (cases_Bool (is_own_task j
       let is = own-job job e in
       new is.0 (subst IsPlainTask is.1 within) (subst (λ j. stand (plan j bytes polling own) ts ≢ Off) is.1 on)
   by (inr e) = subst (λ n. n ≤ ADDRESS_MAX) (sym (own_stays-law job bytes polling own ts w e on)) h
-
--- what is left of a plan isn't off it
-left-on : (p : Option Plan) (left : Plan) → p ≡ Some left → stand_of p ≢ Off
-left-on p left e = subst (λ o. stand_of o ≢ Off) (sym e) (by left.front left.reading) where
-  by : (front : List Slot) (reading : Option Reading) → stand_of (Some (record { front = front; reading = reading })) ≢ Off
-  by [] None = λ off. cc
-  by [] (Some r) = λ off. cc
-  by (slot ∷ slots) reading = λ off. cc
 
 -- ---- where a turn stands
 
@@ -381,10 +361,6 @@ pub room-kept : {B : Type 0} (m new : KernelState B) (conn : ℕ) → new ≡ cl
 room-kept {B} m new conn kept =
     let N : List ℕ → KernelState B = λ room. record (closed m conn) { room = room } in
     kept ∙ ap N (sym (ap (λ (s : KernelState B). s.room) kept))
-
-or-true : (b : Bool) → (b || true) ≡ true
-or-true true = refl
-or-true false = refl
 
 -- a level that a job is told is one that it may be told
 told-fits : (job : Task) (srq ndac : Bool) → level_fits job (level_told job srq ndac) ≡ true

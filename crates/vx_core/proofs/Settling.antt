@@ -6,6 +6,7 @@ use Rattle.std.specs.List.{All, list_any}
 use Rattle.std.proofs.lemmas.Bool.{false≢true, cond-true, le-leb, and_from, or_cases, or_right, eqb-true}
 use Rattle.std.proofs.lemmas.Bool.Decides.{nat_tests}
 use Rattle.std.proofs.lemmas.List.Elements.{All-head, All-tail}
+use Rattle.std.proofs.Math.Bool.{and-false}
 use Rattle.vx_calls.specs.declared.limits.TheConstants.{CONNECTION_LAST}
 use Rattle.vx_calls.specs.declared.codes.ErrorCode.{ErrorCode}
 use Rattle.vx_calls.specs.Call.{Call}
@@ -125,16 +126,11 @@ lines_pass : (t : Tables) (own conn now : ℕ) (m : MayCome t conn) → has_numb
 lines_pass t own conn now m left =
     ap (λ e. checked_lines (called m.host m.port m.prog m.vers m.family m.arrival) now e None) (unchecked t conn m left)
 
--- nothing holds with what doesn't
-and_no : (b : Bool) → (b && false) ≡ false
-and_no true = refl
-and_no false = refl
-
 -- it waits for nobody's turn
 waits_not : (t : Tables) (own conn host port prog vers family arrival : ℕ) (turn : Option Turn)
     → waits_for_turn t own conn (called host port prog vers family arrival) turn ≡ false
 waits_not t own conn host port prog vers family arrival None = refl
-waits_not t own conn host port prog vers family arrival (Some u) = and_no (not (u.connection == conn))
+waits_not t own conn host port prog vers family arrival (Some u) = and-false (not (u.connection == conn))
 
 -- the state behind its answer
 abbrev settled_fine : FineState → Event → ℕ → ℕ → Tables → FineState

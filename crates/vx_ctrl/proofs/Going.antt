@@ -1,5 +1,5 @@
 -- A turn that goes on: what it made of its plan since it began to go.
-use Rattle.std.proofs.Common.{◌≡◌, ◌≢◌, ℕ, ◌+◌, ◌-◌, ◌<◌, true, ◌≤◌, List, [], ◌∷◌, ◌++◌, map, length, take, count_by, Option, Some, None, refl, sym, ap, ◌∙◌, subst, arith, append_assoc, length-append}
+use Rattle.std.proofs.Common.{◌≡◌, ℕ, ◌+◌, ◌-◌, ◌<◌, true, ◌≤◌, List, [], ◌∷◌, ◌++◌, map, length, take, count_by, Option, Some, None, refl, sym, ap, ◌∙◌, subst, arith, append_assoc, length-append}
 use Rattle.std.proofs.lemmas.List.{map-append, append-nil, length-take}
 use Rattle.vx_488.specs.declared.transfers.TheConstants.{ADDRESS_MAX}
 use Rattle.vx_488.specs.declared.transfers.Transfer.{Transfer}
@@ -14,13 +14,14 @@ use Rattle.vx_plan.specs.declared.tasks.Task.{Task}
 use Rattle.vx_plan.specs.declared.tasks.Place.{Place}
 use Rattle.vx_plan.specs.declared.tasks.Next.{Next}
 use Rattle.vx_plan.specs.declared.tasks.Next.TheVariants as next
-use Rattle.vx_plan.specs.Plan.{Slot, Reading, Plan, Off, stand_of, next_slot}
+use Rattle.vx_plan.specs.Plan.{Slot, Reading, Plan, stand_of, next_slot}
 use Rattle.vx_plan.specs.Results.{bytes_got}
 use Rattle.vx_plan.specs.Transfers.{is_got}
 use Rattle.vx_plan.specs.Tasks.{IsPlainTask}
 use Rattle.vx_calls.specs.declared.limits.TheConstants.{WRITE_MAX}
 use Rattle.vx_plan.specs.Places.{Reaches, place_after, slot_wanted}
 use Rattle.vx_plan.specs.Laws.{FitsNext, PlaceGoesOnLaw, BoundLaw}
+use Rattle.vx_plan.specs.ProvedLaws.{left-on}
 use Rattle.vx_ctrl.specs.declared.turn.Went.{Went as Outcome}
 use Rattle.vx_ctrl.specs.declared.turn.Went.TheVariants as went
 use Rattle.vx_ctrl.specs.declared.asking.Asked.TheVariants.{Made, Stopped}
@@ -165,14 +166,6 @@ begins-going means through first bytes room before ready =
           };
     }
 
-not-off : (left : Option Plan) (p : Plan) → left ≡ Some p → stand_of left ≢ Off
-not-off left p e off = by p.front p.reading (sym (ap stand_of e) ∙ off)
-  where
-    by : (slots : List Slot) (reading : Option Reading) → stand_of (Some (record { front = slots; reading = reading })) ≡ Off → ⊥
-    by [] None e = cc
-    by [] (Some r) e = cc
-    by (slot ∷ slots) reading e = cc
-
 -- a new own address that a plan wants is 0 to 30
 pub plain-next : (task : Task) (bytes : List ℕ) (ts : List Transfer) (left : Plan) (place : Place) → IsPlainTask task
     → Reaches task bytes ts left place → (next : Next) → slot_wanted next bytes place.moved ≡ next_slot left → IsPlainNext next
@@ -250,7 +243,7 @@ module _ {B : Type 0} (means : B → Means) (through : B → Step → B → Type
       omega (
         arith,
         length-append begins.1 (means now).moves,
-        law turn.task bytes turn.place.polling turn.place.own (begins.1 ++ (means now).moves) short (not-off _ under.left r.goes),
+        law turn.task bytes turn.place.polling turn.place.own (begins.1 ++ (means now).moves) short (left-on _ under.left r.goes),
       )
 
   pub few-asks : BoundLaw → (means now).asks < ASK_MAX

@@ -1,11 +1,11 @@
 -- How many transfers of a kind a plan may still want: a list that goes along the plan uses them up.
-use Rattle.std.proofs.Common.{◌≡◌, ◌≢◌, ◌||◌, ℕ, ◌+◌, ◌-◌, ◌≤◌, Bool, true, false, cond, eqb, List, [], ◌∷◌, count_by, Option, Some, None, refl, sym, ap, subst, arith}
-use Rattle.std.proofs.lemmas.Bool.{eqb-true, eqb-false, or_parts, and_parts, false≢true}
+use Rattle.std.proofs.Common.{◌≡◌, ◌≢◌, ◌||◌, ℕ, ◌+◌, ◌-◌, ◌≤◌, Bool, true, false, cond, eqb, List, [], ◌∷◌, count_by, Option, Some, None, refl, ap, subst, arith}
+use Rattle.std.proofs.lemmas.Bool.{eqb-false, or_parts, false≢true}
 use Rattle.std.proofs.lemmas.List.Sums.{sum_by-cons}
 use Rattle.vx_488.specs.declared.transfers.Transfer.{Transfer}
-use Rattle.vx_488.specs.declared.transfers.Transfer.TheVariants.{Cmd, Put, Got, Ren, Atn, Ifc, Own}
-use Rattle.vx_plan.specs.Transfers.{same_bool, same_transfer}
+use Rattle.vx_488.specs.declared.transfers.Transfer.TheVariants.{Got}
 use Rattle.vx_plan.specs.Plan.{Slot, This, AnyByte, Reading, Plan, is_stop, fits, ends_with, reading_left, front_left, left_after_one, left_after}
+use Rattle.vx_plan.specs.ProvedLaws.{left_after-none, same_transfer-is}
 
 -- a slot is of a kind of transfers; of the bytes that are got all are, or none
 abbrev pub is_slot_of : (Transfer → Bool) → Bool → Slot → Bool
@@ -36,35 +36,10 @@ IsOpen (Some r) = 1 ≤ r.most
 abbrev pub Uniform : (Transfer → Bool) → Bool → Type 0
 Uniform kind gets = (b : ℕ) (end : Bool) → kind (Got b end) ≡ gets
 
--- two transfers that are the same are one
-same_bool-equal : (a b : Bool) → same_bool a b ≡ true → a ≡ b
-same_bool-equal true true h = refl
-same_bool-equal true false h = absurd (false≢true h)
-same_bool-equal false true h = absurd (false≢true h)
-same_bool-equal false false h = refl
-
-pub same_transfer-equal : (a t : Transfer) → same_transfer a t ≡ true → a ≡ t
-same_transfer-equal (Cmd a) (Cmd b) h = ap Cmd (eqb-true a b h)
-same_transfer-equal (Put a end) (Put b last) h =
-    let both = and_parts (eqb a b) (same_bool end last) h in
-    let e = eqb-true a b both.0 in
-    let f = same_bool-equal end last both.1 in
-    cc
-same_transfer-equal (Got a end) (Got b last) h =
-    let both = and_parts (eqb a b) (same_bool end last) h in
-    let e = eqb-true a b both.0 in
-    let f = same_bool-equal end last both.1 in
-    cc
-same_transfer-equal (Ren a) (Ren b) h = ap Ren (same_bool-equal a b h)
-same_transfer-equal (Atn a) (Atn b) h = ap Atn (same_bool-equal a b h)
-same_transfer-equal Ifc Ifc h = refl
-same_transfer-equal (Own a) (Own b) h = ap Own (eqb-true a b h)
-same_transfer-equal a t h = absurd (false≢true h)
-
 -- a transfer is of a kind exactly where the slot that it fits is
 fits-kind : (kind : Transfer → Bool) (gets : Bool) → Uniform kind gets → (slot : Slot) (t : Transfer) → fits slot t ≡ true
     → kind t ≡ is_slot_of kind gets slot
-fits-kind kind gets u (This a) t h = sym (ap kind (same_transfer-equal a t h))
+fits-kind kind gets u (This a) t h = ap kind (same_transfer-is a t h)
 fits-kind kind gets u AnyByte (Got b end) h = u b end
 fits-kind kind gets u AnyByte t h = absurd (false≢true h)
 
@@ -120,11 +95,6 @@ uses-one : (kind : Transfer → Bool) (gets : Bool) → Uniform kind gets → (s
     → IsOpen reading → front_left slots reading t ≡ Some left → Uses kind gets t (record { front = slots; reading = reading }) left
 uses-one kind gets u [] reading t left opens h = uses-read kind gets u reading t left opens h
 uses-one kind gets u (slot ∷ slots) reading t left opens h = uses-slot kind gets u slot slots reading t left opens (fits slot t) refl h
-
--- nothing goes along no plan
-left_after-none : (ts : List Transfer) → left_after None ts ≡ None
-left_after-none [] = refl
-left_after-none (t ∷ ts) = left_after-none ts
 
 -- a list that goes along a plan has no more of a kind than the plan may want
 pub record Along (kind : Transfer → Bool) (gets : Bool) (ts : List Transfer) (p left : Plan) : Type 0 where

@@ -1,10 +1,10 @@
 -- How a server ends that ended so behind its first steps.
-use Rattle.std.proofs.Common.{◌≡◌, ℕ, ◌+◌, ◌-◌, ◌^◌, min, ◌≤◌, ◌<◌, le_trans, sym, subst, ◌∙◌, inl, inr, arith}
+use Rattle.std.proofs.Common.{◌≡◌, ℕ, ◌-◌, ◌^◌, min, ◌≤◌, ◌<◌, sym, subst, ◌∙◌, inl, inr}
 use Rattle.std.specs.Prelude.{◌⊎◌, List, Ok}
-use Rattle.std.proofs.Math.Nat.{min-le_left, min-le_right, le-min}
 use Rattle.std.specs.Io.KnownBytes.{Appends}
 use Rattle.std.proofs.KnownBytes.{Appends-trans}
 use Rattle.vx_io_traits.specs.Faults.{Rose}
+use Rattle.vx_io_traits.specs.ProvedLaws.{rose_earlier}
 use Rattle.vx_text.specs.Ends.{End}
 use Rattle.vx_text.specs.declared.input.Input.{Input}
 use Rattle.vx_text.specs.declared.input.Input.TheVariants as input
@@ -17,12 +17,6 @@ use Rattle.vx_ending.specs.Lines.{served_line}
 use Rattle.vx_ending.specs.Outcome.{Outside, Ends, EndsRead}
 use Rattle.vx_ending.specs.Preparing.{IsBenchRead, IsReady}
 use Rattle.vx_ending.specs.Running.{NetShown, Ports, TookLinks, LinksServed, LinksEnd, EndsRun, first_line}
-
--- a count that rose later rose
-pub rose_earlier : (early before after : ℕ) → early ≤ before → Rose before after → Rose early after
-rose_earlier early before after le rose =
-    let b : min (early + 1) (2 ^ 64 - 1) ≤ before + 1 = le_trans (min-le_left (early + 1) (2 ^ 64 - 1)) (omega arith) in
-    le_trans (le-min b (min-le_right (early + 1) (2 ^ 64 - 1))) rose
 
 -- the end of a server that has announced its ports is its end with the line of them
 pub announced : (o : Options) (before : Ports) (mid : End) (after : Ports) (tally : ℕ) (how : Status) → Appends before.sink.bytes mid.bytes (first_line o)

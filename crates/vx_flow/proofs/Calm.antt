@@ -5,6 +5,7 @@ use Rattle.std.specs.Prelude.{is_none, nat_le, ◌&&◌, if◌then◌else◌}
 use Rattle.std.specs.Option.{option_map}
 use Rattle.std.proofs.lemmas.Bool.{false≢true, and_parts, and_from, cond-true, leb-true, le-leb, cases_eq}
 use Rattle.std.proofs.lemmas.Option.{cond_some}
+use Rattle.vx_lemmas.specs.Options.{mapped}
 use Rattle.vx_calls.specs.declared.calls.Role.{Role}
 use Rattle.vx_calls.specs.declared.calls.Role.TheVariants as role
 use Rattle.vx_calls.specs.declared.codes.ErrorCode.{ErrorCode}
@@ -22,7 +23,6 @@ use Rattle.vx_flow.specs.FineState.{Turn, FineState, turn_after}
 use Rattle.vx_flow.specs.Fine.{may_dial, without_dial, fine_after, fine_step}
 use Rattle.vx_flow.specs.Gather.{gathered}
 use Rattle.vx_flow.specs.Sound.{Stands, HaveCome, IsSound}
-use Rattle.vx_flow.proofs.Lookups.{mapped}
 use Rattle.vx_flow.proofs.Rows.{pending-other, pending-here, pending-up, pending-marked}
 use Rattle.vx_flow.proofs.Kept.{Goes, IsOpen, Stays, calm}
 

@@ -1,8 +1,7 @@
 -- What the answer of another connection's call leaves of a turn's call.
 use Rattle.std.proofs.Common.{◌≡◌, ◌≢◌, ◌≤◌, ◌==◌, ℕ, Bool, true, false, cond, ◌⊎◌, inl, inr, Option, Some, None, Result, Ok, Err, refl, sym, ap, ◌∙◌, subst, arith}
 use Rattle.std.specs.Prelude.{not, ◌&&◌}
-use Rattle.std.specs.Option.{option_map, option_and_then}
-use Rattle.std.specs.List.{find}
+use Rattle.std.specs.Option.{option_map}
 use Rattle.std.proofs.lemmas.Bool.{cases_eq}
 use Rattle.std.proofs.lemmas.Option.{none-some, same_Some}
 use Rattle.vx_calls.specs.declared.codes.ErrorCode.{ErrorCode}
@@ -15,11 +14,12 @@ use Rattle.vx_488.specs.declared.wire.Wire.{Wire}
 use Rattle.vx_links.specs.Table.{Link}
 use Rattle.vx_locks.specs.Locks.{holds, holder_of, with_lock}
 use Rattle.vx_rules.specs.Calls.{is_bus_call, is_lock_call, asks_dial}
-use Rattle.vx_rules.specs.State.{Pending, Connection, Tables, pending_at, link_of, with_pending}
+use Rattle.vx_rules.specs.State.{Pending, Tables, pending_at, link_of, with_pending}
 use Rattle.vx_rules.specs.Checks.{NamedLink, NoLink, DeadLink, OnLink, named_link}
 use Rattle.vx_rules.specs.Lines.{Lines, Refused, Waiting, Passed, named_request, lock_request, first_lines}
 use Rattle.vx_rules.specs.Effects.{task_of, stopped_reply, create, locked, effect_on, effect, settle}
 use Rattle.vx_rules.specs.Decide.{Outside, is_quiet, bus_answer, dialed_answer, by_lines, settles, decide}
+use Rattle.vx_rules.specs.ProvedLaws.{pending-same}
 use Rattle.vx_flow.specs.Fine.{on_conflict}
 use Rattle.vx_flow.specs.Sound.{HaveCome}
 use Rattle.vx_flow.proofs.Rows.{pending-other, pending-here, link-made, link-left}
@@ -198,9 +198,6 @@ found-apart t w conn other p lines l d ne apart (Effected passed bus h) =
 -- ---- the call is over
 
 -- the calls of others stay as they were
-pending-same : (t u : Tables) (m : ℕ) → u.connections ≡ t.connections → pending_at u m ≡ pending_at t m
-pending-same t u m h = ap (λ cs. option_and_then (λ (c : Connection). c.pending) (find (λ c. c.number == m) cs)) h
-
 pub over-stays : (t u : Tables) (conn other : ℕ) (l : Link) (p : Pending) → conn ≢ other → pending_at t other ≡ Some p → Leaves t u other l
     → Stays t (with_pending u conn None) other l p
 over-stays t u conn other l p ne at leaves = record {

@@ -17,10 +17,11 @@ use Rattle.vx_rules.specs.Effects.{task_of, effect}
 use Rattle.vx_rules.specs.Decide.{Outside, is_quiet, stand_on, bus_answer, dialed_answer, by_lines, settles, decide, is_nothing, begun_between, may_tell, has_job_role, may_have_made, lines_fit, turn_fits}
 use Rattle.vx_rules.specs.Entry as entry
 use Rattle.vx_rules.specs.One.{one, answer, answer_to, answered, if_reply, call_fits}
+use Rattle.vx_rules.specs.ProvedLaws.{bus-job}
 use Rattle.vx_flow.specs.FineState.{Turn}
 use Rattle.vx_flow.specs.Fine.{is_whole}
 use Rattle.vx_flow.specs.Sound.{Passes, Stands}
-use Rattle.vx_flow.proofs.Jobs.{bus-job, against}
+use Rattle.vx_flow.proofs.Jobs.{against}
 use Rattle.vx_flow.proofs.Ending.{job-is, may-made}
 
 -- ---- two buses of one own address

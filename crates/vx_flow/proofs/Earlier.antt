@@ -2,6 +2,7 @@
 use Rattle.std.proofs.Common.{◌≡◌, ◌≤◌, ◌==◌, ℕ, Bool, true, false, cond, [], ◌∷◌, ◌++◌, Option, Some, None, refl, sym, ap, ◌∙◌, arith}
 use Rattle.std.specs.Prelude.{nat_le, is_none, is_some, ◌&&◌}
 use Rattle.std.specs.Option.{option_map, option_and_then}
+use Rattle.vx_lemmas.specs.Conditions.{chosen}
 use Rattle.vx_calls.specs.declared.calls.Role.TheVariants as role
 use Rattle.vx_calls.specs.Reply.{Reply, same_reply}
 use Rattle.vx_calls.specs.ErrorCode.{same_error}
@@ -18,7 +19,7 @@ use Rattle.vx_flow.specs.FineState.{FineState}
 use Rattle.vx_flow.specs.Fine.{comes_in_turn, fine_after, fine_step, fine, is_answered, outside, answered_fine, wire_for, may_begin, may_dial, may_move, without_dial}
 use Rattle.vx_flow.specs.Poll.{at_moment}
 use Rattle.vx_flow.specs.Laws.{EarlierLaw}
-use Rattle.vx_flow.proofs.Lookups.{chosen, along-none}
+use Rattle.vx_flow.proofs.Lookups.{along-none}
 
 -- an event leads from the earlier moment to the same state, but for its moment
 abbrev Leads : FineState → Option FineState → FineState → Type 0

@@ -18,13 +18,14 @@ use Rattle.vx_rules.specs.Effects.{task_of}
 use Rattle.vx_rules.specs.Decide.{is_nothing, is_part, stand_on, is_part_of, may_have_made}
 use Rattle.vx_rules.specs.Entry as entry
 use Rattle.vx_rules.specs.One.{may_leave}
+use Rattle.vx_rules.specs.ProvedLaws.{bus-job}
 use Rattle.vx_flow.specs.Event.{Down}
 use Rattle.vx_flow.specs.FineState.{Turn, FineState, before_turn, moves_of}
 use Rattle.vx_flow.specs.Fine.{is_whole, without_dial, fine_step, wire_before}
 use Rattle.vx_flow.specs.Sound.{Stands, HaveCome, IsSound}
 use Rattle.vx_flow.proofs.Lookups.{find_filter-none, find_append-none}
 use Rattle.vx_flow.proofs.Rows.{pending-gone, pending-others, link-others}
-use Rattle.vx_flow.proofs.Jobs.{bus-job, passes-from}
+use Rattle.vx_flow.proofs.Jobs.{passes-from}
 use Rattle.vx_flow.proofs.Kept.{Goes, IsOpen, Stays, turn-stand, calm}
 use Rattle.vx_flow.proofs.Calm.{GoesOn}
 use Rattle.vx_flow.proofs.Turning.{in_turn}

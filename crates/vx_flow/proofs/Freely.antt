@@ -1,11 +1,13 @@
 -- The transfers of a call reach no address that another link's lock keeps.
-use Rattle.std.proofs.Common.{◌≡◌, ◌≢◌, ◌≤◌, ◌==◌, ℕ, Bool, true, false, cond, ◌⊎◌, inl, inr, List, [], ◌∷◌, ◌++◌, Option, Some, None, refl, sym, ap, ◌∙◌, subst}
+use Rattle.std.proofs.Common.{◌≡◌, ◌≢◌, ◌≤◌, ◌==◌, ℕ, true, false, ◌⊎◌, inl, inr, List, [], ◌∷◌, ◌++◌, Option, Some, None, refl, sym, ap, ◌∙◌, subst}
 use Rattle.std.specs.Prelude.{is_some, not, ◌&&◌}
 use Rattle.std.specs.Option.{option_map, option_and_then}
 use Rattle.std.specs.List.{find, All}
 use Rattle.std.proofs.lemmas.Bool.{true≢false, and_parts, eqb-true, eqb-false, ne_eqb}
 use Rattle.std.proofs.lemmas.Option.{cond_some}
 use Rattle.std.proofs.lemmas.List.Elements.{All-nil, All-cons, All-tail, All-weaker}
+use Rattle.vx_lemmas.specs.Conditions.{chosen}
+use Rattle.vx_lemmas.specs.Lists.{found_passes, none_passes}
 use Rattle.vx_calls.specs.declared.targets.Target.{Target}
 use Rattle.vx_calls.specs.declared.targets.Target.TheVariants.{Interface, Device}
 use Rattle.vx_calls.specs.Target.{conflict}
@@ -28,16 +30,17 @@ use Rattle.vx_rules.specs.Effects.{task_on}
 use Rattle.vx_rules.specs.Decide.{Outside, stand_on}
 use Rattle.vx_rules.specs.Entry.{Entry, Up, Down, Arrive, Answer, Abort, Sample, Take}
 use Rattle.vx_rules.specs.One.{one, may_leave}
+use Rattle.vx_rules.specs.ProvedLaws.{bus-job}
 use Rattle.vx_flow.specs.Event.{Move}
 use Rattle.vx_flow.specs.FineState.{Turn, FineState, before_turn}
 use Rattle.vx_flow.specs.Fine.{is_whole, is_on, goes_on, turn_stand, comes_in_turn, fine_step}
 use Rattle.vx_flow.specs.Gather.{gather}
 use Rattle.vx_flow.specs.Laws.{at_address, AreFree, link_called, ReachesFreely, EntriesFreeLaw, MovesFreelyLaw}
 use Rattle.vx_flow.specs.Sound.{Stands, IsSound}
-use Rattle.vx_flow.proofs.Lookups.{found_passes, chosen}
-use Rattle.vx_flow.proofs.Jobs.{bus-job, own-stays, passes-parts}
+use Rattle.vx_flow.specs.ProvedLaws.{on-is}
+use Rattle.vx_flow.proofs.Jobs.{own-stays, passes-parts}
 use Rattle.vx_flow.proofs.Kept.{IsOpen, turn-stand, is-open}
-use Rattle.vx_flow.proofs.Turning.{on-is, goes-parts, moved, in_turn}
+use Rattle.vx_flow.proofs.Turning.{goes-parts, moved, in_turn}
 use Rattle.vx_flow.proofs.Gathering.{fine-gathers}
 use Rattle.vx_flow.proofs.Whom.{At, ended, reached-front}
 use Rattle.vx_flow.proofs.Making.{Made, MadeAny, answer-parts, answer-made, leave-made}
@@ -49,14 +52,6 @@ use Rattle.vx_flow.proofs.Reaching.{device-reaches}
 none-found : (o : Option Lock) → option_map (λ k. k.link) o ≡ None → o ≡ None
 none-found None h = refl
 none-found (Some k) h = cc
-
--- what isn't found is nowhere in the list
-find-none : {X : Type 0} (q : X → Bool) (xs : List X) → find q xs ≡ None → All (λ x. q x ≡ false) xs
-find-none q [] h = All-nil (λ x. q x ≡ false)
-find-none q (x ∷ xs) h = by (q x) refl h (find-none q xs) where
-  by : (b : Bool) → q x ≡ b → cond b (Some x) (find q xs) ≡ None → (find q xs ≡ None → All (λ y. q y ≡ false) xs) → All (λ y. q y ≡ false) (x ∷ xs)
-  by true e h rest = cc
-  by false e h rest = All-cons (λ y. q y ≡ false) x xs e (rest h)
 
 -- another link's lock, which doesn't keep this one off, is on a target that doesn't conflict
 lock-apart : (lid : ℕ) (target : Target) (k : Lock) (named : Option ℕ) → named ≡ Some lid → keeps_off lid target k ≡ false → named ≢ Some k.link → conflict k.target target ≡ false
@@ -76,7 +71,7 @@ abbrev IsFree : Option ℕ → List Lock → Addr → Type 0
 IsFree named locks a = All (λ k. named ≢ Some k.link → conflict (at_address a) k.target ≡ false) locks
 
 none-keeps : (locks : List Lock) (lid : ℕ) (target : Target) → holder_of locks lid target ≡ None → All (λ k. keeps_off lid target k ≡ false) locks
-none-keeps locks lid target h = find-none (keeps_off lid target) locks (none-found (find (keeps_off lid target) locks) h)
+none-keeps locks lid target h = none_passes (keeps_off lid target) locks (none-found (find (keeps_off lid target) locks) h)
 
 free-device : (named : Option ℕ) (locks : List Lock) (lid p : ℕ) (s : Option ℕ) → named ≡ Some lid → holder_of locks lid (Device p s) ≡ None → (addresses : List Addr)
     → All (At p) addresses → AreFree named locks addresses

@@ -1,6 +1,7 @@
 -- Interleaved events gather to a history of the gateway of one thread.
 use Rattle.std.proofs.Common.{◌≡◌, ◌≤◌, ℕ, true, List, [], ◌∷◌, Option, Some, None, refl, sym, ap, ◌∙◌, subst, arith}
 use Rattle.std.proofs.lemmas.Option.{none-some, same_Some}
+use Rattle.vx_lemmas.specs.Conditions.{chosen}
 use Rattle.vx_rules.specs.Lists.{along}
 use Rattle.vx_rules.specs.State.{Pending}
 use Rattle.vx_rules.specs.Checks.{named_link}
@@ -12,7 +13,7 @@ use Rattle.vx_flow.specs.Fine.{comes_in_turn, fine_step, fine}
 use Rattle.vx_flow.specs.Gather.{gathered, gather_from}
 use Rattle.vx_flow.specs.Laws.{fine_along, GatherLaw, StaysSoundLaw, CallStaysLaw}
 use Rattle.vx_flow.specs.Sound.{Stands, TurnStands, IsSound}
-use Rattle.vx_flow.proofs.Lookups.{chosen, along-none, along-append}
+use Rattle.vx_flow.proofs.Lookups.{along-none, along-append}
 use Rattle.vx_flow.proofs.Kept.{is-open, named-stays}
 use Rattle.vx_flow.proofs.Calm.{GoesOn, up, sample, take, dial, arrive, abort}
 use Rattle.vx_flow.proofs.Turning.{begin, move}

@@ -3,6 +3,7 @@ use Rattle.std.proofs.Common.{◌≡◌, ◌≢◌, ◌≤◌, ℕ, Bool, true, 
 use Rattle.std.specs.Prelude.{is_none, nat_le, ◌||◌, length, if◌then◌else◌}
 use Rattle.std.proofs.lemmas.Bool.{cases_Bool}
 use Rattle.std.proofs.lemmas.Option.{cond_some, same_Some}
+use Rattle.vx_lemmas.specs.Options.{mapped}
 use Rattle.vx_calls.specs.declared.codes.ErrorCode.{ErrorCode}
 use Rattle.vx_calls.specs.declared.codes.ErrorCode.TheVariants as code
 use Rattle.vx_calls.specs.declared.limits.TheConstants.{WRITE_MAX}
@@ -33,7 +34,6 @@ use Rattle.vx_rules.specs.Lines.{Lines, Refused, Waiting, Passed, holder_against
 use Rattle.vx_rules.specs.Effects.{task_of, stopped_reply}
 use Rattle.vx_rules.specs.Decide.{Outside, is_quiet, stand_on, turn_answer, job_answer, bus_answer, by_lines, settles, decide}
 use Rattle.vx_flow.specs.Laws.{marked_bytes, HeardLaw, HeardOnInterfaceLaw}
-use Rattle.vx_flow.proofs.Lookups.{mapped}
 use Rattle.vx_flow.proofs.Whom.{whole-just, heard-puts, heard-addressed}
 use Rattle.vx_flow.proofs.Making.{Answered, answer-parts}
 use Rattle.vx_flow.proofs.Plain.{found-has, IsLinkPlain, legal-plain}

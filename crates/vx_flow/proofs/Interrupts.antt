@@ -4,10 +4,13 @@ use Rattle.std.specs.Prelude.{not, nat_le, option_and_then}
 use Rattle.std.specs.Option.{option_map}
 use Rattle.std.proofs.lemmas.Bool.{eqb-true, ne_eqb, cases_eq}
 use Rattle.std.proofs.lemmas.Option.{same_Some}
+use Rattle.vx_lemmas.specs.Conditions.{chosen}
+use Rattle.vx_lemmas.specs.Lists.{found_passes, find-filter}
 use Rattle.vx_srq.specs.Desk.{Desk, Port, Channel, port_at, channel_at, port_with, with_channel, with_port, without_port, risen_port, queued_on, handles_of, sampled, taken_from, port_taken, taken}
+use Rattle.vx_srq.specs.ProvedLaws.{port_with-stays, port_taken-stays}
 use Rattle.vx_rules.specs.State.{State}
 use Rattle.vx_flow.specs.Laws.{ClosedLaw}
-use Rattle.vx_flow.proofs.Lookups.{find_append-some, find_append-none, find-filter, find_filter-gone, find-map, found_passes, chosen}
+use Rattle.vx_flow.proofs.Lookups.{find_append-some, find_append-none, find_filter-gone, find-map}
 
 -- the channel of a port that is found
 abbrev pub channel_of : Option Port → Option Channel
@@ -64,16 +67,10 @@ channel-down d conn mine = by (cases_eq conn mine) where
       (λ p e. ap not (ne_eqb p.connection conn (λ f. ne (sym f ∙ eqb-true p.connection mine e)))) d.ports))
 
 -- the connection has the channel, where it lives, and each other one keeps its own
-put-port : (conn : ℕ) (channel : Option Channel) (p : Port) → (port_with conn channel p).connection ≡ p.connection
-put-port conn channel p = by (p.connection == conn) where
-  by : (b : Bool) → (cond b (record p { channel = channel }) p).connection ≡ p.connection
-  by true = refl
-  by false = refl
-
 pub channel-put : (d : Desk) (conn mine : ℕ) (channel : Option Channel)
     → (channel_at (with_channel d conn channel) mine ≡ channel_at d mine) ⊎ (channel_at (with_channel d conn channel) mine ≡ channel)
 channel-put d conn mine channel =
-    by (port_at d mine) (ap channel_of (find-map (λ p. p.connection == mine) (port_with conn channel) (λ p. ap (λ n. n == mine) (put-port conn channel p)) d.ports))
+    by (port_at d mine) (ap channel_of (find-map (λ p. p.connection == mine) (port_with conn channel) (λ p. ap (λ n. n == mine) (port_with-stays conn channel p)) d.ports))
   where
     at : (p : Port) (b : Bool) → (channel_at (with_channel d conn channel) mine ≡ channel_of (Some (cond b (record p { channel = channel }) p)))
         → (channel_at (with_channel d conn channel) mine ≡ p.channel) ⊎ (channel_at (with_channel d conn channel) mine ≡ channel)
@@ -86,16 +83,10 @@ channel-put d conn mine channel =
     by (Some p) h = at p (p.connection == conn) h
 
 -- a take leaves the connection's channel without its front, and each other one as it was
-taken-port : (conn number : ℕ) (p : Port) → (port_taken conn number p).connection ≡ p.connection
-taken-port conn number p = by (p.connection == conn) where
-  by : (b : Bool) → (cond b (record p { channel = option_map (taken_from number) p.channel }) p).connection ≡ p.connection
-  by true = refl
-  by false = refl
-
 pub channel-taken : (d : Desk) (conn number mine : ℕ)
     → channel_at (taken d conn number) mine ≡ cond (mine == conn) (option_map (taken_from number) (channel_at d mine)) (channel_at d mine)
 channel-taken d conn number mine =
-    ap channel_of (find-map (λ p. p.connection == mine) (port_taken conn number) (λ p. ap (λ n. n == mine) (taken-port conn number p)) d.ports)
+    ap channel_of (find-map (λ p. p.connection == mine) (port_taken conn number) (λ p. ap (λ n. n == mine) (port_taken-stays conn number p)) d.ports)
     ∙ by (port_at d mine) refl
   where
     none : (b : Bool) → ◌≡◌ {A = Option Channel} None (cond b None None)

@@ -5,7 +5,6 @@ use Rattle.std.specs.Prelude.{if◌then◌else◌}
 use Rattle.std.proofs.lemmas.Bool.{true≢false, false≢true}
 use Rattle.vx_calls.specs.declared.codes.ErrorCode.{ErrorCode}
 use Rattle.vx_calls.specs.declared.codes.ErrorCode.TheVariants as code
-use Rattle.vx_calls.specs.declared.targets.Target.{Target}
 use Rattle.vx_calls.specs.Call.{Call}
 use Rattle.vx_calls.specs.Call as call
 use Rattle.vx_488.specs.declared.transfers.Transfer.{Transfer}
@@ -16,7 +15,7 @@ use Rattle.vx_plan.specs.declared.tasks.Task.{Task}
 use Rattle.vx_plan.specs.declared.tasks.Task.TheVariants as task
 use Rattle.vx_plan.specs.Plan.{Plan, This, fits, Off, left_after, stand_of, stand, done}
 use Rattle.vx_plan.specs.Tasks.{plan, is_own_task}
-use Rattle.vx_plan.proofs.Walks.{left_after-none}
+use Rattle.vx_plan.specs.ProvedLaws.{left_after-none}
 use Rattle.vx_plan.proofs.Turns.{own_stays-law}
 use Rattle.vx_links.specs.Table.{Link}
 use Rattle.vx_locks.specs.Locks.{holder_of}
@@ -29,26 +28,6 @@ use Rattle.vx_rules.specs.Effects.{task_on, task_of}
 use Rattle.vx_rules.specs.Decide.{stand_on}
 use Rattle.vx_flow.specs.Fine.{is_whole}
 use Rattle.vx_flow.specs.Sound.{Passes}
-
--- a call with a job is a bus call, and one that isn't has none
-pub bus-job : (t : Target) (asked : Call) (job : Task) → task_on t asked ≡ Some job → is_bus_call asked ≡ true
-bus-job t (call.Write lid io_timeout lock_timeout flags bytes) job h = refl
-bus-job t (call.Read lid request io_timeout lock_timeout flags term) job h = refl
-bus-job t (call.ReadStb generic) job h = refl
-bus-job t (call.Trigger generic) job h = refl
-bus-job t (call.Clear generic) job h = refl
-bus-job t (call.Remote generic) job h = refl
-bus-job t (call.Local generic) job h = refl
-bus-job t (call.Docmd lid flags io_timeout lock_timeout cmd big size bytes) job h = refl
-bus-job t _ job h = cc
-
-pub no-job : (about : NamedLink) (asked : Call) → is_bus_call asked ≡ false → task_of about asked ≡ None
-no-job NoLink asked h = refl
-no-job DeadLink asked h = refl
-no-job (OnLink l) asked h = by (task_on l.target asked) refl where
-  by : (o : Option Task) → task_on l.target asked ≡ o → o ≡ None
-  by None e = refl
-  by (Some job) e = absurd (true≢false (sym (bus-job l.target asked job e) ∙ h))
 
 -- the job of a call is that of its link
 pub job-link : (about : NamedLink) (asked : Call) (job : Task) → task_of about asked ≡ Some job → (l : Link) × (about ≡ OnLink l) × (task_on l.target asked ≡ Some job)

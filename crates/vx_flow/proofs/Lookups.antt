@@ -2,7 +2,7 @@
 use Rattle.std.proofs.Common.{◌≡◌, Bool, true, false, cond, List, [], ◌∷◌, ◌++◌, map, Option, Some, None, refl, sym, ap, ◌∙◌}
 use Rattle.std.specs.Option.{option_map, option_and_then}
 use Rattle.std.specs.List.{find, filter}
-use Rattle.std.proofs.lemmas.Bool.{cond-true, cond-false, true≢false, false≢true}
+use Rattle.std.proofs.lemmas.Bool.{cond-true, cond-false, true≢false}
 use Rattle.vx_rules.specs.Lists.{update_first, along}
 
 -- what was found before is found with more behind it
@@ -20,17 +20,6 @@ find_append-none q (y ∷ xs) ys h = by (q y) h (find_append-none q xs ys) where
   by : (b : Bool) → cond b (Some y) (find q xs) ≡ None → (find q xs ≡ None → find q (xs ++ ys) ≡ find q ys) → cond b (Some y) (find q (xs ++ ys)) ≡ find q ys
   by true h rest = cc
   by false h rest = rest h
-
--- a filter that keeps all that is looked for
-pub find-filter : {X : Type 0} (q keep : X → Bool) → ((x : X) → q x ≡ true → keep x ≡ true) → (xs : List X) → find q (filter keep xs) ≡ find q xs
-find-filter q keep h [] = refl
-find-filter q keep h (x ∷ xs) = by (q x) (keep x) refl (h x) (find-filter q keep h xs) where
-  by : (b k : Bool) → q x ≡ b → (b ≡ true → k ≡ true) → find q (filter keep xs) ≡ find q xs
-      → find q (cond k (x ∷ filter keep xs) (filter keep xs)) ≡ cond b (Some x) (find q xs)
-  by true true e g rest = cond-true (q x) _ _ e
-  by false true e g rest = cond-false (q x) _ _ e ∙ rest
-  by true false e g rest = absurd (false≢true (g refl))
-  by false false e g rest = rest
 
 -- what isn't found isn't found in a part
 pub find_filter-none : {X : Type 0} (q keep : X → Bool) (xs : List X) → find q xs ≡ None → find q (filter keep xs) ≡ None
@@ -78,29 +67,6 @@ find_update-here q g same (x ∷ xs) = by (q x) refl (find_update-here q g same 
       → find q (cond b (g x ∷ xs) (x ∷ update_first q g xs)) ≡ option_map g (cond b (Some x) (find q xs))
   by true e rest = cond-true (q (g x)) _ _ (same x ∙ e)
   by false e rest = cond-false (q x) _ _ e ∙ rest
-
--- what is found passes the test
-pub found_passes : {X : Type 0} (q : X → Bool) (xs : List X) (x : X) → find q xs ≡ Some x → q x ≡ true
-found_passes q [] x h = cc
-found_passes q (y ∷ xs) x h = by (q y) refl h (found_passes q xs x) where
-  by : (b : Bool) → q y ≡ b → cond b (Some y) (find q xs) ≡ Some x → (find q xs ≡ Some x → q x ≡ true) → q x ≡ true
-  by true e h rest = let same : y ≡ x = cc in ap q (sym same) ∙ e
-  by false e h rest = rest h
-
--- what was mapped from
-pub mapped : {A B : Type 0} (f : A → B) (o : Option A) (y : B) → option_map f o ≡ Some y → (x : A) × (o ≡ Some x) × (f x ≡ y)
-mapped f None y h = cc
-mapped f (Some x) y h = (x, refl, cc)
-
--- what was gone on with
-pub gone_on : {A B : Type 0} (f : A → Option B) (o : Option A) (y : B) → option_and_then f o ≡ Some y → (x : A) × (o ≡ Some x) × (f x ≡ Some y)
-gone_on f None y h = cc
-gone_on f (Some x) y h = (x, refl, h)
-
--- what a test chose, where it chose anything
-pub chosen : {A : Type 0} (b : Bool) (o : Option A) (x : A) → cond b o None ≡ Some x → (b ≡ true) × (o ≡ Some x)
-chosen true o x h = (refl, h)
-chosen false o x h = cc
 
 -- nothing comes behind an event that isn't allowed
 pub along-none : {S E : Type 0} (step : S → E → Option S) (es : List E) → along step None es ≡ None

@@ -4,6 +4,8 @@ use Rattle.std.specs.Prelude.{is_none, nat_le, ◌&&◌, ◌||◌}
 use Rattle.std.specs.Option.{option_map, option_and_then}
 use Rattle.std.proofs.lemmas.Bool.{true≢false, false≢true, and_parts, cond-false}
 use Rattle.std.proofs.lemmas.Option.{cond_some}
+use Rattle.vx_lemmas.specs.Conditions.{chosen}
+use Rattle.vx_lemmas.specs.Options.{mapped, gone_on}
 use Rattle.vx_calls.specs.declared.codes.ErrorCode.{ErrorCode}
 use Rattle.vx_calls.specs.declared.codes.ErrorCode.TheVariants as code
 use Rattle.vx_calls.specs.Call.{Call}
@@ -25,9 +27,9 @@ use Rattle.vx_rules.specs.Effects.{task_on, task_of, stopped_reply, effect}
 use Rattle.vx_rules.specs.Decide.{Outside, is_quiet, stand_on, turn_answer, job_answer, bus_answer, dialed_answer, passed_answer, by_lines, settles, decide, is_nothing, begun_between, may_tell, is_part, has_job_role, is_part_of, may_have_made, passed_fits, lines_fit, turn_fits}
 use Rattle.vx_rules.specs.Entry as entry
 use Rattle.vx_rules.specs.One.{one, answer, answer_to, answered, if_reply, call_fits, may_leave}
+use Rattle.vx_rules.specs.ProvedLaws.{bus-job}
 use Rattle.vx_flow.specs.Sound.{Passes}
-use Rattle.vx_flow.proofs.Lookups.{mapped, gone_on, chosen}
-use Rattle.vx_flow.proofs.Jobs.{bus-job, job-link, against, passes-parts}
+use Rattle.vx_flow.proofs.Jobs.{job-link, against, passes-parts}
 
 -- transfers on the plan of a call's job, where the first lines let the call pass
 pub record Made (t : Tables) (w : Wire) (conn : ℕ) (p : Pending) (moves : List Transfer) : Type 0 where

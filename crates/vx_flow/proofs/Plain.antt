@@ -4,9 +4,10 @@ use Rattle.std.proofs.Common.{◌≡◌, ◌≢◌, ◌≤◌, ◌==◌, ℕ, Bo
 use Rattle.std.specs.Prelude.{is_some, nat_le, not, ◌&&◌, length}
 use Rattle.std.specs.Option.{option_map}
 use Rattle.std.specs.List.{find, list_any, All}
-use Rattle.std.proofs.lemmas.Bool.{cases_Bool, true≢false, false≢true, and_parts, or_parts, not-true, leb-true, eqb-false}
+use Rattle.std.proofs.lemmas.Bool.{cases_Bool, true≢false, and_parts, or_parts, not-true, leb-true, eqb-false}
 use Rattle.std.proofs.lemmas.Option.{cond_some, none-some, same_Some}
 use Rattle.std.proofs.lemmas.List.Elements.{All-nil, All-cons, All-head, All-tail, All-push, All-filter, All-weaker}
+use Rattle.vx_lemmas.specs.Conditions.{passes}
 use Rattle.vx_calls.specs.declared.calls.Role.TheVariants as role
 use Rattle.vx_calls.specs.declared.codes.ErrorCode.{ErrorCode}
 use Rattle.vx_calls.specs.declared.codes.ErrorCode.TheVariants as code
@@ -26,6 +27,7 @@ use Rattle.vx_plan.specs.declared.tasks.Task.{Task}
 use Rattle.vx_plan.specs.declared.tasks.Task.TheVariants as task
 use Rattle.vx_plan.specs.Plan.{Off, stand}
 use Rattle.vx_plan.specs.Tasks.{plan, is_own_task, IsTargetPlain}
+use Rattle.vx_plan.specs.ProvedLaws.{own-job, reachable-plain}
 use Rattle.vx_plan.proofs.Turns.{own_stays-law}
 use Rattle.vx_links.specs.Table.{Link, Table, is_live, is_at, uses_address}
 use Rattle.vx_locks.specs.Locks.{holds, with_lock}
@@ -41,8 +43,8 @@ use Rattle.vx_rules.specs.Decide.{Outside, settles}
 use Rattle.vx_rules.specs.Entry.{Entry, Up, Down, Arrive, Answer, Abort, Sample, Take}
 use Rattle.vx_rules.specs.One.{one, may_wait, arrived, marked, abort_reply, abort_tables, may_leave}
 use Rattle.vx_rules.specs.Legal.{legal_state}
+use Rattle.vx_rules.specs.ProvedLaws.{bus-job}
 use Rattle.vx_flow.proofs.Lookups.{along-none}
-use Rattle.vx_flow.proofs.Jobs.{bus-job}
 use Rattle.vx_flow.proofs.Changes.{Found, Same, Settled, Effected, decide-found}
 use Rattle.vx_flow.proofs.Whom.{just-front}
 use Rattle.vx_flow.proofs.Making.{Made, MadeAny, answer-parts, answer-made, leave-made}
@@ -101,12 +103,6 @@ IsLinkReachable own l = IsReachable own l.target
 
 abbrev pub AllReachable : ℕ → List Link → Type 0
 AllReachable own links = All (IsLinkReachable own) links
-
--- such a device's addresses are plain
-reachable-plain : (own : ℕ) (t : Target) → IsReachable own t → IsTargetPlain t
-reachable-plain own Interface h = tt
-reachable-plain own (Device p None) h = (h.0, tt)
-reachable-plain own (Device p (Some s)) h = (h.0, h.2)
 
 -- what is found in a list has what all of it has
 pub found-has : {X : Type 0} (P : X → Type 0) (q : X → Bool) (xs : List X) (x : X) → find q xs ≡ Some x → All P xs → P x
@@ -185,15 +181,11 @@ OwnHas P _ = Unit {0}
 abbrev OfUnused : (ℕ → Type 0) → Table → Type 0
 OfUnused P links = (n : ℕ) → n ≤ ADDRESS_MAX → uses_address links n ≡ false → P n
 
-takes : (b : Bool) → cond b None (Some code.Parameter) ≡ None → b ≡ true
-takes true h = refl
-takes false h = cc
-
 command-has : (P : ℕ → Type 0) (t : Tables) (own : ℕ) (big : Bool) (bytes : List ℕ) (c : Command) → OfUnused P t.links
     → check_command t own big bytes (Some c) ≡ None → OwnHas P (command_task c big bytes)
 command-has P t own big bytes BusAddress unused h =
     let n = number_in big bytes in
-    let both = and_parts (has_length BusAddress (length bytes)) (takes_number BusAddress own t.links n) (takes (takes_input BusAddress own t.links big bytes) h) in
+    let both = and_parts (has_length BusAddress (length bytes)) (takes_number BusAddress own t.links n) (passes (takes_input BusAddress own t.links big bytes) code.Parameter h) in
     let number = and_parts (nat_le n ADDRESS_MAX) (not (uses_address t.links n)) both.1 in
     unused n (leb-true n ADDRESS_MAX number.0) (not-true (uses_address t.links n) number.1)
 command-has P t own big bytes _ unused h = tt
@@ -215,10 +207,6 @@ own-has P t own l (call.Docmd lid flags io_timeout lock_timeout cmd big size byt
   by true None e h = cc
   by true (Some c) e h = subst (OwnHas P) (same_Some (command_task c big bytes) job e) (command-has P t own big bytes c unused h)
 own-has P t own l _ job unused e h = cc
-
-own-job : (job : Task) → is_own_task job ≡ true → (n : ℕ) × (job ≡ task.Own n)
-own-job (task.Own n) h = (n, refl)
-own-job _ h = absurd (false≢true h)
 
 own-front : (P : ℕ → Type 0) (n : ℕ) (ts more : List Transfer) (w : Wire) → P w.own → P n → ts ++ more ≡ transfer.Own n ∷ [] → P (wire_after w ts).own
 own-front P n [] more w h new e = h

@@ -5,6 +5,8 @@ use Rattle.std.specs.Option.{option_map, option_and_then}
 use Rattle.std.specs.List.{list_any}
 use Rattle.std.proofs.lemmas.Bool.{and_parts, or_parts, leb-true, le-leb, not-true, eqb-true, eqb-false, ne_eqb}
 use Rattle.std.proofs.lemmas.Option.{cond_some, none-some, same_Some}
+use Rattle.vx_lemmas.specs.Conditions.{chosen}
+use Rattle.vx_lemmas.specs.Options.{mapped, gone_on}
 use Rattle.vx_calls.specs.Reply.{Reply, same_reply}
 use Rattle.vx_488.specs.declared.wire.Wire.{Wire}
 use Rattle.vx_488.specs.Wire.{wire_after}
@@ -15,12 +17,12 @@ use Rattle.vx_rules.specs.Lines.{Passed, lock_request, first_lines}
 use Rattle.vx_rules.specs.Decide.{Outside, settles, decide, has_job_role, turn_fits}
 use Rattle.vx_rules.specs.Entry as entry
 use Rattle.vx_rules.specs.One.{answer, answer_to, answered, if_reply}
+use Rattle.vx_rules.specs.ProvedLaws.{no-job}
 use Rattle.vx_flow.specs.Event.{Answer}
 use Rattle.vx_flow.specs.FineState.{Turn, FineState, before_turn, turn_of, begun_of, moves_of, turn_after}
 use Rattle.vx_flow.specs.Fine.{job_of, is_whole, turn_stand, comes_in_turn, turn_target, call_target, target_on, on_conflict, waits_for_turn, wire_for, outside, passes_lines, is_answered, without_dial, answered_fine, fine_step, wire_before}
 use Rattle.vx_flow.specs.Sound.{Stands, IsSound}
-use Rattle.vx_flow.proofs.Lookups.{mapped, gone_on, chosen}
-use Rattle.vx_flow.proofs.Jobs.{no-job, own-stays}
+use Rattle.vx_flow.proofs.Jobs.{own-stays}
 use Rattle.vx_flow.proofs.Kept.{Goes, IsOpen, Stays, open_cond, turn-stand, calm}
 use Rattle.vx_flow.proofs.Calm.{GoesOn}
 use Rattle.vx_flow.proofs.Turning.{in_turn}

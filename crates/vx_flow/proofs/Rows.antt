@@ -3,21 +3,19 @@ use Rattle.std.proofs.Common.{◌≡◌, ◌≢◌, ◌==◌, ℕ, Bool, true, f
 use Rattle.std.specs.Option.{option_map, option_and_then}
 use Rattle.std.specs.List.{find}
 use Rattle.std.proofs.lemmas.Bool.{eqb-true, ne_eqb, and_parts}
+use Rattle.vx_lemmas.specs.Lists.{find-filter}
+use Rattle.vx_lemmas.specs.Conditions.{apart}
 use Rattle.vx_calls.specs.declared.calls.Role.{Role}
 use Rattle.vx_calls.specs.declared.targets.Target.{Target}
 use Rattle.vx_links.specs.Table.{Link}
 use Rattle.vx_rules.specs.State.{Pending, Connection, Tables, connection_at, pending_at, link_of, with_pending, with_connection, without_connection, with_link, without_link}
 use Rattle.vx_rules.specs.One.{mark_call, mark_on, marked}
-use Rattle.vx_flow.proofs.Lookups.{find_append-some, find_append-none, find-filter, find_filter-gone, find-map, find_update-other, find_update-here}
-
--- two connections of different numbers
-apart : (n m : ℕ) → n ≢ m → (c : Connection) → (c.number == n) ≡ true → (c.number == m) ≡ false
-apart n m ne c e = ne_eqb c.number m (λ f. ne (sym (eqb-true c.number n e) ∙ f))
+use Rattle.vx_flow.proofs.Lookups.{find_append-some, find_append-none, find_filter-gone, find-map, find_update-other, find_update-here}
 
 -- another connection's pending call stays
 pub pending-other : (t : Tables) (n m : ℕ) (p : Option Pending) → n ≢ m → pending_at (with_pending t n p) m ≡ pending_at t m
 pending-other t n m p ne =
-    ap (option_and_then (λ c. c.pending)) (find_update-other (λ c. c.number == m) (λ c. c.number == n) (λ c. record c { pending = p }) (apart n m ne) (λ c. refl) t.connections)
+    ap (option_and_then (λ c. c.pending)) (find_update-other (λ c. c.number == m) (λ c. c.number == n) (λ c. record c { pending = p }) (λ c. apart n m ne c.number) (λ c. refl) t.connections)
 
 -- a pending call of the connection itself is the new one
 pub pending-here : (t : Tables) (n : ℕ) (p : Option Pending) (q : Pending) → pending_at (with_pending t n p) n ≡ Some q → p ≡ Some q
@@ -50,7 +48,7 @@ pending-gone t n = ap (option_and_then (λ c. c.pending)) (find_filter-gone (λ 
 pub pending-others : (t : Tables) (n m : ℕ) → n ≢ m → pending_at (without_connection t n) m ≡ pending_at t m
 pending-others t n m ne =
     ap (option_and_then (λ c. c.pending))
-    (find-filter (λ c. c.number == m) (λ c. not (c.number == n)) (λ c e. ap not (apart m n (λ f. ne (sym f)) c e)) t.connections)
+    (find-filter (λ c. c.number == m) (λ c. not (c.number == n)) (λ c e. ap not (apart m n (λ f. ne (sym f)) c.number e)) t.connections)
 
 -- the calls that name a link are marked
 pub pending-marked : (t : Tables) (lid m : ℕ) → pending_at (marked t lid) m ≡ option_map (mark_call lid) (pending_at t m)

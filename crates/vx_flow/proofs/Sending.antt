@@ -3,11 +3,12 @@ use Rattle.std.proofs.Common.{◌≡◌, ◌≢◌, ◌≤◌, ◌<◌, ◌==◌
 use Rattle.std.specs.Prelude.{◌%◌, ◌^◌, length, is_some, nat_le, ◌&&◌, option_and_then}
 use Rattle.std.specs.Option.{option_map, option_map_or}
 use Rattle.std.specs.List.{filter, flat_map}
-use Rattle.std.specs.Str.{bytes_eq}
 use Rattle.std.proofs.lemmas.Bool.{false≢true, and_parts, cond-true, cond-false, eqb-true, eq-eqb, ne_eqb, cases_eq}
 use Rattle.std.proofs.lemmas.List.{append-nil, append_assoc}
 use Rattle.std.proofs.lemmas.Option.{cond_some, none-some, same_Some}
-use Rattle.std.proofs.lemmas.Slice.Eq.{bytes_eq-Decides}
+use Rattle.std.proofs.Math.Nat.{le_refl}
+use Rattle.vx_lemmas.specs.Conditions.{chosen}
+use Rattle.vx_lemmas.specs.Options.{mapped, gone_on}
 use Rattle.vx_calls.specs.declared.calls.Role.{Role}
 use Rattle.vx_calls.specs.declared.calls.Role.TheVariants as role
 use Rattle.vx_calls.specs.declared.codes.ErrorCode.{ErrorCode}
@@ -30,10 +31,11 @@ use Rattle.vx_rules.specs.Checks.{NamedLink, NoLink, DeadLink, OnLink, named_lin
 use Rattle.vx_rules.specs.Effects.{create, locked, effect_on, effect, settle}
 use Rattle.vx_rules.specs.Decide.{Outside, decide}
 use Rattle.vx_rules.specs.Entry.{Entry, Up, Down, Arrive, Answer, Abort, Sample, Take}
-use Rattle.vx_rules.specs.One.{one, may_wait, arrived, may_leave, answered, answer_to, answer, call_fits, if_reply, marked, abort_reply, abort_tables, same_srq, same_given}
+use Rattle.vx_rules.specs.One.{one, may_wait, arrived, may_leave, answered, answer_to, answer, call_fits, if_reply, marked, abort_reply, abort_tables, same_given}
 use Rattle.vx_rules.specs.Legal.{Due, is_rise_at, is_enabled, due_of, due_in, has_channel, handles_due, queued_along}
+use Rattle.vx_rules.specs.ProvedLaws.{same_srq-is}
 use Rattle.vx_flow.specs.Laws.{srqs_of, sent, QueuedLaw}
-use Rattle.vx_flow.proofs.Lookups.{mapped, gone_on, chosen, along-none}
+use Rattle.vx_flow.proofs.Lookups.{along-none}
 use Rattle.vx_flow.proofs.Changes.{Found, Same, Settled, Effected, decide-found}
 use Rattle.vx_flow.proofs.Interrupts.{channel-risen, channel-up, channel-down, channel-put, channel-taken}
 
@@ -56,17 +58,6 @@ sent-more xid program version (h ∷ hs) handle = ap (λ rest. call_of xid progr
 xid-more : (xid : ℕ) (handles : List (List ℕ)) (handle : List ℕ) → xid_after xid (handles ++ handle ∷ []) ≡ (xid_after xid handles + 1) % (2 ^ 32)
 xid-more xid [] handle = refl
 xid-more xid (h ∷ hs) handle = xid-more ((xid + 1) % (2 ^ 32)) hs handle
-
--- interrupts that the test takes for one are one
-same_srq-is : (a b : Srq) → same_srq a b ≡ true → a ≡ b
-same_srq-is a b h =
-    let bytes = and_parts ((a.xid == b.xid) && (a.program == b.program) && (a.version == b.version)) (bytes_eq a.handle b.handle) h in
-    let version = and_parts ((a.xid == b.xid) && (a.program == b.program)) (a.version == b.version) bytes.0 in
-    let program = and_parts (a.xid == b.xid) (a.program == b.program) version.0 in
-    ap (λ x. call_of x a.program a.version a.handle) (eqb-true a.xid b.xid program.0)
-    ∙ ap (λ x. call_of b.xid x a.version a.handle) (eqb-true a.program b.program program.1)
-    ∙ ap (λ x. call_of b.xid b.program x a.handle) (eqb-true a.version b.version version.1)
-    ∙ ap (λ x. call_of b.xid b.program b.version x) ((bytes_eq-Decides a.handle b.handle).0 bytes.1)
 
 -- ---- what is kept
 
@@ -106,9 +97,6 @@ pub data Changed (mine : ℕ) (d u : Desk) : Type 0 where
   Shut : d.next_channel ≤ u.next_channel → channel_at u mine ≡ None → Changed mine d u
   Opened : (program version : ℕ) → u.next_channel ≡ d.next_channel + 1 → channel_at u mine ≡ Some (new_channel d.next_channel program version) → Changed mine d u
 
-le_self : (n : ℕ) → n ≤ n
-le_self n = omega arith
-
 le_more : (n : ℕ) → n ≤ n + 1
 le_more n = omega arith
 
@@ -139,8 +127,8 @@ kept-changed mine d u took queued (Opened program version more made) k = record 
     new : IsSent (new_channel d.next_channel program version) (took d.next_channel) (queued d.next_channel)
     new = record {
       handles = [];
-      calls = k.none_took d.next_channel (le_self d.next_channel);
-      waits = sym (k.none_queued d.next_channel (le_self d.next_channel));
+      calls = k.none_took d.next_channel (le_refl d.next_channel);
+      waits = sym (k.none_queued d.next_channel (le_refl d.next_channel));
       next = refl;
     }
 
@@ -155,24 +143,24 @@ quiet-kept mine s t took queued change k =
 
 -- by entry: a desk that stays; connections that come up and go down; a channel that is closed or made; marked calls
 desk-same : (mine : ℕ) (d : Desk) → Changed mine d d
-desk-same mine d = Stayed (le_self d.next_channel) refl
+desk-same mine d = Stayed (le_refl d.next_channel) refl
 
 up-changed : (mine : ℕ) (t : Tables) (r : Role) → Changed mine t.desk (with_connection t r).desk
-up-changed mine t role.Core = Stayed (le_self t.desk.next_channel) (channel-up t.desk t.next_connection mine)
+up-changed mine t role.Core = Stayed (le_refl t.desk.next_channel) (channel-up t.desk t.next_connection mine)
 up-changed mine t role.Abort = desk-same mine t.desk
 
 down-changed : (mine : ℕ) (t : Tables) (conn : ℕ) → Changed mine t.desk (without_connection t conn).desk
 down-changed mine t conn = by (channel-down t.desk conn mine) where
   by : (channel_at (without_connection t conn).desk mine ≡ channel_at t.desk mine) ⊎ (channel_at (without_connection t conn).desk mine ≡ None)
       → Changed mine t.desk (without_connection t conn).desk
-  by (inl same) = Stayed (le_self t.desk.next_channel) same
-  by (inr gone) = Shut (le_self t.desk.next_channel) gone
+  by (inl same) = Stayed (le_refl t.desk.next_channel) same
+  by (inr gone) = Shut (le_refl t.desk.next_channel) gone
 
 closed-changed : (mine : ℕ) (d : Desk) (conn : ℕ) → Changed mine d (with_channel d conn None)
 closed-changed mine d conn = by (channel-put d conn mine None) where
   by : (channel_at (with_channel d conn None) mine ≡ channel_at d mine) ⊎ (channel_at (with_channel d conn None) mine ≡ None) → Changed mine d (with_channel d conn None)
-  by (inl same) = Stayed (le_self d.next_channel) same
-  by (inr gone) = Shut (le_self d.next_channel) gone
+  by (inl same) = Stayed (le_refl d.next_channel) same
+  by (inr gone) = Shut (le_refl d.next_channel) gone
 
 made-changed : (mine : ℕ) (d : Desk) (conn program version : ℕ) → Changed mine d (with_new_channel d conn program version)
 made-changed mine d conn program version = by (channel-put d conn mine (Some (new_channel d.next_channel program version))) where
@@ -207,8 +195,8 @@ locked-changed mine t k = by (holds t.locks k.number) where
 effect_on-changed : (mine : ℕ) (t : Tables) (conn : ℕ) (k : Link) (asked : Call) → FoundChanged mine t.desk (effect_on t conn k asked)
 effect_on-changed mine t conn k (call.Lock lid flags lock_timeout) = locked-changed mine t k
 effect_on-changed mine t conn k (call.Unlock lid) = desk-same mine t.desk
-effect_on-changed mine t conn k (call.EnableSrq lid enable handle) = Stayed (le_self t.desk.next_channel) refl
-effect_on-changed mine t conn k (call.DestroyLink lid) = Stayed (le_self t.desk.next_channel) refl
+effect_on-changed mine t conn k (call.EnableSrq lid enable handle) = Stayed (le_refl t.desk.next_channel) refl
+effect_on-changed mine t conn k (call.DestroyLink lid) = Stayed (le_refl t.desk.next_channel) refl
 effect_on-changed mine t conn k _ = tt
 
 effect-changed : (mine : ℕ) (t : Tables) (own conn : ℕ) (about : NamedLink) (asked : Call) → FoundChanged mine t.desk (effect t own conn about asked)
@@ -269,7 +257,7 @@ nothing-kept : (mine conn number : ℕ) (d : Desk) (told : Given) (took : ℕ �
 nothing-kept mine conn number d told took queued none same k =
     kept-same mine (taken d conn number) took (λ n. took n ++ srqs_of mine n (Take conn number told)) queued (λ n. queued n ++ [])
     (λ n. ap (λ x. took n ++ x) (none n) ∙ append-nil (took n)) (λ n. append-nil (queued n))
-    (kept-changed mine d (taken d conn number) took queued (Stayed (le_self d.next_channel) same) k)
+    (kept-changed mine d (taken d conn number) took queued (Stayed (le_refl d.next_channel) same) k)
 
 -- a channel whose front was taken
 front-sent : (c : Channel) (handle : List ℕ) (rest : List (List ℕ)) (took fresh : List Srq) (queued : List (List ℕ)) → c.outbox ≡ handle ∷ rest
@@ -435,7 +423,7 @@ risen-kept mine s level took queued k = by (channel_at d mine) refl (channel-ris
   by : (o : Option Channel) → channel_at d mine ≡ o → channel_at u mine ≡ option_and_then (queued_on more) o → Kept mine u (λ n. took n ++ []) (λ n. queued n ++ rise_queues mine s n)
   by None here after =
       kept-same mine u took (λ n. took n ++ []) queued (λ n. queued n ++ rise_queues mine s n) (λ n. append-nil (took n))
-      (λ n. ap (λ x. queued n ++ x) (rise-none mine s n here) ∙ append-nil (queued n)) (kept-changed mine d u took queued (Shut (le_self d.next_channel) after) k)
+      (λ n. ap (λ x. queued n ++ x) (rise-none mine s n here) ∙ append-nil (queued n)) (kept-changed mine d u took queued (Shut (le_refl d.next_channel) after) k)
   by (Some c) here after = full c here (nat_le (length (c.outbox ++ more)) OUTBOX_MAX) after
 
 sampled-kept : (mine : ℕ) (s : State) (level : Bool) (took : ℕ → List Srq) (queued : ℕ → List (List ℕ)) → Kept mine s.tables.desk took queued
@@ -447,7 +435,7 @@ sampled-kept mine s level took queued k = by (is_rise s.tables.desk.level level)
   by true = risen-kept mine s level took queued k
   by false =
       kept-same mine (record s.tables.desk { level = level }) took (λ n. took n ++ []) queued (λ n. queued n ++ []) (λ n. append-nil (took n)) (λ n. append-nil (queued n))
-      (kept-changed mine s.tables.desk (record s.tables.desk { level = level }) took queued (Stayed (le_self s.tables.desk.next_channel) refl) k)
+      (kept-changed mine s.tables.desk (record s.tables.desk { level = level }) took queued (Stayed (le_refl s.tables.desk.next_channel) refl) k)
 
 -- ---- entries and histories
 

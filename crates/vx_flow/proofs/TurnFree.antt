@@ -4,6 +4,7 @@ use Rattle.std.proofs.Common.{◌≡◌, ◌==◌, ℕ, Bool, true, false, cond,
 use Rattle.std.specs.Prelude.{is_none, nat_le, ◌&&◌}
 use Rattle.std.proofs.lemmas.Bool.{cases_Bool, false≢true, and_parts}
 use Rattle.std.proofs.lemmas.Option.{cond_some, none-some, same_Some}
+use Rattle.vx_lemmas.specs.Conditions.{chosen}
 use Rattle.vx_calls.specs.declared.codes.ErrorCode.TheVariants as code
 use Rattle.vx_calls.specs.Reply.{Reply}
 use Rattle.vx_488.specs.declared.transfers.Transfer.{Transfer}
@@ -17,14 +18,14 @@ use Rattle.vx_rules.specs.State.{Pending, Tables, State, pending_at}
 use Rattle.vx_rules.specs.Checks.{OnLink, named_link}
 use Rattle.vx_rules.specs.Lines.{Lines, Refused, Waiting, Passed, later_lines, first_lines}
 use Rattle.vx_rules.specs.Decide.{has_job_role}
+use Rattle.vx_rules.specs.ProvedLaws.{no-job}
 use Rattle.vx_flow.specs.Event.{Event, Up, Down, Arrive, Answer, Abort, Sample, Take, Begin, Move, Dial}
 use Rattle.vx_flow.specs.FineState.{Turn, FineState, first_fine, before_turn, turn_after}
 use Rattle.vx_flow.specs.Fine.{job_of, is_passed, may_begin, may_move, comes_in_turn, fine_after, fine_step, fine}
 use Rattle.vx_flow.specs.Gather.{gather}
 use Rattle.vx_flow.specs.Laws.{TurnFreeLaw}
 use Rattle.vx_flow.specs.Sound.{Stands, TurnStands, IsSound}
-use Rattle.vx_flow.proofs.Lookups.{chosen, along-none}
-use Rattle.vx_flow.proofs.Jobs.{no-job}
+use Rattle.vx_flow.proofs.Lookups.{along-none}
 use Rattle.vx_flow.proofs.Kept.{Stays, named-stays}
 use Rattle.vx_flow.proofs.Making.{later-passes}
 use Rattle.vx_flow.proofs.Plain.{IsLinkReachable, found-has, legal-plain}

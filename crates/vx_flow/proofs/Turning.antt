@@ -3,11 +3,13 @@ use Rattle.std.proofs.Common.{◌≡◌, ◌≢◌, ◌≤◌, ◌==◌, ℕ, Bo
 use Rattle.std.specs.Prelude.{is_none, nat_le, not, ◌&&◌}
 use Rattle.std.proofs.lemmas.Bool.{true≢false, false≢true, and_parts, leb-true, eqb-true}
 use Rattle.std.proofs.lemmas.Option.{cond_some, none-some}
+use Rattle.vx_lemmas.specs.Options.{none-is}
 use Rattle.vx_488.specs.declared.transfers.Transfer.{Transfer}
 use Rattle.vx_488.specs.declared.wire.Wire.{Wire}
-use Rattle.vx_488.specs.Wire.{wire_after, step}
+use Rattle.vx_488.specs.Wire.{wire_after}
+use Rattle.vx_488.specs.ProvedLaws.{wire_after-append}
 use Rattle.vx_plan.specs.declared.tasks.Task.{Task}
-use Rattle.vx_plan.specs.Plan.{Slot, Reading, Plan, Stand, Whole, Part, Off, stand_of, stand}
+use Rattle.vx_plan.specs.Plan.{Slot, Reading, Plan, Off, stand_of, stand}
 use Rattle.vx_plan.specs.Tasks.{plan}
 use Rattle.vx_plan.specs.Roles.{has_role}
 use Rattle.vx_rules.specs.Calls.{bytes_of}
@@ -15,19 +17,17 @@ use Rattle.vx_rules.specs.State.{Pending, Tables, State, pending_at}
 use Rattle.vx_rules.specs.Checks.{named_link}
 use Rattle.vx_rules.specs.Lines.{lets_pass}
 use Rattle.vx_rules.specs.Decide.{stand_on, has_job_role}
+use Rattle.vx_rules.specs.ProvedLaws.{bus-job}
 use Rattle.vx_flow.specs.Event.{Begin, Move}
 use Rattle.vx_flow.specs.FineState.{Turn, FineState}
 use Rattle.vx_flow.specs.Fine.{job_of, is_whole, is_on, may_begin, goes_on, turn_stand, fine_after, fine_step}
 use Rattle.vx_flow.specs.Sound.{Stands, TurnStands, IsSound}
-use Rattle.vx_flow.proofs.Jobs.{bus-job, job-link, own-stays, passes-parts}
+use Rattle.vx_flow.specs.ProvedLaws.{on-is}
+use Rattle.vx_flow.proofs.Jobs.{job-link, own-stays, passes-parts}
 use Rattle.vx_flow.proofs.Kept.{Goes, IsOpen, turn-stand}
 use Rattle.vx_flow.proofs.Calm.{GoesOn}
 
 -- ---- a turn begins
-
-none_is : {A : Type 0} (o : Option A) → is_none o ≡ true → o ≡ None
-none_is None h = refl
-none_is (Some x) h = absurd (false≢true h)
 
 -- the empty list keeps to every plan
 pub begun-on : (p : Plan) → stand p [] ≢ Off
@@ -79,7 +79,7 @@ begin f g k conn now sound early h =
     let first = and_parts (is_none f.turn) (nat_le f.state.moment now) tests.0 in
     let le : f.state.moment ≤ now = leb-true f.state.moment now first.1 in
     let asked = begin-parts f.state conn now (pending_at t conn) tests.1 in
-    let calm : f.before ≡ w = subst (TurnStands t f.before w f.state.moment) (none_is f.turn first.0) sound.turn_stands in
+    let calm : f.before ≡ w = subst (TurnStands t f.before w f.state.moment) (none-is f.turn first.0) sound.turn_stands in
     let came = sound.have_come conn asked.0 asked.1 in
     subst (Goes f k [] (Some (record { connection = conn; begun = now; moves = [] }))) parts.1 (record {
       moment = k;
@@ -90,19 +90,10 @@ begin f g k conn now sound early h =
         turn_stands = begun-stands t w conn now asked.0 asked.1 asked.2 (omega (arith, came, le));
         have_come = λ m p at. let earlier = sound.have_come m p at in omega arith;
       };
-      stays = λ u same is s. absurd (none-some u (sym (none_is f.turn first.0) ∙ is));
+      stays = λ u same is s. absurd (none-some u (sym (none-is f.turn first.0) ∙ is));
     })
 
 -- ---- a turn makes transfers
-
-pub wire_after-append : (w : Wire) (xs ys : List Transfer) → wire_after w (xs ++ ys) ≡ wire_after (wire_after w xs) ys
-wire_after-append w [] ys = refl
-wire_after-append w (x ∷ xs) ys = wire_after-append (step w x) xs ys
-
-pub on-is : (s : Stand) → is_on s ≡ true → s ≢ Off
-on-is Whole h e = cc
-on-is Part h e = cc
-on-is Off h e = false≢true h
 
 -- a turn goes on while its call is unmarked and passes
 pub goes-parts : (s : State) (conn : ℕ) (o : Option Pending) (p : Pending) → o ≡ Some p → goes_on s conn o ≡ true

@@ -3,8 +3,10 @@ use Rattle.std.proofs.Common.{◌≡◌, ◌≤◌, ◌==◌, ℕ, Bool, true, f
 use Rattle.std.specs.Prelude.{if◌then◌else◌, nat_le, is_none, is_some, not, ◌&&◌, ◌||◌}
 use Rattle.std.specs.Option.{option_map, option_and_then}
 use Rattle.std.specs.List.{list_any}
-use Rattle.std.proofs.lemmas.Bool.{and_from, cond-true, cond-false, le-leb, true≢false, eqb-true, eq-eqb}
+use Rattle.std.proofs.lemmas.Bool.{and_from, cond-true, cond-false, le-leb, true≢false, eqb-true, eq-eqb, or_parts}
 use Rattle.std.proofs.lemmas.Option.{same_Some}
+use Rattle.std.proofs.Math.Bool.{and-false, or-true}
+use Rattle.vx_lemmas.specs.Conditions.{eqb-self}
 use Rattle.vx_calls.specs.declared.codes.ErrorCode.TheVariants as code
 use Rattle.vx_calls.specs.Call.{Call}
 use Rattle.vx_calls.specs.Call as call
@@ -25,13 +27,14 @@ use Rattle.vx_rules.specs.Effects.{stopped_reply, task_of}
 use Rattle.vx_rules.specs.Lines.{Lines, Refused, Waiting, Passed, first_lines, later_lines, lets_pass, lock_request}
 use Rattle.vx_rules.specs.Decide.{Outside, decide, by_lines, has_job_role, bus_answer, turn_answer, stand_on, is_quiet, level_fits}
 use Rattle.vx_rules.specs.One.{answer, answered, answer_to, if_reply}
+use Rattle.vx_rules.specs.ProvedLaws.{bus-job, no-job, dial-no-bus}
 use Rattle.vx_flow.specs.Event.{Event, Answer, Begin, Move, Dial}
 use Rattle.vx_flow.specs.FineState.{Turn, FineState, turn_of, begun_of, moves_of, turn_after}
 use Rattle.vx_flow.specs.Fine.{comes_in_turn, fine_after, fine_step, fine, is_answered, passes_lines, outside, answered_fine, wire_for, wire_before, waits_for, waits_for_turn, turn_stand, is_whole, is_answer_of, is_on, is_passed, goes_on, may_begin, may_dial, without_dial, job_of, on_conflict, turn_target}
 use Rattle.vx_flow.specs.Sound.{Stands, TurnStands, IsSound}
 use Rattle.vx_flow.specs.Poll.{Ending, Finished, Paused, Broken, Answered, Waited, Held, Polls, begins, run_events, moved_events, end_events, ran_of, EndsBy, lines_at, at_moment, RanTo, runs}
 use Rattle.vx_flow.specs.Ways.{IsPolled, GoesOnBy, over, turn_left_by, moved_on, begun_now, RefusedLaw, WaitingLaw, InTurnLaw, NoRoleLaw, EffectLaw, DialLaw, FinishedLaw, BrokenLaw, TimeoutLaw, HeldLaw, BegunLaw, BeginsLaw}
-use Rattle.vx_flow.proofs.Jobs.{bus-job, no-job, job-link, own-stays, passes-from}
+use Rattle.vx_flow.proofs.Jobs.{job-link, own-stays, passes-from}
 use Rattle.vx_flow.proofs.Kept.{same-before, turn-stand}
 use Rattle.vx_flow.proofs.Making.{later-passes}
 use Rattle.vx_flow.proofs.Turning.{in_turn}
@@ -143,10 +146,6 @@ other-turn f conn p u h = by (u.connection == conn) refl h where
   by true e x = cc
   by false e x = refl
 
-and-false : (b : Bool) → (b && false) ≡ false
-and-false true = refl
-and-false false = refl
-
 -- it waits for another connection's turn
 pub in_turn_law-holds : InTurnLaw
 in_turn_law-holds f conn now p u h passed turn waits =
@@ -245,19 +244,11 @@ table-begins f conn now p at table =
     ∙ ap (λ b. is_none f.turn && b) (and-false (is_passed (first_lines f.state.tables f.state.wire.own conn false p now)))
     ∙ and-false (is_none f.turn)
 
-or-parts-false : (a b : Bool) → (a || b) ≡ false → (a ≡ false) × (b ≡ false)
-or-parts-false true b h = cc
-or-parts-false false b h = (refl, h)
-
-or-true : (b : Bool) → (b || true) ≡ true
-or-true true = refl
-or-true false = refl
-
 -- a call that needs neither the bus nor a dial has its effect
 pub effect_law-holds : EffectLaw
 effect_law-holds f conn now p given after h is kinds free gives =
     let o = outside f conn false None false in
-    let neither = or-parts-false (is_bus_call p.call) (asks_dial p.call) kinds in
+    let neither = or_parts (is_bus_call p.call) (asks_dial p.call) kinds in
     let none = no-own-turn f conn p h.sound h.call_at neither.0 in
     let found : decide f.state.tables (wire_for f conn) conn p now o ≡ Some (given, after) =
     ap (by_lines f.state.tables (wire_for f conn) conn p now o) is
@@ -285,10 +276,6 @@ effect_law-holds f conn now p given after h is kinds free gives =
 turn-dialed : (turn : Option Turn) (conn now : ℕ) → turn_after turn (Dial conn now) ≡ turn
 turn-dialed None conn now = refl
 turn-dialed (Some u) conn now = refl
-
-dial-no-bus : (asked : Call) → asks_dial asked ≡ true → is_bus_call asked ≡ false
-dial-no-bus (call.CreateIntr host port prog vers family) h = refl
-dial-no-bus _ h = cc
 
 -- a call asks for a dial
 pub dial_law-holds : DialLaw
@@ -323,9 +310,6 @@ dial_law-holds f conn now p h is asks =
     }
 
 -- ---- the call's own turn
-
-eqb-self : (n : ℕ) → (n == n) ≡ true
-eqb-self n = eq-eqb n n refl
 
 -- the turn under way is the connection's own
 own-turn : (u : Turn) → turn_of (Some u) u.connection ≡ Some u

@@ -1,9 +1,9 @@
 -- Whom a list that keeps to a plan reaches, and what is heard of a write.
-use Rattle.std.proofs.Common.{◌≡◌, ◌≢◌, ◌≤◌, ◌+◌, ℕ, Bool, true, false, cond, not, List, [], ◌∷◌, ◌++◌, map, append-nil, Option, Some, None, refl, sym, ap, ◌∙◌, subst}
+use Rattle.std.proofs.Common.{◌≡◌, ◌≢◌, ◌≤◌, ◌+◌, ℕ, Bool, true, false, cond, List, [], ◌∷◌, ◌++◌, map, append-nil, Option, Some, None, refl, sym, ap, ◌∙◌, subst}
 use Rattle.std.specs.Prelude.{if◌then◌else◌}
 use Rattle.std.specs.Option.{option_to_list}
 use Rattle.std.specs.List.{All}
-use Rattle.std.proofs.lemmas.Bool.{cond-true, and_from, le-leb}
+use Rattle.std.proofs.lemmas.Bool.{and_from, le-leb}
 use Rattle.std.proofs.lemmas.List.Elements.{All-nil, All-cons, All-head, All-tail}
 use Rattle.vx_488.specs.declared.transfers.TheConstants.{ADDRESS_MAX}
 use Rattle.vx_488.specs.declared.transfers.Addr.{Addr}
@@ -14,10 +14,10 @@ use Rattle.vx_488.specs.declared.commands.Command.TheVariants.{Listen, Talk, Sec
 use Rattle.vx_488.specs.declared.wire.Wire.{Wire}
 use Rattle.vx_488.specs.Address.{primary, secondary, is_secondary, is_bus_address}
 use Rattle.vx_488.specs.Listening.{has_address, with_address, without_address}
-use Rattle.vx_488.specs.Flags.{same_address-refl}
 use Rattle.vx_488.specs.Command.{command_of}
 use Rattle.vx_488.specs.Wire.{on_command, step, wire_after}
 use Rattle.vx_488.specs.Heard.{Byte, reached_by_command, reached, heard}
+use Rattle.vx_488.specs.ProvedLaws.{with_address-first, without_address-last}
 use Rattle.vx_488.proofs.AddressCommands.{listen_byte, talk_byte, secondary_byte}
 use Rattle.vx_488.proofs.Appends.{reached-append}
 use Rattle.vx_plan.specs.Plan.{This, Plan, Stand, Whole, Part, Off, stand}
@@ -71,13 +71,6 @@ pub quiet : (P : Addr → Type 0) (w : Wire) (b : ℕ) (c : Command) (ts : List 
 quiet P w b c ts e none rest =
     subst (λ d. All P (reached_by_command w d ++ reached (on_command w d) ts)) (sym e)
     (subst (λ xs. All P (xs ++ reached (on_command w c) ts)) (sym none) rest)
-
--- a plain address put into no list, and its primary alone taken out again
-with_address-first : (a : Addr) → is_bus_address a ≡ true → with_address a [] ≡ a ∷ []
-with_address-first a h = cond-true (is_bus_address a) _ _ h
-
-without_address-last : (a : Addr) → without_address a (a ∷ []) ≡ []
-without_address-last a = ap (λ b. cond (not b) (a ∷ []) []) (same_address-refl a)
 
 secondary-plain : (s : Option ℕ) → IsSecondaryPlain s → is_secondary s ≡ true
 secondary-plain None h = refl

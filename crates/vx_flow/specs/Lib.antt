@@ -7,3 +7,4 @@ pub mod Gather
 pub mod Ways
 pub mod Laws
 pub mod Headline
+pub mod ProvedLaws

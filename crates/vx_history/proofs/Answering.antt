@@ -4,6 +4,8 @@ use Rattle.std.specs.Prelude.{nat_le}
 use Rattle.std.specs.Option.{option_map, option_and_then}
 use Rattle.std.proofs.lemmas.Bool.{and_parts, leb-true}
 use Rattle.std.proofs.lemmas.Option.{cond_some}
+use Rattle.vx_lemmas.specs.Conditions.{chosen}
+use Rattle.vx_lemmas.specs.Options.{mapped, gone_on}
 use Rattle.vx_calls.specs.declared.codes.ErrorCode.{ErrorCode}
 use Rattle.vx_calls.specs.declared.targets.Target.{Target}
 use Rattle.vx_calls.specs.Target.{target}
@@ -12,8 +14,8 @@ use Rattle.vx_calls.specs.Call as call
 use Rattle.vx_calls.specs.Reply.{Reply, same_reply}
 use Rattle.vx_488.specs.declared.transfers.Transfer.{Transfer}
 use Rattle.vx_488.specs.declared.wire.Wire.{Wire}
-use Rattle.vx_links.specs.Table.{Link}
-use Rattle.vx_locks.specs.Locks.{holds, with_lock}
+use Rattle.vx_rules.specs.Table.{Link}
+use Rattle.vx_rules.specs.Locks.{holds, with_lock}
 use Rattle.vx_rules.specs.State.{Pending, Tables, State, pending_at, with_pending}
 use Rattle.vx_rules.specs.Checks.{NamedLink, NoLink, DeadLink, OnLink, named_link}
 use Rattle.vx_rules.specs.Lines.{Lines, first_lines}
@@ -23,7 +25,6 @@ use Rattle.vx_rules.specs.One.{answer, answer_to, answered, if_reply}
 use Rattle.vx_flow.specs.Event.{Event, Answer}
 use Rattle.vx_flow.specs.FineState.{FineState}
 use Rattle.vx_flow.specs.Fine.{outside, is_answered, wire_for, without_dial, answered_fine, fine_step}
-use Rattle.vx_flow.proofs.Lookups.{mapped, gone_on, chosen}
 use Rattle.vx_flow.proofs.Changes.{Found, Same, Settled, Effected, decide-found}
 
 -- the connections, the number of the next one and the port of the abort channel are the same

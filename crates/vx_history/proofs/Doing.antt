@@ -4,19 +4,20 @@ use Rattle.std.specs.Prelude.{nat_le, is_none, is_some}
 use Rattle.std.specs.Option.{option_map}
 use Rattle.std.proofs.lemmas.Bool.{false≢true, and_parts, leb-true, eqb-true}
 use Rattle.std.proofs.lemmas.Option.{cond_some}
+use Rattle.vx_lemmas.specs.Conditions.{chosen}
+use Rattle.vx_lemmas.specs.Options.{mapped, none-is}
 use Rattle.vx_calls.specs.declared.calls.Role.{Role}
 use Rattle.vx_calls.specs.declared.calls.Role.TheVariants as role
 use Rattle.vx_calls.specs.ErrorCode.{same_error}
 use Rattle.vx_calls.specs.Call.{Call}
 use Rattle.vx_488.specs.Wire.{wire_after}
-use Rattle.vx_srq.specs.Desk.{given, taken, sampled}
+use Rattle.vx_rules.specs.Desk.{given, taken, sampled}
 use Rattle.vx_rules.specs.Entry as entry
 use Rattle.vx_rules.specs.State.{Pending, Connection, Tables, State, same_role, connection_at, role_at, pending_at, has_role_of, lives_as, is_idle, has_room, with_pending, with_connection, without_connection}
 use Rattle.vx_rules.specs.One.{one, may_wait, arrived, same_given, abort_reply, abort_tables}
 use Rattle.vx_flow.specs.Event.{Event, Up, Down, Arrive, Answer, Abort, Sample, Take, Begin, Move, Dial}
 use Rattle.vx_flow.specs.FineState.{FineState}
 use Rattle.vx_flow.specs.Fine.{without_dial, may_begin, may_move, may_dial, comes_in_turn, fine_after, fine_step, fine}
-use Rattle.vx_flow.proofs.Lookups.{mapped, chosen}
 use Rattle.vx_history.proofs.Answering.{IsAnswered, answer-parts}
 
 -- the state has these tables, these dialed connections, and this moment
@@ -73,11 +74,6 @@ same-core role.Abort h = absurd (false≢true h)
 core-at : (o : Option Connection) → has_role_of role.Core o ≡ true → option_map (λ (c : Connection). c.role) o ≡ Some role.Core
 core-at None h = absurd (false≢true h)
 core-at (Some c) h = ap Some (same-core c.role h)
-
--- what has no value is None
-none-is : {A : Type 0} (o : Option A) → is_none o ≡ true → o ≡ None
-none-is None h = refl
-none-is (Some x) h = absurd (false≢true h)
 
 -- a call that may dial is pending
 dial-asked : (s : State) (conn now : ℕ) (o : Option Pending) → may_dial s conn now o ≡ true → (p : Pending) × (o ≡ Some p)

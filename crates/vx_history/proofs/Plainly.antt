@@ -4,14 +4,15 @@ use Rattle.std.specs.List.{All, find, list_any}
 use Rattle.std.proofs.lemmas.Bool.{eqb-true, ne_eqb, cond-false}
 use Rattle.std.proofs.lemmas.List.Elements.{All-nil, All-head, All-tail, All-push, All-weaker, All-filter, All-map}
 use Rattle.std.proofs.lemmas.List.Folds.{list_any_none}
-use Rattle.vx_links.specs.Table.{is_live}
+use Rattle.vx_lemmas.specs.Options.{gone_on}
+use Rattle.vx_lemmas.specs.Lists.{found_passes}
+use Rattle.vx_rules.specs.Table.{is_live}
 use Rattle.vx_rules.specs.State.{Pending, Connection, Tables, connection_at, pending_at, with_pending, with_connection, without_connection}
 use Rattle.vx_rules.specs.One.{arrived, mark_on, marked, abort_tables}
 use Rattle.vx_rules.proofs.Finds.{found_holds, All-update}
 use Rattle.vx_flow.specs.Event.{Event, Up, Down, Arrive, Answer, Abort, Sample, Take, Begin, Move, Dial}
 use Rattle.vx_flow.specs.FineState.{FineState, first_fine}
 use Rattle.vx_flow.specs.Fine.{without_dial, fine}
-use Rattle.vx_flow.proofs.Lookups.{found_passes, gone_on}
 use Rattle.vx_history.proofs.Answering.{Steady}
 use Rattle.vx_history.proofs.Doing.{Has, Does, fine-does}
 use Rattle.vx_history.proofs.Onward.{abort-next}

@@ -8,14 +8,15 @@ use Rattle.std.proofs.lemmas.Option.{none-some}
 use Rattle.std.proofs.lemmas.List.Folds.{list_any-append}
 use Rattle.vx_calls.specs.declared.calls.Role.{Role}
 use Rattle.vx_calls.specs.Call.{Call}
-use Rattle.vx_links.specs.Table.{is_live}
+use Rattle.vx_rules.specs.Table.{is_live}
 use Rattle.vx_rules.specs.Calls.{link_named}
 use Rattle.vx_rules.specs.State.{Pending, Connection, Tables, connection_at, role_at, pending_at, with_pending, with_connection, without_connection}
 use Rattle.vx_rules.specs.One.{arrived, names, mark_call, mark_on, marked, abort_tables}
+use Rattle.vx_rules.specs.ProvedLaws.{role-others}
 use Rattle.vx_flow.specs.Event.{Event, Up, Down, Arrive, Answer, Abort, Sample, Take, Begin, Move, Dial}
 use Rattle.vx_flow.specs.FineState.{FineState}
 use Rattle.vx_flow.specs.Fine.{without_dial}
-use Rattle.vx_flow.proofs.Lookups.{find_append-some, find_append-none, find-filter, find-map, find_update-other, find_update-here}
+use Rattle.vx_flow.proofs.Lookups.{find_append-some, find_append-none, find-map, find_update-other, find_update-here}
 use Rattle.vx_flow.proofs.Rows.{pending-other, pending-up, pending-others, pending-marked}
 use Rattle.vx_history.proofs.Doing.{Has, Does}
 use Rattle.vx_history.proofs.Plainly.{Below, none-below}
@@ -60,13 +61,6 @@ role-new t r below =
     ap (option_map (λ (c : Connection). c.role))
     (find_append-none (λ c. c.number == n) t.connections (new ∷ []) (none-below n t.connections below)
     ∙ cond-true (n == n) (Some new) None (eq-eqb n n refl))
-
--- each other role stays where a connection goes
-role-others : (t : Tables) (n m : ℕ) → n ≢ m → role_at (without_connection t n) m ≡ role_at t m
-role-others t n m ne =
-    ap (option_map (λ (c : Connection). c.role))
-    (find-filter (λ c. c.number == m) (λ c. not (c.number == n))
-    (λ c e. ap not (ne_eqb c.number n (λ is. ne (sym is ∙ eqb-true c.number m e)))) t.connections)
 
 -- and all stay where calls are marked
 role-marked : (t : Tables) (lid m : ℕ) → role_at (marked t lid) m ≡ role_at t m

@@ -4,6 +4,7 @@ use Rattle.std.specs.List.{find}
 use Rattle.std.specs.Option.{option_map, option_and_then}
 use Rattle.std.proofs.lemmas.Bool.{false≢true, eq-eqb, ne_eqb, cond-true, cond-false, cases_eq}
 use Rattle.std.proofs.lemmas.Option.{none-some, same_Some}
+use Rattle.vx_lemmas.specs.Options.{mapped}
 use Rattle.vx_calls.specs.declared.calls.Role.{Role}
 use Rattle.vx_calls.specs.declared.calls.Role.TheVariants as role
 use Rattle.vx_calls.specs.Call.{Call}
@@ -13,7 +14,6 @@ use Rattle.vx_flow.specs.Event.{Event, Up, Down, Arrive, Answer, Abort, Sample, 
 use Rattle.vx_flow.specs.FineState.{FineState}
 use Rattle.vx_flow.specs.Fine.{without_dial}
 use Rattle.vx_flow.specs.Poll.{at_moment}
-use Rattle.vx_flow.proofs.Lookups.{mapped}
 use Rattle.vx_flow.proofs.Rows.{pending-up}
 use Rattle.vx_group.specs.Seats.{Seat, Absent, Idle, Asked, dialing, seat_after, seat_along, seat_by, is_up, IsAsked, Seats}
 use Rattle.vx_group.specs.Owning.{may_make}

@@ -1,16 +1,15 @@
 -- What a state stands for: one group more, and the headline.
-use Rattle.std.proofs.Common.{◌≡◌, ◌≤◌, ℕ, List, [], ◌∷◌, ◌++◌, append-nil, Option, Some, None, refl, sym, ap, ◌∙◌, subst, arith}
+use Rattle.std.proofs.Common.{◌≡◌, ◌≤◌, ℕ, List, [], ◌∷◌, ◌++◌, append-nil, Some, refl, sym, ap, ◌∙◌, subst, arith}
 use Rattle.std.specs.List.{All}
 use Rattle.std.proofs.lemmas.List.Elements.{All-push, All-weaker}
 use Rattle.std.proofs.lemmas.List.Concat.{flat_map-append}
-use Rattle.vx_488.specs.declared.wire.Wire.{Wire}
 use Rattle.vx_rules.specs.Lists.{along}
-use Rattle.vx_rules.specs.State.{Tables}
-use Rattle.vx_flow.specs.FineState.{Turn, FineState, first_fine}
+use Rattle.vx_flow.specs.FineState.{FineState, first_fine}
 use Rattle.vx_flow.specs.Fine.{fine}
 use Rattle.vx_flow.specs.Poll.{at_moment}
-use Rattle.vx_flow.specs.Sound.{TurnStands, IsSound}
-use Rattle.vx_flow.specs.Laws.{fine_along, LaterSoundLaw}
+use Rattle.vx_flow.specs.Sound.{IsSound}
+use Rattle.vx_flow.specs.Laws.{fine_along}
+use Rattle.vx_flow.specs.ProvedLaws.{later-sound}
 use Rattle.vx_flow.proofs.Lookups.{along-append}
 use Rattle.vx_flow.proofs.Earlier.{earlier_law-holds}
 use Rattle.vx_flow.proofs.Gathering.{fine-gathers}
@@ -70,32 +69,6 @@ stands_on-holds f g log events moment stands goes late =
 -- the headline holds of the events of a history
 pub headline-holds : HeadlineOfGroupsLaw
 headline-holds log f stands = headline_law-holds f.state.tables.abort_port (events_of log) stands.last stands.allowed
-
--- what is kept of the turn under way is kept at a later moment
-later-stands : (t : Tables) (before now : Wire) (m n : ℕ) (turn : Option Turn) → m ≤ n → TurnStands t before now m turn → TurnStands t before now n turn
-later-stands t before now m n None le h = h
-later-stands t before now m n (Some u) le h = record {
-  asked = h.asked;
-  link = h.link;
-  job = h.job;
-  call_at = h.call_at;
-  on_link = h.on_link;
-  has_job = h.has_job;
-  in_role = h.in_role;
-  made = h.made;
-  on_plan = h.on_plan;
-  came = h.came;
-  began = omega (arith, h.began, le);
-  passes = h.passes;
-  unmarked = h.unmarked;
-}
-
--- and so is all that holds between events
-later-sound : LaterSoundLaw
-later-sound f now sound le = record {
-  turn_stands = later-stands f.state.tables f.before f.state.wire f.state.moment now f.turn le sound.turn_stands;
-  have_come = λ conn p at. let came = sound.have_come conn p at in omega (arith, came, le);
-}
 
 -- and of its state what holds between events
 pub sound-holds : SoundLaw

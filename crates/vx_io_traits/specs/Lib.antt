@@ -5,3 +5,4 @@ pub mod Rung
 pub mod Accepts
 pub mod Handing
 pub mod Reached
+pub mod ProvedLaws

@@ -6,6 +6,9 @@ use Rattle.std.proofs.lemmas.Bool.{false≢true, eqb-true}
 use Rattle.std.proofs.lemmas.Bool.Decides.{nat_tests}
 use Rattle.std.proofs.lemmas.Option.{same_Some}
 use Rattle.std.proofs.lemmas.List.Elements.{All-filter, All-push, All-weaker}
+use Rattle.vx_lemmas.specs.Conditions.{passes}
+use Rattle.vx_lemmas.specs.Options.{nothing}
+use Rattle.vx_lemmas.specs.Lists.{found_passes}
 use Rattle.vx_bus_traits.specs.Means.{Means}
 use Rattle.vx_calls.specs.declared.calls.Role.TheVariants as role
 use Rattle.vx_calls.specs.declared.codes.ErrorCode.{ErrorCode}
@@ -17,7 +20,7 @@ use Rattle.vx_calls.specs.Call.{Call}
 use Rattle.vx_calls.specs.Call as call
 use Rattle.vx_calls.specs.Reply.{Reply}
 use Rattle.vx_srq.specs.Desk.{channel_at}
-use Rattle.vx_links.specs.Table.{Link}
+use Rattle.vx_rules.specs.Table.{Link}
 use Rattle.vx_rules.specs.State.{Pending, Connection, Tables, connection_at, pending_at, count_of, same_role}
 use Rattle.vx_rules.specs.Sound.{IsSound, IsAsked}
 use Rattle.vx_rules.specs.Calls.{asks_dial}
@@ -27,7 +30,7 @@ use Rattle.vx_rules.specs.Lines.{checks_pass, lets_pass}
 use Rattle.vx_rules.specs.PassLaws.{PassedLets}
 use Rattle.vx_rules.specs.Effects as effects
 use Rattle.vx_rules.proofs.Walks.{passed-says}
-use Rattle.vx_rules.proofs.Finds.{found_passes, found_holds, found_among, All-kept}
+use Rattle.vx_rules.proofs.Finds.{found_holds, found_among, All-kept}
 use Rattle.vx_flow.specs.Fine.{wire_for, without_dial}
 use Rattle.vx_kernel.specs.declared.running.Running.{Running}
 use Rattle.vx_kernel.specs.Given.{reply_bytes}
@@ -71,10 +74,6 @@ no_refusal : (b : Bool) (error : ErrorCode) (rest : Option ErrorCode) → cond b
 no_refusal true error rest h = cc
 no_refusal false error rest h = (refl, h)
 
-last_test : (b : Bool) (error : ErrorCode) → cond b None (Some error) ≡ None → b ≡ true
-last_test true error h = refl
-last_test false error h = cc
-
 is_zero : (n : ℕ) → not (n == 0) ≡ false → n ≡ 0
 is_zero n h = grind (arith, nat_tests)
 
@@ -87,10 +86,6 @@ within_port n h = grind (arith, nat_tests)
 within_last : (n m : ℕ) → nat_le n m ≡ true → n ≤ m
 within_last n m h = grind (arith, nat_tests)
 
-nothing : {X : Type 0} (o : Option X) → is_some o ≡ false → o ≡ None
-nothing None h = refl
-nothing (Some x) h = absurd (false≢true (sym h))
-
 -- a create_intr_chan that its checks let pass, with a channel number left for it and for those that others asked for
 pub record MayDial (t : Tables) (conn : ℕ) (asked : Call) : Type 0 where
   pub dialable : IsDialable asked
@@ -102,7 +97,7 @@ checked_dial t own conn (call.CreateIntr host port prog vers family) dial h =
     let one = no_refusal (not (family == 0)) code.NotSupported _ h in
     let two = no_refusal ((port == 0) || nat_lt 65535 port) code.InvalidAddress _ one.1 in
     let three = no_refusal (is_some (channel_at t.desk conn)) code.ChannelUp _ two.1 in
-    let four = last_test (nat_le (t.desk.next_channel + numbers_asked t conn) CONNECTION_LAST) code.NoResources three.1 in
+    let four = passes (nat_le (t.desk.next_channel + numbers_asked t conn) CONNECTION_LAST) code.NoResources three.1 in
     record {
       dialable = (is_zero family one.0, above_zero port two.0, within_port port two.0);
       free = nothing (channel_at t.desk conn) three.0;

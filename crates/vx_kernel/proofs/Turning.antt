@@ -1,8 +1,8 @@
 -- The turn of a call, as it begins and goes on, and which calls wait for it.
 use Rattle.std.proofs.Common.{◌≡◌, ◌≢◌, ◌+◌, ◌≤◌, ◌==◌, ℕ, Bool, true, false, cond, List, [], ◌∷◌, ◌++◌, length, take, Option, Some, None, refl, sym, ap, ◌∙◌, subst, arith}
-use Rattle.std.specs.Prelude.{nat_le, not, is_some, ◌&&◌, ◌||◌, IfSome}
+use Rattle.std.specs.Prelude.{not, is_some, ◌&&◌, ◌||◌, IfSome}
 use Rattle.std.specs.Option.{option_map}
-use Rattle.std.proofs.lemmas.Bool.{and_parts, leb-true, eqb-true}
+use Rattle.std.proofs.lemmas.Bool.{eqb-true}
 use Rattle.std.proofs.lemmas.List.{length-append}
 use Rattle.std.proofs.lemmas.Option.{same_Some}
 use Rattle.vx_calls.specs.declared.limits.TheConstants.{DOCMD_MAX, READ_MAX, WRITE_MAX}
@@ -24,14 +24,14 @@ use Rattle.vx_plan.specs.declared.tasks.Task.TheVariants.{Read, Stb}
 use Rattle.vx_plan.specs.Plan.{Plan, Off, stand_of, stand}
 use Rattle.vx_plan.specs.Tasks.{plan, IsPlainTask, HasBytes, most_bytes}
 use Rattle.vx_plan.specs.Laws.{BoundLaw}
-use Rattle.vx_links.specs.Table.{Link, Table}
+use Rattle.vx_rules.specs.Table.{Link}
 use Rattle.vx_ctrl.specs.declared.turn.Went.{Went}
 use Rattle.vx_ctrl.specs.declared.turn.Went.TheVariants as went
 use Rattle.vx_ctrl.specs.Turns.{TurnState, HasMade, HasRoom, GetsBytes}
 use Rattle.vx_ctrl.specs.Goes.{Begins, Goes, HoldsBytes, outcome_stand}
 use Rattle.vx_rules.specs.State.{Pending, Tables, pending_at, link_of}
 use Rattle.vx_rules.specs.Calls.{link_named, bytes_of, is_bus_call, is_lock_call}
-use Rattle.vx_rules.specs.Docmd.{Command, SendCommand, BusStatus, AtnControl, RenControl, PassControl, BusAddress, IfcControl, command_of, takes_input, takes_number, number_in, command_task}
+use Rattle.vx_rules.specs.Docmd.{Command, command_of, command_task}
 use Rattle.vx_rules.specs.Checks.{NamedLink, NoLink, DeadLink, OnLink, link_found, link_by_number, named_link, is_interface, check_command, check_on, check}
 use Rattle.vx_rules.specs.Lines.{LockRequest, lock_request, created_request, checks_pass, lets_pass}
 use Rattle.vx_rules.specs.Effects.{task_on, task_of}
@@ -39,6 +39,7 @@ use Rattle.vx_rules.specs.Serving.{IsDoable}
 use Rattle.vx_rules.specs.PassLaws.{PassedLets}
 use Rattle.vx_rules.specs.declared.tables.lines.Request.{Request}
 use Rattle.vx_rules.specs.Shown.{request_shown}
+use Rattle.vx_rules.specs.ProvedLaws.{bus-job, few_bytes}
 use Rattle.vx_flow.specs.FineState.{Turn}
 use Rattle.vx_flow.specs.Fine.{job_of, wire_for, target_on, call_target, turn_target, on_conflict, waits_for}
 use Rattle.vx_flow.specs.Sound.{Stands, TurnStands}
@@ -131,38 +132,11 @@ no-job t own conn p h b n =
 
 -- ---- a call that nothing is against brings no more bytes than a device_write may
 
-few-in : (b : Bool) → cond b None (Some code.Parameter) ≡ None → b ≡ true
-few-in true h = refl
-few-in false h = cc
-
-few-sent : (n k : ℕ) → (n == k) ≡ true → k ≤ 4 → n ≤ WRITE_MAX
-few-sent n k same small = let e = eqb-true n k same in omega (arith, e, small)
-
-few-command : (own : ℕ) (links : Table) (big : Bool) (bytes : List ℕ) (c : Command) → takes_input c own links big bytes ≡ true → length bytes ≤ WRITE_MAX
-few-command own links big bytes SendCommand h = omega (arith, leb-true (length bytes) DOCMD_MAX (and_parts _ _ h).0)
-few-command own links big bytes BusStatus h = few-sent (length bytes) 2 (and_parts (length bytes == 2) (takes_number BusStatus own links (number_in big bytes)) h).0 (omega arith)
-few-command own links big bytes AtnControl h = few-sent (length bytes) 2 (and_parts _ _ h).0 (omega arith)
-few-command own links big bytes RenControl h = few-sent (length bytes) 2 (and_parts _ _ h).0 (omega arith)
-few-command own links big bytes PassControl h = few-sent (length bytes) 4 (and_parts (length bytes == 4) (takes_number PassControl own links (number_in big bytes)) h).0 (omega arith)
-few-command own links big bytes BusAddress h = few-sent (length bytes) 4 (and_parts (length bytes == 4) (takes_number BusAddress own links (number_in big bytes)) h).0 (omega arith)
-few-command own links big bytes IfcControl h = few-sent (length bytes) 0 (and_parts _ _ h).0 (omega arith)
-
-few-docmd : (t : Tables) (own : ℕ) (big : Bool) (bytes : List ℕ) (on : Bool) (o : Option Command)
-    → cond on (check_command t own big bytes o) (Some code.NotSupported) ≡ None → length bytes ≤ WRITE_MAX
-few-docmd t own big bytes false o e = cc
-few-docmd t own big bytes true None e = cc
-few-docmd t own big bytes true (Some c) e = few-command own t.links big bytes c (few-in (takes_input c own t.links big bytes) e)
-
-few-on : (t : Tables) (own : ℕ) (l : Link) (asked : Call) → check_on t own l asked ≡ None → length (bytes_of asked) ≤ WRITE_MAX
-few-on t own l (call.Write lid io_timeout lock_timeout flags bytes) e = leb-true (length bytes) WRITE_MAX (few-in (nat_le (length bytes) WRITE_MAX) e)
-few-on t own l (call.Docmd lid flags io_timeout lock_timeout cmd big size bytes) e = few-docmd t own big bytes (is_interface l.target) (command_of cmd) e
-few-on t own l _ e = omega arith
-
 few-found : (t : Tables) (own conn : ℕ) (about : NamedLink) (asked : Call) (job : Task) → check t own conn false about asked ≡ None
     → task_of about asked ≡ Some job → length (bytes_of asked) ≤ WRITE_MAX
 few-found t own conn NoLink asked job e has = cc
 few-found t own conn DeadLink asked job e has = cc
-few-found t own conn (OnLink l) asked job e has = few-on t own l asked e
+few-found t own conn (OnLink l) asked job e has = few_bytes t own l asked e
 
 -- so does a call with a job
 pub few-bytes : (t : Tables) (own conn : ℕ) (p : Pending) (job : Task) → lets_pass t own conn p ≡ true → job_of t conn p ≡ Some job → length (bytes_of p.call) ≤ WRITE_MAX
@@ -330,17 +304,6 @@ own-by means k conn (Some r) = by (r.conn == conn) refl where
 
 pub own-is : {B : Type 0} (means : B → Means) (k : KernelState B) (conn : ℕ) → own_of means k conn ≡ (wire_for (fine_of means k) conn).own
 own-is means k conn = own-by means k conn k.running
-
-bus-job : (t : Target) (asked : Call) (job : Task) → task_on t asked ≡ Some job → is_bus_call asked ≡ true
-bus-job t (call.Write lid io_timeout lock_timeout flags bytes) job h = refl
-bus-job t (call.Read lid request io_timeout lock_timeout flags term) job h = refl
-bus-job t (call.ReadStb generic) job h = refl
-bus-job t (call.Trigger generic) job h = refl
-bus-job t (call.Clear generic) job h = refl
-bus-job t (call.Remote generic) job h = refl
-bus-job t (call.Local generic) job h = refl
-bus-job t (call.Docmd lid flags io_timeout lock_timeout cmd big size bytes) job h = refl
-bus-job t _ job h = cc
 
 -- a call that is neither a bus call nor a lock call is under no lock
 created-none : (own : ℕ) (asked : Call) → is_lock_call asked ≡ false → created_request own asked ≡ None

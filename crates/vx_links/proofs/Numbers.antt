@@ -8,11 +8,12 @@ use Rattle.std.proofs.lemmas.List.Elements.{All-cons, All-push, All-tail, All-fi
 use Rattle.std.proofs.lemmas.List.Folds.{list_any_none}
 use Rattle.std.proofs.lemmas.List.{length-append}
 use Rattle.std.proofs.lemmas.List.Quantifiers.{all_pairs_push}
+use Rattle.vx_lemmas.specs.Lists.{IfSome-find}
 use Rattle.vx_calls.specs.declared.targets.Target.{Target}
 use Rattle.std.proofs.lemmas.List.Kept.{AllPairs-filter}
 use Rattle.std.proofs.lemmas.List.Filters.{length-filter_both}
 use Rattle.vx_links.specs.Table.{Link, Table, IsNumbered, is_live, link_at, first_link_of, is_full, with_link, without_link}
-use Rattle.vx_links.proofs.Lists.{find-none, IfSome-find, pairs_head, pairs_tail}
+use Rattle.vx_links.proofs.Lists.{find-none, pairs_head, pairs_tail}
 
 abbrev pub Rises : Link → Link → Type 0
 Rises a b = a.number < b.number

@@ -3,13 +3,13 @@ use Rattle.std.proofs.Common.{◌≡◌, ◌==◌, ℕ, Bool, ◌<◌, ◌≤◌
 use Rattle.std.specs.List.{find, filter, list_any, All}
 use Rattle.std.specs.Option.{option_map, IfSome}
 use Rattle.std.proofs.lemmas.List.{map-append}
+use Rattle.vx_lemmas.specs.Lists.{find-map, filter-map, list_any-map, is_some-find}
 use Rattle.vx_calls.specs.declared.targets.Target.{Target}
 use Rattle.vx_links.specs.declared.links.LinkRow.{LinkRow}
 use Rattle.vx_links.specs.declared.links.Links.TheInside.{Inside}
 use Rattle.vx_links.specs.Table.{Link, Table, IsNumbered, link_at, is_live, first_link_of, with_link, without_link}
 use Rattle.vx_links.specs.Shown.{link_shown}
 use Rattle.vx_links.specs.Inside.{table_of, IsKept}
-use Rattle.vx_links.proofs.Lists.{find-map, filter-map, list_any-map, is_some-find}
 use Rattle.vx_links.proofs.Numbers.{found_is, found_given, owned_is, smallest_first}
 
 -- a fact on the link that is shown is one on the row

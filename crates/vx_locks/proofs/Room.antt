@@ -1,13 +1,14 @@
 -- There are no more locks than links that hold one.
-use Rattle.std.proofs.Common.{◌≡◌, ◌≢◌, ℕ, suc, ◌≤◌, Bool, true, false, ◌==◌, ◌||◌, List, [], ◌∷◌, map, length, refl, sym, ap, ◌∙◌, arith, subst}
+use Rattle.std.proofs.Common.{◌≡◌, ◌≢◌, suc, ◌≤◌, true, ◌==◌, List, [], ◌∷◌, map, length, sym, ◌∙◌, arith}
 use Rattle.std.specs.Prelude.{nat_eq}
 use Rattle.std.specs.Cmp.{nat_eq_equiv}
 use Rattle.std.specs.List.{list_any, All, AllPairs}
 use Rattle.std.proofs.lemmas.Bool.Decides.{Decides-eqb}
 use Rattle.std.proofs.lemmas.List.{length-map}
-use Rattle.std.proofs.lemmas.List.Elements.{All-cons, All-map, All-tail}
+use Rattle.std.proofs.lemmas.List.Elements.{All-cons, All-map}
 use Rattle.std.proofs.lemmas.List.Kept.{AllPairs-cons}
 use Rattle.std.proofs.lemmas.Map.Made.{length-le_from_is_member, IsDistinct-from_AllPairs}
+use Rattle.vx_lemmas.specs.Lists.{in_list, turned}
 use Rattle.vx_locks.specs.Locks.{Lock, IsApart}
 use Rattle.vx_locks.specs.Laws.{HasRoom}
 use Rattle.vx_locks.proofs.Lists.{each_fails}
@@ -20,20 +21,6 @@ holders_differ (k ∷ ks) apart =
     AllPairs-cons (λ a b. a ≢ b) k.link (map (λ l. l.link) ks)
     (All-map (λ b. k.link ≢ b) (λ l. l.link) ks (λ i d h. (apart 0 (suc i) d (omega arith) (omega arith)).0))
     (holders_differ ks (λ i j d before h. apart (suc i) (suc j) d (omega arith) (omega arith)))
-
--- what holds of each number of a list holds of one that is in it
-in_list : (P : ℕ → Type 0) (xs : List ℕ) → All P xs → (q : ℕ) → list_any (nat_eq q) xs ≡ true → P q
-in_list P [] each q e = cc
-in_list P (x ∷ xs) each q e = at (nat_eq q x) (λ same. subst P (sym ((Decides-eqb q x).0 same)) (each 0 x (omega arith))) (λ later. in_list P xs (All-tail P x xs each) q later) e
-  where
-    at : (b : Bool) → (b ≡ true → P q) → (list_any (nat_eq q) xs ≡ true → P q) → (b || list_any (nat_eq q) xs) ≡ true → P q
-    at true here later e = here refl
-    at false here later e = later e
-
--- the test reads the same from both sides
-turned : (q : ℕ) (xs : List ℕ) → list_any (λ n. n == q) xs ≡ list_any (nat_eq q) xs
-turned q [] = refl
-turned q (x ∷ xs) = rw (nat_eq_equiv.symm x q) (ap (λ b. nat_eq q x || b) (turned q xs))
 
 pub has_room : HasRoom
 has_room locks links lid apart held live none =

@@ -5,11 +5,11 @@ use Rattle.std.specs.List.{find, filter, list_any}
 use Rattle.std.specs.Option.{option_map, IfSome}
 use Rattle.std.proofs.lemmas.List.{map-append}
 use Rattle.std.proofs.lemmas.List.Folds.{list_any_at}
+use Rattle.vx_lemmas.specs.Lists.{find-map, filter-map, list_any-map, is_some-find, IfSome-find}
 use Rattle.vx_calls.specs.declared.targets.Target.{Target}
 use Rattle.vx_locks.specs.declared.locks.LockRow.{LockRow}
 use Rattle.vx_locks.specs.Locks.{Lock, holds, keeps_off, is_blocked, holder_of, with_lock, without_lock}
 use Rattle.vx_locks.specs.Inside.{lock_shown}
-use Rattle.vx_locks.proofs.Lists.{find-map, filter-map, list_any-map, is_some-find, IfSome-find}
 use Rattle.vx_locks.proofs.Apart.{other_number}
 
 -- whether a row passes is whether a lock does

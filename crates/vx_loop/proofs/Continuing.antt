@@ -1,5 +1,5 @@
 -- What serving a message, and polling a call again, leave.
-use Rattle.std.proofs.Common.{◌≡◌, ◌≢◌, ◌+◌, ◌≤◌, ℕ, Bool, true, false, cond, ◌&&◌, List, [], ◌∷◌, ◌++◌, length, take, map, Option, Some, None, ◌⊎◌, inl, inr, refl, sym, ap, ◌∙◌, subst, arith, append-nil}
+use Rattle.std.proofs.Common.{◌≡◌, ◌≢◌, ◌+◌, ◌≤◌, ℕ, Bool, true, false, cond, ◌&&◌, List, [], ◌∷◌, ◌++◌, length, take, Option, Some, None, ◌⊎◌, inl, inr, refl, sym, ap, ◌∙◌, subst, arith, append-nil}
 use Rattle.std.specs.List.{list_all, flat_map}
 use Rattle.std.proofs.lemmas.Bool.{false≢true, and_parts, and_from}
 use Rattle.std.proofs.lemmas.Option.{cond_some, none-some, same_Some}
@@ -13,12 +13,11 @@ use Rattle.vx_calls.specs.ErrorCode.{same_error}
 use Rattle.vx_calls.specs.Call.{Call}
 use Rattle.vx_calls.specs.Reply as reply
 use Rattle.vx_488.specs.declared.transfers.Transfer.{Transfer}
-use Rattle.vx_plan.specs.Plan.{Slot}
-use Rattle.vx_bus_traits.specs.Steps.{Step, Went, Told, Cut}
+use Rattle.vx_bus_traits.specs.Steps.{Step, Told, Cut}
 use Rattle.vx_sim.specs.Bench.{some_asks, some_refuses}
 use Rattle.vx_sim.specs.SimState.{Through}
-use Rattle.vx_sim.specs.Laws.{transfers}
-use Rattle.vx_trace.specs.Output.{Output, Out}
+use Rattle.vx_sim.specs.ProvedLaws.{steps-moves}
+use Rattle.vx_play.specs.Output.{Output, Out}
 use Rattle.vx_message.specs.declared.record.TheConstants.{REPLY_ROOM}
 use Rattle.vx_message.specs.Meaning.{Meaning, Junk, Asks, Aborts, xid_by, record_of, reply_record}
 use Rattle.vx_message.specs.Meaning as meant
@@ -31,7 +30,8 @@ use Rattle.vx_flow.specs.FineState.{FineState, Turn, turn_after}
 use Rattle.vx_flow.specs.Fine.{fine}
 use Rattle.vx_flow.specs.Sound.{IsSound}
 use Rattle.vx_flow.specs.Poll as poll
-use Rattle.vx_flow.specs.Poll.{Ran, Ending, Answered, Waited, Dialed, Polls, begins, begun_events, moved_events, run_events, end_events, is_broken, ran_of, at_moment}
+use Rattle.vx_flow.specs.Poll.{Ending, Answered, Waited, Dialed, Polls, begins, begun_events, moved_events, run_events, end_events, is_broken, ran_of, at_moment}
+use Rattle.vx_flow.specs.ProvedLaws.{step-made}
 use Rattle.vx_flow.proofs.Gathering.{fine-goes}
 use Rattle.vx_kernel.specs.declared.ended.Why.TheVariants as why
 use Rattle.vx_play.specs.declared.note.Gone.TheVariants as gone
@@ -44,8 +44,8 @@ use Rattle.vx_play.specs.Item.{moved}
 use Rattle.vx_play.specs.Making.{PollMakes, MessageMakes, poll_line}
 use Rattle.vx_play.specs.Serving.{Tells}
 use Rattle.vx_play.specs.Standing.{note_line, NoteWithin}
+use Rattle.vx_play.specs.ProvedLaws.{refused-none}
 use Rattle.vx_play.proofs.Roles.{as-one}
-use Rattle.vx_play.proofs.Messages.{step-made}
 use Rattle.vx_play.proofs.Upholding.{polls-leads}
 use Rattle.vx_loop.specs.Exchanges.{Adds, of_turn}
 use Rattle.vx_loop.specs.Standing.{IsReached}
@@ -54,18 +54,6 @@ use Rattle.vx_loop.proofs.Happening.{reached-more, reached-sound}
 use Rattle.vx_loop.proofs.Turns.{Leaves, answer-ends, answer-over, run-of, poll-leaves}
 
 -- ---- the transfers of a poll
-
-refused-none : (ran : Ran) (slot : Option Slot) → transfers (refused_ask ran slot) ≡ []
-refused-none poll.Paused (Some slot) = refl
-refused-none poll.Paused None = refl
-refused-none poll.Broken (Some slot) = refl
-refused-none poll.Broken None = refl
-refused-none poll.Still slot = refl
-refused-none poll.Finished slot = refl
-
-steps-moves : (moves : List Transfer) (rest : List Step) → transfers rest ≡ [] → transfers (map Went moves ++ rest) ≡ moves
-steps-moves [] rest h = h
-steps-moves (t ∷ ts) rest h = ap (λ us. t ∷ us) (steps-moves ts rest h)
 
 begun-moves : (f : FineState) (now : ℕ) → flat_map moved (begun_events f 1 now) ≡ []
 begun-moves f now = by (begins f 1 now) where

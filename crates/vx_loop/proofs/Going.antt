@@ -31,11 +31,12 @@ use Rattle.vx_play.proofs.Roles.{down-roles}
 use Rattle.vx_play.proofs.Messages.{down-moment}
 use Rattle.vx_play.specs.Stream as brings
 use Rattle.vx_play.specs.Stream.{brought_by}
+use Rattle.vx_play.specs.ProvedLaws.{brought_of}
 use Rattle.vx_loop.specs.LoopState.{ServedState}
 use Rattle.vx_loop.specs.Exchanges.{Exchange, Adds, Replies, IsExchange, Exchanges, of_turn, streams_of, replies_of}
 use Rattle.vx_loop.specs.Standing.{IsOpen, IsWaiting, IsEnded, Went, IsReached, IsKept, EndsTo, WaitsTo}
 use Rattle.vx_loop.specs.Serving.{IsReplied, IsLeft, Continues, CallsOn, Serves, IsFit}
-use Rattle.vx_loop.proofs.Streams.{first_buffer, brought_of, brought-is, taken-within, fed-taken, whole-some, brought-whole}
+use Rattle.vx_loop.proofs.Streams.{first_buffer, brought-is, taken-within, fed-taken, whole-some, brought-whole}
 use Rattle.vx_loop.proofs.Happening.{adds-none, adds-append, reached-more, reached-sound}
 
 -- ---- one exchange more

@@ -1,18 +1,17 @@
 -- What happens in a gateway, one part after the other.
-use Rattle.std.proofs.Common.{◌≡◌, ◌≤◌, ℕ, List, [], ◌∷◌, ◌++◌, Option, Some, None, refl, sym, ap, ◌∙◌, subst, arith}
+use Rattle.std.proofs.Common.{◌≡◌, ◌≤◌, ℕ, List, [], ◌∷◌, ◌++◌, Some, refl, sym, ap, ◌∙◌, subst, arith}
 use Rattle.std.specs.List.{flat_map}
 use Rattle.std.proofs.lemmas.Grind.{flat_map-append}
 use Rattle.vx_bus_traits.specs.Steps.{Step, Went, Held, Failed, Told, Cut}
 use Rattle.vx_sim.specs.SimState.{SimState}
 use Rattle.vx_sim.specs.Laws.{transfers}
-use Rattle.vx_488.specs.declared.wire.Wire.{Wire}
 use Rattle.vx_rules.specs.Lists.{along}
-use Rattle.vx_rules.specs.State.{Tables}
 use Rattle.vx_flow.specs.Event.{Event}
-use Rattle.vx_flow.specs.FineState.{FineState, Turn, first_fine}
+use Rattle.vx_flow.specs.FineState.{FineState, first_fine}
 use Rattle.vx_flow.specs.Fine.{fine}
 use Rattle.vx_flow.specs.Poll.{at_moment}
-use Rattle.vx_flow.specs.Sound.{TurnStands, IsSound}
+use Rattle.vx_flow.specs.Sound.{IsSound}
+use Rattle.vx_flow.specs.ProvedLaws.{later-stands}
 use Rattle.vx_flow.proofs.Lookups.{along-append}
 use Rattle.vx_flow.proofs.Earlier.{earlier_law-holds}
 use Rattle.vx_flow.proofs.Gathering.{fine-gathers}
@@ -78,25 +77,6 @@ reached-more a b xs ss r h =
       late = omega arith;
       at_now = h.at_now;
     }
-
--- what holds between events holds at a later moment
-later-stands : (t : Tables) (before wire : Wire) (moment now : ℕ) (turn : Option Turn) → moment ≤ now → TurnStands t before wire moment turn → TurnStands t before wire now turn
-later-stands t before wire moment now None late h = h
-later-stands t before wire moment now (Some u) late h = record {
-  asked = h.asked;
-  link = h.link;
-  job = h.job;
-  call_at = h.call_at;
-  on_link = h.on_link;
-  has_job = h.has_job;
-  in_role = h.in_role;
-  made = h.made;
-  on_plan = h.on_plan;
-  came = h.came;
-  began = let b = h.began in omega arith;
-  passes = h.passes;
-  unmarked = h.unmarked;
-}
 
 pub reached-sound : (f : FineState) → IsReached f → IsSound f
 reached-sound f r =

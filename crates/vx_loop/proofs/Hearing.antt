@@ -1,11 +1,12 @@
 -- What the instruments hear of a write that was exchanged.
-use Rattle.std.proofs.Common.{◌≡◌, ◌≢◌, ◌≤◌, ◌==◌, ℕ, Bool, true, false, cond, not, ◌&&◌, List, [], ◌∷◌, ◌++◌, length, find, Option, Some, None, refl, sym, ap, ◌∙◌, subst, arith, append-nil, append_assoc}
+use Rattle.std.proofs.Common.{◌≡◌, ◌≢◌, ◌≤◌, ◌==◌, ℕ, Bool, true, false, cond, not, ◌&&◌, List, [], ◌∷◌, ◌++◌, length, find, Option, Some, None, refl, sym, ap, ◌∙◌, subst, arith, append-nil}
 use Rattle.std.specs.Prelude.{nat_le, is_none}
 use Rattle.std.specs.Option.{option_map, option_and_then}
 use Rattle.std.specs.List.{flat_map}
 use Rattle.std.proofs.lemmas.Bool.{false≢true, and_parts}
 use Rattle.std.proofs.lemmas.Option.{cond_some, none-some, same_Some}
 use Rattle.std.proofs.lemmas.Grind.{flat_map-append}
+use Rattle.vx_lemmas.specs.Options.{mapped}
 use Rattle.vx_calls.specs.declared.calls.Role.TheVariants as role
 use Rattle.vx_calls.specs.declared.codes.ErrorCode.{ErrorCode}
 use Rattle.vx_calls.specs.declared.codes.ErrorCode.TheVariants as code
@@ -15,16 +16,15 @@ use Rattle.vx_calls.specs.Call as call
 use Rattle.vx_calls.specs.Reply.{Reply, same_reply}
 use Rattle.vx_calls.specs.Reply as reply
 use Rattle.vx_488.specs.declared.transfers.Addr.{Addr}
-use Rattle.vx_488.specs.declared.transfers.Transfer.{Transfer}
 use Rattle.vx_488.specs.declared.wire.Wire.{Wire}
-use Rattle.vx_488.specs.Wire.{step, wire_after}
-use Rattle.vx_488.specs.Heard.{heard, heard_of}
+use Rattle.vx_488.specs.Wire.{step}
+use Rattle.vx_488.specs.Heard.{heard}
 use Rattle.vx_plan.specs.declared.tasks.Task.{Task}
 use Rattle.vx_plan.specs.Plan.{Stand, Whole, Part, Off}
 use Rattle.vx_plan.specs.Roles.{has_role}
 use Rattle.vx_plan.specs.declared.tasks.Task.TheVariants as task
 use Rattle.vx_plan.specs.Results.{puts_made, whole_reply}
-use Rattle.vx_links.specs.Table.{Link, Table}
+use Rattle.vx_rules.specs.Table.{Link, Table}
 use Rattle.vx_rules.specs.Lists.{along}
 use Rattle.vx_rules.specs.State.{Pending, Connection, Tables, State, connection_at, pending_at, with_pending, lives_as, has_role_of, is_idle, link_of}
 use Rattle.vx_rules.specs.Calls.{sets_end, has_passed, bytes_of, is_big}
@@ -42,7 +42,7 @@ use Rattle.vx_flow.specs.Fine.{fine}
 use Rattle.vx_flow.specs.Gather.{gather, gather_from}
 use Rattle.vx_flow.specs.Sound.{TurnStands, IsSound}
 use Rattle.vx_flow.specs.Laws.{marked_bytes}
-use Rattle.vx_flow.proofs.Lookups.{along-none, along-append, mapped, find_update-here}
+use Rattle.vx_flow.proofs.Lookups.{along-none, along-append, find_update-here}
 use Rattle.vx_flow.proofs.Gathering.{gather_law-holds, gathers, fine-goes}
 use Rattle.vx_flow.proofs.Hearing.{device-holds}
 use Rattle.vx_flow.proofs.Making.{answer-parts}
@@ -254,12 +254,6 @@ module _ (f : FineState) (asked : Call) (told : Reply) (group : List Event) (las
       }) parts.2
 
 -- ---- what is heard
-
--- what is heard of one list of transfers and then another
-pub heard-append : (a : Addr) (w : Wire) (xs ys : List Transfer) → heard a w (xs ++ ys) ≡ heard a w xs ++ heard a (wire_after w xs) ys
-heard-append a w [] ys = refl
-heard-append a w (x ∷ xs) ys =
-    ap (λ bs. heard_of a w x ++ bs) (heard-append a (step w x) xs ys) ∙ sym (append_assoc (heard_of a w x) (heard a (step w x) xs) (heard a (wire_after (step w x) xs) ys))
 
 -- a write to a device that was answered without an error is heard by it alone
 pub call-heard : (f last : FineState) (group : List Event) (lid io_timeout lock_timeout flags size : ℕ) (bytes : List ℕ) (a : Addr) (l : Link)

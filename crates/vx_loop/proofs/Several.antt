@@ -9,12 +9,11 @@ use Rattle.std.proofs.lemmas.Grind.{flat_map-append}
 use Rattle.vx_calls.specs.declared.calls.Role.TheVariants as role
 use Rattle.vx_calls.specs.ErrorCode.{same_error}
 use Rattle.vx_488.specs.declared.transfers.Addr.{Addr}
-use Rattle.vx_488.specs.declared.transfers.Transfer.{Transfer}
-use Rattle.vx_488.specs.declared.wire.Wire.{Wire}
-use Rattle.vx_488.specs.Wire.{step, wire_after}
+use Rattle.vx_488.specs.Wire.{wire_after}
 use Rattle.vx_488.specs.Heard.{Byte, heard}
-use Rattle.vx_links.specs.Table.{Link, Table}
-use Rattle.vx_srq.specs.Desk.{sampled, taken, given}
+use Rattle.vx_488.specs.ProvedLaws.{wire_after-append, heard-append}
+use Rattle.vx_rules.specs.Table.{Link, Table}
+use Rattle.vx_rules.specs.Desk.{sampled, taken, given}
 use Rattle.vx_rules.specs.Lists.{along}
 use Rattle.vx_rules.specs.State.{State, connection_at, pending_at, lives_as, is_idle, has_room, with_connection, with_pending, without_connection}
 use Rattle.vx_rules.specs.Calls.{sets_end}
@@ -24,17 +23,16 @@ use Rattle.vx_flow.specs.Event.{Event, Up, Down, Arrive, Answer, Abort, Sample, 
 use Rattle.vx_flow.specs.FineState.{FineState}
 use Rattle.vx_flow.specs.Fine.{outside, may_begin, may_dial, may_move, fine_after, without_dial, fine_step, fine}
 use Rattle.vx_flow.specs.Laws.{marked_bytes}
+use Rattle.vx_flow.specs.ProvedLaws.{step-made}
 use Rattle.vx_flow.proofs.Lookups.{along-none}
 use Rattle.vx_play.specs.Gateway.{Gateway, gateway_of}
 use Rattle.vx_play.specs.Item.{moved}
 use Rattle.vx_play.proofs.Roles.{as-one, tested-fine, answer-leaves}
-use Rattle.vx_play.proofs.Messages.{step-made}
 use Rattle.vx_client.specs.State.{ClientState}
 use Rattle.vx_client.specs.Chunks.{without_end}
 use Rattle.vx_loop.specs.LoopState.{ServedState, LoopState}
 use Rattle.vx_loop.specs.Heard.{Hears, IsResting, IsToDevice, IsPieceHeard, IsHeard}
 use Rattle.vx_loop.proofs.Happening.{adds-none, adds-append}
-use Rattle.vx_loop.proofs.Hearing.{heard-append}
 
 -- ---- the bus behind events
 
@@ -77,11 +75,6 @@ step-wire f g (Answer conn now failed dialed level told) h =
     answer-leaves (λ s. s.wire ≡ f.state.wire) f g (Answer conn now failed dialed level told) conn now (outside f conn failed dialed level) told
     (λ u same. refl) h
 
--- the bus behind one list and then another
-wire-append : (w : Wire) (xs ys : List Transfer) → wire_after w (xs ++ ys) ≡ wire_after (wire_after w xs) ys
-wire-append w [] ys = refl
-wire-append w (x ∷ xs) ys = wire-append (step w x) xs ys
-
 wire-along : (es : List Event) (f g : FineState) → along fine (Some f) es ≡ Some g → g.state.wire ≡ wire_after f.state.wire (flat_map moved es)
 wire-along [] f g h = ap (λ (x : FineState). x.state.wire) (sym (same_Some f g h))
 wire-along (e ∷ es) f g h = by (fine f e) refl h (λ mid x. wire-along es mid g x) where
@@ -90,7 +83,7 @@ wire-along (e ∷ es) f g h = by (fine f e) refl h (λ mid x. wire-along es mid 
       → g.state.wire ≡ wire_after f.state.wire (moved e ++ flat_map moved es)
   by None is x rest = absurd (none-some g (sym (along-none fine es) ∙ x))
   by (Some mid) is x rest =
-      rest mid x ∙ ap (λ w. wire_after w (flat_map moved es)) (step-wire f mid e (step-made f mid e is)) ∙ sym (wire-append f.state.wire (moved e) (flat_map moved es))
+      rest mid x ∙ ap (λ w. wire_after w (flat_map moved es)) (step-wire f mid e (step-made f mid e is)) ∙ sym (wire_after-append f.state.wire (moved e) (flat_map moved es))
 
 -- ---- one part and then another
 

@@ -3,12 +3,13 @@ use Rattle.std.proofs.Common.{◌≡◌, ◌==◌, ℕ, Bool, true, false, cond,
 use Rattle.std.specs.Prelude.{OnOk, OnErr, IfOk, is_err, nat_le}
 use Rattle.std.proofs.lemmas.Bool.{false≢true, true≢false, and_parts, eqb-true}
 use Rattle.std.proofs.lemmas.Option.{cond_some, none-some}
+use Rattle.vx_lemmas.specs.Options.{mapped}
 use Rattle.vx_calls.specs.declared.calls.Role.TheVariants as role
 use Rattle.vx_calls.specs.declared.limits.TheConstants.{RECORD_MAX}
 use Rattle.vx_record.specs.Buffer.{BufState, fresh}
 use Rattle.vx_bus_traits.specs.Steps.{Cut}
 use Rattle.vx_sim.specs.SimState.{SimState}
-use Rattle.vx_srq.specs.Desk as desk
+use Rattle.vx_rules.specs.Desk as desk
 use Rattle.vx_rules.specs.Lists.{along}
 use Rattle.vx_rules.specs.State.{State, pending_at, has_room, with_connection}
 use Rattle.vx_rules.specs.Entry as entry
@@ -16,13 +17,12 @@ use Rattle.vx_rules.specs.One.{one}
 use Rattle.vx_flow.specs.Event.{Up, Sample}
 use Rattle.vx_flow.specs.FineState.{FineState, first_fine}
 use Rattle.vx_flow.specs.Fine.{fine, fine_after}
-use Rattle.vx_flow.proofs.Lookups.{mapped}
 use Rattle.std.specs.Option.{option_map}
 use Rattle.std.proofs.lemmas.Bool.Decides.{nat_tests}
 use Rattle.vx_flow.specs.Laws.{fine_along}
+use Rattle.vx_flow.specs.ProvedLaws.{step-made}
 use Rattle.vx_kernel.specs.CoreState.{CoreState}
 use Rattle.vx_play.specs.Gateway.{BusGoes}
-use Rattle.vx_play.proofs.Messages.{step-made}
 use Rattle.vx_loop.specs.LoopState.{unconnected, IsUnconnected, IsBeginning}
 use Rattle.vx_loop.specs.Standing.{IsReached, IsKept}
 

@@ -17,7 +17,8 @@ use Rattle.vx_record.proofs.Headers.{fragment_length-last_header}
 use Rattle.vx_record.proofs.Spelling.{records-finished, records-open}
 use Rattle.vx_message.specs.Meaning.{record_of}
 use Rattle.vx_play.specs.Stream as brings
-use Rattle.vx_play.specs.Stream.{Brought, by_split, brought_by}
+use Rattle.vx_play.specs.Stream.{by_split, brought_by}
+use Rattle.vx_play.specs.ProvedLaws.{by_end, brought_of}
 
 -- the buffer that begins a record
 abbrev pub first_buffer : BufState
@@ -83,17 +84,6 @@ fed-taken s (x ∷ xs) = by (is-open s.state) (fed-taken (step s x) xs) where
 -- an empty stream has no record
 pub none-yet : records RECORD_MAX [] ≡ record { records = []; rest = []; too_long = false }
 none-yet = records-open RECORD_MAX [] [] tt (omega arith) (inl (omega arith))
-
--- where a buffer stands, in the words of a stream
-abbrev pub brought_of : Feed → List ℕ → Brought
-brought_of feed.More kept = brings.NoEnd
-brought_of feed.Whole kept = brings.Whole kept
-brought_of feed.TooLong kept = brings.TooLong
-
-by_end : (state : Feed) (kept : List ℕ) (split : Split) → IsEnd state kept split → by_split split.records split.too_long ≡ brought_of state kept
-by_end feed.More kept split h = ap (λ rs. by_split rs split.too_long) h.0 ∙ ap (by_split []) h.1
-by_end feed.Whole kept split h = ap (λ rs. by_split rs split.too_long) h
-by_end feed.TooLong kept split h = ap (λ rs. by_split rs split.too_long) h.0 ∙ ap (by_split []) h.1
 
 cond-false : {A : Type 0} (b : Bool) (x y : A) → b ≡ false → cond b x y ≡ y
 cond-false b x y e = ap (λ t. cond t x y) e

@@ -17,11 +17,11 @@ use Rattle.vx_flow.specs.Fine.{outside, may_begin, may_dial, may_move, goes_on, 
 use Rattle.vx_flow.specs.Gather.{gather_from}
 use Rattle.vx_flow.specs.Sound.{IsSound}
 use Rattle.vx_flow.specs.Poll.{Ending, Answered, Waited, Dialed, Polls, begins, begun_events, moved_events, run_events, end_events, is_broken, at_moment}
+use Rattle.vx_flow.specs.ProvedLaws.{step-made}
 use Rattle.vx_flow.proofs.Lookups.{along-none, find_update-here}
 use Rattle.vx_flow.proofs.Gathering.{fine-goes}
 use Rattle.vx_play.specs.Item.{moved}
 use Rattle.vx_play.proofs.Roles.{tested-fine, answer-leaves}
-use Rattle.vx_play.proofs.Messages.{step-made}
 use Rattle.vx_loop.specs.Exchanges.{of_turn}
 
 -- a turn that is under way is connection 1's

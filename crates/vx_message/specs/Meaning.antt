@@ -4,7 +4,7 @@ use Rattle.vx_calls.specs.declared.calls.Role.{Role}
 use Rattle.vx_calls.specs.Call.{Call}
 use Rattle.vx_calls.specs.Call as call
 use Rattle.vx_calls.specs.Reply.{Reply}
-use Rattle.vx_xdr.specs.Spelling.{opaque}
+use Rattle.vx_codec.specs.Spelling.{opaque}
 use Rattle.vx_record.specs.Fragments.{last_header}
 use Rattle.vx_rpc.specs.declared.refusal.RpcRefusal.TheVariants as refusal
 use Rattle.vx_rpc.specs.Sorting.{Sorting, sorted}

@@ -3,7 +3,7 @@ ghost use Rattle.std.specs.Prelude.{◌≡◌, ◌+◌, ◌≤◌, ◌<◌, ◌^
 ghost use Rattle.vx_calls.specs.Reply.{reply_shown};
 ghost use Rattle.vx_rpc.specs.Sorting.{is_sent};
 ghost use Rattle.vx_rpc.specs.Wording.{success_message, refusal_message, call_message};
-ghost use Rattle.vx_xdr.specs.Spelling.{opaque};
+ghost use Rattle.vx_codec.specs.Spelling.{opaque};
 ghost use Rattle.vx_srq.specs.Shown.{handle_shown};
 ghost use Rattle.vx_codec.specs.Answered.{results, IsPuttableReply};
 ghost use Rattle.vx_message.specs.Meaning.{record_of, reply_record, srq_record, intr_srq};

@@ -28,6 +28,7 @@ use Rattle.vx_rules.specs.Decide.{Outside, is_quiet, settles, may_tell, may_have
 use Rattle.vx_rules.specs.Entry.{Answer}
 use Rattle.vx_rules.specs.One.{one, call_fits, answer_to, if_reply}
 use Rattle.vx_rules.specs.Serving.{served_reply}
+use Rattle.vx_rules.specs.ProvedLaws.{no-job, dial-no-bus}
 use Rattle.vx_rules.proofs.Walks.{passed-says}
 use Rattle.vx_model.specs.Stepping.{Goes, closed, ended, answer_at, stopped_at, refusal_fits, open_job, lines_at, stood_at, turn_at}
 
@@ -50,11 +51,6 @@ ended_no s conn now moves told (Some x) h = ap (λ b. cond b (Some (closed s con
 pub some_pending : {A : Type 0} (o : Option A) → is_some o ≡ true → (x : A) × (o ≡ Some x)
 some_pending None h = absurd (false≢true h)
 some_pending (Some x) h = (x, refl)
-
--- nothing is there
-pub none_pending : {A : Type 0} (o : Option A) → is_some o ≡ false → o ≡ None
-none_pending None h = refl
-none_pending (Some x) h = absurd (true≢false h)
 
 -- the state after an answer, by whether its moment is due and by the call that is pending
 abbrev by_pending : State → ℕ → ℕ → Outside → Reply → Bool → Option Pending → Option State
@@ -163,17 +159,6 @@ no_task u (call.Local generic) h = absurd (true≢false h)
 no_task u (call.Docmd lid flags io_timeout lock_timeout cmd big size bytes) h = absurd (true≢false h)
 no_task u _ h = refl
 
--- so for a call on whichever link
-no_job : (about : NamedLink) (asked : Call) → is_bus_call asked ≡ false → task_of about asked ≡ None
-no_job NoLink asked h = refl
-no_job DeadLink asked h = refl
-no_job (OnLink l) asked h = no_task l.target asked h
-
--- a call with a dial needs no bus
-dial_no_bus : (asked : Call) → asks_dial asked ≡ true → is_bus_call asked ≡ false
-dial_no_bus (call.CreateIntr host port prog vers family) h = refl
-dial_no_bus _ h = absurd (false≢true h)
-
 -- the job of a call that passes is open
 either_none : (b : Bool) → cond b None None ≡ (let none : Option Task = None in none)
 either_none true = refl
@@ -226,7 +211,7 @@ module _ (s : State) (conn now : ℕ) (o : Outside) (told : Reply) (p : Pending)
       → answer_at s conn now o told p ≡ cond bare (ended s conn now o.moves told (dialed_answer s.tables conn p o o.dialed)) None
   dialed-is lines dials =
       passed_by lines ∙ ap (λ b. passed_so (task_of (named_link s.tables conn p.call) p.call) b (is_bus_call p.call)) dials
-      ∙ ap (λ k. passed_so k true (is_bus_call p.call)) (no_job (named_link s.tables conn p.call) p.call (dial_no_bus p.call dials))
+      ∙ ap (λ k. passed_so k true (is_bus_call p.call)) (no-job (named_link s.tables conn p.call) p.call (dial-no-bus p.call dials))
 
   -- a call that needs no bus and no dial is answered by its effect
   pub effect-is : lines_at s conn now o p ≡ Passed → asks_dial p.call ≡ false → is_bus_call p.call ≡ false
@@ -235,7 +220,7 @@ module _ (s : State) (conn now : ℕ) (o : Outside) (told : Reply) (p : Pending)
   effect-is lines dials bus =
       passed_by lines ∙ ap (λ b. passed_so (task_of (named_link s.tables conn p.call) p.call) b (is_bus_call p.call)) dials
       ∙ ap (λ b. passed_so (task_of (named_link s.tables conn p.call) p.call) false b) bus
-      ∙ ap (λ k. passed_so k false false) (no_job (named_link s.tables conn p.call) p.call bus)
+      ∙ ap (λ k. passed_so k false false) (no-job (named_link s.tables conn p.call) p.call bus)
 
   -- a bus call, by its open job
   bus_by : lines_at s conn now o p ≡ Passed → asks_dial p.call ≡ false → is_bus_call p.call ≡ true

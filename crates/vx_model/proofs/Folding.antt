@@ -6,7 +6,7 @@ use Rattle.std.proofs.lemmas.List.Elements.{filter_map-append}
 use Rattle.vx_488.specs.declared.transfers.Transfer.{Transfer}
 use Rattle.vx_488.specs.declared.wire.Wire.{Wire}
 use Rattle.vx_488.specs.Wire.{step, wire_after}
-use Rattle.vx_488.proofs.Appends.{wire_after-append}
+use Rattle.vx_488.specs.ProvedLaws.{wire_after-append}
 use Rattle.vx_plan.specs.Transfers.{got_of}
 use Rattle.vx_plan.specs.Results.{gots, bytes_got, last_got}
 use Rattle.vx_plan.specs.Places.{last_after}

@@ -1,7 +1,7 @@
 -- What lists of transfers leave behind on the bus, where they keep to the plan of a job that can be done.
 use Rattle.std.proofs.Common.{◌≡◌, ◌≢◌, ◌≤◌, ℕ, Bool, true, false, cond, ◌⊎◌, inl, inr, List, [], ◌∷◌, Option, Some, None, refl, sym, ap, ◌∙◌, subst, arith}
 use Rattle.std.specs.Prelude.{length}
-use Rattle.std.proofs.lemmas.Bool.{cases_Bool, false≢true}
+use Rattle.std.proofs.lemmas.Bool.{cases_Bool}
 use Rattle.vx_488.specs.declared.transfers.TheConstants.{ADDRESS_MAX}
 use Rattle.vx_488.specs.declared.transfers.Transfer.{Transfer}
 use Rattle.vx_488.specs.declared.transfers.Transfer.TheVariants as transfer
@@ -12,16 +12,10 @@ use Rattle.vx_plan.specs.declared.tasks.Task.TheVariants as task
 use Rattle.vx_plan.specs.Transfers.{same_transfer}
 use Rattle.vx_plan.specs.Plan.{Plan, Stand, Whole, Part, Off, done, left_after, stand_of, stand}
 use Rattle.vx_plan.specs.Tasks.{plan, is_own_task, IsPlainTask}
-use Rattle.vx_plan.proofs.Walks.{left_after-none}
-use Rattle.vx_plan.proofs.Fitting.{same_transfer-is}
+use Rattle.vx_plan.specs.ProvedLaws.{left_after-none, own-job, same_transfer-is}
 use Rattle.vx_plan.proofs.Turns.{bound-law, most_bytes-within, own_stays-law}
 use Rattle.vx_rules.specs.Serving.{IsDoable}
 use Rattle.vx_model.specs.Stepping.{IsOrderly}
-
--- the job of a new own address, as one
-own_job : (job : Task) → is_own_task job ≡ true → (n : ℕ) × (job ≡ task.Own n)
-own_job (task.Own n) h = (n, refl)
-own_job _ h = absurd (false≢true h)
 
 -- what is left of the plan of a new own address after one transfer
 abbrev after_own : Bool → Option Plan
@@ -46,7 +40,7 @@ own_after : (job : Task) (bytes : List ℕ) (polling : Bool) (own : ℕ) (w : Wi
 own_after job bytes polling own w ts h plain on = by (cases_Bool (is_own_task job)) where
   by : (is_own_task job ≡ true) ⊎ (is_own_task job ≡ false) → (wire_after w ts).own ≤ ADDRESS_MAX
   by (inl e) =
-      let is = own_job job e in
+      let is = own-job job e in
       own_front is.0 bytes polling own w ts h (subst IsPlainTask is.1 plain) (subst (λ j. stand (plan j bytes polling own) ts ≢ Off) is.1 on)
   by (inr e) = subst (λ n. n ≤ ADDRESS_MAX) (sym (own_stays-law job bytes polling own ts w e on)) h
 

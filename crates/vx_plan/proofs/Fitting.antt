@@ -1,41 +1,16 @@
 -- A transfer fits a slot exactly where it is the slot's own, or any byte got.
-use Rattle.std.proofs.Common.{◌≡◌, Bool, true, false, refl, sym, ap, ◌∙◌}
-use Rattle.std.proofs.lemmas.Bool.{false≢true, eqb-true, eq-eqb, and_parts, and_from}
+use Rattle.std.proofs.Common.{◌≡◌, Bool, true, false, refl, ap, ◌∙◌}
+use Rattle.std.proofs.lemmas.Bool.{false≢true, eq-eqb, and_from}
 use Rattle.vx_488.specs.declared.transfers.Transfer.{Transfer}
 use Rattle.vx_488.specs.declared.transfers.Transfer.TheVariants.{Cmd, Put, Got, Ren, Atn, Ifc, Own}
 use Rattle.vx_plan.specs.Transfers.{same_bool, same_transfer, is_got}
 use Rattle.vx_plan.specs.Plan.{Slot, This, AnyByte, fits}
 use Rattle.vx_plan.specs.Whole.{Fits}
-
--- two truth values that pass the test are one
-same_bool-is : (a b : Bool) → same_bool a b ≡ true → a ≡ b
-same_bool-is true true h = refl
-same_bool-is true false h = absurd (false≢true h)
-same_bool-is false true h = absurd (false≢true h)
-same_bool-is false false h = refl
+use Rattle.vx_plan.specs.ProvedLaws.{same_transfer-is}
 
 same_bool-refl : (a : Bool) → same_bool a a ≡ true
 same_bool-refl true = refl
 same_bool-refl false = refl
-
--- two transfers that pass the test are one
-pub same_transfer-is : (a b : Transfer) → same_transfer a b ≡ true → b ≡ a
-same_transfer-is (Cmd a) (Cmd b) h = ap Cmd (sym (eqb-true a b h))
-same_transfer-is (Put a e) (Put b f) h =
-    let both = and_parts _ _ h in
-    let byte = eqb-true a b both.0 in
-    let end = same_bool-is e f both.1 in
-    cc
-same_transfer-is (Got a e) (Got b f) h =
-    let both = and_parts _ _ h in
-    let byte = eqb-true a b both.0 in
-    let end = same_bool-is e f both.1 in
-    cc
-same_transfer-is (Ren a) (Ren b) h = ap Ren (sym (same_bool-is a b h))
-same_transfer-is (Atn a) (Atn b) h = ap Atn (sym (same_bool-is a b h))
-same_transfer-is Ifc Ifc h = refl
-same_transfer-is (Own a) (Own b) h = ap Own (sym (eqb-true a b h))
-same_transfer-is _ _ h = absurd (false≢true h)
 
 pub same_transfer-refl : (a : Transfer) → same_transfer a a ≡ true
 same_transfer-refl (Cmd a) = eq-eqb a a refl

@@ -13,7 +13,7 @@ use Rattle.vx_plan.specs.Transfers.{same_transfer, got_of, is_got}
 use Rattle.vx_plan.specs.Plan.{Slot, This, AnyByte, Reading, Plan, done, is_stop, ends_with, fits, left_after, next_slot}
 use Rattle.vx_plan.specs.Results.{gots, last_of}
 use Rattle.vx_plan.specs.Places.{carries_data}
-use Rattle.vx_plan.proofs.Fitting.{same_transfer-is}
+use Rattle.vx_plan.specs.ProvedLaws.{same_transfer-is}
 use Rattle.vx_plan.proofs.Walks.{off-stays}
 use Rattle.vx_plan.proofs.Counts.{count-front-yes, count-front-no}
 

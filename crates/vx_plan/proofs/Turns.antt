@@ -27,8 +27,8 @@ use Rattle.vx_plan.specs.Tasks.{ended_poll, secondary_part, unl, spe, spd, unt, 
 use Rattle.vx_plan.specs.Results.{last_got}
 use Rattle.vx_plan.specs.Places.{carries_data, last_after}
 use Rattle.vx_plan.specs.Laws.{PlaceGoesOnLaw, BoundLaw, PartBoundLaw, SteadyLaw, OwnStaysLaw}
-use Rattle.vx_plan.proofs.Fitting.{same_transfer-is}
-use Rattle.vx_plan.proofs.Walks.{off-stays, left_after-append, one-goes}
+use Rattle.vx_plan.specs.ProvedLaws.{left_after-append, same_transfer-is}
+use Rattle.vx_plan.proofs.Walks.{off-stays, one-goes}
 use Rattle.vx_plan.proofs.Counts.{count-behind, last_got-behind}
 use Rattle.vx_plan.proofs.Nexts.{length-puts}
 

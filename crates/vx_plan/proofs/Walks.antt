@@ -1,6 +1,6 @@
 -- A list stands in a plan where the definitions by whole lists say.
 use Rattle.std.proofs.Common.{◌≡◌, ◌≢◌, ℕ, zero, suc, ◌+◌, ◌-◌, ◌≤◌, Bool, true, false, ◌||◌, List, [], ◌∷◌, ◌++◌, map, length, Option, Some, None, refl, sym, ap, subst, ◌∙◌, ◌⊎◌, inl, inr, arith}
-use Rattle.std.specs.Prelude.{if◌then◌else◌, option_and_then, slice_get, ◌==◌}
+use Rattle.std.specs.Prelude.{if◌then◌else◌, slice_get, ◌==◌}
 use Rattle.std.proofs.lemmas.Bool.{true≢false, cases_Bool, eqb-true, eqb-false, or_cases, or_parts, true_from_ne_false}
 use Rattle.std.proofs.lemmas.Option.{none-some, same_Some}
 use Rattle.vx_488.specs.declared.transfers.Transfer.{Transfer}
@@ -8,21 +8,14 @@ use Rattle.vx_488.specs.declared.transfers.Transfer.TheVariants.{Got}
 use Rattle.vx_plan.specs.Plan.{Slot, This, AnyByte, Reading, Plan, done, is_stop, ends_with, fits, left_after_one, left_after, Whole, Part, Off, stand_of, stand, next_slot}
 use Rattle.vx_plan.specs.Whole.{Byte, got, Fits, Fill, GoesOn, EndsRead, ReadsWhole, IsWhole, IsPart}
 use Rattle.vx_plan.specs.Laws.{WholeLaw, PartLaw, PrefixFreeLaw, FitsNext, GoesOnLaw}
+use Rattle.vx_plan.specs.ProvedLaws.{left_after-none, left_after-append}
 use Rattle.vx_plan.proofs.Fitting.{same_transfer-refl, Fits-from_fits, fits-from_Fits}
 
 -- ---- lists that leave the plan, and one list after another
 
-pub left_after-none : (ts : List Transfer) → left_after None ts ≡ None
-left_after-none [] = refl
-left_after-none (t ∷ ts) = left_after-none ts
-
 -- a list that has left the plan doesn't come back
 pub off-stays : (ts : List Transfer) (left : Plan) → left_after None ts ≡ Some left → ⊥
 off-stays ts left h = none-some left (sym (left_after-none ts) ∙ h)
-
-pub left_after-append : (p : Option Plan) (xs ys : List Transfer) → left_after p (xs ++ ys) ≡ left_after (left_after p xs) ys
-left_after-append p [] ys = refl
-left_after-append p (x ∷ xs) ys = left_after-append (option_and_then (λ left. left_after_one left x) p) xs ys
 
 -- nothing fits behind a whole list
 done-one : (t : Transfer) → left_after_one done t ≡ None

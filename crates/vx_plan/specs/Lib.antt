@@ -7,3 +7,4 @@ pub mod Places
 pub mod Roles
 pub mod Moves
 pub mod Laws
+pub mod ProvedLaws

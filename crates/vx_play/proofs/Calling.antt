@@ -6,6 +6,8 @@ use Rattle.std.specs.List.{list_any}
 use Rattle.std.proofs.Math.Nat.{max-eq_right}
 use Rattle.std.proofs.lemmas.Bool.{cond-true, cond-false, false≢true}
 use Rattle.std.proofs.lemmas.Option.{cond_some}
+use Rattle.vx_lemmas.specs.Conditions.{chosen}
+use Rattle.vx_lemmas.specs.Options.{mapped, gone_on}
 use Rattle.vx_calls.specs.declared.calls.Role.{Role}
 use Rattle.vx_calls.specs.declared.calls.Role.TheVariants as role
 use Rattle.vx_calls.specs.declared.codes.ErrorCode.{ErrorCode}
@@ -27,7 +29,6 @@ use Rattle.vx_flow.specs.Event.{Event}
 use Rattle.vx_flow.specs.Event as event
 use Rattle.vx_flow.specs.FineState.{FineState}
 use Rattle.vx_flow.specs.Fine.{comes_in_turn, wire_for, outside, is_answered, fine_after, answered_fine, fine_answer, fine_step, fine}
-use Rattle.vx_flow.proofs.Lookups.{mapped, gone_on, chosen}
 use Rattle.vx_kernel.specs.CoreState.{CoreState}
 use Rattle.vx_play.specs.declared.streams.Incoming.{Incoming}
 use Rattle.vx_play.specs.declared.note.Made.{Made}

@@ -7,8 +7,9 @@ use Rattle.vx_calls.specs.declared.limits.TheConstants.{RECORD_MAX}
 use Rattle.vx_record.specs.Buffer.{BufState, fresh, fed, taken}
 use Rattle.vx_record.specs.declared.Feed.{Feed}
 use Rattle.vx_record.specs.declared.Feed.TheVariants as feed
-use Rattle.vx_record.specs.Records.{Split, records}
-use Rattle.vx_record.specs.Ends.{FeedEnds, IsEnd}
+use Rattle.vx_record.specs.Records.{records}
+use Rattle.vx_record.specs.Ends.{FeedEnds}
+use Rattle.vx_record.specs.ProvedLaws.{fed-limit}
 use Rattle.vx_record.proofs.Ends.{feed-ends, fed-append}
 use Rattle.vx_bus_traits.specs.Steps.{Cut}
 use Rattle.vx_script.specs.declared.Cause.TheVariants as cause
@@ -21,6 +22,7 @@ use Rattle.vx_flow.specs.Event.{Event}
 use Rattle.vx_flow.specs.Event as event
 use Rattle.vx_flow.specs.FineState.{FineState}
 use Rattle.vx_flow.specs.Fine.{fine}
+use Rattle.vx_flow.specs.ProvedLaws.{step-made}
 use Rattle.vx_play.specs.declared.note.Made.{Made}
 use Rattle.vx_play.specs.declared.note.Gone.TheVariants as gone
 use Rattle.vx_play.specs.declared.note.Note.TheVariants as note
@@ -37,9 +39,9 @@ use Rattle.vx_play.specs.PlayerState.{PlayerState, incoming_at}
 use Rattle.vx_play.specs.Serving.{MadeBy}
 use Rattle.vx_play.specs.Feeding.{kept_behind, AnswersRecord, FeedMakes, FeedsPiece, StopsPiece}
 use Rattle.vx_play.specs.Standing.{HoldsStream, Holds, Stands, IsReady, IsPrintable, TakesTo, StopsFor, made_lines}
-use Rattle.vx_play.proofs.Limits.{fed-limit}
+use Rattle.vx_play.specs.ProvedLaws.{by_end, brought_of}
 use Rattle.vx_play.proofs.Roles.{roles-stay, polls-roles, up-lives, up-others, down-roles, down-others, as-one}
-use Rattle.vx_play.proofs.Messages.{step-made, up-moment, down-moment}
+use Rattle.vx_play.proofs.Messages.{up-moment, down-moment}
 use Rattle.vx_play.proofs.Stepping.{HoldsBehind, takes-to}
 
 -- ---- what is kept of connections
@@ -240,17 +242,6 @@ down-takes stage old new conn r stands live went here others rack moment =
     (behind-gone stage (Down conn) conn old new stands down here others (λ m ne. refl) (λ m ne. refl))
 
 -- ---- a piece of a stream comes
-
--- what stands at the last byte of a piece, by the buffer's state
-abbrev pub brought_of : Feed → List ℕ → Brought
-brought_of feed.More kept = NoEnd
-brought_of feed.Whole kept = Whole kept
-brought_of feed.TooLong kept = TooLong
-
-by_end : (state : Feed) (kept : List ℕ) (split : Split) → IsEnd state kept split → by_split split.records split.too_long ≡ brought_of state kept
-by_end feed.More kept split h = ap (λ rs. by_split rs split.too_long) h.0 ∙ ap (by_split []) h.1
-by_end feed.Whole kept split h = ap (λ rs. by_split rs split.too_long) h
-by_end feed.TooLong kept split h = ap (λ rs. by_split rs split.too_long) h.0 ∙ ap (by_split []) h.1
 
 -- where a buffer stands that took a piece behind a stream
 feeds-end : (stream piece : List ℕ) (buffer : BufState) → buffer ≡ fed (fresh RECORD_MAX) stream → buffer.state ≡ feed.More → 0 < length piece

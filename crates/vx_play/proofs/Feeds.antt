@@ -7,6 +7,7 @@ use Rattle.vx_calls.specs.declared.limits.TheConstants.{RECORD_MAX}
 use Rattle.vx_record.specs.Buffer.{fresh, fed, taken}
 use Rattle.vx_record.specs.declared.Fed.{Fed}
 use Rattle.vx_record.specs.declared.Feed.{Feed}
+use Rattle.vx_record.specs.ProvedLaws.{fed-limit}
 use Rattle.vx_script.specs.declared.Cause.TheVariants as cause
 use Rattle.vx_bus_traits.specs.Steps.{Cut}
 use Rattle.vx_sim.specs.SimState.{SimState}
@@ -22,7 +23,6 @@ use Rattle.vx_message.specs.Meaning.{Meaning, Junk, Answered, Asks, Aborts, mean
 use Rattle.vx_play.specs.Making.{MessageMakes}
 use Rattle.vx_play.specs.Serving.{MadeBy}
 use Rattle.vx_play.specs.Feeding.{FeedsTo, kept_behind, AnswersRecord, FeedMakes, FeedsPiece, StopsPiece}
-use Rattle.vx_play.proofs.Limits.{fed-limit}
 
 -- what holds of what is kept holds of what is there
 pub if-there : (P : Incoming → Type 0) (o : Option Incoming) (kept : Incoming) → o ≡ Some kept → IfSome o P → P kept

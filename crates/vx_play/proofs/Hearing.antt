@@ -15,13 +15,14 @@ use Rattle.vx_488.specs.declared.transfers.Transfer.{Transfer}
 use Rattle.vx_488.specs.declared.wire.Wire.{Wire}
 use Rattle.vx_488.specs.Heard.{heard}
 use Rattle.vx_488.proofs.AddressCommands.{listen_byte, talk_byte, secondary_byte}
-use Rattle.vx_plan.specs.Plan.{Slot, Stand, Whole, Part, Off, stand}
+use Rattle.vx_plan.specs.Plan.{Slot, Off, stand}
 use Rattle.vx_plan.specs.Tasks.{unl, mta, listener, ended_poll, puts, just, write_plan, IsTargetPlain, IsSecondaryPlain}
-use Rattle.vx_links.specs.Table.{Link}
+use Rattle.vx_rules.specs.Table.{Link}
 use Rattle.vx_bus_traits.specs.Steps.{Step, Went, Told, Cut}
 use Rattle.vx_sim.specs.Bench.{some_asks, some_refuses}
 use Rattle.vx_sim.specs.SimState.{Through}
-use Rattle.vx_sim.specs.Laws.{transfers, is_quiet, only_puts, TakesAll}
+use Rattle.vx_sim.specs.Laws.{is_quiet, only_puts, TakesAll}
+use Rattle.vx_sim.specs.ProvedLaws.{steps-moves}
 use Rattle.vx_sim.proofs.Hears.{heard-taken}
 use Rattle.vx_rules.specs.Lists.{along}
 use Rattle.vx_rules.specs.State.{Pending, Tables, pending_at, link_of}
@@ -36,11 +37,13 @@ use Rattle.vx_flow.specs.Fine.{call_stand, turn_stand, is_on, goes_on, may_begin
 use Rattle.vx_flow.specs.Poll as poll
 use Rattle.vx_flow.specs.Poll.{Ran, Ending, ran_of, begins, run_events}
 use Rattle.vx_flow.specs.Sound.{TurnStands, IsSound}
+use Rattle.vx_flow.specs.ProvedLaws.{on-is}
 use Rattle.vx_flow.proofs.Whom.{just-front}
 use Rattle.vx_flow.proofs.Plain.{found-has}
 use Rattle.vx_kernel.specs.Polling.{PollsOver, wanted, refused_ask}
 use Rattle.vx_play.specs.Gateway.{Gateway}
 use Rattle.vx_play.specs.Hearing.{is_write, TakesHeard}
+use Rattle.vx_play.specs.ProvedLaws.{refused-none}
 
 -- ---- transfers that change instruments at most by a byte that is put
 
@@ -109,11 +112,6 @@ call-quiet t w conn _ ts plain small is on = absurd (false≢true is)
 
 -- ---- the transfers of a poll
 
-stays-on : (s : Stand) → is_on s ≡ true → s ≢ Off
-stays-on Off h e = false≢true h
-stays-on Whole h e = cc
-stays-on Part h e = cc
-
 -- the call of a connection is a write; the addresses of links, and the own one as its turn began, are at most 30
 record Writes (f : FineState) (conn : ℕ) (p : Pending) : Type 0 where
   call_at : pending_at f.state.tables conn ≡ Some p
@@ -130,7 +128,7 @@ turn-quiet f conn p moves (Some u) w h =
     let made = u.moves ++ moves in
     let both = and_parts ((u.connection == conn) && goes_on f.state conn (pending_at t conn)) (is_on (turn_stand f u made)) h in
     let own-turn = eqb-true u.connection conn (and_parts (u.connection == conn) (goes_on f.state conn (pending_at t conn)) both.0).0 in
-    let on = stays-on (turn_stand f u made) both.1 in
+    let on = on-is (turn_stand f u made) both.1 in
     let here : call_stand t f.before conn made (pending_at t conn) ≢ Off = subst (λ n. call_stand t f.before n made (pending_at t n) ≢ Off) own-turn on in
     (quiet-parts u.moves moves
     (call-quiet t f.before conn p.call made w.links w.own w.writes (subst (λ o. call_stand t f.before conn made o ≢ Off) w.call_at here))).1
@@ -186,24 +184,12 @@ refused-quiet poll.Broken None = refl
 refused-quiet poll.Still slot = refl
 refused-quiet poll.Finished slot = refl
 
-refused-none : (ran : Ran) (slot : Option Slot) → transfers (refused_ask ran slot) ≡ []
-refused-none poll.Paused (Some slot) = refl
-refused-none poll.Paused None = refl
-refused-none poll.Broken (Some slot) = refl
-refused-none poll.Broken None = refl
-refused-none poll.Still slot = refl
-refused-none poll.Finished slot = refl
-
 -- transfers that went, and steps behind them
 steps-quiet : (moves : List Transfer) (rest : List Step) → all_quiet moves ≡ true → list_all only_puts rest ≡ true → list_all only_puts (map Went moves ++ rest) ≡ true
 steps-quiet [] rest h k = k
 steps-quiet (t ∷ ts) rest h k =
     let both = and_parts (only_puts (Went t)) (all_quiet ts) h in
     and_from (only_puts (Went t)) (list_all only_puts (map Went ts ++ rest)) both.0 (steps-quiet ts rest both.1 k)
-
-steps-moves : (moves : List Transfer) (rest : List Step) → transfers rest ≡ [] → transfers (map Went moves ++ rest) ≡ moves
-steps-moves [] rest h = h
-steps-moves (t ∷ ts) rest h = ap (λ us. t ∷ us) (steps-moves ts rest h)
 
 -- In a poll of a write the instruments are told the moment, and then each takes, in order, the bytes that its address hears
 -- of the poll's transfers, and no others.

@@ -1,4 +1,3 @@
-pub mod Limits
 pub mod Stepping
 pub mod Messages
 pub mod Feeds

@@ -1,24 +1,20 @@
 -- What serving a message makes of the gateway.
-use Rattle.std.proofs.Common.{◌≡◌, ◌==◌, ℕ, ◌≤◌, ◌-◌, max, drop, length-drop, Bool, true, false, cond, ◌&&◌, IsTrue, List, [], ◌∷◌, ◌++◌, length, Option, Some, None, is_some, IsSome, refl, sym, ap, ◌∙◌, subst, arith, length-append, lit≤}
+use Rattle.std.proofs.Common.{◌≡◌, ◌==◌, ℕ, ◌≤◌, max, Bool, true, false, cond, ◌&&◌, IsTrue, List, [], ◌∷◌, Option, Some, None, is_some, IsSome, refl, sym, ap, ◌∙◌, subst, arith}
 use Rattle.std.specs.Prelude.{is_none, nat_le}
 use Rattle.std.specs.Option.{option_map, option_and_then}
 use Rattle.std.specs.List.{find}
 use Rattle.std.proofs.lemmas.Bool.{false≢true, and_parts, and_from}
-use Rattle.std.proofs.lemmas.Option.{cond_some, same_Some}
+use Rattle.std.proofs.lemmas.Option.{cond_some}
 use Rattle.vx_calls.specs.declared.calls.Role.{Role}
 use Rattle.vx_calls.specs.declared.calls.Role.TheVariants as role
 use Rattle.vx_calls.specs.declared.calls.Proc.{Proc}
 use Rattle.vx_calls.specs.declared.calls.Proc.TheVariants as proc
-use Rattle.vx_calls.specs.declared.calls.CallRef.{CallRef}
-use Rattle.vx_calls.specs.declared.calls.CallRef.TheVariants as seen
 use Rattle.vx_calls.specs.declared.codes.ErrorCode.{ErrorCode}
-use Rattle.vx_calls.specs.declared.limits.TheConstants.{RECORD_MAX}
-use Rattle.vx_calls.specs.Call.{Call, call_shown}
+use Rattle.vx_calls.specs.Call.{Call}
 use Rattle.vx_calls.specs.Call as call
 use Rattle.vx_calls.specs.Reply as reply
-use Rattle.vx_xdr.specs.Spelling.{word, opaque, padding}
 use Rattle.vx_rpc.specs.Procedure.{serves}
-use Rattle.vx_codec.specs.Asked.{Asks, IsPuttable, arguments, arguments_of, call_of}
+use Rattle.vx_codec.specs.Asked.{Asks, arguments_of, call_of}
 use Rattle.vx_codec.specs.Row.{Contents}
 use Rattle.vx_trace.specs.Output.{Out}
 use Rattle.vx_bus_traits.specs.Steps.{Told, Cut}
@@ -27,16 +23,15 @@ use Rattle.vx_rules.specs.Lists.{update_first}
 use Rattle.vx_rules.specs.State.{Pending, Connection, Tables, State, connection_at, pending_at, role_at, lives_as, has_role_of, same_role, is_idle, with_pending}
 use Rattle.vx_rules.specs.Entry as entry
 use Rattle.vx_rules.specs.One.{may_wait, arrived}
-use Rattle.vx_rules.specs.Held.{IsShort}
-use Rattle.vx_flow.specs.Event.{Event, Up, Down, Arrive, Abort}
+use Rattle.vx_flow.specs.Event.{Up, Down, Arrive, Abort}
 use Rattle.vx_flow.specs.FineState.{FineState}
-use Rattle.vx_flow.specs.Fine.{comes_in_turn, fine_step, fine}
-use Rattle.vx_flow.proofs.Lookups.{chosen}
+use Rattle.vx_flow.specs.Fine.{fine}
+use Rattle.vx_flow.specs.ProvedLaws.{step-made}
 use Rattle.vx_kernel.specs.CoreState.{CoreState}
 use Rattle.vx_play.specs.declared.note.Made.{Made}
 use Rattle.vx_play.specs.declared.serve.Served.TheVariants as served
 use Rattle.vx_play.specs.Gateway.{Gateway, gateway_of, BusGoes}
-use Rattle.vx_message.specs.Meaning.{Meaning, Junk, Answered, Aborts, by_call, xid_by, record_of, reply_record}
+use Rattle.vx_message.specs.Meaning.{Meaning, Junk, Answered, Aborts, xid_by, record_of, reply_record}
 use Rattle.vx_message.specs.Meaning as meant
 use Rattle.vx_play.specs.Making.{PollMakes, MessageMakes}
 use Rattle.vx_play.specs.Serving.{MadeBy, Tells, IsRipe, Serves}
@@ -50,30 +45,12 @@ same-role role.Abort role.Abort h = refl
 same-role role.Core role.Abort h = absurd (false≢true h)
 same-role role.Abort role.Core h = absurd (false≢true h)
 
-own-role : (a : Role) → same_role a a ≡ true
-own-role role.Core = refl
-own-role role.Abort = refl
-
 -- a connection that lives in a role has it
 pub lives-role : (t : Tables) (conn : ℕ) (r : Role) → lives_as t conn r ≡ true → role_at t conn ≡ Some r
 lives-role t conn r = by (connection_at t conn) where
   by : (o : Option Connection) → has_role_of r o ≡ true → option_map (λ (c : Connection). c.role) o ≡ Some r
   by None h = absurd (false≢true h)
   by (Some c) h = ap Some (same-role c.role r h)
-
--- and one that has it lives in it
-pub role-lives : (t : Tables) (conn : ℕ) (r : Role) → role_at t conn ≡ Some r → lives_as t conn r ≡ true
-role-lives t conn r = by (connection_at t conn) where
-  by : (o : Option Connection) → option_map (λ (c : Connection). c.role) o ≡ Some r → has_role_of r o ≡ true
-  by None h = cc
-  by (Some c) h = subst (λ x. same_role c.role x ≡ true) (same_Some c.role r h) (own-role c.role)
-
--- a connection with a role lives
-pub role-connection : (t : Tables) (conn : ℕ) (r : Role) → role_at t conn ≡ Some r → IsSome (connection_at t conn)
-role-connection t conn r = by (connection_at t conn) where
-  by : (o : Option Connection) → option_map (λ (c : Connection). c.role) o ≡ Some r → IsSome o
-  by None h = cc
-  by (Some c) h = refl
 
 -- ---- a call that comes, by its procedure
 
@@ -112,51 +89,10 @@ ripe t conn r p asked args lives idle served asks = record {
       subst (λ k. lives_as t conn k ≡ true) (abort-role r p asks.0 served aborts) lives;
 }
 
--- an opaque spells as many bytes as it has, or more
-opaque-long : (value : List ℕ) → length value ≤ length (opaque value)
-opaque-long value =
-    let both = length-append value (padding (length value)) in
-    omega arith
-
-behind-long : (front value : List ℕ) → length value ≤ length (front ++ opaque value)
-behind-long front value =
-    let both = length-append front (opaque value) in
-    let long = opaque-long value in
-    omega arith
-
--- a call whose arguments fit a record is short
-pub call-short : (asked : Call) → IsPuttable asked → length (arguments asked) ≤ RECORD_MAX → IsShort asked
-call-short (call.CreateLink client lock lock_timeout device) puttable len = omega arith
-call-short (call.Write lid io_timeout lock_timeout flags bytes) puttable len =
-    let long = behind-long (word lid ++ word io_timeout ++ word lock_timeout ++ word flags) bytes in
-    omega arith
-call-short (call.Docmd lid flags io_timeout lock_timeout cmd big size bytes) puttable len =
-    let long = opaque-long bytes in
-    omega arith
-call-short _ puttable len = lit≤ tt
-
--- ---- a call as it was read
-
--- one that is neither the null procedure nor a device_abort is asked of the core
-pub asks-core : (r : CallRef) (xid : ℕ) → (r ≡ seen.Null → ⊥) → ((lid : ℕ) → r ≡ seen.DeviceAbort lid → ⊥) → by_call xid (call_shown r) ≡ meant.Asks xid (call_shown r)
-asks-core seen.Null xid not_null not_abort = absurd (not_null refl)
-asks-core (seen.DeviceAbort lid) xid not_null not_abort = absurd (not_abort lid refl)
-asks-core _ xid not_null not_abort = refl
-
--- and may wait
-pub asks-wait : (r : CallRef) → (r ≡ seen.Null → ⊥) → ((lid : ℕ) → r ≡ seen.DeviceAbort lid → ⊥) → may_wait (call_shown r) ≡ true
-asks-wait seen.Null not_null not_abort = absurd (not_null refl)
-asks-wait (seen.DeviceAbort lid) not_null not_abort = absurd (not_abort lid refl)
-asks-wait _ not_null not_abort = refl
-
 -- ---- what events leave of the moment and of calls
 
 tested : (P : State → Type 0) (b : Bool) (s t : State) → P s → cond b (Some s) None ≡ Some t → P t
 tested P b s t holds h = subst P (cond_some b s t h).1 holds
-
--- the event of a step that was allowed
-pub step-made : (f g : FineState) (e : Event) → fine f e ≡ Some g → fine_step f e ≡ Some g
-step-made f g e h = (chosen (comes_in_turn f e f.turn) (fine_step f e) g h).1
 
 pub up-moment : (f g : FineState) (conn : ℕ) (r : Role) → fine f (Up conn r) ≡ Some g → g.state.moment ≡ f.state.moment
 up-moment f g conn r h =
@@ -280,10 +216,3 @@ called-serves before mid after conn now told xid m asked room made is at came wa
 -- the later of two moments, of which the first isn't later
 pub later-moment : (before now : ℕ) → before ≤ now → max before now ≡ now
 later-moment before now late = omega arith
-
--- a call that was read at the end of a message that fits a record is short
-pub read-short : (message args : List ℕ) (asked : Call) (n : ℕ) → IsPuttable asked → length (arguments asked) ≡ length args → args ≡ drop n message
-    → length message ≤ RECORD_MAX → IsShort asked
-read-short message args asked n puttable len is fits =
-    let dropped : length args ≡ length message - n = ap length is ∙ length-drop n message in
-    call-short asked puttable (omega arith)

@@ -6,13 +6,15 @@ use Rattle.std.specs.List.{find, list_all}
 use Rattle.std.proofs.lemmas.Bool.{false≢true, and_parts, and_from, eqb-true, eq-eqb, ne_eqb}
 use Rattle.std.proofs.lemmas.Option.{cond_some, none-some, same_Some}
 use Rattle.std.proofs.lemmas.List.Folds.{list_all-append}
+use Rattle.vx_lemmas.specs.Conditions.{chosen}
+use Rattle.vx_lemmas.specs.Options.{mapped, gone_on}
 use Rattle.vx_calls.specs.declared.calls.Role.{Role}
 use Rattle.vx_calls.specs.declared.calls.Role.TheVariants as role
 use Rattle.vx_calls.specs.ErrorCode.{same_error}
 use Rattle.vx_calls.specs.Reply.{Reply, same_reply}
 use Rattle.vx_488.specs.declared.transfers.Transfer.{Transfer}
 use Rattle.vx_488.specs.Wire.{wire_after}
-use Rattle.vx_links.specs.Table.{is_live}
+use Rattle.vx_rules.specs.Table.{is_live}
 use Rattle.vx_srq.specs.Desk.{given, taken, sampled}
 use Rattle.vx_rules.specs.Lists.{update_first, along}
 use Rattle.vx_rules.specs.State.{Pending, Connection, Tables, State, connection_at, pending_at, role_at, lives_as, is_idle, has_room, with_pending, with_connection, without_connection}
@@ -20,11 +22,12 @@ use Rattle.vx_rules.specs.Lines.{first_lines}
 use Rattle.vx_rules.specs.Decide.{Outside, settles, decide}
 use Rattle.vx_rules.specs.Entry as entry
 use Rattle.vx_rules.specs.One.{one, may_wait, arrived, answered, answer_to, answer, if_reply, mark_on, marked, abort_reply, abort_tables, same_given}
+use Rattle.vx_rules.specs.ProvedLaws.{role-others}
 use Rattle.vx_flow.specs.Event.{Event, Up, Down, Arrive, Answer, Abort, Sample, Take, Begin, Move, Dial}
 use Rattle.vx_flow.specs.FineState.{FineState}
 use Rattle.vx_flow.specs.Fine.{comes_in_turn, wire_for, outside, is_answered, may_begin, may_dial, may_move, fine_after, as_one, without_dial, answered_fine, fine_answer, fine_step, fine}
 use Rattle.vx_flow.specs.Poll.{Ending, Answered, Waited, Dialed, Polls, begins, begun_events, moved_events, run_events, end_events}
-use Rattle.vx_flow.proofs.Lookups.{find_append-some, find_append-none, find-filter, find_filter-gone, mapped, gone_on, chosen, along-none}
+use Rattle.vx_flow.proofs.Lookups.{find_append-some, find_append-none, find_filter-gone, along-none}
 use Rattle.vx_flow.proofs.Changes.{decide-found, found-connections}
 
 -- the event is neither a connection that comes up nor one that ends
@@ -72,20 +75,10 @@ role-aborted t lid n = by (is_live t.links lid) where
   by true = role-marked lid n t.connections
   by false = refl
 
--- two connections of different numbers
-apart : (n m : ℕ) → n ≢ m → (c : Connection) → (c.number == n) ≡ true → (c.number == m) ≡ false
-apart n m ne c e = ne_eqb c.number m (λ f. ne (sym (eqb-true c.number n e) ∙ f))
-
 -- a connection that went has no role
 role-gone : (t : Tables) (conn : ℕ) → role_at (without_connection t conn) conn ≡ None
 role-gone t conn =
     ap (option_map (λ (c : Connection). c.role)) (find_filter-gone (λ c. c.number == conn) (λ c. not (c.number == conn)) (λ c e. ap not e) t.connections)
-
--- another one's stays
-role-others : (t : Tables) (conn n : ℕ) → conn ≢ n → role_at (without_connection t conn) n ≡ role_at t n
-role-others t conn n ne =
-    ap (option_map (λ (c : Connection). c.role))
-    (find-filter (λ c. c.number == n) (λ c. not (c.number == conn)) (λ c e. ap not (apart n conn (λ f. ne (sym f)) c e)) t.connections)
 
 -- one that lives keeps its role where another comes up
 role-kept : (t : Tables) (r old : Role) (n : ℕ) → role_at t n ≡ Some old → role_at (with_connection t r) n ≡ Some old

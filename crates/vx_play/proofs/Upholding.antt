@@ -5,6 +5,7 @@ use Rattle.std.specs.List.{list_all}
 use Rattle.std.proofs.lemmas.Bool.{false≢true, and_parts, and_from, eqb-true, eq-eqb}
 use Rattle.std.proofs.lemmas.Option.{none-some, same_Some}
 use Rattle.std.proofs.lemmas.List.Folds.{list_all-append}
+use Rattle.vx_lemmas.specs.Conditions.{chosen}
 use Rattle.vx_calls.specs.declared.calls.Role.{Role}
 use Rattle.vx_488.specs.declared.transfers.Transfer.{Transfer}
 use Rattle.vx_488.specs.Wire.{wire_after}
@@ -20,7 +21,7 @@ use Rattle.vx_flow.specs.Event as event
 use Rattle.vx_flow.specs.FineState.{FineState, first_fine}
 use Rattle.vx_flow.specs.Fine.{comes_in_turn, outside, may_begin, may_dial, may_move, fine_after, without_dial, fine_step, fine}
 use Rattle.vx_flow.specs.Poll.{Ending, Answered, Waited, Dialed, Polls, begins, begun_events, moved_events, run_events, end_events, at_moment}
-use Rattle.vx_flow.proofs.Lookups.{chosen, along-none, along-append}
+use Rattle.vx_flow.proofs.Lookups.{along-none, along-append}
 use Rattle.vx_flow.proofs.Earlier.{earlier_law-holds}
 use Rattle.vx_flow.proofs.Headline.{headline_law-holds}
 use Rattle.vx_play.specs.Gateway.{Gateway, Happens, abort_port}

@@ -1,12 +1,11 @@
 -- Steps of playing a script line by line.
-use Rattle.std.proofs.Common.{IsTrue, ◌≡◌, ℕ, ◌+◌, ◌-◌, ◌^◌, min, ◌≤◌, le_trans, le_refl, true, List, [], ◌∷◌, ◌++◌, length, Option, Some, None, refl, ap, sym, subst, ◌∙◌, inl, inr, ◌⊎◌, arith, length-append, append-nil}
+use Rattle.std.proofs.Common.{IsTrue, ◌≡◌, ℕ, ◌+◌, ◌≤◌, le_refl, true, List, [], ◌∷◌, ◌++◌, length, Option, Some, None, refl, ap, sym, subst, ◌∙◌, inl, inr, ◌⊎◌, arith, length-append, append-nil}
 use Rattle.std.specs.List.{flat_map}
 use Rattle.std.proofs.lemmas.Grind.{flat_map-append}
 use Rattle.std.proofs.Math.Seq.{take-append-add}
-use Rattle.std.proofs.Math.Nat.{min-le_left, min-le_right, le-min}
 use Rattle.std.specs.Io.KnownBytes.{Appends}
 use Rattle.std.proofs.KnownBytes.{Appends-trans, Appends-nil}
-use Rattle.vx_io_traits.specs.Faults.{Rose}
+use Rattle.vx_io_traits.specs.ProvedLaws.{rose_earlier}
 use Rattle.vx_script.specs.declared.Cause.{Cause}
 use Rattle.vx_script.specs.declared.Cause.TheVariants as cause
 use Rattle.vx_script.specs.Cause.{cause_word}
@@ -24,6 +23,7 @@ use Rattle.vx_bench.specs.Script.{Step, script, script_from, behind_steps}
 use Rattle.vx_text.specs.TextLines.{lines}
 use Rattle.vx_play.specs.Item.{Item, Fault, item_lines, outputs, text, last_line}
 use Rattle.vx_bench.specs.Rack.{SpareShown}
+use Rattle.vx_bench.specs.ProvedLaws.{is_named}
 use Rattle.vx_play.specs.Stage.{Stage, beginning}
 use Rattle.vx_play.specs.Play.{Takes, Plays, IsPlay}
 use Rattle.vx_play.specs.PlayerState.{PlayerState}
@@ -49,13 +49,6 @@ text_more : (items : List Item) (item : Item) (shown : List Output) → item_lin
 text_more items item shown is =
     ap (λ ls. flat_map line_text ls) (flat_map-append item_lines items (item ∷ []) ∙ ap (λ ys. outputs items ++ ys) (append-nil (item_lines item) ∙ is))
     ∙ flat_map-append line_text (outputs items) shown
-
--- less is a rise where more is
-rose_earlier : (early mid after : ℕ) → early ≤ mid → Rose mid after → Rose early after
-rose_earlier early mid after le rose =
-    let a = min-le_left (early + 1) (2 ^ 64 - 1) in
-    let b : min (early + 1) (2 ^ 64 - 1) ≤ mid + 1 = omega arith in
-    le_trans (le-min b (min-le_right (early + 1) (2 ^ 64 - 1))) rose
 
 -- the sink failed in a text behind one that it took
 pub stops-behind : (before mid after : End) (xs ys : List ℕ) → Appends before.bytes mid.bytes xs → before.faults ≤ mid.faults → StopsIn mid after ys → StopsIn before after (xs ++ ys)
@@ -234,26 +227,9 @@ last-written t own rack how fault line before mid after result alike whole (item
         subst (EndsScript t rack before after) (sym is)
         (inr (items, fault, played, subst (λ l. StopsIn before after (text items ++ l)) same (stops-behind before mid after (text items) line written counted stops)))
 
--- the word of each cause is one that a fault's line may name
-named : (why : Cause) → is_cause (cause_word why) ≡ true
-named cause.Form = refl
-named cause.Number = refl
-named cause.Full = refl
-named cause.Conn = refl
-named cause.Busy = refl
-named cause.After = refl
-named cause.Idle = refl
-named cause.Json = refl
-named cause.Rule = refl
-named cause.Spare = refl
-named cause.Own = refl
-named cause.Taken = refl
-named cause.Bench = refl
-named cause.Absent = refl
-
 -- the last line of a script with a fault can be written
 pub fault-writable : (why : Cause) (word : List ℕ) → word ≡ cause_word why → IsTrue (is_cause word) × (39 ≤ NOTE_ROOM)
-fault-writable why word is = (subst (λ w. IsTrue (is_cause w)) (sym is) (named why), omega arith)
+fault-writable why word is = (subst (λ w. IsTrue (is_cause w)) (sym is) (is_named why), omega arith)
 
 -- the sink failed in the text of a step
 pub cut-ended : (t : List ℕ) (own rack : List SpareShown) (before after : End) → own ≡ rack

@@ -16,3 +16,5 @@ pub mod LinePlayed
 pub mod Ended
 pub mod Outcome
 pub mod Laws
+pub mod ProvedLaws
+pub use Rattle.vx_trace.specs.Output

@@ -7,6 +7,7 @@ use Rattle.vx_record.specs.Records.{Split, records}
 use Rattle.vx_record.specs.Buffer.{BufState, fresh, step, fed, taken}
 use Rattle.vx_record.specs.Runs.{Stream, beginning, taken_off, brought, run, is_too_long, Shows}
 use Rattle.vx_record.specs.Ends.{is_settled_by, is_settled, IsEnd, EndLaw}
+use Rattle.vx_record.specs.ProvedLaws.{settled-none}
 use Rattle.vx_record.proofs.Feeding.{fed-stopped, taken-more, taken-stopped}
 use Rattle.vx_record.proofs.Streams.{brought-more, run-too_long, run-append, run-fed, pieces-records}
 
@@ -95,9 +96,6 @@ settled-some (r ∷ rs) long some = refl
 settled-long : (rs : List (List ℕ)) (long : Bool) → long ≡ true → is_settled_by rs long ≡ true
 settled-long [] long e = e
 settled-long (r ∷ rs) long e = refl
-
-settled-none : (split : Split) → split.records ≡ [] → split.too_long ≡ false → is_settled split ≡ false
-settled-none split none short = ap (λ (rs : List (List ℕ)). is_settled_by rs split.too_long) none ∙ short
 
 -- a record that is whole or too long settles whatever stands behind it
 settled-shown : (state : Feed) (s : BufState) (behind : List ℕ) (split : Split) → state ≡ s.state → (state ≡ More → ⊥)

@@ -1,10 +1,9 @@
 -- How the parts that a buffer takes of a piece make the fold over its bytes.
-use Rattle.std.proofs.Common.{◌≡◌, ℕ, suc, ◌+◌, ◌-◌, ◌^◌, ◌<◌, ◌≤◌, ◌==◌, min, Bool, true, false, ◌&&◌, nat_lt, if◌then◌else◌, List, [], ◌∷◌, ◌++◌, length, take, drop, slice_set, refl, sym, ap, ◌∙◌, ◌⊎◌, inl, inr, arith, take-append-drop}
+use Rattle.std.proofs.Common.{◌≡◌, ℕ, suc, ◌+◌, ◌-◌, ◌^◌, ◌<◌, ◌≤◌, ◌==◌, min, true, false, nat_lt, List, [], ◌∷◌, ◌++◌, length, take, drop, slice_set, refl, sym, ap, ◌∙◌, ◌⊎◌, inl, inr, arith, take-append-drop}
 use Rattle.std.proofs.lemmas.Grind.{common_steps}
 use Rattle.std.proofs.lemmas.Bool.Decides.{nat_tests}
 use Rattle.vx_record.specs.declared.Feed.{Feed}
 use Rattle.vx_record.specs.declared.Feed.TheVariants.{More, Whole, TooLong}
-use Rattle.vx_record.specs.Fragments.{fragment_length, is_last}
 use Rattle.vx_record.specs.Buffer.{BufState, counted, closed, opened, header_byte, body_bytes, step_at, step, fed, one_more_at, taken}
 
 -- the fourth byte of a header opens its fragment
@@ -149,44 +148,6 @@ taken-ends s end piece took within e (inl all) =
     let same = ap (taken end) none in
     omega arith
 taken-ends s end piece took within e (inr stopped) = let none = taken-stopped end (drop took piece) stopped in omega arith
-
--- ---- what no byte changes
-
-closed-limit : (s : BufState) → (closed s).limit ≡ s.limit
-closed-limit s = by ((s.left == 0) && s.last) where
-  by : (done : Bool) → (if done then record s { state = Whole; rest = 0 } else s).limit ≡ s.limit
-  by true = refl
-  by false = refl
-
-opened-limit : (s : BufState) (header : List ℕ) → (opened s header).limit ≡ s.limit
-opened-limit s header =
-    let behind = record s { header = []; last = is_last header; left = fragment_length header } in
-    by behind (closed-limit behind) (nat_lt s.limit (length s.kept + fragment_length header)) where
-      by : (behind : BufState) → (closed behind).limit ≡ s.limit → (long : Bool)
-          → (if long then record s { header = []; state = TooLong } else closed behind).limit ≡ s.limit
-      by behind same true = refl
-      by behind same false = same
-
-header_byte-limit : (s : BufState) (byte : ℕ) → (header_byte s byte).limit ≡ s.limit
-header_byte-limit s byte = by (nat_lt (length s.header) 3) where
-  by : (part : Bool) → (if part then record s { header = s.header ++ byte ∷ [] } else opened s (s.header ++ byte ∷ [])).limit ≡ s.limit
-  by true = refl
-  by false = opened-limit s (s.header ++ byte ∷ [])
-
-step-limit : (s : BufState) (byte : ℕ) → (step s byte).limit ≡ s.limit
-step-limit s byte = by s.state where
-  at : (header : Bool) → (if header then header_byte (counted s 1) byte else body_bytes (counted s 1) (byte ∷ [])).limit ≡ s.limit
-  at true = header_byte-limit (counted s 1) byte
-  at false = closed-limit (record (counted s 1) { kept = s.kept ++ byte ∷ []; left = s.left - 1 })
-
-  by : (state : Feed) → (step_at state s byte).limit ≡ s.limit
-  by More = at (s.left == 0)
-  by Whole = refl
-  by TooLong = refl
-
-pub fed-limit : (s : BufState) (bytes : List ℕ) → (fed s bytes).limit ≡ s.limit
-fed-limit s [] = refl
-fed-limit s (x ∷ xs) = fed-limit (step s x) xs ∙ step-limit s x
 
 -- ---- progress
 

@@ -4,3 +4,4 @@ pub mod Buffer
 pub mod Runs
 pub mod Ends
 pub mod Spelled
+pub mod ProvedLaws

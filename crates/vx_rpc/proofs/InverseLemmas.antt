@@ -2,7 +2,7 @@
 use Rattle.std.proofs.Common.{◌≡◌, ℕ, ◌^◌, ◌<◌, ◌≤◌, Bool, true, false, ◌&&◌, cond, ltb, List, [], ◌∷◌, ◌++◌, length, drop, Option, None, Some, Result, Ok, Err, refl, sym, ap, subst, ◌∙◌, arith}
 use Rattle.std.specs.Prelude.{not, ◌||◌, ◌==◌}
 use Rattle.std.specs.List.{list_all}
-use Rattle.std.proofs.lemmas.Bool.{le-ltb, ltb-false, false≢true}
+use Rattle.std.proofs.lemmas.Bool.{le-ltb, ltb-false, false≢true, or_parts}
 use Rattle.std.proofs.lemmas.Bool.Decides.{Decides-eqb}
 use Rattle.std.proofs.lemmas.List.{drop-drop, length-drop}
 use Rattle.byteorder.specs.Endian.{big_number}
@@ -26,10 +26,6 @@ use Rattle.vx_rpc.specs.Spelled as spelled
 not_false : (b : Bool) → not b ≡ false → b ≡ true
 not_false true e = refl
 not_false false e = absurd cc
-
-neither : (a b : Bool) → (a || b) ≡ false → (a ≡ false) × (b ≡ false)
-neither true b e = absurd cc
-neither false b e = (refl, e)
 
 is_number : (m n : ℕ) → not (m == n) ≡ false → m ≡ n
 is_number m n e = (Decides-eqb m n).0 (not_false (m == n) e)
@@ -226,7 +222,7 @@ is_body r n bytes (Ok body) xid p args h is e =
 pub sorted-IsCall : (r : Role) (xid : ℕ) (p : Proc) (args message : List ℕ) → AreBytes message → sorted message r ≡ Call xid p args → IsCall r xid p args message
 sorted-IsCall r xid p args message h e =
     let one = past_junk (ltb (length message) 12 || not (number_at 1 message == 0)) _ xid p args e in
-    let start = neither (ltb (length message) 12) (not (number_at 1 message == 0)) one.0 in
+    let start = or_parts (ltb (length message) 12) (not (number_at 1 message == 0)) one.0 in
     let two = past_refuse (not (number_at 2 message == 2)) _ _ _ xid p args one.1 in
     let f = front message (ltb-false _ _ start.0) h in
     let body = is_body r (number_at 0 message) (drop 12 message) (call_body (drop 12 message)) xid p args f.rest_fits refl two.1 in
@@ -319,7 +315,7 @@ record Heard (message : List ℕ) (y : ReplyMeaning) : Type 0 where
 heard : (message : List ℕ) (y : ReplyMeaning) → (Bad ≡ y → ⊥) → AreBytes message → reply_meaning message ≡ y → Heard message y
 heard message y not_bad h e =
     let one = past_bad (ltb (length message) 12 || not (number_at 1 message == 1)) (reply_body (number_at 0 message) (number_at 2 message) (drop 12 message)) y not_bad e in
-    let start = neither (ltb (length message) 12) (not (number_at 1 message == 1)) one.0 in
+    let start = or_parts (ltb (length message) 12) (not (number_at 1 message == 1)) one.0 in
     record {
       start = front message (ltb-false _ _ start.0) h;
       kind = is_number _ _ start.1;

@@ -3,7 +3,7 @@ use Rattle.std.proofs.Common.{◌≡◌, ℕ, ◌+◌, ◌*◌, ◌<◌, ◌≤�
 use Rattle.std.proofs.lemmas.List.{length-append, length-take, take_more, take_all}
 use Rattle.vx_xdr.specs.Spelling.{word}
 use Rattle.vx_xdr.specs.Writing.{overwritten, WritesFirst}
-use Rattle.vx_xdr.proofs.Overwrites.{overwritten-twice}
+use Rattle.vx_xdr.specs.ProvedLaws.{overwritten-twice}
 use Rattle.vx_rpc.specs.Wording.{words}
 
 pub words-append : (ms ns : List ℕ) → words (ms ++ ns) ≡ words ms ++ words ns

@@ -1,11 +1,12 @@
 -- The jobs of calls that nothing is against can be done on the bus.
-use Rattle.std.proofs.Common.{◌≡◌, ◌≢◌, ◌≤◌, ◌==◌, ℕ, Bool, true, false, cond, ◌⊎◌, inl, inr, List, [], ◌∷◌, Option, Some, None, Result, Ok, Err, refl, sym, ap, ◌∙◌, subst, arith}
+use Rattle.std.proofs.Common.{◌≡◌, ◌≤◌, ◌==◌, ℕ, Bool, true, false, cond, List, [], Option, Some, None, Result, Ok, Err, refl, sym, ap, ◌∙◌, subst, arith}
 use Rattle.std.specs.Prelude.{nat_le, not, ◌&&◌, length, IfSome}
 use Rattle.std.specs.List.{All}
 use Rattle.std.specs.Option.{option_map}
 use Rattle.std.specs.Result.{IfOk}
-use Rattle.std.proofs.lemmas.Bool.{cases_Bool, false≢true, and_parts, leb-true, eqb-true}
+use Rattle.std.proofs.lemmas.Bool.{and_parts, leb-true}
 use Rattle.std.proofs.lemmas.Option.{same_Some}
+use Rattle.vx_lemmas.specs.Conditions.{passes}
 use Rattle.vx_calls.specs.declared.limits.TheConstants.{DOCMD_MAX, WRITE_MAX}
 use Rattle.vx_calls.specs.declared.codes.ErrorCode.{ErrorCode}
 use Rattle.vx_calls.specs.declared.codes.ErrorCode.TheVariants as code
@@ -15,18 +16,10 @@ use Rattle.vx_calls.specs.Target.{IsReachable}
 use Rattle.vx_calls.specs.Call.{Call}
 use Rattle.vx_calls.specs.Call as call
 use Rattle.vx_488.specs.declared.transfers.TheConstants.{ADDRESS_MAX}
-use Rattle.vx_488.specs.declared.transfers.Transfer.{Transfer}
-use Rattle.vx_488.specs.declared.transfers.Transfer.TheVariants as transfer
-use Rattle.vx_488.specs.declared.wire.Wire.{Wire}
-use Rattle.vx_488.specs.Wire.{step, wire_after}
 use Rattle.vx_plan.specs.declared.tasks.Task.{Task}
 use Rattle.vx_plan.specs.declared.tasks.Task.TheVariants as task
-use Rattle.vx_plan.specs.Transfers.{same_transfer}
-use Rattle.vx_plan.specs.Plan.{Plan, Stand, Whole, Part, Off, done, left_after, stand_of, stand}
-use Rattle.vx_plan.specs.Tasks.{plan, is_own_task, IsTargetPlain, IsDevice, IsPlainTask, most_bytes}
-use Rattle.vx_plan.proofs.Walks.{left_after-none}
-use Rattle.vx_plan.proofs.Fitting.{same_transfer-is}
-use Rattle.vx_plan.proofs.Turns.{bound-law, most_bytes-within, own_stays-law}
+use Rattle.vx_plan.specs.Tasks.{IsTargetPlain, IsDevice}
+use Rattle.vx_plan.specs.ProvedLaws.{reachable-plain}
 use Rattle.vx_links.specs.Table.{Link, Table, uses_address}
 use Rattle.vx_rules.specs.State.{Pending, Tables, link_of}
 use Rattle.vx_rules.specs.Calls.{link_named, bytes_of}
@@ -38,50 +31,36 @@ use Rattle.vx_rules.specs.declared.tables.kept.Kept.{Kept}
 use Rattle.vx_rules.specs.declared.tables.kept.Kept.TheVariants as kept
 use Rattle.vx_rules.specs.Held.{kept_call}
 use Rattle.vx_rules.specs.Serving.{IsPlainLink, IsDoable}
+use Rattle.vx_rules.specs.ProvedLaws.{few_bytes, few-sent}
 use Rattle.vx_rules.proofs.Finds.{found_holds}
 use Rattle.vx_rules.proofs.JobInput.{lets-says}
 
--- a target that a gateway can reach has addresses up to 30
-pub reachable_plain : (own : ℕ) (t : Target) → IsReachable own t → IsTargetPlain t
-reachable_plain own Interface h = tt
-reachable_plain own (Device p None) h = (h.0, tt)
-reachable_plain own (Device p (Some s)) h = (h.0, h.2)
-
--- so has the target that a text names
+-- the target that a text names has addresses up to 30, where a gateway can reach it
 pub reachable_named : (own : ℕ) (named : Result Target ErrorCode) → IfOk named (IsReachable own) → IfOk named IsTargetPlain
-reachable_named own (Ok t) h = reachable_plain own t h
+reachable_named own (Ok t) h = reachable-plain own t h
 reachable_named own (Err e) h = tt
-
--- a check that passes
-passes : (b : Bool) (e : ErrorCode) → cond b None (Some e) ≡ None → b ≡ true
-passes true e h = refl
-passes false e h = cc
 
 -- a serial poll that passes is of a device
 device_is : (t : Target) (e : ErrorCode) → cond (is_interface t) (Some e) None ≡ None → IsDevice t
 device_is Interface e h = cc
 device_is (Device p s) e h = tt
 
--- a command of device_docmd that takes its input is a job that can be done
-short : (n k : ℕ) → (n == k) ≡ true → k ≤ 4 → n ≤ DOCMD_MAX
-short n k same small = let e = eqb-true n k same in omega (arith, e, small)
-
--- a command that takes its input: its number is an address up to 30, and its bytes are few
+-- a command of device_docmd that takes its input is a job that can be done: its number is an address up to 30, and its bytes are few
 command_doable : (own : ℕ) (links : Table) (big : Bool) (bytes : List ℕ) (c : Command) → takes_input c own links big bytes ≡ true → IsDoable (command_task c big bytes) bytes
 command_doable own links big bytes SendCommand h = record { plain = tt; sent = refl; few = leb-true (length bytes) DOCMD_MAX (and_parts _ _ h).0 }
 command_doable own links big bytes BusStatus h =
-    record { plain = tt; sent = tt; few = short (length bytes) 2 (and_parts (length bytes == 2) (takes_number BusStatus own links (number_in big bytes)) h).0 (omega arith) }
-command_doable own links big bytes AtnControl h = record { plain = tt; sent = tt; few = short (length bytes) 2 (and_parts _ _ h).0 (omega arith) }
-command_doable own links big bytes RenControl h = record { plain = tt; sent = tt; few = short (length bytes) 2 (and_parts _ _ h).0 (omega arith) }
+    record { plain = tt; sent = tt; few = few-sent (length bytes) 2 (and_parts (length bytes == 2) (takes_number BusStatus own links (number_in big bytes)) h).0 (omega arith) }
+command_doable own links big bytes AtnControl h = record { plain = tt; sent = tt; few = few-sent (length bytes) 2 (and_parts _ _ h).0 (omega arith) }
+command_doable own links big bytes RenControl h = record { plain = tt; sent = tt; few = few-sent (length bytes) 2 (and_parts _ _ h).0 (omega arith) }
 command_doable own links big bytes PassControl h =
     let n = number_in big bytes in
     let both = and_parts (length bytes == 4) (takes_number PassControl own links n) h in
-    record { plain = leb-true n ADDRESS_MAX (and_parts (nat_le n ADDRESS_MAX) (not (n == own)) both.1).0; sent = tt; few = short (length bytes) 4 both.0 (omega arith) }
+    record { plain = leb-true n ADDRESS_MAX (and_parts (nat_le n ADDRESS_MAX) (not (n == own)) both.1).0; sent = tt; few = few-sent (length bytes) 4 both.0 (omega arith) }
 command_doable own links big bytes BusAddress h =
     let n = number_in big bytes in
     let both = and_parts (length bytes == 4) (takes_number BusAddress own links n) h in
-    record { plain = leb-true n ADDRESS_MAX (and_parts (nat_le n ADDRESS_MAX) (not (uses_address links n)) both.1).0; sent = tt; few = short (length bytes) 4 both.0 (omega arith) }
-command_doable own links big bytes IfcControl h = record { plain = tt; sent = tt; few = short (length bytes) 0 (and_parts _ _ h).0 (omega arith) }
+    record { plain = leb-true n ADDRESS_MAX (and_parts (nat_le n ADDRESS_MAX) (not (uses_address links n)) both.1).0; sent = tt; few = few-sent (length bytes) 4 both.0 (omega arith) }
+command_doable own links big bytes IfcControl h = record { plain = tt; sent = tt; few = few-sent (length bytes) 0 (and_parts _ _ h).0 (omega arith) }
 
 -- the job of a call on a link that its checks let pass can be done
 pub doable : (t : Tables) (own : ℕ) (l : Link) (asked : Call) (job : Task) → IsTargetPlain l.target → check_on t own l asked ≡ None → task_on l.target asked ≡ Some job
@@ -104,25 +83,6 @@ doable t own l (call.Docmd lid flags io_timeout lock_timeout cmd big size bytes)
   by true (Some c) e h =
       subst (λ j. IsDoable j bytes) (same_Some (command_task c big bytes) job e) (command_doable own t.links big bytes c (passes (takes_input c own t.links big bytes) code.Parameter h))
 doable t own l _ job plain h e = cc
-
--- a call on a link that its checks let pass brings no more bytes than a device_write may
-command_few : (own : ℕ) (links : Table) (big : Bool) (bytes : List ℕ) (o : Option Command) (t : Tables) → check_command t own big bytes o ≡ None → length bytes ≤ WRITE_MAX
-command_few own links big bytes None t h = cc
-command_few own links big bytes (Some c) t h =
-    omega (
-      arith,
-      (command_doable own t.links big bytes c (passes (takes_input c own t.links big bytes) code.Parameter h)).few,
-      most_bytes-within (command_task c big bytes),
-    )
-
--- so does each call on a link
-pub few_bytes : (t : Tables) (own : ℕ) (l : Link) (asked : Call) → check_on t own l asked ≡ None → length (bytes_of asked) ≤ WRITE_MAX
-few_bytes t own l (call.Write lid io_timeout lock_timeout flags bytes) h = leb-true (length bytes) WRITE_MAX (passes _ code.Parameter h)
-few_bytes t own l (call.Docmd lid flags io_timeout lock_timeout cmd big size bytes) h = by (is_interface l.target) h where
-  by : (b : Bool) → cond b (check_command t own big bytes (command_of cmd)) (Some code.NotSupported) ≡ None → length bytes ≤ WRITE_MAX
-  by false h = cc
-  by true h = command_few own t.links big bytes (command_of cmd) t h
-few_bytes t own l _ h = omega arith
 
 -- ---- the pending call of a connection
 

@@ -4,6 +4,7 @@ use Rattle.std.specs.List.{filter, list_any, All}
 use Rattle.std.proofs.lemmas.Bool.{false≢true, and_from, and_right, eqb-true}
 use Rattle.std.proofs.lemmas.List.Folds.{list_any_none}
 use Rattle.std.proofs.lemmas.Bool.Decides.{Decides-eqb}
+use Rattle.vx_lemmas.specs.Lists.{found_passes, none_passes}
 use Rattle.vx_links.specs.declared.links.LinkRow.{LinkRow}
 use Rattle.vx_links.specs.Shown.{link_shown}
 use Rattle.vx_links.specs.Table.{Link, Table, IsNumbered, is_live, first_link_of, without_link}
@@ -11,7 +12,7 @@ use Rattle.vx_links.proofs.Numbers.{numbered-without_link}
 use Rattle.vx_links.proofs.Going.{own_taken, one_goes, none_left}
 use Rattle.vx_locks.specs.Locks.{Lock, without_lock}
 use Rattle.vx_rules.specs.State.{is_lock_of}
-use Rattle.vx_rules.proofs.Finds.{found_passes, found_among, none_passes}
+use Rattle.vx_rules.proofs.Finds.{found_among}
 
 -- what is left when a connection is gone
 abbrev pub left_links : ℕ → List Link → List Link

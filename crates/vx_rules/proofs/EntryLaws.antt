@@ -1,18 +1,19 @@
 -- The laws of the gateway of one thread.
 use Rattle.std.proofs.Common.{◌≡◌, ℕ, Bool, true, List, Option, Some, refl, sym, ap, ◌∙◌}
-use Rattle.std.proofs.lemmas.Bool.{and_parts, eqb-true, false≢true}
+use Rattle.std.proofs.lemmas.Bool.{and_parts, false≢true}
 use Rattle.std.proofs.lemmas.Option.{cond_some, same_Some, option_and_then_some}
-use Rattle.std.proofs.lemmas.Slice.Eq.{bytes_eq-Decides}
+use Rattle.vx_lemmas.specs.Conditions.{chosen}
 use Rattle.vx_calls.specs.Reply.{Reply}
 use Rattle.vx_calls.proofs.Laws.{same_reply-is, same_error-is}
 use Rattle.vx_488.specs.declared.transfers.Transfer.{Transfer}
-use Rattle.vx_srq.specs.Desk.{Srq, Given, Front, Empty, Gone, given, taken}
+use Rattle.vx_srq.specs.Desk.{Given, Front, Empty, Gone, given, taken}
 use Rattle.vx_rules.specs.State.{State}
 use Rattle.vx_rules.specs.Entry.{Answer}
 use Rattle.vx_rules.specs.Decide.{Outside}
-use Rattle.vx_rules.specs.One.{one, answer, if_reply, same_srq, same_given, abort_reply, abort_tables}
+use Rattle.vx_rules.specs.One.{one, answer, if_reply, same_given, abort_reply, abort_tables}
 use Rattle.vx_rules.specs.Laws.{OneReplyLaw, OneAbortLaw, OneTakeLaw, LinkNumbersLaw, LocksApartLaw}
-use Rattle.vx_rules.proofs.Walks.{some_of_cond, legal-sound}
+use Rattle.vx_rules.specs.ProvedLaws.{same_srq-is}
+use Rattle.vx_rules.proofs.Walks.{legal-sound}
 
 -- an Answer gives the reply and the state that were found
 pub record GivesAnswer (s : State) (conn now : ℕ) (o : Outside) (told : Reply) (t : State) : Type 0 where
@@ -23,7 +24,7 @@ pub answer-given : (s t : State) (conn now begun : ℕ) (moves : List Transfer) 
     → GivesAnswer s conn now (record { begun = begun; moves = moves; failed = failed; dialed = dialed; level = level }) told t
 answer-given s t conn now begun moves failed dialed level told h =
     let o : Outside = record { begun = begun; moves = moves; failed = failed; dialed = dialed; level = level } in
-    option_and_then_some (if_reply told) (answer s conn now o) t (some_of_cond _ _ t h).1 (λ result e f.
+    option_and_then_some (if_reply told) (answer s conn now o) t (chosen _ _ t h).1 (λ result e f.
     let parts = cond_some _ result.1 t f in
     record { found = e ∙ ap (λ r. Some (r, result.1)) (same_reply-is result.0 told parts.0) ∙ ap (λ u. Some (told, u)) parts.1 })
 
@@ -39,21 +40,6 @@ one_abort-law s t u conn lid told other first second =
     let a = cond_some _ (record s { tables = abort_tables s.tables lid }) t first in
     let b = cond_some _ (record s { tables = abort_tables s.tables lid }) u second in
     (sym (same_error-is (abort_reply s.tables lid) told (and_parts _ _ a.0).1) ∙ same_error-is (abort_reply s.tables lid) other (and_parts _ _ b.0).1, sym a.1 ∙ b.1)
-
--- two interrupts that pass the test of being the same are one
-same_srq-is : (a b : Srq) → same_srq a b ≡ true → a ≡ b
-same_srq-is a b h =
-    let h₁ = and_parts _ _ h in
-    let h₂ = and_parts _ _ h₁.0 in
-    let h₃ = and_parts _ _ h₂.0 in
-    let xid = eqb-true a.xid b.xid h₃.0 in
-    let program = eqb-true a.program b.program h₃.1 in
-    let version = eqb-true a.version b.version h₂.1 in
-    let handle = (bytes_eq-Decides a.handle b.handle).0 h₁.1 in
-    ap (λ n. record a { xid = n }) xid
-    ∙ ap (λ n. record a { xid = b.xid; program = n }) program
-    ∙ ap (λ n. record a { xid = b.xid; program = b.program; version = n }) version
-    ∙ ap (λ n. record a { xid = b.xid; program = b.program; version = b.version; handle = n }) handle
 
 pub same_given-is : (a b : Given) → same_given a b ≡ true → a ≡ b
 same_given-is (Front a) (Front b) h = ap Front (same_srq-is a b h)

@@ -5,7 +5,7 @@ use Rattle.std.specs.Option.{option_map}
 use Rattle.std.proofs.lemmas.Bool.{false≢true, or_cases, or_left, or_right}
 use Rattle.std.proofs.lemmas.Option.{same_Some}
 use Rattle.std.proofs.lemmas.List.Elements.{All-cons, All-head, All-tail, All-filter, filter_passes}
-use Rattle.vx_locks.proofs.Lists.{is_some-find, each_fails}
+use Rattle.vx_lemmas.specs.Lists.{is_some-find}
 use Rattle.vx_rules.specs.Lists.{update_first}
 
 -- where one passes that the filter keeps, one passes in what it leaves
@@ -29,15 +29,6 @@ any_weaker p q (x ∷ xs) weaker h = at (or_cases (p x) (list_any p xs) h) (λ r
     at (inl here) rest = or_left _ _ (weaker x here)
     at (inr later) rest = or_right (q x) _ (rest later)
 
--- what is found passes
-pub found_passes : {X : Type 0} (p : X → Bool) (xs : List X) (x : X) → find p xs ≡ Some x → p x ≡ true
-found_passes p [] x h = cc
-found_passes {X} p (y ∷ ys) x h = at (p y) refl h (λ rest. found_passes p ys x rest)
-  where
-    at : (b : Bool) → p y ≡ b → cond b (Some y) (find p ys) ≡ Some x → (find p ys ≡ Some x → p x ≡ true) → p x ≡ true
-    at true here e rest = subst (λ z. p z ≡ true) (same_Some y x e) here
-    at false here e rest = rest e
-
 -- what holds of each holds of what is found
 pub found_holds : {X : Type 0} (P : X → Type 0) (p : X → Bool) (xs : List X) (x : X) → All P xs → find p xs ≡ Some x → P x
 found_holds P p [] x all h = cc
@@ -55,10 +46,6 @@ found_among {X} p q (y ∷ ys) x h passes = at (p y) h (λ rest. found_among p q
     at : (b : Bool) → cond b (Some y) (find p ys) ≡ Some x → (find p ys ≡ Some x → list_any q ys ≡ true) → (q y || list_any q ys) ≡ true
     at true e rest = or_left _ _ (subst (λ z. q z ≡ true) (sym (same_Some y x e)) passes)
     at false e rest = or_right (q y) _ (rest e)
-
--- where nothing is found each fails
-pub none_passes : {X : Type 0} (p : X → Bool) (xs : List X) → find p xs ≡ None → All (λ x. p x ≡ false) xs
-none_passes p xs h = each_fails p xs (sym (is_some-find p xs) ∙ ap is_some h)
 
 pub none_found : {X : Type 0} (p : X → Bool) (xs : List X) → find p xs ≡ None → list_any p xs ≡ false
 none_found p xs h = sym (is_some-find p xs) ∙ ap is_some h

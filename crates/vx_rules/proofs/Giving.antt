@@ -1,13 +1,13 @@
 -- The numbers that entries give: each is the one that comes next, and a history gives none twice.
-use Rattle.std.proofs.Common.{◌≡◌, ◌<◌, ◌≤◌, ◌+◌, ◌==◌, ◌&&◌, ◌||◌, not, ℕ, Bool, true, false, cond, List, [], ◌∷◌, ◌++◌, map, Option, Some, None, is_none, Result, Ok, Err, refl, sym, ap, subst, ◌∙◌, arith}
-use Rattle.std.specs.Option.{option_map, option_map_or, option_and_then}
-use Rattle.std.specs.List.{All, AllPairs, find, list_any}
+use Rattle.std.proofs.Common.{◌≡◌, ◌<◌, ◌≤◌, ◌+◌, ◌==◌, ◌&&◌, not, ℕ, Bool, true, false, cond, List, [], ◌∷◌, ◌++◌, Option, Some, None, is_none, Result, Ok, Err, refl, sym, ap, subst, ◌∙◌, arith}
+use Rattle.std.specs.Option.{option_map, option_map_or}
+use Rattle.std.specs.List.{All, AllPairs}
 use Rattle.std.proofs.lemmas.Bool.{false≢true, and_parts, eqb-true}
 use Rattle.std.proofs.lemmas.Option.{cond_some, option_and_then_some}
 use Rattle.std.proofs.lemmas.List.Elements.{All-cons, All-weaker}
 use Rattle.std.proofs.lemmas.List.Kept.{AllPairs-cons}
-use Rattle.vx_calls.specs.declared.calls.Role.{Role}
-use Rattle.vx_calls.specs.declared.calls.Role.TheVariants as role
+use Rattle.std.proofs.Math.Nat.{le_refl}
+use Rattle.vx_lemmas.specs.Options.{mapped}
 use Rattle.vx_calls.specs.declared.codes.ErrorCode.{ErrorCode}
 use Rattle.vx_calls.specs.declared.codes.ErrorCode.TheVariants as code
 use Rattle.vx_calls.specs.declared.targets.Target.{Target}
@@ -28,7 +28,8 @@ use Rattle.vx_plan.specs.Roles.{has_role}
 use Rattle.vx_plan.specs.Results.{whole_reply}
 use Rattle.vx_links.specs.Table.{Link, is_full, is_live}
 use Rattle.vx_locks.specs.Locks.{holds, with_lock}
-use Rattle.vx_srq.specs.Desk.{Desk, Port, Channel, channel_at, port_with, with_new_channel, new_channel, risen_port, is_rise, sampled, taken}
+use Rattle.vx_srq.specs.Desk.{Desk, Channel, channel_at, with_new_channel, new_channel, sampled, taken}
+use Rattle.vx_srq.specs.ProvedLaws.{sampled-next, made-first}
 use Rattle.vx_rules.specs.State.{Pending, Tables, State, first, pending_at, with_pending, with_connection, without_connection}
 use Rattle.vx_rules.specs.Calls.{is_bus_call, asks_dial, is_big, bytes_of, has_passed, io_timeout_of}
 use Rattle.vx_rules.specs.Checks.{NamedLink, NoLink, DeadLink, OnLink, named_link, check_create}
@@ -40,8 +41,9 @@ use Rattle.vx_rules.specs.One.{one, answer_to, answered, arrived, marked, abort_
 use Rattle.vx_rules.specs.Lists.{along}
 use Rattle.vx_rules.specs.Sound.{IsSound, has_port}
 use Rattle.vx_rules.specs.Numbers.{connection_given, link_told, link_given, channel_number, channel_given, links_given, connections_given, channels_given, NumbersRiseLaw, LinkGivenLaw, ConnectionGivenLaw, ChannelGivenLaw, LinksGivenOnceLaw, ConnectionsGivenOnceLaw, ChannelsGivenOnceLaw}
+use Rattle.vx_rules.specs.ProvedLaws.{up-next}
 use Rattle.vx_rules.proofs.Keeping.{first-sound}
-use Rattle.vx_rules.proofs.Walks.{mapped, one-sound, along-none, legal-sound}
+use Rattle.vx_rules.proofs.Walks.{one-sound, along-none, legal-sound}
 use Rattle.vx_rules.proofs.EntryLaws.{answer-given}
 use Rattle.vx_rules.proofs.Granting.{port_of}
 
@@ -49,9 +51,6 @@ use Rattle.vx_rules.proofs.Granting.{port_of}
 data Takes (given : List ℕ) (next after : ℕ) : Type 0 where
   Stays : given ≡ [] → after ≡ next → Takes given next after
   Uses : given ≡ next ∷ [] → after ≡ next + 1 → Takes given next after
-
-le_self : (n : ℕ) → n ≤ n
-le_self n = omega arith
 
 -- the next number doesn't fall
 takes-rises : (given : List ℕ) (next after : ℕ) → Takes given next after → next ≤ after
@@ -325,18 +324,6 @@ record EntryGives (e : Entry) (s t : State) : Type 0 where
   rises : s.tables.desk.next_channel ≤ t.tables.desk.next_channel
   channels : IsSound s.tables → Takes (channel_given e (Some t)) s.tables.desk.next_channel t.tables.desk.next_channel
 
--- a connection that comes up takes no channel number
-up-next : (t : Tables) (r : Role) → (with_connection t r).desk.next_channel ≡ t.desk.next_channel
-up-next t role.Core = refl
-up-next t role.Abort = refl
-
--- nor does a sample
-sampled-next : (d : Desk) (level : Bool) → (sampled d level).next_channel ≡ d.next_channel
-sampled-next d level = by (is_rise d.level level) where
-  by : (b : Bool) → (cond b (record d { ports = map (risen_port d.enables) d.ports; level = level }) (record d { level = level })).next_channel ≡ d.next_channel
-  by true = refl
-  by false = refl
-
 -- an entry that gives no number
 nothing-given : (e : Entry) (s t : State) → connection_given e ≡ [] → link_given e ≡ [] → channel_given e (Some t) ≡ [] → t.tables.next_connection ≡ s.tables.next_connection
     → t.tables.links.next ≡ s.tables.links.next → t.tables.desk.next_channel ≡ s.tables.desk.next_channel → EntryGives e s t
@@ -347,24 +334,7 @@ nothing-given e s t no_connection no_link no_channel connections links channels 
   channels = λ sound. Stays no_channel channels;
 }
 
--- the channel that is made is the connection's
-made-first : (conn : ℕ) (channel : Option Channel) (ps : List Port) → list_any (λ p. p.connection == conn) ps ≡ true
-    → option_and_then (λ (p : Port). p.channel) (find (λ p. p.connection == conn) (map (port_with conn channel) ps)) ≡ channel
-made-first conn channel [] h = absurd (false≢true h)
-made-first conn channel (p ∷ ps) h = by (p.connection == conn) refl h (made-first conn channel ps) where
-  by : (b : Bool) → (p.connection == conn) ≡ b → (b || list_any (λ q. q.connection == conn) ps) ≡ true
-      → (list_any (λ q. q.connection == conn) ps ≡ true
-      → option_and_then (λ (q : Port). q.channel) (find (λ q. q.connection == conn) (map (port_with conn channel) ps)) ≡ channel)
-      → option_and_then (λ (q : Port). q.channel)
-      (cond ((cond b (record p { channel = channel }) p).connection == conn) (Some (cond b (record p { channel = channel }) p))
-      (find (λ q. q.connection == conn) (map (port_with conn channel) ps)))
-      ≡ channel
-  by true is h more =
-      ap (λ x. option_and_then (λ (q : Port). q.channel) (cond x (Some (record p { channel = channel })) (find (λ q. q.connection == conn) (map (port_with conn channel) ps)))) is
-  by false is h more =
-      ap (λ x. option_and_then (λ (q : Port). q.channel) (cond x (Some p) (find (λ q. q.connection == conn) (map (port_with conn channel) ps)))) is ∙ more h
-
--- so the connection has it, as it was made
+-- the connection has the channel, as it was made
 channel-made : (d : Desk) (conn program version : ℕ) → has_port d conn ≡ true
     → channel_at (with_new_channel d conn program version) conn ≡ Some (new_channel d.next_channel program version)
 channel-made d conn program version port = made-first conn (Some (new_channel d.next_channel program version)) d.ports port
@@ -474,7 +444,7 @@ rising-more : (given : List ℕ) (next after : ℕ) (rest : List ℕ) → Takes 
 rising-more given next after rest (Stays none same) r = subst (λ x. Rising next (x ++ rest)) (sym none) (subst (λ n. Rising n rest) same r)
 rising-more given next after rest (Uses one more) r =
     subst (λ x. Rising next (x ++ rest)) (sym one) (record {
-      above = All-cons (λ n. next ≤ n) next rest (le_self next) (All-weaker (λ n. after ≤ n) (λ n. next ≤ n) (λ n h. omega (arith, more, h)) rest r.above);
+      above = All-cons (λ n. next ≤ n) next rest (le_refl next) (All-weaker (λ n. after ≤ n) (λ n. next ≤ n) (λ n h. omega (arith, more, h)) rest r.above);
       pairs = AllPairs-cons (λ m n. m < n) next rest (All-weaker (λ n. after ≤ n) (λ n. next < n) (λ n h. omega (arith, more, h)) rest r.above) r.pairs;
     })
 

@@ -4,6 +4,7 @@ use Rattle.std.specs.List.{filter}
 use Rattle.std.specs.Option.{option_and_then}
 use Rattle.std.proofs.lemmas.Bool.{false≢true, and_parts, eqb-true}
 use Rattle.std.proofs.lemmas.Option.{same_Some}
+use Rattle.vx_lemmas.specs.Lists.{found_passes}
 use Rattle.vx_calls.specs.declared.codes.ErrorCode.{ErrorCode}
 use Rattle.vx_calls.specs.declared.codes.ErrorCode.TheVariants as code
 use Rattle.vx_calls.specs.declared.targets.Target.{Target}
@@ -33,7 +34,7 @@ use Rattle.vx_rules.specs.Held.{kept_call}
 use Rattle.vx_rules.specs.Rows.{asked_call, pending_of}
 use Rattle.vx_rules.specs.Serving.{can_settle}
 use Rattle.vx_rules.specs.Sound.{IsSound, IsAdded, IsAsked, owns, has_port}
-use Rattle.vx_rules.proofs.Finds.{found_passes, found_among, found_holds, none_found, unmapped}
+use Rattle.vx_rules.proofs.Finds.{found_among, found_holds, none_found, unmapped}
 use Rattle.vx_rules.proofs.Walks.{asked-free}
 use Rattle.vx_rules.proofs.JobInput.{Lets, lets-says}
 use Rattle.vx_rules.proofs.Closing.{with_locks, pending_is, seen_pending}

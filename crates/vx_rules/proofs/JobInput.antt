@@ -1,5 +1,6 @@
 -- A device_docmd that its checks let pass has input that its command takes.
 use Rattle.std.proofs.Common.{◌≡◌, ℕ, Bool, true, false, cond, List, Option, Some, None, refl, sym, ap, ◌∙◌}
+use Rattle.vx_lemmas.specs.Conditions.{passes}
 use Rattle.vx_calls.specs.declared.codes.ErrorCode.{ErrorCode}
 use Rattle.vx_calls.specs.declared.codes.ErrorCode.TheVariants as code
 use Rattle.vx_calls.specs.Call.{Call}
@@ -24,13 +25,9 @@ lets-says None None h = record { checks = refl; locks = refl }
 lets-says None (Some holder) h = cc
 lets-says (Some error) holder h = cc
 
-taken : (b : Bool) → cond b None (Some code.Parameter) ≡ None → b ≡ true
-taken true h = refl
-taken false h = cc
-
 takes-it : (t : Tables) (own : ℕ) (big : Bool) (bytes : List ℕ) (o : Option Command) → check_command t own big bytes o ≡ None → TakesIt o big bytes
 takes-it t own big bytes None h = tt
-takes-it t own big bytes (Some command) h = (own, t.links, taken (takes_input command own t.links big bytes) h)
+takes-it t own big bytes (Some command) h = (own, t.links, passes (takes_input command own t.links big bytes) code.Parameter h)
 
 on-interface : (t : Tables) (own : ℕ) (big : Bool) (bytes : List ℕ) (o : Option Command) (b : Bool) → cond b (check_command t own big bytes o) (Some code.NotSupported) ≡ None → TakesIt o big bytes
 on-interface t own big bytes o true h = takes-it t own big bytes o h

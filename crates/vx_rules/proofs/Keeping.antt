@@ -17,6 +17,7 @@ use Rattle.vx_links.proofs.Numbers.{Rises, numbered-with_link}
 use Rattle.vx_locks.specs.Locks.{holds, is_blocked, with_lock, without_lock}
 use Rattle.vx_locks.proofs.Apart.{Apart, apart-with_lock, apart-without_lock}
 use Rattle.vx_srq.specs.Desk.{Desk, Port, Channel, Enable, with_channel, with_new_channel, with_enable, enable_put, sampled, taken, port_with, port_taken, risen_port}
+use Rattle.vx_srq.specs.ProvedLaws.{port_with-stays, port_taken-stays}
 use Rattle.vx_rules.specs.State.{Pending, Connection, Tables, first_tables, same_role, with_pending, with_connection, without_connection, with_link, without_link, is_lock_of}
 use Rattle.vx_rules.specs.One.{marked, mark_on}
 use Rattle.vx_rules.specs.Sound.{IsSound, IsHeld, IsOwned, IsAdded, IsAsked, has_port}
@@ -163,20 +164,6 @@ same_desk-sound t d s enables ports = record {
 ports_stay : (f : Port → Port) → ((p : Port) → (f p).connection ≡ p.connection) → (ps : List Port) (n : ℕ) → list_any (λ p. p.connection == n) (map f ps) ≡ list_any (λ p. p.connection == n) ps
 ports_stay f same [] n = refl
 ports_stay f same (p ∷ ps) n = ap (λ m. (m == n) || list_any (λ q. q.connection == n) (map f ps)) (same p) ∙ ap (λ b. (p.connection == n) || b) (ports_stay f same ps n)
-
-port_with-stays : (conn : ℕ) (channel : Option Channel) (p : Port) → (port_with conn channel p).connection ≡ p.connection
-port_with-stays conn channel p = at (p.connection == conn)
-  where
-    at : (b : Bool) → (cond b (record p { channel = channel }) p).connection ≡ p.connection
-    at true = refl
-    at false = refl
-
-port_taken-stays : (conn number : ℕ) (p : Port) → (port_taken conn number p).connection ≡ p.connection
-port_taken-stays conn number p = at (p.connection == conn) _
-  where
-    at : (b : Bool) (c : Option Channel) → (cond b (record p { channel = c }) p).connection ≡ p.connection
-    at true c = refl
-    at false c = refl
 
 pub with_channel-sound : (t : Tables) (conn : ℕ) (channel : Option Channel) → IsSound t → IsSound (record t { desk = with_channel t.desk conn channel })
 with_channel-sound t conn channel s = same_desk-sound t (with_channel t.desk conn channel) s refl (ports_stay (port_with conn channel) (port_with-stays conn channel) t.desk.ports)

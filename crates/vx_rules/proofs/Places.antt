@@ -1,6 +1,6 @@
 -- Lemmas on the first place of a list that passes a test, where each element is seen through a function.
-use Rattle.std.proofs.Common.{◌≡◌, ℕ, suc, ◌+◌, Bool, true, false, cond, ◌||◌, List, [], ◌∷◌, map, get_or, set, Option, Some, None, refl, sym, ap, ◌∙◌, subst, arith}
-use Rattle.std.specs.List.{position_from, find, filter, list_any}
+use Rattle.std.proofs.Common.{◌≡◌, ℕ, suc, ◌+◌, Bool, true, false, cond, List, [], ◌∷◌, map, get_or, set, Option, Some, None, refl, sym, ap, ◌∙◌, subst, arith}
+use Rattle.std.specs.List.{position_from}
 use Rattle.std.specs.Option.{option_map}
 use Rattle.vx_rules.specs.Lists.{update_first}
 
@@ -57,26 +57,3 @@ module _ {X Y : Type 0} (f : X → Y) (q : Y → Bool) (g : Y → Y) where
   pub update_first-none : (xs : List X) → position_from (λ y. q (f y)) 0 xs ≡ None → map f xs ≡ update_first q g (map f xs)
   update_first-none [] h = refl
   update_first-none (x ∷ xs) h = none_of (q (f x)) x xs (update_first-none xs) h
-
--- what is found among elements that are seen through a function
-pub find-map : {X Y : Type 0} (f : X → Y) (q : Y → Bool) (xs : List X) → find q (map f xs) ≡ option_map f (find (λ x. q (f x)) xs)
-find-map f q [] = refl
-find-map f q (x ∷ xs) =
-    elim (q (f x)) as (λ b. cond b (Some (f x)) (find q (map f xs)) ≡ option_map f (cond b (Some x) (find (λ y. q (f y)) xs))) [
-      | true ↦ refl
-      | false ↦ find-map f q xs
-    ]
-
--- what is kept of elements that are seen through a function
-pub filter-map : {X Y : Type 0} (f : X → Y) (q : Y → Bool) (xs : List X) → map f (filter (λ x. q (f x)) xs) ≡ filter q (map f xs)
-filter-map f q [] = refl
-filter-map f q (x ∷ xs) =
-    elim (q (f x)) as (λ b. map f (cond b (x ∷ filter (λ y. q (f y)) xs) (filter (λ y. q (f y)) xs)) ≡ cond b (f x ∷ filter q (map f xs)) (filter q (map f xs))) [
-      | true ↦ ap (λ ys. f x ∷ ys) (filter-map f q xs)
-      | false ↦ filter-map f q xs
-    ]
-
--- whether one of the elements that are seen through a function passes
-pub list_any-map : {X Y : Type 0} (f : X → Y) (q : Y → Bool) (xs : List X) → list_any (λ x. q (f x)) xs ≡ list_any q (map f xs)
-list_any-map f q [] = refl
-list_any-map f q (x ∷ xs) = ap (λ b. q (f x) || b) (list_any-map f q xs)

@@ -1,19 +1,19 @@
 -- There are no more locks and no more enables than links.
-use Rattle.std.proofs.Common.{◌≡◌, ◌≢◌, ℕ, suc, ◌<◌, ◌≤◌, Bool, true, false, not, ◌==◌, ◌&&◌, ◌||◌, List, [], ◌∷◌, map, length, refl, sym, ap, ◌∙◌, arith, subst}
+use Rattle.std.proofs.Common.{◌≡◌, ◌≢◌, ℕ, suc, ◌<◌, ◌≤◌, true, false, not, ◌==◌, ◌&&◌, List, [], ◌∷◌, map, length, sym, ◌∙◌, arith}
 use Rattle.std.specs.Prelude.{nat_eq}
 use Rattle.std.specs.Cmp.{nat_eq_equiv}
 use Rattle.std.specs.List.{list_any, filter, All, AllPairs}
 use Rattle.std.proofs.lemmas.Bool.{and_parts}
 use Rattle.std.proofs.lemmas.Bool.Decides.{Decides-eqb}
 use Rattle.std.proofs.lemmas.List.{length-map}
-use Rattle.std.proofs.lemmas.List.Elements.{All-cons, All-map, All-tail}
+use Rattle.std.proofs.lemmas.List.Elements.{All-cons, All-map}
 use Rattle.std.proofs.lemmas.List.Kept.{AllPairs-cons, AllPairs-filter}
 use Rattle.std.proofs.lemmas.Map.Made.{length-le_from_is_member, IsDistinct-from_AllPairs}
+use Rattle.vx_lemmas.specs.Conditions.{other-number}
+use Rattle.vx_lemmas.specs.Lists.{list_any-map, in_list, turned}
 use Rattle.vx_calls.specs.declared.limits.TheConstants.{LINK_MAX}
 use Rattle.vx_links.specs.Table.{Link, is_live}
-use Rattle.vx_links.proofs.Lists.{list_any-map}
 use Rattle.vx_locks.specs.Locks.{holds}
-use Rattle.vx_locks.proofs.Apart.{other_number}
 use Rattle.vx_locks.proofs.Room.{has_room}
 use Rattle.vx_srq.specs.Desk.{Enable, LinksRise}
 use Rattle.vx_rules.specs.State.{Tables}
@@ -33,20 +33,6 @@ lock_room t lid s live none =
     let fewer : length t.locks < length (numbers t.links.links) =
     has_room t.locks (numbers t.links.links) lid s.apart (λ i d h. is_number t.links.links _ (s.held i d h)) (is_number t.links.links lid live) none in
     omega (arith, fewer, length-map t.links.links (λ (l : Link). l.number), s.numbered.few)
-
--- what holds of each number of a list holds of one that is in it
-in_list : (P : ℕ → Type 0) (xs : List ℕ) → All P xs → (q : ℕ) → list_any (nat_eq q) xs ≡ true → P q
-in_list P [] each q e = cc
-in_list P (x ∷ xs) each q e = at (nat_eq q x) (λ same. subst P (sym ((Decides-eqb q x).0 same)) (each 0 x (omega arith))) (λ later. in_list P xs (All-tail P x xs each) q later) e
-  where
-    at : (b : Bool) → (b ≡ true → P q) → (list_any (nat_eq q) xs ≡ true → P q) → (b || list_any (nat_eq q) xs) ≡ true → P q
-    at true here later e = here refl
-    at false here later e = later e
-
--- the test reads the same from both sides
-turned : (q : ℕ) (xs : List ℕ) → list_any (λ n. n == q) xs ≡ list_any (nat_eq q) xs
-turned q [] = refl
-turned q (x ∷ xs) = rw (nat_eq_equiv.symm x q) (ap (λ b. nat_eq q x || b) (turned q xs))
 
 -- numbers that differ, each one of some others of which one more isn't among them
 few_numbers : (ns links : List ℕ) (lid : ℕ) → AllPairs (λ a b. a ≢ b) ns → All (λ n. list_any (λ m. m == n) links ≡ true) ns
@@ -68,14 +54,6 @@ rising_differ (e ∷ es) rises =
     (All-map (λ b. e.link ≢ b) (λ k. k.link) es (λ i d h same. let below = rises 0 (suc i) d (omega arith) (omega arith) in absurd (omega (arith, below, same))))
     (rising_differ es (λ i j d before h. rises (suc i) (suc j) d (omega arith) (omega arith)))
 
--- a number that passes is another
-another : (n lid : ℕ) → not (n == lid) ≡ true → lid ≢ n
-another n lid other same = at (n == lid) refl other
-  where
-    at : (b : Bool) → (n == lid) ≡ b → not b ≡ true → ⊥
-    at true e h = cc
-    at false e h = other_number n lid e (sym same)
-
 -- a link that lives finds room for its enable
 pub enable_room : (t : Tables) (lid : ℕ) → IsSound t → LinksRise t.desk.enables → is_live t.links lid ≡ true
     → length (filter (λ e. not (e.link == lid)) t.desk.enables) < LINK_MAX
@@ -89,5 +67,5 @@ enable_room t lid s rises live =
     (λ e other own. is_number t.links.links e.link
     (any_weaker (λ l. (l.number == e.link) && (l.connection == e.connection)) (λ l. l.number == e.link) t.links.links (λ l both. (and_parts _ _ both).0) own)) s.owned))
     (is_number t.links.links lid live)
-    (All-map (λ n. lid ≢ n) (λ e. e.link) others (All-kept (IsOwned t) (λ e. lid ≢ e.link) (λ e. not (e.link == lid)) t.desk.enables (λ e other own. another e.link lid other) s.owned)) in
+    (All-map (λ n. lid ≢ n) (λ e. e.link) others (All-kept (IsOwned t) (λ e. lid ≢ e.link) (λ e. not (e.link == lid)) t.desk.enables (λ e other own. other-number e.link lid other) s.owned)) in
     omega (arith, fewer, length-map others (λ (e : Enable). e.link), length-map t.links.links (λ (l : Link). l.number), s.numbered.few)

@@ -6,6 +6,9 @@ use Rattle.std.proofs.lemmas.Bool.{false≢true, and_parts, and_from, and_right,
 use Rattle.std.proofs.lemmas.Bool.Decides.{Decides-eqb}
 use Rattle.std.proofs.lemmas.Option.{same_Some, cond_some, option_and_then_some}
 use Rattle.std.proofs.lemmas.List.Folds.{list_any_none, list_any-append}
+use Rattle.vx_lemmas.specs.Conditions.{chosen}
+use Rattle.vx_lemmas.specs.Options.{mapped}
+use Rattle.vx_lemmas.specs.Lists.{found_passes, none_passes}
 use Rattle.vx_calls.specs.declared.calls.Role.TheVariants as role
 use Rattle.vx_calls.specs.declared.codes.ErrorCode.{ErrorCode}
 use Rattle.vx_calls.specs.declared.codes.ErrorCode.TheVariants as code
@@ -31,7 +34,7 @@ use Rattle.vx_rules.specs.One.{one, answer, answer_to, answered, if_reply, arriv
 use Rattle.vx_rules.specs.Lists.{along}
 use Rattle.vx_rules.specs.Legal.{legal_state}
 use Rattle.vx_rules.specs.Sound.{IsSound, IsHeld, owns}
-use Rattle.vx_rules.proofs.Finds.{found_passes, found_among, none_passes, none_found, unmapped}
+use Rattle.vx_rules.proofs.Finds.{found_among, none_found, unmapped}
 use Rattle.vx_rules.proofs.Keeping.{first-sound, with_link-sound, with_lock-sound, without_lock-sound, without_link-sound, without_connection-sound, with_channel-sound, with_new_channel-sound, taken-sound, sampled-sound, with_enable-sound, with_connection-sound, with_pending-sound, ended-sound, marked-sound}
 
 -- the first lines let a call pass: no mark, no check and no lock is against it
@@ -200,14 +203,6 @@ decide-keeps t w conn p now o s =
     effect-keeps t w.own conn (settles o) p.call s says.checks says.locks)
 
 -- each entry
-pub some_of_cond : {A : Type 0} (b : Bool) (o : Option A) (x : A) → cond b o None ≡ Some x → (b ≡ true) × (o ≡ Some x)
-some_of_cond true o x h = (refl, h)
-some_of_cond false o x h = cc
-
-pub mapped : {A B : Type 0} (f : A → B) (o : Option A) (y : B) → option_map f o ≡ Some y → (x : A) × (o ≡ Some x) × (f x ≡ y)
-mapped f None y h = cc
-mapped f (Some x) y h = (x, refl, same_Some _ _ h)
-
 pub core-is : (o : Option Connection) (c : Connection) → has_role_of role.Core o ≡ true → o ≡ Some c → same_role c.role role.Core ≡ true
 core-is None c h e = cc
 core-is (Some k) c h e = let same : k ≡ c = cc in subst (λ x. same_role x.role role.Core ≡ true) same h
@@ -242,7 +237,7 @@ one-sound s t (Arrive conn asked now) sound h =
     let core = (and_parts _ _ idle).0 in
     subst (λ u. IsSound u.tables) parts.1 (with_pending-sound s.tables conn (Some (arrived asked now)) sound (λ c found some. core-is (connection_at s.tables conn) c core found))
 one-sound s t (Answer conn now begun moves failed dialed level told) sound h =
-    answered-sound s t conn now (record { begun = begun; moves = moves; failed = failed; dialed = dialed; level = level }) told sound (some_of_cond _ _ t h).1
+    answered-sound s t conn now (record { begun = begun; moves = moves; failed = failed; dialed = dialed; level = level }) told sound (chosen _ _ t h).1
 one-sound s t (Abort conn lid told) sound h =
     subst (λ u. IsSound u.tables) (cond_some _ (record s { tables = abort_tables s.tables lid }) t h).1 (abort-sound s.tables lid sound)
 one-sound s t (Sample now srq) sound h =

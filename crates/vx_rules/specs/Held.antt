@@ -2,6 +2,7 @@
 use Rattle.std.specs.Prelude.{ℕ, ◌≤◌, Bool, true, false, List, [], length}
 use Rattle.vx_calls.specs.declared.limits.TheConstants.{RECORD_MAX}
 use Rattle.vx_calls.specs.Call.{Call}
+pub use Rattle.vx_calls.specs.Call.{text_of}
 use Rattle.vx_calls.specs.Call as call
 use Rattle.vx_rules.specs.declared.tables.kept.Kept.{Kept}
 use Rattle.vx_rules.specs.declared.tables.kept.Kept.TheVariants as kept
@@ -24,13 +25,7 @@ kept_call (kept.DestroyLink lid) text handle = call.DestroyLink lid
 kept_call (kept.CreateIntr host port prog vers family) text handle = call.CreateIntr host port prog vers family
 kept_call kept.DestroyIntr text handle = call.DestroyIntr
 
--- the device text or the data of a call, and its handle
-abbrev pub text_of : Call → List ℕ
-text_of (call.CreateLink client lock lock_timeout device) = device
-text_of (call.Write lid io_timeout lock_timeout flags bytes) = bytes
-text_of (call.Docmd lid flags io_timeout lock_timeout cmd big size bytes) = bytes
-text_of _ = []
-
+-- the handle of a call
 abbrev pub handle_of : Call → List ℕ
 handle_of (call.EnableSrq lid enable handle) = handle
 handle_of _ = []

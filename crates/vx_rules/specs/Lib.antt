@@ -20,3 +20,7 @@ pub mod Shown
 pub mod Input
 pub mod Serving
 pub mod PassLaws
+pub mod ProvedLaws
+pub use Rattle.vx_links.specs.Table
+pub use Rattle.vx_locks.specs.Locks
+pub use Rattle.vx_srq.specs.Desk

@@ -1,32 +1,19 @@
 -- Decimal numbers that are read.
 use Rattle.std.proofs.Common.{◌≡◌, ℕ, ◌+◌, ◌-◌, ◌*◌, ◌^◌, ◌<◌, ◌≤◌, true, ◌&&◌, leb, List, [], ◌∷◌, length, Option, Some, None, Result, Ok, Err, refl, sym, ap, arith, inl, inr}
-use Rattle.std.specs.Prelude.{not, ◌==◌, nat_le, MatchResult, IfSome}
+use Rattle.std.specs.Prelude.{not, ◌==◌, IfSome}
 use Rattle.std.specs.Char.{digit_value}
 use Rattle.std.specs.List.{list_all}
 use Rattle.std.specs.Result.{result_ok, OkIff}
 use Rattle.std.specs.Str.{IsAscii}
 use Rattle.std.specs.Str.Parse.{digits_value, digits_value_after, ParsesUnsigned}
-use Rattle.std.proofs.lemmas.Bool.{and_parts, and_from, leb-true, le-leb, lt-leb, not-true, eqb-false, cases_lt}
+use Rattle.std.proofs.lemmas.Bool.{and_parts, le-leb, lt-leb, not-true, eqb-false, cases_lt}
 use Rattle.std.proofs.lemmas.Option.{cond_some}
 use Rattle.std.proofs.lemmas.Fmt.{IsAscii-from_digits}
 use Rattle.std.proofs.lemmas.Str.{digit_value_digit}
-use Rattle.std.proofs.lemmas.Str.Parse.{IsNumeralModel, IsDigitsTest, numerals_by_value, parse_digits}
+use Rattle.std.proofs.lemmas.Str.Parse.{parse_digits}
+use Rattle.vx_lemmas.specs.Decimal.{own, tells}
 use Rattle.vx_calls.specs.Target.{is_digit}
 use Rattle.vx_script.specs.Words.{is_positive, positive_up_to}
-
-tells : IsDigitsTest (λ ds. list_all is_digit ds ≡ true)
-tells = record {
-  empty = refl;
-  parts = λ c cs h.
-      let both = and_parts (is_digit c) (list_all is_digit cs) h in
-      let range = and_parts (nat_le 48 c) (nat_le c 57) both.0 in
-      ((leb-true 48 c range.0, leb-true c 57 range.1), both.1);
-  more = λ c cs h rest. and_from (is_digit c) (list_all is_digit cs) (and_from (nat_le 48 c) (nat_le c 57) (le-leb 48 c h.0) (le-leb c 57 h.1)) rest;
-}
-
--- the digits of a text are those that `parse` reads
-own : IsNumeralModel (λ ds. list_all is_digit ds ≡ true) (digits_value 10)
-own = numerals_by_value (λ ds. list_all is_digit ds ≡ true) tells
 
 -- digits, at least one, of a number that is at least 1
 record Positive (text : List ℕ) : Type 0 where
@@ -81,22 +68,6 @@ parsed-positive text r e h = by_cases r (parse_digits own 64 text r h shape.digi
     by_cases (Err d) g =
         let past = lt-leb (digits_value 10 text) (2 ^ 64 - 1) (not_below (digits_value 10 text) (λ lt. g (shape.some, lt))) in
         rw (e, past) refl
-
--- what a result that is Ok shows
-pub ok_some : {T E : Type 0} (r : Result T E) (P : T → Type 0) (Q : E → Type 0) → MatchResult r P Q → (x : T) → result_ok r ≡ Some x → P x
-ok_some (Ok y) P Q h x e = same_value h (some_is e)
-  where
-    some_is : Some y ≡ Some x → y ≡ x
-    some_is p = cc
-
-    same_value : P y → y ≡ x → P x
-    same_value g p = rw (← p) g
-ok_some (Err d) P Q h x e = absurd cc
-
--- what a result that is an error shows
-pub err_none : {T E : Type 0} (r : Result T E) (P : T → Type 0) (Q : E → Type 0) → MatchResult r P Q → ((e : E) → Q e → ⊥) → result_ok r ≡ None → ⊥
-err_none (Ok y) P Q h f e = absurd cc
-err_none (Err d) P Q h f e = f d h
 
 -- digits are ASCII
 pub positive-ascii : (text : List ℕ) → is_positive text ≡ true → IsAscii text

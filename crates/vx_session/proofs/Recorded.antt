@@ -1,5 +1,5 @@
 -- A record of a session: what its message means, and how it is served.
-use Rattle.std.proofs.Common.{◌≡◌, ℕ, ◌≤◌, ◌-◌, true, IsTrue, List, [], ◌∷◌, ◌++◌, length, drop, refl, sym, ap, ◌∙◌, subst, arith, length-append, length-drop, append-nil, lit≤}
+use Rattle.std.proofs.Common.{◌≡◌, ℕ, IsTrue, List, [], ◌∷◌, refl, sym, ap, ◌∙◌, subst, arith, append-nil}
 use Rattle.std.proofs.lemmas.Bool.{false≢true}
 use Rattle.vx_calls.specs.declared.calls.Role.{Role}
 use Rattle.vx_calls.specs.declared.calls.Role.TheVariants as role
@@ -8,16 +8,13 @@ use Rattle.vx_calls.specs.declared.calls.Proc.TheVariants as proc
 use Rattle.vx_calls.specs.declared.calls.CallRef.{CallRef}
 use Rattle.vx_calls.specs.declared.calls.CallRef.TheVariants as seen
 use Rattle.vx_calls.specs.declared.codes.ErrorCode.{ErrorCode}
-use Rattle.vx_calls.specs.declared.limits.TheConstants.{RECORD_MAX}
 use Rattle.vx_calls.specs.Call.{Call, call_shown}
 use Rattle.vx_calls.specs.Call as call
 use Rattle.vx_calls.specs.Reply as reply
 use Rattle.vx_rpc.specs.Procedure.{serves}
 use Rattle.vx_rpc.specs.Wording.{success_message}
-use Rattle.vx_codec.specs.Asked.{Asks, IsPuttable, arguments, arguments_of, call_of}
+use Rattle.vx_codec.specs.Asked.{Asks, arguments_of, call_of}
 use Rattle.vx_codec.specs.Row.{Contents}
-use Rattle.vx_rules.specs.One.{may_wait}
-use Rattle.vx_rules.specs.Held.{IsShort}
 use Rattle.vx_gate.specs.PassView.{PassView}
 use Rattle.vx_message.specs.Meaning.{Meaning, Junk, Answered, Aborts, meaning, by_call, record_of, reply_record}
 use Rattle.vx_message.specs.Meaning as meant
@@ -46,46 +43,9 @@ pub ripe : (seat : Seat) (r : Role) (p : Proc) (asked : Call) (args : List ℕ) 
 ripe seat r p asked args idle served asks =
     subst (λ s. IsRipe s asked) (sym idle) (subst (λ c. IsRipe (Idle r) c) (sym asks.1) (ripe-at r p asks.0 served))
 
--- what stands in a list is no longer than it
-within : (whole part padding : List ℕ) (n : ℕ) → drop n whole ≡ part ++ padding → length part ≤ length whole
-within whole part padding n is =
-    let rest : length whole - n ≡ length (part ++ padding) = sym (length-drop n whole) ∙ ap length is in
-    let both = length-append part padding in
-    omega arith
-
--- a call whose arguments fit a record is short
-call-short : (asked : Call) → IsPuttable asked → length (arguments asked) ≤ RECORD_MAX → IsShort asked
-call-short (call.CreateLink client lock lock_timeout device) puttable len = omega arith
-call-short (call.Write lid io_timeout lock_timeout flags bytes) puttable len =
-    let long = within (arguments (call.Write lid io_timeout lock_timeout flags bytes)) bytes _ 20 refl in
-    omega arith
-call-short (call.Docmd lid flags io_timeout lock_timeout cmd big size bytes) puttable len =
-    let long = within (arguments (call.Docmd lid flags io_timeout lock_timeout cmd big size bytes)) bytes _ 32 refl in
-    omega arith
-call-short _ puttable len = lit≤ tt
-
--- so is a call that was read at the end of a message that fits a record
-pub read-short : (message args : List ℕ) (asked : Call) (n : ℕ) → IsPuttable asked → length (arguments asked) ≡ length args → args ≡ drop n message
-    → length message ≤ RECORD_MAX → IsShort asked
-read-short message args asked n puttable len is fits =
-    let dropped : length args ≡ length message - n = ap length is ∙ length-drop n message in
-    call-short asked puttable (omega arith)
-
 -- ---- a call as it was read, that is neither the null procedure nor a device_abort
 
--- it is asked of the core
-pub asks-core : (r : CallRef) (xid : ℕ) → (r ≡ seen.Null → ⊥) → ((lid : ℕ) → r ≡ seen.DeviceAbort lid → ⊥) → by_call xid (call_shown r) ≡ meant.Asks xid (call_shown r)
-asks-core seen.Null xid not_null not_abort = absurd (not_null refl)
-asks-core (seen.DeviceAbort lid) xid not_null not_abort = absurd (not_abort lid refl)
-asks-core _ xid not_null not_abort = refl
-
--- and may wait
-pub asks-wait : (r : CallRef) → (r ≡ seen.Null → ⊥) → ((lid : ℕ) → r ≡ seen.DeviceAbort lid → ⊥) → may_wait (call_shown r) ≡ true
-asks-wait seen.Null not_null not_abort = absurd (not_null refl)
-asks-wait (seen.DeviceAbort lid) not_null not_abort = absurd (not_abort lid refl)
-asks-wait _ not_null not_abort = refl
-
--- and where it may come, the connection is an idle one of the core
+-- where it may come, the connection is an idle one of the core
 pub ripe-core : (r : CallRef) (seat : Seat) → (r ≡ seen.Null → ⊥) → ((lid : ℕ) → r ≡ seen.DeviceAbort lid → ⊥) → IsRipe seat (call_shown r) → seat ≡ Idle role.Core
 ripe-core seen.Null seat not_null not_abort is = absurd (not_null refl)
 ripe-core (seen.DeviceAbort lid) seat not_null not_abort is = absurd (not_abort lid refl)

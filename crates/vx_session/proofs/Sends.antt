@@ -1,9 +1,10 @@
 -- Bytes that a link takes, one send after another.
-use Rattle.std.proofs.Common.{◌≡◌, ◌≤◌, ◌<◌, ◌+◌, ◌-◌, ℕ, List, [], Option, None, Some, true, false, length, take, drop, refl, sym, subst, arith, length-drop, append-nil, take-append-drop}
-use Rattle.std.specs.Io.KnownBytes.{Consumes, Keeps}
+use Rattle.std.proofs.Common.{◌≡◌, ◌≤◌, ◌<◌, ◌+◌, ◌-◌, ℕ, List, [], true, false, length, take, drop, refl, sym, subst, arith, length-drop, append-nil, take-append-drop}
+use Rattle.std.specs.Io.KnownBytes.{Keeps}
 use Rattle.std.proofs.KnownBytes.{Consumes-nil, Keeps-refl}
 use Rattle.std.proofs.Math.Seq.{take-add}
 use Rattle.std.proofs.lemmas.List.{take_all}
+use Rattle.vx_lemmas.specs.Options.{keeps-consumes}
 use Rattle.vx_io_traits.specs.Faults.{Rose}
 use Rattle.vx_io_traits.specs.Stands.{Goes, Takes, Stays, Goes-none, Goes-takes, Goes-stays}
 use Rattle.vx_session.specs.Outside.{LinkShown, LinkGoes}
@@ -15,12 +16,6 @@ pub record SentSoFar {L : Type 0} (stands : L → List ℕ → List ℕ → Type
   pub within : sent ≤ length bytes
   pub took : Goes stands first now (take sent bytes) []
   pub goes : LinkGoes seen [] seen'
-
--- what is kept was consumed by nothing
-keeps-consumes : (a b : Option (List ℕ)) → Keeps a b → Consumes a b []
-keeps-consumes None b kept = tt
-keeps-consumes (Some x) None kept = absurd kept
-keeps-consumes (Some x) (Some y) kept = sym kept
 
 -- what one send does to what can be known of a link
 pub record SendKeeps (old new : LinkShown) : Type 0 where

@@ -1,5 +1,5 @@
 -- How the records of a stream are served, piece by piece, to its end or to where the session stops.
-use Rattle.std.proofs.Common.{◌≡◌, ◌≤◌, ◌+◌, ◌-◌, ◌^◌, ℕ, zero, suc, min, false, List, [], ◌∷◌, ◌++◌, length, Option, Some, None, IfSome, ◌⊎◌, inl, inr, refl, sym, ap, subst, ◌∙◌, arith, append_assoc, append-nil}
+use Rattle.std.proofs.Common.{◌≡◌, ◌≤◌, ◌^◌, ℕ, zero, suc, min, false, List, [], ◌∷◌, ◌++◌, length, Option, Some, None, IfSome, ◌⊎◌, inl, inr, refl, sym, ap, subst, ◌∙◌, arith, append_assoc, append-nil}
 use Rattle.std.proofs.lemmas.List.{map-append, nil_from_length}
 use Rattle.std.proofs.lemmas.Option.{none-some, same_Some}
 use Rattle.std.proofs.lemmas.Grind.{flat_map-append}
@@ -7,6 +7,7 @@ use Rattle.std.proofs.KnownBytes.{Consumes-kept, Keeps-trans}
 use Rattle.std.specs.Io.KnownBytes.{Consumes, IsAtEnd, Keeps}
 use Rattle.vx_io_traits.specs.Faults.{Rose}
 use Rattle.vx_io_traits.specs.Stands.{Goes-gives, Goes-stays}
+use Rattle.vx_io_traits.specs.ProvedLaws.{rose_earlier}
 use Rattle.vx_calls.specs.declared.calls.Role.{Role}
 use Rattle.vx_calls.specs.declared.limits.TheConstants.{RECORD_MAX}
 use Rattle.vx_gate.specs.PassView.{PassView}
@@ -61,10 +62,6 @@ shown pieces limit xs = subst (λ ys. Shows (records limit ys) (run (beginning l
 
 -- ---- how a session ends
 
--- what rose since a later moment rose since an earlier one
-rose-since : (a b c : ℕ) → a ≤ b → Rose b c → Rose a c
-rose-since a b c later rose = let risen : min (b + 1) (2 ^ 64 - 1) ≤ c = rose in omega arith
-
 -- the input ended so many bytes behind the last whole record
 input-ends : (seen : LinkShown) (r : Role) (items : List Item) (looked : Split) (seen' : LinkShown) (rest : ℕ) → looked.records ≡ messages items
     → looked.too_long ≡ false → rest ≡ min (length looked.rest) (2 ^ 62) → IfSome seen.left (λ all. IsAtEnd seen'.left)
@@ -82,7 +79,7 @@ stops-behind seen mid seen' items items' unsent later s = record {
   items_are = ap (λ all. items ++ all) s.items_are ∙ sym (append_assoc items s.earlier (s.last ∷ []));
   cut = s.cut;
   some = s.some;
-  rose = rose-since seen.send_faults mid.send_faults seen'.send_faults later s.rose;
+  rose = rose_earlier seen.send_faults mid.send_faults seen'.send_faults later s.rose;
 }
 
 -- a session that stops in a piece stops so in its stream
@@ -285,7 +282,7 @@ module _ {L : Type 0} (stands : L → List ℕ → List ℕ → Type 0) (r : Rol
       → StreamServed stands told r conn pass a sa dial end.ReadFault pass' c sc dial'
   streamed-fails pieces told pass pass' a b c sa sb sc dial dial' buffer so_far ended rose =
       stream-done pieces told pass pass' a b c sa sb sc dial dial' buffer end.ReadFault so_far ended
-      (λ looked recs long n. (recs, long, refl, refl, rose-since sa.receive_faults sb.receive_faults sc.receive_faults so_far.progress.goes.receives rose))
+      (λ looked recs long n. (recs, long, refl, refl, rose_earlier sa.receive_faults sb.receive_faults sc.receive_faults so_far.progress.goes.receives rose))
 
   -- the next piece of the stream was served, and the session goes on
   pub streamed-on : CutLaw → (told told' : ℕ) (pass pass' pass'' : PassView Group) (a b d : L) (sa sb sd : LinkShown) (dial dial' dial'' : DialShown)

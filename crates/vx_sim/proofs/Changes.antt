@@ -1,6 +1,6 @@
 -- Loops that change each place of a list in turn.
 use Rattle.std.proofs.Common.{◌≡◌, ℕ, zero, suc, ◌+◌, ◌<◌, Bool, true, false, cond, not, nat_lt, ◌||◌, Some, None, List, [], ◌∷◌, length, map, get_or, set, refl, sym, ap, ◌∙◌, subst, arith}
-use Rattle.std.specs.List.{list_any, filter, AllZip, position, position_or_len}
+use Rattle.std.specs.List.{list_any, AllZip, position, position_or_len}
 use Rattle.std.proofs.lemmas.Bool.{lt-ltb}
 use Rattle.vx_sim.specs.Seats.{Placed}
 use Rattle.vx_sim.specs.Shown.{AtPlace}
@@ -89,17 +89,7 @@ set_at_place f Change [] i d y within change = absurd (omega arith)
 set_at_place f Change (z ∷ zs) zero d y within change = (change, refl)
 set_at_place f Change (z ∷ zs) (suc i) d y within change = (refl, set_at_place f Change zs i d y (omega arith) change)
 
--- what is left out of what is shown
-pub filter_shown : {X Y : Type 0} (f : X → Y) (p : Y → Bool) (xs : List X) → map f (filter (λ x. p (f x)) xs) ≡ filter p (map f xs)
-filter_shown f p [] = refl
-filter_shown {X} f p (x ∷ xs) = at (p (f x)) (filter_shown f p xs)
-  where
-    at : (b : Bool) → map f (filter (λ z. p (f z)) xs) ≡ filter p (map f xs)
-        → map f (cond b (x ∷ filter (λ z. p (f z)) xs) (filter (λ z. p (f z)) xs)) ≡ cond b (f x ∷ filter p (map f xs)) (filter p (map f xs))
-    at true rest = ap (λ ys. f x ∷ ys) rest
-    at false rest = rest
-
--- where it is so somewhere, there is a first place
+-- where one passes somewhere, there is a first place
 first_within : {X : Type 0} (p : X → Bool) (xs : List X) → list_any p xs ≡ true → position_or_len p xs < length xs
 first_within p [] some = cc
 first_within p (x ∷ xs) some = at (p x) some (first_within p xs)

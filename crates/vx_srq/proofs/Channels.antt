@@ -8,9 +8,10 @@ use Rattle.std.proofs.lemmas.List.{map-append}
 use Rattle.std.proofs.lemmas.List.Elements.{All-tail}
 use Rattle.std.proofs.lemmas.List.Kept.{AllPairs-filter}
 use Rattle.std.proofs.lemmas.List.Quantifiers.{all_pairs_push}
+use Rattle.vx_lemmas.specs.Lists.{filter-map}
 use Rattle.vx_srq.specs.Desk.{Desk, Port, Channel, IsBelow, channel_at, connections, new_channel, sampled, taken_from, port_with, port_taken, risen_port, is_rise, queued_on, handles_of}
 use Rattle.vx_srq.specs.Laws.{RiseQueues, RiseInOrder, SteadyQueuesNothing, SameLevelSame, ChannelBelow, NextIsNew, TakenHere, TakenElsewhere, ClosedHere, ClosedElsewhere, KeepsConnections, AddedRises, GoneRises}
-use Rattle.vx_srq.proofs.Lists.{filter-map}
+use Rattle.vx_srq.specs.ProvedLaws.{port_with-stays, port_taken-stays}
 
 -- where a change keeps each connection, and changes the connection's channel by g, so does it with the first one
 changed_first : (f : Port → Port) (g : Option Channel → Option Channel) (conn : ℕ) → g None ≡ None
@@ -33,17 +34,6 @@ changed_first f g conn none same here (p ∷ ps) =
 same_connections : (f : Port → Port) → ((p : Port) → (f p).connection ≡ p.connection) → (ps : List Port) → map (λ (p : Port). p.connection) (map f ps) ≡ map (λ p. p.connection) ps
 same_connections f same [] = refl
 same_connections f same (p ∷ ps) = ap (λ n. n ∷ map (λ (q : Port). q.connection) (map f ps)) (same p) ∙ ap (λ ns. p.connection ∷ ns) (same_connections f same ps)
-
-with_same : (conn : ℕ) (channel : Option Channel) (p : Port) → (port_with conn channel p).connection ≡ p.connection
-with_same conn channel p =
-    elim (p.connection == conn) as (λ b. (if b then record p { channel = channel } else p).connection ≡ p.connection) [ true ↦ refl | false ↦ refl ]
-
-taken_same : (conn number : ℕ) (p : Port) → (port_taken conn number p).connection ≡ p.connection
-taken_same conn number p =
-    elim (p.connection == conn) as (λ b. (if b then record p { channel = option_map (taken_from number) p.channel } else p).connection ≡ p.connection) [
-      | true ↦ refl
-      | false ↦ refl
-    ]
 
 -- the test at its own number, and at another
 own_number : (n m : ℕ) → n ≡ m → (n == m) ≡ true
@@ -93,36 +83,36 @@ next_is_new d conn s = weaker (IsBelow d.next_channel) (λ c. c.number ≢ d.nex
 
 pub taken_here : TakenHere
 taken_here d conn number =
-    changed_first (port_taken conn number) (option_map (taken_from number)) conn refl (taken_same conn number)
+    changed_first (port_taken conn number) (option_map (taken_from number)) conn refl (port_taken-stays conn number)
     (λ p e. ap (λ b. let q : Port = if b then record p { channel = option_map (taken_from number) p.channel } else p in q.channel) (own_number p.connection conn e)) d.ports
 
 pub taken_elsewhere : TakenElsewhere
 taken_elsewhere d conn other number apart =
-    changed_first (port_taken conn number) (λ o. o) other refl (taken_same conn number)
+    changed_first (port_taken conn number) (λ o. o) other refl (port_taken-stays conn number)
     (λ p e. ap (λ b. let q : Port = if b then record p { channel = option_map (taken_from number) p.channel } else p in q.channel) (other_number p.connection conn other e apart)) d.ports
 
 pub closed_here : ClosedHere
 closed_here d conn =
-    changed_first (port_with conn None) (λ _. None) conn refl (with_same conn None)
+    changed_first (port_with conn None) (λ _. None) conn refl (port_with-stays conn None)
     (λ p e. ap (λ b. let q : Port = if b then record p { channel = None } else p in q.channel) (own_number p.connection conn e)) d.ports
 
 pub closed_elsewhere : ClosedElsewhere
 closed_elsewhere d conn other channel apart =
-    changed_first (port_with conn channel) (λ o. o) other refl (with_same conn channel)
+    changed_first (port_with conn channel) (λ o. o) other refl (port_with-stays conn channel)
     (λ p e. ap (λ b. let q : Port = if b then record p { channel = channel } else p in q.channel) (other_number p.connection conn other e apart)) d.ports
 
 pub keeps_connections : KeepsConnections
 keeps_connections = record {
-  channel = λ d conn channel. same_connections (port_with conn channel) (with_same conn channel) d.ports;
+  channel = λ d conn channel. same_connections (port_with conn channel) (port_with-stays conn channel) d.ports;
   made = λ d conn program version.
       let channel = Some (new_channel d.next_channel program version) in
-      same_connections (port_with conn channel) (with_same conn channel) d.ports;
+      same_connections (port_with conn channel) (port_with-stays conn channel) d.ports;
   sample = λ d level.
       elim (is_rise d.level level) as (λ b. let k : Desk = if b then record d { ports = map (risen_port d.enables) d.ports; level = level } else record d { level = level } in connections k ≡ connections d) [
         | true ↦ same_connections (risen_port d.enables) (λ p. refl) d.ports
         | false ↦ refl
       ];
-  take = λ d conn number. same_connections (port_taken conn number) (taken_same conn number) d.ports;
+  take = λ d conn number. same_connections (port_taken conn number) (port_taken-stays conn number) d.ports;
 }
 
 pub added_rises : AddedRises

@@ -6,6 +6,7 @@ use Rattle.std.specs.List.{All}
 use Rattle.std.specs.Vec.{with_items}
 use Rattle.std.proofs.lemmas.List.{map-append, length-map, with_items_is}
 use Rattle.std.proofs.lemmas.List.Elements.{All-append, All-cons, All-nil}
+use Rattle.vx_lemmas.specs.Lists.{find-map, filter-map}
 use Rattle.vx_srq.specs.declared.ports.ChannelRow.{ChannelRow}
 use Rattle.vx_srq.specs.declared.ports.PortRow.{PortRow}
 use Rattle.vx_srq.specs.declared.srq.Srq.TheInside.{Inside}
@@ -13,7 +14,6 @@ use Rattle.vx_srq.specs.Desk.{Desk, Port, IsSound, IsBelow, HasChannelBelow, cha
 use Rattle.vx_srq.specs.Shown.{port_shown, enable_shown, channel_shown, HasRoom}
 use Rattle.vx_srq.specs.Told.{channel_told, told_of}
 use Rattle.vx_srq.specs.Inside.{desk_of, IsKept}
-use Rattle.vx_srq.proofs.Lists.{find-map, filter-map}
 use Rattle.vx_srq.proofs.Sound.{sound-level}
 
 -- the desk with other ports

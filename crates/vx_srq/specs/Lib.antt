@@ -3,3 +3,4 @@ pub mod Shown
 pub mod Told
 pub mod Laws
 pub mod Inside
+pub mod ProvedLaws

@@ -1,11 +1,12 @@
 -- The first rule for a message, by its place, and what an instrument does with it.
-use Rattle.std.proofs.Common.{◌≡◌, ℕ, ◌≤◌, nat_lt, Bool, true, false, cond, List, length, Option, Some, None, refl, sym, ap, ◌∙◌, arith}
+use Rattle.std.proofs.Common.{◌≡◌, ℕ, ◌≤◌, nat_lt, Bool, true, false, cond, List, length, Option, Some, None, sym, ap, ◌∙◌, arith}
 use Rattle.std.specs.List.{find, slice_get, position_from, position_or_len}
 use Rattle.std.proofs.lemmas.Bool.Decides.{nat_tests}
 use Rattle.std.proofs.lemmas.Iterator.Adapters.{position_from-zero}
 use Rattle.std.proofs.lemmas.List.Folds.{find_at}
 use Rattle.std.proofs.lemmas.Option.{slice_get_past}
 use Rattle.std.specs.Str.{bytes_eq}
+use Rattle.vx_lemmas.specs.Conditions.{unchosen}
 use Rattle.vx_inst.specs.View.{View}
 use Rattle.vx_inst.specs.Shared.{without_message}
 use Rattle.vx_table.specs.Table.{Rule, Delayed, TableState, with_ready, without_line_feed, rule_for, begun, finished}
@@ -13,10 +14,6 @@ use Rattle.vx_table.specs.Table.{Rule, Delayed, TableState, with_ready, without_
 at-place : (b : Bool) (q place : ℕ) → cond b (Some q) None ≡ Some place → q ≡ place
 at-place true q place h = cc
 at-place false q place h = cc
-
-at-none : (b : Bool) (q : ℕ) → cond b (Some q) None ≡ None → b ≡ false
-at-none true q h = cc
-at-none false q h = refl
 
 -- What passes first is what stands at the first place that passes.
 pub found-at : {X : Type 0} (p : X → Bool) (xs : List X) (place : ℕ) → Some place ≡ position_from p 0 xs → find p xs ≡ slice_get xs place
@@ -27,7 +24,7 @@ found-at p xs place h =
 -- Where no place passes, nothing does.
 pub found-none : {X : Type 0} (p : X → Bool) (xs : List X) → None ≡ position_from p 0 xs → find p xs ≡ None
 found-none p xs h =
-    let past : nat_lt (position_or_len p xs) (length xs) ≡ false = at-none (nat_lt (position_or_len p xs) (length xs)) (position_or_len p xs) (position_from-zero p xs ∙ sym h) in
+    let past : nat_lt (position_or_len p xs) (length xs) ≡ false = unchosen (nat_lt (position_or_len p xs) (length xs)) (position_or_len p xs) (position_from-zero p xs ∙ sym h) in
     let behind : length xs ≤ position_or_len p xs = grind (arith, nat_tests, past) in
     find_at p xs ∙ slice_get_past xs (position_or_len p xs) behind
 

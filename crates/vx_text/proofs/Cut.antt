@@ -2,6 +2,7 @@
 use Rattle.std.proofs.Common.{◌≡◌, ℕ, suc, ◌+◌, ◌<◌, ◌≤◌, ◌==◌, nat_lt, Bool, true, false, cond, not, List, [], ◌∷◌, length, take, drop, Some, None, refl, ap, arith}
 use Rattle.std.proofs.lemmas.Bool.{ltb-true, ltb-false}
 use Rattle.std.specs.List.{onto_first, position, position_or_len}
+use Rattle.vx_lemmas.specs.Conditions.{unchosen}
 use Rattle.vx_text.specs.TextLines.{lines}
 
 -- where the first LF stands, or the length
@@ -43,11 +44,6 @@ lines_alone (x ∷ xs) some le = alone_more x xs (x == 10) (end_or_len xs) (line
 chosen : (b : Bool) (m n : ℕ) → cond b (Some m) None ≡ Some n → (b ≡ true) × (m ≡ n)
 chosen true m n e = (refl, cc)
 chosen false m n e = absurd (cc)
-
--- a choice that is not there
-unchosen : (b : Bool) (m : ℕ) → cond b (Some m) None ≡ None → b ≡ false
-unchosen true m e = absurd (cc)
-unchosen false m e = refl
 
 -- the first line of a text with an LF
 pub lines-found : (xs : List ℕ) (n : ℕ) → position (λ byte. byte == 10) xs ≡ Some n

@@ -1,8 +1,6 @@
 -- Hexadecimal text in upper case, both ways.
-use Rattle.std.proofs.Common.{◌≡◌, ℕ, zero, suc, ◌+◌, ◌*◌, ◌/◌, ◌%◌, ◌^◌, ◌<◌, Bool, true, false, ◌&&◌, cond, ltb, eqb, List, [], ◌∷◌, map, get_or, length, Option, Some, None, Result, Ok, Err, refl, sym, ap, ◌∙◌, arith, inl, inr}
-use Rattle.std.proofs.Math.ListN.{get_or-map}
+use Rattle.std.proofs.Common.{◌≡◌, ℕ, zero, suc, ◌+◌, ◌*◌, ◌/◌, ◌%◌, ◌^◌, ◌<◌, Bool, true, false, ◌&&◌, cond, ltb, eqb, List, [], ◌∷◌, get_or, length, Option, Some, None, Result, Ok, Err, refl, sym, ap, ◌∙◌, arith, inl, inr}
 use Rattle.std.specs.Prelude.{not}
-use Rattle.std.specs.Char.{to_ascii_uppercase}
 use Rattle.std.specs.List.{All, list_all, list_any}
 use Rattle.std.specs.Result.{result_ok, result_unwrap_or}
 use Rattle.std.proofs.lemmas.Bool.{and_parts, and_from, or_parts, or_from, not-true, cases_lt, eqb-true}
@@ -10,27 +8,14 @@ use Rattle.std.proofs.lemmas.Bool.Decides.{nat_tests}
 use Rattle.std.proofs.lemmas.Option.{same_Some}
 use Rattle.std.proofs.lemmas.List.{get_or_past}
 use Rattle.std.proofs.lemmas.List.Elements.{All-from_get_or}
-use Rattle.hex.specs.Hex.{IsBytes, decode_of, decode_pairs, decode_sized, digit_or_error, hex_digit_value, encode_with, encode_lower, encode_upper, lower_digits, upper_digits, pair_value, value_at, ◌>>=◌}
+use Rattle.hex.specs.Hex.{IsBytes, decode_of, decode_pairs, decode_sized, digit_or_error, hex_digit_value, encode_with, encode_upper, upper_digits, pair_value, value_at, ◌>>=◌}
 use Rattle.hex.specs.declared.error.FromHexError.{FromHexError}
 use Rattle.hex.specs.declared.error.FromHexError.TheVariants.{OddLength, InvalidStringLength}
-use Rattle.hex.proofs.HexLemmas.{length-encode_with, decode_of-encode_upper, decode_pairs-encode_with, decode_pairs-ok, IsDigits-upper_digits}
+use Rattle.hex.proofs.HexLemmas.{decode_of-encode_upper, decode_pairs-encode_with, decode_pairs-ok, IsDigits-upper_digits}
+use Rattle.vx_lemmas.specs.Hexadecimal.{length_upper}
 use Rattle.vx_trace.specs.Reading.{is_lower_digit, bytes_of, byte_of, first_of}
 use Rattle.vx_trace.proofs.Cuts.{is_plain}
 use Rattle.vx_trace.proofs.Choices.{by_test}
-
--- the digit at a place of the table in upper case
-digit_up : (k : ℕ) → to_ascii_uppercase (get_or lower_digits k 0) ≡ get_or upper_digits k 0
-digit_up k = sym (get_or-map to_ascii_uppercase lower_digits k 0)
-
--- hexadecimal text in lower case, put in upper case, is that in upper case
-pub upper_text : (bytes : List ℕ) → map to_ascii_uppercase (encode_lower bytes) ≡ encode_upper bytes
-unfolding encode_with
-upper_text [] = refl
-upper_text (b ∷ rest) = rw (digit_up (b / 16), digit_up (b % 16), upper_text rest)
-
--- a text has two digits for each byte
-pub length_upper : (bytes : List ℕ) → length (encode_upper bytes) ≡ 2 * length bytes
-length_upper bytes = length-encode_with upper_digits bytes
 
 -- ---- the digits of a text
 

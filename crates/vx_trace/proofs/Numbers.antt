@@ -1,33 +1,20 @@
 -- Decimal numbers, both ways.
-use Rattle.std.proofs.Common.{◌≡◌, ℕ, ◌^◌, ◌<◌, ◌≤◌, Bool, true, false, ◌&&◌, ltb, eqb, List, [], ◌∷◌, length, get_or, Some, None, Result, Ok, Err, refl, sym, ap, ◌∙◌, arith, decimal, inl, inr}
-use Rattle.std.specs.Prelude.{not, ◌==◌, nat_le, MatchResult}
+use Rattle.std.proofs.Common.{◌≡◌, ℕ, ◌^◌, ◌<◌, ◌≤◌, Bool, true, false, ◌&&◌, ltb, eqb, List, [], ◌∷◌, length, get_or, Some, Result, Ok, Err, refl, sym, ap, ◌∙◌, arith, decimal, inl, inr}
+use Rattle.std.specs.Prelude.{not, ◌==◌, nat_le}
 use Rattle.std.specs.List.{list_all}
 use Rattle.std.specs.Result.{result_ok, OkIff}
 use Rattle.std.specs.Str.{IsAscii}
 use Rattle.std.specs.Str.Parse.{digits_value, ParsesUnsigned}
-use Rattle.std.proofs.lemmas.Bool.{and_parts, and_from, ltb-true, lt-ltb, le-ltb, leb-true, le-leb, ne_eqb, not-true, not_from_false, cases_lt}
+use Rattle.std.proofs.lemmas.Bool.{and_parts, and_from, ltb-true, lt-ltb, le-ltb, leb-true, ne_eqb, not-true, not_from_false, cases_lt}
 use Rattle.std.proofs.lemmas.Option.{cond_some}
 use Rattle.std.proofs.lemmas.Fmt.{digits_decimal, digits_value-decimal, decimal-digits_value, decimal_nonempty, decimal_digit, first_decimal, IsAscii-from_digits}
-use Rattle.std.proofs.lemmas.Str.Parse.{IsNumeralModel, IsDigitsTest, numerals_by_value, parse_digits}
+use Rattle.std.proofs.lemmas.Str.Parse.{parse_digits}
+use Rattle.vx_lemmas.specs.Decimal.{own}
 use Rattle.vx_trace.specs.Reading.{is_digit, is_decimal, number_of}
 use Rattle.vx_trace.proofs.Cuts.{is_plain}
 
 has_digits : List ℕ → Bool
 has_digits ds = list_all is_digit ds
-
-tells : IsDigitsTest (λ ds. list_all is_digit ds ≡ true)
-tells = record {
-  empty = refl;
-  parts = λ c cs h.
-      let both = and_parts (is_digit c) (list_all is_digit cs) h in
-      let range = and_parts (nat_le 48 c) (nat_le c 57) both.0 in
-      ((leb-true 48 c range.0, leb-true c 57 range.1), both.1);
-  more = λ c cs h rest. and_from (is_digit c) (list_all is_digit cs) (and_from (nat_le 48 c) (nat_le c 57) (le-leb 48 c h.0) (le-leb c 57 h.1)) rest;
-}
-
--- the digits of a text are those that `parse` reads
-pub own : IsNumeralModel (λ ds. list_all is_digit ds ≡ true) (digits_value 10)
-own = numerals_by_value (λ ds. list_all is_digit ds ≡ true) tells
 
 -- digits, at least one, and no leading zero
 pub record Decimal (text : List ℕ) : Type 0 where
@@ -119,21 +106,6 @@ parsed-number text r e h = by_cases r (parse_digits own 64 text r h shape.digits
     by_cases (Err d) g =
         let past = le-ltb (digits_value 10 text) (2 ^ 64) (not_below (digits_value 10 text) (λ lt. g (shape.some, lt))) in
         rw (e, past) refl
-
--- what a result that is none, or some, shows
-pub ok_some : {T E : Type 0} (r : Result T E) (P : T → Type 0) (Q : E → Type 0) → MatchResult r P Q → (x : T) → result_ok r ≡ Some x → P x
-ok_some (Ok y) P Q h x e = same_value h (some_is e)
-  where
-    some_is : Some y ≡ Some x → y ≡ x
-    some_is p = cc
-
-    same_value : P y → y ≡ x → P x
-    same_value g p = rw (← p) g
-ok_some (Err d) P Q h x e = absurd cc
-
-pub err_none : {T E : Type 0} (r : Result T E) (P : T → Type 0) (Q : E → Type 0) → MatchResult r P Q → ((e : E) → Q e → ⊥) → result_ok r ≡ None → ⊥
-err_none (Ok y) P Q h f e = absurd cc
-err_none (Err d) P Q h f e = f d h
 
 pub decimal_ascii : (text : List ℕ) → is_decimal text ≡ true → IsAscii text
 decimal_ascii text h = IsAscii-from_digits text (own.to text (decimal_shape text h).digits)

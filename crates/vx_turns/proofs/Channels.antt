@@ -1,10 +1,10 @@
 -- The channel of a dial that came up.
-use Rattle.std.proofs.Common.{◌≡◌, ◌==◌, ◌||◌, ◌&&◌, ℕ, Bool, true, false, cond, List, [], ◌∷◌, map, Option, Some, None, refl, sym, ap, ◌∙◌, subst}
+use Rattle.std.proofs.Common.{◌≡◌, ◌&&◌, ℕ, Bool, true, false, cond, List, Option, Some, None, refl, sym, ap, ◌∙◌, subst}
 use Rattle.std.specs.Prelude.{nat_le}
 use Rattle.std.specs.Option.{option_map, option_and_then}
-use Rattle.std.specs.List.{find, list_any}
-use Rattle.std.proofs.lemmas.Bool.{false≢true}
 use Rattle.std.proofs.lemmas.Option.{none-some, same_Some, cond_some}
+use Rattle.vx_lemmas.specs.Conditions.{chosen}
+use Rattle.vx_lemmas.specs.Options.{mapped, gone_on}
 use Rattle.vx_calls.specs.Call.{Call}
 use Rattle.vx_calls.specs.Call as call
 use Rattle.vx_calls.specs.Reply.{Reply, same_reply}
@@ -12,7 +12,8 @@ use Rattle.vx_488.specs.declared.transfers.Transfer.{Transfer}
 use Rattle.vx_488.specs.declared.wire.Wire.{Wire}
 use Rattle.vx_plan.specs.declared.tasks.Task.{Task}
 use Rattle.vx_plan.specs.Roles.{has_role}
-use Rattle.vx_srq.specs.Desk.{Desk, Port, Channel, channel_at, port_with, new_channel, with_new_channel}
+use Rattle.vx_srq.specs.Desk.{Desk, Channel, channel_at, new_channel, with_new_channel}
+use Rattle.vx_srq.specs.ProvedLaws.{made-first}
 use Rattle.vx_rules.specs.State.{Pending, Tables, State, pending_at}
 use Rattle.vx_rules.specs.Calls.{is_bus_call, asks_dial}
 use Rattle.vx_rules.specs.Checks.{named_link}
@@ -27,7 +28,6 @@ use Rattle.vx_flow.specs.Event.{Event, Answer}
 use Rattle.vx_flow.specs.FineState.{FineState, before_turn}
 use Rattle.vx_flow.specs.Fine.{outside, is_answered, wire_for, answered_fine, comes_in_turn, fine_step, fine}
 use Rattle.vx_flow.specs.Gather.{gather}
-use Rattle.vx_flow.proofs.Lookups.{mapped, gone_on, chosen}
 use Rattle.vx_flow.proofs.Gathering.{gather_law-holds}
 use Rattle.vx_group.specs.Groups.{Group, events_of, StandsFor}
 use Rattle.vx_history.proofs.Answering.{answer-parts}
@@ -115,23 +115,6 @@ answer-makes f g conn now told h =
 
 -- ---- the connection has it
 
--- where it has a port
-channel-here : (conn : ℕ) (channel : Option Channel) (ps : List Port) → list_any (λ p. p.connection == conn) ps ≡ true
-    → option_and_then (λ (p : Port). p.channel) (find (λ p. p.connection == conn) (map (port_with conn channel) ps)) ≡ channel
-channel-here conn channel [] h = absurd (false≢true h)
-channel-here conn channel (p ∷ ps) h = by (p.connection == conn) refl h (channel-here conn channel ps) where
-  by : (b : Bool) → (p.connection == conn) ≡ b → (b || list_any (λ q. q.connection == conn) ps) ≡ true
-      → (list_any (λ q. q.connection == conn) ps ≡ true
-      → option_and_then (λ (q : Port). q.channel) (find (λ q. q.connection == conn) (map (port_with conn channel) ps)) ≡ channel)
-      → option_and_then (λ (x : Port). x.channel)
-      (cond ((cond b (record p { channel = channel }) p).connection == conn) (Some (cond b (record p { channel = channel }) p))
-      (find (λ x. x.connection == conn) (map (port_with conn channel) ps)))
-      ≡ channel
-  by true is h more =
-      ap (λ b. option_and_then (λ (q : Port). q.channel) (cond b (Some (record p { channel = channel })) (find (λ q. q.connection == conn) (map (port_with conn channel) ps)))) is
-  by false is h more =
-      ap (λ b. option_and_then (λ (q : Port). q.channel) (cond b (Some p) (find (λ q. q.connection == conn) (map (port_with conn channel) ps)))) is ∙ more h
-
 -- A state that stands for a history has a port for each connection with a call.
 has-port : (f : FineState) (log : List Group) (conn : ℕ) (p : Pending) → StandsFor f log → pending_at f.state.tables conn ≡ Some p → has_port f.state.tables.desk conn ≡ true
 has-port f log conn p stands at =
@@ -153,5 +136,5 @@ settled-channel f g log conn now told stands h =
     let d = f.state.tables.desk in
     let c = new_channel d.next_channel makes.program makes.version in (
       c,
-      ap (λ (x : Desk). channel_at x conn) makes.is ∙ channel-here conn (Some c) d.ports (has-port f log conn asked.asked stands asked.call_at),
+      ap (λ (x : Desk). channel_at x conn) makes.is ∙ made-first conn (Some c) d.ports (has-port f log conn asked.asked stands asked.call_at),
     )

@@ -1,12 +1,9 @@
 -- What a pass knows of a connection of its own in each state that may stand at its turn, and which events of the connection it may add.
-use Rattle.std.proofs.Common.{◌≡◌, ◌==◌, ◌++◌, ℕ, Bool, true, false, cond, List, [], ◌∷◌, Option, Some, None, refl, sym, ap, ◌∙◌, subst}
+use Rattle.std.proofs.Common.{◌≡◌, ◌==◌, ◌++◌, ℕ, Bool, true, false, cond, List, [], ◌∷◌, Option, None, refl, sym, ap, ◌∙◌, subst}
 use Rattle.std.specs.Prelude.{is_none, IsSome}
-use Rattle.std.specs.Option.{option_map}
 use Rattle.std.specs.List.{All, list_any}
 use Rattle.std.proofs.lemmas.Bool.{false≢true, and_from}
-use Rattle.std.proofs.lemmas.Option.{none-some, same_Some}
 use Rattle.std.proofs.lemmas.List.Elements.{All-cons, All-head, All-tail}
-use Rattle.vx_calls.specs.declared.calls.Role.{Role}
 use Rattle.vx_calls.specs.declared.calls.Role.TheVariants as role
 use Rattle.vx_calls.specs.declared.codes.ErrorCode.{ErrorCode}
 use Rattle.vx_calls.specs.Call.{Call}
@@ -16,7 +13,8 @@ use Rattle.vx_gate.specs.declared.views.Made.{Made}
 use Rattle.vx_gate.specs.History.{groups}
 use Rattle.vx_gate.specs.PassView.{PassView}
 use Rattle.vx_gate.specs.Turning.{Fits}
-use Rattle.vx_rules.specs.State.{Connection, Tables, same_role, connection_at, role_at, pending_at, has_role_of, lives_as, is_idle}
+use Rattle.vx_rules.specs.State.{connection_at, pending_at, lives_as, is_idle}
+use Rattle.vx_rules.specs.ProvedLaws.{role-lives, role-connection}
 use Rattle.vx_flow.specs.Event.{Event, Down, Arrive, Answer, Abort, Begin, Move, Dial}
 use Rattle.vx_flow.specs.FineState.{FineState}
 use Rattle.vx_flow.specs.Poll.{Ending}
@@ -36,25 +34,6 @@ pub own-seat : SeatsLaw → (pass : PassView Group) (log : List (Made Group)) (f
     → seat_at pass conn ≡ seat → Seats f conn seat
 own-seat law pass log f conn seat fits stands is =
     subst (Seats f conn) is (subst (λ own. Seats f conn (seat_by conn (events_of own))) fits.mine (law log f pass.number conn fits.lawful stands))
-
--- a role is the same as itself
-own-role : (r : Role) → same_role r r ≡ true
-own-role role.Core = refl
-own-role role.Abort = refl
-
--- a connection with a role lives in it
-role-lives : (t : Tables) (conn : ℕ) (r : Role) → role_at t conn ≡ Some r → lives_as t conn r ≡ true
-role-lives t conn r = by (connection_at t conn) where
-  by : (o : Option Connection) → option_map (λ (c : Connection). c.role) o ≡ Some r → has_role_of r o ≡ true
-  by None h = absurd (none-some r h)
-  by (Some c) h = subst (λ x. same_role c.role x ≡ true) (same_Some c.role r h) (own-role c.role)
-
--- and is up
-role-some : (t : Tables) (conn : ℕ) (r : Role) → role_at t conn ≡ Some r → IsSome (connection_at t conn)
-role-some t conn r = by (connection_at t conn) where
-  by : (o : Option Connection) → option_map (λ (c : Connection). c.role) o ≡ Some r → IsSome o
-  by None h = absurd (none-some r h)
-  by (Some c) h = refl
 
 -- an idle core connection
 pub idle-seat : (f : FineState) (conn : ℕ) → Seats f conn (Idle role.Core) → is_idle f.state.tables conn ≡ true
@@ -76,8 +55,8 @@ dialed-seat f conn call seats = seats.1.dialed_is
 -- each that is up
 pub up-seat : (f : FineState) (conn : ℕ) (seat : Seat) → is_up seat ≡ true → Seats f conn seat → IsSome (connection_at f.state.tables conn)
 up-seat f conn Absent up seats = absurd (false≢true up)
-up-seat f conn (Idle r) up seats = role-some f.state.tables conn r seats.0
-up-seat f conn (Asked call dialed) up seats = role-some f.state.tables conn role.Core seats.0
+up-seat f conn (Idle r) up seats = role-connection f.state.tables conn r seats.0
+up-seat f conn (Asked call dialed) up seats = role-connection f.state.tables conn role.Core seats.0
 
 -- ---- what it may add
 

@@ -1,9 +1,9 @@
 -- What is spelled is read again, and what is read is spelled.
-use Rattle.std.proofs.Common.{◌≡◌, ℕ, zero, suc, ◌+◌, ◌^◌, ◌<◌, ◌≤◌, Bool, true, false, ◌&&◌, cond, eqb, ltb, ℤ, List, [], ◌∷◌, ◌++◌, length, take, drop, replicate, Result, Ok, Err, refl, sym, ap, subst, ◌∙◌, append_assoc, arith, rules}
+use Rattle.std.proofs.Common.{◌≡◌, ℕ, zero, suc, ◌+◌, ◌^◌, ◌<◌, ◌≤◌, Bool, true, false, cond, eqb, ltb, ℤ, List, [], ◌∷◌, ◌++◌, length, take, drop, replicate, Result, Ok, Err, refl, sym, ap, subst, ◌∙◌, append_assoc, arith, rules}
 use Rattle.std.specs.Int.{w32, cast_signed, cast_unsigned, from_bool}
 use Rattle.std.specs.List.{list_all}
 use Rattle.std.proofs.Math.Facts.{Fits-of_z, sfits_to_z}
-use Rattle.std.proofs.lemmas.Bool.{ltb-false, le-ltb, eqb-true}
+use Rattle.std.proofs.lemmas.Bool.{ltb-false, le-ltb, eqb-true, and_parts}
 use Rattle.std.proofs.lemmas.Int.{to_z-of_z, of_z-to_z}
 use Rattle.std.proofs.lemmas.List.{take_at, drop_at, take-append-drop, length-append, length-take, length-drop, length-replicate, drop-drop}
 use Rattle.byteorder.specs.Endian.{big_number}
@@ -93,15 +93,11 @@ word_at-takes bytes n rest h e =
     let here : Takes Word (big_number 4 bytes) bytes (drop 4 bytes) = record { parts = split; fits = IsWord-lt _ _ front; rest_fits = AreBytes-drop 4 bytes h } in
     subst (λ (p : ℕ × List ℕ). Takes Word p.0 bytes p.1) same here
 
-both_true : (a b : Bool) → (a && b) ≡ true → (a ≡ true) × (b ≡ true)
-both_true true b h = (refl, h)
-both_true false b h = absurd cc
-
 -- bytes that are all zero
 zeros-from_list_all : (bytes : List ℕ) → list_all (λ b. eqb b 0) bytes ≡ true → bytes ≡ replicate (length bytes) 0
 zeros-from_list_all [] h = refl
 zeros-from_list_all (b ∷ bytes) h =
-    let both = both_true (eqb b 0) (list_all (λ b. eqb b 0) bytes) h in
+    let both = and_parts (eqb b 0) (list_all (λ b. eqb b 0) bytes) h in
     let first = eqb-true b 0 both.0 in
     let others = zeros-from_list_all bytes both.1 in
     cc

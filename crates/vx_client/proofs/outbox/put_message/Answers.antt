@@ -1,9 +1,9 @@
 use Rattle.std.proofs.Common.{◌≡◌, drop, length, ◌-◌, ◌++◌, take, ap, ◌∙◌}
+use Rattle.vx_lemmas.specs.Slices.{two-parts}
 use Rattle.vx_rpc.specs.Procedure.{proc_number}
 use Rattle.vx_rpc.specs.Wording.{call_message}
 use Rattle.vx_codec.specs.Asked.{arguments, proc_of}
 use Rattle.vx_calls.specs.Call.{call_shown}
-use Rattle.vx_client.proofs.Sending.{two-parts}
 use Rattle.vx_client.proofs.outbox.put_message.Goals as goal
 
 pub returns-clause-text : goal.returns-clause-text

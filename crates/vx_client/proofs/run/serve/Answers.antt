@@ -1,6 +1,6 @@
 use Rattle.std.proofs.Common.{inl, subst}
 use Rattle.vx_client.specs.Asked.{ask_shown}
-use Rattle.vx_client.specs.Due.{End}
+use Rattle.vx_text.specs.Ends.{End}
 use Rattle.vx_client.specs.Outcome.{IsOver}
 use Rattle.vx_client.proofs.run.serve.Goals as goal
 

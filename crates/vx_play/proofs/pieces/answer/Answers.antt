@@ -3,11 +3,12 @@ use Rattle.std.specs.BTreeMap.{get}
 use Rattle.std.proofs.lemmas.Option.{same_Some}
 use Rattle.vx_calls.specs.declared.limits.TheConstants.{RECORD_MAX}
 use Rattle.vx_rules.specs.State.{connection_at}
+use Rattle.vx_rules.specs.ProvedLaws.{role-connection}
 use Rattle.vx_play.specs.declared.serve.Served.TheVariants as served
 use Rattle.vx_play.specs.Gateway.{Gateway, gateway_of}
 use Rattle.vx_message.specs.Meaning.{meaning}
 use Rattle.vx_play.specs.Serving.{Serves}
-use Rattle.vx_play.proofs.Messages.{lives-role, role-connection}
+use Rattle.vx_play.proofs.Messages.{lives-role}
 use Rattle.vx_play.proofs.Feeds.{if-there, sets-xid, record-answered, record-junk}
 use Rattle.vx_play.proofs.pieces.answer.Goals as goal
 

@@ -5,7 +5,8 @@ use Rattle.vx_rpc.specs.Wording.{refusal_message}
 use Rattle.vx_play.specs.Gateway.{gateway_of}
 use Rattle.vx_message.specs.Meaning.{meaning, by_arguments, by_sorting}
 use Rattle.vx_play.specs.Serving.{Serves}
-use Rattle.vx_play.proofs.Messages.{ripe, read-short, answered-serves}
+use Rattle.vx_codec.specs.ProvedLaws.{read-short}
+use Rattle.vx_play.proofs.Messages.{ripe, answered-serves}
 use Rattle.vx_play.proofs.serve.serve.Goals as goal
 
 pub serve_call-requires-clause-ripe : goal.serve_call-requires-clause-ripe

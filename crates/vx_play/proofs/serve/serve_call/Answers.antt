@@ -1,7 +1,8 @@
 use Rattle.std.proofs.Common.{max, ap, arith}
 use Rattle.vx_calls.specs.Call.{call_shown}
 use Rattle.vx_message.specs.Meaning.{by_call}
-use Rattle.vx_play.proofs.Messages.{arrive-kept, asks-core, later-moment, aborted-serves, called-serves}
+use Rattle.vx_message.specs.ProvedLaws.{asks-core}
+use Rattle.vx_play.proofs.Messages.{arrive-kept, later-moment, aborted-serves, called-serves}
 use Rattle.vx_play.proofs.serve.serve_call.Goals as goal
 
 pub poll_call-made-requires : goal.poll_call-made-requires

@@ -2,7 +2,9 @@ use Rattle.std.proofs.Common.{take, refl, ◌∙◌, sym, ap, arith}
 use Rattle.vx_calls.specs.Call.{call_shown}
 use Rattle.vx_turns.specs.Turning.{seat_at}
 use Rattle.vx_session.specs.Outside.{dial_shown}
-use Rattle.vx_session.proofs.Recorded.{asks-core, asks-wait, ripe-core, null-does, abort-does, core-does}
+use Rattle.vx_rules.specs.ProvedLaws.{asks-wait}
+use Rattle.vx_message.specs.ProvedLaws.{asks-core}
+use Rattle.vx_session.proofs.Recorded.{ripe-core, null-does, abort-does, core-does}
 use Rattle.vx_session.proofs.records.serve_call.Goals as goal
 
 pub returns-in-Null-clause-does : goal.returns-in-Null-clause-does

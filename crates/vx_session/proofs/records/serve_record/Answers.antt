@@ -5,7 +5,8 @@ use Rattle.vx_rpc.specs.Wording.{refusal_message}
 use Rattle.vx_message.specs.Meaning.{by_sorting, by_arguments}
 use Rattle.vx_turns.specs.Turning.{seat_at}
 use Rattle.vx_session.specs.Outside.{dial_shown}
-use Rattle.vx_session.proofs.Recorded.{ripe, read-short, answered-does, called-does}
+use Rattle.vx_codec.specs.ProvedLaws.{read-short}
+use Rattle.vx_session.proofs.Recorded.{ripe, answered-does, called-does}
 use Rattle.vx_session.proofs.records.serve_record.Goals as goal
 
 pub serve_call-pass-requires-clause-ripe : goal.serve_call-pass-requires-clause-ripe

@@ -1,4 +1,4 @@
-use Rattle.std.proofs.Common.{◌+◌, ◌≤◌, length, arith}
+use Rattle.std.proofs.Common.{arith}
 use Rattle.std.specs.Prelude.{IsTrue}
 use Rattle.vx_trace.specs.Text.{is_cause}
 use Rattle.vx_trace.proofs.Causes.{short-cause}

@@ -1,12 +1,13 @@
 use Rattle.std.proofs.Common.{◌≡◌, true, false, refl, sym, ap, subst, ◌∙◌}
 use Rattle.std.specs.Prelude.{nat_le, is_some}
+use Rattle.vx_lemmas.specs.Options.{nothing}
 use Rattle.vx_calls.specs.Reply.{reply_shown}
 use Rattle.vx_model.specs.StepShown.{outside_shown}
 use Rattle.vx_rules.specs.State.{State, pending_at}
 use Rattle.vx_rules.specs.Lines.{first_lines}
 use Rattle.vx_rules.specs.Shown.{lines_shown}
 use Rattle.vx_model.specs.Stepping.{answer_at}
-use Rattle.vx_model.proofs.Answering.{leb-from, leb-not, some_pending, none_pending, answer_is, answer_early, answer_idle, waiting-is, goes_at}
+use Rattle.vx_model.proofs.Answering.{leb-from, leb-not, some_pending, answer_is, answer_early, answer_idle, waiting-is, goes_at}
 use Rattle.vx_model.proofs.plain.Plain.answer.Goals as goal
 
 pub returns-then-now-self-clause-ok : goal.returns-then-now-self-clause-ok
@@ -22,7 +23,7 @@ returns-then-not-pending-clause-ok c =
     let o = outside_shown c.args.o.now in
     let told = reply_shown c.args.reply.now in (
       answer_idle s c.args.conn c.args.now o told (subst (λ (x : State). nat_le x.moment c.args.now ≡ true) c.self.view_is (leb-from c.self.inside.moment c.args.now c.if-now-self.false))
-          (none_pending (pending_at s.tables c.args.conn)
+          (nothing (pending_at s.tables c.args.conn)
           (ap (λ (x : State). is_some (pending_at x.tables c.args.conn)) (sym c.self.view_is) ∙ sym c.pending.ensures ∙ c.if-not-pending.true)),
       refl,
     )

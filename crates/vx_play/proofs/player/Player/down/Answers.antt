@@ -1,6 +1,6 @@
 use Rattle.std.proofs.Common.{sym, subst, refl}
 use Rattle.vx_play.specs.Standing.{Stands}
-use Rattle.vx_play.proofs.Messages.{role-connection}
+use Rattle.vx_rules.specs.ProvedLaws.{role-connection}
 use Rattle.vx_play.proofs.Connections.{down-refused, down-takes}
 use Rattle.vx_play.proofs.player.Player.down.Goals as goal
 

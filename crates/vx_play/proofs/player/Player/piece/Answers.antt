@@ -1,7 +1,7 @@
 use Rattle.std.proofs.Common.{sym, ◌∙◌, subst, refl}
 use Rattle.std.proofs.lemmas.List.{with_items_is}
 use Rattle.vx_play.specs.Standing.{Stands, IsReady}
-use Rattle.vx_play.proofs.Messages.{role-lives}
+use Rattle.vx_rules.specs.ProvedLaws.{role-lives}
 use Rattle.vx_play.proofs.Connections.{none-of, piece-unknown, piece-busy, pieces-taken, pieces-stopped, pieces-printable}
 use Rattle.vx_play.proofs.player.Player.piece.Goals as goal
 

@@ -1,6 +1,6 @@
 use Rattle.std.proofs.Common.{◌==◌, not, map, ap, ◌∙◌, rules}
 use Rattle.std.proofs.lemmas.Fn.{filter_same}
-use Rattle.vx_rules.proofs.Places.{filter-map}
+use Rattle.vx_lemmas.specs.Lists.{filter-map}
 use Rattle.vx_rules.specs.Rows.{connection_of}
 use Rattle.vx_rules.proofs.tables.rows.drop_row.Goals as goal
 

@@ -1,6 +1,6 @@
 use Rattle.std.proofs.Common.{◌==◌, ap, sym, ◌∙◌}
 use Rattle.std.specs.Option.{option_map}
-use Rattle.vx_rules.proofs.Places.{find-map}
+use Rattle.vx_lemmas.specs.Lists.{find-map}
 use Rattle.vx_rules.specs.Rows.{connection_of}
 use Rattle.vx_rules.proofs.tables.rows.find_row.Goals as goal
 

@@ -1,9 +1,9 @@
 use Rattle.std.proofs.Common.{◌==◌, not, map, arith, rules, ap, sym, subst, ◌∙◌}
 use Rattle.std.proofs.lemmas.Fn.{filter_same}
+use Rattle.vx_lemmas.specs.Lists.{filter-map}
 use Rattle.vx_srq.specs.Desk.{Desk, IsSound, without_enable}
 use Rattle.vx_srq.specs.Shown.{enable_shown}
 use Rattle.vx_srq.specs.Inside.{desk_of}
-use Rattle.vx_srq.proofs.Lists.{filter-map}
 use Rattle.vx_srq.proofs.Sound.{sound-without_enable}
 use Rattle.vx_srq.proofs.srq.Srq.forget.Goals as goal
 

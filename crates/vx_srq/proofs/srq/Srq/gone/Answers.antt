@@ -2,10 +2,10 @@ use Rattle.std.proofs.Common.{◌==◌, not, map, arith, rules, ap, sym, subst, 
 use Rattle.std.proofs.lemmas.Fn.{filter_same}
 use Rattle.std.proofs.lemmas.List.Elements.{All-filter}
 use Rattle.std.specs.List.{All}
+use Rattle.vx_lemmas.specs.Lists.{filter-map}
 use Rattle.vx_srq.specs.Desk.{Desk, IsSound, without_port}
 use Rattle.vx_srq.specs.Shown.{port_shown, enable_shown, HasRoom}
 use Rattle.vx_srq.specs.Inside.{desk_of}
-use Rattle.vx_srq.proofs.Lists.{filter-map}
 use Rattle.vx_srq.proofs.Sound.{sound-without_port}
 use Rattle.vx_srq.proofs.srq.Srq.gone.Goals as goal
 

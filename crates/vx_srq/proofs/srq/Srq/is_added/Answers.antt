@@ -1,8 +1,8 @@
 use Rattle.std.proofs.Common.{◌==◌, map, ap, ◌∙◌}
 use Rattle.std.specs.List.{list_any}
+use Rattle.vx_lemmas.specs.Lists.{list_any-map}
 use Rattle.vx_srq.specs.Desk.{Port}
 use Rattle.vx_srq.specs.Shown.{port_shown}
-use Rattle.vx_srq.proofs.Lists.{list_any-map}
 use Rattle.vx_srq.proofs.srq.Srq.is_added.Goals as goal
 
 pub returns : goal.returns

@@ -1,0 +1,6 @@
+pub mod Conditions
+pub mod Options
+pub mod Lists
+pub mod Slices
+pub mod Decimal
+pub mod Hexadecimal
