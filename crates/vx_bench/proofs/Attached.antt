@@ -10,7 +10,7 @@ use Rattle.vx_script.specs.declared.Cause.{Cause}
 use Rattle.vx_script.specs.Command.{Command, Inst, Plug}
 use Rattle.vx_488.specs.declared.transfers.Addr.{Addr}
 use Rattle.vx_sim.specs.declared.attach.Attach.{Attach}
-use Rattle.vx_sim.specs.Seats.{Seat, Table, Boxed}
+use Rattle.vx_sim.specs.Occupants.{Occupant, Table, Boxed}
 use Rattle.vx_sim.specs.SimState.{SimState}
 use Rattle.vx_sim.specs.Attaching.{IsAttached}
 use Rattle.vx_sim.specs.Attaching as attaching
@@ -27,7 +27,7 @@ use Rattle.vx_bench.proofs.Found.{spare-found, spare-missing, rack-left}
 -- ---- what the bus means
 
 -- an attached instrument changes nothing else
-pub attached-keeps : (a : Addr) (inst : Seat) (old new : SimState) → IsAttached a inst old new → KeepsMeaning old new
+pub attached-keeps : (a : Addr) (inst : Occupant) (old new : SimState) → IsAttached a inst old new → KeepsMeaning old new
 attached-keeps a inst old new came = record {
   means = ap (λ (s : SimState). s.means) came.2;
   told = ap (λ (s : SimState). s.told) came.2;

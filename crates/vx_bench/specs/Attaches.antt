@@ -3,7 +3,7 @@ use Rattle.std.specs.Prelude.{List, Option, Some, None, Result, Ok}
 use Rattle.vx_488.specs.declared.transfers.Addr.{Addr}
 use Rattle.vx_table.specs.declared.TableErr.{TableErr}
 use Rattle.vx_table.specs.Table.{Rule, fresh_table}
-use Rattle.vx_sim.specs.Seats.{Table, Boxed}
+use Rattle.vx_sim.specs.Occupants.{Table, Boxed}
 use Rattle.vx_sim.specs.SimState.{SimState}
 use Rattle.vx_sim.specs.Attaching.{IsAttached}
 use Rattle.vx_bench.specs.Rack.{SpareShown}

@@ -21,7 +21,7 @@ use Rattle.vx_488.specs.declared.wire.Wire.{Wire}
 use Rattle.vx_488.specs.Wire.{first_wire}
 use Rattle.vx_plan.specs.Plan.{Part}
 use Rattle.vx_bus_traits.specs.Means.{Means}
-use Rattle.vx_srq.specs.Desk.{Srq, Given, Front, Empty, Gone, given, taken, sampled}
+use Rattle.vx_srq.specs.SrqState.{Srq, Given, Front, Empty, Gone, given, taken, sampled}
 use Rattle.vx_rules.specs.State.{Tables, State, connection_at, lives_as, is_idle, has_room, with_pending, with_connection, without_connection, first_tables}
 use Rattle.vx_rules.specs.Entry as entry
 use Rattle.vx_rules.specs.Entry.{Entry}
@@ -137,10 +137,10 @@ aborts means k bus conn lid told keeps cut lives is =
 -- SRQ is sampled
 pub samples : {B : Type 0} (means : B → Means) (k : KernelState B) (bus : B) (now : ℕ) (srq : Bool) → Keeps means k → means bus ≡ cut_means (means k.bus)
     → Steps means k (Sample (max k.moment now) srq)
-    (record k { bus = bus; tables = record k.tables { desk = sampled k.tables.desk srq }; moment = max k.moment now })
+    (record k { bus = bus; tables = record k.tables { srq_state = sampled k.tables.srq_state srq }; moment = max k.moment now })
 samples means k bus now srq keeps cut =
     let m = max k.moment now in
-    calm means k bus (record k.tables { desk = sampled k.tables.desk srq }) m (Sample m srq) (entry.Sample m srq) refl (λ turn. refl) refl keeps (cut-wire means k bus cut)
+    calm means k bus (record k.tables { srq_state = sampled k.tables.srq_state srq }) m (Sample m srq) (entry.Sample m srq) refl (λ turn. refl) refl keeps (cut-wire means k bus cut)
     (cond-true (nat_le k.moment m) _ _ (late k.moment now))
 
 -- an interrupt call is the same as itself
@@ -155,14 +155,14 @@ same_given-refl Gone = refl
 
 -- the front of an outbox is taken
 pub takes : {B : Type 0} (means : B → Means) (k : KernelState B) (bus : B) (conn chan : ℕ) (told : Given) → Keeps means k → means bus ≡ cut_means (means k.bus)
-    → is_some (connection_at k.tables conn) ≡ true → told ≡ given k.tables.desk conn chan
-    → Steps means k (Take conn chan told) (record k { bus = bus; tables = record k.tables { desk = taken k.tables.desk conn chan } })
+    → is_some (connection_at k.tables conn) ≡ true → told ≡ given k.tables.srq_state conn chan
+    → Steps means k (Take conn chan told) (record k { bus = bus; tables = record k.tables { srq_state = taken k.tables.srq_state conn chan } })
 takes means k bus conn chan told keeps cut lives is =
-    calm means k bus (record k.tables { desk = taken k.tables.desk conn chan }) k.moment (Take conn chan told) (entry.Take conn chan told) refl (λ turn. refl) refl keeps
+    calm means k bus (record k.tables { srq_state = taken k.tables.srq_state conn chan }) k.moment (Take conn chan told) (entry.Take conn chan told) refl (λ turn. refl) refl keeps
     (cut-wire means k bus cut)
-    (cond-true (is_some (connection_at k.tables conn) && same_given (given k.tables.desk conn chan) told) _ _
-    (and_from (is_some (connection_at k.tables conn)) (same_given (given k.tables.desk conn chan) told) lives
-    (ap (same_given (given k.tables.desk conn chan)) is ∙ same_given-refl (given k.tables.desk conn chan))))
+    (cond-true (is_some (connection_at k.tables conn) && same_given (given k.tables.srq_state conn chan) told) _ _
+    (and_from (is_some (connection_at k.tables conn)) (same_given (given k.tables.srq_state conn chan) told) lives
+    (ap (same_given (given k.tables.srq_state conn chan)) is ∙ same_given-refl (given k.tables.srq_state conn chan))))
 
 -- ---- the events that end a connection's turn
 
@@ -353,7 +353,7 @@ aborts-so {B} means k mid new old conn lid told view keeps lives is cut tells ma
 -- a moment is told, and then SRQ is sampled
 pub samples-so : {B : Type 0} (means : B → Means) (srq : B → Bool) (k mid new : KernelState B) (old : CoreState B) (now : ℕ) → core_of means k ≡ old → Keeps means k
     → mid ≡ record k { bus = mid.bus; moment = max k.moment now } → means mid.bus ≡ cut_means (means k.bus)
-    → new ≡ record mid { tables = record mid.tables { desk = sampled mid.tables.desk (srq mid.bus) } }
+    → new ≡ record mid { tables = record mid.tables { srq_state = sampled mid.tables.srq_state (srq mid.bus) } }
     → Leads means old.fine (Sample (max old.fine.state.moment now) (srq new.bus)) new
 samples-so {B} means srq k mid new old now view keeps is cut sees = subst Seen view by
   where
@@ -364,13 +364,13 @@ samples-so {B} means srq k mid new old now view keeps is cut sees = subst Seen v
     by =
         subst (λ (b : B). Leads means (fine_of means k) (Sample (max k.moment now) (srq b)) new) (sym (ap (λ (x : KernelState B). x.bus) sees))
         (led means k (Sample (max k.moment now) (srq mid.bus)) new _
-        (sees ∙ ap (λ (x : KernelState B). let after : KernelState B = record x { tables = record x.tables { desk = sampled x.tables.desk (srq mid.bus) } } in after) is)
+        (sees ∙ ap (λ (x : KernelState B). let after : KernelState B = record x { tables = record x.tables { srq_state = sampled x.tables.srq_state (srq mid.bus) } } in after) is)
         (samples means k mid.bus now (srq mid.bus) keeps cut))
 
 -- the bus's list is cut, and then an interrupt call is taken
 pub takes-so : {B : Type 0} (means : B → Means) (k mid new : KernelState B) (old : CoreState B) (conn chan : ℕ) (told : Given) → core_of means k ≡ old → Keeps means k
     → is_some (connection_at old.fine.state.tables conn) ≡ true → mid ≡ record k { bus = mid.bus } → means mid.bus ≡ cut_means (means k.bus)
-    → told ≡ given mid.tables.desk conn chan → new ≡ record mid { tables = record mid.tables { desk = taken mid.tables.desk conn chan } }
+    → told ≡ given mid.tables.srq_state conn chan → new ≡ record mid { tables = record mid.tables { srq_state = taken mid.tables.srq_state conn chan } }
     → Leads means old.fine (Take conn chan told) new
 takes-so {B} means k mid new old conn chan told view keeps lives is cut gives takes_it = subst Seen view by lives
   where
@@ -380,8 +380,8 @@ takes-so {B} means k mid new old conn chan told view keeps lives is cut gives ta
     by : Seen (core_of means k)
     by lives =
         led means k (Take conn chan told) new _
-        (takes_it ∙ ap (λ (x : KernelState B). let after : KernelState B = record x { tables = record x.tables { desk = taken x.tables.desk conn chan } } in after) is)
-        (takes means k mid.bus conn chan told keeps cut lives (gives ∙ ap (λ (x : KernelState B). given x.tables.desk conn chan) is))
+        (takes_it ∙ ap (λ (x : KernelState B). let after : KernelState B = record x { tables = record x.tables { srq_state = taken x.tables.srq_state conn chan } } in after) is)
+        (takes means k mid.bus conn chan told keeps cut lives (gives ∙ ap (λ (x : KernelState B). given x.tables.srq_state conn chan) is))
 
 -- a change of what hangs on the bus is no event
 pub record Tweaks {B : Type 0} (means : B → Means) (old : CoreState B) (new : KernelState B) : Type 0 where

@@ -26,13 +26,13 @@ use Rattle.vx_488.specs.declared.wire.Wire.{Wire}
 use Rattle.vx_488.specs.Wire.{wire_after}
 use Rattle.vx_rules.specs.Table.{Link, is_live}
 use Rattle.vx_rules.specs.Locks.{holds, with_lock}
-use Rattle.vx_srq.specs.Desk.{Desk, Port, Channel, Given, port_at, channel_at, port_with, with_channel, without_port, queued_on, handles_of, risen_port, is_rise, sampled, given, taken_from, taken}
-use Rattle.vx_srq.specs.ProvedLaws.{port_with-stays, sampled-next}
+use Rattle.vx_srq.specs.SrqState.{SrqState, ChannelSlot, Channel, Given, slot_at, channel_at, slot_with, with_channel, without_slot, queued_on, handles_of, risen_slot, is_rise, sampled, given, taken_from, taken}
+use Rattle.vx_srq.specs.ProvedLaws.{slot_with-stays, sampled-next}
 use Rattle.vx_rules.specs.State.{Pending, Connection, Tables, State, same_role, connection_at, pending_at, lives_as, is_idle, count_of, has_room, with_pending, with_connection, without_connection}
 use Rattle.vx_rules.specs.Lists.{update_first}
 use Rattle.vx_rules.specs.Calls.{link_named, is_bus_call, asks_dial}
 use Rattle.vx_rules.specs.Checks.{NamedLink, NoLink, DeadLink, OnLink, named_link}
-use Rattle.vx_rules.specs.Lines.{Lines, Refused, Waiting, Passed, first_lines}
+use Rattle.vx_rules.specs.Lines.{Admission, Refused, Waiting, Passed, first_lines}
 use Rattle.vx_rules.specs.Effects.{task_of, stopped_reply, create, locked, effect_on, effect, settle}
 use Rattle.vx_rules.specs.Decide.{Outside, is_quiet, bus_answer, dialed_answer, by_lines, settles, decide}
 use Rattle.vx_rules.specs.Entry as entry
@@ -59,11 +59,11 @@ is_still _ = true
 -- ---- a dial that stays
 
 -- it stays where its call does and no channel comes
-still-dialed : (t u : Tables) (n : ℕ) → pending_at u n ≡ pending_at t n → (channel_at t.desk n ≡ None → channel_at u.desk n ≡ None) → IsDialed t n → IsDialed u n
+still-dialed : (t u : Tables) (n : ℕ) → pending_at u n ≡ pending_at t n → (channel_at t.srq_state n ≡ None → channel_at u.srq_state n ≡ None) → IsDialed t n → IsDialed u n
 still-dialed t u n same free d = record { asked = d.asked; call_at = same ∙ d.call_at; unmarked = d.unmarked; dialable = d.dialable; free = free d.free }
 
 -- so do all, where no channel number is given either
-kept-dials : (t u : Tables) (dialed : List ℕ) → ((n : ℕ) → IsDialed t n → IsDialed u n) → u.desk.next_channel ≡ t.desk.next_channel → KeepsDials t dialed → KeepsDials u dialed
+kept-dials : (t u : Tables) (dialed : List ℕ) → ((n : ℕ) → IsDialed t n → IsDialed u n) → u.srq_state.next_channel ≡ t.srq_state.next_channel → KeepsDials t dialed → KeepsDials u dialed
 kept-dials t u dialed stays same k = record {
   each = All-weaker (IsDialed t) (IsDialed u) stays dialed k.each;
   once = k.once;
@@ -71,8 +71,8 @@ kept-dials t u dialed stays same k = record {
 }
 
 -- a connection that comes up
-free-up : (t : Tables) (r : Role) (n : ℕ) → channel_at t.desk n ≡ None → channel_at (with_connection t r).desk n ≡ None
-free-up t role.Core n h = channel-up t.desk t.next_connection n ∙ h
+free-up : (t : Tables) (r : Role) (n : ℕ) → channel_at t.srq_state n ≡ None → channel_at (with_connection t r).srq_state n ≡ None
+free-up t role.Core n h = channel-up t.srq_state t.next_connection n ∙ h
 free-up t role.Abort n h = h
 
 -- the dials behind it
@@ -116,20 +116,20 @@ abort-dials t lid dialed k = by (is_live t.links lid) where
   by false = k
 
 -- a sample closes channels and makes none
-free-sampled : (d : Desk) (level : Bool) (n : ℕ) → channel_at d n ≡ None → channel_at (sampled d level) n ≡ None
+free-sampled : (d : SrqState) (level : Bool) (n : ℕ) → channel_at d n ≡ None → channel_at (sampled d level) n ≡ None
 free-sampled d level n h = by (is_rise d.level level) where
-  by : (b : Bool) → channel_at (cond b (record d { ports = map (risen_port d.enables) d.ports; level = level }) (record d { level = level })) n ≡ None
+  by : (b : Bool) → channel_at (cond b (record d { slots = map (risen_slot d.enables) d.slots; level = level }) (record d { level = level })) n ≡ None
   by true = channel-risen d level n ∙ ap (option_and_then (queued_on (handles_of d.enables n))) h
   by false = h
 
 -- the dials behind it
-sample-dials : (t : Tables) (level : Bool) (dialed : List ℕ) → KeepsDials t dialed → KeepsDials (record t { desk = sampled t.desk level }) dialed
+sample-dials : (t : Tables) (level : Bool) (dialed : List ℕ) → KeepsDials t dialed → KeepsDials (record t { srq_state = sampled t.srq_state level }) dialed
 sample-dials t level dialed k =
-    kept-dials t (record t { desk = sampled t.desk level }) dialed
-    (λ n d. still-dialed t (record t { desk = sampled t.desk level }) n refl (free-sampled t.desk level n) d) (sampled-next t.desk level) k
+    kept-dials t (record t { srq_state = sampled t.srq_state level }) dialed
+    (λ n d. still-dialed t (record t { srq_state = sampled t.srq_state level }) n refl (free-sampled t.srq_state level n) d) (sampled-next t.srq_state level) k
 
 -- and so does a take
-free-taken : (d : Desk) (conn number n : ℕ) → channel_at d n ≡ None → channel_at (taken d conn number) n ≡ None
+free-taken : (d : SrqState) (conn number n : ℕ) → channel_at d n ≡ None → channel_at (taken d conn number) n ≡ None
 free-taken d conn number n h =
     channel-taken d conn number n ∙ ap (λ (o : Option Channel). cond (n == conn) (option_map (taken_from number) o) o) h ∙ none (n == conn)
   where
@@ -138,10 +138,10 @@ free-taken d conn number n h =
     none false = refl
 
 -- the dials behind it
-take-dials : (t : Tables) (conn number : ℕ) (dialed : List ℕ) → KeepsDials t dialed → KeepsDials (record t { desk = taken t.desk conn number }) dialed
+take-dials : (t : Tables) (conn number : ℕ) (dialed : List ℕ) → KeepsDials t dialed → KeepsDials (record t { srq_state = taken t.srq_state conn number }) dialed
 take-dials t conn number dialed k =
-    kept-dials t (record t { desk = taken t.desk conn number }) dialed
-    (λ n d. still-dialed t (record t { desk = taken t.desk conn number }) n refl (free-taken t.desk conn number n) d) refl k
+    kept-dials t (record t { srq_state = taken t.srq_state conn number }) dialed
+    (λ n d. still-dialed t (record t { srq_state = taken t.srq_state conn number }) n refl (free-taken t.srq_state conn number n) d) refl k
 
 -- ---- the dial of a call that is over
 
@@ -164,8 +164,8 @@ one-left dialed conn h =
 
 -- What a change leaves of the channels of other connections, where it gives at most so many channel numbers.
 record LeavesChannels (t u : Tables) (conn given : ℕ) : Type 0 where
-  others : (n : ℕ) → conn ≢ n → channel_at u.desk n ≡ channel_at t.desk n
-  numbers : u.desk.next_channel ≤ t.desk.next_channel + given
+  others : (n : ℕ) → conn ≢ n → channel_at u.srq_state n ≡ channel_at t.srq_state n
+  numbers : u.srq_state.next_channel ≤ t.srq_state.next_channel + given
 
 -- a number is no more than itself and more
 le-more : (n k : ℕ) → n ≤ n + k
@@ -173,12 +173,12 @@ le-more n k = omega arith
 
 -- no change at all
 leaves-all : (t : Tables) (conn given : ℕ) → LeavesChannels t t conn given
-leaves-all t conn given = record { others = λ n ne. refl; numbers = le-more t.desk.next_channel given }
+leaves-all t conn given = record { others = λ n ne. refl; numbers = le-more t.srq_state.next_channel given }
 
 -- a connection that went
-down-leaves : (t : Tables) (conn n : ℕ) → channel_at t.desk n ≡ None → channel_at (without_connection t conn).desk n ≡ None
-down-leaves t conn n h = by (channel-down t.desk conn n) where
-  by : (channel_at (without_port t.desk conn) n ≡ channel_at t.desk n) ⊎ (channel_at (without_port t.desk conn) n ≡ None) → channel_at (without_port t.desk conn) n ≡ None
+down-leaves : (t : Tables) (conn n : ℕ) → channel_at t.srq_state n ≡ None → channel_at (without_connection t conn).srq_state n ≡ None
+down-leaves t conn n h = by (channel-down t.srq_state conn n) where
+  by : (channel_at (without_slot t.srq_state conn) n ≡ channel_at t.srq_state n) ⊎ (channel_at (without_slot t.srq_state conn) n ≡ None) → channel_at (without_slot t.srq_state conn) n ≡ None
   by (inl same) = same ∙ h
   by (inr gone) = gone
 
@@ -207,19 +207,19 @@ answered-dials t u conn given dialed same leaves left k = record {
 -- ---- what an answer leaves of the channels of others
 
 -- another connection's channel stays where one is put or closed
-channel-other : (d : Desk) (conn n : ℕ) (channel : Option Channel) → conn ≢ n → channel_at (with_channel d conn channel) n ≡ channel_at d n
+channel-other : (d : SrqState) (conn n : ℕ) (channel : Option Channel) → conn ≢ n → channel_at (with_channel d conn channel) n ≡ channel_at d n
 channel-other d conn n channel ne =
-    ap channel_of (find-map (λ p. p.connection == n) (port_with conn channel) (λ p. ap (λ m. m == n) (port_with-stays conn channel p)) d.ports)
-    ∙ by (port_at d n) refl
+    ap channel_of (find-map (λ p. p.connection == n) (slot_with conn channel) (λ p. ap (λ m. m == n) (slot_with-stays conn channel p)) d.slots)
+    ∙ by (slot_at d n) refl
   where
-    by : (o : Option Port) → port_at d n ≡ o → channel_of (option_map (port_with conn channel) o) ≡ channel_of o
+    by : (o : Option ChannelSlot) → slot_at d n ≡ o → channel_of (option_map (slot_with conn channel) o) ≡ channel_of o
     by None is = refl
     by (Some p) is =
         ap (λ b. (cond b (record p { channel = channel }) p).channel)
-        (ne_eqb p.connection conn (λ f. ne (sym f ∙ eqb-true p.connection n (found_passes (λ q. q.connection == n) d.ports p is))))
+        (ne_eqb p.connection conn (λ f. ne (sym f ∙ eqb-true p.connection n (found_passes (λ q. q.connection == n) d.slots p is))))
 
 -- how many channel numbers an answer gives at most: one, where it tells of a dial of a call that the first lines let pass
-abbrev given_at : Lines → Option Bool → ℕ
+abbrev given_at : Admission → Option Bool → ℕ
 given_at Passed (Some up) = 1
 given_at Passed None = 0
 given_at (Refused error) dialed = 0
@@ -233,20 +233,20 @@ FoundLeaves t conn given (Some d) = LeavesChannels t d.1 conn given
 -- by effect: links that are made, locks, and what calls on a link do
 create-leaves : (t : Tables) (conn given : ℕ) (lock : Bool) (named : Result Target ErrorCode) → FoundLeaves t conn given (create t conn lock named)
 create-leaves t conn given lock (Err error) = tt
-create-leaves t conn given true (Ok named) = record { others = λ n ne. refl; numbers = le-more t.desk.next_channel given }
-create-leaves t conn given false (Ok named) = record { others = λ n ne. refl; numbers = le-more t.desk.next_channel given }
+create-leaves t conn given true (Ok named) = record { others = λ n ne. refl; numbers = le-more t.srq_state.next_channel given }
+create-leaves t conn given false (Ok named) = record { others = λ n ne. refl; numbers = le-more t.srq_state.next_channel given }
 
 locked-leaves : (t : Tables) (conn given : ℕ) (l : Link) → LeavesChannels t (locked t l) conn given
 locked-leaves t conn given l = by (holds t.locks l.number) where
   by : (b : Bool) → LeavesChannels t (cond b t (record t { locks = with_lock t.locks l.number l.target })) conn given
   by true = leaves-all t conn given
-  by false = record { others = λ n ne. refl; numbers = le-more t.desk.next_channel given }
+  by false = record { others = λ n ne. refl; numbers = le-more t.srq_state.next_channel given }
 
 effect_on-leaves : (t : Tables) (conn given : ℕ) (l : Link) (asked : Call) → FoundLeaves t conn given (effect_on t conn l asked)
 effect_on-leaves t conn given l (call.Lock lid flags lock_timeout) = locked-leaves t conn given l
-effect_on-leaves t conn given l (call.Unlock lid) = record { others = λ n ne. refl; numbers = le-more t.desk.next_channel given }
-effect_on-leaves t conn given l (call.EnableSrq lid enable handle) = record { others = λ n ne. refl; numbers = le-more t.desk.next_channel given }
-effect_on-leaves t conn given l (call.DestroyLink lid) = record { others = λ n ne. refl; numbers = le-more t.desk.next_channel given }
+effect_on-leaves t conn given l (call.Unlock lid) = record { others = λ n ne. refl; numbers = le-more t.srq_state.next_channel given }
+effect_on-leaves t conn given l (call.EnableSrq lid enable handle) = record { others = λ n ne. refl; numbers = le-more t.srq_state.next_channel given }
+effect_on-leaves t conn given l (call.DestroyLink lid) = record { others = λ n ne. refl; numbers = le-more t.srq_state.next_channel given }
 effect_on-leaves t conn given l _ = tt
 
 -- every effect leaves the channels of others, and gives no number
@@ -254,14 +254,14 @@ effect-leaves : (t : Tables) (own conn given : ℕ) (about : NamedLink) (asked :
 effect-leaves t own conn given (OnLink l) asked = effect_on-leaves t conn given l asked
 effect-leaves t own conn given NoLink (call.CreateLink client lock lock_timeout device) = create-leaves t conn given lock (target device own)
 effect-leaves t own conn given NoLink call.DestroyIntr =
-    record { others = λ n ne. channel-other t.desk conn n None ne; numbers = le-more t.desk.next_channel given }
+    record { others = λ n ne. channel-other t.srq_state conn n None ne; numbers = le-more t.srq_state.next_channel given }
 effect-leaves t own conn given NoLink _ = tt
 effect-leaves t own conn given DeadLink asked = tt
 
 -- a dial gives one at most
 settle-leaves : (t : Tables) (conn : ℕ) (asked : Call) (up : Bool) → FoundLeaves t conn 1 (settle t conn asked up)
 settle-leaves t conn (call.CreateIntr host port prog vers family) true =
-    record { others = λ n ne. channel-other t.desk conn n _ ne; numbers = omega arith }
+    record { others = λ n ne. channel-other t.srq_state conn n _ ne; numbers = omega arith }
 settle-leaves t conn (call.CreateIntr host port prog vers family) false = leaves-all t conn 1
 settle-leaves t conn _ up = tt
 
@@ -285,7 +285,7 @@ passed-leaves t conn given false true quiet dial r made d m = bus-leaves t conn 
 passed-leaves t conn given false false true dial r made d m = m
 passed-leaves t conn given false false false dial r made d m = tt
 
-lines-leaves : (t : Tables) (w : Wire) (conn : ℕ) (p : Pending) (now : ℕ) (o : Outside) (l : Lines) → FoundLeaves t conn (given_at l o.dialed) (by_lines t w conn p now o l)
+lines-leaves : (t : Tables) (w : Wire) (conn : ℕ) (p : Pending) (now : ℕ) (o : Outside) (l : Admission) → FoundLeaves t conn (given_at l o.dialed) (by_lines t w conn p now o l)
 lines-leaves t w conn p now o (Refused error) = by (is_quiet o) where
   by : (b : Bool) → FoundLeaves t conn 0 (cond b (Some (stopped_reply p.call error o.moves, t)) None)
   by true = leaves-all t conn 0
@@ -304,7 +304,7 @@ decide-leaves t w conn p now o d h =
     (lines-leaves t w conn p now o (first_lines t w.own conn (settles o) p now))
 
 -- a channel number that an answer gives was left for the call's dial
-numbers-left : (f : FineState) (conn : ℕ) (p : Pending) (o : Outside) (l : Lines) (dialed : Option Bool) → o.dialed ≡ dialed → passes_lines f conn p o l ≡ true
+numbers-left : (f : FineState) (conn : ℕ) (p : Pending) (o : Outside) (l : Admission) (dialed : Option Bool) → o.dialed ≡ dialed → passes_lines f conn p o l ≡ true
     → length (without_dial f.dialed conn) + given_at l dialed ≤ length f.dialed
 numbers-left f conn p o (Refused error) dialed is h = omega (arith, fewer-left f.dialed conn)
 numbers-left f conn p o (Waiting holder) dialed is h = omega (arith, fewer-left f.dialed conn)
@@ -419,23 +419,23 @@ abort-after P f g conn lid told holds h =
     subst (λ (x : State). P x.tables f.dialed) parts.1 holds) h
 
 -- a sample
-sample-after : (P : Tables → List ℕ → Type 0) (f g : FineState) (now : ℕ) (srq : Bool) → P (record f.state.tables { desk = sampled f.state.tables.desk srq }) f.dialed
+sample-after : (P : Tables → List ℕ → Type 0) (f g : FineState) (now : ℕ) (srq : Bool) → P (record f.state.tables { srq_state = sampled f.state.tables.srq_state srq }) f.dialed
     → fine_step f (Sample now srq) ≡ Some g → P g.state.tables g.dialed
 sample-after P f g now srq holds h =
     as-one P f g (Sample now srq) (entry.Sample now srq)
     (λ s made.
     let parts = cond_some (nat_le f.state.moment now)
-    (record f.state { tables = record f.state.tables { desk = sampled f.state.tables.desk srq }; moment = now }) s made in
+    (record f.state { tables = record f.state.tables { srq_state = sampled f.state.tables.srq_state srq }; moment = now }) s made in
     subst (λ (x : State). P x.tables f.dialed) parts.1 holds) h
 
 -- a take
-take-after : (P : Tables → List ℕ → Type 0) (f g : FineState) (conn chan : ℕ) (told : Given) → P (record f.state.tables { desk = taken f.state.tables.desk conn chan }) f.dialed
+take-after : (P : Tables → List ℕ → Type 0) (f g : FineState) (conn chan : ℕ) (told : Given) → P (record f.state.tables { srq_state = taken f.state.tables.srq_state conn chan }) f.dialed
     → fine_step f (Take conn chan told) ≡ Some g → P g.state.tables g.dialed
 take-after P f g conn chan told holds h =
     as-one P f g (Take conn chan told) (entry.Take conn chan told)
     (λ s made.
-    let parts = cond_some (is_some (connection_at f.state.tables conn) && same_given (given f.state.tables.desk conn chan) told)
-    (record f.state { tables = record f.state.tables { desk = taken f.state.tables.desk conn chan } }) s made in
+    let parts = cond_some (is_some (connection_at f.state.tables conn) && same_given (given f.state.tables.srq_state conn chan) told)
+    (record f.state { tables = record f.state.tables { srq_state = taken f.state.tables.srq_state conn chan } }) s made in
     subst (λ (x : State). P x.tables f.dialed) parts.1 holds) h
 
 -- a connection that goes

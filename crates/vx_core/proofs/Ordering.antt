@@ -22,7 +22,7 @@ use Rattle.vx_rules.specs.Dials.{dials_to}
 use Rattle.vx_rules.specs.Lines as lines
 use Rattle.vx_rules.specs.Lines.{first_lines, lock_request}
 use Rattle.vx_rules.specs.Shown.{lines_shown}
-use Rattle.vx_rules.specs.declared.tables.lines.Lines.{Lines}
+use Rattle.vx_rules.specs.declared.tables.lines.Admission.{Admission}
 use Rattle.vx_rules.specs.Effects.{stopped_reply, effect}
 use Rattle.vx_flow.specs.Event.{Begin}
 use Rattle.vx_flow.specs.FineState.{Turn, FineState, turn_of, moves_of}
@@ -51,7 +51,7 @@ pub polled : {B : Type 0} (means : B → Means) (k : KernelState B) (conn : ℕ)
 polled means k conn p heard at = record { sound = heard.keeps.holds.sound; call_at = at; late = omega arith; is_part = heard.keeps.is_part }
 
 -- what the first lines say, by what the tables say
-pub lines-so : {B : Type 0} (means : B → Means) (k : KernelState B) (conn : ℕ) (said told : Lines) (p : Pending)
+pub lines-so : {B : Type 0} (means : B → Means) (k : KernelState B) (conn : ℕ) (said told : Admission) (p : Pending)
     → ((p : Pending) → pending_at k.tables conn ≡ Some p → lines_shown said ≡ first_lines k.tables (own_of means k conn) conn false p k.moment)
     → said ≡ told → pending_at k.tables conn ≡ Some p → lines_at (fine_of means k) conn k.moment p ≡ lines_shown told
 lines-so means k conn said told p h is at =

@@ -14,7 +14,7 @@ use Rattle.vx_calls.specs.Call as call
 use Rattle.vx_calls.specs.Reply.{Reply, same_reply}
 use Rattle.vx_calls.specs.Reply as reply
 use Rattle.vx_calls.proofs.Laws.{same_reply-refl}
-use Rattle.vx_srq.specs.Desk.{channel_at, has_number}
+use Rattle.vx_srq.specs.SrqState.{channel_at, has_number}
 use Rattle.vx_bus_traits.specs.Means.{Means}
 use Rattle.vx_bus_traits.specs.Steps.{Step, Told, Cut}
 use Rattle.vx_bus_traits.specs.Walks.{Walk}
@@ -56,8 +56,8 @@ pub is_dialed : (t : Tables) (dialed : List ℕ) (conn : ℕ) → KeepsDials t d
 is_dialed t dialed conn k h = among (IsDialed t) conn dialed k.each h
 
 -- and a channel number is left for it
-pub number_left : (t : Tables) (dialed : List ℕ) (conn : ℕ) → KeepsDials t dialed → list_any (λ n. n == conn) dialed ≡ true → has_number t.desk ≡ true
-number_left t dialed conn k h = le-leb t.desk.next_channel CONNECTION_LAST (omega (arith, k.numbers, some-among conn dialed h))
+pub number_left : (t : Tables) (dialed : List ℕ) (conn : ℕ) → KeepsDials t dialed → list_any (λ n. n == conn) dialed ≡ true → has_number t.srq_state ≡ true
+number_left t dialed conn k h = le-leb t.srq_state.next_channel CONNECTION_LAST (omega (arith, k.numbers, some-among conn dialed h))
 
 -- a create_intr_chan that came at this moment, unmarked
 abbrev called : (host port prog vers family arrival : ℕ) → Pending
@@ -75,7 +75,7 @@ record MayCome (t : Tables) (conn : ℕ) : Type 0 where
   tcp : family ≡ 0
   above : 0 < port
   within : port ≤ 65535
-  free : channel_at t.desk conn ≡ None
+  free : channel_at t.srq_state conn ≡ None
 
 -- a call of which a dial was asked for is one
 may_come : (t : Tables) (conn : ℕ) → IsDialed t conn → MayCome t conn
@@ -115,13 +115,13 @@ is_port : (n : ℕ) → 0 < n → n ≤ 65535 → ((n == 0) || nat_lt 65535 n) �
 is_port n above within = grind (arith, nat_tests)
 
 -- its checks let it pass
-unchecked : (t : Tables) (conn : ℕ) (m : MayCome t conn) → has_number t.desk ≡ true → check_channel t conn true m.family m.port ≡ None
+unchecked : (t : Tables) (conn : ℕ) (m : MayCome t conn) → has_number t.srq_state ≡ true → check_channel t conn true m.family m.port ≡ None
 unchecked t conn m left =
-    tests_pass (not (m.family == 0)) ((m.port == 0) || nat_lt 65535 m.port) (is_some (channel_at t.desk conn)) (has_number t.desk) _ _ _ _
+    tests_pass (not (m.family == 0)) ((m.port == 0) || nat_lt 65535 m.port) (is_some (channel_at t.srq_state conn)) (has_number t.srq_state) _ _ _ _
     (is_tcp m.family m.tcp) (is_port m.port m.above m.within) (ap is_some m.free) left
 
 -- and so do the first lines: it names no link, and is under no lock
-lines_pass : (t : Tables) (own conn now : ℕ) (m : MayCome t conn) → has_number t.desk ≡ true
+lines_pass : (t : Tables) (own conn now : ℕ) (m : MayCome t conn) → has_number t.srq_state ≡ true
     → first_lines t own conn true (called m.host m.port m.prog m.vers m.family m.arrival) now ≡ Passed
 lines_pass t own conn now m left =
     ap (λ e. checked_lines (called m.host m.port m.prog m.vers m.family m.arrival) now e None) (unchecked t conn m left)
@@ -138,7 +138,7 @@ settled_fine f e conn now after =
     fine_after f e (without_dial f.dialed conn) (record { tables = with_pending after conn None; wire = f.state.wire; moment = now })
 
 -- the answer comes, with the effect of the dial
-settles-step : (f : FineState) (conn now : ℕ) (up : Bool) (told : Reply) (after : Tables) (m : MayCome f.state.tables conn) → has_number f.state.tables.desk ≡ true
+settles-step : (f : FineState) (conn now : ℕ) (up : Bool) (told : Reply) (after : Tables) (m : MayCome f.state.tables conn) → has_number f.state.tables.srq_state ≡ true
     → list_any (λ n. n == conn) f.dialed ≡ true → f.state.moment ≤ now
     → settle f.state.tables conn (call.CreateIntr m.host m.port m.prog m.vers m.family) up ≡ Some (told, after)
     → fine_step f (Answer conn now false (Some up) false told) ≡ Some (settled_fine f (Answer conn now false (Some up) false told) conn now after)

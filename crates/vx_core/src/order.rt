@@ -14,7 +14,7 @@ use vx_bus_traits::Bus;
 use vx_calls::ErrorCode;
 use vx_ctrl::Went;
 use vx_kernel::{Ended, Kernel, Ran, Why};
-use vx_rules::Lines;
+use vx_rules::Admission;
 
 /// Answers the call of a connection by the first line of the order of answers that holds, or says why it isn't answered.
 pub(crate) fn poll<B: Bus>(kernel: &mut Kernel<B>, conn: u32, now: u64) -> Ended
@@ -47,9 +47,9 @@ fn answer<B: Bus>(kernel: &mut Kernel<B>, conn: u32) -> Ended
     ensures { EndsFrom B.means B.through B.srq_level B.ndac_level kernel.old conn result kernel.new }
 {
     match kernel.lines(conn) {
-        Lines::Refused(error) => kernel.stop(conn, Ran::Still, error),
-        Lines::Waiting { link } => Ended::Waited(Why::Locked { by: link }),
-        Lines::Passed => pass(kernel, conn),
+        Admission::Refused(error) => kernel.stop(conn, Ran::Still, error),
+        Admission::Waiting { link } => Ended::Waited(Why::Locked { by: link }),
+        Admission::Passed => pass(kernel, conn),
     }
 }
 

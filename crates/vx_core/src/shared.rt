@@ -10,7 +10,7 @@ ghost use Rattle.vx_488.specs.declared.transfers.TheConstants.{ADDRESS_MAX};
 ghost use Rattle.vx_488.specs.Wire.{first_wire};
 ghost use Rattle.vx_bus_traits.specs.Steps.{Told, Cut};
 ghost use Rattle.vx_bus_traits.specs.Walks.{Walk};
-ghost use Rattle.vx_srq.specs.Desk.{channel_at};
+ghost use Rattle.vx_srq.specs.SrqState.{channel_at};
 ghost use Rattle.vx_srq.specs.Shown.{given_shown};
 ghost use Rattle.vx_rules.specs.State.{connection_at, pending_at, role_at, is_idle, lives_as, has_room};
 ghost use Rattle.vx_rules.specs.One.{may_wait};
@@ -182,7 +182,7 @@ impl<B: Bus> Core<B> {
         requires { list_any (λ n. n == conn) self.old.fine.dialed ≡ true }
         ensures fine { fine self.old.fine (Answer conn (max self.old.fine.state.moment now) false (Some up) false (reply.Error result.error)) ≡ Some self.new.fine }
         ensures error { result.error ≡ (if up then code.Ok else code.NoChannel) }
-        ensures chan { result.chan ≡ (if up then option_map (λ c. c.number) (channel_at self.new.fine.state.tables.desk conn) else None) }
+        ensures chan { result.chan ≡ (if up then option_map (λ c. c.number) (channel_at self.new.fine.state.tables.srq_state conn) else None) }
         ensures walk { Walk B.means B.through self.old.bus (Cut ∷ Told (max self.old.fine.state.moment now) ∷ []) self.new.bus }
         ensures began { self.new.began ≡ self.old.began }
     {
@@ -215,14 +215,14 @@ impl<B: Bus> Core<B> {
 
     /// The level of the SRQ line at the last sample; false before the first.
     pub fn level(&self) -> bool
-        ensures { result ≡ self.now.fine.state.tables.desk.level }
+        ensures { result ≡ self.now.fine.state.tables.srq_state.level }
     {
         self.kernel.level()
     }
 
     /// The number of the connection's interrupt channel, where it has one.
     pub fn channel(&self, conn: u32) -> Option<u32>
-        ensures { result ≡ option_map (λ c. c.number) (channel_at self.now.fine.state.tables.desk conn) }
+        ensures { result ≡ option_map (λ c. c.number) (channel_at self.now.fine.state.tables.srq_state conn) }
     {
         self.kernel.channel(conn)
     }

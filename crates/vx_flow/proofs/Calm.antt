@@ -13,7 +13,7 @@ use Rattle.vx_calls.specs.ErrorCode.{same_error}
 use Rattle.vx_calls.specs.Call.{Call}
 use Rattle.vx_links.specs.Table.{Link, is_live}
 use Rattle.vx_locks.specs.Locks.{holder_of}
-use Rattle.vx_srq.specs.Desk.{Given, taken, sampled}
+use Rattle.vx_srq.specs.SrqState.{Given, taken, sampled}
 use Rattle.vx_rules.specs.Calls.{link_named}
 use Rattle.vx_rules.specs.State.{Pending, Tables, pending_at, link_of, lives_as, is_idle, has_room, with_pending, with_connection}
 use Rattle.vx_rules.specs.Entry as entry
@@ -54,7 +54,7 @@ up f g k conn r sound early more h =
 pub sample : (f g : FineState) (k now : ℕ) (srq : Bool) → IsSound f → k ≤ f.state.moment → IsOpen f → fine_step f (Sample now srq) ≡ Some g → GoesOn f k (Sample now srq) g
 sample f g k now srq sound early more h =
     let t = f.state.tables in
-    let u : Tables = record t { desk = sampled t.desk srq } in
+    let u : Tables = record t { srq_state = sampled t.srq_state srq } in
     let step = mapped (fine_after f (Sample now srq) f.dialed) (one f.state (entry.Sample now srq)) g h in
     let parts = cond_some (nat_le f.state.moment now) (record f.state { tables = u; moment = now }) step.0 step.1 in
     let le : f.state.moment ≤ now = leb-true f.state.moment now parts.0 in
@@ -68,7 +68,7 @@ pub take : (f g : FineState) (k conn chan : ℕ) (told : Given) → IsSound f �
     → GoesOn f k (Take conn chan told) g
 take f g k conn chan told sound early more h =
     let t = f.state.tables in
-    let u : Tables = record t { desk = taken t.desk conn chan } in
+    let u : Tables = record t { srq_state = taken t.srq_state conn chan } in
     let step = mapped (fine_after f (Take conn chan told) f.dialed) (one f.state (entry.Take conn chan told)) g h in
     let parts = cond_some _ (record f.state { tables = u }) step.0 step.1 in
     subst (Goes f k (entry.Take conn chan told ∷ []) f.turn) (ap (fine_after f (Take conn chan told) f.dialed) parts.1 ∙ step.2)

@@ -16,7 +16,7 @@ use Rattle.vx_locks.specs.Locks.{holds, holder_of, with_lock}
 use Rattle.vx_rules.specs.Calls.{is_bus_call, is_lock_call, asks_dial}
 use Rattle.vx_rules.specs.State.{Pending, Tables, pending_at, link_of, with_pending}
 use Rattle.vx_rules.specs.Checks.{NamedLink, NoLink, DeadLink, OnLink, named_link}
-use Rattle.vx_rules.specs.Lines.{Lines, Refused, Waiting, Passed, named_request, lock_request, first_lines}
+use Rattle.vx_rules.specs.Lines.{Admission, Refused, Waiting, Passed, named_request, lock_request, first_lines}
 use Rattle.vx_rules.specs.Effects.{task_of, stopped_reply, create, locked, effect_on, effect, settle}
 use Rattle.vx_rules.specs.Decide.{Outside, is_quiet, bus_answer, dialed_answer, by_lines, settles, decide}
 use Rattle.vx_rules.specs.ProvedLaws.{pending-same}
@@ -137,23 +137,23 @@ settle-leaves t conn other l _ up = tt
 
 -- A decided answer changes nothing, or it is that of a settled dial, or the effect of a call that passed the
 -- first lines and needs no bus.
-pub data Found (t : Tables) (w : Wire) (conn : ℕ) (p : Pending) (l : Lines) (d : Reply × Tables) : Type 0 where
+pub data Found (t : Tables) (w : Wire) (conn : ℕ) (p : Pending) (l : Admission) (d : Reply × Tables) : Type 0 where
   Same : d.1 ≡ t → Found t w conn p l d
   Settled : (up : Bool) → settle t conn p.call up ≡ Some d → Found t w conn p l d
   Effected : l ≡ Passed → is_bus_call p.call ≡ false → effect t w.own conn (named_link t conn p.call) p.call ≡ Some d → Found t w conn p l d
 
 -- the walk down the lines, from the last ones up
-settled-found : (t : Tables) (w : Wire) (conn : ℕ) (p : Pending) (l : Lines) (d : Reply × Tables) (fine : Bool) (up : Bool) → cond fine (settle t conn p.call up) None ≡ Some d
+settled-found : (t : Tables) (w : Wire) (conn : ℕ) (p : Pending) (l : Admission) (d : Reply × Tables) (fine : Bool) (up : Bool) → cond fine (settle t conn p.call up) None ≡ Some d
     → Found t w conn p l d
 settled-found t w conn p l d true up h = Settled up h
 settled-found t w conn p l d false up h = cc
 
-dialed-found : (t : Tables) (w : Wire) (conn : ℕ) (p : Pending) (l : Lines) (o : Outside) (d : Reply × Tables) (up : Option Bool) → dialed_answer t conn p o up ≡ Some d
+dialed-found : (t : Tables) (w : Wire) (conn : ℕ) (p : Pending) (l : Admission) (o : Outside) (d : Reply × Tables) (up : Option Bool) → dialed_answer t conn p o up ≡ Some d
     → Found t w conn p l d
 dialed-found t w conn p l o d None h = cc
 dialed-found t w conn p l o d (Some up) h = settled-found t w conn p l d (not o.failed && not o.level) up h
 
-bus-found : (t : Tables) (w : Wire) (conn : ℕ) (p : Pending) (l : Lines) (d : Reply × Tables) (r : Option Reply) → option_map (λ given. (given, t)) r ≡ Some d → Found t w conn p l d
+bus-found : (t : Tables) (w : Wire) (conn : ℕ) (p : Pending) (l : Admission) (d : Reply × Tables) (r : Option Reply) → option_map (λ given. (given, t)) r ≡ Some d → Found t w conn p l d
 bus-found t w conn p l d None h = cc
 bus-found t w conn p l d (Some r) h = Same (ap (λ x. x.1) (sym (same_Some (r, t) d h)))
 
@@ -166,11 +166,11 @@ passed-found t w conn p d false true quiet x r is dial h = bus-found t w conn p 
 passed-found t w conn p d false false true x r is dial h = Effected refl is h
 passed-found t w conn p d false false false x r is dial h = cc
 
-quiet-found : (t : Tables) (w : Wire) (conn : ℕ) (p : Pending) (l : Lines) (d : Reply × Tables) (quiet : Bool) (r : Reply) → cond quiet (Some (r, t)) None ≡ Some d → Found t w conn p l d
+quiet-found : (t : Tables) (w : Wire) (conn : ℕ) (p : Pending) (l : Admission) (d : Reply × Tables) (quiet : Bool) (r : Reply) → cond quiet (Some (r, t)) None ≡ Some d → Found t w conn p l d
 quiet-found t w conn p l d true r h = Same (ap (λ x. x.1) (sym (same_Some (r, t) d h)))
 quiet-found t w conn p l d false r h = cc
 
-lines-found : (t : Tables) (w : Wire) (conn : ℕ) (p : Pending) (now : ℕ) (o : Outside) (d : Reply × Tables) (l : Lines) → by_lines t w conn p now o l ≡ Some d → Found t w conn p l d
+lines-found : (t : Tables) (w : Wire) (conn : ℕ) (p : Pending) (now : ℕ) (o : Outside) (d : Reply × Tables) (l : Admission) → by_lines t w conn p now o l ≡ Some d → Found t w conn p l d
 lines-found t w conn p now o d (Refused error) h = quiet-found t w conn p (Refused error) d (is_quiet o) (stopped_reply p.call error o.moves) h
 lines-found t w conn p now o d (Waiting holder) h = cc
 lines-found t w conn p now o d Passed h =
@@ -182,12 +182,12 @@ pub decide-found : (t : Tables) (w : Wire) (conn : ℕ) (p : Pending) (now : ℕ
 decide-found t w conn p now o d h = lines-found t w conn p now o d (first_lines t w.own conn (settles o) p now) h
 
 -- it leaves the connections, and the links and locks that another connection's turn rests on
-pub found-connections : (t : Tables) (w : Wire) (conn : ℕ) (p : Pending) (l : Lines) (d : Reply × Tables) → Found t w conn p l d → d.1.connections ≡ t.connections
+pub found-connections : (t : Tables) (w : Wire) (conn : ℕ) (p : Pending) (l : Admission) (d : Reply × Tables) → Found t w conn p l d → d.1.connections ≡ t.connections
 found-connections t w conn p l d (Same e) = ap (λ u. u.connections) e
 found-connections t w conn p l d (Settled up h) = subst (FoundKeeps t) h (settle-connections t conn p.call up)
 found-connections t w conn p l d (Effected passed bus h) = subst (FoundKeeps t) h (effect-connections t w.own conn (named_link t conn p.call) p.call)
 
-pub found-apart : (t : Tables) (w : Wire) (conn other : ℕ) (p : Pending) (lines : Lines) (l : Link) (d : Reply × Tables) → conn ≢ other
+pub found-apart : (t : Tables) (w : Wire) (conn other : ℕ) (p : Pending) (lines : Admission) (l : Link) (d : Reply × Tables) → conn ≢ other
     → (lines ≡ Passed → (is_lock_call p.call && on_conflict (lock_request w.own (named_link t conn p.call) p.call) (Some l.target)) ≡ false)
     → Found t w conn p lines d → Leaves t d.1 other l
 found-apart t w conn other p lines l d ne apart (Same e) = subst (λ u. Leaves t u other l) (sym e) (leaves-all t other l)

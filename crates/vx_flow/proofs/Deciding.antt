@@ -12,7 +12,7 @@ use Rattle.vx_links.specs.Table.{Link}
 use Rattle.vx_rules.specs.Calls.{is_bus_call, asks_dial}
 use Rattle.vx_rules.specs.State.{Pending, Tables, State, pending_at, with_pending}
 use Rattle.vx_rules.specs.Checks.{OnLink, named_link, check}
-use Rattle.vx_rules.specs.Lines.{Lines, Refused, Waiting, Passed, holder_against, lock_lines, checked_lines, later_lines, first_lines}
+use Rattle.vx_rules.specs.Lines.{Admission, Refused, Waiting, Passed, holder_against, lock_lines, checked_lines, later_lines, first_lines}
 use Rattle.vx_rules.specs.Effects.{task_of, effect}
 use Rattle.vx_rules.specs.Decide.{Outside, is_quiet, stand_on, bus_answer, dialed_answer, by_lines, settles, decide, is_nothing, begun_between, may_tell, has_job_role, may_have_made, lines_fit, turn_fits}
 use Rattle.vx_rules.specs.Entry as entry
@@ -36,7 +36,7 @@ agree-passed t w b conn p now o true bus quiet x r s same no_bus = refl
 agree-passed t w b conn p now o false true quiet x r s same no_bus = absurd (true≢false no_bus)
 agree-passed t w b conn p now o false false quiet x r s same no_bus = ap (λ own. cond quiet (effect t own conn (named_link t conn p.call) p.call) None) same
 
-agree-lines : (t : Tables) (w b : Wire) (conn : ℕ) (p : Pending) (now : ℕ) (o : Outside) (l : Lines) → w.own ≡ b.own → (l ≡ Passed → is_bus_call p.call ≡ false)
+agree-lines : (t : Tables) (w b : Wire) (conn : ℕ) (p : Pending) (now : ℕ) (o : Outside) (l : Admission) → w.own ≡ b.own → (l ≡ Passed → is_bus_call p.call ≡ false)
     → by_lines t w conn p now o l ≡ by_lines t b conn p now o l
 agree-lines t w b conn p now o (Refused error) same no_bus = refl
 agree-lines t w b conn p now o (Waiting holder) same no_bus = refl
@@ -58,7 +58,7 @@ abbrev pub quiet_turn : Bool → Option Bool → Bool → Outside
 quiet_turn failed dialed level = record { begun = 0; moves = []; failed = failed; dialed = dialed; level = level }
 
 -- such a call made nothing, and has no role for a job where it passed
-fits-lines : (t : Tables) (w : Wire) (conn : ℕ) (p : Pending) (now : ℕ) (failed : Bool) (dialed : Option Bool) (level : Bool) (d : Reply × Tables) (aborted : Bool) (l : Lines)
+fits-lines : (t : Tables) (w : Wire) (conn : ℕ) (p : Pending) (now : ℕ) (failed : Bool) (dialed : Option Bool) (level : Bool) (d : Reply × Tables) (aborted : Bool) (l : Admission)
     → by_lines t w conn p now (quiet_turn failed dialed level) (cond aborted (Refused code.Abort) l) ≡ Some d
     → (cond aborted (Refused code.Abort) l ≡ Passed → has_job_role w (task_of (named_link t conn p.call) p.call) ≡ false)
     → cond aborted (may_tell p now 0 && may_have_made t w conn p []) (lines_fit t w conn p now (quiet_turn failed dialed level) l) ≡ true
@@ -124,7 +124,7 @@ module _ (t : Tables) (before present : Wire) (m now : ℕ) (u : Turn) (s : Stan
           absurd (never (sym h ∙ later-passed t before.own u.connection (is_some dialed) s.asked now s.link s.on_link (bus-job s.link.target s.asked.call s.job s.has_job) (s.passes some)))
 
     -- by the line that gives the answer
-    own-lines : (d : Reply × Tables) (aborted : Bool) (l : Lines) → s.asked.aborted ≡ aborted → later_lines t before.own u.connection (is_some dialed) s.asked now ≡ l
+    own-lines : (d : Reply × Tables) (aborted : Bool) (l : Admission) → s.asked.aborted ≡ aborted → later_lines t before.own u.connection (is_some dialed) s.asked now ≡ l
         → by_lines t before u.connection s.asked now (own_outside u failed dialed level) (cond aborted (Refused code.Abort) l) ≡ Some d
         → cond aborted (may_tell s.asked now u.begun && may_have_made t before u.connection s.asked u.moves)
         (lines_fit t before u.connection s.asked now (own_outside u failed dialed level) l) ≡ true

@@ -6,7 +6,7 @@ use Rattle.vx_lemmas.specs.Conditions.{chosen}
 use Rattle.vx_calls.specs.declared.calls.Role.TheVariants as role
 use Rattle.vx_calls.specs.Reply.{Reply, same_reply}
 use Rattle.vx_calls.specs.ErrorCode.{same_error}
-use Rattle.vx_srq.specs.Desk.{given, taken, sampled}
+use Rattle.vx_srq.specs.SrqState.{given, taken, sampled}
 use Rattle.vx_488.specs.Wire.{wire_after}
 use Rattle.std.proofs.lemmas.Bool.{and_parts, and_from, cond-true, leb-true, le-leb}
 use Rattle.std.proofs.lemmas.Option.{none-some, same_Some}
@@ -115,8 +115,8 @@ step-earlier (Abort conn lid told) f g now le h =
     calm-one f g now (Abort conn lid told) (lives_as f.state.tables conn role.Abort && same_error (abort_reply f.state.tables lid) told)
     (record f.state { tables = abort_tables f.state.tables lid; moment = now }) le refl h
 step-earlier (Take conn chan told) f g now le h =
-    calm-one f g now (Take conn chan told) (is_some (connection_at f.state.tables conn) && same_given (given f.state.tables.desk conn chan) told)
-    (record f.state { tables = record f.state.tables { desk = taken f.state.tables.desk conn chan }; moment = now }) le refl h
+    calm-one f g now (Take conn chan told) (is_some (connection_at f.state.tables conn) && same_given (given f.state.tables.srq_state conn chan) told)
+    (record f.state { tables = record f.state.tables { srq_state = taken f.state.tables.srq_state conn chan }; moment = now }) le refl h
 step-earlier (Down conn) f g now le h =
     untimed f g now (is_some (connection_at f.state.tables conn))
     (fine_after f (Down conn) (without_dial f.dialed conn) (record f.state { tables = without_connection f.state.tables conn; moment = now })) le refl h
@@ -135,7 +135,7 @@ step-earlier (Dial conn told) f g now le h =
     (first-test f.state.moment now told rest le) h (λ is. ap (λ (y : FineState). y.state.moment) (sym (same_Some found g is)))
 step-earlier (Sample told srq) f g now le h =
     timed-one f g now told (Sample told srq) (nat_le f.state.moment told) (nat_le now told)
-    (record f.state { tables = record f.state.tables { desk = sampled f.state.tables.desk srq }; moment = told }) le refl
+    (record f.state { tables = record f.state.tables { srq_state = sampled f.state.tables.srq_state srq }; moment = told }) le refl
     (only-test f.state.moment now told le) h
 step-earlier (Arrive conn asked told) f g now le h =
     timed-one f g now told (Arrive conn asked told) (nat_le f.state.moment told && is_idle f.state.tables conn && may_wait asked)

@@ -30,7 +30,7 @@ use Rattle.vx_links.specs.Table.{Link}
 use Rattle.vx_rules.specs.Calls.{sets_end, has_passed}
 use Rattle.vx_rules.specs.State.{Pending, Tables, State, pending_at, link_of}
 use Rattle.vx_rules.specs.Checks.{link_found, named_link, check}
-use Rattle.vx_rules.specs.Lines.{Lines, Refused, Waiting, Passed, holder_against, lock_lines, checked_lines, later_lines, first_lines}
+use Rattle.vx_rules.specs.Lines.{Admission, Refused, Waiting, Passed, holder_against, lock_lines, checked_lines, later_lines, first_lines}
 use Rattle.vx_rules.specs.Effects.{task_of, stopped_reply}
 use Rattle.vx_rules.specs.Decide.{Outside, is_quiet, stand_on, turn_answer, job_answer, bus_answer, by_lines, settles, decide}
 use Rattle.vx_flow.specs.Laws.{marked_bytes, HeardLaw, HeardOnInterfaceLaw}
@@ -52,7 +52,7 @@ abbrev IsError : Option ErrorCode → Type 0
 IsError None = Unit {0}
 IsError (Some e) = e ≢ code.Ok
 
-abbrev RefusesWell : Lines → Type 0
+abbrev RefusesWell : Admission → Type 0
 RefusesWell (Refused e) = e ≢ code.Ok
 RefusesWell (Waiting holder) = Unit {0}
 RefusesWell Passed = Unit {0}
@@ -86,7 +86,7 @@ checked-refuses : (p : Pending) (now : ℕ) (refused : Option ErrorCode) (holder
 checked-refuses p now None holder h = lock-refuses p now holder
 checked-refuses p now (Some e) holder h = h
 
-first-refuses : (aborted : Bool) (l : Lines) → RefusesWell l → RefusesWell (cond aborted (Refused code.Abort) l)
+first-refuses : (aborted : Bool) (l : Admission) → RefusesWell l → RefusesWell (cond aborted (Refused code.Abort) l)
 first-refuses true l h = abort_is
 first-refuses false l h = h
 
@@ -133,7 +133,7 @@ module _ (t : Tables) (w : Wire) (conn now : ℕ) (o : Outside) (lid io_timeout 
     by false none true h = absurd (fault_is (is_write code.BusFault _ r h ok))
     by false none false h = cc
 
-  lines-whole : (job : Task) (d : Reply × Tables) (l : Lines) → task_of (named_link t conn asked) asked ≡ Some job → write_error d.0 ≡ code.Ok → RefusesWell l
+  lines-whole : (job : Task) (d : Reply × Tables) (l : Admission) → task_of (named_link t conn asked) asked ≡ Some job → write_error d.0 ≡ code.Ok → RefusesWell l
       → by_lines t w conn waiting now o l ≡ Some d → stand_on w asked job o.moves ≡ Whole
   lines-whole job d (Refused error) is ok well h =
       let parts = cond_some (is_quiet o) (stopped_reply asked error o.moves, t) d h in

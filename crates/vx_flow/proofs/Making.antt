@@ -22,7 +22,7 @@ use Rattle.vx_links.specs.Table.{Link}
 use Rattle.vx_rules.specs.Calls.{is_bus_call, asks_dial}
 use Rattle.vx_rules.specs.State.{Pending, Tables, State, pending_at, with_pending}
 use Rattle.vx_rules.specs.Checks.{OnLink, named_link, check_on, check}
-use Rattle.vx_rules.specs.Lines.{Lines, Refused, Waiting, Passed, holder_against, checked_lines, later_lines, lets_pass}
+use Rattle.vx_rules.specs.Lines.{Admission, Refused, Waiting, Passed, holder_against, checked_lines, later_lines, lets_pass}
 use Rattle.vx_rules.specs.Effects.{task_on, task_of, stopped_reply, effect}
 use Rattle.vx_rules.specs.Decide.{Outside, is_quiet, stand_on, turn_answer, job_answer, bus_answer, dialed_answer, passed_answer, by_lines, settles, decide, is_nothing, begun_between, may_tell, is_part, has_job_role, is_part_of, may_have_made, passed_fits, lines_fit, turn_fits}
 use Rattle.vx_rules.specs.Entry as entry
@@ -155,7 +155,7 @@ passed-made t w conn p now o d false e is fits found =
 pub answer-made : (t : Tables) (w : Wire) (conn : ℕ) (p : Pending) (now : ℕ) (o : Outside) (d : Reply × Tables) → turn_fits t w conn p now o ≡ true
     → decide t w conn p now o ≡ Some d → MadeAny t w conn p o.moves
 answer-made t w conn p now o d fits found = by p.aborted (later_lines t w.own conn (settles o) p now) refl fits found where
-  by : (aborted : Bool) (l : Lines) → later_lines t w.own conn (settles o) p now ≡ l
+  by : (aborted : Bool) (l : Admission) → later_lines t w.own conn (settles o) p now ≡ l
       → cond aborted (may_tell p now o.begun && may_have_made t w conn p o.moves) (lines_fit t w conn p now o l) ≡ true
       → by_lines t w conn p now o (cond aborted (Refused code.Abort) l) ≡ Some d → MadeAny t w conn p o.moves
   by true l is fits found = may-made-parts t w conn p o.moves (and_parts _ _ fits).1

@@ -31,14 +31,14 @@ use Rattle.vx_plan.specs.ProvedLaws.{own-job, reachable-plain}
 use Rattle.vx_plan.proofs.Turns.{own_stays-law}
 use Rattle.vx_links.specs.Table.{Link, Table, is_live, is_at, uses_address}
 use Rattle.vx_locks.specs.Locks.{holds, with_lock}
-use Rattle.vx_srq.specs.Desk.{sampled, taken}
+use Rattle.vx_srq.specs.SrqState.{sampled, taken}
 use Rattle.vx_rules.specs.Lists.{along}
 use Rattle.vx_rules.specs.State.{Pending, Tables, State, first, connection_at, pending_at, lives_as, is_idle, has_room, with_pending, with_connection, without_connection}
 use Rattle.vx_rules.specs.Calls.{is_bus_call, bytes_of}
 use Rattle.vx_rules.specs.Docmd.{Command, BusAddress, command_of, number_in, has_length, takes_number, takes_input, command_task}
 use Rattle.vx_rules.specs.Checks.{NamedLink, NoLink, DeadLink, OnLink, named_link, is_interface, check_command, check_on}
 use Rattle.vx_rules.specs.Effects.{task_on, create, locked, effect_on, effect, settle}
-use Rattle.vx_rules.specs.Lines.{Lines, first_lines}
+use Rattle.vx_rules.specs.Lines.{Admission, first_lines}
 use Rattle.vx_rules.specs.Decide.{Outside, settles}
 use Rattle.vx_rules.specs.Entry.{Entry, Up, Down, Arrive, Answer, Abort, Sample, Take}
 use Rattle.vx_rules.specs.One.{one, may_wait, arrived, marked, abort_reply, abort_tables, may_leave}
@@ -156,7 +156,7 @@ settle-leaves t conn (call.CreateIntr host port prog vers family) false = refl
 settle-leaves t conn _ up = tt
 
 -- an answer makes only links to what the gateway can reach
-found-reachable : (t : Tables) (w : Wire) (conn : ℕ) (p : Pending) (l : Lines) (d : Reply × Tables) → Found t w conn p l d → AllReachable w.own t.links.links
+found-reachable : (t : Tables) (w : Wire) (conn : ℕ) (p : Pending) (l : Admission) (d : Reply × Tables) → Found t w conn p l d → AllReachable w.own t.links.links
     → AllReachable w.own d.1.links.links
 found-reachable t w conn p l d (Same e) all = subst (λ (u : Tables). AllReachable w.own u.links.links) (sym e) all
 found-reachable t w conn p l d (Settled up h) all =
@@ -165,7 +165,7 @@ found-reachable t w conn p l d (Settled up h) all =
 found-reachable t w conn p l d (Effected passed bus h) all = subst (FoundHas w.own) h (effect-has w.own t conn (named_link t conn p.call) p.call all)
 
 -- that of a bus call leaves the links
-found-leaves : (t : Tables) (w : Wire) (conn : ℕ) (p : Pending) (l : Lines) (d : Reply × Tables) → Found t w conn p l d → is_bus_call p.call ≡ true → d.1.links ≡ t.links
+found-leaves : (t : Tables) (w : Wire) (conn : ℕ) (p : Pending) (l : Admission) (d : Reply × Tables) → Found t w conn p l d → is_bus_call p.call ≡ true → d.1.links ≡ t.links
 found-leaves t w conn p l d (Same e) bus = ap (λ (u : Tables). u.links) e
 found-leaves t w conn p l d (Settled up h) bus = subst (FoundLeaves t) h (settle-leaves t conn p.call up)
 found-leaves t w conn p l d (Effected passed other h) bus = absurd (true≢false (sym bus ∙ other))
@@ -276,7 +276,7 @@ leave-own P s conn moves unused h (inl e) = subst (λ m. P (wire_after s.wire m)
 leave-own P s conn moves unused h (inr m) = made-own P s.tables s.wire conn m.0 moves unused h m.2
 
 -- the own address behind an answer, with the links behind it
-answer-reachable : (t : Tables) (w : Wire) (conn : ℕ) (p : Pending) (l : Lines) (d : Reply × Tables) (moves : List Transfer) → Found t w conn p l d
+answer-reachable : (t : Tables) (w : Wire) (conn : ℕ) (p : Pending) (l : Admission) (d : Reply × Tables) (moves : List Transfer) → Found t w conn p l d
     → AllReachable w.own t.links.links → MadeAny t w conn p moves → AllReachable (wire_after w moves).own d.1.links.links
 answer-reachable t w conn p l d moves found all (inl e) =
     subst (λ m. AllReachable (wire_after w m).own d.1.links.links) (sym e) (found-reachable t w conn p l d found all)
@@ -316,10 +316,10 @@ one-plain (Abort conn lid told) s t plain h =
     subst IsPlain parts.1 (is-plain (record s { tables = abort_tables s.tables lid }) plain.own
     (subst (λ (u : Table). AllReachable s.wire.own u.links) (sym (abort-links s.tables lid)) plain.reachable))
 one-plain (Sample now srq) s t plain h =
-    let parts = cond_some (nat_le s.moment now) (record s { tables = record s.tables { desk = sampled s.tables.desk srq }; moment = now }) t h in
+    let parts = cond_some (nat_le s.moment now) (record s { tables = record s.tables { srq_state = sampled s.tables.srq_state srq }; moment = now }) t h in
     subst IsPlain parts.1 (record { links = plain.links; own = plain.own; reachable = plain.reachable })
 one-plain (Take conn chan told) s t plain h =
-    let parts = cond_some _ (record s { tables = record s.tables { desk = taken s.tables.desk conn chan } }) t h in
+    let parts = cond_some _ (record s { tables = record s.tables { srq_state = taken s.tables.srq_state conn chan } }) t h in
     subst IsPlain parts.1 (record { links = plain.links; own = plain.own; reachable = plain.reachable })
 
 along-plain : (h : List Entry) (s t : State) → IsPlain s → along one (Some s) h ≡ Some t → IsPlain t

@@ -16,7 +16,7 @@ use Rattle.vx_rules.specs.Lists.{along}
 use Rattle.vx_rules.specs.Calls.{is_bus_call}
 use Rattle.vx_rules.specs.State.{Pending, Tables, State, pending_at}
 use Rattle.vx_rules.specs.Checks.{OnLink, named_link}
-use Rattle.vx_rules.specs.Lines.{Lines, Refused, Waiting, Passed, later_lines, first_lines}
+use Rattle.vx_rules.specs.Lines.{Admission, Refused, Waiting, Passed, later_lines, first_lines}
 use Rattle.vx_rules.specs.Decide.{has_job_role}
 use Rattle.vx_rules.specs.ProvedLaws.{no-job}
 use Rattle.vx_flow.specs.Event.{Event, Up, Down, Arrive, Answer, Abort, Sample, Take, Begin, Move, Dial}
@@ -42,7 +42,7 @@ none-free t u p l is at on = absurd (none-some u is)
 
 -- ---- a turn begins
 
-passed-is : (l : Lines) → is_passed l ≡ true → l ≡ Passed
+passed-is : (l : Admission) → is_passed l ≡ true → l ≡ Passed
 passed-is Passed h = refl
 passed-is (Refused error) h = absurd (false≢true h)
 passed-is (Waiting holder) h = absurd (false≢true h)

@@ -8,7 +8,7 @@ use Rattle.vx_calls.specs.declared.codes.ErrorCode.TheVariants as code
 use Rattle.vx_calls.specs.declared.limits.TheConstants.{WRITE_MAX}
 use Rattle.vx_calls.specs.Call as call
 use Rattle.vx_calls.specs.Reply as reply
-use Rattle.vx_srq.specs.Desk.{Front, Gone, channel_at}
+use Rattle.vx_srq.specs.SrqState.{Front, Gone, channel_at}
 use Rattle.vx_rules.specs.State.{State, first}
 use Rattle.vx_rules.specs.Entry.{Entry, Up, Arrive, Answer, Sample, Take}
 use Rattle.vx_rules.specs.Legal.{legal_state, queued_along}
@@ -37,6 +37,6 @@ are-queued = refl
 is-taken : flat_map (srqs_of 1 1) history ≡ record { xid = 1; program = 0x607B1; version = 1; handle = handle } ∷ []
 is-taken = refl
 
-waits : option_and_then (λ (s : State). channel_at s.tables.desk 1) (legal_state 9011 history)
+waits : option_and_then (λ (s : State). channel_at s.tables.srq_state 1) (legal_state 9011 history)
     ≡ Some (record { number = 1; program = 0x607B1; version = 1; next_xid = 2; outbox = handle ∷ [] })
 waits = refl

@@ -24,7 +24,7 @@ use Rattle.vx_plan.specs.Results.{whole_reply}
 use Rattle.vx_rules.specs.Calls.{is_bus_call, is_lock_call, asks_dial, bytes_of, is_big, io_timeout_of, has_passed}
 use Rattle.vx_rules.specs.Checks.{named_link}
 use Rattle.vx_rules.specs.Effects.{stopped_reply, task_of}
-use Rattle.vx_rules.specs.Lines.{Lines, Refused, Waiting, Passed, first_lines, later_lines, lets_pass, lock_request}
+use Rattle.vx_rules.specs.Lines.{Admission, Refused, Waiting, Passed, first_lines, later_lines, lets_pass, lock_request}
 use Rattle.vx_rules.specs.Decide.{Outside, decide, by_lines, has_job_role, bus_answer, turn_answer, stand_on, is_quiet, level_fits}
 use Rattle.vx_rules.specs.One.{answer, answered, answer_to, if_reply}
 use Rattle.vx_rules.specs.ProvedLaws.{bus-job, no-job, dial-no-bus}
@@ -88,7 +88,7 @@ polled-comes : (f : FineState) (conn now : ℕ) (p : Pending) (e : Event) → Is
 polled-comes f conn now p e h = open-comes f e (λ u is. ap is_whole (h.is_part u is))
 
 -- no turn begins where the first lines don't let the call pass
-waits-begin : (f : FineState) (conn now : ℕ) (p : Pending) (lines : Lines) → pending_at f.state.tables conn ≡ Some p → lines_at f conn now p ≡ lines
+waits-begin : (f : FineState) (conn now : ℕ) (p : Pending) (lines : Admission) → pending_at f.state.tables conn ≡ Some p → lines_at f conn now p ≡ lines
     → is_passed lines ≡ false → begins f conn now ≡ false
 waits-begin f conn now p lines at is stays = by f.turn refl where
   by : (turn : Option Turn) → f.turn ≡ turn → (is_none turn && may_begin f.state conn now (pending_at f.state.tables conn)) ≡ false
@@ -315,7 +315,7 @@ dial_law-holds f conn now p h is asks =
 own-turn : (u : Turn) → turn_of (Some u) u.connection ≡ Some u
 own-turn u = cond-true (u.connection == u.connection) (Some u) None (eqb-self u.connection)
 
-passed-parts : (p : Pending) (later : Lines) → cond p.aborted (Refused code.Abort) later ≡ Passed → (p.aborted ≡ false) × (later ≡ Passed)
+passed-parts : (p : Pending) (later : Admission) → cond p.aborted (Refused code.Abort) later ≡ Passed → (p.aborted ≡ false) × (later ≡ Passed)
 passed-parts p later h = by p.aborted h where
   by : (b : Bool) → cond b (Refused code.Abort) later ≡ Passed → (b ≡ false) × (later ≡ Passed)
   by true x = cc

@@ -13,7 +13,7 @@ use Rattle.vx_plan.specs.Plan.{Stand, Whole, Off}
 use Rattle.vx_rules.specs.State.{Pending, Tables, State, connection_at, pending_at, without_connection}
 use Rattle.vx_rules.specs.Calls.{is_bus_call, is_lock_call, asks_dial}
 use Rattle.vx_rules.specs.Checks.{NamedLink, NoLink, DeadLink, OnLink, named_link}
-use Rattle.vx_rules.specs.Lines.{LockRequest, Lines, Passed, lock_request, first_lines, lets_pass}
+use Rattle.vx_rules.specs.Lines.{LockRequest, Admission, Passed, lock_request, first_lines, lets_pass}
 use Rattle.vx_rules.specs.Effects.{task_of}
 use Rattle.vx_rules.specs.Decide.{Outside, stand_of_job, has_job_role, settles}
 use Rattle.vx_rules.specs.Entry as entry
@@ -100,7 +100,7 @@ may_answer f conn p o =
     && (is_some (turn_of f.turn conn) || not (has_job_role f.state.wire (job_of f.state.tables conn p)))
     && (is_none o.dialed || list_any (λ n. n == conn) f.dialed)
 
-abbrev pub passes_lines : FineState → ℕ → Pending → Outside → Lines → Bool
+abbrev pub passes_lines : FineState → ℕ → Pending → Outside → Admission → Bool
 passes_lines f conn p o Passed = may_answer f conn p o
 passes_lines f conn p o _ = true
 
@@ -109,7 +109,7 @@ is_answered f conn now o None = false
 is_answered f conn now o (Some p) =
     passes_lines f conn p o (first_lines f.state.tables (wire_for f conn).own conn (settles o) p now)
 
-abbrev pub is_passed : Lines → Bool
+abbrev pub is_passed : Admission → Bool
 is_passed Passed = true
 is_passed _ = false
 

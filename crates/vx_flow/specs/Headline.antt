@@ -10,7 +10,7 @@ use Rattle.vx_488.specs.declared.transfers.Transfer.{Transfer}
 use Rattle.vx_488.specs.Listening.{has_address}
 use Rattle.vx_488.specs.Heard.{reached, heard}
 use Rattle.vx_links.specs.Table.{Link}
-use Rattle.vx_srq.specs.Desk.{Channel, channel_at, handles_of, queued_on}
+use Rattle.vx_srq.specs.SrqState.{Channel, channel_at, handles_of, queued_on}
 use Rattle.vx_rules.specs.State.{State, first, pending_at, link_of}
 use Rattle.vx_rules.specs.Calls.{sets_end}
 use Rattle.vx_rules.specs.Entry.{Entry, Answer, Sample}
@@ -67,14 +67,14 @@ WritesHeardOnInterface abort_port history = (front behind : List Entry) (s : Sta
 abbrev pub OverflowCloses : ℕ → List Entry → Type 0
 OverflowCloses abort_port history = (front behind : List Entry) (s t : State) (now conn : ℕ) (c : Channel)
     → history ≡ front ++ Sample now true ∷ behind → legal_state abort_port front ≡ Some s → one s (Sample now true) ≡ Some t
-    → s.tables.desk.level ≡ false → channel_at s.tables.desk conn ≡ Some c
-    → channel_at t.tables.desk conn ≡ queued_on (handles_of s.tables.desk.enables conn) c
+    → s.tables.srq_state.level ≡ false → channel_at s.tables.srq_state conn ≡ Some c
+    → channel_at t.tables.srq_state conn ≡ queued_on (handles_of s.tables.srq_state.enables conn) c
 
 -- For a channel that lives at the end: the interrupts that were taken from it and then its outbox are, in order, the handles
 -- that rises queued while it lived, with xids 1, 2, 3 and so on.
 abbrev pub IsQueued : ℕ → List Entry → Type 0
 IsQueued abort_port history = (s : State) (conn : ℕ) (c : Channel)
-    → legal_state abort_port history ≡ Some s → channel_at s.tables.desk conn ≡ Some c
+    → legal_state abort_port history ≡ Some s → channel_at s.tables.srq_state conn ≡ Some c
     → (handles : List (List ℕ)) × (flat_map (srqs_of conn c.number) history ≡ sent 1 c.program c.version handles)
     × (handles ++ c.outbox ≡ queued_along conn c.number (Some (first abort_port)) history)
 

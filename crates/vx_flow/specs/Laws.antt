@@ -13,7 +13,7 @@ use Rattle.vx_488.specs.Listening.{has_address}
 use Rattle.vx_488.specs.Heard.{Byte, reached, heard}
 use Rattle.vx_links.specs.Table.{Link}
 use Rattle.vx_locks.specs.Locks.{Lock, holder_of}
-use Rattle.vx_srq.specs.Desk.{Channel, Srq, Front, channel_at, handles_of, queued_on}
+use Rattle.vx_srq.specs.SrqState.{Channel, Srq, Front, channel_at, handles_of, queued_on}
 use Rattle.vx_rules.specs.Lists.{along}
 use Rattle.vx_rules.specs.State.{Pending, State, first, pending_at, link_of}
 use Rattle.vx_rules.specs.Calls.{link_named, sets_end}
@@ -111,14 +111,14 @@ sent xid program version (handle ∷ handles) =
 -- queued while it lived, with xids 1, 2, 3 and so on.
 abbrev pub QueuedLaw : Type 0
 QueuedLaw = (abort_port : ℕ) (history : List Entry) (s : State) (conn : ℕ) (c : Channel)
-    → legal_state abort_port history ≡ Some s → channel_at s.tables.desk conn ≡ Some c
+    → legal_state abort_port history ≡ Some s → channel_at s.tables.srq_state conn ≡ Some c
     → (handles : List (List ℕ)) × (flat_map (srqs_of conn c.number) history ≡ sent 1 c.program c.version handles)
     × (handles ++ c.outbox ≡ queued_along conn c.number (Some (first abort_port)) history)
 
 -- A rise closes exactly the channels whose outbox would have more than 1,024 entries, and queues nothing for them.
 abbrev pub ClosedLaw : Type 0
-ClosedLaw = (s t : State) (now conn : ℕ) (c : Channel) → s.tables.desk.level ≡ false → channel_at s.tables.desk conn ≡ Some c
-    → one s (Sample now true) ≡ Some t → channel_at t.tables.desk conn ≡ queued_on (handles_of s.tables.desk.enables conn) c
+ClosedLaw = (s t : State) (now conn : ℕ) (c : Channel) → s.tables.srq_state.level ≡ false → channel_at s.tables.srq_state conn ≡ Some c
+    → one s (Sample now true) ≡ Some t → channel_at t.tables.srq_state conn ≡ queued_on (handles_of s.tables.srq_state.enables conn) c
 
 -- what holds between events holds at the start, and behind each event that is allowed
 abbrev pub FirstSoundLaw : Type 0

@@ -7,7 +7,7 @@ use Rattle.vx_rules.specs.Lists.{along}
 use Rattle.vx_rules.specs.State.{Pending, pending_at}
 use Rattle.vx_rules.specs.Calls.{io_timeout_of, has_passed}
 use Rattle.vx_rules.specs.Dials.{dials_to}
-use Rattle.vx_rules.specs.Lines.{Lines, Waiting, Passed, first_lines}
+use Rattle.vx_rules.specs.Lines.{Admission, Waiting, Passed, first_lines}
 use Rattle.vx_flow.specs.Event.{Event, Answer, Begin, Move, Dial}
 use Rattle.vx_flow.specs.FineState.{Turn, FineState, turn_of}
 use Rattle.vx_flow.specs.Fine.{fine, wire_for, waits_for, may_begin, turn_stand, is_passed}
@@ -62,7 +62,7 @@ end_events conn now (Waited why) = []
 end_events conn now (Dialed host port) = Dial conn now ∷ []
 
 -- what the first lines say of a connection's call, on the bus that it is measured on
-abbrev pub lines_at : FineState → ℕ → ℕ → Pending → Lines
+abbrev pub lines_at : FineState → ℕ → ℕ → Pending → Admission
 lines_at f conn now p = first_lines f.state.tables (wire_for f conn).own conn false p now
 
 -- the poll of a call goes on with its turn: the first lines let it pass, and its turn is under way

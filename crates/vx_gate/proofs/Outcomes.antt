@@ -10,7 +10,7 @@ use lib.ListN.{get_elem?}
 use Rattle.atomic_table.specs.Table.{Me, Final, Seen, opening}
 use Rattle.atomic_table.specs.Seated.{TableId}
 use Rattle.atomic_table.specs.declared.shared.Seat.{Seat}
-use Rattle.vx_gate.specs.declared.views.Made.{Made}
+use Rattle.vx_gate.specs.declared.views.Logged.{Logged}
 use Rattle.vx_gate.specs.declared.views.View.{View}
 use Rattle.vx_gate.specs.declared.views.Stage.{Stage}
 use Rattle.vx_gate.specs.declared.views.Stage.TheVariants.{Idle, Drawn, Turn, Counted, Spent}
@@ -38,7 +38,7 @@ module _ {K G : Type 0} where
   seated s p y shown is e wide = at_rest s.table_id y s.me.0.stage is.rests (ap (λ (x : PassView G). x.gate) shown ∙ e) wide
 
 module _ {G : Type 0} where
-  pub met_begins : (xs ys log : List (Made G)) → IsPrefix (longer xs ys) log → IsPrefix (shorter xs ys) log → IsPrefix xs (longer xs ys) × IsPrefix ys (longer xs ys)
+  pub met_begins : (xs ys log : List (Logged G)) → IsPrefix (longer xs ys) log → IsPrefix (shorter xs ys) log → IsPrefix xs (longer xs ys) × IsPrefix ys (longer xs ys)
   met_begins xs ys log p q = dite (dec_le (length ys) (length xs))
       (λ le.
       let no : nat_lt (length xs) (length ys) ≡ false = grind (arith, nat_tests) in
@@ -66,27 +66,27 @@ module _ {K G : Type 0} (stands : K → List G → Type 0) (may_add : List G →
       → left.me ≡ (at_stage Spent s.me.0, s.me.1) → last.me ≡ (fresh s.id s.me.0.parts s.me.0.seen, []) → Final (Seen (Ruled stands may_add) last.id last.me.0) words items
       → get_elem? items 0 ≡ some value → stands value (groups left.me.0.seen) × Lawful may_add left.me.0.seen
   closed s left last pass words items value shown all left_is last_is fin e =
-      let seen : List (Made G) = s.me.0.seen in
+      let seen : List (Logged G) = s.me.0.seen in
       let same : left.me.0.seen ≡ seen = ap (λ (m : Me K (View G)). m.0.seen) left_is in
       let end : Final (Seen (Ruled stands may_add) last.id (fresh s.id s.me.0.parts seen)) words items = subst (λ (m : Me K (View G)). Final (Seen (Ruled stands may_add) last.id m.0) words items) last_is fin in
       let h = rules.closes stands may_add _ _ _ _ _ end.1.0.fair last.id (fresh s.id s.me.0.parts seen) end.1.1 refl (ap (λ (p : PassView G). p.parts) shown ∙ all) in
       let stood : stands value (groups seen) = subst (λ k. stands k (groups seen)) (some-injective h.0 value (sym (end.4 0 h.0 h.1) ∙ e)) h.2 in
-      (subst (λ (l : List (Made G)). stands value (groups l)) (sym same) stood, subst (Lawful may_add) (sym same) h.3)
+      (subst (λ (l : List (Logged G)). stands value (groups l)) (sym same) stood, subst (Lawful may_add) (sym same) h.3)
 
   -- after a meeting, both seen lists begin the one that is kept
   pub met_seen : (s t joined after : Seat K (View G)) (number : ℕ) (into other now : PassView G) → pass_view s ≡ into → pass_view t ≡ other → joined.me ≡ (met s.me.0 t.me.0, s.me.1)
       → Learned may_add number joined.me after.me → now ≡ pass_view after → IsPrefix into.seen now.seen × IsPrefix other.seen now.seen
   met_seen s t joined after number into other now first second is learned shown =
-      let xs : List (Made G) = s.me.0.seen in
-      let ys : List (Made G) = t.me.0.seen in
+      let xs : List (Logged G) = s.me.0.seen in
+      let ys : List (Logged G) = t.me.0.seen in
       let b = met_begins xs ys learned.log
-      (subst (λ (l : List (Made G)). IsPrefix l learned.log) (ap (λ (m : Me K (View G)). m.0.seen) is) learned.seen)
-      (subst (λ (l : List (Made G)). IsPrefix l learned.log) (ap (λ (m : Me K (View G)). m.0.also) is) learned.also) in
+      (subst (λ (l : List (Logged G)). IsPrefix l learned.log) (ap (λ (m : Me K (View G)). m.0.seen) is) learned.seen)
+      (subst (λ (l : List (Logged G)). IsPrefix l learned.log) (ap (λ (m : Me K (View G)). m.0.also) is) learned.also) in
       let kept : now.seen ≡ longer xs ys = ap (λ (p : PassView G). p.seen) shown ∙ ap (λ (m : Me K (View G)). m.0.seen) (learned.same ∙ is) in
       let a : xs ≡ into.seen = ap (λ (p : PassView G). p.seen) first in
       let b' : ys ≡ other.seen = ap (λ (p : PassView G). p.seen) second in (
-        subst (λ (l : List (Made G) × List (Made G)). IsPrefix l.0 l.1) (λ i. (a i, sym kept i)) b.0,
-        subst (λ (l : List (Made G) × List (Made G)). IsPrefix l.0 l.1) (λ i. (b' i, sym kept i)) b.1,
+        subst (λ (l : List (Logged G) × List (Logged G)). IsPrefix l.0 l.1) (λ i. (a i, sym kept i)) b.0,
+        subst (λ (l : List (Logged G) × List (Logged G)). IsPrefix l.0 l.1) (λ i. (b' i, sym kept i)) b.1,
       )
 
 module _ {K G A R : Type 0} (stands : K → List G → Type 0) (may_add : List G → G → Type 0) (does : A → K → R → A → K → Type 0) (adds : A → K → R → A → K → G)
@@ -113,7 +113,7 @@ module _ {K G A R : Type 0} (stands : K → List G → Type 0) (may_add : List G
   turned_is = record { empty = ap (λ (m : Me K (View G)). m.1) rests; rests = subst Rests (sym (ap (λ (m : Me K (View G)). m.0.stage) rests)) tt; order = order4 }
 
   fits2 : Fits may_add (pass_view s0) s2.me.0.seen
-  fits2 = record { begins = subst (λ (l : List (Made G)). IsPrefix l s2.me.0.seen) (ap (λ (m : Me K (View G)). m.0.seen) drew) took.begins; mine = mine2; within = is.order; lawful = took.lawful }
+  fits2 = record { begins = subst (λ (l : List (Logged G)). IsPrefix l s2.me.0.seen) (ap (λ (m : Me K (View G)). m.0.seen) drew) took.begins; mine = mine2; within = is.order; lawful = took.lawful }
 
   stood2 : stands ran.before (groups s2.me.0.seen)
   stood2 = subst (λ k. stands k (groups s2.me.0.seen)) (ap (λ (l : List (ℕ × K)). (get_or l 0 (0, ran.before)).1) (sym took.slot ∙ ran.held)) took.stood
@@ -132,7 +132,7 @@ module _ {K G A R : Type 0} (stands : K → List G → Type 0) (may_add : List G
         seen = seen4;
         own = own4;
         begins = subst (IsPrefix s0.me.0.seen) (sym seen4) (prefix_more s0.me.0.seen s2.me.0.seen (made s0.id g ∷ []) fits2.begins);
-        stands_now = subst (λ (l : List (Made G)). stands ran.after (groups l)) (sym (ap (λ (m : Me K (View G)). m.0.seen) rests)) ran.stands_now;
+        stands_now = subst (λ (l : List (Logged G)). stands ran.after (groups l)) (sym (ap (λ (m : Me K (View G)). m.0.seen) rests)) ran.stands_now;
         lawful = subst (Lawful may_add) (sym seen4) (Lawful_more may_add s2.me.0.seen (made s0.id g) took.lawful (subst (λ (l : List G). may_add l g) (sym mine2) may));
         order = order4;
         gate = ap (gate_at s4.table_id) (ap (λ (m : Me K (View G)). m.0.stage) rests) ∙ (same4.0 ∙ same3.0 ∙ same2.0 ∙ same1.0) ∙ sym (ap (gate_at s0.table_id) idle);

@@ -9,7 +9,7 @@ use mathlib.Core.Option.{Option, some, none, some-injective, some-ne-none}
 use native.Mathlib.Decide.{ℕ_discrete, dec_le}
 use lib.ListN.{get_elem?}
 use Rattle.atomic_table.proofs.Lists.{at_set, set_here, set_else, at_longer, at_last}
-use Rattle.vx_gate.specs.declared.views.Made.{Made}
+use Rattle.vx_gate.specs.declared.views.Logged.{Logged}
 use Rattle.vx_gate.specs.declared.views.View.{View}
 use Rattle.vx_gate.specs.declared.views.Stage.{Stage}
 use Rattle.vx_gate.specs.declared.views.Stage.TheVariants.{Idle, Drawn, Turn, Counted, Spent}
@@ -79,7 +79,7 @@ ended_holds Idle h = refl
 ended_holds Spent h = refl
 
 module _ {G : Type 0} where
-  holds_has : (t : ℕ) (log seen : List (Made G)) (st : Stage) → Holds t log seen st → holding st ≤ has t st
+  holds_has : (t : ℕ) (log seen : List (Logged G)) (st : Stage) → Holds t log seen st → holding st ≤ has t st
   holds_has t log seen (Drawn u) h = omega arith
   holds_has t log seen (Turn u) h = omega (arith, has_here t u h.0)
   holds_has t log seen (Counted u) h = omega (arith, has_here t u h.0)
@@ -87,7 +87,7 @@ module _ {G : Type 0} where
   holds_has t log seen Spent h = omega arith
 
   -- of one that doesn't hold the turn nothing is said
-  holds_none : (t : ℕ) (log seen : List (Made G)) (st : Stage) → holding st ≡ 0 → Holds t log seen st
+  holds_none : (t : ℕ) (log seen : List (Logged G)) (st : Stage) → holding st ≡ 0 → Holds t log seen st
   holds_none t log seen (Drawn u) h = tt
   holds_none t log seen (Turn u) h = absurd (omega arith)
   holds_none t log seen (Counted u) h = absurd (omega arith)
@@ -100,7 +100,7 @@ module _ {G : Type 0} where
   each_set P views id w mine others j u e = elim (at_set views id j w u e)
       [ inl h ↦ subst (λ (y : ℕ × View G). P y.0 y.1) (λ i. (sym h.0 i, h.1 i)) mine | inr h ↦ others j u h.0 h.1 ]
 
-  whole_set : (log : List (Made G)) (views : List (View G)) (id : ℕ) (v w : View G) → get_elem? views id ≡ some v → SeenWhole log views
+  whole_set : (log : List (Logged G)) (views : List (View G)) (id : ℕ) (v w : View G) → get_elem? views id ≡ some v → SeenWhole log views
       → (v.seen ≡ log → Live w.stage × (w.seen ≡ log)) → SeenWhole log (set views id w)
   whole_set log views id v w at h keeps = dite (ℕ_discrete h.0 id)
       (λ is.
@@ -110,14 +110,14 @@ module _ {G : Type 0} where
       (λ ne. (h.0, h.1, set_else views id h.0 w ne ∙ h.2, h.3, h.4))
 
   -- what the longer of two beginnings of the history is
-  pub record Longest (xs ys log : List (Made G)) : Type 0 where
+  pub record Longest (xs ys log : List (Logged G)) : Type 0 where
     pub first : IsPrefix xs (longer xs ys)
     pub second : IsPrefix ys (longer xs ys)
     pub seen : IsPrefix (longer xs ys) log
     pub also : IsPrefix (shorter xs ys) log
     pub one : (longer xs ys ≡ xs) ⊎ (longer xs ys ≡ ys)
 
-  pub longest : (xs ys log : List (Made G)) → IsPrefix xs log → IsPrefix ys log → Longest xs ys log
+  pub longest : (xs ys log : List (Logged G)) → IsPrefix xs log → IsPrefix ys log → Longest xs ys log
   longest xs ys log p q = dite (dec_le (length ys) (length xs))
       (λ le.
       let no : nat_lt (length xs) (length ys) ≡ false = grind (arith, nat_tests) in
@@ -144,7 +144,7 @@ module _ {G : Type 0} where
       })
 
   -- the longer of two beginnings is all of the history where one of them is
-  prefix_le : (xs ys : List (Made G)) → IsPrefix xs ys → length xs ≤ length ys
+  prefix_le : (xs ys : List (Logged G)) → IsPrefix xs ys → length xs ≤ length ys
   prefix_le xs ys h = omega (arith, ap length h.1, length-append xs h.0)
 
 module _ {K G : Type 0} (stands : K → List G → Type 0) (may_add : List G → G → Type 0) where
@@ -234,8 +234,8 @@ module _ {K G : Type 0} (stands : K → List G → Type 0) (may_add : List G →
         let live : Live v.stage = subst Live (sym mine) tt in
         let turn : Holds S f.log v.seen (Turn t) = subst (Holds S f.log v.seen) mine k.turn in
         let here : has S v.stage ≡ 1 = ap (has S) mine ∙ has_here S t turn.0 in
-        let log : List (Made G) = f.log ++ made id g ∷ [] in
-        let seen : w.seen ≡ log = ap (λ (l : List (Made G)). l ++ made id g ∷ []) turn.1 in
+        let log : List (Logged G) = f.log ++ made id g ∷ [] in
+        let seen : w.seen ≡ log = ap (λ (l : List (Logged G)). l ++ made id g ∷ []) turn.1 in
         let inside : id < length views = at_below views id v at in
         let turns = sum_set holds_turn views id v w at in
         let one : holding v.stage ≡ 1 = ap holding mine in
@@ -250,7 +250,7 @@ module _ {K G : Type 0} (stands : K → List G → Type 0) (may_add : List G →
           parts = omega (arith, f.parts, sum_set parts_of views id v w at, ap (weight v.parts) mine);
           each_view = each_set (Knows S log) views id w
               record {
-                seen = subst (λ (l : List (Made G)). IsPrefix l log) (sym seen) (prefix_refl log);
+                seen = subst (λ (l : List (Logged G)). IsPrefix l log) (sym seen) (prefix_refl log);
                 also = prefix_more v.also f.log (made id g ∷ []) k.also;
                 own = λ _. made_by_mine id g f.log ∙ ap (λ (l : List G). l ++ g ∷ []) (k.own live);
                 within = λ _. made_by_mine id g v.seen ∙ ap (λ (l : List G). l ++ g ∷ []) (k.within live);
@@ -300,7 +300,7 @@ module _ {K G : Type 0} (stands : K → List G → Type 0) (may_add : List G →
           numbers = below_more f.log _ _ f.numbers (omega (arith, length-set views id w));
           lawful = f.lawful;
           deep = length-set homes 0 (some kept) ∙ f.deep;
-          home = λ _. (kept, set_here homes 0 (some kept) (omega (arith, f.deep)), subst (λ (l : List (Made G)). stands kept (groups l)) turn.1 stood);
+          home = λ _. (kept, set_here homes 0 (some kept) (omega (arith, f.deep)), subst (λ (l : List (Logged G)). stands kept (groups l)) turn.1 stood);
           out = λ e. absurd (omega arith);
         }
 
@@ -409,10 +409,10 @@ module _ {K G : Type 0} (stands : K → List G → Type 0) (may_add : List G →
         (λ is. ap (λ (y : View G). y.seen) (some-injective v o.1 (sym at ∙ ap (get_elem? views) (sym is) ∙ o.2)) ∙ o.4)
         (λ ne. absurd (ended o.0 o.1 ne o.2 o.3)) in
         let h = f.home none_turns in
-        (h.0, h.1, subst (λ (l : List (Made G)). stands h.0 (groups l)) (sym seen) h.2, subst (Lawful may_add) (sym seen) f.lawful)
+        (h.0, h.1, subst (λ (l : List (Logged G)). stands h.0 (groups l)) (sym seen) h.2, subst (Lawful may_add) (sym seen) f.lawful)
 
   -- a new pass, whose number is the number of passes made
-  pub fresh_knows : (T S C : ℕ) (homes : List (Option K)) (views : List (View G)) (f : Fair stands may_add T S C homes views) (maker parts : ℕ) (seen : List (Made G)) → IsPrefix seen f.log → 0 < parts → maker ≢ length views
+  pub fresh_knows : (T S C : ℕ) (homes : List (Option K)) (views : List (View G)) (f : Fair stands may_add T S C homes views) (maker parts : ℕ) (seen : List (Logged G)) → IsPrefix seen f.log → 0 < parts → maker ≢ length views
       → Knows S f.log (length views) (fresh maker parts seen)
   fresh_knows T S C homes views f maker parts seen p some_part apart =
       let nothing : made_by (length views) f.log ≡ [] = made_by_none (length views) (length views) f.log f.numbers (omega arith) in
@@ -423,7 +423,7 @@ module _ {K G : Type 0} (stands : K → List G → Type 0) (may_add : List G →
   first_knows zero v e = subst (Knows 0 [] 0) (some-injective first_view v e) record { seen = ([], refl); also = ([], refl); own = λ _. refl; within = λ _. refl; part = λ _. (let p : 0 < 4294967296 = omega arith in p); maker = λ _ e. omega arith; turn = tt }
   first_knows (suc j) v e = absurd (some-ne-none v (sym e))
 
-  nothing_at : (before after : List (Made G)) (m : Made G) → ¬ ([] ≡ before ++ m ∷ after)
+  nothing_at : (before after : List (Logged G)) (m : Logged G) → ¬ ([] ≡ before ++ m ∷ after)
   nothing_at [] after m e = cc
   nothing_at (b ∷ bs) after m e = cc
 

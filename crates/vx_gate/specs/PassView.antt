@@ -1,7 +1,7 @@
 -- What a contract sees of a pass.
 use Rattle.std.specs.Prelude.{ℕ, List}
 use Rattle.atomic_table.specs.Seated.{TableId}
-use Rattle.vx_gate.specs.declared.views.Made.{Made}
+use Rattle.vx_gate.specs.declared.views.Logged.{Logged}
 
 -- which gate it is
 abbrev pub GateId : Type 0
@@ -12,5 +12,5 @@ pub record PassView (G : Type 0) : Type 0 where
   pub gate : GateId
   pub number : ℕ
   pub parts : ℕ
-  pub seen : List (Made G)
+  pub seen : List (Logged G)
   pub own : List G

@@ -6,7 +6,7 @@ use mathlib.Core.List.{IsPrefix}
 use mathlib.Core.Option.{Option, none, some}
 use lib.ListN.{get_elem?}
 use Rattle.atomic_table.specs.Table.{State}
-use Rattle.vx_gate.specs.declared.views.Made.{Made}
+use Rattle.vx_gate.specs.declared.views.Logged.{Logged}
 use Rattle.vx_gate.specs.declared.views.View.{View}
 use Rattle.vx_gate.specs.declared.views.Stage.{Stage}
 use Rattle.vx_gate.specs.declared.views.Stage.TheVariants.{Idle, Drawn, Turn, Counted, Spent}
@@ -61,7 +61,7 @@ weight parts (Turn u) = parts
 weight parts (Counted u) = parts
 
 -- one that holds the turn has the ticket that is served, and has seen all of the history
-abbrev pub Holds : {G : Type 0} → ℕ → List (Made G) → List (Made G) → Stage → Type 0
+abbrev pub Holds : {G : Type 0} → ℕ → List (Logged G) → List (Logged G) → Stage → Type 0
 Holds serving log seen (Turn u) = (u ≡ serving) × (seen ≡ log)
 Holds serving log seen (Counted u) = (u ≡ serving) × (seen ≡ log)
 Holds serving log seen (Drawn u) = Unit {0}
@@ -70,7 +70,7 @@ Holds serving log seen Spent = Unit {0}
 
 module _ {G : Type 0} where
   -- What holds of the view of the pass with this number: what it has seen begins the history, its own groups are the history's groups of its number, all among what it has seen, and it has a part and was parted from another pass
-  pub record Knows (serving : ℕ) (log : List (Made G)) (number : ℕ) (v : View G) : Type 0 where
+  pub record Knows (serving : ℕ) (log : List (Logged G)) (number : ℕ) (v : View G) : Type 0 where
     pub seen : IsPrefix v.seen log
     pub also : IsPrefix v.also log
     pub own : Live v.stage → made_by number log ≡ v.own
@@ -95,12 +95,12 @@ module _ {G : Type 0} where
   parts_of v = weight v.parts v.stage
 
   -- some view that goes on has seen all of the history
-  abbrev pub SeenWhole : List (Made G) → List (View G) → Type 0
+  abbrev pub SeenWhole : List (Logged G) → List (View G) → Type 0
   SeenWhole log views = (j : ℕ) × (v : View G) × (get_elem? views j ≡ some v) × Live v.stage × (v.seen ≡ log)
 
 -- The rule over the next ticket, the ticket that is served, the number of groups, the slot and the views
 pub record Fair {K G : Type 0} (stands : K → List G → Type 0) (may_add : List G → G → Type 0) (next served count : ℕ) (homes : List (Option K)) (views : List (View G)) : Type 0 where
-  pub log : List (Made G)
+  pub log : List (Logged G)
   -- the tickets out are the numbers from the one that is served to below the next one, each in one view
   pub tickets : (t : ℕ) → sum_by (has_ticket t) views ≡ cond (nat_le served t && nat_lt t next) 1 0
   pub outs : next ≡ served + sum_by is_out views
@@ -112,7 +112,7 @@ pub record Fair {K G : Type 0} (stands : K → List G → Type 0) (may_add : Lis
   pub each_view : (j : ℕ) (v : View G) → get_elem? views j ≡ some v → Knows served log j v
   pub whole : SeenWhole log views
   -- groups have the numbers of passes that were made, and each is one that its pass could add
-  pub numbers : (k : ℕ) (m : Made G) → get_elem? log k ≡ some m → m.by < length views
+  pub numbers : (k : ℕ) (m : Logged G) → get_elem? log k ≡ some m → m.by < length views
   pub lawful : Lawful may_add log
   -- the slot is at home exactly where no view holds the turn, and its value then stands for the history
   pub deep : length homes ≡ 1

@@ -2,7 +2,7 @@
 use Rattle.std.specs.Prelude.{◌≡◌, ◌≢◌, ℕ, ◌+◌, ◌-◌, List, [], ◌∷◌, ◌++◌, length, cond, nat_lt}
 use mathlib.Core.List.{IsPrefix}
 use Rattle.atomic_table.specs.Table.{Me, Step, rest}
-use Rattle.vx_gate.specs.declared.views.Made.{Made}
+use Rattle.vx_gate.specs.declared.views.Logged.{Logged}
 use Rattle.vx_gate.specs.declared.views.View.{View}
 use Rattle.vx_gate.specs.declared.views.Stage.{Stage}
 use Rattle.vx_gate.specs.declared.views.Stage.TheVariants.{Idle, Drawn, Turn, Counted, Spent}
@@ -18,13 +18,13 @@ module _ {G : Type 0} where
   first_view = record { stage = Idle; maker = 1; parts = 4294967296; seen = []; also = []; own = [] }
 
   -- a new pass, parted from that one, with so many parts, which has seen this and made nothing
-  abbrev pub fresh : ℕ → ℕ → List (Made G) → View G
+  abbrev pub fresh : ℕ → ℕ → List (Logged G) → View G
   fresh maker parts seen = record { stage = Idle; maker = maker; parts = parts; seen = seen; also = []; own = [] }
 
-  abbrev pub longer : List (Made G) → List (Made G) → List (Made G)
+  abbrev pub longer : List (Logged G) → List (Logged G) → List (Logged G)
   longer xs ys = cond (nat_lt (length xs) (length ys)) ys xs
 
-  abbrev pub shorter : List (Made G) → List (Made G) → List (Made G)
+  abbrev pub shorter : List (Logged G) → List (Logged G) → List (Logged G)
   shorter xs ys = cond (nat_lt (length xs) (length ys)) xs ys
 
   -- the view gives one part away
@@ -73,7 +73,7 @@ module _ {K G : Type 0} where
   -- nothing changed; what was seen, and what came with the last pass that it met, begin one lawful history, in which its own groups stand
   pub record Learned (may_add : List G → G → Type 0) (number : ℕ) (m m' : Me K (View G)) : Type 0 where
     pub same : m' ≡ m
-    pub log : List (Made G)
+    pub log : List (Logged G)
     pub seen : IsPrefix m.0.seen log
     pub also : IsPrefix m.0.also log
     pub mine : made_by number log ≡ m.0.own

@@ -1,12 +1,12 @@
 -- What a turn asks of its caller, and what it does.
 use Rattle.std.specs.Prelude.{◌≡◌, List, [], ◌∷◌, ◌++◌}
 use mathlib.Core.List.{IsPrefix}
-use Rattle.vx_gate.specs.declared.views.Made.{Made}
+use Rattle.vx_gate.specs.declared.views.Logged.{Logged}
 use Rattle.vx_gate.specs.History.{made, groups, made_by, Lawful}
 use Rattle.vx_gate.specs.PassView.{PassView}
 
 -- The history, at some moment, as far as the pass knows it: it begins with what the pass has seen, where all of the pass's own groups stand, and it is lawful
-pub record Fits {G : Type 0} (may_add : List G → G → Type 0) (pass : PassView G) (log : List (Made G)) : Type 0 where
+pub record Fits {G : Type 0} (may_add : List G → G → Type 0) (pass : PassView G) (log : List (Logged G)) : Type 0 where
   pub begins : IsPrefix pass.seen log
   pub mine : made_by pass.number log ≡ pass.own
   pub within : made_by pass.number pass.seen ≡ pass.own
@@ -20,11 +20,11 @@ module _ {K G A R : Type 0} (may_add : List G → G → Type 0) where
 module _ {K G A R : Type 0} (stands : K → List G → Type 0) (may_add : List G → G → Type 0) where
   -- Whatever the history and the value are at the turn, the act may be run, and the pass may add its group
   abbrev pub MayTurn : (A → K → Type 0) → (A → K → R → A → K → Type 0) → (A → K → R → A → K → G) → PassView G → A → Type 0
-  MayTurn asks does adds pass act = (log : List (Made G)) (kept : K) → Fits may_add pass log → stands kept (groups log) → MayRun may_add asks does adds pass.own act kept
+  MayTurn asks does adds pass act = (log : List (Logged G)) (kept : K) → Fits may_add pass log → stands kept (groups log) → MayRun may_add asks does adds pass.own act kept
 
   -- The turn of a pass took an act to act', with this answer, and gave back pass': the history was `log`, for which the value `before` stood, and `after` is the value that the act left
   pub record Turned (does : A → K → R → A → K → Type 0) (adds : A → K → R → A → K → G) (pass : PassView G) (act : A) (answer : R) (act' : A) (pass' : PassView G) : Type 0 where
-    pub log : List (Made G)
+    pub log : List (Logged G)
     pub before : K
     pub after : K
     pub fits : Fits may_add pass log

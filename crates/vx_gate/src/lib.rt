@@ -18,4 +18,4 @@ mod waiting;
 pub use acts::{Act, Kept};
 pub use gates::{Gate, GateRefused, Turns};
 pub use passes::{Pass, PassOf};
-pub use views::Made;
+pub use views::Logged;

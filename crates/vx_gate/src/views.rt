@@ -2,7 +2,7 @@
 use std::collections::LinkedList;
 
 /// A group of the history, and the number of the pass that made it.
-pub struct Made<G> {
+pub struct Logged<G> {
     pub by: u64,
     pub group: G,
 }
@@ -24,9 +24,9 @@ pub struct View<G> {
     /// Its part of the right to close the gate.
     pub parts: u64,
     /// The beginning of the history that it has seen.
-    pub seen: LinkedList<Made<G>>,
+    pub seen: LinkedList<Logged<G>>,
     /// Another such beginning, which came with the last pass that it met.
-    pub also: LinkedList<Made<G>>,
+    pub also: LinkedList<Logged<G>>,
     /// The groups that it made, in order.
     pub own: LinkedList<G>,
 }

@@ -56,5 +56,5 @@ pub record StandsFor (f : FineState) (log : List Group) : Type 0 where
   pub same : f ≡ at_moment last f.state.moment
   pub later : last.state.moment ≤ f.state.moment
   pub moment : f.state.moment ≡ last_moment log
-  pub ports : All (λ g. g.abort_port ≡ f.state.tables.abort_port) log
+  pub slots : All (λ g. g.abort_port ≡ f.state.tables.abort_port) log
   pub rise : MomentsRise 0 log

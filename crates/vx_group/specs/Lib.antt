@@ -1,3 +1,3 @@
 pub mod Groups
-pub mod Seats
+pub mod Phases
 pub mod Owning

@@ -2,10 +2,10 @@
 use Rattle.std.specs.Prelude.{◌≡◌, ℕ, Bool, true, List, [], ◌∷◌, ◌++◌, Option, Some, None, ◌&&◌}
 use Rattle.std.specs.List.{Contains}
 use Rattle.vx_calls.specs.declared.calls.Role.{Role}
-use Rattle.vx_gate.specs.declared.views.Made.{Made}
+use Rattle.vx_gate.specs.declared.views.Logged.{Logged}
 use Rattle.vx_flow.specs.Event.{Event, Up, Down, Arrive, Answer, Abort, Sample, Take, Begin, Move, Dial}
 use Rattle.vx_group.specs.Groups.{Group, events_of}
-use Rattle.vx_group.specs.Seats.{seat_by, is_up}
+use Rattle.vx_group.specs.Phases.{phase_by, is_up}
 
 -- the connection whose event it is; a sample of SRQ is no connection's, and an interrupt may be taken by any pass
 abbrev pub owner_of : Event → Option ℕ
@@ -23,7 +23,7 @@ owner_of (Take conn chan given) = None
 -- whether these events have the connection up, where there is one
 abbrev pub has_up : List Event → Option ℕ → Bool
 has_up events None = true
-has_up events (Some conn) = is_up (seat_by conn events)
+has_up events (Some conn) = is_up (phase_by conn events)
 
 -- whether a pass that made these events may make this one: its connection comes up with it, or is up by them
 abbrev pub may_make : List Event → Event → Bool
@@ -48,16 +48,16 @@ abbrev pub MayAdd : List Group → Group → Type 0
 MayAdd own g = may_make_all (events_of own) g.events ≡ true
 
 -- the group, of the pass that made it, has the connection come up
-abbrev pub Raises : ℕ → Made Group → Type 0
+abbrev pub Raises : ℕ → Logged Group → Type 0
 Raises conn m = (r : Role) × Contains m.group.events (Up conn r)
 
 -- Each event of a connection stands in a group of the pass that has it come up, and no other pass has it come up.
-pub record IsOwned (log : List (Made Group)) (m : Made Group) (conn : ℕ) : Type 0 where
-  pub raiser : Made Group
+pub record IsOwned (log : List (Logged Group)) (m : Logged Group) (conn : ℕ) : Type 0 where
+  pub raiser : Logged Group
   pub in_log : Contains log raiser
   pub raises : Raises conn raiser
   pub same : raiser.by ≡ m.by
-  pub alone : (other : Made Group) → Contains log other → Raises conn other → other.by ≡ m.by
+  pub alone : (other : Logged Group) → Contains log other → Raises conn other → other.by ≡ m.by
 
-abbrev pub Owned : List (Made Group) → Type 0
-Owned log = (m : Made Group) (e : Event) (conn : ℕ) → Contains log m → Contains m.group.events e → owner_of e ≡ Some conn → IsOwned log m conn
+abbrev pub Owned : List (Logged Group) → Type 0
+Owned log = (m : Logged Group) (e : Event) (conn : ℕ) → Contains log m → Contains m.group.events e → owner_of e ≡ Some conn → IsOwned log m conn

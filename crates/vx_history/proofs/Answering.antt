@@ -18,7 +18,7 @@ use Rattle.vx_rules.specs.Table.{Link}
 use Rattle.vx_rules.specs.Locks.{holds, with_lock}
 use Rattle.vx_rules.specs.State.{Pending, Tables, State, pending_at, with_pending}
 use Rattle.vx_rules.specs.Checks.{NamedLink, NoLink, DeadLink, OnLink, named_link}
-use Rattle.vx_rules.specs.Lines.{Lines, first_lines}
+use Rattle.vx_rules.specs.Lines.{Admission, first_lines}
 use Rattle.vx_rules.specs.Effects.{create, locked, effect_on, effect, settle}
 use Rattle.vx_rules.specs.Decide.{Outside, settles, decide}
 use Rattle.vx_rules.specs.One.{answer, answer_to, answered, if_reply}
@@ -78,7 +78,7 @@ settle-steady t conn (call.CreateIntr host port prog vers family) false = steady
 settle-steady t conn _ up = tt
 
 -- so does every answer that is decided
-found-steady : (t : Tables) (w : Wire) (conn : ℕ) (p : Pending) (l : Lines) (d : Reply × Tables) → Found t w conn p l d → Steady t d.1
+found-steady : (t : Tables) (w : Wire) (conn : ℕ) (p : Pending) (l : Admission) (d : Reply × Tables) → Found t w conn p l d → Steady t d.1
 found-steady t w conn p l d (Same e) = subst (Steady t) (sym e) (steady-refl t)
 found-steady t w conn p l d (Settled up h) = subst (FoundSteady t) h (settle-steady t conn p.call up)
 found-steady t w conn p l d (Effected passed bus h) = subst (FoundSteady t) h (effect-steady t w.own conn (named_link t conn p.call) p.call)

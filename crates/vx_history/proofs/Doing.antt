@@ -11,7 +11,7 @@ use Rattle.vx_calls.specs.declared.calls.Role.TheVariants as role
 use Rattle.vx_calls.specs.ErrorCode.{same_error}
 use Rattle.vx_calls.specs.Call.{Call}
 use Rattle.vx_488.specs.Wire.{wire_after}
-use Rattle.vx_rules.specs.Desk.{given, taken, sampled}
+use Rattle.vx_rules.specs.SrqState.{given, taken, sampled}
 use Rattle.vx_rules.specs.Entry as entry
 use Rattle.vx_rules.specs.State.{Pending, Connection, Tables, State, same_role, connection_at, role_at, pending_at, has_role_of, lives_as, is_idle, has_room, with_pending, with_connection, without_connection}
 use Rattle.vx_rules.specs.One.{one, may_wait, arrived, same_given, abort_reply, abort_tables}
@@ -57,8 +57,8 @@ Does f (Down conn) g = Has g (without_connection f.state.tables conn) (without_d
 Does f (Arrive conn asked now) g = Comes f conn asked now g
 Does f (Answer conn now failed dialed level told) g = IsAnswered f conn now g
 Does f (Abort conn lid told) g = Has g (abort_tables f.state.tables lid) f.dialed f.state.moment
-Does f (Sample now srq) g = IsLater f (record f.state.tables { desk = sampled f.state.tables.desk srq }) now g
-Does f (Take conn chan told) g = Has g (record f.state.tables { desk = taken f.state.tables.desk conn chan }) f.dialed f.state.moment
+Does f (Sample now srq) g = IsLater f (record f.state.tables { srq_state = sampled f.state.tables.srq_state srq }) now g
+Does f (Take conn chan told) g = Has g (record f.state.tables { srq_state = taken f.state.tables.srq_state conn chan }) f.dialed f.state.moment
 Does f (Begin conn now) g = IsLater f f.state.tables now g
 Does f (Move conn moves) g = Has g f.state.tables f.dialed f.state.moment
 Does f (Dial conn now) g = Dials f conn now g
@@ -120,16 +120,16 @@ step-does (Abort conn lid told) f g h =
     (record { tables = refl; dialed_are = refl; moment_is = refl })
 step-does (Sample now srq) f g h =
     let t = f.state.tables in
-    let u : Tables = record t { desk = sampled t.desk srq } in
+    let u : Tables = record t { srq_state = sampled t.srq_state srq } in
     let step = mapped (fine_after f (Sample now srq) f.dialed) (one f.state (entry.Sample now srq)) g h in
     let parts = cond_some (nat_le f.state.moment now) (record f.state { tables = u; moment = now }) step.0 step.1 in
     subst (IsLater f u now) (ap (fine_after f (Sample now srq) f.dialed) parts.1 ∙ step.2)
     (record { late = leb-true f.state.moment now parts.0; has = record { tables = refl; dialed_are = refl; moment_is = refl } })
 step-does (Take conn chan told) f g h =
     let t = f.state.tables in
-    let u : Tables = record t { desk = taken t.desk conn chan } in
+    let u : Tables = record t { srq_state = taken t.srq_state conn chan } in
     let step = mapped (fine_after f (Take conn chan told) f.dialed) (one f.state (entry.Take conn chan told)) g h in
-    let parts = cond_some (is_some (connection_at t conn) && same_given (given t.desk conn chan) told) (record f.state { tables = u }) step.0 step.1 in
+    let parts = cond_some (is_some (connection_at t conn) && same_given (given t.srq_state conn chan) told) (record f.state { tables = u }) step.0 step.1 in
     subst (λ x. Has x u f.dialed f.state.moment) (ap (fine_after f (Take conn chan told) f.dialed) parts.1 ∙ step.2)
     (record { tables = refl; dialed_are = refl; moment_is = refl })
 step-does (Begin conn now) f g h =

@@ -10,13 +10,13 @@ use Rattle.vx_rules.specs.State.{Tables}
 use Rattle.vx_flow.specs.Event.{Event, Up, Down, Arrive, Answer, Abort, Sample, Take, Begin, Move, Dial}
 use Rattle.vx_flow.specs.FineState.{FineState}
 use Rattle.vx_flow.specs.Fine.{fine}
-use Rattle.vx_group.specs.Seats.{Seat, Absent, Idle, Asked, seat_after, seat_by, is_up, Seats}
+use Rattle.vx_group.specs.Phases.{Phase, Absent, Idle, Asked, phase_after, phase_by, is_up, HasPhase}
 use Rattle.vx_group.specs.Owning.{owner_of, may_make}
 use Rattle.vx_history.proofs.Doing.{fine-does}
 use Rattle.vx_history.proofs.Onward.{fine-onward}
 use Rattle.vx_history.proofs.Plainly.{Plainly, fine-plainly}
 use Rattle.vx_history.proofs.Rows.{changes, does-keeps}
-use Rattle.vx_history.proofs.Seating.{seat-more, seat-other, keeps-seat, changes-or, made-seat}
+use Rattle.vx_history.proofs.Phasing.{phase-more, phase-other, keeps-phase, changes-or, made-phase}
 
 -- the events of each pass, by its number
 abbrev pub Own : Type 0
@@ -30,10 +30,10 @@ HasRaised es conn = (r : Role) × Contains es (Up conn r)
 -- no other pass had it come up; and one that is up by a pass's events, or of which a pass made an event, that pass had come up.
 pub record Known (own : Own) (f : FineState) : Type 0 where
   pub plain : Plainly f
-  pub seats : (n conn : ℕ) → Seats f conn (seat_by conn (own n))
+  pub phases : (n conn : ℕ) → HasPhase f conn (phase_by conn (own n))
   pub given : (n conn : ℕ) (r : Role) → Contains (own n) (Up conn r) → conn < f.state.tables.next_connection
   pub once : (n m conn : ℕ) (r q : Role) → Contains (own n) (Up conn r) → Contains (own m) (Up conn q) → n ≡ m
-  pub raised : (n conn : ℕ) → is_up (seat_by conn (own n)) ≡ true → HasRaised (own n) conn
+  pub raised : (n conn : ℕ) → is_up (phase_by conn (own n)) ≡ true → HasRaised (own n) conn
   pub owned : (n conn : ℕ) (e : Event) → Contains (own n) e → owner_of e ≡ Some conn → HasRaised (own n) conn
 
 -- ---- what an event tells
@@ -53,11 +53,11 @@ changes-owner (Move c moves) conn h = absurd (none-some conn h)
 
 -- a pass that may make a connection's event has it up, or has it come up by that event
 abbrev RaisesNow : List Event → Event → ℕ → Type 0
-RaisesNow own e conn = ((r : Role) × (e ≡ Up conn r)) ⊎ (is_up (seat_by conn own) ≡ true)
+RaisesNow own e conn = ((r : Role) × (e ≡ Up conn r)) ⊎ (is_up (phase_by conn own) ≡ true)
 
 -- a pass that may make it where it has the connection up
-has-up : (own : List Event) (e : Event) (c conn : ℕ) → Some c ≡ Some conn → is_up (seat_by c own) ≡ true → RaisesNow own e conn
-has-up own e c conn h may = inr (subst (λ k. is_up (seat_by k own) ≡ true) (same_Some c conn h) may)
+has-up : (own : List Event) (e : Event) (c conn : ℕ) → Some c ≡ Some conn → is_up (phase_by c own) ≡ true → RaisesNow own e conn
+has-up own e c conn h may = inr (subst (λ k. is_up (phase_by k own) ≡ true) (same_Some c conn h) may)
 
 -- so it is of each event that the pass may make
 made-raised : (e : Event) (own : List Event) (conn : ℕ) → may_make own e ≡ true → owner_of e ≡ Some conn → RaisesNow own e conn
@@ -72,11 +72,11 @@ made-raised (Dial c now) own conn may h = has-up own (Dial c now) c conn h may
 made-raised (Sample now srq) own conn may h = absurd (none-some conn h)
 made-raised (Take c chan given) own conn may h = absurd (none-some conn h)
 
--- of a connection that isn't up a seat tells nothing
-absent-seat : (seat : Seat) (g : FineState) (conn : ℕ) → is_up seat ≡ false → Seats g conn seat
-absent-seat Absent g conn h = tt
-absent-seat (Idle r) g conn h = cc
-absent-seat (Asked call dialed) g conn h = cc
+-- of a connection that isn't up a phase tells nothing
+absent-phase : (phase : Phase) (g : FineState) (conn : ℕ) → is_up phase ≡ false → HasPhase g conn phase
+absent-phase Absent g conn h = tt
+absent-phase (Idle r) g conn h = cc
+absent-phase (Asked call dialed) g conn h = cc
 
 -- a connection that comes up has the number that comes next, which is used up
 record UsesNext (f g : FineState) (conn : ℕ) : Type 0 where
@@ -159,50 +159,50 @@ module _ (own new : Own) (n : ℕ) (e : Event) (f g : FineState) (more : OneMore
     by (inr now) = subst (λ j. HasRaised (new j) conn) (sym now.0) (new-raised conn (ap owner_of now.1 ∙ of_it))
 
   -- and so it had one that is up by its events
-  more-raised : (k conn : ℕ) → is_up (seat_by conn (new k)) ≡ true → HasRaised (new k) conn
+  more-raised : (k conn : ℕ) → is_up (phase_by conn (new k)) ≡ true → HasRaised (new k) conn
   more-raised k conn up = by (cases_eq k n) where
-    at : is_up (seat_after conn (seat_by conn (own n)) e) ≡ true → (changes e ≡ Some conn) ⊎ (changes e ≡ Some conn → ⊥) → HasRaised (new n) conn
+    at : is_up (phase_after conn (phase_by conn (own n)) e) ≡ true → (changes e ≡ Some conn) ⊎ (changes e ≡ Some conn → ⊥) → HasRaised (new n) conn
     at up (inl is) = new-raised conn (changes-owner e conn is)
     at up (inr other) =
-        raised-still n conn (known.raised n conn (sym (ap is_up (seat-other e conn (seat_by conn (own n)) other)) ∙ up))
+        raised-still n conn (known.raised n conn (sym (ap is_up (phase-other e conn (phase_by conn (own n)) other)) ∙ up))
 
     by : (k ≡ n) ⊎ (k ≡ n → ⊥) → HasRaised (new k) conn
     by (inl is) =
         subst (λ j. HasRaised (new j) conn) (sym is)
-        (at (sym (ap is_up (seat-more conn Absent (own n) e)) ∙ ap (λ es. is_up (seat_by conn es)) (sym more.here ∙ ap new (sym is)) ∙ up) (changes-or e conn))
+        (at (sym (ap is_up (phase-more conn Absent (own n) e)) ∙ ap (λ es. is_up (phase_by conn es)) (sym more.here ∙ ap new (sym is)) ∙ up) (changes-or e conn))
     by (inr ne) =
-        raised-still k conn (known.raised k conn (ap (λ es. is_up (seat_by conn es)) (sym (more.there k ne)) ∙ up))
+        raised-still k conn (known.raised k conn (ap (λ es. is_up (phase_by conn es)) (sym (more.there k ne)) ∙ up))
 
   -- the event is of no connection that is up by the events of another pass
-  not-another : (k conn : ℕ) → k ≢ n → owner_of e ≡ Some conn → is_up (seat_by conn (own k)) ≡ true → ⊥
+  not-another : (k conn : ℕ) → k ≢ n → owner_of e ≡ Some conn → is_up (phase_by conn (own k)) ≡ true → ⊥
   not-another k conn ne of_it up = by (known.raised k conn up) (made-raised e (own n) conn may of_it) where
     by : HasRaised (own k) conn → RaisesNow (own n) e conn → ⊥
     by before (inl now) = not-before k conn before.0 now.0 before.1 now.1
     by before (inr mine) = let also = known.raised n conn mine in ne (known.once k n conn before.0 also.0 before.1 also.1)
 
   -- the state has each connection as the events of each other pass tell
-  other-seat : (k conn : ℕ) → k ≢ n → Seats g conn (seat_by conn (own k))
-  other-seat k conn ne = by (changes-or e conn) (cases_Bool (is_up (seat_by conn (own k)))) where
-    by : (changes e ≡ Some conn) ⊎ (changes e ≡ Some conn → ⊥) → (is_up (seat_by conn (own k)) ≡ true) ⊎ (is_up (seat_by conn (own k)) ≡ false)
-        → Seats g conn (seat_by conn (own k))
-    by (inr other) up = keeps-seat (seat_by conn (own k)) f g conn (does-keeps e f g conn other (fine-does e f g h)) (known.seats k conn)
+  other-phase : (k conn : ℕ) → k ≢ n → HasPhase g conn (phase_by conn (own k))
+  other-phase k conn ne = by (changes-or e conn) (cases_Bool (is_up (phase_by conn (own k)))) where
+    by : (changes e ≡ Some conn) ⊎ (changes e ≡ Some conn → ⊥) → (is_up (phase_by conn (own k)) ≡ true) ⊎ (is_up (phase_by conn (own k)) ≡ false)
+        → HasPhase g conn (phase_by conn (own k))
+    by (inr other) up = keeps-phase (phase_by conn (own k)) f g conn (does-keeps e f g conn other (fine-does e f g h)) (known.phases k conn)
     by (inl is) (inl up) = absurd (not-another k conn ne (changes-owner e conn is) up)
-    by (inl is) (inr down) = absent-seat (seat_by conn (own k)) g conn down
+    by (inl is) (inr down) = absent-phase (phase_by conn (own k)) g conn down
 
   -- and as those of the pass that made the event tell
-  more-seats : (k conn : ℕ) → Seats g conn (seat_by conn (new k))
-  more-seats k conn = by (cases_eq k n) where
-    by : (k ≡ n) ⊎ (k ≡ n → ⊥) → Seats g conn (seat_by conn (new k))
+  more-phases : (k conn : ℕ) → HasPhase g conn (phase_by conn (new k))
+  more-phases k conn = by (cases_eq k n) where
+    by : (k ≡ n) ⊎ (k ≡ n → ⊥) → HasPhase g conn (phase_by conn (new k))
     by (inl is) =
-        subst (λ es. Seats g conn (seat_by conn es)) (sym (ap new is ∙ more.here))
-        (made-seat e (own n) f g conn may known.plain (known.seats n conn) (fine-does e f g h))
-    by (inr ne) = subst (λ es. Seats g conn (seat_by conn es)) (sym (more.there k ne)) (other-seat k conn ne)
+        subst (λ es. HasPhase g conn (phase_by conn es)) (sym (ap new is ∙ more.here))
+        (made-phase e (own n) f g conn may known.plain (known.phases n conn) (fine-does e f g h))
+    by (inr ne) = subst (λ es. HasPhase g conn (phase_by conn es)) (sym (more.there k ne)) (other-phase k conn ne)
 
   -- all of it is known behind one event more, which the pass may make
   pub known-more : Known new g
   known-more = record {
     plain = fine-plainly e f g known.plain h;
-    seats = more-seats;
+    phases = more-phases;
     given = more-given;
     once = more-once;
     raised = more-raised;

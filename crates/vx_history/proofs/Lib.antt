@@ -4,7 +4,7 @@ pub mod Onward
 pub mod Standing
 pub mod Plainly
 pub mod Rows
-pub mod Seating
+pub mod Phasing
 pub mod Knowing
 pub mod Turns
 pub mod Owning

@@ -3,21 +3,21 @@ use Rattle.std.proofs.Common.{◌≡◌, ◌<◌, ◌==◌, ◌++◌, ◌⊎◌,
 use Rattle.std.specs.List.{Contains, filter}
 use Rattle.std.proofs.lemmas.Bool.{cases_eq, eq-eqb, ne_eqb, cond-true, cond-false}
 use Rattle.std.proofs.lemmas.List.Elements.{Contains-append_left, Contains-append_right, Contains-append_cases}
-use Rattle.vx_gate.specs.declared.views.Made.{Made}
+use Rattle.vx_gate.specs.declared.views.Logged.{Logged}
 use Rattle.vx_gate.specs.History.{groups}
 use Rattle.vx_flow.specs.Event.{Event, Up}
 use Rattle.vx_group.specs.Groups.{Group, events_of}
-use Rattle.vx_group.specs.Seats.{Seats, seat_by}
-use Rattle.vx_history.specs.Laws.{SeatsLaw, OwnedLaw}
-use Rattle.vx_history.proofs.Seating.{later-seat}
+use Rattle.vx_group.specs.Phases.{HasPhase, phase_by}
+use Rattle.vx_history.specs.Laws.{PhaseLaw, OwnedLaw}
+use Rattle.vx_history.proofs.Phasing.{later-phase}
 use Rattle.vx_history.proofs.Turns.{own_of, history-known}
 
 -- the state has each connection as the groups of a pass tell
-pub seats-hold : SeatsLaw
-seats-hold log f number conn law stands =
-    let seat = seat_by conn (own_of log number) in
-    subst (λ s. Seats s conn seat) (sym stands.same)
-    (later-seat seat stands.last f.state.moment conn ((history-known log f law stands).seats number conn))
+pub phases-hold : PhaseLaw
+phases-hold log f number conn law stands =
+    let phase = phase_by conn (own_of log number) in
+    subst (λ s. HasPhase s conn phase) (sym stands.same)
+    (later-phase phase stands.last f.state.moment conn ((history-known log f law stands).phases number conn))
 
 -- ---- where an event stands
 
@@ -27,7 +27,7 @@ stands-in x xs y zero within is = inl is
 stands-in x xs y (suc k) within is = inr (k, omega arith, is)
 
 -- a pass's events in a history by its first group
-own-cons : (n : ℕ) (x : Made Group) (log : List (Made Group)) → own_of (x ∷ log) n ≡ cond (x.by == n) (x.group.events ++ own_of log n) (own_of log n)
+own-cons : (n : ℕ) (x : Logged Group) (log : List (Logged Group)) → own_of (x ∷ log) n ≡ cond (x.by == n) (x.group.events ++ own_of log n) (own_of log n)
 own-cons n x log = by (x.by == n) where
   by : (b : Bool) → events_of (groups (cond b (x ∷ filter (λ m. m.by == n) log) (filter (λ m. m.by == n) log)))
       ≡ cond b (x.group.events ++ own_of log n) (own_of log n)
@@ -35,15 +35,15 @@ own-cons n x log = by (x.by == n) where
   by false = refl
 
 -- where the group is its own it has the group's events in front
-own-mine : (n : ℕ) (x : Made Group) (log : List (Made Group)) → x.by ≡ n → own_of (x ∷ log) n ≡ x.group.events ++ own_of log n
+own-mine : (n : ℕ) (x : Logged Group) (log : List (Logged Group)) → x.by ≡ n → own_of (x ∷ log) n ≡ x.group.events ++ own_of log n
 own-mine n x log is = own-cons n x log ∙ cond-true (x.by == n) (x.group.events ++ own_of log n) (own_of log n) (eq-eqb x.by n is)
 
 -- where the group is of another pass it has the rest alone
-own-other : (n : ℕ) (x : Made Group) (log : List (Made Group)) → (x.by ≡ n → ⊥) → own_of (x ∷ log) n ≡ own_of log n
+own-other : (n : ℕ) (x : Logged Group) (log : List (Logged Group)) → (x.by ≡ n → ⊥) → own_of (x ∷ log) n ≡ own_of log n
 own-other n x log ne = own-cons n x log ∙ cond-false (x.by == n) (x.group.events ++ own_of log n) (own_of log n) (ne_eqb x.by n ne)
 
 -- an event of a group is one of the pass that made the group
-in-own : (log : List (Made Group)) (m : Made Group) (e : Event) → Contains log m → Contains m.group.events e → Contains (own_of log m.by) e
+in-own : (log : List (Logged Group)) (m : Logged Group) (e : Event) → Contains log m → Contains m.group.events e → Contains (own_of log m.by) e
 in-own [] m e none at = absurd (omega (arith, none.1))
 in-own (x ∷ log) m e in_log at = by (stands-in x log m in_log.0 in_log.1 in_log.2) (in-own log m e) where
   behind : (x.by ≡ m.by) ⊎ (x.by ≡ m.by → ⊥) → Contains (own_of log m.by) e → Contains (own_of (x ∷ log) m.by) e
@@ -52,23 +52,23 @@ in-own (x ∷ log) m e in_log at = by (stands-in x log m in_log.0 in_log.1 in_lo
 
   by : (x ≡ m) ⊎ Contains log m → (Contains log m → Contains m.group.events e → Contains (own_of log m.by) e) → Contains (own_of (x ∷ log) m.by) e
   by (inl is) rest =
-      subst (λ es. Contains es e) (sym (own-mine m.by x log (ap (λ (y : Made Group). y.by) is)))
-      (Contains-append_left x.group.events (own_of log m.by) e (subst (λ (y : Made Group). Contains y.group.events e) (sym is) at))
+      subst (λ es. Contains es e) (sym (own-mine m.by x log (ap (λ (y : Logged Group). y.by) is)))
+      (Contains-append_left x.group.events (own_of log m.by) e (subst (λ (y : Logged Group). Contains y.group.events e) (sym is) at))
   by (inr later) rest = behind (cases_eq x.by m.by) (rest later at)
 
 -- an event of a pass stands in a group that it made
-record Source (log : List (Made Group)) (n : ℕ) (e : Event) : Type 0 where
-  made : Made Group
+record Source (log : List (Logged Group)) (n : ℕ) (e : Event) : Type 0 where
+  made : Logged Group
   in_log : Contains log made
   by_pass : made.by ≡ n
   in_group : Contains made.group.events e
 
 -- it stands in a group behind the first one
-later-source : (x : Made Group) (log : List (Made Group)) (n : ℕ) (e : Event) → Source log n e → Source (x ∷ log) n e
+later-source : (x : Logged Group) (log : List (Logged Group)) (n : ℕ) (e : Event) → Source log n e → Source (x ∷ log) n e
 later-source x log n e s = record { made = s.made; in_log = Contains-append_right (x ∷ []) log s.made s.in_log; by_pass = s.by_pass; in_group = s.in_group }
 
 -- so does each event of a pass
-from-own : (log : List (Made Group)) (n : ℕ) (e : Event) → Contains (own_of log n) e → Source log n e
+from-own : (log : List (Logged Group)) (n : ℕ) (e : Event) → Contains (own_of log n) e → Source log n e
 from-own [] n e none = absurd (omega (arith, none.1))
 from-own (x ∷ log) n e at = by (cases_eq x.by n) (from-own log n e) where
   mine : (x.by ≡ n) → Contains x.group.events e ⊎ Contains (own_of log n) e → (Contains (own_of log n) e → Source log n e) → Source (x ∷ log) n e

@@ -57,8 +57,8 @@ stands_on-holds f g log events moment stands goes late =
       same = refl;
       later = omega (arith, led.2, late);
       moment = sym (moment-more log 0 x);
-      ports = All-push (λ (y : Group). y.abort_port ≡ g.state.tables.abort_port) log x
-          (All-weaker (λ (y : Group). y.abort_port ≡ port) (λ (y : Group). y.abort_port ≡ g.state.tables.abort_port) (λ y h. h ∙ sym on.port) log stands.ports)
+      slots = All-push (λ (y : Group). y.abort_port ≡ g.state.tables.abort_port) log x
+          (All-weaker (λ (y : Group). y.abort_port ≡ port) (λ (y : Group). y.abort_port ≡ g.state.tables.abort_port) (λ y h. h ∙ sym on.port) log stands.slots)
           (sym on.port);
       rise = rise-more log 0 x stands.rise (omega (arith, stands.moment, on.moment, late))
           (All-weaker (IsBy g.state.moment) (IsBy moment) (λ e h now is. let le = h now is in omega (arith, le, late)) events on.now_by);

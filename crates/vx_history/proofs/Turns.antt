@@ -2,7 +2,7 @@
 use Rattle.std.proofs.Common.{◌≡◌, ◌≢◌, ◌==◌, ◌++◌, ◌⊎◌, inl, inr, ℕ, true, cond, List, [], ◌∷◌, append-nil, append_assoc, Option, Some, None, refl, sym, ap, ◌∙◌, subst, arith}
 use Rattle.std.proofs.lemmas.Bool.{cases_eq, and_parts, eq-eqb, ne_eqb, cond-true, cond-false}
 use Rattle.std.proofs.lemmas.Option.{none-some, same_Some}
-use Rattle.vx_gate.specs.declared.views.Made.{Made}
+use Rattle.vx_gate.specs.declared.views.Logged.{Logged}
 use Rattle.vx_gate.specs.History.{groups, made_by, Lawful}
 use Rattle.vx_gate.proofs.Histories.{made_by_mine, made_by_other}
 use Rattle.vx_rules.specs.Lists.{along}
@@ -73,18 +73,18 @@ known-events (e ∷ es) own new n f g more known may h = by (fine f e) refl h (k
 -- ---- the groups of a history
 
 -- the events that each pass made in a history
-abbrev pub own_of : List (Made Group) → Own
+abbrev pub own_of : List (Logged Group) → Own
 own_of log n = events_of (made_by n log)
 
 -- in a history with one group more its pass made that group's events more
-group-more : (log : List (Made Group)) (m : Made Group) → More (own_of log) (own_of (log ++ m ∷ [])) m.by m.group.events
+group-more : (log : List (Logged Group)) (m : Logged Group) → More (own_of log) (own_of (log ++ m ∷ [])) m.by m.group.events
 group-more log m = record {
   here = ap events_of (made_by_mine m.by m.group log) ∙ events-more (made_by m.by log) m.group;
   there = λ k ne. ap events_of (made_by_other m.by k m.group log (λ is. ne (sym is)));
 }
 
 -- all is known behind the groups of a lawful history
-known-groups : (rest before : List (Made Group)) (f g : FineState) → Lawful MayAdd (before ++ rest) → Known (own_of before) f
+known-groups : (rest before : List (Logged Group)) (f g : FineState) → Lawful MayAdd (before ++ rest) → Known (own_of before) f
     → along fine (Some f) (events_of (groups rest)) ≡ Some g → Known (own_of (before ++ rest)) g
 known-groups [] before f g law known h =
     subst (λ log. Known (own_of log) g) (sym (append-nil before)) (subst (Known (own_of before)) (same_Some f g h) known)
@@ -95,7 +95,7 @@ known-groups (m ∷ rest) before f g law known h =
     split = append_assoc before (m ∷ []) rest
 
     by : (o : Option FineState) → along fine (Some f) m.group.events ≡ o → along fine o (events_of (groups rest)) ≡ Some g
-        → ((before : List (Made Group)) (f g : FineState) → Lawful MayAdd (before ++ rest) → Known (own_of before) f
+        → ((before : List (Logged Group)) (f g : FineState) → Lawful MayAdd (before ++ rest) → Known (own_of before) f
         → along fine (Some f) (events_of (groups rest)) ≡ Some g → Known (own_of (before ++ rest)) g)
         → Known (own_of (before ++ m ∷ rest)) g
     by None is h more = absurd (none-some g (sym (along-none fine (events_of (groups rest))) ∙ h))
@@ -108,7 +108,7 @@ known-groups (m ∷ rest) before f g law known h =
 first-known : (port : ℕ) → Known (own_of []) (first_fine port)
 first-known port = record {
   plain = first-plainly port;
-  seats = λ n conn. tt;
+  phases = λ n conn. tt;
   given = λ n conn r none. absurd (omega (arith, none.1));
   once = λ n m conn r q none also. absurd (omega (arith, none.1));
   raised = λ n conn up. cc;
@@ -116,7 +116,7 @@ first-known port = record {
 }
 
 -- and of every history for which a state stands
-pub history-known : (log : List (Made Group)) (f : FineState) → Lawful MayAdd log → (stands : StandsFor f (groups log)) → Known (own_of log) stands.last
+pub history-known : (log : List (Logged Group)) (f : FineState) → Lawful MayAdd log → (stands : StandsFor f (groups log)) → Known (own_of log) stands.last
 history-known log f law stands =
     let port = f.state.tables.abort_port in
     known-groups log [] (first_fine port) stands.last law (first-known port) stands.allowed

@@ -1,6 +1,6 @@
 -- Laws of the histories that turns at a gate make.
 use Rattle.std.specs.Prelude.{◌≡◌, ◌≤◌, ℕ, List, [], ◌∷◌, ◌++◌, Some}
-use Rattle.vx_gate.specs.declared.views.Made.{Made}
+use Rattle.vx_gate.specs.declared.views.Logged.{Logged}
 use Rattle.vx_gate.specs.History.{groups, made_by, Lawful}
 use Rattle.vx_rules.specs.Lists.{along}
 use Rattle.vx_flow.specs.Event.{Event}
@@ -10,7 +10,7 @@ use Rattle.vx_flow.specs.Poll.{at_moment}
 use Rattle.vx_flow.specs.Sound.{IsSound}
 use Rattle.vx_flow.specs.Headline.{Headline}
 use Rattle.vx_group.specs.Groups.{Group, events_of, StandsFor}
-use Rattle.vx_group.specs.Seats.{Seats, seat_by}
+use Rattle.vx_group.specs.Phases.{HasPhase, phase_by}
 use Rattle.vx_group.specs.Owning.{MayAdd, Owned}
 
 -- the group of these events, after which the gateway is at this moment
@@ -24,13 +24,13 @@ StandsOnLaw = (f g : FineState) (log : List Group) (events : List Event) (moment
     → g.state.moment ≤ moment → StandsFor (at_moment g moment) (log ++ group_after f events moment ∷ [])
 
 -- What a pass's own groups tell of a connection is so in every state that stands for the history.
-abbrev pub SeatsLaw : Type 0
-SeatsLaw = (log : List (Made Group)) (f : FineState) (number conn : ℕ) → Lawful MayAdd log → StandsFor f (groups log)
-    → Seats f conn (seat_by conn (events_of (made_by number log)))
+abbrev pub PhaseLaw : Type 0
+PhaseLaw = (log : List (Logged Group)) (f : FineState) (number conn : ℕ) → Lawful MayAdd log → StandsFor f (groups log)
+    → HasPhase f conn (phase_by conn (events_of (made_by number log)))
 
 -- Each event of a connection stands in a group of the one pass that has it come up.
 abbrev pub OwnedLaw : Type 0
-OwnedLaw = (log : List (Made Group)) (f : FineState) → Lawful MayAdd log → StandsFor f (groups log) → Owned log
+OwnedLaw = (log : List (Logged Group)) (f : FineState) → Lawful MayAdd log → StandsFor f (groups log) → Owned log
 
 -- All that is claimed of interleaved events holds of the events of a history, and what holds between events of its state.
 abbrev pub HeadlineOfGroupsLaw : Type 0

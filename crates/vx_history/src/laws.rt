@@ -1,6 +1,6 @@
 //! Laws of histories. These functions do nothing: their contracts are what they are for, and a caller that cites a law calls
 //! its function.
-ghost use Rattle.vx_history.specs.Laws.{StandsOnLaw, SeatsLaw, OwnedLaw, HeadlineOfGroupsLaw, SoundLaw};
+ghost use Rattle.vx_history.specs.Laws.{StandsOnLaw, PhaseLaw, OwnedLaw, HeadlineOfGroupsLaw, SoundLaw};
 
 /// A state that stands for a history goes on with it: behind events that are allowed it stands for the history and the group
 /// of these events.
@@ -10,8 +10,8 @@ pub fn stands_law()
 
 /// What the groups that a pass made tell of a connection (that it is up, in which role, with which call, and whether a dial
 /// was asked for) is so in every state that stands for the history.
-pub fn seats_law()
-    ensures { SeatsLaw }
+pub fn phase_law()
+    ensures { PhaseLaw }
 {}
 
 /// The calls of a connection and their answers are made by one pass alone: by the one that has it come up.

@@ -3,4 +3,4 @@
 
 mod laws;
 
-pub use laws::{headline_law, owned_law, seats_law, stands_law};
+pub use laws::{headline_law, owned_law, phase_law, stands_law};

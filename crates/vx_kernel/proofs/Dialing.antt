@@ -19,7 +19,7 @@ use Rattle.vx_calls.specs.declared.limits.TheConstants.{CONNECTION_LAST, ROLE_MA
 use Rattle.vx_calls.specs.Call.{Call}
 use Rattle.vx_calls.specs.Call as call
 use Rattle.vx_calls.specs.Reply.{Reply}
-use Rattle.vx_srq.specs.Desk.{channel_at}
+use Rattle.vx_srq.specs.SrqState.{channel_at}
 use Rattle.vx_rules.specs.Table.{Link}
 use Rattle.vx_rules.specs.State.{Pending, Connection, Tables, connection_at, pending_at, count_of, same_role}
 use Rattle.vx_rules.specs.Sound.{IsSound, IsAsked}
@@ -89,19 +89,19 @@ within_last n m h = grind (arith, nat_tests)
 -- a create_intr_chan that its checks let pass, with a channel number left for it and for those that others asked for
 pub record MayDial (t : Tables) (conn : ℕ) (asked : Call) : Type 0 where
   pub dialable : IsDialable asked
-  pub free : channel_at t.desk conn ≡ None
-  pub left : t.desk.next_channel + numbers_asked t conn ≤ CONNECTION_LAST
+  pub free : channel_at t.srq_state conn ≡ None
+  pub left : t.srq_state.next_channel + numbers_asked t conn ≤ CONNECTION_LAST
 
 checked_dial : (t : Tables) (own conn : ℕ) (asked : Call) → asks_dial asked ≡ true → check t own conn false (named_link t conn asked) asked ≡ None → MayDial t conn asked
 checked_dial t own conn (call.CreateIntr host port prog vers family) dial h =
     let one = no_refusal (not (family == 0)) code.NotSupported _ h in
     let two = no_refusal ((port == 0) || nat_lt 65535 port) code.InvalidAddress _ one.1 in
-    let three = no_refusal (is_some (channel_at t.desk conn)) code.ChannelUp _ two.1 in
-    let four = passes (nat_le (t.desk.next_channel + numbers_asked t conn) CONNECTION_LAST) code.NoResources three.1 in
+    let three = no_refusal (is_some (channel_at t.srq_state conn)) code.ChannelUp _ two.1 in
+    let four = passes (nat_le (t.srq_state.next_channel + numbers_asked t conn) CONNECTION_LAST) code.NoResources three.1 in
     record {
       dialable = (is_zero family one.0, above_zero port two.0, within_port port two.0);
-      free = nothing (channel_at t.desk conn) three.0;
-      left = within_last (t.desk.next_channel + numbers_asked t conn) CONNECTION_LAST four;
+      free = nothing (channel_at t.srq_state conn) three.0;
+      left = within_last (t.srq_state.next_channel + numbers_asked t conn) CONNECTION_LAST four;
     }
 checked_dial t own conn _ dial h = absurd (false≢true dial)
 
@@ -190,7 +190,7 @@ dials_few t dialed sound each once =
 pub keeps_dials : (t : Tables) (dialed : List ℕ) (conn : ℕ) → KeepsDials t dialed → PassedDial t conn → KeepsDials t (without_dial dialed conn ++ conn ∷ [])
 keeps_dials t dialed conn k d =
     let few : length (without_dial dialed conn) ≤ numbers_asked t conn = others_few t dialed conn k.each k.once in
-    let left : t.desk.next_channel + numbers_asked t conn ≤ CONNECTION_LAST = d.may.left in
+    let left : t.srq_state.next_channel + numbers_asked t conn ≤ CONNECTION_LAST = d.may.left in
     let more : length (without_dial dialed conn ++ conn ∷ []) ≡ length (without_dial dialed conn) + 1 = length-append (without_dial dialed conn) (conn ∷ []) in
     record {
       each = All-push (IsDialed t) (without_dial dialed conn) conn (All-filter (λ n. not (n == conn)) (IsDialed t) dialed k.each) (dialed_by t conn d);

@@ -6,7 +6,7 @@ use Rattle.vx_calls.specs.declared.calls.Role.TheVariants as role
 use Rattle.vx_calls.specs.declared.limits.TheConstants.{CONNECTION_LAST, ROLE_MAX}
 use Rattle.vx_calls.specs.Call.{Call}
 use Rattle.vx_calls.specs.Call as call
-use Rattle.vx_srq.specs.Desk.{channel_at}
+use Rattle.vx_srq.specs.SrqState.{channel_at}
 use Rattle.vx_plan.specs.Tasks.{IsPlainTask, HasBytes, most_bytes}
 use Rattle.vx_plan.specs.Plan.{Part}
 use Rattle.vx_bus_traits.specs.Means.{Means}
@@ -46,13 +46,13 @@ pub record IsDialed (t : Tables) (conn : ℕ) : Type 0 where
   pub call_at : pending_at t conn ≡ Some asked
   pub unmarked : asked.aborted ≡ false
   pub dialable : IsDialable asked.call
-  pub free : channel_at t.desk conn ≡ None
+  pub free : channel_at t.srq_state conn ≡ None
 
 -- each dial is asked for once, and a channel number is left for each
 pub record KeepsDials (t : Tables) (dialed : List ℕ) : Type 0 where
   pub each : All (IsDialed t) dialed
   pub once : IsDistinct (λ a b. a == b) dialed
-  pub numbers : t.desk.next_channel + length dialed ≤ CONNECTION_LAST + 1
+  pub numbers : t.srq_state.next_channel + length dialed ≤ CONNECTION_LAST + 1
 
 -- what a core keeps at each moment of a call
 pub record Holds {B : Type 0} (means : B → Means) (k : KernelState B) : Type 0 where

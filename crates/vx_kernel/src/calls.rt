@@ -3,7 +3,7 @@ ghost use Rattle.std.specs.Prelude.{◌≡◌, ◌≤◌, ◌==◌, ◌↔◌, t
 ghost use Rattle.std.specs.List.{list_any, All};
 ghost use Rattle.vx_calls.specs.declared.limits.TheConstants.{READ_MAX};
 ghost use Rattle.vx_calls.specs.Call.{call_shown};
-ghost use Rattle.vx_srq.specs.Desk as desk;
+ghost use Rattle.vx_srq.specs.SrqState as srq_state;
 ghost use Rattle.vx_srq.specs.Shown.{given_shown};
 ghost use Rattle.vx_rules.specs.State as state;
 ghost use Rattle.vx_rules.specs.State.{Pending, pending_at};
@@ -22,7 +22,7 @@ use std::alloc::Global;
 use vx_488::Transfer;
 use vx_bus_traits::{Bus, Tweak};
 use vx_calls::{CallRef, ErrorCode, Role, Taken};
-use vx_rules::{Connect, Lines};
+use vx_rules::{Admission, Connect};
 
 impl<B: Bus> Kernel<B> {
     /// Takes a connection of this role, and gives its number. A refusal changes nothing.
@@ -65,20 +65,20 @@ impl<B: Bus> Kernel<B> {
 
     /// The number of the connection's interrupt channel, where it has one.
     pub fn channel(&self, conn: u32) -> Option<u32>
-        ensures { result ≡ option_map (λ c. c.number) (desk.channel_at self.now.tables.desk conn) }
+        ensures { result ≡ option_map (λ c. c.number) (srq_state.channel_at self.now.tables.srq_state conn) }
     {
         self.tables.channel(conn)
     }
 
     /// The level of SRQ at the last sample; false before the first.
     pub fn level(&self) -> bool
-        ensures { result ≡ self.now.tables.desk.level }
+        ensures { result ≡ self.now.tables.srq_state.level }
     {
         self.tables.level()
     }
 
     /// What the first lines of the order of answers say of a connection's call, on the bus that it is measured on.
-    pub fn lines(&self, conn: u32) -> Lines
+    pub fn lines(&self, conn: u32) -> Admission
         requires { IsSome (pending_at self.now.tables conn) }
         ensures { (p : Pending) → pending_at self.now.tables conn ≡ Some p
             → lines_shown result ≡ first_lines self.now.tables (own_of B.means self.now conn) conn false p self.now.moment }
@@ -139,7 +139,7 @@ impl<B: Bus> Kernel<B> {
 
     /// A sample of the SRQ line, as the bus has it.
     pub fn sample(&mut self)
-        ensures { self.new ≡ record self.old { tables = record self.old.tables { desk = desk.sampled self.old.tables.desk (B.srq_level self.old.bus) } } }
+        ensures { self.new ≡ record self.old { tables = record self.old.tables { srq_state = srq_state.sampled self.old.tables.srq_state (B.srq_level self.old.bus) } } }
     {
         let level = self.bus.srq();
         self.tables.sample(level);
@@ -147,8 +147,8 @@ impl<B: Bus> Kernel<B> {
 
     /// Takes the front of the outbox of the connection's channel of this number.
     pub fn take(&mut self, conn: u32, chan: u32) -> Taken
-        ensures given { given_shown result ≡ desk.given self.old.tables.desk conn chan }
-        ensures taken { self.new ≡ record self.old { tables = record self.old.tables { desk = desk.taken self.old.tables.desk conn chan } } }
+        ensures given { given_shown result ≡ srq_state.given self.old.tables.srq_state conn chan }
+        ensures taken { self.new ≡ record self.old { tables = record self.old.tables { srq_state = srq_state.taken self.old.tables.srq_state conn chan } } }
     {
         self.tables.take(conn, chan)
     }

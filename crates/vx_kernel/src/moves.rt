@@ -9,7 +9,7 @@ ghost use Rattle.vx_plan.specs.declared.tasks.Task.{Task};
 ghost use Rattle.vx_plan.specs.Plan.{Whole};
 ghost use Rattle.vx_plan.specs.Roles.{has_role};
 ghost use Rattle.vx_plan.specs.Results as results;
-ghost use Rattle.vx_srq.specs.Desk.{channel_at, has_number};
+ghost use Rattle.vx_srq.specs.SrqState.{channel_at, has_number};
 ghost use Rattle.vx_calls.specs.Reply as reply;
 ghost use Rattle.vx_rules.specs.State.{Pending, Tables, pending_at};
 ghost use Rattle.vx_rules.specs.Calls as calls;
@@ -235,11 +235,11 @@ impl<B: Bus> Kernel<B> {
     pub fn settle(&mut self, conn: u32, up: bool) -> Settled
         requires holds { Holds B.means self.old }
         requires dialed { IsDialed self.old.tables conn }
-        requires left { has_number self.old.tables.desk ≡ true }
+        requires left { has_number self.old.tables.srq_state ≡ true }
         ensures settles { (p : Pending) → pending_at self.old.tables conn ≡ Some p → (after : Tables)
             × (effects.settle self.old.tables conn p.call up ≡ Some (reply.Error result.error, after)) × (self.new ≡ closed (record self.old { tables = after }) conn) }
         ensures error { result.error ≡ (if up then code.Ok else code.NoChannel) }
-        ensures chan { result.chan ≡ (if up then option_map (λ c. c.number) (channel_at self.new.tables.desk conn) else None) }
+        ensures chan { result.chan ≡ (if up then option_map (λ c. c.number) (channel_at self.new.tables.srq_state conn) else None) }
     {
         self.tables.settle(conn, up);
         let (error, chan) = if up {

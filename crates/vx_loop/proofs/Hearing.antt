@@ -29,7 +29,7 @@ use Rattle.vx_rules.specs.Lists.{along}
 use Rattle.vx_rules.specs.State.{Pending, Connection, Tables, State, connection_at, pending_at, with_pending, lives_as, has_role_of, is_idle, link_of}
 use Rattle.vx_rules.specs.Calls.{sets_end, has_passed, bytes_of, is_big}
 use Rattle.vx_rules.specs.Checks.{link_found}
-use Rattle.vx_rules.specs.Lines.{Lines, Refused, Waiting, Passed, first_lines}
+use Rattle.vx_rules.specs.Lines.{Admission, Refused, Waiting, Passed, first_lines}
 use Rattle.vx_rules.specs.Effects.{task_of, stopped_reply}
 use Rattle.vx_rules.specs.Decide.{Outside, is_quiet, level_fits, turn_answer, job_answer, bus_answer, stand_on, by_lines, decide, settles}
 use Rattle.vx_rules.specs.Entry as entry
@@ -104,7 +104,7 @@ module _ (t : Tables) (w : Wire) (conn now : ℕ) (o : Outside) (lid io_timeout 
   bus-one None r h = cc
   bus-one (Some l) r h = job-one l (task.Write l.target (length bytes) (sets_end flags)) r refl h
 
-  lines-one : (d : Reply × Tables) (l : Lines) → by_lines t w conn waiting now o l ≡ Some d → IsWriteReply t d
+  lines-one : (d : Reply × Tables) (l : Admission) → by_lines t w conn waiting now o l ≡ Some d → IsWriteReply t d
   lines-one d (Refused e) h =
       let parts = cond_some (is_quiet o) (stopped_reply writes e o.moves, t) d h in
       record { error = e; size = puts_made o.moves; is = sym (ap (λ x. x.0) parts.1); same = sym (ap (λ x. x.1) parts.1) }

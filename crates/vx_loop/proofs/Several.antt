@@ -13,7 +13,7 @@ use Rattle.vx_488.specs.Wire.{wire_after}
 use Rattle.vx_488.specs.Heard.{Byte, heard}
 use Rattle.vx_488.specs.ProvedLaws.{wire_after-append, heard-append}
 use Rattle.vx_rules.specs.Table.{Link, Table}
-use Rattle.vx_rules.specs.Desk.{sampled, taken, given}
+use Rattle.vx_rules.specs.SrqState.{sampled, taken, given}
 use Rattle.vx_rules.specs.Lists.{along}
 use Rattle.vx_rules.specs.State.{State, connection_at, pending_at, lives_as, is_idle, has_room, with_connection, with_pending, without_connection}
 use Rattle.vx_rules.specs.Calls.{sets_end}
@@ -53,12 +53,12 @@ step-wire f g (Abort conn lid told) h =
 step-wire f g (Sample now srq) h =
     as-one (λ s. s.wire ≡ f.state.wire) f g (Sample now srq) (entry.Sample now srq)
     (λ s made. ap (λ (x : State). x.wire)
-    (sym (cond_some (nat_le f.state.moment now) (record f.state { tables = record f.state.tables { desk = sampled f.state.tables.desk srq }; moment = now }) s made).1)) h
+    (sym (cond_some (nat_le f.state.moment now) (record f.state { tables = record f.state.tables { srq_state = sampled f.state.tables.srq_state srq }; moment = now }) s made).1)) h
 step-wire f g (Take conn chan told) h =
     as-one (λ s. s.wire ≡ f.state.wire) f g (Take conn chan told) (entry.Take conn chan told)
     (λ s made. ap (λ (x : State). x.wire)
-    (sym (cond_some (is_some (connection_at f.state.tables conn) && same_given (given f.state.tables.desk conn chan) told)
-    (record f.state { tables = record f.state.tables { desk = taken f.state.tables.desk conn chan } }) s made).1)) h
+    (sym (cond_some (is_some (connection_at f.state.tables conn) && same_given (given f.state.tables.srq_state conn chan) told)
+    (record f.state { tables = record f.state.tables { srq_state = taken f.state.tables.srq_state conn chan } }) s made).1)) h
 step-wire f g (Down conn) h =
     tested-fine (λ s. s.wire ≡ f.state.wire) (is_some (connection_at f.state.tables conn))
     (fine_after f (Down conn) (without_dial f.dialed conn) (record f.state { tables = without_connection f.state.tables conn })) g refl h

@@ -9,7 +9,7 @@ use Rattle.vx_calls.specs.declared.limits.TheConstants.{RECORD_MAX}
 use Rattle.vx_record.specs.Buffer.{BufState, fresh}
 use Rattle.vx_bus_traits.specs.Steps.{Cut}
 use Rattle.vx_sim.specs.SimState.{SimState}
-use Rattle.vx_rules.specs.Desk as desk
+use Rattle.vx_rules.specs.SrqState as srq_state
 use Rattle.vx_rules.specs.Lists.{along}
 use Rattle.vx_rules.specs.State.{State, pending_at, has_room, with_connection}
 use Rattle.vx_rules.specs.Entry as entry
@@ -42,7 +42,7 @@ if-ok (Err e) P h p = absurd (true≢false h)
 -- the gateway before is one that was sampled, once
 abbrev sampled_state : ℕ → Bool → ℕ → State
 sampled_state port level moment =
-    let s = (first_fine port).state in record s { tables = record s.tables { desk = desk.sampled s.tables.desk level }; moment = moment }
+    let s = (first_fine port).state in record s { tables = record s.tables { srq_state = srq_state.sampled s.tables.srq_state level }; moment = moment }
 
 abbrev Samples : ℕ → Bool → ℕ → Bool → Type 0
 Samples port level moment b =
@@ -94,7 +94,7 @@ pub new-kept : (f : FineState) (conn : ℕ) (core : CoreState SimState) (buffer 
     → IsKept (record { core = core; buffer = buffer; xid = xid; left = left; moment = now })
 new-kept f conn core buffer xid now left alone up fresh_is now_is =
     let port = f.state.tables.abort_port in
-    let level = f.state.tables.desk.level in
+    let level = f.state.tables.srq_state.level in
     let moment = f.state.moment in
     let h : fine (unconnected port level moment) (Up conn role.Core) ≡ Some core.fine = subst (λ (x : FineState). fine x (Up conn role.Core) ≡ Some core.fine) alone up in
     record {
@@ -112,7 +112,7 @@ pub new-begins : (f : FineState) (conn : ℕ) (core : CoreState SimState) (buffe
     → IsBeginning (record { core = core; buffer = buffer; xid = xid; left = left; moment = now })
 new-begins f conn core buffer xid now left alone up fresh_is none =
     let port = f.state.tables.abort_port in
-    let level = f.state.tables.desk.level in
+    let level = f.state.tables.srq_state.level in
     let moment = f.state.moment in
     let h : fine (unconnected port level moment) (Up conn role.Core) ≡ Some core.fine = subst (λ (x : FineState). fine x (Up conn role.Core) ≡ Some core.fine) alone up in
     record {

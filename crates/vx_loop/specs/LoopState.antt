@@ -4,7 +4,7 @@ use Rattle.vx_calls.specs.declared.calls.Role.TheVariants as role
 use Rattle.vx_calls.specs.declared.limits.TheConstants.{RECORD_MAX}
 use Rattle.vx_record.specs.Buffer.{BufState, fresh}
 use Rattle.vx_sim.specs.SimState.{SimState}
-use Rattle.vx_rules.specs.Desk as desk
+use Rattle.vx_rules.specs.SrqState as srq_state
 use Rattle.vx_rules.specs.State.{pending_at, first_tables, first}
 use Rattle.vx_flow.specs.Event.{Up}
 use Rattle.vx_flow.specs.FineState.{FineState, first_fine}
@@ -40,13 +40,13 @@ pub record IsIdle (s : ServedState) : Type 0 where
 abbrev pub unconnected : (abort_port : ℕ) (level : Bool) (moment : ℕ) → FineState
 unconnected abort_port level moment = record (first_fine abort_port) {
   state = record (first abort_port) {
-    tables = record (first_tables abort_port) { desk = record desk.empty { level = level } };
+    tables = record (first_tables abort_port) { srq_state = record srq_state.empty { level = level } };
     moment = moment;
   };
 }
 
 abbrev pub IsUnconnected : FineState → Type 0
-IsUnconnected f = f ≡ unconnected f.state.tables.abort_port f.state.tables.desk.level f.state.moment
+IsUnconnected f = f ≡ unconnected f.state.tables.abort_port f.state.tables.srq_state.level f.state.moment
 
 -- a link as it is made: connection 1 has come up on a gateway that had none before, and nothing else has happened on it
 pub record IsBeginning (s : ServedState) : Type 0 where

@@ -22,7 +22,7 @@ use Rattle.vx_plan.specs.Plan.{Stand}
 use Rattle.vx_rules.specs.State.{Pending, Tables, State, pending_at}
 use Rattle.vx_rules.specs.Calls.{is_bus_call, asks_dial}
 use Rattle.vx_rules.specs.Checks.{NamedLink, NoLink, DeadLink, OnLink, named_link, check}
-use Rattle.vx_rules.specs.Lines.{Lines, Refused, Waiting, Passed, holder_against, checks_pass, later_lines}
+use Rattle.vx_rules.specs.Lines.{Admission, Refused, Waiting, Passed, holder_against, checks_pass, later_lines}
 use Rattle.vx_rules.specs.Effects.{task_on, task_of, stopped_reply, create, effect, settle}
 use Rattle.vx_rules.specs.Decide.{Outside, is_quiet, settles, may_tell, may_have_made, is_nothing, begun_between, has_job_role, is_part_of, bus_answer, dialed_answer, by_lines, passed_fits, lines_fit, stand_on, turn_answer}
 use Rattle.vx_rules.specs.Entry.{Answer}
@@ -77,16 +77,16 @@ answer_idle s conn now o told due idle =
 -- ---- by the first lines
 
 -- an answer by the lines that decide it and by whether what came from outside fits
-abbrev by_fits : State → ℕ → ℕ → Outside → Reply → Pending → Bool → Lines → Option State
+abbrev by_fits : State → ℕ → ℕ → Outside → Reply → Pending → Bool → Admission → Option State
 by_fits s conn now o told p fits lines = cond fits (ended s conn now o.moves told (by_lines s.tables s.wire conn p now o lines)) None
 
 module _ (t : Tables) (w : Wire) (conn now : ℕ) (p : Pending) (o : Outside) where
   -- whether what came from outside fits, by the mark and by the lines behind it
-  abbrev fits_at : Bool → Lines → Bool
+  abbrev fits_at : Bool → Admission → Bool
   fits_at aborted later = cond aborted (may_tell p now o.begun && may_have_made t w conn p o.moves) (lines_fit t w conn p now o later)
 
   -- what fits a refusal
-  refused_at : (aborted : Bool) (later : Lines) (error : ErrorCode) → cond aborted (Refused code.Abort) later ≡ Refused error
+  refused_at : (aborted : Bool) (later : Admission) (error : ErrorCode) → cond aborted (Refused code.Abort) later ≡ Refused error
       → fits_at aborted later ≡ (may_tell p now o.begun && cond aborted (may_have_made t w conn p o.moves) (is_nothing o.moves))
   refused_at true later error h = refl
   refused_at false (Refused e) error h = refl
@@ -94,14 +94,14 @@ module _ (t : Tables) (w : Wire) (conn now : ℕ) (p : Pending) (o : Outside) wh
   refused_at false Passed error h = cc
 
   -- nothing fits a call that waits
-  waiting_at : (aborted : Bool) (later : Lines) (holder : ℕ) → cond aborted (Refused code.Abort) later ≡ Waiting holder → fits_at aborted later ≡ false
+  waiting_at : (aborted : Bool) (later : Admission) (holder : ℕ) → cond aborted (Refused code.Abort) later ≡ Waiting holder → fits_at aborted later ≡ false
   waiting_at true later holder h = cc
   waiting_at false (Refused e) holder h = cc
   waiting_at false (Waiting l) holder h = refl
   waiting_at false Passed holder h = cc
 
   -- what fits a call that passes
-  passed_at : (aborted : Bool) (later : Lines) → cond aborted (Refused code.Abort) later ≡ Passed → fits_at aborted later ≡ passed_fits t w conn p now o
+  passed_at : (aborted : Bool) (later : Admission) → cond aborted (Refused code.Abort) later ≡ Passed → fits_at aborted later ≡ passed_fits t w conn p now o
   passed_at true later h = cc
   passed_at false (Refused e) h = cc
   passed_at false (Waiting holder) h = cc

@@ -12,7 +12,7 @@ use Rattle.vx_plan.specs.Plan.{Slot, Stand, fits}
 use Rattle.vx_plan.specs.declared.tasks.TheConstants.{TURN_MAX}
 use Rattle.vx_rules.specs.State.{Pending, Tables, State, with_pending}
 use Rattle.vx_rules.specs.Checks.{named_link}
-use Rattle.vx_rules.specs.Lines.{Lines, first_lines, lets_pass}
+use Rattle.vx_rules.specs.Lines.{Admission, first_lines, lets_pass}
 use Rattle.vx_rules.specs.Effects.{task_of, stopped_reply}
 use Rattle.vx_rules.specs.Decide.{Outside, settles, decide, turn_fits, may_tell, may_have_made, is_nothing, begun_between, turn_answer, stand_on}
 use Rattle.vx_rules.specs.One.{answered, if_reply}
@@ -63,7 +63,7 @@ abbrev pub open_job : Tables → Wire → ℕ → Pending → Option Task
 open_job t w conn p = if lets_pass t w.own conn p then task_of (named_link t conn p.call) p.call else None
 
 -- the first lines of a call at an answer
-abbrev pub lines_at : State → ℕ → ℕ → Outside → Pending → Lines
+abbrev pub lines_at : State → ℕ → ℕ → Outside → Pending → Admission
 lines_at s conn now o p = first_lines s.tables s.wire.own conn (settles o) p now
 
 -- the answer of a turn whose transfers stand so in its job

@@ -3,7 +3,7 @@ ghost use Rattle.std.specs.Prelude.{◌≡◌, ◌<◌, ◌≤◌, List, Some, N
 ghost use Rattle.std.specs.Option.{option_map};
 ghost use Rattle.vx_calls.specs.Call.{call_shown};
 ghost use Rattle.vx_calls.specs.Reply.{reply_shown};
-ghost use Rattle.vx_srq.specs.Desk.{channel_at};
+ghost use Rattle.vx_srq.specs.SrqState.{channel_at};
 ghost use Rattle.vx_srq.specs.Shown.{given_shown};
 ghost use Rattle.vx_488.specs.declared.transfers.TheConstants.{ADDRESS_MAX};
 ghost use Rattle.vx_488.specs.Wire.{wire_after};
@@ -219,7 +219,7 @@ impl Plain {
 
     /// The number of the interrupt channel of a connection; none exactly where it has none.
     pub fn channel(&self, conn: u32) -> Option<u32>
-        ensures { result ≡ option_map (λ c. c.number) (channel_at self.now.tables.desk conn) }
+        ensures { result ≡ option_map (λ c. c.number) (channel_at self.now.tables.srq_state conn) }
     {
         self.tables.channel(conn)
     }

@@ -20,7 +20,7 @@ use Rattle.vx_bus_traits.specs.Walks.{Walk}
 use Rattle.vx_script.specs.Command.{Command, At, Poll, Sample, Take, Dial}
 use Rattle.vx_script.specs.declared.Cause.TheVariants as cause
 use Rattle.vx_trace.specs.Output.{Output, Out, IrqClosed}
-use Rattle.vx_srq.specs.Desk.{Given, Channel, channel_at, sampled, taken, given}
+use Rattle.vx_srq.specs.SrqState.{Given, Channel, channel_at, sampled, taken, given}
 use Rattle.vx_rules.specs.State.{Connection, State, connection_at, pending_at, role_at, lives_as, has_role_of}
 use Rattle.vx_rules.specs.Decide.{Outside, decide}
 use Rattle.vx_rules.specs.Entry as entry
@@ -53,7 +53,7 @@ sample-moment f g now srq h =
     let went = chosen (comes_in_turn f (event.Sample now srq) f.turn) (fine_step f (event.Sample now srq)) g h in
     let made = mapped (fine_after f (event.Sample now srq) f.dialed) (one f.state (entry.Sample now srq)) g went.1 in
     let is = cond_some (nat_le f.state.moment now)
-    (record f.state { tables = record f.state.tables { desk = sampled f.state.tables.desk srq }; moment = now }) made.0 made.1 in
+    (record f.state { tables = record f.state.tables { srq_state = sampled f.state.tables.srq_state srq }; moment = now }) made.0 made.1 in
     ap (λ (x : FineState). x.state.moment) (sym made.2) ∙ ap (λ (x : State). x.moment) (sym is.1)
 
 -- a take changes none
@@ -61,8 +61,8 @@ take-moment : (f g : FineState) (conn chan : ℕ) (told : Given) → fine f (eve
 take-moment f g conn chan told h =
     let went = chosen (comes_in_turn f (event.Take conn chan told) f.turn) (fine_step f (event.Take conn chan told)) g h in
     let made = mapped (fine_after f (event.Take conn chan told) f.dialed) (one f.state (entry.Take conn chan told)) g went.1 in
-    let is = cond_some (is_some (connection_at f.state.tables conn) && same_given (given f.state.tables.desk conn chan) told)
-    (record f.state { tables = record f.state.tables { desk = taken f.state.tables.desk conn chan } }) made.0 made.1 in
+    let is = cond_some (is_some (connection_at f.state.tables conn) && same_given (given f.state.tables.srq_state conn chan) told)
+    (record f.state { tables = record f.state.tables { srq_state = taken f.state.tables.srq_state conn chan } }) made.0 made.1 in
     ap (λ (x : FineState). x.state.moment) (sym made.2) ∙ ap (λ (x : State). x.moment) (sym is.1)
 
 -- the moment of an answer
@@ -276,13 +276,13 @@ none-mapped (Some c) h = absurd (cc)
 
 -- where the connection has no channel
 pub none-takes : (p : PlayerState) (stage : Stage) (conn : ℕ) → Stands p stage → lives_as p.core.fine.state.tables conn role.Core ≡ true
-    → None ≡ option_map (λ (c : Channel). c.number) (channel_at p.core.fine.state.tables.desk conn)
+    → None ≡ option_map (λ (c : Channel). c.number) (channel_at p.core.fine.state.tables.srq_state conn)
     → TakesTo stage (Take conn) (IrqClosed conn ∷ []) None p
 none-takes p stage conn stands known none =
     let lives = at-stage p stage (λ f. lives_as f.state.tables conn role.Core) true stands known in
     let made : Made = record { polled = None; note = note.NoChannel conn; answered = None } in
-    let free : channel_at (tables_of stage).desk conn ≡ None =
-    subst (λ (g : Gateway). channel_at g.fine.state.tables.desk conn ≡ None) stands.gateway (none-mapped (channel_at p.core.fine.state.tables.desk conn) none) in
+    let free : channel_at (tables_of stage).srq_state conn ≡ None =
+    subst (λ (g : Gateway). channel_at g.fine.state.tables.srq_state conn ≡ None) stands.gateway (none-mapped (channel_at p.core.fine.state.tables.srq_state conn) none) in
     let made_by : MadeBy (λ group line after. ChannelMakes stage.gateway conn None group line after) p.reply made p.core = record {
       group = [];
       makes = (record { none = refl; same = stands.gateway }, refl);
@@ -307,16 +307,16 @@ channel-makes before after conn chan (Some c) told line is happens shown =
 -- where it has one
 pub take-takes : (p : PlayerState) (stage : Stage) (core : CoreState SimState) (room : List ℕ) (noted : Note) (conn chan : ℕ) (told : Given) → Stands p stage
     → lives_as p.core.fine.state.tables conn role.Core ≡ true
-    → Some chan ≡ option_map (λ (c : Channel). c.number) (channel_at p.core.fine.state.tables.desk conn)
+    → Some chan ≡ option_map (λ (c : Channel). c.number) (channel_at p.core.fine.state.tables.srq_state conn)
     → fine p.core.fine (event.Take conn chan told) ≡ Some core.fine → Walk (λ (s : SimState). s.means) Through p.core.bus (Cut ∷ []) core.bus
     → note_line room noted ≡ Some (take_line conn told) → NoteWithin (length room) noted
     → TakesTo stage (Take conn) (made_lines (record p { core = core; reply = room }) (record { polled = None; note = noted; answered = None })) None (record p { core = core; reply = room })
 take-takes p stage core room noted conn chan told stands known has went walk shown within =
     let lives = at-stage p stage (λ f. lives_as f.state.tables conn role.Core) true stands known in
     let made : Made = record { polled = None; note = noted; answered = None } in
-    let made_by : MadeBy (λ group line after. ChannelMakes (gateway_of p.core) conn (channel_at p.core.fine.state.tables.desk conn) group line after) room made core = record {
+    let made_by : MadeBy (λ group line after. ChannelMakes (gateway_of p.core) conn (channel_at p.core.fine.state.tables.srq_state conn) group line after) room made core = record {
       group = event.Take conn chan told ∷ [];
-      makes = channel-makes (gateway_of p.core) (gateway_of core) conn chan (channel_at p.core.fine.state.tables.desk conn) told (note_line room noted) has
+      makes = channel-makes (gateway_of p.core) (gateway_of core) conn chan (channel_at p.core.fine.state.tables.srq_state conn) told (note_line room noted) has
           (record { events = went; bus = walk }) shown;
       lines = refl;
       answered = refl;
@@ -324,6 +324,6 @@ take-takes p stage core room noted conn chan told stands known has went walk sho
       few = λ h. absurd (false≢true h);
     } in
     core-takes p stage (Take conn) core room made stands (cond-true _ None (Some cause.Conn) lives)
-    (subst (λ (g : Gateway). MadeBy (λ group line after. ChannelMakes g conn (channel_at g.fine.state.tables.desk conn) group line after) room made core) stands.gateway made_by)
+    (subst (λ (g : Gateway). MadeBy (λ group line after. ChannelMakes g conn (channel_at g.fine.state.tables.srq_state conn) group line after) room made core) stands.gateway made_by)
     (let same : core.fine.state.moment ≡ p.core.fine.state.moment = take-moment p.core.fine core.fine conn chan told went in let late = stands.late in omega arith)
     (λ n. roles-stay p.core.fine core.fine (event.Take conn chan told) n refl went) refl refl refl refl

@@ -210,6 +210,6 @@ write-taken before after conn now ending over sound links own p at is =
     record {
       told = told;
       tells = (over.walk.0, over.walk.1, (told, over.walk.2.1, refl));
-      takes = subst (λ ts. AllZip (λ p q. (q.at ≡ p.at) × TakesAll (heard p.at told.means.wire ts) p.seat q.seat) told.bench after.bus.bench)
+      takes = subst (λ ts. AllZip (λ p q. (q.at ≡ p.at) × TakesAll (heard p.at told.means.wire ts) p.occupant q.occupant) told.bench after.bus.bench)
           (steps-moves moves (refused_ask ran slot) (refused-none ran slot)) takes;
     }

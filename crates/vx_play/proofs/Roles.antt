@@ -15,7 +15,7 @@ use Rattle.vx_calls.specs.Reply.{Reply, same_reply}
 use Rattle.vx_488.specs.declared.transfers.Transfer.{Transfer}
 use Rattle.vx_488.specs.Wire.{wire_after}
 use Rattle.vx_rules.specs.Table.{is_live}
-use Rattle.vx_srq.specs.Desk.{given, taken, sampled}
+use Rattle.vx_srq.specs.SrqState.{given, taken, sampled}
 use Rattle.vx_rules.specs.Lists.{update_first, along}
 use Rattle.vx_rules.specs.State.{Pending, Connection, Tables, State, connection_at, pending_at, role_at, lives_as, is_idle, has_room, with_pending, with_connection, without_connection}
 use Rattle.vx_rules.specs.Lines.{first_lines}
@@ -168,12 +168,12 @@ step-stay f g (Sample now srq) n stays h =
     let P : State → Type 0 = λ s. role_at s.tables n ≡ role_at f.state.tables n in
     as-one P f g (Sample now srq) (entry.Sample now srq)
     (λ s made. tested P (nat_le f.state.moment now)
-    (record f.state { tables = record f.state.tables { desk = sampled f.state.tables.desk srq }; moment = now }) s refl made) h
+    (record f.state { tables = record f.state.tables { srq_state = sampled f.state.tables.srq_state srq }; moment = now }) s refl made) h
 step-stay f g (Take conn chan told) n stays h =
     let P : State → Type 0 = λ s. role_at s.tables n ≡ role_at f.state.tables n in
     as-one P f g (Take conn chan told) (entry.Take conn chan told)
-    (λ s made. tested P (is_some (connection_at f.state.tables conn) && same_given (given f.state.tables.desk conn chan) told)
-    (record f.state { tables = record f.state.tables { desk = taken f.state.tables.desk conn chan } }) s refl made) h
+    (λ s made. tested P (is_some (connection_at f.state.tables conn) && same_given (given f.state.tables.srq_state conn chan) told)
+    (record f.state { tables = record f.state.tables { srq_state = taken f.state.tables.srq_state conn chan } }) s refl made) h
 step-stay f g (Begin conn now) n stays h =
     tested-fine (λ s. role_at s.tables n ≡ role_at f.state.tables n) (is_none f.turn && nat_le f.state.moment now && may_begin f.state conn now (pending_at f.state.tables conn))
     (record (fine_after f (Begin conn now) f.dialed (record f.state { moment = now })) { before = f.state.wire }) g refl h

@@ -6,7 +6,7 @@ use Rattle.std.proofs.lemmas.Grind.{flat_map-append}
 use Rattle.vx_calls.specs.declared.calls.Role.{Role}
 use Rattle.vx_script.specs.Command.{Command, Up, In, Down, At, Poll, Sample, Take, Dial, Inst, Plug, Pull, Set, Fail}
 use Rattle.vx_trace.specs.Output.{Output}
-use Rattle.vx_srq.specs.Desk.{Channel, Given, Front, Empty, Gone, channel_at}
+use Rattle.vx_srq.specs.SrqState.{Channel, Given, Front, Empty, Gone, channel_at}
 use Rattle.vx_rules.specs.State.{role_at}
 use Rattle.vx_flow.specs.Event.{Event}
 use Rattle.vx_flow.specs.Event as event
@@ -84,7 +84,7 @@ makes-plain s (Down conn) group output after h = plain-line output _ h.told refl
 makes-plain s (At moment) group output after h = plain-none output h.1
 makes-plain s (Poll conn) group output after h = plain-line output _ h.told (poll-plain conn (s.xids conn) h.ending)
 makes-plain s Sample group output after h = plain-none output h.told
-makes-plain s (Take conn) group output after h = channel-plain s.gateway conn (channel_at (tables_of s).desk conn) group output after h
+makes-plain s (Take conn) group output after h = channel-plain s.gateway conn (channel_at (tables_of s).srq_state conn) group output after h
 makes-plain s (Dial conn up) group output after h = plain-line output _ h.told refl
 makes-plain s (Inst p secondary text) group output after h = plain-none output h.told
 makes-plain s (Plug p secondary name) group output after h = plain-none output h.told

@@ -14,7 +14,7 @@ use Rattle.vx_table.specs.declared.TableErr.{TableErr}
 use Rattle.vx_table.specs.Table.{Rule, TableState, fresh_table}
 use Rattle.vx_sim.specs.declared.attach.Attach.{Attach}
 use Rattle.vx_sim.specs.declared.attach.Attach.TheVariants.{OwnAddress}
-use Rattle.vx_sim.specs.Seats.{Seat, Table, Boxed, Placed}
+use Rattle.vx_sim.specs.Occupants.{Occupant, Table, Boxed, Placed}
 use Rattle.vx_sim.specs.Bench.{stands_at}
 use Rattle.vx_sim.specs.SimState.{SimState}
 use Rattle.vx_sim.specs.Attaching.{holder, taken_or_full, IsAttached, without_place, IsSet}
@@ -146,10 +146,10 @@ pull-takes stage p s place answer old now core e seen stands kept changes reache
 -- ---- an instrument attached
 
 -- what an act did, by what it was made of
-attached : (a place : Addr) (inst : Seat) (kept : Option Seat) (cut after : SimState) (answer : Option Attach) → place ≡ a → kept ≡ Some inst
+attached : (a place : Addr) (inst : Occupant) (kept : Option Occupant) (cut after : SimState) (answer : Option Attach) → place ≡ a → kept ≡ Some inst
     → AttachesOne place kept cut answer after → AttachChanges a inst cut answer after
 attached a place inst kept cut after answer place_is kept_is h =
-    subst (λ (o : Option Seat). AttachesOne a o cut answer after) kept_is (subst (λ (x : Addr). AttachesOne x kept cut answer after) place_is h)
+    subst (λ (o : Option Occupant). AttachesOne a o cut answer after) kept_is (subst (λ (x : Addr). AttachesOne x kept cut answer after) place_is h)
 
 -- what nothing speaks against
 attach-allowed : (bus cut : SimState) (a : Addr) → attaching.refusal cut a ≡ None → Same bus cut → cause_of (attaching.refusal bus a) ≡ None

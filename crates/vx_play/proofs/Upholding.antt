@@ -12,7 +12,7 @@ use Rattle.vx_488.specs.Wire.{wire_after}
 use Rattle.vx_script.specs.Command.{Command, Up, In, Down, At, Poll, Sample, Take, Dial, Inst, Plug, Pull, Set, Fail}
 use Rattle.vx_trace.specs.Output.{Output}
 use Rattle.vx_bus_traits.specs.Steps.{Step}
-use Rattle.vx_srq.specs.Desk.{Channel, channel_at}
+use Rattle.vx_srq.specs.SrqState.{Channel, channel_at}
 use Rattle.vx_sim.specs.SimState.{SimState}
 use Rattle.vx_rules.specs.Lists.{along}
 use Rattle.vx_rules.specs.State.{pending_at, role_at}
@@ -226,7 +226,7 @@ makes-leads s (Down conn) group output after h = happens-leads s.gateway after g
 makes-leads s (At moment) group output after h = quiet-leads s.gateway after group h.0
 makes-leads s (Poll conn) group output after h = poll-leads s.gateway after conn s.moment (s.xids conn) group output h
 makes-leads s Sample group output after h = happens-leads s.gateway after group _ h.happens
-makes-leads s (Take conn) group output after h = channel-leads s.gateway conn (channel_at (tables_of s).desk conn) group output after h
+makes-leads s (Take conn) group output after h = channel-leads s.gateway conn (channel_at (tables_of s).srq_state conn) group output after h
 makes-leads s (Dial conn up) group output after h = happens-leads s.gateway after group _ h.happens
 makes-leads s (Inst p secondary text) group output after h = tweak-leads s.gateway _ group output after h
 makes-leads s (Plug p secondary name) group output after h = tweak-leads s.gateway _ group output after h

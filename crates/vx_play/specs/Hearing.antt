@@ -19,4 +19,4 @@ is_write _ = false
 pub record TakesHeard (before : SimState) (now : ℕ) (moves : List Transfer) (after : SimState) : Type 0 where
   pub told : SimState
   pub tells : BusGoes before (Cut ∷ Told now ∷ []) told
-  pub takes : AllZip (λ p q. (q.at ≡ p.at) × TakesAll (heard p.at told.means.wire moves) p.seat q.seat) told.bench after.bench
+  pub takes : AllZip (λ p q. (q.at ≡ p.at) × TakesAll (heard p.at told.means.wire moves) p.occupant q.occupant) told.bench after.bench

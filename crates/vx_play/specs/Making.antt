@@ -10,7 +10,7 @@ use Rattle.vx_bus_traits.specs.Steps.{Told, Cut}
 use Rattle.vx_sim.specs.Bench.{some_asks, some_refuses}
 use Rattle.vx_sim.specs.SimState.{SimState, Through}
 use Rattle.vx_sim.specs.Attaching.{without_place, IsSet}
-use Rattle.vx_srq.specs.Desk.{Channel, Given, Front, Empty, Gone, channel_at}
+use Rattle.vx_srq.specs.SrqState.{Channel, Given, Front, Empty, Gone, channel_at}
 use Rattle.vx_rules.specs.State.{Pending, role_at, pending_at}
 use Rattle.vx_flow.specs.Event.{Event}
 use Rattle.vx_flow.specs.Event as event
@@ -139,7 +139,7 @@ Makes s (Down conn) group line after = EndMakes s.gateway conn (GoneDown conn) g
 Makes s (At moment) group line after = IsQuiet s.gateway group after × (line ≡ None)
 Makes s (Poll conn) group line after = PollMakes s.gateway conn s.moment (s.xids conn) group line after
 Makes s Sample group line after = SampleMakes s.gateway s.moment group line after
-Makes s (Take conn) group line after = ChannelMakes s.gateway conn (channel_at (tables_of s).desk conn) group line after
+Makes s (Take conn) group line after = ChannelMakes s.gateway conn (channel_at (tables_of s).srq_state conn) group line after
 Makes s (Dial conn up) group line after = DialMakes s.gateway conn s.moment (s.xids conn) up group line after
 Makes s (Inst p secondary text) group line after = Tweaks s.gateway (AttachesTable (address p secondary) (rules_in text)) group line after
 Makes s (Plug p secondary name) group line after = Tweaks s.gateway (AttachesSpare (address p secondary) (spare_at s.rack name)) group line after

@@ -1,7 +1,7 @@
 //! Changes of what hangs on the simulated bus, as acts on the core.
 ghost use Rattle.std.specs.Prelude.{◌≡◌, ◌≤◌, true};
 ghost use Rattle.vx_488.specs.Address.{is_bus_address};
-ghost use Rattle.vx_sim.specs.Seats.{Table, Boxed};
+ghost use Rattle.vx_sim.specs.Occupants.{Table, Boxed};
 
 use std::alloc::Global;
 use vx_488::Addr;
@@ -34,7 +34,7 @@ impl AttachTable {
 
 impl<I: Instrument> Tweak<SimBus<I>> for AttachTable {
     ghost use Rattle.std.specs.Prelude.{option_map};
-    ghost use Rattle.vx_sim.specs.Seats.{Table};
+    ghost use Rattle.vx_sim.specs.Occupants.{Table};
     ghost use Rattle.vx_play.specs.Tweaking.{AttachesOne};
 
     type Answer = Option<Attach>;
@@ -75,7 +75,7 @@ impl<I: Instrument> AttachSpare<I> {
 
 impl<I: Instrument> Tweak<SimBus<I>> for AttachSpare<I> {
     ghost use Rattle.std.specs.Prelude.{option_map};
-    ghost use Rattle.vx_sim.specs.Seats.{Boxed};
+    ghost use Rattle.vx_sim.specs.Occupants.{Boxed};
     ghost use Rattle.vx_play.specs.Tweaking.{AttachesOne};
 
     type Answer = Option<Attach>;

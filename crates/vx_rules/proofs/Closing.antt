@@ -4,7 +4,7 @@ use Rattle.std.specs.Option.{option_map}
 use Rattle.std.proofs.lemmas.Option.{same_Some}
 use Rattle.vx_links.specs.Table.{Table}
 use Rattle.vx_locks.specs.Locks.{Lock}
-use Rattle.vx_srq.specs.Desk.{Desk}
+use Rattle.vx_srq.specs.SrqState.{SrqState}
 use Rattle.vx_rules.specs.declared.tables.rows.Row.{Row}
 use Rattle.vx_rules.specs.declared.tables.rows.Asked.{Asked}
 use Rattle.vx_rules.specs.State.{Pending, Connection, Tables, without_connection}
@@ -12,12 +12,12 @@ use Rattle.vx_rules.specs.Rows.{pending_of, asked_call}
 use Rattle.vx_rules.specs.Sound.{IsSound}
 use Rattle.vx_rules.proofs.Keeping.{without_connection-sound}
 
--- tables with other connections, or another desk
+-- tables with other connections, or another state of service requests
 abbrev pub with_rows : Tables → List Connection → Tables
 with_rows t cs = record t { connections = cs }
 
-abbrev pub with_desk : Tables → Desk → Tables
-with_desk t d = record t { desk = d }
+abbrev pub with_srq_state : Tables → SrqState → Tables
+with_srq_state t d = record t { srq_state = d }
 
 abbrev pub with_locks : Tables → List Lock → Tables
 with_locks t ks = record t { locks = ks }
@@ -25,24 +25,24 @@ with_locks t ks = record t { locks = ks }
 pub rows_sound : (t : Tables) (now cs : List Connection) → now ≡ cs → IsSound (with_rows t cs) → IsSound (with_rows t now)
 rows_sound t now cs e sound = subst (λ xs. IsSound (with_rows t xs)) (sym e) sound
 
-pub desk_sound : (t : Tables) (now d : Desk) → now ≡ d → IsSound (with_desk t d) → IsSound (with_desk t now)
-desk_sound t now d e sound = subst (λ x. IsSound (with_desk t x)) (sym e) sound
+pub srq_state_sound : (t : Tables) (now d : SrqState) → now ≡ d → IsSound (with_srq_state t d) → IsSound (with_srq_state t now)
+srq_state_sound t now d e sound = subst (λ x. IsSound (with_srq_state t x)) (sym e) sound
 
 pub locks_sound : (t : Tables) (now ks : List Lock) → now ≡ ks → IsSound (with_locks t ks) → IsSound (with_locks t now)
 locks_sound t now ks e sound = subst (λ x. IsSound (with_locks t x)) (sym e) sound
 
 -- four parts changed
-abbrev pub changed : Tables → List Connection → Table → List Lock → Desk → Tables
-changed t cs links locks desk = record t { connections = cs; links = links; locks = locks; desk = desk }
+abbrev pub changed : Tables → List Connection → Table → List Lock → SrqState → Tables
+changed t cs links locks srq_state = record t { connections = cs; links = links; locks = locks; srq_state = srq_state }
 
-pub changed_is : (t : Tables) (cs cs' : List Connection) (links links' : Table) (locks locks' : List Lock) (desk desk' : Desk)
-    → cs ≡ cs' → links ≡ links' → locks ≡ locks' → desk ≡ desk' → changed t cs links locks desk ≡ changed t cs' links' locks' desk'
-changed_is t cs cs' links links' locks locks' desk desk' c l k d =
-    ap (λ x. changed t x links locks desk) c ∙ ap (λ x. changed t cs' x locks desk) l ∙ ap (λ x. changed t cs' links' x desk) k ∙ ap (changed t cs' links' locks') d
+pub changed_is : (t : Tables) (cs cs' : List Connection) (links links' : Table) (locks locks' : List Lock) (srq_state srq_state' : SrqState)
+    → cs ≡ cs' → links ≡ links' → locks ≡ locks' → srq_state ≡ srq_state' → changed t cs links locks srq_state ≡ changed t cs' links' locks' srq_state'
+changed_is t cs cs' links links' locks locks' srq_state srq_state' c l k d =
+    ap (λ x. changed t x links locks srq_state) c ∙ ap (λ x. changed t cs' x locks srq_state) l ∙ ap (λ x. changed t cs' links' x srq_state) k ∙ ap (changed t cs' links' locks') d
 
-pub gone_sound : (t : Tables) (conn : ℕ) (cs : List Connection) (links : Table) (locks : List Lock) (desk : Desk) → IsSound t
-    → changed t cs links locks desk ≡ without_connection t conn → IsSound (changed t cs links locks desk)
-gone_sound t conn cs links locks desk s e = subst IsSound (sym e) (without_connection-sound t conn s)
+pub gone_sound : (t : Tables) (conn : ℕ) (cs : List Connection) (links : Table) (locks : List Lock) (srq_state : SrqState) → IsSound t
+    → changed t cs links locks srq_state ≡ without_connection t conn → IsSound (changed t cs links locks srq_state)
+gone_sound t conn cs links locks srq_state s e = subst IsSound (sym e) (without_connection-sound t conn s)
 
 -- the pending call of a row that was found
 pub pending_is : (r : Row) (a : Asked) (o : Option Pending) (p : Pending) → pending_of r ≡ o → r.asked ≡ Some a → o ≡ Some p

@@ -6,7 +6,7 @@ use Rattle.vx_lemmas.specs.Conditions.{chosen}
 use Rattle.vx_calls.specs.Reply.{Reply}
 use Rattle.vx_calls.proofs.Laws.{same_reply-is, same_error-is}
 use Rattle.vx_488.specs.declared.transfers.Transfer.{Transfer}
-use Rattle.vx_srq.specs.Desk.{Given, Front, Empty, Gone, given, taken}
+use Rattle.vx_srq.specs.SrqState.{Given, Front, Empty, Gone, given, taken}
 use Rattle.vx_rules.specs.State.{State}
 use Rattle.vx_rules.specs.Entry.{Answer}
 use Rattle.vx_rules.specs.Decide.{Outside}
@@ -49,9 +49,9 @@ same_given-is _ _ h = absurd (false≢true h)
 
 pub one_take-law : OneTakeLaw
 one_take-law s t u conn chan told other first second =
-    let a = cond_some _ (record s { tables = record s.tables { desk = taken s.tables.desk conn chan } }) t first in
-    let b = cond_some _ (record s { tables = record s.tables { desk = taken s.tables.desk conn chan } }) u second in
-    (sym (same_given-is (given s.tables.desk conn chan) told (and_parts _ _ a.0).1) ∙ same_given-is (given s.tables.desk conn chan) other (and_parts _ _ b.0).1, sym a.1 ∙ b.1)
+    let a = cond_some _ (record s { tables = record s.tables { srq_state = taken s.tables.srq_state conn chan } }) t first in
+    let b = cond_some _ (record s { tables = record s.tables { srq_state = taken s.tables.srq_state conn chan } }) u second in
+    (sym (same_given-is (given s.tables.srq_state conn chan) told (and_parts _ _ a.0).1) ∙ same_given-is (given s.tables.srq_state conn chan) other (and_parts _ _ b.0).1, sym a.1 ∙ b.1)
 
 pub link_numbers-law : LinkNumbersLaw
 link_numbers-law abort_port history s h =

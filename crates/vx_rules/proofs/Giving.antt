@@ -28,18 +28,18 @@ use Rattle.vx_plan.specs.Roles.{has_role}
 use Rattle.vx_plan.specs.Results.{whole_reply}
 use Rattle.vx_links.specs.Table.{Link, is_full, is_live}
 use Rattle.vx_locks.specs.Locks.{holds, with_lock}
-use Rattle.vx_srq.specs.Desk.{Desk, Channel, channel_at, with_new_channel, new_channel, sampled, taken}
+use Rattle.vx_srq.specs.SrqState.{SrqState, Channel, channel_at, with_new_channel, new_channel, sampled, taken}
 use Rattle.vx_srq.specs.ProvedLaws.{sampled-next, made-first}
 use Rattle.vx_rules.specs.State.{Pending, Tables, State, first, pending_at, with_pending, with_connection, without_connection}
 use Rattle.vx_rules.specs.Calls.{is_bus_call, asks_dial, is_big, bytes_of, has_passed, io_timeout_of}
 use Rattle.vx_rules.specs.Checks.{NamedLink, NoLink, DeadLink, OnLink, named_link, check_create}
-use Rattle.vx_rules.specs.Lines.{Lines, Refused, Waiting, Passed, lock_lines, checked_lines, holder_against, later_lines, first_lines}
+use Rattle.vx_rules.specs.Lines.{Admission, Refused, Waiting, Passed, lock_lines, checked_lines, holder_against, later_lines, first_lines}
 use Rattle.vx_rules.specs.Effects.{task_of, stopped_reply, create, locked, effect_on, effect, settle}
 use Rattle.vx_rules.specs.Decide.{Outside, is_quiet, level_fits, stand_on, turn_answer, bus_answer, dialed_answer, by_lines, settles, decide}
 use Rattle.vx_rules.specs.Entry.{Entry, Up, Down, Arrive, Answer, Abort, Sample, Take}
 use Rattle.vx_rules.specs.One.{one, answer_to, answered, arrived, marked, abort_tables}
 use Rattle.vx_rules.specs.Lists.{along}
-use Rattle.vx_rules.specs.Sound.{IsSound, has_port}
+use Rattle.vx_rules.specs.Sound.{IsSound, has_slot}
 use Rattle.vx_rules.specs.Numbers.{connection_given, link_told, link_given, channel_number, channel_given, links_given, connections_given, channels_given, NumbersRiseLaw, LinkGivenLaw, ConnectionGivenLaw, ChannelGivenLaw, LinksGivenOnceLaw, ConnectionsGivenOnceLaw, ChannelsGivenOnceLaw}
 use Rattle.vx_rules.specs.ProvedLaws.{up-next}
 use Rattle.vx_rules.proofs.Keeping.{first-sound}
@@ -96,7 +96,7 @@ abbrev ChecksWell : Option ErrorCode → Type 0
 ChecksWell None = Unit {0}
 ChecksWell (Some e) = IsError e
 
-abbrev RefusesWell : Lines → Type 0
+abbrev RefusesWell : Admission → Type 0
 RefusesWell (Refused e) = IsError e
 RefusesWell (Waiting holder) = Unit {0}
 RefusesWell Passed = Unit {0}
@@ -120,7 +120,7 @@ checked-refuses : (p : Pending) (now : ℕ) (refused : Option ErrorCode) (holder
 checked-refuses p now None holder well = lock-refuses p now holder
 checked-refuses p now (Some e) holder well = well
 
-first-refuses : (aborted : Bool) (l : Lines) → RefusesWell l → RefusesWell (cond aborted (Refused code.Abort) l)
+first-refuses : (aborted : Bool) (l : Admission) → RefusesWell l → RefusesWell (cond aborted (Refused code.Abort) l)
 first-refuses true l well = refl
 first-refuses false l well = well
 
@@ -152,13 +152,13 @@ whole-told _ bytes w big level moves = refl
 -- ---- what an answer gives
 
 -- a connection's channel is new, with the next number
-record MakesChannel (d : Desk) (conn : ℕ) (u : Desk) : Type 0 where
+record MakesChannel (d : SrqState) (conn : ℕ) (u : SrqState) : Type 0 where
   program : ℕ
   version : ℕ
   is : u ≡ with_new_channel d conn program version
 
 -- only a dial that came up makes a channel
-abbrev ChannelStep : Desk → ℕ → Option Bool → Desk → Type 0
+abbrev ChannelStep : SrqState → ℕ → Option Bool → SrqState → Type 0
 ChannelStep d conn (Some true) u = MakesChannel d conn u
 ChannelStep d conn _ u = u.next_channel ≡ d.next_channel
 
@@ -167,7 +167,7 @@ ChannelStep d conn _ u = u.next_channel ≡ d.next_channel
 record Gives (t : Tables) (conn : ℕ) (dialed : Option Bool) (d : Reply × Tables) : Type 0 where
   connections : d.1.next_connection ≡ t.next_connection
   links : Takes (link_told d.0) t.links.next d.1.links.next
-  channels : ChannelStep t.desk conn dialed d.1.desk
+  channels : ChannelStep t.srq_state conn dialed d.1.srq_state
 
 abbrev FoundGives : Tables → ℕ → Option Bool → Option (Reply × Tables) → Type 0
 FoundGives t conn dialed None = Unit {0}
@@ -256,13 +256,13 @@ bus-quiet w p now o (Some job) =
     (quiet-where o.dialed (is_quiet o) fault (λ h. (quiet-none o h, stopped-told p.call code.BusFault o.moves (λ h. refl))))
 
 -- without a dial the channel numbers stay
-quiet-step : (d : Desk) (conn : ℕ) (dialed : Option Bool) → is_none dialed ≡ true → ChannelStep d conn dialed d
+quiet-step : (d : SrqState) (conn : ℕ) (dialed : Option Bool) → is_none dialed ≡ true → ChannelStep d conn dialed d
 quiet-step d conn None none = refl
 quiet-step d conn (Some up) none = absurd (false≢true none)
 
 quiet-gives : (t : Tables) (conn : ℕ) (dialed : Option Bool) (o : Option Reply) → FoundQuiet dialed o → FoundGives t conn dialed (option_map (λ given. (given, t)) o)
 quiet-gives t conn dialed None quiet = tt
-quiet-gives t conn dialed (Some r) quiet = record { connections = refl; links = Stays quiet.1 refl; channels = quiet-step t.desk conn dialed quiet.0 }
+quiet-gives t conn dialed (Some r) quiet = record { connections = refl; links = Stays quiet.1 refl; channels = quiet-step t.srq_state conn dialed quiet.0 }
 
 -- an effect, where there was no dial
 undialed-gives : (t : Tables) (own conn : ℕ) (about : NamedLink) (asked : Call) (dialed : Option Bool) → is_none dialed ≡ true → FoundGives t conn dialed (effect t own conn about asked)
@@ -281,18 +281,18 @@ where_true t conn dialed true x is = is refl
 where_true t conn dialed false x is = tt
 
 -- a refusal's reply tells of no link
-abbrev RefusesTold : Call → Lines → Type 0
+abbrev RefusesTold : Call → Admission → Type 0
 RefusesTold asked (Refused error) = is_create asked ≡ true → IsError error
 RefusesTold asked (Waiting holder) = Unit {0}
 RefusesTold asked Passed = Unit {0}
 
-refuses-told : (asked : Call) (l : Lines) → (is_create asked ≡ true → RefusesWell l) → RefusesTold asked l
+refuses-told : (asked : Call) (l : Admission) → (is_create asked ≡ true → RefusesWell l) → RefusesTold asked l
 refuses-told asked (Refused error) well = well
 refuses-told asked (Waiting holder) well = tt
 refuses-told asked Passed well = tt
 
 -- what each of the first lines gives
-lines-give : (t : Tables) (w : Wire) (conn : ℕ) (p : Pending) (now : ℕ) (o : Outside) (l : Lines) → RefusesTold p.call l → FoundGives t conn o.dialed (by_lines t w conn p now o l)
+lines-give : (t : Tables) (w : Wire) (conn : ℕ) (p : Pending) (now : ℕ) (o : Outside) (l : Admission) → RefusesTold p.call l → FoundGives t conn o.dialed (by_lines t w conn p now o l)
 lines-give t w conn p now o (Refused error) told =
     where_true t conn o.dialed (is_quiet o) (Some (stopped_reply p.call error o.moves, t))
     (λ h. quiet-gives t conn o.dialed (Some (stopped_reply p.call error o.moves)) (quiet-none o h, stopped-told p.call error o.moves told))
@@ -321,12 +321,12 @@ decide-gives t w conn p now o d h =
 record EntryGives (e : Entry) (s t : State) : Type 0 where
   connections : Takes (connection_given e) s.tables.next_connection t.tables.next_connection
   links : Takes (link_given e) s.tables.links.next t.tables.links.next
-  rises : s.tables.desk.next_channel ≤ t.tables.desk.next_channel
-  channels : IsSound s.tables → Takes (channel_given e (Some t)) s.tables.desk.next_channel t.tables.desk.next_channel
+  rises : s.tables.srq_state.next_channel ≤ t.tables.srq_state.next_channel
+  channels : IsSound s.tables → Takes (channel_given e (Some t)) s.tables.srq_state.next_channel t.tables.srq_state.next_channel
 
 -- an entry that gives no number
 nothing-given : (e : Entry) (s t : State) → connection_given e ≡ [] → link_given e ≡ [] → channel_given e (Some t) ≡ [] → t.tables.next_connection ≡ s.tables.next_connection
-    → t.tables.links.next ≡ s.tables.links.next → t.tables.desk.next_channel ≡ s.tables.desk.next_channel → EntryGives e s t
+    → t.tables.links.next ≡ s.tables.links.next → t.tables.srq_state.next_channel ≡ s.tables.srq_state.next_channel → EntryGives e s t
 nothing-given e s t no_connection no_link no_channel connections links channels = record {
   connections = Stays no_connection connections;
   links = Stays no_link links;
@@ -335,29 +335,29 @@ nothing-given e s t no_connection no_link no_channel connections links channels 
 }
 
 -- the connection has the channel, as it was made
-channel-made : (d : Desk) (conn program version : ℕ) → has_port d conn ≡ true
+channel-made : (d : SrqState) (conn program version : ℕ) → has_slot d conn ≡ true
     → channel_at (with_new_channel d conn program version) conn ≡ Some (new_channel d.next_channel program version)
-channel-made d conn program version port = made-first conn (Some (new_channel d.next_channel program version)) d.ports port
+channel-made d conn program version port = made-first conn (Some (new_channel d.next_channel program version)) d.slots port
 
 -- an answer doesn't lower the next channel number
-step-rises : (d u : Desk) (conn : ℕ) (dialed : Option Bool) → ChannelStep d conn dialed u → d.next_channel ≤ u.next_channel
+step-rises : (d u : SrqState) (conn : ℕ) (dialed : Option Bool) → ChannelStep d conn dialed u → d.next_channel ≤ u.next_channel
 step-rises d u conn None same = omega (arith, same)
 step-rises d u conn (Some false) same = omega (arith, same)
-step-rises d u conn (Some true) made = omega (arith, ap (λ (x : Desk). x.next_channel) made.is)
+step-rises d u conn (Some true) made = omega (arith, ap (λ (x : SrqState). x.next_channel) made.is)
 
 -- its number is the next one, and is used up
-made-uses : (d : Desk) (conn : ℕ) (t : State) → MakesChannel d conn t.tables.desk → has_port d conn ≡ true
-    → (channel_number conn t ≡ d.next_channel ∷ []) × (t.tables.desk.next_channel ≡ d.next_channel + 1)
+made-uses : (d : SrqState) (conn : ℕ) (t : State) → MakesChannel d conn t.tables.srq_state → has_slot d conn ≡ true
+    → (channel_number conn t ≡ d.next_channel ∷ []) × (t.tables.srq_state.next_channel ≡ d.next_channel + 1)
 made-uses d conn t made port = (
-  ap (λ (x : Desk). option_map_or (λ (c : Channel). c.number ∷ []) (channel_at x conn) []) made.is
+  ap (λ (x : SrqState). option_map_or (λ (c : Channel). c.number ∷ []) (channel_at x conn) []) made.is
       ∙ ap (λ (o : Option Channel). option_map_or (λ (c : Channel). c.number ∷ []) o []) (channel-made d conn made.program made.version port),
-  ap (λ (x : Desk). x.next_channel) made.is,
+  ap (λ (x : SrqState). x.next_channel) made.is,
 )
 
 -- what an answer gives of channel numbers
-answer-channels : (conn now begun : ℕ) (moves : List Transfer) (failed : Bool) (dialed : Option Bool) (level : Bool) (told : Reply) (d : Desk) (t : State)
-    → ChannelStep d conn dialed t.tables.desk → has_port d conn ≡ true
-    → Takes (channel_given (Answer conn now begun moves failed dialed level told) (Some t)) d.next_channel t.tables.desk.next_channel
+answer-channels : (conn now begun : ℕ) (moves : List Transfer) (failed : Bool) (dialed : Option Bool) (level : Bool) (told : Reply) (d : SrqState) (t : State)
+    → ChannelStep d conn dialed t.tables.srq_state → has_slot d conn ≡ true
+    → Takes (channel_given (Answer conn now begun moves failed dialed level told) (Some t)) d.next_channel t.tables.srq_state.next_channel
 answer-channels conn now begun moves failed None level told d t same port = Stays refl same
 answer-channels conn now begun moves failed (Some false) level told d t same port = Stays refl same
 answer-channels conn now begun moves failed (Some true) level told d t made port =
@@ -370,7 +370,7 @@ record Answered (s t : State) (conn : ℕ) (dialed : Option Bool) (told : Reply)
   here : pending_at s.tables conn ≡ Some call
   connections : t.tables.next_connection ≡ s.tables.next_connection
   links : Takes (link_told told) s.tables.links.next t.tables.links.next
-  channels : ChannelStep s.tables.desk conn dialed t.tables.desk
+  channels : ChannelStep s.tables.srq_state conn dialed t.tables.srq_state
 
 -- the answer's own parts, from what decided it
 answer-parts : (s t : State) (conn now begun : ℕ) (moves : List Transfer) (failed : Bool) (dialed : Option Bool) (level : Bool) (told : Reply)
@@ -390,9 +390,9 @@ answer-gives : (s t : State) (conn now begun : ℕ) (moves : List Transfer) (fai
 answer-gives s t conn now begun moves failed dialed level told a = record {
   connections = Stays refl a.connections;
   links = a.links;
-  rises = step-rises s.tables.desk t.tables.desk conn dialed a.channels;
+  rises = step-rises s.tables.srq_state t.tables.srq_state conn dialed a.channels;
   channels = λ sound.
-      answer-channels conn now begun moves failed dialed level told s.tables.desk t a.channels (port_of s.tables conn a.call sound a.here);
+      answer-channels conn now begun moves failed dialed level told s.tables.srq_state t a.channels (port_of s.tables conn a.call sound a.here);
 }
 
 abort-gives : (s : State) (conn lid : ℕ) (told : ErrorCode) → EntryGives (Abort conn lid told) s (record s { tables = abort_tables s.tables lid })
@@ -422,10 +422,10 @@ entry-gives (Answer conn now begun moves failed dialed level told) s t h =
 entry-gives (Abort conn lid told) s t h =
     subst (EntryGives (Abort conn lid told) s) (cond_some _ (record s { tables = abort_tables s.tables lid }) t h).1 (abort-gives s conn lid told)
 entry-gives (Sample now srq) s t h =
-    let u : State = record s { tables = record s.tables { desk = sampled s.tables.desk srq }; moment = now } in
-    subst (EntryGives (Sample now srq) s) (cond_some _ u t h).1 (nothing-given (Sample now srq) s u refl refl refl refl refl (sampled-next s.tables.desk srq))
+    let u : State = record s { tables = record s.tables { srq_state = sampled s.tables.srq_state srq }; moment = now } in
+    subst (EntryGives (Sample now srq) s) (cond_some _ u t h).1 (nothing-given (Sample now srq) s u refl refl refl refl refl (sampled-next s.tables.srq_state srq))
 entry-gives (Take conn chan told) s t h =
-    let u : State = record s { tables = record s.tables { desk = taken s.tables.desk conn chan } } in
+    let u : State = record s { tables = record s.tables { srq_state = taken s.tables.srq_state conn chan } } in
     subst (EntryGives (Take conn chan told) s) (cond_some _ u t h).1 (nothing-given (Take conn chan told) s u refl refl refl refl refl refl)
 
 -- ---- what a history gives
@@ -490,7 +490,7 @@ connection_given-law s t conn r h =
 pub channel_given-law : ChannelGivenLaw
 channel_given-law abort_port history s t conn now begun moves failed level told legal h =
     let a = answer-parts s t conn now begun moves failed (Some true) level told h in
-    made-uses s.tables.desk conn t a.channels (port_of s.tables conn a.call (legal-sound abort_port history s legal) a.here)
+    made-uses s.tables.srq_state conn t a.channels (port_of s.tables conn a.call (legal-sound abort_port history s legal) a.here)
 
 pub links_given_once-law : LinksGivenOnceLaw
 links_given_once-law abort_port history s h =
@@ -504,5 +504,5 @@ connections_given_once-law abort_port history s h =
 
 pub channels_given_once-law : ChannelsGivenOnceLaw
 channels_given_once-law abort_port history s h =
-    (given-along (λ s. s.tables.desk.next_channel) channel_given channels_given (λ s. refl) (λ s e es. refl)
+    (given-along (λ s. s.tables.srq_state.next_channel) channel_given channels_given (λ s. refl) (λ s e es. refl)
     (λ e s t sound h. (entry-gives e s t h).channels sound) history (first abort_port) s (first-sound abort_port) h).pairs

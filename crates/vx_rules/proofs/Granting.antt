@@ -14,7 +14,7 @@ use Rattle.vx_calls.specs.Call as call
 use Rattle.vx_calls.specs.Reply.{Reply}
 use Rattle.vx_calls.specs.Reply as reply
 use Rattle.std.specs.Prelude.{IsSome, is_none, nat_lt}
-use Rattle.vx_srq.specs.Desk.{channel_at, has_number, with_enable}
+use Rattle.vx_srq.specs.SrqState.{channel_at, has_number, with_enable}
 use Rattle.vx_links.specs.declared.links.LinkRow.{LinkRow}
 use Rattle.vx_links.specs.Shown.{link_shown}
 use Rattle.vx_links.specs.Table.{Link, Table, IsNumbered, is_live, link_at}
@@ -33,7 +33,7 @@ use Rattle.vx_rules.specs.declared.tables.rows.Asked.{Asked}
 use Rattle.vx_rules.specs.Held.{kept_call}
 use Rattle.vx_rules.specs.Rows.{asked_call, pending_of}
 use Rattle.vx_rules.specs.Serving.{can_settle}
-use Rattle.vx_rules.specs.Sound.{IsSound, IsAdded, IsAsked, owns, has_port}
+use Rattle.vx_rules.specs.Sound.{IsSound, IsAdded, IsAsked, owns, has_slot}
 use Rattle.vx_rules.proofs.Finds.{found_among, found_holds, none_found, unmapped}
 use Rattle.vx_rules.proofs.Walks.{asked-free}
 use Rattle.vx_rules.proofs.JobInput.{Lets, lets-says}
@@ -94,12 +94,12 @@ with_call : (p : Pending) (o : Option Connection) → option_and_then (λ c. c.p
 with_call p None h = cc
 with_call p (Some c) h = (c, refl, h)
 
-pub port_of : (t : Tables) (conn : ℕ) (p : Pending) → IsSound t → pending_at t conn ≡ Some p → has_port t.desk conn ≡ true
+pub port_of : (t : Tables) (conn : ℕ) (p : Pending) → IsSound t → pending_at t conn ≡ Some p → has_slot t.srq_state conn ≡ true
 port_of t conn p s here =
     let found = with_call p (connection_at t conn) here in
     let core = found_holds IsAsked (λ c. c.number == conn) t.connections found.0 s.asked found.1 (ap is_some found.2) in
     let port = found_holds (IsAdded t) (λ c. c.number == conn) t.connections found.0 s.added found.1 core in
-    subst (λ n. has_port t.desk n ≡ true) (eqb-true _ conn (found_passes (λ c. c.number == conn) t.connections found.0 found.1)) port
+    subst (λ n. has_slot t.srq_state n ≡ true) (eqb-true _ conn (found_passes (λ c. c.number == conn) t.connections found.0 found.1)) port
 
 -- a call as words that nothing is against, and that needs no bus and no dial
 pub record Served (t : Tables) (own conn : ℕ) (text handle : List ℕ) (words : Kept) : Type 0 where
@@ -166,10 +166,10 @@ none_dials t conn (kept.CreateIntr host port prog vers family) text handle a h =
 none_dials t conn _ text handle a h = false≢true h
 
 -- a connection with some call may have a channel
-pub port_held : (t : Tables) (conn : ℕ) → IsSound t → IsSome (pending_at t conn) → has_port t.desk conn ≡ true
+pub port_held : (t : Tables) (conn : ℕ) → IsSound t → IsSome (pending_at t conn) → has_slot t.srq_state conn ≡ true
 port_held t conn s some = at (pending_at t conn) refl some
   where
-    at : (o : Option Pending) → pending_at t conn ≡ o → IsSome o → has_port t.desk conn ≡ true
+    at : (o : Option Pending) → pending_at t conn ≡ o → IsSome o → has_slot t.srq_state conn ≡ true
     at (Some p) here h = port_of t conn p s here
     at None here h = absurd (false≢true h)
 
@@ -178,14 +178,14 @@ gives : (x : Option (Reply × Tables)) (r r' : Reply) (t t' : Tables) → x ≡ 
 gives x r r' t t' found same there = found ∙ ap (λ y. Some (y, t)) (sym same) ∙ ap (λ u. Some (r', u)) (sym there)
 
 pub enable_gives : (t : Tables) (own conn lid : ℕ) (on : Bool) (handle given : List ℕ) (l : Link) → link_found (link_of t conn lid) ≡ OnLink l → l.number ≡ lid → given ≡ handle
-    → (r : Reply) (u : Tables) → r ≡ reply.Error code.Ok → u ≡ record t { desk = with_enable t.desk (record { link = lid; connection = conn; on = on; handle = given }) }
+    → (r : Reply) (u : Tables) → r ≡ reply.Error code.Ok → u ≡ record t { srq_state = with_enable t.srq_state (record { link = lid; connection = conn; on = on; handle = given }) }
     → effect t own conn (link_found (link_of t conn lid)) (call.EnableSrq lid on handle) ≡ Some (r, u)
 enable_gives t own conn lid on handle given l named number same r u replied there =
     gives (effect t own conn (link_found (link_of t conn lid)) (call.EnableSrq lid on handle)) (reply.Error code.Ok) r
-    (record t { desk = with_enable t.desk (record { link = l.number; connection = conn; on = on; handle = handle }) }) u
+    (record t { srq_state = with_enable t.srq_state (record { link = l.number; connection = conn; on = on; handle = handle }) }) u
     (ap (λ a. effect t own conn a (call.EnableSrq lid on handle)) named) replied
-    (there ∙ ap (λ b. record t { desk = with_enable t.desk (record { link = lid; connection = conn; on = on; handle = b }) }) same
-    ∙ ap (λ n. record t { desk = with_enable t.desk (record { link = n; connection = conn; on = on; handle = handle }) }) (sym number))
+    (there ∙ ap (λ b. record t { srq_state = with_enable t.srq_state (record { link = lid; connection = conn; on = on; handle = b }) }) same
+    ∙ ap (λ n. record t { srq_state = with_enable t.srq_state (record { link = n; connection = conn; on = on; handle = handle }) }) (sym number))
 
 pub unlock_gives : (t : Tables) (own conn lid : ℕ) (l : Link) → link_found (link_of t conn lid) ≡ OnLink l → l.number ≡ lid
     → (r : Reply) (u : Tables) → r ≡ reply.Error code.Ok → u ≡ record t { locks = without_lock t.locks lid }
@@ -203,10 +203,10 @@ destroy_gives t own conn lid l named number r u replied there =
 
 -- a dial that may be settled finds no channel and a number
 pub record Settles (t : Tables) (conn : ℕ) : Type 0 where
-  pub alone : is_some (channel_at t.desk conn) ≡ false
-  pub left : has_number t.desk ≡ true
+  pub alone : is_some (channel_at t.srq_state conn) ≡ false
+  pub left : has_number t.srq_state ≡ true
 
-settles_if : (t : Tables) (conn : ℕ) (a b c d : Bool) (e₁ e₂ e₃ e₄ : ErrorCode) → is_some (channel_at t.desk conn) ≡ c → has_number t.desk ≡ d
+settles_if : (t : Tables) (conn : ℕ) (a b c d : Bool) (e₁ e₂ e₃ e₄ : ErrorCode) → is_some (channel_at t.srq_state conn) ≡ c → has_number t.srq_state ≡ d
     → is_none (cond a (Some e₁) (cond b (Some e₂) (cond c (Some e₃) (cond d None (Some e₄))))) ≡ true → Settles t conn
 settles_if t conn true b c d e₁ e₂ e₃ e₄ channel number h = absurd (false≢true h)
 settles_if t conn false true c d e₁ e₂ e₃ e₄ channel number h = absurd (false≢true h)
@@ -216,7 +216,7 @@ settles_if t conn false false false false e₁ e₂ e₃ e₄ channel number h =
 
 pub settles_is : (t : Tables) (conn host port prog vers family : ℕ) → can_settle t conn (call.CreateIntr host port prog vers family) ≡ true → Settles t conn
 settles_is t conn host port prog vers family h =
-    settles_if t conn (not (family == 0)) ((port == 0) || nat_lt 65535 port) (is_some (channel_at t.desk conn)) (has_number t.desk)
+    settles_if t conn (not (family == 0)) ((port == 0) || nat_lt 65535 port) (is_some (channel_at t.srq_state conn)) (has_number t.srq_state)
     code.NotSupported code.InvalidAddress code.ChannelUp code.NoResources refl refl h
 
 pub can_settle-at : (t : Tables) (conn : ℕ) (r : Row) (a : Asked) → pending_of r ≡ pending_at t conn → r.asked ≡ Some a

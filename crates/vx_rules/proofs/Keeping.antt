@@ -16,11 +16,11 @@ use Rattle.vx_links.specs.Table.{Link, Table, IsNumbered, is_full, is_live}
 use Rattle.vx_links.proofs.Numbers.{Rises, numbered-with_link}
 use Rattle.vx_locks.specs.Locks.{holds, is_blocked, with_lock, without_lock}
 use Rattle.vx_locks.proofs.Apart.{Apart, apart-with_lock, apart-without_lock}
-use Rattle.vx_srq.specs.Desk.{Desk, Port, Channel, Enable, with_channel, with_new_channel, with_enable, enable_put, sampled, taken, port_with, port_taken, risen_port}
-use Rattle.vx_srq.specs.ProvedLaws.{port_with-stays, port_taken-stays}
+use Rattle.vx_srq.specs.SrqState.{SrqState, ChannelSlot, Channel, Enable, with_channel, with_new_channel, with_enable, enable_put, sampled, taken, slot_with, slot_taken, risen_slot}
+use Rattle.vx_srq.specs.ProvedLaws.{slot_with-stays, slot_taken-stays}
 use Rattle.vx_rules.specs.State.{Pending, Connection, Tables, first_tables, same_role, with_pending, with_connection, without_connection, with_link, without_link, is_lock_of}
 use Rattle.vx_rules.specs.One.{marked, mark_on}
-use Rattle.vx_rules.specs.Sound.{IsSound, IsHeld, IsOwned, IsAdded, IsAsked, has_port}
+use Rattle.vx_rules.specs.Sound.{IsSound, IsHeld, IsOwned, IsAdded, IsAsked, has_slot}
 use Rattle.vx_rules.proofs.Finds.{any_kept, found_holds, All-kept, All-update}
 
 -- a gateway as it starts
@@ -61,7 +61,7 @@ with_link-sound t conn named s room = record {
   apart = s.apart;
   held = All-weaker (IsHeld t) (IsHeld (with_link t conn named)) (λ k h. list_any-append (λ l. l.number == k.link) t.links.links _ ∙ or_left _ _ h) t.locks s.held;
   owned = All-weaker (IsOwned t) (IsOwned (with_link t conn named))
-      (λ e h. list_any-append (λ l. (l.number == e.link) && (l.connection == e.connection)) t.links.links _ ∙ or_left _ _ h) t.desk.enables s.owned;
+      (λ e h. list_any-append (λ l. (l.number == e.link) && (l.connection == e.connection)) t.links.links _ ∙ or_left _ _ h) t.srq_state.enables s.owned;
   added = s.added;
   asked = s.asked;
 }
@@ -108,7 +108,7 @@ without_link-sound t conn lid s = record {
   held = All-kept (IsHeld t) (IsHeld (without_link t conn lid)) (λ k. not (k.link == lid)) t.locks
       (λ k other live. any_kept (λ l. l.number == k.link) (λ l. not ((l.number == lid) && (l.connection == conn))) t.links.links
       (λ l same. not_both l.number lid l.connection conn k.link other same) live) s.held;
-  owned = All-kept (IsOwned t) (IsOwned (without_link t conn lid)) (λ e. not (e.link == lid)) t.desk.enables
+  owned = All-kept (IsOwned t) (IsOwned (without_link t conn lid)) (λ e. not (e.link == lid)) t.srq_state.enables
       (λ e other live. any_kept (λ l. (l.number == e.link) && (l.connection == e.connection)) (λ l. not ((l.number == lid) && (l.connection == conn))) t.links.links
       (λ l same. not_both-owned l.number lid l.connection conn e.link e.connection other same) live) s.owned;
   added = s.added;
@@ -140,47 +140,47 @@ without_connection-sound t conn s = record {
   apart = AllPairs-filter Apart (λ k. not (is_lock_of t.links.links conn k)) t.locks s.apart;
   held = All-kept (IsHeld t) (IsHeld (without_connection t conn)) (λ k. not (is_lock_of t.links.links conn k)) t.locks
       (λ k other live. others_live t.links.links k.link conn other live) s.held;
-  owned = All-kept (IsOwned t) (IsOwned (without_connection t conn)) (λ e. not (e.connection == conn)) t.desk.enables
+  owned = All-kept (IsOwned t) (IsOwned (without_connection t conn)) (λ e. not (e.connection == conn)) t.srq_state.enables
       (λ e other live. any_kept (λ l. (l.number == e.link) && (l.connection == e.connection)) (λ l. not (l.connection == conn)) t.links.links
       (λ l same. other_owner l.connection conn e.connection other (and_parts _ _ same).1) live) s.owned;
   added = All-kept (IsAdded t) (IsAdded (without_connection t conn)) (λ c. not (c.number == conn)) t.connections
-      (λ c other was core. any_kept (λ p. p.connection == c.number) (λ p. not (p.connection == conn)) t.desk.ports
+      (λ c other was core. any_kept (λ p. p.connection == c.number) (λ p. not (p.connection == conn)) t.srq_state.slots
       (λ p same. other_owner p.connection conn c.number other same) (was core)) s.added;
   asked = All-filter (λ c. not (c.number == conn)) IsAsked t.connections s.asked;
 }
 
--- a desk with the same enables and connections
-pub same_desk-sound : (t : Tables) (d : Desk) → IsSound t → d.enables ≡ t.desk.enables → ((n : ℕ) → has_port d n ≡ has_port t.desk n) → IsSound (record t { desk = d })
-same_desk-sound t d s enables ports = record {
+-- a state of service requests with the same enables and connections
+pub same_srq_state-sound : (t : Tables) (d : SrqState) → IsSound t → d.enables ≡ t.srq_state.enables → ((n : ℕ) → has_slot d n ≡ has_slot t.srq_state n) → IsSound (record t { srq_state = d })
+same_srq_state-sound t d s enables slots = record {
   numbered = s.numbered;
   apart = s.apart;
   held = s.held;
   owned = subst (All (IsOwned t)) (sym enables) s.owned;
-  added = All-weaker (IsAdded t) (IsAdded (record t { desk = d })) (λ c was core. ports c.number ∙ was core) t.connections s.added;
+  added = All-weaker (IsAdded t) (IsAdded (record t { srq_state = d })) (λ c was core. slots c.number ∙ was core) t.connections s.added;
   asked = s.asked;
 }
 
--- ports that are changed stay their connections'
-ports_stay : (f : Port → Port) → ((p : Port) → (f p).connection ≡ p.connection) → (ps : List Port) (n : ℕ) → list_any (λ p. p.connection == n) (map f ps) ≡ list_any (λ p. p.connection == n) ps
+-- slots that are changed stay their connections'
+ports_stay : (f : ChannelSlot → ChannelSlot) → ((p : ChannelSlot) → (f p).connection ≡ p.connection) → (ps : List ChannelSlot) (n : ℕ) → list_any (λ p. p.connection == n) (map f ps) ≡ list_any (λ p. p.connection == n) ps
 ports_stay f same [] n = refl
 ports_stay f same (p ∷ ps) n = ap (λ m. (m == n) || list_any (λ q. q.connection == n) (map f ps)) (same p) ∙ ap (λ b. (p.connection == n) || b) (ports_stay f same ps n)
 
-pub with_channel-sound : (t : Tables) (conn : ℕ) (channel : Option Channel) → IsSound t → IsSound (record t { desk = with_channel t.desk conn channel })
-with_channel-sound t conn channel s = same_desk-sound t (with_channel t.desk conn channel) s refl (ports_stay (port_with conn channel) (port_with-stays conn channel) t.desk.ports)
+pub with_channel-sound : (t : Tables) (conn : ℕ) (channel : Option Channel) → IsSound t → IsSound (record t { srq_state = with_channel t.srq_state conn channel })
+with_channel-sound t conn channel s = same_srq_state-sound t (with_channel t.srq_state conn channel) s refl (ports_stay (slot_with conn channel) (slot_with-stays conn channel) t.srq_state.slots)
 
-pub with_new_channel-sound : (t : Tables) (conn program version : ℕ) → IsSound t → IsSound (record t { desk = with_new_channel t.desk conn program version })
+pub with_new_channel-sound : (t : Tables) (conn program version : ℕ) → IsSound t → IsSound (record t { srq_state = with_new_channel t.srq_state conn program version })
 with_new_channel-sound t conn program version s =
-    same_desk-sound t (with_new_channel t.desk conn program version) s refl (ports_stay (port_with conn _) (port_with-stays conn _) t.desk.ports)
+    same_srq_state-sound t (with_new_channel t.srq_state conn program version) s refl (ports_stay (slot_with conn _) (slot_with-stays conn _) t.srq_state.slots)
 
-pub taken-sound : (t : Tables) (conn number : ℕ) → IsSound t → IsSound (record t { desk = taken t.desk conn number })
-taken-sound t conn number s = same_desk-sound t (taken t.desk conn number) s refl (ports_stay (port_taken conn number) (port_taken-stays conn number) t.desk.ports)
+pub taken-sound : (t : Tables) (conn number : ℕ) → IsSound t → IsSound (record t { srq_state = taken t.srq_state conn number })
+taken-sound t conn number s = same_srq_state-sound t (taken t.srq_state conn number) s refl (ports_stay (slot_taken conn number) (slot_taken-stays conn number) t.srq_state.slots)
 
-pub sampled-sound : (t : Tables) (level : Bool) → IsSound t → IsSound (record t { desk = sampled t.desk level })
-sampled-sound t level s = at (level && not t.desk.level)
+pub sampled-sound : (t : Tables) (level : Bool) → IsSound t → IsSound (record t { srq_state = sampled t.srq_state level })
+sampled-sound t level s = at (level && not t.srq_state.level)
   where
-    at : (b : Bool) → IsSound (record t { desk = cond b (record t.desk { ports = map (risen_port t.desk.enables) t.desk.ports; level = level }) (record t.desk { level = level }) })
-    at true = same_desk-sound t (record t.desk { ports = map (risen_port t.desk.enables) t.desk.ports; level = level }) s refl (ports_stay (risen_port t.desk.enables) (λ p. refl) t.desk.ports)
-    at false = same_desk-sound t (record t.desk { level = level }) s refl (λ n. refl)
+    at : (b : Bool) → IsSound (record t { srq_state = cond b (record t.srq_state { slots = map (risen_slot t.srq_state.enables) t.srq_state.slots; level = level }) (record t.srq_state { level = level }) })
+    at true = same_srq_state-sound t (record t.srq_state { slots = map (risen_slot t.srq_state.enables) t.srq_state.slots; level = level }) s refl (ports_stay (risen_slot t.srq_state.enables) (λ p. refl) t.srq_state.slots)
+    at false = same_srq_state-sound t (record t.srq_state { level = level }) s refl (λ n. refl)
 
 -- an enable comes to its place
 All-enable_put : (P : Enable → Type 0) (e : Enable) (es : List Enable) → P e → All P es → All P (enable_put e es)
@@ -192,12 +192,12 @@ All-enable_put P e (f ∷ fs) here all = at (nat_lt e.link f.link) (e.link == f.
     at false true rest = All-cons P e fs here (All-tail P f fs all)
     at false false rest = All-cons P f (enable_put e fs) (All-head P f fs all) rest
 
-pub with_enable-sound : (t : Tables) (e : Enable) → IsSound t → IsOwned t e → IsSound (record t { desk = with_enable t.desk e })
+pub with_enable-sound : (t : Tables) (e : Enable) → IsSound t → IsOwned t e → IsSound (record t { srq_state = with_enable t.srq_state e })
 with_enable-sound t e s owned = record {
   numbered = s.numbered;
   apart = s.apart;
   held = s.held;
-  owned = All-enable_put (IsOwned t) e t.desk.enables owned s.owned;
+  owned = All-enable_put (IsOwned t) e t.srq_state.enables owned s.owned;
   added = s.added;
   asked = s.asked;
 }
@@ -212,8 +212,8 @@ with_connection-sound t role.Core s =
       held = s.held;
       owned = s.owned;
       added = All-push (IsAdded (with_connection t role.Core)) t.connections new
-          (All-weaker (IsAdded t) (IsAdded (with_connection t role.Core)) (λ c was core. list_any-append (λ p. p.connection == c.number) t.desk.ports _ ∙ or_left _ _ (was core)) t.connections s.added)
-          (λ core. list_any-append (λ p. p.connection == t.next_connection) t.desk.ports _ ∙ or_right (list_any (λ p. p.connection == t.next_connection) t.desk.ports) _ (or_left _ _ ((Decides-eqb t.next_connection t.next_connection).1 refl)));
+          (All-weaker (IsAdded t) (IsAdded (with_connection t role.Core)) (λ c was core. list_any-append (λ p. p.connection == c.number) t.srq_state.slots _ ∙ or_left _ _ (was core)) t.connections s.added)
+          (λ core. list_any-append (λ p. p.connection == t.next_connection) t.srq_state.slots _ ∙ or_right (list_any (λ p. p.connection == t.next_connection) t.srq_state.slots) _ (or_left _ _ ((Decides-eqb t.next_connection t.next_connection).1 refl)));
       asked = All-push IsAsked t.connections new s.asked (λ h. absurd (false≢true h));
     }
 with_connection-sound t role.Abort s =

@@ -15,7 +15,7 @@ use Rattle.vx_calls.specs.declared.limits.TheConstants.{LINK_MAX}
 use Rattle.vx_links.specs.Table.{Link, is_live}
 use Rattle.vx_locks.specs.Locks.{holds}
 use Rattle.vx_locks.proofs.Room.{has_room}
-use Rattle.vx_srq.specs.Desk.{Enable, LinksRise}
+use Rattle.vx_srq.specs.SrqState.{Enable, LinksRise}
 use Rattle.vx_rules.specs.State.{Tables}
 use Rattle.vx_rules.specs.Sound.{IsSound, IsOwned}
 use Rattle.vx_rules.proofs.Finds.{any_weaker, All-kept}
@@ -55,17 +55,17 @@ rising_differ (e ∷ es) rises =
     (rising_differ es (λ i j d before h. rises (suc i) (suc j) d (omega arith) (omega arith)))
 
 -- a link that lives finds room for its enable
-pub enable_room : (t : Tables) (lid : ℕ) → IsSound t → LinksRise t.desk.enables → is_live t.links lid ≡ true
-    → length (filter (λ e. not (e.link == lid)) t.desk.enables) < LINK_MAX
+pub enable_room : (t : Tables) (lid : ℕ) → IsSound t → LinksRise t.srq_state.enables → is_live t.links lid ≡ true
+    → length (filter (λ e. not (e.link == lid)) t.srq_state.enables) < LINK_MAX
 enable_room t lid s rises live =
-    let others = filter (λ (e : Enable). not (e.link == lid)) t.desk.enables in
-    let apart = rising_differ others (AllPairs-filter (λ a b. a.link < b.link) (λ e. not (e.link == lid)) t.desk.enables rises) in
+    let others = filter (λ (e : Enable). not (e.link == lid)) t.srq_state.enables in
+    let apart = rising_differ others (AllPairs-filter (λ a b. a.link < b.link) (λ e. not (e.link == lid)) t.srq_state.enables rises) in
     let fewer : length (map (λ (e : Enable). e.link) others) < length (numbers t.links.links) =
     few_numbers (map (λ e. e.link) others) (numbers t.links.links) lid apart
     (All-map (λ n. list_any (λ m. m == n) (numbers t.links.links) ≡ true) (λ e. e.link) others
-    (All-kept (IsOwned t) (λ e. list_any (λ m. m == e.link) (numbers t.links.links) ≡ true) (λ e. not (e.link == lid)) t.desk.enables
+    (All-kept (IsOwned t) (λ e. list_any (λ m. m == e.link) (numbers t.links.links) ≡ true) (λ e. not (e.link == lid)) t.srq_state.enables
     (λ e other own. is_number t.links.links e.link
     (any_weaker (λ l. (l.number == e.link) && (l.connection == e.connection)) (λ l. l.number == e.link) t.links.links (λ l both. (and_parts _ _ both).0) own)) s.owned))
     (is_number t.links.links lid live)
-    (All-map (λ n. lid ≢ n) (λ e. e.link) others (All-kept (IsOwned t) (λ e. lid ≢ e.link) (λ e. not (e.link == lid)) t.desk.enables (λ e other own. other-number e.link lid other) s.owned)) in
+    (All-map (λ n. lid ≢ n) (λ e. e.link) others (All-kept (IsOwned t) (λ e. lid ≢ e.link) (λ e. not (e.link == lid)) t.srq_state.enables (λ e other own. other-number e.link lid other) s.owned)) in
     omega (arith, fewer, length-map others (λ (e : Enable). e.link), length-map t.links.links (λ (l : Link). l.number), s.numbered.few)

@@ -21,12 +21,12 @@ use Rattle.vx_488.specs.declared.wire.Wire.{Wire}
 use Rattle.vx_488.specs.Wire.{wire_after}
 use Rattle.vx_links.specs.Table.{Link, is_full, is_live}
 use Rattle.vx_links.proofs.Numbers.{next_free}
-use Rattle.vx_srq.specs.Desk.{with_new_channel, sampled, taken}
+use Rattle.vx_srq.specs.SrqState.{with_new_channel, sampled, taken}
 use Rattle.vx_locks.specs.Locks.{Lock, holds, keeps_off, is_blocked, holder_of, with_lock}
 use Rattle.vx_rules.specs.State.{Pending, Connection, Tables, State, first, link_of, has_role_of, connection_at, same_role, pending_at, with_pending, with_link, without_connection, with_connection}
 use Rattle.vx_rules.specs.Calls.{link_named, is_bus_call, asks_dial}
 use Rattle.vx_rules.specs.Checks.{NamedLink, NoLink, DeadLink, OnLink, named_link, link_by_number, link_found, check, check_create}
-use Rattle.vx_rules.specs.Lines.{Lines, Refused, Waiting, Passed, named_request, holder_against, checked_lines, first_lines}
+use Rattle.vx_rules.specs.Lines.{Admission, Refused, Waiting, Passed, named_request, holder_against, checked_lines, first_lines}
 use Rattle.vx_rules.specs.Effects.{create, locked, locked_link, effect_on, effect, settle}
 use Rattle.vx_rules.specs.Decide.{Outside, decide, by_lines, dialed_answer, settles}
 use Rattle.vx_rules.specs.Entry.{Entry, Up, Down, Arrive, Answer, Abort, Sample, Take}
@@ -167,7 +167,7 @@ effect-keeps t own conn settling asked s checks free = about-keeps t own conn se
 
 -- the effect of a dial
 up-keeps : (t : Tables) (conn prog vers : ℕ) (up : Bool) (made lost : Reply) → IsSound t
-    → Keeps (cond up (Some (made, record t { desk = with_new_channel t.desk conn prog vers })) (Some (lost, t)))
+    → Keeps (cond up (Some (made, record t { srq_state = with_new_channel t.srq_state conn prog vers })) (Some (lost, t)))
 up-keeps t conn prog vers true made lost s = with_new_channel-sound t conn prog vers s
 up-keeps t conn prog vers false made lost s = s
 
@@ -188,7 +188,7 @@ dialed-keeps : (t : Tables) (conn : ℕ) (p : Pending) (o : Outside) (d : Option
 dialed-keeps t conn p o None s = tt
 dialed-keeps t conn p o (Some up) s = either (not o.failed && not o.level) (settle t conn p.call up) None (settle-keeps t conn p.call up s) tt
 
-by_lines-keeps : (t : Tables) (w : Wire) (conn : ℕ) (p : Pending) (now : ℕ) (o : Outside) (lines : Lines) → IsSound t
+by_lines-keeps : (t : Tables) (w : Wire) (conn : ℕ) (p : Pending) (now : ℕ) (o : Outside) (lines : Admission) → IsSound t
     → (lines ≡ Passed → Keeps (effect t w.own conn (named_link t conn p.call) p.call)) → Keeps (by_lines t w conn p now o lines)
 by_lines-keeps t w conn p now o (Refused error) s passed = either _ (Some (_, t)) None s tt
 by_lines-keeps t w conn p now o (Waiting holder) s passed = tt
@@ -241,9 +241,9 @@ one-sound s t (Answer conn now begun moves failed dialed level told) sound h =
 one-sound s t (Abort conn lid told) sound h =
     subst (λ u. IsSound u.tables) (cond_some _ (record s { tables = abort_tables s.tables lid }) t h).1 (abort-sound s.tables lid sound)
 one-sound s t (Sample now srq) sound h =
-    subst (λ u. IsSound u.tables) (cond_some _ (record s { tables = record s.tables { desk = sampled s.tables.desk srq }; moment = now }) t h).1 (sampled-sound s.tables srq sound)
+    subst (λ u. IsSound u.tables) (cond_some _ (record s { tables = record s.tables { srq_state = sampled s.tables.srq_state srq }; moment = now }) t h).1 (sampled-sound s.tables srq sound)
 one-sound s t (Take conn chan told) sound h =
-    subst (λ u. IsSound u.tables) (cond_some _ (record s { tables = record s.tables { desk = taken s.tables.desk conn chan } }) t h).1 (taken-sound s.tables conn chan sound)
+    subst (λ u. IsSound u.tables) (cond_some _ (record s { tables = record s.tables { srq_state = taken s.tables.srq_state conn chan } }) t h).1 (taken-sound s.tables conn chan sound)
 
 -- each history
 pub along-none : (history : List Entry) (t : State) → along one None history ≡ Some t → ⊥

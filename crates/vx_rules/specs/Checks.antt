@@ -10,7 +10,7 @@ use Rattle.vx_calls.specs.Call.{Call}
 use Rattle.vx_calls.specs.Call as call
 use Rattle.vx_links.specs.Table.{Link, is_full}
 use Rattle.vx_locks.specs.Locks.{holds}
-use Rattle.vx_srq.specs.Desk.{channel_at, has_number}
+use Rattle.vx_srq.specs.SrqState.{channel_at, has_number}
 use Rattle.vx_rules.specs.State.{Pending, Tables, link_of}
 use Rattle.vx_rules.specs.Calls.{link_named, asks_dial}
 use Rattle.vx_rules.specs.Docmd.{Command, command_of, takes_input}
@@ -59,15 +59,15 @@ numbers_asked t conn = count_by (λ c. not (c.number == conn) && asks_channel c.
 -- whether a channel number is left: at the settling of a dial those given out count alone
 abbrev pub has_channel_number : Tables → ℕ → Bool → Bool
 has_channel_number t conn settling =
-    if settling then has_number t.desk
-    else nat_le (t.desk.next_channel + numbers_asked t conn) CONNECTION_LAST
+    if settling then has_number t.srq_state
+    else nat_le (t.srq_state.next_channel + numbers_asked t conn) CONNECTION_LAST
 
 -- create_intr_chan: TCP is family 0; the port fits 16 bits and isn't 0; one channel a connection; a number is left
 abbrev pub check_channel : Tables → ℕ → Bool → ℕ → ℕ → Option ErrorCode
 check_channel t conn settling family port =
     if not (family == 0) then Some code.NotSupported
     else if (port == 0) || nat_lt 65535 port then Some code.InvalidAddress
-    else if is_some (channel_at t.desk conn) then Some code.ChannelUp
+    else if is_some (channel_at t.srq_state conn) then Some code.ChannelUp
     else if has_channel_number t conn settling then None
     else Some code.NoResources
 
@@ -87,5 +87,5 @@ check t own conn settling DeadLink asked = Some code.InvalidLink
 check t own conn settling (OnLink l) asked = check_on t own l asked
 check t own conn settling NoLink (call.CreateLink client lock lock_timeout device) = check_create t (target device own)
 check t own conn settling NoLink (call.CreateIntr host port prog vers family) = check_channel t conn settling family port
-check t own conn settling NoLink call.DestroyIntr = if is_some (channel_at t.desk conn) then None else Some code.NoChannel
+check t own conn settling NoLink call.DestroyIntr = if is_some (channel_at t.srq_state conn) then None else Some code.NoChannel
 check t own conn settling NoLink _ = None

@@ -15,7 +15,7 @@ use Rattle.vx_plan.specs.Results.{whole_reply}
 use Rattle.vx_rules.specs.State.{Pending, Tables}
 use Rattle.vx_rules.specs.Calls.{is_bus_call, asks_dial, io_timeout_of, bytes_of, is_big, has_passed}
 use Rattle.vx_rules.specs.Checks.{named_link}
-use Rattle.vx_rules.specs.Lines.{Lines, Refused, Waiting, Passed, first_lines, later_lines, lets_pass}
+use Rattle.vx_rules.specs.Lines.{Admission, Refused, Waiting, Passed, first_lines, later_lines, lets_pass}
 use Rattle.vx_rules.specs.Effects.{task_of, stopped_reply, effect, settle}
 
 -- What comes to an answer from outside: the moment at which the call's turn began and the transfers that it made, whether
@@ -80,7 +80,7 @@ passed_answer t w conn p now o =
     else None
 
 -- a call after the first lines: a refusal's reply has what its turn, where one was under way, has made
-abbrev pub by_lines : Tables → Wire → ℕ → Pending → ℕ → Outside → Lines → Option (Reply × Tables)
+abbrev pub by_lines : Tables → Wire → ℕ → Pending → ℕ → Outside → Admission → Option (Reply × Tables)
 by_lines t w conn p now o (Refused error) = if is_quiet o then Some (stopped_reply p.call error o.moves, t) else None
 by_lines t w conn p now o (Waiting holder) = None
 by_lines t w conn p now o Passed = passed_answer t w conn p now o
@@ -139,7 +139,7 @@ passed_fits t w conn p now o =
     then begun_between p now o.begun
     else may_tell p now o.begun && is_nothing o.moves
 
-abbrev pub lines_fit : Tables → Wire → ℕ → Pending → ℕ → Outside → Lines → Bool
+abbrev pub lines_fit : Tables → Wire → ℕ → Pending → ℕ → Outside → Admission → Bool
 lines_fit t w conn p now o (Refused error) = may_tell p now o.begun && is_nothing o.moves
 lines_fit t w conn p now o (Waiting holder) = false
 lines_fit t w conn p now o Passed = passed_fits t w conn p now o

@@ -16,7 +16,7 @@ use Rattle.vx_plan.specs.declared.tasks.Task.TheVariants as task
 use Rattle.vx_plan.specs.Results.{puts_made, bytes_got}
 use Rattle.vx_links.specs.Table.{Link}
 use Rattle.vx_locks.specs.Locks.{holds, with_lock, without_lock}
-use Rattle.vx_srq.specs.Desk.{with_enable, with_channel, with_new_channel}
+use Rattle.vx_srq.specs.SrqState.{with_enable, with_channel, with_new_channel}
 use Rattle.vx_rules.specs.State.{Tables, with_link, without_link}
 use Rattle.vx_rules.specs.Calls.{sets_end, sets_stop}
 use Rattle.vx_rules.specs.Docmd.{command_of, command_task}
@@ -69,7 +69,7 @@ abbrev pub effect_on : Tables → ℕ → Link → Call → Option (Reply × Tab
 effect_on t conn l (call.Lock lid flags lock_timeout) = Some (reply.Error code.Ok, locked t l)
 effect_on t conn l (call.Unlock lid) = Some (reply.Error code.Ok, record t { locks = without_lock t.locks l.number })
 effect_on t conn l (call.EnableSrq lid enable handle) =
-    Some (reply.Error code.Ok, record t { desk = with_enable t.desk (record { link = l.number; connection = conn; on = enable; handle = handle }) })
+    Some (reply.Error code.Ok, record t { srq_state = with_enable t.srq_state (record { link = l.number; connection = conn; on = enable; handle = handle }) })
 effect_on t conn l (call.DestroyLink lid) = Some (reply.Error code.Ok, without_link t conn l.number)
 effect_on t conn l _ = None
 
@@ -77,12 +77,12 @@ effect_on t conn l _ = None
 abbrev pub effect : Tables → ℕ → ℕ → NamedLink → Call → Option (Reply × Tables)
 effect t own conn (OnLink l) asked = effect_on t conn l asked
 effect t own conn NoLink (call.CreateLink client lock lock_timeout device) = create t conn lock (target device own)
-effect t own conn NoLink call.DestroyIntr = Some (reply.Error code.Ok, record t { desk = with_channel t.desk conn None })
+effect t own conn NoLink call.DestroyIntr = Some (reply.Error code.Ok, record t { srq_state = with_channel t.srq_state conn None })
 effect t own conn NoLink _ = None
 effect t own conn DeadLink asked = None
 
 -- a dial that was made: the channel where it came up, and NoChannel where it didn't
 abbrev pub settle : Tables → ℕ → Call → Bool → Option (Reply × Tables)
 settle t conn (call.CreateIntr host port prog vers family) up =
-    if up then Some (reply.Error code.Ok, record t { desk = with_new_channel t.desk conn prog vers }) else Some (reply.Error code.NoChannel, t)
+    if up then Some (reply.Error code.Ok, record t { srq_state = with_new_channel t.srq_state conn prog vers }) else Some (reply.Error code.NoChannel, t)
 settle t conn _ up = None

@@ -14,7 +14,7 @@ tables_of t = record {
   next_connection = t.next;
   links = t.links;
   locks = t.locks;
-  desk = t.srq;
+  srq_state = t.srq;
   abort_port = t.abort_port;
 }
 

@@ -4,7 +4,7 @@ use Rattle.std.specs.List.{All, AllPairs}
 use Rattle.vx_calls.specs.declared.codes.ErrorCode.{ErrorCode}
 use Rattle.vx_calls.specs.Reply.{Reply}
 use Rattle.vx_488.specs.declared.transfers.Transfer.{Transfer}
-use Rattle.vx_srq.specs.Desk.{Given}
+use Rattle.vx_srq.specs.SrqState.{Given}
 use Rattle.vx_locks.specs.Locks.{IsApart}
 use Rattle.vx_rules.specs.State.{State}
 use Rattle.vx_rules.specs.Entry.{Entry, Answer, Abort, Take}

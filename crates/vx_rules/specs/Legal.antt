@@ -1,7 +1,7 @@
 -- Histories of the gateway of one thread, and the rises of the SRQ line in them.
 use Rattle.std.specs.Prelude.{ℕ, Bool, true, false, ◌&&◌, ◌==◌, if◌then◌else◌, List, [], ◌∷◌, ◌++◌, map, filter, Option, Some, None, IsSome}
 use Rattle.std.specs.Option.{option_map_or}
-use Rattle.vx_srq.specs.Desk.{Desk, Enable, channel_at, is_rise}
+use Rattle.vx_srq.specs.SrqState.{SrqState, Enable, channel_at, is_rise}
 use Rattle.vx_rules.specs.Lists.{along}
 use Rattle.vx_rules.specs.State.{State, first}
 use Rattle.vx_rules.specs.Entry.{Entry, Sample}
@@ -17,7 +17,7 @@ IsLegal abort_port history = IsSome (legal_state abort_port history)
 
 -- a sample that finds the SRQ line on, where the one before found it off
 abbrev pub is_rise_at : State → Entry → Bool
-is_rise_at s (Sample now srq) = is_rise s.tables.desk.level srq
+is_rise_at s (Sample now srq) = is_rise s.tables.srq_state.level srq
 is_rise_at s _ = false
 
 -- the connection of an enabled link that has a channel, and the link's handle
@@ -26,7 +26,7 @@ pub record Due : Type 0 where
   pub handle : List ℕ
 
 -- the enables of links whose connection has a channel, in order of the links' numbers
-abbrev pub is_enabled : Desk → Enable → Bool
+abbrev pub is_enabled : SrqState → Enable → Bool
 is_enabled d e = e.on && option_map_or (λ c. true) (channel_at d e.connection) false
 
 abbrev pub due_of : Enable → Due
@@ -34,7 +34,7 @@ due_of e = record { connection = e.connection; handle = e.handle }
 
 -- what is due at a rise in this state
 abbrev pub due_in : State → List Due
-due_in s = map due_of (filter (is_enabled s.tables.desk) s.tables.desk.enables)
+due_in s = map due_of (filter (is_enabled s.tables.srq_state) s.tables.srq_state.enables)
 
 -- what was due at each rise of a history, from this state on
 abbrev pub due_along : Option State → List Entry → List (List Due)
@@ -44,7 +44,7 @@ due_along (Some s) (e ∷ es) = if is_rise_at s e then due_in s ∷ due_along (o
 
 -- a channel of this number lives on the connection
 abbrev pub has_channel : State → ℕ → ℕ → Bool
-has_channel s conn chan = option_map_or (λ c. c.number == chan) (channel_at s.tables.desk conn) false
+has_channel s conn chan = option_map_or (λ c. c.number == chan) (channel_at s.tables.srq_state conn) false
 
 -- the handles of a connection in what is due
 abbrev pub handles_due : ℕ → List Due → List (List ℕ)

@@ -23,4 +23,4 @@ pub mod PassLaws
 pub mod ProvedLaws
 pub use Rattle.vx_links.specs.Table
 pub use Rattle.vx_locks.specs.Locks
-pub use Rattle.vx_srq.specs.Desk
+pub use Rattle.vx_srq.specs.SrqState

@@ -36,29 +36,29 @@ abbrev pub holder_against : Tables → ℕ → NamedLink → Call → Option ℕ
 holder_against t own about asked = option_and_then (λ c. holder_of t.locks c.link c.target) (lock_request own about asked)
 
 -- the first lines refuse a call, let it wait for a link's lock, or let it pass
-pub data Lines : Type 0 where
-  Refused : ErrorCode → Lines
-  Waiting : (link : ℕ) → Lines
-  Passed : Lines
+pub data Admission : Type 0 where
+  Refused : ErrorCode → Admission
+  Waiting : (link : ℕ) → Admission
+  Passed : Admission
 
 -- a lock keeps the call off: it waits where a wait is asked for and its time hasn't passed
-abbrev pub lock_lines : Pending → ℕ → Option ℕ → Lines
+abbrev pub lock_lines : Pending → ℕ → Option ℕ → Admission
 lock_lines p now None = Passed
 lock_lines p now (Some holder) =
     if asks_wait p.call && not (has_passed (lock_timeout_of p.call) p.arrival now) then Waiting holder else Refused code.Locked
 
-abbrev pub checked_lines : Pending → ℕ → Option ErrorCode → Option ℕ → Lines
+abbrev pub checked_lines : Pending → ℕ → Option ErrorCode → Option ℕ → Admission
 checked_lines p now (Some error) holder = Refused error
 checked_lines p now None holder = lock_lines p now holder
 
 -- the lines behind that of the abort, for a call of this connection at this moment
-abbrev pub later_lines : Tables → ℕ → ℕ → Bool → Pending → ℕ → Lines
+abbrev pub later_lines : Tables → ℕ → ℕ → Bool → Pending → ℕ → Admission
 later_lines t own conn settling p now =
     let about = named_link t conn p.call in
     checked_lines p now (check t own conn settling about p.call) (holder_against t own about p.call)
 
 -- the first lines of a call's answer
-abbrev pub first_lines : Tables → ℕ → ℕ → Bool → Pending → ℕ → Lines
+abbrev pub first_lines : Tables → ℕ → ℕ → Bool → Pending → ℕ → Admission
 first_lines t own conn settling p now = if p.aborted then Refused code.Abort else later_lines t own conn settling p now
 
 -- whether neither the link, nor a check, nor a lock is against a call: this doesn't depend on the moment

@@ -8,7 +8,7 @@ use Rattle.vx_calls.specs.ErrorCode.{same_error}
 use Rattle.vx_calls.specs.Reply.{Reply}
 use Rattle.vx_calls.specs.Reply as reply
 use Rattle.vx_488.specs.declared.transfers.Transfer.{Transfer}
-use Rattle.vx_srq.specs.Desk.{channel_at}
+use Rattle.vx_srq.specs.SrqState.{channel_at}
 use Rattle.vx_rules.specs.State.{State, first}
 use Rattle.vx_rules.specs.Entry.{Entry, Up, Answer}
 use Rattle.vx_rules.specs.One.{one}
@@ -31,7 +31,7 @@ link_given _ = []
 
 -- the number of a connection's channel, where it has one
 abbrev pub channel_number : ℕ → State → List ℕ
-channel_number conn t = option_map_or (λ c. c.number ∷ []) (channel_at t.tables.desk conn) []
+channel_number conn t = option_map_or (λ c. c.number ∷ []) (channel_at t.tables.srq_state conn) []
 
 -- the number of the channel that an entry makes, which leads to this state: at an answer to a dial that came up
 abbrev pub channel_given : Entry → Option State → List ℕ
@@ -54,7 +54,7 @@ channels_given (Some s) (e ∷ es) = channel_given e (one s e) ++ channels_given
 abbrev pub NumbersRiseLaw : Type 0
 NumbersRiseLaw = (s t : State) (e : Entry) → one s e ≡ Some t
     → (s.tables.links.next ≤ t.tables.links.next) × (s.tables.next_connection ≤ t.tables.next_connection)
-    × (s.tables.desk.next_channel ≤ t.tables.desk.next_channel)
+    × (s.tables.srq_state.next_channel ≤ t.tables.srq_state.next_channel)
 
 -- a number that is given is the one that comes next, and it is used up: the number of a link that is made
 abbrev pub LinkGivenLaw : Type 0
@@ -72,7 +72,7 @@ abbrev pub ChannelGivenLaw : Type 0
 ChannelGivenLaw = (abort_port : ℕ) (history : List Entry) (s t : State) (conn now begun : ℕ) (moves : List Transfer) (failed level : Bool) (told : Reply)
     → legal_state abort_port history ≡ Some s
     → one s (Answer conn now begun moves failed (Some true) level told) ≡ Some t
-    → (channel_number conn t ≡ s.tables.desk.next_channel ∷ []) × (t.tables.desk.next_channel ≡ s.tables.desk.next_channel + 1)
+    → (channel_number conn t ≡ s.tables.srq_state.next_channel ∷ []) × (t.tables.srq_state.next_channel ≡ s.tables.srq_state.next_channel + 1)
 
 -- the numbers that a history gives rise, so that none is given twice: those of links
 abbrev pub LinksGivenOnceLaw : Type 0

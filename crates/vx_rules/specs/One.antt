@@ -12,7 +12,7 @@ use Rattle.vx_calls.specs.Reply.{Reply, same_reply}
 use Rattle.vx_488.specs.declared.transfers.Transfer.{Transfer}
 use Rattle.vx_488.specs.Wire.{wire_after}
 use Rattle.vx_links.specs.Table.{is_live}
-use Rattle.vx_srq.specs.Desk.{Srq, Given, Front, Empty, Gone, given, taken, sampled}
+use Rattle.vx_srq.specs.SrqState.{Srq, Given, Front, Empty, Gone, given, taken, sampled}
 use Rattle.vx_rules.specs.State.{Pending, Connection, Tables, State, connection_at, pending_at, lives_as, is_idle, has_room, with_pending, with_connection, without_connection}
 use Rattle.vx_rules.specs.Calls.{link_named}
 use Rattle.vx_rules.specs.Decide.{Outside, decide, turn_fits, may_have_made, is_nothing}
@@ -113,9 +113,9 @@ one s (Abort conn lid told) =
     then Some (record s { tables = abort_tables s.tables lid })
     else None
 one s (Sample now srq) =
-    if nat_le s.moment now then Some (record s { tables = record s.tables { desk = sampled s.tables.desk srq }; moment = now }) else None
+    if nat_le s.moment now then Some (record s { tables = record s.tables { srq_state = sampled s.tables.srq_state srq }; moment = now }) else None
 -- the connection lives, and this is what the take gives
 one s (Take conn chan told) =
-    if is_some (connection_at s.tables conn) && same_given (given s.tables.desk conn chan) told
-    then Some (record s { tables = record s.tables { desk = taken s.tables.desk conn chan } })
+    if is_some (connection_at s.tables conn) && same_given (given s.tables.srq_state conn chan) told
+    then Some (record s { tables = record s.tables { srq_state = taken s.tables.srq_state conn chan } })
     else None

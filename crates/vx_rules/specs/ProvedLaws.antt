@@ -21,14 +21,14 @@ use Rattle.vx_rules.specs.Checks.{NamedLink, NoLink, DeadLink, OnLink, check_com
 use Rattle.vx_calls.specs.declared.calls.CallRef.{CallRef}
 use Rattle.vx_calls.specs.declared.calls.CallRef.TheVariants as seen
 use Rattle.vx_rules.specs.One.{may_wait, same_srq}
-use Rattle.vx_srq.specs.Desk.{Srq}
+use Rattle.vx_srq.specs.SrqState.{Srq}
 use Rattle.vx_calls.specs.declared.limits.TheConstants.{DOCMD_MAX, WRITE_MAX}
 use Rattle.vx_links.specs.Table.{Table, Link}
 use Rattle.vx_rules.specs.Docmd.{Command, SendCommand, BusStatus, AtnControl, RenControl, PassControl, BusAddress, IfcControl, takes_input, takes_number, number_in, command_of}
 use Rattle.vx_calls.specs.declared.codes.ErrorCode.TheVariants as code
 
 -- a connection that comes up takes no channel number
-pub up-next : (t : Tables) (r : Role) → (with_connection t r).desk.next_channel ≡ t.desk.next_channel
+pub up-next : (t : Tables) (r : Role) → (with_connection t r).srq_state.next_channel ≡ t.srq_state.next_channel
 up-next t role.Core = refl
 up-next t role.Abort = refl
 

@@ -4,7 +4,7 @@ use Rattle.vx_calls.specs.declared.limits.TheConstants.{WRITE_MAX}
 use Rattle.vx_calls.specs.declared.codes.ErrorCode.TheVariants as code
 use Rattle.vx_calls.specs.Reply.{Reply}
 use Rattle.vx_calls.specs.Reply as reply
-use Rattle.vx_srq.specs.Desk.{with_new_channel}
+use Rattle.vx_srq.specs.SrqState.{with_new_channel}
 use Rattle.vx_plan.specs.declared.tasks.Task.{Task}
 use Rattle.vx_plan.specs.Tasks.{IsPlainTask, IsTargetPlain, HasBytes, most_bytes}
 use Rattle.vx_links.specs.Table.{Link}
@@ -21,7 +21,7 @@ can_settle t conn _ = false
 -- the reply of a dial, and the tables after it
 abbrev pub settled : Tables → ℕ → ℕ → ℕ → Bool → Option (Reply × Tables)
 settled t conn prog vers up =
-    if up then Some (reply.Error code.Ok, record t { desk = with_new_channel t.desk conn prog vers }) else Some (reply.Error code.NoChannel, t)
+    if up then Some (reply.Error code.Ok, record t { srq_state = with_new_channel t.srq_state conn prog vers }) else Some (reply.Error code.NoChannel, t)
 
 -- the reply of a call that needs no bus and no dial, where nothing is against it
 abbrev pub served_reply : Tables → Call → Reply

@@ -2,8 +2,8 @@
 use Rattle.vx_links.specs.Shown.{link_shown}
 use Rattle.vx_rules.specs.declared.tables.checks.Named.{Named}
 use Rattle.vx_rules.specs.declared.tables.checks.Named.TheVariants as named
-use Rattle.vx_rules.specs.declared.tables.lines.Lines.{Lines}
-use Rattle.vx_rules.specs.declared.tables.lines.Lines.TheVariants as seen
+use Rattle.vx_rules.specs.declared.tables.lines.Admission.{Admission}
+use Rattle.vx_rules.specs.declared.tables.lines.Admission.TheVariants as seen
 use Rattle.vx_rules.specs.declared.tables.lines.Request.{Request}
 use Rattle.vx_rules.specs.declared.tables.docmd.Command.{Command}
 use Rattle.vx_rules.specs.declared.tables.docmd.Command.TheVariants as command
@@ -18,7 +18,7 @@ named_shown named.Dead = checks.DeadLink
 named_shown (named.On row) = checks.OnLink (link_shown row)
 
 -- what the first lines say
-abbrev pub lines_shown : Lines → lines.Lines
+abbrev pub lines_shown : Admission → lines.Admission
 lines_shown (seen.Refused error) = lines.Refused error
 lines_shown (seen.Waiting link) = lines.Waiting link
 lines_shown seen.Passed = lines.Passed

@@ -4,7 +4,7 @@ use Rattle.std.specs.List.{list_any, All}
 use Rattle.vx_calls.specs.declared.calls.Role.TheVariants as role
 use Rattle.vx_links.specs.Table.{Link, IsNumbered, is_live}
 use Rattle.vx_locks.specs.Locks.{Lock, IsApart}
-use Rattle.vx_srq.specs.Desk.{Desk, Enable}
+use Rattle.vx_srq.specs.SrqState.{SrqState, Enable}
 use Rattle.vx_rules.specs.State.{Connection, Tables, same_role}
 
 -- whether the connection has a live link of this number
@@ -12,8 +12,8 @@ abbrev pub owns : List Link → ℕ → ℕ → Bool
 owns live lid conn = list_any (λ l. (l.number == lid) && (l.connection == conn)) live
 
 -- whether the connection may have an interrupt channel
-abbrev pub has_port : Desk → ℕ → Bool
-has_port d conn = list_any (λ p. p.connection == conn) d.ports
+abbrev pub has_slot : SrqState → ℕ → Bool
+has_slot d conn = list_any (λ p. p.connection == conn) d.slots
 
 -- the lock's link lives
 abbrev pub IsHeld : Tables → Lock → Type 0
@@ -25,7 +25,7 @@ IsOwned t e = owns t.links.links e.link e.connection ≡ true
 
 -- a core connection may have a channel, and only such a one has a call
 abbrev pub IsAdded : Tables → Connection → Type 0
-IsAdded t c = same_role c.role role.Core ≡ true → has_port t.desk c.number ≡ true
+IsAdded t c = same_role c.role role.Core ≡ true → has_slot t.srq_state c.number ≡ true
 
 abbrev pub IsAsked : Connection → Type 0
 IsAsked c = is_some c.pending ≡ true → same_role c.role role.Core ≡ true
@@ -36,6 +36,6 @@ pub record IsSound (t : Tables) : Type 0 where
   pub numbered : IsNumbered t.links
   pub apart : IsApart t.locks
   pub held : All (IsHeld t) t.locks
-  pub owned : All (IsOwned t) t.desk.enables
+  pub owned : All (IsOwned t) t.srq_state.enables
   pub added : All (IsAdded t) t.connections
   pub asked : All IsAsked t.connections

@@ -12,8 +12,8 @@ use Rattle.vx_488.specs.Wire.{first_wire}
 use Rattle.vx_links.specs.Table.{Link, Table}
 use Rattle.vx_links.specs.Table as links
 use Rattle.vx_locks.specs.Locks.{Lock, without_lock}
-use Rattle.vx_srq.specs.Desk.{Desk, Channel, channel_at, with_port, without_port, without_enable}
-use Rattle.vx_srq.specs.Desk as desk
+use Rattle.vx_srq.specs.SrqState.{SrqState, Channel, channel_at, with_slot, without_slot, without_enable}
+use Rattle.vx_srq.specs.SrqState as srq_state
 use Rattle.vx_rules.specs.Lists.{update_first}
 
 -- a call that has come and has no answer yet, the moment at which it came, in milliseconds, and whether a device_abort
@@ -37,7 +37,7 @@ pub record Tables : Type 0 where
   pub next_connection : ℕ
   pub links : Table
   pub locks : List Lock
-  pub desk : Desk
+  pub srq_state : SrqState
   pub abort_port : ℕ
 
 -- the tables, the bus, and the greatest moment handed in so far
@@ -53,7 +53,7 @@ first_tables abort_port = record {
   next_connection = 1;
   links = links.empty;
   locks = [];
-  desk = desk.empty;
+  srq_state = srq_state.empty;
   abort_port = abort_port;
 }
 
@@ -108,15 +108,15 @@ with_pending t conn p = record t {
 }
 
 -- one connection more, with the next number; a core one may have a channel
-abbrev pub desk_with : Role → ℕ → Desk → Desk
-desk_with role.Core conn d = with_port d conn
-desk_with role.Abort conn d = d
+abbrev pub srq_state_with : Role → ℕ → SrqState → SrqState
+srq_state_with role.Core conn d = with_slot d conn
+srq_state_with role.Abort conn d = d
 
 abbrev pub with_connection : Tables → Role → Tables
 with_connection t r = record t {
   connections = t.connections ++ record { number = t.next_connection; role = r; pending = None } ∷ [];
   next_connection = t.next_connection + 1;
-  desk = desk_with r t.next_connection t.desk;
+  srq_state = srq_state_with r t.next_connection t.srq_state;
 }
 
 -- whether a lock is held by a link of this connection
@@ -129,7 +129,7 @@ without_connection t conn = record t {
   connections = filter (λ c. not (c.number == conn)) t.connections;
   links = record t.links { links = filter (λ l. not (l.connection == conn)) t.links.links };
   locks = filter (λ k. not (is_lock_of t.links.links conn k)) t.locks;
-  desk = without_port t.desk conn;
+  srq_state = without_slot t.srq_state conn;
 }
 
 -- one link more, with the next number
@@ -141,5 +141,5 @@ abbrev pub without_link : Tables → ℕ → ℕ → Tables
 without_link t conn lid = record t {
   links = record t.links { links = filter (λ l. not ((l.number == lid) && (l.connection == conn))) t.links.links };
   locks = without_lock t.locks lid;
-  desk = without_enable t.desk lid;
+  srq_state = without_enable t.srq_state lid;
 }

@@ -6,4 +6,4 @@ mod laws;
 mod tables;
 
 pub use laws::{link_numbers, locks_apart, numbers_given_once, one_reply, passed_calls};
-pub use tables::{Connect, Lines, NoMemory, Request, Tables, has_passed, may_wait};
+pub use tables::{Admission, Connect, NoMemory, Request, Tables, has_passed, may_wait};

@@ -5,13 +5,13 @@ ghost use Rattle.std.specs.Option.{option_map};
 ghost use Rattle.std.specs.List.{All};
 ghost use Rattle.vx_calls.specs.Call.{call_shown};
 ghost use Rattle.vx_srq.specs.Shown.{given_shown};
-ghost use Rattle.vx_srq.specs.Desk as desk;
+ghost use Rattle.vx_srq.specs.SrqState as srq_state;
 ghost use Rattle.vx_rules.specs.State as state;
 ghost use Rattle.vx_rules.specs.Calls.{proc_of};
 ghost use Rattle.vx_rules.specs.One.{may_wait, arrived, abort_reply, abort_tables};
 ghost use Rattle.vx_rules.specs.Held.{IsShort};
 ghost use Rattle.vx_rules.specs.Rows.{pending_of, connection_of};
-ghost use Rattle.vx_rules.specs.Sound.{IsSound, has_port};
+ghost use Rattle.vx_rules.specs.Sound.{IsSound, has_slot};
 ghost use Rattle.vx_rules.specs.Serving.{IsPlainLink};
 
 mod checks;
@@ -25,7 +25,7 @@ mod text;
 use effects::drop_links;
 pub use kept::may_wait;
 use kept::{handle_of, text_of, words_of};
-pub use lines::{Lines, Request, has_passed};
+pub use lines::{Admission, Request, has_passed};
 use rows::{
     Asked, Row, count_role, drop_row, end_call, find_row, is_same_role, keep_call, mark_calls,
     procedure_of, put_call,
@@ -253,29 +253,29 @@ impl Tables {
 
     /// A sample of the SRQ line.
     pub fn sample(&mut self, level: bool)
-        ensures { self.new ≡ record self.old { desk = desk.sampled self.old.desk level } }
+        ensures { self.new ≡ record self.old { srq_state = srq_state.sampled self.old.srq_state level } }
     {
         self.srq.sample(level);
     }
 
     /// Takes the front of the outbox of the connection's channel of this number, as the interrupt call to make.
     pub fn take(&mut self, conn: u32, chan: u32) -> Taken
-        ensures given { given_shown result ≡ desk.given self.old.desk conn chan }
-        ensures taken { self.new ≡ record self.old { desk = desk.taken self.old.desk conn chan } }
+        ensures given { given_shown result ≡ srq_state.given self.old.srq_state conn chan }
+        ensures taken { self.new ≡ record self.old { srq_state = srq_state.taken self.old.srq_state conn chan } }
     {
         self.srq.take(conn, chan)
     }
 
     /// What `take` would give. Nothing changes.
     pub fn given(&self, conn: u32, chan: u32) -> Taken
-        ensures { given_shown result ≡ desk.given self.now.desk conn chan }
+        ensures { given_shown result ≡ srq_state.given self.now.srq_state conn chan }
     {
         self.srq.given(conn, chan)
     }
 
     /// The number of the connection's channel, where it has one.
     pub fn channel(&self, conn: u32) -> Option<u32>
-        ensures { result ≡ option_map (λ c. c.number) (desk.channel_at self.now.desk conn) }
+        ensures { result ≡ option_map (λ c. c.number) (srq_state.channel_at self.now.srq_state conn) }
     {
         match self.srq.channel(conn) {
             Some(channel) => Some(channel.chan),
@@ -285,7 +285,7 @@ impl Tables {
 
     /// The level of SRQ at the last sample; false before the first.
     pub fn level(&self) -> bool
-        ensures { result ≡ self.now.desk.level }
+        ensures { result ≡ self.now.srq_state.level }
     {
         self.srq.level()
     }
@@ -310,7 +310,7 @@ impl Tables {
         requires { IsSome (state.pending_at self.now conn) }
         ensures pending { pending_of result.now ≡ state.pending_at self.now conn }
         ensures connection { Some (connection_of result.now) ≡ state.connection_at self.now conn }
-        ensures port { has_port self.now.desk conn ≡ true }
+        ensures port { has_slot self.now.srq_state conn ≡ true }
     {
         match find_row(&self.rows, conn) {
             Some(row) => row,
@@ -337,7 +337,7 @@ fn new_row(alloc: Global, number: u32, role: Role) -> Result<Row, NoMemory>
 
 /// A core connection may have a channel.
 fn add_port(srq: &mut Srq, conn: u32, role: Role) -> Result<(), NoMemory>
-    ensures ok { OnOk result (srq.new ≡ state.desk_with role conn srq.old) }
+    ensures ok { OnOk result (srq.new ≡ state.srq_state_with role conn srq.old) }
     ensures err { OnErr result (srq.new ≡ srq.old) }
 {
     match role {

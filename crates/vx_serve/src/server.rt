@@ -137,10 +137,10 @@ where
 {
     let Acceptor {
         links,
-        seat,
+        access,
         mut kit,
     } = acceptor;
-    let (shared, pass) = seat.into_parts();
+    let (shared, pass) = access.into_parts();
     let ended = serve_links(
         rt, alloc, options, &links, &shared, pass, &mut kit, net, sink,
     );
@@ -173,10 +173,10 @@ where
     let Some(port) = open_ports(net, options.core, options.abort) else {
         return Ended::early(Status::NetFailed);
     };
-    let Ok(seat) = start_gateway(alloc, bus, options.abort) else {
+    let Ok(access) = start_gateway(alloc, bus, options.abort) else {
         return Ended::early(Status::NoMemory);
     };
-    match start_all::<N, W, X, I>(alloc, spawner, tools, seat, options, port) {
+    match start_all::<N, W, X, I>(alloc, spawner, tools, access, options, port) {
         Ok(acceptor) => serve_accepting(rt, alloc, options, acceptor, net, sink),
         Err(Unstarted::Refused) => Ended::early(Status::WorkerRefused),
         Err(Unstarted::NoMemory) => Ended::early(Status::NoMemory),

@@ -9,7 +9,7 @@ ghost use Rattle.vx_words.specs.Meant.{IsInRange};
 ghost use Rattle.vx_serve.specs.declared.starting.Unstarted.TheVariants.{NoMemory};
 ghost use Rattle.vx_serve.specs.Starting.{OnUnstarted};
 
-use crate::workers::{CoreKit, Duty, Pauses, Peer, Seat, Serve, Shared};
+use crate::workers::{Access, CoreKit, Duty, Pauses, Peer, Serve, Shared};
 use crossbeam_channel::{Receiver, Sender, bounded};
 use std::alloc::{AllocError, Global};
 use std::sync::atomic::AtomicU64;
@@ -74,19 +74,19 @@ fn queues<L: Drop>(alloc: Global) -> Result<(Givers<L>, Takers<L>), Unstarted>
 #[derive(Drop)]
 pub struct Acceptor<L: Drop, I: Instrument, C: Clock + Drop, P: Pause + Drop, D: Dial + Drop> {
     pub links: Sender<L>,
-    pub seat: Seat<I>,
+    pub access: Access<I>,
     pub kit: CoreKit<C, P, D>,
 }
 
-/// A gateway over the bus, on which nobody asked anything yet, behind a gate, and the seat with all parts of it.
+/// A gateway over the bus, on which nobody asked anything yet, behind a gate, and the access with all parts of it.
 pub fn start_gateway<I: Instrument>(
     alloc: Global,
     bus: SimBus<I>,
     abort_port: u16,
-) -> Result<Seat<I>, Unstarted>
+) -> Result<Access<I>, Unstarted>
     requires fresh { bus.means ≡ first_means }
     requires port { 0 < abort_port }
-    ensures parts { IfOk result (λ seat. seat.pass.parts ≡ 4294967296) }
+    ensures parts { IfOk result (λ access. access.pass.parts ≡ 4294967296) }
     ensures err { IfErr result (λ e. e ≡ Unstarted.NoMemory) }
 {
     first_law();
@@ -106,30 +106,30 @@ pub fn start_gateway<I: Instrument>(
         },
     );
     match shared {
-        Ok(shared) => Ok(Seat::new(shared, pass)),
+        Ok(shared) => Ok(Access::new(shared, pass)),
         Err(_) => Err(Unstarted::NoMemory),
     }
 }
 
-/// Starts a worker, by a part of the seat.
+/// Starts a worker, by a part of the access.
 fn start_worker<N: Net, W: Spawner<Serve<N, X, I>>, X: Tools, I: Instrument>(
     alloc: Global,
     spawner: &mut W,
-    seat: Seat<I>,
+    access: Access<I>,
     duty: Duty<N, X>,
-) -> Result<Seat<I>, Unstarted>
+) -> Result<Access<I>, Unstarted>
 where
     N::Port: Drop,
     Peer<N>: Drop,
     <X::S as Streams>::Peer: Drop,
-    requires parts { 2 ≤ seat.pass.parts }
-    ensures parts { IfOk result (λ s. s.pass.parts ≡ seat.pass.parts - 1) }
+    requires parts { 2 ≤ access.pass.parts }
+    ensures parts { IfOk result (λ s. s.pass.parts ≡ access.pass.parts - 1) }
     ensures counted { W.faults spawner.old ≤ W.faults spawner.new }
     ensures refused { OnUnstarted result (Rose (W.faults spawner.old) (W.faults spawner.new)) }
 {
-    let (seat, theirs) = seat.part()?;
+    let (access, theirs) = access.part()?;
     match spawner.start(Serve::new(alloc, theirs, duty)) {
-        Started::Up => Ok(seat),
+        Started::Up => Ok(access),
         Started::Refused => Err(Unstarted::Refused),
     }
 }
@@ -218,25 +218,25 @@ fn start_threes<N: Net, W: Spawner<Serve<N, X, I>>, X: Tools, I: Instrument>(
     alloc: Global,
     spawner: &mut W,
     tools: &mut X,
-    seat: Seat<I>,
+    access: Access<I>,
     options: Options,
     takers: &Takers<Peer<N>>,
-) -> Result<Seat<I>, Unstarted>
+) -> Result<Access<I>, Unstarted>
 where
     N::Port: Drop,
     Peer<N>: Drop,
     <X::S as Streams>::Peer: Drop,
     requires workers { options.workers ≤ 64 }
-    requires parts { 3 * options.workers < seat.pass.parts }
-    ensures parts { IfOk result (λ s. s.pass.parts + 3 * options.workers ≡ seat.pass.parts) }
+    requires parts { 3 * options.workers < access.pass.parts }
+    ensures parts { IfOk result (λ s. s.pass.parts + 3 * options.workers ≡ access.pass.parts) }
     ensures counted { W.faults spawner.old ≤ W.faults spawner.new }
     ensures refused { OnUnstarted result (Rose (W.faults spawner.old) (W.faults spawner.new)) }
 {
-    let mut seat = seat;
+    let mut access = access;
     for _ in 0..options.workers {
-        seat = start_three::<N, W, X, I>(alloc, spawner, tools, seat, options.sample, takers)?;
+        access = start_three::<N, W, X, I>(alloc, spawner, tools, access, options.sample, takers)?;
     }
-    Ok(seat)
+    Ok(access)
 }
 
 /// Starts one worker of each. The one of streams makes `sample` pauses in a row.
@@ -244,28 +244,28 @@ fn start_three<N: Net, W: Spawner<Serve<N, X, I>>, X: Tools, I: Instrument>(
     alloc: Global,
     spawner: &mut W,
     tools: &mut X,
-    seat: Seat<I>,
+    access: Access<I>,
     sample: u32,
     takers: &Takers<Peer<N>>,
-) -> Result<Seat<I>, Unstarted>
+) -> Result<Access<I>, Unstarted>
 where
     N::Port: Drop,
     Peer<N>: Drop,
     <X::S as Streams>::Peer: Drop,
-    requires parts { 3 < seat.pass.parts }
-    ensures parts { IfOk result (λ s. s.pass.parts + 3 ≡ seat.pass.parts) }
+    requires parts { 3 < access.pass.parts }
+    ensures parts { IfOk result (λ s. s.pass.parts + 3 ≡ access.pass.parts) }
     ensures counted { W.faults spawner.old ≤ W.faults spawner.new }
     ensures refused { OnUnstarted result (Rose (W.faults spawner.old) (W.faults spawner.new)) }
 {
     let core = core_duty(alloc, tools, &takers.cores)?;
-    let seat = start_worker(alloc, spawner, seat, core)?;
+    let access = start_worker(alloc, spawner, access, core)?;
     let abort = abort_duty(alloc, &takers.aborts)?;
-    let seat = start_worker(alloc, spawner, seat, abort)?;
+    let access = start_worker(alloc, spawner, access, abort)?;
     let pump = Duty::Pump {
         streams: tools.streams(),
         pause: pauses(tools, sample),
     };
-    start_worker(alloc, spawner, seat, pump)
+    start_worker(alloc, spawner, access, pump)
 }
 
 /// Starts all workers of a server. The sampler comes last.
@@ -273,7 +273,7 @@ pub fn start_all<N: Net, W: Spawner<Serve<N, X, I>>, X: Tools, I: Instrument>(
     alloc: Global,
     spawner: &mut W,
     tools: &mut X,
-    seat: Seat<I>,
+    access: Access<I>,
     options: Options,
     port: N::Port,
 ) -> Result<Acceptor<Peer<N>, I, X::C, X::P, X::D>, Unstarted>
@@ -282,14 +282,14 @@ where
     Peer<N>: Drop,
     <X::S as Streams>::Peer: Drop,
     requires range { IsInRange options }
-    requires parts { seat.pass.parts ≡ 4294967296 }
+    requires parts { access.pass.parts ≡ 4294967296 }
     ensures counted { W.faults spawner.old ≤ W.faults spawner.new }
     ensures refused { OnUnstarted result (Rose (W.faults spawner.old) (W.faults spawner.new)) }
 {
     let (givers, takers) = queues(alloc)?;
-    let seat = start_threes::<N, W, X, I>(alloc, spawner, tools, seat, options, &takers)?;
+    let access = start_threes::<N, W, X, I>(alloc, spawner, tools, access, options, &takers)?;
     drop(takers);
-    start_last::<N, W, X, I>(alloc, spawner, tools, seat, options.sample, port, givers)
+    start_last::<N, W, X, I>(alloc, spawner, tools, access, options.sample, port, givers)
 }
 
 /// Starts the worker that takes abort links, and the sampler, which makes `sample` pauses between two looks.
@@ -297,7 +297,7 @@ fn start_last<N: Net, W: Spawner<Serve<N, X, I>>, X: Tools, I: Instrument>(
     alloc: Global,
     spawner: &mut W,
     tools: &mut X,
-    seat: Seat<I>,
+    access: Access<I>,
     sample: u32,
     port: N::Port,
     givers: Givers<Peer<N>>,
@@ -306,7 +306,7 @@ where
     N::Port: Drop,
     Peer<N>: Drop,
     <X::S as Streams>::Peer: Drop,
-    requires parts { 3 ≤ seat.pass.parts }
+    requires parts { 3 ≤ access.pass.parts }
     ensures counted { W.faults spawner.old ≤ W.faults spawner.new }
     ensures refused { OnUnstarted result (Rose (W.faults spawner.old) (W.faults spawner.new)) }
 {
@@ -316,11 +316,11 @@ where
     } = givers;
     let accept = accept_duty(alloc, port, aborts)?;
     let kit = core_kit(alloc, tools)?;
-    let seat = start_worker(alloc, spawner, seat, accept)?;
+    let access = start_worker(alloc, spawner, access, accept)?;
     let sample = Duty::Sample {
         clock: tools.clock(),
         pause: pauses(tools, sample),
     };
-    let seat = start_worker(alloc, spawner, seat, sample)?;
-    Ok(Acceptor { links, seat, kit })
+    let access = start_worker(alloc, spawner, access, sample)?;
+    Ok(Acceptor { links, access, kit })
 }

@@ -52,39 +52,39 @@ impl<P: Pause> Pause for Pauses<P> {
 
 /// The right of one worker to take turns at the gate of its server.
 #[derive(Drop)]
-pub struct Seat<I: Instrument> {
+pub struct Access<I: Instrument> {
     pub shared: Arc<Shared<I>, Global>,
     pub pass: Pass<Core<SimBus<I>>>,
     pub ghost gate: { pass.gate ≡ gate_of (arc_value shared).gate },
 }
 
-impl<I: Instrument> Seat<I> {
-    /// The seat of a pass of this gate.
-    pub fn new(shared: Arc<Shared<I>, Global>, pass: Pass<Core<SimBus<I>>>) -> Seat<I>
+impl<I: Instrument> Access<I> {
+    /// The access of a pass of this gate.
+    pub fn new(shared: Arc<Shared<I>, Global>, pass: Pass<Core<SimBus<I>>>) -> Access<I>
         requires { pass.gate ≡ gate_of (arc_value shared).gate }
         ensures pass { result.pass ≡ pass }
         ensures shared { arc_value result.shared ≡ arc_value shared }
     {
-        Seat { shared, pass }
+        Access { shared, pass }
     }
 
     /// What it shares, and its pass.
     pub fn into_parts(self) -> (Arc<Shared<I>, Global>, Pass<Core<SimBus<I>>>)
         ensures { result.1.gate ≡ gate_of (arc_value result.0).gate }
     {
-        let Seat { shared, pass } = self;
+        let Access { shared, pass } = self;
         (shared, pass)
     }
 
-    /// Cuts off a seat with one part of this one.
-    pub fn part(self) -> Result<(Seat<I>, Seat<I>), AllocError>
+    /// Cuts off a access with one part of this one.
+    pub fn part(self) -> Result<(Access<I>, Access<I>), AllocError>
         requires { 2 ≤ self.pass.parts }
-        ensures { IfOk result (λ seats. seats.0.pass.parts ≡ self.pass.parts - 1) }
+        ensures { IfOk result (λ accesses. accesses.0.pass.parts ≡ self.pass.parts - 1) }
     {
-        let Seat { shared, pass } = self;
+        let Access { shared, pass } = self;
         let theirs = Arc::try_clone(&shared)?;
         let (pass, other) = shared.gate.part(pass);
-        Ok((Seat::new(shared, pass), Seat::new(theirs, other)))
+        Ok((Access::new(shared, pass), Access::new(theirs, other)))
     }
 }
 
@@ -165,7 +165,7 @@ where
     <X::S as Streams>::Peer: Drop,
 {
     alloc: Global,
-    seat: Seat<I>,
+    access: Access<I>,
     duty: Duty<N, X>,
 }
 
@@ -175,9 +175,13 @@ where
     Peer<N>: Drop,
     <X::S as Streams>::Peer: Drop,
 {
-    /// The work of a worker that has this seat.
-    pub(crate) fn new(alloc: Global, seat: Seat<I>, duty: Duty<N, X>) -> Serve<N, X, I> {
-        Serve { alloc, seat, duty }
+    /// The work of a worker that has this access.
+    pub(crate) fn new(alloc: Global, access: Access<I>, duty: Duty<N, X>) -> Serve<N, X, I> {
+        Serve {
+            alloc,
+            access,
+            duty,
+        }
     }
 }
 
@@ -188,15 +192,19 @@ where
     <X::S as Streams>::Peer: Drop,
 {
     fn run<R: Wait>(self, rt: &R) {
-        let Serve { alloc, seat, duty } = self;
+        let Serve {
+            alloc,
+            access,
+            duty,
+        } = self;
         match duty {
-            Duty::Core { links, kit } => serve_cores(rt, alloc, seat, &links, kit),
-            Duty::Abort { links, room } => serve_aborts(rt, alloc, seat, &links, room),
-            Duty::Pump { streams, pause } => run_pumps(rt, seat, streams, pause),
+            Duty::Core { links, kit } => serve_cores(rt, alloc, access, &links, kit),
+            Duty::Abort { links, room } => serve_aborts(rt, alloc, access, &links, room),
+            Duty::Pump { streams, pause } => run_pumps(rt, access, streams, pause),
             Duty::Accept { port, links, room } => accept_aborts(
-                rt, alloc, seat, port, &links, room,
+                rt, alloc, access, port, &links, room,
             ),
-            Duty::Sample { clock, pause } => sample_on(rt, seat, clock, pause),
+            Duty::Sample { clock, pause } => sample_on(rt, access, clock, pause),
         }
     }
 }
@@ -209,8 +217,8 @@ fn serve_cores<
     C: Clock + Drop,
     P: Pause + Drop,
     D: Dial + Drop,
->(rt: &R, alloc: Global, seat: Seat<I>, links: &Receiver<L>, kit: CoreKit<C, P, D>) {
-    let Seat { shared, mut pass } = seat;
+>(rt: &R, alloc: Global, access: Access<I>, links: &Receiver<L>, kit: CoreKit<C, P, D>) {
+    let Access { shared, mut pass } = access;
     let mut kit = kit;
     for _ in rt.forever() {
         match links.recv(rt) {
@@ -241,11 +249,11 @@ fn serve_abort<R: Wait, I: Instrument, L: Link + Drop>(
 fn serve_aborts<R: Wait, I: Instrument, L: Link + Drop>(
     rt: &R,
     alloc: Global,
-    seat: Seat<I>,
+    access: Access<I>,
     links: &Receiver<L>,
     room: Room,
 ) {
-    let Seat { shared, mut pass } = seat;
+    let Access { shared, mut pass } = access;
     let mut room = room;
     for _ in rt.forever() {
         match links.recv(rt) {
@@ -259,7 +267,7 @@ fn serve_aborts<R: Wait, I: Instrument, L: Link + Drop>(
 fn accept_aborts<R: Wait, I: Instrument, T: Listen>(
     rt: &R,
     alloc: Global,
-    seat: Seat<I>,
+    access: Access<I>,
     port: T,
     links: &Sender<T::Peer>,
     room: Room,
@@ -268,7 +276,7 @@ where
     T::Peer: Drop,
     T: Drop,
 {
-    let Seat { shared, mut pass } = seat;
+    let Access { shared, mut pass } = access;
     let mut port = port;
     let mut room = room;
     for _ in rt.forever() {
@@ -286,14 +294,14 @@ where
 /// Runs a pump on each stream that is handed over, until no more come.
 fn run_pumps<R: Wait, I: Instrument, S: Streams + Drop, P: Pause + Drop>(
     rt: &R,
-    seat: Seat<I>,
+    access: Access<I>,
     streams: S,
     pause: P,
 )
 where
     S::Peer: Drop,
 {
-    let Seat { shared, mut pass } = seat;
+    let Access { shared, mut pass } = access;
     let mut streams = streams;
     let mut pause = pause;
     for _ in rt.forever() {
@@ -327,11 +335,11 @@ fn run_pump<R: Wait, I: Instrument, L: Link + Drop, P: Pause>(
 /// Looks at the SRQ line again and again until the server ends, and pauses between two looks.
 fn sample_on<R: Wait, I: Instrument, C: Clock + Drop, P: Pause + Drop>(
     rt: &R,
-    seat: Seat<I>,
+    access: Access<I>,
     clock: C,
     pause: P,
 ) {
-    let Seat { shared, mut pass } = seat;
+    let Access { shared, mut pass } = access;
     let mut clock = clock;
     let mut pause = pause;
     for _ in rt.forever() {

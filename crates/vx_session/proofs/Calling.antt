@@ -22,12 +22,12 @@ use Rattle.vx_flow.specs.Poll as poll
 use Rattle.vx_flow.specs.Poll.{Ending, Waited, Dialed, Why, moved_events, end_events}
 use Rattle.vx_group.specs.Groups.{Group, events_of}
 use Rattle.vx_turns.specs.Placing.{Placed, Makes}
-use Rattle.vx_group.specs.Seats.{Idle, Asked}
+use Rattle.vx_group.specs.Phases.{Idle, Asked}
 use Rattle.vx_turns.specs.declared.acts.PollEnd.{PollEnd}
 use Rattle.vx_turns.specs.declared.acts.PollEnd.TheVariants as said
 use Rattle.vx_turns.specs.Acting.{Says}
-use Rattle.vx_turns.specs.Parts.{IsPollPart, DialsFor, seat_behind, settled_events}
-use Rattle.vx_turns.specs.Turning.{seat_at, Comes, PollsAgain, Settles}
+use Rattle.vx_turns.specs.Parts.{IsPollPart, DialsFor, phase_behind, settled_events}
+use Rattle.vx_turns.specs.Turning.{phase_at, Comes, PollsAgain, Settles}
 use Rattle.vx_session.specs.Outside.{DialShown, RoseBy, is_failed_dial}
 use Rattle.vx_session.specs.Serving.{IsSettled, Through, rings}
 use Rattle.vx_session.specs.Progress.{Rings, AnswersCall, AnswersDial, failed_dials}
@@ -225,7 +225,7 @@ pub record Polled (told : ℕ) (pass : PassView Group) (conn xid : ℕ) (call : 
   pub dials : DialsFor call begun
   pub through : Through conn call begun polls last
   pub says : Says xid room end last
-  pub seat : seat_at pass' conn ≡ seat_behind call false last
+  pub phase : phase_at pass' conn ≡ phase_behind call false last
 
 module _ (told : ℕ) (pass pass' : PassView Group) (conn xid : ℕ) (call : Call) (room : List ℕ) where
   -- it came, and was polled once
@@ -243,7 +243,7 @@ module _ (told : ℕ) (pass pass' : PassView Group) (conn xid : ℕ) (call : Cal
     dials = comes.dials;
     through = refl;
     says = comes.says;
-    seat = comes.seat;
+    phase = comes.phase;
   }
 
   -- none of its groups has an answer behind a dial
@@ -253,15 +253,15 @@ module _ (told : ℕ) (pass pass' : PassView Group) (conn xid : ℕ) (call : Cal
       (failed-one polled.first ∙ ap (count_by is_failed_dial) polled.events ∙ poll-quiet conn polled.now polled.begun polled.part polled.is_part)
       (polls-quiet conn call polled.begun polled.last polled.polls polled.through)
 
-  -- the seat of a call whose last poll left it without an answer
-  waits-at : (last : Ending) → Says xid room said.NotYet last → seat_at pass' conn ≡ seat_behind call false last → seat_at pass' conn ≡ Asked call false
-  waits-at (Waited why) says seat = seat
-  waits-at (poll.Answered ran level reply) says seat = absurd says
-  waits-at (Dialed host port) says seat = absurd says
+  -- the phase of a call whose last poll left it without an answer
+  waits-at : (last : Ending) → Says xid room said.NotYet last → phase_at pass' conn ≡ phase_behind call false last → phase_at pass' conn ≡ Asked call false
+  waits-at (Waited why) says phase = phase
+  waits-at (poll.Answered ran level reply) says phase = absurd says
+  waits-at (Dialed host port) says phase = absurd says
 
   -- such a call waits for its answer, and no dial was asked for
-  pub polled-waits : (end : PollEnd) → end ≡ said.NotYet → Polled told pass conn xid call room end pass' → seat_at pass' conn ≡ Asked call false
-  polled-waits end is polled = waits-at polled.last (subst (λ e. Says xid room e polled.last) is polled.says) polled.seat
+  pub polled-waits : (end : PollEnd) → end ≡ said.NotYet → Polled told pass conn xid call room end pass' → phase_at pass' conn ≡ Asked call false
+  polled-waits end is polled = waits-at polled.last (subst (λ e. Says xid room e polled.last) is polled.says) polled.phase
 
   -- a poll behind one that its act tells as without an answer
   through-again : (last next : Ending) (first : Ending) (ps : List Placed) (p : Placed) (now : ℕ) → Says xid room said.NotYet last → Through conn call first ps last
@@ -287,7 +287,7 @@ module _ (told : ℕ) (pass pass' : PassView Group) (conn xid : ℕ) (call : Cal
     dials = polled.dials;
     through = through-again polled.last again.ending polled.begun polled.polls again.placed again.now (subst (λ e. Says xid room e polled.last) is polled.says) polled.through again.is_part again.dials;
     says = again.says;
-    seat = again.seat;
+    phase = again.phase;
   }
 
   -- ---- how it ends
@@ -295,16 +295,16 @@ module _ (told : ℕ) (pass pass' : PassView Group) (conn xid : ℕ) (call : Cal
   -- a poll answered it: the reply's record stands at the front of the room, and the connection is idle again
   pub record Replies (dial : DialShown) (len : ℕ) : Type 0 where
     pub answers : AnswersCall told pass conn xid call dial (take len room) pass' dial
-    pub seat : seat_at pass' conn ≡ Idle role.Core
+    pub phase : phase_at pass' conn ≡ Idle role.Core
     pub some : 0 < len
     pub within : len ≤ length room
 
   -- so it is where the act tells a reply
   pub polled-replied : (dial : DialShown) (end : PollEnd) (len : ℕ) → end ≡ said.Replied len → Polled told pass conn xid call room end pass' → Replies dial len
   polled-replied dial end len is polled =
-      by polled.last polled.through (subst (λ e. Says xid room e polled.last) is polled.says) polled.seat where
-        by : (last : Ending) → Through conn call polled.begun polled.polls last → Says xid room (said.Replied len) last → seat_at pass' conn ≡ seat_behind call false last → Replies dial len
-        by (poll.Answered ran level reply) through says seat = record {
+      by polled.last polled.through (subst (λ e. Says xid room e polled.last) is polled.says) polled.phase where
+        by : (last : Ending) → Through conn call polled.begun polled.polls last → Says xid room (said.Replied len) last → phase_at pass' conn ≡ phase_behind call false last → Replies dial len
+        by (poll.Answered ran level reply) through says phase = record {
           answers = record {
             item = record { message = []; placed = polled.first ∷ polled.polls; calls = []; reply = take len room };
             makes = polled.makes;
@@ -326,20 +326,20 @@ module _ (told : ℕ) (pass pass' : PassView Group) (conn xid : ℕ) (call : Cal
             rings = rings-still dial (polled.first ∷ polled.polls) (called-quiet end polled);
             replied = refl;
           };
-          seat = seat;
+          phase = phase;
           some = says.1;
           within = says.2;
         }
-        by (Waited why) through says seat = absurd says
-        by (Dialed host port) through says seat = absurd says
+        by (Waited why) through says phase = absurd says
+        by (Dialed host port) through says phase = absurd says
 
-  -- the seat of a call whose last poll asked for a dial
-  pub polled-dials : (end : PollEnd) (host port : ℕ) → end ≡ said.Dial host port → Polled told pass conn xid call room end pass' → seat_at pass' conn ≡ Asked call true
-  polled-dials end host port is polled = by polled.last (subst (λ e. Says xid room e polled.last) is polled.says) polled.seat where
-    by : (last : Ending) → Says xid room (said.Dial host port) last → seat_at pass' conn ≡ seat_behind call false last → seat_at pass' conn ≡ Asked call true
-    by (Dialed h p) says seat = seat
-    by (poll.Answered ran level reply) says seat = absurd says
-    by (Waited why) says seat = absurd says
+  -- the phase of a call whose last poll asked for a dial
+  pub polled-dials : (end : PollEnd) (host port : ℕ) → end ≡ said.Dial host port → Polled told pass conn xid call room end pass' → phase_at pass' conn ≡ Asked call true
+  polled-dials end host port is polled = by polled.last (subst (λ e. Says xid room e polled.last) is polled.says) polled.phase where
+    by : (last : Ending) → Says xid room (said.Dial host port) last → phase_at pass' conn ≡ phase_behind call false last → phase_at pass' conn ≡ Asked call true
+    by (Dialed h p) says phase = phase
+    by (poll.Answered ran level reply) says phase = absurd says
+    by (Waited why) says phase = absurd says
 
   -- the dial was made then, and the call answered
   pub polled-settled : (told' : ℕ) (dial dial' : DialShown) (out : List ℕ) (pass'' : PassView Group) (end : PollEnd) (host port : ℕ) → told ≤ told' → end ≡ said.Dial host port

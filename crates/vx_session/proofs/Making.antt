@@ -3,7 +3,7 @@ use Rattle.std.proofs.Common.{◌≡◌, ◌≤◌, inl, inr, ℕ, List, [], ◌
 use Rattle.std.proofs.lemmas.List.{map-append}
 use Rattle.std.proofs.lemmas.List.Elements.{All-nil, All-append, All-weaker}
 use Rattle.std.specs.List.{All}
-use Rattle.vx_gate.specs.declared.views.Made.{Made}
+use Rattle.vx_gate.specs.declared.views.Logged.{Logged}
 use Rattle.vx_gate.specs.History.{groups}
 use Rattle.vx_gate.specs.PassView.{PassView}
 use Rattle.vx_flow.specs.Event.{Event}
@@ -29,7 +29,7 @@ all-later : (told told' : ℕ) (ps : List Placed) → told ≤ told' → All (Is
 all-later told told' ps later timely = All-weaker (IsTimely told) (IsTimely told') (λ p h. timely-later told told' p later h) ps timely
 
 -- groups at their places, and then more of them
-chain-goes : (number : ℕ) (seen seen' seen'' : List (Made Group)) (ps qs : List Placed) → Chain number seen ps seen' → Chain number seen' qs seen'' → Chain number seen (ps ++ qs) seen''
+chain-goes : (number : ℕ) (seen seen' seen'' : List (Logged Group)) (ps qs : List Placed) → Chain number seen ps seen' → Chain number seen' qs seen'' → Chain number seen (ps ++ qs) seen''
 chain-goes number seen seen' seen'' [] qs before after = subst (λ s. Chain number s qs seen'') before after
 chain-goes number seen seen' seen'' (p ∷ ps) qs before after = (before.0, before.1, chain-goes number (behind number p) seen' seen'' ps qs before.2 after)
 

@@ -16,8 +16,8 @@ use Rattle.vx_record.specs.declared.Feed.TheVariants.{More, Whole, TooLong}
 use Rattle.vx_record.proofs.Feeding.{fed-stopped, taken-more, taken-stopped}
 use Rattle.vx_record.proofs.Streams.{run-append, brought-more}
 use Rattle.vx_group.specs.Groups.{Group}
-use Rattle.vx_group.specs.Seats.{Idle}
-use Rattle.vx_turns.specs.Turning.{seat_at}
+use Rattle.vx_group.specs.Phases.{Idle}
+use Rattle.vx_turns.specs.Turning.{phase_at}
 use Rattle.vx_session.specs.Outside.{LinkShown, DialShown}
 use Rattle.vx_session.specs.Serving.{Item}
 use Rattle.vx_session.specs.Progress.{Progress, messages, replies}
@@ -131,21 +131,21 @@ pub record PieceSoFar {L : Type 0} (stands : L → List ℕ → List ℕ → Typ
   pub wrote : replies items ≡ written
   pub ran : run (record { records = []; buffer = buffer }) (take at piece) ≡ record { records = messages items; buffer = buffer' }
   pub more : buffer'.state ≡ More
-  pub seat : seat_at pass' conn ≡ Idle r
+  pub phase : phase_at pass' conn ≡ Idle r
 
 module _ {L : Type 0} (stands : L → List ℕ → List ℕ → Type 0) (r : Role) (conn : ℕ) (pass : PassView Group) (link : L) (seen : LinkShown) (dial : DialShown) (buffer : BufState)
     (piece : List ℕ) where
   -- before its first byte
-  pub piece-none : (told : ℕ) → buffer.state ≡ More → seat_at pass conn ≡ Idle r
+  pub piece-none : (told : ℕ) → buffer.state ≡ More → phase_at pass conn ≡ Idle r
       → PieceSoFar stands r conn pass link seen dial buffer piece told 0 pass link seen dial buffer
-  piece-none told more seat = record {
+  piece-none told more phase = record {
     items = [];
     written = [];
     progress = progress-none stands r conn told pass link seen dial;
     wrote = refl;
     ran = refl;
     more = more;
-    seat = seat;
+    phase = phase;
   }
 
   -- a feed took the rest of the piece, and the buffer waits for more
@@ -160,7 +160,7 @@ module _ {L : Type 0} (stands : L → List ℕ → List ℕ → Type 0) (r : Rol
     ran = run-on (record { records = []; buffer = buffer }) piece at took (messages so_far.items) old new so_far.ran so_far.more fed_so
         ∙ brought-more (messages so_far.items) new more;
     more = more;
-    seat = so_far.seat;
+    phase = so_far.phase;
   }
 
   -- a record was whole, and it was served
@@ -168,9 +168,9 @@ module _ {L : Type 0} (stands : L → List ℕ → List ℕ → Type 0) (r : Rol
       (stop : Option End) → told ≤ told'
       → PieceSoFar stands r conn pass link seen dial buffer piece told at pass' link' seen' dial' old → FedFrom old piece at took new → new.state ≡ Whole → new.limit ≡ RECORD_MAX
       → ServesWhole stands told' r conn pass' link' seen' dial' new.kept stop pass'' link'' seen'' dial'' → is_some stop ≡ false → buffer' ≡ fresh RECORD_MAX
-      → seat_at pass'' conn ≡ Idle r
+      → phase_at pass'' conn ≡ Idle r
       → PieceSoFar stands r conn pass link seen dial buffer piece told' (at + took) pass'' link'' seen'' dial'' buffer'
-  piece-served told told' at took pass' pass'' link' link'' seen' seen'' dial' dial'' old new buffer' stop later so_far fed_so whole limit serves goes_on begun seat =
+  piece-served told told' at took pass' pass'' link' link'' seen' seen'' dial' dial'' old new buffer' stop later so_far fed_so whole limit serves goes_on begun phase =
       let ends = went stop goes_on serves.ends in
       let items = so_far.items ++ serves.items in
       let fresh_one : fresh new.limit ≡ buffer' = ap fresh limit ∙ sym begun in
@@ -187,7 +187,7 @@ module _ {L : Type 0} (stands : L → List ℕ → List ℕ → Type 0) (r : Rol
             ∙ ap (λ ms. record { records = ms; buffer = fresh new.limit }) all
             ∙ ap (λ b. record { records = messages items; buffer = b }) fresh_one;
         more = ap (λ (b : BufState). b.state) begun;
-        seat = seat;
+        phase = phase;
       } where
         went : (o : Option End) → is_some o ≡ false → WholeEnds seen' r new.kept serves.items serves.unsent seen'' o
             → (messages serves.items ≡ new.kept ∷ []) × (serves.unsent ≡ [])
@@ -198,9 +198,9 @@ module _ {L : Type 0} (stands : L → List ℕ → List ℕ → Type 0) (r : Rol
   pub piece-stops : (told told' at took : ℕ) (pass' pass'' : PassView Group) (link' link'' : L) (seen' seen'' : LinkShown) (dial' dial'' : DialShown) (old new buffer' : BufState)
       (stop : Option End) → told ≤ told'
       → PieceSoFar stands r conn pass link seen dial buffer piece told at pass' link' seen' dial' old → FedFrom old piece at took new → new.state ≡ Whole
-      → ServesWhole stands told' r conn pass' link' seen' dial' new.kept stop pass'' link'' seen'' dial'' → is_some stop ≡ true → seat_at pass'' conn ≡ Idle r
+      → ServesWhole stands told' r conn pass' link' seen' dial' new.kept stop pass'' link'' seen'' dial'' → is_some stop ≡ true → phase_at pass'' conn ≡ Idle r
       → ServesPiece stands told' r conn pass link seen dial buffer piece stop pass'' link'' seen'' dial'' buffer'
-  piece-stops told told' at took pass' pass'' link' link'' seen' seen'' dial' dial'' old new buffer' stop later so_far fed_so whole serves stops seat = record {
+  piece-stops told told' at took pass' pass'' link' link'' seen' seen'' dial' dial'' old new buffer' stop later so_far fed_so whole serves stops phase = record {
     items = so_far.items ++ serves.items;
     front = take (at + took) piece;
     behind = drop (at + took) piece;
@@ -215,7 +215,7 @@ module _ {L : Type 0} (stands : L → List ℕ → List ℕ → Type 0) (r : Rol
         (run-on (record { records = []; buffer = buffer }) piece at took (messages so_far.items) old new so_far.ran so_far.more fed_so
         ∙ brought-whole (messages so_far.items) new whole)
         so_far.progress.goes.sends serves.ends;
-    seat = seat;
+    phase = phase;
   }
 
   -- a header took its record above the limit
@@ -236,7 +236,7 @@ module _ {L : Type 0} (stands : L → List ℕ → List ℕ → Type 0) (r : Rol
         progress = so_far.progress;
         wrote = so_far.wrote ∙ sym (append-nil so_far.written);
         ends = (refl, ap (λ t. t.records) ran, ap (λ t. t.buffer.state) ran ∙ long);
-        seat = so_far.seat;
+        phase = so_far.phase;
       }
 
   -- the piece was looked at up to its end
@@ -253,5 +253,5 @@ module _ {L : Type 0} (stands : L → List ℕ → List ℕ → Type 0) (r : Rol
     progress = so_far.progress;
     wrote = so_far.wrote ∙ sym (append-nil so_far.written);
     ends = (drop_all at piece all, refl, so_far.ran, so_far.more);
-    seat = so_far.seat;
+    phase = so_far.phase;
   }

@@ -19,7 +19,7 @@ use Rattle.vx_gate.specs.PassView.{PassView}
 use Rattle.vx_message.specs.Meaning.{Meaning, Junk, Answered, Aborts, meaning, by_call, record_of, reply_record}
 use Rattle.vx_message.specs.Meaning as meant
 use Rattle.vx_group.specs.Groups.{Group}
-use Rattle.vx_group.specs.Seats.{Seat, Idle}
+use Rattle.vx_group.specs.Phases.{Phase, Idle}
 use Rattle.vx_turns.specs.Turning as turning
 use Rattle.vx_session.specs.Outside.{DialShown}
 use Rattle.vx_session.specs.Serving.{Item, IsServed}
@@ -39,17 +39,17 @@ ripe-at role.Core _ values served = refl
 ripe-at role.Abort _ values served = absurd (false≢true served)
 
 -- so is one that was read
-pub ripe : (seat : Seat) (r : Role) (p : Proc) (asked : Call) (args : List ℕ) → seat ≡ Idle r → IsTrue (serves r p) → Asks p asked args → IsRipe seat asked
-ripe seat r p asked args idle served asks =
+pub ripe : (phase : Phase) (r : Role) (p : Proc) (asked : Call) (args : List ℕ) → phase ≡ Idle r → IsTrue (serves r p) → Asks p asked args → IsRipe phase asked
+ripe phase r p asked args idle served asks =
     subst (λ s. IsRipe s asked) (sym idle) (subst (λ c. IsRipe (Idle r) c) (sym asks.1) (ripe-at r p asks.0 served))
 
 -- ---- a call as it was read, that is neither the null procedure nor a device_abort
 
 -- where it may come, the connection is an idle one of the core
-pub ripe-core : (r : CallRef) (seat : Seat) → (r ≡ seen.Null → ⊥) → ((lid : ℕ) → r ≡ seen.DeviceAbort lid → ⊥) → IsRipe seat (call_shown r) → seat ≡ Idle role.Core
-ripe-core seen.Null seat not_null not_abort is = absurd (not_null refl)
-ripe-core (seen.DeviceAbort lid) seat not_null not_abort is = absurd (not_abort lid refl)
-ripe-core _ seat not_null not_abort is = is
+pub ripe-core : (r : CallRef) (phase : Phase) → (r ≡ seen.Null → ⊥) → ((lid : ℕ) → r ≡ seen.DeviceAbort lid → ⊥) → IsRipe phase (call_shown r) → phase ≡ Idle role.Core
+ripe-core seen.Null phase not_null not_abort is = absurd (not_null refl)
+ripe-core (seen.DeviceAbort lid) phase not_null not_abort is = absurd (not_abort lid refl)
+ripe-core _ phase not_null not_abort is = is
 
 -- ---- what a call does
 

@@ -17,8 +17,8 @@ use Rattle.vx_record.specs.Runs.{Stream, beginning, taken_off, brought, run, is_
 use Rattle.vx_record.specs.declared.Feed.{Feed}
 use Rattle.vx_record.specs.declared.Feed.TheVariants as feed
 use Rattle.vx_group.specs.Groups.{Group}
-use Rattle.vx_group.specs.Seats.{Idle}
-use Rattle.vx_turns.specs.Turning.{seat_at}
+use Rattle.vx_group.specs.Phases.{Idle}
+use Rattle.vx_turns.specs.Turning.{phase_at}
 use Rattle.vx_session.specs.Outside.{LinkShown, LinkGoes, DialShown}
 use Rattle.vx_session.specs.Serving.{Item}
 use Rattle.vx_session.specs.Progress.{Progress, messages, replies}
@@ -136,12 +136,12 @@ module _ {L : Type 0} (stands : L → List ℕ → List ℕ → Type 0) (r : Rol
     pub came : run (beginning RECORD_MAX) received ≡ record { records = messages items; buffer = buffer }
     pub more : buffer.state ≡ feed.More
     pub limit : buffer.limit ≡ RECORD_MAX
-    pub seat : seat_at pass' conn ≡ Idle r
+    pub phase : phase_at pass' conn ≡ Idle r
 
   -- nothing came yet
   pub streamed-none : (told : ℕ) (pass : PassView Group) (link : L) (seen : LinkShown) (dial : DialShown) (buffer : BufState) → buffer ≡ fresh RECORD_MAX
-      → seat_at pass conn ≡ Idle r → Streamed told pass link seen dial buffer pass link seen dial
-  streamed-none told pass link seen dial buffer new seat =
+      → phase_at pass conn ≡ Idle r → Streamed told pass link seen dial buffer pass link seen dial
+  streamed-none told pass link seen dial buffer new phase =
       let at : BufState → Stream = λ b. record { records = []; buffer = b } in
       record {
         items = [];
@@ -152,7 +152,7 @@ module _ {L : Type 0} (stands : L → List ℕ → List ℕ → Type 0) (r : Rol
         came = ap at (sym new);
         more = ap (λ (b : BufState). b.state) new;
         limit = ap (λ (b : BufState). b.limit) new;
-        seat = seat;
+        phase = phase;
       }
 
   -- some records were served, the link gave a piece, and the records of that piece were served
@@ -200,7 +200,7 @@ module _ {L : Type 0} (stands : L → List ℕ → List ℕ → Type 0) (r : Rol
             ∙ ap at (sym (map-append (λ (i : Item). i.message) items items'));
         more = served.ends.3;
         limit = limit;
-        seat = served.seat;
+        phase = served.phase;
       }
 
   -- a piece in which the session stops

@@ -11,7 +11,7 @@ use Rattle.vx_calls.specs.Call as call
 use Rattle.vx_gate.specs.PassView.{PassView}
 use Rattle.vx_group.specs.Groups.{Group, events_of}
 use Rattle.vx_message.specs.Meaning.{meaning, Junk, by_call}
-use Rattle.vx_group.specs.Seats.{Seat, Idle}
+use Rattle.vx_group.specs.Phases.{Phase, Idle}
 use Rattle.vx_turns.specs.Placing.{Placed, Makes}
 use Rattle.vx_session.specs.Outside.{LinkShown, LinkGoes, DialShown, RoseBy, is_failed_dial}
 use Rattle.vx_session.specs.Serving.{Item, IsSettled, IsCalled, IsServed, Serves}
@@ -71,10 +71,10 @@ MessageDoes told r pass conn message dial room (Some len) pass' dial' =
     ServesRecord told r pass conn message dial (take len room) pass' dial' × (0 < len) × (len ≤ length room)
 
 -- the connection of a pass is ready for a call
-abbrev pub IsRipe : Seat → Call → Type 0
-IsRipe seat call.Null = Unit {0}
-IsRipe seat (call.DeviceAbort lid) = seat ≡ Idle role.Abort
-IsRipe seat _ = seat ≡ Idle role.Core
+abbrev pub IsRipe : Phase → Call → Type 0
+IsRipe phase call.Null = Unit {0}
+IsRipe phase (call.DeviceAbort lid) = phase ≡ Idle role.Abort
+IsRipe phase _ = phase ≡ Idle role.Core
 
 -- a call whose arguments were read was served, by the record that stands in the room
 pub record CallDoes (told : ℕ) (pass : PassView Group) (conn xid : ℕ) (asked : Call) (dial : DialShown) (out : List ℕ) (pass' : PassView Group) (dial' : DialShown) : Type 0 where

@@ -10,8 +10,8 @@ use Rattle.vx_record.specs.declared.Feed.TheVariants as feed
 use Rattle.vx_message.specs.Meaning as meant
 use Rattle.vx_message.specs.Meaning.{meaning}
 use Rattle.vx_group.specs.Groups.{Group}
-use Rattle.vx_group.specs.Seats.{Idle}
-use Rattle.vx_turns.specs.Turning.{seat_at}
+use Rattle.vx_group.specs.Phases.{Idle}
+use Rattle.vx_turns.specs.Turning.{phase_at}
 use Rattle.vx_session.specs.Outside.{LinkShown, LinkGoes, DialShown}
 use Rattle.vx_session.specs.Serving.{Item}
 use Rattle.vx_session.specs.Progress.{Progress, messages, replies}
@@ -85,4 +85,4 @@ pub record ServesPiece {L : Type 0} (stands : L → List ℕ → List ℕ → Ty
   pub progress : Progress stands told r conn pass link seen dial items [] written pass' link' seen' dial'
   pub wrote : replies items ≡ written ++ unsent
   pub ends : PieceEnds seen r items behind unsent (run (record { records = []; buffer = buffer }) front) buffer' seen' stop
-  pub seat : seat_at pass' conn ≡ Idle r
+  pub phase : phase_at pass' conn ≡ Idle r

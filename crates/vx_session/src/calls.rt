@@ -5,8 +5,8 @@ ghost use Rattle.vx_calls.specs.Call.{Call, call_shown};
 ghost use Rattle.vx_rules.specs.One.{may_wait};
 ghost use Rattle.vx_rules.specs.Held.{IsShort};
 ghost use Rattle.vx_message.specs.declared.record.TheConstants.{REPLY_ROOM};
-ghost use Rattle.vx_group.specs.Seats.{Idle, Asked};
-ghost use Rattle.vx_turns.specs.Turning.{seat_at};
+ghost use Rattle.vx_group.specs.Phases.{Idle, Asked};
+ghost use Rattle.vx_turns.specs.Turning.{phase_at};
 ghost use Rattle.vx_session.specs.Outside.{dial_shown};
 ghost use Rattle.vx_session.specs.Progress.{AnswersCall, AnswersDial};
 
@@ -35,12 +35,12 @@ pub(crate) fn answer_call<R: Wait, B: Bus, T: Turns<Core<B>>, C: Clock, P: Pause
     reply: &mut [u8],
 ) -> (Pass<Core<B>>, usize)
     requires gate { pass.gate ≡ T.gate turns.now }
-    requires seat { seat_at pass conn ≡ Idle role.Core }
+    requires phase { phase_at pass conn ≡ Idle role.Core }
     requires waits { may_wait (call_shown call.now) ≡ true }
     requires short { IsShort (call_shown call.now) }
     requires room { REPLY_ROOM ≤ length reply.old }
     ensures answers { AnswersCall (C.told clock.new) pass conn xid (call_shown call.now) (dial_shown D.calls D.faults dial.old) (take result.1 reply.new) result.0 (dial_shown D.calls D.faults dial.new) }
-    ensures seat { seat_at result.0 conn ≡ Idle role.Core }
+    ensures phase { phase_at result.0 conn ≡ Idle role.Core }
     ensures told { C.told clock.old ≤ C.told clock.new }
     ensures some { 0 < result.1 }
     ensures within { result.1 ≤ length reply.new }
@@ -77,10 +77,10 @@ fn answer_dial<R: Wait, B: Bus, T: Turns<Core<B>>, C: Clock, D: Dial>(
     reply: &mut [u8],
 ) -> (Pass<Core<B>>, usize)
     requires gate { pass.gate ≡ T.gate turns.now }
-    requires seat { (call : Call) × (seat_at pass conn ≡ Asked call true) }
+    requires phase { (call : Call) × (phase_at pass conn ≡ Asked call true) }
     requires room { REPLY_ROOM ≤ length reply.old }
     ensures dials { AnswersDial (C.told clock.new) pass conn xid host port (dial_shown D.calls D.faults dial.old) (take result.1 reply.new) result.0 (dial_shown D.calls D.faults dial.new) }
-    ensures seat { seat_at result.0 conn ≡ Idle role.Core }
+    ensures phase { phase_at result.0 conn ≡ Idle role.Core }
     ensures told { C.told clock.old ≤ C.told clock.new }
     ensures some { 0 < result.1 }
     ensures within { result.1 ≤ length reply.new }

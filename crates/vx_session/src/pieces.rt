@@ -3,8 +3,8 @@ ghost use Rattle.std.specs.Prelude.{◌≡◌, ◌≤◌, ◌<◌, length};
 ghost use Rattle.vx_calls.specs.declared.limits.TheConstants.{RECORD_MAX};
 ghost use Rattle.vx_record.specs.Buffer.{fresh};
 ghost use Rattle.vx_message.specs.declared.record.TheConstants.{REPLY_ROOM};
-ghost use Rattle.vx_group.specs.Seats.{Idle};
-ghost use Rattle.vx_turns.specs.Turning.{seat_at};
+ghost use Rattle.vx_group.specs.Phases.{Idle};
+ghost use Rattle.vx_turns.specs.Turning.{phase_at};
 ghost use Rattle.vx_session.specs.Outside.{link_shown, dial_shown};
 ghost use Rattle.vx_session.specs.Streaming.{ServesPiece, ServesWhole};
 
@@ -34,14 +34,14 @@ fn serve_whole<R: Wait, B: Bus, T: Turns<Core<B>>, L: Link, C: Clock, P: Pause, 
     reply: &mut [u8],
 ) -> (Pass<Core<B>>, Option<End>)
     requires gate { pass.gate ≡ T.gate turns.now }
-    requires seat { seat_at pass conn ≡ Idle role }
+    requires phase { phase_at pass conn ≡ Idle role }
     requires whole { incoming.old.state ≡ Feed.Whole }
     requires limit { incoming.old.limit ≡ RECORD_MAX }
     requires room { REPLY_ROOM ≤ length reply.old }
     ensures serves { ServesWhole L.stands (C.told clock.new) role conn pass link.old (link_shown L.left L.peers L.receive_faults L.send_faults link.old) (dial_shown D.calls D.faults dial.old)
         incoming.old.kept result.1 result.0 link.new (link_shown L.left L.peers L.receive_faults L.send_faults link.new) (dial_shown D.calls D.faults dial.new) }
     ensures buffer { incoming.new ≡ fresh RECORD_MAX }
-    ensures seat { seat_at result.0 conn ≡ Idle role }
+    ensures phase { phase_at result.0 conn ≡ Idle role }
     ensures told { C.told clock.old ≤ C.told clock.new }
     ensures len { length reply.new ≡ length reply.old }
 {
@@ -74,7 +74,7 @@ pub(crate) fn serve_piece<R: Wait, B: Bus, T: Turns<Core<B>>, L: Link, C: Clock,
     reply: &mut [u8],
 ) -> (Pass<Core<B>>, Option<End>)
     requires gate { pass.gate ≡ T.gate turns.now }
-    requires seat { seat_at pass conn ≡ Idle role }
+    requires phase { phase_at pass conn ≡ Idle role }
     requires more { incoming.old.state ≡ Feed.More }
     requires limit { incoming.old.limit ≡ RECORD_MAX }
     requires room { REPLY_ROOM ≤ length reply.old }

@@ -6,8 +6,8 @@ ghost use Rattle.vx_rules.specs.Held.{IsShort};
 ghost use Rattle.vx_calls.specs.declared.limits.TheConstants.{RECORD_MAX};
 ghost use Rattle.vx_message.specs.declared.record.TheConstants.{REPLY_ROOM};
 ghost use Rattle.vx_message.specs.Meaning.{meaning, Junk};
-ghost use Rattle.vx_group.specs.Seats.{Idle};
-ghost use Rattle.vx_turns.specs.Turning.{seat_at};
+ghost use Rattle.vx_group.specs.Phases.{Idle};
+ghost use Rattle.vx_turns.specs.Turning.{phase_at};
 ghost use Rattle.vx_session.specs.Outside.{dial_shown};
 ghost use Rattle.vx_session.specs.Progress.{MessageDoes, CallDoes, IsRipe};
 
@@ -38,11 +38,11 @@ pub(crate) fn serve_record<R: Wait, B: Bus, T: Turns<Core<B>>, C: Clock, P: Paus
     reply: &mut [u8],
 ) -> (Pass<Core<B>>, Option<usize>)
     requires gate { pass.gate ≡ T.gate turns.now }
-    requires seat { seat_at pass conn ≡ Idle role }
+    requires phase { phase_at pass conn ≡ Idle role }
     requires short { length message.now ≤ RECORD_MAX }
     requires room { REPLY_ROOM ≤ length reply.old }
     ensures does { MessageDoes (C.told clock.new) role pass conn message.now (dial_shown D.calls D.faults dial.old) reply.new result.1 result.0 (dial_shown D.calls D.faults dial.new) }
-    ensures seat { seat_at result.0 conn ≡ Idle role }
+    ensures phase { phase_at result.0 conn ≡ Idle role }
     ensures told { C.told clock.old ≤ C.told clock.new }
     ensures len { length reply.new ≡ length reply.old }
 {
@@ -81,11 +81,11 @@ fn serve_call<R: Wait, B: Bus, T: Turns<Core<B>>, C: Clock, P: Pause, D: Dial>(
     reply: &mut [u8],
 ) -> (Pass<Core<B>>, usize)
     requires gate { pass.gate ≡ T.gate turns.now }
-    requires ripe { IsRipe (seat_at pass conn) (call_shown call.now) }
+    requires ripe { IsRipe (phase_at pass conn) (call_shown call.now) }
     requires short { IsShort (call_shown call.now) }
     requires room { REPLY_ROOM ≤ length reply.old }
     ensures does { CallDoes (C.told clock.new) pass conn xid (call_shown call.now) (dial_shown D.calls D.faults dial.old) (take result.1 reply.new) result.0 (dial_shown D.calls D.faults dial.new) }
-    ensures seat { seat_at result.0 conn ≡ seat_at pass conn }
+    ensures phase { phase_at result.0 conn ≡ phase_at pass conn }
     ensures told { C.told clock.old ≤ C.told clock.new }
     ensures some { 0 < result.1 }
     ensures within { result.1 ≤ length reply.new }

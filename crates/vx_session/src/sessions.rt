@@ -5,8 +5,8 @@ ghost use Rattle.vx_calls.specs.declared.limits.TheConstants.{RECORD_MAX};
 ghost use Rattle.vx_message.specs.declared.record.TheConstants.{REPLY_ROOM};
 ghost use Rattle.vx_record.specs.Buffer.{fresh};
 ghost use Rattle.vx_record.specs.declared.Feed.TheVariants as feed;
-ghost use Rattle.vx_group.specs.Seats.{Idle};
-ghost use Rattle.vx_turns.specs.Turning.{seat_at};
+ghost use Rattle.vx_group.specs.Phases.{Idle};
+ghost use Rattle.vx_turns.specs.Turning.{phase_at};
 ghost use Rattle.vx_session.specs.Outside.{link_shown, dial_shown, no_dial};
 ghost use Rattle.vx_session.specs.Ending.{SessionDid};
 ghost use Rattle.vx_session.specs.Stopping.{NextServed, StreamServed, input_end};
@@ -109,14 +109,14 @@ fn serve_next<R: Wait, B: Bus, T: Turns<Core<B>>, L: Link, C: Clock, P: Pause, D
     reply: &mut [u8],
 ) -> (Pass<Core<B>>, Option<End>)
     requires gate { pass.gate ≡ T.gate turns.now }
-    requires seat { seat_at pass conn ≡ Idle role }
+    requires phase { phase_at pass conn ≡ Idle role }
     requires more { incoming.old.state ≡ feed.More }
     requires limit { incoming.old.limit ≡ RECORD_MAX }
     requires piece { 0 < length piece.old }
     requires room { REPLY_ROOM ≤ length reply.old }
     ensures serves { NextServed L.stands (C.told clock.old) (C.told clock.new) role conn pass link.old (link_shown L.left L.peers L.receive_faults L.send_faults link.old) (dial_shown D.calls D.faults dial.old)
         incoming.old result.1 result.0 link.new (link_shown L.left L.peers L.receive_faults L.send_faults link.new) (dial_shown D.calls D.faults dial.new) incoming.new }
-    ensures seat { seat_at result.0 conn ≡ Idle role }
+    ensures phase { phase_at result.0 conn ≡ Idle role }
     ensures limit { incoming.new.limit ≡ RECORD_MAX }
     ensures told { C.told clock.old ≤ C.told clock.new }
     ensures piece { length piece.new ≡ length piece.old }
@@ -150,13 +150,13 @@ fn serve_stream<R: Wait, B: Bus, T: Turns<Core<B>>, L: Link, C: Clock, P: Pause,
     reply: &mut [u8],
 ) -> (Pass<Core<B>>, End)
     requires gate { pass.gate ≡ T.gate turns.now }
-    requires seat { seat_at pass conn ≡ Idle role }
+    requires phase { phase_at pass conn ≡ Idle role }
     requires buffer { incoming.old ≡ fresh RECORD_MAX }
     requires piece { 0 < length piece.old }
     requires room { REPLY_ROOM ≤ length reply.old }
     ensures serves { StreamServed L.stands (C.told clock.new) role conn pass link.old (link_shown L.left L.peers L.receive_faults L.send_faults link.old) (dial_shown D.calls D.faults dial.old)
         result.1 result.0 link.new (link_shown L.left L.peers L.receive_faults L.send_faults link.new) (dial_shown D.calls D.faults dial.new) }
-    ensures seat { seat_at result.0 conn ≡ Idle role }
+    ensures phase { phase_at result.0 conn ≡ Idle role }
     ensures limit { incoming.new.limit ≡ RECORD_MAX }
     ensures told { C.told clock.old ≤ C.told clock.new }
     ensures piece { length piece.new ≡ length piece.old }
@@ -201,7 +201,7 @@ fn run_session<R: Wait, B: Bus, T: Turns<Core<B>>, L: Link, C: Clock, P: Pause, 
     room: &mut Room,
 ) -> (Pass<Core<B>>, End)
     requires gate { pass.gate ≡ T.gate turns.now }
-    requires seat { seat_at pass conn ≡ Idle role }
+    requires phase { phase_at pass conn ≡ Idle role }
     ensures did { SessionDid L.stands (C.told clock.new) role conn pass link.old (link_shown L.left L.peers L.receive_faults L.send_faults link.old) (dial_shown D.calls D.faults dial.old)
         result.1 result.0 link.new (link_shown L.left L.peers L.receive_faults L.send_faults link.new) (dial_shown D.calls D.faults dial.new) }
     ensures told { C.told clock.old ≤ C.told clock.new }
@@ -245,7 +245,7 @@ pub fn core_session<R: Wait, B: Bus, T: Turns<Core<B>>, L: Link, C: Clock, P: Pa
     room: &mut Room,
 ) -> (Pass<Core<B>>, End)
     requires gate { pass.gate ≡ T.gate turns.now }
-    requires seat { seat_at pass conn ≡ Idle role.Core }
+    requires phase { phase_at pass conn ≡ Idle role.Core }
     ensures did { SessionDid L.stands (C.told clock.new) role.Core conn pass link.old (link_shown L.left L.peers L.receive_faults L.send_faults link.old) (dial_shown D.calls D.faults dial.old)
         result.1 result.0 link.new (link_shown L.left L.peers L.receive_faults L.send_faults link.new) (dial_shown D.calls D.faults dial.new) }
     ensures told { C.told clock.old ≤ C.told clock.new }
@@ -274,7 +274,7 @@ pub fn abort_session<R: Wait, B: Bus, T: Turns<Core<B>>, L: Link>(
     room: &mut Room,
 ) -> (Pass<Core<B>>, End)
     requires gate { pass.gate ≡ T.gate turns.now }
-    requires seat { seat_at pass conn ≡ Idle role.Abort }
+    requires phase { phase_at pass conn ≡ Idle role.Abort }
     ensures did { SessionDid L.stands 0 role.Abort conn pass link.old (link_shown L.left L.peers L.receive_faults L.send_faults link.old) no_dial
         result.1 result.0 link.new (link_shown L.left L.peers L.receive_faults L.send_faults link.new) no_dial }
 {

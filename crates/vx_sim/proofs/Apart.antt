@@ -11,8 +11,8 @@ use Rattle.vx_488.specs.declared.wire.Wire.{Wire}
 use Rattle.vx_488.specs.Address.{same_address, same_secondary}
 use Rattle.vx_488.specs.Flags.{same_address-equal, same_address-refl}
 use Rattle.vx_488.specs.Wire.{is_talking}
-use Rattle.vx_sim.specs.Seats.{Seat, Placed}
-use Rattle.vx_sim.specs.Bench.{talks, answers_get, SeatWhere, PlaceWhere, BenchWhere}
+use Rattle.vx_sim.specs.Occupants.{Occupant, Placed}
+use Rattle.vx_sim.specs.Bench.{talks, answers_get, OccupantWhere, PlaceWhere, BenchWhere}
 use Rattle.vx_sim.specs.Attaching.{clashes, holder}
 use Rattle.vx_sim.specs.Shown.{AreApart, AtPlace}
 use Rattle.vx_sim.proofs.Changes.{or_first, or_second}
@@ -51,7 +51,7 @@ apart-filter keep (q ∷ qs) apart = at (keep q) (any-filter (λ r. clashes q.at
     at false first rest = rest
 
 -- a question to the addresses is answered alike when the instruments changed, each at its address
-any-changed : (p : Addr → Bool) (reached : Placed → Bool) (Change : Seat → Seat → Type 0) (old new : List Placed) → BenchWhere reached Change old new → list_any (λ r. p r.at) new ≡ list_any (λ r. p r.at) old
+any-changed : (p : Addr → Bool) (reached : Placed → Bool) (Change : Occupant → Occupant → Type 0) (old new : List Placed) → BenchWhere reached Change old new → list_any (λ r. p r.at) new ≡ list_any (λ r. p r.at) old
 any-changed p reached Change [] [] h = refl
 any-changed p reached Change [] (y ∷ ys) h = absurd h
 any-changed p reached Change (x ∷ xs) [] h = absurd h
@@ -59,7 +59,7 @@ any-changed p reached Change (x ∷ xs) (y ∷ ys) h =
     ap (λ (a : Addr). p a || list_any (λ r. p r.at) ys) h.0.0 ∙ ap (λ b. p x.at || b) (any-changed p reached Change xs ys h.1)
 
 -- instruments that changed, each at its address, stay apart
-pub apart-changed : (reached : Placed → Bool) (Change : Seat → Seat → Type 0) (old new : List Placed) → BenchWhere reached Change old new → AreApart old → AreApart new
+pub apart-changed : (reached : Placed → Bool) (Change : Occupant → Occupant → Type 0) (old new : List Placed) → BenchWhere reached Change old new → AreApart old → AreApart new
 apart-changed reached Change [] [] h apart = tt
 apart-changed reached Change [] (y ∷ ys) h apart = absurd h
 apart-changed reached Change (x ∷ xs) [] h apart = absurd h
@@ -91,19 +91,19 @@ no_other w p (r ∷ rs) talk apart =
     at false e clear rest = ap (λ b. b || list_any (talks w) rs) e ∙ rest
 
 -- where nobody talks, nobody changes
-still : (w : Wire) (Give : Seat → Seat → Type 0) (ps : List Placed) → list_any (talks w) ps ≡ false → BenchWhere (talks w) Give ps ps
+still : (w : Wire) (Give : Occupant → Occupant → Type 0) (ps : List Placed) → list_any (talks w) ps ≡ false → BenchWhere (talks w) Give ps ps
 still w Give [] quiet = tt
 still w Give (p ∷ ps) quiet = at (talks w p) (or_first (talks w p) (list_any (talks w) ps) quiet) (still w Give ps (or_second (talks w p) (list_any (talks w) ps) quiet))
   where
-    at : (b : Bool) → b ≡ false → BenchWhere (talks w) Give ps ps → ((p.at ≡ p.at) × SeatWhere b Give p.seat p.seat) × BenchWhere (talks w) Give ps ps
+    at : (b : Bool) → b ≡ false → BenchWhere (talks w) Give ps ps → ((p.at ≡ p.at) × OccupantWhere b Give p.occupant p.occupant) × BenchWhere (talks w) Give ps ps
     at true e rest = cc
     at false e rest = ((refl, refl), rest)
 
-abbrev Gave : Wire → (Seat → Seat → Type 0) → Placed → Placed → Type 0
-Gave w Give p q = (talks w p ≡ true) × (q.at ≡ p.at) × Give p.seat q.seat
+abbrev Gave : Wire → (Occupant → Occupant → Type 0) → Placed → Placed → Type 0
+Gave w Give p q = (talks w p ≡ true) × (q.at ≡ p.at) × Give p.occupant q.occupant
 
 -- the one that gave is a talker
-one_talks : (w : Wire) (Give : Seat → Seat → Type 0) (i : ℕ) (old new : List Placed) → AtPlace i (Gave w Give) old new → list_any (talks w) old ≡ true
+one_talks : (w : Wire) (Give : Occupant → Occupant → Type 0) (i : ℕ) (old new : List Placed) → AtPlace i (Gave w Give) old new → list_any (talks w) old ≡ true
 one_talks w Give zero [] new h = absurd h
 one_talks w Give (suc i) [] new h = absurd h
 one_talks w Give zero (p ∷ ps) [] h = absurd h
@@ -116,21 +116,21 @@ one_talks w Give (suc i) (p ∷ ps) (q ∷ qs) h = at (talks w p) (one_talks w G
     at false e = e
 
 -- The one that gave is the talker, and the others stay.
-pub talker_gave : (w : Wire) (Give : Seat → Seat → Type 0) (i : ℕ) (old new : List Placed) → AreApart old → AtPlace i (Gave w Give) old new → BenchWhere (talks w) Give old new
+pub talker_gave : (w : Wire) (Give : Occupant → Occupant → Type 0) (i : ℕ) (old new : List Placed) → AreApart old → AtPlace i (Gave w Give) old new → BenchWhere (talks w) Give old new
 talker_gave w Give zero [] new apart h = absurd h
 talker_gave w Give (suc i) [] new apart h = absurd h
 talker_gave w Give zero (p ∷ ps) [] apart h = absurd h
 talker_gave w Give (suc i) (p ∷ ps) [] apart h = absurd h
 talker_gave w Give zero (p ∷ ps) (q ∷ qs) apart h = (
-  (h.0.1, subst (λ b. SeatWhere b Give p.seat q.seat) (sym h.0.0) h.0.2),
+  (h.0.1, subst (λ b. OccupantWhere b Give p.occupant q.occupant) (sym h.0.0) h.0.2),
   subst (λ (zs : List Placed). BenchWhere (talks w) Give ps zs) (sym h.1) (still w Give ps (no_other w p ps h.0.0 apart.0)),
 )
 talker_gave w Give (suc i) (p ∷ ps) (q ∷ qs) apart h =
     (at (talks w p) refl (one_talks w Give i ps qs h.1), talker_gave w Give i ps qs apart.1 h.1)
   where
-    at : (b : Bool) → talks w p ≡ b → list_any (talks w) ps ≡ true → (q.at ≡ p.at) × SeatWhere (talks w p) Give p.seat q.seat
+    at : (b : Bool) → talks w p ≡ b → list_any (talks w) ps ≡ true → (q.at ≡ p.at) × OccupantWhere (talks w p) Give p.occupant q.occupant
     at true e one = let none : list_any (talks w) ps ≡ false = no_other w p ps e apart.0 in cc
-    at false e one = (ap (λ (z : Placed). z.at) h.0, subst (λ b. SeatWhere b Give p.seat q.seat) (sym e) (ap (λ (z : Placed). z.seat) h.0))
+    at false e one = (ap (λ (z : Placed). z.at) h.0, subst (λ b. OccupantWhere b Give p.occupant q.occupant) (sym e) (ap (λ (z : Placed). z.occupant) h.0))
 
 -- whoever answers a get is the talker
 pub answerer_talks : (w : Wire) (p : Placed) → answers_get w p ≡ true → talks w p ≡ true
@@ -142,14 +142,14 @@ ats_shown f at same [] = refl
 ats_shown f at same (x ∷ xs) = ap (λ (a : Addr). a ∷ map (λ p. p.at) (map f xs)) (same x) ∙ ap (λ as'. at x ∷ as') (ats_shown f at same xs)
 
 -- a change of those that a slice held, each at its address, keeps them apart
-pub held_apart : {X Z : Type 0} (f : X → Placed) (reached : Placed → Bool) (Change : Seat → Seat → Type 0) (v : Vec X Z) (here ws : List X) → here ≡ v.items → length ws ≡ v.len
+pub held_apart : {X Z : Type 0} (f : X → Placed) (reached : Placed → Bool) (Change : Occupant → Occupant → Type 0) (v : Vec X Z) (here ws : List X) → here ≡ v.items → length ws ≡ v.len
     → BenchWhere reached Change (map f here) (map f ws) → AreApart (map f v.items) → AreApart (map f (with_items v ws).items)
 held_apart f reached Change v here ws held long change apart =
     subst (λ (zs : List _). AreApart (map f zs)) (sym (with_items_is v ws long))
     (apart-changed reached Change (map f here) (map f ws) change (subst (λ (zs : List _). AreApart (map f zs)) (sym held) apart))
 
 -- a change of those that a slice held is one of the bench
-pub held_changed : {X Z : Type 0} (f : X → Placed) (reached : Placed → Bool) (Change : Seat → Seat → Type 0) (v : Vec X Z) (bench : List Placed) (here ws : List X) → here ≡ v.items → length ws ≡ v.len
+pub held_changed : {X Z : Type 0} (f : X → Placed) (reached : Placed → Bool) (Change : Occupant → Occupant → Type 0) (v : Vec X Z) (bench : List Placed) (here ws : List X) → here ≡ v.items → length ws ≡ v.len
     → map f v.items ≡ bench → BenchWhere reached Change (map f here) (map f ws) → BenchWhere reached Change bench (map f (with_items v ws).items)
 held_changed f reached Change v bench here ws held long view change =
     subst (λ (zs : List _). BenchWhere reached Change bench (map f zs)) (sym (with_items_is v ws long))

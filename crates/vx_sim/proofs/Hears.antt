@@ -14,8 +14,8 @@ use Rattle.vx_488.specs.Wire.{step}
 use Rattle.vx_bus_traits.specs.Means.{Means}
 use Rattle.vx_bus_traits.specs.Steps.{Step, Went, Held, Failed, Told, Cut}
 use Rattle.vx_bus_traits.specs.Walks.{Walk}
-use Rattle.vx_sim.specs.Seats.{Seat, Placed, TakesByte}
-use Rattle.vx_sim.specs.Bench.{listens, SeatWhere, BenchWhere, BenchAfterCommand, BenchAfterRemote}
+use Rattle.vx_sim.specs.Occupants.{Occupant, Placed, TakesByte}
+use Rattle.vx_sim.specs.Bench.{listens, OccupantWhere, BenchWhere, BenchAfterCommand, BenchAfterRemote}
 use Rattle.vx_sim.specs.SimState.{SimState, means_after, BenchThrough, Through}
 use Rattle.vx_sim.specs.Laws.{transfers, is_quiet, only_puts, TakesAll, HeardLaw}
 
@@ -30,11 +30,11 @@ wire_past w _ = w
 
 -- it took these, each at its address
 abbrev Took : (Addr → List Byte) → Placed → Placed → Type 0
-Took bytes p q = (q.at ≡ p.at) × TakesAll (bytes p.at) p.seat q.seat
+Took bytes p q = (q.at ≡ p.at) × TakesAll (bytes p.at) p.occupant q.occupant
 
 -- one list of bytes and then another
-takes-append : (bs cs : List Byte) (old mid new : Seat) → TakesAll bs old mid → TakesAll cs mid new → TakesAll (bs ++ cs) old new
-takes-append [] cs old mid new first then' = subst (λ (s : Seat). TakesAll cs s new) first then'
+takes-append : (bs cs : List Byte) (old mid new : Occupant) → TakesAll bs old mid → TakesAll cs mid new → TakesAll (bs ++ cs) old new
+takes-append [] cs old mid new first then' = subst (λ (s : Occupant). TakesAll cs s new) first then'
 takes-append (b ∷ bs) cs old mid new first then' = (first.0, first.1, takes-append bs cs first.0 mid new first.2 then')
 
 -- the same at each place
@@ -47,8 +47,8 @@ took-append f g h both (x ∷ xs) (y ∷ ys) [] first then' = absurd then'
 took-append f g h both (x ∷ xs) (y ∷ ys) (z ∷ zs) first then' = (
   (
     then'.0.0 ∙ first.0.0,
-    subst (λ bytes. TakesAll bytes x.seat z.seat) (sym (both x.at))
-        (takes-append (f x.at) (g x.at) x.seat y.seat z.seat first.0.1 (subst (λ (a : Addr). TakesAll (g a) y.seat z.seat) first.0.0 then'.0.1)),
+    subst (λ bytes. TakesAll bytes x.occupant z.occupant) (sym (both x.at))
+        (takes-append (f x.at) (g x.at) x.occupant y.occupant z.occupant first.0.1 (subst (λ (a : Addr). TakesAll (g a) y.occupant z.occupant) first.0.0 then'.0.1)),
   ),
   took-append f g h both xs ys zs first.1 then'.1,
 )
@@ -68,8 +68,8 @@ put_taken w b [] (q ∷ qs) h = absurd h
 put_taken w b (p ∷ ps) [] h = absurd h
 put_taken w b (p ∷ ps) (q ∷ qs) h = ((h.0.0, at (has_address w.listeners p.at) h.0.1), put_taken w b ps qs h.1)
   where
-    at : (hears : Bool) → SeatWhere hears (TakesByte b.value b.end) p.seat q.seat → TakesAll (cond hears (b ∷ []) []) p.seat q.seat
-    at true take = (q.seat, take, refl)
+    at : (hears : Bool) → OccupantWhere hears (TakesByte b.value b.end) p.occupant q.occupant → TakesAll (cond hears (b ∷ []) []) p.occupant q.occupant
+    at true take = (q.occupant, take, refl)
     at false same = same
 
 -- a quiet command changes nothing

@@ -6,7 +6,7 @@ use Rattle.vx_sim.specs.declared.TheConstants.{PLACES_MAX}
 use Rattle.vx_sim.specs.declared.signals.Signal.TheVariants as signal
 use Rattle.vx_sim.specs.declared.attach.Attach.{Attach}
 use Rattle.vx_sim.specs.declared.attach.Attach.TheVariants.{OwnAddress, Taken, Full}
-use Rattle.vx_sim.specs.Seats.{Seat, Placed, Receives}
+use Rattle.vx_sim.specs.Occupants.{Occupant, Placed, Receives}
 use Rattle.vx_sim.specs.Bench.{stands_at, BenchWhere}
 use Rattle.vx_sim.specs.SimState.{SimState}
 
@@ -27,11 +27,11 @@ abbrev pub refusal : SimState → Addr → Option Attach
 refusal s a = if a.p == s.means.wire.own then Some OwnAddress else taken_or_full (holder s.bench a) (length s.bench)
 
 -- an instrument was attached: it stands at the end of the bench, and was told the last moment
-abbrev pub IsAttached : Addr → Seat → SimState → SimState → Type 0
+abbrev pub IsAttached : Addr → Occupant → SimState → SimState → Type 0
 IsAttached a inst old new =
-    (told : Seat)
+    (told : Occupant)
     × Receives (signal.Moment old.told) inst told
-    × (new ≡ record old { bench = old.bench ++ (record { at = a; seat = told }) ∷ [] })
+    × (new ≡ record old { bench = old.bench ++ (record { at = a; occupant = told }) ∷ [] })
 
 -- the bus without the instrument at this address
 abbrev pub without_place : Addr → SimState → SimState

@@ -14,7 +14,7 @@ use Rattle.vx_488.specs.Listening.{has_address}
 use Rattle.vx_488.specs.Wire.{is_talking}
 use Rattle.vx_inst.specs.Laws.{takes_byte, gives_byte}
 use Rattle.vx_sim.specs.declared.signals.Signal.TheVariants as signal
-use Rattle.vx_sim.specs.Seats.{Seat, Placed, seen, TakesByte, Receives, GivesByte, GivesStatus}
+use Rattle.vx_sim.specs.Occupants.{Occupant, Placed, seen, TakesByte, Receives, GivesByte, GivesStatus}
 
 -- whom a transfer reaches: the listeners, the talker, the instrument at an address, every instrument
 abbrev pub listens : Wire → Placed → Bool
@@ -29,16 +29,16 @@ stands_at a p = same_address p.at a
 abbrev pub everyone : Placed → Bool
 everyone p = true
 
--- a seat that is reached changes so, and one that isn't stays
-abbrev pub SeatWhere : Bool → (Seat → Seat → Type 0) → Seat → Seat → Type 0
-SeatWhere true Change old new = Change old new
-SeatWhere false Change old new = new ≡ old
+-- a occupant that is reached changes so, and one that isn't stays
+abbrev pub OccupantWhere : Bool → (Occupant → Occupant → Type 0) → Occupant → Occupant → Type 0
+OccupantWhere true Change old new = Change old new
+OccupantWhere false Change old new = new ≡ old
 
-abbrev pub PlaceWhere : (Placed → Bool) → (Seat → Seat → Type 0) → Placed → Placed → Type 0
-PlaceWhere reached Change p q = (q.at ≡ p.at) × SeatWhere (reached p) Change p.seat q.seat
+abbrev pub PlaceWhere : (Placed → Bool) → (Occupant → Occupant → Type 0) → Placed → Placed → Type 0
+PlaceWhere reached Change p q = (q.at ≡ p.at) × OccupantWhere (reached p) Change p.occupant q.occupant
 
 -- the instruments that are reached change so, each at its place, and the others stay
-abbrev pub BenchWhere : (Placed → Bool) → (Seat → Seat → Type 0) → List Placed → List Placed → Type 0
+abbrev pub BenchWhere : (Placed → Bool) → (Occupant → Occupant → Type 0) → List Placed → List Placed → Type 0
 BenchWhere reached Change old new = AllZip (PlaceWhere reached Change) old new
 
 -- SDC clears the listeners, GET triggers them, GTL sends them to local, and DCL clears every instrument (IEEE 488.1, 2.8
@@ -56,7 +56,7 @@ BenchAfterRemote true old new = new ≡ old
 BenchAfterRemote false old new = BenchWhere everyone (Receives signal.Local) old new
 
 -- The talker gives a byte: in serial poll mode its status byte (IEEE 488.1, 2.5).
-abbrev pub TalkerGives : Bool → Byte → Seat → Seat → Type 0
+abbrev pub TalkerGives : Bool → Byte → Occupant → Occupant → Type 0
 TalkerGives true byte old new = GivesStatus byte old new
 TalkerGives false byte old new = GivesByte byte old new
 
@@ -70,7 +70,7 @@ BenchAfter w _ old new = new ≡ old
 
 -- it is a listener that can't take a byte
 abbrev pub refuses : Wire → Placed → Bool
-refuses w p = listens w p && not (takes_byte (seen p.seat))
+refuses w p = listens w p && not (takes_byte (seen p.occupant))
 
 -- some listener can't take a byte
 abbrev pub some_refuses : Wire → List Placed → Bool
@@ -82,7 +82,7 @@ holds_put w bench = not (list_any (listens w) bench) || some_refuses w bench
 
 -- the talker can answer a get: in serial poll mode it always can
 abbrev pub answers_get : Wire → Placed → Bool
-answers_get w p = talks w p && (w.polling || gives_byte (seen p.seat))
+answers_get w p = talks w p && (w.polling || gives_byte (seen p.occupant))
 
 -- no instrument is the talker, or it has no byte to give
 abbrev pub holds_get : Wire → List Placed → Bool
@@ -90,7 +90,7 @@ holds_get w bench = not (list_any (answers_get w) bench)
 
 -- it asks for service
 abbrev pub asks : Placed → Bool
-asks p = (seen p.seat).rqs
+asks p = (seen p.occupant).rqs
 
 -- some instrument asks for service
 abbrev pub some_asks : List Placed → Bool

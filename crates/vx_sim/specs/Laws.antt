@@ -9,7 +9,7 @@ use Rattle.vx_488.specs.Command.{command_of}
 use Rattle.vx_488.specs.Heard.{Byte, heard}
 use Rattle.vx_bus_traits.specs.Steps.{Step, Went, Told}
 use Rattle.vx_bus_traits.specs.Walks.{Walk}
-use Rattle.vx_sim.specs.Seats.{Seat, TakesByte}
+use Rattle.vx_sim.specs.Occupants.{Occupant, TakesByte}
 use Rattle.vx_sim.specs.SimState.{SimState, Through}
 
 -- the transfers among steps
@@ -35,13 +35,13 @@ only_puts (Told now) = false
 only_puts _ = true
 
 -- it takes these bytes, one after the other, and changes by nothing else
-abbrev pub TakesAll : List Byte → Seat → Seat → Type 0
+abbrev pub TakesAll : List Byte → Occupant → Occupant → Type 0
 TakesAll [] old new = new ≡ old
-TakesAll (b ∷ bs) old new = (next : Seat) × TakesByte b.value b.end old next × TakesAll bs next new
+TakesAll (b ∷ bs) old new = (next : Occupant) × TakesByte b.value b.end old next × TakesAll bs next new
 
 -- On a bus that goes through such steps each instrument takes, in order, the bytes that its address hears of the
 -- transfers, and no others; one that isn't addressed takes none.
 abbrev pub HeardLaw : Type 0
 HeardLaw =
     (old new : SimState) (steps : List Step) → list_all only_puts steps ≡ true → Walk (λ s. s.means) Through old steps new
-    → AllZip (λ p q. (q.at ≡ p.at) × TakesAll (heard p.at old.means.wire (transfers steps)) p.seat q.seat) old.bench new.bench
+    → AllZip (λ p q. (q.at ≡ p.at) × TakesAll (heard p.at old.means.wire (transfers steps)) p.occupant q.occupant) old.bench new.bench

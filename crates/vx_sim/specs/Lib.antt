@@ -1,4 +1,4 @@
-pub mod Seats
+pub mod Occupants
 pub mod Bench
 pub mod SimState
 pub mod Attaching

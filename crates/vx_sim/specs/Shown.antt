@@ -14,16 +14,16 @@ use Rattle.vx_sim.specs.declared.signals.Whom.{Whom}
 use Rattle.vx_sim.specs.declared.signals.Whom.TheVariants as whom
 use Rattle.vx_sim.specs.declared.signals.Question.{Question}
 use Rattle.vx_sim.specs.declared.signals.Question.TheVariants as question
-use Rattle.vx_sim.specs.Seats.{Seat, Table, Boxed, Placed}
+use Rattle.vx_sim.specs.Occupants.{Occupant, Table, Boxed, Placed}
 use Rattle.vx_sim.specs.Bench.{listens, talks, stands_at, everyone, TalkerGives, refuses, answers_get, asks}
 use Rattle.vx_sim.specs.Attaching.{clashes}
 
-abbrev pub seat_of : {I : Type 0} → (I → View) → Stand I → Seat
-seat_of view (stand.Table t) = Table t
-seat_of view (stand.Boxed i) = Boxed (view i)
+abbrev pub occupant_of : {I : Type 0} → (I → View) → Stand I → Occupant
+occupant_of view (stand.Table t) = Table t
+occupant_of view (stand.Boxed i) = Boxed (view i)
 
 abbrev pub placed_of : {I : Type 0} → (I → View) → Place I → Placed
-placed_of view p = record { at = p.at; seat = seat_of view p.stand }
+placed_of view p = record { at = p.at; occupant = occupant_of view p.stand }
 
 abbrev pub bench_of : {I : Type 0} → (I → View) → List (Place I) → List Placed
 bench_of view ps = map (placed_of view) ps
@@ -55,7 +55,7 @@ AtPlace i Change _ _ = ⊥
 
 -- the talker gave a byte
 abbrev pub TalkerGave : Wire → Byte → Placed → Placed → Type 0
-TalkerGave w byte p q = (talks w p ≡ true) × (q.at ≡ p.at) × TalkerGives w.polling byte p.seat q.seat
+TalkerGave w byte p q = (talks w p ≡ true) × (q.at ≡ p.at) × TalkerGives w.polling byte p.occupant q.occupant
 
 -- a transfer that reaches no instrument: ATN, IFC and a change of the own address
 abbrev pub reaches_nobody : Transfer → Bool

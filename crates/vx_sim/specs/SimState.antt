@@ -9,7 +9,7 @@ use Rattle.vx_bus_traits.specs.Means.{Means}
 use Rattle.vx_bus_traits.specs.Means.{first_means}
 use Rattle.vx_bus_traits.specs.Steps.{Step, Went, Held, Failed, Told, Cut, ask_for}
 use Rattle.vx_sim.specs.declared.signals.Signal.TheVariants as signal
-use Rattle.vx_sim.specs.Seats.{Placed, Receives}
+use Rattle.vx_sim.specs.Occupants.{Placed, Receives}
 use Rattle.vx_sim.specs.Bench.{BenchWhere, everyone, BenchAfter, holds_put, holds_get}
 
 pub record SimState : Type 0 where

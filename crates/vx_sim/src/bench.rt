@@ -2,10 +2,10 @@
 
 ghost use Rattle.std.specs.Prelude.{◌≡◌, ◌≤◌, ◌<◌, ◌+◌, ℕ, true, false, not, List, [], ◌∷◌, ◌++◌, length, map, filter, position, find, IfOk, IfSome, vec_len, vec_capacity};
 ghost use Rattle.std.specs.List.{list_any, insert};
-ghost use Rattle.vx_sim.specs.Seats.{TakesByte, Receives};
+ghost use Rattle.vx_sim.specs.Occupants.{TakesByte, Receives};
 ghost use Rattle.vx_sim.specs.Bench.{listens, talks, some_refuses, answers_get, holds_get, stands_at, BenchWhere, BenchAfterCommand, BenchAfterRemote, TalkerGives};
 ghost use Rattle.vx_sim.specs.Attaching.{clashes, holder};
-ghost use Rattle.vx_sim.specs.Shown.{seat_of, placed_of, bench_of, is_meant, is_so, AtPlace, TalkerGave};
+ghost use Rattle.vx_sim.specs.Shown.{occupant_of, placed_of, bench_of, is_meant, is_so, AtPlace, TalkerGave};
 
 use crate::places::{Place, Stand};
 use crate::signals::{Question, Signal, Whom};
@@ -25,7 +25,7 @@ pub(crate) struct Bench<I: Instrument> {
 impl<I: Instrument> Model for Bench<I> {
     ghost use Rattle.std.specs.Prelude.{◌≤◌, List, vec_len, vec_capacity};
     ghost use Rattle.vx_sim.specs.declared.TheConstants.{PLACES_MAX};
-    ghost use Rattle.vx_sim.specs.Seats.{Placed};
+    ghost use Rattle.vx_sim.specs.Occupants.{Placed};
     ghost use Rattle.vx_sim.specs.Shown.{bench_of, AreApart};
 
     ghost Value = { List Placed };
@@ -73,7 +73,7 @@ impl<I: Instrument> Bench<I> {
     pub(crate) fn add(&mut self, at: Addr, stand: Stand<I>)
         requires few { length self.old < PLACES_MAX }
         requires free { holder self.old at ≡ None }
-        ensures { self.new ≡ self.old ++ (record { at = at; seat = seat_of (λ i. I.view i) stand }) ∷ [] }
+        ensures { self.new ≡ self.old ++ (record { at = at; occupant = occupant_of (λ i. I.view i) stand }) ∷ [] }
     {
         self.places.push_reserved(Place { at, stand });
     }

@@ -2,9 +2,9 @@
 
 ghost use Rattle.std.specs.Prelude.{◌≡◌, true, false};
 ghost use Rattle.vx_inst.specs.Laws.{takes_byte, gives_byte};
-ghost use Rattle.vx_sim.specs.Seats.{Table, Boxed, seen, TakesByte, Receives, GivesByte, GivesStatus};
+ghost use Rattle.vx_sim.specs.Occupants.{Table, Boxed, seen, TakesByte, Receives, GivesByte, GivesStatus};
 ghost use Rattle.vx_sim.specs.Bench.{listens, talks, refuses, answers_get, PlaceWhere, TalkerGives};
-ghost use Rattle.vx_sim.specs.Shown.{seat_of, placed_of, is_meant, is_so};
+ghost use Rattle.vx_sim.specs.Shown.{occupant_of, placed_of, is_meant, is_so};
 
 use crate::signals::{Question, Signal, Whom};
 use vx_488::{Addr, Wire};
@@ -27,7 +27,7 @@ pub(crate) struct Place<I> {
 
 impl<I: Instrument> Stand<I> {
     fn can_take(&self) -> bool
-        ensures { result ≡ takes_byte (seen (seat_of (λ i. I.view i) self.now)) }
+        ensures { result ≡ takes_byte (seen (occupant_of (λ i. I.view i) self.now)) }
     {
         match self {
             Stand::Table(table) => table.can_take(),
@@ -36,7 +36,7 @@ impl<I: Instrument> Stand<I> {
     }
 
     fn can_give(&self) -> bool
-        ensures { result ≡ gives_byte (seen (seat_of (λ i. I.view i) self.now)) }
+        ensures { result ≡ gives_byte (seen (occupant_of (λ i. I.view i) self.now)) }
     {
         match self {
             Stand::Table(table) => table.can_give(),
@@ -45,7 +45,7 @@ impl<I: Instrument> Stand<I> {
     }
 
     fn requests(&self) -> bool
-        ensures { result ≡ (seen (seat_of (λ i. I.view i) self.now)).rqs }
+        ensures { result ≡ (seen (occupant_of (λ i. I.view i) self.now)).rqs }
     {
         match self {
             Stand::Table(table) => table.requests(),
@@ -54,8 +54,8 @@ impl<I: Instrument> Stand<I> {
     }
 
     fn take(&mut self, b: u8, end: bool)
-        requires { takes_byte (seen (seat_of (λ i. I.view i) self.old)) ≡ true }
-        ensures { TakesByte b end (seat_of (λ i. I.view i) self.old) (seat_of (λ i. I.view i) self.new) }
+        requires { takes_byte (seen (occupant_of (λ i. I.view i) self.old)) ≡ true }
+        ensures { TakesByte b end (occupant_of (λ i. I.view i) self.old) (occupant_of (λ i. I.view i) self.new) }
     {
         match self {
             Stand::Table(table) => table.take(b, end),
@@ -65,8 +65,8 @@ impl<I: Instrument> Stand<I> {
 
     /// Gives the next byte, and whether END stands on it.
     fn give(&mut self) -> (u8, bool)
-        requires { gives_byte (seen (seat_of (λ i. I.view i) self.old)) ≡ true }
-        ensures { GivesByte (record { value = result.0; end = result.1 }) (seat_of (λ i. I.view i) self.old) (seat_of (λ i. I.view i) self.new) }
+        requires { gives_byte (seen (occupant_of (λ i. I.view i) self.old)) ≡ true }
+        ensures { GivesByte (record { value = result.0; end = result.1 }) (occupant_of (λ i. I.view i) self.old) (occupant_of (λ i. I.view i) self.new) }
     {
         match self {
             Stand::Table(table) => table.give(),
@@ -76,7 +76,7 @@ impl<I: Instrument> Stand<I> {
 
     /// Gives its status byte.
     fn poll(&mut self) -> u8
-        ensures { GivesStatus (record { value = result; end = false }) (seat_of (λ i. I.view i) self.old) (seat_of (λ i. I.view i) self.new) }
+        ensures { GivesStatus (record { value = result; end = false }) (occupant_of (λ i. I.view i) self.old) (occupant_of (λ i. I.view i) self.new) }
     {
         match self {
             Stand::Table(table) => table.poll(),
@@ -86,7 +86,7 @@ impl<I: Instrument> Stand<I> {
 
     /// Is told what it answers nothing to.
     pub(crate) fn receive(&mut self, signal: Signal)
-        ensures { Receives signal (seat_of (λ i. I.view i) self.old) (seat_of (λ i. I.view i) self.new) }
+        ensures { Receives signal (occupant_of (λ i. I.view i) self.old) (occupant_of (λ i. I.view i) self.new) }
     {
         match self {
             Stand::Table(table) => tell_table(table, signal),
@@ -186,7 +186,7 @@ impl<I: Instrument> Place<I> {
     /// Gives a byte: in serial poll mode its status byte, without END.
     pub(crate) fn give(&mut self, wire: &Wire) -> (u8, bool)
         requires { answers_get wire.now (placed_of (λ i. I.view i) self.old) ≡ true }
-        ensures gives { TalkerGives wire.now.polling (record { value = result.0; end = result.1 }) (seat_of (λ i. I.view i) self.old.stand) (seat_of (λ i. I.view i) self.new.stand) }
+        ensures gives { TalkerGives wire.now.polling (record { value = result.0; end = result.1 }) (occupant_of (λ i. I.view i) self.old.stand) (occupant_of (λ i. I.view i) self.new.stand) }
         ensures stays { self.new.at ≡ self.old.at }
     {
         if wire.polling {

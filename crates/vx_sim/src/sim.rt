@@ -6,11 +6,11 @@ ghost use Rattle.vx_488.specs.declared.transfers.TheConstants.{ADDRESS_MAX};
 ghost use Rattle.vx_488.specs.declared.transfers.Transfer.TheVariants.{Cmd, Put, Ren, Ifc, Own};
 ghost use Rattle.vx_488.specs.Address.{is_bus_address};
 ghost use Rattle.vx_bus_traits.specs.Steps.{Went, Held, Failed, Told, Cut, move_step, get_step, line_transfer, IsStepped};
-ghost use Rattle.vx_sim.specs.Seats.{Table, Boxed};
+ghost use Rattle.vx_sim.specs.Occupants.{Table, Boxed};
 ghost use Rattle.vx_sim.specs.Bench.{stands_at, some_asks, some_refuses, holds_put, holds_get};
 ghost use Rattle.vx_sim.specs.SimState.{first_state, is_next, nearer, means_after, Through};
 ghost use Rattle.vx_sim.specs.Attaching.{refusal, taken_or_full, IsAttached, without_place, IsSet};
-ghost use Rattle.vx_sim.specs.Shown.{seat_of, reaches_nobody};
+ghost use Rattle.vx_sim.specs.Shown.{occupant_of, reaches_nobody};
 
 use crate::attach::{Absent, Attach, Refused};
 use crate::bench::Bench;
@@ -183,7 +183,7 @@ impl<I: Instrument> SimBus<I> {
     /// Puts an instrument at the end of the bench, and tells it the last moment.
     fn place(&mut self, at: Addr, mut stand: Stand<I>)
         requires { refusal self.old at ≡ None }
-        ensures { IsAttached at (seat_of (λ i. I.view i) stand) self.old self.new }
+        ensures { IsAttached at (occupant_of (λ i. I.view i) stand) self.old self.new }
     {
         stand.receive(Signal::Moment(self.told));
         self.bench.add(at, stand);

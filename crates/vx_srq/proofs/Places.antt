@@ -7,7 +7,7 @@ use Rattle.std.proofs.lemmas.Bool.{lt-ltb}
 use Rattle.std.proofs.lemmas.List.Elements.{All-cons, All-tail, All-weaker}
 use Rattle.std.proofs.lemmas.List.Sums.{prefix_len-le-length}
 use Rattle.vx_srq.specs.declared.enables.EnableRow.{EnableRow}
-use Rattle.vx_srq.specs.Desk.{Enable, LinksRise, enable_put}
+use Rattle.vx_srq.specs.SrqState.{Enable, LinksRise, enable_put}
 use Rattle.vx_srq.specs.Shown.{enable_shown}
 
 -- the first place that passes, or the length

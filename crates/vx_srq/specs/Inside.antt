@@ -1,16 +1,16 @@
--- What the fields of an `Srq` hold, as a desk, and what is true of them.
+-- What the fields of an `Srq` hold, as a state of service requests, and what is true of them.
 use Rattle.std.specs.Prelude.{◌≤◌, map, vec_capacity}
 use Rattle.std.specs.List.{All}
 use Rattle.vx_calls.specs.declared.limits.TheConstants.{LINK_MAX}
 use Rattle.vx_srq.specs.declared.srq.Srq.TheInside.{Inside}
-use Rattle.vx_srq.specs.Desk.{Desk, IsSound}
-use Rattle.vx_srq.specs.Shown.{port_shown, enable_shown, HasRoom}
+use Rattle.vx_srq.specs.SrqState.{SrqState, IsSound}
+use Rattle.vx_srq.specs.Shown.{slot_shown, enable_shown, HasRoom}
 
-abbrev pub desk_of : Inside → Desk
-desk_of t = record { ports = map port_shown t.ports.items; enables = map enable_shown t.enables.items; next_channel = t.next; level = t.level }
+abbrev pub srq_state_of : Inside → SrqState
+srq_state_of t = record { slots = map slot_shown t.slots.items; enables = map enable_shown t.enables.items; next_channel = t.next; level = t.level }
 
--- the room of all enables and of each outbox stands, and the desk is as every desk is
+-- the room of all enables and of each outbox stands, and the state of service requests is as every state of service requests is
 pub record IsKept (t : Inside) : Type 0 where
   pub places : LINK_MAX ≤ vec_capacity t.enables
-  pub room : All HasRoom t.ports.items
-  pub sound : IsSound (desk_of t)
+  pub room : All HasRoom t.slots.items
+  pub sound : IsSound (srq_state_of t)

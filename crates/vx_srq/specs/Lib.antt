@@ -1,4 +1,4 @@
-pub mod Desk
+pub mod SrqState
 pub mod Shown
 pub mod Told
 pub mod Laws

@@ -5,11 +5,11 @@ use Rattle.std.specs.VecDeque.{deque_capacity}
 use Rattle.vx_calls.specs.declared.calls.Handle.{Handle}
 use Rattle.vx_calls.specs.declared.replies.Taken.{Taken}
 use Rattle.vx_calls.specs.declared.replies.Taken.TheVariants as seen
-use Rattle.vx_srq.specs.declared.ports.ChannelRow.{ChannelRow}
-use Rattle.vx_srq.specs.declared.ports.PortRow.{PortRow}
+use Rattle.vx_srq.specs.declared.slots.ChannelRow.{ChannelRow}
+use Rattle.vx_srq.specs.declared.slots.SlotRow.{SlotRow}
 use Rattle.vx_srq.specs.declared.enables.EnableRow.{EnableRow}
 use Rattle.vx_srq.specs.declared.srq.TheConstants.{OUTBOX_MAX}
-use Rattle.vx_srq.specs.Desk.{Channel, Port, Enable, Given, Front, Empty, Gone}
+use Rattle.vx_srq.specs.SrqState.{Channel, ChannelSlot, Enable, Given, Front, Empty, Gone}
 
 -- the bytes of a handle
 abbrev pub handle_shown : Handle → List ℕ
@@ -19,9 +19,9 @@ handle_shown h = h.bytes.items
 abbrev pub channel_shown : List Handle → ChannelRow → Channel
 channel_shown outbox c = record { number = c.chan; program = c.prog; version = c.vers; next_xid = c.xid; outbox = map handle_shown outbox }
 
--- the port that a row shows
-abbrev pub port_shown : PortRow → Port
-port_shown r = record { connection = r.conn; channel = option_map (channel_shown r.outbox.items) r.channel }
+-- the slot that a row shows
+abbrev pub slot_shown : SlotRow → ChannelSlot
+slot_shown r = record { connection = r.conn; channel = option_map (channel_shown r.outbox.items) r.channel }
 
 -- the enable that a row shows
 abbrev pub enable_shown : EnableRow → Enable
@@ -34,6 +34,6 @@ given_shown seen.Empty = Empty
 given_shown seen.Gone = Gone
 
 -- the room of an outbox stands, and no more than it takes waits in it
-pub record HasRoom (r : PortRow) : Type 0 where
+pub record HasRoom (r : SlotRow) : Type 0 where
   pub room : OUTBOX_MAX ≤ deque_capacity r.outbox
   pub few : length r.outbox.items ≤ OUTBOX_MAX

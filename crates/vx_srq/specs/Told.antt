@@ -1,10 +1,10 @@
 -- What is told of a channel.
-use Rattle.vx_srq.specs.declared.ports.ChannelRow.{ChannelRow}
+use Rattle.vx_srq.specs.declared.slots.ChannelRow.{ChannelRow}
 use Rattle.vx_srq.specs.declared.srq.Channel.{Channel}
-use Rattle.vx_srq.specs.Desk as desk
+use Rattle.vx_srq.specs.SrqState as srq_state
 
 -- a channel's number, program and version
-abbrev pub channel_told : desk.Channel → Channel
+abbrev pub channel_told : srq_state.Channel → Channel
 channel_told c = record { chan = c.number; prog = c.program; vers = c.version }
 
 -- the same of a row

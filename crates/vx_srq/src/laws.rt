@@ -1,4 +1,4 @@
-//! What holds of every desk, as contracts of functions that do nothing: a caller that cites a law calls its function.
+//! What holds of every state of service requests, as contracts of functions that do nothing: a caller that cites a law calls its function.
 
 ghost use Rattle.vx_srq.specs.Laws.{RiseQueues, RiseInOrder, SteadyQueuesNothing, SameLevelSame, ChannelBelow, NextIsNew, TakenHere, TakenElsewhere, ClosedHere, ClosedElsewhere, KeepsConnections, AddedRises, GoneRises};
 

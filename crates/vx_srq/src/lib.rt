@@ -4,7 +4,7 @@
 
 mod enables;
 mod laws;
-mod ports;
+mod slots;
 mod srq;
 
 pub use laws::{channel_law, connections_law, numbers_law, rise_law};

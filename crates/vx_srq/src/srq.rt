@@ -2,13 +2,13 @@ ghost use Rattle.std.specs.Prelude.{◌≡◌, ℕ, ◌<◌, ◌≤◌, ◌+◌,
 ghost use Rattle.std.specs.List.{list_any, All, AllPairs};
 ghost use Rattle.std.specs.Option.{option_map, IfSome};
 ghost use Rattle.vx_calls.specs.declared.limits.TheConstants.{LINK_MAX, CONNECTION_LAST};
-ghost use Rattle.vx_srq.specs.Desk as desk;
+ghost use Rattle.vx_srq.specs.SrqState as srq_state;
 ghost use Rattle.vx_srq.specs.Shown.{given_shown};
 ghost use Rattle.vx_srq.specs.Told.{channel_told, told_of};
 
 use crate::enables::{EnableRow, put};
-use crate::ports::{
-    ChannelRow, PortRow, close_channel, drop_front, find_port, front, has_port, open_channel, rise,
+use crate::slots::{
+    ChannelRow, SlotRow, close_channel, drop_front, find_slot, front, has_slot, open_channel, rise,
 };
 use std::alloc::Global;
 use std::collections::VecDeque;
@@ -34,26 +34,26 @@ pub struct Channel {
     pub vers: u32,
 }
 
-/// The interrupt channels, the enables of links and the level of SRQ. A contract sees them as a `Desk`: plain lists of
+/// The interrupt channels, the enables of links and the level of SRQ. A contract sees them as a `SrqState`: plain lists of
 /// connections and of enables, the number of the next channel, and the level at the last sample.
 ///
 /// `new` makes the room of all enables, and `add` that of a connection's outbox; no other call takes memory.
 #[derive(Debug, Drop)]
 pub struct Srq {
-    ports: Vec<PortRow>,
+    slots: Vec<SlotRow>,
     enables: Vec<EnableRow>,
     next: u32,
     level: bool,
 }
 
 impl Model for Srq {
-    ghost use Rattle.vx_srq.specs.Desk.{Desk};
+    ghost use Rattle.vx_srq.specs.SrqState.{SrqState};
 
-    ghost Value = { Desk };
+    ghost Value = { SrqState };
 
-    ghost use Rattle.vx_srq.specs.Inside.{desk_of, IsKept};
+    ghost use Rattle.vx_srq.specs.Inside.{srq_state_of, IsKept};
 
-    ghost view = { desk_of };
+    ghost view = { srq_state_of };
 
     ghost invariant = { IsKept };
 }
@@ -61,11 +61,11 @@ impl Model for Srq {
 impl Srq {
     /// No connection, no enable, no level, and first channel number 1.
     pub fn new(alloc: Global) -> Result<Srq, NoMemory>
-        ensures { IfOk result (λ srq. srq ≡ desk.empty) }
+        ensures { IfOk result (λ srq. srq ≡ srq_state.empty) }
     {
         match Vec::with_capacity(alloc, LINK_MAX as usize) {
             Ok(enables) => Ok(Srq {
-                ports: Vec::new(alloc),
+                slots: Vec::new(alloc),
                 enables,
                 next: 1,
                 level: false,
@@ -80,19 +80,19 @@ impl Srq {
     ///
     /// `NoMemory`; then nothing changed.
     pub fn add(&mut self, conn: u32) -> Result<(), NoMemory>
-        ensures added { OnOk result (self.new ≡ desk.with_port self.old conn) }
+        ensures added { OnOk result (self.new ≡ srq_state.with_slot self.old conn) }
         ensures err { OnErr result (self.new ≡ self.old) }
     {
-        let alloc = *self.ports.allocator();
+        let alloc = *self.slots.allocator();
         let Ok(outbox) = VecDeque::with_capacity(alloc, OUTBOX_MAX) else {
             return Err(NoMemory);
         };
-        let port = PortRow {
+        let slot = SlotRow {
             conn,
             channel: None,
             outbox,
         };
-        match self.ports.push(port) {
+        match self.slots.push(slot) {
             Ok(()) => Ok(()),
             Err(_) => Err(NoMemory),
         }
@@ -100,25 +100,25 @@ impl Srq {
 
     /// Whether the connection was added, and didn't go.
     pub fn is_added(&self, conn: u32) -> bool
-        ensures { result ≡ desk.is_added self.now conn }
+        ensures { result ≡ srq_state.is_added self.now conn }
     {
-        has_port(&self.ports, conn)
+        has_slot(&self.slots, conn)
     }
 
     /// The connection goes, and with it its channel and the enables of its links.
     pub fn gone(&mut self, conn: u32)
-        ensures { self.new ≡ desk.without_port self.old conn }
+        ensures { self.new ≡ srq_state.without_slot self.old conn }
     {
-        self.ports.retain(|port| port.conn != conn);
+        self.slots.retain(|slot| slot.conn != conn);
         self.enables.retain(|row| row.conn != conn);
     }
 
     /// The channel of the connection, where it has one.
     pub fn channel(&self, conn: u32) -> Option<Channel>
-        ensures { result ≡ option_map channel_told (desk.channel_at self.now conn) }
+        ensures { result ≡ option_map channel_told (srq_state.channel_at self.now conn) }
     {
-        match find_port(&self.ports, conn) {
-            Some(port) => told(port.channel),
+        match find_slot(&self.slots, conn) {
+            Some(slot) => told(slot.channel),
             None => None,
         }
     }
@@ -130,12 +130,12 @@ impl Srq {
     ///
     /// `NoNumber` exactly where `has_number` answers false; then nothing changes.
     pub fn make(&mut self, conn: u32, prog: u32, vers: u32) -> Result<u32, NoNumber>
-        requires added { desk.is_added self.old conn ≡ true }
-        requires none { is_some (desk.channel_at self.old conn) ≡ false }
-        ensures made { OnOk result (self.new ≡ desk.with_new_channel self.old conn prog vers) }
+        requires added { srq_state.is_added self.old conn ≡ true }
+        requires none { is_some (srq_state.channel_at self.old conn) ≡ false }
+        ensures made { OnOk result (self.new ≡ srq_state.with_new_channel self.old conn prog vers) }
         ensures number { IfOk result (λ chan. chan ≡ self.old.next_channel) }
         ensures range { IfOk result (λ chan. (0 < chan) × (chan ≤ CONNECTION_LAST)) }
-        ensures left { is_ok result ≡ desk.has_number self.old }
+        ensures left { is_ok result ≡ srq_state.has_number self.old }
         ensures err { OnErr result (self.new ≡ self.old) }
     {
         if !self.has_number() {
@@ -148,14 +148,14 @@ impl Srq {
             vers,
             xid: 1,
         };
-        open_channel(&mut self.ports, conn, channel);
+        open_channel(&mut self.slots, conn, channel);
         self.next += 1;
         Ok(chan)
     }
 
     /// Whether a channel number is left: fewer than 2^31 - 1 were given out.
     pub fn has_number(&self) -> bool
-        ensures { result ≡ desk.has_number self.now }
+        ensures { result ≡ srq_state.has_number self.now }
     {
         self.next <= CONNECTION_LAST
     }
@@ -177,20 +177,20 @@ impl Srq {
 
     /// The connection's channel goes, with its outbox. Answers whether there was one. The enables of links stay.
     pub fn close(&mut self, conn: u32) -> bool
-        ensures open { result ≡ is_some (desk.channel_at self.old conn) }
-        ensures closed { self.new ≡ desk.with_channel self.old conn None }
+        ensures open { result ≡ is_some (srq_state.channel_at self.old conn) }
+        ensures closed { self.new ≡ srq_state.with_channel self.old conn None }
     {
         let open = self.channel(conn).is_some();
-        close_channel(&mut self.ports, conn);
+        close_channel(&mut self.slots, conn);
         open
     }
 
     /// The enable of a link of this connection, in place of its earlier one. The connection was added, and fewer than
     /// 256 other links have an entry.
     pub fn enable(&mut self, conn: u32, lid: u32, on: bool, handle: Handle)
-        requires added { desk.is_added self.old conn ≡ true }
+        requires added { srq_state.is_added self.old conn ≡ true }
         requires room { length (filter (λ e. not (e.link == lid)) self.old.enables) < LINK_MAX }
-        ensures { self.new ≡ desk.with_enable self.old (record { link = lid; connection = conn; on = on; handle = handle.bytes.items }) }
+        ensures { self.new ≡ srq_state.with_enable self.old (record { link = lid; connection = conn; on = on; handle = handle.bytes.items }) }
     {
         put(
             &mut self.enables,
@@ -212,7 +212,7 @@ impl Srq {
 
     /// The enable of a link goes.
     pub fn forget(&mut self, lid: u32)
-        ensures { self.new ≡ desk.without_enable self.old lid }
+        ensures { self.new ≡ srq_state.without_enable self.old lid }
     {
         self.enables.retain(|row| row.lid != lid);
     }
@@ -221,10 +221,10 @@ impl Srq {
     /// connection's enabled links, in order of the links' numbers; one whose outbox would go above 1,024 is closed
     /// instead.
     pub fn sample(&mut self, level: bool)
-        ensures { self.new ≡ desk.sampled self.old level }
+        ensures { self.new ≡ srq_state.sampled self.old level }
     {
         if level && !self.level {
-            rise(&mut self.ports, &self.enables);
+            rise(&mut self.slots, &self.enables);
         }
         self.level = level;
     }
@@ -233,30 +233,30 @@ impl Srq {
     /// is 1 for the first take of a channel and one more for each next one, modulo 2^32. `Gone` exactly where the
     /// connection has no channel of this number, `Empty` exactly where nothing waits.
     pub fn take(&mut self, conn: u32, chan: u32) -> Taken
-        ensures given { given_shown result ≡ desk.given self.old conn chan }
-        ensures taken { self.new ≡ desk.taken self.old conn chan }
+        ensures given { given_shown result ≡ srq_state.given self.old conn chan }
+        ensures taken { self.new ≡ srq_state.taken self.old conn chan }
     {
-        let taken = front(&self.ports, conn, chan);
-        drop_front(&mut self.ports, conn, chan);
+        let taken = front(&self.slots, conn, chan);
+        drop_front(&mut self.slots, conn, chan);
         taken
     }
 
     /// What a take from the connection's channel of this number would give. Nothing changes.
     pub fn given(&self, conn: u32, chan: u32) -> Taken
-        ensures { given_shown result ≡ desk.given self.now conn chan }
+        ensures { given_shown result ≡ srq_state.given self.now conn chan }
     {
-        front(&self.ports, conn, chan)
+        front(&self.slots, conn, chan)
     }
 
-    /// What holds of every desk: links and their enables rise in number, and at most 256 have one; an outbox has at most
+    /// What holds of every state of service requests: links and their enables rise in number, and at most 256 have one; an outbox has at most
     /// 1,024 interrupts; each channel's number was given out, and the next one was not. It does nothing when it runs.
     pub fn is_sound(&self)
-        ensures links { desk.LinksRise self.now.enables }
+        ensures links { srq_state.LinksRise self.now.enables }
         ensures few { length self.now.enables ≤ LINK_MAX }
-        ensures channels { All (desk.HasChannelBelow self.now.next_channel) self.now.ports }
+        ensures channels { All (srq_state.HasChannelBelow self.now.next_channel) self.now.slots }
         ensures next { (0 < self.now.next_channel) × (self.now.next_channel ≤ CONNECTION_LAST + 1) }
     {
-        let _ = &self.ports;
+        let _ = &self.slots;
     }
 }
 

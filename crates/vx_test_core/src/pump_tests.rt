@@ -7,8 +7,8 @@ ghost use Rattle.vx_rules.specs.One.{may_wait};
 ghost use Rattle.vx_rules.specs.Held.{IsShort};
 ghost use Rattle.vx_message.specs.declared.record.TheConstants.{REPLY_ROOM};
 ghost use Rattle.vx_gate.specs.Gates.{gate_of};
-ghost use Rattle.vx_group.specs.Seats.{Idle};
-ghost use Rattle.vx_turns.specs.Turning.{seat_at};
+ghost use Rattle.vx_group.specs.Phases.{Idle};
+ghost use Rattle.vx_turns.specs.Turning.{phase_at};
 
 use crate::gateways::{PORT, Pauses, are_words};
 use arrayvec::ArrayVec;
@@ -84,12 +84,12 @@ fn ask<R: Wait, B: Bus, T: Turns<Core<B>>>(
     reply: &mut [u8],
 ) -> Option<Pass<Core<B>>>
     requires gate { pass.gate ≡ T.gate turns.now }
-    requires seat { seat_at pass conn ≡ Idle role.Core }
+    requires phase { phase_at pass conn ≡ Idle role.Core }
     requires waits { may_wait (call_shown call.now) ≡ true }
     requires short { IsShort (call_shown call.now) }
     requires room { REPLY_ROOM ≤ length reply.old }
     ensures gate { IfSome result (λ p. p.gate ≡ T.gate turns.now) }
-    ensures seat { IfSome result (λ p. seat_at p conn ≡ Idle role.Core) }
+    ensures phase { IfSome result (λ p. phase_at p conn ≡ Idle role.Core) }
     ensures len { length reply.new ≡ length reply.old }
 {
     match come(rt, turns, pass, conn, 1, call, 0, reply) {
@@ -107,10 +107,10 @@ fn make_channel<R: Wait, B: Bus, T: Turns<Core<B>>>(
     reply: &mut [u8],
 ) -> Option<Pass<Core<B>>>
     requires gate { pass.gate ≡ T.gate turns.now }
-    requires seat { seat_at pass conn ≡ Idle role.Core }
+    requires phase { phase_at pass conn ≡ Idle role.Core }
     requires room { REPLY_ROOM ≤ length reply.old }
     ensures gate { IfSome result (λ p. p.gate ≡ T.gate turns.now) }
-    ensures seat { IfSome result (λ p. seat_at p conn ≡ Idle role.Core) }
+    ensures phase { IfSome result (λ p. phase_at p conn ≡ Idle role.Core) }
     ensures len { length reply.new ≡ length reply.old }
 {
     let channel = CallRef::CreateIntr {
@@ -137,10 +137,10 @@ fn make_link<R: Wait, B: Bus, T: Turns<Core<B>>>(
     reply: &mut [u8],
 ) -> Option<Pass<Core<B>>>
     requires gate { pass.gate ≡ T.gate turns.now }
-    requires seat { seat_at pass conn ≡ Idle role.Core }
+    requires phase { phase_at pass conn ≡ Idle role.Core }
     requires room { REPLY_ROOM ≤ length reply.old }
     ensures gate { IfSome result (λ p. p.gate ≡ T.gate turns.now) }
-    ensures seat { IfSome result (λ p. seat_at p conn ≡ Idle role.Core) }
+    ensures phase { IfSome result (λ p. phase_at p conn ≡ Idle role.Core) }
     ensures len { length reply.new ≡ length reply.old }
 {
     let link = CallRef::CreateLink {

@@ -190,7 +190,7 @@ fn holds(srq: &mut Srq, step: &Step) -> bool {
     }
 }
 
-/// The place of the first call on a new desk that answers otherwise.
+/// The place of the first call on a new state of service requests that answers otherwise.
 fn first_wrong(alloc: Global, steps: &[Step]) -> Result<Option<usize>, NoMemory> {
     let mut srq = Srq::new(alloc)?;
     Ok(steps.iter().position(|step| !holds(&mut srq, step)))

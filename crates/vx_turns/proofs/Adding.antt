@@ -8,7 +8,7 @@ use Rattle.vx_calls.specs.declared.calls.Role.TheVariants as role
 use Rattle.vx_calls.specs.Call.{Call}
 use Rattle.vx_488.specs.declared.transfers.Transfer.{Transfer}
 use Rattle.vx_bus_traits.specs.Means.{Means}
-use Rattle.vx_srq.specs.Desk.{Given, Gone}
+use Rattle.vx_srq.specs.SrqState.{Given, Gone}
 use Rattle.vx_rules.specs.Lists.{along}
 use Rattle.vx_rules.specs.State.{Connection, Tables, connection_at, role_at, pending_at}
 use Rattle.vx_rules.specs.One.{arrived}

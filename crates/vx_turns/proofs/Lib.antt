@@ -1,6 +1,6 @@
 pub mod Moments
 pub mod Adding
-pub mod Seated
+pub mod Phased
 pub mod Owned
 pub mod Making
 pub mod Outcomes

@@ -3,7 +3,7 @@ use Rattle.std.proofs.Common.{◌≡◌, ◌≤◌, ◌<◌, ◌⊎◌, inl, inr
 use Rattle.std.specs.List.{All}
 use Rattle.std.proofs.lemmas.Bool.{cases_lt}
 use Rattle.std.proofs.lemmas.List.Elements.{All-nil, All-cons, All-weaker}
-use Rattle.vx_gate.specs.declared.views.Made.{Made}
+use Rattle.vx_gate.specs.declared.views.Logged.{Logged}
 use Rattle.vx_gate.specs.History.{groups}
 use Rattle.vx_gate.specs.PassView.{PassView}
 use Rattle.vx_gate.specs.Turning.{Turned}
@@ -27,7 +27,7 @@ max-told kept told = by (cases_lt kept told) where
   by (inr ge) = inl (omega arith)
 
 -- a group of events at a moment that is one of the two, after which the gateway is at that moment
-timely : (told now : ℕ) (log : List (Made Group)) (f g : FineState) (events : List Event) → StandsFor f (groups log) → All (IsAt now) events
+timely : (told now : ℕ) (log : List (Logged Group)) (f g : FineState) (events : List Event) → StandsFor f (groups log) → All (IsAt now) events
     → g.state.moment ≡ now → IsTold f.state.moment told now → IsTimely told (record { before = log; group = group_after f events g.state.moment })
 timely told now log f g events stands at now_is is_told =
     let kept = last_moment (groups log) in
@@ -39,12 +39,12 @@ timely told now log f g events stands at now_is is_told =
     }
 
 -- one at the greater of the two
-pub timely-now : (told : ℕ) (log : List (Made Group)) (f g : FineState) (events : List Event) → StandsFor f (groups log) → All (IsAt (max f.state.moment told)) events
+pub timely-now : (told : ℕ) (log : List (Logged Group)) (f g : FineState) (events : List Event) → StandsFor f (groups log) → All (IsAt (max f.state.moment told)) events
     → g.state.moment ≡ max f.state.moment told → IsTimely told (record { before = log; group = group_after f events g.state.moment })
 timely-now told log f g events stands at now_is = timely told (max f.state.moment told) log f g events stands at now_is (max-told f.state.moment told)
 
 -- and one that leaves the moment that is kept
-pub timely-still : (log : List (Made Group)) (f g : FineState) (events : List Event) → StandsFor f (groups log) → All (IsAt f.state.moment) events
+pub timely-still : (log : List (Logged Group)) (f g : FineState) (events : List Event) → StandsFor f (groups log) → All (IsAt f.state.moment) events
     → g.state.moment ≡ f.state.moment → IsTimely 0 (record { before = log; group = group_after f events g.state.moment })
 timely-still log f g events stands at same = timely 0 f.state.moment log f g events stands at same (inl refl)
 

@@ -3,7 +3,7 @@ use Rattle.std.proofs.Common.{◌≡◌, ◌++◌, ℕ, max, Bool, List, [], ◌
 use Rattle.std.proofs.lemmas.Option.{same_Some}
 use Rattle.vx_calls.specs.Call.{Call}
 use Rattle.vx_bus_traits.specs.Means.{Means}
-use Rattle.vx_gate.specs.declared.views.Made.{Made}
+use Rattle.vx_gate.specs.declared.views.Logged.{Logged}
 use Rattle.vx_gate.specs.History.{groups}
 use Rattle.vx_gate.specs.PassView.{PassView}
 use Rattle.vx_gate.specs.Turning.{Fits}
@@ -13,18 +13,18 @@ use Rattle.vx_flow.specs.FineState.{FineState}
 use Rattle.vx_flow.specs.Poll.{Ending, Answered, Waited, Dialed, EndsBy}
 use Rattle.vx_kernel.specs.CoreState.{CoreState}
 use Rattle.vx_group.specs.Groups.{Group, StandsFor}
-use Rattle.vx_group.specs.Seats.{Asked, seat_along}
+use Rattle.vx_group.specs.Phases.{Asked, phase_along}
 use Rattle.vx_group.specs.Owning.{MayAdd}
-use Rattle.vx_history.specs.Laws.{group_after, SeatsLaw}
+use Rattle.vx_history.specs.Laws.{group_after, PhaseLaw}
 use Rattle.vx_turns.specs.declared.acts.PollEnd.{PollEnd}
 use Rattle.vx_turns.specs.Placing.{Placed, IsTimely}
 use Rattle.vx_turns.specs.Parts.{DialsFor}
 use Rattle.vx_turns.specs.Acting.{Says, PollDid, ComeDid, last_ending, poll_events, come_events, come_to}
-use Rattle.vx_turns.specs.Turning.{seat_at, Turns, Comes, PollsAgain}
+use Rattle.vx_turns.specs.Turning.{phase_at, Turns, Comes, PollsAgain}
 use Rattle.vx_turns.proofs.Moments.{poll-at, come-at}
 use Rattle.vx_turns.proofs.Adding.{polls-moment, arrive-pending}
-use Rattle.vx_turns.proofs.Seated.{seat-more, poll-part, seat-part, seat-comes}
-use Rattle.vx_turns.proofs.Owned.{own-seat}
+use Rattle.vx_turns.proofs.Phased.{phase-more, poll-part, phase-part, phase-comes}
+use Rattle.vx_turns.proofs.Owned.{own-phase}
 use Rattle.vx_turns.proofs.Making.{timely-now}
 
 -- a dial that is asked for is the one of the call
@@ -53,23 +53,23 @@ poll-tells {B} means f conn now xid call room end core' p did at is =
       moment = polls-moment f core'.fine conn now (means core'.bus).moves ending did.polls;
     }
 
-module _ {B : Type 0} (means : B → Means) (told : ℕ) (pass pass' : PassView Group) (log : List (Made Group)) (core core' : CoreState B) (conn xid : ℕ) (room : List ℕ) (end : PollEnd) where
+module _ {B : Type 0} (means : B → Means) (told : ℕ) (pass pass' : PassView Group) (log : List (Logged Group)) (core core' : CoreState B) (conn xid : ℕ) (room : List ℕ) (end : PollEnd) where
   -- a turn that polls a call again
-  pub polls-again : SeatsLaw → (call : Call) (dialed : Bool) → Fits MayAdd pass log → StandsFor core.fine (groups log)
+  pub polls-again : PhaseLaw → (call : Call) (dialed : Bool) → Fits MayAdd pass log → StandsFor core.fine (groups log)
       → PollDid means core.fine conn (max core.fine.state.moment told) xid room end core'
       → let events = poll_events core.fine conn (max core.fine.state.moment told) (means core'.bus).moves (last_ending core'.last) in
       let group = group_after core.fine events core'.fine.state.moment in
       let placed : Placed = record { before = log; group = group } in
       pass'.own ≡ pass.own ++ group ∷ [] → (IsTimely told placed → Turns told pass placed pass')
-      → seat_at pass conn ≡ Asked call dialed → PollsAgain told pass conn xid call dialed room end pass'
-  polls-again law call dialed fits stands did own turns seat =
+      → phase_at pass conn ≡ Asked call dialed → PollsAgain told pass conn xid call dialed room end pass'
+  polls-again law call dialed fits stands did own turns phase =
       let f = core.fine in
       let now = max f.state.moment told in
       let moves = (means core'.bus).moves in
       let ending = last_ending core'.last in
       let events = poll_events f conn now moves ending in
       let group = group_after f events core'.fine.state.moment in
-      let asked = (own-seat law pass log f conn (Asked call dialed) fits stands seat).1 in
+      let asked = (own-phase law pass log f conn (Asked call dialed) fits stands phase).1 in
       let tells = poll-tells means f conn now xid call room end core' asked.pending did asked.call_at asked.call_is in
       let part = poll-part f conn now moves ending in
       record {
@@ -80,7 +80,7 @@ module _ {B : Type 0} (means : B → Means) (told : ℕ) (pass pass' : PassView 
         is_part = part;
         dials = tells.dials;
         says = tells.says;
-        seat = seat-more pass.own pass'.own group conn own ∙ ap (λ s. seat_along conn s events) seat ∙ seat-part conn now call dialed ending events part;
+        phase = phase-more pass.own pass'.own group conn own ∙ ap (λ s. phase_along conn s events) phase ∙ phase-part conn now call dialed ending events part;
       }
 
   -- a turn in which a call comes, and is polled
@@ -112,5 +112,5 @@ module _ {B : Type 0} (means : B → Means) (told : ℕ) (pass pass' : PassView 
         is_part = part;
         dials = tells.dials;
         says = tells.says;
-        seat = seat-more pass.own pass'.own group conn own ∙ seat-comes conn now (seat_at pass conn) call ending polled part;
+        phase = phase-more pass.own pass'.own group conn own ∙ phase-comes conn now (phase_at pass conn) call ending polled part;
       }

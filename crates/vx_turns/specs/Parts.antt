@@ -8,7 +8,7 @@ use Rattle.vx_488.specs.declared.transfers.Transfer.{Transfer}
 use Rattle.vx_rules.specs.Dials.{dials_to}
 use Rattle.vx_flow.specs.Event.{Event, Answer, Begin}
 use Rattle.vx_flow.specs.Poll.{Ending, Answered, Waited, Dialed, moved_events, end_events}
-use Rattle.vx_group.specs.Seats.{Seat, Idle, Asked}
+use Rattle.vx_group.specs.Phases.{Phase, Idle, Asked}
 
 -- A poll at this moment that ended so: it began its call's turn or not, the turn made transfers or not, and then the call was
 -- answered, a dial was asked for, or neither.
@@ -23,11 +23,11 @@ DialsFor call (Dialed host port) = dials_to call ≡ (host, port)
 DialsFor call (Answered ran level told) = Unit {0}
 DialsFor call (Waited why) = Unit {0}
 
--- the seat of a connection behind a poll of this call, of which a dial had been asked for before or not
-abbrev pub seat_behind : Call → Bool → Ending → Seat
-seat_behind call dialed (Answered ran level told) = Idle role.Core
-seat_behind call dialed (Waited why) = Asked call dialed
-seat_behind call dialed (Dialed host port) = Asked call true
+-- the phase of a connection behind a poll of this call, of which a dial had been asked for before or not
+abbrev pub phase_behind : Call → Bool → Ending → Phase
+phase_behind call dialed (Answered ran level told) = Idle role.Core
+phase_behind call dialed (Waited why) = Asked call dialed
+phase_behind call dialed (Dialed host port) = Asked call true
 
 -- the answer of a call whose dial was made, or failed
 abbrev pub settled_events : ℕ → ℕ → Bool → ErrorCode → List Event

@@ -2,7 +2,7 @@
 use Rattle.std.specs.Prelude.{◌≡◌, ◌≤◌, ◌⊎◌, ℕ, List, [], ◌∷◌, ◌++◌, map, Some}
 use Rattle.std.specs.List.{All}
 use mathlib.Core.List.{IsPrefix}
-use Rattle.vx_gate.specs.declared.views.Made.{Made}
+use Rattle.vx_gate.specs.declared.views.Logged.{Logged}
 use Rattle.vx_gate.specs.History.{made, groups, made_by, Lawful}
 use Rattle.vx_gate.specs.PassView.{PassView}
 use Rattle.vx_flow.specs.FineState.{FineState}
@@ -11,15 +11,15 @@ use Rattle.vx_group.specs.Owning.{MayAdd}
 
 -- a group, and the history before it
 pub record Placed : Type 0 where
-  pub before : List (Made Group)
+  pub before : List (Logged Group)
   pub group : Group
 
 -- the history up to and with the group, which the pass of this number made
-abbrev pub behind : ℕ → Placed → List (Made Group)
+abbrev pub behind : ℕ → Placed → List (Logged Group)
 behind number p = p.before ++ made number p.group ∷ []
 
 -- A pass of this number that had seen `seen` made these groups, one after the other, and no other; it has now seen `seen'`.
-abbrev pub Chain : ℕ → List (Made Group) → List Placed → List (Made Group) → Type 0
+abbrev pub Chain : ℕ → List (Logged Group) → List Placed → List (Logged Group) → Type 0
 Chain number seen [] seen' = seen' ≡ seen
 Chain number seen (p ∷ ps) seen' =
     IsPrefix seen p.before × (made_by number p.before ≡ made_by number seen) × Chain number (behind number p) ps seen'
@@ -44,7 +44,7 @@ pub record Makes (told : ℕ) (pass : PassView Group) (placed : List Placed) (pa
 
 -- What a pass has seen is a beginning of a gateway's history: a state stands for it, and each of its groups is one that its
 -- pass could add.
-pub record IsHistory (seen : List (Made Group)) : Type 0 where
+pub record IsHistory (seen : List (Logged Group)) : Type 0 where
   pub state : FineState
   pub stands : StandsFor state (groups seen)
   pub lawful : Lawful MayAdd seen

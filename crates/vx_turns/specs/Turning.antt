@@ -1,14 +1,14 @@
--- What a turn of a connection tells: the group that it adds, and the connection's seat behind it.
+-- What a turn of a connection tells: the group that it adds, and the connection's phase behind it.
 use Rattle.std.specs.Prelude.{◌≡◌, ℕ, Bool, true, false, List, [], ◌∷◌, if◌then◌else◌, Option, Some, None, Result, Ok, Err, option_map}
 use Rattle.vx_calls.specs.declared.calls.Role.{Role}
 use Rattle.vx_calls.specs.declared.calls.Role.TheVariants as role
 use Rattle.vx_calls.specs.declared.codes.ErrorCode.{ErrorCode}
 use Rattle.vx_calls.specs.declared.codes.ErrorCode.TheVariants as code
 use Rattle.vx_calls.specs.Call.{Call}
-use Rattle.vx_gate.specs.declared.views.Made.{Made}
+use Rattle.vx_gate.specs.declared.views.Logged.{Logged}
 use Rattle.vx_gate.specs.History.{groups}
 use Rattle.vx_gate.specs.PassView.{PassView}
-use Rattle.vx_srq.specs.Desk.{Given, Gone, channel_at}
+use Rattle.vx_srq.specs.SrqState.{Given, Gone, channel_at}
 use Rattle.vx_rules.specs.State.{connection_at, has_room}
 use Rattle.vx_rules.specs.declared.tables.Connect.{Connect}
 use Rattle.vx_rules.specs.declared.tables.Connect.TheVariants as connect
@@ -16,15 +16,15 @@ use Rattle.vx_flow.specs.Event.{Event, Down, Arrive, Abort, Sample, Take}
 use Rattle.vx_flow.specs.FineState.{FineState}
 use Rattle.vx_flow.specs.Poll.{Ending}
 use Rattle.vx_group.specs.Groups.{Group, events_of, StandsFor}
-use Rattle.vx_group.specs.Seats.{Seat, Idle, seat_by}
+use Rattle.vx_group.specs.Phases.{Phase, Idle, phase_by}
 use Rattle.vx_turns.specs.Placing.{Placed, Makes, IsHistory, behind}
-use Rattle.vx_turns.specs.Parts.{IsPollPart, DialsFor, seat_behind, settled_events}
+use Rattle.vx_turns.specs.Parts.{IsPollPart, DialsFor, phase_behind, settled_events}
 use Rattle.vx_turns.specs.Acting.{Says, connect_events}
 use Rattle.vx_turns.specs.declared.acts.PollEnd.{PollEnd}
 
 -- what the groups that a pass made tell of a connection
-abbrev pub seat_at : PassView Group → ℕ → Seat
-seat_at pass conn = seat_by conn (events_of pass.own)
+abbrev pub phase_at : PassView Group → ℕ → Phase
+phase_at pass conn = phase_by conn (events_of pass.own)
 
 -- a turn added this group to what the pass had seen
 pub record Turns (told : ℕ) (pass : PassView Group) (placed : Placed) (pass' : PassView Group) : Type 0 where
@@ -42,7 +42,7 @@ pub record Comes (told : ℕ) (pass : PassView Group) (conn xid : ℕ) (call : C
   pub is_part : IsPollPart conn now ending part
   pub dials : DialsFor call ending
   pub says : Says xid room end ending
-  pub seat : seat_at pass' conn ≡ seat_behind call false ending
+  pub phase : phase_at pass' conn ≡ phase_behind call false ending
 
 -- its call was polled again
 pub record PollsAgain (told : ℕ) (pass : PassView Group) (conn xid : ℕ) (call : Call) (dialed : Bool) (room : List ℕ) (end : PollEnd) (pass' : PassView Group) : Type 0 where
@@ -53,16 +53,16 @@ pub record PollsAgain (told : ℕ) (pass : PassView Group) (conn xid : ℕ) (cal
   pub is_part : IsPollPart conn now ending placed.group.events
   pub dials : DialsFor call ending
   pub says : Says xid room end ending
-  pub seat : seat_at pass' conn ≡ seat_behind call dialed ending
+  pub phase : phase_at pass' conn ≡ phase_behind call dialed ending
 
 -- the state that stands for a history has this as the connection's channel
-pub record HasChannel (seen : List (Made Group)) (conn chan : ℕ) : Type 0 where
+pub record HasChannel (seen : List (Logged Group)) (conn chan : ℕ) : Type 0 where
   pub state : FineState
   pub stands : StandsFor state (groups seen)
-  pub channel : option_map (λ c. c.number) (channel_at state.state.tables.desk conn) ≡ Some chan
+  pub channel : option_map (λ c. c.number) (channel_at state.state.tables.srq_state conn) ≡ Some chan
 
 -- the channel of a dial that came up
-abbrev pub IsChannel : List (Made Group) → ℕ → Bool → Option ℕ → Type 0
+abbrev pub IsChannel : List (Logged Group) → ℕ → Bool → Option ℕ → Type 0
 IsChannel seen conn true (Some chan) = HasChannel seen conn chan
 IsChannel seen conn true None = ⊥
 IsChannel seen conn false chan = chan ≡ None
@@ -75,14 +75,14 @@ pub record Settles (told : ℕ) (pass : PassView Group) (conn : ℕ) (up : Bool)
   pub events : placed.group.events ≡ settled_events conn now up error
   pub error_is : error ≡ (if up then code.Ok else code.NoChannel)
   pub chan_is : IsChannel (behind pass.number placed) conn up chan
-  pub seat : seat_at pass' conn ≡ Idle role.Core
+  pub phase : phase_at pass' conn ≡ Idle role.Core
 
 -- it told its device_abort of this link
 pub record Aborts (pass : PassView Group) (conn lid : ℕ) (error : ErrorCode) (pass' : PassView Group) : Type 0 where
   pub placed : Placed
   pub turns : Turns 0 pass placed pass'
   pub events : placed.group.events ≡ Abort conn lid error ∷ []
-  pub seat : seat_at pass' conn ≡ Idle role.Abort
+  pub phase : phase_at pass' conn ≡ Idle role.Abort
 
 -- it went
 pub record Leaves (pass : PassView Group) (conn : ℕ) (pass' : PassView Group) : Type 0 where
@@ -91,14 +91,14 @@ pub record Leaves (pass : PassView Group) (conn : ℕ) (pass' : PassView Group) 
   pub events : placed.group.events ≡ Down conn ∷ []
 
 -- a state that stands for a history has no room for one more connection of this role
-pub record HasNoRoom (seen : List (Made Group)) (r : Role) : Type 0 where
+pub record HasNoRoom (seen : List (Logged Group)) (r : Role) : Type 0 where
   pub state : FineState
   pub stands : StandsFor state (groups seen)
   pub full : has_room state.state.tables r ≡ false
 
 -- a connection of this role came up; or none did, and where memory didn't run out there was no room for it
 abbrev pub HasCome : PassView Group → Role → Placed → Result ℕ Connect → PassView Group → Type 0
-HasCome pass r placed (Ok conn) pass' = seat_at pass' conn ≡ Idle r
+HasCome pass r placed (Ok conn) pass' = phase_at pass' conn ≡ Idle r
 HasCome pass r placed (Err connect.Full) pass' = HasNoRoom placed.before r
 HasCome pass r placed (Err connect.NoMemory) pass' = Unit {0}
 
@@ -117,13 +117,13 @@ pub record Samples (told : ℕ) (pass : PassView Group) (pass' : PassView Group)
   pub events : placed.group.events ≡ Sample now level ∷ []
 
 -- a state that stands for a history has the connection not up
-pub record IsNotUp (seen : List (Made Group)) (conn : ℕ) : Type 0 where
+pub record IsNotUp (seen : List (Logged Group)) (conn : ℕ) : Type 0 where
   pub state : FineState
   pub stands : StandsFor state (groups seen)
   pub absent : connection_at state.state.tables conn ≡ None
 
 -- an interrupt was taken from the connection's channel, or told as none; or the connection isn't up, and nothing happened
-abbrev pub TakesFrom : List (Made Group) → ℕ → ℕ → Given → List Event → Type 0
+abbrev pub TakesFrom : List (Logged Group) → ℕ → ℕ → Given → List Event → Type 0
 TakesFrom seen conn chan given (Take c n g ∷ []) = (c ≡ conn) × (n ≡ chan) × (g ≡ given)
 TakesFrom seen conn chan given [] = (given ≡ Gone) × IsNotUp seen conn
 TakesFrom seen conn chan given _ = ⊥

@@ -5,7 +5,7 @@ ghost use Rattle.vx_calls.specs.declared.calls.Role.TheVariants as role;
 ghost use Rattle.vx_calls.specs.declared.codes.ErrorCode.TheVariants as code;
 ghost use Rattle.vx_calls.specs.Call.{call_shown};
 ghost use Rattle.vx_calls.specs.Reply as reply;
-ghost use Rattle.vx_srq.specs.Desk.{channel_at};
+ghost use Rattle.vx_srq.specs.SrqState.{channel_at};
 ghost use Rattle.vx_srq.specs.Shown.{given_shown};
 ghost use Rattle.vx_rules.specs.State.{connection_at, pending_at, is_idle, lives_as};
 ghost use Rattle.vx_rules.specs.One.{may_wait};
@@ -123,7 +123,7 @@ impl<B: Bus> Act<Core<B>> for Settle {
 
     ghost does = { λ act core answer act' core'. (fine core.fine (Answer act.conn (max core.fine.state.moment act.now) false (Some act.up) false (reply.Error answer.error)) ≡ Some core'.fine)
         × (answer.error ≡ (if act.up then code.Ok else code.NoChannel))
-        × (answer.chan ≡ (if act.up then option_map (λ c. c.number) (channel_at core'.fine.state.tables.desk act.conn) else None)) };
+        × (answer.chan ≡ (if act.up then option_map (λ c. c.number) (channel_at core'.fine.state.tables.srq_state act.conn) else None)) };
 
     ghost adds = { λ act core answer act' core'. group_after core.fine
         (settled_events act.conn (max core.fine.state.moment act.now) act.up answer.error) core'.fine.state.moment };

@@ -6,8 +6,8 @@ ghost use Rattle.vx_srq.specs.Shown.{given_shown};
 ghost use Rattle.vx_rules.specs.One.{may_wait};
 ghost use Rattle.vx_rules.specs.Held.{IsShort};
 ghost use Rattle.vx_message.specs.declared.record.TheConstants.{REPLY_ROOM};
-ghost use Rattle.vx_group.specs.Seats.{Idle, Asked, is_up};
-ghost use Rattle.vx_turns.specs.Turning.{seat_at, Comes, PollsAgain, Settles, Aborts, Leaves, Joins, Samples, TakesTurn};
+ghost use Rattle.vx_group.specs.Phases.{Idle, Asked, is_up};
+ghost use Rattle.vx_turns.specs.Turning.{phase_at, Comes, PollsAgain, Settles, Aborts, Leaves, Joins, Samples, TakesTurn};
 
 use crate::acts::{AbortLink, Again, Come, ConnectAs, Leave, PollEnd, SampleAt, Settle, TakeFrom};
 use std::alloc::Global;
@@ -16,7 +16,7 @@ use vx_bus_traits::Bus;
 use vx_calls::{CallRef, ErrorCode, Role, Taken};
 use vx_core::{Connect, Core, Settled};
 use vx_gate::{Pass, Turns};
-use vx_history::seats_law;
+use vx_history::phase_law;
 
 /// A call comes on an idle core connection of the pass, and is polled, both in one turn. The record of its reply, where it is
 /// answered, stands at the front of `reply` then. Like each turn here it waits for its place at the gate.
@@ -31,14 +31,14 @@ pub fn come<R: Wait, B: Bus, T: Turns<Core<B>>>(
     reply: &mut [u8],
 ) -> (Pass<Core<B>>, PollEnd)
     requires gate { pass.gate ≡ T.gate turns.now }
-    requires seat { seat_at pass conn ≡ Idle role.Core }
+    requires phase { phase_at pass conn ≡ Idle role.Core }
     requires waits { may_wait (call_shown call.now) ≡ true }
     requires short { IsShort (call_shown call.now) }
     requires room { REPLY_ROOM ≤ length reply.old }
     ensures comes { Comes now pass conn xid (call_shown call.now) reply.new result.1 result.0 }
     ensures len { length reply.new ≡ length reply.old }
 {
-    seats_law();
+    phase_law();
     let mut act = Come {
         conn,
         xid,
@@ -60,12 +60,12 @@ pub fn poll_again<R: Wait, B: Bus, T: Turns<Core<B>>>(
     reply: &mut [u8],
 ) -> (Pass<Core<B>>, PollEnd)
     requires gate { pass.gate ≡ T.gate turns.now }
-    requires seat { (call : Call) × (dialed : Bool) × (seat_at pass conn ≡ Asked call dialed) }
+    requires phase { (call : Call) × (dialed : Bool) × (phase_at pass conn ≡ Asked call dialed) }
     requires room { REPLY_ROOM ≤ length reply.old }
-    ensures polls { (call : Call) (dialed : Bool) → seat_at pass conn ≡ Asked call dialed → PollsAgain now pass conn xid call dialed reply.new result.1 result.0 }
+    ensures polls { (call : Call) (dialed : Bool) → phase_at pass conn ≡ Asked call dialed → PollsAgain now pass conn xid call dialed reply.new result.1 result.0 }
     ensures len { length reply.new ≡ length reply.old }
 {
-    seats_law();
+    phase_law();
     let mut act = Again {
         conn,
         xid,
@@ -85,10 +85,10 @@ pub fn settle<R: Wait, B: Bus, T: Turns<Core<B>>>(
     now: u64,
 ) -> (Pass<Core<B>>, Settled)
     requires gate { pass.gate ≡ T.gate turns.now }
-    requires seat { (call : Call) × (seat_at pass conn ≡ Asked call true) }
+    requires phase { (call : Call) × (phase_at pass conn ≡ Asked call true) }
     ensures { Settles now pass conn up result.1.error result.1.chan result.0 }
 {
-    seats_law();
+    phase_law();
     turns.turn(rt, pass, &mut Settle { conn, up, now })
 }
 
@@ -101,10 +101,10 @@ pub fn abort<R: Wait, B: Bus, T: Turns<Core<B>>>(
     lid: u32,
 ) -> (Pass<Core<B>>, ErrorCode)
     requires gate { pass.gate ≡ T.gate turns.now }
-    requires seat { seat_at pass conn ≡ Idle role.Abort }
+    requires phase { phase_at pass conn ≡ Idle role.Abort }
     ensures { Aborts pass conn lid result.1 result.0 }
 {
-    seats_law();
+    phase_law();
     turns.turn(rt, pass, &mut AbortLink { conn, lid })
 }
 
@@ -116,10 +116,10 @@ pub fn leave<R: Wait, B: Bus, T: Turns<Core<B>>>(
     conn: u32,
 ) -> Pass<Core<B>>
     requires gate { pass.gate ≡ T.gate turns.now }
-    requires seat { is_up (seat_at pass conn) ≡ true }
+    requires phase { is_up (phase_at pass conn) ≡ true }
     ensures { Leaves pass conn result }
 {
-    seats_law();
+    phase_law();
     let (pass, ()) = turns.turn(rt, pass, &mut Leave { conn });
     pass
 }

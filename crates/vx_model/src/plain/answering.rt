@@ -23,7 +23,7 @@ use crate::plain::stand::{Stand, stand_on};
 use vx_488::Transfer;
 use vx_calls::{ErrorCode, ReplyRef};
 use vx_plan::{Task, needs};
-use vx_rules::{Lines, NoMemory, has_passed, passed_calls};
+use vx_rules::{Admission, NoMemory, has_passed, passed_calls};
 
 /// What comes to an answer from outside: the moment at which the call's turn began and the transfers that it made, whether
 /// the bus failed, how a dial went, and the level that a bus status tells.
@@ -57,9 +57,9 @@ impl Plain {
         }
         let settling = o.dialed.is_some();
         match self.tables.lines(conn, self.wire.own, settling, now) {
-            Lines::Refused(error) => self.refuse(conn, now, o, error, reply),
-            Lines::Waiting { .. } => Ok(false),
-            Lines::Passed => self.passed(conn, now, o, reply),
+            Admission::Refused(error) => self.refuse(conn, now, o, error, reply),
+            Admission::Waiting { .. } => Ok(false),
+            Admission::Passed => self.passed(conn, now, o, reply),
         }
     }
 

@@ -9,14 +9,14 @@ ghost use Rattle.vx_plan.specs.Results.{puts_made, bytes_got};
 ghost use Rattle.vx_plan.specs.Tasks.{IsTargetPlain};
 ghost use Rattle.vx_links.specs.Table.{Link, is_full, is_live};
 ghost use Rattle.vx_locks.specs.Locks.{holds, holder_of, is_blocked, with_lock, without_lock};
-ghost use Rattle.vx_srq.specs.Desk as desk;
+ghost use Rattle.vx_srq.specs.SrqState as srq_state;
 ghost use Rattle.vx_rules.specs.State.{Pending, pending_at, link_of, is_lock_of, without_link};
 ghost use Rattle.vx_rules.specs.Calls as calls;
 ghost use Rattle.vx_rules.specs.Checks.{named_link, check_create};
 ghost use Rattle.vx_rules.specs.Lines as lines;
 ghost use Rattle.vx_rules.specs.Effects as effects;
 ghost use Rattle.vx_rules.specs.Held.{kept_call};
-ghost use Rattle.vx_rules.specs.Sound.{owns, has_port};
+ghost use Rattle.vx_rules.specs.Sound.{owns, has_slot};
 ghost use Rattle.vx_rules.specs.Serving.{can_settle, settled, served_reply};
 
 use crate::tables::Tables;
@@ -125,9 +125,9 @@ impl Tables {
     /// device_enable_srq: the link's enable, in place of its earlier one.
     fn enable(&mut self, conn: u32, lid: u32, on: bool, handle: Handle) -> ReplyRef<'static>
         requires owned { owns self.old.links.links lid conn ≡ true }
-        requires added { has_port self.old.desk conn ≡ true }
+        requires added { has_slot self.old.srq_state conn ≡ true }
         ensures reply { reply_shown result ≡ reply.Error code.Ok }
-        ensures tables { self.new ≡ record self.old { desk = desk.with_enable self.old.desk (record { link = lid; connection = conn; on = on; handle = handle.bytes.items }) } }
+        ensures tables { self.new ≡ record self.old { srq_state = srq_state.with_enable self.old.srq_state (record { link = lid; connection = conn; on = on; handle = handle.bytes.items }) } }
     {
         self.srq.is_sound();
         self.srq.enable(conn, lid, on, handle);
@@ -149,7 +149,7 @@ impl Tables {
     /// destroy_intr_chan: the connection's channel goes.
     fn close_channel(&mut self, conn: u32) -> ReplyRef<'static>
         ensures reply { reply_shown result ≡ reply.Error code.Ok }
-        ensures tables { self.new ≡ record self.old { desk = desk.with_channel self.old.desk conn None } }
+        ensures tables { self.new ≡ record self.old { srq_state = srq_state.with_channel self.old.srq_state conn None } }
     {
         let _ = self.srq.close(conn);
         done()
@@ -171,9 +171,9 @@ impl Tables {
     }
 
     fn dialed(&mut self, conn: u32, prog: u32, vers: u32, up: bool) -> ReplyRef<'static>
-        requires added { has_port self.old.desk conn ≡ true }
-        requires none { is_some (desk.channel_at self.old.desk conn) ≡ false }
-        requires left { desk.has_number self.old.desk ≡ true }
+        requires added { has_slot self.old.srq_state conn ≡ true }
+        requires none { is_some (srq_state.channel_at self.old.srq_state conn) ≡ false }
+        requires left { srq_state.has_number self.old.srq_state ≡ true }
         ensures { settled self.old conn prog vers up ≡ Some (reply_shown result, self.new) }
     {
         if up {
@@ -186,11 +186,11 @@ impl Tables {
     }
 
     fn open_channel(&mut self, conn: u32, prog: u32, vers: u32) -> ReplyRef<'static>
-        requires added { has_port self.old.desk conn ≡ true }
-        requires none { is_some (desk.channel_at self.old.desk conn) ≡ false }
-        requires left { desk.has_number self.old.desk ≡ true }
+        requires added { has_slot self.old.srq_state conn ≡ true }
+        requires none { is_some (srq_state.channel_at self.old.srq_state conn) ≡ false }
+        requires left { srq_state.has_number self.old.srq_state ≡ true }
         ensures reply { reply_shown result ≡ reply.Error code.Ok }
-        ensures tables { self.new ≡ record self.old { desk = desk.with_new_channel self.old.desk conn prog vers } }
+        ensures tables { self.new ≡ record self.old { srq_state = srq_state.with_new_channel self.old.srq_state conn prog vers } }
     {
         let Ok(_) = self.srq.make(conn, prog, vers) else {
             unreachable!()

@@ -28,7 +28,7 @@ use vx_plan::Task;
 
 /// The first lines refuse a call, let it wait for the lock of a link, or let it pass.
 #[derive(Clone, Copy, Debug, PartialEq, Eq)]
-pub enum Lines {
+pub enum Admission {
     Refused(ErrorCode),
     Waiting { link: u32 },
     Passed,
@@ -44,7 +44,7 @@ pub struct Request {
 impl Tables {
     /// The first lines for the pending call of a connection at this moment, in milliseconds, on a gateway at this own
     /// address. A call that settles a dial counts the channel numbers as it does.
-    pub fn lines(&self, conn: u32, own: u8, settling: bool, now: u64) -> Lines
+    pub fn lines(&self, conn: u32, own: u8, settling: bool, now: u64) -> Admission
         requires { IsSome (pending_at self.now conn) }
         ensures { (p : Pending) → pending_at self.now conn ≡ Some p → lines_shown result ≡ lines.first_lines self.now own conn settling p now }
     {
@@ -52,7 +52,7 @@ impl Tables {
         let asked = asked_of(row);
         let text = row.text.bytes.as_slice();
         if asked.aborted {
-            Lines::Refused(ErrorCode::Abort)
+            Admission::Refused(ErrorCode::Abort)
         } else {
             self.later_lines(conn, own, settling, now, asked, text)
         }
@@ -67,12 +67,12 @@ impl Tables {
         now: u64,
         asked: Asked,
         text: &[u8],
-    ) -> Lines
+    ) -> Admission
         ensures { (handle : List ℕ) → lines_shown result ≡ lines.later_lines self.now own conn settling (asked_call asked text.now handle) now }
     {
         let about = self.named(conn, asked.call);
         match self.check(own, conn, settling, about, asked.call, text) {
-            Some(error) => Lines::Refused(error),
+            Some(error) => Admission::Refused(error),
             None => lock_lines(
                 asked,
                 now,
@@ -247,16 +247,16 @@ fn bytes_of(call: Kept, text: &[u8]) -> &[u8]
 }
 
 /// A lock keeps the call off: it waits where a wait is asked for and its time hasn't passed.
-fn lock_lines(asked: Asked, now: u64, holder: Option<u32>) -> Lines
+fn lock_lines(asked: Asked, now: u64, holder: Option<u32>) -> Admission
     ensures { (text handle : List ℕ) → lines_shown result ≡ lines.lock_lines (asked_call asked text handle) now holder }
 {
     match holder {
-        None => Lines::Passed,
+        None => Admission::Passed,
         Some(link) => {
             if asked.call.waits() && !has_passed(asked.call.lock_timeout(), asked.arrival, now) {
-                Lines::Waiting { link }
+                Admission::Waiting { link }
             } else {
-                Lines::Refused(ErrorCode::Locked)
+                Admission::Refused(ErrorCode::Locked)
             }
         }
     }

@@ -10,6 +10,6 @@ returns c abort_port = record {
   same = refl;
   later = omega arith;
   moment = refl;
-  ports = All-nil (λ g. g.abort_port ≡ abort_port);
+  slots = All-nil (λ g. g.abort_port ≡ abort_port);
   rise = tt;
 }

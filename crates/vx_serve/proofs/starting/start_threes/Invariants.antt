@@ -4,5 +4,5 @@ use Rattle.vx_serve.proofs.starting.start_threes.Given as goal
 -- three parts went to each three workers
 abbrev pub invariant-loop : goal.invariant-loop
 invariant-loop g l =
-    (l.seat.pass.parts + 3 * l.counter ≡ l.initial.seat.pass.parts)
+    (l.access.pass.parts + 3 * l.counter ≡ l.initial.access.pass.parts)
     × (g.W.Spawner.faults l.initial.spawner ≤ g.W.Spawner.faults l.spawner)

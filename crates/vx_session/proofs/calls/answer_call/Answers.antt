@@ -22,7 +22,7 @@ returns-in-Replied g c =
     record {
       answers = subst (λ d. AnswersCall told c.args.pass c.args.conn c.args.xid call (shown c.args.dial.now) (take c.in-Replied.len c.loop.reply) c.loop.pass (shown d))
           (sym c.loop.invariant.dial_is) replies.answers;
-      seat = replies.seat;
+      phase = replies.phase;
       told = c.loop.invariant.later;
       some = replies.some;
       within = replies.within;
@@ -32,8 +32,8 @@ returns-in-Replied g c =
 pub answer_dial-requires-clause-gate : goal.answer_dial-requires-clause-gate
 answer_dial-requires-clause-gate g c = c.loop.invariant.polled.makes.gate ∙ c.requires.gate
 
-pub answer_dial-requires-clause-seat : goal.answer_dial-requires-clause-seat
-answer_dial-requires-clause-seat g c = (
+pub answer_dial-requires-clause-phase : goal.answer_dial-requires-clause-phase
+answer_dial-requires-clause-phase g c = (
   call_shown c.args.call.now,
   polled-dials (g.C.Clock.told c.loop.clock) c.args.pass c.loop.pass c.args.conn c.args.xid (call_shown c.args.call.now) c.loop.reply c.loop.end c.in-Dial.host c.in-Dial.port c.in-Dial.is
       c.loop.invariant.polled,
@@ -58,8 +58,8 @@ returns-in-Dial-clause-told g c =
 pub poll_again-requires-clause-gate : goal.poll_again-requires-clause-gate
 poll_again-requires-clause-gate g c = c.loop.invariant.polled.makes.gate ∙ c.requires.gate
 
-pub poll_again-requires-clause-seat : goal.poll_again-requires-clause-seat
-poll_again-requires-clause-seat g c = (
+pub poll_again-requires-clause-phase : goal.poll_again-requires-clause-phase
+poll_again-requires-clause-phase g c = (
   call_shown c.args.call.now,
   false,
   polled-waits (g.C.Clock.told c.loop.clock) c.args.pass c.loop.pass c.args.conn c.args.xid (call_shown c.args.call.now) c.loop.reply c.loop.end c.in-NotYet.is c.loop.invariant.polled,

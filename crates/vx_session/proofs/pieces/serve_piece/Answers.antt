@@ -5,7 +5,7 @@ use Rattle.vx_session.proofs.pieces.serve_piece.Goals as goal
 
 pub loop-at-init : goal.loop-at-init
 loop-at-init g c = record {
-  so_far = piece-none g.L.Link.stands c.args.role c.args.conn c.args.pass c.args.link.now _ _ c.args.incoming.now c.args.piece.now _ c.requires.more c.requires.seat;
+  so_far = piece-none g.L.Link.stands c.args.role c.args.conn c.args.pass c.args.link.now _ _ c.args.incoming.now c.args.piece.now _ c.requires.more c.requires.phase;
   gate = c.requires.gate;
   limit = c.requires.limit;
   told = omega arith;
@@ -32,8 +32,8 @@ returns-in-TooLong-clause-serves g c =
     (record { after = c.feed-fed.ensures.after; took_is = c.feed-fed.ensures.took })
     (sym c.feed-fed.ensures.state ∙ c.in-TooLong.is)
 
-pub serve_whole-served-requires-clause-seat : goal.serve_whole-served-requires-clause-seat
-serve_whole-served-requires-clause-seat g c = c.loop-at.invariant.so_far.seat
+pub serve_whole-served-requires-clause-phase : goal.serve_whole-served-requires-clause-phase
+serve_whole-served-requires-clause-phase g c = c.loop-at.invariant.so_far.phase
 
 pub returns-then-is_some-clause-serves : goal.returns-then-is_some-clause-serves
 returns-then-is_some-clause-serves g c =
@@ -41,7 +41,7 @@ returns-then-is_some-clause-serves g c =
     c.loop-at.pass _ c.loop-at.link _ _ _ _ _ c.loop-at.incoming c.feed-fed.new.self _ c.serve_whole-served.result.1 c.serve_whole-served.ensures.told
     c.loop-at.invariant.so_far (record { after = c.feed-fed.ensures.after; took_is = c.feed-fed.ensures.took })
     (sym c.feed-fed.ensures.state ∙ c.in-Whole.is)
-    c.serve_whole-served.ensures.serves (sym c.is_some.ensures ∙ c.if-is_some.true) c.serve_whole-served.ensures.seat
+    c.serve_whole-served.ensures.serves (sym c.is_some.ensures ∙ c.if-is_some.true) c.serve_whole-served.ensures.phase
 
 pub loop-at-preserved : goal.loop-at-preserved
 loop-at-preserved g c = record {
@@ -50,7 +50,7 @@ loop-at-preserved g c = record {
       c.loop-at.invariant.so_far (record { after = c.feed-fed.ensures.after; took_is = c.feed-fed.ensures.took })
       (sym c.feed-fed.ensures.state ∙ c.in-Whole.is)
       (c.feed-fed.ensures.limit ∙ c.loop-at.invariant.limit)
-      c.serve_whole-served.ensures.serves (sym c.is_some.ensures ∙ c.if-is_some.false) c.serve_whole-served.ensures.buffer c.serve_whole-served.ensures.seat;
+      c.serve_whole-served.ensures.serves (sym c.is_some.ensures ∙ c.if-is_some.false) c.serve_whole-served.ensures.buffer c.serve_whole-served.ensures.phase;
   gate = c.serve_whole-served.ensures.serves.progress.makes.gate ∙ c.loop-at.invariant.gate;
   limit = ap (λ (b : BufState). b.limit) c.serve_whole-served.ensures.buffer;
   told = (let before : g.C.Clock.told c.args.clock.now ≤ g.C.Clock.told c.loop-at.clock = c.loop-at.invariant.told in

@@ -1,6 +1,6 @@
 use Rattle.std.proofs.Common.{take, refl, ◌∙◌, sym, ap, arith}
 use Rattle.vx_calls.specs.Call.{call_shown}
-use Rattle.vx_turns.specs.Turning.{seat_at}
+use Rattle.vx_turns.specs.Turning.{phase_at}
 use Rattle.vx_session.specs.Outside.{dial_shown}
 use Rattle.vx_rules.specs.ProvedLaws.{asks-wait}
 use Rattle.vx_message.specs.ProvedLaws.{asks-core}
@@ -12,8 +12,8 @@ returns-in-Null-clause-does g c =
     null-does (g.C.Clock.told c.args.clock.now) c.args.pass c.args.conn c.args.xid (call_shown c.args.call.now) (dial_shown g.D.Dial.calls g.D.Dial.faults c.args.dial.now)
     (take c.put_success_record.result c.put_success_record.new.reply) (ap call_shown c.in-Null.is) c.put_success_record.ensures.record
 
-pub returns-in-Null-clause-seat : goal.returns-in-Null-clause-seat
-returns-in-Null-clause-seat g c = refl
+pub returns-in-Null-clause-phase : goal.returns-in-Null-clause-phase
+returns-in-Null-clause-phase g c = refl
 
 pub returns-in-Null-clause-told : goal.returns-in-Null-clause-told
 returns-in-Null-clause-told g c = omega arith
@@ -48,7 +48,7 @@ returns-in-DeviceAbort-clause-does g c =
 pub answer_call-requires : goal.answer_call-requires
 answer_call-requires g c = record {
   gate = c.requires.gate;
-  seat = ripe-core c.args.call.now (seat_at c.args.pass c.args.conn) c.in_default.not-Null c.in_default.not-DeviceAbort c.requires.ripe;
+  phase = ripe-core c.args.call.now (phase_at c.args.pass c.args.conn) c.in_default.not-Null c.in_default.not-DeviceAbort c.requires.ripe;
   waits = asks-wait c.args.call.now c.in_default.not-Null c.in_default.not-DeviceAbort;
   short = c.requires.short;
   room = c.requires.room;
@@ -59,7 +59,7 @@ returns-in_default g c = record {
   does = core-does (g.C.Clock.told c.answer_call.new.clock) c.args.pass c.args.conn c.args.xid (call_shown c.args.call.now) (dial_shown g.D.Dial.calls g.D.Dial.faults c.args.dial.now)
       (take c.answer_call.result.1 c.answer_call.new.reply) c.answer_call.result.0 (dial_shown g.D.Dial.calls g.D.Dial.faults c.answer_call.new.dial)
       (asks-core c.args.call.now c.args.xid c.in_default.not-Null c.in_default.not-DeviceAbort) c.answer_call.ensures.answers;
-  seat = c.answer_call.ensures.seat ∙ sym (ripe-core c.args.call.now (seat_at c.args.pass c.args.conn) c.in_default.not-Null c.in_default.not-DeviceAbort c.requires.ripe);
+  phase = c.answer_call.ensures.phase ∙ sym (ripe-core c.args.call.now (phase_at c.args.pass c.args.conn) c.in_default.not-Null c.in_default.not-DeviceAbort c.requires.ripe);
   told = c.answer_call.ensures.told;
   some = c.answer_call.ensures.some;
   within = c.answer_call.ensures.within;

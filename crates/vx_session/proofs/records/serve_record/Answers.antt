@@ -3,7 +3,7 @@ use Rattle.vx_calls.specs.Call.{call_shown}
 use Rattle.vx_rpc.specs.declared.refusal.RpcRefusal.TheVariants as refusal
 use Rattle.vx_rpc.specs.Wording.{refusal_message}
 use Rattle.vx_message.specs.Meaning.{by_sorting, by_arguments}
-use Rattle.vx_turns.specs.Turning.{seat_at}
+use Rattle.vx_turns.specs.Turning.{phase_at}
 use Rattle.vx_session.specs.Outside.{dial_shown}
 use Rattle.vx_codec.specs.ProvedLaws.{read-short}
 use Rattle.vx_session.proofs.Recorded.{ripe, answered-does, called-does}
@@ -11,7 +11,7 @@ use Rattle.vx_session.proofs.records.serve_record.Goals as goal
 
 pub serve_call-pass-requires-clause-ripe : goal.serve_call-pass-requires-clause-ripe
 serve_call-pass-requires-clause-ripe g c =
-    ripe (seat_at c.args.pass c.args.conn) c.args.role c.in-Call.proc (call_shown c.in-Some.call) c.in-Call.args.now c.requires.seat c.in-Call.ensures.served c.in-Some.ensures.found
+    ripe (phase_at c.args.pass c.args.conn) c.args.role c.in-Call.proc (call_shown c.in-Some.call) c.in-Call.args.now c.requires.phase c.in-Call.ensures.served c.in-Some.ensures.found
 
 pub serve_call-pass-requires-clause-short : goal.serve_call-pass-requires-clause-short
 serve_call-pass-requires-clause-short g c =

@@ -1,5 +1,5 @@
 use Rattle.std.proofs.Common.{◌∙◌, ap}
-use Rattle.vx_group.specs.Seats.{is_up}
+use Rattle.vx_group.specs.Phases.{is_up}
 use Rattle.vx_session.proofs.Finishing.{session-did}
 use Rattle.vx_session.proofs.sessions.run_session.Goals as goal
 
@@ -10,5 +10,5 @@ returns-clause-did g c =
 pub leave-requires-clause-gate : goal.leave-requires-clause-gate
 leave-requires-clause-gate g c = c.serve_stream-pass.ensures.serves.progress.makes.gate ∙ c.requires.gate
 
-pub leave-requires-clause-seat : goal.leave-requires-clause-seat
-leave-requires-clause-seat g c = ap is_up c.serve_stream-pass.ensures.seat
+pub leave-requires-clause-phase : goal.leave-requires-clause-phase
+leave-requires-clause-phase g c = ap is_up c.serve_stream-pass.ensures.phase

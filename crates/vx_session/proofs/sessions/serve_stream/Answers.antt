@@ -3,13 +3,13 @@ use Rattle.vx_session.proofs.Streams.{streamed-none, streamed-on, streamed-last}
 use Rattle.vx_session.proofs.sessions.serve_stream.Goals as goal
 
 pub loop-init : goal.loop-init
-loop-init g c = (streamed-none g.L.Link.stands _ _ _ _ _ _ _ _ c.requires.buffer c.requires.seat, omega arith)
+loop-init g c = (streamed-none g.L.Link.stands _ _ _ _ _ _ _ _ c.requires.buffer c.requires.phase, omega arith)
 
 pub serve_next-served-requires-clause-gate : goal.serve_next-served-requires-clause-gate
 serve_next-served-requires-clause-gate g c = c.loop.invariant.0.progress.makes.gate ∙ c.requires.gate
 
-pub serve_next-served-requires-clause-seat : goal.serve_next-served-requires-clause-seat
-serve_next-served-requires-clause-seat g c = c.loop.invariant.0.seat
+pub serve_next-served-requires-clause-phase : goal.serve_next-served-requires-clause-phase
+serve_next-served-requires-clause-phase g c = c.loop.invariant.0.phase
 
 pub serve_next-served-requires-clause-more : goal.serve_next-served-requires-clause-more
 serve_next-served-requires-clause-more g c = c.loop.invariant.0.more

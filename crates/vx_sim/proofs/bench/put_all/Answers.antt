@@ -1,5 +1,5 @@
 use Rattle.std.proofs.Common.{◌≡◌, false, get_or, sym, ap, ◌∙◌, arith}
-use Rattle.vx_sim.specs.Seats.{TakesByte}
+use Rattle.vx_sim.specs.Occupants.{TakesByte}
 use Rattle.vx_sim.specs.Bench.{listens, refuses, PlaceWhere}
 use Rattle.vx_sim.specs.Shown.{placed_of}
 use Rattle.vx_sim.proofs.Changes.{changes_more, all_changed, not_yet, nowhere, any_shown}

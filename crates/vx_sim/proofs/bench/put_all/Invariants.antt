@@ -1,4 +1,4 @@
-use Rattle.vx_sim.specs.Seats.{TakesByte}
+use Rattle.vx_sim.specs.Occupants.{TakesByte}
 use Rattle.vx_sim.specs.Bench.{listens, PlaceWhere}
 use Rattle.vx_sim.specs.Shown.{placed_of}
 use Rattle.vx_sim.proofs.Changes.{SoFar}

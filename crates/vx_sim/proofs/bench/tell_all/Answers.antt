@@ -1,5 +1,5 @@
 use Rattle.std.proofs.Common.{arith}
-use Rattle.vx_sim.specs.Seats.{Receives}
+use Rattle.vx_sim.specs.Occupants.{Receives}
 use Rattle.vx_sim.specs.Bench.{PlaceWhere}
 use Rattle.vx_sim.specs.Shown.{placed_of, is_meant}
 use Rattle.vx_sim.proofs.Changes.{changes_more, all_changed}

@@ -1,24 +1,24 @@
 use Rattle.std.proofs.Common.{max, ap, subst, rules}
 use Rattle.vx_calls.specs.declared.calls.Role.TheVariants as role
 use Rattle.vx_calls.specs.Call.{call_shown}
-use Rattle.vx_group.specs.Seats.{Idle, is_up}
+use Rattle.vx_group.specs.Phases.{Idle, is_up}
 use Rattle.vx_turns.specs.Acting.{last_ending}
 use Rattle.vx_turns.specs.Turning.{Comes}
 use Rattle.vx_turns.proofs.Making.{turns}
-use Rattle.vx_turns.proofs.Owned.{own-seat, idle-seat, may-come}
+use Rattle.vx_turns.proofs.Owned.{own-phase, idle-phase, may-come}
 use Rattle.vx_turns.proofs.Polled.{comes}
 use Rattle.vx_turns.proofs.turns.come.Goals as goal
 
 pub turn-requires-clause-act : goal.turn-requires-clause-act
 turn-requires-clause-act g c = λ log kept fits stands. (
   (
-    idle-seat kept.fine c.args.conn (own-seat c.seats_law.ensures c.args.pass log kept.fine c.args.conn (Idle role.Core) fits stands c.requires.seat),
+    idle-phase kept.fine c.args.conn (own-phase c.phase_law.ensures c.args.pass log kept.fine c.args.conn (Idle role.Core) fits stands c.requires.phase),
     c.requires.waits,
     c.requires.short,
     c.requires.room,
   ),
   λ answer act' kept' did.
-      may-come c.args.pass c.args.conn (ap is_up c.requires.seat) kept.fine (max kept.fine.state.moment c.args.now) (call_shown c.args.call.now)
+      may-come c.args.pass c.args.conn (ap is_up c.requires.phase) kept.fine (max kept.fine.state.moment c.args.now) (call_shown c.args.call.now)
       (g.B.Bus.means kept'.bus).moves (last_ending kept'.last),
 )
 

@@ -1,17 +1,17 @@
 use Rattle.std.proofs.Common.{[], ◌∷◌, refl}
 use Rattle.vx_flow.specs.Event.{Down}
 use Rattle.vx_history.specs.Laws.{group_after}
-use Rattle.vx_turns.specs.Turning.{seat_at}
+use Rattle.vx_turns.specs.Turning.{phase_at}
 use Rattle.vx_turns.proofs.Moments.{fine-moment, one-without}
 use Rattle.vx_turns.proofs.Making.{timely-still, turns}
-use Rattle.vx_turns.proofs.Owned.{own-seat, up-seat, may-leave}
+use Rattle.vx_turns.proofs.Owned.{own-phase, up-phase, may-leave}
 use Rattle.vx_turns.proofs.turns.leave.Goals as goal
 
 pub turn-pass-requires-clause-act : goal.turn-pass-requires-clause-act
 turn-pass-requires-clause-act g c = λ log kept fits stands. (
-  up-seat kept.fine c.args.conn (seat_at c.args.pass c.args.conn) c.requires.seat
-      (own-seat c.seats_law.ensures c.args.pass log kept.fine c.args.conn (seat_at c.args.pass c.args.conn) fits stands refl),
-  λ answer act' kept' did. may-leave c.args.pass c.args.conn c.requires.seat,
+  up-phase kept.fine c.args.conn (phase_at c.args.pass c.args.conn) c.requires.phase
+      (own-phase c.phase_law.ensures c.args.pass log kept.fine c.args.conn (phase_at c.args.pass c.args.conn) fits stands refl),
+  λ answer act' kept' did. may-leave c.args.pass c.args.conn c.requires.phase,
 )
 
 pub returns : goal.returns

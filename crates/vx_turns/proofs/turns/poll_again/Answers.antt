@@ -1,27 +1,27 @@
 use Rattle.std.proofs.Common.{max, ap, subst, rules}
-use Rattle.vx_group.specs.Seats.{Asked, is_up}
+use Rattle.vx_group.specs.Phases.{Asked, is_up}
 use Rattle.vx_turns.specs.Acting.{last_ending}
 use Rattle.vx_turns.specs.Turning.{PollsAgain}
 use Rattle.vx_turns.proofs.Making.{turns}
-use Rattle.vx_turns.proofs.Owned.{own-seat, asked-seat, may-poll}
+use Rattle.vx_turns.proofs.Owned.{own-phase, asked-phase, may-poll}
 use Rattle.vx_turns.proofs.Polled.{polls-again}
 use Rattle.vx_turns.proofs.turns.poll_again.Goals as goal
 
 pub turn-requires-clause-act : goal.turn-requires-clause-act
 turn-requires-clause-act g c = λ log kept fits stands. (
   (
-    asked-seat kept.fine c.args.conn c.requires.seat.0 c.requires.seat.1
-        (own-seat c.seats_law.ensures c.args.pass log kept.fine c.args.conn (Asked c.requires.seat.0 c.requires.seat.1) fits stands c.requires.seat.2),
+    asked-phase kept.fine c.args.conn c.requires.phase.0 c.requires.phase.1
+        (own-phase c.phase_law.ensures c.args.pass log kept.fine c.args.conn (Asked c.requires.phase.0 c.requires.phase.1) fits stands c.requires.phase.2),
     c.requires.room,
   ),
   λ answer act' kept' did.
-      may-poll c.args.pass c.args.conn (ap is_up c.requires.seat.2) kept.fine (max kept.fine.state.moment c.args.now) (g.B.Bus.means kept'.bus).moves
+      may-poll c.args.pass c.args.conn (ap is_up c.requires.phase.2) kept.fine (max kept.fine.state.moment c.args.now) (g.B.Bus.means kept'.bus).moves
       (last_ending kept'.last),
 )
 
 pub returns-clause-polls : goal.returns-clause-polls
-returns-clause-polls g c = λ call dialed seat.
+returns-clause-polls g c = λ call dialed phase.
     let t = c.turn.ensures in
     subst (λ room. PollsAgain c.args.now c.args.pass c.args.conn c.args.xid call dialed room c.turn.result.1 c.turn.result.0) (search rules)
     (polls-again g.B.Bus.means c.args.now c.args.pass c.turn.result.0 t.log t.before t.after c.args.conn c.args.xid c.turn.new.act.reply.now c.turn.result.1
-    c.seats_law.ensures call dialed t.fits t.stood t.did.0 t.own (turns c.args.now t) seat)
+    c.phase_law.ensures call dialed t.fits t.stood t.did.0 t.own (turns c.args.now t) phase)

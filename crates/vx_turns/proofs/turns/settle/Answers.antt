@@ -4,24 +4,24 @@ use Rattle.vx_gate.specs.History.{groups}
 use Rattle.vx_flow.specs.Event.{Answer}
 use Rattle.vx_flow.specs.Fine.{fine}
 use Rattle.vx_group.specs.Groups.{StandsFor}
-use Rattle.vx_group.specs.Seats.{Asked, is_up}
+use Rattle.vx_group.specs.Phases.{Asked, is_up}
 use Rattle.vx_history.specs.Laws.{group_after}
 use Rattle.vx_turns.specs.Placing.{behind}
-use Rattle.vx_turns.specs.Turning.{seat_at}
+use Rattle.vx_turns.specs.Turning.{phase_at}
 use Rattle.vx_turns.proofs.Moments.{fine-moment, one-moment}
-use Rattle.vx_turns.proofs.Seated.{seat-more, seat-answer}
+use Rattle.vx_turns.proofs.Phased.{phase-more, phase-answer}
 use Rattle.vx_turns.proofs.Making.{timely-now, turns}
-use Rattle.vx_turns.proofs.Owned.{own-seat, dialed-seat, may-answer}
+use Rattle.vx_turns.proofs.Owned.{own-phase, dialed-phase, may-answer}
 use Rattle.vx_turns.proofs.Outcomes.{is-channel}
 use Rattle.vx_turns.proofs.Channels.{settled-channel}
 use Rattle.vx_turns.proofs.turns.settle.Goals as goal
 
 pub turn-requires-clause-act : goal.turn-requires-clause-act
 turn-requires-clause-act g c = λ log kept fits stands. (
-  dialed-seat kept.fine c.args.conn c.requires.seat.0
-      (own-seat c.seats_law.ensures c.args.pass log kept.fine c.args.conn (Asked c.requires.seat.0 true) fits stands c.requires.seat.1),
+  dialed-phase kept.fine c.args.conn c.requires.phase.0
+      (own-phase c.phase_law.ensures c.args.pass log kept.fine c.args.conn (Asked c.requires.phase.0 true) fits stands c.requires.phase.1),
   λ answer act' kept' did.
-      may-answer c.args.pass c.args.conn (ap is_up c.requires.seat.1) (max kept.fine.state.moment c.args.now) false (Some c.args.up) false (reply.Error answer.error),
+      may-answer c.args.pass c.args.conn (ap is_up c.requires.phase.1) (max kept.fine.state.moment c.args.now) false (Some c.args.up) false (reply.Error answer.error),
 )
 
 pub returns : goal.returns
@@ -44,5 +44,5 @@ returns g c =
       chan_is = is-channel (behind c.args.pass.number (record { before = t.log; group = group })) t.after.fine conn c.args.up answer.chan stands t.did.2
           (λ came. settled-channel f t.after.fine (groups t.log) conn now (reply.Error answer.error) t.stood
           (subst (λ up. fine f (Answer conn now false (Some up) false (reply.Error answer.error)) ≡ Some t.after.fine) came t.did.0));
-      seat = seat-more c.args.pass.own c.turn.result.0.own group conn t.own ∙ seat-answer conn (seat_at c.args.pass conn);
+      phase = phase-more c.args.pass.own c.turn.result.0.own group conn t.own ∙ phase-answer conn (phase_at c.args.pass conn);
     }

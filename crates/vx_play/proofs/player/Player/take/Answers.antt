@@ -4,7 +4,7 @@ use Rattle.std.specs.Vec.{with_items}
 use denote.Param.{param}
 use Rattle.vx_calls.specs.declared.calls.Role.TheVariants as role
 use Rattle.vx_calls.specs.declared.replies.Taken.TheVariants as seen
-use Rattle.vx_srq.specs.Desk.{Channel, channel_at}
+use Rattle.vx_srq.specs.SrqState.{Channel, channel_at}
 use Rattle.vx_srq.specs.Shown.{given_shown}
 use Rattle.vx_script.specs.Command.{Take}
 use Rattle.vx_trace.specs.Output.{Irq}
@@ -22,7 +22,7 @@ returns-in_default-clause-taken g c = λ stage stands.
     let none : c.channel.result ≡ None = cc in
     subst (λ (m : Made). TakesTo stage (Take c.args.conn) (made_lines c.args.self.now m) m.answered c.args.self.now) (sym c.of.ensures)
     (none-takes c.args.self.now stage c.args.conn stands c.in_ok-core_only.ensures.ok
-    (subst (λ (q : PlayerState). None ≡ option_map (λ (k : Channel). k.number) (channel_at q.core.fine.state.tables.desk c.args.conn)) c.self.view_is
+    (subst (λ (q : PlayerState). None ≡ option_map (λ (k : Channel). k.number) (channel_at q.core.fine.state.tables.srq_state c.args.conn)) c.self.view_is
     (sym none ∙ c.channel.ensures)))
 
 pub returns-in-Srq-clause-taken : goal.returns-in-Srq-clause-taken

@@ -1,12 +1,12 @@
 use Rattle.std.proofs.Common.{None}
 use Rattle.vx_rules.specs.Inside.{tables_of}
 use Rattle.vx_rules.proofs.Keeping.{with_channel-sound}
-use Rattle.vx_rules.proofs.Closing.{desk_sound}
+use Rattle.vx_rules.proofs.Closing.{srq_state_sound}
 use Rattle.vx_rules.proofs.tables.Tables.close_channel.Goals as goal
 
 pub invariant_of-self : goal.invariant_of-self
 invariant_of-self c = record {
-  sound = desk_sound (tables_of c.self.inside) _ _ c.close.ensures.closed (with_channel-sound (tables_of c.self.inside) c.args.conn None c.self.invariant.sound);
+  sound = srq_state_sound (tables_of c.self.inside) _ _ c.close.ensures.closed (with_channel-sound (tables_of c.self.inside) c.args.conn None c.self.invariant.sound);
   numbers = c.self.invariant.numbers;
   plain = c.self.invariant.plain;
 }

@@ -4,7 +4,7 @@ use Rattle.vx_rules.specs.Inside.{tables_of}
 use Rattle.vx_rules.specs.Sound.{owns}
 use Rattle.vx_rules.proofs.Finds.{any_weaker}
 use Rattle.vx_rules.proofs.Keeping.{with_enable-sound}
-use Rattle.vx_rules.proofs.Closing.{desk_sound}
+use Rattle.vx_rules.proofs.Closing.{srq_state_sound}
 use Rattle.vx_rules.proofs.Room.{enable_room}
 use Rattle.vx_rules.proofs.tables.Tables.enable.Goals as goal
 
@@ -20,7 +20,7 @@ invariant_of-self c =
     let t = tables_of c.self.inside in
     let own : owns t.links.links c.args.lid c.args.conn ≡ true = ap (λ s. owns s.links.links c.args.lid c.args.conn) c.self.view_is ∙ c.requires.owned in
     record {
-      sound = desk_sound t _ _ c.enable.ensures (with_enable-sound t _ c.self.invariant.sound own);
+      sound = srq_state_sound t _ _ c.enable.ensures (with_enable-sound t _ c.self.invariant.sound own);
       numbers = c.self.invariant.numbers;
       plain = c.self.invariant.plain;
     }

@@ -1,11 +1,11 @@
 use Rattle.vx_rules.specs.Inside.{tables_of}
 use Rattle.vx_rules.proofs.Keeping.{taken-sound}
-use Rattle.vx_rules.proofs.Closing.{desk_sound}
+use Rattle.vx_rules.proofs.Closing.{srq_state_sound}
 use Rattle.vx_rules.proofs.tables.Tables.take.Goals as goal
 
 pub invariant_of-self : goal.invariant_of-self
 invariant_of-self c = record {
-  sound = desk_sound (tables_of c.self.inside) _ _ c.take.ensures.taken (taken-sound (tables_of c.self.inside) c.args.conn c.args.chan c.self.invariant.sound);
+  sound = srq_state_sound (tables_of c.self.inside) _ _ c.take.ensures.taken (taken-sound (tables_of c.self.inside) c.args.conn c.args.chan c.self.invariant.sound);
   numbers = c.self.invariant.numbers;
   plain = c.self.invariant.plain;
 }

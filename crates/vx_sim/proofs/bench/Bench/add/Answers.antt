@@ -1,7 +1,7 @@
 use Rattle.std.proofs.Common.{[], ◌∷◌, ◌++◌, length, sym, ap, ◌∙◌, subst, arith}
 use Rattle.std.specs.Prelude.{map, List}
 use Rattle.std.proofs.lemmas.List.{map-append, length-map}
-use Rattle.vx_sim.specs.Seats.{Placed}
+use Rattle.vx_sim.specs.Occupants.{Placed}
 use Rattle.vx_sim.specs.Shown.{placed_of, AreApart}
 use Rattle.vx_sim.proofs.Apart.{apart-push}
 use Rattle.vx_sim.proofs.bench.Bench.add.Goals as goal

@@ -1,5 +1,5 @@
 use Rattle.std.proofs.Common.{arith}
-use Rattle.vx_sim.specs.Seats.{TakesByte}
+use Rattle.vx_sim.specs.Occupants.{TakesByte}
 use Rattle.vx_sim.specs.Bench.{listens}
 use Rattle.vx_sim.specs.Shown.{placed_of}
 use Rattle.vx_sim.proofs.Apart.{held_apart}

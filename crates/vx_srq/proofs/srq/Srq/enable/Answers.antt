@@ -1,9 +1,9 @@
 use Rattle.std.proofs.Common.{◌≤◌, length, arith, ap, sym, subst}
 use Rattle.std.proofs.lemmas.List.{length-map}
 use Rattle.vx_calls.specs.declared.limits.TheConstants.{LINK_MAX}
-use Rattle.vx_srq.specs.Desk.{Desk, Enable, IsSound, enable_put}
+use Rattle.vx_srq.specs.SrqState.{SrqState, Enable, IsSound, enable_put}
 use Rattle.vx_srq.specs.Shown.{enable_shown}
-use Rattle.vx_srq.specs.Inside.{desk_of}
+use Rattle.vx_srq.specs.Inside.{srq_state_of}
 use Rattle.vx_srq.proofs.Held.{others_shown}
 use Rattle.vx_srq.proofs.Sound.{sound-with_enable}
 use Rattle.vx_srq.proofs.srq.Srq.enable.Goals as goal
@@ -13,7 +13,7 @@ put-requires-clause-room c = omega (arith, others_shown c.self.inside c.args.sel
 
 pub invariant_of-self : goal.invariant_of-self
 invariant_of-self c =
-    let d = desk_of c.self.inside in
+    let d = srq_state_of c.self.inside in
     let e : Enable = record { link = c.args.lid; connection = c.args.conn; on = c.args.on; handle = c.args.handle.bytes.items } in
     let few : length (enable_put e d.enables) ≤ LINK_MAX =
     omega (
@@ -27,5 +27,5 @@ invariant_of-self c =
     record {
       places = omega (arith, c.self.invariant.places, c.put.ensures.room);
       room = c.self.invariant.room;
-      sound = subst (λ es. let k : Desk = record d { enables = es } in IsSound k) (sym c.put.ensures.rows) (sound-with_enable d e c.self.invariant.sound few);
+      sound = subst (λ es. let k : SrqState = record d { enables = es } in IsSound k) (sym c.put.ensures.rows) (sound-with_enable d e c.self.invariant.sound few);
     }

@@ -3,35 +3,35 @@ use Rattle.std.proofs.lemmas.Fn.{filter_same}
 use Rattle.std.proofs.lemmas.List.Elements.{All-filter}
 use Rattle.std.specs.List.{All}
 use Rattle.vx_lemmas.specs.Lists.{filter-map}
-use Rattle.vx_srq.specs.Desk.{Desk, IsSound, without_port}
-use Rattle.vx_srq.specs.Shown.{port_shown, enable_shown, HasRoom}
-use Rattle.vx_srq.specs.Inside.{desk_of}
-use Rattle.vx_srq.proofs.Sound.{sound-without_port}
+use Rattle.vx_srq.specs.SrqState.{SrqState, IsSound, without_slot}
+use Rattle.vx_srq.specs.Shown.{slot_shown, enable_shown, HasRoom}
+use Rattle.vx_srq.specs.Inside.{srq_state_of}
+use Rattle.vx_srq.proofs.Sound.{sound-without_slot}
 use Rattle.vx_srq.proofs.srq.Srq.gone.Goals as goal
 
 pub invariant_of-self : goal.invariant_of-self
 invariant_of-self c =
     let t = c.self.inside in
-    let ports = filter_same _ (λ r. not (r.conn == c.args.conn)) _ (λ x b f' k. search rules) _ _ c.retain.ensures.filtered in
+    let slots = filter_same _ (λ r. not (r.conn == c.args.conn)) _ (λ x b f' k. search rules) _ _ c.retain.ensures.filtered in
     let enables = filter_same _ (λ r. not (r.conn == c.args.conn)) _ (λ x b f' k. search rules) _ _ c.retain-2.ensures.filtered in
-    let ports_shown = ap (map port_shown) ports ∙ filter-map port_shown (λ p. not (p.connection == c.args.conn)) t.ports.items in
+    let slots_shown = ap (map slot_shown) slots ∙ filter-map slot_shown (λ p. not (p.connection == c.args.conn)) t.slots.items in
     let enables_shown = ap (map enable_shown) enables ∙ filter-map enable_shown (λ e. not (e.connection == c.args.conn)) t.enables.items in
-    let left : IsSound (record (without_port (desk_of t) c.args.conn) { enables = map enable_shown c.retain-2.new.self.items }) =
-    subst (λ es. let d : Desk = record (without_port (desk_of t) c.args.conn) { enables = es } in IsSound d) (sym enables_shown)
-    (sound-without_port (desk_of t) c.args.conn c.self.invariant.sound) in
+    let left : IsSound (record (without_slot (srq_state_of t) c.args.conn) { enables = map enable_shown c.retain-2.new.self.items }) =
+    subst (λ es. let d : SrqState = record (without_slot (srq_state_of t) c.args.conn) { enables = es } in IsSound d) (sym enables_shown)
+    (sound-without_slot (srq_state_of t) c.args.conn c.self.invariant.sound) in
     record {
       places = omega arith;
-      room = subst (All HasRoom) (sym ports) (All-filter (λ r. not (r.conn == c.args.conn)) HasRoom t.ports.items c.self.invariant.room);
-      sound = subst (λ ps. let d : Desk = record (desk_of t) { ports = ps; enables = map enable_shown c.retain-2.new.self.items } in IsSound d) (sym ports_shown) left;
+      room = subst (All HasRoom) (sym slots) (All-filter (λ r. not (r.conn == c.args.conn)) HasRoom t.slots.items c.self.invariant.room);
+      sound = subst (λ ps. let d : SrqState = record (srq_state_of t) { slots = ps; enables = map enable_shown c.retain-2.new.self.items } in IsSound d) (sym slots_shown) left;
     }
 
 pub returns : goal.returns
 returns c =
     let t = c.self.inside in
-    let ports = filter_same _ (λ r. not (r.conn == c.args.conn)) _ (λ x b f' k. search rules) _ _ c.retain.ensures.filtered in
+    let slots = filter_same _ (λ r. not (r.conn == c.args.conn)) _ (λ x b f' k. search rules) _ _ c.retain.ensures.filtered in
     let enables = filter_same _ (λ r. not (r.conn == c.args.conn)) _ (λ x b f' k. search rules) _ _ c.retain-2.ensures.filtered in
-    ap (λ ps. let d : Desk = record (desk_of t) { ports = ps; enables = map enable_shown c.retain-2.new.self.items } in d)
-    (ap (map port_shown) ports ∙ filter-map port_shown (λ p. not (p.connection == c.args.conn)) t.ports.items)
-    ∙ ap (λ es. let d : Desk = record (without_port (desk_of t) c.args.conn) { enables = es } in d)
+    ap (λ ps. let d : SrqState = record (srq_state_of t) { slots = ps; enables = map enable_shown c.retain-2.new.self.items } in d)
+    (ap (map slot_shown) slots ∙ filter-map slot_shown (λ p. not (p.connection == c.args.conn)) t.slots.items)
+    ∙ ap (λ es. let d : SrqState = record (without_slot (srq_state_of t) c.args.conn) { enables = es } in d)
     (ap (map enable_shown) enables ∙ filter-map enable_shown (λ e. not (e.connection == c.args.conn)) t.enables.items)
-    ∙ ap (λ d. without_port d c.args.conn) c.self.view_is
+    ∙ ap (λ d. without_slot d c.args.conn) c.self.view_is

@@ -15,7 +15,7 @@ pub record Channel : Type 0 where
   pub outbox : List (List ℕ)
 
 -- a connection, and its channel, where it has one
-pub record Port : Type 0 where
+pub record ChannelSlot : Type 0 where
   pub connection : ℕ
   pub channel : Option Channel
 
@@ -28,42 +28,42 @@ pub record Enable : Type 0 where
 
 -- the connections in order of number, the enables in order of the links' numbers, the number of the next channel, and the
 -- level of SRQ at the last sample
-pub record Desk : Type 0 where
-  pub ports : List Port
+pub record SrqState : Type 0 where
+  pub slots : List ChannelSlot
   pub enables : List Enable
   pub next_channel : ℕ
   pub level : Bool
 
 -- nobody, and no level
-abbrev pub empty : Desk
-empty = record { ports = []; enables = []; next_channel = 1; level = false }
+abbrev pub empty : SrqState
+empty = record { slots = []; enables = []; next_channel = 1; level = false }
 
 -- the channel of a connection, where it has one
-abbrev pub port_at : Desk → ℕ → Option Port
-port_at d conn = find (λ p. p.connection == conn) d.ports
+abbrev pub slot_at : SrqState → ℕ → Option ChannelSlot
+slot_at d conn = find (λ p. p.connection == conn) d.slots
 
-abbrev pub channel_at : Desk → ℕ → Option Channel
-channel_at d conn = option_and_then (λ p. p.channel) (port_at d conn)
+abbrev pub channel_at : SrqState → ℕ → Option Channel
+channel_at d conn = option_and_then (λ p. p.channel) (slot_at d conn)
 
 -- whether a channel number is left
-abbrev pub has_number : Desk → Bool
+abbrev pub has_number : SrqState → Bool
 has_number d = nat_le d.next_channel CONNECTION_LAST
 
--- the port, with this channel or none where it is the connection's
-abbrev pub port_with : ℕ → Option Channel → Port → Port
-port_with conn channel p = if p.connection == conn then record p { channel = channel } else p
+-- the slot, with this channel or none where it is the connection's
+abbrev pub slot_with : ℕ → Option Channel → ChannelSlot → ChannelSlot
+slot_with conn channel p = if p.connection == conn then record p { channel = channel } else p
 
-abbrev pub with_channel : Desk → ℕ → Option Channel → Desk
-with_channel d conn channel = record d { ports = map (port_with conn channel) d.ports }
+abbrev pub with_channel : SrqState → ℕ → Option Channel → SrqState
+with_channel d conn channel = record d { slots = map (slot_with conn channel) d.slots }
 
 -- one connection more, without a channel
-abbrev pub with_port : Desk → ℕ → Desk
-with_port d conn = record d { ports = d.ports ++ record { connection = conn; channel = None } ∷ [] }
+abbrev pub with_slot : SrqState → ℕ → SrqState
+with_slot d conn = record d { slots = d.slots ++ record { connection = conn; channel = None } ∷ [] }
 
 -- the connection gone, and with it its channel and the enables of its links
-abbrev pub without_port : Desk → ℕ → Desk
-without_port d conn = record d {
-  ports = filter (λ p. not (p.connection == conn)) d.ports;
+abbrev pub without_slot : SrqState → ℕ → SrqState
+without_slot d conn = record d {
+  slots = filter (λ p. not (p.connection == conn)) d.slots;
   enables = filter (λ e. not (e.connection == conn)) d.enables;
 }
 
@@ -72,7 +72,7 @@ abbrev pub new_channel : ℕ → ℕ → ℕ → Channel
 new_channel number program version = record { number = number; program = program; version = version; next_xid = 1; outbox = [] }
 
 -- the connection has a channel with the next number
-abbrev pub with_new_channel : Desk → ℕ → ℕ → ℕ → Desk
+abbrev pub with_new_channel : SrqState → ℕ → ℕ → ℕ → SrqState
 with_new_channel d conn program version =
     record (with_channel d conn (Some (new_channel d.next_channel program version))) { next_channel = d.next_channel + 1 }
 
@@ -81,11 +81,11 @@ abbrev pub enable_put : Enable → List Enable → List Enable
 enable_put e [] = e ∷ []
 enable_put e (f ∷ fs) = if nat_lt e.link f.link then e ∷ f ∷ fs else if e.link == f.link then e ∷ fs else f ∷ enable_put e fs
 
-abbrev pub with_enable : Desk → Enable → Desk
+abbrev pub with_enable : SrqState → Enable → SrqState
 with_enable d e = record d { enables = enable_put e d.enables }
 
 -- no enable of this link
-abbrev pub without_enable : Desk → ℕ → Desk
+abbrev pub without_enable : SrqState → ℕ → SrqState
 without_enable d lid = record d { enables = filter (λ e. not (e.link == lid)) d.enables }
 
 -- the handles of a connection's enabled links, in order of the links' numbers
@@ -97,17 +97,17 @@ abbrev pub queued_on : List (List ℕ) → Channel → Option Channel
 queued_on handles c = if nat_le (length (c.outbox ++ handles)) OUTBOX_MAX then Some (record c { outbox = c.outbox ++ handles }) else None
 
 -- what a rise does to a connection: a channel queues the handles of its enabled links, or is closed
-abbrev pub risen_port : List Enable → Port → Port
-risen_port enables p = record p { channel = option_and_then (queued_on (handles_of enables p.connection)) p.channel }
+abbrev pub risen_slot : List Enable → ChannelSlot → ChannelSlot
+risen_slot enables p = record p { channel = option_and_then (queued_on (handles_of enables p.connection)) p.channel }
 
 -- the level goes from off to on
 abbrev pub is_rise : Bool → Bool → Bool
 is_rise before now = now && not before
 
--- the desk after a sample of the SRQ line
-abbrev pub sampled : Desk → Bool → Desk
+-- the state of service requests after a sample of the SRQ line
+abbrev pub sampled : SrqState → Bool → SrqState
 sampled d level =
-    if is_rise d.level level then record d { ports = map (risen_port d.enables) d.ports; level = level } else record d { level = level }
+    if is_rise d.level level then record d { slots = map (risen_slot d.enables) d.slots; level = level } else record d { level = level }
 
 -- one interrupt call (VXI-11, device_intr_srq): its xid, program, version and handle
 pub record Srq : Type 0 where
@@ -131,7 +131,7 @@ given_by None number = Gone
 given_by (Some c) number = if c.number == number then front_given c c.outbox else Gone
 
 -- what a take from this channel of a connection gives
-abbrev pub given : Desk → ℕ → ℕ → Given
+abbrev pub given : SrqState → ℕ → ℕ → Given
 given d conn number = given_by (channel_at d conn) number
 
 -- the channel without the front of its outbox, and with the next xid, modulo 2^32
@@ -142,20 +142,20 @@ front_taken c (handle ∷ rest) = record c { next_xid = (c.next_xid + 1) % (2 ^ 
 abbrev pub taken_from : ℕ → Channel → Channel
 taken_from number c = if c.number == number then front_taken c c.outbox else c
 
-abbrev pub port_taken : ℕ → ℕ → Port → Port
-port_taken conn number p = if p.connection == conn then record p { channel = option_map (taken_from number) p.channel } else p
+abbrev pub slot_taken : ℕ → ℕ → ChannelSlot → ChannelSlot
+slot_taken conn number p = if p.connection == conn then record p { channel = option_map (taken_from number) p.channel } else p
 
--- the desk after a take from this channel of a connection
-abbrev pub taken : Desk → ℕ → ℕ → Desk
-taken d conn number = record d { ports = map (port_taken conn number) d.ports }
+-- the state of service requests after a take from this channel of a connection
+abbrev pub taken : SrqState → ℕ → ℕ → SrqState
+taken d conn number = record d { slots = map (slot_taken conn number) d.slots }
 
--- the connections' numbers, in order of the ports
-abbrev pub connections : Desk → List ℕ
-connections d = map (λ p. p.connection) d.ports
+-- the connections' numbers, in order of the slots
+abbrev pub connections : SrqState → List ℕ
+connections d = map (λ p. p.connection) d.slots
 
 -- whether the connection was added
-abbrev pub is_added : Desk → ℕ → Bool
-is_added d conn = list_any (λ p. p.connection == conn) d.ports
+abbrev pub is_added : SrqState → ℕ → Bool
+is_added d conn = list_any (λ p. p.connection == conn) d.slots
 
 -- each link's number is below those of the links after it
 abbrev pub LinksRise : List Enable → Type 0
@@ -165,15 +165,15 @@ LinksRise enables = AllPairs (λ a b. a.link < b.link) enables
 abbrev pub IsBelow : ℕ → Channel → Type 0
 IsBelow next c = (length c.outbox ≤ OUTBOX_MAX) × (0 < c.number) × (c.number < next)
 
--- so is the channel of a port, where it has one
-abbrev pub HasChannelBelow : ℕ → Port → Type 0
+-- so is the channel of a slot, where it has one
+abbrev pub HasChannelBelow : ℕ → ChannelSlot → Type 0
 HasChannelBelow next p = IfSome p.channel (IsBelow next)
 
--- What holds of every desk that the calls make: enables in order of the links' numbers, as many as links may live; no
+-- What holds of every state of service requests that the calls make: enables in order of the links' numbers, as many as links may live; no
 -- outbox above what it takes; and each channel's number below the next one, which is at most one past the greatest.
-pub record IsSound (d : Desk) : Type 0 where
+pub record IsSound (d : SrqState) : Type 0 where
   pub links : LinksRise d.enables
   pub few : length d.enables ≤ LINK_MAX
-  pub channels : All (HasChannelBelow d.next_channel) d.ports
+  pub channels : All (HasChannelBelow d.next_channel) d.slots
   pub first : 0 < d.next_channel
   pub last : d.next_channel ≤ CONNECTION_LAST + 1

@@ -1,6 +1,6 @@
 use Rattle.std.proofs.Common.{arith, sym}
 use Rattle.vx_srq.proofs.Due.{too_many}
-use Rattle.vx_srq.proofs.ports.queue.Goals as goal
+use Rattle.vx_srq.proofs.slots.queue.Goals as goal
 
 pub returns-then-len-ge-OUTBOX_MAX-clause-fits : goal.returns-then-len-ge-OUTBOX_MAX-clause-fits
 returns-then-len-ge-OUTBOX_MAX-clause-fits c =

@@ -3,7 +3,7 @@ use Rattle.std.specs.VecDeque.{deque_capacity}
 use Rattle.vx_srq.specs.declared.srq.TheConstants.{OUTBOX_MAX}
 use Rattle.vx_srq.specs.Shown.{handle_shown}
 use Rattle.vx_srq.proofs.Due.{due}
-use Rattle.vx_srq.proofs.ports.queue.Given as goal
+use Rattle.vx_srq.proofs.slots.queue.Given as goal
 
 abbrev pub invariant-loop-enable : goal.invariant-loop-enable
 invariant-loop-enable l = record {
