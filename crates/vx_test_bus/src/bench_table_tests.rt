@@ -19,7 +19,7 @@ fn cause_of(alloc: Global, text: &[u8]) -> Result<Option<Cause>, NoMemory> {
 struct NoMemory;
 
 // A table gives an instrument, where memory doesn't run out.
-const TEXTS: [(&[u8], Option<Cause>); 6] = [
+static TEXTS: [(&[u8], Option<Cause>); 6] = [
     (br#"{"rules":[{"in":"*IDN?","out":"ACME,1\n"}]}"#, None),
     (b"[]", Some(Cause::Rule)),
     (br#"{"rules":[{"out":"x"}]}"#, Some(Cause::Rule)),

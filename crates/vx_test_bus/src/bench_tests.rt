@@ -70,7 +70,7 @@ const FIVE_SIX: [bool; 3] = [true, true, false];
 
 const FIVE_SEVEN: [bool; 3] = [true, false, true];
 
-const BENCHES: [(&[u8], Ended); 24] = [
+static BENCHES: [(&[u8], Ended); 24] = [
     (b"", (None, 2, NONE)),
     (b"\n# a bench\n\n#", (None, 2, NONE)),
     (
@@ -339,7 +339,7 @@ const LONG: BenchStop = BenchStop::Refused {
 };
 
 // A line as long as may be, and one byte longer.
-const LENGTHS: [(usize, Option<BenchStop>); 2] = [(1_048_576, None), (1_048_577, Some(LONG))];
+static LENGTHS: [(usize, Option<BenchStop>); 2] = [(1_048_576, None), (1_048_577, Some(LONG))];
 
 #[test]
 fn long_lines(rt: HostRuntime) -> Result<(), Fail> {

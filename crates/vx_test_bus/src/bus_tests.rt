@@ -30,15 +30,15 @@ fn ask_each(rt: &impl Abort, bus: &mut MemBus, rows: &[(Ask, Answer)])
     }
 }
 
-const UP_TO_A_HOLD: [(Ask, Answer); 3] = [
+static UP_TO_A_HOLD: [(Ask, Answer); 3] = [
     (Ask::Cmd(0x23), Answer::Went),
     (Ask::Cmd(0x45), Answer::Failed),
     (Ask::Cmd(0x45), Answer::Held),
 ];
 
-const BEHIND_THE_HOLD: [(Ask, Answer); 1] = [(Ask::Cmd(0x45), Answer::Went)];
+static BEHIND_THE_HOLD: [(Ask, Answer); 1] = [(Ask::Cmd(0x45), Answer::Went)];
 
-const BEHIND_THE_CUT: [(Ask, Answer); 8] = [
+static BEHIND_THE_CUT: [(Ask, Answer); 8] = [
     (Ask::Get, Answer::Got { b: 65, end: false }),
     (Ask::Get, Answer::Failed),
     (Ask::Get, Answer::Got { b: 66, end: true }),
@@ -49,7 +49,7 @@ const BEHIND_THE_CUT: [(Ask, Answer); 8] = [
     (Ask::Own(7), Answer::Went),
 ];
 
-const CLEARS: [(Ask, Answer); 1] = [(Ask::Ifc, Answer::Went)];
+static CLEARS: [(Ask, Answer); 1] = [(Ask::Ifc, Answer::Went)];
 
 const MOVES: &[Transfer] = &[
     Transfer::Got { b: 65, end: false },
@@ -92,7 +92,7 @@ const LOCAL: [bool; 5] = [false, true, false, false, false];
 const REMOTE: [bool; 5] = [true, true, false, false, false];
 
 /// What the bus shows up to the hold, behind it, behind the cut, at its end, and once it is cleared.
-const SHOWN: [Shown<'static>; 5] = [
+static SHOWN: [Shown<'static>; 5] = [
     (&[Transfer::Cmd(0x23)], None, true, 0, LOCAL),
     (
         &[Transfer::Cmd(0x23), Transfer::Cmd(0x45)],

@@ -123,7 +123,7 @@ fn go_rows(rt: &impl Abort, alloc: Global, rows: &[Row]) -> Result<(), Fail> {
 }
 
 // A write, a clear and a remote of a device with a secondary address.
-const TO_A_DEVICE: [Row; 3] = [
+static TO_A_DEVICE: [Row; 3] = [
     Row {
         bench: READY,
         task: Task::Write {
@@ -166,7 +166,7 @@ fn sends_to_a_device(rt: HostRuntime) -> Result<(), Fail> {
     go_rows(&rt, rt.alloc(), &TO_A_DEVICE)
 }
 
-const READS: [Row; 4] = [
+static READS: [Row; 4] = [
     Row {
         bench: GIVES,
         task: Task::Read {
@@ -234,7 +234,7 @@ fn reads_up_to_a_reason(rt: HostRuntime) -> Result<(), Fail> {
     go_rows(&rt, rt.alloc(), &READS)
 }
 
-const POLLS: [Row; 1] = [Row {
+static POLLS: [Row; 1] = [Row {
     bench: Bench {
         gets: &[(0x50, false)],
         holds: &[],
@@ -276,7 +276,7 @@ const HOLDS: Bench = Bench {
 };
 
 // The second call fails; and of another write the fourth, which is the first byte, is held once.
-const STOPS: [Row; 2] = [
+static STOPS: [Row; 2] = [
     Row {
         bench: Bench {
             gets: &[],

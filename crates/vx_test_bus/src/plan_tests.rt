@@ -97,7 +97,7 @@ const FIVE: Target = Target::Device { p: 5, s: None };
 const FIVE_THREE: Target = Target::Device { p: 5, s: Some(3) };
 
 // Jobs on a device make these sequences, and a read of no bytes makes nothing.
-const ON_A_DEVICE: [Row; 16] = [
+static ON_A_DEVICE: [Row; 16] = [
     (
         Task::Write {
             t: FIVE,
@@ -323,7 +323,7 @@ fn on_a_device(rt: HostRuntime) {
 }
 
 // Jobs on the interface put nothing in front, also where serial poll mode is on.
-const ON_THE_INTERFACE: [Row; 16] = [
+static ON_THE_INTERFACE: [Row; 16] = [
     (
         Task::Write {
             t: Target::Interface,
@@ -419,7 +419,7 @@ fn on_the_interface(rt: HostRuntime) {
 }
 
 // Serial poll mode that was left on ends before all else on a device, but not where nothing is read.
-const IN_POLL_MODE: [Row; 7] = [
+static IN_POLL_MODE: [Row; 7] = [
     (
         Task::Write {
             t: FIVE,
@@ -502,7 +502,7 @@ fn serial_poll_mode_ends_first(rt: HostRuntime) {
 }
 
 // The gateway talks and listens at its own address.
-const AT_THREE: [Row; 3] = [
+static AT_THREE: [Row; 3] = [
     (
         Task::Write {
             t: FIVE,
@@ -559,7 +559,7 @@ const STOPS_AT_42: Task = Task::Read {
     stop: Some(0x42),
 };
 
-const OTHER_LISTS: [&[Transfer]; 6] = [
+static OTHER_LISTS: [&[Transfer]; 6] = [
     &[],
     &[Got {
         b: 0x41,
@@ -628,7 +628,7 @@ const INTERFACE_READ: Task = Task::Read {
 };
 
 /// Jobs that need the gateway to be in charge, and no more.
-const NEED_CHARGE: [Task; 7] = [
+static NEED_CHARGE: [Task; 7] = [
     Task::Write {
         t: FIVE,
         len: 1,
@@ -644,7 +644,7 @@ const NEED_CHARGE: [Task; 7] = [
     Task::Own(7),
 ];
 
-const NEED_NOTHING: [Task; 3] = [Task::Status { selector: 5 }, Task::Ren(true), Task::Ifc];
+static NEED_NOTHING: [Task; 3] = [Task::Status { selector: 5 }, Task::Ren(true), Task::Ifc];
 
 /// How many of these jobs the gateway has the role for.
 fn count_needs(tasks: &[Task], wire: &Wire) -> usize {
@@ -653,7 +653,7 @@ fn count_needs(tasks: &[Task], wire: &Wire) -> usize {
 
 // Command bytes, beside whether a write and a read on the interface may begin on the bus after them, and how many of the
 // jobs that need charge, and of those that need nothing, may.
-const ROLES: [(&[u8], bool, bool, usize, usize); 4] = [
+static ROLES: [(&[u8], bool, bool, usize, usize); 4] = [
     (&[], false, false, 7, 3),
     (&[0x40], true, false, 7, 3),
     (&[0x20], false, true, 7, 3),

@@ -10,7 +10,7 @@ use vx_rack::*;
 type Boxed = Box<dyn Instrument + Send>;
 
 // A message comes back with END on its last byte.
-const ECHO: [Step; 23] = [
+static ECHO: [Step; 23] = [
     Step::Mute,
     Step::Takes(b'A', false),
     Step::Mute,
@@ -45,7 +45,7 @@ fn echo(rt: HostRuntime) -> Result<(), Fail> {
 }
 
 // Readings are numbered from 1, by message and by trigger.
-const METER: [Step; 20] = [
+static METER: [Step; 20] = [
     Step::Sent(b"READ?"),
     Step::Replies(b"1\n"),
     Step::Triggered,
@@ -77,7 +77,7 @@ fn meter(rt: HostRuntime) -> Result<(), Fail> {
 }
 
 // After each byte a slow instrument waits for a later moment; a poll and a clear leave that as it is.
-const SLOW: [Step; 29] = [
+static SLOW: [Step; 29] = [
     Step::Told(0),
     Step::Takes(b'A', false),
     Step::Hears(false),
@@ -118,7 +118,7 @@ fn slow(rt: HostRuntime) -> Result<(), Fail> {
 }
 
 // The end of a message and a trigger ask for service, and a poll ends the asking.
-const ASKER: [Step; 19] = [
+static ASKER: [Step; 19] = [
     Step::Asks(false),
     Step::Polled(0),
     Step::Takes(b'A', false),
@@ -149,7 +149,7 @@ fn asker(rt: HostRuntime) -> Result<(), Fail> {
 }
 
 // A reply that has no room is dropped whole, and one that just fits isn't.
-const FULL_ECHO: [Step; 11] = [
+static FULL_ECHO: [Step; 11] = [
     Step::Filled(b'x', INST_MAX, false),
     Step::Hears(false),
     Step::Mute,
@@ -172,7 +172,7 @@ fn full_echo(rt: HostRuntime) -> Result<(), Fail> {
 }
 
 // Readings 1 to 45541 leave room for 4 bytes: the next reading is dropped, and its number isn't given again.
-const FULL_METER: [Step; 4] = [
+static FULL_METER: [Step; 4] = [
     Step::TriggeredOften(45542),
     Step::Replies(b"1\n"),
     Step::Triggered,

@@ -258,7 +258,7 @@ const OWN_THREE: Addr = Addr { p: 0, s: Some(3) };
 const NONE: &[Transfer] = &[];
 
 // Nobody listens at 6, until an instrument is attached there.
-const PUT_IS_HELD_WHERE_NOBODY_LISTENS: [Step; 14] = [
+static PUT_IS_HELD_WHERE_NOBODY_LISTENS: [Step; 14] = [
     Step::Attach(FIVE, None),
     Step::Sent(&[0x3F, 0x40, 0x26]),
     Step::Asked(Ask::Put { b: 65, end: true }, Answer::Held),
@@ -281,7 +281,7 @@ fn put_is_held_where_nobody_listens(rt: HostRuntime) -> Result<(), Fail> {
 }
 
 // A message of two bytes to a slow instrument and back, over moments. The moment 0 isn't later than the first one.
-const SLOW_INSTRUMENT_WAITS_FOR_A_MOMENT: [Step; 20] = [
+static SLOW_INSTRUMENT_WAITS_FOR_A_MOMENT: [Step; 20] = [
     Step::AttachSlow(FIVE, None),
     Step::Told(0),
     Step::Sent(&[0x3F, 0x40, 0x25]),
@@ -310,7 +310,7 @@ fn slow_instrument_waits_for_a_moment(rt: HostRuntime) -> Result<(), Fail> {
 }
 
 // A byte goes to all listeners or to none of them.
-const SLOW_LISTENER_HOLDS_THE_OTHERS: [Step; 8] = [
+static SLOW_LISTENER_HOLDS_THE_OTHERS: [Step; 8] = [
     Step::Attach(SIX, None),
     Step::AttachSlow(FIVE, None),
     Step::Sent(&[0x3F, 0x25, 0x26]),
@@ -327,7 +327,7 @@ fn slow_listener_holds_the_others(rt: HostRuntime) -> Result<(), Fail> {
 }
 
 // The second call fails, and the third goes. A get that would be held fails too. The last order counts.
-const ORDERED_CALL_FAILS: [Step; 16] = [
+static ORDERED_CALL_FAILS: [Step; 16] = [
     Step::Fails(2),
     Step::Asked(Ask::Cmd(0x3F), Answer::Went),
     Step::Asked(Ask::Cmd(0x40), Answer::Failed),
@@ -352,7 +352,7 @@ fn ordered_call_fails(rt: HostRuntime) -> Result<(), Fail> {
 }
 
 // An instrument asks at END; a serial poll gets its status byte without END, and ends its asking.
-const SERIAL_POLL_OF_ONE_THAT_ASKS: [Step; 13] = [
+static SERIAL_POLL_OF_ONE_THAT_ASKS: [Step; 13] = [
     Step::Attach(FIVE, None),
     Step::Sent(&[0x3F, 0x40, 0x25]),
     Step::Srq(false),
@@ -374,7 +374,7 @@ fn serial_poll_of_one_that_asks(rt: HostRuntime) -> Result<(), Fail> {
 }
 
 // SDC and GET reach the listener alone, DCL both instruments.
-const COMMANDS_REACH_THOSE_ADDRESSED: [Step; 23] = [
+static COMMANDS_REACH_THOSE_ADDRESSED: [Step; 23] = [
     Step::Attach(FIVE, None),
     Step::Attach(SIX_ONE, None),
     Step::Sent(&[0x3F, 0x25, 0x26, 0x61]),
@@ -406,7 +406,7 @@ fn commands_reach_those_addressed(rt: HostRuntime) -> Result<(), Fail> {
 }
 
 // The own address comes before one that is taken, and that before a full bench.
-const ATTACH_REFUSES_IN_ORDER: [Step; 12] = [
+static ATTACH_REFUSES_IN_ORDER: [Step; 12] = [
     Step::Attach(OWN_THREE, Some(Attach::OwnAddress)),
     Step::Attach(SIX_ONE, None),
     Step::Attach(SIX_TWO, None),
@@ -427,7 +427,7 @@ fn attach_refuses_in_order(rt: HostRuntime) -> Result<(), Fail> {
 }
 
 // An instrument that is pulled is gone, and its address is free.
-const PULL_TAKES_IT_AWAY: [Step; 13] = [
+static PULL_TAKES_IT_AWAY: [Step; 13] = [
     Step::Attach(SIX_ONE, None),
     Step::Attach(FIVE, None),
     Step::Pull(SIX, Err(Absent)),
@@ -451,7 +451,7 @@ fn pull_takes_it_away(rt: HostRuntime) -> Result<(), Fail> {
 const LATE: &str = r#"{"rules":[{"in":"A","out":"x","delay":5},{"in":"B","stb":65}]}"#;
 
 // A table instrument answers, late where its rule says so. It was told the last moment as it was attached.
-const TABLE_ANSWERS: [Step; 12] = [
+static TABLE_ANSWERS: [Step; 12] = [
     Step::Told(10),
     Step::Table(FIVE, LATE, None),
     Step::Sent(&[0x3F, 0x25, 0x45]),

@@ -62,7 +62,7 @@ fn refuse_each(
 }
 
 // Each value that isn't a table, or has a bad rule behind good ones.
-const REFUSALS: [(&str, Option<TableErr>); 7] = [
+static REFUSALS: [(&str, Option<TableErr>); 7] = [
     (r#"[]"#, Some(TableErr::NotObject)),
     (r#"null"#, Some(TableErr::NotObject)),
     (r#"{}"#, Some(TableErr::NotObject)),
@@ -81,7 +81,7 @@ fn refusals(rt: HostRuntime) -> Result<(), Fail> {
 }
 
 // Each table with one rule that isn't of a rule's form. Of equal keys the last counts.
-const BAD_RULES: [(&str, Option<TableErr>); 14] = [
+static BAD_RULES: [(&str, Option<TableErr>); 14] = [
     (r#"{"rules":[null]}"#, Some(TableErr::BadRule(1))),
     (r#"{"rules":[{"in":1}]}"#, Some(TableErr::BadRule(1))),
     (
@@ -140,7 +140,7 @@ fn bad_rules(rt: HostRuntime) -> Result<(), Fail> {
 }
 
 // Each value that makes an instrument. Of equal keys the last counts, and other keys don't.
-const TABLES: [(&str, Option<TableErr>); 6] = [
+static TABLES: [(&str, Option<TableErr>); 6] = [
     (r#"{"rules":[]}"#, None),
     (r#"{"rules":[{"in":"*IDN?","out":"ACME,1\n"}]}"#, None),
     (
@@ -171,7 +171,7 @@ const REPLY: &str = r#"{"rules":[{"in":"a","out":""#;
 const END: &str = r#""}]}"#;
 
 // A table has at most 256 rules, a message at most 4,096 bytes and a reply at most 65,536.
-const LIMITS: [(&str, &str, usize, &str, Option<TableErr>); 9] = [
+static LIMITS: [(&str, &str, usize, &str, Option<TableErr>); 9] = [
     (FIRST, NEXT, 255, "]}", None),
     (FIRST, NEXT, 256, "]}", Some(TableErr::TooMany)),
     (r#"{"rules":[{}"#, NEXT, 256, "]}", Some(TableErr::TooMany)),
@@ -203,7 +203,7 @@ const IDN: &str =
     r#"{"rules":[{"in":"*IDN?","out":"ACME,1\n"},{"in":"*IDN?","out":"no"},{"in":"A\n","out":"B"},{"in":"","out":"C"},{"in":"N"}]}"#;
 
 // The first rule for a message acts. One line feed at the end of a message doesn't count.
-const REPLIES: [Step; 34] = [
+static REPLIES: [Step; 34] = [
     Step::Sent(b"*IDN?"),
     Step::Replies(b"ACME,1\n"),
     Step::Mute,
@@ -246,7 +246,7 @@ fn replies(rt: HostRuntime) -> Result<(), Fail> {
 }
 
 // A rule sets the status byte; bit 6 asks for service.
-const STATUS: [Step; 11] = [
+static STATUS: [Step; 11] = [
     Step::Asks(false),
     Step::Sent(b"A"),
     Step::Asks(true),
@@ -267,7 +267,7 @@ fn status(rt: HostRuntime) -> Result<(), Fail> {
 }
 
 // A rule with a delay acts when that has passed since the last moment told, and not before.
-const DELAY: [Step; 35] = [
+static DELAY: [Step; 35] = [
     Step::Told(50),
     Step::Told(40),
     Step::Sent(b"D"),
@@ -312,7 +312,7 @@ fn delay(rt: HostRuntime) -> Result<(), Fail> {
 }
 
 // A clear drops what was taken, what there is to give and the rule that waits.
-const CLEAR: [Step; 14] = [
+static CLEAR: [Step; 14] = [
     Step::Set(0x42),
     Step::Sent(b"C"),
     Step::Sent(b"A"),
@@ -336,7 +336,7 @@ fn clear(rt: HostRuntime) -> Result<(), Fail> {
 }
 
 // A reply that has no room is dropped whole, and one that just fits isn't; the status byte is set all the same.
-const ROOM: [Step; 10] = [
+static ROOM: [Step; 10] = [
     Step::Sent(b"D"),
     Step::Sent(b"D"),
     Step::Sent(b"D"),

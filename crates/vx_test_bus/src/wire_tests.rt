@@ -37,7 +37,7 @@ fn listen_alone(wire: &Wire, listed: &[Addr]) -> bool {
 }
 
 // The command bytes of IEEE 488.1; the eighth bit doesn't count.
-const COMMAND_BYTES: [(u8, Command); 24] = [
+static COMMAND_BYTES: [(u8, Command); 24] = [
     (0x00, Command::OtherPrimary),
     (0x01, Command::GoToLocal),
     (0x04, Command::SelectedClear),
@@ -97,7 +97,7 @@ const MSA_1: Transfer = Transfer::Cmd(0x61);
 const MSA_2: Transfer = Transfer::Cmd(0x62);
 
 // Secondary addresses take the place of their primary, and gather at a listener.
-const ADDRESSED: [Addressed; 9] = [
+static ADDRESSED: [Addressed; 9] = [
     Addressed {
         sent: &[MLA_5],
         listeners: &[FIVE],
@@ -155,7 +155,7 @@ fn secondary_addresses(rt: HostRuntime) {
 }
 
 // What follows MLA 5, beside the primary address that a secondary one would belong to then.
-const PENDING: [(Transfer, Pending); 15] = [
+static PENDING: [(Transfer, Pending); 15] = [
     (Transfer::Cmd(0x01), Pending::Nothing),
     (Transfer::Cmd(0x11), Pending::Nothing),
     (Transfer::Cmd(0x14), Pending::Nothing),
@@ -187,7 +187,7 @@ fn pending_primary(rt: HostRuntime) {
 }
 
 // Own address and commands, beside whether the gateway is in charge after them.
-const CONTROL: [(u8, &[u8], bool); 6] = [
+static CONTROL: [(u8, &[u8], bool); 6] = [
     (3, &[0x09], true),
     (3, &[0x43, 0x09], true),
     (3, &[0x43, 0x61, 0x09], true),
@@ -226,7 +226,7 @@ fn interface_clear(rt: HostRuntime) {
 }
 
 // Data bytes and ATN change nothing, and Own the own address alone.
-const KEPT: [(Transfer, u8); 6] = [
+static KEPT: [(Transfer, u8); 6] = [
     (Transfer::Put { b: 0x3F, end: true }, 3),
     (Transfer::Got { b: 0x3F, end: true }, 3),
     (Transfer::Atn(true), 3),
@@ -253,7 +253,7 @@ fn kept(rt: HostRuntime) {
 }
 
 // Whether the gateway itself, at address 0, talks and listens.
-const OWN_ROLES: [(&[u8], bool, bool); 6] = [
+static OWN_ROLES: [(&[u8], bool, bool); 6] = [
     (&[], false, false),
     (&[0x20], false, true),
     (&[0x40], true, false),
@@ -272,7 +272,7 @@ fn own_roles(rt: HostRuntime) {
 }
 
 // Addresses with a part above 30 never listen.
-const LISTENED: [(Addr, bool); 5] = [
+static LISTENED: [(Addr, bool); 5] = [
     (Addr { p: 31, s: None }, false),
     (Addr { p: 31, s: Some(0) }, false),
     (Addr { p: 0, s: Some(31) }, false),

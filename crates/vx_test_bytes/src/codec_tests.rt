@@ -22,7 +22,7 @@ fn bytes_of(alloc: Global, words: &[u32]) -> Result<Vec<u8>, AllocError> {
 }
 
 // Arguments put together by hand from the structures of VXI-11's appendix C, and the call that they are.
-const CALLS: [(Proc, &[u32], &str); 17] = [
+static CALLS: [(Proc, &[u32], &str); 17] = [
     (Proc::Null, &[], "Null"),
     (
         Proc::CreateLink,
@@ -110,21 +110,32 @@ fn read(alloc: Global, proc: Proc, args: &[u8]) -> Result<(String, (bool, bool))
     }
 }
 
+/// Whether these words are a call's arguments, both ways.
+fn is_call(alloc: Global, proc: Proc, words: &[u32], shown: &str) -> Result<bool, Fail> {
+    let args = bytes_of(alloc, words)?;
+    let (text, written) = read(alloc, proc, &args)?;
+    Ok(text.as_str() == shown && written == (true, !words.is_empty()))
+}
+
+/// The place of the first row whose words are another call.
+fn first_wrong(alloc: Global, rows: &[(Proc, &[u32], &str)]) -> Result<Option<usize>, Fail> {
+    for (place, (proc, words, shown)) in rows.iter().enumerate() {
+        if !is_call(alloc, *proc, words, shown)? {
+            return Ok(Some(place));
+        }
+    }
+    Ok(None)
+}
+
 #[test]
 fn each_call_both_ways(rt: HostRuntime) -> Result<(), Fail> {
-    for (proc, words, shown) in CALLS {
-        let args = bytes_of(rt.alloc(), words)?;
-        let (text, written) = read(rt.alloc(), proc, &args)?;
-        assert_eq!(rt;
-            (text.as_str(), written),
-            (shown, (true, !words.is_empty()))
-        );
-    }
+    let wrong = first_wrong(rt.alloc(), &CALLS)?;
+    assert_eq!(rt; wrong, None);
     Ok(())
 }
 
 // A reply, its procedure, its bytes, and the results that they are.
-const REPLIES: [(ReplyRef<'static>, Proc, &[u8], Results<'static>); 7] = [
+static REPLIES: [(ReplyRef<'static>, Proc, &[u8], Results<'static>); 7] = [
     (ReplyRef::Null, Proc::Null, b"", Results::Null),
     (
         ReplyRef::CreateLink {
@@ -212,14 +223,24 @@ fn is_written(reply: &ReplyRef<'_>, bytes: &[u8]) -> bool {
     is_puttable(reply) && put_results(reply, &mut out) == Ok(bytes.len()) && out.starts_with(bytes)
 }
 
+/// Whether bytes are a reply's results, both ways.
+fn is_reply(reply: &ReplyRef<'_>, proc: Proc, bytes: &[u8], seen: &Results<'_>) -> bool {
+    is_written(reply, bytes) && read_results(proc, bytes).as_ref() == Some(seen)
+}
+
+/// The first row whose bytes are other results.
+fn first_unlike(rows: &[(ReplyRef<'_>, Proc, &[u8], Results<'_>)]) -> Option<usize> {
+    for (place, (reply, proc, bytes, seen)) in rows.iter().enumerate() {
+        if !is_reply(reply, *proc, bytes, seen) {
+            return Some(place);
+        }
+    }
+    None
+}
+
 #[test]
 fn each_reply_both_ways(rt: HostRuntime) {
-    for (reply, proc, bytes, seen) in REPLIES {
-        assert_eq!(rt;
-            (is_written(&reply, bytes), read_results(proc, bytes)),
-            (true, Some(seen))
-        );
-    }
+    assert_eq!(rt; first_unlike(&REPLIES), None);
 }
 
 // What stands above a status byte isn't looked at.
@@ -254,7 +275,7 @@ const LONG_HANDLE: &[u8] = b"\0\0\0\0\0\0\0\0\0\0\0\x29\
     \0\0\0\0\0\0\0\0\0\0\0\0\0\0\0\0\0\0\0\0\0\0\
     \0\0\0\0\0\0\0\0\0\0\0\0\0\0\0\0\0\0\0\0\0\0";
 
-const NO_CALLS: [(Proc, &[u8]); 7] = [
+static NO_CALLS: [(Proc, &[u8]); 7] = [
     (Proc::Null, b"\0\0\0\0"),
     (Proc::Unlock, b"\0\0\0"),
     (Proc::Unlock, b"\0\0\0\x01\0"),
@@ -267,9 +288,17 @@ const NO_CALLS: [(Proc, &[u8]); 7] = [
     (Proc::EnableSrq, LONG_HANDLE),
 ];
 
+/// The first row that spells a call.
+fn first_call(rows: &[(Proc, &[u8])]) -> Option<usize> {
+    for (place, (proc, args)) in rows.iter().enumerate() {
+        if read_args(*proc, args).is_some() {
+            return Some(place);
+        }
+    }
+    None
+}
+
 #[test]
 fn what_spells_no_call(rt: HostRuntime) {
-    for (proc, args) in NO_CALLS {
-        assert!(rt; read_args(proc, args).is_none(), "{proc:?} of {args:?}");
-    }
+    assert_eq!(rt; first_call(&NO_CALLS), None);
 }

@@ -13,7 +13,7 @@ use vx_io::*;
 
 // Reads of a source of 1, 2, 3, 4, 5 in pieces of 2, whose second and last reads fail: the slice's length, the answer, and
 // what stands in a slice of zeros then.
-const READS: [(usize, ReadOut, [u8; 3]); 8] = [
+static READS: [(usize, ReadOut, [u8; 3]); 8] = [
     (3, ReadOut::Got(2), [1, 2, 0]),
     (3, ReadOut::Failed, [0, 0, 0]),
     (1, ReadOut::Got(1), [3, 0, 0]),
@@ -36,17 +36,26 @@ fn read(source: &mut MemSource, room: usize) -> (ReadOut, [u8; 3]) {
     (answer, into)
 }
 
+/// The place of the first row whose read is answered otherwise.
+fn first_misread(source: &mut MemSource, rows: &[(usize, ReadOut, [u8; 3])]) -> Option<usize> {
+    for (place, (room, answer, slice)) in rows.iter().enumerate() {
+        if read(source, *room) != (*answer, *slice) {
+            return Some(place);
+        }
+    }
+    None
+}
+
 #[test]
 fn memory_gives_pieces_and_fails_where_told(rt: HostRuntime) -> Result<(), Fail> {
     let mut source = digits(rt.alloc())?;
-    for (room, answer, slice) in READS {
-        assert_eq!(rt; read(&mut source, room), (answer, slice));
-    }
+    let wrong = first_misread(&mut source, &READS);
+    assert_eq!(rt; wrong, None);
     Ok(())
 }
 
 // Writes into a room that holds a 9 already, the answers, and what the room holds then; the second fails.
-const WRITES: [(&[u8], WriteOut, &[u8]); 3] = [
+static WRITES: [(&[u8], WriteOut, &[u8]); 3] = [
     (&[1, 2, 3], WriteOut::Took(3), &[9, 1, 2, 3]),
     (&[4], WriteOut::Failed, &[9, 1, 2, 3]),
     (&[5, 6], WriteOut::Took(2), &[9, 1, 2, 3, 5, 6]),
@@ -67,12 +76,21 @@ fn write<'a>(sink: &'a mut MemSink, from: &[u8]) -> (WriteOut, &'a [u8]) {
     (answer, sink.bytes())
 }
 
+/// The place of the first row whose write is answered otherwise, or after which the room holds something else.
+fn first_miswritten(sink: &mut MemSink, rows: &[(&[u8], WriteOut, &[u8])]) -> Option<usize> {
+    for (place, (from, answer, room)) in rows.iter().enumerate() {
+        if write(sink, from) != (*answer, *room) {
+            return Some(place);
+        }
+    }
+    None
+}
+
 #[test]
 fn memory_takes_whole_slices(rt: HostRuntime) -> Result<(), Fail> {
     let mut sink = nine(rt.alloc())?;
-    for (from, answer, room) in WRITES {
-        assert_eq!(rt; write(&mut sink, from), (answer, room));
-    }
+    let wrong = first_miswritten(&mut sink, &WRITES);
+    assert_eq!(rt; wrong, None);
     Ok(())
 }
 
@@ -117,7 +135,7 @@ impl io::Write for Stutter {
 }
 
 // What a source and a sink over a real stream answer where it is interrupted, gives, ends and errs.
-const STUTTERS: [(u32, Option<usize>, ReadOut, WriteOut); 5] = [
+static STUTTERS: [(u32, Option<usize>, ReadOut, WriteOut); 5] = [
     (0, Some(4), ReadOut::Got(4), WriteOut::Took(4)),
     (63, Some(9), ReadOut::Got(5), WriteOut::Took(5)),
     (64, Some(4), ReadOut::Failed, WriteOut::Failed),
@@ -133,13 +151,25 @@ fn written_to(stream: Stutter) -> WriteOut {
     StdSink::new(stream).write(&[0; 5])
 }
 
+/// What a source and a sink over such streams answer.
+fn stuttered(interrupts: u32, moves: Option<usize>) -> (ReadOut, WriteOut) {
+    let read = read_of(Stutter { interrupts, moves });
+    (read, written_to(Stutter { interrupts, moves }))
+}
+
+/// The first row whose streams are answered otherwise.
+fn first_unlike(rows: &[(u32, Option<usize>, ReadOut, WriteOut)]) -> Option<usize> {
+    for (place, (interrupts, moves, read, written)) in rows.iter().enumerate() {
+        if stuttered(*interrupts, *moves) != (*read, *written) {
+            return Some(place);
+        }
+    }
+    None
+}
+
 #[test]
 fn real_streams_answer(rt: HostRuntime) {
-    for (interrupts, moves, read, written) in STUTTERS {
-        let source = Stutter { interrupts, moves };
-        let sink = Stutter { interrupts, moves };
-        assert_eq!(rt; (read_of(source), written_to(sink)), (read, written));
-    }
+    assert_eq!(rt; first_unlike(&STUTTERS), None);
 }
 
 /// The answer of a call of a link.
@@ -161,16 +191,24 @@ fn call<L: Link>(link: &mut L, sends: &[u8], into: &mut [u8; 4]) -> Answer {
     }
 }
 
+/// Makes the calls, and answers the place of the first that is answered otherwise.
+fn first_wrong<L: Link>(link: &mut L, calls: &[Called]) -> Option<usize> {
+    let mut into = [0u8; 4];
+    for (place, (sends, answer, slice)) in calls.iter().enumerate() {
+        if (call(link, sends, &mut into), into) != (*answer, *slice) {
+            return Some(place);
+        }
+    }
+    None
+}
+
 /// Makes the calls, and compares the answers.
 fn answers<L: Link>(rt: &impl Abort, link: &mut L, calls: &[Called]) {
-    let mut into = [0u8; 4];
-    for (sends, answer, slice) in calls {
-        assert_eq!(rt; (call(link, sends, &mut into), into), (*answer, *slice));
-    }
+    assert_eq!(rt; first_wrong(link, calls), None);
 }
 
 // Receives and sends of one link of 1, 2, 3 in pieces of 2, counted together: the second call and the fifth fail.
-const LINK_CALLS: [Called; 7] = [
+static LINK_CALLS: [Called; 7] = [
     (&[], Answer::Received(ReadOut::Got(2)), [1, 2, 0, 0]),
     (&[4, 5], Answer::Sent(WriteOut::Failed), [1, 2, 0, 0]),
     (&[4, 5], Answer::Sent(WriteOut::Took(2)), [1, 2, 0, 0]),
@@ -190,15 +228,15 @@ fn pieces(alloc: Global, room: &[u8], fails: &[u64]) -> Result<MemLink, AllocErr
 #[test]
 fn memory_link_gives_and_takes(rt: HostRuntime) -> Result<(), Fail> {
     let mut link = pieces(rt.alloc(), &[9], &[2, 5])?;
-    answers(&rt, &mut link, &LINK_CALLS);
-    assert_eq!(rt; link.bytes(), [9u8, 4, 5, 6].as_slice());
+    let wrong = first_wrong(&mut link, &LINK_CALLS);
+    assert_eq!(rt; (wrong, link.bytes()), (None, [9u8, 4, 5, 6].as_slice()));
     Ok(())
 }
 
 const HOST: u32 = 0x7F00_0001;
 
 // Three dials, of which the second fails, and a hand-over between them, which isn't counted.
-const RANG: [Rang; 4] = [
+static RANG: [Rang; 4] = [
     Rang::Dialed {
         host: HOST,
         port: 9,
@@ -239,7 +277,7 @@ fn memory_dial_tells_its_calls(rt: HostRuntime) -> Result<(), Fail> {
 }
 
 // The moments of lists, one of which falls, and what a clock over each tells.
-const MOMENTS: [(&[u64], [u64; 5]); 2] = [(&[5, 9, 7], [5, 9, 7, 7, 7]), (&[], [0; 5])];
+static MOMENTS: [(&[u64], [u64; 5]); 2] = [(&[5, 9, 7], [5, 9, 7, 7, 7]), (&[], [0; 5])];
 
 fn told(alloc: Global, moments: &[u64]) -> Result<[u64; 5], AllocError> {
     let mut clock = MemClock::new(moments.to_vec(alloc)?);
@@ -250,11 +288,20 @@ fn told(alloc: Global, moments: &[u64]) -> Result<[u64; 5], AllocError> {
     Ok(told)
 }
 
+/// The place of the first row whose clock tells something else.
+fn first_other(alloc: Global, rows: &[(&[u64], [u64; 5])]) -> Result<Option<usize>, AllocError> {
+    for (place, (moments, want)) in rows.iter().enumerate() {
+        if told(alloc, moments)? != *want {
+            return Ok(Some(place));
+        }
+    }
+    Ok(None)
+}
+
 #[test]
 fn memory_clocks_tell_moments(rt: HostRuntime) -> Result<(), Fail> {
-    for (moments, want) in MOMENTS {
-        assert_eq!(rt; told(rt.alloc(), moments)?, want);
-    }
+    let wrong = first_other(rt.alloc(), &MOMENTS)?;
+    assert_eq!(rt; wrong, None);
     Ok(())
 }
 
@@ -286,12 +333,12 @@ fn byte_of(mut link: MemLink) -> u8 {
 }
 
 // Two streams: a connection, a channel and a byte that the link gives.
-const STREAMS: [(u32, u32, u8); 2] = [(3, 1, 7), (2, 5, 8)];
+static STREAMS: [(u32, u32, u8); 2] = [(3, 1, 7), (2, 5, 8)];
 
-fn streams(alloc: Global) -> Result<MemStreams<MemLink>, AllocError> {
+fn streams(alloc: Global, rows: &[(u32, u32, u8)]) -> Result<MemStreams<MemLink>, AllocError> {
     let mut list = Vec::new(alloc);
-    for (conn, chan, byte) in STREAMS {
-        list.push((conn, chan, link_of(alloc, byte)?))?;
+    for (conn, chan, byte) in rows {
+        list.push((*conn, *chan, link_of(alloc, *byte)?))?;
     }
     Ok(MemStreams::new(list))
 }
@@ -303,15 +350,16 @@ fn next(rt: &impl Wait, streams: &mut MemStreams<MemLink>) -> Option<(u32, u32, 
     }
 }
 
+/// The first three that come.
+fn three(rt: &impl Wait, streams: &mut MemStreams<MemLink>) -> [Option<(u32, u32, u8)>; 3] {
+    [next(rt, streams), next(rt, streams), next(rt, streams)]
+}
+
 // Two streams, in the order of the list, and then no more.
 #[test]
 fn memory_streams_come_in_order(rt: HostRuntime) -> Result<(), Fail> {
-    let mut streams = streams(rt.alloc())?;
-    let come = [
-        next(&rt, &mut streams),
-        next(&rt, &mut streams),
-        next(&rt, &mut streams),
-    ];
+    let mut streams = streams(rt.alloc(), &STREAMS)?;
+    let come = three(&rt, &mut streams);
     assert_eq!(rt; come, [Some((3, 1, 7)), Some((2, 5, 8)), None]);
     Ok(())
 }
@@ -384,20 +432,28 @@ fn memory_net_gives_its_lists(rt: HostRuntime) -> Result<(), Fail> {
 }
 
 // A link fails before its reach is up.
-const EARLY: [Called; 2] = [
+static EARLY: [Called; 2] = [
     (&[], Answer::Received(ReadOut::Failed), [0; 4]),
     (&[9], Answer::Sent(WriteOut::Failed), [0; 4]),
 ];
 
-/// Makes the reaches, each at a host and a port, and compares the answers.
-fn reaches<R: Reach>(rt: &impl Abort, reach: &mut R, places: &[(&str, u16, DialOut)]) {
-    for (host, port, answer) in places {
-        assert_eq!(rt; reach.reach(host, *port), *answer);
+/// Makes the reaches, each at a host and a port, and answers the place of the first that is answered otherwise.
+fn first_unreached<R: Reach>(reach: &mut R, places: &[(&str, u16, DialOut)]) -> Option<usize> {
+    for (place, (host, port, answer)) in places.iter().enumerate() {
+        if reach.reach(host, *port) != *answer {
+            return Some(place);
+        }
     }
+    None
+}
+
+/// Makes the reaches, and compares the answers.
+fn reaches<R: Reach>(rt: &impl Abort, reach: &mut R, places: &[(&str, u16, DialOut)]) {
+    assert_eq!(rt; first_unreached(reach, places), None);
 }
 
 // Other ports and hosts than the one that answers, before and after it did.
-const PLACES: [(&str, u16, DialOut); 4] = [
+static PLACES: [(&str, u16, DialOut); 4] = [
     ("h", 9011, DialOut::Failed),
     ("H", 9010, DialOut::Failed),
     ("h", 9010, DialOut::Up),
@@ -405,7 +461,7 @@ const PLACES: [(&str, u16, DialOut); 4] = [
 ];
 
 // The reach's link of 1, 2, 3 in pieces of 2, whose second call fails.
-const REACHED: [Called; 3] = [
+static REACHED: [Called; 3] = [
     (&[], Answer::Received(ReadOut::Got(2)), [1, 2, 0, 0]),
     (&[5], Answer::Sent(WriteOut::Failed), [1, 2, 0, 0]),
     (&[6, 7], Answer::Sent(WriteOut::Took(2)), [1, 2, 0, 0]),
@@ -429,10 +485,13 @@ fn has_taken(reach: MemReach<MemLink>, bytes: &[u8]) -> [bool; 2] {
 #[test]
 fn memory_reach_is_its_link_once_up(rt: HostRuntime) -> Result<(), Fail> {
     let mut reach = reach(rt.alloc())?;
-    answers(&rt, &mut reach, &EARLY);
-    reaches(&rt, &mut reach, &PLACES);
-    answers(&rt, &mut reach, &REACHED);
-    assert_eq!(rt; has_taken(reach, &[6, 7]), [true, true]);
+    let wrong = [
+        first_wrong(&mut reach, &EARLY),
+        first_unreached(&mut reach, &PLACES),
+        first_wrong(&mut reach, &REACHED),
+    ];
+    let taken = has_taken(reach, &[6, 7]);
+    assert_eq!(rt; (wrong, taken), ([None; 3], [true, true]));
     Ok(())
 }
 
@@ -462,14 +521,14 @@ fn meets(rt: &impl Abort, peer: Accepted<TcpLink>, calls: &[Called]) {
 const LOCAL: &str = "127.0.0.1";
 
 // The bytes both ways, and the end of the stream.
-const ASKED: [Called; 1] = [(&[1, 2, 3], Answer::Sent(WriteOut::Took(3)), [0; 4])];
+static ASKED: [Called; 1] = [(&[1, 2, 3], Answer::Sent(WriteOut::Took(3)), [0; 4])];
 
-const SERVED: [Called; 2] = [
+static SERVED: [Called; 2] = [
     (&[], Answer::Received(ReadOut::Got(3)), [1, 2, 3, 0]),
     (&[4, 5], Answer::Sent(WriteOut::Took(2)), [1, 2, 3, 0]),
 ];
 
-const HEARD: [Called; 2] = [
+static HEARD: [Called; 2] = [
     (&[], Answer::Received(ReadOut::Got(2)), [4, 5, 0, 0]),
     (&[], Answer::Received(ReadOut::End), [4, 5, 0, 0]),
 ];
@@ -498,9 +557,9 @@ fn carry(
 }
 
 // What the peer at another port sends, and what comes of it.
-const SENT: [Called; 1] = [(&[6], Answer::Sent(WriteOut::Took(1)), [0; 4])];
+static SENT: [Called; 1] = [(&[6], Answer::Sent(WriteOut::Took(1)), [0; 4])];
 
-const CAME: [Called; 1] = [(&[], Answer::Received(ReadOut::Got(1)), [6, 0, 0, 0])];
+static CAME: [Called; 1] = [(&[], Answer::Received(ReadOut::Got(1)), [6, 0, 0, 0])];
 
 /// A listener at some port that is free, and the port.
 fn listen(rt: &HostRuntime) -> io::Result<(TcpListener, u16)> {

@@ -64,7 +64,7 @@ const DEVICE_ABORT: Sorted<'static> = Sorted::Call {
 };
 
 // Messages in words, the channel's role, and what becomes of them.
-const MESSAGES: [(&[u32], Role, Sorted<'static>); 17] = [
+static MESSAGES: [(&[u32], Role, Sorted<'static>); 17] = [
     (&CREATE_LINK, Role::Core, CREATED),
     (&[5, 0, 3], Role::Core, RPC_MISMATCH),
     (&[5, 1], Role::Core, Sorted::Junk),
@@ -128,12 +128,24 @@ const MESSAGES: [(&[u32], Role, Sorted<'static>); 17] = [
     ),
 ];
 
+/// The place of the first row of whose message something else becomes.
+fn first_wrong(
+    alloc: Global,
+    rows: &[(&[u32], Role, Sorted<'_>)],
+) -> Result<Option<usize>, AllocError> {
+    for (place, (words, role, want)) in rows.iter().enumerate() {
+        let bytes = message(alloc, words)?;
+        if sort_call(&bytes, *role) != *want {
+            return Ok(Some(place));
+        }
+    }
+    Ok(None)
+}
+
 #[test]
 fn sorts_messages(rt: HostRuntime) -> Result<(), Fail> {
-    for (words, role, want) in MESSAGES {
-        let bytes = message(rt.alloc(), words)?;
-        assert_eq!(rt; sort_call(&bytes, role), want, "at {words:?}");
-    }
+    let wrong = first_wrong(rt.alloc(), &MESSAGES)?;
+    assert_eq!(rt; wrong, None);
     Ok(())
 }
 
@@ -143,7 +155,7 @@ fn junk_of_11_bytes(rt: HostRuntime) {
     assert_eq!(rt; sort_call(&[0; 11], Role::Core), Sorted::Junk);
 }
 
-const CORE: [(u32, Proc); 13] = [
+static CORE: [(u32, Proc); 13] = [
     (11, Proc::Write),
     (12, Proc::Read),
     (13, Proc::ReadStb),
@@ -159,23 +171,30 @@ const CORE: [(u32, Proc); 13] = [
     (25, Proc::CreateIntr),
 ];
 
+/// Whether a call of this number is one of a procedure.
+fn is_number_of(number: u32, proc: Proc) -> bool {
+    let mut room = [0xEE; 40];
+    let call = Sorted::Call {
+        xid: 9,
+        proc,
+        args: &[],
+    };
+    put_call(9, 0x0607AF, 1, number, &mut room) == Ok(40) && sort_call(&room, Role::Core) == call
+}
+
+/// The first row whose number is of another procedure.
+fn first_other(rows: &[(u32, Proc)]) -> Option<usize> {
+    for (place, (number, proc)) in rows.iter().enumerate() {
+        if !is_number_of(*number, *proc) {
+            return Some(place);
+        }
+    }
+    None
+}
+
 #[test]
 fn numbers_of_the_core_procedures(rt: HostRuntime) {
-    for (number, proc) in CORE {
-        let mut room = [0xEE; 40];
-        let len = put_call(9, 0x0607AF, 1, number, &mut room);
-        assert_eq!(rt;
-            (len, sort_call(&room, Role::Core)),
-            (
-                Ok(40),
-                Sorted::Call {
-                    xid: 9,
-                    proc,
-                    args: &[]
-                }
-            )
-        );
-    }
+    assert_eq!(rt; first_other(&CORE), None);
 }
 
 /// A header that is written.
@@ -209,7 +228,7 @@ fn is_left(out: &[u8]) -> bool {
 }
 
 // Headers, the room for them, and their words in it. The last three have a byte too little.
-const HEADERS: [(Header, usize, Result<usize, Full>, &[u32]); 10] = [
+static HEADERS: [(Header, usize, Result<usize, Full>, &[u32]); 10] = [
     (
         Header::Call,
         44,
@@ -257,21 +276,29 @@ const HEADERS: [(Header, usize, Result<usize, Full>, &[u32]); 10] = [
     ),
 ];
 
+/// The place of the first row whose header is written otherwise.
+fn first_unlike(
+    alloc: Global,
+    rows: &[(Header, usize, Result<usize, Full>, &[u32])],
+) -> Result<Option<usize>, AllocError> {
+    for (place, (header, room, answer, words)) in rows.iter().enumerate() {
+        let bytes = message(alloc, words)?;
+        if written(*header, *room, &bytes) != (*answer, true) {
+            return Ok(Some(place));
+        }
+    }
+    Ok(None)
+}
+
 #[test]
 fn writes_headers(rt: HostRuntime) -> Result<(), Fail> {
-    for (header, room, answer, words) in HEADERS {
-        let bytes = message(rt.alloc(), words)?;
-        assert_eq!(rt;
-            written(header, room, &bytes),
-            (answer, true),
-            "at {words:?}"
-        );
-    }
+    let wrong = first_unlike(rt.alloc(), &HEADERS)?;
+    assert_eq!(rt; wrong, None);
     Ok(())
 }
 
 // Replies in words that refuse a call, and that are none.
-const REFUSALS: [(&[u32], Option<RpcRefusal>); 18] = [
+static REFUSALS: [(&[u32], Option<RpcRefusal>); 18] = [
     (&[5, 1, 0, 0, 0, 1], Some(RpcRefusal::ProgUnavail)),
     (&[5, 1, 0, 0, 0, 2, 3, 4], Some(RpcRefusal::ProgMismatch)),
     (&[5, 1, 0, 0, 0, 3], Some(RpcRefusal::ProcUnavail)),
@@ -299,25 +326,46 @@ fn refused(refusal: Option<RpcRefusal>) -> ReplyRead<'static> {
     }
 }
 
+/// The place of the first row whose reply is read otherwise.
+fn first_unrefused(
+    alloc: Global,
+    rows: &[(&[u32], Option<RpcRefusal>)],
+) -> Result<Option<usize>, AllocError> {
+    for (place, (words, refusal)) in rows.iter().enumerate() {
+        let bytes = message(alloc, words)?;
+        if read_reply(&bytes) != refused(*refusal) {
+            return Ok(Some(place));
+        }
+    }
+    Ok(None)
+}
+
 #[test]
 fn reads_refusals(rt: HostRuntime) -> Result<(), Fail> {
-    for (words, refusal) in REFUSALS {
-        let bytes = message(rt.alloc(), words)?;
-        assert_eq!(rt; read_reply(&bytes), refused(refusal), "at {words:?}");
-    }
+    let wrong = first_unrefused(rt.alloc(), &REFUSALS)?;
+    assert_eq!(rt; wrong, None);
     Ok(())
 }
 
-const SUCCESSES: [(&[u32], &[u8]); 2] = [
+static SUCCESSES: [(&[u32], &[u8]); 2] = [
     (&[5, 1, 0, 0, 0, 0], &[]),
     (&[5, 1, 0, 1, 4, 9, 0, 7], &[0, 0, 0, 7]),
 ];
 
+/// The place of the first row whose reply has other results.
+fn first_failure(alloc: Global, rows: &[(&[u32], &[u8])]) -> Result<Option<usize>, AllocError> {
+    for (place, (words, results)) in rows.iter().enumerate() {
+        let bytes = message(alloc, words)?;
+        if read_reply(&bytes) != (ReplyRead::Success { xid: 5, results }) {
+            return Ok(Some(place));
+        }
+    }
+    Ok(None)
+}
+
 #[test]
 fn reads_successes(rt: HostRuntime) -> Result<(), Fail> {
-    for (words, results) in SUCCESSES {
-        let bytes = message(rt.alloc(), words)?;
-        assert_eq!(rt; read_reply(&bytes), ReplyRead::Success { xid: 5, results });
-    }
+    let wrong = first_failure(rt.alloc(), &SUCCESSES)?;
+    assert_eq!(rt; wrong, None);
     Ok(())
 }

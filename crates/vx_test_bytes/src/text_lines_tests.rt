@@ -3,7 +3,7 @@
 use vx_text::*;
 
 // Texts, their first lines, and what stands behind those.
-const TEXTS: [(&[u8], &[u8], &[u8]); 5] = [
+static TEXTS: [(&[u8], &[u8], &[u8]); 5] = [
     (b"up 1 core\nsample\n", b"up 1 core", b"sample\n"),
     (b"\nsample", b"", b"sample"),
     (b"sample\n", b"sample", b""),
@@ -19,9 +19,17 @@ fn cut(text: &[u8]) -> Option<(&[u8], &[u8])> {
     }
 }
 
+/// The first row whose text is cut otherwise.
+fn first_wrong(rows: &[(&[u8], &[u8], &[u8])]) -> Option<usize> {
+    for (place, (text, line, rest)) in rows.iter().enumerate() {
+        if cut(text) != Some((line, rest)) {
+            return Some(place);
+        }
+    }
+    None
+}
+
 #[test]
 fn first_lines(rt: HostRuntime) {
-    for (text, line, rest) in TEXTS {
-        assert_eq!(rt; cut(text), Some((line, rest)));
-    }
+    assert_eq!(rt; first_wrong(&TEXTS), None);
 }

@@ -7,9 +7,12 @@ use vx_text::*;
 
 const DIGITS: &[u8] = b"0123456789";
 
+/// What a source has, and what is read of it.
+type Source = (&'static [u8], usize, u64, usize, &'static str);
+
 // What a source has, a piece's length, the read that fails, the most bytes, and what is read: the whole text or another
 // end. The last source has nothing to give, and nothing of it is wanted.
-const SOURCES: [(&[u8], usize, u64, usize, &str); 10] = [
+static SOURCES: [Source; 10] = [
     (DIGITS, 1, 0, 10, "whole"),
     (DIGITS, 3, 0, 11, "whole"),
     (DIGITS, 10, 0, 10, "whole"),
@@ -48,22 +51,26 @@ fn name_read(alloc: Global, source: &mut MemSource, most: usize, text: &[u8]) ->
     name_of(&read_all(alloc, source, most), text)
 }
 
+/// The place of the first row of whose source something else is read.
+fn first_wrong(alloc: Global, rows: &[Source]) -> Result<Option<usize>, AllocError> {
+    for (place, (text, piece, fails, most, told)) in rows.iter().enumerate() {
+        let mut source = source_of(alloc, text, *piece, *fails)?;
+        if name_read(alloc, &mut source, *most, text) != *told {
+            return Ok(Some(place));
+        }
+    }
+    Ok(None)
+}
+
 #[test]
 fn whole_sources(rt: HostRuntime) -> Result<(), Fail> {
-    let alloc = rt.alloc();
-    for (text, piece, fails, most, told) in SOURCES {
-        let mut source = source_of(alloc, text, piece, fails)?;
-        assert_eq!(rt;
-            name_read(alloc, &mut source, most, text),
-            told,
-            "pieces of {piece}, at most {most}"
-        );
-    }
+    let wrong = first_wrong(rt.alloc(), &SOURCES)?;
+    assert_eq!(rt; wrong, None);
     Ok(())
 }
 
 // The write that fails, whether a text is put, and what the sink has then.
-const SINKS: [(u64, bool, &[u8]); 2] = [(0, true, b"behind text"), (1, false, b"behind ")];
+static SINKS: [(u64, bool, &[u8]); 2] = [(0, true, b"behind text"), (1, false, b"behind ")];
 
 fn sink_of(alloc: Global, fails: u64) -> Result<MemSink, AllocError> {
     let fails = [fails].to_vec(alloc)?;
@@ -76,23 +83,40 @@ fn put(sink: &mut MemSink) -> (bool, &[u8]) {
     (done, sink.bytes())
 }
 
+/// Whether a text is put into a sink as a row says.
+fn is_put(alloc: Global, fails: u64, done: bool, text: &[u8]) -> Result<bool, AllocError> {
+    let mut sink = sink_of(alloc, fails)?;
+    Ok(put(&mut sink) == (done, text))
+}
+
+/// The place of the first row whose sink has something else.
+fn first_unlike(alloc: Global, rows: &[(u64, bool, &[u8])]) -> Result<Option<usize>, AllocError> {
+    for (place, (fails, done, text)) in rows.iter().enumerate() {
+        if !is_put(alloc, *fails, *done, text)? {
+            return Ok(Some(place));
+        }
+    }
+    Ok(None)
+}
+
 #[test]
 fn whole_sinks(rt: HostRuntime) -> Result<(), Fail> {
-    for (fails, done, text) in SINKS {
-        let mut sink = sink_of(rt.alloc(), fails)?;
-        assert_eq!(rt; put(&mut sink), (done, text));
-    }
+    let wrong = first_unlike(rt.alloc(), &SINKS)?;
+    assert_eq!(rt; wrong, None);
     Ok(())
+}
+
+/// Whether a room of this length has as many bytes, all of them 0.
+fn is_room(alloc: Global, len: usize) -> Result<bool, AllocError> {
+    let room = zeros(alloc, len)?;
+    Ok(room.len() == len && room.iter().all(|byte| *byte == 0))
 }
 
 #[test]
 fn room(rt: HostRuntime) -> Result<(), Fail> {
     for len in [0, 1, 1_048_576] {
-        let room = zeros(rt.alloc(), len)?;
-        assert_eq!(rt;
-            (room.len(), room.iter().all(|byte| *byte == 0)),
-            (len, true)
-        );
+        let is_room = is_room(rt.alloc(), len)?;
+        assert!(rt; is_room, "of {len}");
     }
     Ok(())
 }

@@ -45,7 +45,7 @@ const STB: Row = Row {
     sent: None,
 };
 
-const ROWS: [Row; 26] = [
+static ROWS: [Row; 26] = [
     // What ends before a link is made: the end; a server that isn't reached; the number of another call; a link that takes
     // no writes; error 21; GarbageArgs.
     Row { front: &[], ..STB },
@@ -248,7 +248,7 @@ const ROWS: [Row; 26] = [
 ];
 
 // Words of another form.
-const OTHER_LINES: [&str; 16] = [
+static OTHER_LINES: [&str; 16] = [
     "",
     "h",
     "h 9010",
@@ -268,7 +268,7 @@ const OTHER_LINES: [&str; 16] = [
 ];
 
 /// What is printed for them, and that nothing is sent.
-const OTHER: Row = Row {
+static OTHER: Row = Row {
     status: 1,
     text: USAGE,
     sent: Some(&[]),
@@ -307,6 +307,19 @@ fn took(reach: &MemReach<MemLink>, records: Option<&[&[u32]]>) -> bool {
     records.is_none_or(|records| are_records(reach.link().bytes(), records))
 }
 
+/// A host that answers at port 9010, over the link of a row.
+fn reach_of(alloc: Global, row: &Row) -> Result<MemReach<MemLink>, AllocError> {
+    let host = String::from_str(alloc, "h")?;
+    let link = link_of(alloc, row)?;
+    Ok(MemReach::new(link, host, 9010))
+}
+
+/// An output of which the writes fail that do in a row.
+fn sink_of(alloc: Global, row: &Row) -> Result<MemSink, AllocError> {
+    let fails = row.sink_fails.to_vec(alloc)?;
+    Ok(MemSink::new(Vec::new(alloc), fails))
+}
+
 /// Whether a call with these words comes to what a row says.
 fn comes_so(
     alloc: Global,
@@ -321,28 +334,47 @@ fn comes_so(
 
 /// The same for the words of a line.
 fn line_comes_so(alloc: Global, line: &str, row: &Row) -> Result<bool, Fail> {
+    let sink = sink_of(alloc, row)?;
     let list = line_words(alloc, line)?;
-    let host = String::from_str(alloc, "h")?;
-    let fails = row.sink_fails.to_vec(alloc)?;
-    let link = link_of(alloc, row)?;
-    let reach = MemReach::new(link, host, 9010);
-    let sink = MemSink::new(Vec::new(alloc), fails);
+    let reach = reach_of(alloc, row)?;
     Ok(comes_so(alloc, list.as_slice(), reach, sink, row))
+}
+
+/// The place of the first row that comes otherwise.
+fn first_wrong(alloc: Global, rows: &[Row]) -> Result<Option<usize>, Fail> {
+    for (place, row) in rows.iter().enumerate() {
+        if !line_comes_so(alloc, row.line, row)? {
+            return Ok(Some(place));
+        }
+    }
+    Ok(None)
 }
 
 #[test]
 fn tells_what_came(rt: HostRuntime) -> Result<(), Fail> {
-    for (i, row) in ROWS.iter().enumerate() {
-        assert!(rt; line_comes_so(rt.alloc(), row.line, row)?, "row {i}");
-    }
+    let wrong = first_wrong(rt.alloc(), &ROWS)?;
+    assert_eq!(rt; wrong, None);
     Ok(())
+}
+
+/// The first line that comes otherwise than a row says.
+fn first_other(
+    alloc: Global,
+    lines: &[&'static str],
+    row: &Row,
+) -> Result<Option<&'static str>, Fail> {
+    for line in lines {
+        if !line_comes_so(alloc, line, row)? {
+            return Ok(Some(*line));
+        }
+    }
+    Ok(None)
 }
 
 #[test]
 fn refuses_other_words(rt: HostRuntime) -> Result<(), Fail> {
-    for line in OTHER_LINES {
-        assert!(rt; line_comes_so(rt.alloc(), line, &OTHER)?, "{line}");
-    }
+    let wrong = first_other(rt.alloc(), &OTHER_LINES, &OTHER)?;
+    assert_eq!(rt; wrong, None);
     Ok(())
 }
 
@@ -356,13 +388,21 @@ fn long_line(alloc: Global, count: u32) -> Result<String, AllocError> {
     Ok(line)
 }
 
+/// What ends before a link is made.
+static UNMADE: Row = Row { front: &[], ..STB };
+
+/// Whether a call for a device of so many characters comes to what a row says.
+fn long_comes_so(alloc: Global, count: u32, row: &Row) -> Result<bool, Fail> {
+    let line = long_line(alloc, count)?;
+    line_comes_so(alloc, line.as_str(), row)
+}
+
 // A device's text has at most 255 bytes.
 #[test]
 fn refuses_a_long_device(rt: HostRuntime) -> Result<(), Fail> {
-    for (count, row) in [(255, Row { front: &[], ..STB }), (256, OTHER)] {
-        let line = long_line(rt.alloc(), count)?;
-        assert!(rt; line_comes_so(rt.alloc(), line.as_str(), &row)?, "{count}");
-    }
+    let longest = long_comes_so(rt.alloc(), 255, &UNMADE)?;
+    let longer = long_comes_so(rt.alloc(), 256, &OTHER)?;
+    assert_eq!(rt; [longest, longer], [true, true]);
     Ok(())
 }
 
@@ -379,14 +419,22 @@ fn is_done(alloc: Global, list: &[String], link: MemLink) -> bool {
     }
 }
 
+/// A server that makes the link and is done with a call.
+static DONE: Row = Row {
+    gives: &[0x8000001C, 2, 1, 0, 0, 0, 0, 0],
+    ..STB
+};
+
+/// Whether a call of the words of a line is done over a client of the link of a row.
+fn line_is_done(alloc: Global, line: &str, row: &Row) -> Result<bool, Fail> {
+    let list = line_words(alloc, line)?;
+    let link = link_of(alloc, row)?;
+    Ok(is_done(alloc, list.as_slice(), link))
+}
+
 #[test]
 fn calls_over_a_client(rt: HostRuntime) -> Result<(), Fail> {
-    let row = Row {
-        gives: &[0x8000001C, 2, 1, 0, 0, 0, 0, 0],
-        ..STB
-    };
-    let list = line_words(rt.alloc(), "h 9010 gpib0,5 trigger")?;
-    let link = link_of(rt.alloc(), &row)?;
-    assert!(rt; is_done(rt.alloc(), list.as_slice(), link));
+    let done = line_is_done(rt.alloc(), "h 9010 gpib0,5 trigger", &DONE)?;
+    assert!(rt; done);
     Ok(())
 }

@@ -107,7 +107,7 @@ const ONE: Row = Row {
 };
 
 // One call of each kind.
-const CALLS: [Row; 16] = [
+static CALLS: [Row; 16] = [
     Row {
         gives: &[0x80000028, 1, 1, 0, 0, 0, 0, 0, 7, 9011, 65536],
         piece: 1,
@@ -279,7 +279,7 @@ const CALLS: [Row; 16] = [
 ];
 
 // What an unlock answers to a record that comes byte by byte, and what the next one answers.
-const REPLIES: [Row; 12] = [
+static REPLIES: [Row; 12] = [
     // An error.
     Row {
         gives: &[0x8000001C, 1, 1, 0, 0, 0, 0, 11],
@@ -484,19 +484,27 @@ fn holds(alloc: Global, row: &Row) -> Result<bool, Fail> {
     Ok(took(client, row.sent) && answered)
 }
 
+/// The place of the first row that doesn't hold.
+fn first_wrong(alloc: Global, rows: &[Row]) -> Result<Option<usize>, Fail> {
+    for (place, row) in rows.iter().enumerate() {
+        if !holds(alloc, row)? {
+            return Ok(Some(place));
+        }
+    }
+    Ok(None)
+}
+
 #[test]
 fn makes_each_call(rt: HostRuntime) -> Result<(), Fail> {
-    for (i, row) in CALLS.iter().enumerate() {
-        assert!(rt; holds(rt.alloc(), row)?, "row {i}");
-    }
+    let wrong = first_wrong(rt.alloc(), &CALLS)?;
+    assert_eq!(rt; wrong, None);
     Ok(())
 }
 
 #[test]
 fn answers_by_the_reply(rt: HostRuntime) -> Result<(), Fail> {
-    for (i, row) in REPLIES.iter().enumerate() {
-        assert!(rt; holds(rt.alloc(), row)?, "row {i}");
-    }
+    let wrong = first_wrong(rt.alloc(), &REPLIES)?;
+    assert_eq!(rt; wrong, None);
     Ok(())
 }
 

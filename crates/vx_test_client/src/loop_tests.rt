@@ -6,7 +6,7 @@ ghost use Rattle.vx_loop.specs.LoopState.{IsUnconnected};
 use crate::client_run_tests::line_words;
 use crate::client_tests::{Answer, Got};
 use arrayvec::ArrayVec;
-use std::alloc::Global;
+use std::alloc::{AllocError, Global};
 use std::test::Fail;
 use vx_488::Addr;
 use vx_calls::{DEVICE_MAX, Handle};
@@ -96,15 +96,22 @@ fn text_goes_through(alloc: Global, bytes: &[u8], into: &mut [u8]) -> Result<boo
     Ok(goes_through(&mut client, bytes, into))
 }
 
-#[test]
-fn a_write_goes_through(rt: HostRuntime) -> Result<(), Fail> {
-    let alloc = rt.alloc();
+/// 100,000 bytes, the numbers from 0 to 250 over and over.
+fn long_text(alloc: Global) -> Result<Vec<u8>, AllocError> {
     let mut bytes = vec![in alloc; 0u8; 100_000]?;
     for (i, byte) in bytes.iter_mut().enumerate() {
         *byte = (i % 251) as u8;
     }
+    Ok(bytes)
+}
+
+#[test]
+fn a_write_goes_through(rt: HostRuntime) -> Result<(), Fail> {
+    let alloc = rt.alloc();
+    let bytes = long_text(alloc)?;
     let mut into = vec![in alloc; 0u8; 100_000]?;
-    assert!(rt; text_goes_through(alloc, bytes.as_slice(), into.as_mut_slice())?);
+    let goes = text_goes_through(alloc, bytes.as_slice(), into.as_mut_slice())?;
+    assert!(rt; goes);
     Ok(())
 }
 
@@ -139,7 +146,7 @@ struct Row {
     room: [u8; 2],
 }
 
-const ROWS: [Row; 5] = [
+static ROWS: [Row; 5] = [
     // Each call of a link to the device, and writes between them.
     Row {
         is_late: false,
@@ -295,11 +302,20 @@ fn holds(alloc: Global, row: &Row) -> Result<bool, Fail> {
     Ok(is_answered(&mut client, row))
 }
 
+/// The place of the first row that doesn't hold.
+fn first_wrong(alloc: Global, rows: &[Row]) -> Result<Option<usize>, Fail> {
+    for (place, row) in rows.iter().enumerate() {
+        if !holds(alloc, row)? {
+            return Ok(Some(place));
+        }
+    }
+    Ok(None)
+}
+
 #[test]
 fn calls_are_answered(rt: HostRuntime) -> Result<(), Fail> {
-    for (i, row) in ROWS.iter().enumerate() {
-        assert!(rt; holds(rt.alloc(), row)?, "row {i}");
-    }
+    let wrong = first_wrong(rt.alloc(), &ROWS)?;
+    assert_eq!(rt; wrong, None);
     Ok(())
 }
 
@@ -325,14 +341,26 @@ fn line_comes_so(alloc: Global, line: &str, status: u8, text: &str) -> Result<bo
     Ok(comes_so(alloc, list.as_slice(), reach, status, text))
 }
 
+/// Command lines, what each ends with, and what it prints.
+static LINES: [(&str, u8, &str); 2] = [
+    ("h 9010 gpib0,5 query A", 0, "410A\n"),
+    ("h 9010 gpib0,31 query A", 3, "error 21\n"),
+];
+
+/// The place of the first line that comes otherwise.
+fn first_other(alloc: Global, lines: &[(&str, u8, &str)]) -> Result<Option<usize>, Fail> {
+    for (place, (line, status, text)) in lines.iter().enumerate() {
+        if !line_comes_so(alloc, line, *status, text)? {
+            return Ok(Some(place));
+        }
+    }
+    Ok(None)
+}
+
 #[test]
 fn a_command_is_done(rt: HostRuntime) -> Result<(), Fail> {
-    for (line, status, text) in [
-        ("h 9010 gpib0,5 query A", 0, "410A\n"),
-        ("h 9010 gpib0,31 query A", 3, "error 21\n"),
-    ] {
-        assert!(rt; line_comes_so(rt.alloc(), line, status, text)?, "{line}");
-    }
+    let wrong = first_other(rt.alloc(), &LINES)?;
+    assert_eq!(rt; wrong, None);
     Ok(())
 }
 
@@ -356,7 +384,7 @@ const REPLY: [u8; 20] = [
 ];
 
 /// What a link does by turns.
-const ACTS: [&[Act]; 3] = [
+static ACTS: [&[Act]; 3] = [
     // A record of one byte, which is no call, fails, and ends the connection.
     &[
         Act::Send(&[0x80, 0, 0, 1], WriteOut::Took(4)),
@@ -409,10 +437,19 @@ fn link_acts(alloc: Global, list: &[Act]) -> Result<bool, Fail> {
     Ok(acts(&mut link, list))
 }
 
+/// The place of the first list that is answered otherwise.
+fn first_unanswered(alloc: Global, lists: &[&[Act]]) -> Result<Option<usize>, Fail> {
+    for (place, list) in lists.iter().enumerate() {
+        if !link_acts(alloc, list)? {
+            return Ok(Some(place));
+        }
+    }
+    Ok(None)
+}
+
 #[test]
 fn records_are_answered(rt: HostRuntime) -> Result<(), Fail> {
-    for (i, list) in ACTS.iter().enumerate() {
-        assert!(rt; link_acts(rt.alloc(), list)?, "row {i}");
-    }
+    let wrong = first_unanswered(rt.alloc(), &ACTS)?;
+    assert_eq!(rt; wrong, None);
     Ok(())
 }

@@ -235,18 +235,30 @@ fn pumped<R: Wait>(
 }
 
 /// A channel of connection 1, the call of the link that fails, how the pump ends, and what the link took.
-const ROWS: [(u32, u64, PumpEnd, &[u32]); 4] = [
+static ROWS: [(u32, u64, PumpEnd, &[u32]); 4] = [
     (1, 1, PumpEnd::WriteFault, &[]),
     (1, 2, PumpEnd::WriteFault, &TAKEN),
     (2, 9, PumpEnd::ChannelGone, &[]),
     (0, 9, PumpEnd::ChannelGone, &[]),
 ];
 
+/// The place of the first row whose pump ends otherwise.
+fn first_wrong<R: Wait>(
+    rt: &R,
+    alloc: Global,
+    rows: &[(u32, u64, PumpEnd, &[u32])],
+) -> Result<Option<usize>, AllocError> {
+    for (place, (chan, fails, end, took)) in rows.iter().enumerate() {
+        if pumped(rt, alloc, *chan, *fails, took)? != (Some(*end), true) {
+            return Ok(Some(place));
+        }
+    }
+    Ok(None)
+}
+
 #[test]
 fn a_pump_writes_interrupts(rt: HostRuntime) -> Result<(), Fail> {
-    for &(chan, fails, end, took) in &ROWS {
-        let came = pumped(&rt, rt.alloc(), chan, fails, took)?;
-        assert_eq!(rt; came, (Some(end), true), "of channel {chan}");
-    }
+    let wrong = first_wrong(&rt, rt.alloc(), &ROWS)?;
+    assert_eq!(rt; wrong, None);
     Ok(())
 }

@@ -54,7 +54,7 @@ const PLAIN: Row = Row {
 
 const HOST: u32 = 0x7F000001;
 
-const ROWS: [Row; 10] = [
+static ROWS: [Row; 10] = [
     PLAIN,
     Row {
         name: "a create_link by single bytes",
@@ -234,12 +234,20 @@ fn serve_row<R: Wait>(rt: &R, alloc: Global, row: &Row) -> Result<Came, Fail> {
     Ok(seen(done, &outside.dial, row.took, row.rang))
 }
 
+/// The name of the first row of whose link something else comes.
+fn first_wrong<R: Wait>(rt: &R, alloc: Global, rows: &[Row]) -> Result<Option<&'static str>, Fail> {
+    for row in rows {
+        if serve_row(rt, alloc, row)? != (row.how, [0, 1], true, true) {
+            return Ok(Some(row.name));
+        }
+    }
+    Ok(None)
+}
+
 #[test]
 fn links_are_served(rt: HostRuntime) -> Result<(), Fail> {
-    for row in &ROWS {
-        let came = serve_row(&rt, rt.alloc(), row)?;
-        assert_eq!(rt; came, (row.how, [0, 1], true, true), "of {}", row.name);
-    }
+    let wrong = first_wrong(&rt, rt.alloc(), &ROWS)?;
+    assert_eq!(rt; wrong, None);
     Ok(())
 }
 

@@ -9,7 +9,7 @@ use vx_play::*;
 use vx_rack::{Echo, Spare};
 
 /// Words that are no command.
-const NO_COMMANDS: [&[&str]; 6] = [
+static NO_COMMANDS: [&[&str]; 6] = [
     &[],
     &["play"],
     &["run", "x"],
@@ -19,7 +19,7 @@ const NO_COMMANDS: [&[&str]; 6] = [
 ];
 
 /// Sinks in front of which those words stand: the write that fails, if one does, the status, and what is printed.
-const SINKS: [(&[u64], u8, &[u8]); 2] = [(&[], 1, b"usage: vxplay COMMAND\n"), (&[1], 4, b"")];
+static SINKS: [(&[u64], u8, &[u8]); 2] = [(&[], 1, b"usage: vxplay COMMAND\n"), (&[1], 4, b"")];
 
 /// A text, so many times.
 type Piece = (&'static str, usize);
@@ -52,7 +52,7 @@ const THREE_LINES: &[Piece] = &[("up 1 core\ndown 1\nup 2 core\ndown 2\n", 1)];
 /// What it prints.
 const THREE_PRINTED: Printed = Printed::FrontOf("gone 1 down\ngone 2 down\ndone\n");
 
-const ROWS: [Row; 12] = [
+static ROWS: [Row; 12] = [
     // A source whose second read fails: nothing is written.
     Row {
         name: "second read fails, a byte a read",
@@ -245,16 +245,38 @@ fn is_usage(
     Ok(ended == status && sink.bytes() == text && source.read(&mut [0]) == ReadOut::Failed)
 }
 
-#[test]
-fn words_that_are_no_command(rt: HostRuntime) -> Result<(), Fail> {
-    for words in NO_COMMANDS {
-        for (write_fails, status, text) in SINKS {
-            assert!(rt;
-                is_usage(rt.alloc(), words, write_fails, status, text)?,
-                "{words:?} with status {status}"
-            );
+/// The place of the first of these sinks in front of which the words end otherwise.
+fn first_other(
+    alloc: Global,
+    words: &[&str],
+    sinks: &[(&[u64], u8, &[u8])],
+) -> Result<Option<usize>, AllocError> {
+    for (place, (write_fails, status, text)) in sinks.iter().enumerate() {
+        if !is_usage(alloc, words, write_fails, *status, text)? {
+            return Ok(Some(place));
         }
     }
+    Ok(None)
+}
+
+/// The places of the first words that end otherwise, and of the sink.
+fn first_command(
+    alloc: Global,
+    lists: &[&[&str]],
+    sinks: &[(&[u64], u8, &[u8])],
+) -> Result<Option<(usize, usize)>, AllocError> {
+    for (place, words) in lists.iter().enumerate() {
+        if let Some(sink) = first_other(alloc, words, sinks)? {
+            return Ok(Some((place, sink)));
+        }
+    }
+    Ok(None)
+}
+
+#[test]
+fn words_that_are_no_command(rt: HostRuntime) -> Result<(), Fail> {
+    let wrong = first_command(rt.alloc(), &NO_COMMANDS, &SINKS)?;
+    assert_eq!(rt; wrong, None);
     Ok(())
 }
 
@@ -299,11 +321,20 @@ fn is_right(alloc: Global, row: &Row) -> Result<bool, AllocError> {
     Ok(status == row.status && is_printed(sink.bytes(), row.printed))
 }
 
+/// The name of the first row whose play ends otherwise.
+fn first_wrong(alloc: Global, rows: &[Row]) -> Result<Option<&'static str>, AllocError> {
+    for row in rows {
+        if !is_right(alloc, row)? {
+            return Ok(Some(row.name));
+        }
+    }
+    Ok(None)
+}
+
 #[test]
 fn plays(rt: HostRuntime) -> Result<(), Fail> {
-    for row in &ROWS {
-        assert!(rt; is_right(rt.alloc(), row)?, "{}", row.name);
-    }
+    let wrong = first_wrong(rt.alloc(), &ROWS)?;
+    assert_eq!(rt; wrong, None);
     Ok(())
 }
 
@@ -323,10 +354,8 @@ fn is_made_of_two(alloc: Global, digits: usize) -> Result<bool, AllocError> {
 #[test]
 fn streams_cut_anywhere(rt: HostRuntime) -> Result<(), Fail> {
     for cut in 1..76 {
-        assert!(rt;
-            is_made_of_two(rt.alloc(), 2 * cut)?,
-            "cut behind byte {cut}"
-        );
+        let is_made = is_made_of_two(rt.alloc(), 2 * cut)?;
+        assert!(rt; is_made, "cut behind byte {cut}");
     }
     Ok(())
 }

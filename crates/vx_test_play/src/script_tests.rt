@@ -8,7 +8,7 @@ use vx_script::*;
 type Read<'a> = Result<Option<Step<'a>>, Cause>;
 
 /// Lines, each with what it says.
-const LINES: [(&[u8], Read<'static>); 40] = [
+static LINES: [(&[u8], Read<'static>); 40] = [
     (b"", Ok(None)),
     (b"#", Ok(None)),
     (b"#x", Ok(None)),
@@ -207,7 +207,7 @@ const LINES: [(&[u8], Read<'static>); 40] = [
 ];
 
 /// The causes, each with its word.
-const WORDS: [(Cause, &[u8]); 14] = [
+static WORDS: [(Cause, &[u8]); 14] = [
     (Cause::Form, b"form"),
     (Cause::Number, b"number"),
     (Cause::Full, b"full"),
@@ -230,18 +230,34 @@ fn says(line: &[u8], wanted: &Read) -> bool {
     line.len() <= 64 && read_step(line, &mut room[..line.len()]) == *wanted
 }
 
+/// The first row whose line says something else.
+fn first_wrong(rows: &[(&[u8], Read<'_>)]) -> Option<usize> {
+    for (place, (line, wanted)) in rows.iter().enumerate() {
+        if !says(line, wanted) {
+            return Some(place);
+        }
+    }
+    None
+}
+
 #[test]
 fn lines(rt: HostRuntime) {
-    for (line, wanted) in LINES {
-        assert!(rt; says(line, &wanted), "of {line:?}");
+    assert_eq!(rt; first_wrong(&LINES), None);
+}
+
+/// The first row whose cause has another word.
+fn first_other(rows: &[(Cause, &[u8])]) -> Option<usize> {
+    for (place, (cause, word)) in rows.iter().enumerate() {
+        if cause.word() != *word {
+            return Some(place);
+        }
     }
+    None
 }
 
 #[test]
 fn words(rt: HostRuntime) {
-    for (cause, word) in WORDS {
-        assert_eq!(rt; cause.word(), word);
-    }
+    assert_eq!(rt; first_other(&WORDS), None);
 }
 
 /// A line that begins so, and goes on with `#` up to so many bytes.
@@ -274,18 +290,37 @@ fn is_long_line(line: &[u8], room: &mut [u8], is_read: bool) -> bool {
 }
 
 // The longest line has 1,048,576 bytes; one that is longer is outside the grammar, even where it would be skipped.
+/// The fronts of lines, how long the lines are, and whether they are read.
+static LONG_LINES: [(&[u8], usize, bool); 4] = [
+    (b"#", 1_048_576, true),
+    (b"#", 1_048_577, false),
+    (b"inst 5 ", 1_048_576, true),
+    (b"inst 5 ", 1_048_577, false),
+];
+
+/// Whether a line that begins so and has so many bytes is read, or is too long.
+fn is_long(alloc: Global, front: &[u8], len: usize, is_read: bool) -> Result<bool, AllocError> {
+    let line = long_line(alloc, front, len)?;
+    let mut room = long_line(alloc, b"", len)?;
+    Ok(is_long_line(&line, &mut room, is_read))
+}
+
+/// The place of the first row whose line is read otherwise.
+fn first_misread(
+    alloc: Global,
+    rows: &[(&[u8], usize, bool)],
+) -> Result<Option<usize>, AllocError> {
+    for (place, (front, len, is_read)) in rows.iter().enumerate() {
+        if !is_long(alloc, front, *len, *is_read)? {
+            return Ok(Some(place));
+        }
+    }
+    Ok(None)
+}
+
 #[test]
 fn long_lines(rt: HostRuntime) -> Result<(), Fail> {
-    let table: [(&[u8], usize, bool); 4] = [
-        (b"#", 1_048_576, true),
-        (b"#", 1_048_577, false),
-        (b"inst 5 ", 1_048_576, true),
-        (b"inst 5 ", 1_048_577, false),
-    ];
-    for (front, len, is_read) in table {
-        let line = long_line(rt.alloc(), front, len)?;
-        let mut room = long_line(rt.alloc(), b"", len)?;
-        assert!(rt; is_long_line(&line, &mut room, is_read), "of {len} bytes");
-    }
+    let wrong = first_misread(rt.alloc(), &LONG_LINES)?;
+    assert_eq!(rt; wrong, None);
     Ok(())
 }

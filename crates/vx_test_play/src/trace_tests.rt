@@ -32,7 +32,7 @@ const OTHERS: [Transfer; 10] = [
 ];
 
 /// Each kind of line, beside its text.
-const LINES: [(Line<'static>, &[u8]); 22] = [
+static LINES: [(Line<'static>, &[u8]); 22] = [
     (
         Line::Bus {
             conn: 1,
@@ -152,19 +152,29 @@ fn is_read(text: &[u8], line: Option<Line>) -> bool {
     len <= 72 && read_line(text, &mut moves[..len], &mut bytes[..len]) == line
 }
 
+/// Whether a line is this text, both ways.
+fn is_text_of(line: Line<'_>, text: &[u8]) -> bool {
+    is_written(&line, text) && is_full(&line, text) && is_read(text, Some(line))
+}
+
+/// The first row whose line is another text.
+fn first_wrong(rows: &[(Line<'_>, &[u8])]) -> Option<usize> {
+    for (place, (line, text)) in rows.iter().enumerate() {
+        if !is_text_of(*line, text) {
+            return Some(place);
+        }
+    }
+    None
+}
+
 // Each line is written, and read back.
 #[test]
 fn lines(rt: HostRuntime) {
-    for (line, text) in LINES {
-        let both_ways = is_written(&line, text)
-            && is_full(&line, text)
-            && is_read(text, Some(line));
-        assert!(rt; both_ways, "of {line:?}");
-    }
+    assert_eq!(rt; first_wrong(&LINES), None);
 }
 
 /// Texts that are no output line.
-const NO_LINES: [&[u8]; 44] = [
+static NO_LINES: [&[u8]; 44] = [
     b"",
     b"\n",
     b"done",
@@ -211,11 +221,19 @@ const NO_LINES: [&[u8]; 44] = [
     b"gone 1 up\n",
 ];
 
+/// The first text that is a line.
+fn first_read(texts: &[&[u8]]) -> Option<usize> {
+    for (place, text) in texts.iter().enumerate() {
+        if !is_read(text, None) {
+            return Some(place);
+        }
+    }
+    None
+}
+
 #[test]
 fn no_lines(rt: HostRuntime) {
-    for text in NO_LINES {
-        assert!(rt; is_read(text, None), "of {text:?}");
-    }
+    assert_eq!(rt; first_read(&NO_LINES), None);
 }
 
 /// One room for all lines of a caller, whatever their numbers: a bus line of at most 8 transfers is written.
