@@ -37,6 +37,9 @@ const CREATE: [u32; 17] = [
 /// Its reply: error 0, link 1, the abort port, and at most 65,536 bytes a write.
 const CREATED: [u32; 11] = [0x80000028, 1, 1, 0, 0, 0, 0, 0, 1, 9011, 65536];
 
+/// The reply to arguments that can't be read (RFC 5531, GARBAGE_ARGS).
+const GARBAGE: [u32; 7] = [0x80000018, 1, 1, 0, 0, 0, 4];
+
 /// The create_link, of which nothing fails.
 const PLAIN: Row = Row {
     name: "a create_link",
@@ -54,7 +57,7 @@ const PLAIN: Row = Row {
 
 const HOST: u32 = 0x7F000001;
 
-static ROWS: [Row; 10] = [
+static ROWS: [Row; 19] = [
     PLAIN,
     Row {
         name: "a create_link by single bytes",
@@ -77,6 +80,78 @@ static ROWS: [Row; 10] = [
         piece: 4,
         how: Linked::Ended(End::Junk { length: 1 }),
         took: &[],
+        ..PLAIN
+    },
+    Row {
+        name: "a record of no bytes",
+        gives: &[0x80000000],
+        how: Linked::Ended(End::Junk { length: 0 }),
+        took: &[],
+        ..PLAIN
+    },
+    Row {
+        name: "a record of two words",
+        gives: &[0x80000008, 1, 0],
+        how: Linked::Ended(End::Junk { length: 8 }),
+        took: &[],
+        ..PLAIN
+    },
+    Row {
+        name: "a reply in place of a call",
+        gives: &[0x8000000C, 1, 1, 2],
+        how: Linked::Ended(End::Junk { length: 12 }),
+        took: &[],
+        ..PLAIN
+    },
+    // its 401 bytes, three of padding and an empty verifier are zeros
+    Row {
+        name: "a credential of 401 bytes",
+        gives: &[0x800001BC, 1, 0, 2, 0x0607AF, 1, 10, 0, 401],
+        rest: &[0; 412],
+        how: Linked::Ended(End::Junk { length: 444 }),
+        took: &[],
+        ..PLAIN
+    },
+    Row {
+        name: "a fragment of 2,147,483,647 bytes",
+        gives: &[0x7FFFFFFF],
+        how: Linked::Ended(End::TooLong),
+        took: &[],
+        ..PLAIN
+    },
+    Row {
+        name: "a lockDevice that is no boolean",
+        gives: &[
+            0x80000040, 1, 0, 2, 0x0607AF, 1, 10, 0, 0, 0, 0, 0, 2, 0, 7, 0x67706962, 0x302C3500,
+        ],
+        took: &GARBAGE,
+        ..PLAIN
+    },
+    Row {
+        name: "a device text of 256 bytes",
+        gives: &[
+            0x80000138, 1, 0, 2, 0x0607AF, 1, 10, 0, 0, 0, 0, 0, 0, 0, 256,
+        ],
+        rest: &[0x67; 256],
+        took: &GARBAGE,
+        ..PLAIN
+    },
+    // its padding is the last three bytes
+    Row {
+        name: "a handle of 41 bytes",
+        gives: &[
+            0x80000060, 1, 0, 2, 0x0607AF, 1, 20, 0, 0, 0, 0, 1, 1, 41, 0, 0, 0, 0, 0, 0, 0, 0, 0,
+            0, 0,
+        ],
+        took: &GARBAGE,
+        ..PLAIN
+    },
+    Row {
+        name: "data of 4,294,967,295 bytes",
+        gives: &[
+            0x8000003C, 1, 0, 2, 0x0607AF, 1, 11, 0, 0, 0, 0, 1, 0, 0, 0, 0xFFFFFFFF,
+        ],
+        took: &GARBAGE,
         ..PLAIN
     },
     Row {
