@@ -17,7 +17,7 @@ use Rattle.vx_bus_traits.specs.Steps.{Step, Told, Cut}
 use Rattle.vx_sim.specs.Bench.{some_asks, some_refuses}
 use Rattle.vx_sim.specs.SimState.{Through}
 use Rattle.vx_sim.specs.ProvedLaws.{steps-moves}
-use Rattle.vx_play.specs.Output.{Output, Out}
+use Rattle.vx_trace.specs.Output.{Output, Out}
 use Rattle.vx_message.specs.declared.record.TheConstants.{REPLY_ROOM}
 use Rattle.vx_message.specs.Meaning.{Meaning, Junk, Asks, Aborts, xid_by, record_of, reply_record}
 use Rattle.vx_message.specs.Meaning as meant

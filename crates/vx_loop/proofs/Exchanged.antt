@@ -16,7 +16,7 @@ use Rattle.vx_calls.specs.Call.{Call}
 use Rattle.vx_calls.specs.Call as call
 use Rattle.vx_calls.specs.Reply.{Reply}
 use Rattle.vx_calls.specs.Reply as reply
-use Rattle.vx_codec.specs.Spelling.{word}
+use Rattle.vx_xdr.specs.Spelling.{word}
 use Rattle.vx_record.specs.Records.{Split, records}
 use Rattle.vx_record.specs.Ends.{is_settled}
 use Rattle.vx_record.specs.Buffer.{fed}

@@ -17,4 +17,3 @@ pub mod Ended
 pub mod Outcome
 pub mod Laws
 pub mod ProvedLaws
-pub use Rattle.vx_trace.specs.Output

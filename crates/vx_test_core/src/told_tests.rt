@@ -1,6 +1,5 @@
 //! What a core tells of its last poll, and of its last sample.
 ghost use Rattle.std.specs.Prelude.{◌≡◌, true};
-ghost use Rattle.vx_bus_traits.specs.Means.{first_means};
 ghost use Rattle.vx_calls.specs.Call.{call_shown};
 ghost use Rattle.vx_rules.specs.One.{may_wait};
 ghost use Rattle.vx_rules.specs.Held.{IsShort};
