@@ -24,7 +24,7 @@ enum Step {
     Uses(u8, bool),
 }
 
-const TWO_CONNECTIONS: [Step; 20] = [
+static TWO_CONNECTIONS: [Step; 20] = [
     Made(9, Target::Interface, 1),
     Made(4, FIVE_TWO, 2),
     Made(9, FIVE_TWO, 3),
@@ -47,7 +47,7 @@ const TWO_CONNECTIONS: [Step; 20] = [
     Found(5, true),
 ];
 
-const FULL_TABLE: [Step; 5] = [
+static FULL_TABLE: [Step; 5] = [
     Fill(256),
     Full(true),
     Insert(None),

@@ -19,10 +19,10 @@ enum Step {
     Holds(u32, bool),
 }
 
-const NO_LOCK: [Step; 2] = [Holds(1, false), Free(1, false)];
+static NO_LOCK: [Step; 2] = [Holds(1, false), Free(1, false)];
 
 /// Of link 7 on device 5,2 and link 3 on device 6,2.
-const DEVICES: [Step; 14] = [
+static DEVICES: [Step; 14] = [
     Blocked(8, FIVE, Some(7)),
     Blocked(8, FIVE_TWO, Some(7)),
     Blocked(8, SIX, Some(3)),
@@ -40,7 +40,7 @@ const DEVICES: [Step; 14] = [
 ];
 
 /// Of link 1 on the interface.
-const INTERFACE: [Step; 4] = [
+static INTERFACE: [Step; 4] = [
     Blocked(1, SIX, None),
     Blocked(2, SIX, Some(1)),
     Blocked(2, Target::Interface, Some(1)),

@@ -106,7 +106,7 @@ const POLLED: [Transfer; 7] = [
 ];
 
 /// A connection's number is given once, and its calls are told.
-const ONE_CONNECTION: [Case; 9] = [
+static ONE_CONNECTION: [Case; 9] = [
     (Up(1, Role::Core), true),
     (Up(1, Role::Core), false),
     (Shows(1, Some(Role::Core), None, None), true),
@@ -122,7 +122,7 @@ const ONE_CONNECTION: [Case; 9] = [
 ];
 
 /// A lock keeps other links off conflicting targets, and no write off another device.
-const CONFLICT: [Case; 27] = [
+static CONFLICT: [Case; 27] = [
     (Up(1, Role::Core), true),
     (Up(2, Role::Core), true),
     (Come(1, Create(b"gpib0,5", false)), true),
@@ -160,7 +160,7 @@ const NEXT_TO_LAST: u64 = 18_446_744_073_709_551_614;
 const LAST: u64 = 18_446_744_073_709_551_615;
 
 /// A call that waits for a lock is refused once its time has passed, and not before; no moment goes back.
-const DEADLINE: [Case; 18] = [
+static DEADLINE: [Case; 18] = [
     (Up(1, Role::Core), true),
     (Up(2, Role::Core), true),
     (Come(1, Create(b"gpib0,5", false)), true),
@@ -186,7 +186,7 @@ const DEADLINE: [Case; 18] = [
 
 /// A device_abort marks the calls of its link, whether a turn made a part of its job or not, and a link without one isn't
 /// marked.
-const ABORTED_CALLS: [Case; 18] = [
+static ABORTED_CALLS: [Case; 18] = [
     (Up(1, Role::Core), true),
     (Up(2, Role::Abort), true),
     (Come(1, Create(b"gpib0,5", false)), true),
@@ -211,7 +211,7 @@ const ABORTED_CALLS: [Case; 18] = [
 ];
 
 /// A read may end for three reasons at once, and one of no bytes for one; a bus that fails ends a part.
-const READS_AND_FAILURES: [Case; 11] = [
+static READS_AND_FAILURES: [Case; 11] = [
     (Up(1, Role::Core), true),
     (Come(1, Create(b"gpib0,5", false)), true),
     (Answer(1, Bare, Linked(1)), true),
@@ -238,7 +238,7 @@ const READS_AND_FAILURES: [Case; 11] = [
 ];
 
 /// Raw commands are under locks; they address the device that the next write on the interface reaches.
-const RAW_COMMANDS: [Case; 15] = [
+static RAW_COMMANDS: [Case; 15] = [
     (Up(1, Role::Core), true),
     (Up(2, Role::Core), true),
     (Come(1, Create(b"gpib0", false)), true),
@@ -257,7 +257,7 @@ const RAW_COMMANDS: [Case; 15] = [
 ];
 
 /// After control was passed the gateway hasn't the role for a write, until interface clear.
-const PASS_CONTROL: [Case; 17] = [
+static PASS_CONTROL: [Case; 17] = [
     (Up(1, Role::Core), true),
     (Come(1, Create(b"gpib0", false)), true),
     (Answer(1, Bare, Linked(1)), true),
@@ -281,7 +281,7 @@ const PASS_CONTROL: [Case; 17] = [
 ];
 
 /// A channel: its family and port, a dial that fails and one that doesn't, a second channel, and none.
-const CHANNELS: [Case; 17] = [
+static CHANNELS: [Case; 17] = [
     (Up(1, Role::Core), true),
     (Come(1, Open(1, 9012)), true),
     (Answer(1, Bare, Gave(ErrorCode::NotSupported)), true),
@@ -302,7 +302,7 @@ const CHANNELS: [Case; 17] = [
 ];
 
 /// At a rise each enabled link of a connection with a channel gives one interrupt; a level that stays gives none.
-const SERVICE_REQUESTS: [Case; 38] = [
+static SERVICE_REQUESTS: [Case; 38] = [
     (Up(1, Role::Core), true),
     (Up(2, Role::Core), true),
     (Up(3, Role::Core), true),
@@ -344,7 +344,7 @@ const SERVICE_REQUESTS: [Case; 38] = [
 ];
 
 /// 256 links fill the table; the number of one that is destroyed isn't given again.
-const FULL_LINKS: [Case; 9] = [
+static FULL_LINKS: [Case; 9] = [
     (Up(1, Role::Core), true),
     (Links(256), true),
     (Come(1, Create(b"gpib0,5", false)), true),
@@ -358,7 +358,7 @@ const FULL_LINKS: [Case; 9] = [
 
 /// A turn that the bus held for longer than its time ends with a timeout, at its deadline and not before; a connection that
 /// goes down may leave a part of its job, and nothing else.
-const HELD_TURNS: [Case; 10] = [
+static HELD_TURNS: [Case; 10] = [
     (Up(1, Role::Core), true),
     (Come(1, Create(b"gpib0,5", false)), true),
     (Answer(1, Bare, Linked(1)), true),
@@ -378,12 +378,12 @@ const HELD_TURNS: [Case; 10] = [
 ];
 
 /// A call with more bytes than a write or a record takes is kept, and refused.
-const LONG_CALL: [Case; 2] = [
+static LONG_CALL: [Case; 2] = [
     (Answer(1, Bare, Wrote(ErrorCode::Ok, 70_000)), false),
     (Answer(1, Bare, Wrote(ErrorCode::Parameter, 0)), true),
 ];
 
-const ONE_LINK: [Case; 3] = [
+static ONE_LINK: [Case; 3] = [
     (Up(1, Role::Core), true),
     (Come(1, Create(b"gpib0,5", false)), true),
     (Answer(1, Bare, Linked(1)), true),

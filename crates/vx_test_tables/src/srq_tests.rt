@@ -40,7 +40,7 @@ const SECOND: Channel = Channel {
     vers: 1,
 };
 
-const THREE_LINKS: [Step; 23] = [
+static THREE_LINKS: [Step; 23] = [
     HasNumber,
     Add(1),
     Add(2),
@@ -66,7 +66,7 @@ const THREE_LINKS: [Step; 23] = [
     Told(3, None),
 ];
 
-const FLAGS: [Step; 37] = [
+static FLAGS: [Step; 37] = [
     Add(1),
     Make(1, 1),
     Enable(1, 9, true, b'z'),
@@ -107,7 +107,7 @@ const FLAGS: [Step; 37] = [
 ];
 
 /// 1,024 interrupts may wait, and not 1,025.
-const OVERFLOW: [Step; 17] = [
+static OVERFLOW: [Step; 17] = [
     Add(1),
     Add(2),
     Make(1, 1),

@@ -15,7 +15,7 @@ enum Step {
 }
 
 /// Connections are numbered in turn and none twice; what is no live link can't be aborted.
-const CONNECTIONS: [Step; 11] = [
+static CONNECTIONS: [Step; 11] = [
     Connects(Role::Core, 1),
     Connects(Role::Abort, 2),
     Shows(1, Some(Role::Core)),
