@@ -3,12 +3,14 @@ use Rattle.std.proofs.Common.{◌≡◌, ℕ, Bool, true, false, cond, List, [],
 use Rattle.std.specs.Prelude.{not, is_none, is_some, ◌&&◌}
 use Rattle.std.proofs.lemmas.Bool.{and_parts, true≢false, false≢true}
 use Rattle.std.proofs.lemmas.Option.{same_Some}
+use Rattle.vx_lemmas.specs.Conditions.{chosen}
 use Rattle.vx_488.specs.declared.transfers.Transfer.{Transfer}
 use Rattle.vx_rules.specs.Lists.{along}
 use Rattle.vx_rules.specs.State.{Pending, pending_at}
 use Rattle.vx_flow.specs.Event.{Begin, Move}
 use Rattle.vx_flow.specs.FineState.{Turn, FineState, turn_of}
 use Rattle.vx_flow.specs.Fine.{fine, fine_after, may_begin, may_move, is_passed}
+use Rattle.vx_flow.specs.ProvedLaws.{step-made}
 use Rattle.vx_flow.specs.Poll as poll
 use Rattle.vx_flow.specs.Poll.{Ran, Ending, Polls, RanTo, begins, moved_events, lines_at, runs, ran_of}
 use Rattle.vx_488.specs.Wire.{wire_after}
@@ -19,7 +21,7 @@ use Rattle.vx_kernel.specs.declared.ended.Ended.{Ended}
 use Rattle.vx_kernel.specs.declared.ended.Ended.TheVariants as ended
 use Rattle.vx_kernel.specs.Shown.{turn_shown}
 use Rattle.vx_kernel.specs.Ending.{ended_shown, has_run}
-use Rattle.vx_core.proofs.Ends.{chosen, stepped, begun-so, begun-runs}
+use Rattle.vx_core.proofs.Ends.{begun-so, begun-runs}
 
 -- whether a poll went so far with its call's turn
 abbrev is_run : Ran → Bool
@@ -62,7 +64,7 @@ unmoved : (f b : FineState) (conn : ℕ) (moves : List Transfer) → f.turn ≡ 
 unmoved f b conn [] none x = ap (λ (g : FineState). g.turn) (sym (same_Some f b x)) ∙ none
 unmoved f b conn (t ∷ ts) none x =
     let parts = chosen (may_move f conn (t ∷ ts) f.turn) (Some (fine_after f (Move conn (t ∷ ts)) f.dialed (record f.state { wire = wire_after f.state.wire (t ∷ ts) }))) b
-    (stepped f b (Move conn (t ∷ ts)) x) in
+    (step-made f b (Move conn (t ∷ ts)) x) in
     absurd (false≢true (sym (ap (may_move f conn (t ∷ ts)) none) ∙ parts.0))
 
 -- and doesn't go on

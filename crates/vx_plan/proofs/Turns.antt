@@ -23,7 +23,7 @@ use Rattle.vx_plan.specs.declared.tasks.Task.TheVariants as task
 use Rattle.vx_plan.specs.declared.tasks.Place.{Place}
 use Rattle.vx_plan.specs.Transfers.{is_own, got_of}
 use Rattle.vx_plan.specs.Plan.{Slot, This, AnyByte, Reading, Plan, ends_with, is_stop, fits, left_after_one, left_after, Part, Off, stand_of}
-use Rattle.vx_plan.specs.Tasks.{ended_poll, secondary_part, unl, spe, spd, unt, mla, mta, listener, talker, puts, just, reading, command_list, remote_list, plan, most_bytes, is_own_task, sdc, dcl, get, gtl}
+use Rattle.vx_plan.specs.Tasks.{ended_poll, secondary_part, unl, spe, spd, unt, mla, mta, listener, talker, puts, just, reading, command_list, remote_list, plan, is_own_task, sdc, dcl, get, gtl}
 use Rattle.vx_plan.specs.Results.{last_got}
 use Rattle.vx_plan.specs.Places.{carries_data, last_after}
 use Rattle.vx_plan.specs.Laws.{PlaceGoesOnLaw, BoundLaw, PartBoundLaw, SteadyLaw, OwnStaysLaw}
@@ -201,11 +201,6 @@ room-plan (task.Ren on) bytes polling own h = (tt, omega arith)
 room-plan (task.Pass p) bytes polling own h = (tt, omega arith)
 room-plan (task.Own p) bytes polling own h = (tt, omega arith)
 room-plan task.Ifc bytes polling own h = (tt, omega arith)
-
--- no job brings more bytes than a device_write may
-pub most_bytes-within : (task : Task) → most_bytes task ≤ WRITE_MAX
-most_bytes-within (task.Write t len end) = omega arith
-most_bytes-within task = omega arith
 
 pub bound-law : BoundLaw
 bound-law task bytes polling own ts short h =

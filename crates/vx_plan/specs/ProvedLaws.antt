@@ -1,5 +1,5 @@
 -- Laws of plans and of the jobs that they are of, proved.
-use Rattle.std.proofs.Common.{◌≡◌, Bool, true, false, refl, List, [], ◌∷◌, None, ◌++◌, Option, ◌≢◌, Some, sym, subst, ℕ, ap}
+use Rattle.std.proofs.Common.{◌≡◌, Bool, true, false, refl, List, [], ◌∷◌, None, ◌++◌, Option, ◌≢◌, Some, sym, subst, ℕ, ap, ◌≤◌, arith}
 use Rattle.std.proofs.lemmas.Bool.{false≢true, eqb-true, and_parts}
 use Rattle.std.specs.Prelude.{option_and_then}
 use Rattle.vx_plan.specs.Transfers.{same_bool, same_transfer}
@@ -7,7 +7,8 @@ use Rattle.vx_488.specs.declared.transfers.Transfer.{Transfer}
 use Rattle.vx_plan.specs.Plan.{left_after, Plan, left_after_one, Slot, Reading, Off, stand_of}
 use Rattle.vx_plan.specs.declared.tasks.Task.{Task}
 use Rattle.vx_plan.specs.declared.tasks.Task.TheVariants as task
-use Rattle.vx_plan.specs.Tasks.{is_own_task, IsTargetPlain}
+use Rattle.vx_plan.specs.Tasks.{most_bytes, is_own_task, IsTargetPlain}
+use Rattle.vx_calls.specs.declared.limits.TheConstants.{WRITE_MAX}
 use Rattle.vx_calls.specs.declared.targets.Target.{Target}
 use Rattle.vx_calls.specs.declared.targets.Target.TheVariants.{Interface, Device}
 use Rattle.vx_calls.specs.Target.{IsReachable}
@@ -67,3 +68,8 @@ pub reachable-plain : (own : ℕ) (t : Target) → IsReachable own t → IsTarge
 reachable-plain own Interface h = tt
 reachable-plain own (Device p None) h = (h.0, tt)
 reachable-plain own (Device p (Some s)) h = (h.0, h.2)
+
+-- no job brings more bytes than a device_write may
+pub most_bytes-within : (task : Task) → most_bytes task ≤ WRITE_MAX
+most_bytes-within (task.Write t len end) = omega arith
+most_bytes-within task = omega arith
