@@ -42,7 +42,7 @@ const NO: &str = "refused";
 const VERSION: &str = "vxgate 0.1.0\n";
 
 /// Lines of words, and what each is answered with.
-const ROWS: [(&str, &str); 52] = [
+static ROWS: [(&str, &str); 52] = [
     // no word sets an option
     ("", "9010 9011 10 16 0"),
     ("--", "9010 9011 10 16 0"),
@@ -115,10 +115,10 @@ const ROWS: [(&str, &str); 52] = [
 ];
 
 /// Lines that ask for the help.
-const HELPS: [&str; 4] = ["--help", "-h", "--workers 64 --help", "--help --port"];
+static HELPS: [&str; 4] = ["--help", "-h", "--workers 64 --help", "--help --port"];
 
 /// What the help tells, among others.
-const PARTS: [&str; 14] = [
+static PARTS: [&str; 14] = [
     "A VXI-11 gateway to a GPIB bus\n",
     "Usage: vxgate [OPTIONS]\n",
     "--core <PORT>",
@@ -146,20 +146,36 @@ fn is_helped(alloc: Global, line: &str) -> Result<bool, AllocError> {
     Ok(PARTS.iter().all(|part| text.contains(*part)))
 }
 
+/// The place of the first row whose line is answered otherwise.
+fn first_wrong(alloc: Global, rows: &[(&str, &str)]) -> Result<Option<usize>, AllocError> {
+    for (place, (line, text)) in rows.iter().enumerate() {
+        if !is_answered(alloc, line, text)? {
+            return Ok(Some(place));
+        }
+    }
+    Ok(None)
+}
+
 #[test]
 fn words_are_answered(rt: HostRuntime) -> Result<(), Fail> {
-    for (line, text) in ROWS {
-        let is_right = is_answered(rt.alloc(), line, text)?;
-        assert!(rt; is_right, "{line}");
-    }
+    let wrong = first_wrong(rt.alloc(), &ROWS)?;
+    assert_eq!(rt; wrong, None);
     Ok(())
+}
+
+/// The place of the first line that isn't answered with each part of the help.
+fn first_helpless(alloc: Global, lines: &[&str]) -> Result<Option<usize>, AllocError> {
+    for (place, line) in lines.iter().enumerate() {
+        if !is_helped(alloc, line)? {
+            return Ok(Some(place));
+        }
+    }
+    Ok(None)
 }
 
 #[test]
 fn help_tells_each_option(rt: HostRuntime) -> Result<(), Fail> {
-    for line in HELPS {
-        let is_right = is_helped(rt.alloc(), line)?;
-        assert!(rt; is_right, "{line}");
-    }
+    let wrong = first_helpless(rt.alloc(), &HELPS)?;
+    assert_eq!(rt; wrong, None);
     Ok(())
 }
