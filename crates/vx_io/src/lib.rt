@@ -8,6 +8,7 @@ mod dials;
 mod links;
 mod memory;
 mod nets;
+mod patience;
 mod reaches;
 mod sockets;
 mod standard;

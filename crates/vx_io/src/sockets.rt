@@ -1,15 +1,17 @@
 //! TCP over the system's sockets as links, ports, a net and a reach: the trusted edge, a few lines each. No contract knows
 //! the bytes of a real stream; each is seen as its counts.
 
-ghost use Rattle.std.specs.Prelude.{◌≡◌, ◌<◌, ◌≤◌, ◌||◌, true, false, length, None};
+ghost use Rattle.std.specs.Prelude.{◌≡◌, ◌<◌, ◌≤◌, ◌||◌, true, false, length, None, IfSome};
 ghost use Rattle.vx_io_traits.specs.Faults.{one_more};
 ghost use Rattle.vx_io_traits.specs.Outs.{IfGot, IfTook, OnEnd, OnReadFailed, OnWriteFailed};
 ghost use Rattle.vx_io_traits.specs.Rung.{OnDialFailed, is_up};
 ghost use Rattle.vx_io_traits.specs.Accepts.{OnAcceptFailed, OnBindFailed, GoesOn, given_after};
 ghost use Rattle.vx_io.specs.SocketState.{TellsNone};
 
+use super::patience::{LOOKS, Patience};
 use super::standard::{TRIES, read_retrying, write_retrying};
-use std::io::ErrorKind;
+use std::hint::spin_loop;
+use std::io::{ErrorKind, Read, Write};
 use std::marker::Model;
 use std::net::{Ipv4Addr, Net as Sockets, TcpListener, TcpStream};
 use vx_io_traits::{Accepted, Bound, DialOut, Link, Listen, Net, Reach, ReadOut, WriteOut};
@@ -18,6 +20,7 @@ use vx_io_traits::{Accepted, Bound, DialOut, Link, Listen, Net, Reach, ReadOut, 
 #[derive(Drop)]
 pub struct TcpLink {
     stream: TcpStream,
+    patience: Patience,
     receive_faults: u64,
     send_faults: u64,
 }
@@ -38,11 +41,54 @@ impl TcpLink {
         ensures send_faults { result.send_faults ≡ 0 }
     {
         let _ = stream.set_nodelay(true);
+        let _ = stream.set_nonblocking(true);
         TcpLink {
             stream,
+            patience: Patience::NEW,
             receive_faults: 0,
             send_faults: 0,
         }
+    }
+}
+
+/// How many bytes a read gave that didn't sleep, looking at most so often; or none where nothing came, or it failed.
+fn look(stream: &mut TcpStream, into: &mut [u8]) -> Option<usize>
+    ensures { IfSome result (λ n. n ≤ length into.new) }
+{
+    for _ in 0..LOOKS {
+        match stream.read(into) {
+            Ok(count) => return Some(count),
+            Err(error) if error.kind() == ErrorKind::WouldBlock => spin_loop(),
+            Err(_) => return None,
+        }
+    }
+    None
+}
+
+/// How many bytes a read gave that slept for them, 0 at the end, or none where it failed.
+fn wait_for(stream: &mut TcpStream, into: &mut [u8]) -> Option<usize>
+    ensures { IfSome result (λ n. n ≤ length into.new) }
+{
+    let _ = stream.set_nonblocking(false);
+    let given = read_retrying(stream, into);
+    let _ = stream.set_nonblocking(true);
+    given
+}
+
+impl TcpLink {
+    /// How many bytes one read gave, 0 at the end, or none where it failed.
+    fn read(&mut self, into: &mut [u8]) -> Option<usize>
+        ensures given { IfSome result (λ n. n ≤ length into.new) }
+        ensures same { self.new ≡ self.old }
+    {
+        if self.patience.looks() {
+            if let Some(count) = look(&mut self.stream, into) {
+                self.patience.paid();
+                return Some(count);
+            }
+            self.patience.failed();
+        }
+        wait_for(&mut self.stream, into)
     }
 }
 
@@ -65,7 +111,7 @@ impl Link for TcpLink {
         ensures end { OnEnd result (self.new ≡ self.old) }
         ensures failed { OnReadFailed result (self.new.receive_faults ≡ one_more self.old.receive_faults) }
     {
-        match read_retrying(&mut self.stream, into) {
+        match self.read(into) {
             Some(0) => ReadOut::End,
             Some(count) => ReadOut::Got(count),
             None => {
@@ -84,7 +130,7 @@ impl Link for TcpLink {
         ensures took { IfTook result (λ n. (0 < n) × (n ≤ length from.now) × (self.new ≡ self.old)) }
         ensures failed { OnWriteFailed result (self.new.send_faults ≡ one_more self.old.send_faults) }
     {
-        match write_retrying(&mut self.stream, from) {
+        match write_now(&mut self.stream, from) {
             Some(count) if count > 0 => WriteOut::Took(count),
             _ => {
                 self.send_faults = self.send_faults.saturating_add(1);
@@ -92,6 +138,21 @@ impl Link for TcpLink {
             }
         }
     }
+}
+
+/// How many bytes a write took, or none where it failed. It sleeps where the system's buffer is full.
+fn write_now(stream: &mut TcpStream, from: &[u8]) -> Option<usize>
+    ensures { IfSome result (λ n. n ≤ length from.now) }
+{
+    match stream.write(from) {
+        Ok(count) => return Some(count),
+        Err(error) if error.kind() == ErrorKind::WouldBlock => {}
+        Err(_) => return write_retrying(stream, from),
+    }
+    let _ = stream.set_nonblocking(false);
+    let taken = write_retrying(stream, from);
+    let _ = stream.set_nonblocking(true);
+    taken
 }
 
 /// The link of the next connection to a port, or none where the wait failed. A connection that its peer gave up before it
@@ -313,6 +374,8 @@ impl<R: Sockets<Stream = TcpStream>> Link for TcpReach<R> {
     ghost receive_faults = { λ s. s.receive_faults };
 
     ghost send_faults = { λ s. s.send_faults };
+
+    ghost is_ready = { λ s. s.is_up };
 
     /// One read of the stream, as a `TcpLink` makes it. It fails before the first reach with `Up`.
     fn receive(&mut self, into: &mut [u8]) -> ReadOut
