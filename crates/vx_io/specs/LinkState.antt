@@ -1,5 +1,5 @@
 -- A link over memory: what it gave and has left to give, in which pieces, what it took, and which of its calls fail.
-use Rattle.std.specs.Prelude.{◌≡◌, ℕ, List, ◌++◌, take, drop}
+use Rattle.std.specs.Prelude.{◌≡◌, ℕ, List, ◌++◌, length, take, drop}
 use Rattle.vx_io_traits.specs.Faults.{one_more}
 use Rattle.vx_io.specs.SourceState.{SourceState, read_answer, read_slice}
 use Rattle.vx_io.specs.SinkState.{SinkState, IsWriteAnswer}
@@ -59,3 +59,12 @@ IsSendAnswer s count answer = IsWriteAnswer (outgoing s) count answer
 abbrev pub after_send : LinkState → List ℕ → WriteOut → LinkState
 after_send s bytes (Took n) = record s { taken = s.taken ++ take n bytes; calls = one_more s.calls }
 after_send s bytes Refused = record s { calls = one_more s.calls; send_faults = one_more s.send_faults }
+
+-- a receive: its answer, what stands in the slice, and the link after it
+abbrev pub IsReceive : LinkState → List ℕ → ReadOut → List ℕ → LinkState → Type 0
+IsReceive old slice answer received new =
+    (answer ≡ receive_answer old (length slice)) × (received ≡ receive_slice old slice answer) × (new ≡ after_receive old answer)
+
+-- a send: its answer, and the link after it
+abbrev pub IsSend : LinkState → List ℕ → WriteOut → LinkState → Type 0
+IsSend old bytes answer new = IsSendAnswer old (length bytes) answer × (new ≡ after_send old bytes answer)

@@ -40,7 +40,7 @@ abbrev pub IsEarlySend : {L : Type 0} → ReachState L → ReachState L → Writ
 IsEarlySend old new answer =
     (answer ≡ WriteFailed) × (new ≡ record old { early_sends = one_more old.early_sends })
 
--- a later call is the link's, and changes nothing else
+-- a later call changes the link alone
 abbrev pub IsLinkCall : {L : Type 0} → ReachState L → ReachState L → Type 0
 IsLinkCall old new = new ≡ record old { link = new.link }
 

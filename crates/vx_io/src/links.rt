@@ -80,7 +80,7 @@ impl Link for MemLink {
     ghost use Rattle.vx_io_traits.specs.Faults.{Rose};
     ghost use Rattle.vx_io_traits.specs.Outs.{IfGot, IfTook, OnEnd, OnReadFailed, OnWriteFailed};
     ghost use Rattle.vx_io_traits.specs.Stands.{Gives, Takes, Stays};
-    ghost use Rattle.vx_io.specs.LinkState.{StandsFor, receive_answer, receive_slice, after_receive, IsSendAnswer, after_send};
+    ghost use Rattle.vx_io.specs.LinkState.{StandsFor, IsReceive, IsSend, receive_answer, receive_slice, after_receive, IsSendAnswer, after_send};
 
     ghost stands = { StandsFor };
 
@@ -89,6 +89,10 @@ impl Link for MemLink {
     ghost receive_faults = { λ s. s.receive_faults };
 
     ghost send_faults = { λ s. s.send_faults };
+
+    ghost receives = { IsReceive };
+
+    ghost sends = { IsSend };
 
     /// Gives the least of the piece, the slice's length and what is left; `End` comes where nothing is left and the
     /// call isn't one that fails.

@@ -90,13 +90,21 @@ impl<L: Link> Link for MemReach<L> {
 
     ghost peers = { λ s. L.peers s.link };
 
+    ghost is_ready = { λ s. s.is_up };
+
+    // Once it is up, what the link tells of its own call.
+    ghost receives = { λ old slice answer received new. old.is_up ≡ true → L.receives old.link slice answer received new.link };
+
+    ghost sends = { λ old bytes answer new. old.is_up ≡ true → L.sends old.link bytes answer new.link };
+
     /// Receives from the link, or fails before the first reach with `Up`.
     fn receive(&mut self, into: &mut [u8]) -> ReadOut
         requires { 0 < length into.old }
 
         // What it answers before the first reach with `Up`, and whose call it is later.
         ensures early { self.old.is_up ≡ false → IsEarlyReceive self.old self.new result × (into.new ≡ into.old) }
-        ensures later { self.old.is_up ≡ true → IsLinkCall self.old self.new }
+        ensures later { self.old.is_up ≡ true → IsLinkCall self.old self.new
+            × L.receives self.old.link into.old result into.new self.new.link }
 
         // What every link says.
         ensures counted { with_early self.old.early_receives (L.receive_faults self.old.link)
@@ -126,7 +134,7 @@ impl<L: Link> Link for MemReach<L> {
 
         // What it answers before the first reach with `Up`, and whose call it is later.
         ensures early { self.old.is_up ≡ false → IsEarlySend self.old self.new result }
-        ensures later { self.old.is_up ≡ true → IsLinkCall self.old self.new }
+        ensures later { self.old.is_up ≡ true → IsLinkCall self.old self.new × L.sends self.old.link from.now result self.new.link }
 
         // What every link says.
         ensures counted { with_early self.old.early_sends (L.send_faults self.old.link)

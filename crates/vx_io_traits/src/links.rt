@@ -1,10 +1,14 @@
 //! Links: streams of bytes both ways, as a connection over TCP.
 
-ghost use Rattle.std.specs.Prelude.{◌≡◌, ℕ, ◌<◌, ◌≤◌, List, Option, None, length, take};
+ghost use Rattle.std.specs.Prelude.{◌≡◌, ℕ, ◌<◌, ◌≤◌, ⊤, Bool, true, false, List, Option, None, length, take};
 ghost use Rattle.std.specs.Io.KnownBytes.{Consumes, IsAtEnd, Keeps};
 ghost use Rattle.vx_io_traits.specs.Faults.{Rose};
 ghost use Rattle.vx_io_traits.specs.Outs.{IfGot, IfTook, OnEnd, OnReadFailed, OnWriteFailed};
 ghost use Rattle.vx_io_traits.specs.Stands.{Gives, Takes, Stays};
+ghost use Rattle.vx_io_traits.specs.declared.ReadOut.{ReadOut};
+ghost use Rattle.vx_io_traits.specs.declared.ReadOut.TheVariants.{Failed as ReadFailed};
+ghost use Rattle.vx_io_traits.specs.declared.WriteOut.{WriteOut};
+ghost use Rattle.vx_io_traits.specs.declared.WriteOut.TheVariants.{Failed as WriteFailed};
 
 use super::{ReadOut, WriteOut};
 
@@ -24,11 +28,23 @@ pub trait Link {
     // The IPv4 addresses of the peers that it has had, in order, where it can tell them.
     ghost peers: { Self → Option (List ℕ) } = { λ _. None };
 
+    // Whether its calls can move bytes: until then each fails.
+    ghost is_ready: { Self → Bool } = { λ _. true };
+
+    // What one receive does, where the link tells it: the link and the slice before, the answer, the slice and the link
+    // after. And what one send does.
+    ghost receives: { Self → List ℕ → ReadOut → List ℕ → Self → Type 0 } = { λ _ _ _ _ _. ⊤ };
+
+    ghost sends: { Self → List ℕ → WriteOut → Self → Type 0 } = { λ _ _ _ _. ⊤ };
+
     /// Receives the next bytes into the front of `into`, as many as there are at hand.
     fn receive(&mut self, into: &mut [u8]) -> ReadOut
         requires { 0 < length into.old }
         ensures counted { receive_faults self.old ≤ receive_faults self.new }
         ensures apart { send_faults self.new ≡ send_faults self.old }
+        ensures ready { is_ready self.new ≡ is_ready self.old }
+        ensures early { is_ready self.old ≡ false → result ≡ ReadFailed }
+        ensures receives { receives self.old into.old result into.new self.new }
         ensures peers { Keeps (peers self.old) (peers self.new) }
         ensures got { IfGot result (λ n. (0 < n) × (n ≤ length into.new)
             × Consumes (left self.old) (left self.new) (take n into.new)
@@ -43,6 +59,9 @@ pub trait Link {
         requires { 0 < length from.now }
         ensures counted { send_faults self.old ≤ send_faults self.new }
         ensures apart { receive_faults self.new ≡ receive_faults self.old }
+        ensures ready { is_ready self.new ≡ is_ready self.old }
+        ensures early { is_ready self.old ≡ false → result ≡ WriteFailed }
+        ensures sends { sends self.old from.now result self.new }
         ensures peers { Keeps (peers self.old) (peers self.new) }
         ensures left { Keeps (left self.old) (left self.new) }
         ensures took { IfTook result (λ n. (0 < n) × (n ≤ length from.now)

@@ -1,9 +1,9 @@
 //! Reaches: what connects to a host and port that a user names, and is then the link to it.
 
-ghost use Rattle.std.specs.Prelude.{◌≡◌, ℕ, ◌≤◌, List, Option, None};
+ghost use Rattle.std.specs.Prelude.{◌≡◌, ℕ, ◌≤◌, ◌||◌, List, Option, None};
 ghost use Rattle.std.specs.Io.KnownBytes.{Keeps};
 ghost use Rattle.vx_io_traits.specs.Faults.{Rose};
-ghost use Rattle.vx_io_traits.specs.Rung.{OnDialFailed};
+ghost use Rattle.vx_io_traits.specs.Rung.{OnDialFailed, is_up};
 ghost use Rattle.vx_io_traits.specs.Stands.{Stays};
 ghost use Rattle.vx_io_traits.specs.Reached.{AnswersAt};
 
@@ -24,6 +24,7 @@ pub trait Reach: Link {
     fn reach(&mut self, host: &str, port: u16) -> DialOut
         ensures counted { refused self.old ≤ refused self.new }
         ensures place { place self.new ≡ place self.old }
+        ensures ready { Self.is_ready self.new ≡ (is_up result || Self.is_ready self.old) }
         ensures answers { AnswersAt (place self.old) host.now port result }
         ensures failed { OnDialFailed result (Rose (refused self.old) (refused self.new)) }
         ensures receives { Self.receive_faults self.new ≡ Self.receive_faults self.old }
