@@ -6,7 +6,7 @@ use Rattle.std.specs.List.{list_any}
 use Rattle.vx_488.specs.declared.transfers.TheConstants.{ADDRESS_MAX}
 use Rattle.vx_488.specs.declared.transfers.Addr.{Addr}
 use Rattle.vx_488.specs.Address.{secondary_place, secondary_at, place, address_at, same_address, is_secondary, is_bus_address}
-use Rattle.vx_488.specs.Listening.{has_address, inserted, without_address, flagged}
+use Rattle.vx_488.specs.Listening.{has_address, inserted, without_address, flagged, InOrderFrom}
 use Rattle.vx_488.specs.Flags.{place-address_at, same_address-refl, same_address-equal, same_address-apart, has_address-below}
 
 -- the address at the place of a bus address is that address
@@ -36,6 +36,14 @@ is_secondary-at (suc k) h = le-leb k ADDRESS_MAX (omega arith)
 pub is_bus_address-at : (i : ℕ) → i < 992 → is_bus_address (address_at i) ≡ true
 is_bus_address-at i h =
     and_from (leb (i / 32) ADDRESS_MAX) (is_secondary (secondary_at (i % 32))) (le-leb (i / 32) ADDRESS_MAX (omega arith)) (is_secondary-at (i % 32) (omega arith))
+
+-- the addresses that flags give from place i on stand in order, and none is in front of a place j that isn't behind i
+pub flagged-in_order : (j i : ℕ) (flags : List Bool) → j ≤ i → i + length flags ≤ 992 → InOrderFrom j (flagged i flags)
+flagged-in_order j i [] h within = tt
+flagged-in_order j i (true ∷ flags) h within =
+    let at : place (address_at i) ≡ i = place-address_at i in
+    (omega (arith, at), is_bus_address-at i (omega arith), flagged-in_order (place (address_at i) + 1) (i + 1) flags (omega (arith, at)) (omega arith))
+flagged-in_order j i (false ∷ flags) h within = flagged-in_order j (i + 1) flags (omega arith) (omega arith)
 
 -- a bus address at this place is the one there, and at any other it isn't
 same_address-here : (a : Addr) (i : ℕ) → place a ≡ i → address_at (place a) ≡ a → same_address a (address_at i) ≡ true

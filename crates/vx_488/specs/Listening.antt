@@ -1,8 +1,16 @@
 -- A set of addresses as a list without repeats, in order of primary and then secondary address, none first.
-use Rattle.std.specs.Prelude.{ℕ, ◌+◌, Bool, true, false, not, nat_lt, zero, suc, if◌then◌else◌, List, [], ◌∷◌, filter}
+use Rattle.std.specs.Prelude.{◌≡◌, ℕ, ◌+◌, ◌≤◌, ⊤, Bool, true, false, not, nat_lt, zero, suc, if◌then◌else◌, List, [], ◌∷◌, filter}
 use Rattle.std.specs.List.{list_any}
 use Rattle.vx_488.specs.declared.transfers.Addr.{Addr}
 use Rattle.vx_488.specs.Address.{place, same_address, address_at, is_bus_address}
+
+-- the addresses stand in order, each once, and none is in front of place i
+abbrev pub InOrderFrom : ℕ → List Addr → Type 0
+InOrderFrom i [] = ⊤
+InOrderFrom i (a ∷ bs) = (i ≤ place a) × (is_bus_address a ≡ true) × InOrderFrom (place a + 1) bs
+
+abbrev pub InOrder : List Addr → Type 0
+InOrder xs = InOrderFrom 0 xs
 
 abbrev pub has_address : List Addr → Addr → Bool
 has_address xs a = list_any (λ b. same_address a b) xs

@@ -10,6 +10,6 @@ mod wire;
 
 pub use commands::{Command, command_of};
 pub use laws::{address_bytes, addressing, heard_appends, reached_appends, wire_appends};
-pub use listeners::Listeners;
+pub use listeners::{Listeners, is_bus_address};
 pub use transfers::{ADDRESS_MAX, Addr, Line, Transfer};
 pub use wire::{Pending, Wire};

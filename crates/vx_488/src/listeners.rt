@@ -1,6 +1,6 @@
 ghost use Rattle.std.specs.Prelude.{◌≡◌, ◌<◌, ◌==◌, [], true, length};
 ghost use Rattle.vx_488.specs.Address.{place, is_bus_address};
-ghost use Rattle.vx_488.specs.Listening.{has_address, with_address, without_address};
+ghost use Rattle.vx_488.specs.Listening.{has_address, with_address, without_address, InOrder};
 
 use crate::transfers::{ADDRESS_MAX, Addr};
 use std::marker::Model;
@@ -50,6 +50,13 @@ impl Listeners {
         ensures { result ≡ has_address self.now a }
     {
         is_bus_address(a) && self.flags[place(a)]
+    }
+
+    /// The list is in order of primary and then secondary address, without repeats, each part at most 30.
+    pub fn in_order(&self)
+        ensures { InOrder self.now }
+    {
+        let _ = &self.flags;
     }
 
     /// Whether nobody listens.

@@ -130,7 +130,7 @@ impl Wire {
         }
     }
 
-    /// Interface clear (IEEE 488.1, 2.9): nobody talks or listens, and the gateway is in charge.
+    /// Interface clear (IEEE 488.1, 2.12): nobody talks or listens, and the gateway is in charge.
     fn clear_interface(&mut self)
         ensures { self.new ≡ on_interface_clear self.old }
     {

@@ -1,6 +1,6 @@
 -- The steps of a bus, and what each changes of its meaning.
 use Rattle.std.specs.Prelude.{◌≡◌, ℕ, ◌+◌, Bool, List, [], ◌∷◌, ◌++◌, Some}
-use Rattle.vx_io_traits.specs.Faults.{Rose}
+use Rattle.vx_io_traits.specs.Faults.{one_more}
 use Rattle.vx_488.specs.declared.transfers.Line.{Line}
 use Rattle.vx_488.specs.declared.transfers.Line.TheVariants as line
 use Rattle.vx_488.specs.declared.transfers.Transfer.{Transfer}
@@ -52,11 +52,11 @@ get_step get.Held = Held ask.Get
 get_step get.Failed = Failed ask.Get
 
 -- What a step changes: a transfer that went is the next of the list, and the wire's next. One that was held, or failed,
--- is the last that didn't go, and that count rose.
+-- is the last that didn't go, and counts one hold, or one fault.
 abbrev pub IsStepped : Means → Step → Means → Type 0
 IsStepped old (Went t) new = new ≡ record old { wire = step old.wire t; moves = old.moves ++ t ∷ []; asks = old.asks + 1 }
-IsStepped old (Held asked) new = (new ≡ record old { asks = old.asks + 1; holds = new.holds; refused = Some asked }) × Rose old.holds new.holds
-IsStepped old (Failed asked) new = (new ≡ record old { asks = old.asks + 1; faults = new.faults; refused = Some asked }) × Rose old.faults new.faults
+IsStepped old (Held asked) new = new ≡ record old { asks = old.asks + 1; holds = one_more old.holds; refused = Some asked }
+IsStepped old (Failed asked) new = new ≡ record old { asks = old.asks + 1; faults = one_more old.faults; refused = Some asked }
 IsStepped old (Told now) new = new ≡ old
 IsStepped old Cut new = new ≡ record old { moves = []; asks = 0 }
 

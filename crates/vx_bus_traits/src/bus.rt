@@ -47,7 +47,7 @@ pub trait Bus {
         ensures stepped { IsStepped (means self.old) (move_step (line_transfer l on) result) (means self.new) }
         ensures through { through self.old (move_step (line_transfer l on) result) self.new };
 
-    /// Sends interface clear (IEEE 488.1, 2.9).
+    /// Sends interface clear (IEEE 488.1, 2.12).
     fn ifc(&mut self) -> Move
         requires { (means self.old).asks < ASK_MAX }
         ensures stepped { IsStepped (means self.old) (move_step Ifc result) (means self.new) }

@@ -24,7 +24,7 @@ use Rattle.vx_plan.specs.Laws.{FitsNext, PlaceGoesOnLaw, BoundLaw}
 use Rattle.vx_plan.specs.ProvedLaws.{left-on}
 use Rattle.vx_ctrl.specs.declared.turn.Went.{Went as Outcome}
 use Rattle.vx_ctrl.specs.declared.turn.Went.TheVariants as went
-use Rattle.vx_ctrl.specs.declared.asking.Asked.TheVariants.{Made, Stopped}
+use Rattle.vx_ctrl.specs.declared.asking.Asked.TheVariants.{Moved, Stopped}
 use Rattle.vx_ctrl.specs.Turns.{TurnState, HasMade, HasRoom, GetsBytes, with_bytes, stored, moved_on}
 use Rattle.vx_ctrl.specs.Goes.{Begins, Goes, refused_steps, go_steps, outcome_stand, HoldsBytes}
 use Rattle.vx_ctrl.specs.Asking.{Asks, IsPlainNext}
@@ -37,7 +37,7 @@ use Rattle.vx_ctrl.proofs.Rooms.{with-one-more, with-none, take-with}
 
 -- what an ask that made a transfer says
 made-fits : {B : Type 0} (means : B → Means) (through : B → Step → B → Type 0) (slot : Option Slot) (t : Transfer) (now after : B)
-    → Asks means through slot (Made t) now after → FitsNext slot t × StepsTo means through now (Went t) after
+    → Asks means through slot (Moved t) now after → FitsNext slot t × StepsTo means through now (Went t) after
 made-fits means through (Some slot) t now after asks = asks
 made-fits means through None t now after asks = absurd asks
 
@@ -50,13 +50,13 @@ pub record Stops {B : Type 0} (means : B → Means) (through : B → Step → B 
 pub stops : {B : Type 0} (means : B → Means) (through : B → Step → B → Type 0) (slot : Option Slot) (outcome : Outcome) (now after : B)
     → Asks means through slot (Stopped outcome) now after → Stops means through slot outcome now after
 stops means through (Some slot) went.Held now after asks = record {
-  moves = ap (λ (m : Means). m.moves) asks.0.0;
-  wire = ap (λ (m : Means). m.wire) asks.0.0;
+  moves = ap (λ (m : Means). m.moves) asks.0;
+  wire = ap (λ (m : Means). m.wire) asks.0;
   walk = (after, asks, refl);
 }
 stops means through (Some slot) went.Broken now after asks = record {
-  moves = ap (λ (m : Means). m.moves) asks.0.0;
-  wire = ap (λ (m : Means). m.wire) asks.0.0;
+  moves = ap (λ (m : Means). m.moves) asks.0;
+  wire = ap (λ (m : Means). m.wire) asks.0;
   walk = (after, asks, refl);
 }
 stops means through (Some slot) went.Finished now after asks = absurd asks
@@ -251,7 +251,7 @@ module _ {B : Type 0} (means : B → Means) (through : B → Step → B → Type
 
   -- where the bus made what was wanted next
   module _ (t : Transfer) (after : B)
-      (asks : (ts : List Transfer) (left : Plan) → Reaches turn.task bytes ts left turn.place → Asks means through (next_slot left) (Made t) now after) where
+      (asks : (ts : List Transfer) (left : Plan) → Reaches turn.task bytes ts left turn.place → Asks means through (next_slot left) (Moved t) now after) where
     made-steps : StepsTo means through now (Went t) after
     made-steps = (made-fits means through (next_slot under.left) t now after (asks _ under.left under.has_made.reaches)).1
 

@@ -2,6 +2,7 @@
 //! and which role it needs.
 #![tactic(auto)]
 
+mod conditions;
 mod laws;
 mod moves;
 mod tasks;

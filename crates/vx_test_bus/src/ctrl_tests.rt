@@ -3,11 +3,11 @@
 ghost use Rattle.std.specs.Prelude.{◌≡◌, ◌≤◌, IfOk, length};
 ghost use Rattle.vx_calls.specs.declared.limits.TheConstants.{WRITE_MAX};
 ghost use Rattle.vx_plan.specs.Tasks.{IsPlainTask, HasBytes};
-ghost use Rattle.vx_bus_traits.specs.Means.{first_means};
+ghost use Rattle.vx_bus.specs.Means.{first_means};
 ghost use Rattle.vx_ctrl.specs.Turns.{HasRoom};
 
 use crate::rows::compare;
-use crate::tasks::{has_bytes, has_room, is_plain};
+use crate::tasks::{has_bytes, has_room};
 use std::alloc::Global;
 use std::process::Abort;
 use std::test::Fail;
@@ -101,7 +101,7 @@ struct Row {
 fn go_row(bus: &mut MemBus, row: &Row, room: &mut [u8]) -> Option<Told>
     requires { bus.old.means ≡ first_means }
 {
-    if !is_plain(&row.task)
+    if !row.task.is_plain()
         || !has_bytes(&row.task, row.bytes)
         || !has_room(&row.task, room.len())
     {

@@ -6,7 +6,7 @@ ghost use Rattle.vx_plan.specs.Places.{slot_wanted, place_after};
 ghost use Rattle.vx_plan.specs.Laws.{FitsNext};
 
 use crate::rows::compare;
-use crate::tasks::{has_bytes, is_plain};
+use crate::tasks::has_bytes;
 use vx_488::Transfer::{Cmd, Got, Put};
 use vx_488::{ADDRESS_MAX, Transfer, Wire};
 use vx_calls::Target;
@@ -57,7 +57,7 @@ fn after(task: &Task, place: &Place, t: Transfer) -> Place
 
 /// Whether a job with these bytes makes just this list, begun on this bus.
 fn makes(task: &Task, wire: &Wire, bytes: &[u8], list: &[Transfer]) -> bool {
-    if !is_plain(task) || wire.own > ADDRESS_MAX || !has_bytes(task, bytes) {
+    if !task.is_plain() || wire.own > ADDRESS_MAX || !has_bytes(task, bytes) {
         return false;
     }
     place_goes_on();
