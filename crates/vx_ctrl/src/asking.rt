@@ -13,7 +13,7 @@ use vx_plan::Next;
 #[derive(Clone, Copy, Debug, PartialEq, Eq)]
 pub enum Asked {
     /// The bus made this transfer.
-    Made(Transfer),
+    Moved(Transfer),
     /// The turn stops, for this reason.
     Stopped(Went),
 }
@@ -23,7 +23,7 @@ fn sent(t: Transfer, answer: Move) -> Asked
     ensures { result ≡ sent_as t answer }
 {
     match answer {
-        Move::Went => Asked::Made(t),
+        Move::Went => Asked::Moved(t),
         Move::Held => Asked::Stopped(Went::Held),
         Move::Failed => Asked::Stopped(Went::Broken),
     }
@@ -34,7 +34,7 @@ fn got(answer: GetOut) -> Asked
     ensures { result ≡ got_as answer }
 {
     match answer {
-        GetOut::Byte { b, end } => Asked::Made(Transfer::Got { b, end }),
+        GetOut::Byte { b, end } => Asked::Moved(Transfer::Got { b, end }),
         GetOut::Held => Asked::Stopped(Went::Held),
         GetOut::Failed => Asked::Stopped(Went::Broken),
     }

@@ -98,7 +98,7 @@ impl Turn {
         wire_appends();
         loop {
             match self.ask(bus, bytes) {
-                Asked::Made(t) => self.made(t, room),
+                Asked::Moved(t) => self.made(t, room),
                 Asked::Stopped(went) => return went,
             }
         }

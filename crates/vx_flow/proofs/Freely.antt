@@ -20,8 +20,8 @@ use Rattle.vx_488.specs.Wire.{wire_after}
 use Rattle.vx_488.specs.Heard.{reached}
 use Rattle.vx_488.proofs.Appends.{reached-append}
 use Rattle.vx_plan.specs.Tasks.{plan, IsTargetPlain}
-use Rattle.vx_links.specs.Table.{Link}
-use Rattle.vx_locks.specs.Locks.{Lock, keeps_off, holder_of}
+use Rattle.vx_rules.specs.Table.{Link}
+use Rattle.vx_rules.specs.Locks.{Lock, keeps_off, holder_of}
 use Rattle.vx_rules.specs.Calls.{link_named, bytes_of}
 use Rattle.vx_rules.specs.State.{Pending, Tables, State, connection_at, pending_at, link_of, without_connection}
 use Rattle.vx_rules.specs.Checks.{OnLink, link_found, link_by_number, named_link}
@@ -43,7 +43,7 @@ use Rattle.vx_flow.proofs.Kept.{IsOpen, turn-stand, is-open}
 use Rattle.vx_flow.proofs.Turning.{goes-parts, moved, in_turn}
 use Rattle.vx_flow.proofs.Gathering.{fine-gathers}
 use Rattle.vx_flow.proofs.Whom.{At, ended, reached-front}
-use Rattle.vx_flow.proofs.Making.{Made, MadeAny, answer-parts, answer-made, leave-made}
+use Rattle.vx_flow.proofs.Making.{MadePart, MadeAny, answer-parts, answer-made, leave-made}
 use Rattle.vx_flow.proofs.Plain.{AllPlain, IsLinkPlain, found-has, IsPlain, legal-plain}
 use Rattle.vx_flow.proofs.Reaching.{device-reaches}
 
@@ -109,7 +109,7 @@ number-is : (t : Tables) (conn lid : ℕ) (l : Link) → link_of t conn lid ≡ 
 number-is t conn lid l h =
     eqb-true l.number lid (and_parts (l.number == lid) (l.connection == conn) (found_passes (λ k. (k.number == lid) && (k.connection == conn)) t.links.links l h)).0
 
-made-free : (t : Tables) (w : Wire) (conn : ℕ) (p : Pending) (moves : List Transfer) → AllPlain t → w.own ≤ ADDRESS_MAX → Made t w conn p moves
+made-free : (t : Tables) (w : Wire) (conn : ℕ) (p : Pending) (moves : List Transfer) → AllPlain t → w.own ≤ ADDRESS_MAX → MadePart t w conn p moves
     → AreFree (link_named p.call) t.locks (reached w moves)
 made-free t w conn p moves all small m = by m.link.target refl where
   link : (lid : ℕ) × (link_named p.call ≡ Some lid) × (link_of t conn lid ≡ Some m.link)
@@ -147,7 +147,7 @@ asked-free s conn p moves plain at (inr m) =
     (made-free s.tables s.wire conn p moves plain.links plain.own m)
 
 left-free : (s : State) (conn : ℕ) (moves : List Transfer) → IsPlain s
-    → (moves ≡ []) ⊎ ((p : Pending) × (pending_at s.tables conn ≡ Some p) × Made s.tables s.wire conn p moves)
+    → (moves ≡ []) ⊎ ((p : Pending) × (pending_at s.tables conn ≡ Some p) × MadePart s.tables s.wire conn p moves)
     → AreFree (link_called s conn) s.tables.locks (reached s.wire moves)
 left-free s conn moves plain (inl e) = none-free (link_called s conn) s.tables.locks s.wire moves e
 left-free s conn moves plain (inr m) = asked-free s conn m.0 moves plain m.1 (inr m.2)
@@ -179,7 +179,7 @@ all-back P (x ∷ xs) ys h = all-back P xs ys (All-tail P x (xs ++ ys) h)
 
 -- what a turn makes is made with what it made before
 more-free : (t : Tables) (before now : Wire) (moment : ℕ) (u : Turn) (moves : List Transfer) (s : Stands t before now moment u) → AllPlain t → before.own ≤ ADDRESS_MAX
-    → Made t before u.connection s.asked (u.moves ++ moves) → AreFree (link_named s.asked.call) t.locks (reached now moves)
+    → MadePart t before u.connection s.asked (u.moves ++ moves) → AreFree (link_named s.asked.call) t.locks (reached now moves)
 more-free t before now moment u moves s all small m =
     let free = made-free t before u.connection s.asked (u.moves ++ moves) all small m in
     let behind = all-back (IsFree (link_named s.asked.call) t.locks) (reached before u.moves) (reached (wire_after before u.moves) moves)
@@ -202,7 +202,7 @@ move-free s (Some u) before dialed g conn moves sound all small more h =
     (subst (λ c. goes_on s c (pending_at t c) ≡ true) (sym same) first.1) in
     let open-yet = sym (ap is_whole (turn-stand t before s.wire s.moment u stands u.moves)) ∙ more u refl in
     let own : s.wire.own ≡ before.own = ap (λ w. w.own) stands.made ∙ own-stays before stands.asked.call stands.job u.moves stands.on_plan open-yet in
-    let made : Made t before u.connection stands.asked (u.moves ++ moves) = record {
+    let made : MadePart t before u.connection stands.asked (u.moves ++ moves) = record {
       link = stands.link;
       job = stands.job;
       on_link = stands.on_link;

@@ -18,7 +18,7 @@ use Rattle.vx_488.specs.Wire.{wire_after}
 use Rattle.vx_plan.specs.declared.tasks.Task.{Task}
 use Rattle.vx_plan.specs.Plan.{Stand, Whole, Part, Off}
 use Rattle.vx_plan.specs.Roles.{has_role}
-use Rattle.vx_links.specs.Table.{Link}
+use Rattle.vx_rules.specs.Table.{Link}
 use Rattle.vx_rules.specs.Calls.{is_bus_call, asks_dial}
 use Rattle.vx_rules.specs.State.{Pending, Tables, State, pending_at, with_pending}
 use Rattle.vx_rules.specs.Checks.{OnLink, named_link, check_on, check}
@@ -32,7 +32,7 @@ use Rattle.vx_flow.specs.Sound.{Passes}
 use Rattle.vx_flow.proofs.Jobs.{job-link, against, passes-parts}
 
 -- transfers on the plan of a call's job, where the first lines let the call pass
-pub record Made (t : Tables) (w : Wire) (conn : ℕ) (p : Pending) (moves : List Transfer) : Type 0 where
+pub record MadePart (t : Tables) (w : Wire) (conn : ℕ) (p : Pending) (moves : List Transfer) : Type 0 where
   pub link : Link
   pub job : Task
   pub on_link : named_link t conn p.call ≡ OnLink link
@@ -41,7 +41,7 @@ pub record Made (t : Tables) (w : Wire) (conn : ℕ) (p : Pending) (moves : List
   pub passes : Passes t w.own link p.call
 
 abbrev pub MadeAny : Tables → Wire → ℕ → Pending → List Transfer → Type 0
-MadeAny t w conn p moves = (moves ≡ []) ⊎ Made t w conn p moves
+MadeAny t w conn p moves = (moves ≡ []) ⊎ MadePart t w conn p moves
 
 pub nothing-is : (moves : List Transfer) → is_nothing moves ≡ true → moves ≡ []
 nothing-is [] h = refl
@@ -55,7 +55,7 @@ part-on Part h e = cc
 part-on Off h e = false≢true h
 
 part-made : (t : Tables) (w : Wire) (conn : ℕ) (p : Pending) (moves : List Transfer) (o : Option Task) → task_of (named_link t conn p.call) p.call ≡ o
-    → lets_pass t w.own conn p ≡ true → is_part_of w p.call moves o ≡ true → Made t w conn p moves
+    → lets_pass t w.own conn p ≡ true → is_part_of w p.call moves o ≡ true → MadePart t w conn p moves
 part-made t w conn p moves None e pass h = absurd (false≢true h)
 part-made t w conn p moves (Some job) e pass h =
     let link = job-link (named_link t conn p.call) p.call job e in
@@ -195,9 +195,9 @@ answer-parts s t conn now o told h =
 
 -- the transfers of a connection that goes down
 pub leave-made : (s : State) (conn : ℕ) (moves : List Transfer) (o : Option Pending) → may_leave s.tables s conn moves o ≡ true
-    → (moves ≡ []) ⊎ ((p : Pending) × (o ≡ Some p) × Made s.tables s.wire conn p moves)
+    → (moves ≡ []) ⊎ ((p : Pending) × (o ≡ Some p) × MadePart s.tables s.wire conn p moves)
 leave-made s conn moves None h = inl (nothing-is moves h)
 leave-made s conn moves (Some p) h = by (may-made-parts s.tables s.wire conn p moves h) where
-  by : MadeAny s.tables s.wire conn p moves → (moves ≡ []) ⊎ ((q : Pending) × (Some p ≡ Some q) × Made s.tables s.wire conn q moves)
+  by : MadeAny s.tables s.wire conn p moves → (moves ≡ []) ⊎ ((q : Pending) × (Some p ≡ Some q) × MadePart s.tables s.wire conn q moves)
   by (inl e) = inl e
   by (inr m) = inr (p, refl, m)

@@ -29,8 +29,8 @@ use Rattle.vx_plan.specs.Plan.{Off, stand}
 use Rattle.vx_plan.specs.Tasks.{plan, is_own_task, IsTargetPlain}
 use Rattle.vx_plan.specs.ProvedLaws.{own-job, reachable-plain}
 use Rattle.vx_plan.proofs.Turns.{own_stays-law}
-use Rattle.vx_links.specs.Table.{Link, Table, is_live, is_at, uses_address}
-use Rattle.vx_locks.specs.Locks.{holds, with_lock}
+use Rattle.vx_rules.specs.Table.{Link, Table, is_live, is_at, uses_address}
+use Rattle.vx_rules.specs.Locks.{holds, with_lock}
 use Rattle.vx_srq.specs.SrqState.{sampled, taken}
 use Rattle.vx_rules.specs.Lists.{along}
 use Rattle.vx_rules.specs.State.{Pending, Tables, State, first, connection_at, pending_at, lives_as, is_idle, has_room, with_pending, with_connection, without_connection}
@@ -47,7 +47,7 @@ use Rattle.vx_rules.specs.ProvedLaws.{bus-job}
 use Rattle.vx_flow.proofs.Lookups.{along-none}
 use Rattle.vx_flow.proofs.Changes.{Found, Same, Settled, Effected, decide-found}
 use Rattle.vx_flow.proofs.Whom.{just-front}
-use Rattle.vx_flow.proofs.Making.{Made, MadeAny, answer-parts, answer-made, leave-made}
+use Rattle.vx_flow.proofs.Making.{MadePart, MadeAny, answer-parts, answer-made, leave-made}
 
 -- ---- what a device text names
 
@@ -226,7 +226,7 @@ own-after P job bytes polling own ts w h has on = by (cases_Bool (is_own_task jo
       new is.0 (subst (OwnHas P) is.1 has) (subst (λ j. stand (plan j bytes polling own) ts ≢ Off) is.1 on)
   by (inr e) = subst P (sym (own_stays-law job bytes polling own ts w e on)) h
 
-made-own : (P : ℕ → Type 0) (t : Tables) (w : Wire) (conn : ℕ) (p : Pending) (moves : List Transfer) → OfUnused P t.links → P w.own → Made t w conn p moves
+made-own : (P : ℕ → Type 0) (t : Tables) (w : Wire) (conn : ℕ) (p : Pending) (moves : List Transfer) → OfUnused P t.links → P w.own → MadePart t w conn p moves
     → P (wire_after w moves).own
 made-own P t w conn p moves unused h m =
     own-after P m.job (bytes_of p.call) w.polling w.own moves w h (own-has P t w.own m.link p.call m.job unused m.has_job m.passes.checked) m.on_plan
@@ -271,7 +271,7 @@ abort-links t lid = by (is_live t.links lid) where
   by false = refl
 
 leave-own : (P : ℕ → Type 0) (s : State) (conn : ℕ) (moves : List Transfer) → OfUnused P s.tables.links → P s.wire.own
-    → (moves ≡ []) ⊎ ((p : Pending) × (pending_at s.tables conn ≡ Some p) × Made s.tables s.wire conn p moves) → P (wire_after s.wire moves).own
+    → (moves ≡ []) ⊎ ((p : Pending) × (pending_at s.tables conn ≡ Some p) × MadePart s.tables s.wire conn p moves) → P (wire_after s.wire moves).own
 leave-own P s conn moves unused h (inl e) = subst (λ m. P (wire_after s.wire m).own) (sym e) h
 leave-own P s conn moves unused h (inr m) = made-own P s.tables s.wire conn m.0 moves unused h m.2
 

@@ -18,35 +18,35 @@ ask-requires-clause-asks g c =
 pub made-requires-clause-step : goal.made-requires-clause-step
 made-requires-clause-step g c =
     step-in g.B.Bus.means g.B.Bus.through _ _ _ _ _ _ _ c.requires.plain c.requires.short c.requires.begun c.loop-t.invariant
-    c.in-Made.t c.ask.new.bus c.in-Made.ensures
+    c.in-Moved.t c.ask.new.bus c.in-Moved.ensures
 
 pub made-requires-clause-moved : goal.made-requires-clause-moved
 made-requires-clause-moved g c =
     moved-in g.B.Bus.means g.B.Bus.through _ _ _ _ _ _ _ c.requires.plain c.requires.short c.requires.begun c.loop-t.invariant
-    c.in-Made.t c.ask.new.bus c.in-Made.ensures c.few_transfers.ensures
+    c.in-Moved.t c.ask.new.bus c.in-Moved.ensures c.few_transfers.ensures
 
 pub made-requires-clause-room : goal.made-requires-clause-room
 made-requires-clause-room g c = λ got.
     let Within : ℕ → Type 0 = λ n. c.loop-t.self.place.moved < n in
     subst Within (sym c.loop-t.auto.room)
     (room-in g.B.Bus.means g.B.Bus.through _ _ _ _ _ _ _ c.requires.plain c.requires.short c.requires.begun c.loop-t.invariant
-    c.in-Made.t c.ask.new.bus c.in-Made.ensures c.requires.room got)
+    c.in-Moved.t c.ask.new.bus c.in-Moved.ensures c.requires.room got)
 
 pub loop-t-smaller : goal.loop-t-smaller
 loop-t-smaller g c =
     smaller g.B.Bus.means g.B.Bus.through _ _ _ _ _ _ _ c.requires.plain c.requires.short c.requires.begun c.loop-t.invariant
-    c.in-Made.t c.ask.new.bus c.in-Made.ensures c.few_transfers.ensures
+    c.in-Moved.t c.ask.new.bus c.in-Moved.ensures c.few_transfers.ensures
 
 pub loop-t-preserved : goal.loop-t-preserved
 loop-t-preserved g c =
     let Goes : TurnState → List ℕ → Type 0 = λ turn room.
     Going g.B.Bus.means g.B.Bus.through c.args.self.now turn c.args.bytes.now c.args.room.now room c.args.bus.now c.ask.new.bus in
-    let Turned : TurnState → Type 0 = λ turn. Goes turn (stored c.loop-t.self.place.moved c.in-Made.t c.loop-t.room) in
+    let Turned : TurnState → Type 0 = λ turn. Goes turn (stored c.loop-t.self.place.moved c.in-Moved.t c.loop-t.room) in
     let Stored : List ℕ → Type 0 = λ room. Goes c.made.new.self room in
     subst Stored (sym c.made.ensures.stored)
     (subst Turned (sym c.made.ensures.turn)
     (preserved g.B.Bus.means g.B.Bus.through _ _ _ _ _ _ _ c.requires.plain c.requires.short c.requires.begun c.loop-t.invariant
-    c.in-Made.t c.ask.new.bus c.in-Made.ensures c.place_goes_on.ensures c.wire_appends.ensures c.requires.room))
+    c.in-Moved.t c.ask.new.bus c.in-Moved.ensures c.place_goes_on.ensures c.wire_appends.ensures c.requires.room))
 
 pub returns-in-Stopped-clause-goes : goal.returns-in-Stopped-clause-goes
 returns-in-Stopped-clause-goes g c = λ w made b.
