@@ -7,3 +7,15 @@ pub mod Attaches
 pub mod SettingUp
 pub mod LineSet
 pub mod ProvedLaws
+pub use Rattle.vx_text.specs.TextLines
+pub use Rattle.vx_inst.specs.View
+pub use Rattle.vx_table.specs.Spelling
+pub use Rattle.vx_table.specs.Table
+pub use Rattle.vx_sim.specs.Attaching
+pub use Rattle.vx_sim.specs.Occupants
+pub use Rattle.vx_sim.specs.SimState
+pub use Rattle.vx_script.specs.Cause
+pub use Rattle.vx_script.specs.Command
+pub use Rattle.vx_script.specs.Grammar
+pub use Rattle.vx_script.specs.Plain
+pub use Rattle.vx_trace.specs.Text

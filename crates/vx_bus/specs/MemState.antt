@@ -1,6 +1,6 @@
 -- A bus over memory: the bytes that it gives, and which of its moving calls are held or fail.
 use Rattle.std.specs.Prelude.{◌≡◌, ℕ, ◌+◌, Bool, if◌then◌else◌, List, [], ◌∷◌, ◌++◌, drop, Some}
-use Rattle.vx_io_traits.specs.Faults.{one_more, fails_next}
+use Rattle.vx_bus_traits.specs.Faults.{one_more, fails_next}
 use Rattle.vx_488.specs.declared.transfers.Transfer.{Transfer}
 use Rattle.vx_488.specs.declared.transfers.Transfer.TheVariants.{Cmd, Put, Got, Ren, Atn, Ifc, Own}
 use Rattle.vx_488.specs.Wire.{step}

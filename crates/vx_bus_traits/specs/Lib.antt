@@ -2,3 +2,4 @@ pub mod Means
 pub mod Steps
 pub mod Walks
 pub use Rattle.vx_io_traits.specs.Faults
+pub use Rattle.vx_488.specs.Wire

@@ -1,7 +1,7 @@
 -- How long the arguments of a call are.
 use Rattle.std.proofs.Common.{◌≡◌, ℕ, ◌+◌, ◌-◌, ◌≤◌, List, ◌++◌, length, arith, length-append}
 use Rattle.std.proofs.Math.ListN.{length-replicate}
-use Rattle.vx_xdr.specs.Spelling.{padding, pad_len}
+use Rattle.vx_rpc.specs.Spelling.{padding, pad_len}
 use Rattle.vx_calls.specs.Call.{Call}
 use Rattle.vx_calls.specs.Call as call
 use Rattle.vx_codec.specs.Asked.{arguments, IsPuttable}

@@ -13,3 +13,17 @@ pub mod Asked
 pub mod Gaining
 pub mod Due
 pub mod Outcome
+pub use Rattle.vx_io_traits.specs.Faults
+pub use Rattle.vx_io_traits.specs.Reached
+pub use Rattle.vx_io_traits.specs.Rung
+pub use Rattle.vx_io_traits.specs.Stands
+pub use Rattle.vx_text.specs.Writing
+pub use Rattle.vx_calls.specs.Call
+pub use Rattle.vx_calls.specs.Target
+pub use Rattle.vx_record.specs.Buffer
+pub use Rattle.vx_record.specs.Fragments
+pub use Rattle.vx_record.specs.Records
+pub use Rattle.vx_rpc.specs.Procedure
+pub use Rattle.vx_rpc.specs.ReplyMeaning
+pub use Rattle.vx_rpc.specs.Wording
+pub use Rattle.vx_codec.specs.Answered

@@ -4,3 +4,8 @@ pub mod Answered
 pub mod Text
 pub mod ProvedLaws
 pub use Rattle.vx_xdr.specs.Spelling
+pub use Rattle.vx_calls.specs.Call
+pub use Rattle.vx_calls.specs.ErrorCode
+pub use Rattle.vx_calls.specs.Reply
+pub use Rattle.vx_xdr.specs.Reading
+pub use Rattle.vx_xdr.specs.Writing

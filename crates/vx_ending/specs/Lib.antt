@@ -3,3 +3,16 @@ pub mod Running
 pub mod Outcome
 pub mod Preparing
 pub mod Taking
+pub use Rattle.vx_io_traits.specs.Faults
+pub use Rattle.vx_text.specs.Ends
+pub use Rattle.vx_text.specs.Reading
+pub use Rattle.vx_text.specs.Writing
+pub use Rattle.vx_sim.specs.Means
+pub use Rattle.vx_sim.specs.SimState
+pub use Rattle.vx_script.specs.Cause
+pub use Rattle.vx_trace.specs.Output
+pub use Rattle.vx_trace.specs.Text
+pub use Rattle.vx_bench.specs.Rack
+pub use Rattle.vx_bench.specs.SettingUp
+pub use Rattle.vx_bench.specs.Spares
+pub use Rattle.vx_words.specs.Meant

@@ -3,7 +3,7 @@ ghost use Rattle.std.specs.Prelude.{◌≡◌, List, IfErr, IfOk, map, string_by
 ghost use Rattle.vx_text.specs.Ends.{End};
 ghost use Rattle.vx_text.specs.Reading.{IsInput};
 ghost use Rattle.vx_text.specs.declared.input.Input.TheVariants.{Whole};
-ghost use Rattle.vx_bus_traits.specs.Means.{first_means};
+ghost use Rattle.vx_sim.specs.Means.{first_means};
 ghost use Rattle.vx_bench.specs.Rack.{SpareShown};
 ghost use Rattle.vx_bench.specs.Spares.{spare_shown};
 ghost use Rattle.vx_words.specs.declared.words.Asked.TheVariants.{Serve};

@@ -11,8 +11,8 @@ use Rattle.vx_calls.specs.declared.calls.Role.TheVariants as role
 use Rattle.vx_calls.specs.declared.codes.ErrorCode.{ErrorCode}
 use Rattle.vx_calls.specs.ErrorCode.{same_error}
 use Rattle.vx_calls.specs.Call.{Call}
-use Rattle.vx_links.specs.Table.{Link, is_live}
-use Rattle.vx_locks.specs.Locks.{holder_of}
+use Rattle.vx_rules.specs.Table.{Link, is_live}
+use Rattle.vx_rules.specs.Locks.{holder_of}
 use Rattle.vx_srq.specs.SrqState.{Given, taken, sampled}
 use Rattle.vx_rules.specs.Calls.{link_named}
 use Rattle.vx_rules.specs.State.{Pending, Tables, pending_at, link_of, lives_as, is_idle, has_room, with_pending, with_connection}

@@ -9,8 +9,8 @@ use Rattle.vx_calls.specs.declared.targets.Target.{Target}
 use Rattle.vx_calls.specs.Target.{conflict}
 use Rattle.vx_488.specs.declared.wire.Wire.{Wire}
 use Rattle.vx_plan.specs.Plan.{Stand, Whole, Part, Off}
-use Rattle.vx_links.specs.Table.{Link}
-use Rattle.vx_locks.specs.Locks.{Lock, keeps_off, holder_of, with_lock}
+use Rattle.vx_rules.specs.Table.{Link}
+use Rattle.vx_rules.specs.Locks.{Lock, keeps_off, holder_of, with_lock}
 use Rattle.vx_rules.specs.State.{Pending, Tables, State, connection_at, pending_at, without_connection, is_lock_of}
 use Rattle.vx_rules.specs.Checks.{named_link}
 use Rattle.vx_rules.specs.Lines.{lets_pass}

@@ -26,7 +26,7 @@ use Rattle.vx_plan.specs.Plan.{Stand, Whole, Part, Off, stand}
 use Rattle.vx_plan.specs.Tasks.{unl, mta, listener, ended_poll, puts, write_plan, IsTargetPlain}
 use Rattle.vx_plan.specs.Roles.{has_role}
 use Rattle.vx_plan.proofs.Walks.{whole-law}
-use Rattle.vx_links.specs.Table.{Link}
+use Rattle.vx_rules.specs.Table.{Link}
 use Rattle.vx_rules.specs.Calls.{sets_end, has_passed}
 use Rattle.vx_rules.specs.State.{Pending, Tables, State, pending_at, link_of}
 use Rattle.vx_rules.specs.Checks.{link_found, named_link, check}

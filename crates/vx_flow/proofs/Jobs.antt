@@ -17,8 +17,8 @@ use Rattle.vx_plan.specs.Plan.{Plan, This, fits, Off, left_after, stand_of, stan
 use Rattle.vx_plan.specs.Tasks.{plan, is_own_task}
 use Rattle.vx_plan.specs.ProvedLaws.{left_after-none}
 use Rattle.vx_plan.proofs.Turns.{own_stays-law}
-use Rattle.vx_links.specs.Table.{Link}
-use Rattle.vx_locks.specs.Locks.{holder_of}
+use Rattle.vx_rules.specs.Table.{Link}
+use Rattle.vx_rules.specs.Locks.{holder_of}
 use Rattle.vx_rules.specs.State.{Pending, Tables}
 use Rattle.vx_rules.specs.Calls.{is_bus_call, is_lock_call, bytes_of}
 use Rattle.vx_rules.specs.Docmd.{Command, BusAddress, command_of, command_task}

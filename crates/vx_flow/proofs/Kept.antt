@@ -7,8 +7,8 @@ use Rattle.vx_488.specs.declared.wire.Wire.{Wire}
 use Rattle.vx_plan.specs.declared.tasks.Task.{Task}
 use Rattle.vx_plan.specs.Plan.{Off}
 use Rattle.vx_plan.specs.Tasks.{is_own_task}
-use Rattle.vx_links.specs.Table.{Link}
-use Rattle.vx_locks.specs.Locks.{holder_of}
+use Rattle.vx_rules.specs.Table.{Link}
+use Rattle.vx_rules.specs.Locks.{holder_of}
 use Rattle.vx_rules.specs.Calls.{link_named, bytes_of}
 use Rattle.vx_rules.specs.State.{Pending, Tables, pending_at, link_of}
 use Rattle.vx_rules.specs.Checks.{OnLink, link_found, link_by_number, named_link}

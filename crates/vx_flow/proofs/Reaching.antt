@@ -26,7 +26,7 @@ use Rattle.vx_plan.specs.Plan.{Slot, This, AnyByte}
 use Rattle.vx_plan.specs.Whole as whole
 use Rattle.vx_plan.specs.Whole.{Fits, Fill, IsWhole}
 use Rattle.vx_plan.specs.Tasks.{unl, unt, spe, spd, sdc, get, gtl, mla, mta, listener, talker, ended_poll, puts, just, plan, IsSecondaryPlain}
-use Rattle.vx_links.specs.Table.{Link}
+use Rattle.vx_rules.specs.Table.{Link}
 use Rattle.vx_rules.specs.State.{Tables}
 use Rattle.vx_rules.specs.Calls.{bytes_of, sets_end, sets_stop}
 use Rattle.vx_rules.specs.Checks.{is_interface, check_command, check_on}

@@ -7,7 +7,7 @@ use Rattle.vx_lemmas.specs.Lists.{find-filter}
 use Rattle.vx_lemmas.specs.Conditions.{apart}
 use Rattle.vx_calls.specs.declared.calls.Role.{Role}
 use Rattle.vx_calls.specs.declared.targets.Target.{Target}
-use Rattle.vx_links.specs.Table.{Link}
+use Rattle.vx_rules.specs.Table.{Link}
 use Rattle.vx_rules.specs.State.{Pending, Connection, Tables, connection_at, pending_at, link_of, with_pending, with_connection, without_connection, with_link, without_link}
 use Rattle.vx_rules.specs.One.{mark_call, mark_on, marked}
 use Rattle.vx_flow.proofs.Lookups.{find_append-some, find_append-none, find_filter-gone, find-map, find_update-other, find_update-here}

@@ -20,8 +20,8 @@ use Rattle.vx_calls.specs.Call as call
 use Rattle.vx_calls.specs.Reply.{Reply, same_reply}
 use Rattle.vx_488.specs.declared.wire.Wire.{Wire}
 use Rattle.vx_488.specs.Wire.{wire_after}
-use Rattle.vx_links.specs.Table.{Link, is_live}
-use Rattle.vx_locks.specs.Locks.{holds, with_lock}
+use Rattle.vx_rules.specs.Table.{Link, is_live}
+use Rattle.vx_rules.specs.Locks.{holds, with_lock}
 use Rattle.vx_srq.specs.declared.srq.TheConstants.{OUTBOX_MAX}
 use Rattle.vx_srq.specs.SrqState.{SrqState, Enable, Channel, Srq, Given, Front, Empty, Gone, channel_at, with_channel, with_new_channel, new_channel, handles_of, queued_on, risen_slot, is_rise, sampled, front_given, given_by, given, front_taken, taken_from, taken}
 use Rattle.vx_rules.specs.State.{Pending, Tables, State, first, connection_at, pending_at, lives_as, is_idle, has_room, with_pending, with_connection, without_connection}

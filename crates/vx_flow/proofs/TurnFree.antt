@@ -10,8 +10,8 @@ use Rattle.vx_calls.specs.Reply.{Reply}
 use Rattle.vx_488.specs.declared.transfers.Transfer.{Transfer}
 use Rattle.vx_488.specs.declared.wire.Wire.{Wire}
 use Rattle.vx_488.specs.Wire.{wire_after}
-use Rattle.vx_links.specs.Table.{Link}
-use Rattle.vx_locks.specs.Locks.{holder_of}
+use Rattle.vx_rules.specs.Table.{Link}
+use Rattle.vx_rules.specs.Locks.{holder_of}
 use Rattle.vx_rules.specs.Lists.{along}
 use Rattle.vx_rules.specs.Calls.{is_bus_call}
 use Rattle.vx_rules.specs.State.{Pending, Tables, State, pending_at}

@@ -9,7 +9,7 @@ use Rattle.vx_488.specs.declared.transfers.Addr.{Addr}
 use Rattle.vx_488.specs.declared.transfers.Transfer.{Transfer}
 use Rattle.vx_488.specs.Listening.{has_address}
 use Rattle.vx_488.specs.Heard.{reached, heard}
-use Rattle.vx_links.specs.Table.{Link}
+use Rattle.vx_rules.specs.Table.{Link}
 use Rattle.vx_srq.specs.SrqState.{Channel, channel_at, handles_of, queued_on}
 use Rattle.vx_rules.specs.State.{State, first, pending_at, link_of}
 use Rattle.vx_rules.specs.Calls.{sets_end}

@@ -6,8 +6,8 @@ use Rattle.vx_488.specs.Wire.{wire_after}
 use Rattle.vx_plan.specs.declared.tasks.Task.{Task}
 use Rattle.vx_plan.specs.Plan.{Off}
 use Rattle.vx_plan.specs.Roles.{has_role}
-use Rattle.vx_links.specs.Table.{Link}
-use Rattle.vx_locks.specs.Locks.{holder_of}
+use Rattle.vx_rules.specs.Table.{Link}
+use Rattle.vx_rules.specs.Locks.{holder_of}
 use Rattle.vx_rules.specs.State.{Pending, Tables, pending_at}
 use Rattle.vx_rules.specs.Checks.{OnLink, named_link, check_on}
 use Rattle.vx_rules.specs.Effects.{task_on}

@@ -1,3 +1,9 @@
 pub mod Groups
 pub mod Phases
 pub mod Owning
+pub use Rattle.vx_calls.specs.Call
+pub use Rattle.vx_flow.specs.Event
+pub use Rattle.vx_flow.specs.FineState
+pub use Rattle.vx_flow.specs.Laws
+pub use Rattle.vx_flow.specs.Poll
+pub use Rattle.vx_flow.specs.State

@@ -4,7 +4,7 @@ use Rattle.std.specs.List.{list_any}
 use Rattle.vx_calls.specs.declared.calls.Role.{Role}
 use Rattle.vx_calls.specs.declared.calls.Role.TheVariants as role
 use Rattle.vx_calls.specs.Call.{Call}
-use Rattle.vx_rules.specs.State.{Pending, role_at, pending_at}
+use Rattle.vx_flow.specs.State.{Pending, role_at, pending_at}
 use Rattle.vx_flow.specs.Event.{Event, Up, Down, Arrive, Answer, Abort, Sample, Take, Begin, Move, Dial}
 use Rattle.vx_flow.specs.FineState.{FineState}
 

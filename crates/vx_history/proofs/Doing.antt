@@ -11,7 +11,7 @@ use Rattle.vx_calls.specs.declared.calls.Role.TheVariants as role
 use Rattle.vx_calls.specs.ErrorCode.{same_error}
 use Rattle.vx_calls.specs.Call.{Call}
 use Rattle.vx_488.specs.Wire.{wire_after}
-use Rattle.vx_srq.specs.SrqState.{given, taken, sampled}
+use Rattle.vx_rules.specs.SrqState.{given, taken, sampled}
 use Rattle.vx_rules.specs.Entry as entry
 use Rattle.vx_rules.specs.State.{Pending, Connection, Tables, State, same_role, connection_at, role_at, pending_at, has_role_of, lives_as, is_idle, has_room, with_pending, with_connection, without_connection}
 use Rattle.vx_rules.specs.One.{one, may_wait, arrived, same_given, abort_reply, abort_tables}

@@ -4,7 +4,7 @@ use Rattle.std.proofs.Common.{◌≡◌, ◌≤◌, ℕ, Bool, true, false, cond
 use Rattle.std.specs.List.{All}
 use Rattle.std.proofs.lemmas.Option.{none-some, same_Some}
 use Rattle.std.proofs.lemmas.List.Elements.{All-nil, All-cons}
-use Rattle.vx_links.specs.Table.{is_live}
+use Rattle.vx_rules.specs.Table.{is_live}
 use Rattle.vx_rules.specs.Lists.{along}
 use Rattle.vx_rules.specs.State.{Tables, with_pending, with_connection}
 use Rattle.vx_rules.specs.One.{marked, abort_tables}

@@ -6,7 +6,7 @@ use Rattle.std.proofs.lemmas.List.Elements.{All-nil, All-head, All-tail, All-pus
 use Rattle.std.proofs.lemmas.List.Folds.{list_any_none}
 use Rattle.vx_lemmas.specs.Options.{gone_on}
 use Rattle.vx_lemmas.specs.Lists.{found_passes}
-use Rattle.vx_links.specs.Table.{is_live}
+use Rattle.vx_rules.specs.Table.{is_live}
 use Rattle.vx_rules.specs.State.{Pending, Connection, Tables, connection_at, pending_at, with_pending, with_connection, without_connection}
 use Rattle.vx_rules.specs.One.{arrived, mark_on, marked, abort_tables}
 use Rattle.vx_rules.proofs.Finds.{found_holds, All-update}

@@ -8,7 +8,7 @@ use Rattle.std.proofs.lemmas.Option.{none-some}
 use Rattle.std.proofs.lemmas.List.Folds.{list_any-append}
 use Rattle.vx_calls.specs.declared.calls.Role.{Role}
 use Rattle.vx_calls.specs.Call.{Call}
-use Rattle.vx_links.specs.Table.{is_live}
+use Rattle.vx_rules.specs.Table.{is_live}
 use Rattle.vx_rules.specs.Calls.{link_named}
 use Rattle.vx_rules.specs.State.{Pending, Connection, Tables, connection_at, role_at, pending_at, with_pending, with_connection, without_connection}
 use Rattle.vx_rules.specs.One.{arrived, names, mark_call, mark_on, marked, abort_tables}

@@ -1,1 +1,12 @@
 pub mod Laws
+pub use Rattle.vx_rules.specs.Lists
+pub use Rattle.vx_flow.specs.Event
+pub use Rattle.vx_flow.specs.Fine
+pub use Rattle.vx_flow.specs.FineState
+pub use Rattle.vx_flow.specs.Headline
+pub use Rattle.vx_flow.specs.Poll
+pub use Rattle.vx_flow.specs.Sound
+pub use Rattle.vx_gate.specs.History
+pub use Rattle.vx_group.specs.Groups
+pub use Rattle.vx_group.specs.Owning
+pub use Rattle.vx_group.specs.Phases

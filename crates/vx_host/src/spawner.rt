@@ -1,7 +1,7 @@
 //! Workers as threads of the host.
 ghost use Rattle.std.specs.Prelude.{◌≡◌, ◌≤◌};
-ghost use Rattle.vx_io_traits.specs.Faults.{Rose, one_more};
-ghost use Rattle.vx_io_traits.specs.Accepts.{OnRefused};
+ghost use Rattle.vx_io.specs.Faults.{Rose, one_more};
+ghost use Rattle.vx_io.specs.Accepts.{OnRefused};
 
 use crossbeam_channel::{Receiver, Sender};
 use std::marker::Model;

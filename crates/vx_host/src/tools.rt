@@ -1,7 +1,7 @@
 //! Interrupt channels over TCP: dials, and the streams that they hand to the pumps.
 ghost use Rattle.std.specs.Prelude.{◌≡◌, ℕ, ◌≤◌, None};
-ghost use Rattle.vx_io_traits.specs.Faults.{one_more};
-ghost use Rattle.vx_io_traits.specs.Rung.{OnDialFailed};
+ghost use Rattle.vx_io.specs.Faults.{one_more};
+ghost use Rattle.vx_io.specs.Rung.{OnDialFailed};
 
 use crossbeam_channel::{Receiver, Sender};
 use std::marker::Model;

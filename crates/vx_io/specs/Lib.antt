@@ -6,3 +6,10 @@ pub mod ReachState
 pub mod SocketState
 pub mod ClockState
 pub mod DialState
+pub use Rattle.vx_io_traits.specs.Accepts
+pub use Rattle.vx_io_traits.specs.Faults
+pub use Rattle.vx_io_traits.specs.Handing
+pub use Rattle.vx_io_traits.specs.Outs
+pub use Rattle.vx_io_traits.specs.Reached
+pub use Rattle.vx_io_traits.specs.Rung
+pub use Rattle.vx_io_traits.specs.Stands

@@ -13,11 +13,11 @@ use Rattle.vx_calls.specs.ErrorCode.{same_error}
 use Rattle.vx_calls.specs.Call.{Call}
 use Rattle.vx_calls.specs.Reply as reply
 use Rattle.vx_488.specs.declared.transfers.Transfer.{Transfer}
-use Rattle.vx_bus_traits.specs.Steps.{Step, Told, Cut}
+use Rattle.vx_sim.specs.Steps.{Step, Told, Cut}
 use Rattle.vx_sim.specs.Bench.{some_asks, some_refuses}
 use Rattle.vx_sim.specs.SimState.{Through}
 use Rattle.vx_sim.specs.ProvedLaws.{steps-moves}
-use Rattle.vx_trace.specs.Output.{Output, Out}
+use Rattle.vx_play.specs.Output.{Output, Out}
 use Rattle.vx_message.specs.declared.record.TheConstants.{REPLY_ROOM}
 use Rattle.vx_message.specs.Meaning.{Meaning, Junk, Asks, Aborts, xid_by, record_of, reply_record}
 use Rattle.vx_message.specs.Meaning as meant

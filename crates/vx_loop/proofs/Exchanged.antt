@@ -16,7 +16,7 @@ use Rattle.vx_calls.specs.Call.{Call}
 use Rattle.vx_calls.specs.Call as call
 use Rattle.vx_calls.specs.Reply.{Reply}
 use Rattle.vx_calls.specs.Reply as reply
-use Rattle.vx_xdr.specs.Spelling.{word}
+use Rattle.vx_rpc.specs.Spelling.{word}
 use Rattle.vx_record.specs.Records.{Split, records}
 use Rattle.vx_record.specs.Ends.{is_settled}
 use Rattle.vx_record.specs.Buffer.{fed}
@@ -44,7 +44,7 @@ use Rattle.vx_client.proofs.Lengths.{arguments-short}
 use Rattle.vx_client.proofs.Meanings.{success-meaning}
 use Rattle.vx_rules.specs.State.{lives_as}
 use Rattle.vx_flow.specs.Event.{Event}
-use Rattle.vx_bus_traits.specs.Steps.{Step}
+use Rattle.vx_sim.specs.Steps.{Step}
 use Rattle.vx_play.specs.Gateway.{Gateway, gateway_of}
 use Rattle.vx_play.specs.Item.{moved}
 use Rattle.vx_loop.specs.LoopState.{ServedState, LoopState, IsIdle}

@@ -13,7 +13,7 @@ use Rattle.vx_calls.specs.declared.limits.TheConstants.{RECORD_MAX}
 use Rattle.vx_record.specs.declared.Feed.TheVariants as feed
 use Rattle.vx_record.specs.Buffer.{BufState, fresh, fed, taken}
 use Rattle.vx_record.proofs.Ends.{fed-append}
-use Rattle.vx_bus_traits.specs.Steps.{Step, Cut}
+use Rattle.vx_sim.specs.Steps.{Step, Cut}
 use Rattle.vx_sim.specs.SimState.{SimState}
 use Rattle.vx_message.specs.Meaning.{Meaning, Junk, Asks, Aborts, meaning, record_of, reply_record}
 use Rattle.vx_message.specs.Meaning as meant

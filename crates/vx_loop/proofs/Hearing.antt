@@ -24,7 +24,7 @@ use Rattle.vx_plan.specs.Plan.{Stand, Whole, Part, Off}
 use Rattle.vx_plan.specs.Roles.{has_role}
 use Rattle.vx_plan.specs.declared.tasks.Task.TheVariants as task
 use Rattle.vx_plan.specs.Results.{puts_made, whole_reply}
-use Rattle.vx_links.specs.Table.{Link, Table}
+use Rattle.vx_rules.specs.Table.{Link, Table}
 use Rattle.vx_rules.specs.Lists.{along}
 use Rattle.vx_rules.specs.State.{Pending, Connection, Tables, State, connection_at, pending_at, with_pending, lives_as, has_role_of, is_idle, link_of}
 use Rattle.vx_rules.specs.Calls.{sets_end, has_passed, bytes_of, is_big}

@@ -12,8 +12,8 @@ use Rattle.vx_488.specs.declared.transfers.Addr.{Addr}
 use Rattle.vx_488.specs.Wire.{wire_after}
 use Rattle.vx_488.specs.Heard.{Byte, heard}
 use Rattle.vx_488.specs.ProvedLaws.{wire_after-append, heard-append}
-use Rattle.vx_links.specs.Table.{Link, Table}
-use Rattle.vx_srq.specs.SrqState.{sampled, taken, given}
+use Rattle.vx_rules.specs.Table.{Link, Table}
+use Rattle.vx_message.specs.SrqState.{sampled, taken, given}
 use Rattle.vx_rules.specs.Lists.{along}
 use Rattle.vx_rules.specs.State.{State, connection_at, pending_at, lives_as, is_idle, has_room, with_connection, with_pending, without_connection}
 use Rattle.vx_rules.specs.Calls.{sets_end}

@@ -7,9 +7,9 @@ use Rattle.vx_lemmas.specs.Options.{mapped}
 use Rattle.vx_calls.specs.declared.calls.Role.TheVariants as role
 use Rattle.vx_calls.specs.declared.limits.TheConstants.{RECORD_MAX}
 use Rattle.vx_record.specs.Buffer.{BufState, fresh}
-use Rattle.vx_bus_traits.specs.Steps.{Cut}
+use Rattle.vx_sim.specs.Steps.{Cut}
 use Rattle.vx_sim.specs.SimState.{SimState}
-use Rattle.vx_srq.specs.SrqState as srq_state
+use Rattle.vx_message.specs.SrqState as srq_state
 use Rattle.vx_rules.specs.Lists.{along}
 use Rattle.vx_rules.specs.State.{State, pending_at, has_room, with_connection}
 use Rattle.vx_rules.specs.Entry as entry

@@ -4,7 +4,7 @@ use Rattle.std.specs.List.{list_all, flat_map}
 use Rattle.vx_calls.specs.declared.calls.Role.TheVariants as role
 use Rattle.vx_calls.specs.Call.{Call}
 use Rattle.vx_calls.specs.Reply.{Reply}
-use Rattle.vx_bus_traits.specs.Steps.{Step}
+use Rattle.vx_sim.specs.Steps.{Step}
 use Rattle.vx_sim.specs.Laws.{transfers}
 use Rattle.vx_message.specs.Meaning.{Meaning, Junk, Asks, Aborts, meaning, record_of, reply_record}
 use Rattle.vx_message.specs.Meaning as meant

@@ -4,8 +4,8 @@ use Rattle.std.specs.List.{flat_map}
 use Rattle.vx_calls.specs.declared.targets.Target.TheVariants.{Device}
 use Rattle.vx_488.specs.declared.transfers.Addr.{Addr}
 use Rattle.vx_488.specs.Heard.{Byte, heard}
-use Rattle.vx_bus_traits.specs.Steps.{Step}
-use Rattle.vx_links.specs.Table.{Link}
+use Rattle.vx_sim.specs.Steps.{Step}
+use Rattle.vx_rules.specs.Table.{Link}
 use Rattle.vx_calls.specs.declared.calls.Role.TheVariants as role
 use Rattle.vx_rules.specs.State.{link_of, lives_as}
 use Rattle.vx_flow.specs.Event.{Event}

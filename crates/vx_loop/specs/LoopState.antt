@@ -4,7 +4,7 @@ use Rattle.vx_calls.specs.declared.calls.Role.TheVariants as role
 use Rattle.vx_calls.specs.declared.limits.TheConstants.{RECORD_MAX}
 use Rattle.vx_record.specs.Buffer.{BufState, fresh}
 use Rattle.vx_sim.specs.SimState.{SimState}
-use Rattle.vx_srq.specs.SrqState as srq_state
+use Rattle.vx_message.specs.SrqState as srq_state
 use Rattle.vx_rules.specs.State.{pending_at, first_tables, first}
 use Rattle.vx_flow.specs.Event.{Up}
 use Rattle.vx_flow.specs.FineState.{FineState, first_fine}

@@ -3,7 +3,7 @@ use Rattle.std.specs.Prelude.{◌≡◌, ◌≤◌, ℕ, Bool, true, is_some, Li
 use Rattle.std.specs.List.{list_all}
 use Rattle.vx_calls.specs.Call.{Call}
 use Rattle.vx_calls.specs.Reply.{Reply}
-use Rattle.vx_bus_traits.specs.Steps.{Step}
+use Rattle.vx_sim.specs.Steps.{Step}
 use Rattle.vx_message.specs.Meaning.{Meaning, Junk, Asks, Aborts, record_of, reply_record}
 use Rattle.vx_message.specs.Meaning as meant
 use Rattle.vx_message.specs.declared.record.TheConstants.{REPLY_ROOM}

@@ -8,7 +8,7 @@ use Rattle.vx_calls.specs.Call.{Call}
 use Rattle.vx_record.specs.Buffer.{fresh, fed}
 use Rattle.vx_record.specs.declared.Feed.TheVariants.{More, TooLong}
 use Rattle.vx_record.specs.declared.Feed.TheVariants as feed
-use Rattle.vx_bus_traits.specs.Steps.{Step}
+use Rattle.vx_sim.specs.Steps.{Step}
 use Rattle.vx_message.specs.Meaning.{Asks, Junk, meaning}
 use Rattle.vx_rules.specs.State.{pending_at, lives_as}
 use Rattle.vx_flow.specs.Event.{Event, Arrive}

@@ -8,3 +8,7 @@ pub mod Roles
 pub mod Moves
 pub mod Laws
 pub mod ProvedLaws
+pub use Rattle.vx_calls.specs.Reply
+pub use Rattle.vx_calls.specs.Target
+pub use Rattle.vx_488.specs.Heard
+pub use Rattle.vx_488.specs.Wire

@@ -20,7 +20,7 @@ use Rattle.vx_bus_traits.specs.Walks.{Walk}
 use Rattle.vx_script.specs.Command.{Command, At, Poll, Sample, Take, Dial}
 use Rattle.vx_script.specs.declared.Cause.TheVariants as cause
 use Rattle.vx_trace.specs.Output.{Output, Out, IrqClosed}
-use Rattle.vx_srq.specs.SrqState.{Given, Channel, channel_at, sampled, taken, given}
+use Rattle.vx_message.specs.SrqState.{Given, Channel, channel_at, sampled, taken, given}
 use Rattle.vx_rules.specs.State.{Connection, State, connection_at, pending_at, role_at, lives_as, has_role_of}
 use Rattle.vx_rules.specs.Decide.{Outside, decide}
 use Rattle.vx_rules.specs.Entry as entry

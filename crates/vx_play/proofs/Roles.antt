@@ -14,8 +14,8 @@ use Rattle.vx_calls.specs.ErrorCode.{same_error}
 use Rattle.vx_calls.specs.Reply.{Reply, same_reply}
 use Rattle.vx_488.specs.declared.transfers.Transfer.{Transfer}
 use Rattle.vx_488.specs.Wire.{wire_after}
-use Rattle.vx_links.specs.Table.{is_live}
-use Rattle.vx_srq.specs.SrqState.{given, taken, sampled}
+use Rattle.vx_rules.specs.Table.{is_live}
+use Rattle.vx_message.specs.SrqState.{given, taken, sampled}
 use Rattle.vx_rules.specs.Lists.{update_first, along}
 use Rattle.vx_rules.specs.State.{Pending, Connection, Tables, State, connection_at, pending_at, role_at, lives_as, is_idle, has_room, with_pending, with_connection, without_connection}
 use Rattle.vx_rules.specs.Lines.{first_lines}

@@ -6,7 +6,7 @@ use Rattle.std.proofs.lemmas.Grind.{flat_map-append}
 use Rattle.vx_calls.specs.declared.calls.Role.{Role}
 use Rattle.vx_script.specs.Command.{Command, Up, In, Down, At, Poll, Sample, Take, Dial, Inst, Plug, Pull, Set, Fail}
 use Rattle.vx_trace.specs.Output.{Output}
-use Rattle.vx_srq.specs.SrqState.{Channel, Given, Front, Empty, Gone, channel_at}
+use Rattle.vx_message.specs.SrqState.{Channel, Given, Front, Empty, Gone, channel_at}
 use Rattle.vx_rules.specs.State.{role_at}
 use Rattle.vx_flow.specs.Event.{Event}
 use Rattle.vx_flow.specs.Event as event

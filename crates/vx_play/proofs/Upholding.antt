@@ -12,7 +12,7 @@ use Rattle.vx_488.specs.Wire.{wire_after}
 use Rattle.vx_script.specs.Command.{Command, Up, In, Down, At, Poll, Sample, Take, Dial, Inst, Plug, Pull, Set, Fail}
 use Rattle.vx_trace.specs.Output.{Output}
 use Rattle.vx_bus_traits.specs.Steps.{Step}
-use Rattle.vx_srq.specs.SrqState.{Channel, channel_at}
+use Rattle.vx_message.specs.SrqState.{Channel, channel_at}
 use Rattle.vx_sim.specs.SimState.{SimState}
 use Rattle.vx_rules.specs.Lists.{along}
 use Rattle.vx_rules.specs.State.{pending_at, role_at}

@@ -10,7 +10,7 @@ use Rattle.vx_bus_traits.specs.Steps.{Told, Cut}
 use Rattle.vx_sim.specs.Bench.{some_asks, some_refuses}
 use Rattle.vx_sim.specs.SimState.{SimState, Through}
 use Rattle.vx_sim.specs.Attaching.{without_place, IsSet}
-use Rattle.vx_srq.specs.SrqState.{Channel, Given, Front, Empty, Gone, channel_at}
+use Rattle.vx_message.specs.SrqState.{Channel, Given, Front, Empty, Gone, channel_at}
 use Rattle.vx_rules.specs.State.{Pending, role_at, pending_at}
 use Rattle.vx_flow.specs.Event.{Event}
 use Rattle.vx_flow.specs.Event as event

@@ -8,9 +8,9 @@ use Rattle.std.specs.List.{All}
 use Rattle.vx_io_traits.specs.Faults.{Rose}
 use Rattle.vx_io_traits.specs.Stands.{Goes, Goes-none, Goes-goes}
 use Rattle.vx_gate.specs.PassView.{PassView}
-use Rattle.vx_srq.specs.SrqState.{Given, Srq, Front, Empty, Gone}
+use Rattle.vx_message.specs.SrqState.{Given, Srq, Front, Empty, Gone}
 use Rattle.vx_message.specs.Meaning.{srq_record}
-use Rattle.vx_group.specs.Groups.{Group}
+use Rattle.vx_core.specs.Groups.{Group}
 use Rattle.vx_turns.specs.Placing.{Placed, Makes}
 use Rattle.vx_turns.specs.Turning.{TakesTurn}
 use Rattle.vx_session.specs.Outside.{LinkShown, LinkGoes}

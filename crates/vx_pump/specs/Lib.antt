@@ -1,1 +1,10 @@
 pub mod Pumping
+pub use Rattle.vx_io_traits.specs.Faults
+pub use Rattle.vx_io_traits.specs.Stands
+pub use Rattle.vx_message.specs.Meaning
+pub use Rattle.vx_message.specs.SrqState
+pub use Rattle.vx_gate.specs.PassView
+pub use Rattle.vx_core.specs.Groups
+pub use Rattle.vx_turns.specs.Placing
+pub use Rattle.vx_turns.specs.Turning
+pub use Rattle.vx_session.specs.Outside

@@ -1,3 +1,6 @@
 pub mod Askers
 pub mod Meters
 pub mod Slows
+pub use Rattle.vx_inst.specs.Laws
+pub use Rattle.vx_inst.specs.Shared
+pub use Rattle.vx_inst.specs.View

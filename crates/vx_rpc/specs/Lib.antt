@@ -4,3 +4,6 @@ pub mod Sorting
 pub mod ReplyMeaning
 pub mod Wording
 pub mod Spelled
+pub use Rattle.vx_xdr.specs.Reading
+pub use Rattle.vx_xdr.specs.Spelling
+pub use Rattle.vx_xdr.specs.Writing

@@ -24,3 +24,12 @@ pub mod ProvedLaws
 pub use Rattle.vx_links.specs.Table
 pub use Rattle.vx_locks.specs.Locks
 pub use Rattle.vx_srq.specs.SrqState
+pub use Rattle.vx_calls.specs.Call
+pub use Rattle.vx_calls.specs.ErrorCode
+pub use Rattle.vx_calls.specs.Reply
+pub use Rattle.vx_calls.specs.Target
+pub use Rattle.vx_488.specs.Wire
+pub use Rattle.vx_plan.specs.Plan
+pub use Rattle.vx_plan.specs.Results
+pub use Rattle.vx_plan.specs.Roles
+pub use Rattle.vx_plan.specs.Tasks

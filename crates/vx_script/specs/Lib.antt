@@ -4,3 +4,4 @@ pub mod Grammar
 pub mod Plain
 pub mod Reads
 pub mod Cause
+pub use Rattle.vx_calls.specs.Target

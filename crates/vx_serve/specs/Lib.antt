@@ -1,1 +1,9 @@
 pub mod Starting
+pub use Rattle.vx_io_traits.specs.Faults
+pub use Rattle.vx_sim.specs.Means
+pub use Rattle.vx_sim.specs.SimState
+pub use Rattle.vx_gate.specs.Gates
+pub use Rattle.vx_words.specs.Meant
+pub use Rattle.vx_ending.specs.Outcome
+pub use Rattle.vx_ending.specs.Running
+pub use Rattle.vx_ending.specs.Spares

@@ -1,9 +1,9 @@
 //! The server: its words, its bench, its ports, its workers, and the links that it takes.
 ghost use Rattle.std.specs.Prelude.{◌≡◌, map, string_bytes, true};
-ghost use Rattle.vx_bus_traits.specs.Means.{first_means};
+ghost use Rattle.vx_sim.specs.Means.{first_means};
 ghost use Rattle.vx_gate.specs.Gates.{gate_of};
 ghost use Rattle.vx_words.specs.Meant.{IsInRange};
-ghost use Rattle.vx_bench.specs.Spares.{spare_shown};
+ghost use Rattle.vx_ending.specs.Spares.{spare_shown};
 ghost use Rattle.vx_ending.specs.Running.{EndsRun, LinksEnd, LinksServed, net_shown};
 ghost use Rattle.vx_ending.specs.Outcome.{Ends, EndsSo};
 

@@ -4,7 +4,7 @@ ghost use Rattle.std.specs.Arc.{arc_value};
 ghost use Rattle.vx_io_traits.specs.Faults.{Rose};
 ghost use Rattle.vx_gate.specs.Gates.{gate_of};
 ghost use Rattle.vx_sim.specs.SimState.{SimState};
-ghost use Rattle.vx_bus_traits.specs.Means.{first_means};
+ghost use Rattle.vx_sim.specs.Means.{first_means};
 ghost use Rattle.vx_words.specs.Meant.{IsInRange};
 ghost use Rattle.vx_serve.specs.declared.starting.Unstarted.TheVariants.{NoMemory};
 ghost use Rattle.vx_serve.specs.Starting.{OnUnstarted};

@@ -17,12 +17,12 @@ use Rattle.vx_calls.specs.Call.{Call}
 use Rattle.vx_calls.specs.Reply as reply
 use Rattle.vx_gate.specs.PassView.{PassView}
 use Rattle.vx_message.specs.Meaning.{reply_record}
-use Rattle.vx_flow.specs.Event.{Event, Arrive, Abort, Begin}
-use Rattle.vx_flow.specs.Poll as poll
-use Rattle.vx_flow.specs.Poll.{Ending, Waited, Dialed, Why, moved_events, end_events}
-use Rattle.vx_group.specs.Groups.{Group, events_of}
+use Rattle.vx_history.specs.Event.{Event, Arrive, Abort, Begin}
+use Rattle.vx_history.specs.Poll as poll
+use Rattle.vx_history.specs.Poll.{Ending, Waited, Dialed, Why, moved_events, end_events}
+use Rattle.vx_history.specs.Groups.{Group, events_of}
 use Rattle.vx_turns.specs.Placing.{Placed, Makes}
-use Rattle.vx_group.specs.Phases.{Idle, Asked}
+use Rattle.vx_history.specs.Phases.{Idle, Asked}
 use Rattle.vx_turns.specs.declared.acts.PollEnd.{PollEnd}
 use Rattle.vx_turns.specs.declared.acts.PollEnd.TheVariants as said
 use Rattle.vx_turns.specs.Acting.{Says}

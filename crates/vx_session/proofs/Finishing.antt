@@ -4,7 +4,7 @@ use Rattle.vx_calls.specs.declared.calls.Role.{Role}
 use Rattle.vx_gate.specs.History.{groups}
 use Rattle.vx_gate.specs.PassView.{PassView}
 use Rattle.vx_history.specs.Laws.{HeadlineOfGroupsLaw, OwnedLaw}
-use Rattle.vx_group.specs.Groups.{Group}
+use Rattle.vx_history.specs.Groups.{Group}
 use Rattle.vx_turns.specs.Placing.{IsHistory}
 use Rattle.vx_turns.specs.Turning.{Leaves}
 use Rattle.vx_session.specs.Outside.{LinkShown, DialShown}

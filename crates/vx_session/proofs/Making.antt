@@ -6,8 +6,8 @@ use Rattle.std.specs.List.{All}
 use Rattle.vx_gate.specs.declared.views.Logged.{Logged}
 use Rattle.vx_gate.specs.History.{groups}
 use Rattle.vx_gate.specs.PassView.{PassView}
-use Rattle.vx_flow.specs.Event.{Event}
-use Rattle.vx_group.specs.Groups.{Group, last_moment, now_of}
+use Rattle.vx_history.specs.Event.{Event}
+use Rattle.vx_history.specs.Groups.{Group, last_moment, now_of}
 use Rattle.vx_turns.specs.Placing.{Placed, Chain, IsTold, IsTimely, Makes, behind}
 
 -- a moment that a clock has told is one that it has told later

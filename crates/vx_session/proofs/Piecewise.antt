@@ -15,8 +15,8 @@ use Rattle.vx_record.specs.declared.Feed.{Feed}
 use Rattle.vx_record.specs.declared.Feed.TheVariants.{More, Whole, TooLong}
 use Rattle.vx_record.proofs.Feeding.{fed-stopped, taken-more, taken-stopped}
 use Rattle.vx_record.proofs.Streams.{run-append, brought-more}
-use Rattle.vx_group.specs.Groups.{Group}
-use Rattle.vx_group.specs.Phases.{Idle}
+use Rattle.vx_history.specs.Groups.{Group}
+use Rattle.vx_history.specs.Phases.{Idle}
 use Rattle.vx_turns.specs.Turning.{phase_at}
 use Rattle.vx_session.specs.Outside.{LinkShown, DialShown}
 use Rattle.vx_session.specs.Serving.{Item}

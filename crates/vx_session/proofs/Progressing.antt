@@ -11,7 +11,7 @@ use Rattle.vx_io_traits.specs.Rung.{AddsCalls}
 use Rattle.vx_io_traits.specs.Stands.{Goes-none, Goes-goes}
 use Rattle.vx_calls.specs.declared.calls.Role.{Role}
 use Rattle.vx_gate.specs.PassView.{PassView}
-use Rattle.vx_group.specs.Groups.{Group, events_of}
+use Rattle.vx_history.specs.Groups.{Group, events_of}
 use Rattle.vx_turns.specs.Placing.{Placed, Makes}
 use Rattle.vx_session.specs.Outside.{LinkShown, LinkGoes, DialShown, RoseBy, is_failed_dial}
 use Rattle.vx_session.specs.Serving.{Item, Serves}

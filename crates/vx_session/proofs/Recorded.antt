@@ -18,8 +18,8 @@ use Rattle.vx_codec.specs.Row.{Contents}
 use Rattle.vx_gate.specs.PassView.{PassView}
 use Rattle.vx_message.specs.Meaning.{Meaning, Junk, Answered, Aborts, meaning, by_call, record_of, reply_record}
 use Rattle.vx_message.specs.Meaning as meant
-use Rattle.vx_group.specs.Groups.{Group}
-use Rattle.vx_group.specs.Phases.{Phase, Idle}
+use Rattle.vx_history.specs.Groups.{Group}
+use Rattle.vx_history.specs.Phases.{Phase, Idle}
 use Rattle.vx_turns.specs.Turning as turning
 use Rattle.vx_session.specs.Outside.{DialShown}
 use Rattle.vx_session.specs.Serving.{Item, IsServed}

@@ -16,8 +16,8 @@ use Rattle.vx_record.specs.Records.{Split, records}
 use Rattle.vx_record.specs.Runs.{Stream, beginning, taken_off, brought, run, is_too_long, Shows, PiecesLaw, CutLaw}
 use Rattle.vx_record.specs.declared.Feed.{Feed}
 use Rattle.vx_record.specs.declared.Feed.TheVariants as feed
-use Rattle.vx_group.specs.Groups.{Group}
-use Rattle.vx_group.specs.Phases.{Idle}
+use Rattle.vx_history.specs.Groups.{Group}
+use Rattle.vx_history.specs.Phases.{Idle}
 use Rattle.vx_turns.specs.Turning.{phase_at}
 use Rattle.vx_session.specs.Outside.{LinkShown, LinkGoes, DialShown}
 use Rattle.vx_session.specs.Serving.{Item}

@@ -3,7 +3,7 @@ use Rattle.std.proofs.Common.{◌≡◌, ℕ, Bool, true, false, List, [], ◌�
 use Rattle.std.proofs.lemmas.List.Elements.{All-nil, All-cons}
 use Rattle.vx_calls.specs.declared.calls.Role.{Role}
 use Rattle.vx_gate.specs.PassView.{PassView}
-use Rattle.vx_group.specs.Groups.{Group}
+use Rattle.vx_history.specs.Groups.{Group}
 use Rattle.vx_turns.specs.Placing.{Makes}
 use Rattle.vx_session.specs.Outside.{LinkShown, DialShown}
 use Rattle.vx_session.specs.Serving.{Serves}

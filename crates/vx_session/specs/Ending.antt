@@ -7,10 +7,10 @@ use Rattle.vx_calls.specs.declared.limits.TheConstants.{RECORD_MAX}
 use Rattle.vx_gate.specs.History.{groups}
 use Rattle.vx_gate.specs.PassView.{PassView}
 use Rattle.vx_record.specs.Records.{records}
-use Rattle.vx_flow.specs.Event.{Down}
-use Rattle.vx_flow.specs.Headline.{Headline}
-use Rattle.vx_group.specs.Groups.{Group, events_of}
-use Rattle.vx_group.specs.Owning.{Owned}
+use Rattle.vx_history.specs.Event.{Down}
+use Rattle.vx_history.specs.Headline.{Headline}
+use Rattle.vx_history.specs.Groups.{Group, events_of}
+use Rattle.vx_history.specs.Owning.{Owned}
 use Rattle.vx_turns.specs.Placing.{Placed, Makes, IsHistory}
 use Rattle.vx_session.specs.Outside.{LinkShown, LinkGoes, DialShown}
 use Rattle.vx_session.specs.Serving.{Item, Serves}

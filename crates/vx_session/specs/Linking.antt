@@ -4,7 +4,7 @@ use Rattle.vx_calls.specs.declared.calls.Role.{Role}
 use Rattle.vx_gate.specs.PassView.{PassView}
 use Rattle.vx_rules.specs.declared.tables.Connect.{Connect}
 use Rattle.vx_rules.specs.declared.tables.Connect.TheVariants as connect
-use Rattle.vx_group.specs.Groups.{Group}
+use Rattle.vx_history.specs.Groups.{Group}
 use Rattle.vx_turns.specs.Turning.{Joins}
 use Rattle.vx_session.specs.Outside.{LinkShown, DialShown}
 use Rattle.vx_session.specs.Ending.{SessionDid}

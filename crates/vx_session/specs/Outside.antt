@@ -2,7 +2,7 @@
 use Rattle.std.specs.Prelude.{◌≤◌, ◌+◌, ◌-◌, ◌^◌, ℕ, min, Bool, true, false, List, Option, Some, None}
 use Rattle.std.specs.Io.KnownBytes.{Consumes, Keeps}
 use Rattle.vx_io_traits.specs.declared.dials.Rang.{Rang}
-use Rattle.vx_flow.specs.Event.{Event, Answer}
+use Rattle.vx_history.specs.Event.{Event, Answer}
 
 -- a link: what it has left to give and the peers that it has had, where it tells them; its counts of faults
 pub record LinkShown : Type 0 where

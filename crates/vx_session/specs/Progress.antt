@@ -9,9 +9,9 @@ use Rattle.vx_calls.specs.declared.calls.Role.TheVariants as role
 use Rattle.vx_calls.specs.Call.{Call}
 use Rattle.vx_calls.specs.Call as call
 use Rattle.vx_gate.specs.PassView.{PassView}
-use Rattle.vx_group.specs.Groups.{Group, events_of}
+use Rattle.vx_history.specs.Groups.{Group, events_of}
 use Rattle.vx_message.specs.Meaning.{meaning, Junk, by_call}
-use Rattle.vx_group.specs.Phases.{Phase, Idle}
+use Rattle.vx_history.specs.Phases.{Phase, Idle}
 use Rattle.vx_turns.specs.Placing.{Placed, Makes}
 use Rattle.vx_session.specs.Outside.{LinkShown, LinkGoes, DialShown, RoseBy, is_failed_dial}
 use Rattle.vx_session.specs.Serving.{Item, IsSettled, IsCalled, IsServed, Serves}

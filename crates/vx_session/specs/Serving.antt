@@ -7,9 +7,9 @@ use Rattle.vx_calls.specs.declared.codes.ErrorCode.{ErrorCode}
 use Rattle.vx_calls.specs.Call.{Call}
 use Rattle.vx_calls.specs.Reply as reply
 use Rattle.vx_message.specs.Meaning.{Meaning, Junk, Answered, Asks, Aborts, meaning, record_of, reply_record}
-use Rattle.vx_flow.specs.Event.{Event, Arrive, Abort}
-use Rattle.vx_flow.specs.Poll as poll
-use Rattle.vx_flow.specs.Poll.{Ending, Waited, Dialed}
+use Rattle.vx_history.specs.Event.{Event, Arrive, Abort}
+use Rattle.vx_history.specs.Poll as poll
+use Rattle.vx_history.specs.Poll.{Ending, Waited, Dialed}
 use Rattle.vx_turns.specs.Placing.{Placed, behind}
 use Rattle.vx_turns.specs.Parts.{IsPollPart, DialsFor, settled_events}
 use Rattle.vx_turns.specs.Turning.{IsChannel}

@@ -10,7 +10,7 @@ use Rattle.vx_record.specs.Buffer.{BufState}
 use Rattle.vx_record.specs.Records.{Split, records}
 use Rattle.vx_message.specs.Meaning as meant
 use Rattle.vx_message.specs.Meaning.{meaning}
-use Rattle.vx_group.specs.Groups.{Group}
+use Rattle.vx_history.specs.Groups.{Group}
 use Rattle.vx_session.specs.Outside.{LinkShown, LinkGoes, DialShown}
 use Rattle.vx_session.specs.Serving.{Item}
 use Rattle.vx_session.specs.Progress.{Progress, messages, replies}

@@ -9,8 +9,8 @@ use Rattle.vx_record.specs.Runs.{Stream, run}
 use Rattle.vx_record.specs.declared.Feed.TheVariants as feed
 use Rattle.vx_message.specs.Meaning as meant
 use Rattle.vx_message.specs.Meaning.{meaning}
-use Rattle.vx_group.specs.Groups.{Group}
-use Rattle.vx_group.specs.Phases.{Idle}
+use Rattle.vx_history.specs.Groups.{Group}
+use Rattle.vx_history.specs.Phases.{Idle}
 use Rattle.vx_turns.specs.Turning.{phase_at}
 use Rattle.vx_session.specs.Outside.{LinkShown, LinkGoes, DialShown}
 use Rattle.vx_session.specs.Serving.{Item}

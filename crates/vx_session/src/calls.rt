@@ -5,7 +5,7 @@ ghost use Rattle.vx_calls.specs.Call.{Call, call_shown};
 ghost use Rattle.vx_rules.specs.One.{may_wait};
 ghost use Rattle.vx_rules.specs.Held.{IsShort};
 ghost use Rattle.vx_message.specs.declared.record.TheConstants.{REPLY_ROOM};
-ghost use Rattle.vx_group.specs.Phases.{Idle, Asked};
+ghost use Rattle.vx_history.specs.Phases.{Idle, Asked};
 ghost use Rattle.vx_turns.specs.Turning.{phase_at};
 ghost use Rattle.vx_session.specs.Outside.{dial_shown};
 ghost use Rattle.vx_session.specs.Progress.{AnswersCall, AnswersDial};

@@ -3,7 +3,7 @@ ghost use Rattle.std.specs.Prelude.{◌≡◌, ◌≤◌, ◌<◌, length};
 ghost use Rattle.vx_calls.specs.declared.limits.TheConstants.{RECORD_MAX};
 ghost use Rattle.vx_record.specs.Buffer.{fresh};
 ghost use Rattle.vx_message.specs.declared.record.TheConstants.{REPLY_ROOM};
-ghost use Rattle.vx_group.specs.Phases.{Idle};
+ghost use Rattle.vx_history.specs.Phases.{Idle};
 ghost use Rattle.vx_turns.specs.Turning.{phase_at};
 ghost use Rattle.vx_session.specs.Outside.{link_shown, dial_shown};
 ghost use Rattle.vx_session.specs.Streaming.{ServesPiece, ServesWhole};

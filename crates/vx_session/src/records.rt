@@ -6,7 +6,7 @@ ghost use Rattle.vx_rules.specs.Held.{IsShort};
 ghost use Rattle.vx_calls.specs.declared.limits.TheConstants.{RECORD_MAX};
 ghost use Rattle.vx_message.specs.declared.record.TheConstants.{REPLY_ROOM};
 ghost use Rattle.vx_message.specs.Meaning.{meaning, Junk};
-ghost use Rattle.vx_group.specs.Phases.{Idle};
+ghost use Rattle.vx_history.specs.Phases.{Idle};
 ghost use Rattle.vx_turns.specs.Turning.{phase_at};
 ghost use Rattle.vx_session.specs.Outside.{dial_shown};
 ghost use Rattle.vx_session.specs.Progress.{MessageDoes, CallDoes, IsRipe};

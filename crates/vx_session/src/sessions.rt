@@ -5,7 +5,7 @@ ghost use Rattle.vx_calls.specs.declared.limits.TheConstants.{RECORD_MAX};
 ghost use Rattle.vx_message.specs.declared.record.TheConstants.{REPLY_ROOM};
 ghost use Rattle.vx_record.specs.Buffer.{fresh};
 ghost use Rattle.vx_record.specs.declared.Feed.TheVariants as feed;
-ghost use Rattle.vx_group.specs.Phases.{Idle};
+ghost use Rattle.vx_history.specs.Phases.{Idle};
 ghost use Rattle.vx_turns.specs.Turning.{phase_at};
 ghost use Rattle.vx_session.specs.Outside.{link_shown, dial_shown, no_dial};
 ghost use Rattle.vx_session.specs.Ending.{SessionDid};

@@ -6,3 +6,13 @@ pub mod Shown
 pub mod Laws
 pub mod ProvedLaws
 pub use Rattle.vx_bus_traits.specs.Means
+pub use Rattle.vx_488.specs.Address
+pub use Rattle.vx_488.specs.Command
+pub use Rattle.vx_488.specs.Heard
+pub use Rattle.vx_488.specs.Listening
+pub use Rattle.vx_488.specs.Wire
+pub use Rattle.vx_bus_traits.specs.Faults
+pub use Rattle.vx_bus_traits.specs.Steps
+pub use Rattle.vx_bus_traits.specs.Walks
+pub use Rattle.vx_inst.specs.View
+pub use Rattle.vx_table.specs.Table

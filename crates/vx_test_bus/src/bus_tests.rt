@@ -132,7 +132,7 @@ struct Watch {
 
 impl<B: Bus> Tweak<B> for Watch {
     ghost use Rattle.std.specs.Prelude.{◌≡◌};
-    ghost use Rattle.vx_bus_traits.specs.Steps.{Told};
+    ghost use Rattle.vx_bus.specs.Steps.{Told};
 
     type Answer = u64;
 

@@ -18,8 +18,8 @@ use Rattle.vx_flow.specs.FineState.{FineState}
 use Rattle.vx_flow.specs.Fine.{fine}
 use Rattle.vx_flow.specs.Poll.{Ending, Polls, at_moment, run_events, end_events}
 use Rattle.vx_flow.proofs.Lookups.{along-append}
-use Rattle.vx_kernel.specs.CoreState.{CoreState}
-use Rattle.vx_group.specs.Groups.{Group, StandsFor}
+use Rattle.vx_core.specs.CoreState.{CoreState}
+use Rattle.vx_history.specs.Groups.{Group, StandsFor}
 use Rattle.vx_history.specs.Laws.{group_after, StandsOnLaw}
 use Rattle.vx_history.proofs.Doing.{fine-does}
 use Rattle.vx_history.proofs.Rows.{pending-put}

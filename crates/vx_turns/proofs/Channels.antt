@@ -29,7 +29,7 @@ use Rattle.vx_flow.specs.FineState.{FineState, before_turn}
 use Rattle.vx_flow.specs.Fine.{outside, is_answered, wire_for, answered_fine, comes_in_turn, fine_step, fine}
 use Rattle.vx_flow.specs.Gather.{gather}
 use Rattle.vx_flow.proofs.Gathering.{gather_law-holds}
-use Rattle.vx_group.specs.Groups.{Group, events_of, StandsFor}
+use Rattle.vx_history.specs.Groups.{Group, events_of, StandsFor}
 use Rattle.vx_history.proofs.Answering.{answer-parts}
 
 -- ---- what an answer does that settles a dial

@@ -13,7 +13,7 @@ use Rattle.vx_flow.specs.FineState.{FineState}
 use Rattle.vx_flow.specs.Fine.{fine}
 use Rattle.vx_flow.specs.Poll.{Ending, Answered, Waited, Dialed, is_broken, begins, begun_events, moved_events, run_events, end_events}
 use Rattle.vx_flow.proofs.Lookups.{along-none}
-use Rattle.vx_group.specs.Groups.{now_of}
+use Rattle.vx_history.specs.Groups.{now_of}
 use Rattle.vx_history.proofs.Doing.{Does, fine-does}
 use Rattle.vx_turns.specs.Acting.{poll_events, come_events, come_to}
 

@@ -8,8 +8,8 @@ use Rattle.vx_488.specs.declared.transfers.Transfer.{Transfer}
 use Rattle.vx_flow.specs.Event.{Event, Up, Arrive, Begin}
 use Rattle.vx_flow.specs.FineState.{FineState}
 use Rattle.vx_flow.specs.Poll.{Ending, Answered, Waited, Dialed, begins, moved_events, end_events}
-use Rattle.vx_group.specs.Groups.{Group, events_of}
-use Rattle.vx_group.specs.Phases.{Phase, Absent, Idle, Asked, phase_after, phase_along, phase_by}
+use Rattle.vx_history.specs.Groups.{Group, events_of}
+use Rattle.vx_history.specs.Phases.{Phase, Absent, Idle, Asked, phase_after, phase_along, phase_by}
 use Rattle.vx_history.proofs.Standing.{events-more}
 use Rattle.vx_turns.specs.Acting.{poll_events}
 use Rattle.vx_turns.specs.Parts.{IsPollPart, phase_behind}

@@ -11,10 +11,10 @@ use Rattle.vx_rules.specs.State.{Pending, pending_at}
 use Rattle.vx_rules.specs.One.{arrived}
 use Rattle.vx_flow.specs.FineState.{FineState}
 use Rattle.vx_flow.specs.Poll.{Ending, Answered, Waited, Dialed, EndsBy}
-use Rattle.vx_kernel.specs.CoreState.{CoreState}
-use Rattle.vx_group.specs.Groups.{Group, StandsFor}
-use Rattle.vx_group.specs.Phases.{Asked, phase_along}
-use Rattle.vx_group.specs.Owning.{MayAdd}
+use Rattle.vx_core.specs.CoreState.{CoreState}
+use Rattle.vx_history.specs.Groups.{Group, StandsFor}
+use Rattle.vx_history.specs.Phases.{Asked, phase_along}
+use Rattle.vx_history.specs.Owning.{MayAdd}
 use Rattle.vx_history.specs.Laws.{group_after, PhaseLaw}
 use Rattle.vx_turns.specs.declared.acts.PollEnd.{PollEnd}
 use Rattle.vx_turns.specs.Placing.{Placed, IsTimely}

@@ -12,7 +12,7 @@ use Rattle.vx_flow.specs.Event.{Event, Up, Arrive, Take}
 use Rattle.vx_flow.specs.FineState.{FineState}
 use Rattle.vx_flow.specs.Fine.{fine}
 use Rattle.vx_flow.specs.Poll.{Ending, Answered, Waited, Dialed, Held, Polls, run_events, end_events}
-use Rattle.vx_kernel.specs.CoreState.{CoreState}
+use Rattle.vx_core.specs.CoreState.{CoreState}
 use Rattle.vx_message.specs.Meaning.{reply_record}
 use Rattle.vx_turns.specs.declared.acts.PollEnd.{PollEnd}
 use Rattle.vx_turns.specs.declared.acts.PollEnd.TheVariants as said

@@ -8,7 +8,7 @@ use Rattle.vx_488.specs.declared.transfers.Transfer.{Transfer}
 use Rattle.vx_rules.specs.Dials.{dials_to}
 use Rattle.vx_flow.specs.Event.{Event, Answer, Begin}
 use Rattle.vx_flow.specs.Poll.{Ending, Answered, Waited, Dialed, moved_events, end_events}
-use Rattle.vx_group.specs.Phases.{Phase, Idle, Asked}
+use Rattle.vx_history.specs.Phases.{Phase, Idle, Asked}
 
 -- A poll at this moment that ended so: it began its call's turn or not, the turn made transfers or not, and then the call was
 -- answered, a dial was asked for, or neither.

@@ -13,7 +13,7 @@ ghost use Rattle.vx_rules.specs.Held.{IsShort};
 ghost use Rattle.vx_flow.specs.Event.{Down, Answer, Abort, Sample, Take};
 ghost use Rattle.vx_flow.specs.Fine.{fine};
 ghost use Rattle.vx_message.specs.declared.record.TheConstants.{REPLY_ROOM};
-ghost use Rattle.vx_group.specs.Groups.{Group};
+ghost use Rattle.vx_history.specs.Groups.{Group};
 ghost use Rattle.vx_history.specs.Laws.{group_after};
 ghost use Rattle.vx_turns.specs.Acting.{Says, PollDid, ComeDid, Connects, poll_events, come_events, last_ending, connect_events, take_events, TakeDid};
 ghost use Rattle.vx_turns.specs.Parts.{settled_events};

@@ -1,1 +1,2 @@
 pub mod Models
+pub use Rattle.vx_inst.specs.View

@@ -1,5 +1,5 @@
 use Rattle.std.proofs.Common.{ap}
-use Rattle.vx_srq.specs.Shown.{given_shown, handle_shown}
+use Rattle.vx_message.specs.Shown.{given_shown, handle_shown}
 use Rattle.vx_pump.proofs.Pumped.{pumped-none, pumped-empty, pumped-sent, pumped-gone, pumped-fails}
 use Rattle.vx_pump.proofs.pumps.pump.Goals as goal
 

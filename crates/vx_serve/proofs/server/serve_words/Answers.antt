@@ -1,6 +1,6 @@
 use Rattle.std.proofs.Common.{map, string_bytes, subst, sym}
-use Rattle.vx_text.specs.Ends.{End}
-use Rattle.vx_bench.specs.Spares.{spare_shown}
+use Rattle.vx_ending.specs.Ends.{End}
+use Rattle.vx_ending.specs.Spares.{spare_shown}
 use Rattle.vx_ending.specs.Outcome.{Ends, Outside}
 use Rattle.vx_ending.specs.Running.{EndsRun, net_shown}
 use Rattle.vx_ending.proofs.Written.{ready}

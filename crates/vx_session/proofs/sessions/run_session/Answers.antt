@@ -1,5 +1,5 @@
 use Rattle.std.proofs.Common.{◌∙◌, ap}
-use Rattle.vx_group.specs.Phases.{is_up}
+use Rattle.vx_history.specs.Phases.{is_up}
 use Rattle.vx_session.proofs.Finishing.{session-did}
 use Rattle.vx_session.proofs.sessions.run_session.Goals as goal
 

@@ -1,6 +1,6 @@
 use Rattle.std.proofs.Common.{[], sym, ap, ◌∙◌, arith}
 use Rattle.vx_488.specs.declared.wire.Wire.{Wire}
-use Rattle.vx_bus_traits.specs.Means.{Means}
+use Rattle.vx_bus.specs.Means.{Means}
 use Rattle.vx_plan.specs.Tasks.{plan}
 use Rattle.vx_ctrl.specs.Goes.{Begins}
 use Rattle.vx_test_bus.proofs.ctrl_tests.go_twice.Goals as goal

@@ -1,7 +1,7 @@
 use Rattle.std.proofs.Common.{◌≡◌, ℕ, List, false, true, subst}
 use Rattle.vx_calls.specs.Call.{Call}
 use Rattle.vx_gate.specs.PassView.{PassView}
-use Rattle.vx_flow.specs.Poll.{Ending, Answered, Waited, Dialed}
+use Rattle.vx_group.specs.Poll.{Ending, Answered, Waited, Dialed}
 use Rattle.vx_group.specs.Groups.{Group}
 use Rattle.vx_group.specs.Phases.{Asked}
 use Rattle.vx_turns.specs.declared.acts.PollEnd.{PollEnd}

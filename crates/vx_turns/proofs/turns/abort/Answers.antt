@@ -1,7 +1,7 @@
 use Rattle.std.proofs.Common.{[], ◌∷◌, refl, ap, ◌∙◌}
 use Rattle.vx_calls.specs.declared.calls.Role.TheVariants as role
 use Rattle.vx_flow.specs.Event.{Abort}
-use Rattle.vx_group.specs.Phases.{Idle, is_up}
+use Rattle.vx_history.specs.Phases.{Idle, is_up}
 use Rattle.vx_history.specs.Laws.{group_after}
 use Rattle.vx_turns.proofs.Moments.{fine-moment, one-without}
 use Rattle.vx_turns.proofs.Phased.{phase-more}
