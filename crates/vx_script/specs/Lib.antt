@@ -4,3 +4,5 @@ pub mod Grammar
 pub mod Plain
 pub mod Reads
 pub mod Cause
+pub mod Table
+pub mod Laws
