@@ -89,9 +89,10 @@ abbrev pub said_by : Option Command → Reading
 said_by None = Outside
 said_by (Some command) = Does command
 
--- what a line says
+-- what a line says, however long it is
+abbrev pub said : List ℕ → Reading
+said line = if is_skipped line then Skipped else said_by (command_of (cut 32 line).0 (cut 32 line).1)
+
+-- what a line of a script says: one above the limit nothing that the grammar has
 abbrev pub reading : List ℕ → Reading
-reading line =
-    if nat_lt LINE_MAX (length line) then Outside
-    else if is_skipped line then Skipped
-    else said_by (command_of (cut 32 line).0 (cut 32 line).1)
+reading line = if nat_lt LINE_MAX (length line) then Outside else said line

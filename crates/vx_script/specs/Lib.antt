@@ -4,4 +4,6 @@ pub mod Grammar
 pub mod Plain
 pub mod Reads
 pub mod Cause
+pub mod Table
+pub mod Laws
 pub use Rattle.vx_calls.specs.Target

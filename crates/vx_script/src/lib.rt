@@ -5,11 +5,14 @@ ghost use Rattle.std.specs.Prelude.{◌≡◌, ◌↔◌, length, IfSome, IfOk};
 ghost use Rattle.vx_script.specs.Cause.{cause_word};
 ghost use Rattle.vx_script.specs.Grammar.{Skipped, Outside, reading};
 ghost use Rattle.vx_script.specs.Plain.{IsPlainStep};
-ghost use Rattle.vx_script.specs.Reads.{Reads};
+ghost use Rattle.vx_script.specs.Reads.{Reads, answered};
+ghost use Rattle.vx_script.specs.Table.{SaysWithin};
 
+mod laws;
 mod lines;
 mod values;
 
+pub use laws::{grammar, one_command, within_limit};
 use lines::command_of;
 use vx_calls::Role;
 
@@ -145,6 +148,7 @@ pub enum Step<'a> {
 /// an `in` line. The one refusal is `Form`, for a line outside the grammar; one above `LINE_MAX` bytes is outside.
 pub fn read_step<'a>(line: &'a [u8], bytes: &'a mut [u8]) -> Result<Option<Step<'a>>, Cause>
     requires { length bytes.old ≡ length line.now }
+    ensures table { SaysWithin line.now (answered result) }
     ensures reads { Reads (reading line.now) result }
     ensures form { (result ≡ Err Cause.Form) ↔ (reading line.now ≡ Outside) }
     ensures skipped { (result ≡ Ok None) ↔ (reading line.now ≡ Skipped) }

@@ -4,8 +4,10 @@ use Rattle.std.proofs.Math.Seq.{take-add}
 use Rattle.std.proofs.lemmas.List.{take_all}
 use Rattle.std.specs.Io.KnownBytes.{Appends, IsAtEnd, Keeps}
 use Rattle.std.proofs.KnownBytes.{Appends-trans, Consumes-trans, Consumes-kept, Consumes-whole}
+use Rattle.vx_io_traits.specs.Faults.{Rose}
+use Rattle.vx_io_traits.specs.ProvedLaws.{rose_earlier}
 use Rattle.vx_text.specs.Ends.{End}
-use Rattle.vx_text.specs.Reading.{GivesAll, GivesPiece, GaveSoFar}
+use Rattle.vx_text.specs.Reading.{GivesAll, GivesPiece, GivesUpTo, GaveSoFar}
 use Rattle.vx_text.specs.Writing.{TookSoFar}
 
 pub gave-more : (most : ℕ) (before mid after : End) (old new : List ℕ) (room : ℕ) → GaveSoFar most before mid old → length old ≤ most → room ≤ most - length old + 1
@@ -18,6 +20,29 @@ gave-more most before mid after old new room so_far below fits piece counted =
       counted = (let a = so_far.counted in omega arith);
     } in
     subst (GaveSoFar most before after) (sym piece.behind) whole
+
+-- a read that failed gave nothing more
+pub gave-failed : (most : ℕ) (before mid after : End) (old : List ℕ) → GaveSoFar most before mid old
+    → Rose mid.faults after.faults × Keeps mid.bytes after.bytes → Rose before.faults after.faults × GivesUpTo (most + 1) before after
+gave-failed most before mid after old so_far failed = (
+  rose_earlier before.faults mid.faults after.faults so_far.counted failed.0,
+  record {
+    bytes = old;
+    given = Consumes-kept before.bytes mid.bytes after.bytes old so_far.given failed.1;
+    within = so_far.within;
+  },
+)
+
+-- what a read gave counts, also where it is lost
+pub gave-lost : (most : ℕ) (before mid after : End) (old : List ℕ) (room : ℕ) → GaveSoFar most before mid old → length old ≤ most → room ≤ most - length old + 1
+    → GivesUpTo room mid after → GivesUpTo (most + 1) before after
+gave-lost most before mid after old room so_far below fits lost =
+    let len = length-append old lost.bytes in
+    record {
+      bytes = old ++ lost.bytes;
+      given = Consumes-trans before.bytes mid.bytes after.bytes old lost.bytes so_far.given lost.given;
+      within = (let b = lost.within in omega arith);
+    }
 
 pub took-more : (before mid after : End) (text : List ℕ) (done count : ℕ) → TookSoFar before mid text done
     → count ≤ length (take (length text - done) (drop done text))

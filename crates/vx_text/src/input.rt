@@ -1,5 +1,6 @@
 //! A source read to its end.
 ghost use Rattle.std.specs.Prelude.{◌≡◌, ◌≤◌, ◌<◌, length, IfOk};
+ghost use Rattle.std.specs.List.{All};
 ghost use Rattle.vx_text.specs.Reading.{IsInput, IsPiece};
 
 use std::alloc::{AllocError, Global};
@@ -30,7 +31,8 @@ pub enum Piece {
 
 /// So many zeros.
 pub fn zeros(alloc: Global, len: usize) -> Result<Vec<u8>, AllocError>
-    ensures { IfOk result (λ v. length v.items ≡ len) }
+    ensures len { IfOk result (λ v. length v.items ≡ len) }
+    ensures zeros { IfOk result (λ v. All (λ byte. byte ≡ 0) v.items) }
 {
     vec![in alloc; 0; len]
 }
