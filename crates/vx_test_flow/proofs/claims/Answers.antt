@@ -1,0 +1,19 @@
+use Rattle.std.proofs.Common.{refl}
+use Rattle.vx_test_flow.specs.Turns.{shared}
+use Rattle.vx_test_flow.specs.Locks.{beside, done}
+use Rattle.vx_calls.specs.Call as call
+use Rattle.vx_test_flow.proofs.Claimed.{end_unasked, no_end, other_device, moves_to_locked, gathers_to_locked, queued}
+use Rattle.vx_test_flow.proofs.claims.Goals as goal
+
+-- what holds of each list that is allowed holds of these
+pub returns : goal.returns
+returns c = record {
+  heard = (c.headline_law.ensures 9011 shared _ refl).heard;
+  end_unasked = end_unasked;
+  no_end = no_end;
+  other_device = other_device;
+  free = (c.headline_law.ensures 9011 (beside (call.Lock 3 0 0) done) _ refl).moves_free;
+  moves_to_locked = moves_to_locked;
+  gathers_to_locked = gathers_to_locked;
+  queued = queued;
+}

@@ -1,0 +1,52 @@
+//! Worked lists of interleaved events, each with what comes of it by the rules of VXI-11, and lists in which one event
+//! is another, which are refused. They stand in `specs/`, and the check computes them: a contract here holds only if
+//! each of its rows does.
+#![tactic(auto)]
+
+ghost use Rattle.vx_test_flow.specs.Turns.{OneTurnAtATime, EachTurnGathers};
+ghost use Rattle.vx_test_flow.specs.Ends.{ConnectionsGo, CallsAreAborted, TurnsStop};
+ghost use Rattle.vx_test_flow.specs.Locks.{LocksBesideATurn, LocksWait, LocksKeepOff};
+ghost use Rattle.vx_test_flow.specs.Interrupts.{EachAnswerHasItsDial, EachRiseQueuesOne};
+ghost use Rattle.vx_test_flow.specs.Polled.{PollsMakeEvents, PollsWait};
+ghost use Rattle.vx_test_flow.specs.Claims.{ClaimsTell};
+
+use vx_flow::headline_law;
+
+/// One turn at a time is on the bus, and each gathers to one entry.
+pub fn turns()
+    ensures events { OneTurnAtATime }
+    ensures entries { EachTurnGathers }
+{}
+
+/// Turns that end without a result.
+pub fn ends()
+    ensures gone { ConnectionsGo }
+    ensures aborted { CallsAreAborted }
+    ensures stopped { TurnsStop }
+{}
+
+/// Locks beside a turn, and locks that keep a call off.
+pub fn locks()
+    ensures beside { LocksBesideATurn }
+    ensures wait { LocksWait }
+    ensures keep_off { LocksKeepOff }
+{}
+
+/// Dials, and the interrupts of their channels.
+pub fn interrupts()
+    ensures dials { EachAnswerHasItsDial }
+    ensures rises { EachRiseQueuesOne }
+{}
+
+/// What polls make, and why they wait.
+pub fn polls()
+    ensures events { PollsMakeEvents }
+    ensures waits { PollsWait }
+{}
+
+/// What the claims of interleaved events say.
+pub fn claims()
+    ensures { ClaimsTell }
+{
+    headline_law();
+}
