@@ -3,3 +3,4 @@ pub mod Laws
 pub mod Marks
 pub mod Reply
 pub mod Shared
+pub mod Behavior

@@ -1,3 +1,4 @@
 pub mod Askers
+pub mod Echoes
 pub mod Meters
 pub mod Slows
