@@ -2,7 +2,6 @@
 use Rattle.std.proofs.Common.{◌≡◌, ℕ, suc, List, ◌++◌, map, take, drop, position, get_or, Option, Some, None, option_map, Result, Ok, Err, refl, sym, ap, subst, ◌∙◌}
 use Rattle.std.proofs.lemmas.Option.{same_Some}
 use Rattle.std.specs.Str.{bytes_eq}
-use Rattle.vx_inst.specs.View.{View}
 use Rattle.vx_rack.specs.declared.Spare.{Spare}
 use Rattle.vx_table.specs.declared.TableErr.{TableErr}
 use Rattle.vx_table.specs.Table.{Rule, TableState, fresh_table}
@@ -10,7 +9,7 @@ use Rattle.vx_script.specs.declared.Cause.{Cause}
 use Rattle.vx_script.specs.Command.{Command, Inst, Plug}
 use Rattle.vx_488.specs.declared.transfers.Addr.{Addr}
 use Rattle.vx_sim.specs.declared.attach.Attach.{Attach}
-use Rattle.vx_sim.specs.Occupants.{Occupant, Table, Boxed}
+use Rattle.vx_sim.specs.Occupants.{Occupant, Table, Boxed, Seated}
 use Rattle.vx_sim.specs.SimState.{SimState}
 use Rattle.vx_sim.specs.Attaching.{IsAttached}
 use Rattle.vx_sim.specs.Attaching as attaching
@@ -85,32 +84,32 @@ inst-turned-away p s text inst old new rack why ended table refused told same =
 
 -- ---- a spare
 
-module _ {I : Type 0} (view : I → View) (name : List ℕ) where
+module _ {I : Type 0} (seat : I → Seated) (name : List ℕ) where
   -- where the first spare of the name stands
   abbrev IsFirst : List (Spare I) → Option ℕ → Type 0
   IsFirst rack place = place ≡ position (λ (x : Spare I). bytes_eq x.name.bytes name) rack
 
   pub plug-missing : (p : ℕ) (s : Option ℕ) (bus : SimState) (rack : List (Spare I)) → IsFirst rack None
-      → refusal (record { bus = bus; rack = map (spare_shown view) rack }) (Plug p s name) ≡ spare_refused bus (address p s) None
-  plug-missing p s bus rack e = ap (λ (o : Option SpareShown). spare_refused bus (address p s) o) (spare-missing view name rack e)
+      → refusal (record { bus = bus; rack = map (spare_shown seat) rack }) (Plug p s name) ≡ spare_refused bus (address p s) None
+  plug-missing p s bus rack e = ap (λ (o : Option SpareShown). spare_refused bus (address p s) o) (spare-missing seat name rack e)
 
   pub plug-taken : (p : ℕ) (s : Option ℕ) (old new : SimState) (rack rest : List (Spare I)) (place : ℕ) (spare : Spare I) → IsFirst rack (Some place)
       → spare ≡ get_or rack place spare → rest ≡ take place rack ++ drop (suc place) rack → attaching.refusal old (address p s) ≡ None
-      → IsAttached (address p s) (Boxed (view spare.inst)) old new
-      → Takes (record { bus = old; rack = map (spare_shown view) rack }) (Plug p s name) (record { bus = new; rack = map (spare_shown view) rest })
+      → IsAttached (address p s) (Boxed (seat spare.inst)) old new
+      → Takes (record { bus = old; rack = map (spare_shown seat) rack }) (Plug p s name) (record { bus = new; rack = map (spare_shown seat) rest })
   plug-taken p s old new rack rest place spare e is rest_is free came =
-      let here : spare_at (map (spare_shown view) rack) name ≡ Some (spare_shown view spare) = spare-found view name rack place spare e is in
+      let here : spare_at (map (spare_shown seat) rack) name ≡ Some (spare_shown seat spare) = spare-found seat name rack place spare e is in
       record {
         allowed = ap (λ (o : Option SpareShown). spare_refused old (address p s) o) here ∙ ap (λ (o : Option Attach). cause_of o) free;
-        attaches = (subst (λ (o : Option SpareShown). AttachesSpare (address p s) o old new) (sym here) came, rack-left view name rack rest place e rest_is);
+        attaches = (subst (λ (o : Option SpareShown). AttachesSpare (address p s) o old new) (sym here) came, rack-left seat name rack rest place e rest_is);
       }
 
   pub plug-turned-away : (p : ℕ) (s : Option ℕ) (old new : SimState) (rack rest : List (Spare I)) (place : ℕ) (spare : Spare I) (why : Attach) (ended : Stop)
       → IsFirst rack (Some place) → spare ≡ get_or rack place spare → attaching.refusal old (address p s) ≡ Some why
       → Some ended ≡ option_map (λ k. stop.Refused k) (cause_of (Some why)) → new ≡ old
-      → TakesOrStops (record { bus = old; rack = map (spare_shown view) rack }) (Plug p s name) (record { bus = new; rack = map (spare_shown view) rest }) (Err ended)
+      → TakesOrStops (record { bus = old; rack = map (spare_shown seat) rack }) (Plug p s name) (record { bus = new; rack = map (spare_shown seat) rest }) (Err ended)
   plug-turned-away p s old new rack rest place spare why ended e is refused told same =
-      turned-away (record { bus = old; rack = map (spare_shown view) rack }) (record { bus = new; rack = map (spare_shown view) rest }) (Plug p s name)
+      turned-away (record { bus = old; rack = map (spare_shown seat) rack }) (record { bus = new; rack = map (spare_shown seat) rest }) (Plug p s name)
       (cause_of (Some why)) ended
-      (ap (λ (o : Option SpareShown). spare_refused old (address p s) o) (spare-found view name rack place spare e is)
+      (ap (λ (o : Option SpareShown). spare_refused old (address p s) o) (spare-found seat name rack place spare e is)
       ∙ ap (λ (o : Option Attach). cause_of o) refused) told same

@@ -7,8 +7,8 @@ use Rattle.std.proofs.lemmas.List.Folds.{find_at}
 use Rattle.std.specs.List.{position_or_len}
 use Rattle.std.specs.Str.{bytes_eq}
 use Rattle.vx_lemmas.specs.Conditions.{unchosen}
-use Rattle.vx_inst.specs.View.{View}
 use Rattle.vx_rack.specs.declared.Spare.{Spare}
+use Rattle.vx_sim.specs.Occupants.{Seated}
 use Rattle.vx_bench.specs.Rack.{SpareShown, spare_at, without_at, without_spare}
 use Rattle.vx_bench.specs.Spares.{spare_shown}
 
@@ -60,24 +60,24 @@ pub shelf-place : {I : Type 0} (name : List ℕ) (shelf rack : List (Spare I)) (
     → where_first ≡ position (λ (x : Spare I). bytes_eq x.name.bytes name) shelf → shelf ≡ rack → where_first ≡ position (λ (x : Spare I). bytes_eq x.name.bytes name) rack
 shelf-place {I} name shelf rack where_first e same = subst (λ (xs : List (Spare I)). where_first ≡ position (λ (x : Spare I). bytes_eq x.name.bytes name) xs) same e
 
-module _ {I : Type 0} (view : I → View) (name : List ℕ) where
+module _ {I : Type 0} (seat : I → Seated) (name : List ℕ) where
   -- the first spare of the name, as a line sees it
   pub spare-found : (rack : List (Spare I)) (place : ℕ) (spare : Spare I) → Some place ≡ position (λ (x : Spare I). bytes_eq x.name.bytes name) rack
-      → spare ≡ get_or rack place spare → spare_at (map (spare_shown view) rack) name ≡ Some (spare_shown view spare)
+      → spare ≡ get_or rack place spare → spare_at (map (spare_shown seat) rack) name ≡ Some (spare_shown seat spare)
   spare-found rack place spare e is =
-      find-map (spare_shown view) (λ (x : SpareShown). bytes_eq x.name name) rack
-      ∙ ap (λ (o : Option (Spare I)). option_map (spare_shown view) o) (found (λ (x : Spare I). bytes_eq x.name.bytes name) rack place spare e is)
+      find-map (spare_shown seat) (λ (x : SpareShown). bytes_eq x.name name) rack
+      ∙ ap (λ (o : Option (Spare I)). option_map (spare_shown seat) o) (found (λ (x : Spare I). bytes_eq x.name.bytes name) rack place spare e is)
 
-  pub spare-missing : (rack : List (Spare I)) → None ≡ position (λ (x : Spare I). bytes_eq x.name.bytes name) rack → spare_at (map (spare_shown view) rack) name ≡ None
+  pub spare-missing : (rack : List (Spare I)) → None ≡ position (λ (x : Spare I). bytes_eq x.name.bytes name) rack → spare_at (map (spare_shown seat) rack) name ≡ None
   spare-missing rack e =
-      find-map (spare_shown view) (λ (x : SpareShown). bytes_eq x.name name) rack
-      ∙ ap (λ (o : Option (Spare I)). option_map (spare_shown view) o) (not-found (λ (x : Spare I). bytes_eq x.name.bytes name) rack e)
+      find-map (spare_shown seat) (λ (x : SpareShown). bytes_eq x.name name) rack
+      ∙ ap (λ (o : Option (Spare I)). option_map (spare_shown seat) o) (not-found (λ (x : Spare I). bytes_eq x.name.bytes name) rack e)
 
   -- the rack without it, as a line sees it
   pub rack-left : (rack rest : List (Spare I)) (place : ℕ) → Some place ≡ position (λ (x : Spare I). bytes_eq x.name.bytes name) rack
-      → rest ≡ take place rack ++ drop (suc place) rack → map (spare_shown view) rest ≡ without_spare (map (spare_shown view) rack) name
+      → rest ≡ take place rack ++ drop (suc place) rack → map (spare_shown seat) rest ≡ without_spare (map (spare_shown seat) rack) name
   rack-left rack rest place e rest_is =
-      let first : position (λ (x : SpareShown). bytes_eq x.name name) (map (spare_shown view) rack) ≡ Some place =
-      position-map (spare_shown view) (λ (x : SpareShown). bytes_eq x.name name) rack ∙ sym e in
-      ap (λ (r : List (Spare I)). map (spare_shown view) r) rest_is ∙ rest-map (spare_shown view) (λ (x : SpareShown). bytes_eq x.name name) rack place
-      ∙ ap (λ (o : Option ℕ). without_at (map (spare_shown view) rack) o) (sym first)
+      let first : position (λ (x : SpareShown). bytes_eq x.name name) (map (spare_shown seat) rack) ≡ Some place =
+      position-map (spare_shown seat) (λ (x : SpareShown). bytes_eq x.name name) rack ∙ sym e in
+      ap (λ (r : List (Spare I)). map (spare_shown seat) r) rest_is ∙ rest-map (spare_shown seat) (λ (x : SpareShown). bytes_eq x.name name) rack place
+      ∙ ap (λ (o : Option ℕ). without_at (map (spare_shown seat) rack) o) (sym first)

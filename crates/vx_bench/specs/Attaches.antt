@@ -14,5 +14,5 @@ AttachesTable a (Some (Ok rules)) old new = IsAttached a (Table (fresh_table rul
 AttachesTable a _ old new = ⊥
 
 abbrev pub AttachesSpare : Addr → Option SpareShown → SimState → SimState → Type 0
-AttachesSpare a (Some spare) old new = IsAttached a (Boxed spare.seen) old new
+AttachesSpare a (Some spare) old new = IsAttached a (Boxed spare.inst) old new
 AttachesSpare a None old new = ⊥

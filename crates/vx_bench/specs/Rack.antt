@@ -1,12 +1,12 @@
 -- Spare instruments.
 use Rattle.std.specs.Prelude.{ℕ, ◌+◌, List, ◌++◌, take, drop, find, position, Option, Some, None}
 use Rattle.std.specs.Str.{bytes_eq}
-use Rattle.vx_inst.specs.View.{View}
+use Rattle.vx_sim.specs.Occupants.{Seated}
 
--- a spare instrument: its name, and how it is seen from a bus
+-- a spare instrument: its name, and the instrument as it would be handed in
 pub record SpareShown : Type 0 where
   pub name : List ℕ
-  pub seen : View
+  pub inst : Seated
 
 -- the first spare of a name
 abbrev pub spare_at : List SpareShown → List ℕ → Option SpareShown

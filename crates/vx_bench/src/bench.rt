@@ -5,6 +5,7 @@ ghost use Rattle.vx_script.specs.Command.{Inst, Plug, step_shown};
 ghost use Rattle.vx_script.specs.Grammar.{reading};
 ghost use Rattle.vx_script.specs.Plain.{IsPlainStep, IsAddress};
 ghost use Rattle.vx_bench.specs.Rack.{SpareShown};
+ghost use Rattle.vx_sim.specs.Occupants.{handed_in};
 ghost use Rattle.vx_bench.specs.Spares.{spare_shown};
 ghost use Rattle.vx_bench.specs.SettingUp.{KeepsMeaning, EndsBench};
 ghost use Rattle.vx_bench.specs.LineSet.{TakesOrStops, EndsLine};
@@ -57,8 +58,8 @@ fn plug<I: Instrument>(
     rack: &mut Vec<Spare<I>>,
 ) -> Result<(), Stop>
     requires address { IsAddress p s }
-    ensures taken { TakesOrStops (record { bus = bus.old; rack = map (spare_shown (λ i. I.view i)) rack.old.items }) (Plug p s name.now)
-        (record { bus = bus.new; rack = map (spare_shown (λ i. I.view i)) rack.new.items }) result }
+    ensures taken { TakesOrStops (record { bus = bus.old; rack = map (spare_shown (handed_in (λ i. I.behaves i) (λ i. I.nature i))) rack.old.items }) (Plug p s name.now)
+        (record { bus = bus.new; rack = map (spare_shown (handed_in (λ i. I.behaves i) (λ i. I.nature i))) rack.new.items }) result }
     ensures kept { KeepsMeaning bus.old bus.new }
 {
     let Some(place) = spare_place(rack.as_slice(), name) else {
@@ -79,8 +80,8 @@ fn take_step<I: Instrument>(
     rack: &mut Vec<Spare<I>>,
 ) -> Result<(), Stop>
     requires plain { IsPlainStep step.now }
-    ensures taken { TakesOrStops (record { bus = bus.old; rack = map (spare_shown (λ i. I.view i)) rack.old.items }) (step_shown step.now)
-        (record { bus = bus.new; rack = map (spare_shown (λ i. I.view i)) rack.new.items }) result }
+    ensures taken { TakesOrStops (record { bus = bus.old; rack = map (spare_shown (handed_in (λ i. I.behaves i) (λ i. I.nature i))) rack.old.items }) (step_shown step.now)
+        (record { bus = bus.new; rack = map (spare_shown (handed_in (λ i. I.behaves i) (λ i. I.nature i))) rack.new.items }) result }
     ensures kept { KeepsMeaning bus.old bus.new }
 {
     match *step {
@@ -99,8 +100,8 @@ fn set_line<I: Instrument>(
     rack: &mut Vec<Spare<I>>,
 ) -> Result<(), Stop>
     requires room { LINE_MAX ≤ length room.old }
-    ensures ended { EndsLine (reading line.now) (record { bus = bus.old; rack = map (spare_shown (λ i. I.view i)) rack.old.items })
-        (record { bus = bus.new; rack = map (spare_shown (λ i. I.view i)) rack.new.items }) result }
+    ensures ended { EndsLine (reading line.now) (record { bus = bus.old; rack = map (spare_shown (handed_in (λ i. I.behaves i) (λ i. I.nature i))) rack.old.items })
+        (record { bus = bus.new; rack = map (spare_shown (handed_in (λ i. I.behaves i) (λ i. I.nature i))) rack.new.items }) result }
     ensures kept { KeepsMeaning bus.old bus.new }
 {
     if line.len() > LINE_MAX {
@@ -122,8 +123,8 @@ fn set_lines<I: Instrument>(
     rack: &mut Vec<Spare<I>>,
 ) -> Result<(), BenchStop>
     requires room { LINE_MAX ≤ length room.old }
-    ensures ended { EndsBench text.now (record { bus = bus.old; rack = map (spare_shown (λ i. I.view i)) rack.old.items })
-        (record { bus = bus.new; rack = map (spare_shown (λ i. I.view i)) rack.new.items }) result }
+    ensures ended { EndsBench text.now (record { bus = bus.old; rack = map (spare_shown (handed_in (λ i. I.behaves i) (λ i. I.nature i))) rack.old.items })
+        (record { bus = bus.new; rack = map (spare_shown (handed_in (λ i. I.behaves i) (λ i. I.nature i))) rack.new.items }) result }
     ensures kept { KeepsMeaning bus.old bus.new }
 {
     let mut rest = text;
@@ -154,8 +155,8 @@ pub fn set_up<I: Instrument>(
     bus: &mut SimBus<I>,
     rack: &mut Vec<Spare<I>>,
 ) -> Result<(), BenchStop>
-    ensures ended { EndsBench text.now (record { bus = bus.old; rack = map (spare_shown (λ i. I.view i)) rack.old.items })
-        (record { bus = bus.new; rack = map (spare_shown (λ i. I.view i)) rack.new.items }) result }
+    ensures ended { EndsBench text.now (record { bus = bus.old; rack = map (spare_shown (handed_in (λ i. I.behaves i) (λ i. I.nature i))) rack.old.items })
+        (record { bus = bus.new; rack = map (spare_shown (handed_in (λ i. I.behaves i) (λ i. I.nature i))) rack.new.items }) result }
     ensures means { bus.new.means ≡ bus.old.means }
     ensures told { bus.new.told ≡ bus.old.told }
     ensures failing { bus.new.failing ≡ bus.old.failing }

@@ -3,4 +3,5 @@ pub mod Laws
 pub mod Marks
 pub mod Reply
 pub mod Shared
+pub mod Behavior
 pub use Rattle.vx_488.specs.Heard

@@ -5,7 +5,9 @@ use super::Instrument;
 /// A boxed instrument that may cross threads is an instrument: each call goes to the one in the box, and it is seen as that
 /// one is seen.
 impl Instrument for Box<dyn Instrument + Send> {
-    ghost view = { λ b. (Instrument-box b).view b.value };
+    ghost behaves = { λ b. (Instrument-box b).behaves b.value };
+
+    ghost nature = { λ b. (Instrument-box b).nature b.value };
 
     fn can_take(&self) -> bool {
         (**self).can_take()

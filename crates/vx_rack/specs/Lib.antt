@@ -1,4 +1,5 @@
 pub mod Askers
+pub mod Echoes
 pub mod Meters
 pub mod Slows
 pub use Rattle.vx_inst.specs.Laws

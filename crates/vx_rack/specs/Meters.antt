@@ -2,7 +2,11 @@
 use Rattle.std.specs.Prelude.{ℕ, ◌+◌, Bool, true, false, ◌||◌, min, if◌then◌else◌, List, [], ◌∷◌, ◌++◌, codes, decimal}
 use Rattle.std.specs.Str.{bytes_eq}
 use Rattle.vx_inst.specs.View.{View}
-use Rattle.vx_inst.specs.Shared.{fresh, with_byte, without_message, replied}
+use Rattle.vx_inst.specs.Laws.{with_status}
+use Rattle.vx_inst.specs.declared.done.Done.{Done}
+use Rattle.vx_inst.specs.declared.done.Done.TheVariants.{Took, Gave, Polled, Cleared, Triggered, ToLocal, StatusSet, Told}
+use Rattle.vx_inst.specs.Behavior.{Behavior, by_rule}
+use Rattle.vx_inst.specs.Shared.{fresh, with_byte, without_message, replied, after_give, after_poll, after_clear}
 
 -- its view, and the number of its last reading, 0 at first
 pub record MeterState : Type 0 where
@@ -41,3 +45,17 @@ finished m =
 abbrev pub meter_after_take : MeterState → ℕ → Bool → MeterState
 meter_after_take m b false = with_seen m (with_byte m.seen b)
 meter_after_take m b true = finished (with_seen m (with_byte m.seen b))
+
+-- what a call makes of it, and how it behaves
+abbrev pub meter_rule : MeterState → Done → MeterState
+meter_rule m (Took b end) = meter_after_take m b end
+meter_rule m Gave = with_seen m (after_give m.seen)
+meter_rule m Polled = with_seen m (after_poll m.seen)
+meter_rule m Cleared = with_seen m (after_clear m.seen)
+meter_rule m Triggered = after_reading m
+meter_rule m ToLocal = m
+meter_rule m (StatusSet b) = with_seen m (with_status m.seen b)
+meter_rule m (Told now) = m
+
+abbrev pub meter_behavior : MeterState → Behavior
+meter_behavior = by_rule meter_rule (λ m. m.seen)

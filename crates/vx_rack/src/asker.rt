@@ -1,7 +1,9 @@
-ghost use Rattle.std.specs.Prelude.{◌≡◌, true, IfOk};
+ghost use Rattle.std.specs.Prelude.{◌≡◌, true, codes, IfOk};
+ghost use Rattle.vx_inst.specs.declared.done.Done.TheVariants.{Took, Gave, Polled, Cleared, Triggered, Told};
+ghost use Rattle.vx_inst.specs.Behavior.{after};
 ghost use Rattle.vx_inst.specs.Laws.{takes_byte, gives_byte, IsSound, Takes, Gives, status_byte, IsPolled, IsCleared, IsTriggered, IsTold, with_status};
 ghost use Rattle.vx_inst.specs.Shared.{fresh, after_give, after_poll, after_clear};
-ghost use Rattle.vx_rack.specs.Askers.{asker_after_take, asking};
+ghost use Rattle.vx_rack.specs.Askers.{asker_after_take, asking, asker_behavior};
 
 use crate::NoMemory;
 use std::alloc::Global;
@@ -37,7 +39,9 @@ impl Asker {
 }
 
 impl Instrument for Asker {
-    ghost view = { λ a. a };
+    ghost behaves = { asker_behavior };
+
+    ghost nature = { λ _. codes "asker" };
 
     fn can_take(&self) -> bool {
         self.body.can_take()
@@ -48,6 +52,7 @@ impl Instrument for Asker {
         requires { takes_byte self.old ≡ true }
         ensures rule { self.new ≡ asker_after_take self.old b end }
         ensures takes { Takes self.old b end self.new }
+        ensures does { asker_behavior self.new ≡ after (Took b end) (asker_behavior self.old) }
         ensures sound { IsSound self.new }
     {
         if end {
@@ -66,6 +71,7 @@ impl Instrument for Asker {
         requires { gives_byte self.old ≡ true }
         ensures gives { Gives self.old (record { value = result.0; end = result.1 }) self.new }
         ensures rule { self.new ≡ after_give self.old }
+        ensures does { asker_behavior self.new ≡ after Gave (asker_behavior self.old) }
         ensures sound { IsSound self.new }
     {
         self.body.give()
@@ -75,6 +81,7 @@ impl Instrument for Asker {
         ensures status { result ≡ status_byte self.old }
         ensures polled { IsPolled self.old self.new }
         ensures rule { self.new ≡ after_poll self.old }
+        ensures does { asker_behavior self.new ≡ after Polled (asker_behavior self.old) }
         ensures sound { IsSound self.new }
     {
         self.body.poll()
@@ -87,6 +94,7 @@ impl Instrument for Asker {
     fn clear(&mut self)
         ensures cleared { IsCleared self.old self.new }
         ensures rule { self.new ≡ after_clear self.old }
+        ensures does { asker_behavior self.new ≡ after Cleared (asker_behavior self.old) }
         ensures sound { IsSound self.new }
     {
         self.body.clear();
@@ -96,6 +104,7 @@ impl Instrument for Asker {
     fn trigger(&mut self)
         ensures triggered { IsTriggered self.old self.new }
         ensures rule { self.new ≡ asking self.old }
+        ensures does { asker_behavior self.new ≡ after Triggered (asker_behavior self.old) }
         ensures sound { IsSound self.new }
     {
         self.body.set_status(ASKING);
@@ -113,6 +122,7 @@ impl Instrument for Asker {
     fn moment(&mut self, _now: u64)
         ensures told { IsTold self.old self.new }
         ensures rule { self.new ≡ self.old }
+        ensures does { asker_behavior self.new ≡ after (Told _now) (asker_behavior self.old) }
         ensures sound { IsSound self.new }
     {
         self.body.stay();

@@ -1,6 +1,9 @@
-ghost use Rattle.std.specs.Prelude.{◌≡◌, true, IfOk};
+ghost use Rattle.std.specs.Prelude.{◌≡◌, true, codes, IfOk};
+ghost use Rattle.vx_inst.specs.declared.done.Done.TheVariants.{Took, Gave, Polled, Cleared, Triggered, Told};
+ghost use Rattle.vx_inst.specs.Behavior.{after};
 ghost use Rattle.vx_inst.specs.Laws.{takes_byte, gives_byte, IsSound, Takes, Gives, status_byte, IsPolled, IsCleared, IsTriggered, IsTold, with_status};
 ghost use Rattle.vx_inst.specs.Shared.{fresh, echo_after_take, after_give, after_poll, after_clear};
+ghost use Rattle.vx_rack.specs.Echoes.{echo_behavior};
 
 use crate::NoMemory;
 use std::alloc::Global;
@@ -32,7 +35,9 @@ impl Echo {
 }
 
 impl Instrument for Echo {
-    ghost view = { λ e. e };
+    ghost behaves = { echo_behavior };
+
+    ghost nature = { λ _. codes "echo" };
 
     fn can_take(&self) -> bool {
         self.body.can_take()
@@ -43,6 +48,7 @@ impl Instrument for Echo {
         requires { takes_byte self.old ≡ true }
         ensures rule { self.new ≡ echo_after_take self.old b end }
         ensures takes { Takes self.old b end self.new }
+        ensures does { echo_behavior self.new ≡ after (Took b end) (echo_behavior self.old) }
         ensures sound { IsSound self.new }
     {
         self.body.take_echoing(b, end);
@@ -56,6 +62,7 @@ impl Instrument for Echo {
         requires { gives_byte self.old ≡ true }
         ensures gives { Gives self.old (record { value = result.0; end = result.1 }) self.new }
         ensures rule { self.new ≡ after_give self.old }
+        ensures does { echo_behavior self.new ≡ after Gave (echo_behavior self.old) }
         ensures sound { IsSound self.new }
     {
         self.body.give()
@@ -65,6 +72,7 @@ impl Instrument for Echo {
         ensures status { result ≡ status_byte self.old }
         ensures polled { IsPolled self.old self.new }
         ensures rule { self.new ≡ after_poll self.old }
+        ensures does { echo_behavior self.new ≡ after Polled (echo_behavior self.old) }
         ensures sound { IsSound self.new }
     {
         self.body.poll()
@@ -77,6 +85,7 @@ impl Instrument for Echo {
     fn clear(&mut self)
         ensures cleared { IsCleared self.old self.new }
         ensures rule { self.new ≡ after_clear self.old }
+        ensures does { echo_behavior self.new ≡ after Cleared (echo_behavior self.old) }
         ensures sound { IsSound self.new }
     {
         self.body.clear();
@@ -86,6 +95,7 @@ impl Instrument for Echo {
     fn trigger(&mut self)
         ensures triggered { IsTriggered self.old self.new }
         ensures rule { self.new ≡ self.old }
+        ensures does { echo_behavior self.new ≡ after Triggered (echo_behavior self.old) }
         ensures sound { IsSound self.new }
     {
         self.body.stay();
@@ -103,6 +113,7 @@ impl Instrument for Echo {
     fn moment(&mut self, _now: u64)
         ensures told { IsTold self.old self.new }
         ensures rule { self.new ≡ self.old }
+        ensures does { echo_behavior self.new ≡ after (Told _now) (echo_behavior self.old) }
         ensures sound { IsSound self.new }
     {
         self.body.stay();

@@ -1,7 +1,9 @@
-ghost use Rattle.std.specs.Prelude.{◌≡◌, true, IfOk};
+ghost use Rattle.std.specs.Prelude.{◌≡◌, true, [], ◌∷◌, ◌++◌, codes, IfOk};
+ghost use Rattle.vx_inst.specs.declared.done.Done.TheVariants.{Took, Gave, Polled, Cleared, Triggered, ToLocal, StatusSet, Told};
+ghost use Rattle.vx_inst.specs.Behavior.{after};
 ghost use Rattle.vx_inst.specs.Laws.{takes_byte, gives_byte, IsSound, Takes, Gives, status_byte, IsPolled, IsCleared, IsTriggered, IsTold, with_status};
 ghost use Rattle.vx_inst.specs.Shared.{after_give, after_poll, after_clear};
-ghost use Rattle.vx_rack.specs.Meters.{fresh_meter, finished, with_seen, after_reading, asks_reading, meter_after_take, number_line};
+ghost use Rattle.vx_rack.specs.Meters.{fresh_meter, finished, with_seen, after_reading, asks_reading, meter_after_take, meter_behavior, number_line};
 
 use crate::NoMemory;
 use arrayvec::ArrayVec;
@@ -80,7 +82,9 @@ fn asks_reading(message: &[u8]) -> bool
 }
 
 impl Instrument for Meter {
-    ghost view = { λ m. m.seen };
+    ghost behaves = { meter_behavior };
+
+    ghost nature = { λ m. codes "meter" ++ m.count ∷ [] };
 
     fn can_take(&self) -> bool {
         self.body.can_take()
@@ -91,6 +95,7 @@ impl Instrument for Meter {
         requires { takes_byte self.old.seen ≡ true }
         ensures rule { self.new ≡ meter_after_take self.old b end }
         ensures takes { Takes self.old.seen b end self.new.seen }
+        ensures does { meter_behavior self.new ≡ after (Took b end) (meter_behavior self.old) }
         ensures sound { IsSound self.new.seen }
     {
         self.body.keep(b);
@@ -107,6 +112,7 @@ impl Instrument for Meter {
         requires { gives_byte self.old.seen ≡ true }
         ensures gives { Gives self.old.seen (record { value = result.0; end = result.1 }) self.new.seen }
         ensures rule { self.new ≡ with_seen self.old (after_give self.old.seen) }
+        ensures does { meter_behavior self.new ≡ after Gave (meter_behavior self.old) }
         ensures sound { IsSound self.new.seen }
     {
         self.body.give()
@@ -116,6 +122,7 @@ impl Instrument for Meter {
         ensures status { result ≡ status_byte self.old.seen }
         ensures polled { IsPolled self.old.seen self.new.seen }
         ensures rule { self.new ≡ with_seen self.old (after_poll self.old.seen) }
+        ensures does { meter_behavior self.new ≡ after Polled (meter_behavior self.old) }
         ensures sound { IsSound self.new.seen }
     {
         self.body.poll()
@@ -129,6 +136,7 @@ impl Instrument for Meter {
     fn clear(&mut self)
         ensures cleared { IsCleared self.old.seen self.new.seen }
         ensures rule { self.new ≡ with_seen self.old (after_clear self.old.seen) }
+        ensures does { meter_behavior self.new ≡ after Cleared (meter_behavior self.old) }
         ensures sound { IsSound self.new.seen }
     {
         self.body.clear();
@@ -138,6 +146,7 @@ impl Instrument for Meter {
     fn trigger(&mut self)
         ensures triggered { IsTriggered self.old.seen self.new.seen }
         ensures rule { self.new ≡ after_reading self.old }
+        ensures does { meter_behavior self.new ≡ after Triggered (meter_behavior self.old) }
         ensures sound { IsSound self.new.seen }
     {
         self.read();
@@ -145,6 +154,7 @@ impl Instrument for Meter {
 
     fn local(&mut self)
         ensures same { self.new ≡ self.old }
+        ensures does { meter_behavior self.new ≡ after ToLocal (meter_behavior self.old) }
         ensures sound { IsSound self.new.seen }
     {
         self.body.stay();
@@ -152,6 +162,7 @@ impl Instrument for Meter {
 
     fn set_status(&mut self, b: u8)
         ensures set { self.new ≡ with_seen self.old (with_status self.old.seen b) }
+        ensures does { meter_behavior self.new ≡ after (StatusSet b) (meter_behavior self.old) }
         ensures sound { IsSound self.new.seen }
     {
         self.body.set_status(b);
@@ -161,6 +172,7 @@ impl Instrument for Meter {
     fn moment(&mut self, _now: u64)
         ensures told { IsTold self.old.seen self.new.seen }
         ensures rule { self.new ≡ self.old }
+        ensures does { meter_behavior self.new ≡ after (Told _now) (meter_behavior self.old) }
         ensures sound { IsSound self.new.seen }
     {
         self.body.stay();

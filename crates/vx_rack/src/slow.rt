@@ -1,7 +1,9 @@
-ghost use Rattle.std.specs.Prelude.{◌≡◌, true, IfOk};
+ghost use Rattle.std.specs.Prelude.{◌≡◌, true, [], ◌∷◌, ◌++◌, codes, IfOk};
+ghost use Rattle.vx_inst.specs.declared.done.Done.TheVariants.{Took, Gave, Polled, Cleared, Triggered, ToLocal, StatusSet, Told};
+ghost use Rattle.vx_inst.specs.Behavior.{after};
 ghost use Rattle.vx_inst.specs.Laws.{takes_byte, gives_byte, IsSound, Takes, Gives, status_byte, IsPolled, IsCleared, IsTriggered, IsTold, with_status};
 ghost use Rattle.vx_inst.specs.Shared.{after_poll, after_clear};
-ghost use Rattle.vx_rack.specs.Slows.{fresh_slow, slow_with_seen, slow_after_take, slow_after_give, slow_after_moment};
+ghost use Rattle.vx_rack.specs.Slows.{fresh_slow, slow_with_seen, slow_after_take, slow_after_give, slow_after_moment, slow_behavior};
 
 use crate::NoMemory;
 use std::alloc::Global;
@@ -45,7 +47,9 @@ impl Slow {
 }
 
 impl Instrument for Slow {
-    ghost view = { λ s. s.seen };
+    ghost behaves = { slow_behavior };
+
+    ghost nature = { λ s. codes "slow" ++ s.told ∷ [] };
 
     fn can_take(&self) -> bool {
         self.body.can_take() && self.ready
@@ -56,6 +60,7 @@ impl Instrument for Slow {
         requires { takes_byte self.old.seen ≡ true }
         ensures rule { self.new ≡ slow_after_take self.old b end }
         ensures takes { Takes self.old.seen b end self.new.seen }
+        ensures does { slow_behavior self.new ≡ after (Took b end) (slow_behavior self.old) }
         ensures sound { IsSound self.new.seen }
     {
         self.body.take_echoing(b, end);
@@ -71,6 +76,7 @@ impl Instrument for Slow {
         requires { gives_byte self.old.seen ≡ true }
         ensures gives { Gives self.old.seen (record { value = result.0; end = result.1 }) self.new.seen }
         ensures rule { self.new ≡ slow_after_give self.old }
+        ensures does { slow_behavior self.new ≡ after Gave (slow_behavior self.old) }
         ensures sound { IsSound self.new.seen }
     {
         let given = self.body.give();
@@ -83,6 +89,7 @@ impl Instrument for Slow {
         ensures status { result ≡ status_byte self.old.seen }
         ensures polled { IsPolled self.old.seen self.new.seen }
         ensures rule { self.new ≡ slow_with_seen self.old (after_poll self.old.seen) }
+        ensures does { slow_behavior self.new ≡ after Polled (slow_behavior self.old) }
         ensures sound { IsSound self.new.seen }
     {
         self.body.poll()
@@ -96,6 +103,7 @@ impl Instrument for Slow {
     fn clear(&mut self)
         ensures cleared { IsCleared self.old.seen self.new.seen }
         ensures rule { self.new ≡ slow_with_seen self.old (after_clear self.old.seen) }
+        ensures does { slow_behavior self.new ≡ after Cleared (slow_behavior self.old) }
         ensures sound { IsSound self.new.seen }
     {
         self.body.clear();
@@ -105,6 +113,7 @@ impl Instrument for Slow {
     fn trigger(&mut self)
         ensures triggered { IsTriggered self.old.seen self.new.seen }
         ensures rule { self.new ≡ self.old }
+        ensures does { slow_behavior self.new ≡ after Triggered (slow_behavior self.old) }
         ensures sound { IsSound self.new.seen }
     {
         self.body.stay();
@@ -112,6 +121,7 @@ impl Instrument for Slow {
 
     fn local(&mut self)
         ensures same { self.new ≡ self.old }
+        ensures does { slow_behavior self.new ≡ after ToLocal (slow_behavior self.old) }
         ensures sound { IsSound self.new.seen }
     {
         self.body.stay();
@@ -119,6 +129,7 @@ impl Instrument for Slow {
 
     fn set_status(&mut self, b: u8)
         ensures set { self.new ≡ slow_with_seen self.old (with_status self.old.seen b) }
+        ensures does { slow_behavior self.new ≡ after (StatusSet b) (slow_behavior self.old) }
         ensures sound { IsSound self.new.seen }
     {
         self.body.set_status(b);
@@ -128,6 +139,7 @@ impl Instrument for Slow {
     fn moment(&mut self, now: u64)
         ensures told { IsTold self.old.seen self.new.seen }
         ensures rule { self.new ≡ slow_after_moment self.old now }
+        ensures does { slow_behavior self.new ≡ after (Told now) (slow_behavior self.old) }
         ensures sound { IsSound self.new.seen }
     {
         self.body.stay();

@@ -1,20 +1,20 @@
 -- Instruments that aren't in each other's way stay so, and one of them at most is the talker.
-use Rattle.std.proofs.Common.{◌≡◌, ℕ, zero, suc, ◌==◌, eqb, Bool, true, false, not, cond, ◌&&◌, ◌||◌, List, [], ◌∷◌, ◌++◌, length, map, Vec, Option, Some, None, refl, sym, ap, ◌∙◌, subst}
+use Rattle.std.proofs.Common.{◌≡◌, ℕ, zero, suc, ◌==◌, Bool, true, false, not, cond, ◌&&◌, ◌||◌, List, [], ◌∷◌, ◌++◌, ◌≤◌, length, map, arith, Vec, Option, Some, None, refl, sym, ap, ◌∙◌, subst}
 use Rattle.std.specs.Prelude.{is_none}
-use Rattle.std.specs.List.{list_any, filter, AllZip}
+use Rattle.std.specs.List.{list_any, list_all, filter}
 use Rattle.std.specs.Vec.{with_items}
 use Rattle.std.proofs.lemmas.Bool.{and_parts}
 use Rattle.std.proofs.lemmas.List.{with_items_is}
 use Rattle.std.proofs.lemmas.List.Folds.{list_any-append}
 use Rattle.vx_488.specs.declared.transfers.Addr.{Addr}
 use Rattle.vx_488.specs.declared.wire.Wire.{Wire}
-use Rattle.vx_488.specs.Address.{same_address, same_secondary}
+use Rattle.vx_488.specs.Address.{same_secondary, is_bus_address}
 use Rattle.vx_488.specs.Flags.{same_address-equal, same_address-refl}
 use Rattle.vx_488.specs.Wire.{is_talking}
 use Rattle.vx_sim.specs.Occupants.{Occupant, Placed}
-use Rattle.vx_sim.specs.Bench.{talks, answers_get, OccupantWhere, PlaceWhere, BenchWhere}
-use Rattle.vx_sim.specs.Attaching.{clashes, holder}
-use Rattle.vx_sim.specs.Shown.{AreApart, AtPlace}
+use Rattle.vx_sim.specs.Bench.{talks, answers_get, OccupantWhere, BenchWhere}
+use Rattle.vx_sim.specs.Attaching.{clashes, holder, AreApart, is_astray, IsInOrder}
+use Rattle.vx_sim.specs.Shown.{AtPlace}
 use Rattle.vx_sim.proofs.Changes.{or_first, or_second}
 
 -- an instrument that is in no other's way is put behind them
@@ -141,12 +141,55 @@ pub ats_shown : {X : Type 0} (f : X → Placed) (at : X → Addr) → ((x : X) �
 ats_shown f at same [] = refl
 ats_shown f at same (x ∷ xs) = ap (λ (a : Addr). a ∷ map (λ p. p.at) (map f xs)) (same x) ∙ ap (λ as'. at x ∷ as') (ats_shown f at same xs)
 
--- a change of those that a slice held, each at its address, keeps them apart
-pub held_apart : {X Z : Type 0} (f : X → Placed) (reached : Placed → Bool) (Change : Occupant → Occupant → Type 0) (v : Vec X Z) (here ws : List X) → here ≡ v.items → length ws ≡ v.len
-    → BenchWhere reached Change (map f here) (map f ws) → AreApart (map f v.items) → AreApart (map f (with_items v ws).items)
-held_apart f reached Change v here ws held long change apart =
-    subst (λ (zs : List _). AreApart (map f zs)) (sym (with_items_is v ws long))
-    (apart-changed reached Change (map f here) (map f ws) change (subst (λ (zs : List _). AreApart (map f zs)) (sym held) apart))
+-- One at an address of the bus that is in no other's way is put behind those that are in order.
+pub in-order-push : (bench : List Placed) (p : Placed) → IsInOrder bench → is_bus_address p.at ≡ true → holder bench p.at ≡ None → IsInOrder (bench ++ p ∷ [])
+in-order-push bench p order address free =
+    (apart-push bench p order.0 free, list_any-append is_astray bench (p ∷ []) ∙ ap (λ b. b || (is_astray p || false)) order.1 ∙ ap (λ b. false || (not b || false)) address)
+
+-- Those that are left stay in order.
+pub in-order-filter : (keep : Placed → Bool) (bench : List Placed) → IsInOrder bench → IsInOrder (filter keep bench)
+in-order-filter keep bench order = (apart-filter keep bench order.0, any-filter is_astray keep bench order.1)
+
+-- Instruments that changed, each at its address, stay in order.
+in-order-changed : (reached : Placed → Bool) (Change : Occupant → Occupant → Type 0) (old new : List Placed) → BenchWhere reached Change old new → IsInOrder old → IsInOrder new
+in-order-changed reached Change old new h order =
+    (apart-changed reached Change old new h order.0, any-changed (λ (a : Addr). not (is_bus_address a)) reached Change old new h ∙ order.1)
+
+-- Where nobody stands astray, everybody stands at an address of the bus.
+pub all-addresses : (bench : List Placed) → list_any is_astray bench ≡ false → list_all (λ p. is_bus_address p.at) bench ≡ true
+all-addresses [] none = refl
+all-addresses (p ∷ ps) none = at (is_bus_address p.at) (or_first (is_astray p) (list_any is_astray ps) none) (all-addresses ps (or_second (is_astray p) (list_any is_astray ps) none))
+  where
+    at : (b : Bool) → not b ≡ false → list_all (λ q. is_bus_address q.at) ps ≡ true → (b && list_all (λ q. is_bus_address q.at) ps) ≡ true
+    at true here rest = rest
+    at false here rest = cc
+
+-- none is left of those of which it is so of none
+none-left : (p : Placed → Bool) (bench : List Placed) → list_any p bench ≡ false → filter p bench ≡ []
+none-left p [] none = refl
+none-left p (q ∷ qs) none = at (p q) (or_first (p q) (list_any p qs) none) (none-left p qs (or_second (p q) (list_any p qs) none))
+  where
+    at : (b : Bool) → b ≡ false → filter p qs ≡ [] → cond b (q ∷ filter p qs) (filter p qs) ≡ []
+    at true here rest = cc
+    at false here rest = rest
+
+-- At most one of those that aren't in each other's way is the talker.
+pub one-talker : (bench : List Placed) (w : Wire) → AreApart bench → length (filter (talks w) bench) ≤ 1
+one-talker [] w apart = omega arith
+one-talker (p ∷ ps) w apart = at (talks w p) refl (one-talker ps w apart.1)
+  where
+    at : (b : Bool) → talks w p ≡ b → length (filter (talks w) ps) ≤ 1 → length (cond b (p ∷ filter (talks w) ps) (filter (talks w) ps)) ≤ 1
+    at true talk rest =
+        let none : length (filter (talks w) ps) ≡ 0 = ap length (none-left (talks w) ps (no_other w p ps talk apart.0)) in
+        omega arith
+    at false talk rest = rest
+
+-- a change of those that a slice held, each at its address, leaves them in order
+pub held_in_order : {X Z : Type 0} (f : X → Placed) (reached : Placed → Bool) (Change : Occupant → Occupant → Type 0) (v : Vec X Z) (here ws : List X) → here ≡ v.items → length ws ≡ v.len
+    → BenchWhere reached Change (map f here) (map f ws) → IsInOrder (map f v.items) → IsInOrder (map f (with_items v ws).items)
+held_in_order f reached Change v here ws held long change order =
+    subst (λ (zs : List _). IsInOrder (map f zs)) (sym (with_items_is v ws long))
+    (in-order-changed reached Change (map f here) (map f ws) change (subst (λ (zs : List _). IsInOrder (map f zs)) (sym held) order))
 
 -- a change of those that a slice held is one of the bench
 pub held_changed : {X Z : Type 0} (f : X → Placed) (reached : Placed → Bool) (Change : Occupant → Occupant → Type 0) (v : Vec X Z) (bench : List Placed) (here ws : List X) → here ≡ v.items → length ws ≡ v.len

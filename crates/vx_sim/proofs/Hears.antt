@@ -1,5 +1,5 @@
 -- What is heard on the way through steps is taken.
-use Rattle.std.proofs.Common.{◌≡◌, Bool, true, false, cond, ◌&&◌, List, [], ◌∷◌, ◌++◌, refl, sym, ap, ◌∙◌, subst}
+use Rattle.std.proofs.Common.{◌≡◌, Bool, true, false, cond, List, [], ◌∷◌, ◌++◌, refl, sym, ap, ◌∙◌, subst}
 use Rattle.std.specs.List.{list_all, AllZip}
 use Rattle.std.proofs.lemmas.Bool.{and_parts}
 use Rattle.vx_488.specs.declared.transfers.Addr.{Addr}
@@ -13,10 +13,9 @@ use Rattle.vx_488.specs.Listening.{has_address}
 use Rattle.vx_488.specs.Wire.{step}
 use Rattle.vx_bus_traits.specs.Means.{Means}
 use Rattle.vx_bus_traits.specs.Steps.{Step, Went, Held, Failed, Told, Cut}
-use Rattle.vx_bus_traits.specs.Walks.{Walk}
 use Rattle.vx_sim.specs.Occupants.{Occupant, Placed, TakesByte}
 use Rattle.vx_sim.specs.Bench.{listens, OccupantWhere, BenchWhere, BenchAfterCommand, BenchAfterRemote}
-use Rattle.vx_sim.specs.SimState.{SimState, means_after, BenchThrough, Through}
+use Rattle.vx_sim.specs.SimState.{SimState, means_after, BenchThrough}
 use Rattle.vx_sim.specs.Laws.{transfers, is_quiet, only_puts, TakesAll, HeardLaw}
 
 -- what an address hears of a step, and the wire after it

@@ -1,3 +1,4 @@
 pub mod Changes
 pub mod Apart
 pub mod Hears
+pub mod Known

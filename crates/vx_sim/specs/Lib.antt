@@ -1,4 +1,5 @@
 pub mod Occupants
+pub mod Histories
 pub mod Bench
 pub mod SimState
 pub mod Attaching

@@ -1,17 +1,36 @@
 -- What stands at a place of the bench, and how it changes.
-use Rattle.std.specs.Prelude.{◌≡◌, ℕ, Bool, false}
+use Rattle.std.specs.Prelude.{◌≡◌, ℕ, Bool, false, List, [], ◌∷◌, ◌++◌}
 use Rattle.vx_488.specs.Heard.{Byte}
 use Rattle.vx_inst.specs.View.{View}
+use Rattle.vx_inst.specs.declared.done.Done.{Done}
+use Rattle.vx_inst.specs.declared.done.Done.TheVariants.{Took, Gave, Polled, Cleared, Triggered, ToLocal, StatusSet, Told}
+use Rattle.vx_inst.specs.Behavior.{Behavior}
 use Rattle.vx_inst.specs.Laws.{IsSound, Takes, Gives, status_byte, IsPolled, IsCleared, IsTriggered, IsTold, with_status}
-use Rattle.vx_table.specs.Table.{TableState, table_after_take, table_after_give, table_after_poll, table_after_clear, table_with_status, table_after_moment}
+use Rattle.vx_table.specs.Table.{TableState, table_rule}
 use Rattle.vx_488.specs.declared.transfers.Addr.{Addr}
 use Rattle.vx_sim.specs.declared.signals.Signal.{Signal}
 use Rattle.vx_sim.specs.declared.signals.Signal.TheVariants as signal
 
--- a table instrument, which is known by its rules, or any other, which is known by its view
+-- an instrument that is no table: how it was seen and what else it was as it was handed in; the calls that it had since, in order;
+-- and how it is seen
+pub record Seated : Type 0 where
+  pub origin : View
+  pub nature : List ℕ
+  pub calls : List Done
+  pub shown : View
+
+-- one that is handed in
+abbrev pub handed_in : {I : Type 0} → (I → Behavior) → (I → List ℕ) → I → Seated
+handed_in behaves nature inst = record { origin = behaves inst []; nature = nature inst; calls = []; shown = behaves inst [] }
+
+-- Such an instrument was handed in, and it is seen as that one behaves after just these calls.
+abbrev pub IsKnown : {I : Type 0} → (I → Behavior) → (I → List ℕ) → Seated → Type 0
+IsKnown {I} behaves nature s = (inst : I) × (s.origin ≡ behaves inst []) × (s.nature ≡ nature inst) × (s.shown ≡ behaves inst s.calls)
+
+-- a table instrument, which is known by its rules, or any other
 pub data Occupant : Type 0 where
   Table : TableState → Occupant
-  Boxed : View → Occupant
+  Boxed : Seated → Occupant
 
 -- an instrument at its address
 pub record Placed : Type 0 where
@@ -21,32 +40,35 @@ pub record Placed : Type 0 where
 -- how it is seen from the bus
 abbrev pub seen : Occupant → View
 seen (Table t) = t.seen
-seen (Boxed v) = v
+seen (Boxed s) = s.shown
 
--- How a call changes it: of a table instrument just this comes, and of a boxed instrument, of which only the laws of
--- every instrument are known, a sound view that the call's law allows.
-abbrev pub Becomes : (TableState → TableState) → (View → View → Type 0) → Occupant → Occupant → Type 0
-Becomes rule Law (Table t) (Table u) = u ≡ rule t
-Becomes rule Law (Boxed v) (Boxed w) = Law v w × IsSound w
-Becomes rule Law (Table t) (Boxed w) = ⊥
-Becomes rule Law (Boxed v) (Table u) = ⊥
+-- It had just this call more, and what is seen of it then is sound, and such as the call's law allows.
+abbrev pub HasCall : Done → (View → View → Type 0) → Seated → Seated → Type 0
+HasCall done Law old new = (new ≡ record old { calls = old.calls ++ done ∷ []; shown = new.shown }) × Law old.shown new.shown × IsSound new.shown
+
+-- How one call changes it: a table instrument is what its rules make of it, and any other had the call.
+abbrev pub Becomes : Done → (View → View → Type 0) → Occupant → Occupant → Type 0
+Becomes done Law (Table t) (Table u) = u ≡ table_rule t done
+Becomes done Law (Boxed s) (Boxed u) = HasCall done Law s u
+Becomes done Law (Table t) (Boxed u) = ⊥
+Becomes done Law (Boxed s) (Table u) = ⊥
 
 -- it takes a byte
 abbrev pub TakesByte : ℕ → Bool → Occupant → Occupant → Type 0
-TakesByte b end old new = Becomes (λ t. table_after_take t b end) (λ v w. Takes v b end w) old new
+TakesByte b end old new = Becomes (Took b end) (λ v w. Takes v b end w) old new
 
 -- how each signal changes it
 abbrev pub Receives : Signal → Occupant → Occupant → Type 0
-Receives signal.Clear old new = Becomes table_after_clear IsCleared old new
-Receives signal.Trigger old new = Becomes (λ t. t) IsTriggered old new
-Receives signal.Local old new = Becomes (λ t. t) (λ v w. w ≡ v) old new
-Receives (signal.Moment now) old new = Becomes (λ t. table_after_moment t now) IsTold old new
-Receives (signal.Status b) old new = Becomes (λ t. table_with_status t b) (λ v w. w ≡ with_status v b) old new
+Receives signal.Clear old new = Becomes Cleared IsCleared old new
+Receives signal.Trigger old new = Becomes Triggered IsTriggered old new
+Receives signal.Local old new = Becomes ToLocal (λ v w. w ≡ v) old new
+Receives (signal.Moment now) old new = Becomes (Told now) IsTold old new
+Receives (signal.Status b) old new = Becomes (StatusSet b) (λ v w. w ≡ with_status v b) old new
 
 -- It gives the front of what it has to give.
 abbrev pub GivesByte : Byte → Occupant → Occupant → Type 0
-GivesByte byte old new = Gives (seen old) byte (seen new) × Becomes table_after_give (λ v w. Gives v byte w) old new
+GivesByte byte old new = Gives (seen old) byte (seen new) × Becomes Gave (λ v w. Gives v byte w) old new
 
 -- It gives its status byte, without END.
 abbrev pub GivesStatus : Byte → Occupant → Occupant → Type 0
-GivesStatus byte old new = (byte ≡ record { value = status_byte (seen old); end = false }) × Becomes table_after_poll IsPolled old new
+GivesStatus byte old new = (byte ≡ record { value = status_byte (seen old); end = false }) × Becomes Polled IsPolled old new

@@ -1,12 +1,9 @@
--- What the fields of a bench stand for, by how its instruments are seen, and whom a signal is for.
-use Rattle.std.specs.Prelude.{◌≡◌, ℕ, zero, suc, true, false, Bool, List, [], ◌∷◌, map}
-use Rattle.std.specs.List.{list_any}
-use Rattle.vx_488.specs.declared.transfers.Addr.{Addr}
+-- What the fields of a bench stand for, and whom a signal is for.
+use Rattle.std.specs.Prelude.{◌≡◌, ℕ, zero, suc, true, false, Bool, List, ◌∷◌, map}
 use Rattle.vx_488.specs.declared.transfers.Transfer.{Transfer}
 use Rattle.vx_488.specs.declared.transfers.Transfer.TheVariants.{Atn, Ifc, Own}
 use Rattle.vx_488.specs.declared.wire.Wire.{Wire}
 use Rattle.vx_488.specs.Heard.{Byte}
-use Rattle.vx_inst.specs.View.{View}
 use Rattle.vx_sim.specs.declared.places.Stand.{Stand}
 use Rattle.vx_sim.specs.declared.places.Stand.TheVariants as stand
 use Rattle.vx_sim.specs.declared.places.Place.{Place}
@@ -16,17 +13,16 @@ use Rattle.vx_sim.specs.declared.signals.Question.{Question}
 use Rattle.vx_sim.specs.declared.signals.Question.TheVariants as question
 use Rattle.vx_sim.specs.Occupants.{Occupant, Table, Boxed, Placed}
 use Rattle.vx_sim.specs.Bench.{listens, talks, stands_at, everyone, TalkerGives, refuses, answers_get, asks}
-use Rattle.vx_sim.specs.Attaching.{clashes}
 
-abbrev pub occupant_of : {I : Type 0} → (I → View) → Stand I → Occupant
-occupant_of view (stand.Table t) = Table t
-occupant_of view (stand.Boxed i) = Boxed (view i)
+abbrev pub occupant_of : {I : Type 0} → Stand I → Occupant
+occupant_of (stand.Table t) = Table t
+occupant_of (stand.Boxed s) = Boxed s
 
-abbrev pub placed_of : {I : Type 0} → (I → View) → Place I → Placed
-placed_of view p = record { at = p.at; occupant = occupant_of view p.stand }
+abbrev pub placed_of : {I : Type 0} → Place I → Placed
+placed_of p = record { at = p.at; occupant = occupant_of p.stand }
 
-abbrev pub bench_of : {I : Type 0} → (I → View) → List (Place I) → List Placed
-bench_of view ps = map (placed_of view) ps
+abbrev pub bench_of : {I : Type 0} → List (Place I) → List Placed
+bench_of ps = map placed_of ps
 
 -- whether a place is one of those that are meant
 abbrev pub is_meant : Wire → Whom → Placed → Bool
@@ -41,11 +37,6 @@ is_so w question.Refuses p = refuses w p
 is_so w question.Answers p = answers_get w p
 is_so w question.Asks p = asks p
 is_so w (question.Stands a) p = stands_at a p
-
--- no two instruments are in each other's way
-abbrev pub AreApart : List Placed → Type 0
-AreApart [] = Unit {0}
-AreApart (p ∷ ps) = (list_any (λ q. clashes p.at q.at) ps ≡ false) × AreApart ps
 
 -- the place at this index changes so, and the others stay
 abbrev pub AtPlace : ℕ → (Placed → Placed → Type 0) → List Placed → List Placed → Type 0

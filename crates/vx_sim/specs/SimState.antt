@@ -1,7 +1,6 @@
 -- A bus with instruments on it, and how it changes by each step.
 use Rattle.std.specs.Prelude.{◌≡◌, ℕ, ◌+◌, ◌-◌, ◌==◌, nat_lt, max, Bool, true, false, if◌then◌else◌, List, [], ◌∷◌, ◌++◌, Option, None, Some}
 use Rattle.vx_bus_traits.specs.Faults.{one_more}
-use Rattle.vx_488.specs.declared.transfers.Transfer.{Transfer}
 use Rattle.vx_488.specs.Wire.{step}
 use Rattle.vx_bus_traits.specs.declared.asks.Ask.{Ask}
 use Rattle.vx_bus_traits.specs.declared.asks.Ask.TheVariants as ask

@@ -2,9 +2,11 @@
 
 ghost use Rattle.std.specs.Prelude.{◌≡◌, ◌≤◌, ◌<◌, ◌+◌, ℕ, true, false, not, List, [], ◌∷◌, ◌++◌, length, map, filter, position, find, IfOk, IfSome, vec_len, vec_capacity};
 ghost use Rattle.std.specs.List.{list_any, insert};
+ghost use Rattle.vx_sim.specs.declared.TheConstants.{PLACES_MAX};
+ghost use Rattle.vx_488.specs.Address.{is_bus_address};
 ghost use Rattle.vx_sim.specs.Occupants.{TakesByte, Receives};
 ghost use Rattle.vx_sim.specs.Bench.{listens, talks, some_refuses, answers_get, holds_get, stands_at, BenchWhere, BenchAfterCommand, BenchAfterRemote, TalkerGives};
-ghost use Rattle.vx_sim.specs.Attaching.{clashes, holder};
+ghost use Rattle.vx_sim.specs.Attaching.{clashes, holder, IsInOrder, AreKnown};
 ghost use Rattle.vx_sim.specs.Shown.{occupant_of, placed_of, bench_of, is_meant, is_so, AtPlace, TalkerGave};
 
 use crate::places::{Place, Stand};
@@ -16,7 +18,7 @@ use vx_488::{Addr, Command, Wire};
 use vx_inst::Instrument;
 
 /// The instruments on a bus, in the order in which they were attached, with room for as many as a bus takes. No two of
-/// them are in each other's way.
+/// them are in each other's way, and each stands at an address of a bus.
 #[derive(Drop)]
 pub(crate) struct Bench<I: Instrument> {
     places: Vec<Place<I>>,
@@ -26,14 +28,15 @@ impl<I: Instrument> Model for Bench<I> {
     ghost use Rattle.std.specs.Prelude.{◌≤◌, List, vec_len, vec_capacity};
     ghost use Rattle.vx_sim.specs.declared.TheConstants.{PLACES_MAX};
     ghost use Rattle.vx_sim.specs.Occupants.{Placed};
-    ghost use Rattle.vx_sim.specs.Shown.{bench_of, AreApart};
+    ghost use Rattle.vx_sim.specs.Attaching.{IsInOrder};
+    ghost use Rattle.vx_sim.specs.Shown.{bench_of};
 
     ghost Value = { List Placed };
 
-    ghost view = { λ b. bench_of (λ i. I.view i) b.places.items };
+    ghost view = { λ b. bench_of b.places.items };
 
     ghost invariant = { λ b. (vec_len b.places ≤ PLACES_MAX) × (PLACES_MAX ≤ vec_capacity b.places)
-        × AreApart (bench_of (λ i. I.view i) b.places.items) };
+        × IsInOrder (bench_of b.places.items) };
 }
 
 impl<I: Instrument> Bench<I> {
@@ -69,11 +72,21 @@ impl<I: Instrument> Bench<I> {
         first_clash(&self.places, a)
     }
 
+    /// Does nothing. Its contract says what holds of the instruments at every moment.
+    pub(crate) fn in_order(&self)
+        ensures order { IsInOrder self.now }
+        ensures few { length self.now ≤ PLACES_MAX }
+        ensures known { AreKnown (λ i. I.behaves i) (λ i. I.nature i) self.now }
+    {
+        known_all(&self.places);
+    }
+
     /// Puts an instrument at the end.
     pub(crate) fn add(&mut self, at: Addr, stand: Stand<I>)
+        requires address { is_bus_address at ≡ true }
         requires few { length self.old < PLACES_MAX }
         requires free { holder self.old at ≡ None }
-        ensures { self.new ≡ self.old ++ (record { at = at; occupant = occupant_of (λ i. I.view i) stand }) ∷ [] }
+        ensures { self.new ≡ self.old ++ (record { at = at; occupant = occupant_of stand }) ∷ [] }
     {
         self.places.push_reserved(Place { at, stand });
     }
@@ -134,16 +147,25 @@ impl<I: Instrument> Bench<I> {
     }
 }
 
+/// Does nothing. Its contract says what is known of the instruments that are no tables.
+fn known_all<I: Instrument>(places: &[Place<I>])
+    ensures { AreKnown (λ i. I.behaves i) (λ i. I.nature i) (bench_of places.now) }
+{
+    for place in places {
+        place.stand.known();
+    }
+}
+
 /// Whether this is so at some place.
 fn any_place<I: Instrument>(places: &[Place<I>], wire: &Wire, question: Question) -> bool
-    ensures { result ≡ list_any (λ p. is_so wire.now question (placed_of (λ i. I.view i) p)) places.now }
+    ensures { result ≡ list_any (λ p. is_so wire.now question (placed_of p)) places.now }
 {
     places.iter().any(|place| place.is_so(wire, question))
 }
 
 /// The first place at which the talker can answer a get.
 fn first_to_answer<I: Instrument>(places: &[Place<I>], wire: &Wire) -> Option<usize>
-    ensures first { result ≡ position (λ p. answers_get wire.now (placed_of (λ i. I.view i) p)) places.now }
+    ensures first { result ≡ position (λ p. answers_get wire.now (placed_of p)) places.now }
     ensures within { IfSome result (λ i. i < length places.now) }
 {
     places
@@ -171,8 +193,8 @@ fn clashes(a: Addr, b: Addr) -> bool
 
 /// Every listener takes a byte.
 fn put_all<I: Instrument>(places: &mut [Place<I>], wire: &Wire, b: u8, end: bool)
-    requires { some_refuses wire.now (bench_of (λ i. I.view i) places.old) ≡ false }
-    ensures { BenchWhere (listens wire.now) (TakesByte b end) (bench_of (λ i. I.view i) places.old) (bench_of (λ i. I.view i) places.new) }
+    requires { some_refuses wire.now (bench_of places.old) ≡ false }
+    ensures { BenchWhere (listens wire.now) (TakesByte b end) (bench_of places.old) (bench_of places.new) }
 {
     for place in places.iter_mut() {
         place.put(wire, b, end);
@@ -181,7 +203,7 @@ fn put_all<I: Instrument>(places: &mut [Place<I>], wire: &Wire, b: u8, end: bool
 
 /// Those that are meant are told what they answer nothing to.
 fn tell_all<I: Instrument>(places: &mut [Place<I>], wire: &Wire, whom: Whom, signal: Signal)
-    ensures { BenchWhere (is_meant wire.now whom) (Receives signal) (bench_of (λ i. I.view i) places.old) (bench_of (λ i. I.view i) places.new) }
+    ensures { BenchWhere (is_meant wire.now whom) (Receives signal) (bench_of places.old) (bench_of places.new) }
 {
     for place in places.iter_mut() {
         place.receive(wire, whom, signal);
@@ -191,8 +213,8 @@ fn tell_all<I: Instrument>(places: &mut [Place<I>], wire: &Wire, whom: Whom, sig
 /// The talker, which stands at this place, gives a byte.
 fn give_at<I: Instrument>(places: &mut [Place<I>], index: usize, wire: &Wire) -> (u8, bool)
     requires within { index < length places.old }
-    requires answers { position (λ p. answers_get wire.now (placed_of (λ i. I.view i) p)) places.old ≡ Some index }
-    ensures { AtPlace index (TalkerGave wire.now (record { value = result.0; end = result.1 })) (bench_of (λ i. I.view i) places.old) (bench_of (λ i. I.view i) places.new) }
+    requires answers { position (λ p. answers_get wire.now (placed_of p)) places.old ≡ Some index }
+    ensures { AtPlace index (TalkerGave wire.now (record { value = result.0; end = result.1 })) (bench_of places.old) (bench_of places.new) }
 {
     let place = &mut places[index];
     place.give(wire)
@@ -200,7 +222,7 @@ fn give_at<I: Instrument>(places: &mut [Place<I>], index: usize, wire: &Wire) ->
 
 /// The instrument at this address is dropped.
 fn remove_at<I: Instrument>(places: &mut Vec<Place<I>>, a: Addr)
-    ensures left { places.new.items ≡ filter (λ p. not (stands_at a (placed_of (λ i. I.view i) p))) places.old.items }
+    ensures left { places.new.items ≡ filter (λ p. not (stands_at a (placed_of p))) places.old.items }
     ensures fewer { vec_len places.new ≤ vec_len places.old }
     ensures room { vec_capacity places.new ≡ vec_capacity places.old }
 {

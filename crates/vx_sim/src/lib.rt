@@ -8,6 +8,7 @@ mod attach;
 mod bench;
 mod laws;
 mod places;
+mod seat;
 mod signals;
 mod sim;
 

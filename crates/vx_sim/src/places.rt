@@ -4,93 +4,105 @@ ghost use Rattle.std.specs.Prelude.{◌≡◌, true, false};
 ghost use Rattle.vx_inst.specs.Laws.{takes_byte, gives_byte};
 ghost use Rattle.vx_sim.specs.Occupants.{Table, Boxed, seen, TakesByte, Receives, GivesByte, GivesStatus};
 ghost use Rattle.vx_sim.specs.Bench.{listens, talks, refuses, answers_get, PlaceWhere, TalkerGives};
+ghost use Rattle.vx_sim.specs.Attaching.{IsKnownOccupant};
 ghost use Rattle.vx_sim.specs.Shown.{occupant_of, placed_of, is_meant, is_so};
 
+use crate::seat::Seat;
 use crate::signals::{Question, Signal, Whom};
 use vx_488::{Addr, Wire};
 use vx_inst::Instrument;
 use vx_table::TableInst;
 
-/// What stands at a place: a table instrument, which is known by its rules, or any other, which is known by its view.
+/// What stands at a place: a table instrument, which is known by its rules, or any other, with the calls that it had.
 #[derive(Drop)]
-pub(crate) enum Stand<I> {
+pub(crate) enum Stand<I: Instrument> {
     Table(TableInst),
-    Boxed(I),
+    Boxed(Seat<I>),
 }
 
 /// An instrument at its address.
 #[derive(Drop)]
-pub(crate) struct Place<I> {
+pub(crate) struct Place<I: Instrument> {
     pub(crate) at: Addr,
     pub(crate) stand: Stand<I>,
 }
 
 impl<I: Instrument> Stand<I> {
+    /// Does nothing. Its contract says what is known of an instrument that is no table.
+    pub(crate) fn known(&self)
+        ensures { IsKnownOccupant (λ i. I.behaves i) (λ i. I.nature i) (occupant_of self.now) }
+    {
+        match self {
+            Stand::Table(_) => {}
+            Stand::Boxed(seat) => seat.known(),
+        }
+    }
+
     fn can_take(&self) -> bool
-        ensures { result ≡ takes_byte (seen (occupant_of (λ i. I.view i) self.now)) }
+        ensures { result ≡ takes_byte (seen (occupant_of self.now)) }
     {
         match self {
             Stand::Table(table) => table.can_take(),
-            Stand::Boxed(inst) => inst.can_take(),
+            Stand::Boxed(seat) => seat.can_take(),
         }
     }
 
     fn can_give(&self) -> bool
-        ensures { result ≡ gives_byte (seen (occupant_of (λ i. I.view i) self.now)) }
+        ensures { result ≡ gives_byte (seen (occupant_of self.now)) }
     {
         match self {
             Stand::Table(table) => table.can_give(),
-            Stand::Boxed(inst) => inst.can_give(),
+            Stand::Boxed(seat) => seat.can_give(),
         }
     }
 
     fn requests(&self) -> bool
-        ensures { result ≡ (seen (occupant_of (λ i. I.view i) self.now)).rqs }
+        ensures { result ≡ (seen (occupant_of self.now)).rqs }
     {
         match self {
             Stand::Table(table) => table.requests(),
-            Stand::Boxed(inst) => inst.requests(),
+            Stand::Boxed(seat) => seat.requests(),
         }
     }
 
     fn take(&mut self, b: u8, end: bool)
-        requires { takes_byte (seen (occupant_of (λ i. I.view i) self.old)) ≡ true }
-        ensures { TakesByte b end (occupant_of (λ i. I.view i) self.old) (occupant_of (λ i. I.view i) self.new) }
+        requires { takes_byte (seen (occupant_of self.old)) ≡ true }
+        ensures { TakesByte b end (occupant_of self.old) (occupant_of self.new) }
     {
         match self {
             Stand::Table(table) => table.take(b, end),
-            Stand::Boxed(inst) => inst.take(b, end),
+            Stand::Boxed(seat) => seat.take(b, end),
         }
     }
 
     /// Gives the next byte, and whether END stands on it.
     fn give(&mut self) -> (u8, bool)
-        requires { gives_byte (seen (occupant_of (λ i. I.view i) self.old)) ≡ true }
-        ensures { GivesByte (record { value = result.0; end = result.1 }) (occupant_of (λ i. I.view i) self.old) (occupant_of (λ i. I.view i) self.new) }
+        requires { gives_byte (seen (occupant_of self.old)) ≡ true }
+        ensures { GivesByte (record { value = result.0; end = result.1 }) (occupant_of self.old) (occupant_of self.new) }
     {
         match self {
             Stand::Table(table) => table.give(),
-            Stand::Boxed(inst) => inst.give(),
+            Stand::Boxed(seat) => seat.give(),
         }
     }
 
     /// Gives its status byte.
     fn poll(&mut self) -> u8
-        ensures { GivesStatus (record { value = result; end = false }) (occupant_of (λ i. I.view i) self.old) (occupant_of (λ i. I.view i) self.new) }
+        ensures { GivesStatus (record { value = result; end = false }) (occupant_of self.old) (occupant_of self.new) }
     {
         match self {
             Stand::Table(table) => table.poll(),
-            Stand::Boxed(inst) => inst.poll(),
+            Stand::Boxed(seat) => seat.poll(),
         }
     }
 
     /// Is told what it answers nothing to.
     pub(crate) fn receive(&mut self, signal: Signal)
-        ensures { Receives signal (occupant_of (λ i. I.view i) self.old) (occupant_of (λ i. I.view i) self.new) }
+        ensures { Receives signal (occupant_of self.old) (occupant_of self.new) }
     {
         match self {
             Stand::Table(table) => tell_table(table, signal),
-            Stand::Boxed(inst) => tell_boxed(inst, signal),
+            Stand::Boxed(seat) => tell_seat(seat, signal),
         }
     }
 }
@@ -107,43 +119,43 @@ fn tell_table(table: &mut TableInst, signal: Signal)
     }
 }
 
-fn tell_boxed<I: Instrument>(inst: &mut I, signal: Signal)
-    ensures { Receives signal (Boxed (I.view inst.old)) (Boxed (I.view inst.new)) }
+fn tell_seat<I: Instrument>(seat: &mut Seat<I>, signal: Signal)
+    ensures { Receives signal (Boxed seat.old) (Boxed seat.new) }
 {
     match signal {
-        Signal::Clear => inst.clear(),
-        Signal::Trigger => inst.trigger(),
-        Signal::Local => inst.local(),
-        Signal::Moment(now) => inst.moment(now),
-        Signal::Status(b) => inst.set_status(b),
+        Signal::Clear => seat.clear(),
+        Signal::Trigger => seat.trigger(),
+        Signal::Local => seat.local(),
+        Signal::Moment(now) => seat.moment(now),
+        Signal::Status(b) => seat.set_status(b),
     }
 }
 
 impl<I: Instrument> Place<I> {
     /// Whether it is a listener that can't take a byte.
     fn refuses(&self, wire: &Wire) -> bool
-        ensures { result ≡ refuses wire.now (placed_of (λ i. I.view i) self.now) }
+        ensures { result ≡ refuses wire.now (placed_of self.now) }
     {
         wire.listeners.has(self.at) && !self.stand.can_take()
     }
 
     /// Whether it is the talker.
     fn talks(&self, wire: &Wire) -> bool
-        ensures { result ≡ talks wire.now (placed_of (λ i. I.view i) self.now) }
+        ensures { result ≡ talks wire.now (placed_of self.now) }
     {
         wire.talker == Some(self.at)
     }
 
     /// Whether it is the talker, and can answer a get.
     fn answers_get(&self, wire: &Wire) -> bool
-        ensures { result ≡ answers_get wire.now (placed_of (λ i. I.view i) self.now) }
+        ensures { result ≡ answers_get wire.now (placed_of self.now) }
     {
         self.talks(wire) && (wire.polling || self.stand.can_give())
     }
 
     /// What it answers to a question.
     pub(crate) fn is_so(&self, wire: &Wire, question: Question) -> bool
-        ensures { result ≡ is_so wire.now question (placed_of (λ i. I.view i) self.now) }
+        ensures { result ≡ is_so wire.now question (placed_of self.now) }
     {
         match question {
             Question::Listens => wire.listeners.has(self.at),
@@ -155,7 +167,7 @@ impl<I: Instrument> Place<I> {
     }
 
     fn is_meant(&self, wire: &Wire, whom: Whom) -> bool
-        ensures { result ≡ is_meant wire.now whom (placed_of (λ i. I.view i) self.now) }
+        ensures { result ≡ is_meant wire.now whom (placed_of self.now) }
     {
         match whom {
             Whom::Listeners => wire.listeners.has(self.at),
@@ -166,8 +178,8 @@ impl<I: Instrument> Place<I> {
 
     /// Takes a byte where it is a listener.
     pub(crate) fn put(&mut self, wire: &Wire, b: u8, end: bool)
-        requires { refuses wire.now (placed_of (λ i. I.view i) self.old) ≡ false }
-        ensures { PlaceWhere (listens wire.now) (TakesByte b end) (placed_of (λ i. I.view i) self.old) (placed_of (λ i. I.view i) self.new) }
+        requires { refuses wire.now (placed_of self.old) ≡ false }
+        ensures { PlaceWhere (listens wire.now) (TakesByte b end) (placed_of self.old) (placed_of self.new) }
     {
         if wire.listeners.has(self.at) {
             self.stand.take(b, end);
@@ -176,7 +188,7 @@ impl<I: Instrument> Place<I> {
 
     /// Is told what it answers nothing to, where it is meant.
     pub(crate) fn receive(&mut self, wire: &Wire, whom: Whom, signal: Signal)
-        ensures { PlaceWhere (is_meant wire.now whom) (Receives signal) (placed_of (λ i. I.view i) self.old) (placed_of (λ i. I.view i) self.new) }
+        ensures { PlaceWhere (is_meant wire.now whom) (Receives signal) (placed_of self.old) (placed_of self.new) }
     {
         if self.is_meant(wire, whom) {
             self.stand.receive(signal);
@@ -185,8 +197,8 @@ impl<I: Instrument> Place<I> {
 
     /// Gives a byte: in serial poll mode its status byte, without END.
     pub(crate) fn give(&mut self, wire: &Wire) -> (u8, bool)
-        requires { answers_get wire.now (placed_of (λ i. I.view i) self.old) ≡ true }
-        ensures gives { TalkerGives wire.now.polling (record { value = result.0; end = result.1 }) (occupant_of (λ i. I.view i) self.old.stand) (occupant_of (λ i. I.view i) self.new.stand) }
+        requires { answers_get wire.now (placed_of self.old) ≡ true }
+        ensures gives { TalkerGives wire.now.polling (record { value = result.0; end = result.1 }) (occupant_of self.old.stand) (occupant_of self.new.stand) }
         ensures stays { self.new.at ≡ self.old.at }
     {
         if wire.polling {

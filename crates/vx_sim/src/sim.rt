@@ -1,20 +1,23 @@
 //! The simulated bus.
 
-ghost use Rattle.std.specs.Prelude.{◌≡◌, ◌<◌, ◌≤◌, ◌+◌, length, None, Some, true, IfOk, MatchResult, is_ok};
-ghost use Rattle.std.specs.List.{list_any};
+ghost use Rattle.std.specs.Prelude.{◌≡◌, ◌<◌, ◌≤◌, ◌+◌, length, filter, None, Some, true, IfOk, MatchResult, is_ok};
+ghost use Rattle.std.specs.List.{list_any, list_all};
 ghost use Rattle.vx_488.specs.declared.transfers.TheConstants.{ADDRESS_MAX};
 ghost use Rattle.vx_488.specs.declared.transfers.Transfer.TheVariants.{Cmd, Put, Ren, Ifc, Own};
+ghost use Rattle.vx_488.specs.declared.wire.Wire.{Wire};
 ghost use Rattle.vx_488.specs.Address.{is_bus_address};
 ghost use Rattle.vx_bus_traits.specs.Steps.{Went, Held, Failed, Told, Cut, move_step, get_step, line_transfer, IsStepped};
-ghost use Rattle.vx_sim.specs.Occupants.{Table, Boxed};
-ghost use Rattle.vx_sim.specs.Bench.{stands_at, some_asks, some_refuses, holds_put, holds_get};
+ghost use Rattle.vx_sim.specs.Occupants.{Table, Boxed, handed_in};
+ghost use Rattle.vx_sim.specs.declared.TheConstants.{PLACES_MAX};
+ghost use Rattle.vx_sim.specs.Bench.{stands_at, talks, some_asks, some_refuses, holds_put, holds_get};
 ghost use Rattle.vx_sim.specs.SimState.{first_state, is_next, nearer, means_after, Through};
-ghost use Rattle.vx_sim.specs.Attaching.{refusal, taken_or_full, IsAttached, without_place, IsSet};
+ghost use Rattle.vx_sim.specs.Attaching.{AreApart, AreKnown, refusal, taken_or_full, IsAttached, without_place, IsSet};
 ghost use Rattle.vx_sim.specs.Shown.{occupant_of, reaches_nobody};
 
 use crate::attach::{Absent, Attach, Refused};
 use crate::bench::Bench;
 use crate::places::Stand;
+use crate::seat::Seat;
 use crate::signals::{Question, Signal, Whom};
 use crate::{NoMemory, PLACES_MAX};
 use std::alloc::Global;
@@ -25,8 +28,8 @@ use vx_inst::Instrument;
 use vx_table::TableInst;
 
 /// A bus with up to [`PLACES_MAX`] instruments on it, each at an address of its own: table instruments, of which all is
-/// known by their rules, and others, of the one type `I`, of which the laws of every instrument are known. An instrument
-/// at an address that later becomes the gateway's own is addressed along with the gateway.
+/// known by their rules, and others, of the one type `I`, each with the calls that it had here: it is seen as it behaves after
+/// just those. An instrument at an address that later becomes the gateway's own is addressed along with the gateway.
 ///
 /// `I` may be a box of any instrument, or an enum of several.
 #[derive(Drop)]
@@ -111,15 +114,28 @@ impl<I: Instrument> SimBus<I> {
     pub fn attach_box(&mut self, a: Addr, inst: I) -> Result<(), Refused<I>>
         requires { is_bus_address a ≡ true }
         ensures answer { MatchResult result (λ _. refusal self.old a ≡ None) (λ r. refusal self.old a ≡ Some r.why) }
-        ensures attached { MatchResult result (λ _. IsAttached a (Boxed (I.view inst)) self.old self.new) (λ r. (I.view r.inst ≡ I.view inst) × (self.new ≡ self.old)) }
+        ensures attached { MatchResult result (λ _. IsAttached a (Boxed (handed_in (λ i. I.behaves i) (λ i. I.nature i) inst)) self.old self.new) (λ r. (r.inst ≡ inst) × (self.new ≡ self.old)) }
     {
         match self.refusal(a) {
             Some(why) => Err(Refused { why, inst }),
             None => {
-                self.place(a, Stand::Boxed(inst));
+                self.place(a, Stand::Boxed(Seat::new(inst)));
                 Ok(())
             }
         }
+    }
+
+    /// Does nothing. Its contract says what holds of the instruments at every moment: no two are in each other's way, both
+    /// parts of each address are at most 30, there are at most [`PLACES_MAX`], and at most one is the talker. One that is no
+    /// table is seen as an instrument that was handed in behaves after just the calls that it had.
+    pub fn in_order(&self)
+        ensures apart { AreApart self.now.bench }
+        ensures addresses { list_all (λ p. is_bus_address p.at) self.now.bench ≡ true }
+        ensures few { length self.now.bench ≤ PLACES_MAX }
+        ensures known { AreKnown (λ i. I.behaves i) (λ i. I.nature i) self.now.bench }
+        ensures one_talker { (w : Wire) → length (filter (talks w) self.now.bench) ≤ 1 }
+    {
+        self.bench.in_order();
     }
 
     /// Takes the instrument at this address off the bus, and drops it. Both parts of the address are at most 30.
@@ -182,8 +198,9 @@ impl<I: Instrument> SimBus<I> {
 
     /// Puts an instrument at the end of the bench, and tells it the last moment.
     fn place(&mut self, at: Addr, mut stand: Stand<I>)
-        requires { refusal self.old at ≡ None }
-        ensures { IsAttached at (occupant_of (λ i. I.view i) stand) self.old self.new }
+        requires address { is_bus_address at ≡ true }
+        requires free { refusal self.old at ≡ None }
+        ensures { IsAttached at (occupant_of stand) self.old self.new }
     {
         stand.receive(Signal::Moment(self.told));
         self.bench.add(at, stand);

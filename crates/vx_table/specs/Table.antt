@@ -3,6 +3,9 @@ use Rattle.std.specs.Prelude.{ℕ, ◌+◌, Bool, true, false, ◌==◌, nat_le,
 use Rattle.std.specs.Str.{bytes_eq}
 use Rattle.vx_inst.specs.View.{View}
 use Rattle.vx_inst.specs.Laws.{with_status}
+use Rattle.vx_inst.specs.declared.done.Done.{Done}
+use Rattle.vx_inst.specs.declared.done.Done.TheVariants.{Took, Gave, Polled, Cleared, Triggered, ToLocal, StatusSet, Told}
+use Rattle.vx_inst.specs.Behavior.{Behavior, by_rule}
 use Rattle.vx_inst.specs.Shared.{fresh, with_byte, without_message, replied, after_give, after_poll, after_clear}
 
 -- a rule: the message that it is for, its reply, the status byte that it sets, if any, and its delay in milliseconds
@@ -96,3 +99,17 @@ after_delay s (Some d) = if nat_le (d.since + d.rule.delay) s.told then ended_de
 -- An earlier moment than one that it was told counts as that one.
 abbrev pub table_after_moment : TableState → ℕ → TableState
 table_after_moment s now = after_delay (record s { told = max s.told now }) s.delayed
+
+-- what a call makes of it, and how it behaves
+abbrev pub table_rule : TableState → Done → TableState
+table_rule s (Took b end) = table_after_take s b end
+table_rule s Gave = table_after_give s
+table_rule s Polled = table_after_poll s
+table_rule s Cleared = table_after_clear s
+table_rule s Triggered = s
+table_rule s ToLocal = s
+table_rule s (StatusSet b) = table_with_status s b
+table_rule s (Told now) = table_after_moment s now
+
+abbrev pub table_behavior : TableState → Behavior
+table_behavior = by_rule table_rule (λ s. s.seen)

@@ -6,9 +6,11 @@
 ghost use Rattle.std.specs.Prelude.{◌≡◌, ◌<◌, ◌↔◌, true, ℕ, List, [], length, Ok, Err, IfOk};
 ghost use Rattle.std.specs.List.{slice_get};
 ghost use Rattle.serde_json.specs.View.{view};
+ghost use Rattle.vx_inst.specs.declared.done.Done.TheVariants.{Took, Gave, Polled, Cleared, Triggered, ToLocal, StatusSet, Told};
+ghost use Rattle.vx_inst.specs.Behavior.{after};
 ghost use Rattle.vx_inst.specs.Laws.{takes_byte, gives_byte, IsSound, Takes, Gives, status_byte, IsPolled, IsCleared, IsTriggered, IsTold, IsLonger, with_status};
 ghost use Rattle.vx_table.specs.declared.TableErr.TheVariants.{NotObject, TooMany, BadRule, NoMemory};
-ghost use Rattle.vx_table.specs.Table.{Rule, fresh_table, table_after_take, table_after_give, table_after_poll, table_after_clear, table_with_status, table_after_moment, finished, begun, after_delay, without_line_feed};
+ghost use Rattle.vx_table.specs.Table.{Rule, fresh_table, table_after_take, table_after_give, table_after_poll, table_after_clear, table_with_status, table_after_moment, table_behavior, finished, begun, after_delay, without_line_feed};
 ghost use Rattle.vx_table.specs.Spelling.{rules_of};
 
 mod row;
@@ -169,7 +171,7 @@ fn without_line_feed(message: &[u8]) -> &[u8]
 }
 
 impl Instrument for TableInst {
-    ghost view = { λ t. t.seen };
+    ghost behaves = { table_behavior };
 
     fn can_take(&self) -> bool {
         self.body.can_take() && self.waiting.is_none()
@@ -180,6 +182,7 @@ impl Instrument for TableInst {
         requires { takes_byte self.old.seen ≡ true }
         ensures rule { self.new ≡ table_after_take self.old b end }
         ensures takes { Takes self.old.seen b end self.new.seen }
+        ensures does { table_behavior self.new ≡ after (Took b end) (table_behavior self.old) }
         ensures sound { IsSound self.new.seen }
     {
         self.body.keep(b);
@@ -196,6 +199,7 @@ impl Instrument for TableInst {
         requires { gives_byte self.old.seen ≡ true }
         ensures gives { Gives self.old.seen (record { value = result.0; end = result.1 }) self.new.seen }
         ensures rule { self.new ≡ table_after_give self.old }
+        ensures does { table_behavior self.new ≡ after Gave (table_behavior self.old) }
         ensures sound { IsSound self.new.seen }
     {
         self.body.give()
@@ -205,6 +209,7 @@ impl Instrument for TableInst {
         ensures status { result ≡ status_byte self.old.seen }
         ensures polled { IsPolled self.old.seen self.new.seen }
         ensures rule { self.new ≡ table_after_poll self.old }
+        ensures does { table_behavior self.new ≡ after Polled (table_behavior self.old) }
         ensures sound { IsSound self.new.seen }
     {
         self.body.poll()
@@ -218,6 +223,7 @@ impl Instrument for TableInst {
     fn clear(&mut self)
         ensures cleared { IsCleared self.old.seen self.new.seen }
         ensures rule { self.new ≡ table_after_clear self.old }
+        ensures does { table_behavior self.new ≡ after Cleared (table_behavior self.old) }
         ensures sound { IsSound self.new.seen }
     {
         self.body.clear();
@@ -228,6 +234,7 @@ impl Instrument for TableInst {
     fn trigger(&mut self)
         ensures triggered { IsTriggered self.old.seen self.new.seen }
         ensures rule { self.new ≡ self.old }
+        ensures does { table_behavior self.new ≡ after Triggered (table_behavior self.old) }
         ensures sound { IsSound self.new.seen }
     {
         self.body.stay();
@@ -235,6 +242,7 @@ impl Instrument for TableInst {
 
     fn local(&mut self)
         ensures same { self.new ≡ self.old }
+        ensures does { table_behavior self.new ≡ after ToLocal (table_behavior self.old) }
         ensures sound { IsSound self.new.seen }
     {
         self.body.stay();
@@ -242,6 +250,7 @@ impl Instrument for TableInst {
 
     fn set_status(&mut self, b: u8)
         ensures set { self.new ≡ table_with_status self.old b }
+        ensures does { table_behavior self.new ≡ after (StatusSet b) (table_behavior self.old) }
         ensures sound { IsSound self.new.seen }
     {
         self.body.set_status(b);
@@ -251,6 +260,7 @@ impl Instrument for TableInst {
     fn moment(&mut self, now: u64)
         ensures told { IsTold self.old.seen self.new.seen }
         ensures rule { self.new ≡ table_after_moment self.old now }
+        ensures does { table_behavior self.new ≡ after (Told now) (table_behavior self.old) }
         ensures sound { IsSound self.new.seen }
     {
         self.told = self.told.max(now);

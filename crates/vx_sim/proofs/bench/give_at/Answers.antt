@@ -8,10 +8,10 @@ use Rattle.vx_sim.proofs.bench.give_at.Goals as goal
 
 pub give-requires : goal.give-requires
 give-requires g c =
-    (position-Some (λ p. answers_get c.args.wire.now ((placed_of (λ i. g.I.Instrument.view i)) p)) c.args.places.now c.args.index c.index-places-index.result c.requires.answers).1
+    (position-Some (λ p. answers_get c.args.wire.now (placed_of p)) c.args.places.now c.args.index c.index-places-index.result c.requires.answers).1
 
 pub returns : goal.returns
 returns g c =
-    let answers = (position-Some (λ p. answers_get c.args.wire.now ((placed_of (λ i. g.I.Instrument.view i)) p)) c.args.places.now c.args.index c.index-places-index.result c.requires.answers).1 in
-    set_at_place (placed_of (λ i. g.I.Instrument.view i)) (TalkerGave c.args.wire.now (record { value = c.give.result.0; end = c.give.result.1 })) c.args.places.now c.args.index c.index-places-index.result c.give.new.self
-    c.requires.within (answerer_talks c.args.wire.now ((placed_of (λ i. g.I.Instrument.view i)) (get_or c.args.places.now c.args.index c.index-places-index.result)) answers, c.give.ensures.stays, c.give.ensures.gives)
+    let answers = (position-Some (λ p. answers_get c.args.wire.now (placed_of p)) c.args.places.now c.args.index c.index-places-index.result c.requires.answers).1 in
+    set_at_place placed_of (TalkerGave c.args.wire.now (record { value = c.give.result.0; end = c.give.result.1 })) c.args.places.now c.args.index c.index-places-index.result c.give.new.self
+    c.requires.within (answerer_talks c.args.wire.now (placed_of (get_or c.args.places.now c.args.index c.index-places-index.result)) answers, c.give.ensures.stays, c.give.ensures.gives)

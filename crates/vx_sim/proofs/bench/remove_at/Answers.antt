@@ -6,4 +6,4 @@ use Rattle.vx_sim.proofs.bench.remove_at.Goals as goal
 
 pub returns-clause-left : goal.returns-clause-left
 returns-clause-left g c =
-    filter_same _ (λ p. not (stands_at c.args.a ((placed_of (λ i. g.I.Instrument.view i)) p))) _ (λ x b f' k. search rules) _ _ c.retain.ensures.filtered
+    filter_same _ (λ p. not (stands_at c.args.a (placed_of p))) _ (λ x b f' k. search rules) _ _ c.retain.ensures.filtered

@@ -10,4 +10,4 @@ loop-place-preserved g c = changes_more _ c.loop-place.place-index c.args.places
 
 pub returns : goal.returns
 returns g c =
-    all_changed (placed_of (λ i. g.I.Instrument.view i)) (PlaceWhere (is_meant c.args.wire.now c.args.whom) (Receives c.args.signal)) c.loop-place.place-index c.args.places.now c.loop-place.places c.loop-place.invariant (omega arith)
+    all_changed placed_of (PlaceWhere (is_meant c.args.wire.now c.args.whom) (Receives c.args.signal)) c.loop-place.place-index c.args.places.now c.loop-place.places c.loop-place.invariant (omega arith)

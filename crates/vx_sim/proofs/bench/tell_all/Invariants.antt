@@ -6,4 +6,4 @@ use Rattle.vx_sim.proofs.bench.tell_all.Given as goal
 
 abbrev pub invariant-loop-place : goal.invariant-loop-place
 invariant-loop-place g l =
-    SoFar (λ x y. PlaceWhere (is_meant l.wire l.whom) (Receives l.signal) (placed_of (λ i. g.I.Instrument.view i) x) (placed_of (λ i. g.I.Instrument.view i) y)) l.place-index l.initial.places l.places
+    SoFar (λ x y. PlaceWhere (is_meant l.wire l.whom) (Receives l.signal) (placed_of x) (placed_of y)) l.place-index l.initial.places l.places

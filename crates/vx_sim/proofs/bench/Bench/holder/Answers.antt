@@ -9,5 +9,5 @@ pub returns : goal.returns
 returns g c =
     c.first_clash.ensures
     ∙ ap (λ ps. find (λ h. clashes h c.args.a) (map (λ p. p.at) ps)) c.deref.ensures.value
-    ∙ ap (find (λ h. clashes h c.args.a)) (sym (ats_shown (placed_of (λ i. g.I.Instrument.view i)) (λ p. p.at) (λ x. refl) c.self.inside.places.items))
+    ∙ ap (find (λ h. clashes h c.args.a)) (sym (ats_shown placed_of (λ p. p.at) (λ x. refl) c.self.inside.places.items))
     ∙ ap (λ ps. holder ps c.args.a) c.self.view_is

@@ -1,0 +1,140 @@
+//! An instrument that is no table, at its place.
+
+ghost use Rattle.std.specs.Prelude.{◌≡◌, true};
+ghost use Rattle.vx_inst.specs.declared.done.Done.TheVariants.{Took, Gave, Polled, Cleared, Triggered, ToLocal, StatusSet, Told};
+ghost use Rattle.vx_inst.specs.Laws.{takes_byte, gives_byte, Takes, Gives, status_byte, IsPolled, IsCleared, IsTriggered, IsTold, with_status};
+ghost use Rattle.vx_sim.specs.Occupants.{handed_in, HasCall, IsKnown};
+
+use http_server::Log;
+use std::marker::Model;
+use vx_inst::{Done, Instrument};
+
+/// An instrument with the calls that it had on the bench. These are noted for proofs alone: they take no memory.
+#[derive(Drop)]
+pub(crate) struct Seat<I: Instrument> {
+    inst: I,
+    // the instrument as it was handed in
+    origin: Log<I, ()>,
+    calls: Log<Done, ()>,
+}
+
+impl<I: Instrument> Model for Seat<I> {
+    ghost use Rattle.vx_sim.specs.Occupants.{Seated};
+
+    ghost Value = { Seated };
+
+    ghost use Rattle.std.specs.Prelude.{[]};
+    ghost use Rattle.vx_inst.specs.Shared.{fresh};
+    ghost use Rattle.vx_sim.specs.Histories.{first_of, calls_of, IsAfter};
+
+    ghost view = { λ s. record {
+      origin = first_of (λ i. I.behaves i []) fresh s.origin.items;
+      nature = first_of (λ i. I.nature i) [] s.origin.items;
+      calls = calls_of s.calls.items;
+      shown = I.behaves s.inst [];
+    } };
+
+    ghost invariant = { λ s. IsAfter (λ i. I.behaves i) s.origin.items (calls_of s.calls.items) s.inst };
+}
+
+impl<I: Instrument> Seat<I> {
+    /// An instrument that is handed in, and had no call yet.
+    pub(crate) fn new(inst: I) -> Seat<I>
+        ensures { result ≡ handed_in (λ i. I.behaves i) (λ i. I.nature i) inst }
+    {
+        Seat {
+            origin: Log::new().and(&inst, &()),
+            calls: Log::new(),
+            inst,
+        }
+    }
+
+    /// Does nothing. Its contract says what is known of the instrument.
+    pub(crate) fn known(&self)
+        ensures { IsKnown (λ i. I.behaves i) (λ i. I.nature i) self.now }
+    {
+        let _ = &self.inst;
+    }
+
+    pub(crate) fn can_take(&self) -> bool
+        ensures { result ≡ takes_byte self.now.shown }
+    {
+        self.inst.can_take()
+    }
+
+    pub(crate) fn take(&mut self, b: u8, end: bool)
+        requires { takes_byte self.old.shown ≡ true }
+        ensures { HasCall (Took b end) (λ v w. Takes v b end w) self.old self.new }
+    {
+        self.inst.take(b, end);
+        self.calls = self.calls.and(&Done::Took { b, end }, &());
+    }
+
+    pub(crate) fn can_give(&self) -> bool
+        ensures { result ≡ gives_byte self.now.shown }
+    {
+        self.inst.can_give()
+    }
+
+    /// Gives the next byte, and whether END stands on it.
+    pub(crate) fn give(&mut self) -> (u8, bool)
+        requires { gives_byte self.old.shown ≡ true }
+        ensures { HasCall Gave (λ v w. Gives v (record { value = result.0; end = result.1 }) w) self.old self.new }
+    {
+        let given = self.inst.give();
+        self.calls = self.calls.and(&Done::Gave, &());
+        given
+    }
+
+    /// Gives its status byte.
+    pub(crate) fn poll(&mut self) -> u8
+        ensures status { result ≡ status_byte self.old.shown }
+        ensures polled { HasCall Polled IsPolled self.old self.new }
+    {
+        let status = self.inst.poll();
+        self.calls = self.calls.and(&Done::Polled, &());
+        status
+    }
+
+    pub(crate) fn requests(&self) -> bool
+        ensures { result ≡ self.now.shown.rqs }
+    {
+        self.inst.requests()
+    }
+
+    pub(crate) fn clear(&mut self)
+        ensures { HasCall Cleared IsCleared self.old self.new }
+    {
+        self.inst.clear();
+        self.calls = self.calls.and(&Done::Cleared, &());
+    }
+
+    pub(crate) fn trigger(&mut self)
+        ensures { HasCall Triggered IsTriggered self.old self.new }
+    {
+        self.inst.trigger();
+        self.calls = self.calls.and(&Done::Triggered, &());
+    }
+
+    pub(crate) fn local(&mut self)
+        ensures { HasCall ToLocal (λ v w. w ≡ v) self.old self.new }
+    {
+        self.inst.local();
+        self.calls = self.calls.and(&Done::ToLocal, &());
+    }
+
+    pub(crate) fn set_status(&mut self, b: u8)
+        ensures { HasCall (StatusSet b) (λ v w. w ≡ with_status v b) self.old self.new }
+    {
+        self.inst.set_status(b);
+        self.calls = self.calls.and(&Done::StatusSet(b), &());
+    }
+
+    /// Tells it a moment, in milliseconds.
+    pub(crate) fn moment(&mut self, now: u64)
+        ensures { HasCall (Told now) IsTold self.old self.new }
+    {
+        self.inst.moment(now);
+        self.calls = self.calls.and(&Done::Told(now), &());
+    }
+}
