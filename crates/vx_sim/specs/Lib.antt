@@ -17,3 +17,5 @@ pub use Rattle.vx_bus_traits.specs.Steps
 pub use Rattle.vx_bus_traits.specs.Walks
 pub use Rattle.vx_inst.specs.View
 pub use Rattle.vx_table.specs.Table
+pub use Rattle.vx_inst.specs.Behavior
+pub use Rattle.vx_inst.specs.Shared
