@@ -5,6 +5,7 @@ ghost use Rattle.vx_text.specs.Reading.{IsInput};
 ghost use Rattle.vx_text.specs.declared.input.Input.TheVariants.{Whole};
 ghost use Rattle.vx_sim.specs.Means.{first_means};
 ghost use Rattle.vx_bench.specs.Rack.{SpareShown};
+ghost use Rattle.vx_sim.specs.Occupants.{handed_in};
 ghost use Rattle.vx_bench.specs.Spares.{spare_shown};
 ghost use Rattle.vx_words.specs.declared.words.Asked.TheVariants.{Serve};
 ghost use Rattle.vx_words.specs.declared.words.Options.{Options};
@@ -77,10 +78,10 @@ fn bus_of<I: Instrument, K: Sink>(
     sink: &mut K,
 ) -> Result<SimBus<I>, Status>
     ensures fresh { IfOk result (λ bus. bus.means ≡ first_means) }
-    ensures set { IfOk result (λ bus. IsBench text.now (map (spare_shown (λ i. I.view i)) rack.old.items)) }
+    ensures set { IfOk result (λ bus. IsBench text.now (map (spare_shown (handed_in (λ i. I.behaves i) (λ i. I.nature i))) rack.old.items)) }
     ensures silent { IfOk result (λ bus. IsQuiet (record { bytes = K.taken sink.old; faults = K.faults sink.old })
         (record { bytes = K.taken sink.new; faults = K.faults sink.new })) }
-    ensures early { IfErr result (λ how. (o : Options) → Early (EndsBenched text.now (map (spare_shown (λ i. I.view i)) rack.old.items) o)
+    ensures early { IfErr result (λ how. (o : Options) → Early (EndsBenched text.now (map (spare_shown (handed_in (λ i. I.behaves i) (λ i. I.nature i))) rack.old.items) o)
         (record { bytes = K.taken sink.old; faults = K.faults sink.old })
         (record { bytes = K.taken sink.new; faults = K.faults sink.new }) how) }
 {
@@ -104,12 +105,12 @@ pub fn prepare<S: Source, K: Sink, I: Instrument>(
 ) -> Result<(Options, SimBus<I>), Status>
     ensures range { IfOk result (λ r. IsInRange r.0) }
     ensures fresh { IfOk result (λ r. r.1.means ≡ first_means) }
-    ensures ready { IfOk result (λ r. IsReady (map string_bytes words.now) (map (spare_shown (λ i. I.view i)) rack.old.items)
+    ensures ready { IfOk result (λ r. IsReady (map string_bytes words.now) (map (spare_shown (handed_in (λ i. I.behaves i) (λ i. I.nature i))) rack.old.items)
         (record { bytes = S.left bench.old; faults = S.faults bench.old })
         (record { bytes = S.left bench.new; faults = S.faults bench.new }) r.0) }
     ensures silent { IfOk result (λ r. IsQuiet (record { bytes = K.taken sink.old; faults = K.faults sink.old })
         (record { bytes = K.taken sink.new; faults = K.faults sink.new })) }
-    ensures early { IfErr result (λ how. Early (Ends (map string_bytes words.now) (map (spare_shown (λ i. I.view i)) rack.old.items)
+    ensures early { IfErr result (λ how. Early (Ends (map string_bytes words.now) (map (spare_shown (handed_in (λ i. I.behaves i) (λ i. I.nature i))) rack.old.items)
         (record { bytes = S.left bench.old; faults = S.faults bench.old })
         (record { bytes = S.left bench.new; faults = S.faults bench.new }))
         (record { bytes = K.taken sink.old; faults = K.faults sink.old })

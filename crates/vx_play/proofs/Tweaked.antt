@@ -8,13 +8,12 @@ use Rattle.vx_488.specs.declared.transfers.Addr.{Addr}
 use Rattle.vx_488.specs.declared.wire.Wire.{Wire}
 use Rattle.vx_bus_traits.specs.Means.{Means}
 use Rattle.vx_bus_traits.specs.Steps.{Cut}
-use Rattle.vx_inst.specs.View.{View}
 use Rattle.vx_rack.specs.declared.Spare.{Spare}
 use Rattle.vx_table.specs.declared.TableErr.{TableErr}
 use Rattle.vx_table.specs.Table.{Rule, TableState, fresh_table}
 use Rattle.vx_sim.specs.declared.attach.Attach.{Attach}
 use Rattle.vx_sim.specs.declared.attach.Attach.TheVariants.{OwnAddress}
-use Rattle.vx_sim.specs.Occupants.{Occupant, Table, Boxed, Placed}
+use Rattle.vx_sim.specs.Occupants.{Occupant, Table, Boxed, Placed, Seated}
 use Rattle.vx_sim.specs.Bench.{stands_at}
 use Rattle.vx_sim.specs.SimState.{SimState}
 use Rattle.vx_sim.specs.Attaching.{holder, taken_or_full, IsAttached, without_place, IsSet}
@@ -182,31 +181,31 @@ stops-for stage command None ended e told = absurd (cc)
 stops-for stage command (Some why) ended e told =
     subst (λ (t : Stop). StopsFor stage command t) (sym (same_Some ended (stopped.Refused why) told)) e
 
-module _ {I : Type 0} (view : I → View) (name : List ℕ) where
+module _ {I : Type 0} (seat : I → Seated) (name : List ℕ) where
   -- where there is no spare of the name, the step is refused
   pub spare-stops : (stage : Stage) (p : ℕ) (s : Option ℕ) (rack : List (Spare I)) (old now : PlayerState) → None ≡ position (λ (x : Spare I). bytes_eq x.name.bytes name) rack
-      → old ≡ now → Stands now stage → old.rack ≡ map (spare_shown view) rack → refusal stage (Plug p s name) ≡ Some cause.Spare
+      → old ≡ now → Stands now stage → old.rack ≡ map (spare_shown seat) rack → refusal stage (Plug p s name) ≡ Some cause.Spare
   spare-stops stage p s rack old now e seen stands_now shown =
       let stands : Stands old stage = subst (λ (x : PlayerState). Stands x stage) (sym seen) stands_now in
       ap (λ (o : Option SpareShown). spare_refused stage.gateway.bus (address p s) o)
-      (ap (λ (r : List SpareShown). spare_at r name) (sym stands.rack ∙ shown) ∙ spare-missing view name rack e)
+      (ap (λ (r : List SpareShown). spare_at r name) (sym stands.rack ∙ shown) ∙ spare-missing seat name rack e)
 
   -- where the bus refuses it, the step is refused
   pub plug-stops : (stage : Stage) (p : ℕ) (s : Option ℕ) (rack : List (Spare I)) (at_place : ℕ) (spare : Spare I) (place : Addr) (kept : Option I) (why : Attach)
       (ended : Stop) (old now : PlayerState) (after : SimState) → Some at_place ≡ position (λ (x : Spare I). bytes_eq x.name.bytes name) rack → spare ≡ get_or rack at_place spare
-      → place ≡ address p s → kept ≡ Some spare.inst → old ≡ now → Stands now stage → old.rack ≡ map (spare_shown view) rack
-      → ((cut : SimState) × BusGoes old.core.bus (Cut ∷ []) cut × AttachesOne place (option_map (λ i. Boxed (view i)) kept) cut (Some why) after)
+      → place ≡ address p s → kept ≡ Some spare.inst → old ≡ now → Stands now stage → old.rack ≡ map (spare_shown seat) rack
+      → ((cut : SimState) × BusGoes old.core.bus (Cut ∷ []) cut × AttachesOne place (option_map (λ i. Boxed (seat i)) kept) cut (Some why) after)
       → Some ended ≡ option_map (λ k. stopped.Refused k) (cause_of (Some why)) → StopsFor stage (Plug p s name) ended
   plug-stops stage p s rack at_place spare place kept why ended old now after e is place_is kept_is seen stands_now shown changes told =
       let stands : Stands old stage = subst (λ (x : PlayerState). Stands x stage) (sym seen) stands_now in
       let cut : SimState = changes.0 in
       let a : Addr = address p s in
       let through : BusGoes stage.gateway.bus (Cut ∷ []) cut = subst (λ (g : Gateway). BusGoes g.bus (Cut ∷ []) cut) stands.gateway changes.1 in
-      let came : AttachChanges a (Boxed (view spare.inst)) cut (Some why) after =
-      attached a place (Boxed (view spare.inst)) (option_map (λ i. Boxed (view i)) kept) cut after (Some why) place_is
-      (ap (λ (o : Option I). option_map (λ i. Boxed (view i)) o) kept_is) changes.2 in
-      let here : spare_at stage.rack name ≡ Some (spare_shown view spare) =
-      ap (λ (r : List SpareShown). spare_at r name) (sym stands.rack ∙ shown) ∙ spare-found view name rack at_place spare e is in
+      let came : AttachChanges a (Boxed (seat spare.inst)) cut (Some why) after =
+      attached a place (Boxed (seat spare.inst)) (option_map (λ i. Boxed (seat i)) kept) cut after (Some why) place_is
+      (ap (λ (o : Option I). option_map (λ i. Boxed (seat i)) o) kept_is) changes.2 in
+      let here : spare_at stage.rack name ≡ Some (spare_shown seat spare) =
+      ap (λ (r : List SpareShown). spare_at r name) (sym stands.rack ∙ shown) ∙ spare-found seat name rack at_place spare e is in
       stops-for stage (Plug p s name) (cause_of (Some why)) ended
       (ap (λ (o : Option SpareShown). spare_refused stage.gateway.bus a o) here
       ∙ ap (λ (o : Option Attach). cause_of o) (sym (cut-refusal stage.gateway.bus cut a (cut-same stage.gateway.bus cut through)) ∙ came.0))
@@ -215,20 +214,20 @@ module _ {I : Type 0} (view : I → View) (name : List ℕ) where
   pub plug-takes : (stage : Stage) (p : ℕ) (s : Option ℕ) (rack rest : List (Spare I)) (at_place : ℕ) (spare : Spare I) (place : Addr) (kept : Option I)
       (old now : PlayerState) (core : CoreState SimState) → Some at_place ≡ position (λ (x : Spare I). bytes_eq x.name.bytes name) rack → spare ≡ get_or rack at_place spare
       → rest ≡ take at_place rack ++ drop (suc at_place) rack → place ≡ address p s → kept ≡ Some spare.inst → old ≡ now → Stands now stage
-      → old.rack ≡ map (spare_shown view) rack → core.fine ≡ old.core.fine
-      → ((cut : SimState) × BusGoes old.core.bus (Cut ∷ []) cut × AttachesOne place (option_map (λ i. Boxed (view i)) kept) cut None core.bus)
-      → TakesTo stage (Plug p s name) [] None (record old { core = core; rack = map (spare_shown view) rest })
+      → old.rack ≡ map (spare_shown seat) rack → core.fine ≡ old.core.fine
+      → ((cut : SimState) × BusGoes old.core.bus (Cut ∷ []) cut × AttachesOne place (option_map (λ i. Boxed (seat i)) kept) cut None core.bus)
+      → TakesTo stage (Plug p s name) [] None (record old { core = core; rack = map (spare_shown seat) rest })
   plug-takes stage p s rack rest at_place spare place kept old now core e is rest_is place_is kept_is seen stands shown fine_kept changes =
       let cut : SimState = changes.0 in
       let a : Addr = address p s in
-      let came : AttachChanges a (Boxed (view spare.inst)) cut None core.bus =
-      attached a place (Boxed (view spare.inst)) (option_map (λ i. Boxed (view i)) kept) cut core.bus None place_is
-      (ap (λ (o : Option I). option_map (λ i. Boxed (view i)) o) kept_is) changes.2 in
-      let rack_is : map (spare_shown view) rest ≡ rack_after old.rack (Plug p s name) =
-      rack-left view name rack rest at_place e rest_is ∙ ap (λ (r : List SpareShown). rack_after r (Plug p s name)) (sym shown) in
-      let there : spare_at old.rack name ≡ Some (spare_shown view spare) =
-      ap (λ (r : List SpareShown). spare_at r name) shown ∙ spare-found view name rack at_place spare e is in
-      tweak-takes stage (Plug p s name) (IsAttached a (Boxed (view spare.inst))) old now core (map (spare_shown view) rest) cut seen stands fine_kept changes.1 came.1 rack_is
+      let came : AttachChanges a (Boxed (seat spare.inst)) cut None core.bus =
+      attached a place (Boxed (seat spare.inst)) (option_map (λ i. Boxed (seat i)) kept) cut core.bus None place_is
+      (ap (λ (o : Option I). option_map (λ i. Boxed (seat i)) o) kept_is) changes.2 in
+      let rack_is : map (spare_shown seat) rest ≡ rack_after old.rack (Plug p s name) =
+      rack-left seat name rack rest at_place e rest_is ∙ ap (λ (r : List SpareShown). rack_after r (Plug p s name)) (sym shown) in
+      let there : spare_at old.rack name ≡ Some (spare_shown seat spare) =
+      ap (λ (r : List SpareShown). spare_at r name) shown ∙ spare-found seat name rack at_place spare e is in
+      tweak-takes stage (Plug p s name) (IsAttached a (Boxed (seat spare.inst))) old now core (map (spare_shown seat) rest) cut seen stands fine_kept changes.1 came.1 rack_is
       (λ same known.
       ap (λ (o : Option SpareShown). spare_refused stage.gateway.bus a o) (ap (λ (r : List SpareShown). spare_at r name) known ∙ there)
       ∙ attach-allowed stage.gateway.bus cut a came.0 same)

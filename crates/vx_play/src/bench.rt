@@ -75,12 +75,12 @@ impl<I: Instrument> AttachSpare<I> {
 
 impl<I: Instrument> Tweak<SimBus<I>> for AttachSpare<I> {
     ghost use Rattle.std.specs.Prelude.{option_map};
-    ghost use Rattle.vx_sim.specs.Occupants.{Boxed};
+    ghost use Rattle.vx_sim.specs.Occupants.{Boxed, handed_in};
     ghost use Rattle.vx_play.specs.Tweaking.{AttachesOne};
 
     type Answer = Option<Attach>;
 
-    ghost changes = { λ act old answer after new. AttachesOne act.at (option_map (λ i. Boxed (I.view i)) act.inst) old answer new };
+    ghost changes = { λ act old answer after new. AttachesOne act.at (option_map (λ i. Boxed (handed_in (λ j. I.behaves j) (λ j. I.nature j) i)) act.inst) old answer new };
 
     fn apply(&mut self, bus: &mut SimBus<I>) -> Option<Attach> {
         match self.inst.take() {

@@ -13,6 +13,7 @@ ghost use Rattle.vx_play.specs.Stage.{Stage, beginning, beginning_over};
 ghost use Rattle.vx_bench.specs.Rack.{SpareShown};
 ghost use Rattle.vx_bench.specs.Refusing.{cause_of};
 ghost use Rattle.vx_play.specs.PlayerState.{PlayerState, incoming_at};
+ghost use Rattle.vx_sim.specs.Occupants.{handed_in};
 ghost use Rattle.vx_bench.specs.Spares.{spare_shown};
 ghost use Rattle.vx_play.specs.Standing.{IsReady, Stands, IsPrintable, TakesTo, StopsFor, made_lines};
 
@@ -53,6 +54,7 @@ impl<I: Instrument> Model for Player<I> {
     ghost use Rattle.std.specs.Prelude.{◌≡◌, length, map};
     ghost use Rattle.vx_message.specs.declared.record.TheConstants.{REPLY_ROOM};
     ghost use Rattle.vx_play.specs.PlayerState.{PlayerState};
+    ghost use Rattle.vx_sim.specs.Occupants.{handed_in};
     ghost use Rattle.vx_bench.specs.Spares.{spare_shown};
 
     ghost Value = { PlayerState };
@@ -61,7 +63,7 @@ impl<I: Instrument> Model for Player<I> {
       core = p.core;
       incoming = p.incoming.entries;
       reply = p.reply.items;
-      rack = map (spare_shown (λ i. I.view i)) p.rack.items;
+      rack = map (spare_shown (handed_in (λ i. I.behaves i) (λ i. I.nature i))) p.rack.items;
       moment = p.moment;
     } };
 
@@ -71,7 +73,7 @@ impl<I: Instrument> Model for Player<I> {
 impl<I: Instrument> Player<I> {
     /// A player of a gateway with nothing in it, over a bus with nothing on it, and with these spare instruments.
     pub fn new(alloc: Global, rack: Vec<Spare<I>>) -> Result<Player<I>, AllocError>
-        ensures { IfOk result (λ p. Stands p (beginning (map (spare_shown (λ i. I.view i)) rack.items))) }
+        ensures { IfOk result (λ p. Stands p (beginning (map (spare_shown (handed_in (λ i. I.behaves i) (λ i. I.nature i))) rack.items))) }
     {
         let Ok(bus) = SimBus::new(alloc) else {
             return Err(AllocError);
@@ -94,7 +96,7 @@ impl<I: Instrument> Player<I> {
     ) -> Result<Player<I>, Core<SimBus<I>>>
         requires unconnected { core.fine.state.tables.connections ≡ [] }
         requires early { core.fine.state.moment ≡ 0 }
-        ensures ok { IfOk result (λ p. Stands p (beginning_over (gateway_of core) (map (spare_shown (λ i. I.view i)) rack.items))) }
+        ensures ok { IfOk result (λ p. Stands p (beginning_over (gateway_of core) (map (spare_shown (handed_in (λ i. I.behaves i) (λ i. I.nature i))) rack.items))) }
         ensures err { IfErr result (λ back. back ≡ core) }
     {
         let Ok(reply) = zeros(alloc, REPLY_ROOM) else {

@@ -6,6 +6,7 @@ ghost use Rattle.vx_trace.specs.Text.{line_text};
 ghost use Rattle.vx_script.specs.Grammar.{reading};
 ghost use Rattle.vx_play.specs.Stage.{Stage, beginning};
 ghost use Rattle.vx_bench.specs.Rack.{SpareShown};
+ghost use Rattle.vx_sim.specs.Occupants.{handed_in};
 ghost use Rattle.vx_bench.specs.Spares.{spare_shown};
 ghost use Rattle.vx_text.specs.Writing.{IsPut};
 ghost use Rattle.vx_play.specs.Standing.{IsReady, Stands, IsPrintable, NoteWithin, made_lines, moves_lines, note_line as line_of_note, wait_line as line_of_wait, gone_line as line_of_end};
@@ -296,7 +297,7 @@ fn play_script<I: Instrument, K: Sink>(
     sink: &mut K,
     rack: Vec<Spare<I>>,
 ) -> Status
-    ensures ended { EndsScript script.now (map (spare_shown (λ i. I.view i)) rack.items)
+    ensures ended { EndsScript script.now (map (spare_shown (handed_in (λ i. I.behaves i) (λ i. I.nature i))) rack.items)
         (record { bytes = K.taken sink.old; faults = K.faults sink.old })
         (record { bytes = K.taken sink.new; faults = K.faults sink.new }) result }
 {
@@ -324,7 +325,7 @@ fn play<S: Source, K: Sink, I: Instrument>(
     sink: &mut K,
     rack: Vec<Spare<I>>,
 ) -> Status
-    ensures outcome { IsOutcome (map string_bytes words.now) (map (spare_shown (λ i. I.view i)) rack.items) (record {
+    ensures outcome { IsOutcome (map string_bytes words.now) (map (spare_shown (handed_in (λ i. I.behaves i) (λ i. I.nature i))) rack.items) (record {
       source = record { bytes = S.left source.old; faults = S.faults source.old };
       source_after = record { bytes = S.left source.new; faults = S.faults source.new };
       sink = record { bytes = K.taken sink.old; faults = K.faults sink.old };
@@ -364,7 +365,7 @@ pub fn play_run<S: Source, K: Sink, I: Instrument>(
     sink: &mut K,
     rack: Vec<Spare<I>>,
 ) -> u8
-    ensures outcome { EndsSo (map string_bytes words.now) (map (spare_shown (λ i. I.view i)) rack.items) (record {
+    ensures outcome { EndsSo (map string_bytes words.now) (map (spare_shown (handed_in (λ i. I.behaves i) (λ i. I.nature i))) rack.items) (record {
       source = record { bytes = S.left source.old; faults = S.faults source.old };
       source_after = record { bytes = S.left source.new; faults = S.faults source.new };
       sink = record { bytes = K.taken sink.old; faults = K.faults sink.old };
@@ -372,7 +373,7 @@ pub fn play_run<S: Source, K: Sink, I: Instrument>(
     }) result }
 
     // A script that the source tells is played whole, or memory is wanting, where neither the source nor the sink fails.
-    ensures complete { Completes (map string_bytes words.now) (map (spare_shown (λ i. I.view i)) rack.items) (record {
+    ensures complete { Completes (map string_bytes words.now) (map (spare_shown (handed_in (λ i. I.behaves i) (λ i. I.nature i))) rack.items) (record {
       source = record { bytes = S.left source.old; faults = S.faults source.old };
       source_after = record { bytes = S.left source.new; faults = S.faults source.new };
       sink = record { bytes = K.taken sink.old; faults = K.faults sink.old };

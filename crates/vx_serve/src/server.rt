@@ -4,6 +4,7 @@ ghost use Rattle.vx_sim.specs.Means.{first_means};
 ghost use Rattle.vx_gate.specs.Gates.{gate_of};
 ghost use Rattle.vx_words.specs.Meant.{IsInRange};
 ghost use Rattle.vx_ending.specs.Spares.{spare_shown};
+ghost use Rattle.vx_sim.specs.Occupants.{handed_in};
 ghost use Rattle.vx_ending.specs.Running.{EndsRun, LinksEnd, LinksServed, net_shown};
 ghost use Rattle.vx_ending.specs.Outcome.{Ends, EndsSo};
 
@@ -207,7 +208,7 @@ where
     N::Port: Drop,
     Peer<N>: Drop,
     <X::S as Streams>::Peer: Drop,
-    ensures { Ends (map string_bytes words.now) (map (spare_shown (λ i. I.view i)) rack.items) (record { bytes = S.left bench.old; faults = S.faults bench.old }) (record { bytes = S.left bench.new; faults = S.faults bench.new })
+    ensures { Ends (map string_bytes words.now) (map (spare_shown (handed_in (λ i. I.behaves i) (λ i. I.nature i))) rack.items) (record { bytes = S.left bench.old; faults = S.faults bench.old }) (record { bytes = S.left bench.new; faults = S.faults bench.new })
         (record { ports = record { net = net_shown N.faults N.given N.ended net.old; sink = record { bytes = K.taken sink.old; faults = K.faults sink.old } }; refused = W.faults spawner.old })
         (record { ports = record { net = net_shown N.faults N.given N.ended net.new; sink = record { bytes = K.taken sink.new; faults = K.faults sink.new } }; refused = W.faults spawner.new })
         result.tally result.status }
@@ -262,7 +263,7 @@ where
     N::Port: Drop,
     Peer<N>: Drop,
     <X::S as Streams>::Peer: Drop,
-    ensures outcome { EndsSo (map string_bytes words.now) (map (spare_shown (λ i. I.view i)) rack.items) (record { bytes = S.left bench.old; faults = S.faults bench.old }) (record { bytes = S.left bench.new; faults = S.faults bench.new })
+    ensures outcome { EndsSo (map string_bytes words.now) (map (spare_shown (handed_in (λ i. I.behaves i) (λ i. I.nature i))) rack.items) (record { bytes = S.left bench.old; faults = S.faults bench.old }) (record { bytes = S.left bench.new; faults = S.faults bench.new })
         (record { ports = record { net = net_shown N.faults N.given N.ended net.old; sink = record { bytes = K.taken sink.old; faults = K.faults sink.old } }; refused = W.faults spawner.old })
         (record { ports = record { net = net_shown N.faults N.given N.ended net.new; sink = record { bytes = K.taken sink.new; faults = K.faults sink.new } }; refused = W.faults spawner.new })
         result.1 result.0 }

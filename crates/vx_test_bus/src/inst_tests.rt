@@ -1,6 +1,8 @@
 //! Instruments in boxes and of any kind, and what one is made of.
 
-ghost use Rattle.std.specs.Prelude.{◌≡◌, true};
+ghost use Rattle.std.specs.Prelude.{◌≡◌, true, []};
+ghost use Rattle.vx_inst.specs.declared.done.Done.TheVariants.{Took};
+ghost use Rattle.vx_inst.specs.Behavior.{after};
 ghost use Rattle.vx_inst.specs.Laws.{takes_byte, Takes, status_byte, IsPolled, IsSound, IsStatus};
 
 use crate::rows::compare;
@@ -20,8 +22,9 @@ struct Latch {
 impl Instrument for Latch {
     ghost use Rattle.std.specs.Prelude.{true, map, is_none};
     ghost use Rattle.std.specs.Option.{option_to_list};
+    ghost use Rattle.vx_test_bus.specs.Toys.{latch_behavior};
 
-    ghost view = { λ latch. record { inbox = option_to_list latch.taken; out = map (λ b. record { value = b; end = true }) (option_to_list latch.given); stb = latch.stb; rqs = latch.asks; ready = is_none latch.taken } };
+    ghost behaves = { λ latch. latch_behavior (record { inbox = option_to_list latch.taken; out = map (λ b. record { value = b; end = true }) (option_to_list latch.given); stb = latch.stb; rqs = latch.asks; ready = is_none latch.taken }) };
 
     fn can_take(&self) -> bool {
         self.taken.is_none()
@@ -80,9 +83,9 @@ struct Placed {
 
 /// Hands a byte to a boxed instrument, where it can take one.
 fn offer(placed: &mut Placed, b: u8, end: bool) -> bool
-    ensures can { result ≡ takes_byte (view placed.old.inst) }
-    ensures takes { result ≡ true → Takes (view placed.old.inst) b end (view placed.new.inst) }
-    ensures sound { IsSound (view placed.new.inst) }
+    ensures can { result ≡ takes_byte (behaves placed.old.inst []) }
+    ensures takes { result ≡ true → Takes (behaves placed.old.inst []) b end (behaves placed.new.inst []) }
+    ensures sound { IsSound (behaves placed.new.inst []) }
     ensures stays { placed.new.at ≡ placed.old.at }
 {
     let can = placed.inst.can_take();
@@ -94,8 +97,8 @@ fn offer(placed: &mut Placed, b: u8, end: bool) -> bool
 
 /// Asks a boxed instrument for its status byte.
 fn ask(placed: &mut Placed) -> u8
-    ensures status { result ≡ status_byte (view placed.old.inst) }
-    ensures polled { IsPolled (view placed.old.inst) (view placed.new.inst) }
+    ensures status { result ≡ status_byte (behaves placed.old.inst []) }
+    ensures polled { IsPolled (behaves placed.old.inst []) (behaves placed.new.inst []) }
 {
     placed.inst.poll()
 }
@@ -220,8 +223,9 @@ fn body(rt: HostRuntime) -> Result<(), Fail> {
 
 /// Hands a byte to an instrument of any kind, where it can take one.
 fn hand<I: Instrument>(inst: &mut I, b: u8, end: bool) -> bool
-    ensures can { result ≡ takes_byte (I.view inst.old) }
-    ensures takes { result ≡ true → Takes (I.view inst.old) b end (I.view inst.new) }
+    ensures can { result ≡ takes_byte (I.behaves inst.old []) }
+    ensures takes { result ≡ true → Takes (I.behaves inst.old []) b end (I.behaves inst.new []) }
+    ensures does { result ≡ true → I.behaves inst.new ≡ after (Took b end) (I.behaves inst.old) }
 {
     let can = inst.can_take();
     if can {
@@ -230,10 +234,11 @@ fn hand<I: Instrument>(inst: &mut I, b: u8, end: bool) -> bool
     can
 }
 
-/// The same of a box: it is seen as the instrument inside.
+/// The same of a box: it behaves as the instrument inside.
 fn hand_boxed(inst: &mut Box<dyn Instrument + Send>, b: u8, end: bool) -> bool
-    ensures can { result ≡ takes_byte (view inst.old) }
-    ensures takes { result ≡ true → Takes (view inst.old) b end (view inst.new) }
+    ensures can { result ≡ takes_byte (behaves inst.old []) }
+    ensures takes { result ≡ true → Takes (behaves inst.old []) b end (behaves inst.new []) }
+    ensures does { result ≡ true → behaves inst.new ≡ after (Took b end) (behaves inst.old) }
 {
     hand(inst, b, end)
 }

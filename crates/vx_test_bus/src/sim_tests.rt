@@ -29,7 +29,9 @@ struct Toy {
 const ASKING: u8 = 80;
 
 impl Instrument for Toy {
-    ghost view = { λ t. record t.body { ready = t.ready } };
+    ghost use Rattle.vx_test_bus.specs.Toys.{toy_behavior};
+
+    ghost behaves = { λ t. toy_behavior (record { seen = record t.body { ready = t.ready }; slow = t.slow; told = t.told }) };
 
     fn can_take(&self) -> bool {
         self.body.can_take() && self.ready

@@ -2,7 +2,7 @@
 use vx_inst::Instrument;
 use vx_rack::{Asker, Echo, Meter, Slow};
 
-/// An instrument of any of the four models. It stands in for a box round one: a work that holds boxes can't be handed to a
+/// An instrument of any of the four models, which behaves as that one does. It stands in for a box round one: a work that holds boxes can't be handed to a
 /// thread, since the checker doesn't cover its type.
 #[derive(Drop)]
 pub enum AnyModel {
@@ -13,9 +13,11 @@ pub enum AnyModel {
 }
 
 impl Instrument for AnyModel {
-    ghost use Rattle.vxgate.specs.Models.{view_of};
+    ghost use Rattle.vxgate.specs.Models.{behavior_of, nature_of};
 
-    ghost view = { view_of };
+    ghost behaves = { behavior_of };
+
+    ghost nature = { nature_of };
 
     fn can_take(&self) -> bool {
         match self {

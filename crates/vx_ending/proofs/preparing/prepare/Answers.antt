@@ -2,6 +2,7 @@ use Rattle.std.proofs.Common.{◌∙◌, map, string_bytes, subst}
 use Rattle.std.proofs.lemmas.Result.{err_from_is_err_and}
 use Rattle.vx_text.specs.Ends.{End}
 use Rattle.vx_text.specs.declared.input.Input.TheVariants as input
+use Rattle.vx_sim.specs.Occupants.{handed_in}
 use Rattle.vx_bench.specs.Spares.{spare_shown}
 use Rattle.vx_ending.specs.Outcome.{Ends, EndsBenched}
 use Rattle.vx_ending.specs.Preparing.{Early, IsBench}
@@ -11,7 +12,7 @@ use Rattle.vx_ending.proofs.preparing.prepare.Goals as goal
 pub returns-in_err-text-clause-early : goal.returns-in_err-text-clause-early
 returns-in_err-text-clause-early g c =
     let words = map string_bytes c.args.words.now in
-    let rack = map (spare_shown (λ i. g.I.Instrument.view i)) c.args.rack.now.items in
+    let rack = map (spare_shown (handed_in (λ i. g.I.Instrument.behaves i) (λ i. g.I.Instrument.nature i))) c.args.rack.now.items in
     let source : End = record { bytes = g.S.Source.left c.args.bench.now; faults = g.S.Source.faults c.args.bench.now } in
     let source' : End = record { bytes = g.S.Source.left c.bench_of.new.bench; faults = g.S.Source.faults c.bench_of.new.bench } in
     let sink : End = record { bytes = g.K.Sink.taken c.options_of.new.sink; faults = g.K.Sink.faults c.options_of.new.sink } in
@@ -26,7 +27,7 @@ returns-in_err-text-clause-early g c =
 pub returns-in_err-bus-clause-early : goal.returns-in_err-bus-clause-early
 returns-in_err-bus-clause-early g c =
     let words = map string_bytes c.args.words.now in
-    let rack = map (spare_shown (λ i. g.I.Instrument.view i)) c.args.rack.now.items in
+    let rack = map (spare_shown (handed_in (λ i. g.I.Instrument.behaves i) (λ i. g.I.Instrument.nature i))) c.args.rack.now.items in
     let source : End = record { bytes = g.S.Source.left c.args.bench.now; faults = g.S.Source.faults c.args.bench.now } in
     let source' : End = record { bytes = g.S.Source.left c.bench_of.new.bench; faults = g.S.Source.faults c.bench_of.new.bench } in
     let sink : End = record { bytes = g.K.Sink.taken c.bench_of.new.sink; faults = g.K.Sink.faults c.bench_of.new.sink } in
@@ -47,5 +48,5 @@ returns-clause-ready g c = record {
   given = input.Whole c.in_ok-text.text;
   reads = c.in_ok-text.ensures.read;
   bench =
-      subst (λ text. IsBench text (map (spare_shown (λ i. g.I.Instrument.view i)) c.args.rack.now.items)) c.deref.ensures.value c.in_ok-bus.ensures.set;
+      subst (λ text. IsBench text (map (spare_shown (handed_in (λ i. g.I.Instrument.behaves i) (λ i. g.I.Instrument.nature i))) c.args.rack.now.items)) c.deref.ensures.value c.in_ok-bus.ensures.set;
 }

@@ -1,6 +1,7 @@
 use Rattle.std.proofs.Common.{map, string_bytes, subst, sym}
 use Rattle.vx_ending.specs.Ends.{End}
 use Rattle.vx_ending.specs.Spares.{spare_shown}
+use Rattle.vx_sim.specs.Occupants.{handed_in}
 use Rattle.vx_ending.specs.Outcome.{Ends, Outside}
 use Rattle.vx_ending.specs.Running.{EndsRun, net_shown}
 use Rattle.vx_ending.proofs.Written.{ready}
@@ -18,7 +19,7 @@ returns-in-Ok g c =
       };
       refused = g.W.Spawner.faults c.serve_bus.new.spawner;
     } in
-    ready (map string_bytes c.args.words.now) (map (spare_shown (λ i. g.I.Instrument.view i)) c.args.rack.items)
+    ready (map string_bytes c.args.words.now) (map (spare_shown (handed_in (λ i. g.I.Instrument.behaves i) (λ i. g.I.Instrument.nature i))) c.args.rack.items)
     (record { bytes = g.S.Source.left c.args.bench.now; faults = g.S.Source.faults c.args.bench.now })
     (record { bytes = g.S.Source.left c.prepare-prepared.new.bench; faults = g.S.Source.faults c.prepare-prepared.new.bench }) c.in-Ok.options
     (record { ports = record { net = net; sink = first }; refused = refused }) after c.serve_bus.result.tally c.serve_bus.result.status
@@ -32,7 +33,7 @@ returns-in-Err g c =
     let net = net_shown g.N.Net.faults g.N.Net.given g.N.Net.ended c.args.net.now in
     let refused = g.W.Spawner.faults c.args.spawner.now in
     subst
-    (λ how. Ends (map string_bytes c.args.words.now) (map (spare_shown (λ i. g.I.Instrument.view i)) c.args.rack.items)
+    (λ how. Ends (map string_bytes c.args.words.now) (map (spare_shown (handed_in (λ i. g.I.Instrument.behaves i) (λ i. g.I.Instrument.nature i))) c.args.rack.items)
     (record { bytes = g.S.Source.left c.args.bench.now; faults = g.S.Source.faults c.args.bench.now })
     (record { bytes = g.S.Source.left c.prepare-prepared.new.bench; faults = g.S.Source.faults c.prepare-prepared.new.bench })
     (record {
