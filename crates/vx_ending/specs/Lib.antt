@@ -16,3 +16,4 @@ pub use Rattle.vx_bench.specs.Rack
 pub use Rattle.vx_bench.specs.SettingUp
 pub use Rattle.vx_bench.specs.Spares
 pub use Rattle.vx_words.specs.Meant
+pub use Rattle.vx_sim.specs.Occupants

@@ -7,3 +7,4 @@ pub use Rattle.vx_words.specs.Meant
 pub use Rattle.vx_ending.specs.Outcome
 pub use Rattle.vx_ending.specs.Running
 pub use Rattle.vx_ending.specs.Spares
+pub use Rattle.vx_sim.specs.Occupants
