@@ -1,19 +1,20 @@
 -- A play that nothing disturbs is written whole.
-use Rattle.std.proofs.Common.{◌≡◌, ℕ, ◌≤◌, ◌<◌, List, ◌++◌, length, Option, Some, None, IfSome, ap, sym, subst, ◌∙◌, inl, inr, arith, length-append}
+use Rattle.std.proofs.Common.{◌≡◌, ℕ, ◌+◌, ◌≤◌, ◌<◌, List, [], ◌++◌, length, Option, Some, None, IfSome, ap, sym, subst, ◌∙◌, inl, inr, arith, length-append}
 use Rattle.std.proofs.lemmas.Bool.{false≢true}
 use Rattle.std.specs.Io.KnownBytes.{Appends, Consumes}
+use Rattle.std.proofs.KnownBytes.{Consumes-nil}
 use Rattle.vx_io_traits.specs.Faults.{Rose}
 use Rattle.vx_play.specs.declared.run.TheConstants.{SCRIPT_MAX}
 use Rattle.vx_play.specs.declared.run.Status.{Status}
 use Rattle.vx_play.specs.declared.run.Status.TheVariants as status
 use Rattle.vx_text.specs.Ends.{End}
-use Rattle.vx_text.specs.Reading.{GivesAll}
+use Rattle.vx_text.specs.Reading.{GivesAll, GivesTooMuch, GivesUpTo}
 use Rattle.vx_play.specs.Item.{Item, Fault, text, last_line}
 use Rattle.vx_bench.specs.Rack.{SpareShown}
 use Rattle.vx_play.specs.Play.{IsPlay}
 use Rattle.vx_play.specs.Ended as ended
 use Rattle.vx_play.specs.Ended.{EndsScript}
-use Rattle.vx_play.specs.Outcome.{Ends, IsOutcome, status_number}
+use Rattle.vx_play.specs.Outcome.{Ends, IsUnread, IsOutcome, status_number}
 use Rattle.vx_play.specs.Laws.{WritesWhole, Completes, whole_status}
 
 -- a source that tells a script gave it
@@ -60,3 +61,29 @@ completes words rack ends status.TooLong number is out t calm =
     let above : SCRIPT_MAX < length out.0.bytes = much.above in
     let within : length t ≤ SCRIPT_MAX = calm.within in
     absurd (omega arith)
+
+-- a source that isn't read gives nothing
+unread : (words : List (List ℕ)) (ends : Ends) (limit : ℕ) → IsUnread words ends → GivesUpTo limit ends.source ends.source_after
+unread words ends limit u =
+    subst (GivesUpTo limit ends.source) (sym u.unread) (record { bytes = []; given = Consumes-nil ends.source.bytes; within = omega arith })
+
+-- a source that is read whole gives no more than it may, and one that is too long one byte more
+whole : (most : ℕ) (before after : End) (bytes : List ℕ) → GivesAll most before after bytes → GivesUpTo (most + 1) before after
+whole most before after bytes g = record { bytes = bytes; given = g.given; within = (let w = g.within in omega arith) }
+
+above : (most : ℕ) (before after : End) (bytes : List ℕ) → GivesTooMuch most before after bytes → GivesUpTo (most + 1) before after
+above most before after bytes g = record { bytes = bytes; given = g.given; within = g.within }
+
+-- however a play ends, no more than one byte above the longest script is read
+pub reads-bounded : (words : List (List ℕ)) (rack : List SpareShown) (ends : Ends) (how : Status) → IsOutcome words rack ends how
+    → GivesUpTo (SCRIPT_MAX + 1) ends.source ends.source_after
+reads-bounded words rack ends status.Done out = whole SCRIPT_MAX _ _ out.bytes out.read
+reads-bounded words rack ends status.Usage out = unread words ends _ out.0
+reads-bounded words rack ends status.SourceFailed out = out.0.read
+reads-bounded words rack ends status.Fault out = whole SCRIPT_MAX _ _ out.bytes out.read
+reads-bounded words rack ends status.SinkFailed (inl out) = unread words ends _ out.0
+reads-bounded words rack ends status.SinkFailed (inr (inl out)) = above SCRIPT_MAX _ _ out.0.bytes out.0.read
+reads-bounded words rack ends status.SinkFailed (inr (inr out)) = whole SCRIPT_MAX _ _ out.bytes out.read
+reads-bounded words rack ends status.NoMemory (inl out) = out.read
+reads-bounded words rack ends status.NoMemory (inr out) = whole SCRIPT_MAX _ _ out.bytes out.read
+reads-bounded words rack ends status.TooLong out = above SCRIPT_MAX _ _ out.0.bytes out.0.read

@@ -1,5 +1,5 @@
 -- How a play of a whole source ends: for each status, what was read, what was written, and why.
-use Rattle.std.specs.Prelude.{◌≡◌, ℕ, Bool, true, false, List, [], ◌∷◌, codes, ◌⊎◌}
+use Rattle.std.specs.Prelude.{◌≡◌, ℕ, ◌+◌, Bool, true, false, List, [], ◌∷◌, codes, ◌⊎◌}
 use Rattle.std.specs.Str.{bytes_eq}
 use Rattle.std.specs.Io.KnownBytes.{Appends}
 use Rattle.vx_io_traits.specs.Faults.{Rose}
@@ -9,7 +9,7 @@ use Rattle.vx_play.specs.declared.run.TheConstants.{SCRIPT_MAX}
 use Rattle.vx_play.specs.declared.run.Status.{Status}
 use Rattle.vx_play.specs.declared.run.Status.TheVariants as status
 use Rattle.vx_text.specs.Ends.{End}
-use Rattle.vx_text.specs.Reading.{GivesAll, GivesTooMuch}
+use Rattle.vx_text.specs.Reading.{GivesAll, GivesTooMuch, GivesUpTo}
 use Rattle.vx_text.specs.Writing.{StopsIn}
 use Rattle.vx_bench.specs.Rack.{SpareShown}
 use Rattle.vx_play.specs.Ended.{EndsScript}
@@ -54,6 +54,12 @@ pub record ReadsTooMuch (words : List (List ℕ)) (ends : Ends) : Type 0 where
   pub bytes : List ℕ
   pub read : GivesTooMuch SCRIPT_MAX ends.source ends.source_after bytes
 
+-- the source gave no more than one byte above the longest script, and nothing was written
+pub record ReadsAtMost (words : List (List ℕ)) (ends : Ends) : Type 0 where
+  pub command : is_command words ≡ true
+  pub read : GivesUpTo (SCRIPT_MAX + 1) ends.source ends.source_after
+  pub unwritten : ends.sink_after ≡ ends.sink
+
 -- the source gave a script, and its play ended so
 pub record PlaysScript (words : List (List ℕ)) (rack : List SpareShown) (ends : Ends) (how : Status) : Type 0 where
   pub command : is_command words ≡ true
@@ -68,8 +74,7 @@ IsOutcome words rack ends status.Done = PlaysScript words rack ends status.Done
 -- the words aren't a command: the source is as it was, and the usage line was written
 IsOutcome words rack ends status.Usage = IsUnread words ends × Appends ends.sink.bytes ends.sink_after.bytes usage_line
 -- the source failed: nothing was written
-IsOutcome words rack ends status.SourceFailed =
-    (is_command words ≡ true) × Rose ends.source.faults ends.source_after.faults × (ends.sink_after ≡ ends.sink)
+IsOutcome words rack ends status.SourceFailed = ReadsAtMost words ends × Rose ends.source.faults ends.source_after.faults
 -- the script was played to its first fault: the text of the steps before it, and the line of the fault, were written
 IsOutcome words rack ends status.Fault = PlaysScript words rack ends status.Fault
 -- the sink failed: a front of the usage line was written, of the line of a script that is too long, or of what the play is due
@@ -78,8 +83,7 @@ IsOutcome words rack ends status.SinkFailed =
     ⊎ (ReadsTooMuch words ends × StopsIn ends.sink ends.sink_after long_line)
     ⊎ PlaysScript words rack ends status.SinkFailed
 -- memory ran out: as the source was read, with nothing written; or in the play
-IsOutcome words rack ends status.NoMemory =
-    ((is_command words ≡ true) × (ends.sink_after ≡ ends.sink)) ⊎ PlaysScript words rack ends status.NoMemory
+IsOutcome words rack ends status.NoMemory = ReadsAtMost words ends ⊎ PlaysScript words rack ends status.NoMemory
 -- the source has more bytes than a script may have: the line that says so was written
 IsOutcome words rack ends status.TooLong = ReadsTooMuch words ends × Appends ends.sink.bytes ends.sink_after.bytes long_line
 

@@ -1,5 +1,5 @@
 //! A whole play: the words, the source read to its end, its lines one after the other, and the last line.
-ghost use Rattle.std.specs.Prelude.{◌≡◌, ℕ, ◌≤◌, List, length, map, option_map, string_bytes};
+ghost use Rattle.std.specs.Prelude.{◌≡◌, ℕ, ◌+◌, ◌≤◌, List, length, map, option_map, string_bytes};
 ghost use Rattle.std.specs.List.{flat_map};
 ghost use Rattle.vx_trace.specs.Output.{line_shown};
 ghost use Rattle.vx_trace.specs.Text.{line_text};
@@ -8,6 +8,7 @@ ghost use Rattle.vx_play.specs.Stage.{Stage, beginning};
 ghost use Rattle.vx_bench.specs.Rack.{SpareShown};
 ghost use Rattle.vx_sim.specs.Occupants.{handed_in};
 ghost use Rattle.vx_bench.specs.Spares.{spare_shown};
+ghost use Rattle.vx_text.specs.Reading.{GivesUpTo};
 ghost use Rattle.vx_text.specs.Writing.{IsPut};
 ghost use Rattle.vx_play.specs.Standing.{IsReady, Stands, IsPrintable, NoteWithin, made_lines, moves_lines, note_line as line_of_note, wait_line as line_of_wait, gone_line as line_of_end};
 ghost use Rattle.vx_play.specs.Printing.{outputs_of};
@@ -371,6 +372,11 @@ pub fn play_run<S: Source, K: Sink, I: Instrument>(
       sink = record { bytes = K.taken sink.old; faults = K.faults sink.old };
       sink_after = record { bytes = K.taken sink.new; faults = K.faults sink.new };
     }) result }
+
+    // Whatever comes of it, no more than 67,108,865 bytes are read.
+    ensures read { GivesUpTo (SCRIPT_MAX + 1)
+        (record { bytes = S.left source.old; faults = S.faults source.old })
+        (record { bytes = S.left source.new; faults = S.faults source.new }) }
 
     // A script that the source tells is played whole, or memory is wanting, where neither the source nor the sink fails.
     ensures complete { Completes (map string_bytes words.now) (map (spare_shown (handed_in (λ i. I.behaves i) (λ i. I.nature i))) rack.items) (record {

@@ -1,4 +1,4 @@
-use Rattle.std.proofs.Common.{map, string_bytes, sym, ◌∙◌}
+use Rattle.std.proofs.Common.{map, string_bytes, refl, sym, ◌∙◌, inl}
 use Rattle.vx_play.proofs.WholePlay.{script-ended, long-ended}
 use Rattle.vx_play.proofs.run.play.Goals as goal
 
@@ -11,4 +11,17 @@ returns-in-Whole g c = record {
 pub returns-in-TooLong : goal.returns-in-TooLong
 returns-in-TooLong g c = record {
   outcome = long-ended (map string_bytes c.args.words.now) _ _ _ (sym c.is_command.ensures ∙ c.if-is_command.true) c.in-TooLong.ensures.read c.put_last.ensures.put;
+}
+
+pub returns-in-Failed : goal.returns-in-Failed
+returns-in-Failed g c = record {
+  outcome = (
+    record { command = sym c.is_command.ensures ∙ c.if-is_command.true; read = c.in-Failed.ensures.read.1; unwritten = refl },
+    c.in-Failed.ensures.read.0,
+  );
+}
+
+pub returns-in-NoMemory : goal.returns-in-NoMemory
+returns-in-NoMemory g c = record {
+  outcome = inl (record { command = sym c.is_command.ensures ∙ c.if-is_command.true; read = c.in-NoMemory.ensures.read; unwritten = refl });
 }
