@@ -1,5 +1,5 @@
 -- What came of a command of a bench.
-use Rattle.std.proofs.Common.{◌≡◌, ℕ, suc, List, ◌++◌, map, take, drop, position, get_or, Option, Some, None, option_map, Result, Ok, Err, refl, sym, ap, subst, ◌∙◌}
+use Rattle.std.proofs.Common.{◌≡◌, ℕ, suc, List, ◌++◌, map, take, drop, position, get_or, Option, Some, None, option_map, Result, Ok, Err, inr, refl, sym, ap, subst, ◌∙◌}
 use Rattle.std.proofs.lemmas.Option.{same_Some}
 use Rattle.std.specs.Str.{bytes_eq}
 use Rattle.vx_rack.specs.declared.Spare.{Spare}
@@ -19,7 +19,7 @@ use Rattle.vx_bench.specs.Rack.{SpareShown, spare_at}
 use Rattle.vx_bench.specs.Spares.{spare_shown}
 use Rattle.vx_bench.specs.Refusing.{address, cause_of, rules_in, table_refused, spare_refused}
 use Rattle.vx_bench.specs.Attaches.{AttachesTable, AttachesSpare}
-use Rattle.vx_bench.specs.SettingUp.{BenchState, refusal, Takes, KeepsMeaning}
+use Rattle.vx_bench.specs.SettingUp.{BenchState, refusal, Takes, MayLose, KeepsMeaning}
 use Rattle.vx_bench.specs.LineSet.{TakesOrStops}
 use Rattle.vx_bench.proofs.Found.{spare-found, spare-missing, rack-left}
 
@@ -52,10 +52,10 @@ keeps-both old mid new first second = record {
 -- ---- a command that is refused
 
 pub turned-away : (old new : BenchState) (command : Command) (why : Option Cause) (ended : Stop) → refusal old command ≡ why
-    → Some ended ≡ option_map (λ k. stop.Refused k) why → new.bus ≡ old.bus → TakesOrStops old command new (Err ended)
-turned-away old new command None ended e told same = absurd (cc)
-turned-away old new command (Some why) ended e told same =
-    subst (λ (t : Stop). TakesOrStops old command new (Err t)) (sym (same_Some ended (stop.Refused why) told)) (e, same)
+    → Some ended ≡ option_map (λ k. stop.Refused k) why → new.bus ≡ old.bus → MayLose command old.rack new.rack → TakesOrStops old command new (Err ended)
+turned-away old new command None ended e told same lost = absurd (cc)
+turned-away old new command (Some why) ended e told same lost =
+    subst (λ (t : Stop). TakesOrStops old command new (Err t)) (sym (same_Some ended (stop.Refused why) told)) (e, same, lost)
 
 -- ---- a table instrument
 
@@ -80,7 +80,7 @@ pub inst-turned-away : (p : ℕ) (s : Option ℕ) (text : List ℕ) (inst : Tabl
     → TakesOrStops (record { bus = old; rack = rack }) (Inst p s text) (record { bus = new; rack = rack }) (Err ended)
 inst-turned-away p s text inst old new rack why ended table refused told same =
     turned-away (record { bus = old; rack = rack }) (record { bus = new; rack = rack }) (Inst p s text) (cause_of (Some why)) ended
-    (ap (λ (r : Option (Result (List Rule) TableErr)). table_refused old (address p s) r) table.1 ∙ ap (λ (o : Option Attach). cause_of o) refused) told same
+    (ap (λ (r : Option (Result (List Rule) TableErr)). table_refused old (address p s) r) table.1 ∙ ap (λ (o : Option Attach). cause_of o) refused) told same refl
 
 -- ---- a spare
 
@@ -105,11 +105,11 @@ module _ {I : Type 0} (seat : I → Seated) (name : List ℕ) where
       }
 
   pub plug-turned-away : (p : ℕ) (s : Option ℕ) (old new : SimState) (rack rest : List (Spare I)) (place : ℕ) (spare : Spare I) (why : Attach) (ended : Stop)
-      → IsFirst rack (Some place) → spare ≡ get_or rack place spare → attaching.refusal old (address p s) ≡ Some why
-      → Some ended ≡ option_map (λ k. stop.Refused k) (cause_of (Some why)) → new ≡ old
+      → IsFirst rack (Some place) → spare ≡ get_or rack place spare → rest ≡ take place rack ++ drop (suc place) rack
+      → attaching.refusal old (address p s) ≡ Some why → Some ended ≡ option_map (λ k. stop.Refused k) (cause_of (Some why)) → new ≡ old
       → TakesOrStops (record { bus = old; rack = map (spare_shown seat) rack }) (Plug p s name) (record { bus = new; rack = map (spare_shown seat) rest }) (Err ended)
-  plug-turned-away p s old new rack rest place spare why ended e is refused told same =
+  plug-turned-away p s old new rack rest place spare why ended e is rest_is refused told same =
       turned-away (record { bus = old; rack = map (spare_shown seat) rack }) (record { bus = new; rack = map (spare_shown seat) rest }) (Plug p s name)
       (cause_of (Some why)) ended
       (ap (λ (o : Option SpareShown). spare_refused old (address p s) o) (spare-found seat name rack place spare e is)
-      ∙ ap (λ (o : Option Attach). cause_of o) refused) told same
+      ∙ ap (λ (o : Option Attach). cause_of o) refused) told same (inr (rack-left seat name rack rest place e rest_is))

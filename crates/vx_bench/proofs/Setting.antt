@@ -8,9 +8,8 @@ use Rattle.vx_script.specs.Reads.{Reads}
 use Rattle.vx_bench.specs.declared.stops.Stop.{Stop}
 use Rattle.vx_bench.specs.declared.stops.Stop.TheVariants as stop
 use Rattle.vx_text.specs.TextLines.{lines}
-use Rattle.vx_sim.specs.SimState.{SimState}
 use Rattle.vx_bench.specs.Script.{Step, script, script_from, behind_steps}
-use Rattle.vx_bench.specs.SettingUp.{BenchState, Takes, SetsUp, IsSetUp, IsStopped, IsRefused, IsOutside}
+use Rattle.vx_bench.specs.SettingUp.{BenchState, Takes, SetsUp, IsSetUp, IsStopped, IsRefused, IsOutside, LacksMemory}
 use Rattle.vx_bench.specs.LineSet.{TakesOrStops, IsSkipped, IsTaken, IsBad, IsTurnedDown, EndsLine, UnderWay}
 use Rattle.vx_bench.proofs.Scripts.{behind-more, next-line, doing}
 
@@ -19,8 +18,8 @@ pub line-ended : (said : Reading) (found : Option LineStep) (step : LineStep) (o
     → found ≡ Some step → TakesOrStops old (step_shown step) new ended → EndsLine said old new ended
 line-ended said found step old new (Ok done) reads some took = inr (record { command = step_shown step; said_is = doing said found step reads some; takes = took })
 line-ended said found step old new (Err (stop.Refused why)) reads some took =
-    (inr (record { command = step_shown step; said_is = doing said found step reads some; refused = took.0 }), took.1)
-line-ended said found step old new (Err stop.NoMemory) reads some took = tt
+    inr (record { command = step_shown step; said_is = doing said found step reads some; refused = took.0; bus_is = took.1; rack_is = took.2 })
+line-ended said found step old new (Err stop.NoMemory) reads some took = took
 
 -- one more step
 sets-more : (before mid after : BenchState) (steps : List Step) (step : Step) → SetsUp before steps mid → Takes mid step.command after
@@ -62,17 +61,17 @@ whole text before rest count now u at_end =
     }
 
 -- at a line that is refused it stops
-pub stopped : (text : List ℕ) (before : BenchState) (rest line behind : List ℕ) (count : ℕ) (now : BenchState) (bus : SimState) (why : Cause)
-    → UnderWay text before rest count now → lines rest ≡ line ∷ lines behind → IsBad (reading line) why ⊎ IsTurnedDown (reading line) now why → bus ≡ now.bus
-    → IsStopped text before bus (count + 1) why
-stopped text before rest line behind count now bus why u cut how same =
-    record { steps = u.steps; end = now; set_up = u.set_up; bus_is = same; stops = by how }
+pub stopped : (text : List ℕ) (before : BenchState) (rest line behind : List ℕ) (count : ℕ) (now after : BenchState) (why : Cause)
+    → UnderWay text before rest count now → lines rest ≡ line ∷ lines behind
+    → IsBad (reading line) now after why ⊎ IsTurnedDown (reading line) now after why → IsStopped text before after (count + 1) why
+stopped text before rest line behind count now after why u cut how =
+    record { steps = u.steps; end = now; set_up = u.set_up; stops = by how }
   where
-    by : IsBad (reading line) why ⊎ IsTurnedDown (reading line) now why
-        → IsRefused text u.steps now (count + 1) why ⊎ IsOutside text u.steps (count + 1) why
+    by : IsBad (reading line) now after why ⊎ IsTurnedDown (reading line) now after why
+        → IsRefused text u.steps now after (count + 1) why ⊎ IsOutside text u.steps now after (count + 1) why
     by (inl k) =
         let all = next-line text rest line behind count u.steps Outside u.is_front cut k.outside in
-        inr (record { all = ap (λ s. s.steps) all ∙ append-nil u.steps; bad = ap (λ s. s.bad) all; form = k.form })
+        inr (record { all = ap (λ s. s.steps) all ∙ append-nil u.steps; bad = ap (λ s. s.bad) all; form = k.form; same = k.same })
     by (inr k) =
         let all = next-line text rest line behind count u.steps (Does k.command) u.is_front cut k.said_is in
         inl (record {
@@ -81,4 +80,20 @@ stopped text before rest line behind count now bus why u cut how same =
           next = ap (λ s. s.steps) all;
           line_is = refl;
           refused = k.refused;
+          bus_is = k.bus_is;
+          rack_is = k.rack_is;
         })
+
+-- and where memory runs out at a line, what it left is as it was in front of that line
+pub lacking : (text : List ℕ) (before : BenchState) (rest : List ℕ) (count : ℕ) (now after : BenchState) → UnderWay text before rest count now
+    → after ≡ now → LacksMemory text before after
+lacking text before rest count now after u same = record {
+  steps = u.steps;
+  later = (script_from (count + 1) (lines rest)).steps;
+  front = ap (λ s. s.steps) u.is_front;
+  set_up = subst (SetsUp before u.steps) (sym same) u.set_up;
+}
+
+-- or before any line
+pub lacking-all : (text : List ℕ) (before : BenchState) → LacksMemory text before before
+lacking-all text before = record { steps = []; later = (script text).steps; front = refl; set_up = refl }

@@ -8,13 +8,14 @@ use Rattle.vx_text.specs.TextLines.{lines}
 use Rattle.vx_bench.specs.declared.stops.Stop.{Stop}
 use Rattle.vx_bench.specs.declared.stops.Stop.TheVariants as stop
 use Rattle.vx_bench.specs.Script.{Step, script, script_from, behind_steps}
-use Rattle.vx_bench.specs.SettingUp.{BenchState, refusal, Takes, SetsUp}
+use Rattle.vx_bench.specs.SettingUp.{BenchState, refusal, Takes, SetsUp, MayLose}
 
--- what came of a command: it was taken, or it is refused and the bus is as it was
+-- what came of a command: it was taken; or it is refused and the bus is as it was; or memory ran out, and nothing changed
 abbrev pub TakesOrStops : BenchState → Command → BenchState → Result Unit Stop → Type 0
 TakesOrStops old command new (Ok done) = Takes old command new
-TakesOrStops old command new (Err (stop.Refused why)) = (refusal old command ≡ Some why) × (new.bus ≡ old.bus)
-TakesOrStops old command new (Err stop.NoMemory) = Unit {0}
+TakesOrStops old command new (Err (stop.Refused why)) =
+    (refusal old command ≡ Some why) × (new.bus ≡ old.bus) × MayLose command old.rack new.rack
+TakesOrStops old command new (Err stop.NoMemory) = new ≡ old
 
 -- a line that says nothing changed nothing
 pub record IsSkipped (said : Reading) (old new : BenchState) : Type 0 where
@@ -28,20 +29,23 @@ pub record IsTaken (said : Reading) (old new : BenchState) : Type 0 where
   pub takes : Takes old command new
 
 -- a line outside the grammar
-pub record IsBad (said : Reading) (why : Cause) : Type 0 where
+pub record IsBad (said : Reading) (old new : BenchState) (why : Cause) : Type 0 where
   pub outside : said ≡ Outside
   pub form : why ≡ cause.Form
+  pub same : new ≡ old
 
 -- a line's command is refused
-pub record IsTurnedDown (said : Reading) (old : BenchState) (why : Cause) : Type 0 where
+pub record IsTurnedDown (said : Reading) (old new : BenchState) (why : Cause) : Type 0 where
   pub command : Command
   pub said_is : said ≡ Does command
   pub refused : refusal old command ≡ Some why
+  pub bus_is : new.bus ≡ old.bus
+  pub rack_is : MayLose command old.rack new.rack
 
 abbrev pub EndsLine : Reading → BenchState → BenchState → Result Unit Stop → Type 0
 EndsLine said old new (Ok done) = IsSkipped said old new ⊎ IsTaken said old new
-EndsLine said old new (Err (stop.Refused why)) = (IsBad said why ⊎ IsTurnedDown said old why) × (new.bus ≡ old.bus)
-EndsLine said old new (Err stop.NoMemory) = Unit {0}
+EndsLine said old new (Err (stop.Refused why)) = IsBad said old new why ⊎ IsTurnedDown said old new why
+EndsLine said old new (Err stop.NoMemory) = new ≡ old
 
 -- a bench under way: the steps of so many lines are taken, and this text is what is left
 pub record UnderWay (text : List ℕ) (before : BenchState) (rest : List ℕ) (count : ℕ) (now : BenchState) : Type 0 where

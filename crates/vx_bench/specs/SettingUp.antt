@@ -44,33 +44,47 @@ pub record IsSetUp (text : List ℕ) (before after : BenchState) : Type 0 where
   pub none_bad : (script text).bad ≡ None
   pub set_up : SetsUp before (script text).steps after
 
--- the next step is refused for its cause
-pub record IsRefused (text : List ℕ) (steps : List Step) (end : BenchState) (line : ℕ) (why : Cause) : Type 0 where
+-- where a command is refused the spare that it names may be gone from the rack, and no other
+abbrev pub MayLose : Command → List SpareShown → List SpareShown → Type 0
+MayLose (Plug p secondary name) old new = (new ≡ old) ⊎ (new ≡ without_spare old name)
+MayLose _ old new = new ≡ old
+
+-- the next step is refused for its cause, and the bus is as the steps in front left it
+pub record IsRefused (text : List ℕ) (steps : List Step) (end after : BenchState) (line : ℕ) (why : Cause) : Type 0 where
   pub step : Step
   pub later : List Step
   pub next : (script text).steps ≡ steps ++ step ∷ later
   pub line_is : line ≡ step.line
   pub refused : refusal end step.command ≡ Some why
+  pub bus_is : after.bus ≡ end.bus
+  pub rack_is : MayLose step.command end.rack after.rack
 
 -- there are no more steps, and the line behind them is outside the grammar
-pub record IsOutside (text : List ℕ) (steps : List Step) (line : ℕ) (why : Cause) : Type 0 where
+pub record IsOutside (text : List ℕ) (steps : List Step) (end after : BenchState) (line : ℕ) (why : Cause) : Type 0 where
   pub all : (script text).steps ≡ steps
   pub bad : (script text).bad ≡ Some line
   pub form : why ≡ cause.Form
+  pub same : after ≡ end
 
--- the steps in front of the first line that is refused are taken, and the bus is as they leave it
-pub record IsStopped (text : List ℕ) (before : BenchState) (bus : SimState) (line : ℕ) (why : Cause) : Type 0 where
+-- the steps in front of the first line that is refused are taken, and nothing behind it
+pub record IsStopped (text : List ℕ) (before after : BenchState) (line : ℕ) (why : Cause) : Type 0 where
   pub steps : List Step
   pub end : BenchState
   pub set_up : SetsUp before steps end
-  pub bus_is : bus ≡ end.bus
-  pub stops : IsRefused text steps end line why ⊎ IsOutside text steps line why
+  pub stops : IsRefused text steps end after line why ⊎ IsOutside text steps end after line why
 
--- how a bench is set up: each line, or those in front of the first that is refused; where memory ran out nothing is said
+-- memory ran out: some first steps are taken, and nothing else
+pub record LacksMemory (text : List ℕ) (before after : BenchState) : Type 0 where
+  pub steps : List Step
+  pub later : List Step
+  pub front : (script text).steps ≡ steps ++ later
+  pub set_up : SetsUp before steps after
+
+-- how a bench is set up: each line, or those in front of the first that is refused, or that memory ran out at
 abbrev pub EndsBench : List ℕ → BenchState → BenchState → Result Unit BenchStop → Type 0
 EndsBench text before after (Ok done) = IsSetUp text before after
-EndsBench text before after (Err (stop.Refused line why)) = IsStopped text before after.bus line why
-EndsBench text before after (Err stop.NoMemory) = Unit {0}
+EndsBench text before after (Err (stop.Refused line why)) = IsStopped text before after line why
+EndsBench text before after (Err stop.NoMemory) = LacksMemory text before after
 
 -- what the bus means, the moment that it was told, and the call that is to fail are as they were
 pub record KeepsMeaning (old new : SimState) : Type 0 where

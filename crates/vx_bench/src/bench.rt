@@ -146,7 +146,8 @@ fn set_lines<I: Instrument>(
 ///
 /// A bench is a text of lines in the grammar of a script. Of its steps `inst` and `plug` are taken; any other is refused as
 /// `form`, like a line outside the grammar. A `plug` takes its instrument out of the rack. Where a line is refused the
-/// instruments of the lines in front of it are attached; a spare that a refused line names may be gone from the rack.
+/// instruments of the lines in front of it are attached; a spare that a refused line names may be gone from the rack. Where
+/// memory runs out those of some first lines are attached, and no more changed.
 ///
 /// Only the instruments of the bus change: nothing is asked of it, and no moment is told.
 pub fn set_up<I: Instrument>(
