@@ -2,7 +2,8 @@
 """Tests the server `vxgate` and the client `vxcall` over real sockets of this host.
 
     sockets.py SERVER CLIENT    tests the two programs of these paths
-    sockets.py                  has `rt try` build both without proof, with an address sanitizer, and tests those
+    sockets.py                  has `rt try` build both without proof, with an address sanitizer, and tests those, but for
+                                want of memory
 
 The second form shows that the same sources do over sockets what they should; that they are proved is for `rt ci` to say.
 It prints a line a case and at last 'N passed, M failed', and ends with status 1 where a case failed or something hung.
@@ -12,6 +13,7 @@ words by RFC 5531 (headers), RFC 4506 (values) and VXI-11 1.0 (arguments and res
 """
 import os
 import random
+import resource
 import select
 import shutil
 import signal
@@ -128,14 +130,36 @@ def stream_of(text):
     return file
 
 
+def limit_memory(process, is_held):
+    """From here on the process gets no memory beyond what it has, or all that this host lets it have."""
+    _, most = resource.prlimit(process.pid, resource.RLIMIT_DATA)
+    limit = most
+    if is_held:
+        with open(f"/proc/{process.pid}/status") as file:
+            limit = 1024 * next(int(line.split()[1]) for line in file if line.startswith("VmData:"))
+    resource.prlimit(process.pid, resource.RLIMIT_DATA, (limit, most))
+
+
+def memory_is_refused():
+    """Whether this host refuses memory to a process that has all that it may have."""
+    words = [sys.executable, "-c", "input(); bytearray(1 << 24)"]
+    child = start(words, stdin=subprocess.PIPE, stdout=subprocess.DEVNULL, stderr=subprocess.DEVNULL)
+    try:
+        limit_memory(child, True)
+    except PermissionError:
+        return False
+    child.communicate(b"\n", timeout=PATIENCE)
+    return child.returncode != 0
+
+
 class Server:
     """A server on two free ports, which lives in a `with` block."""
 
-    def __init__(self, *options, bench=BENCH, ports=None):
+    def __init__(self, *options, bench=BENCH, ports=None, env=None):
         self.core, self.abort = ports or two_free_ports()
         words = [*programs["server"], "--core", str(self.core), "--abort", str(self.abort), *options]
         with stream_of(bench) as source:
-            self.process = start(words, stdin=source, stdout=subprocess.PIPE)
+            self.process = start(words, stdin=source, stdout=subprocess.PIPE, env=env)
 
     def __enter__(self):
         line = self.process.stdout.readline().decode()
@@ -154,7 +178,6 @@ class Server:
 
     def descriptors(self):
         return len(os.listdir(f"/proc/{self.process.pid}/fd"))
-
 
 class Peer:
     """A connection to a port, or one that was accepted."""
@@ -198,6 +221,17 @@ class Peer:
     def expect_end(self):
         rest = self.stream.recv(1)
         assert rest == b"", "the stream goes on"
+
+    def is_answered(self, program):
+        """Whether a null call is answered. Where it isn't the stream has ended, with what was sent read or not."""
+        try:
+            self.send(call(1, 0, program=program))
+            if self.stream.recv(1, socket.MSG_PEEK) == b"":
+                return False
+        except ConnectionError:
+            return False
+        self.expect(reply(1))
+        return True
 
     def reset(self):
         """Closes it by a reset, with what is on its way lost."""
@@ -393,6 +427,37 @@ def sixty_four_at_once():
             peer.stream.close()
 
 
+# so that a thread that is refused memory of its own heap finds none in another
+ONE_HEAP = {"MALLOC_ARENA_MAX": "1"}
+
+
+def a_refused_connection_ends_its_link(role, program):
+    """Where there is no memory for its connection a link ends at once, unanswered, and its worker takes the next one: with
+    memory again as many connections are served as there are workers."""
+    with Server("--workers", "64", env=ONE_HEAP) as server:
+        port = getattr(server, role)
+        limit_memory(server.process, True)
+        peers = [Peer(port) for _ in range(64)]
+        served = [peer for peer in peers if peer.is_answered(program)]
+        limit_memory(server.process, False)
+        assert len(served) < 64, "no connection wanted memory"
+        more = [Peer(port) for _ in range(64 - len(served))]
+        assert all(peer.is_answered(program) for peer in more), "a link isn't served where there is memory"
+        with Peer(port) as late:
+            late.send(call(1, 0, program=program))
+            assert not late.hears(0.5), "more connections are served than there are workers"
+        for peer in peers + more:
+            peer.stream.close()
+
+
+def refused_connections_end_their_links():
+    if not memory_is_refused():
+        print("this host refuses no memory: no connection was refused")
+        return
+    a_refused_connection_ends_its_link("core", CORE)
+    a_refused_connection_ends_its_link("abort", ABORT)
+
+
 def descriptors_are_given_back():
     """A thousand connections one after another, each closed, reset or cut short, leave as many open as there were."""
     with Server() as server:
@@ -516,6 +581,9 @@ CASES = [
     the_client,
 ]
 
+# those that an address sanitizer doesn't live through, since it ends a process that is refused memory
+PLAIN_CASES = [refused_connections_end_their_links]
+
 
 # Programs without proof
 
@@ -609,9 +677,10 @@ def main(words):
         else:
             watch("the build", BUILD_SECONDS)
             build(folder)
-        failed = [case for case in CASES if not passes(case)]
+        cases = CASES + PLAIN_CASES if words else CASES
+        failed = [case for case in cases if not passes(case)]
         signal.alarm(0)
-    print(f"{len(CASES) - len(failed)} passed, {len(failed)} failed")
+    print(f"{len(cases) - len(failed)} passed, {len(failed)} failed")
     return 1 if failed else 0
 
 
