@@ -179,6 +179,7 @@ class Server:
     def descriptors(self):
         return len(os.listdir(f"/proc/{self.process.pid}/fd"))
 
+
 class Peer:
     """A connection to a port, or one that was accepted."""
 
