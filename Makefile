@@ -1,6 +1,6 @@
 # `make try` plays a script without a proof, `make play` through the proved player; `make serve` starts the server with a bench of
-# simulated instruments; `make install` puts the programs under PREFIX; `make test` runs the gate; `make bench` measures. All want
-# the kit's `rt` on PATH.
+# simulated instruments; `make install` puts the programs under PREFIX; `make test` runs the gate; `make bench` measures; `make
+# memory` refuses memory. All want the kit's `rt` on PATH.
 
 SCRIPT = examples/first-link.vxs
 BENCH = examples/bench.txt
@@ -15,7 +15,7 @@ RATE = crates/vx_gate_rate/out/vx_gate_rate
 # what `make bench` measures beside this server and this gate, as 'NAME=PROGRAM .. --gate NAME=PROGRAM'
 OTHERS =
 
-.PHONY: try play serve install player server client rate test bench
+.PHONY: try play serve install player server client rate test bench memory
 
 # the same script without a proof
 try:
@@ -54,6 +54,10 @@ rate:
 # It takes some ten minutes, and wants a C compiler as cc and a machine that does nothing else. bench/bench.py says what it prints.
 bench: server rate
 	python3 bench/bench.py $(OTHERS) this=$(SERVER) --gate this=$(RATE)
+
+# It runs each of the three programs once for each allocation that it makes, in some ten seconds, and wants a C compiler as cc.
+memory: player server client
+	python3 .ci/memory.py $(PLAYER) $(SERVER) $(CLIENT)
 
 test:
 	bash .ci/run

@@ -1,0 +1,168 @@
+#!/usr/bin/env python3
+"""Refuses each allocation of the three programs in turn, and says in one table what came of it.
+
+    memory.py PLAYER SERVER CLIENT
+
+A program runs once for each allocation that it makes, with that one refused: `refuse.c`, which `cc` compiles, is preloaded. The
+player plays `examples/session.vxs`, the client asks `*IDN?` of a server, and the server of `examples/bench.txt` is asked the same
+by three clients. A refused allocation has to end the program with its status for want of memory, with a front of its output
+written, or to leave it as it is; at a running server it may end the link of one client, and the others and a next one are served. The script
+ends with status 1 where something else came of one.
+"""
+import os
+import pathlib
+import socket
+import subprocess
+import sys
+import tempfile
+
+TOP = pathlib.Path(__file__).resolve().parent.parent
+NO_MEMORY = 5  # the status of each program for want of memory
+NO_THREAD = 4  # that of the server where a thread can't be had, which takes memory too
+PATIENCE = 60  # seconds
+
+
+class Wrong(Exception):
+    """What a refused allocation may not lead to."""
+
+
+def environment(folder, number):
+    return {**os.environ, "LD_PRELOAD": f"{folder}/refuse.so", "REFUSE": str(number), "REFUSE_COUNT": f"{folder}/count"}
+
+
+def asked(folder):
+    """How many allocations the last program asked for."""
+    return int.from_bytes(pathlib.Path(folder, "count").read_bytes(), sys.byteorder)
+
+
+def ended(folder, number, words, source=None):
+    """The status and the output of a program that ends by itself, with this allocation refused."""
+    done = subprocess.run(words, stdin=source or subprocess.DEVNULL, capture_output=True, timeout=PATIENCE, env=environment(folder, number))
+    return done.returncode, done.stdout
+
+
+def is_lacking(status, output, whole):
+    """Whether the program ended for want of memory; or it went on, and wrote all."""
+    if status == NO_MEMORY and whole.startswith(output):
+        return True
+    if status == 0 and output == whole:
+        return False
+    raise Wrong(f"status {status}, output {output[:80]!r}")
+
+
+def sweep(folder, run):
+    """How many allocations there are, and what `run` says of each that is refused, summed."""
+    run(0)
+    count = asked(folder)
+    if count == 0:
+        raise Wrong("no allocation is seen")
+    counts = {}
+    for number in range(1, count + 1):
+        try:
+            for what in run(number):
+                counts[what] = counts.get(what, 0) + 1
+        except Wrong as wrong:
+            raise Wrong(f"with allocation {number} refused: {wrong}") from None
+    return count, counts
+
+
+def of_player(folder, player):
+    whole = (TOP / "examples/session.out").read_bytes()
+
+    def run(number):
+        with open(TOP / "examples/session.vxs", "rb") as script:
+            status, output = ended(folder, number, [player, "run"], script)
+        return ["ended" if is_lacking(status, output, whole) else "went on"]
+
+    return sweep(folder, run)
+
+
+def two_free_ports():
+    with socket.socket() as one, socket.socket() as other:
+        one.bind(("127.0.0.1", 0))
+        other.bind(("127.0.0.1", 0))
+        return one.getsockname()[1], other.getsockname()[1]
+
+
+class Server:
+    """A server of the example's bench with an allocation refused, in a `with` block; `status` where it didn't come up."""
+
+    def __init__(self, folder, server, number):
+        self.port, abort = two_free_ports()
+        self.words = [server, "--core", str(self.port), "--abort", str(abort)]
+        self.env = environment(folder, number)
+
+    def __enter__(self):
+        with open(TOP / "examples/bench.txt", "rb") as bench:
+            self.process = subprocess.Popen(self.words, stdin=bench, stdout=subprocess.PIPE, stderr=subprocess.DEVNULL, env=self.env)
+        self.status = None if self.process.stdout.readline().startswith(b"listening") else self.process.wait(PATIENCE)
+        return self
+
+    def __exit__(self, *_):
+        self.process.kill()
+        self.process.wait()
+        self.process.stdout.close()
+
+
+def query(client, port):
+    return [client, "127.0.0.1", str(port), "gpib0,5", "query", "*IDN?"]
+
+
+def of_client(folder, client, server):
+    with Server(folder, server, 0) as served:
+        whole = subprocess.run(query(client, served.port), capture_output=True, timeout=PATIENCE, check=True).stdout
+
+        def run(number):
+            status, output = ended(folder, number, query(client, served.port))
+            return ["ended" if is_lacking(status, output, whole) else "went on"]
+
+        return sweep(folder, run)
+
+
+def of_server(folder, server, client):
+    def run(number):
+        with Server(folder, server, number) as served:
+            if served.status is not None:
+                if served.status not in (NO_MEMORY, NO_THREAD):
+                    raise Wrong(f"status {served.status} at the start")
+                return ["ended"]
+            ask = query(client, served.port)
+            answers = [subprocess.run(ask, capture_output=True, timeout=PATIENCE).returncode for _ in range(3)]
+            refused = len(answers) - answers.count(0)
+            if refused and subprocess.run(ask, capture_output=True, timeout=PATIENCE).returncode:
+                raise Wrong(f"clients ended with {answers}, and one behind them isn't served")
+            if served.process.poll() is not None or refused > 1:
+                raise Wrong(f"clients ended with {answers}")
+            return ["went on", "client refused"] if refused else ["went on"]
+
+    return sweep(folder, run)
+
+
+def main(words):
+    if len(words) != 3:
+        sys.exit(__doc__)
+    player, server, client = [os.path.realpath(word) for word in words]
+    with tempfile.TemporaryDirectory() as folder:
+        subprocess.run(["cc", "-O2", "-shared", "-fPIC", "-o", f"{folder}/refuse.so", TOP / ".ci/refuse.c", "-ldl"], check=True)
+        rows = [
+            ("`vxplay` plays `examples/session.vxs`", of_player, (player,)),
+            ("`vxcall` asks a server", of_client, (client, server)),
+            ("`vxgate` serves clients", of_server, (server, client)),
+        ]
+        print("| | allocations | ended for want of memory | went on | of these, a client was refused and the next served |")
+        print("|---|---:|---:|---:|---:|")
+        failed = 0
+        for name, measure, programs in rows:
+            try:
+                count, counts = measure(folder, *programs)
+            except Wrong as wrong:
+                failed += 1
+                print(f"{name}: {wrong}", file=sys.stderr)
+                continue
+            cells = [counts.get(what, 0) for what in ("ended", "went on", "client refused")]
+            print(f"| {name} | {count} | " + " | ".join(str(cell) for cell in cells) + " |")
+    return 1 if failed else 0
+
+
+if __name__ == "__main__":
+    sys.exit(main(sys.argv[1:]))
