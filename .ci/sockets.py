@@ -142,8 +142,9 @@ def limit_memory(process, is_held):
 
 def memory_is_refused():
     """Whether this host refuses memory to a process that has all that it may have."""
-    words = [sys.executable, "-c", "input(); bytearray(1 << 24)"]
-    child = start(words, stdin=subprocess.PIPE, stdout=subprocess.DEVNULL, stderr=subprocess.DEVNULL)
+    words = [sys.executable, "-c", "print(flush=True); input(); bytearray(1 << 24)"]
+    child = start(words, stdin=subprocess.PIPE, stdout=subprocess.PIPE, stderr=subprocess.DEVNULL)
+    child.stdout.readline()
     try:
         limit_memory(child, True)
     except PermissionError:
