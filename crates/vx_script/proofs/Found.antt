@@ -12,7 +12,7 @@ use Rattle.vx_script.specs.Grammar.{role_of, dialed_of, at_connection, behind_co
 use Rattle.vx_script.specs.Plain.{IsConnection, IsAddress}
 use Rattle.vx_script.specs.Table.{role_word, dial_word, address_word, Writes}
 use Rattle.vx_script.specs.Words.{cut, number_up_to, positive_up_to, connection_of, address_of, bytes_of, byte_of, is_name}
-use Rattle.vx_script.proofs.Choices.{by_test, by_text}
+use Rattle.vx_lemmas.specs.Conditions.{by_test, by_text}
 use Rattle.vx_script.proofs.Cuts.{Joined, joined}
 use Rattle.vx_script.proofs.Numbers.{positive-read, number-read}
 use Rattle.vx_script.proofs.Parts.{address-read, bytes-read, byte-read, name-read}

@@ -14,7 +14,7 @@ use Rattle.std.proofs.lemmas.Str.Parse.{parse_digits}
 use Rattle.vx_lemmas.specs.Decimal.{own, tells}
 use Rattle.vx_calls.specs.Target.{is_digit}
 use Rattle.vx_script.specs.Words.{is_positive, positive_up_to, number_up_to}
-use Rattle.vx_script.proofs.Choices.{by_text, same_bytes}
+use Rattle.vx_lemmas.specs.Conditions.{by_text, same_bytes}
 use Rattle.vx_script.proofs.Cuts.{lacks}
 
 -- digits, at least one, of which the first isn't 0, of a number that is at least 1

@@ -8,7 +8,7 @@ use Rattle.vx_trace.specs.Output.{Output, line_shown}
 use Rattle.vx_trace.specs.Text.{IsLine, line_text}
 use Rattle.vx_trace.specs.Reading.{line_of, reading}
 use Rattle.std.proofs.lemmas.List.{take-append-drop}
-use Rattle.vx_trace.proofs.Choices.{same_bytes}
+use Rattle.vx_lemmas.specs.Conditions.{same_bytes}
 use Rattle.vx_trace.proofs.Again.{end-again, reading-again}
 use Rattle.vx_trace.proofs.Found.{reading-read}
 

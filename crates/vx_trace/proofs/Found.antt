@@ -14,7 +14,8 @@ use Rattle.vx_trace.specs.Text.{transfer_text, moves_text, line_text, IsByteTran
 use Rattle.vx_trace.specs.Reading.{cut, number_of, byte_of, bytes_of, of_letter, lettered, transfer_of, with_transfer, all_transfers, moves_of, irq_of, wait_for, wait_of, gone_of, by_word, fault_for, fault_of, behind_word, line_of, without_end, reading}
 use Rattle.vx_trace.proofs.Hexadecimal.{bytes-all, bytes-read, byte-read}
 use Rattle.vx_trace.proofs.Cuts.{is_space, cut-some}
-use Rattle.vx_trace.proofs.Choices.{by_test, by_text, by_map, by_then}
+use Rattle.vx_lemmas.specs.Conditions.{by_test, by_text}
+use Rattle.vx_trace.proofs.Choices.{by_map, by_then}
 use Rattle.vx_trace.proofs.Numbers.{number-read}
 
 -- ---- transfers

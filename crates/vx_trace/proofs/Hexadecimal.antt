@@ -15,7 +15,7 @@ use Rattle.hex.proofs.HexLemmas.{decode_of-encode_upper, decode_pairs-encode_wit
 use Rattle.vx_lemmas.specs.Hexadecimal.{length_upper}
 use Rattle.vx_trace.specs.Reading.{is_lower_digit, bytes_of, byte_of, first_of}
 use Rattle.vx_trace.proofs.Cuts.{is_plain}
-use Rattle.vx_trace.proofs.Choices.{by_test}
+use Rattle.vx_lemmas.specs.Conditions.{by_test}
 
 -- ---- the digits of a text
 
