@@ -2,19 +2,23 @@
 use Rattle.std.proofs.Common.{◌≡◌, ℕ, ◌+◌, ◌≤◌, Bool, true, false, cond, ltb, List, length, drop, Result, Ok, Err, refl, sym, ap, ◌∙◌, arith}
 use Rattle.std.proofs.lemmas.List.{drop-drop, length-drop}
 use Rattle.std.proofs.lemmas.Bool.{ltb-false}
+use Rattle.std.specs.Prelude.{not, ◌||◌, ◌==◌, nat_lt}
 use Rattle.byteorder.specs.Endian.{big_number}
+use Rattle.vx_calls.specs.declared.calls.Role.{Role}
+use Rattle.vx_rpc.specs.declared.refusal.RpcRefusal.TheVariants as refusal
 use Rattle.vx_xdr.specs.declared.fault.XdrErr.{XdrErr}
 use Rattle.vx_xdr.specs.declared.fault.XdrErr.TheVariants as fault
 use Rattle.vx_xdr.specs.Spelling.{Word}
 use Rattle.vx_xdr.specs.Reading.{◌>>=◌, reading}
 use Rattle.vx_xdr.proofs.Read.{bind_ok, ok_is}
-use Rattle.vx_rpc.specs.declared.sort.Sorted.{Sorted}
-use Rattle.vx_rpc.specs.declared.sort.Sorted.TheVariants as call
+use Rattle.vx_rpc.specs.declared.call.CallRead.{CallRead}
+use Rattle.vx_rpc.specs.declared.call.CallRead.TheVariants as call
 use Rattle.vx_rpc.specs.declared.read.ReplyRead.{ReplyRead}
 use Rattle.vx_rpc.specs.declared.read.ReplyRead.TheVariants as reply
-use Rattle.vx_rpc.specs.Sorting.{ArgsBehind}
+use Rattle.vx_rpc.specs.CallMeaning.{NoCall, OfOtherVersion, call_of, call_meaning, CallArgsBehind}
+use Rattle.vx_rpc.specs.Sorting.{Refuse, Junk, sorted_body, sorting, sorted}
 use Rattle.vx_rpc.specs.ReplyMeaning.{ResultsBehind}
-use Rattle.vx_rpc.specs.Header.{three_words, behind_auth, call_body}
+use Rattle.vx_rpc.specs.Header.{number_at, CallBody, three_words, behind_auth, call_body}
 
 -- a word was read
 pub record TakesWord (bytes : List ℕ) (n : ℕ) (rest : List ℕ) : Type 0 where
@@ -65,12 +69,24 @@ behind_five bytes a b c d e m n h₁ h₂ h₃ h₄ h₅ =
     ∙ drop-drop n (12 + m) bytes
 
 -- arguments at the end of what stands behind the first three words
-pub args-end : (message rest : List ℕ) (seen : Sorted) → 12 ≤ length message → rest ≡ drop 12 message → ArgsBehind 28 rest seen → ArgsBehind 40 message seen
-args-end message rest (call.Call xid proc args) long e h =
+pub call-end : (message rest : List ℕ) (seen : CallRead) → 12 ≤ length message → rest ≡ drop 12 message → CallArgsBehind 28 rest seen → CallArgsBehind 40 message seen
+call-end message rest (call.Call xid program version procedure args) long e h =
     let len = ap (length {A = ℕ}) e in
     (12 + h.0, omega (arith, h.1), omega (arith, h.2, len, length-drop 12 message), h.3 ∙ ap (drop h.0) e ∙ drop-drop h.0 12 message)
-args-end message rest (call.Refuse xid refusal) long e h = tt
-args-end message rest call.Junk long e h = tt
+call-end message rest (call.OtherVersion xid) long e h = tt
+call-end message rest call.Junk long e h = tt
+
+-- a message is sorted by what it is as a call
+sorted-cases : (role : Role) (xid : ℕ) (a b : Bool) (body : Result CallBody XdrErr)
+    → sorting role (cond a NoCall (cond b (OfOtherVersion xid) (call_of xid body))) ≡ cond a Junk (cond b (Refuse xid refusal.RpcMismatch) (sorted_body xid role body))
+sorted-cases role xid true b body = refl
+sorted-cases role xid false true body = refl
+sorted-cases role xid false false (Ok body) = refl
+sorted-cases role xid false false (Err e) = refl
+
+pub sorted-sorting : (message : List ℕ) (role : Role) → sorting role (call_meaning message) ≡ sorted message role
+sorted-sorting message role =
+    sorted-cases role (number_at 0 message) (nat_lt (length message) 12 || not (number_at 1 message == 0)) (not (number_at 2 message == 2)) (call_body (drop 12 message))
 
 pub results-end : (message rest : List ℕ) (seen : ReplyRead) → 12 ≤ length message → rest ≡ drop 12 message → ResultsBehind 12 rest seen → ResultsBehind 24 message seen
 results-end message rest (reply.Success xid results) long e h =

@@ -1,5 +1,6 @@
 pub mod Procedure
 pub mod Header
+pub mod CallMeaning
 pub mod Sorting
 pub mod ReplyMeaning
 pub mod Wording

@@ -9,6 +9,7 @@ use Rattle.vx_rpc.specs.declared.sort.Sorted.{Sorted}
 use Rattle.vx_rpc.specs.declared.sort.Sorted.TheVariants as seen
 use Rattle.vx_rpc.specs.Procedure.{program, procedure, serves}
 use Rattle.vx_rpc.specs.Header.{number_at, CallBody, call_body}
+use Rattle.vx_rpc.specs.CallMeaning.{CallMeaning, Called, OfOtherVersion, NoCall}
 
 -- a call to be answered, a refusal to be sent, or no call at all
 pub data Sorting : Type 0 where
@@ -48,6 +49,12 @@ abbrev pub is_sent : RpcRefusal → Bool
 is_sent refusal.AuthError = false
 is_sent refusal.SystemErr = false
 is_sent _ = true
+
+-- the same of a message that was read as a call
+abbrev pub sorting : Role → CallMeaning → Sorting
+sorting role (Called xid body) = sorted_body xid role (Ok body)
+sorting role (OfOtherVersion xid) = Refuse xid refusal.RpcMismatch
+sorting role NoCall = Junk
 
 -- where it is a call, it is of a procedure that the channel has
 abbrev pub IsServed : Role → Sorted → Type 0

@@ -3,6 +3,7 @@
 //! allocates.
 #![tactic(auto)]
 
+mod call;
 mod header;
 mod laws;
 mod put;
@@ -10,6 +11,7 @@ mod read;
 mod refusal;
 mod sort;
 
+pub use call::{CallRead, read_call};
 pub use laws::{
     calls_are_sorted, calls_are_spelled, refusals_are_read, replies_are_spelled, successes_are_read,
 };

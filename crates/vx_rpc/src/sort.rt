@@ -1,9 +1,9 @@
-ghost use Rattle.std.specs.Prelude.{◌≡◌, IfSome, IsTrue};
+ghost use Rattle.std.specs.Prelude.{◌≡◌, ℕ, List, IfSome, IsTrue};
 ghost use Rattle.vx_rpc.specs.Procedure.{program, procedure, serves};
-ghost use Rattle.vx_rpc.specs.Header.{call_body};
-ghost use Rattle.vx_rpc.specs.Sorting.{sorting_shown, sorted, sorted_body, IsServed, RefusesByHeader, ArgsEnd, ArgsBehind};
+ghost use Rattle.vx_rpc.specs.CallMeaning.{call_shown, CallArgsBehind};
+ghost use Rattle.vx_rpc.specs.Sorting.{sorting_shown, sorted, sorting, IsServed, RefusesByHeader, ArgsEnd, ArgsBehind};
 
-use crate::header::{call_header, three_words};
+use crate::call::{CallRead, read_call};
 use crate::refusal::RpcRefusal;
 use vx_calls::{Proc, Role};
 
@@ -38,43 +38,43 @@ pub fn sort_call<'a>(message: &'a [u8], role: Role) -> Sorted<'a>
     ensures refuses { RefusesByHeader result }
     ensures args { ArgsEnd message.now result }
 {
-    match three_words(message) {
-        Ok((xid, 0, 2)) => sort_body(xid, &message[12..], role),
-        Ok((xid, 0, _)) => Sorted::Refuse {
+    let read = read_call(message);
+    sort_read(&read, role)
+}
+
+// A message that was read as a call.
+fn sort_read<'a>(read: &CallRead<'a>, role: Role) -> Sorted<'a>
+    ensures sorted { sorting_shown result ≡ sorting role (call_shown read.now) }
+    ensures served { IsServed role result }
+    ensures refuses { RefusesByHeader result }
+    ensures args { (least : ℕ) → (text : List ℕ) → CallArgsBehind least text read.now → ArgsBehind least text result }
+{
+    match *read {
+        CallRead::Call {
+            xid,
+            program,
+            version,
+            procedure,
+            args,
+        } => {
+            let refusal = if program != program_of(role) {
+                RpcRefusal::ProgUnavail
+            } else if version != 1 {
+                RpcRefusal::ProgMismatch
+            } else {
+                match procedure_of(role, procedure) {
+                    Some(proc) => return Sorted::Call { xid, proc, args },
+                    None => RpcRefusal::ProcUnavail,
+                }
+            };
+            Sorted::Refuse { xid, refusal }
+        }
+        CallRead::OtherVersion { xid } => Sorted::Refuse {
             xid,
             refusal: RpcRefusal::RpcMismatch,
         },
-        _ => Sorted::Junk,
+        CallRead::Junk => Sorted::Junk,
     }
-}
-
-// A call of RPC version 2, behind its first three words.
-fn sort_body<'a>(xid: u32, body: &'a [u8], role: Role) -> Sorted<'a>
-    ensures sorted { sorting_shown result ≡ sorted_body xid role (call_body body.now) }
-    ensures served { IsServed role result }
-    ensures refuses { RefusesByHeader result }
-    ensures args { ArgsBehind 28 body.now result }
-{
-    let Ok(header) = call_header(body) else {
-        return Sorted::Junk;
-    };
-    let refusal = if header.program != program_of(role) {
-        RpcRefusal::ProgUnavail
-    } else if header.version != 1 {
-        RpcRefusal::ProgMismatch
-    } else {
-        match procedure_of(role, header.procedure) {
-            Some(proc) => {
-                return Sorted::Call {
-                    xid,
-                    proc,
-                    args: &body[header.len..],
-                };
-            }
-            None => RpcRefusal::ProcUnavail,
-        }
-    };
-    Sorted::Refuse { xid, refusal }
 }
 
 /// The program of a channel.

@@ -1,11 +1,10 @@
-use Rattle.std.proofs.Common.{◌-◌, length, drop, arith}
-use Rattle.std.proofs.lemmas.List.{take_all, length-drop}
-use Rattle.vx_rpc.proofs.HeaderLemmas.{three_words-long, args-end}
+use Rattle.std.proofs.Common.{ap, ◌∙◌}
+use Rattle.vx_rpc.specs.Sorting.{sorting}
+use Rattle.vx_rpc.proofs.HeaderLemmas.{sorted-sorting}
 use Rattle.vx_rpc.proofs.sort.sort_call.Goals as goal
 
-pub returns-in-Ok-default-eq0-eq2-clause-args : goal.returns-in-Ok-default-eq0-eq2-clause-args
-returns-in-Ok-default-eq0-eq2-clause-args c =
-    let message = c.args.message.now in
-    let long = three_words-long message _ c.in-Ok-default-eq0-eq2.ensures in
-    let whole = take_all (length message - 12) (drop 12 message) (omega (arith, length-drop 12 message)) in
-    args-end message _ c.sort_body.result long whole c.sort_body.ensures.args
+pub returns-clause-sorted : goal.returns-clause-sorted
+returns-clause-sorted c = c.sort_read.ensures.sorted ∙ ap (sorting c.args.role) c.read_call-read.ensures.read ∙ sorted-sorting c.args.message.now c.args.role
+
+pub returns-clause-args : goal.returns-clause-args
+returns-clause-args c = c.sort_read.ensures.args 40 c.args.message.now c.read_call-read.ensures.args
