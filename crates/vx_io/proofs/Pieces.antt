@@ -5,6 +5,7 @@ use Rattle.std.proofs.Math.Seq.{take-add}
 use Rattle.std.proofs.lemmas.Grind.{common_steps}
 use Rattle.vx_io_traits.specs.Faults.{one_more}
 use Rattle.vx_io.specs.LinkState.{LinkState, after_receive}
+use Rattle.vx_io.specs.DoorState.{PeerShown, gave}
 use Rattle.vx_io_traits.specs.declared.ReadOut.TheVariants.{Got}
 
 -- the piece in the slice is a front of what is left from a place on
@@ -32,3 +33,8 @@ given_after given left bytes new at n g l front = rw (g, front, l) (sym (take-ad
 pub moved : (s : LinkState) (bytes : List ℕ) (at n calls : ℕ) → s.given ≡ take at bytes → s.left ≡ drop at bytes → calls ≡ one_more s.calls
     → record s { given = take (at + n) bytes; left = drop (at + n) bytes; calls = calls } ≡ after_receive s (Got n)
 moved s bytes at n calls given left counted = rw (given, left, counted, take-add at n bytes, ← drop-drop n at bytes) refl
+
+-- and a peer that gave a piece has given it and no longer has it
+pub gave_more : (p : PeerShown) (bytes : List ℕ) (at n : ℕ) → p.received ≡ take at bytes → p.left ≡ drop at bytes
+    → record p { received = take (at + n) bytes; left = drop (at + n) bytes } ≡ gave n p
+gave_more p bytes at n given left = rw (given, left, take-add at n bytes, ← drop-drop n at bytes) refl

@@ -3,9 +3,11 @@ pub mod SinkState
 pub mod LinkState
 pub mod NetState
 pub mod ReachState
+pub mod DoorState
 pub mod SocketState
 pub mod ClockState
 pub mod DialState
+pub mod ProvedLaws
 pub use Rattle.vx_io_traits.specs.Accepts
 pub use Rattle.vx_io_traits.specs.Faults
 pub use Rattle.vx_io_traits.specs.Handing
@@ -13,3 +15,4 @@ pub use Rattle.vx_io_traits.specs.Outs
 pub use Rattle.vx_io_traits.specs.Reached
 pub use Rattle.vx_io_traits.specs.Rung
 pub use Rattle.vx_io_traits.specs.Stands
+pub use Rattle.vx_door.specs.Meeting

@@ -13,7 +13,7 @@ use super::standard::{TRIES, read_retrying, write_retrying};
 use std::hint::spin_loop;
 use std::io::{ErrorKind, Read, Write};
 use std::marker::Model;
-use std::net::{Ipv4Addr, Net as Sockets, TcpListener, TcpStream};
+use std::net::{Ipv4Addr, Net as Sockets, Shutdown, TcpListener, TcpStream};
 use vx_io_traits::{Accepted, Bound, DialOut, Link, Listen, Net, Reach, ReadOut, WriteOut};
 
 /// A link over a TCP stream of the system.
@@ -48,6 +48,11 @@ impl TcpLink {
             receive_faults: 0,
             send_faults: 0,
         }
+    }
+
+    /// Tells the peer that the connection is over, as far as the system can; what was sent still comes to it.
+    pub(super) fn close(&self) {
+        let _ = self.stream.shutdown(Shutdown::Both);
     }
 }
 
@@ -155,12 +160,12 @@ fn write_now(stream: &mut TcpStream, from: &[u8]) -> Option<usize>
     taken
 }
 
-/// The link of the next connection to a port, or none where the wait failed. A connection that its peer gave up before it
+/// The stream of the next connection to a port, or none where the wait failed. A connection that its peer gave up before it
 /// was taken is passed over, up to 64 in a row.
-fn accept_retrying(listener: &TcpListener) -> Option<TcpLink> {
+pub(super) fn accept_retrying(listener: &TcpListener) -> Option<TcpStream> {
     for _ in 0..TRIES {
         match listener.accept() {
-            Ok((stream, _)) => return Some(TcpLink::new(stream)),
+            Ok((stream, _)) => return Some(stream),
             Err(error) if error.kind() == ErrorKind::ConnectionAborted => {}
             Err(_) => return None,
         }
@@ -208,7 +213,7 @@ impl Listen for TcpPort {
         ensures failed { OnAcceptFailed result (self.new ≡ one_more self.old) }
     {
         match accept_retrying(&self.listener) {
-            Some(link) => Accepted::Peer(link),
+            Some(stream) => Accepted::Peer(TcpLink::new(stream)),
             None => {
                 self.faults = self.faults.saturating_add(1);
                 Accepted::Failed
@@ -291,14 +296,14 @@ impl<R: Sockets<Listener = TcpListener, Stream = TcpStream>> Net for TcpNet<R> {
         ensures goes_on { GoesOn result }
         ensures failed { OnAcceptFailed result (self.new.faults ≡ one_more self.old.faults) }
     {
-        let link = match &self.own {
+        let stream = match &self.own {
             Some(listener) if self.given < u64::MAX => accept_retrying(listener),
             _ => None,
         };
-        match link {
-            Some(link) => {
+        match stream {
+            Some(stream) => {
                 self.given += 1;
-                Accepted::Peer(link)
+                Accepted::Peer(TcpLink::new(stream))
             }
             None => {
                 self.faults = self.faults.saturating_add(1);

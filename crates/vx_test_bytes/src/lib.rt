@@ -8,6 +8,8 @@ mod calls_targets_tests;
 #[cfg(test)]
 mod codec_tests;
 #[cfg(test)]
+mod door_tests;
+#[cfg(test)]
 mod io_tests;
 #[cfg(test)]
 mod message_tests;
