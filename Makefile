@@ -11,11 +11,12 @@ PLAYER = crates/vxplay/out/vxplay
 SERVER = crates/vxgate/out/vxgate
 CLIENT = crates/vxcall/out/vxcall
 RATE = crates/vx_gate_rate/out/vx_gate_rate
+LOOP = crates/vx_loop_once/out/vx_loop_once
 
 # what `make bench` measures beside this server and this gate, as 'NAME=PROGRAM .. --gate NAME=PROGRAM'
 OTHERS =
 
-.PHONY: try play serve install player server client rate test bench memory
+.PHONY: try play serve install player server client rate loop test bench memory
 
 # the same script without a proof
 try:
@@ -51,13 +52,17 @@ client:
 rate:
 	cd crates/vx_gate_rate && rt run -- 1 1 < /dev/null > /dev/null
 
+# a program with a client and a gateway in it
+loop:
+	cd crates/vx_loop_once && rt run < /dev/null > /dev/null
+
 # It takes some ten minutes, and wants a C compiler as cc and a machine that does nothing else. bench/bench.py says what it prints.
 bench: server rate
 	python3 bench/bench.py $(OTHERS) this=$(SERVER) --gate this=$(RATE)
 
-# It runs each of the three programs once for each allocation that it makes, in some ten seconds, and wants a C compiler as cc.
-memory: player server client
-	python3 .ci/memory.py $(PLAYER) $(SERVER) $(CLIENT)
+# It runs each of four programs once for each allocation that it makes, in some ten seconds, and wants a C compiler as cc.
+memory: player server client loop
+	python3 .ci/memory.py $(PLAYER) $(SERVER) $(CLIENT) $(LOOP)
 
 test:
 	bash .ci/run

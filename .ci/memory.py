@@ -1,11 +1,13 @@
 #!/usr/bin/env python3
-"""Refuses each allocation of the three programs in turn, and says in one table what came of it.
+"""Refuses each allocation of the three programs, and of one that has a client and a gateway in it, in turn, and says in one table
+what came of it.
 
-    memory.py PLAYER SERVER CLIENT
+    memory.py PLAYER SERVER CLIENT LOOP
 
 A program runs once for each allocation that it makes, with that one refused: `refuse.c`, which `cc` compiles, is preloaded. The
 player plays `examples/session.vxs`, the client asks `*IDN?` of a server, and the server of `examples/bench.txt` is asked the same
-by three clients. A refused allocation has to end the program with its status for want of memory, with a front of its output
+by three clients. The loop asks an instrument of its own, and makes a link or a client once more of what a refused one handed
+back, so that it goes on where one of those is refused. A refused allocation has to end the program with its status for want of memory, with a front of its output
 written, or to leave it as it is; at a running server it may end the link of one client, and the others and a next one are served. The script
 ends with status 1 where something else came of one.
 """
@@ -77,6 +79,19 @@ def of_player(folder, player):
     return sweep(folder, run)
 
 
+def of_loop(folder, loop):
+    whole = subprocess.run([loop], stdin=subprocess.DEVNULL, capture_output=True, timeout=PATIENCE, check=True).stdout
+
+    def run(number):
+        status, output = ended(folder, number, [loop])
+        return ["ended" if is_lacking(status, output, whole) else "went on"]
+
+    count, counts = sweep(folder, run)
+    if not counts.get("went on"):
+        raise Wrong("nothing that was handed back was used again")
+    return count, counts
+
+
 def two_free_ports():
     with socket.socket() as one, socket.socket() as other:
         one.bind(("127.0.0.1", 0))
@@ -139,15 +154,16 @@ def of_server(folder, server, client):
 
 
 def main(words):
-    if len(words) != 3:
+    if len(words) != 4:
         sys.exit(__doc__)
-    player, server, client = [os.path.realpath(word) for word in words]
+    player, server, client, loop = [os.path.realpath(word) for word in words]
     with tempfile.TemporaryDirectory() as folder:
         subprocess.run(["cc", "-O2", "-shared", "-fPIC", "-o", f"{folder}/refuse.so", TOP / ".ci/refuse.c", "-ldl"], check=True)
         rows = [
             ("`vxplay` plays `examples/session.vxs`", of_player, (player,)),
             ("`vxcall` asks a server", of_client, (client, server)),
             ("`vxgate` serves clients", of_server, (server, client)),
+            ("`vx_loop_once`, a client over a gateway in the same program", of_loop, (loop,)),
         ]
         print("| | allocations | ended for want of memory | went on | of these, a client was refused and the next served |")
         print("|---|---:|---:|---:|---:|")

@@ -1,0 +1,91 @@
+//! A client and a gateway in one program: a text is written to an instrument that gives it back, is read again, and what came
+//! back is printed. A link or a client for which there is no memory hands back what it was to stand on, and is made of that once
+//! more. The exit status is 5 where memory runs out otherwise, and 4 where a call fails. `make memory` refuses it each allocation
+//! in turn.
+#![tactic(auto)]
+
+ghost use Rattle.std.specs.Prelude.{IfSome};
+ghost use Rattle.vx_loop.specs.LoopState.{IsUnconnected};
+
+use std::alloc::Global;
+use std::process::ExitCode;
+use vx_488::Addr;
+use vx_client::{CallOpts, Client, ClientErr};
+use vx_core::Core;
+use vx_loop::LoopLink;
+use vx_rack::Echo;
+use vx_sim::SimBus;
+
+/// The exit status where a call fails.
+const FAILED: u8 = 4;
+
+/// The exit status for want of memory.
+const NO_MEMORY: u8 = 5;
+
+const ABORT_PORT: u16 = 9011;
+
+const TEXT: &str = "*IDN?";
+
+/// With END on the last byte; 10 seconds at the device, in milliseconds; no wait for a lock.
+const OPTS: CallOpts = CallOpts {
+    flags: 8,
+    io_timeout: 10000,
+    lock_timeout: 0,
+};
+
+/// A gateway with an instrument at 5 that gives back what it is sent.
+fn gateway(alloc: Global) -> Option<Core<SimBus<Echo>>>
+    ensures { IfSome result (λ core. IsUnconnected core.fine) }
+{
+    let echo = Echo::new(alloc).ok()?;
+    let mut bus = SimBus::new(alloc).ok()?;
+    bus.attach_box(Addr { p: 5, s: None }, echo).ok()?;
+    Core::start(alloc, bus, ABORT_PORT).ok()
+}
+
+/// A link to a gateway; where it is refused, one to the gateway that came back.
+fn link(alloc: Global, core: Core<SimBus<Echo>>) -> Option<LoopLink<Echo>>
+    requires { IsUnconnected core.fine }
+{
+    match LoopLink::new(alloc, core) {
+        Ok(link) => Some(link),
+        Err(refused) => LoopLink::new(alloc, refused.core).ok(),
+    }
+}
+
+/// A client over a link; where it is refused, one over the link that came back.
+fn client(alloc: Global, link: LoopLink<Echo>) -> Option<Client<LoopLink<Echo>>> {
+    match Client::new(alloc, link) {
+        Ok(client) => Some(client),
+        Err(refused) => Client::new(alloc, refused.link).ok(),
+    }
+}
+
+/// Writes the text, reads as many bytes again, and answers whether they are the text.
+fn ask(client: &mut Client<LoopLink<Echo>>, into: &mut [u8]) -> Result<bool, ClientErr> {
+    let made = client.create_link(false, 0, b"gpib0,5")?;
+    if made.max == 0 {
+        return Ok(false);
+    }
+    client.write(&made, &OPTS, TEXT.as_bytes())?;
+    let end = client.read(made.lid, &OPTS, 0, into)?;
+    Ok(end.len == TEXT.len() && &*into == TEXT.as_bytes())
+}
+
+/// Makes all of it, where there is memory.
+fn made(alloc: Global) -> Option<Client<LoopLink<Echo>>> {
+    let core = gateway(alloc)?;
+    let link = link(alloc, core)?;
+    client(alloc, link)
+}
+
+fn main(rt: HostRuntime) -> ExitCode {
+    let Some(mut client) = made(rt.alloc()) else {
+        return ExitCode::from(NO_MEMORY);
+    };
+    let mut into = [0u8; TEXT.len()];
+    match ask(&mut client, &mut into) {
+        Ok(true) if println!(rt; "{TEXT}").is_ok() => ExitCode::SUCCESS,
+        _ => ExitCode::from(FAILED),
+    }
+}
