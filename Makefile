@@ -10,13 +10,14 @@ PREFIX = /usr/local
 PLAYER = crates/vxplay/out/vxplay
 SERVER = crates/vxgate/out/vxgate
 CLIENT = crates/vxcall/out/vxcall
+MAPPER = crates/vxmap/out/vxmap
 RATE = crates/vx_gate_rate/out/vx_gate_rate
 LOOP = crates/vx_loop_once/out/vx_loop_once
 
 # what `make bench` measures beside this server and this gate, as 'NAME=PROGRAM .. --gate NAME=PROGRAM'
 OTHERS =
 
-.PHONY: try play serve install player server client rate loop test bench memory
+.PHONY: try play serve install player server client mapper rate loop test bench memory
 
 # the same script without a proof
 try:
@@ -32,9 +33,9 @@ serve: server
 	$(SERVER) $(OPTIONS) < $(BENCH)
 
 # PREFIX=$HOME/.local puts them where no other user is concerned.
-install: player server client
+install: player server client mapper
 	install -d $(DESTDIR)$(PREFIX)/bin
-	install -m 755 $(PLAYER) $(SERVER) $(CLIENT) $(DESTDIR)$(PREFIX)/bin
+	install -m 755 $(PLAYER) $(SERVER) $(CLIENT) $(MAPPER) $(DESTDIR)$(PREFIX)/bin
 
 # Each of these proves and builds a program and all below it; where nothing changed, it only runs the program once. The lines
 # of rt itself go to standard error.
@@ -44,9 +45,12 @@ player:
 server:
 	cd crates/vxgate && rt run -- --version < /dev/null > /dev/null
 
-# without words the client ends with status 1, so that it was made shows that it was proved
+# without words the client and the port mapper end with status 1, so that one was made shows that it was proved
 client:
 	cd crates/vxcall && rm -f out/vxcall && { rt run < /dev/null > /dev/null || test -x out/vxcall; }
+
+mapper:
+	cd crates/vxmap && rm -f out/vxmap && { rt run < /dev/null > /dev/null || test -x out/vxmap; }
 
 # a program that takes turns at a gate on some threads
 rate:

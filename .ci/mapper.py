@@ -1,0 +1,226 @@
+#!/usr/bin/env python3
+"""Tests the port mapper `vxmap`, whose path is the one word, over sockets of this host.
+
+Whole messages are composed here from their words, by RFC 1833 and RFC 5531. Each case takes its own port. What goes wrong, and at
+last 'N passed, M failed', goes to standard error; the status is 1 where something went wrong.
+"""
+import concurrent.futures
+import socket
+import struct
+import subprocess
+import sys
+import time
+
+CORE, ABORT = 9010, 9011
+PATIENCE = 60  # seconds
+SILENCE = 30  # seconds after which a peer that says nothing is left
+MAPPINGS = (1, 0x0607AF, 1, 6, CORE, 1, 0x0607B0, 1, 6, ABORT, 0)
+
+
+def words(*numbers):
+    return struct.pack(f">{len(numbers)}I", *numbers)
+
+
+def call(procedure, *arguments, xid=9, program=100000, version=2, rpc=2):
+    return words(xid, 0, rpc, program, version, procedure, 0, 0, 0, 0, *arguments)
+
+
+def done(*results, xid=9):
+    return words(xid, 1, 0, 0, 0, 0, *results)
+
+
+def refused(*numbers, xid=9):
+    return words(xid, 1, 0, 0, 0, *numbers)
+
+
+def record(message):
+    return words(0x80000000 | len(message)) + message
+
+
+def free_port(kind):
+    with socket.socket(type=kind) as one:
+        one.bind(("127.0.0.1", 0))
+        return one.getsockname()[1]
+
+
+class Mapper:
+    """A mapper that serves so many, in a `with` block."""
+
+    def __init__(self, program, word, number):
+        self.kind = socket.SOCK_STREAM if word == "stream" else socket.SOCK_DGRAM
+        self.port = free_port(self.kind)
+        self.words = [program, word, str(self.port), str(CORE), str(ABORT), str(number)]
+
+    def __enter__(self):
+        self.process = subprocess.Popen(self.words, stdout=subprocess.PIPE)
+        wanted = f"mapping {self.port}\n".encode()
+        assert self.process.stdout.readline() == wanted, "the port isn't open"
+        return self
+
+    def __exit__(self, *_):
+        self.process.kill()
+        self.process.wait()
+        self.process.stdout.close()
+
+    def peer(self):
+        peer = socket.socket(type=self.kind)
+        peer.settimeout(PATIENCE)
+        peer.connect(("127.0.0.1", self.port))
+        return peer
+
+    def ended(self, number):
+        assert self.process.wait(PATIENCE) == 0, "another status"
+        assert self.process.stdout.read() == f"served {number}\n".encode(), "another number"
+
+
+def read_all(peer):
+    """What comes until the other side closes."""
+    parts = []
+    while part := peer.recv(65536):
+        parts.append(part)
+    return b"".join(parts)
+
+
+def asked(mapper, stream):
+    """What a peer that sends this, and no more, is sent."""
+    with mapper.peer() as peer:
+        peer.sendall(stream)
+        peer.shutdown(socket.SHUT_WR)
+        return read_all(peer)
+
+
+GETPORT = call(3, 0x0607AF, 1, 6, 0)
+
+# messages and their replies, or none
+ANSWERS = [
+    (GETPORT, done(CORE)),
+    (call(3, 0x0607B0, 1, 6, 7), done(ABORT)),
+    (call(3, 0x0607AF, 1, 17, 0), done(0)),
+    (call(3, 0x0607AF, 2, 6, 0), done(0)),
+    (call(0), done()),
+    (call(4), done(*MAPPINGS)),
+    (call(1, 1, 2, 3, 4), refused(3)),
+    (call(2, 0x0607AF, 1, 6, 0), refused(3)),
+    (call(5, 1, 2, 3, 4), refused(3)),
+    (call(0, version=3), refused(2, 2, 2)),
+    (call(0, program=100003), refused(1)),
+    (call(0, rpc=3), words(9, 1, 1, 0, 2, 2)),
+    (call(3, 1, 2), refused(4)),
+    (call(4, 0), refused(4)),
+]
+
+
+def on_one_stream(program):
+    with Mapper(program, "stream", 1) as mapper:
+        stream = b"".join(record(message) for message, _ in ANSWERS)
+        wanted = b"".join(record(reply) for _, reply in ANSWERS)
+        assert asked(mapper, stream) == wanted, "another answer"
+        mapper.ended(1)
+
+
+def byte_by_byte(program):
+    with Mapper(program, "stream", 1) as mapper, mapper.peer() as peer:
+        peer.setsockopt(socket.IPPROTO_TCP, socket.TCP_NODELAY, 1)
+        for byte in record(GETPORT):
+            peer.sendall(bytes([byte]))
+        peer.shutdown(socket.SHUT_WR)
+        assert read_all(peer) == record(done(CORE)), "another answer"
+
+
+def by_packets(program):
+    with Mapper(program, "packets", len(ANSWERS)) as mapper, mapper.peer() as peer:
+        for message, reply in ANSWERS:
+            peer.send(message)
+            assert peer.recv(65536) == reply, "another answer"
+        mapper.ended(len(ANSWERS))
+
+
+def two_senders(program):
+    with Mapper(program, "packets", 2) as mapper, mapper.peer() as one, mapper.peer() as other:
+        one.send(call(0, xid=1))
+        other.send(call(0, xid=2))
+        assert one.recv(64) == done(xid=1) and other.recv(64) == done(xid=2), "an answer went astray"
+
+
+def packets_without_an_answer(program):
+    with Mapper(program, "packets", 5) as mapper, mapper.peer() as peer:
+        for packet in (b"", b"nothing", done(1), call(0) + bytes(9000), GETPORT):
+            peer.send(packet)
+        # of the long one the first 1,024 bytes are read, which are a call with arguments too many
+        assert peer.recv(65536) == refused(4), "another answer to a long packet"
+        assert peer.recv(65536) == done(CORE), "another answer"
+        mapper.ended(5)
+
+
+def hostile_streams(program):
+    streams = [b"", record(b"nothing"), record(done(1)), words(0x80000401), words(1024) + bytes(1024) + words(1), words(0x800003FF)[:3]]
+    with Mapper(program, "stream", len(streams) + 1) as mapper:
+        for stream in streams:
+            assert asked(mapper, stream) == b"", "junk is answered"
+        assert asked(mapper, record(GETPORT)) == record(done(CORE)), "the next peer isn't served"
+        mapper.ended(len(streams) + 1)
+
+
+def sixteen_mebibytes(program):
+    with Mapper(program, "stream", 2) as mapper:
+        with mapper.peer() as peer:
+            empty = words(0) * 16384  # fragments of no bytes, which never make a record
+            try:
+                for _ in range(512):
+                    peer.sendall(empty)
+                peer.shutdown(socket.SHUT_WR)
+                read_all(peer)
+            except OSError:
+                pass  # the mapper closed the stream behind 16 MiB
+        assert asked(mapper, record(GETPORT)) == record(done(CORE)), "the next peer isn't served"
+        mapper.ended(2)
+
+
+def a_peer_that_vanishes(program):
+    with Mapper(program, "stream", 2) as mapper:
+        with mapper.peer() as peer:
+            peer.setsockopt(socket.SOL_SOCKET, socket.SO_LINGER, struct.pack("ii", 1, 0))
+            peer.sendall(record(GETPORT)[:9])
+        assert asked(mapper, record(GETPORT)) == record(done(CORE)), "the next peer isn't served"
+
+
+def a_silent_peer(program):
+    with Mapper(program, "stream", 2) as mapper, mapper.peer():
+        start = time.monotonic()
+        assert asked(mapper, record(GETPORT)) == record(done(CORE)), "the next peer isn't served"
+        assert SILENCE - 5 < time.monotonic() - start < SILENCE + 15, "after another time"
+
+
+def a_taken_port(program):
+    with Mapper(program, "stream", 1) as mapper:
+        done = subprocess.run(mapper.words, capture_output=True, timeout=PATIENCE)
+        assert (done.returncode, done.stdout) == (3, b""), "a taken port is served"
+    done = subprocess.run([program, "packets", "1", "2", "3"], capture_output=True, timeout=PATIENCE)
+    assert (done.returncode, done.stdout) == (1, b"usage: vxmap KIND PORT CORE ABORT N\n"), "other words are taken"
+
+
+CASES = [a_silent_peer, on_one_stream, byte_by_byte, by_packets, two_senders, packets_without_an_answer, hostile_streams,
+         sixteen_mebibytes, a_peer_that_vanishes, a_taken_port]
+
+
+def passes(case, program):
+    try:
+        case(program)
+        return True
+    except (AssertionError, OSError, subprocess.SubprocessError) as wrong:
+        print(f"{case.__name__}: {wrong!r}", file=sys.stderr)
+        return False
+
+
+def main(programs):
+    if len(programs) != 1:
+        sys.exit("usage: mapper.py MAPPER")
+    with concurrent.futures.ThreadPoolExecutor(len(CASES)) as pool:
+        outcomes = list(pool.map(lambda case: passes(case, programs[0]), CASES))
+    passed = outcomes.count(True)
+    print(f"{passed} passed, {len(outcomes) - passed} failed", file=sys.stderr)
+    return 0 if passed == len(outcomes) else 1
+
+
+if __name__ == "__main__":
+    sys.exit(main(sys.argv[1:]))

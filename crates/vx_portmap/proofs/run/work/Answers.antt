@@ -1,0 +1,33 @@
+use Rattle.vx_door.specs.ProvedLaws.{went_keeps}
+use Rattle.std.proofs.Common.{sym, subst}
+use Rattle.vx_door.specs.Shown.{door_shown}
+use Rattle.vx_door.specs.Running.{ServesPeers}
+use Rattle.vx_portmap.specs.Mapped.{StreamMapped, is_own, is_whole}
+use Rattle.vx_portmap.specs.Outside.{link_shown}
+use Rattle.vx_portmap.specs.Packing.{box_shown}
+use Rattle.vx_portmap.specs.Outcome.{Shows, Works}
+use Rattle.vx_portmap.proofs.run.work.Goals as goal
+
+pub returns-in-Stream : goal.returns-in-Stream
+returns-in-Stream g c =
+    let n : Shows g.row.N.Denot = record {
+      stands = g.N.Link.stands;
+      receives = g.N.Link.receives;
+      sends = g.N.Link.sends;
+      tells = g.N.Door.tells;
+      waits = g.N.Door.meets;
+      door = door_shown g.N.Door.met g.N.Door.ended g.N.Door.faults g.N.Link.receive_faults g.N.Link.send_faults g.N.Link.left g.N.Link.peers;
+      link = link_shown g.N.Link.left g.N.Link.peers g.N.Link.receive_faults g.N.Link.send_faults;
+      box = box_shown g.N.Packets.packets_left g.N.Packets.packets_given g.N.Packets.packets_moved g.N.Packets.packets_ended g.N.Packets.take_faults g.N.Packets.give_faults;
+      box_faults = g.N.MapNet.box_faults;
+    } in
+    let serves = subst (λ s. ServesPeers n.stands n.tells n.waits n.door (StreamMapped n.stands n.receives n.sends n.link) is_own is_whole s c.args.net.now c.args.ask.now.number c.serve_door-end.result.0 c.serve_door-end.result.1 c.serve_door-end.new.server c.serve_door-end.new.door) c.new-mapper.ensures c.serve_door-end.ensures.served in
+    subst (λ k. Works n k c.args.ports c.args.ask.now.number c.args.net.now c.end_of_door.result c.serve_door-end.result.1 c.serve_door-end.new.door) (sym c.in-Stream.is)
+    (record {
+      ended = c.serve_door-end.result.0;
+      how_is = c.end_of_door.ensures;
+      left = c.serve_door-end.new.server;
+      serves = serves;
+      counts = serves.over
+          (λ s t d e how did. went_keeps g.N.Link.receives g.N.Link.sends g.N.Door.met g.N.Door.ended g.N.Door.faults g.met.N.Door.receive_keeps g.met.N.Door.send_keeps d e did.went);
+    })

@@ -1,0 +1,69 @@
+use Rattle.vx_door.specs.Going.{Not_yet, By_receive}
+use Rattle.vx_portmap.proofs.Moving.{went-then}
+use Rattle.std.proofs.Common.{◌≡◌, length, take, inl, inr, refl, ap, ◌∙◌, arith}
+use Rattle.std.proofs.lemmas.List.{length-take-le}
+use Rattle.vx_portmap.specs.Outside.{link_shown}
+use Rattle.vx_portmap.specs.Streaming.{input_end}
+use Rattle.vx_portmap.proofs.streams.serve_next.Goals as goal
+
+pub returns-in-Failed-clause-serves : goal.returns-in-Failed-clause-serves
+returns-in-Failed-clause-serves g c = inr
+    (record {
+      ended = record {
+        stays = c.in-Failed.ensures.failed.2;
+        left = c.in-Failed.ensures.failed.1;
+        peers = c.in-Failed.ensures.peers;
+        receives = c.in-Failed.ensures.counted;
+        sends = c.in-Failed.ensures.apart;
+      };
+      why = inl (refl, c.in-Failed.ensures.failed.0);
+    })
+
+pub returns-in-End-clause-serves : goal.returns-in-End-clause-serves
+returns-in-End-clause-serves g c = inr
+    (record {
+      ended = record {
+        stays = c.in-End.ensures.end.2;
+        left = c.in-End.ensures.end.1;
+        peers = c.in-End.ensures.peers;
+        receives = c.in-End.ensures.counted;
+        sends = c.in-End.ensures.apart;
+      };
+      why = inr (c.end_of_input.ensures ∙ ap input_end c.rest.ensures.rest, c.in-End.ensures.end.0);
+    })
+
+pub returns-in-None-clause-serves : goal.returns-in-None-clause-serves
+returns-in-None-clause-serves g c =
+    let len : length (take c.in-Got.count c.receive.new.into) ≡ c.in-Got.count = length-take-le c.in-Got.count c.receive.new.into c.in-Got.ensures.got.1 in (
+      record {
+        piece = take c.in-Got.count c.receive.new.into;
+        mid = c.receive.new.self;
+        mid_seen = link_shown g.L.Link.left g.L.Link.peers g.L.Link.receive_faults g.L.Link.send_faults c.receive.new.self;
+        fits = omega (arith, c.in-Got.ensures.got.1, c.receive.auto.into);
+        gave = record {
+          gives = c.in-Got.ensures.got.3;
+          goes = record {
+            left = c.in-Got.ensures.got.2;
+            peers = c.in-Got.ensures.peers;
+            receives = c.in-Got.ensures.counted;
+            sends = omega (arith, c.in-Got.ensures.apart);
+          };
+        };
+        serves = c.in-None.ensures.serves;
+      },
+      len,
+    )
+
+pub returns-in-Failed-clause-went : goal.returns-in-Failed-clause-went
+returns-in-Failed-clause-went g c = By_receive _ c.args.link.now _ _ _ _ (Not_yet _) c.in-Failed.ensures.receives
+
+pub returns-in-End-clause-went : goal.returns-in-End-clause-went
+returns-in-End-clause-went g c = By_receive _ c.args.link.now _ _ _ _ (Not_yet _) c.in-End.ensures.receives
+
+pub returns-in-None-clause-went : goal.returns-in-None-clause-went
+returns-in-None-clause-went g c =
+    went-then g.L.Link.receives g.L.Link.sends _ _ _ (By_receive _ c.args.link.now _ _ _ _ (Not_yet _) c.in-Got.ensures.receives) c.serve_piece.ensures.went
+
+pub returns-in-Some-clause-went : goal.returns-in-Some-clause-went
+returns-in-Some-clause-went g c =
+    went-then g.L.Link.receives g.L.Link.sends _ _ _ (By_receive _ c.args.link.now _ _ _ _ (Not_yet _) c.in-Got.ensures.receives) c.serve_piece.ensures.went

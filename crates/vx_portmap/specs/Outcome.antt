@@ -1,0 +1,179 @@
+-- How a run of the port mapper ends: for each status, what was opened and served, what was printed, and why.
+use Rattle.std.specs.Prelude.{◌≡◌, ◌≢◌, ◌≤◌, ◌⊎◌, ℕ, Bool, List, [], ◌∷◌, ◌++◌}
+use Rattle.std.specs.Io.KnownBytes.{Appends}
+use Rattle.vx_io_traits.specs.Faults.{Rose}
+use Rattle.vx_io_traits.specs.Stands.{Stays}
+use Rattle.vx_io_traits.specs.Rung.{OnDialFailed}
+use Rattle.vx_io_traits.specs.declared.dials.DialOut.{DialOut}
+use Rattle.vx_io_traits.specs.declared.dials.DialOut.TheVariants.{Up, Failed}
+use Rattle.vx_io_traits.specs.declared.ReadOut.{ReadOut}
+use Rattle.vx_io_traits.specs.declared.WriteOut.{WriteOut}
+use Rattle.vx_text.specs.Ends.{End}
+use Rattle.vx_text.specs.Writing.{StopsIn}
+use Rattle.vx_door.specs.Shown.{DoorShown}
+use Rattle.vx_door.specs.Running.{ServesPeers, RoseOver}
+use Rattle.vx_door.specs.declared.doors.Met.{Met}
+use Rattle.vx_door.specs.declared.serving.DoorEnd.{DoorEnd}
+use Rattle.vx_door.specs.declared.serving.DoorEnd.TheVariants as door
+use Rattle.vx_portmap.specs.declared.table.Mapping.{Mapping}
+use Rattle.vx_portmap.specs.declared.serving.PacketEnd.{PacketEnd}
+use Rattle.vx_portmap.specs.declared.serving.PacketEnd.TheVariants as packet
+use Rattle.vx_portmap.specs.declared.words.Kind.{Kind}
+use Rattle.vx_portmap.specs.declared.words.Kind.TheVariants as kind
+use Rattle.vx_portmap.specs.declared.words.Ask.{Ask}
+use Rattle.vx_portmap.specs.declared.run.WorkEnd.{WorkEnd}
+use Rattle.vx_portmap.specs.declared.run.WorkEnd.TheVariants as work
+use Rattle.vx_portmap.specs.declared.run.Status.{Status}
+use Rattle.vx_portmap.specs.declared.run.Status.TheVariants as status
+use Rattle.vx_portmap.specs.Asked.{spelled, IsInRange}
+use Rattle.vx_portmap.specs.Due.{mapping_line, served_line, usage_line}
+use Rattle.vx_portmap.specs.Mapped.{StreamMapped, is_own, is_whole}
+use Rattle.vx_portmap.specs.Outside.{LinkShown}
+use Rattle.vx_portmap.specs.Packing.{BoxShown, PacketsCounted}
+
+-- the number of a status
+abbrev pub status_number : Status → ℕ
+status_number status.Served = 0
+status_number status.Usage = 1
+status_number status.NetFailed = 3
+status_number status.NoMemory = 5
+status_number status.SinkFailed = 6
+
+-- what a net is to what is said of it: its door's link, its door, its box of packets
+pub record Shows (N : Type 0) : Type 1 where
+  pub stands : N → List ℕ → List ℕ → Type 0
+  pub receives : N → List ℕ → ReadOut → List ℕ → N → Type 0
+  pub sends : N → List ℕ → WriteOut → N → Type 0
+  pub tells : Bool
+  pub waits : N → Met → N → Type 0
+  pub door : N → DoorShown
+  pub link : N → LinkShown
+  pub box : N → BoxShown
+  pub box_faults : N → ℕ
+
+-- the programs of the core and of the abort channel, version 1 over TCP, at the ports that are asked for (VXI-11, B.4)
+abbrev pub mappings : Ask → List Mapping
+mappings ask =
+    record { prog = 0x0607AF; vers = 1; prot = 6; port = ask.core }
+    ∷ record { prog = 0x0607B0; vers = 1; prot = 6; port = ask.abort }
+    ∷ []
+
+-- these words ask this
+pub record Asks (words : List (List ℕ)) (ask : Ask) : Type 0 where
+  pub range : IsInRange ask
+  pub words_are : words ≡ spelled ask
+
+-- words that ask nothing
+abbrev pub AsksNothing : List (List ℕ) → Type 0
+AsksNothing words = (ask : Ask) → IsInRange ask → words ≢ spelled ask
+
+-- opening the door leaves its link and its peers as they are
+pub record OpensDoor {N : Type 0} (n : Shows N) (old : N) (answer : DialOut) (new : N) : Type 0 where
+  pub counted : (n.door old).faults ≤ (n.door new).faults
+  pub failed : OnDialFailed answer (Rose (n.door old).faults (n.door new).faults)
+  pub met : (n.door new).met ≡ (n.door old).met
+  pub ended : (n.door new).ended ≡ (n.door old).ended
+  pub receives : (n.door new).receive_faults ≡ (n.door old).receive_faults
+  pub sends : (n.door new).send_faults ≡ (n.door old).send_faults
+  pub stays : Stays n.stands old new
+
+pub record OpensBox {N : Type 0} (n : Shows N) (old : N) (answer : DialOut) (new : N) : Type 0 where
+  pub counted : n.box_faults old ≤ n.box_faults new
+  pub failed : OnDialFailed answer (Rose (n.box_faults old) (n.box_faults new))
+
+-- the port was opened for streams or for packets, or couldn't be
+abbrev pub Opens : {N : Type 0} → Shows N → Kind → N → DialOut → N → Type 0
+Opens n kind.Stream old answer new = OpensDoor n old answer new
+Opens n kind.Packets old answer new = OpensBox n old answer new
+
+-- how the work over a door ended, and over a box
+abbrev pub door_end : DoorEnd → WorkEnd
+door_end door.Served = work.Done
+door_end door.Ended = work.Done
+door_end door.Failed = work.Failed
+
+abbrev pub packets_end : PacketEnd → WorkEnd
+packets_end packet.Served = work.Done
+packets_end packet.Ended = work.Done
+packets_end packet.ReadFault = work.Failed
+packets_end packet.WriteFault = work.Failed
+
+-- the streams of a door's peers were served one after another
+pub record ServesStreams {N : Type 0} (n : Shows N) (ports : List Mapping) (limit : ℕ) (old : N) (how : WorkEnd) (number : ℕ) (new : N) : Type 0 where
+  pub ended : DoorEnd
+  pub how_is : how ≡ door_end ended
+  pub left : List Mapping
+  pub serves : ServesPeers n.stands n.tells n.waits n.door (StreamMapped n.stands n.receives n.sends n.link) is_own is_whole ports old limit ended number left new
+  -- the door met so many, and where it told that no more come, or failed, that count rose
+  pub counts : RoseOver ended number (n.door old) (n.door new)
+
+-- the packets of a box were answered one after another
+pub record ServesPackets {N : Type 0} (n : Shows N) (ports : List Mapping) (limit : ℕ) (old : N) (how : WorkEnd) (number : ℕ) (new : N) : Type 0 where
+  pub ended : PacketEnd
+  pub how_is : how ≡ packets_end ended
+  pub serves : PacketsCounted ports limit (n.box old) ended number (n.box new)
+
+-- so many streams or packets were served
+abbrev pub Works : {N : Type 0} → Shows N → Kind → List Mapping → ℕ → N → WorkEnd → ℕ → N → Type 0
+Works n kind.Stream ports limit old how number new = ServesStreams n ports limit old how number new
+Works n kind.Packets ports limit old how number new = ServesPackets n ports limit old how number new
+
+-- a line was written by a run that ends so, or the sink failed in it
+abbrev pub PutsLine : Status → List ℕ → End → End → Status → Type 0
+PutsLine how line before after result =
+    ((result ≡ how) × Appends before.bytes after.bytes line) ⊎ ((result ≡ status.SinkFailed) × StopsIn before after line)
+
+-- all was served that was to be, and both lines were written
+pub record ServesAll {N : Type 0} (n : Shows N) (ask : Ask) (old new : N) (before after : End) : Type 0 where
+  pub number : ℕ
+  pub works : Works n ask.kind (mappings ask) ask.number old work.Done number new
+  pub written : Appends before.bytes after.bytes (mapping_line ask.port ++ served_line number)
+
+-- the door or the box failed behind the first line
+pub record Fails {N : Type 0} (n : Shows N) (ask : Ask) (old new : N) (before after : End) : Type 0 where
+  pub number : ℕ
+  pub works : Works n ask.kind (mappings ask) ask.number old work.Failed number new
+  pub written : Appends before.bytes after.bytes (mapping_line ask.port)
+
+-- the sink failed in the first line, and nothing was served
+abbrev pub StopsFirst : {N : Type 0} → Ask → N → N → End → End → Type 0
+StopsFirst ask old new before after = (new ≡ old) × StopsIn before after (mapping_line ask.port)
+
+-- or it failed in the second
+pub record StopsSecond {N : Type 0} (n : Shows N) (ask : Ask) (old new : N) (before after : End) : Type 0 where
+  pub number : ℕ
+  pub works : Works n ask.kind (mappings ask) ask.number old work.Done number new
+  pub between : End
+  pub written : Appends before.bytes between.bytes (mapping_line ask.port)
+  pub stops : StopsIn between after (served_line number)
+
+-- how the work at a port that was opened ends
+abbrev pub IsServed : {N : Type 0} → Shows N → Ask → N → N → End → End → Status → Type 0
+IsServed n ask old new before after status.Served = ServesAll n ask old new before after
+IsServed n ask old new before after status.NetFailed = Fails n ask old new before after
+IsServed n ask old new before after status.SinkFailed = StopsFirst ask old new before after ⊎ StopsSecond n ask old new before after
+IsServed n ask old new before after _ = ⊥
+
+-- the port was opened, and the work there ended so
+pub record Serves {N : Type 0} (n : Shows N) (ask : Ask) (old new : N) (before after : End) (how : Status) : Type 0 where
+  pub opened : N
+  pub opens : Opens n ask.kind old Up opened
+  pub serves : IsServed n ask opened new before after how
+
+-- How what is asked ends: there was no memory, and nothing was opened or written; or the port couldn't be opened, and nothing was
+-- written; or the work there ended.
+abbrev pub IsAskRun : {N : Type 0} → Shows N → Ask → N → N → End → End → Status → Type 0
+IsAskRun n ask old new before after status.NoMemory = (new ≡ old) × (after ≡ before)
+IsAskRun n ask old new before after status.NetFailed =
+    (Opens n ask.kind old Failed new × (after ≡ before)) ⊎ Serves n ask old new before after status.NetFailed
+IsAskRun n ask old new before after how = Serves n ask old new before after how
+
+-- How a run ends: the words ask nothing, which is told; or what they ask is done.
+abbrev pub IsRun : {N : Type 0} → Shows N → List (List ℕ) → N → N → End → End → Status → Type 0
+IsRun n words old new before after how =
+    (AsksNothing words × (new ≡ old) × (((how ≡ status.Usage) × Appends before.bytes after.bytes usage_line) ⊎ ((how ≡ status.SinkFailed) × StopsIn before after usage_line)))
+    ⊎ ((ask : Ask) × Asks words ask × IsAskRun n ask old new before after how)
+
+-- it ends with the number of its status
+abbrev pub EndsRun : {N : Type 0} → Shows N → List (List ℕ) → N → N → End → End → ℕ → Type 0
+EndsRun n words old new before after number = (how : Status) × (number ≡ status_number how) × IsRun n words old new before after how

@@ -1,0 +1,20 @@
+-- What can be known of a link.
+use Rattle.std.specs.Prelude.{◌≤◌, ℕ, List, Option}
+use Rattle.std.specs.Io.KnownBytes.{Consumes, Keeps}
+
+-- what it has left to give and the peers that it has had, where it tells them; its counts of faults
+pub record LinkShown : Type 0 where
+  pub left : Option (List ℕ)
+  pub peers : Option (List ℕ)
+  pub receive_faults : ℕ
+  pub send_faults : ℕ
+
+abbrev pub link_shown : {L : Type 0} → (L → Option (List ℕ)) → (L → Option (List ℕ)) → (L → ℕ) → (L → ℕ) → L → LinkShown
+link_shown left peers receives sends l = record { left = left l; peers = peers l; receive_faults = receives l; send_faults = sends l }
+
+-- it gave these bytes; its peers stay, and its counts don't fall
+pub record LinkGoes (old : LinkShown) (received : List ℕ) (new : LinkShown) : Type 0 where
+  pub left : Consumes old.left new.left received
+  pub peers : Keeps old.peers new.peers
+  pub receives : old.receive_faults ≤ new.receive_faults
+  pub sends : old.send_faults ≤ new.send_faults

@@ -1,0 +1,94 @@
+//! What the words of a user ask of the port mapper.
+ghost use Rattle.std.specs.Prelude.{◌≡◌, ◌≢◌, ◌≤◌, ℕ, map, string_bytes, decimal, IfSome, None};
+ghost use Rattle.vx_portmap.specs.declared.words.Ask.{Ask};
+ghost use Rattle.vx_portmap.specs.declared.words.Kind.{Kind};
+ghost use Rattle.vx_portmap.specs.Asked.{kind_word, spelled, IsInRange};
+
+use itoa::Buffer;
+
+/// What messages come over.
+#[derive(Clone, Copy, Debug, PartialEq, Eq)]
+pub(crate) enum Kind {
+    /// Streams of records, one after another, as over TCP.
+    Stream,
+    /// Packets, as over UDP.
+    Packets,
+}
+
+/// What is asked.
+#[derive(Clone, Copy, Debug, PartialEq, Eq)]
+pub(crate) struct Ask {
+    pub(crate) kind: Kind,
+    /// The port to serve at, 1 to 65,535.
+    pub(crate) port: u16,
+    /// The port of the core channel, 1 to 65,535.
+    pub(crate) core: u16,
+    /// The port of the abort channel, 1 to 65,535.
+    pub(crate) abort: u16,
+    /// How many streams or packets are served, 1 to 1,000,000.
+    pub(crate) number: u32,
+}
+
+/// The most streams or packets.
+const NUMBER_MAX: u32 = 1_000_000;
+
+/// The number, 1 to `most`, that a text is in decimal digits, without a leading zero.
+fn number_to(text: &str, most: u32) -> Option<u32>
+    ensures some { IfSome result (λ n. (1 ≤ n) × (n ≤ most) × (text.now ≡ decimal n)) }
+    ensures none { result ≡ None → (n : ℕ) → 1 ≤ n → n ≤ most → text.now ≢ decimal n }
+{
+    let Ok(n) = text.parse::<u32>() else {
+        return None;
+    };
+    let mut buffer = Buffer::new();
+    let is_printed = buffer.format(n).as_bytes() == text.as_bytes();
+    if is_printed && 1 <= n && n <= most {
+        Some(n)
+    } else {
+        None
+    }
+}
+
+/// A port.
+fn port_of(text: &str) -> Option<u16>
+    ensures some { IfSome result (λ n. (1 ≤ n) × (n ≤ 65535) × (text.now ≡ decimal n)) }
+    ensures none { result ≡ None → (n : ℕ) → 1 ≤ n → n ≤ 65535 → text.now ≢ decimal n }
+{
+    Some(number_to(text, 65535)? as u16)
+}
+
+fn kind_of(word: &[u8]) -> Option<Kind>
+    ensures some { IfSome result (λ kind. word.now ≡ kind_word kind) }
+    ensures none { result ≡ None → (kind : Kind) → word.now ≢ kind_word kind }
+{
+    if word == b"stream".as_slice() {
+        Some(Kind::Stream)
+    } else if word == b"packets".as_slice() {
+        Some(Kind::Packets)
+    } else {
+        None
+    }
+}
+
+/// What words ask: `stream PORT CORE ABORT N` or `packets PORT CORE ABORT N`, with ports 1 to 65,535 and N 1 to 1,000,000, in
+/// decimal digits without a leading zero. It is none where they have another form.
+pub(crate) fn ask_of(words: &[String]) -> Option<Ask>
+    ensures some { IfSome result (λ ask. IsInRange ask × (map string_bytes words.now ≡ spelled ask)) }
+    ensures none { result ≡ None → (ask : Ask) → IsInRange ask → map string_bytes words.now ≢ spelled ask }
+{
+    let [kind, port, core, abort, number] = words else {
+        return None;
+    };
+    let kind = kind_of(kind.as_bytes())?;
+    let port = port_of(port.as_str())?;
+    let core = port_of(core.as_str())?;
+    let abort = port_of(abort.as_str())?;
+    let number = number_to(number.as_str(), NUMBER_MAX)?;
+    Some(Ask {
+        kind,
+        port,
+        core,
+        abort,
+        number,
+    })
+}
