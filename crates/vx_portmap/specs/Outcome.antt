@@ -51,7 +51,8 @@ pub record Shows (N : Type 0) : Type 1 where
   pub box : N → BoxShown
   pub box_faults : N → ℕ
 
--- the programs of the core and of the abort channel, version 1 over TCP, at the ports that are asked for (VXI-11, B.4)
+-- the programs of the core and of the abort channel, version 1 over TCP, at the ports that are asked for (VXI-11, programs
+-- DEVICE_CORE and DEVICE_ASYNC)
 abbrev pub mappings : Ask → List Mapping
 mappings ask =
     record { prog = 0x0607AF; vers = 1; prot = 6; port = ask.core }

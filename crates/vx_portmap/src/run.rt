@@ -20,7 +20,7 @@ use vx_io_traits::{DialOut, Sink};
 use vx_record::RecordBuf;
 use vx_text::put_all;
 
-/// The programs of the core and of the abort channel, and their version (VXI-11, B.4).
+/// The programs of the core and of the abort channel, and their version (VXI-11, DEVICE_CORE and DEVICE_ASYNC).
 const CORE: u32 = 0x0607AF;
 
 const ABORT: u32 = 0x0607B0;
