@@ -1,7 +1,7 @@
 -- What the calls of a client that isn't spent answer and leave, and what a command over them does.
-use Rattle.std.proofs.Common.{◌≡◌, ℕ, ◌≤◌, ◌==◌, ◌&&◌, nat_le, Bool, true, false, List, [], ◌∷◌, length, drop, Option, Some, None, option_map, Result, Ok, Err, refl, sym, subst, ◌∙◌, arith}
+use Rattle.std.proofs.Common.{◌≡◌, ℕ, ◌≤◌, ◌==◌, nat_le, Bool, true, false, List, [], ◌∷◌, length, drop, Option, Some, None, option_map, Result, Ok, Err, refl, sym, subst, ◌∙◌, arith}
 use Rattle.std.proofs.lemmas.Bool.Decides.{nat_tests}
-use Rattle.std.proofs.lemmas.Bool.{false≢true}
+use Rattle.std.proofs.lemmas.Bool.{false≢true, and_parts}
 use Rattle.vx_calls.specs.Call.{Call}
 use Rattle.vx_codec.specs.Answered.{Outcome, answered, LinkMade, results_of, outcome_of}
 use Rattle.vx_codec.specs.Answered as outcome
@@ -175,14 +175,10 @@ made_data None o h = absurd (cc)
 made_data (Some ((error, (lid, (abort_port, (max, end)))), [])) o h = record { error = error; lid = lid; abort_port = abort_port; max = max; whole_is = (cc) }
 made_data (Some ((error, (lid, (abort_port, (max, end)))), b ∷ bs)) o h = absurd (cc)
 
-and_right : (a b : Bool) → (a && b) ≡ true → b ≡ true
-and_right true b h = h
-and_right false b h = absurd (cc)
-
 made_takes_at : (lock : Bool) (lock_timeout room error lid abort_port max : ℕ) (device : List ℕ)
     → can_be (create lock lock_timeout device) room (outcome.CreateLink error lid abort_port max) ≡ true → (error == 0) ≡ true → 1 ≤ max
 made_takes_at lock lock_timeout room error lid abort_port max device can none =
-    let due = and_right (nat_le 0 room) _ can in
+    let due = (and_parts (nat_le 0 room) _ can).1 in
     grind (arith, nat_tests)
 
 made_takes : (xid : ℕ) (lock : Bool) (lock_timeout room : ℕ) (device bytes : List ℕ) (o : Outcome) → meaning xid (create lock lock_timeout device) room bytes ≡ Done o → 1 ≤ (made_of o).max

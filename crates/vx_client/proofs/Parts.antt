@@ -1,6 +1,7 @@
 -- Reads in parts.
-use Rattle.std.proofs.Common.{◌≡◌, ℕ, ◌+◌, ◌-◌, ◌≤◌, ◌<◌, ◌==◌, not, ◌&&◌, ◌||◌, nat_le, if◌then◌else◌, Bool, true, false, List, [], ◌∷◌, ◌++◌, length, take, drop, Option, Some, None, option_map, Result, Ok, Err, refl, ap, sym, ◌∙◌, subst, arith, append_assoc, append-nil, length-append, length-drop}
+use Rattle.std.proofs.Common.{◌≡◌, ℕ, ◌+◌, ◌-◌, ◌≤◌, ◌<◌, ◌==◌, not, ◌||◌, nat_le, if◌then◌else◌, Bool, true, false, List, [], ◌∷◌, ◌++◌, length, take, drop, Option, Some, None, option_map, Result, Ok, Err, refl, ap, sym, ◌∙◌, subst, arith, append_assoc, append-nil, length-append, length-drop}
 use Rattle.std.proofs.lemmas.Bool.Decides.{nat_tests}
+use Rattle.std.proofs.lemmas.Bool.{and_parts}
 use Rattle.std.proofs.lemmas.List.{length-take-le, take_at, drop_at, drop-drop, drop_all, take_all}
 use Rattle.std.proofs.Math.Seq.{take-add}
 use borrow.Rule.Slice.PartMut.{put_mid, post_of}
@@ -80,14 +81,6 @@ pub record ReadSays (room request : ℕ) (o : Outcome) : Type 0 where
   pub within : len_of o ≤ room
   pub some : reason_of o ≡ 0 → 0 < request → 0 < len_of o
 
-and-left : (a b : Bool) → (a && b) ≡ true → a ≡ true
-and-left true b h = refl
-and-left false b h = absurd (cc)
-
-and-right : (a b : Bool) → (a && b) ≡ true → b ≡ true
-and-right true b h = h
-and-right false b h = absurd (cc)
-
 has-some : (error request reason len : ℕ) → (error == 0) ≡ true → (not (error == 0) || (request == 0) || not (reason == 0) || not (len == 0)) ≡ true
     → reason ≡ 0 → 0 < request → 0 < len
 has-some error request reason len e h r some = grind (arith, nat_tests)
@@ -97,9 +90,9 @@ read_says-at : (lid request io_timeout lock_timeout flags term room error reason
     → ReadSays room request (outcome.Read error reason bytes)
 read_says-at lid request io_timeout lock_timeout flags term room error reason bytes can none =
     let len = length bytes in
-    let fits : nat_le len room ≡ true = and-left (nat_le len room) _ can in
-    let due = and-right (nat_le len room) _ can in
-    let cause = and-right (nat_le len request) _ due in
+    let fits : nat_le len room ≡ true = (and_parts (nat_le len room) _ can).0 in
+    let due = (and_parts (nat_le len room) _ can).1 in
+    let cause = (and_parts (nat_le len request) _ due).1 in
     record { within = grind (arith, nat_tests); some = has-some error request reason len none cause }
 
 pub read-says : (xid lid request io_timeout lock_timeout flags term room : ℕ) (bytes : List ℕ) (o : Outcome)

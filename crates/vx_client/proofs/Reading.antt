@@ -8,12 +8,10 @@ use Rattle.vx_io_traits.specs.Faults.{Rose}
 use Rattle.vx_io_traits.specs.Stands.{Goes-none, Goes-goes, Goes-stays}
 use Rattle.vx_record.specs.Buffer.{BufState, fresh, step, fed, taken}
 use Rattle.vx_record.specs.Records.{records}
-use Rattle.vx_record.specs.Ends.{is_settled, IsEnd, FeedEnds}
+use Rattle.vx_record.specs.Ends.{is_settled, IsEnd, FeedEnds, EndLaw}
 use Rattle.vx_record.specs.declared.Feed.{Feed}
 use Rattle.vx_record.specs.declared.Feed.TheVariants.{More, Whole, TooLong}
-use Rattle.vx_record.specs.ProvedLaws.{settled-none}
-use Rattle.vx_record.proofs.Ends.{feed-ends, fed-append}
-use Rattle.vx_record.proofs.Feeding.{fed-stopped, taken-stopped, taken-more}
+use Rattle.vx_record.specs.ProvedLaws.{settled-none, fed-append, fed-stopped, taken-stopped, taken-more}
 use Rattle.vx_client.specs.Stream.{by_header, by_length, IsOpen}
 use Rattle.vx_client.specs.Inbox.{InboxState, Gave, last_at, last_of, Refills, IsBrought}
 use Rattle.vx_client.specs.declared.inbox.TheConstants.{REPLY_STREAM_MAX}
@@ -59,9 +57,9 @@ pub record TakenEnds (used part : List ℕ) (new : BufState) : Type 0 where
   pub ends : IsEnd new.state new.kept (records REPLY_MAX (used ++ part))
   pub held : new ≡ fed (fresh REPLY_MAX) (used ++ part)
 
-pub taken_ends : (used piece : List ℕ) (old new : BufState) (n : ℕ) → old ≡ fed (fresh REPLY_MAX) used → old.state ≡ More → new ≡ fed old piece
+pub taken_ends : EndLaw → (used piece : List ℕ) (old new : BufState) (n : ℕ) → old ≡ fed (fresh REPLY_MAX) used → old.state ≡ More → new ≡ fed old piece
     → n ≡ taken old piece → 0 < n → n ≤ length piece → TakenEnds used (take n piece) new
-taken_ends used piece old new n held more new_is n_is some within =
+taken_ends ends used piece old new n held more new_is n_is some within =
     let part : List ℕ = take n piece in
     let s : BufState = fed (fresh REPLY_MAX) used in
     let len : length part ≡ n = length-take-le n piece within in
@@ -71,7 +69,7 @@ taken_ends used piece old new n held more new_is n_is some within =
     subst (λ k. taken s (take k piece) ≡ k) (sym n_at) (taken-front s piece) ∙ sym len in
     let same : fed s part ≡ new =
     ap (λ k. fed s (take k piece)) n_at ∙ fed-front s piece ∙ ap (λ b. fed b piece) (sym held) ∙ sym new_is in
-    let law : FeedEnds REPLY_MAX (used ++ part) (fed s part) (taken s part) (length part) = feed-ends REPLY_MAX used part more' (omega arith) in
+    let law : FeedEnds REPLY_MAX (used ++ part) (fed s part) (taken s part) (length part) = ends REPLY_MAX used part more' (omega arith) in
     record {
       shortest = law.open_before took;
       ends = subst (λ b. IsEnd b.state b.kept (records REPLY_MAX (used ++ part))) same (law.ends took);
@@ -190,16 +188,16 @@ part-of xs ys kept from to most part same kept_is part_is order =
 -- ---- how a read goes on and how it ends
 
 -- a feed after which the record isn't whole
-pub read-fed : {L : Type 0} (stands : L → List ℕ → List ℕ → Type 0) (left : L → Option (List ℕ)) (receives sends : L → ℕ) (first now : L)
+pub read-fed : {L : Type 0} → EndLaw → (stands : L → List ℕ → List ℕ → Type 0) (left : L → Option (List ℕ)) (receives sends : L → ℕ) (first now : L)
     (before : List ℕ) (s t : InboxState) (room n : ℕ) → ReadSoFar stands left receives sends first now before s room → Fed_on s t room n
     → t.reply.state ≡ More → ReadSoFar stands left receives sends first now before t (room - n)
-read-fed stands left receives sends first now before s t room n so_far on more =
+read-fed ends stands left receives sends first now before s t room n so_far on more =
     let piece : List ℕ = take room s.kept in
     let part : List ℕ = take n piece in
     let within : n ≤ min room (length s.kept) = on.within in
     let piece_len = length-take room s.kept in
     let behind : TakenEnds so_far.used part t.reply =
-    taken_ends so_far.used piece s.reply t.reply n so_far.held so_far.more on.reply on.took on.some (omega arith) in
+    taken_ends ends so_far.used piece s.reply t.reply n so_far.held so_far.more on.reply on.took on.some (omega arith) in
     let ended : IsEnd More t.reply.kept (records REPLY_MAX (so_far.used ++ part)) =
     subst (λ f. IsEnd f t.reply.kept (records REPLY_MAX (so_far.used ++ part))) more behind.ends in
     let len : length part ≡ n = length-take-le n piece (omega arith) in
@@ -219,16 +217,16 @@ read-fed stands left receives sends first now before s t room n so_far on more =
     }
 
 -- a feed that made the record whole
-pub read-whole : {L : Type 0} (stands : L → List ℕ → List ℕ → Type 0) (left : L → Option (List ℕ)) (receives sends : L → ℕ) (first now : L)
+pub read-whole : {L : Type 0} → EndLaw → (stands : L → List ℕ → List ℕ → Type 0) (left : L → Option (List ℕ)) (receives sends : L → ℕ) (first now : L)
     (before : List ℕ) (s t : InboxState) (room n : ℕ) → ReadSoFar stands left receives sends first now before s room → Fed_on s t room n
     → t.reply.state ≡ Whole → IsBrought stands left receives first now before t brought.Record
-read-whole stands left receives sends first now before s t room n so_far on whole =
+read-whole ends stands left receives sends first now before s t room n so_far on whole =
     let piece : List ℕ = take room s.kept in
     let part : List ℕ = take n piece in
     let within : n ≤ min room (length s.kept) = on.within in
     let piece_len = length-take room s.kept in
     let behind : TakenEnds so_far.used part t.reply =
-    taken_ends so_far.used piece s.reply t.reply n so_far.held so_far.more on.reply on.took on.some (omega arith) in
+    taken_ends ends so_far.used piece s.reply t.reply n so_far.held so_far.more on.reply on.took on.some (omega arith) in
     let ended : IsEnd Whole t.reply.kept (records REPLY_MAX (so_far.used ++ part)) =
     subst (λ f. IsEnd f t.reply.kept (records REPLY_MAX (so_far.used ++ part))) whole behind.ends in
     let len : length part ≡ n = length-take-le n piece (omega arith) in
@@ -249,16 +247,16 @@ read-whole stands left receives sends first now before s t room n so_far on whol
     )
 
 -- a feed that came to a header above the limit
-pub read-long_header : {L : Type 0} (stands : L → List ℕ → List ℕ → Type 0) (left : L → Option (List ℕ)) (receives sends : L → ℕ) (first now : L)
+pub read-long_header : {L : Type 0} → EndLaw → (stands : L → List ℕ → List ℕ → Type 0) (left : L → Option (List ℕ)) (receives sends : L → ℕ) (first now : L)
     (before : List ℕ) (s t : InboxState) (room n : ℕ) → ReadSoFar stands left receives sends first now before s room → Fed_on s t room n
     → t.reply.state ≡ TooLong → IsBrought stands left receives first now before t brought.TooLong
-read-long_header stands left receives sends first now before s t room n so_far on long =
+read-long_header ends stands left receives sends first now before s t room n so_far on long =
     let piece : List ℕ = take room s.kept in
     let part : List ℕ = take n piece in
     let within : n ≤ min room (length s.kept) = on.within in
     let piece_len = length-take room s.kept in
     let behind : TakenEnds so_far.used part t.reply =
-    taken_ends so_far.used piece s.reply t.reply n so_far.held so_far.more on.reply on.took on.some (omega arith) in
+    taken_ends ends so_far.used piece s.reply t.reply n so_far.held so_far.more on.reply on.took on.some (omega arith) in
     let ended : IsEnd TooLong t.reply.kept (records REPLY_MAX (so_far.used ++ part)) =
     subst (λ f. IsEnd f t.reply.kept (records REPLY_MAX (so_far.used ++ part))) long behind.ends in
     let len : length part ≡ n = length-take-le n piece (omega arith) in

@@ -8,7 +8,7 @@ use std::alloc::Global;
 use std::marker::Model;
 use vx_calls::REPLY_MAX;
 use vx_io_traits::{Link, ReadOut};
-use vx_record::{Fed, Feed, RecordBuf};
+use vx_record::{Fed, Feed, RecordBuf, end_law};
 
 /// The most stream bytes of a reply, the headers of its fragments included.
 pub(crate) const REPLY_STREAM_MAX: usize = 1_048_576;
@@ -156,6 +156,7 @@ impl Inbox {
         ensures receives { L.receive_faults link.old ≤ L.receive_faults link.new }
         ensures sends { L.send_faults link.new ≡ L.send_faults link.old }
     {
+        end_law();
         let mut left = REPLY_STREAM_MAX;
         loop {
             match self.refill(link) {

@@ -9,8 +9,7 @@ use Rattle.vx_lemmas.specs.Options.{gone_on, mapped}
 use Rattle.vx_xdr.specs.declared.fault.XdrErr.{XdrErr}
 use Rattle.vx_xdr.specs.Spelling.{Kind, Word, Value, AreBytes, Spells, spelling, word}
 use Rattle.vx_xdr.specs.Reading.{reading, word_at}
-use Rattle.vx_xdr.proofs.Spelled.{Spells-spelling, Spells-fits, spelling-spells}
-use Rattle.vx_xdr.proofs.Read.{reading-again, reading-takes}
+use Rattle.vx_xdr.specs.ProvedLaws.{Spells-spelling, Spells-fits, spelling-spells, reading-again, reading-takes}
 use Rattle.vx_codec.specs.Row.{FieldKind, Whole, LowByte, Content, Contents, SpellsField, SpellsRow, AreWhole, FieldFits, RowFits, field_spelling, row_spelling, low_byte, field_at, row_at, whole}
 
 -- ---- what is spelled is read again

@@ -48,3 +48,8 @@ pub keeps-consumes : (a b : Option (List ℕ)) → Keeps a b → Consumes a b []
 keeps-consumes None b kept = tt
 keeps-consumes (Some x) None kept = absurd kept
 keeps-consumes (Some x) (Some y) kept = sym kept
+
+-- nothing was mapped where nothing came
+pub unmapped : {A B : Type 0} (f : A → B) (o : Option A) → option_map f o ≡ None → o ≡ None
+unmapped f None h = refl
+unmapped f (Some x) h = cc

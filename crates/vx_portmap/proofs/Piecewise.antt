@@ -8,18 +8,20 @@ use Rattle.std.proofs.lemmas.Option.{none-some}
 use Rattle.vx_lemmas.specs.Options.{mapped}
 use Rattle.vx_io_traits.specs.ProvedLaws.{rose_earlier}
 use Rattle.vx_record.specs.Buffer.{BufState, fresh}
-use Rattle.vx_record.specs.Runs.{Stream, run, FeedLaw}
+use Rattle.vx_record.specs.Runs.{Stream, run, behind, FedFrom, FeedLaw}
 use Rattle.vx_record.specs.declared.Feed.TheVariants.{More, Whole, TooLong}
 use Rattle.vx_portmap.specs.declared.limits.TheConstants.{MESSAGE_MAX}
 use Rattle.vx_portmap.specs.declared.table.Mapping.{Mapping}
 use Rattle.vx_portmap.specs.declared.ends.MapEnd.{MapEnd}
 use Rattle.vx_portmap.specs.declared.ends.MapEnd.TheVariants as end
 use Rattle.vx_portmap.specs.Answering.{reply}
-use Rattle.vx_portmap.specs.Outside.{LinkShown}
+use Rattle.vx_link.specs.Shown.{LinkShown}
+use Rattle.vx_link.specs.Sending.{SendsAll, IsSent}
 use Rattle.vx_portmap.specs.Streaming.{Progress, HasReply, StopsReply, record_of, reply_stream}
-use Rattle.vx_portmap.specs.Pieces.{SendsAll, IsSent, WholeEnds, ServesWhole, PieceEnds, ServesPiece}
+use Rattle.vx_portmap.specs.Pieces.{WholeEnds, ServesWhole, PieceEnds, ServesPiece}
 use Rattle.vx_portmap.proofs.Going.{progress-none, progress-then, wrote-then}
-use Rattle.vx_portmap.proofs.Runs.{at, behind, run-on, run-long, brought-more, brought-whole, brought-long, FedFrom, feed-on}
+use Rattle.vx_record.specs.ProvedLaws.{run-on, run-too_long, brought-more, brought-whole, brought-long}
+use Rattle.vx_portmap.proofs.Runs.{at, feed-on}
 
 -- ---- one record
 
@@ -245,7 +247,7 @@ module _ {L : Type 0} (stands : L → List ℕ → List ℕ → Type 0) (ports :
       let ran : run (at [] buffer) piece ≡ at so_far.messages new =
       so_far.ran ∙ feed-on law piece place took so_far.messages old new so_far.more fed_so
       ∙ ap (λ t. run t (drop (place + took) piece)) (brought-long so_far.messages new long)
-      ∙ run-long so_far.messages new (drop (place + took) piece) long in
+      ∙ run-too_long so_far.messages new (drop (place + took) piece) long in
       record {
         messages = so_far.messages;
         written = so_far.written;

@@ -9,7 +9,7 @@ use Rattle.vx_door.specs.ProvedLaws.{spent_at_end}
 use Rattle.vx_portmap.specs.declared.table.Mapping.{Mapping}
 use Rattle.vx_portmap.specs.declared.ends.MapEnd.{MapEnd}
 use Rattle.vx_portmap.specs.declared.ends.MapEnd.TheVariants as end
-use Rattle.vx_portmap.specs.Outside.{LinkShown}
+use Rattle.vx_link.specs.Shown.{LinkShown}
 use Rattle.vx_portmap.specs.Streaming.{StreamDid}
 use Rattle.vx_portmap.specs.Mapped.{is_own, is_whole}
 

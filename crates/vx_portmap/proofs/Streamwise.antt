@@ -1,24 +1,25 @@
 -- How a stream is served, piece by piece, to its end or to where it is no longer.
-use Rattle.std.proofs.Common.{◌≡◌, ◌≤◌, ◌<◌, ◌+◌, ◌-◌, ◌^◌, ℕ, zero, suc, min, false, List, [], ◌∷◌, ◌++◌, length, Option, Some, None, IfSome, Result, Ok, Err, ◌⊎◌, inl, inr, refl, sym, ap, subst, ◌∙◌, arith, append_assoc, append-nil, length-append}
+use Rattle.std.proofs.Common.{◌≡◌, ◌≤◌, ◌<◌, ◌+◌, ◌-◌, ◌^◌, ℕ, zero, suc, min, false, List, [], ◌∷◌, ◌++◌, length, Some, None, IfSome, Result, Ok, Err, ◌⊎◌, inl, inr, refl, sym, ap, subst, ◌∙◌, arith, append_assoc, append-nil, length-append}
 use Rattle.std.proofs.lemmas.List.{nil_from_length}
-use Rattle.std.proofs.KnownBytes.{Consumes-kept, Keeps-trans}
-use Rattle.std.specs.Io.KnownBytes.{Consumes, IsAtEnd, Keeps}
+use Rattle.std.specs.Io.KnownBytes.{IsAtEnd}
 use Rattle.vx_io_traits.specs.Faults.{Rose}
 use Rattle.vx_io_traits.specs.Stands.{Goes-gives, Goes-stays}
 use Rattle.vx_io_traits.specs.ProvedLaws.{rose_earlier}
 use Rattle.vx_record.specs.Buffer.{BufState, fresh}
 use Rattle.vx_record.specs.Records.{Split, records}
-use Rattle.vx_record.specs.Runs.{Stream, beginning, run, is_too_long, PiecesLaw, CutLaw}
+use Rattle.vx_record.specs.Runs.{Stream, beginning, run, is_too_long, PiecesLaw, behind}
 use Rattle.vx_record.specs.declared.Feed.TheVariants as feed
 use Rattle.vx_portmap.specs.declared.limits.TheConstants.{MESSAGE_MAX, STREAM_MAX}
 use Rattle.vx_portmap.specs.declared.table.Mapping.{Mapping}
 use Rattle.vx_portmap.specs.declared.ends.MapEnd.{MapEnd}
 use Rattle.vx_portmap.specs.declared.ends.MapEnd.TheVariants as end
-use Rattle.vx_portmap.specs.Outside.{LinkShown, LinkGoes}
+use Rattle.vx_link.specs.Shown.{LinkShown, Gave, Ended}
 use Rattle.vx_portmap.specs.Streaming.{Progress, EndsSo, StreamDid, reply_stream, input_end}
-use Rattle.vx_portmap.specs.Pieces.{PieceEnds, ServesPiece, Gave, Ended, PieceServed, NoPiece, NextServed}
-use Rattle.vx_portmap.proofs.Going.{link-then, wrote-then, progress-none, progress-then}
-use Rattle.vx_portmap.proofs.Runs.{at, behind, came-on, shown}
+use Rattle.vx_portmap.specs.Pieces.{PieceEnds, ServesPiece, PieceServed, NoPiece, NextServed}
+use Rattle.vx_link.specs.ProvedLaws.{link-goes, goes-ended, at-end}
+use Rattle.vx_portmap.proofs.Going.{wrote-then, progress-none, progress-then}
+use Rattle.vx_record.specs.ProvedLaws.{came-on, shown}
+use Rattle.vx_portmap.proofs.Runs.{at}
 use Rattle.vx_portmap.proofs.Piecewise.{stops-behind}
 
 -- ---- how a stream ends
@@ -48,28 +49,7 @@ piece-ends ports sa sb sc messages messages' received looked unsent t buffer end
   stops-behind ports sa sb sc messages messages' unsent later h.2,
 )
 
--- ---- what a receive did to the link
-
--- a link that gave bytes, and then nothing
-goes-ended : {L : Type 0} (stands : L → List ℕ → List ℕ → Type 0) (b c : L) (sa sb sc : LinkShown) (xs : List ℕ) → LinkGoes sa xs sb → Ended stands b c sb sc → LinkGoes sa xs sc
-goes-ended stands b c sa sb sc xs goes e =
-    let r = goes.receives in
-    let s = goes.sends in
-    let r' = e.receives in
-    let s' = e.sends in
-    record {
-      left = Consumes-kept sa.left sb.left sc.left xs goes.left e.left;
-      peers = Keeps-trans sa.peers sb.peers sc.peers goes.peers e.peers;
-      receives = omega arith;
-      sends = omega arith;
-    }
-
--- a link that told what it had left, and gave it up to its end, has nothing left where it tells that
-at-end : (first old new : Option (List ℕ)) (received : List ℕ) → Consumes first old received → IsAtEnd old → Keeps old new → IfSome first (λ all. IsAtEnd new)
-at-end None old new received consumes last keeps = tt
-at-end (Some all) None new received consumes last keeps = absurd consumes
-at-end (Some all) (Some rest) None received consumes last keeps = absurd keeps
-at-end (Some all) (Some rest) (Some later) received consumes last keeps = keeps ∙ last
+-- ---- a stream so far
 
 module _ {L : Type 0} (stands : L → List ℕ → List ℕ → Type 0) (ports : List Mapping) (a : L) (sa : LinkShown) where
   -- The messages of the stream so far were answered, the buffer has what came behind the last of them, and so many bytes more
@@ -107,15 +87,15 @@ module _ {L : Type 0} (stands : L → List ℕ → List ℕ → Type 0) (ports :
       let mid : Progress stands ports a sa messages (received ++ piece) written c sc = record {
         each = before.each;
         bytes = Goes-gives stands a b c written received piece before.bytes gave.gives;
-        goes = link-then sa sb sc received piece before.goes gave.goes;
+        goes = link-goes sa sb sc received piece before.goes gave.goes;
       } in
       subst (λ all. Progress stands ports a sa (messages ++ messages') all (written ++ written') d sd) (append-nil (received ++ piece))
       (progress-then stands ports a c d sa sc sd messages messages' (received ++ piece) [] written written' mid after)
 
   -- a piece whose messages were all answered
-  pub streamed-on : CutLaw → (left room : ℕ) (b d : L) (sb sd : LinkShown) (buffer buffer' : BufState) (said : Result ℕ MapEnd) (count : ℕ) → Streamed left b sb buffer
+  pub streamed-on : (left room : ℕ) (b d : L) (sb sd : LinkShown) (buffer buffer' : BufState) (said : Result ℕ MapEnd) (count : ℕ) → Streamed left b sb buffer
       → NextServed stands ports room b sb buffer said d sd buffer' → said ≡ Ok count → count ≤ left → buffer'.limit ≡ MESSAGE_MAX → Streamed (left - count) d sd buffer'
-  streamed-on cut left room b d sb sd buffer buffer' said count so_far next is within limit =
+  streamed-on left room b d sb sd buffer buffer' said count so_far next is within limit =
       let served = subst (λ o. NextServed stands ports room b sb buffer o d sd buffer') is next in
       let piece : List ℕ = served.0.piece in
       let one : ServesPiece stands ports served.0.mid served.0.mid_seen buffer piece None d sd buffer' = served.0.serves in
@@ -131,22 +111,22 @@ module _ {L : Type 0} (stands : L → List ℕ → List ℕ → Type 0) (ports :
             served.0.gave one.progress;
         wrote = wrote-then ports so_far.messages one.messages so_far.written one.written one.unsent so_far.wrote wrote'
             ∙ ap (λ l. (so_far.written ++ one.written) ++ l) one.ends.0 ∙ append-nil (so_far.written ++ one.written);
-        came = came-on cut (beginning MESSAGE_MAX) so_far.messages buffer so_far.received piece so_far.came ∙ ap (behind so_far.messages) one.ends.1;
+        came = came-on (beginning MESSAGE_MAX) so_far.messages buffer so_far.received piece so_far.came ∙ ap (behind so_far.messages) one.ends.1;
         more = one.ends.2;
         limit = limit;
         count = omega arith;
       }
 
   -- a piece in which the stream ends
-  in-piece : PiecesLaw → CutLaw → (left room : ℕ) (b d : L) (sb sd : LinkShown) (buffer buffer' : BufState) (how : MapEnd) → room ≤ left → Streamed left b sb buffer
+  in-piece : PiecesLaw → (left room : ℕ) (b d : L) (sb sd : LinkShown) (buffer buffer' : BufState) (how : MapEnd) → room ≤ left → Streamed left b sb buffer
       → PieceServed stands ports room b sb buffer (Some how) d sd buffer' → StreamDid stands ports a sa how d sd
-  in-piece pieces cut left room b d sb sd buffer buffer' how fits so_far served =
+  in-piece pieces left room b d sb sd buffer buffer' how fits so_far served =
       let piece : List ℕ = served.piece in
       let one : ServesPiece stands ports served.mid served.mid_seen buffer piece (Some how) d sd buffer' = served.serves in
       let received : List ℕ = so_far.received ++ piece in
       let t : Stream = run (at [] buffer) piece in
       let came : run (beginning MESSAGE_MAX) received ≡ behind so_far.messages t =
-      came-on cut (beginning MESSAGE_MAX) so_far.messages buffer so_far.received piece so_far.came in
+      came-on (beginning MESSAGE_MAX) so_far.messages buffer so_far.received piece so_far.came in
       let shows = shown pieces MESSAGE_MAX received in
       let sends : sa.send_faults ≤ served.mid_seen.send_faults = (let x = so_far.progress.goes.sends in let y = served.gave.goes.sends in omega arith) in
       let before = so_far.count in
@@ -217,12 +197,12 @@ module _ {L : Type 0} (stands : L → List ℕ → List ℕ → Type 0) (ports :
       (λ looked recs long n. input-ends ports sa so_far.messages so_far.received looked sc buffer.rest recs long n (omega arith) last))
 
   -- the stream ends in the next piece, or there is none
-  pub streamed-stops : PiecesLaw → CutLaw → (left room : ℕ) (b d : L) (sb sd : LinkShown) (buffer buffer' : BufState) (said : Result ℕ MapEnd) (how : MapEnd) → 0 < left
+  pub streamed-stops : PiecesLaw → (left room : ℕ) (b d : L) (sb sd : LinkShown) (buffer buffer' : BufState) (said : Result ℕ MapEnd) (how : MapEnd) → 0 < left
       → room ≤ left → Streamed left b sb buffer → NextServed stands ports room b sb buffer said d sd buffer' → said ≡ Err how → StreamDid stands ports a sa how d sd
-  streamed-stops pieces cut left room b d sb sd buffer buffer' said how some fits so_far next is =
+  streamed-stops pieces left room b d sb sd buffer buffer' said how some fits so_far next is =
       by (subst (λ o. NextServed stands ports room b sb buffer o d sd buffer') is next) where
         by : PieceServed stands ports room b sb buffer (Some how) d sd buffer' ⊎ NoPiece stands b sb buffer how d sd → StreamDid stands ports a sa how d sd
-        by (inl served) = in-piece pieces cut left room b d sb sd buffer buffer' how fits so_far served
+        by (inl served) = in-piece pieces left room b d sb sd buffer buffer' how fits so_far served
         by (inr last) = no-piece pieces left b d sb sd buffer how some so_far last.ended last.why
 
   -- as many bytes came as may be received

@@ -3,10 +3,10 @@ use Rattle.std.proofs.Common.{◌≡◌, ℕ, ◌+◌, ◌*◌, ◌<◌, ◌≤�
 use Rattle.std.specs.List.{flat_map}
 use Rattle.std.proofs.lemmas.List.{take_more}
 use Rattle.std.proofs.lemmas.List.Concat.{flat_map-append}
-use Rattle.vx_xdr.specs.Spelling.{word}
 use Rattle.vx_xdr.specs.Writing.{overwritten, Writes}
 use Rattle.vx_xdr.specs.ProvedLaws.{overwritten-twice}
 use Rattle.vx_rpc.specs.Wording.{words}
+use Rattle.vx_rpc.specs.ProvedLaws.{words-append, length-words}
 use Rattle.vx_portmap.specs.declared.table.Mapping.{Mapping}
 use Rattle.vx_portmap.specs.Answering.{entry, success, dump_results}
 
@@ -22,23 +22,10 @@ writes-then a b old mid new at between end within first second =
       within = second.within;
     }
 
--- the words of numbers, and then of more of them
-pub words-append : (ms ns : List ℕ) → words (ms ++ ns) ≡ words ms ++ words ns
-words-append ms ns = flat_map-append word ms ns
-
--- each number is four bytes
-pub length-words : (ns : List ℕ) → length (words ns) ≡ 4 * length ns
-length-words [] = refl
-length-words (n ∷ ns) = let e = length-words ns in omega (arith, length-append (word n) (words ns))
-
 -- each entry is five numbers
 pub length-entries : (ms : List Mapping) → length (flat_map entry ms) ≡ 5 * length ms
 length-entries [] = refl
 length-entries (m ∷ ms) = let e = length-entries ms in omega (arith, length-append (entry m) (flat_map entry ms))
-
--- one more number
-pub words-more : (ns : List ℕ) (i : ℕ) → i < length ns → words (take (i + 1) ns) ≡ words (take i ns) ++ word (get_or ns i 0)
-words-more ns i h = ap words (take_more ns i 0 h) ∙ words-append (take i ns) (get_or ns i 0 ∷ []) ∙ ap (λ (t : List ℕ). words (take i ns) ++ t) (append-nil (word (get_or ns i 0)))
 
 -- a list of mappings between two words
 pub dump-written : (ms : List Mapping) (old first second new : List ℕ) (at p q end : ℕ) → at ≤ length old → Writes (words (0 ∷ [])) at old p first

@@ -5,7 +5,6 @@ pub mod Replies
 pub mod Moves
 pub mod Boxes
 pub mod Packing
-pub mod Outside
 pub mod Streaming
 pub mod Pieces
 pub mod Host
@@ -14,6 +13,7 @@ pub mod Asked
 pub mod Due
 pub mod Outcome
 pub use Rattle.vx_door.specs.Going
+pub use Rattle.vx_link.specs.Shown
 pub use Rattle.vx_door.specs.Serving
 pub use Rattle.vx_door.specs.Running
 pub use Rattle.vx_text.specs.Writing

@@ -1,8 +1,7 @@
 -- What a piece of a stream brings.
-use Rattle.std.specs.Prelude.{◌≡◌, ◌≤◌, ◌<◌, ℕ, Bool, true, false, List, [], ◌∷◌, ◌++◌, length, Option, Some, None, Result, Ok, Err, ◌⊎◌}
-use Rattle.std.specs.Io.KnownBytes.{IsAtEnd, Keeps}
+use Rattle.std.specs.Prelude.{◌≡◌, ◌≤◌, ℕ, List, [], ◌∷◌, ◌++◌, length, Option, Some, None, Result, Ok, Err, ◌⊎◌}
+use Rattle.std.specs.Io.KnownBytes.{IsAtEnd}
 use Rattle.vx_io_traits.specs.Faults.{Rose}
-use Rattle.vx_io_traits.specs.Stands.{Goes, Gives, Stays}
 use Rattle.vx_record.specs.Buffer.{BufState}
 use Rattle.vx_record.specs.Runs.{Stream, run}
 use Rattle.vx_record.specs.declared.Feed.TheVariants as feed
@@ -10,22 +9,8 @@ use Rattle.vx_portmap.specs.declared.table.Mapping.{Mapping}
 use Rattle.vx_portmap.specs.declared.ends.MapEnd.{MapEnd}
 use Rattle.vx_portmap.specs.declared.ends.MapEnd.TheVariants as end
 use Rattle.vx_portmap.specs.Answering.{reply}
-use Rattle.vx_portmap.specs.Outside.{LinkShown, LinkGoes}
+use Rattle.vx_link.specs.Shown.{LinkShown, Gave, Ended}
 use Rattle.vx_portmap.specs.Streaming.{Progress, StopsReply, reply_stream, input_end}
-
--- whether all bytes went: or some are left, and the link's count of faults rose
-abbrev pub IsSent : LinkShown → List ℕ → LinkShown → Bool → Type 0
-IsSent seen unsent seen' true = unsent ≡ []
-IsSent seen unsent seen' false = (0 < length unsent) × Rose seen.send_faults seen'.send_faults
-
--- Bytes were handed to a link, which took a front of them: all, unless it failed.
-pub record SendsAll {L : Type 0} (stands : L → List ℕ → List ℕ → Type 0) (link : L) (seen : LinkShown) (bytes : List ℕ) (all : Bool) (link' : L) (seen' : LinkShown) : Type 0 where
-  pub sent : List ℕ
-  pub unsent : List ℕ
-  pub cut : bytes ≡ sent ++ unsent
-  pub took : Goes stands link link' sent []
-  pub goes : LinkGoes seen [] seen'
-  pub is_sent : IsSent seen unsent seen' all
 
 -- how a record ends, or why the stream does: its reply went; it has none; or its reply stopped in its middle
 abbrev pub WholeEnds : List Mapping → LinkShown → List ℕ → List (List ℕ) → List ℕ → LinkShown → Option MapEnd → Type 0
@@ -63,19 +48,6 @@ pub record ServesPiece {L : Type 0} (stands : L → List ℕ → List ℕ → Ty
   pub progress : Progress stands ports link seen messages [] written link' seen'
   pub wrote : reply_stream ports messages ≡ written ++ unsent
   pub ends : PieceEnds ports seen messages unsent (run (record { records = []; buffer = buffer }) piece) buffer' seen' stop
-
--- a receive gave these bytes
-pub record Gave {L : Type 0} (stands : L → List ℕ → List ℕ → Type 0) (link link' : L) (seen : LinkShown) (bytes : List ℕ) (seen' : LinkShown) : Type 0 where
-  pub gives : Gives stands link link' bytes
-  pub goes : LinkGoes seen bytes seen'
-
--- a receive gave nothing
-pub record Ended {L : Type 0} (stands : L → List ℕ → List ℕ → Type 0) (link link' : L) (seen seen' : LinkShown) : Type 0 where
-  pub stays : Stays stands link link'
-  pub left : Keeps seen.left seen'.left
-  pub peers : Keeps seen.peers seen'.peers
-  pub receives : seen.receive_faults ≤ seen'.receive_faults
-  pub sends : seen'.send_faults ≡ seen.send_faults
 
 -- a piece of no more than so many bytes came, and its records were answered
 pub record PieceServed {L : Type 0} (stands : L → List ℕ → List ℕ → Type 0) (ports : List Mapping) (room : ℕ) (link : L) (seen : LinkShown) (buffer : BufState)

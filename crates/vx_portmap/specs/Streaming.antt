@@ -12,7 +12,7 @@ use Rattle.vx_portmap.specs.declared.ends.MapEnd.{MapEnd}
 use Rattle.vx_portmap.specs.declared.ends.MapEnd.TheVariants as end
 use Rattle.vx_portmap.specs.Answering.{reply}
 use Rattle.vx_portmap.specs.Replies.{replies}
-use Rattle.vx_portmap.specs.Outside.{LinkShown, LinkGoes}
+use Rattle.vx_link.specs.Shown.{LinkShown, LinkGoes}
 
 -- a message as a record of one fragment (RFC 5531, section 11)
 abbrev pub record_of : List ℕ → List ℕ

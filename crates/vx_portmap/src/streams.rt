@@ -4,16 +4,17 @@ ghost use Rattle.vx_record.specs.Buffer.{fresh};
 ghost use Rattle.vx_record.specs.declared.Feed.TheVariants as feed;
 ghost use Rattle.vx_door.specs.Going.{Went};
 ghost use Rattle.vx_portmap.specs.declared.limits.TheConstants.{MESSAGE_MAX};
-ghost use Rattle.vx_portmap.specs.Outside.{link_shown};
+ghost use Rattle.vx_link.specs.Shown.{link_shown};
 ghost use Rattle.vx_portmap.specs.Pieces.{ServesWhole, ServesPiece, NextServed};
 ghost use Rattle.vx_portmap.specs.Streaming.{StreamDid, input_end};
 
 use crate::ends::MapEnd;
 use crate::limits::{MESSAGE_MAX, STREAM_MAX};
-use crate::sending::{put_record, send_all};
+use crate::sending::put_record;
 use crate::table::Ports;
 use vx_io_traits::{Link, ReadOut};
-use vx_record::{Feed, RecordBuf, cut_law, feed_law, pieces_law};
+use vx_link::send_all;
+use vx_record::{Feed, RecordBuf, feed_law, pieces_law};
 
 /// How many bytes are received at once, at most.
 const PIECE: usize = 1024;
@@ -125,7 +126,6 @@ pub fn map_stream<L: Link>(ports: &Ports, link: &mut L, buf: &mut RecordBuf) -> 
     ensures limit { buf.new.limit ≡ MESSAGE_MAX }
 {
     pieces_law();
-    cut_law();
     let mut piece = [0u8; PIECE];
     let mut reply = [0u8; MESSAGE_MAX + 4];
     let mut left = STREAM_MAX;

@@ -1,6 +1,5 @@
 -- How a pump comes on: the turns that it made so far, and the records that it wrote of what they were given.
 use Rattle.std.proofs.Common.{◌≡◌, ◌≢◌, ◌≤◌, ℕ, Bool, List, [], ◌∷◌, ◌++◌, map, true, false, refl, sym, ap, ◌∙◌, subst, append_assoc, append-nil, arith}
-use Rattle.std.proofs.KnownBytes.{Consumes-nil, Keeps-refl}
 use Rattle.std.proofs.lemmas.List.{map-append}
 use Rattle.std.proofs.lemmas.List.Concat.{flat_map-append}
 use Rattle.std.proofs.lemmas.List.Elements.{All-nil, All-push}
@@ -13,10 +12,10 @@ use Rattle.vx_message.specs.Meaning.{srq_record}
 use Rattle.vx_core.specs.Groups.{Group}
 use Rattle.vx_turns.specs.Placing.{Placed, Makes}
 use Rattle.vx_turns.specs.Turning.{TakesTurn}
-use Rattle.vx_session.specs.Outside.{LinkShown, LinkGoes}
-use Rattle.vx_session.specs.Streaming.{IsSent, SendsAll}
-use Rattle.vx_session.proofs.Making.{makes-none, makes-goes}
-use Rattle.vx_session.proofs.Progressing.{link-goes}
+use Rattle.vx_link.specs.Shown.{LinkShown, LinkGoes}
+use Rattle.vx_link.specs.ProvedLaws.{link-none, link-goes}
+use Rattle.vx_link.specs.Sending.{IsSent, SendsAll}
+use Rattle.vx_turns.specs.ProvedLaws.{makes-none, makes-goes}
 use Rattle.vx_pump.specs.Pumping.{Taking, IsTaking, given_record, taken_records, HaveLived, Pumps}
 use Rattle.vx_pump.specs.declared.pumps.PumpEnd.TheVariants as end
 
@@ -57,7 +56,7 @@ module _ {L : Type 0} (stands : L → List ℕ → List ℕ → Type 0) (pass : 
     each = All-nil (IsTaking conn chan);
     lived = All-nil (λ t. t.given ≢ Gone);
     bytes = Goes-none stands link;
-    goes = record { left = Consumes-nil seen.left; peers = Keeps-refl seen.peers; receives = omega arith; sends = omega arith };
+    goes = link-none seen;
     wrote = refl;
   }
 

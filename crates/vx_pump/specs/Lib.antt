@@ -7,4 +7,4 @@ pub use Rattle.vx_gate.specs.PassView
 pub use Rattle.vx_core.specs.Groups
 pub use Rattle.vx_turns.specs.Placing
 pub use Rattle.vx_turns.specs.Turning
-pub use Rattle.vx_session.specs.Outside
+pub use Rattle.vx_link.specs.Shown

@@ -4,12 +4,12 @@ use Rattle.std.specs.List.{All, flat_map}
 use Rattle.vx_io_traits.specs.Faults.{Rose}
 use Rattle.vx_io_traits.specs.Stands.{Goes}
 use Rattle.vx_gate.specs.PassView.{PassView}
-use Rattle.vx_message.specs.SrqState.{Given, Srq, Front, Empty, Gone}
+use Rattle.vx_message.specs.SrqState.{Given, Front, Empty, Gone}
 use Rattle.vx_message.specs.Meaning.{srq_record}
 use Rattle.vx_core.specs.Groups.{Group}
 use Rattle.vx_turns.specs.Placing.{Placed, Makes}
 use Rattle.vx_turns.specs.Turning.{TakesFrom}
-use Rattle.vx_session.specs.Outside.{LinkShown, LinkGoes}
+use Rattle.vx_link.specs.Shown.{LinkShown, LinkGoes}
 use Rattle.vx_pump.specs.declared.pumps.PumpEnd.{PumpEnd}
 use Rattle.vx_pump.specs.declared.pumps.PumpEnd.TheVariants as end
 

@@ -1,6 +1,6 @@
 //! The pump of one interrupt channel.
 ghost use Rattle.std.specs.Prelude.{◌≡◌, ◌≤◌, ◌<◌, length};
-ghost use Rattle.vx_session.specs.Outside.{link_shown};
+ghost use Rattle.vx_link.specs.Shown.{link_shown};
 ghost use Rattle.vx_pump.specs.Pumping.{Pumps};
 
 use std::sync::Wait;
@@ -9,8 +9,8 @@ use vx_calls::Taken;
 use vx_core::Core;
 use vx_gate::{Pass, Turns};
 use vx_io_traits::{Link, Pause};
+use vx_link::send_all;
 use vx_message::{SRQ_ROOM, put_srq_record};
-use vx_session::send_all;
 use vx_turns::take;
 
 /// Why a pump ended.

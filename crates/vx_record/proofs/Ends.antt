@@ -1,5 +1,5 @@
 -- A buffer that a stream is fed to stands where the whole stream's split says.
-use Rattle.std.proofs.Common.{◌≡◌, ℕ, suc, ◌+◌, ◌-◌, ◌<◌, ◌≤◌, Bool, true, false, List, [], ◌∷◌, ◌++◌, length, take, drop, refl, sym, ap, subst, ◌∙◌, ◌⊎◌, inl, inr, arith, append-nil, length-append}
+use Rattle.std.proofs.Common.{◌≡◌, ℕ, suc, ◌+◌, ◌-◌, ◌<◌, ◌≤◌, Bool, true, false, List, [], ◌∷◌, ◌++◌, length, take, drop, refl, sym, ap, subst, ◌∙◌, ◌⊎◌, inl, inr, arith, length-append}
 use Rattle.std.proofs.lemmas.Grind.{common_steps}
 use Rattle.vx_record.specs.declared.Feed.{Feed}
 use Rattle.vx_record.specs.declared.Feed.TheVariants.{More, Whole, TooLong}
@@ -7,16 +7,10 @@ use Rattle.vx_record.specs.Records.{Split, records}
 use Rattle.vx_record.specs.Buffer.{BufState, fresh, step, fed, taken}
 use Rattle.vx_record.specs.Runs.{Stream, beginning, taken_off, brought, run, is_too_long, Shows}
 use Rattle.vx_record.specs.Ends.{is_settled_by, is_settled, IsEnd, EndLaw}
-use Rattle.vx_record.specs.ProvedLaws.{settled-none}
-use Rattle.vx_record.proofs.Feeding.{fed-stopped, taken-more, taken-stopped}
-use Rattle.vx_record.proofs.Streams.{brought-more, run-too_long, run-append, run-fed, pieces-records}
+use Rattle.vx_record.specs.ProvedLaws.{settled-none, fed-append, fed-stopped, taken-more, taken-stopped, brought-more, run-too_long, run-append, shown}
+use Rattle.vx_record.proofs.Streams.{run-fed, pieces-records}
 
 -- ---- what a feed takes
-
--- a stream may be fed in two pieces
-pub fed-append : (s : BufState) (xs ys : List ℕ) → fed s (xs ++ ys) ≡ fed (fed s xs) ys
-fed-append s [] ys = refl
-fed-append s (x ∷ xs) ys = fed-append (step s x) xs ys
 
 -- a record takes more bytes, or it doesn't
 is_open : (state : Feed) → (state ≡ More) ⊎ (state ≡ More → ⊥)
@@ -57,11 +51,6 @@ front-taken s x (y ∷ xs) all =
     front-taken (step s x) y xs (omega arith)
 
 -- ---- where a stream stands
-
--- the run of a whole stream shows its split
-shown : (limit : ℕ) (stream : List ℕ) → Shows (records limit stream) (run (beginning limit) stream)
-shown limit stream =
-    subst (λ (xs : List ℕ). Shows (records limit xs) (run (beginning limit) stream)) (append-nil stream) (pieces-records limit (stream ∷ []))
 
 -- a run that takes more at the end has taken no record off
 run-open : (limit : ℕ) (stream : List ℕ) → (fed (fresh limit) stream).state ≡ More
@@ -114,12 +103,12 @@ stopped-settled : (limit : ℕ) (stream : List ℕ) → ((fed (fresh limit) stre
 stopped-settled limit stream stopped =
     let s = fed (fresh limit) stream in
     settled-shown s.state s (drop (taken (fresh limit) stream) stream) (records limit stream) refl stopped
-    (subst (Shows (records limit stream)) (run-fed [] (fresh limit) stream refl) (shown limit stream))
+    (subst (Shows (records limit stream)) (run-fed [] (fresh limit) stream refl) (shown pieces-records limit stream))
 
 -- one behind which it takes more isn't
 open-settled : (limit : ℕ) (stream : List ℕ) → (fed (fresh limit) stream).state ≡ More → is_settled (records limit stream) ≡ false
 open-settled limit stream more =
-    let shows = subst (Shows (records limit stream)) (run-open limit stream more) (shown limit stream) in
+    let shows = subst (Shows (records limit stream)) (run-open limit stream more) (shown pieces-records limit stream) in
     settled-none (records limit stream) (sym shows.records) (sym shows.too_long ∙ ap is_too_long more)
 
 -- ---- a feed of a piece
@@ -153,5 +142,5 @@ feed-ends limit stream (x ∷ xs) more some =
           run-append (beginning limit) stream (x ∷ xs) ∙ ap (λ t. run t (x ∷ xs)) (run-open limit stream more)
           ∙ run-fed [] s (x ∷ xs) more ∙ ap (run (brought [] (fed s (x ∷ xs)))) none in
           end-shown (fed s (x ∷ xs)).state (fed s (x ∷ xs)) (records limit all) refl
-          (subst (Shows (records limit all)) came (shown limit all));
+          (subst (Shows (records limit all)) came (shown pieces-records limit all));
     }

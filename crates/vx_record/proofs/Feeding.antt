@@ -2,9 +2,9 @@
 use Rattle.std.proofs.Common.{◌≡◌, ℕ, suc, ◌+◌, ◌-◌, ◌^◌, ◌<◌, ◌≤◌, ◌==◌, min, true, false, nat_lt, List, [], ◌∷◌, ◌++◌, length, take, drop, slice_set, refl, sym, ap, ◌∙◌, ◌⊎◌, inl, inr, arith, take-append-drop}
 use Rattle.std.proofs.lemmas.Grind.{common_steps}
 use Rattle.std.proofs.lemmas.Bool.Decides.{nat_tests}
-use Rattle.vx_record.specs.declared.Feed.{Feed}
-use Rattle.vx_record.specs.declared.Feed.TheVariants.{More, Whole, TooLong}
-use Rattle.vx_record.specs.Buffer.{BufState, counted, closed, opened, header_byte, body_bytes, step_at, step, fed, one_more_at, taken}
+use Rattle.vx_record.specs.declared.Feed.TheVariants.{More}
+use Rattle.vx_record.specs.Buffer.{BufState, counted, closed, opened, header_byte, body_bytes, step, fed, taken}
+use Rattle.vx_record.specs.ProvedLaws.{taken-more, fed-stopped, taken-stopped}
 
 -- the fourth byte of a header opens its fragment
 pub header_byte-full : (s : BufState) (byte : ℕ) → 3 ≤ length s.header → header_byte s byte ≡ opened s (s.header ++ byte ∷ [])
@@ -63,9 +63,6 @@ fed-body s (x ∷ y ∷ xs) ys more some h =
     ap (λ t. fed t ((y ∷ xs) ++ ys)) first ∙ fed-body s' (y ∷ xs) ys more (omega arith) (omega arith)
     ∙ ap (λ t. fed t ys) (more_front s x (y ∷ xs) h)
 
-pub taken-more : (s : BufState) (byte : ℕ) (bytes : List ℕ) → s.state ≡ More → taken s (byte ∷ bytes) ≡ suc (taken (step s byte) bytes)
-taken-more s byte bytes more = rw more refl
-
 -- and so they are all taken
 pub taken-body : (s : BufState) (bytes ys : List ℕ) → s.state ≡ More → 0 < length bytes → length bytes ≤ s.left
     → taken s (bytes ++ ys) ≡ length bytes + taken (body_bytes (counted s (length bytes)) bytes) ys
@@ -78,26 +75,6 @@ taken-body s (x ∷ y ∷ xs) ys more some h =
     let later = taken-body s' (y ∷ xs) ys more (omega arith) (omega arith) in
     let same = ap (λ t. taken t ys) (more_front s x (y ∷ xs) h) in
     taken-more s x ((y ∷ xs) ++ ys) more ∙ ap (λ t. suc (taken t ((y ∷ xs) ++ ys))) first ∙ omega (arith, later, same)
-
--- ---- a record that is whole or too long
-
-pub fed-stopped : (s : BufState) (bytes : List ℕ) → (s.state ≡ More → ⊥) → fed s bytes ≡ s
-fed-stopped s [] h = refl
-fed-stopped s (x ∷ xs) h = ap (λ t. fed t xs) (step-stopped s x h) ∙ fed-stopped s xs h where
-  step-stopped : (s : BufState) (byte : ℕ) → (s.state ≡ More → ⊥) → step s byte ≡ s
-  step-stopped s byte h = stays s.state refl where
-    stays : (state : Feed) → state ≡ s.state → step_at state s byte ≡ s
-    stays More e = absurd (h (sym e))
-    stays Whole e = refl
-    stays TooLong e = refl
-
-pub taken-stopped : (s : BufState) (bytes : List ℕ) → (s.state ≡ More → ⊥) → taken s bytes ≡ 0
-taken-stopped s [] h = refl
-taken-stopped s (x ∷ xs) h = none s.state refl where
-  none : (state : Feed) → state ≡ s.state → one_more_at state (taken (step s x) xs) ≡ 0
-  none More e = absurd (h (sym e))
-  none Whole e = refl
-  none TooLong e = refl
 
 -- ---- a part of a piece
 

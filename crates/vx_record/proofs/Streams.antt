@@ -9,23 +9,16 @@ use Rattle.vx_record.specs.Fragments.{fragment_length, is_last}
 use Rattle.vx_record.specs.Records.{Front, Short, Long, Record, front, Split, split_by, split, records}
 use Rattle.vx_record.specs.Buffer.{BufState, fresh, counted, closed, opened, body_bytes, step, fed, taken}
 use Rattle.vx_record.specs.Runs.{Stream, beginning, brought, run, run_pieces, joined, is_too_long, Shows}
-use Rattle.vx_record.proofs.Feeding.{body_bytes-part, step-body, more_front, fed-stopped, taken-more, taken-stopped}
+use Rattle.vx_record.specs.ProvedLaws.{taken-more, fed-stopped, taken-stopped, brought-more, run-too_long, run-append}
+use Rattle.vx_record.proofs.Feeding.{body_bytes-part, step-body, more_front}
 
 -- ---- cuts
-
-pub run-append : (t : Stream) (xs ys : List ℕ) → run t (xs ++ ys) ≡ run (run t xs) ys
-run-append t [] ys = refl
-run-append t (x ∷ xs) ys = run-append (brought t.records (step t.buffer x)) xs ys
 
 pub run_pieces-joined : (t : Stream) (pieces : List (List ℕ)) → run_pieces t pieces ≡ run t (joined pieces)
 run_pieces-joined t [] = refl
 run_pieces-joined t (piece ∷ pieces) = run_pieces-joined (run t piece) pieces ∙ sym (run-append t piece (joined pieces))
 
 -- ---- a feed is a front of a run
-
--- nothing is taken off before a record is whole
-pub brought-more : (rs : List (List ℕ)) (s : BufState) → s.state ≡ More → brought rs s ≡ record { records = rs; buffer = s }
-brought-more rs s more = rw more refl
 
 pub run-fed : (rs : List (List ℕ)) (s : BufState) (piece : List ℕ) → s.state ≡ More
     → run (record { records = rs; buffer = s }) piece ≡ run (brought rs (fed s piece)) (drop (taken s piece) piece)
@@ -42,14 +35,6 @@ run-fed rs s (x ∷ xs) more =
       after TooLong e later =
           let stopped : (step s x).state ≡ More → ⊥ = λ m. absurd (let both : TooLong ≡ More = e ∙ m in cc) in
           rw (fed-stopped (step s x) xs stopped, taken-stopped (step s x) xs stopped) refl
-
--- nothing more comes behind a header that was refused
-pub run-too_long : (rs : List (List ℕ)) (s : BufState) (bytes : List ℕ) → s.state ≡ TooLong
-    → run (record { records = rs; buffer = s }) bytes ≡ record { records = rs; buffer = s }
-run-too_long rs s [] e = refl
-run-too_long rs s (x ∷ xs) e =
-    let stays : brought rs (step s x) ≡ record { records = rs; buffer = s } = rw e refl in
-    ap (λ t. run t xs) stays ∙ run-too_long rs s xs e
 
 -- ---- fragments
 

@@ -1,5 +1,5 @@
 -- A whole stream through a buffer: each whole record is taken off, and the buffer begins the next one behind it.
-use Rattle.std.specs.Prelude.{◌≡◌, ℕ, ◌^◌, ◌<◌, ◌≤◌, min, Bool, true, false, List, [], ◌∷◌, ◌++◌, length, drop}
+use Rattle.std.specs.Prelude.{◌≡◌, ℕ, ◌-◌, ◌^◌, ◌<◌, ◌≤◌, min, Bool, true, false, List, [], ◌∷◌, ◌++◌, length, take, drop}
 use Rattle.vx_record.specs.Buffer.{BufState, fresh, step, fed, taken}
 use Rattle.vx_record.specs.Fragments.{last_header}
 use Rattle.vx_record.specs.Records.{Split, records}
@@ -35,6 +35,10 @@ abbrev pub run_pieces : Stream → List (List ℕ) → Stream
 run_pieces t [] = t
 run_pieces t (piece ∷ pieces) = run_pieces (run t piece) pieces
 
+-- the stream, with these records in front of its own
+abbrev pub behind : List (List ℕ) → Stream → Stream
+behind rs t = record { records = rs ++ t.records; buffer = t.buffer }
+
 -- the pieces, one after the other
 abbrev pub joined : List (List ℕ) → List ℕ
 joined [] = []
@@ -53,6 +57,11 @@ pub record Shows (split : Split) (t : Stream) : Type 0 where
   pub too_long : is_too_long t.buffer.state ≡ split.too_long
   pub rest : split.too_long ≡ false → t.buffer.rest ≡ min (length split.rest) (2 ^ 62)
 
+-- a buffer was fed what stands in a piece from a place on, and took so many bytes of it
+pub record FedFrom (old : BufState) (piece : List ℕ) (place took : ℕ) (new : BufState) : Type 0 where
+  pub after : new ≡ fed old (take (length piece - place) (drop place piece))
+  pub took_is : took ≡ taken old (take (length piece - place) (drop place piece))
+
 -- a stream in any pieces is the records of the whole stream
 abbrev pub PiecesLaw : Type 0
 PiecesLaw = (limit : ℕ) (pieces : List (List ℕ)) → Shows (records limit (joined pieces)) (run_pieces (beginning limit) pieces)
@@ -68,6 +77,6 @@ FeedLaw = (t : Stream) (piece : List ℕ) → t.buffer.state ≡ More
 
 -- what is written as one last fragment is read as one record, whatever stands behind it
 abbrev pub MarkLaw : Type 0
-MarkLaw = (limit : ℕ) (bytes behind : List ℕ) → length bytes ≤ limit → length bytes < 2 ^ 31
-    → records limit (last_header (length bytes) ++ bytes ++ behind)
-    ≡ record (records limit behind) { records = bytes ∷ (records limit behind).records }
+MarkLaw = (limit : ℕ) (bytes later : List ℕ) → length bytes ≤ limit → length bytes < 2 ^ 31
+    → records limit (last_header (length bytes) ++ bytes ++ later)
+    ≡ record (records limit later) { records = bytes ∷ (records limit later).records }

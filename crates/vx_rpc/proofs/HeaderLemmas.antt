@@ -10,7 +10,7 @@ use Rattle.vx_xdr.specs.declared.fault.XdrErr.{XdrErr}
 use Rattle.vx_xdr.specs.declared.fault.XdrErr.TheVariants as fault
 use Rattle.vx_xdr.specs.Spelling.{Word}
 use Rattle.vx_xdr.specs.Reading.{◌>>=◌, reading}
-use Rattle.vx_xdr.proofs.Read.{bind_ok, ok_is}
+use Rattle.vx_xdr.specs.ProvedLaws.{bind_ok, ok_is}
 use Rattle.vx_rpc.specs.declared.call.CallRead.{CallRead}
 use Rattle.vx_rpc.specs.declared.call.CallRead.TheVariants as call
 use Rattle.vx_rpc.specs.declared.read.ReplyRead.{ReplyRead}

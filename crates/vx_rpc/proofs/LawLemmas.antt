@@ -11,8 +11,7 @@ use Rattle.vx_calls.specs.declared.calls.Proc.TheVariants as proc
 use Rattle.vx_xdr.specs.declared.fault.XdrErr.{XdrErr}
 use Rattle.vx_xdr.specs.Spelling.{Word, Opaque, word, opaque}
 use Rattle.vx_xdr.specs.Reading.{◌>>=◌, reading}
-use Rattle.vx_xdr.proofs.Words.{number-word}
-use Rattle.vx_xdr.proofs.Read.{reading-again}
+use Rattle.vx_xdr.specs.ProvedLaws.{number-word, reading-again}
 use Rattle.vx_rpc.specs.declared.refusal.RpcRefusal.{RpcRefusal}
 use Rattle.vx_rpc.specs.declared.refusal.RpcRefusal.TheVariants as refusal
 use Rattle.vx_rpc.specs.Procedure.{program, proc_number, serves}

@@ -1,15 +1,10 @@
 -- A call of a session, from its coming to its answer: the groups that it adds, and the calls of the dial.
-use Rattle.std.proofs.Common.{◌≡◌, ◌≤◌, ◌<◌, ◌+◌, ℕ, Bool, true, false, cond, List, [], ◌∷◌, ◌++◌, map, length, take, count_by, Option, Some, None, refl, sym, ap, ◌∙◌, subst, append_assoc, append-nil, arith}
+use Rattle.std.proofs.Common.{◌≡◌, ◌≤◌, ◌<◌, ◌+◌, ℕ, Bool, true, false, List, [], ◌∷◌, ◌++◌, length, take, count_by, Option, Some, None, refl, sym, ap, ◌∙◌, subst, append-nil, arith}
 use Rattle.std.specs.Prelude.{if◌then◌else◌}
-use Rattle.std.specs.List.{flat_map}
-use Rattle.std.proofs.lemmas.List.{map-append}
-use Rattle.std.proofs.lemmas.List.Sums.{sum_by-append}
-use Rattle.std.proofs.lemmas.Grind.{flat_map-append}
 use Rattle.vx_io_traits.specs.Faults.{Rose}
 use Rattle.vx_io_traits.specs.Rung.{AddsCalls, OnDialFailed, is_up, dialed, handed}
 use Rattle.vx_io_traits.specs.declared.dials.DialOut.{DialOut}
 use Rattle.vx_io_traits.specs.declared.dials.DialOut.TheVariants as dialout
-use Rattle.vx_io_traits.specs.declared.dials.Rang.{Rang}
 use Rattle.vx_io_traits.specs.declared.dials.Rang.TheVariants as rang
 use Rattle.vx_calls.specs.declared.calls.Role.TheVariants as role
 use Rattle.vx_calls.specs.declared.codes.ErrorCode.{ErrorCode}
@@ -20,7 +15,7 @@ use Rattle.vx_message.specs.Meaning.{reply_record}
 use Rattle.vx_history.specs.Event.{Event, Arrive, Abort, Begin}
 use Rattle.vx_history.specs.Poll as poll
 use Rattle.vx_history.specs.Poll.{Ending, Waited, Dialed, Why, moved_events, end_events}
-use Rattle.vx_history.specs.Groups.{Group, events_of}
+use Rattle.vx_history.specs.Groups.{Group}
 use Rattle.vx_turns.specs.Placing.{Placed, Makes}
 use Rattle.vx_history.specs.Phases.{Idle, Asked}
 use Rattle.vx_turns.specs.declared.acts.PollEnd.{PollEnd}
@@ -31,21 +26,10 @@ use Rattle.vx_turns.specs.Turning.{phase_at, Comes, PollsAgain, Settles}
 use Rattle.vx_session.specs.Outside.{DialShown, RoseBy, is_failed_dial}
 use Rattle.vx_session.specs.Serving.{IsSettled, Through, rings}
 use Rattle.vx_session.specs.Progress.{Rings, AnswersCall, AnswersDial, failed_dials}
-use Rattle.vx_session.proofs.Making.{makes-later, makes-goes}
+use Rattle.vx_turns.specs.ProvedLaws.{makes-later, makes-goes}
+use Rattle.vx_session.proofs.Progressing.{adds-none, adds-goes, failed_dials-append}
 
 -- ---- the calls of a dial
-
--- no call
-adds-none : (calls : Option (List Rang)) → AddsCalls calls calls []
-adds-none None = tt
-adds-none (Some calls) = sym (append-nil calls)
-
--- some calls, and then more
-adds-goes : (a b c : Option (List Rang)) (xs ys : List Rang) → AddsCalls a b xs → AddsCalls b c ys → AddsCalls a c (xs ++ ys)
-adds-goes a b None xs ys before after = tt
-adds-goes a None (Some c) xs ys before after = absurd after
-adds-goes None (Some b) (Some c) xs ys before after = absurd before
-adds-goes (Some a) (Some b) (Some c) xs ys before after = after ∙ ap (λ l. l ++ ys) before ∙ append_assoc a xs ys
 
 -- a fact of a dial that failed
 abbrev IfDown : Bool → Type 0 → Type 0
@@ -65,14 +49,6 @@ dials-so old new host port dialout.Up told counted failed = record { told = told
 dials-so old new host port dialout.Failed told counted failed = record { told = told; counted = counted; failed = failed }
 
 -- ---- how many dials of some groups failed
-
--- the groups of two lists
-failed-append : (ps qs : List Placed) → failed_dials (ps ++ qs) ≡ failed_dials ps + failed_dials qs
-failed-append ps qs =
-    let of : Placed → Group = λ k. k.group in
-    ap (λ gs. count_by is_failed_dial (events_of gs)) (map-append of ps qs)
-    ∙ ap (count_by is_failed_dial) (flat_map-append (λ (g : Group). g.events) (map of ps) (map of qs))
-    ∙ sum_by-append (λ (e : Event). cond (is_failed_dial e) 1 0) (flat_map (λ (g : Group). g.events) (map of ps)) (flat_map (λ (g : Group). g.events) (map of qs))
 
 -- the events of a group alone
 failed-one : (p : Placed) → failed_dials (p ∷ []) ≡ count_by is_failed_dial p.group.events
@@ -196,7 +172,7 @@ front-none all front rest sum none_before = omega arith
 polls-quiet : (conn : ℕ) (call : Call) (first last : Ending) (ps : List Placed) → Through conn call first ps last → failed_dials ps ≡ 0
 polls-quiet conn call first last [] through = refl
 polls-quiet conn call (Waited why) last (p ∷ ps) through =
-    both-none (failed_dials (p ∷ ps)) (failed_dials (p ∷ [])) (failed_dials ps) (failed-append (p ∷ []) ps)
+    both-none (failed_dials (p ∷ ps)) (failed_dials (p ∷ [])) (failed_dials ps) (failed_dials-append (p ∷ []) ps)
     (failed-one p ∙ poll-quiet conn through.0 through.1 p.group.events through.2) (polls-quiet conn call through.1 last ps through.4)
 polls-quiet conn call (poll.Answered ran level told) last (p ∷ ps) through = absurd through
 polls-quiet conn call (Dialed host port) last (p ∷ ps) through = absurd through
@@ -249,7 +225,7 @@ module _ (told : ℕ) (pass pass' : PassView Group) (conn xid : ℕ) (call : Cal
   -- none of its groups has an answer behind a dial
   called-quiet : (end : PollEnd) (polled : Polled told pass conn xid call room end pass') → failed_dials (polled.first ∷ polled.polls) ≡ 0
   called-quiet end polled =
-      both-none (failed_dials (polled.first ∷ polled.polls)) (failed_dials (polled.first ∷ [])) (failed_dials polled.polls) (failed-append (polled.first ∷ []) polled.polls)
+      both-none (failed_dials (polled.first ∷ polled.polls)) (failed_dials (polled.first ∷ [])) (failed_dials polled.polls) (failed_dials-append (polled.first ∷ []) polled.polls)
       (failed-one polled.first ∙ ap (count_by is_failed_dial) polled.events ∙ poll-quiet conn polled.now polled.begun polled.part polled.is_part)
       (polls-quiet conn call polled.begun polled.last polled.polls polled.through)
 
@@ -371,7 +347,7 @@ module _ (told : ℕ) (pass pass' : PassView Group) (conn xid : ℕ) (call : Cal
             told = dialed.rings.told;
             failed = subst (λ n. RoseBy n dial.faults dial'.faults)
                 (sym (front-none (failed_dials ((polled.first ∷ polled.polls) ++ dialed.group ∷ [])) (failed_dials (polled.first ∷ polled.polls)) (failed_dials (dialed.group ∷ []))
-                (failed-append (polled.first ∷ polled.polls) (dialed.group ∷ [])) (called-quiet end polled)))
+                (failed_dials-append (polled.first ∷ polled.polls) (dialed.group ∷ [])) (called-quiet end polled)))
                 dialed.rings.failed;
           };
           replied = refl;

@@ -7,12 +7,13 @@ use Rattle.vx_history.specs.Laws.{HeadlineOfGroupsLaw, OwnedLaw}
 use Rattle.vx_history.specs.Groups.{Group}
 use Rattle.vx_turns.specs.Placing.{IsHistory}
 use Rattle.vx_turns.specs.Turning.{Leaves}
-use Rattle.vx_session.specs.Outside.{LinkShown, DialShown}
+use Rattle.vx_link.specs.Shown.{LinkShown}
+use Rattle.vx_session.specs.Outside.{DialShown}
 use Rattle.vx_session.specs.Progress.{placed}
 use Rattle.vx_session.specs.Stopping.{StreamServed}
 use Rattle.vx_session.specs.Ending.{Upholds, SessionDid}
 use Rattle.vx_session.specs.declared.sessions.End.{End}
-use Rattle.vx_session.proofs.Making.{makes-goes, makes-later}
+use Rattle.vx_turns.specs.ProvedLaws.{makes-goes, makes-later}
 
 -- of a history that a pass has seen, all holds that is claimed
 upholds : HeadlineOfGroupsLaw → OwnedLaw → (pass : PassView Group) → IsHistory pass.seen → Upholds pass

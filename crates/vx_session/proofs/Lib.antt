@@ -1,9 +1,7 @@
 pub mod Calling
 pub mod Finishing
-pub mod Making
 pub mod Piecewise
 pub mod Progressing
 pub mod Recorded
-pub mod Sends
 pub mod Streams
 pub mod Wholes

@@ -10,15 +10,15 @@ use Rattle.vx_calls.specs.declared.calls.Role.{Role}
 use Rattle.vx_calls.specs.declared.limits.TheConstants.{RECORD_MAX}
 use Rattle.vx_gate.specs.PassView.{PassView}
 use Rattle.vx_record.specs.Buffer.{BufState, fresh, step, fed, taken}
-use Rattle.vx_record.specs.Runs.{Stream, brought, run}
+use Rattle.vx_record.specs.Runs.{Stream, brought, run, FedFrom}
 use Rattle.vx_record.specs.declared.Feed.{Feed}
 use Rattle.vx_record.specs.declared.Feed.TheVariants.{More, Whole, TooLong}
-use Rattle.vx_record.proofs.Feeding.{fed-stopped, taken-more, taken-stopped}
-use Rattle.vx_record.proofs.Streams.{run-append, brought-more}
+use Rattle.vx_record.specs.ProvedLaws.{fed-stopped, taken-more, taken-stopped, run-append, brought-more, brought-whole, brought-long}
 use Rattle.vx_history.specs.Groups.{Group}
 use Rattle.vx_history.specs.Phases.{Idle}
 use Rattle.vx_turns.specs.Turning.{phase_at}
-use Rattle.vx_session.specs.Outside.{LinkShown, DialShown}
+use Rattle.vx_link.specs.Shown.{LinkShown}
+use Rattle.vx_session.specs.Outside.{DialShown}
 use Rattle.vx_session.specs.Serving.{Item}
 use Rattle.vx_session.specs.Progress.{Progress, messages, replies}
 use Rattle.vx_session.specs.Streaming.{StopsReply, WholeEnds, ServesWhole, PieceEnds, ServesPiece}
@@ -45,19 +45,6 @@ run-taken rs s (x ∷ xs) more =
       after TooLong e later =
           let stopped : (step s x).state ≡ More → ⊥ = λ m. absurd (let both : TooLong ≡ More = e ∙ m in cc) in
           rw (fed-stopped (step s x) xs stopped, taken-stopped (step s x) xs stopped) refl
-
--- a record that is whole is taken off
-brought-whole : (rs : List (List ℕ)) (s : BufState) → s.state ≡ Whole → brought rs s ≡ record { records = rs ++ s.kept ∷ []; buffer = fresh s.limit }
-brought-whole rs s whole = rw whole refl
-
--- one that is too long stays
-brought-long : (rs : List (List ℕ)) (s : BufState) → s.state ≡ TooLong → brought rs s ≡ record { records = rs; buffer = s }
-brought-long rs s long = rw long refl
-
--- a buffer was fed what stands in a piece from a place on, and took so many bytes of it
-pub record FedFrom (old : BufState) (piece : List ℕ) (at took : ℕ) (new : BufState) : Type 0 where
-  pub after : new ≡ fed old (take (length piece - at) (drop at piece))
-  pub took_is : took ≡ taken old (take (length piece - at) (drop at piece))
 
 -- the run goes on by what the feed brought
 run-on : (t : Stream) (piece : List ℕ) (at took : ℕ) (rs : List (List ℕ)) (old new : BufState) → run t (take at piece) ≡ record { records = rs; buffer = old }
@@ -90,7 +77,7 @@ replies-append items items' written written' unsent before after =
     ∙ sym (append_assoc written written' unsent)
 
 -- the last reply of more items stopped in its middle
-stops-behind : (seen seen' seen'' : LinkShown) (items items' : List Item) (unsent : List ℕ) → seen.send_faults ≤ seen'.send_faults
+pub stops-behind : (seen seen' seen'' : LinkShown) (items items' : List Item) (unsent : List ℕ) → seen.send_faults ≤ seen'.send_faults
     → StopsReply seen' items' unsent seen'' → StopsReply seen (items ++ items') unsent seen''
 stops-behind seen seen' seen'' items items' unsent later stops =
     let rose : Rose seen'.send_faults seen''.send_faults = stops.rose in

@@ -1,7 +1,6 @@
 -- How sessions come on: what was served so far, and what is served then.
 use Rattle.std.proofs.Common.{◌≡◌, ◌≤◌, ◌+◌, ℕ, List, [], ◌++◌, Option, None, Some, map, sym, ap, ◌∙◌, subst, append_assoc, append-nil, arith}
 use Rattle.std.specs.List.{All, count_by}
-use Rattle.std.proofs.KnownBytes.{Consumes-trans, Consumes-nil, Keeps-refl, Keeps-trans}
 use Rattle.std.proofs.lemmas.List.{map-append}
 use Rattle.std.proofs.lemmas.List.Concat.{flat_map-append}
 use Rattle.std.proofs.lemmas.List.Elements.{All-nil, All-append}
@@ -13,34 +12,27 @@ use Rattle.vx_calls.specs.declared.calls.Role.{Role}
 use Rattle.vx_gate.specs.PassView.{PassView}
 use Rattle.vx_history.specs.Groups.{Group, events_of}
 use Rattle.vx_turns.specs.Placing.{Placed, Makes}
-use Rattle.vx_session.specs.Outside.{LinkShown, LinkGoes, DialShown, RoseBy, is_failed_dial}
+use Rattle.vx_link.specs.Shown.{LinkShown}
+use Rattle.vx_link.specs.ProvedLaws.{link-none, link-goes}
+use Rattle.vx_session.specs.Outside.{DialShown, RoseBy, is_failed_dial}
 use Rattle.vx_session.specs.Serving.{Item, Serves}
 use Rattle.vx_session.specs.Progress.{Rings, Progress, placed, calls, failed_dials}
-use Rattle.vx_session.proofs.Making.{makes-none, makes-goes}
-
--- a link that gave bytes, and then more
-pub link-goes : (a b c : LinkShown) (xs ys : List ℕ) → LinkGoes a xs b → LinkGoes b ys c → LinkGoes a (xs ++ ys) c
-link-goes a b c xs ys before after = record {
-  left = Consumes-trans a.left b.left c.left xs ys before.left after.left;
-  peers = Keeps-trans a.peers b.peers c.peers before.peers after.peers;
-  receives = (let first : a.receive_faults ≤ b.receive_faults = before.receives in let second : b.receive_faults ≤ c.receive_faults = after.receives in omega arith);
-  sends = (let first : a.send_faults ≤ b.send_faults = before.sends in let second : b.send_faults ≤ c.send_faults = after.sends in omega arith);
-}
+use Rattle.vx_turns.specs.ProvedLaws.{makes-none, makes-goes}
 
 -- a dial told no further call
-adds-none : (a : Option (List Rang)) → AddsCalls a a []
+pub adds-none : (a : Option (List Rang)) → AddsCalls a a []
 adds-none None = tt
 adds-none (Some x) = sym (append-nil x)
 
 -- a dial told calls, and then more
-adds-goes : (a b c : Option (List Rang)) (xs ys : List Rang) → AddsCalls a b xs → AddsCalls b c ys → AddsCalls a c (xs ++ ys)
+pub adds-goes : (a b c : Option (List Rang)) (xs ys : List Rang) → AddsCalls a b xs → AddsCalls b c ys → AddsCalls a c (xs ++ ys)
 adds-goes a b None xs ys before after = tt
 adds-goes a None (Some z) xs ys before after = absurd after
 adds-goes None (Some y) (Some z) xs ys before after = absurd before
 adds-goes (Some x) (Some y) (Some z) xs ys before after = after ∙ ap (λ l. l ++ ys) before ∙ append_assoc x xs ys
 
 -- the answers behind failed dials of two lists of groups
-failed_dials-append : (ps qs : List Placed) → failed_dials (ps ++ qs) ≡ failed_dials ps + failed_dials qs
+pub failed_dials-append : (ps qs : List Placed) → failed_dials (ps ++ qs) ≡ failed_dials ps + failed_dials qs
 failed_dials-append ps qs =
     ap (λ (gs : List Group). count_by is_failed_dial (events_of gs)) (map-append (λ (p : Placed). p.group) ps qs)
     ∙ ap (count_by is_failed_dial) (flat_map-append (λ (g : Group). g.events) (map (λ (p : Placed). p.group) ps) (map (λ (p : Placed). p.group) qs))
@@ -69,7 +61,7 @@ module _ {L : Type 0} (stands : L → List ℕ → List ℕ → Type 0) (r : Rol
     makes = makes-none told pass;
     each = All-nil (Serves pass.number conn r);
     bytes = Goes-none stands link;
-    goes = record { left = Consumes-nil seen.left; peers = Keeps-refl seen.peers; receives = omega arith; sends = omega arith };
+    goes = link-none seen;
     rings = rings-none dial;
   }
 

@@ -24,7 +24,7 @@ use Rattle.vx_turns.specs.Turning as turning
 use Rattle.vx_session.specs.Outside.{DialShown}
 use Rattle.vx_session.specs.Serving.{Item, IsServed}
 use Rattle.vx_session.specs.Progress.{IsRipe, AnswersCall, CallDoes, ServesRecord}
-use Rattle.vx_session.proofs.Making.{makes-none, makes-later}
+use Rattle.vx_turns.specs.ProvedLaws.{makes-none, makes-later}
 use Rattle.vx_session.proofs.Calling.{rings-still, rings-abort}
 
 -- ---- a call, by its procedure

@@ -3,62 +3,32 @@ use Rattle.std.proofs.Common.{◌≡◌, ◌≤◌, ◌^◌, ℕ, zero, suc, min
 use Rattle.std.proofs.lemmas.List.{map-append, nil_from_length}
 use Rattle.std.proofs.lemmas.Option.{none-some, same_Some}
 use Rattle.std.proofs.lemmas.Grind.{flat_map-append}
-use Rattle.std.proofs.KnownBytes.{Consumes-kept, Keeps-trans}
-use Rattle.std.specs.Io.KnownBytes.{Consumes, IsAtEnd, Keeps}
+use Rattle.std.specs.Io.KnownBytes.{IsAtEnd}
 use Rattle.vx_io_traits.specs.Faults.{Rose}
 use Rattle.vx_io_traits.specs.Stands.{Goes-gives, Goes-stays}
 use Rattle.vx_io_traits.specs.ProvedLaws.{rose_earlier}
 use Rattle.vx_calls.specs.declared.calls.Role.{Role}
 use Rattle.vx_calls.specs.declared.limits.TheConstants.{RECORD_MAX}
 use Rattle.vx_gate.specs.PassView.{PassView}
-use Rattle.vx_record.specs.Buffer.{BufState, fresh, step}
+use Rattle.vx_record.specs.Buffer.{BufState, fresh}
 use Rattle.vx_record.specs.Records.{Split, records}
-use Rattle.vx_record.specs.Runs.{Stream, beginning, taken_off, brought, run, is_too_long, Shows, PiecesLaw, CutLaw}
-use Rattle.vx_record.specs.declared.Feed.{Feed}
+use Rattle.vx_record.specs.Runs.{Stream, beginning, run, behind, is_too_long, PiecesLaw}
 use Rattle.vx_record.specs.declared.Feed.TheVariants as feed
 use Rattle.vx_history.specs.Groups.{Group}
 use Rattle.vx_history.specs.Phases.{Idle}
 use Rattle.vx_turns.specs.Turning.{phase_at}
-use Rattle.vx_session.specs.Outside.{LinkShown, LinkGoes, DialShown}
+use Rattle.vx_link.specs.Shown.{LinkShown, Gave, Ended}
+use Rattle.vx_link.specs.ProvedLaws.{link-goes, goes-ended, at-end}
+use Rattle.vx_session.specs.Outside.{DialShown}
 use Rattle.vx_session.specs.Serving.{Item}
 use Rattle.vx_session.specs.Progress.{Progress, messages, replies}
-use Rattle.vx_session.specs.Streaming.{ServesPiece, PieceEnds, StopsReply}
-use Rattle.vx_session.specs.Stopping.{EndsSo, StreamServed, Gave, Ended, PieceServed, NoPiece, NextServed, input_end}
+use Rattle.vx_session.specs.Streaming.{ServesPiece, PieceEnds}
+use Rattle.vx_session.specs.Stopping.{EndsSo, StreamServed, NextServed, input_end}
 use Rattle.vx_session.specs.declared.sessions.End.{End}
 use Rattle.vx_session.specs.declared.sessions.End.TheVariants as end
-use Rattle.vx_session.proofs.Progressing.{link-goes, progress-none, progress-goes}
-
--- ---- a stream that begins behind records
-
--- the stream, with these records in front of its own
-abbrev behind : List (List ℕ) → Stream → Stream
-behind rs t = record { records = rs ++ t.records; buffer = t.buffer }
-
--- a record that is taken off comes behind those in front
-taken_off-behind : (f : Feed) (rs ts : List (List ℕ)) (s : BufState) → taken_off f (rs ++ ts) s ≡ behind rs (taken_off f ts s)
-taken_off-behind feed.More rs ts s = refl
-taken_off-behind feed.Whole rs ts s =
-    let with : List (List ℕ) → Stream = λ all. record { records = all; buffer = fresh s.limit } in
-    ap with (append_assoc rs ts (s.kept ∷ []))
-taken_off-behind feed.TooLong rs ts s = refl
-
--- what a stream makes of bytes is the same whatever records stand in front
-run-behind : (rs : List (List ℕ)) (t : Stream) (xs : List ℕ) → run (behind rs t) xs ≡ behind rs (run t xs)
-run-behind rs t [] = refl
-run-behind rs t (x ∷ xs) =
-    let s = step t.buffer x in
-    ap (λ u. run u xs) (taken_off-behind s.state rs t.records s) ∙ run-behind rs (brought t.records s) xs
-
--- a stream that has come to these records and this buffer goes on as the buffer does, behind these records
-came-on : CutLaw → (t : Stream) (rs : List (List ℕ)) (b : BufState) (xs ys : List ℕ) → run t xs ≡ record { records = rs; buffer = b }
-    → run t (xs ++ ys) ≡ behind rs (run (record { records = []; buffer = b }) ys)
-came-on cut t rs b xs ys came =
-    let with : List (List ℕ) → Stream = λ all. record { records = all; buffer = b } in
-    cut t xs ys ∙ ap (λ u. run u ys) (came ∙ ap with (sym (append-nil rs))) ∙ run-behind rs (record { records = []; buffer = b }) ys
-
--- a stream in one piece is the records of its bytes
-shown : PiecesLaw → (limit : ℕ) (xs : List ℕ) → Shows (records limit xs) (run (beginning limit) xs)
-shown pieces limit xs = subst (λ ys. Shows (records limit ys) (run (beginning limit) xs)) (append-nil xs) (pieces limit (xs ∷ []))
+use Rattle.vx_record.specs.ProvedLaws.{came-on, shown}
+use Rattle.vx_session.proofs.Progressing.{progress-none, progress-goes}
+use Rattle.vx_session.proofs.Piecewise.{stops-behind}
 
 -- ---- how a session ends
 
@@ -68,19 +38,6 @@ input-ends : (seen : LinkShown) (r : Role) (items : List Item) (looked : Split) 
     → EndsSo seen r items looked [] [] seen' (input_end rest)
 input-ends seen r items looked seen' zero recs long is last = (recs, nil_from_length looked.rest (omega arith), long, refl, refl, last)
 input-ends seen r items looked seen' (suc n) recs long is last = (recs, omega arith, is, long, refl, refl, last)
-
--- a reply that stopped in its middle did so behind earlier items, too
-stops-behind : (seen mid seen' : LinkShown) (items items' : List Item) (unsent : List ℕ) → seen.send_faults ≤ mid.send_faults
-    → StopsReply mid items' unsent seen' → StopsReply seen (items ++ items') unsent seen'
-stops-behind seen mid seen' items items' unsent later s = record {
-  earlier = items ++ s.earlier;
-  last = s.last;
-  sent = s.sent;
-  items_are = ap (λ all. items ++ all) s.items_are ∙ sym (append_assoc items s.earlier (s.last ∷ []));
-  cut = s.cut;
-  some = s.some;
-  rose = rose_earlier seen.send_faults mid.send_faults seen'.send_faults later s.rose;
-}
 
 -- a session that stops in a piece stops so in its stream
 piece-ends : (seen mid seen' : LinkShown) (r : Role) (items items' : List Item) (looked : Split) (after unsent : List ℕ) (t : Stream) (b : BufState) (stop : End)
@@ -100,29 +57,7 @@ piece-ends seen mid seen' r items items' looked after unsent t b end.WriteFault 
     let ms = map-append (λ (i : Item). i.message) items items' in
     (recs ∙ ap (λ all. messages items ++ all) h.0 ∙ sym ms, stops-behind seen mid seen' items items' unsent later h.2)
 
--- ---- what a receive did to the link
-
--- a link that gave bytes, and then nothing
-goes-ended : {L : Type 0} (stands : L → List ℕ → List ℕ → Type 0) (link link' : L) (a b c : LinkShown) (xs : List ℕ) → LinkGoes a xs b → Ended stands link link' b c
-    → LinkGoes a xs c
-goes-ended stands link link' a b c xs goes e =
-    let r = goes.receives in
-    let s = goes.sends in
-    let r' = e.receives in
-    let s' = e.sends in
-    record {
-      left = Consumes-kept a.left b.left c.left xs goes.left e.left;
-      peers = Keeps-trans a.peers b.peers c.peers goes.peers e.peers;
-      receives = omega arith;
-      sends = omega arith;
-    }
-
--- a link that told what it had left, and gave it up to its end, has nothing left where it tells that
-at-end : (first old new : Option (List ℕ)) (received : List ℕ) → Consumes first old received → IsAtEnd old → Keeps old new → IfSome first (λ all. IsAtEnd new)
-at-end None old new received consumes last keeps = tt
-at-end (Some all) None new received consumes last keeps = absurd consumes
-at-end (Some all) (Some rest) None received consumes last keeps = absurd keeps
-at-end (Some all) (Some rest) (Some later) received consumes last keeps = keeps ∙ last
+-- ---- a stream so far
 
 module _ {L : Type 0} (stands : L → List ℕ → List ℕ → Type 0) (r : Role) (conn : ℕ) where
   -- The records of the stream so far were served, and the buffer has what came behind the last of them.
@@ -173,11 +108,11 @@ module _ {L : Type 0} (stands : L → List ℕ → List ℕ → Type 0) (r : Rol
       (progress-goes stands r conn told told' pass pass' pass'' a c d sa sc sd dial dial' dial'' items items' (received ++ piece) [] written written' later mid after)
 
   -- a piece whose records were all served
-  streamed-goes : CutLaw → (told told' : ℕ) (pass pass' pass'' : PassView Group) (a b c d : L) (sa sb sc sd : LinkShown) (dial dial' dial'' : DialShown)
+  streamed-goes : (told told' : ℕ) (pass pass' pass'' : PassView Group) (a b c d : L) (sa sb sc sd : LinkShown) (dial dial' dial'' : DialShown)
       (buffer buffer' : BufState) (piece : List ℕ) (said : Option End) → told ≤ told' → Streamed told pass a sa dial buffer pass' b sb dial' → Gave stands b c sb piece sc
       → ServesPiece stands told' r conn pass' c sc dial' buffer piece said pass'' d sd dial'' buffer' → said ≡ None → buffer'.limit ≡ RECORD_MAX
       → Streamed told' pass a sa dial buffer' pass'' d sd dial''
-  streamed-goes cut told told' pass pass' pass'' a b c d sa sb sc sd dial dial' dial'' buffer buffer' piece said later so_far gave serves is limit =
+  streamed-goes told told' pass pass' pass'' a b c d sa sb sc sd dial dial' dial'' buffer buffer' piece said later so_far gave serves is limit =
       let served : ServesPiece stands told' r conn pass' c sc dial' buffer piece None pass'' d sd dial'' buffer' =
       subst (λ o. ServesPiece stands told' r conn pass' c sc dial' buffer piece o pass'' d sd dial'' buffer') is serves in
       let items = so_far.items in
@@ -195,7 +130,7 @@ module _ {L : Type 0} (stands : L → List ℕ → List ℕ → Type 0) (r : Rol
             later so_far.progress gave served.progress;
         wrote = flat_map-append (λ (i : Item). i.reply) items items' ∙ ap (λ all. all ++ replies items') so_far.wrote ∙ ap (λ all. so_far.written ++ all) wrote';
         came = ap (λ all. run (beginning RECORD_MAX) (so_far.received ++ all)) front
-            ∙ came-on cut (beginning RECORD_MAX) (messages items) buffer so_far.received served.front so_far.came
+            ∙ came-on (beginning RECORD_MAX) (messages items) buffer so_far.received served.front so_far.came
             ∙ ap (behind (messages items)) served.ends.2
             ∙ ap at (sym (map-append (λ (i : Item). i.message) items items'));
         more = served.ends.3;
@@ -204,11 +139,11 @@ module _ {L : Type 0} (stands : L → List ℕ → List ℕ → Type 0) (r : Rol
       }
 
   -- a piece in which the session stops
-  streamed-stops : PiecesLaw → CutLaw → (told told' : ℕ) (pass pass' pass'' : PassView Group) (a b c d : L) (sa sb sc sd : LinkShown) (dial dial' dial'' : DialShown)
+  streamed-stops : PiecesLaw → (told told' : ℕ) (pass pass' pass'' : PassView Group) (a b c d : L) (sa sb sc sd : LinkShown) (dial dial' dial'' : DialShown)
       (buffer buffer' : BufState) (piece : List ℕ) (said : Option End) (stop : End) → told ≤ told' → Streamed told pass a sa dial buffer pass' b sb dial'
       → Gave stands b c sb piece sc → ServesPiece stands told' r conn pass' c sc dial' buffer piece said pass'' d sd dial'' buffer' → said ≡ Some stop
       → StreamServed stands told' r conn pass a sa dial stop pass'' d sd dial''
-  streamed-stops pieces cut told told' pass pass' pass'' a b c d sa sb sc sd dial dial' dial'' buffer buffer' piece said stop later so_far gave serves is =
+  streamed-stops pieces told told' pass pass' pass'' a b c d sa sb sc sd dial dial' dial'' buffer buffer' piece said stop later so_far gave serves is =
       let served : ServesPiece stands told' r conn pass' c sc dial' buffer piece (Some stop) pass'' d sd dial'' buffer' =
       subst (λ o. ServesPiece stands told' r conn pass' c sc dial' buffer piece o pass'' d sd dial'' buffer') is serves in
       let items = so_far.items in
@@ -218,7 +153,7 @@ module _ {L : Type 0} (stands : L → List ℕ → List ℕ → Type 0) (r : Rol
       let all : front ++ served.behind ≡ so_far.received ++ piece =
       append_assoc so_far.received served.front served.behind ∙ ap (λ rest. so_far.received ++ rest) (sym served.cut) in
       let came : run (beginning RECORD_MAX) front ≡ behind (messages items) t =
-      came-on cut (beginning RECORD_MAX) (messages items) buffer so_far.received served.front so_far.came in
+      came-on (beginning RECORD_MAX) (messages items) buffer so_far.received served.front so_far.came in
       let shows = shown pieces RECORD_MAX front in
       let sends : sa.send_faults ≤ sc.send_faults = (let x = so_far.progress.goes.sends in let y = gave.goes.sends in omega arith) in
       record {
@@ -285,13 +220,13 @@ module _ {L : Type 0} (stands : L → List ℕ → List ℕ → Type 0) (r : Rol
       (λ looked recs long n. (recs, long, refl, refl, rose_earlier sa.receive_faults sb.receive_faults sc.receive_faults so_far.progress.goes.receives rose))
 
   -- the next piece of the stream was served, and the session goes on
-  pub streamed-on : CutLaw → (told told' : ℕ) (pass pass' pass'' : PassView Group) (a b d : L) (sa sb sd : LinkShown) (dial dial' dial'' : DialShown)
+  pub streamed-on : (told told' : ℕ) (pass pass' pass'' : PassView Group) (a b d : L) (sa sb sd : LinkShown) (dial dial' dial'' : DialShown)
       (buffer buffer' : BufState) (said : Option End) → told ≤ told' → Streamed told pass a sa dial buffer pass' b sb dial'
       → NextServed stands told told' r conn pass' b sb dial' buffer said pass'' d sd dial'' buffer' → said ≡ None → buffer'.limit ≡ RECORD_MAX
       → Streamed told' pass a sa dial buffer' pass'' d sd dial''
-  streamed-on cut told told' pass pass' pass'' a b d sa sb sd dial dial' dial'' buffer buffer' said later so_far (inl next) is limit =
-      streamed-goes cut told told' pass pass' pass'' a b next.mid d sa sb next.mid_seen sd dial dial' dial'' buffer buffer' next.piece said later so_far next.gave next.serves is limit
-  streamed-on cut told told' pass pass' pass'' a b d sa sb sd dial dial' dial'' buffer buffer' said later so_far (inr last) is limit =
+  streamed-on told told' pass pass' pass'' a b d sa sb sd dial dial' dial'' buffer buffer' said later so_far (inl next) is limit =
+      streamed-goes told told' pass pass' pass'' a b next.mid d sa sb next.mid_seen sd dial dial' dial'' buffer buffer' next.piece said later so_far next.gave next.serves is limit
+  streamed-on told told' pass pass' pass'' a b d sa sb sd dial dial' dial'' buffer buffer' said later so_far (inr last) is limit =
       absurd (none-some last.how (sym is ∙ last.stops))
 
   -- no piece came behind the stream so far
@@ -307,13 +242,13 @@ module _ {L : Type 0} (stands : L → List ℕ → List ℕ → Type 0) (r : Rol
       (streamed-ends pieces told pass pass' a b c sa sb sc dial dial' buffer buffer.rest so_far ended refl over.1)
 
   -- the session stops in the next piece, or there is none
-  pub streamed-last : PiecesLaw → CutLaw → (told told' : ℕ) (pass pass' pass'' : PassView Group) (a b d : L) (sa sb sd : LinkShown) (dial dial' dial'' : DialShown)
+  pub streamed-last : PiecesLaw → (told told' : ℕ) (pass pass' pass'' : PassView Group) (a b d : L) (sa sb sd : LinkShown) (dial dial' dial'' : DialShown)
       (buffer buffer' : BufState) (said : Option End) (stop : End) → told ≤ told' → Streamed told pass a sa dial buffer pass' b sb dial'
       → NextServed stands told told' r conn pass' b sb dial' buffer said pass'' d sd dial'' buffer' → said ≡ Some stop
       → StreamServed stands told' r conn pass a sa dial stop pass'' d sd dial''
-  streamed-last pieces cut told told' pass pass' pass'' a b d sa sb sd dial dial' dial'' buffer buffer' said stop later so_far (inl next) is =
-      streamed-stops pieces cut told told' pass pass' pass'' a b next.mid d sa sb next.mid_seen sd dial dial' dial'' buffer buffer' next.piece said stop later so_far next.gave next.serves is
-  streamed-last pieces cut told told' pass pass' pass'' a b d sa sb sd dial dial' dial'' buffer buffer' said stop later so_far (inr last) is =
+  streamed-last pieces told told' pass pass' pass'' a b d sa sb sd dial dial' dial'' buffer buffer' said stop later so_far (inl next) is =
+      streamed-stops pieces told told' pass pass' pass'' a b next.mid d sa sb next.mid_seen sd dial dial' dial'' buffer buffer' next.piece said stop later so_far next.gave next.serves is
+  streamed-last pieces told told' pass pass' pass'' a b d sa sb sd dial dial' dial'' buffer buffer' said stop later so_far (inr last) is =
       let so : StreamServed stands told r conn pass a sa dial last.how pass' d sd dial' = no-piece pieces told pass pass' a b d sa sb sd dial dial' buffer last.how so_far last.ended last.why in
       let by_dial : StreamServed stands told r conn pass a sa dial last.how pass' d sd dial'' =
       subst (λ x. StreamServed stands told r conn pass a sa dial last.how pass' d sd x) (sym last.dial_is) so in

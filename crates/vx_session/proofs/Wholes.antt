@@ -5,10 +5,12 @@ use Rattle.vx_calls.specs.declared.calls.Role.{Role}
 use Rattle.vx_gate.specs.PassView.{PassView}
 use Rattle.vx_history.specs.Groups.{Group}
 use Rattle.vx_turns.specs.Placing.{Makes}
-use Rattle.vx_session.specs.Outside.{LinkShown, DialShown}
+use Rattle.vx_link.specs.Shown.{LinkShown}
+use Rattle.vx_session.specs.Outside.{DialShown}
 use Rattle.vx_session.specs.Serving.{Serves}
 use Rattle.vx_session.specs.Progress.{Rings, Progress, ServesRecord, MessageDoes, calls, replies}
-use Rattle.vx_session.specs.Streaming.{SendsAll, IsSent, StopsReply, ServesWhole}
+use Rattle.vx_link.specs.Sending.{SendsAll, IsSent}
+use Rattle.vx_session.specs.Streaming.{StopsReply, ServesWhole}
 use Rattle.vx_session.specs.declared.sessions.End.TheVariants as end
 use Rattle.vx_session.proofs.Progressing.{progress-none}
 

@@ -12,7 +12,8 @@ use Rattle.vx_history.specs.Headline.{Headline}
 use Rattle.vx_history.specs.Groups.{Group, events_of}
 use Rattle.vx_history.specs.Owning.{Owned}
 use Rattle.vx_turns.specs.Placing.{Placed, Makes, IsHistory}
-use Rattle.vx_session.specs.Outside.{LinkShown, LinkGoes, DialShown}
+use Rattle.vx_link.specs.Shown.{LinkShown, LinkGoes}
+use Rattle.vx_session.specs.Outside.{DialShown}
 use Rattle.vx_session.specs.Serving.{Item, Serves}
 use Rattle.vx_session.specs.Progress.{Rings, placed, calls, replies}
 use Rattle.vx_session.specs.Stopping.{EndsSo}

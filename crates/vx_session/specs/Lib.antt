@@ -8,13 +8,14 @@ pub mod Linking
 pub use Rattle.vx_io_traits.specs.Faults
 pub use Rattle.vx_io_traits.specs.Rung
 pub use Rattle.vx_io_traits.specs.Stands
+pub use Rattle.vx_link.specs.Shown
 pub use Rattle.vx_calls.specs.Call
 pub use Rattle.vx_calls.specs.Reply
 pub use Rattle.vx_record.specs.Buffer
 pub use Rattle.vx_record.specs.Records
 pub use Rattle.vx_record.specs.Runs
 pub use Rattle.vx_message.specs.Meaning
-pub use Rattle.vx_rules.specs.Held
+pub use Rattle.vx_rules.specs.Calls
 pub use Rattle.vx_rules.specs.One
 pub use Rattle.vx_gate.specs.History
 pub use Rattle.vx_gate.specs.PassView

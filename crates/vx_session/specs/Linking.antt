@@ -2,11 +2,12 @@
 use Rattle.std.specs.Prelude.{◌≡◌, ℕ, List, Ok, Err}
 use Rattle.vx_calls.specs.declared.calls.Role.{Role}
 use Rattle.vx_gate.specs.PassView.{PassView}
-use Rattle.vx_rules.specs.declared.tables.Connect.{Connect}
-use Rattle.vx_rules.specs.declared.tables.Connect.TheVariants as connect
+use Rattle.vx_tables.specs.declared.tables.Connect.{Connect}
+use Rattle.vx_tables.specs.declared.tables.Connect.TheVariants as connect
 use Rattle.vx_history.specs.Groups.{Group}
 use Rattle.vx_turns.specs.Turning.{Joins}
-use Rattle.vx_session.specs.Outside.{LinkShown, DialShown}
+use Rattle.vx_link.specs.Shown.{LinkShown}
+use Rattle.vx_session.specs.Outside.{DialShown}
 use Rattle.vx_session.specs.Ending.{SessionDid}
 use Rattle.vx_session.specs.declared.sessions.End.{End}
 use Rattle.vx_session.specs.declared.links.Linked.{Linked}

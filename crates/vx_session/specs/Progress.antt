@@ -13,7 +13,8 @@ use Rattle.vx_history.specs.Groups.{Group, events_of}
 use Rattle.vx_message.specs.Meaning.{meaning, Junk, by_call}
 use Rattle.vx_history.specs.Phases.{Phase, Idle}
 use Rattle.vx_turns.specs.Placing.{Placed, Makes}
-use Rattle.vx_session.specs.Outside.{LinkShown, LinkGoes, DialShown, RoseBy, is_failed_dial}
+use Rattle.vx_link.specs.Shown.{LinkShown, LinkGoes}
+use Rattle.vx_session.specs.Outside.{DialShown, RoseBy, is_failed_dial}
 use Rattle.vx_session.specs.Serving.{Item, IsSettled, IsCalled, IsServed, Serves}
 
 -- the messages of these items, their groups, the calls of the dial and the replies

@@ -1,8 +1,7 @@
 -- Why a session stops reading.
-use Rattle.std.specs.Prelude.{◌≡◌, ◌≤◌, ◌<◌, ◌^◌, ℕ, zero, suc, min, true, false, List, [], ◌∷◌, ◌++◌, length, Option, Some, IfSome, ◌⊎◌}
-use Rattle.std.specs.Io.KnownBytes.{IsAtEnd, Keeps}
+use Rattle.std.specs.Prelude.{◌≡◌, ◌<◌, ◌^◌, ℕ, zero, suc, min, true, false, List, [], ◌∷◌, ◌++◌, length, Option, Some, IfSome, ◌⊎◌}
+use Rattle.std.specs.Io.KnownBytes.{IsAtEnd}
 use Rattle.vx_io_traits.specs.Faults.{Rose}
-use Rattle.vx_io_traits.specs.Stands.{Gives, Stays}
 use Rattle.vx_calls.specs.declared.calls.Role.{Role}
 use Rattle.vx_calls.specs.declared.limits.TheConstants.{RECORD_MAX}
 use Rattle.vx_gate.specs.PassView.{PassView}
@@ -11,7 +10,8 @@ use Rattle.vx_record.specs.Records.{Split, records}
 use Rattle.vx_message.specs.Meaning as meant
 use Rattle.vx_message.specs.Meaning.{meaning}
 use Rattle.vx_history.specs.Groups.{Group}
-use Rattle.vx_session.specs.Outside.{LinkShown, LinkGoes, DialShown}
+use Rattle.vx_link.specs.Shown.{LinkShown, Gave, Ended}
+use Rattle.vx_session.specs.Outside.{DialShown}
 use Rattle.vx_session.specs.Serving.{Item}
 use Rattle.vx_session.specs.Progress.{Progress, messages, replies}
 use Rattle.vx_session.specs.Streaming.{StopsReply, ServesPiece}
@@ -55,19 +55,6 @@ pub record StreamServed {L : Type 0} (stands : L → List ℕ → List ℕ → T
   pub progress : Progress stands told r conn pass link seen dial items (front ++ behind) written pass' link' seen' dial'
   pub wrote : replies items ≡ written ++ unsent
   pub ended : EndsSo seen r items (records RECORD_MAX front) behind unsent seen' how
-
--- a receive gave these bytes
-pub record Gave {L : Type 0} (stands : L → List ℕ → List ℕ → Type 0) (link link' : L) (seen : LinkShown) (bytes : List ℕ) (seen' : LinkShown) : Type 0 where
-  pub gives : Gives stands link link' bytes
-  pub goes : LinkGoes seen bytes seen'
-
--- a receive gave nothing
-pub record Ended {L : Type 0} (stands : L → List ℕ → List ℕ → Type 0) (link link' : L) (seen seen' : LinkShown) : Type 0 where
-  pub stays : Stays stands link link'
-  pub left : Keeps seen.left seen'.left
-  pub peers : Keeps seen.peers seen'.peers
-  pub receives : seen.receive_faults ≤ seen'.receive_faults
-  pub sends : seen'.send_faults ≡ seen.send_faults
 
 -- a piece came, and its records were served
 pub record PieceServed {L : Type 0} (stands : L → List ℕ → List ℕ → Type 0) (told : ℕ) (r : Role) (conn : ℕ) (pass : PassView Group) (link : L) (seen : LinkShown) (dial : DialShown)

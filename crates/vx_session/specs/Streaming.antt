@@ -1,7 +1,6 @@
 -- What a session makes of a piece of its stream.
-use Rattle.std.specs.Prelude.{◌≡◌, ◌<◌, ℕ, Bool, true, false, List, [], ◌∷◌, ◌++◌, length, Option, Some, None}
+use Rattle.std.specs.Prelude.{◌≡◌, ◌<◌, ℕ, List, [], ◌∷◌, ◌++◌, length, Option, Some, None}
 use Rattle.vx_io_traits.specs.Faults.{Rose}
-use Rattle.vx_io_traits.specs.Stands.{Goes}
 use Rattle.vx_calls.specs.declared.calls.Role.{Role}
 use Rattle.vx_gate.specs.PassView.{PassView}
 use Rattle.vx_record.specs.Buffer.{BufState}
@@ -12,25 +11,12 @@ use Rattle.vx_message.specs.Meaning.{meaning}
 use Rattle.vx_history.specs.Groups.{Group}
 use Rattle.vx_history.specs.Phases.{Idle}
 use Rattle.vx_turns.specs.Turning.{phase_at}
-use Rattle.vx_session.specs.Outside.{LinkShown, LinkGoes, DialShown}
+use Rattle.vx_link.specs.Shown.{LinkShown}
+use Rattle.vx_session.specs.Outside.{DialShown}
 use Rattle.vx_session.specs.Serving.{Item}
 use Rattle.vx_session.specs.Progress.{Progress, messages, replies}
 use Rattle.vx_session.specs.declared.sessions.End.{End}
 use Rattle.vx_session.specs.declared.sessions.End.TheVariants as end
-
--- whether all bytes went: or some are left, and the link's count of faults rose
-abbrev pub IsSent : LinkShown → List ℕ → LinkShown → Bool → Type 0
-IsSent seen unsent seen' true = unsent ≡ []
-IsSent seen unsent seen' false = (0 < length unsent) × Rose seen.send_faults seen'.send_faults
-
--- Bytes were handed to a link, which took a front of them: all, unless it failed.
-pub record SendsAll {L : Type 0} (stands : L → List ℕ → List ℕ → Type 0) (link : L) (seen : LinkShown) (bytes : List ℕ) (all : Bool) (link' : L) (seen' : LinkShown) : Type 0 where
-  pub sent : List ℕ
-  pub unsent : List ℕ
-  pub cut : bytes ≡ sent ++ unsent
-  pub took : Goes stands link link' sent []
-  pub goes : LinkGoes seen [] seen'
-  pub is_sent : IsSent seen unsent seen' all
 
 -- the last reply stopped in its middle, at a fault of the link
 pub record StopsReply (seen : LinkShown) (items : List Item) (unsent : List ℕ) (seen' : LinkShown) : Type 0 where

@@ -6,12 +6,10 @@ mod calls;
 mod links;
 mod pieces;
 mod records;
-mod sending;
 mod sessions;
 mod still;
 mod tools;
 
 pub use links::{LinkDone, Linked, Tally, abort_link, core_link};
-pub use sending::send_all;
 pub use sessions::{End, NoMemory, Room, abort_session, core_session};
 pub use tools::Tools;

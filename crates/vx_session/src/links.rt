@@ -1,7 +1,8 @@
 //! One link of a server, from its connect to its end, and the count of those that were served.
 ghost use Rattle.std.specs.Prelude.{◌≡◌, ◌≤◌, ◌+◌, ◌-◌, ◌^◌, min};
 ghost use Rattle.vx_calls.specs.declared.calls.Role.TheVariants as role;
-ghost use Rattle.vx_session.specs.Outside.{link_shown, dial_shown, no_dial};
+ghost use Rattle.vx_link.specs.Shown.{link_shown};
+ghost use Rattle.vx_session.specs.Outside.{dial_shown, no_dial};
 ghost use Rattle.vx_session.specs.Linking.{LinkDid, refused_as};
 
 use crate::sessions::{End, Room, abort_session, core_session};

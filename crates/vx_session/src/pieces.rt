@@ -5,11 +5,11 @@ ghost use Rattle.vx_record.specs.Buffer.{fresh};
 ghost use Rattle.vx_message.specs.declared.record.TheConstants.{REPLY_ROOM};
 ghost use Rattle.vx_history.specs.Phases.{Idle};
 ghost use Rattle.vx_turns.specs.Turning.{phase_at};
-ghost use Rattle.vx_session.specs.Outside.{link_shown, dial_shown};
+ghost use Rattle.vx_link.specs.Shown.{link_shown};
+ghost use Rattle.vx_session.specs.Outside.{dial_shown};
 ghost use Rattle.vx_session.specs.Streaming.{ServesPiece, ServesWhole};
 
 use crate::records::serve_record;
-use crate::sending::send_all;
 use crate::sessions::End;
 use std::sync::Wait;
 use vx_bus_traits::Bus;
@@ -17,6 +17,7 @@ use vx_calls::Role;
 use vx_core::Core;
 use vx_gate::{Pass, Turns};
 use vx_io_traits::{Clock, Dial, Link, Pause};
+use vx_link::send_all;
 use vx_record::{Feed, RecordBuf};
 
 /// Serves the record that is whole in the buffer, and begins the next; or says why the session ends.

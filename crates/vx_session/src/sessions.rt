@@ -7,7 +7,8 @@ ghost use Rattle.vx_record.specs.Buffer.{fresh};
 ghost use Rattle.vx_record.specs.declared.Feed.TheVariants as feed;
 ghost use Rattle.vx_history.specs.Phases.{Idle};
 ghost use Rattle.vx_turns.specs.Turning.{phase_at};
-ghost use Rattle.vx_session.specs.Outside.{link_shown, dial_shown, no_dial};
+ghost use Rattle.vx_link.specs.Shown.{link_shown};
+ghost use Rattle.vx_session.specs.Outside.{dial_shown, no_dial};
 ghost use Rattle.vx_session.specs.Ending.{SessionDid};
 ghost use Rattle.vx_session.specs.Stopping.{NextServed, StreamServed, input_end};
 
@@ -23,7 +24,7 @@ use vx_gate::{Pass, Turns};
 use vx_history::{headline_law, owned_law};
 use vx_io_traits::{Clock, Dial, Link, Pause, ReadOut};
 use vx_message::REPLY_ROOM;
-use vx_record::{RecordBuf, cut_law, pieces_law};
+use vx_record::{RecordBuf, pieces_law};
 use vx_turns::leave;
 
 /// How a session ended.
@@ -163,7 +164,6 @@ fn serve_stream<R: Wait, B: Bus, T: Turns<Core<B>>, L: Link, C: Clock, P: Pause,
     ensures len { length reply.new ≡ length reply.old }
 {
     pieces_law();
-    cut_law();
     let mut pass = pass;
     for _ in rt.forever() {
         let (served, end) = serve_next(

@@ -3,7 +3,7 @@ use Rattle.std.proofs.Common.{◌≡◌, ℕ, zero, suc, ◌==◌, Bool, true, f
 use Rattle.std.specs.Prelude.{is_none}
 use Rattle.std.specs.List.{list_any, list_all, filter}
 use Rattle.std.specs.Vec.{with_items}
-use Rattle.std.proofs.lemmas.Bool.{and_parts}
+use Rattle.std.proofs.lemmas.Bool.{and_parts, or_parts}
 use Rattle.std.proofs.lemmas.List.{with_items_is}
 use Rattle.std.proofs.lemmas.List.Folds.{list_any-append}
 use Rattle.vx_488.specs.declared.transfers.Addr.{Addr}
@@ -15,7 +15,6 @@ use Rattle.vx_sim.specs.Occupants.{Occupant, Placed}
 use Rattle.vx_sim.specs.Bench.{talks, answers_get, OccupantWhere, BenchWhere}
 use Rattle.vx_sim.specs.Attaching.{clashes, holder, AreApart, is_astray, IsInOrder}
 use Rattle.vx_sim.specs.Shown.{AtPlace}
-use Rattle.vx_sim.proofs.Changes.{or_first, or_second}
 
 -- an instrument that is in no other's way is put behind them
 pub apart-push : (bench : List Placed) (p : Placed) → AreApart bench → holder bench p.at ≡ None → AreApart (bench ++ p ∷ [])
@@ -35,7 +34,7 @@ apart-push (q ∷ qs) p apart free = at (clashes q.at p.at) refl free (apart-pus
 -- what is so of none isn't so of those that are left
 any-filter : (p keep : Placed → Bool) (bench : List Placed) → list_any p bench ≡ false → list_any p (filter keep bench) ≡ false
 any-filter p keep [] none = refl
-any-filter p keep (q ∷ qs) none = at (keep q) (or_first (p q) (list_any p qs) none) (any-filter p keep qs (or_second (p q) (list_any p qs) none))
+any-filter p keep (q ∷ qs) none = at (keep q) (or_parts (p q) (list_any p qs) none).0 (any-filter p keep qs (or_parts (p q) (list_any p qs) none).1)
   where
     at : (b : Bool) → p q ≡ false → list_any p (filter keep qs) ≡ false → list_any p (cond b (q ∷ filter keep qs) (filter keep qs)) ≡ false
     at true first rest = ap (λ c. c || list_any p (filter keep qs)) first ∙ rest
@@ -84,7 +83,7 @@ both_talk (Some t) a b first second =
 no_other : (w : Wire) (p : Placed) (ps : List Placed) → talks w p ≡ true → list_any (λ r. clashes p.at r.at) ps ≡ false → list_any (talks w) ps ≡ false
 no_other w p [] talk apart = refl
 no_other w p (r ∷ rs) talk apart =
-    at (talks w r) refl (or_first (clashes p.at r.at) (list_any (λ z. clashes p.at z.at) rs) apart) (no_other w p rs talk (or_second (clashes p.at r.at) (list_any (λ z. clashes p.at z.at) rs) apart))
+    at (talks w r) refl (or_parts (clashes p.at r.at) (list_any (λ z. clashes p.at z.at) rs) apart).0 (no_other w p rs talk (or_parts (clashes p.at r.at) (list_any (λ z. clashes p.at z.at) rs) apart).1)
   where
     at : (b : Bool) → talks w r ≡ b → clashes p.at r.at ≡ false → list_any (talks w) rs ≡ false → (talks w r || list_any (talks w) rs) ≡ false
     at true e clear rest = let clash : clashes p.at r.at ≡ true = both_talk w.talker p.at r.at talk e in cc
@@ -93,7 +92,7 @@ no_other w p (r ∷ rs) talk apart =
 -- where nobody talks, nobody changes
 still : (w : Wire) (Give : Occupant → Occupant → Type 0) (ps : List Placed) → list_any (talks w) ps ≡ false → BenchWhere (talks w) Give ps ps
 still w Give [] quiet = tt
-still w Give (p ∷ ps) quiet = at (talks w p) (or_first (talks w p) (list_any (talks w) ps) quiet) (still w Give ps (or_second (talks w p) (list_any (talks w) ps) quiet))
+still w Give (p ∷ ps) quiet = at (talks w p) (or_parts (talks w p) (list_any (talks w) ps) quiet).0 (still w Give ps (or_parts (talks w p) (list_any (talks w) ps) quiet).1)
   where
     at : (b : Bool) → b ≡ false → BenchWhere (talks w) Give ps ps → ((p.at ≡ p.at) × OccupantWhere b Give p.occupant p.occupant) × BenchWhere (talks w) Give ps ps
     at true e rest = cc
@@ -158,7 +157,7 @@ in-order-changed reached Change old new h order =
 -- Where nobody stands astray, everybody stands at an address of the bus.
 pub all-addresses : (bench : List Placed) → list_any is_astray bench ≡ false → list_all (λ p. is_bus_address p.at) bench ≡ true
 all-addresses [] none = refl
-all-addresses (p ∷ ps) none = at (is_bus_address p.at) (or_first (is_astray p) (list_any is_astray ps) none) (all-addresses ps (or_second (is_astray p) (list_any is_astray ps) none))
+all-addresses (p ∷ ps) none = at (is_bus_address p.at) (or_parts (is_astray p) (list_any is_astray ps) none).0 (all-addresses ps (or_parts (is_astray p) (list_any is_astray ps) none).1)
   where
     at : (b : Bool) → not b ≡ false → list_all (λ q. is_bus_address q.at) ps ≡ true → (b && list_all (λ q. is_bus_address q.at) ps) ≡ true
     at true here rest = rest
@@ -167,7 +166,7 @@ all-addresses (p ∷ ps) none = at (is_bus_address p.at) (or_first (is_astray p)
 -- none is left of those of which it is so of none
 none-left : (p : Placed → Bool) (bench : List Placed) → list_any p bench ≡ false → filter p bench ≡ []
 none-left p [] none = refl
-none-left p (q ∷ qs) none = at (p q) (or_first (p q) (list_any p qs) none) (none-left p qs (or_second (p q) (list_any p qs) none))
+none-left p (q ∷ qs) none = at (p q) (or_parts (p q) (list_any p qs) none).0 (none-left p qs (or_parts (p q) (list_any p qs) none).1)
   where
     at : (b : Bool) → b ≡ false → filter p qs ≡ [] → cond b (q ∷ filter p qs) (filter p qs) ≡ []
     at true here rest = cc

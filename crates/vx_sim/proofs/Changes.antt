@@ -1,18 +1,9 @@
 -- Loops that change each place of a list in turn.
 use Rattle.std.proofs.Common.{◌≡◌, ℕ, zero, suc, ◌+◌, ◌<◌, Bool, true, false, cond, not, nat_lt, ◌||◌, None, List, [], ◌∷◌, length, map, get_or, set, refl, sym, ap, ◌∙◌, subst, arith}
 use Rattle.std.specs.List.{list_any, AllZip, position, position_or_len}
-use Rattle.std.proofs.lemmas.Bool.{lt-ltb}
+use Rattle.std.proofs.lemmas.Bool.{lt-ltb, or_parts}
 use Rattle.vx_sim.specs.Occupants.{Placed}
 use Rattle.vx_sim.specs.Shown.{AtPlace}
-
--- neither is true of two of which either is false
-pub or_first : (a b : Bool) → (a || b) ≡ false → a ≡ false
-or_first true b h = cc
-or_first false b h = refl
-
-pub or_second : (a b : Bool) → (a || b) ≡ false → b ≡ false
-or_second true b h = cc
-or_second false b h = h
 
 -- the first i changed so, and the rest are as they were
 abbrev pub SoFar : {X : Type 0} → (X → X → Type 0) → ℕ → List X → List X → Type 0
@@ -80,8 +71,8 @@ any_known f p known xs items b view here passes =
 -- where it is so nowhere, it isn't so at any index
 pub nowhere : {X : Type 0} (p : X → Bool) (xs : List X) (i : ℕ) (d : X) → list_any p xs ≡ false → i < length xs → p (get_or xs i d) ≡ false
 nowhere p [] i d none within = absurd (omega arith)
-nowhere p (x ∷ xs) zero d none within = or_first (p x) (list_any p xs) none
-nowhere p (x ∷ xs) (suc i) d none within = nowhere p xs i d (or_second (p x) (list_any p xs) none) (omega arith)
+nowhere p (x ∷ xs) zero d none within = (or_parts (p x) (list_any p xs) none).0
+nowhere p (x ∷ xs) (suc i) d none within = nowhere p xs i d (or_parts (p x) (list_any p xs) none).1 (omega arith)
 
 -- a change at one place of what is shown
 pub set_at_place : {X : Type 0} (f : X → Placed) (Change : Placed → Placed → Type 0) (xs : List X) (i : ℕ) (d y : X) → i < length xs → Change (f (get_or xs i d)) (f y) → AtPlace i Change (map f xs) (map f (set xs i y))

@@ -1,4 +1,1 @@
 pub mod Overwrites
-pub mod Words
-pub mod Spelled
-pub mod Read

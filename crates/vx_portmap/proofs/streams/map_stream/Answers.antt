@@ -10,7 +10,7 @@ loop-left-init g c = (streamed-none g.L.Link.stands c.args.ports.now c.args.link
 
 pub loop-left-preserved : goal.loop-left-preserved
 loop-left-preserved g c = (
-  streamed-on g.L.Link.stands c.args.ports.now c.args.link.now _ c.cut_law.ensures c.loop-left.left _ c.loop-left.link c.serve_next.new.link _ _ c.loop-left.buf
+  streamed-on g.L.Link.stands c.args.ports.now c.args.link.now _ c.loop-left.left _ c.loop-left.link c.serve_next.new.link _ _ c.loop-left.buf
       c.serve_next.new.buf c.serve_next.result c.in-Ok.count c.loop-left.invariant.0 c.serve_next.ensures.serves c.in-Ok.is
       (omega (arith, c.in-Ok.ensures.some.1, c.min-most.ensures, length-take c.min-most.result c.loop-left.piece)) c.serve_next.ensures.limit,
   went-then g.L.Link.receives g.L.Link.sends _ _ _ c.loop-left.invariant.1 c.serve_next.ensures.went,
@@ -18,7 +18,7 @@ loop-left-preserved g c = (
 
 pub returns-in-Err-clause-did : goal.returns-in-Err-clause-did
 returns-in-Err-clause-did g c =
-    streamed-stops g.L.Link.stands c.args.ports.now c.args.link.now _ c.pieces_law.ensures c.cut_law.ensures c.loop-left.left _ c.loop-left.link c.serve_next.new.link _ _
+    streamed-stops g.L.Link.stands c.args.ports.now c.args.link.now _ c.pieces_law.ensures c.loop-left.left _ c.loop-left.link c.serve_next.new.link _ _
     c.loop-left.buf c.serve_next.new.buf c.serve_next.result c.in-Err.end c.loop-left-test.true
     (omega (arith, c.min-most.ensures, length-take c.min-most.result c.loop-left.piece)) c.loop-left.invariant.0 c.serve_next.ensures.serves c.in-Err.is
 

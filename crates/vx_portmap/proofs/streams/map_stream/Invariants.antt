@@ -1,5 +1,5 @@
 use Rattle.vx_door.specs.Going.{Went}
-use Rattle.vx_portmap.specs.Outside.{link_shown}
+use Rattle.vx_link.specs.Shown.{link_shown}
 use Rattle.vx_portmap.proofs.Streamwise.{Streamed}
 use Rattle.vx_portmap.proofs.streams.map_stream.Given as goal
 

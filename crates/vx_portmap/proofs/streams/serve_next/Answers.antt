@@ -2,7 +2,7 @@ use Rattle.vx_door.specs.Going.{Not_yet, By_receive}
 use Rattle.vx_portmap.proofs.Moving.{went-then}
 use Rattle.std.proofs.Common.{◌≡◌, length, take, inl, inr, refl, ap, ◌∙◌, arith}
 use Rattle.std.proofs.lemmas.List.{length-take-le}
-use Rattle.vx_portmap.specs.Outside.{link_shown}
+use Rattle.vx_link.specs.Shown.{link_shown}
 use Rattle.vx_portmap.specs.Streaming.{input_end}
 use Rattle.vx_portmap.proofs.streams.serve_next.Goals as goal
 

@@ -1,6 +1,6 @@
 use Rattle.vx_door.specs.Going.{Went}
 use Rattle.std.proofs.Common.{◌-◌, length}
-use Rattle.vx_portmap.specs.Outside.{link_shown}
+use Rattle.vx_link.specs.Shown.{link_shown}
 use Rattle.vx_portmap.proofs.Piecewise.{PieceSoFar}
 use Rattle.vx_portmap.proofs.streams.serve_piece.Given as goal
 

@@ -15,7 +15,7 @@ loop-preserved g c =
     let i = c.in-Srq.interrupt in
     pumped-sent g.L.Link.stands c.args.pass c.args.conn c.args.chan c.args.link.now _ _
     (record { xid = i.xid; program = i.prog; version = i.vers; handle = handle_shown i.handle }) _ _ _ _ _ _ _ _ c.loop.invariant c.take-back.ensures
-    (ap given_shown c.in-Srq.is) c.send_all.ensures c.put_srq_record-len.ensures.record c.if-not-send_all.false
+    (ap given_shown c.in-Srq.is) c.send_all.ensures.sends c.put_srq_record-len.ensures.record c.if-not-send_all.false
 
 pub returns-in-Gone : goal.returns-in-Gone
 returns-in-Gone g c =
@@ -26,4 +26,4 @@ returns-then-not-send_all g c =
     let i = c.in-Srq.interrupt in
     pumped-fails g.L.Link.stands c.args.pass c.args.conn c.args.chan c.args.link.now _ _
     (record { xid = i.xid; program = i.prog; version = i.vers; handle = handle_shown i.handle }) _ _ _ _ _ _ _ _ c.loop.invariant c.take-back.ensures
-    (ap given_shown c.in-Srq.is) c.send_all.ensures c.put_srq_record-len.ensures.record c.if-not-send_all.true
+    (ap given_shown c.in-Srq.is) c.send_all.ensures.sends c.put_srq_record-len.ensures.record c.if-not-send_all.true

@@ -1,4 +1,4 @@
-use Rattle.vx_session.specs.Outside.{link_shown}
+use Rattle.vx_link.specs.Shown.{link_shown}
 use Rattle.vx_pump.proofs.Pumped.{Pumped}
 use Rattle.vx_pump.proofs.pumps.pump.Given as goal
 

@@ -1,4 +1,4 @@
-use Rattle.vx_record.proofs.Streams.{run-append}
+use Rattle.vx_record.specs.ProvedLaws.{run-append}
 use Rattle.vx_record.proofs.laws.cut_law.Goals as goal
 
 pub returns : goal.returns

@@ -1,6 +1,7 @@
 use Rattle.std.proofs.Common.{◌≡◌, ◌≤◌, ◌-◌, length}
 use Rattle.vx_calls.specs.declared.limits.TheConstants.{RECORD_MAX}
-use Rattle.vx_session.specs.Outside.{link_shown, dial_shown}
+use Rattle.vx_link.specs.Shown.{link_shown}
+use Rattle.vx_session.specs.Outside.{dial_shown}
 use Rattle.vx_session.proofs.Piecewise.{PieceSoFar}
 use Rattle.vx_session.proofs.pieces.serve_piece.Given as goal
 

@@ -21,14 +21,14 @@ pub loop-preserved : goal.loop-preserved
 loop-preserved g c =
     let before = c.loop.invariant.1 in
     let later = c.serve_next-served.ensures.told in (
-      streamed-on g.L.Link.stands _ _ c.cut_law.ensures _ _ _ _ _ _ _ _ _ _ _ _ _ _ _ _ _ later c.loop.invariant.0 c.serve_next-served.ensures.serves c.in_default.is
+      streamed-on g.L.Link.stands _ _ _ _ _ _ _ _ _ _ _ _ _ _ _ _ _ _ _ later c.loop.invariant.0 c.serve_next-served.ensures.serves c.in_default.is
           c.serve_next-served.ensures.limit,
       omega (arith, before, later),
     )
 
 pub returns-in-Some-end-clause-serves : goal.returns-in-Some-end-clause-serves
 returns-in-Some-end-clause-serves g c =
-    streamed-last g.L.Link.stands _ _ c.pieces_law.ensures c.cut_law.ensures _ _ _ _ _ _ _ _ _ _ _ _ _ _ _ _ _ _ c.serve_next-served.ensures.told c.loop.invariant.0
+    streamed-last g.L.Link.stands _ _ c.pieces_law.ensures _ _ _ _ _ _ _ _ _ _ _ _ _ _ _ _ _ _ c.serve_next-served.ensures.told c.loop.invariant.0
     c.serve_next-served.ensures.serves c.in-Some-end.is
 
 pub returns-in-Some-end-clause-told : goal.returns-in-Some-end-clause-told

@@ -1,5 +1,6 @@
 use Rattle.std.proofs.Common.{◌≤◌}
-use Rattle.vx_session.specs.Outside.{link_shown, dial_shown}
+use Rattle.vx_link.specs.Shown.{link_shown}
+use Rattle.vx_session.specs.Outside.{dial_shown}
 use Rattle.vx_session.proofs.Streams.{Streamed}
 use Rattle.vx_session.proofs.sessions.serve_stream.Given as goal
 

@@ -1,8 +1,7 @@
 use Rattle.std.proofs.Common.{◌≡◌, List, ℕ, ◌++◌, ap, sym, ◌∙◌}
 use Rattle.vx_xdr.specs.Spelling.{Value, spelling}
 use Rattle.vx_xdr.specs.Reading.{reading}
-use Rattle.vx_xdr.proofs.Read.{reading-again, ok_is}
-use Rattle.vx_xdr.proofs.Spelled.{Spells-spelling, Spells-fits}
+use Rattle.vx_xdr.specs.ProvedLaws.{reading-again, ok_is, Spells-spelling, Spells-fits}
 use Rattle.vx_xdr.proofs.laws.no_prefix.Goals as goal
 
 pub returns : goal.returns

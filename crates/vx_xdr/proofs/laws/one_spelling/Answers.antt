@@ -1,5 +1,5 @@
 use Rattle.std.proofs.Common.{sym, ◌∙◌}
-use Rattle.vx_xdr.proofs.Spelled.{Spells-spelling}
+use Rattle.vx_xdr.specs.ProvedLaws.{Spells-spelling}
 use Rattle.vx_xdr.proofs.laws.one_spelling.Goals as goal
 
 pub returns : goal.returns

@@ -1,7 +1,6 @@
 use Rattle.std.proofs.Common.{List, ℕ, ◌++◌, ap, ◌∙◌}
 use Rattle.vx_xdr.specs.Reading.{reading}
-use Rattle.vx_xdr.proofs.Read.{reading-again}
-use Rattle.vx_xdr.proofs.Spelled.{Spells-spelling, Spells-fits}
+use Rattle.vx_xdr.specs.ProvedLaws.{reading-again, Spells-spelling, Spells-fits}
 use Rattle.vx_xdr.proofs.laws.read_again.Goals as goal
 
 pub returns : goal.returns

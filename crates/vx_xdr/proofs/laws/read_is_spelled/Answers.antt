@@ -1,6 +1,5 @@
 use Rattle.vx_xdr.specs.Spelling.{spelling}
-use Rattle.vx_xdr.proofs.Read.{reading-takes}
-use Rattle.vx_xdr.proofs.Spelled.{spelling-spells}
+use Rattle.vx_xdr.specs.ProvedLaws.{reading-takes, spelling-spells}
 use Rattle.vx_xdr.proofs.laws.read_is_spelled.Goals as goal
 
 pub returns : goal.returns

@@ -1,6 +1,6 @@
 use Rattle.std.proofs.Common.{sym, subst}
 use Rattle.vx_xdr.specs.Spelling.{Spells}
-use Rattle.vx_xdr.proofs.Spelled.{Spells-spelling, Spells-fits, spelling-spells}
+use Rattle.vx_xdr.specs.ProvedLaws.{Spells-spelling, Spells-fits, spelling-spells}
 use Rattle.vx_xdr.proofs.laws.spelling_spells.Goals as goal
 
 pub returns : goal.returns

@@ -13,7 +13,7 @@ returns-then-left-eq0-clause-brought g c =
 
 pub loop-self-preserved : goal.loop-self-preserved
 loop-self-preserved g c =
-    read-fed g.L.Link.stands g.L.Link.left g.L.Link.receive_faults g.L.Link.send_faults _ _ _ c.refill.new.self c.feed-fed.new.self c.loop-self.left c.feed-fed.result.took
+    read-fed c.end_law.ensures g.L.Link.stands g.L.Link.left g.L.Link.receive_faults g.L.Link.send_faults _ _ _ c.refill.new.self c.feed-fed.new.self c.loop-self.left c.feed-fed.result.took
     (read-refilled g.L.Link.stands g.L.Link.left g.L.Link.receive_faults g.L.Link.send_faults _ _ _ _ c.loop-self.self c.refill.new.self c.loop-self.left
     c.loop-self.invariant c.in-Some.ensures.brought c.in-Some.ensures.reply c.in-Some.ensures.receives c.in-Some.ensures.sends)
     (record {
@@ -27,7 +27,7 @@ loop-self-preserved g c =
 
 pub returns-in-Whole-clause-brought : goal.returns-in-Whole-clause-brought
 returns-in-Whole-clause-brought g c =
-    read-whole g.L.Link.stands g.L.Link.left g.L.Link.receive_faults g.L.Link.send_faults _ _ _ c.refill.new.self c.feed-fed.new.self c.loop-self.left c.feed-fed.result.took
+    read-whole c.end_law.ensures g.L.Link.stands g.L.Link.left g.L.Link.receive_faults g.L.Link.send_faults _ _ _ c.refill.new.self c.feed-fed.new.self c.loop-self.left c.feed-fed.result.took
     (read-refilled g.L.Link.stands g.L.Link.left g.L.Link.receive_faults g.L.Link.send_faults _ _ _ _ c.loop-self.self c.refill.new.self c.loop-self.left
     c.loop-self.invariant c.in-Some.ensures.brought c.in-Some.ensures.reply c.in-Some.ensures.receives c.in-Some.ensures.sends)
     (record {
@@ -41,7 +41,7 @@ returns-in-Whole-clause-brought g c =
 
 pub returns-in-TooLong-clause-brought : goal.returns-in-TooLong-clause-brought
 returns-in-TooLong-clause-brought g c =
-    read-long_header g.L.Link.stands g.L.Link.left g.L.Link.receive_faults g.L.Link.send_faults _ _ _ c.refill.new.self c.feed-fed.new.self c.loop-self.left c.feed-fed.result.took
+    read-long_header c.end_law.ensures g.L.Link.stands g.L.Link.left g.L.Link.receive_faults g.L.Link.send_faults _ _ _ c.refill.new.self c.feed-fed.new.self c.loop-self.left c.feed-fed.result.took
     (read-refilled g.L.Link.stands g.L.Link.left g.L.Link.receive_faults g.L.Link.send_faults _ _ _ _ c.loop-self.self c.refill.new.self c.loop-self.left
     c.loop-self.invariant c.in-Some.ensures.brought c.in-Some.ensures.reply c.in-Some.ensures.receives c.in-Some.ensures.sends)
     (record {

@@ -1,6 +1,6 @@
 use Rattle.vx_door.specs.Going.{Not_yet, By_send}
-use Rattle.vx_portmap.proofs.Going.{sent-none, sent-more, sent-stops, sent-all}
-use Rattle.vx_portmap.proofs.sending.send_all.Goals as goal
+use Rattle.vx_link.proofs.Sends.{sent-none, sent-more, sent-stops, sent-all}
+use Rattle.vx_link.proofs.send_all.Goals as goal
 
 pub loop-sent-init : goal.loop-sent-init
 loop-sent-init g c = (sent-none g.L.Link.stands c.args.link.now _ c.args.bytes.now, Not_yet _)

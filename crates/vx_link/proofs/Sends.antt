@@ -1,15 +1,14 @@
 -- Bytes that a link takes, one send after another.
 use Rattle.std.proofs.Common.{◌≡◌, ◌≤◌, ◌<◌, ◌+◌, ◌-◌, ℕ, List, [], true, false, length, take, drop, refl, sym, subst, arith, length-drop, append-nil, take-append-drop}
 use Rattle.std.specs.Io.KnownBytes.{Keeps}
-use Rattle.std.proofs.KnownBytes.{Consumes-nil, Keeps-refl}
 use Rattle.std.proofs.Math.Seq.{take-add}
 use Rattle.std.proofs.lemmas.List.{take_all}
 use Rattle.vx_lemmas.specs.Options.{keeps-consumes}
 use Rattle.vx_io_traits.specs.Faults.{Rose}
 use Rattle.vx_io_traits.specs.Stands.{Goes, Takes, Stays, Goes-none, Goes-takes, Goes-stays}
-use Rattle.vx_session.specs.Outside.{LinkShown, LinkGoes}
-use Rattle.vx_session.specs.Streaming.{SendsAll}
-use Rattle.vx_session.proofs.Progressing.{link-goes}
+use Rattle.vx_link.specs.Shown.{LinkShown, LinkGoes}
+use Rattle.vx_link.specs.Sending.{SendsAll}
+use Rattle.vx_link.specs.ProvedLaws.{link-none, link-goes}
 
 -- so far a link took a front of the bytes
 pub record SentSoFar {L : Type 0} (stands : L → List ℕ → List ℕ → Type 0) (first now : L) (seen seen' : LinkShown) (bytes : List ℕ) (sent : ℕ) : Type 0 where
@@ -34,16 +33,12 @@ send-goes old new kept = record {
 }
 
 -- a link that gave nothing, and then a send
-pub goes-on : (first old new : LinkShown) → LinkGoes first [] old → SendKeeps old new → LinkGoes first [] new
+goes-on : (first old new : LinkShown) → LinkGoes first [] old → SendKeeps old new → LinkGoes first [] new
 goes-on first old new before kept = link-goes first old new [] [] before (send-goes old new kept)
 
 -- at first it took nothing
 pub sent-none : {L : Type 0} (stands : L → List ℕ → List ℕ → Type 0) (l : L) (seen : LinkShown) (bytes : List ℕ) → SentSoFar stands l l seen seen bytes 0
-sent-none stands l seen bytes = record {
-  within = omega arith;
-  took = Goes-none stands l;
-  goes = record { left = Consumes-nil seen.left; peers = Keeps-refl seen.peers; receives = omega arith; sends = omega arith };
-}
+sent-none stands l seen bytes = record { within = omega arith; took = Goes-none stands l; goes = link-none seen }
 
 -- a send goes on from there
 pub sent-more : {L : Type 0} (stands : L → List ℕ → List ℕ → Type 0) (first mid now : L) (seen between seen' : LinkShown) (bytes : List ℕ) (sent count : ℕ)

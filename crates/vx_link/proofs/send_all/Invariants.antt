@@ -1,8 +1,8 @@
 use Rattle.vx_door.specs.Going.{Went}
 use Rattle.std.proofs.Common.{length, ◌-◌}
-use Rattle.vx_portmap.specs.Outside.{link_shown}
-use Rattle.vx_portmap.proofs.Going.{SentSoFar}
-use Rattle.vx_portmap.proofs.sending.send_all.Given as goal
+use Rattle.vx_link.specs.Shown.{link_shown}
+use Rattle.vx_link.proofs.Sends.{SentSoFar}
+use Rattle.vx_link.proofs.send_all.Given as goal
 
 abbrev pub invariant-loop-sent : goal.invariant-loop-sent
 invariant-loop-sent g l =

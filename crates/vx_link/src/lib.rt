@@ -1,0 +1,24 @@
+//! What can be known of a link while it is used, and bytes that go out on it whole. Sessions, pumps and the port mapper say by
+//! these words what they did to theirs.
+#![tactic(auto)]
+
+ghost use Rattle.vx_door.specs.Going.{Went};
+ghost use Rattle.vx_link.specs.Sending.{SendsAll};
+ghost use Rattle.vx_link.specs.Shown.{link_shown};
+
+use vx_io_traits::{Link, WriteOut};
+
+/// Hands bytes to the link, and what it didn't take again, until it has taken all; or answers false at its first fault.
+pub fn send_all<L: Link>(link: &mut L, bytes: &[u8]) -> bool
+    ensures sends { SendsAll L.stands link.old (link_shown L.left L.peers L.receive_faults L.send_faults link.old) bytes.now result link.new (link_shown L.left L.peers L.receive_faults L.send_faults link.new) }
+    ensures went { Went L.receives L.sends link.old link.new }
+{
+    let mut sent = 0;
+    while sent < bytes.len() {
+        match link.send(&bytes[sent..]) {
+            WriteOut::Took(count) => sent += count,
+            WriteOut::Failed => return false,
+        }
+    }
+    true
+}
