@@ -1,16 +1,18 @@
 -- What a look into the rows of a table says of the list of links.
-use Rattle.std.proofs.Common.{◌≡◌, ◌==◌, ℕ, Bool, ◌<◌, ◌≤◌, List, map, Option, Some, None, is_some, not, [], ◌∷◌, ◌++◌, ◌+◌, refl, ap, sym, subst, ◌∙◌}
-use Rattle.std.specs.List.{find, filter, list_any, All}
+use Rattle.std.proofs.Common.{◌≡◌, ◌==◌, ℕ, Bool, ◌<◌, ◌≤◌, List, map, Option, Some, None, is_some, not, [], ◌∷◌, ◌++◌, ◌+◌, ◌≢◌, length, refl, ap, sym, subst, ◌∙◌}
+use Rattle.std.specs.List.{find, filter, list_any, remove, All, AllPairs, HoldsAt}
 use Rattle.std.specs.Option.{option_map, IfSome}
 use Rattle.std.proofs.lemmas.List.{map-append}
 use Rattle.vx_lemmas.specs.Lists.{find-map, filter-map, list_any-map, is_some-find}
 use Rattle.vx_calls.specs.declared.targets.Target.{Target}
 use Rattle.vx_links.specs.declared.links.LinkRow.{LinkRow}
 use Rattle.vx_links.specs.declared.links.Links.TheInside.{Inside}
-use Rattle.vx_links.specs.Table.{Link, Table, IsNumbered, link_at, is_live, first_link_of, with_link, without_link}
+use Rattle.vx_rules.specs.Table.{Link, Table, IsNumbered, link_at, is_live, first_link_of, with_link, without_link}
 use Rattle.vx_links.specs.Shown.{link_shown}
 use Rattle.vx_links.specs.Inside.{table_of, IsKept}
-use Rattle.vx_links.proofs.Numbers.{found_is, found_given, owned_is, smallest_first}
+use Rattle.vx_lemmas.specs.Filters.{filter-all}
+use Rattle.vx_links.proofs.Places.{Follows, rows_rise, filter-place, none_equals}
+use Rattle.vx_rules.specs.ProvedLaws.Numbers.{found_is, found_given, owned_is, smallest_first}
 
 -- a fact on the link that is shown is one on the row
 IfSome-shown : (P : Link → Type 0) (o : Option LinkRow) → IfSome (option_map link_shown o) P → IfSome o (λ r. P (link_shown r))
@@ -68,6 +70,10 @@ owned_says t conn o n e =
       smallest = IfSome-shown Smallest o (subst (λ p. IfSome p Smallest) (sym e) (smallest_first conn t.links n.rising));
     }
 
+-- the rows stand in order of number
+pub rows_rising : (inside : Inside) (rows : List LinkRow) → rows ≡ inside.rows.items → IsKept inside → AllPairs Follows rows
+rows_rising inside rows here kept = subst (AllPairs Follows) (sym here) (rows_rise inside.rows.items kept.numbered.rising)
+
 -- the rows with one pushed, of the next number, show the links with one added
 pub added_is : (t : Table) (inside : Inside) (rows : List LinkRow) (conn : ℕ) (target : Target) → table_of inside ≡ t
     → rows ≡ inside.rows.items ++ record { lid = inside.next; conn = conn; target = target } ∷ []
@@ -77,6 +83,23 @@ added_is t inside rows conn target view pushed =
     ap (λ rs. let u : Table = record { links = map link_shown rs; next = inside.next + 1 } in u) pushed
     ∙ ap (λ ls. let u : Table = record { links = ls; next = inside.next + 1 } in u) (map-append link_shown inside.rows.items (row ∷ []))
     ∙ ap (λ u. with_link u conn target) view
+
+-- the rows without the one at the place of a number are those without the number
+pub taken_away : (inside : Inside) (rows left : List LinkRow) (lid place : ℕ) → rows ≡ inside.rows.items → IsKept inside
+    → place < length rows → HoldsAt (λ r. r.lid ≡ lid) rows place → left ≡ remove inside.rows.items place
+    → left ≡ filter (λ r. not (r.lid == lid)) inside.rows.items
+taken_away inside rows left lid place here kept within has taken =
+    taken
+    ∙ ap (λ rs. remove rs place) (sym here)
+    ∙ sym (filter-place rows lid (rows_rising inside rows here kept) place within has)
+    ∙ ap (filter (λ r. not (r.lid == lid))) here
+
+-- where no row has the number the rows without it are the rows
+pub all_left : (inside : Inside) (rows : List LinkRow) (lid : ℕ) → rows ≡ inside.rows.items → All (λ r. r.lid ≢ lid) rows
+    → inside.rows.items ≡ filter (λ r. not (r.lid == lid)) inside.rows.items
+all_left inside rows lid here none =
+    subst (λ rs. rs ≡ filter (λ r. not (r.lid == lid)) rs) here
+    (sym (filter-all (λ r. not (r.lid == lid)) rows (λ k d h. ap not (none_equals rows lid none k d h))))
 
 -- the rows that are left when a number goes show the links that are left
 pub removed_is : (t : Table) (inside : Inside) (rows : List LinkRow) (lid : ℕ) → table_of inside ≡ t

@@ -2,7 +2,7 @@
 use Rattle.std.specs.Prelude.{◌≤◌, map, vec_capacity}
 use Rattle.vx_calls.specs.declared.limits.TheConstants.{LINK_MAX}
 use Rattle.vx_links.specs.declared.links.Links.TheInside.{Inside}
-use Rattle.vx_links.specs.Table.{Table, IsNumbered}
+use Rattle.vx_rules.specs.Table.{Table, IsNumbered}
 use Rattle.vx_links.specs.Shown.{link_shown}
 
 abbrev pub table_of : Inside → Table

@@ -1,4 +1,3 @@
-pub mod Table
-pub mod Laws
 pub mod Shown
 pub mod Inside
+pub use Rattle.vx_rules.specs.Table

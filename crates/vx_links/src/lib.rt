@@ -2,8 +2,6 @@
 //! number of its own and finds links by number, by connection and by bus address.
 #![tactic(auto)]
 
-mod laws;
 mod links;
 
-pub use laws::{links_go, own_link};
 pub use links::{Full, LinkRow, Links, NoMemory};

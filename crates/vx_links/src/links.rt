@@ -1,8 +1,8 @@
-ghost use Rattle.std.specs.Prelude.{◌≡◌, ◌↔◌, ◌+◌, ◌<◌, ◌≤◌, ◌==◌, not, false, length, map, find, is_some, IsTrue, IsErr, IfOk, OnOk, OnErr, IfSome};
-ghost use Rattle.std.specs.List.{list_any, All, AllPairs};
+ghost use Rattle.std.specs.Prelude.{◌≡◌, ◌≢◌, ◌↔◌, ◌+◌, ◌<◌, ◌≤◌, ◌==◌, not, false, length, map, find, is_some, IsTrue, IsErr, IsNone, IfOk, OnOk, OnErr, IfSome};
+ghost use Rattle.std.specs.List.{list_any, All, AllPairs, HoldsAt};
 ghost use Rattle.std.specs.Option.{option_copied, option_map};
 ghost use Rattle.vx_calls.specs.declared.limits.TheConstants.{LINK_LAST, LINK_MAX};
-ghost use Rattle.vx_links.specs.Table.{empty, is_full, link_at, is_live, first_link_of, uses_address, with_link, without_link, is_at};
+ghost use Rattle.vx_rules.specs.Table.{empty, is_full, link_at, is_live, first_link_of, uses_address, with_link, without_link, is_at};
 ghost use Rattle.vx_links.specs.Shown.{link_shown};
 
 use std::alloc::Global;
@@ -36,7 +36,7 @@ pub struct Links {
 }
 
 impl Model for Links {
-    ghost use Rattle.vx_links.specs.Table.{Table};
+    ghost use Rattle.vx_rules.specs.Table.{Table};
 
     ghost Value = { Table };
 
@@ -109,9 +109,13 @@ impl Links {
         ensures live { result ≡ is_live self.old lid }
         ensures links { self.new ≡ without_link self.old lid }
     {
-        let live = has_row(&self.rows, lid);
-        self.rows.retain(|row| row.lid != lid);
-        live
+        match place_of(&self.rows, lid) {
+            Some(place) => {
+                self.rows.remove(place);
+                true
+            }
+            None => false,
+        }
     }
 
     /// The link of this connection that has the smallest number.
@@ -142,18 +146,24 @@ impl Links {
     }
 }
 
-/// The first row of this number.
+/// The row of this number, among rows in order of number.
 fn find_row(rows: &[LinkRow], lid: u32) -> Option<&LinkRow>
+    requires rising { AllPairs (λ a b. a.lid < b.lid) rows.now }
     ensures { option_copied result ≡ find (λ r. r.lid == lid) rows.now }
 {
-    rows.iter().find(|row| row.lid == lid)
+    match place_of(rows, lid) {
+        Some(place) => Some(&rows[place]),
+        None => None,
+    }
 }
 
-/// Whether a row has this number.
-fn has_row(rows: &[LinkRow], lid: u32) -> bool
-    ensures { result ≡ list_any (λ r. r.lid == lid) rows.now }
+/// Where the row of this number stands, among rows in order of number.
+fn place_of(rows: &[LinkRow], lid: u32) -> Option<usize>
+    requires rising { AllPairs (λ a b. a.lid < b.lid) rows.now }
+    ensures place { IfSome result (λ i. (i < length rows.now) × HoldsAt (λ r. r.lid ≡ lid) rows.now i) }
+    ensures none { IsNone result → All (λ r. r.lid ≢ lid) rows.now }
 {
-    rows.iter().any(|row| row.lid == lid)
+    rows.binary_search_by_key(&lid, |row| row.lid).ok()
 }
 
 /// The first row of this connection.

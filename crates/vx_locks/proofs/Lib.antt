@@ -1,4 +1,2 @@
-pub mod Lists
-pub mod Apart
+pub mod Places
 pub mod Rows
-pub mod Room

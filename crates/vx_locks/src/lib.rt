@@ -1,8 +1,6 @@
 //! The locks of a gateway: who holds which target, in order of grant, in room that is made once (VXI-11, device_lock).
 #![tactic(auto)]
 
-mod laws;
 mod locks;
 
-pub use laws::{granted_law, room_law};
 pub use locks::{Locks, NoMemory};

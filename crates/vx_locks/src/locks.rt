@@ -1,14 +1,15 @@
-ghost use Rattle.std.specs.Prelude.{◌≡◌, ◌≢◌, ◌<◌, ◌≤◌, ◌==◌, ◌&&◌, not, true, false, [], length, find, is_some, IfOk, IfSome};
+ghost use Rattle.std.specs.Prelude.{◌≡◌, ◌≢◌, ◌<◌, ◌≤◌, ◌==◌, ℕ, not, true, false, [], length, find, is_some, Option, if◌then◌else◌, option_and_then, IfOk, IfSome};
 ghost use Rattle.std.specs.Bool.{IsFalse};
 ghost use Rattle.std.specs.List.{list_any, AllPairs};
 ghost use Rattle.std.specs.Option.{option_copied};
 ghost use Rattle.vx_calls.specs.Target.{conflict};
 ghost use Rattle.vx_calls.specs.declared.limits.TheConstants.{LINK_MAX};
-ghost use Rattle.vx_locks.specs.Locks.{holds, is_blocked, holder_of, with_lock, without_lock};
+ghost use Rattle.vx_locks.specs.Places.{place};
+ghost use Rattle.vx_rules.specs.Locks.{holds, is_blocked, holder_of, with_lock, without_lock};
 
 use std::alloc::Global;
 use std::marker::Model;
-use vx_calls::{LINK_MAX, Target, conflicts};
+use vx_calls::{LINK_MAX, Target};
 
 /// Memory ran out.
 #[derive(Clone, Copy, Debug, PartialEq, Eq)]
@@ -21,17 +22,27 @@ struct LockRow {
     target: Target,
 }
 
+/// How many places holders have: the interface's first, and behind it one for each value of a primary address.
+const PLACES: usize = 257;
+
+/// The place of the interface's holder.
+const INTERFACE: usize = 0;
+
 /// The locks that are held. A contract sees them as the plain list of locks in order of grant.
 ///
-/// `new` makes the room of all locks, as many as links may live; no other call takes memory.
+/// No two locks conflict, so each place has at most one holder, and a call to a device looks at its own place and at the
+/// interface's. `new` makes the room of all locks, as many as links may live; no other call takes memory.
 #[derive(Debug, Drop)]
 pub struct Locks {
+    /// In order of grant.
     rows: Vec<LockRow>,
+    /// By place.
+    holders: Vec<Option<u32>>,
 }
 
 impl Model for Locks {
     ghost use Rattle.std.specs.Prelude.{List};
-    ghost use Rattle.vx_locks.specs.Locks.{Lock};
+    ghost use Rattle.vx_rules.specs.Locks.{Lock};
 
     ghost Value = { List Lock };
 
@@ -47,10 +58,13 @@ impl Locks {
     pub fn new(alloc: Global) -> Result<Locks, NoMemory>
         ensures { IfOk result (λ locks. locks ≡ []) }
     {
-        match Vec::with_capacity(alloc, LINK_MAX as usize) {
-            Ok(rows) => Ok(Locks { rows }),
-            Err(_) => Err(NoMemory),
-        }
+        let Ok(rows) = Vec::with_capacity(alloc, LINK_MAX as usize) else {
+            return Err(NoMemory);
+        };
+        let Ok(holders) = vec![in alloc; None; PLACES] else {
+            return Err(NoMemory);
+        };
+        Ok(Locks { rows, holders })
     }
 
     /// Whether the link holds a lock.
@@ -67,9 +81,9 @@ impl Locks {
         ensures blocked { is_some result ≡ is_blocked self.now lid target.now }
         ensures other { IfSome result (λ holder. (holder ≢ lid) × (holds self.now holder ≡ true)) }
     {
-        match first_blocking(&self.rows, lid, *target) {
-            Some(row) => Some(row.lid),
-            None => None,
+        match target {
+            Target::Interface => self.first_other(lid),
+            Target::Device { p, .. } => self.other_near(lid, *p),
         }
     }
 
@@ -81,6 +95,7 @@ impl Locks {
         ensures { self.new ≡ with_lock self.old lid target }
     {
         self.rows.push_reserved(LockRow { lid, target });
+        self.holders[place_of(target)] = Some(lid);
     }
 
     /// The link's lock goes. Answers whether there was one.
@@ -88,9 +103,32 @@ impl Locks {
         ensures held { result ≡ holds self.old lid }
         ensures locks { self.new ≡ without_lock self.old lid }
     {
-        let held = has_row(&self.rows, lid);
-        self.rows.retain(|row| row.lid != lid);
-        held
+        match find_row(&self.rows, lid).copied() {
+            Some(gone) => {
+                self.rows.retain(|row| row.lid != lid);
+                self.holders[place_of(gone.target)] = None;
+                true
+            }
+            None => false,
+        }
+    }
+
+    /// The holder of the first lock of another link. No link holds two, so this looks at two rows at most.
+    fn first_other(&self, lid: u32) -> Option<u32>
+        ensures { result ≡ holder_of self.now lid Target.Interface }
+    {
+        match first_of_other(&self.rows, lid) {
+            Some(row) => Some(row.lid),
+            None => None,
+        }
+    }
+
+    /// The other link that holds the interface, or else the devices of a primary address. No two hold one of these.
+    fn other_near(&self, lid: u32, p: u8) -> Option<u32>
+        ensures { (s : Option ℕ) → result ≡ holder_of self.now lid (Target.Device p s) }
+    {
+        let place = place_of(Target::Device { p, s: None });
+        other_than(self.holders[INTERFACE].or(self.holders[place]), lid)
     }
 
     /// What holds of all locks that are held: no link holds two, no two are on conflicting targets, and there are no more
@@ -111,10 +149,37 @@ fn has_row(rows: &[LockRow], lid: u32) -> bool
     rows.iter().any(|row| row.lid == lid)
 }
 
-/// The first row of another link whose target conflicts with this one.
-fn first_blocking(rows: &[LockRow], lid: u32, target: Target) -> Option<&LockRow>
-    ensures { option_copied result ≡ find (λ r. not (r.lid == lid) && conflict r.target target) rows.now }
+/// The row of this link.
+fn find_row(rows: &[LockRow], lid: u32) -> Option<&LockRow>
+    ensures { option_copied result ≡ find (λ r. r.lid == lid) rows.now }
 {
-    rows.iter()
-        .find(|row| row.lid != lid && conflicts(&row.target, &target))
+    rows.iter().find(|row| row.lid == lid)
+}
+
+/// The first row of another link.
+fn first_of_other(rows: &[LockRow], lid: u32) -> Option<&LockRow>
+    ensures { option_copied result ≡ find (λ r. not (r.lid == lid)) rows.now }
+{
+    rows.iter().find(|row| row.lid != lid)
+}
+
+/// A holder that isn't this link.
+fn other_than(holder: Option<u32>, lid: u32) -> Option<u32>
+    ensures { result ≡ option_and_then (λ n. if n == lid then None else Some n) holder }
+{
+    match holder {
+        Some(held) => { if held == lid { None } else { Some(held) } }
+        None => None,
+    }
+}
+
+/// The place of the holder of a lock on this target.
+fn place_of(target: Target) -> usize
+    ensures place { result ≡ place target }
+    ensures bound { result < PLACES }
+{
+    match target {
+        Target::Interface => INTERFACE,
+        Target::Device { p, .. } => p as usize + 1,
+    }
 }

@@ -1,6 +1,6 @@
 pub mod Meaning
 pub mod ProvedLaws
-pub use Rattle.vx_srq.specs.SrqState
+pub use Rattle.vx_rules.specs.SrqState
 pub use Rattle.vx_srq.specs.Shown
 pub use Rattle.vx_calls.specs.Call
 pub use Rattle.vx_calls.specs.Reply

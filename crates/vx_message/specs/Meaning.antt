@@ -12,7 +12,7 @@ use Rattle.vx_rpc.specs.Sorting as sort
 use Rattle.vx_rpc.specs.Wording.{success_message, refusal_message, call_message}
 use Rattle.vx_codec.specs.Asked.{asked}
 use Rattle.vx_codec.specs.Answered.{results}
-use Rattle.vx_srq.specs.SrqState.{Srq}
+use Rattle.vx_rules.specs.SrqState.{Srq}
 
 -- No call; a message that says what is answered without touching the core; a call to the core, with its xid; or a
 -- device_abort of a link, with its xid

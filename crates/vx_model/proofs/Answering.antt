@@ -29,7 +29,7 @@ use Rattle.vx_rules.specs.Entry.{Answer}
 use Rattle.vx_rules.specs.One.{one, call_fits, answer_to, if_reply}
 use Rattle.vx_rules.specs.Serving.{served_reply}
 use Rattle.vx_rules.specs.ProvedLaws.{no-job, dial-no-bus}
-use Rattle.vx_rules.proofs.Walks.{passed-says}
+use Rattle.vx_rules.specs.ProvedLaws.Walks.{passed-says}
 use Rattle.vx_model.specs.Stepping.{Goes, closed, ended, answer_at, stopped_at, refusal_fits, open_job, lines_at, stood_at, turn_at}
 
 -- ---- the reply that is told

@@ -11,7 +11,7 @@ use Rattle.vx_plan.specs.Transfers.{got_of}
 use Rattle.vx_plan.specs.Results.{gots, bytes_got, last_got}
 use Rattle.vx_plan.specs.Places.{last_after}
 use Rattle.vx_model.specs.Stepping.{byte_of}
-use Rattle.vx_plan.proofs.Counts.{last_got-behind}
+use Rattle.vx_plan.specs.ProvedLaws.{last_got-behind}
 
 -- the bytes of one transfer
 one_byte : (g : Option (ℕ × Bool)) → map (λ x. x.0) (cons_option g []) ≡ byte_of g

@@ -12,7 +12,7 @@ pub use Rattle.vx_plan.specs.Results
 pub use Rattle.vx_plan.specs.Tasks
 pub use Rattle.vx_plan.specs.Transfers
 pub use Rattle.vx_srq.specs.Shown
-pub use Rattle.vx_srq.specs.SrqState
+pub use Rattle.vx_rules.specs.SrqState
 pub use Rattle.vx_rules.specs.Calls
 pub use Rattle.vx_rules.specs.Checks
 pub use Rattle.vx_rules.specs.Decide

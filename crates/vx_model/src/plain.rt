@@ -3,7 +3,7 @@ ghost use Rattle.std.specs.Prelude.{◌≡◌, ◌<◌, ◌≤◌, List, Some, N
 ghost use Rattle.std.specs.Option.{option_map};
 ghost use Rattle.vx_calls.specs.Call.{call_shown};
 ghost use Rattle.vx_calls.specs.Reply.{reply_shown};
-ghost use Rattle.vx_srq.specs.SrqState.{channel_at};
+ghost use Rattle.vx_rules.specs.SrqState.{channel_at};
 ghost use Rattle.vx_srq.specs.Shown.{given_shown};
 ghost use Rattle.vx_488.specs.declared.transfers.TheConstants.{ADDRESS_MAX};
 ghost use Rattle.vx_488.specs.Wire.{wire_after};
@@ -25,7 +25,7 @@ use std::alloc::Global;
 use std::marker::Model;
 use vx_488::{Transfer, Wire};
 use vx_calls::{CallRef, ErrorCode, Proc, Role, Taken};
-use vx_rules::{Connect, NoMemory, Tables, may_wait};
+use vx_tables::{Connect, NoMemory, Tables, may_wait};
 
 /// The gateway of one thread. A contract sees it as its `State`: the tables, the bus and the greatest moment handed in so
 /// far, in milliseconds.

@@ -1,19 +1,20 @@
 -- The laws of the gateway of one thread.
-use Rattle.std.proofs.Common.{◌≡◌, ℕ, Bool, true, List, Option, Some, refl, sym, ap, ◌∙◌}
-use Rattle.std.proofs.lemmas.Bool.{and_parts, false≢true}
+use Rattle.std.proofs.Common.{◌≡◌, ℕ, Bool, List, Option, Some, sym, ap, ◌∙◌}
+use Rattle.std.proofs.lemmas.Bool.{and_parts}
 use Rattle.std.proofs.lemmas.Option.{cond_some, same_Some, option_and_then_some}
 use Rattle.vx_lemmas.specs.Conditions.{chosen}
 use Rattle.vx_calls.specs.Reply.{Reply}
 use Rattle.vx_calls.proofs.Laws.{same_reply-is, same_error-is}
 use Rattle.vx_488.specs.declared.transfers.Transfer.{Transfer}
-use Rattle.vx_srq.specs.SrqState.{Given, Front, Empty, Gone, given, taken}
+use Rattle.vx_rules.specs.SrqState.{given, taken}
 use Rattle.vx_rules.specs.State.{State}
 use Rattle.vx_rules.specs.Entry.{Answer}
 use Rattle.vx_rules.specs.Decide.{Outside}
-use Rattle.vx_rules.specs.One.{one, answer, if_reply, same_given, abort_reply, abort_tables}
-use Rattle.vx_rules.specs.Laws.{OneReplyLaw, OneAbortLaw, OneTakeLaw, LinkNumbersLaw, LocksApartLaw}
-use Rattle.vx_rules.specs.ProvedLaws.{same_srq-is}
-use Rattle.vx_rules.proofs.Walks.{legal-sound}
+use Rattle.vx_rules.specs.One.{one, answer, if_reply, abort_reply, abort_tables}
+use Rattle.vx_rules.specs.Laws.{OneReplyLaw, OneAbortLaw, OneTakeLaw, LinkNumbersLaw, LocksApartLaw, ArrivalsLaw}
+use Rattle.vx_rules.specs.ProvedLaws.{same_given-is}
+use Rattle.vx_rules.specs.ProvedLaws.Walks.{legal-sound}
+use Rattle.vx_rules.specs.ProvedLaws.Ordered.{legal-ordered}
 
 -- an Answer gives the reply and the state that were found
 pub record GivesAnswer (s : State) (conn now : ℕ) (o : Outside) (told : Reply) (t : State) : Type 0 where
@@ -41,12 +42,6 @@ one_abort-law s t u conn lid told other first second =
     let b = cond_some _ (record s { tables = abort_tables s.tables lid }) u second in
     (sym (same_error-is (abort_reply s.tables lid) told (and_parts _ _ a.0).1) ∙ same_error-is (abort_reply s.tables lid) other (and_parts _ _ b.0).1, sym a.1 ∙ b.1)
 
-pub same_given-is : (a b : Given) → same_given a b ≡ true → a ≡ b
-same_given-is (Front a) (Front b) h = ap Front (same_srq-is a b h)
-same_given-is Empty Empty h = refl
-same_given-is Gone Gone h = refl
-same_given-is _ _ h = absurd (false≢true h)
-
 pub one_take-law : OneTakeLaw
 one_take-law s t u conn chan told other first second =
     let a = cond_some _ (record s { tables = record s.tables { srq_state = taken s.tables.srq_state conn chan } }) t first in
@@ -60,3 +55,8 @@ link_numbers-law abort_port history s h =
 
 pub locks_apart-law : LocksApartLaw
 locks_apart-law abort_port history s h = (legal-sound abort_port history s h).apart
+
+pub arrivals-law : ArrivalsLaw
+arrivals-law abort_port history s h =
+    let sound = legal-sound abort_port history s h in
+    (sound.once, sound.waiting, (legal-ordered abort_port history s h).ordered)

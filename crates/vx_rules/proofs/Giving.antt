@@ -26,10 +26,10 @@ use Rattle.vx_plan.specs.declared.tasks.Task.TheVariants as task
 use Rattle.vx_plan.specs.Plan.{Stand, Whole, Part, Off}
 use Rattle.vx_plan.specs.Roles.{has_role}
 use Rattle.vx_plan.specs.Results.{whole_reply}
-use Rattle.vx_links.specs.Table.{Link, is_full, is_live}
-use Rattle.vx_locks.specs.Locks.{holds, with_lock}
-use Rattle.vx_srq.specs.SrqState.{SrqState, Channel, channel_at, with_new_channel, new_channel, sampled, taken}
-use Rattle.vx_srq.specs.ProvedLaws.{sampled-next, made-first}
+use Rattle.vx_rules.specs.Table.{Link, is_full, is_live}
+use Rattle.vx_rules.specs.Locks.{holds, with_lock}
+use Rattle.vx_rules.specs.SrqState.{SrqState, Channel, channel_at, with_new_channel, new_channel, sampled, taken}
+use Rattle.vx_rules.specs.ProvedLaws.Slots.{sampled-next, made-first}
 use Rattle.vx_rules.specs.State.{Pending, Tables, State, first, pending_at, with_pending, with_connection, without_connection}
 use Rattle.vx_rules.specs.Calls.{is_bus_call, asks_dial, is_big, bytes_of, has_passed, io_timeout_of}
 use Rattle.vx_rules.specs.Checks.{NamedLink, NoLink, DeadLink, OnLink, named_link, check_create}
@@ -42,10 +42,10 @@ use Rattle.vx_rules.specs.Lists.{along}
 use Rattle.vx_rules.specs.Sound.{IsSound, has_slot}
 use Rattle.vx_rules.specs.Numbers.{connection_given, link_told, link_given, channel_number, channel_given, links_given, connections_given, channels_given, NumbersRiseLaw, LinkGivenLaw, ConnectionGivenLaw, ChannelGivenLaw, LinksGivenOnceLaw, ConnectionsGivenOnceLaw, ChannelsGivenOnceLaw}
 use Rattle.vx_rules.specs.ProvedLaws.{up-next}
-use Rattle.vx_rules.proofs.Keeping.{first-sound}
-use Rattle.vx_rules.proofs.Walks.{one-sound, along-none, legal-sound}
+use Rattle.vx_rules.specs.ProvedLaws.Keeping.{first-sound}
+use Rattle.vx_rules.specs.ProvedLaws.Walks.{one-sound, along-none, legal-sound}
 use Rattle.vx_rules.proofs.EntryLaws.{answer-given}
-use Rattle.vx_rules.proofs.Granting.{port_of}
+use Rattle.vx_rules.specs.ProvedLaws.Passing.{port_of}
 
 -- What is given of one kind of number: none, and the next one stays; or the next one, which is used up.
 data Takes (given : List ℕ) (next after : ℕ) : Type 0 where

@@ -1,16 +1,5 @@
-pub mod Finds
-pub mod Keeping
-pub mod Places
-pub mod Marks
-pub mod NamedLinks
-pub mod Dropping
-pub mod Walks
 pub mod EntryLaws
-pub mod Closing
-pub mod JobInput
-pub mod Room
-pub mod Granting
 pub mod Passing
-pub mod Doable
 pub mod Giving
 pub mod NewNumbers
+pub mod Channels

@@ -1,8 +1,9 @@
 -- What a call asks for: its link, its flags and timeouts, and of which kind it is.
-use Rattle.std.specs.Prelude.{ℕ, ◌-◌, ◌/◌, ◌%◌, Bool, true, false, ◌==◌, nat_le, List, [], Option, Some, None}
+use Rattle.std.specs.Prelude.{ℕ, ◌-◌, ◌/◌, ◌%◌, ◌≤◌, Bool, true, false, ◌==◌, nat_le, List, [], length, Option, Some, None}
+use Rattle.vx_calls.specs.declared.limits.TheConstants.{RECORD_MAX}
 use Rattle.vx_calls.specs.declared.calls.Proc.{Proc}
 use Rattle.vx_calls.specs.declared.calls.Proc.TheVariants as proc
-use Rattle.vx_calls.specs.Call.{Call}
+use Rattle.vx_calls.specs.Call.{Call, text_of}
 use Rattle.vx_calls.specs.Call as call
 
 -- the procedure of a call
@@ -131,3 +132,7 @@ is_big _ = true
 -- so many milliseconds have passed from one moment to another
 abbrev pub has_passed : ℕ → ℕ → ℕ → Bool
 has_passed span since now = nat_le span (now - since)
+
+-- a call has no more bytes than a record
+abbrev pub IsShort : Call → Type 0
+IsShort asked = length (text_of asked) ≤ RECORD_MAX

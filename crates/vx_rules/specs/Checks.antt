@@ -8,9 +8,9 @@ use Rattle.vx_calls.specs.declared.targets.Target.TheVariants.{Interface, Device
 use Rattle.vx_calls.specs.Target.{target}
 use Rattle.vx_calls.specs.Call.{Call}
 use Rattle.vx_calls.specs.Call as call
-use Rattle.vx_links.specs.Table.{Link, is_full}
-use Rattle.vx_locks.specs.Locks.{holds}
-use Rattle.vx_srq.specs.SrqState.{channel_at, has_number}
+use Rattle.vx_rules.specs.Table.{Link, is_full}
+use Rattle.vx_rules.specs.Locks.{holds}
+use Rattle.vx_rules.specs.SrqState.{channel_at, has_number}
 use Rattle.vx_rules.specs.State.{Pending, Tables, link_of}
 use Rattle.vx_rules.specs.Calls.{link_named, asks_dial}
 use Rattle.vx_rules.specs.Docmd.{Command, command_of, takes_input}

@@ -4,7 +4,7 @@ use Rattle.vx_488.specs.declared.transfers.TheConstants.{ADDRESS_MAX}
 use Rattle.vx_calls.specs.declared.limits.TheConstants.{DOCMD_MAX}
 use Rattle.vx_plan.specs.declared.tasks.Task.{Task}
 use Rattle.vx_plan.specs.declared.tasks.Task.TheVariants.{Commands, Status, Atn, Ren, Pass, Own, Ifc}
-use Rattle.vx_links.specs.Table.{Table, uses_address}
+use Rattle.vx_rules.specs.Table.{Table, uses_address}
 
 pub data Command : Type 0 where
   SendCommand : Command

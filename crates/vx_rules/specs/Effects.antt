@@ -14,9 +14,9 @@ use Rattle.vx_488.specs.declared.transfers.Transfer.{Transfer}
 use Rattle.vx_plan.specs.declared.tasks.Task.{Task}
 use Rattle.vx_plan.specs.declared.tasks.Task.TheVariants as task
 use Rattle.vx_plan.specs.Results.{puts_made, bytes_got}
-use Rattle.vx_links.specs.Table.{Link}
-use Rattle.vx_locks.specs.Locks.{holds, with_lock, without_lock}
-use Rattle.vx_srq.specs.SrqState.{with_enable, with_channel, with_new_channel}
+use Rattle.vx_rules.specs.Table.{Link}
+use Rattle.vx_rules.specs.Locks.{holds, with_lock, without_lock}
+use Rattle.vx_rules.specs.SrqState.{with_enable, with_channel, with_new_channel}
 use Rattle.vx_rules.specs.State.{Tables, with_link, without_link}
 use Rattle.vx_rules.specs.Calls.{sets_end, sets_stop}
 use Rattle.vx_rules.specs.Docmd.{command_of, command_task}

@@ -5,7 +5,7 @@ use Rattle.vx_calls.specs.declared.codes.ErrorCode.{ErrorCode}
 use Rattle.vx_calls.specs.Call.{Call}
 use Rattle.vx_calls.specs.Reply.{Reply}
 use Rattle.vx_488.specs.declared.transfers.Transfer.{Transfer}
-use Rattle.vx_srq.specs.SrqState.{Given}
+use Rattle.vx_rules.specs.SrqState.{Given}
 
 pub data Entry : Type 0 where
   -- a connection of this role comes up and gets this number

@@ -1,6 +1,6 @@
 -- A device_docmd whose command takes its input, on some gateway.
 use Rattle.std.specs.Prelude.{◌≡◌, ℕ, Bool, true, ⊤, List, Option, Some, None}
-use Rattle.vx_links.specs.Table.{Table}
+use Rattle.vx_rules.specs.Table.{Table}
 use Rattle.vx_calls.specs.Call.{Call}
 use Rattle.vx_calls.specs.Call as call
 use Rattle.vx_rules.specs.Docmd.{Command, command_of, takes_input}

@@ -1,7 +1,7 @@
 -- Histories of the gateway of one thread, and the rises of the SRQ line in them.
 use Rattle.std.specs.Prelude.{ℕ, Bool, true, false, ◌&&◌, ◌==◌, if◌then◌else◌, List, [], ◌∷◌, ◌++◌, map, filter, Option, Some, None, IsSome}
 use Rattle.std.specs.Option.{option_map_or}
-use Rattle.vx_srq.specs.SrqState.{SrqState, Enable, channel_at, is_rise}
+use Rattle.vx_rules.specs.SrqState.{SrqState, Enable, channel_at, is_rise}
 use Rattle.vx_rules.specs.Lists.{along}
 use Rattle.vx_rules.specs.State.{State, first}
 use Rattle.vx_rules.specs.Entry.{Entry, Sample}

@@ -8,7 +8,7 @@ use Rattle.vx_calls.specs.ErrorCode.{same_error}
 use Rattle.vx_calls.specs.Reply.{Reply}
 use Rattle.vx_calls.specs.Reply as reply
 use Rattle.vx_488.specs.declared.transfers.Transfer.{Transfer}
-use Rattle.vx_srq.specs.SrqState.{channel_at}
+use Rattle.vx_rules.specs.SrqState.{channel_at}
 use Rattle.vx_rules.specs.State.{State, first}
 use Rattle.vx_rules.specs.Entry.{Entry, Up, Answer}
 use Rattle.vx_rules.specs.One.{one}

@@ -11,8 +11,8 @@ use Rattle.vx_calls.specs.Call as call
 use Rattle.vx_calls.specs.Reply.{Reply, same_reply}
 use Rattle.vx_488.specs.declared.transfers.Transfer.{Transfer}
 use Rattle.vx_488.specs.Wire.{wire_after}
-use Rattle.vx_links.specs.Table.{is_live}
-use Rattle.vx_srq.specs.SrqState.{Srq, Given, Front, Empty, Gone, given, taken, sampled}
+use Rattle.vx_rules.specs.Table.{is_live}
+use Rattle.vx_rules.specs.SrqState.{Srq, Given, Front, Empty, Gone, given, taken, sampled}
 use Rattle.vx_rules.specs.State.{Pending, Connection, Tables, State, connection_at, pending_at, lives_as, is_idle, has_room, with_pending, with_connection, without_connection}
 use Rattle.vx_rules.specs.Calls.{link_named}
 use Rattle.vx_rules.specs.Decide.{Outside, decide, turn_fits, may_have_made, is_nothing}

@@ -1,13 +1,25 @@
 -- Laws of the tables and of what a call is, proved.
+pub mod Numbers
+pub mod Going
+pub mod Apart
+pub mod Room
+pub mod Slots
+pub mod Rising
+pub mod Arriving
+pub mod Keeping
+pub mod Passing
+pub mod Walks
+pub mod Histories
+pub mod Ordered
 use Rattle.std.proofs.Common.{◌≡◌, refl, ◌==◌, ℕ, ap, true, Option, Some, None, subst, IsSome, ◌≢◌, not, sym, false, ◌∙◌, ◌≤◌, arith, Bool, List, length, cond}
 use Rattle.std.specs.Option.{option_and_then, option_map}
 use Rattle.std.specs.List.{find}
 use Rattle.std.proofs.lemmas.Option.{same_Some}
-use Rattle.std.proofs.lemmas.Bool.{true≢false, and_parts, eqb-true, leb-true}
+use Rattle.std.proofs.lemmas.Bool.{true≢false, false≢true, and_parts, and_from, eqb-true, leb-true}
 use Rattle.std.proofs.lemmas.Slice.Eq.{bytes_eq-Decides}
 use Rattle.std.specs.Prelude.{nat_le}
 use Rattle.vx_lemmas.specs.Lists.{find-filter}
-use Rattle.vx_lemmas.specs.Conditions.{apart, passes}
+use Rattle.vx_lemmas.specs.Conditions.{apart, passes, eqb-self, self_bytes}
 use Rattle.vx_calls.specs.declared.calls.Role.{Role}
 use Rattle.vx_calls.specs.declared.calls.Role.TheVariants as role
 use Rattle.vx_rules.specs.State.{Tables, with_connection, Connection, pending_at, same_role, connection_at, role_at, lives_as, has_role_of, without_connection}
@@ -20,10 +32,10 @@ use Rattle.vx_rules.specs.Effects.{task_on, task_of}
 use Rattle.vx_rules.specs.Checks.{NamedLink, NoLink, DeadLink, OnLink, check_command, is_interface, check_on}
 use Rattle.vx_calls.specs.declared.calls.CallRef.{CallRef}
 use Rattle.vx_calls.specs.declared.calls.CallRef.TheVariants as seen
-use Rattle.vx_rules.specs.One.{may_wait, same_srq}
-use Rattle.vx_srq.specs.SrqState.{Srq}
+use Rattle.vx_rules.specs.One.{may_wait, same_srq, same_given}
+use Rattle.vx_rules.specs.SrqState.{Srq, Given, Front, Empty, Gone}
 use Rattle.vx_calls.specs.declared.limits.TheConstants.{DOCMD_MAX, WRITE_MAX}
-use Rattle.vx_links.specs.Table.{Table, Link}
+use Rattle.vx_rules.specs.Table.{Table, Link}
 use Rattle.vx_rules.specs.Docmd.{Command, SendCommand, BusStatus, AtnControl, RenControl, PassControl, BusAddress, IfcControl, takes_input, takes_number, number_in, command_of}
 use Rattle.vx_calls.specs.declared.codes.ErrorCode.TheVariants as code
 
@@ -134,3 +146,35 @@ pub few_bytes : (t : Tables) (own : ℕ) (l : Link) (asked : Call) → check_on 
 few_bytes t own l (call.Write lid io_timeout lock_timeout flags bytes) e = leb-true (length bytes) WRITE_MAX (passes (nat_le (length bytes) WRITE_MAX) code.Parameter e)
 few_bytes t own l (call.Docmd lid flags io_timeout lock_timeout cmd big size bytes) e = few-docmd t own big bytes (is_interface l.target) (command_of cmd) e
 few_bytes t own l _ e = omega arith
+
+-- what two takes give that pass the test of being the same is one
+pub same_given-is : (a b : Given) → same_given a b ≡ true → a ≡ b
+same_given-is (Front a) (Front b) h = ap Front (same_srq-is a b h)
+same_given-is Empty Empty h = refl
+same_given-is Gone Gone h = refl
+same_given-is _ _ h = absurd (false≢true h)
+
+-- a role that is the same is the one
+pub same_role-is : (a b : Role) → same_role a b ≡ true → a ≡ b
+same_role-is role.Core role.Core h = refl
+same_role-is role.Abort role.Abort h = refl
+same_role-is role.Core role.Abort h = absurd (false≢true h)
+same_role-is role.Abort role.Core h = absurd (false≢true h)
+
+-- a connection that lives in a role has it
+pub lives-role : (t : Tables) (conn : ℕ) (r : Role) → lives_as t conn r ≡ true → role_at t conn ≡ Some r
+lives-role t conn r = by (connection_at t conn) where
+  by : (o : Option Connection) → has_role_of r o ≡ true → option_map (λ (c : Connection). c.role) o ≡ Some r
+  by None h = absurd (false≢true h)
+  by (Some c) h = ap Some (same_role-is c.role r h)
+
+-- an interrupt is the same as itself
+pub same_srq-self : (a : Srq) → same_srq a a ≡ true
+same_srq-self a =
+    and_from _ _ (and_from _ _ (and_from _ _ (eqb-self a.xid) (eqb-self a.program)) (eqb-self a.version)) (self_bytes a.handle)
+
+-- and so is what a take gives
+pub same_given-self : (a : Given) → same_given a a ≡ true
+same_given-self (Front a) = same_srq-self a
+same_given-self Empty = refl
+same_given-self Gone = refl

@@ -1,9 +1,13 @@
-//! The rules of the gateway of one thread: the definitions that everything else is measured by, their laws, and the tables
-//! that keep them.
+//! The rules of the gateway: the definitions of the gateway of one thread, by which everything else is measured, and their laws.
+//! No table stands here as code: `vx_links`, `vx_locks` and `vx_srq` keep the three of them, `vx_tables` all of a gateway's.
 #![tactic(auto)]
 
 mod laws;
-mod tables;
+mod limits;
 
-pub use laws::{link_numbers, locks_apart, numbers_given_once, one_reply, passed_calls};
-pub use tables::{Admission, Connect, NoMemory, Request, Tables, has_passed, may_wait};
+pub use laws::{
+    arrivals_law, channel_law, connections_law, enables_law, fronts_legal, granted_law,
+    link_numbers, links_go, locks_apart, numbers_given_once, numbers_law, one_reply, own_link,
+    passed_calls, rise_law, room_law,
+};
+pub use limits::OUTBOX_MAX;

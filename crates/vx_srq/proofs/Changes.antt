@@ -5,7 +5,7 @@ use Rattle.std.proofs.lemmas.List.{map-set, length-map, length-set, get_or-map}
 use Rattle.std.proofs.lemmas.List.Edits.{map_over_more}
 use Rattle.std.proofs.lemmas.List.Elements.{All-set}
 use Rattle.vx_srq.specs.declared.slots.SlotRow.{SlotRow}
-use Rattle.vx_srq.specs.SrqState.{ChannelSlot}
+use Rattle.vx_rules.specs.SrqState.{ChannelSlot}
 use Rattle.vx_srq.specs.Shown.{slot_shown, HasRoom}
 
 -- the first i slots are changed by f, the others are as they were, and each has room

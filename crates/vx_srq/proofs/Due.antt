@@ -5,8 +5,8 @@ use Rattle.std.proofs.lemmas.Bool.Decides.{nat_tests}
 use Rattle.std.proofs.lemmas.List.Elements.{filter-append}
 use Rattle.vx_calls.specs.declared.calls.Handle.{Handle}
 use Rattle.vx_srq.specs.declared.enables.EnableRow.{EnableRow}
-use Rattle.vx_srq.specs.declared.srq.TheConstants.{OUTBOX_MAX}
-use Rattle.vx_srq.specs.SrqState.{Enable, handles_of}
+use Rattle.vx_rules.specs.declared.limits.TheConstants.{OUTBOX_MAX}
+use Rattle.vx_rules.specs.SrqState.{Enable, handles_of}
 use Rattle.vx_srq.specs.Shown.{enable_shown, handle_shown}
 
 -- the handles that these rows give to a connection

@@ -10,7 +10,7 @@ use Rattle.vx_lemmas.specs.Lists.{find-map, filter-map}
 use Rattle.vx_srq.specs.declared.slots.ChannelRow.{ChannelRow}
 use Rattle.vx_srq.specs.declared.slots.SlotRow.{SlotRow}
 use Rattle.vx_srq.specs.declared.srq.Srq.TheInside.{Inside}
-use Rattle.vx_srq.specs.SrqState.{SrqState, ChannelSlot, IsSound, IsBelow, HasChannelBelow, channel_at}
+use Rattle.vx_rules.specs.SrqState.{SrqState, ChannelSlot, IsSound, IsBelow, HasChannelBelow, channel_at}
 use Rattle.vx_srq.specs.Shown.{slot_shown, enable_shown, channel_shown, HasRoom}
 use Rattle.vx_srq.specs.Told.{channel_told, told_of}
 use Rattle.vx_srq.specs.Inside.{srq_state_of, IsKept}

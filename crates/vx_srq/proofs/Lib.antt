@@ -3,4 +3,3 @@ pub mod Due
 pub mod Places
 pub mod Sound
 pub mod Held
-pub mod Channels

@@ -6,8 +6,10 @@ use Rattle.std.proofs.lemmas.Bool.Decides.{nat_tests}
 use Rattle.std.proofs.lemmas.Bool.{lt-ltb}
 use Rattle.std.proofs.lemmas.List.Elements.{All-cons, All-tail, All-weaker}
 use Rattle.std.proofs.lemmas.List.Sums.{prefix_len-le-length}
+use Rattle.vx_lemmas.specs.Filters.{pairs_head, pairs_tail}
 use Rattle.vx_srq.specs.declared.enables.EnableRow.{EnableRow}
-use Rattle.vx_srq.specs.SrqState.{Enable, LinksRise, enable_put}
+use Rattle.vx_rules.specs.SrqState.{Enable, LinksRise, enable_put}
+use Rattle.vx_rules.specs.ProvedLaws.Rising.{Precedes}
 use Rattle.vx_srq.specs.Shown.{enable_shown}
 
 -- the first place that passes, or the length
@@ -17,16 +19,6 @@ first_or_len p xs = at (nat_lt (position_or_len p xs) (length xs)) refl
     at : (b : Bool) → nat_lt (position_or_len p xs) (length xs) ≡ b → unwrap_or (cond b (Some (position_or_len p xs)) None) (length xs) ≡ position_or_len p xs
     at true e = refl
     at false e = let le = prefix_len-le-length (λ x. not (p x)) xs in grind (arith, nat_tests, le, e)
-
--- links above a number rise behind it
-above : ℕ → List Enable → Type 0
-above n es = All (λ e. n < e.link) es
-
-pub rise_head : (e : Enable) (es : List Enable) → LinksRise (e ∷ es) → All (λ f. e.link < f.link) es
-rise_head e es rise k d h = rise 0 (suc k) d (omega arith) (omega arith)
-
-pub rise_tail : (e : Enable) (es : List Enable) → LinksRise (e ∷ es) → LinksRise es
-rise_tail e es rise i j d before h = rise (suc i) (suc j) d (omega arith) (omega arith)
 
 -- nothing is left out of rows whose links are all above
 filter_above : (lid : ℕ) (rows : List EnableRow) → All (λ e. lid < e.link) (map enable_shown rows) → filter (λ r. not (r.lid == lid)) rows ≡ rows
@@ -58,7 +50,7 @@ put_behind row r rows e =
 pub placed : (rows : List EnableRow) (row : EnableRow) → LinksRise (map enable_shown rows)
     → map enable_shown (put_in row (filter (λ r. not (r.lid == row.lid)) rows)) ≡ enable_put (enable_shown row) (map enable_shown rows)
 placed [] row rise = refl
-placed (r ∷ rows) row rise = at (nat_lt row.lid r.lid) refl (row.lid == r.lid) refl (placed rows row (rise_tail (enable_shown r) (map enable_shown rows) rise))
+placed (r ∷ rows) row rise = at (nat_lt row.lid r.lid) refl (row.lid == r.lid) refl (placed rows row (pairs_tail Precedes (enable_shown r) (map enable_shown rows) rise))
   where
     e : Enable
     e = enable_shown row
@@ -73,7 +65,7 @@ placed (r ∷ rows) row rise = at (nat_lt row.lid r.lid) refl (row.lid == r.lid)
     left = filter (λ s. not (s.lid == row.lid)) rows
 
     behind : All (λ g. f.link < g.link) fs
-    behind = rise_head f fs rise
+    behind = pairs_head Precedes f fs rise
 
     Goal : Type 0
     Goal = map enable_shown (put_in row (filter (λ s. not (s.lid == row.lid)) (r ∷ rows))) ≡ enable_put e (f ∷ fs)

@@ -1,21 +1,16 @@
 -- Each change of a state of service requests keeps it as every state of service requests is.
-use Rattle.std.proofs.Common.{◌≡◌, ℕ, nat_lt, nat_le, ◌+◌, ◌<◌, ◌≤◌, ◌==◌, not, Bool, true, false, List, [], ◌∷◌, ◌++◌, map, filter, length, Option, Some, None, refl, ap, arith}
+use Rattle.std.proofs.Common.{◌≡◌, ℕ, nat_le, ◌+◌, ◌≤◌, ◌==◌, not, Bool, true, false, List, [], ◌∷◌, ◌++◌, map, filter, length, Option, Some, None, refl, ap, arith}
 use Rattle.std.specs.Prelude.{if◌then◌else◌, option_and_then}
 use Rattle.std.specs.Option.{option_map, IfSome}
-use Rattle.std.specs.List.{All}
 use Rattle.std.proofs.lemmas.Bool.{leb-true}
-use Rattle.std.proofs.lemmas.Bool.Decides.{nat_tests}
-use Rattle.std.proofs.lemmas.List.Elements.{All-append, All-cons, All-nil, All-tail, All-map, All-filter, All-weaker}
-use Rattle.std.proofs.lemmas.List.Kept.{AllPairs-cons, AllPairs-filter}
+use Rattle.std.proofs.lemmas.List.Elements.{All-append, All-cons, All-nil, All-map, All-filter, All-weaker}
+use Rattle.std.proofs.lemmas.List.Kept.{AllPairs-filter}
 use Rattle.std.proofs.lemmas.List.Filters.{length-filter_both}
 use Rattle.vx_calls.specs.declared.limits.TheConstants.{LINK_MAX, CONNECTION_LAST}
-use Rattle.vx_srq.specs.SrqState as srq_state
-use Rattle.vx_srq.specs.declared.srq.TheConstants.{OUTBOX_MAX}
-use Rattle.vx_srq.specs.SrqState.{Channel, ChannelSlot, Enable, SrqState, IsSound, IsBelow, HasChannelBelow, LinksRise, enable_put, slot_with, queued_on, risen_slot, handles_of, is_rise, taken_from, front_taken, slot_taken}
-use Rattle.vx_srq.proofs.Places.{rise_head, rise_tail}
-
-abbrev Rises : Enable → Enable → Type 0
-Rises a b = a.link < b.link
+use Rattle.vx_rules.specs.SrqState as srq_state
+use Rattle.vx_rules.specs.declared.limits.TheConstants.{OUTBOX_MAX}
+use Rattle.vx_rules.specs.SrqState.{Channel, ChannelSlot, Enable, SrqState, IsSound, IsBelow, HasChannelBelow, enable_put, slot_with, queued_on, risen_slot, handles_of, is_rise, taken_from, front_taken, slot_taken}
+use Rattle.vx_rules.specs.ProvedLaws.Rising.{Precedes, rise_put}
 
 -- a filter keeps no more
 pub filter_fewer : {X : Type 0} (p : X → Bool) (xs : List X) → length (filter (λ x. not (p x)) xs) ≤ length xs
@@ -57,39 +52,6 @@ below_taken next conn number p h =
       | false ↦ h
     ]
 
--- an enable is put where its link belongs
-put_above : (n : ℕ) (e : Enable) (es : List Enable) → n < e.link → All (λ f. n < f.link) es → All (λ f. n < f.link) (enable_put e es)
-put_above n e [] h above = All-cons (λ f. n < f.link) e [] h above
-put_above n e (f ∷ fs) h above =
-    let tail = All-tail (λ g. n < g.link) f fs above in
-    let head : n < f.link = above 0 f (omega arith) in
-    elim (nat_lt e.link f.link) as (λ b. All (λ g. n < g.link) (if b then e ∷ f ∷ fs else if e.link == f.link then e ∷ fs else f ∷ enable_put e fs)) [
-      | true ↦ All-cons (λ g. n < g.link) e (f ∷ fs) h above
-      | false ↦ elim (e.link == f.link) as (λ b. All (λ g. n < g.link) (if b then e ∷ fs else f ∷ enable_put e fs)) [
-        | true ↦ All-cons (λ g. n < g.link) e fs h tail
-        | false ↦ All-cons (λ g. n < g.link) f (enable_put e fs) head (put_above n e fs h tail)
-      ]
-    ]
-
-pub rise_put : (e : Enable) (es : List Enable) → LinksRise es → LinksRise (enable_put e es)
-rise_put e [] rise = AllPairs-cons Rises e [] (All-nil (Rises e)) rise
-rise_put e (f ∷ fs) rise = at (nat_lt e.link f.link) refl (e.link == f.link) refl (rise_put e fs (rise_tail f fs rise))
-  where
-    behind : All (λ g. f.link < g.link) fs
-    behind = rise_head f fs rise
-
-    at : (less : Bool) → nat_lt e.link f.link ≡ less → (same : Bool) → (e.link == f.link) ≡ same → LinksRise (enable_put e fs)
-        → LinksRise (if less then e ∷ f ∷ fs else if same then e ∷ fs else f ∷ enable_put e fs)
-    at true l same s rest =
-        let first : e.link < f.link = grind (arith, nat_tests, l) in
-        AllPairs-cons Rises e (f ∷ fs) (All-cons (Rises e) f fs first (All-weaker (λ g. f.link < g.link) (Rises e) (λ g h. omega (arith, h, first)) fs behind)) rise
-    at false l true s rest =
-        let eq : e.link ≡ f.link = grind (arith, nat_tests, s) in
-        AllPairs-cons Rises e fs (All-weaker (λ g. f.link < g.link) (Rises e) (λ g h. omega (arith, h, eq)) fs behind) (rise_tail f fs rise)
-    at false l false s rest =
-        let above : f.link < e.link = grind (arith, nat_tests, l, s) in
-        AllPairs-cons Rises f (enable_put e fs) (put_above f.link e fs above behind) rest
-
 pub sound-with_slot : (d : SrqState) (conn : ℕ) → IsSound d → IsSound (srq_state.with_slot d conn)
 sound-with_slot d conn s = record {
   links = s.links;
@@ -101,7 +63,7 @@ sound-with_slot d conn s = record {
 
 pub sound-without_slot : (d : SrqState) (conn : ℕ) → IsSound d → IsSound (srq_state.without_slot d conn)
 sound-without_slot d conn s = record {
-  links = AllPairs-filter Rises (λ e. not (e.connection == conn)) d.enables s.links;
+  links = AllPairs-filter Precedes (λ e. not (e.connection == conn)) d.enables s.links;
   few = omega (arith, s.few, filter_fewer (λ e. e.connection == conn) d.enables);
   channels = All-filter (λ p. not (p.connection == conn)) (HasChannelBelow d.next_channel) d.slots s.channels;
   first = s.first;
@@ -110,7 +72,7 @@ sound-without_slot d conn s = record {
 
 pub sound-without_enable : (d : SrqState) (lid : ℕ) → IsSound d → IsSound (srq_state.without_enable d lid)
 sound-without_enable d lid s = record {
-  links = AllPairs-filter Rises (λ e. not (e.link == lid)) d.enables s.links;
+  links = AllPairs-filter Precedes (λ e. not (e.link == lid)) d.enables s.links;
   few = omega (arith, s.few, filter_fewer (λ e. e.link == lid) d.enables);
   channels = s.channels;
   first = s.first;

@@ -3,7 +3,7 @@ use Rattle.std.specs.Prelude.{◌≤◌, map, vec_capacity}
 use Rattle.std.specs.List.{All}
 use Rattle.vx_calls.specs.declared.limits.TheConstants.{LINK_MAX}
 use Rattle.vx_srq.specs.declared.srq.Srq.TheInside.{Inside}
-use Rattle.vx_srq.specs.SrqState.{SrqState, IsSound}
+use Rattle.vx_rules.specs.SrqState.{SrqState, IsSound}
 use Rattle.vx_srq.specs.Shown.{slot_shown, enable_shown, HasRoom}
 
 abbrev pub srq_state_of : Inside → SrqState

@@ -1,6 +1,4 @@
-pub mod SrqState
 pub mod Shown
 pub mod Told
-pub mod Laws
 pub mod Inside
-pub mod ProvedLaws
+pub use Rattle.vx_rules.specs.SrqState

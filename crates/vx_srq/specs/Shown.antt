@@ -8,8 +8,8 @@ use Rattle.vx_calls.specs.declared.replies.Taken.TheVariants as seen
 use Rattle.vx_srq.specs.declared.slots.ChannelRow.{ChannelRow}
 use Rattle.vx_srq.specs.declared.slots.SlotRow.{SlotRow}
 use Rattle.vx_srq.specs.declared.enables.EnableRow.{EnableRow}
-use Rattle.vx_srq.specs.declared.srq.TheConstants.{OUTBOX_MAX}
-use Rattle.vx_srq.specs.SrqState.{Channel, ChannelSlot, Enable, Given, Front, Empty, Gone}
+use Rattle.vx_rules.specs.declared.limits.TheConstants.{OUTBOX_MAX}
+use Rattle.vx_rules.specs.SrqState.{Channel, ChannelSlot, Enable, Given, Front, Empty, Gone}
 
 -- the bytes of a handle
 abbrev pub handle_shown : Handle → List ℕ

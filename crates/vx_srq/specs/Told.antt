@@ -1,7 +1,7 @@
 -- What is told of a channel.
 use Rattle.vx_srq.specs.declared.slots.ChannelRow.{ChannelRow}
 use Rattle.vx_srq.specs.declared.srq.Channel.{Channel}
-use Rattle.vx_srq.specs.SrqState as srq_state
+use Rattle.vx_rules.specs.SrqState as srq_state
 
 -- a channel's number, program and version
 abbrev pub channel_told : srq_state.Channel → Channel

@@ -1,7 +1,7 @@
 ghost use Rattle.std.specs.Prelude.{◌≡◌, ◌<◌, ◌==◌, ◌+◌, nat_lt, map, filter, not, length, vec_capacity};
 ghost use Rattle.std.specs.List.{position};
 ghost use Rattle.vx_srq.specs.Shown.{enable_shown};
-ghost use Rattle.vx_srq.specs.SrqState.{enable_put, LinksRise};
+ghost use Rattle.vx_rules.specs.SrqState.{enable_put, LinksRise};
 
 use arrayvec::ArrayVec;
 use vx_calls::Handle;

@@ -3,9 +3,7 @@
 #![tactic(auto)]
 
 mod enables;
-mod laws;
 mod slots;
 mod srq;
 
-pub use laws::{channel_law, connections_law, numbers_law, rise_law};
-pub use srq::{Channel, NoMemory, NoNumber, OUTBOX_MAX, Srq};
+pub use srq::{Channel, NoMemory, NoNumber, Srq};

@@ -2,14 +2,14 @@ ghost use Rattle.std.specs.Prelude.{◌≡◌, ◌≤◌, ◌==◌, ◌++◌, na
 ghost use Rattle.std.specs.Option.{option_copied, option_map, option_and_then};
 ghost use Rattle.std.specs.List.{list_any, All};
 ghost use Rattle.std.specs.VecDeque.{deque_capacity};
-ghost use Rattle.vx_srq.specs.declared.srq.TheConstants.{OUTBOX_MAX};
-ghost use Rattle.vx_srq.specs.SrqState.{slot_with, risen_slot, slot_taken, given_by, front_given, handles_of};
+ghost use Rattle.vx_rules.specs.declared.limits.TheConstants.{OUTBOX_MAX};
+ghost use Rattle.vx_rules.specs.SrqState.{slot_with, risen_slot, slot_taken, given_by, front_given, handles_of};
 ghost use Rattle.vx_srq.specs.Shown.{channel_shown, slot_shown, enable_shown, handle_shown, given_shown, HasRoom};
 
 use crate::enables::{EnableRow, copied};
-use crate::srq::OUTBOX_MAX;
 use std::collections::VecDeque;
 use vx_calls::{Handle, Interrupt, Taken};
+use vx_rules::OUTBOX_MAX;
 
 /// A connection's interrupt channel: its number, the program and version that its calls have, and the xid of the next.
 #[derive(Clone, Copy, Debug)]

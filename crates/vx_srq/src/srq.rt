@@ -2,7 +2,7 @@ ghost use Rattle.std.specs.Prelude.{◌≡◌, ℕ, ◌<◌, ◌≤◌, ◌+◌,
 ghost use Rattle.std.specs.List.{list_any, All, AllPairs};
 ghost use Rattle.std.specs.Option.{option_map, IfSome};
 ghost use Rattle.vx_calls.specs.declared.limits.TheConstants.{LINK_MAX, CONNECTION_LAST};
-ghost use Rattle.vx_srq.specs.SrqState as srq_state;
+ghost use Rattle.vx_rules.specs.SrqState as srq_state;
 ghost use Rattle.vx_srq.specs.Shown.{given_shown};
 ghost use Rattle.vx_srq.specs.Told.{channel_told, told_of};
 
@@ -14,9 +14,7 @@ use std::alloc::Global;
 use std::collections::VecDeque;
 use std::marker::Model;
 use vx_calls::{CONNECTION_LAST, Handle, LINK_MAX, Taken};
-
-/// The most interrupts that wait in a channel's outbox.
-pub const OUTBOX_MAX: usize = 1024;
+use vx_rules::OUTBOX_MAX;
 
 /// Memory ran out.
 #[derive(Clone, Copy, Debug, PartialEq, Eq)]
@@ -47,7 +45,7 @@ pub struct Srq {
 }
 
 impl Model for Srq {
-    ghost use Rattle.vx_srq.specs.SrqState.{SrqState};
+    ghost use Rattle.vx_rules.specs.SrqState.{SrqState};
 
     ghost Value = { SrqState };
 

@@ -23,7 +23,8 @@ use crate::plain::stand::{Stand, stand_on};
 use vx_488::Transfer;
 use vx_calls::{ErrorCode, ReplyRef};
 use vx_plan::{Task, needs};
-use vx_rules::{Admission, NoMemory, has_passed, passed_calls};
+use vx_rules::passed_calls;
+use vx_tables::{Admission, NoMemory, has_passed};
 
 /// What comes to an answer from outside: the moment at which the call's turn began and the transfers that it made, whether
 /// the bus failed, how a dial went, and the level that a bus status tells.

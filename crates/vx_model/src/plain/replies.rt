@@ -5,7 +5,7 @@ ghost use Rattle.vx_calls.specs.ErrorCode.{same_error};
 ghost use Rattle.vx_calls.specs.declared.codes.ErrorCode.TheVariants as code;
 ghost use Rattle.vx_calls.specs.Reply.{same_reply, reply_shown};
 ghost use Rattle.vx_calls.specs.Reply as replies;
-ghost use Rattle.vx_srq.specs.SrqState.{Srq};
+ghost use Rattle.vx_rules.specs.SrqState.{Srq};
 ghost use Rattle.vx_srq.specs.Shown.{given_shown};
 ghost use Rattle.vx_plan.specs.declared.tasks.TheConstants.{TURN_MAX};
 ghost use Rattle.vx_plan.specs.Places.{last_after};
@@ -18,7 +18,7 @@ use std::alloc::Global;
 use vx_488::{Transfer, Wire};
 use vx_calls::{ErrorCode, Interrupt, ReplyRef, Taken};
 use vx_plan::Task;
-use vx_rules::NoMemory;
+use vx_tables::NoMemory;
 
 /// Whether two errors are one.
 pub(crate) fn same_error(a: ErrorCode, b: ErrorCode) -> bool

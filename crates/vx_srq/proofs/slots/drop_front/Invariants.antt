@@ -1,4 +1,4 @@
-use Rattle.vx_srq.specs.SrqState.{slot_taken}
+use Rattle.vx_rules.specs.SrqState.{slot_taken}
 use Rattle.vx_srq.proofs.Changes.{Changed}
 use Rattle.vx_srq.proofs.slots.drop_front.Given as goal
 

@@ -1,5 +1,5 @@
 use Rattle.std.proofs.Common.{Some, []}
-use Rattle.vx_srq.specs.SrqState.{slot_with}
+use Rattle.vx_rules.specs.SrqState.{slot_with}
 use Rattle.vx_srq.specs.Shown.{channel_shown}
 use Rattle.vx_srq.proofs.Changes.{Changed}
 use Rattle.vx_srq.proofs.slots.open_channel.Given as goal

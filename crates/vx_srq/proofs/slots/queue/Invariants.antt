@@ -1,6 +1,6 @@
 use Rattle.std.proofs.Common.{◌≡◌, ◌≤◌, ◌++◌, map, length, take}
 use Rattle.std.specs.VecDeque.{deque_capacity}
-use Rattle.vx_srq.specs.declared.srq.TheConstants.{OUTBOX_MAX}
+use Rattle.vx_rules.specs.declared.limits.TheConstants.{OUTBOX_MAX}
 use Rattle.vx_srq.specs.Shown.{handle_shown}
 use Rattle.vx_srq.proofs.Due.{due}
 use Rattle.vx_srq.proofs.slots.queue.Given as goal

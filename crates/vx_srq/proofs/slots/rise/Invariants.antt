@@ -1,5 +1,5 @@
 use Rattle.std.proofs.Common.{map}
-use Rattle.vx_srq.specs.SrqState.{risen_slot}
+use Rattle.vx_rules.specs.SrqState.{risen_slot}
 use Rattle.vx_srq.specs.Shown.{enable_shown}
 use Rattle.vx_srq.proofs.Changes.{Changed}
 use Rattle.vx_srq.proofs.slots.rise.Given as goal

@@ -1,6 +1,9 @@
 use Rattle.std.proofs.Common.{◌==◌, ◌∙◌}
-use Rattle.vx_links.proofs.Rows.{found_says, find-shown, numbered_is}
+use Rattle.vx_links.proofs.Rows.{found_says, find-shown, numbered_is, rows_rising}
 use Rattle.vx_links.proofs.links.Links.find.Goals as goal
+
+pub find_row-requires : goal.find_row-requires
+find_row-requires c = record { rising = rows_rising c.self.inside c.deref.result.now c.deref.ensures.value c.self.invariant }
 
 pub returns : goal.returns
 returns c =

@@ -1,4 +1,4 @@
-use Rattle.vx_links.specs.Table.{is_at}
+use Rattle.vx_rules.specs.Table.{is_at}
 use Rattle.vx_links.proofs.Rows.{any-shown}
 use Rattle.vx_links.proofs.links.Links.uses.Goals as goal
 

@@ -1,5 +1,5 @@
 use Rattle.std.proofs.Common.{subst}
-use Rattle.vx_locks.specs.Locks.{IsApart}
+use Rattle.vx_rules.specs.Locks.{IsApart}
 use Rattle.vx_locks.proofs.locks.Locks.locks_apart.Goals as goal
 
 pub returns-clause-links : goal.returns-clause-links

@@ -5,7 +5,7 @@ use Rattle.vx_calls.specs.Reply.{reply_shown}
 use Rattle.vx_model.specs.StepShown.{outside_shown}
 use Rattle.vx_rules.specs.State.{State, pending_at}
 use Rattle.vx_rules.specs.Lines.{first_lines}
-use Rattle.vx_rules.specs.Shown.{lines_shown}
+use Rattle.vx_tables.specs.Shown.{lines_shown}
 use Rattle.vx_model.specs.Stepping.{answer_at}
 use Rattle.vx_model.proofs.Answering.{leb-from, leb-not, some_pending, answer_is, answer_early, answer_idle, waiting-is, goes_at}
 use Rattle.vx_model.proofs.plain.Plain.answer.Goals as goal

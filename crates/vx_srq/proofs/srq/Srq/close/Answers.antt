@@ -1,6 +1,6 @@
 use Rattle.std.proofs.Common.{None, sym, subst}
 use Rattle.std.specs.List.{All}
-use Rattle.vx_srq.specs.SrqState.{IsSound, slot_with}
+use Rattle.vx_rules.specs.SrqState.{IsSound, slot_with}
 use Rattle.vx_srq.specs.Shown.{HasRoom}
 use Rattle.vx_srq.specs.Inside.{srq_state_of}
 use Rattle.vx_srq.proofs.Held.{changed_to, with_slots}

@@ -1,7 +1,7 @@
 use Rattle.std.proofs.Common.{◌≤◌, length, arith, ap, sym, subst}
 use Rattle.std.proofs.lemmas.List.{length-map}
 use Rattle.vx_calls.specs.declared.limits.TheConstants.{LINK_MAX}
-use Rattle.vx_srq.specs.SrqState.{SrqState, Enable, IsSound, enable_put}
+use Rattle.vx_rules.specs.SrqState.{SrqState, Enable, IsSound, enable_put}
 use Rattle.vx_srq.specs.Shown.{enable_shown}
 use Rattle.vx_srq.specs.Inside.{srq_state_of}
 use Rattle.vx_srq.proofs.Held.{others_shown}

@@ -1,5 +1,5 @@
 use Rattle.std.proofs.Common.{◌==◌, map, find, ap, sym, refl, ◌∙◌}
-use Rattle.vx_srq.specs.SrqState.{given_by}
+use Rattle.vx_rules.specs.SrqState.{given_by}
 use Rattle.vx_srq.specs.Shown.{slot_shown}
 use Rattle.vx_srq.proofs.Held.{channel_found}
 use Rattle.vx_srq.proofs.srq.Srq.given.Goals as goal

@@ -3,7 +3,7 @@ use Rattle.std.proofs.lemmas.Fn.{filter_same}
 use Rattle.std.proofs.lemmas.List.Elements.{All-filter}
 use Rattle.std.specs.List.{All}
 use Rattle.vx_lemmas.specs.Lists.{filter-map}
-use Rattle.vx_srq.specs.SrqState.{SrqState, IsSound, without_slot}
+use Rattle.vx_rules.specs.SrqState.{SrqState, IsSound, without_slot}
 use Rattle.vx_srq.specs.Shown.{slot_shown, enable_shown, HasRoom}
 use Rattle.vx_srq.specs.Inside.{srq_state_of}
 use Rattle.vx_srq.proofs.Sound.{sound-without_slot}

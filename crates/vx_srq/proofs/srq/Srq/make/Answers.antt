@@ -2,7 +2,7 @@ use Rattle.std.proofs.Common.{◌≤◌, ◌+◌, Some, ap, sym, subst, ◌∙�
 use Rattle.std.specs.List.{All}
 use Rattle.std.proofs.lemmas.Bool.{leb-true}
 use Rattle.vx_calls.specs.declared.limits.TheConstants.{CONNECTION_LAST}
-use Rattle.vx_srq.specs.SrqState.{SrqState, IsSound, new_channel, slot_with, has_number}
+use Rattle.vx_rules.specs.SrqState.{SrqState, IsSound, new_channel, slot_with, has_number}
 use Rattle.vx_srq.specs.Shown.{HasRoom}
 use Rattle.vx_srq.specs.Inside.{srq_state_of}
 use Rattle.vx_srq.proofs.Held.{changed_to}

@@ -1,7 +1,7 @@
 use Rattle.std.proofs.Common.{map, ap, sym, subst, ◌∙◌}
 use Rattle.std.specs.List.{All}
 use Rattle.vx_srq.specs.declared.srq.Srq.TheInside.{Inside}
-use Rattle.vx_srq.specs.SrqState.{SrqState, IsSound, risen_slot}
+use Rattle.vx_rules.specs.SrqState.{SrqState, IsSound, risen_slot}
 use Rattle.vx_srq.specs.Shown.{slot_shown, enable_shown, HasRoom}
 use Rattle.vx_srq.specs.Inside.{srq_state_of, IsKept}
 use Rattle.vx_srq.proofs.Held.{changed_to, kept_level}

@@ -1,6 +1,6 @@
 use Rattle.std.proofs.Common.{◌==◌, map, find, ap, sym, subst, refl, ◌∙◌}
 use Rattle.std.specs.List.{All}
-use Rattle.vx_srq.specs.SrqState.{IsSound, slot_taken, given_by}
+use Rattle.vx_rules.specs.SrqState.{IsSound, slot_taken, given_by}
 use Rattle.vx_srq.specs.Shown.{slot_shown, HasRoom}
 use Rattle.vx_srq.specs.Inside.{srq_state_of}
 use Rattle.vx_srq.proofs.Held.{changed_to, channel_found, with_slots}

@@ -1,0 +1,20 @@
+use Rattle.std.proofs.Common.{map, ap, ◌∙◌}
+use Rattle.std.proofs.lemmas.List.{with_items_is}
+use Rattle.vx_rules.specs.One.{mark_on}
+use Rattle.vx_tables.specs.Rows.{connection_of}
+use Rattle.vx_tables.specs.Inside.{tables_of}
+use Rattle.vx_rules.specs.ProvedLaws.Keeping.{marked-sound}
+use Rattle.vx_tables.proofs.Closing.{rows_sound}
+use Rattle.vx_tables.proofs.tables.Tables.abort.Goals as goal
+
+pub invariant_of-self : goal.invariant_of-self
+invariant_of-self c =
+    let written = with_items_is c.self.inside.rows c.mark_calls.new.rows (c.mark_calls.auto.rows ∙ c.deref_mut.ensures.len) in
+    record {
+      sound = rows_sound (tables_of c.self.inside) _ _
+          (ap (map connection_of) written ∙ c.mark_calls.ensures ∙ ap (λ rs. map (mark_on c.args.lid) (map connection_of rs)) c.deref_mut.ensures.value)
+          (marked-sound (tables_of c.self.inside) c.args.lid c.self.invariant.sound);
+      room = c.self.invariant.room;
+      numbers = c.self.invariant.numbers;
+      plain = c.self.invariant.plain;
+    }

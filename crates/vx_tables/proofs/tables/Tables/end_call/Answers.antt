@@ -1,0 +1,22 @@
+use Rattle.std.proofs.Common.{◌==◌, None, map, ap, ◌∙◌, arith}
+use Rattle.std.proofs.lemmas.List.{with_items_is}
+use Rattle.vx_rules.specs.Lists.{update_first}
+use Rattle.vx_tables.specs.Rows.{connection_of}
+use Rattle.vx_tables.specs.Inside.{tables_of}
+use Rattle.vx_rules.specs.ProvedLaws.Keeping.{ended-sound}
+use Rattle.vx_tables.proofs.Closing.{calls_sound}
+use Rattle.vx_tables.proofs.tables.Tables.end_call.Goals as goal
+
+pub invariant_of-self : goal.invariant_of-self
+invariant_of-self c =
+    let rows = c.self.inside.rows in
+    let written = with_items_is rows c.end_call.new.rows (c.end_call.auto.rows ∙ c.deref_mut.ensures.len) in
+    record {
+      sound = calls_sound (tables_of c.self.inside) _ _ _ _
+          (ap (map connection_of) written ∙ c.end_call.ensures
+          ∙ ap (λ rs. update_first (λ k. k.number == c.args.conn) (λ k. record k { pending = None }) (map connection_of rs)) c.deref_mut.ensures.value)
+          c.drop_arrival.ensures.left (ended-sound (tables_of c.self.inside) c.args.conn c.self.invariant.sound);
+      room = omega (arith, c.self.invariant.room, c.drop_arrival.ensures.room);
+      numbers = c.self.invariant.numbers;
+      plain = c.self.invariant.plain;
+    }
