@@ -30,8 +30,8 @@ use Rattle.vx_ctrl.specs.Goes.{Begins, Goes, refused_steps, go_steps, outcome_st
 use Rattle.vx_ctrl.specs.Asking.{Asks, IsPlainNext}
 use Rattle.vx_bus_traits.specs.declared.asks.TheConstants.{ASK_MAX}
 use Rattle.vx_488.specs.declared.transfers.Transfer.TheVariants.{Got}
-use Rattle.vx_ctrl.proofs.Sizes.{most_gets}
-use Rattle.vx_ctrl.proofs.Fares.{own-short, moved-short, step-short, moved-got, room-left, gets-some, gets-bytes, length-bytes_got, bytes_got-append}
+use Rattle.vx_ctrl.specs.ProvedLaws.Sizes.{most_gets}
+use Rattle.vx_ctrl.specs.ProvedLaws.Fares.{own-short, moved-short, step-short, moved-got, room-left, gets-some, gets-bytes, length-bytes_got, bytes_got-append}
 use Rattle.vx_ctrl.proofs.Walking.{path-append, path-step}
 use Rattle.vx_ctrl.proofs.Rooms.{with-one-more, with-none, take-with}
 

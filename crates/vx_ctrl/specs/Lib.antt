@@ -2,6 +2,7 @@ pub mod Turns
 pub mod Goes
 pub mod Asking
 pub mod Laws
+pub mod ProvedLaws
 pub use Rattle.vx_488.specs.Wire
 pub use Rattle.vx_bus_traits.specs.Means
 pub use Rattle.vx_bus_traits.specs.Steps

@@ -1,12 +1,13 @@
 -- Of the turn under way: from its beginning on no other link's lock keeps its call's link off its target, and the gateway could
--- reach the devices of all live links as it began.
+-- reach the devices of all live links as it began, and can still where the turn's list isn't whole.
 use Rattle.std.proofs.Common.{◌≡◌, ◌==◌, ℕ, Bool, true, false, cond, ◌⊎◌, inl, inr, List, [], ◌∷◌, ◌++◌, Option, Some, None, refl, sym, ap, ◌∙◌, subst, arith}
 use Rattle.std.specs.Prelude.{is_none, nat_le, ◌&&◌}
+use Rattle.std.specs.List.{All}
 use Rattle.std.proofs.lemmas.Bool.{cases_Bool, false≢true, and_parts}
 use Rattle.std.proofs.lemmas.Option.{cond_some, none-some, same_Some}
 use Rattle.vx_lemmas.specs.Conditions.{chosen}
-use Rattle.vx_calls.specs.declared.codes.ErrorCode.TheVariants as code
 use Rattle.vx_calls.specs.Reply.{Reply}
+use Rattle.vx_calls.specs.Target.{IsReachable}
 use Rattle.vx_488.specs.declared.transfers.Transfer.{Transfer}
 use Rattle.vx_488.specs.declared.wire.Wire.{Wire}
 use Rattle.vx_488.specs.Wire.{wire_after}
@@ -16,21 +17,23 @@ use Rattle.vx_rules.specs.Lists.{along}
 use Rattle.vx_rules.specs.Calls.{is_bus_call}
 use Rattle.vx_rules.specs.State.{Pending, Tables, State, pending_at}
 use Rattle.vx_rules.specs.Checks.{OnLink, named_link}
-use Rattle.vx_rules.specs.Lines.{Admission, Refused, Waiting, Passed, later_lines, first_lines}
+use Rattle.vx_rules.specs.Lines.{Passed, later_lines, first_lines}
 use Rattle.vx_rules.specs.Decide.{has_job_role}
 use Rattle.vx_rules.specs.ProvedLaws.{no-job}
 use Rattle.vx_flow.specs.Event.{Event, Up, Down, Arrive, Answer, Abort, Sample, Take, Begin, Move, Dial}
 use Rattle.vx_flow.specs.FineState.{Turn, FineState, first_fine, before_turn, turn_after}
-use Rattle.vx_flow.specs.Fine.{job_of, is_passed, may_begin, may_move, comes_in_turn, fine_after, fine_step, fine}
+use Rattle.vx_flow.specs.Fine.{job_of, is_passed, may_begin, may_move, comes_in_turn, turn_stand, is_whole, fine_after, fine_step, fine}
 use Rattle.vx_flow.specs.Gather.{gather}
 use Rattle.vx_flow.specs.Laws.{TurnFreeLaw}
 use Rattle.vx_flow.specs.Sound.{Stands, TurnStands, IsSound}
-use Rattle.vx_flow.proofs.Lookups.{along-none}
-use Rattle.vx_flow.proofs.Kept.{Stays, named-stays}
-use Rattle.vx_flow.proofs.Making.{later-passes}
-use Rattle.vx_flow.proofs.Plain.{IsLinkReachable, found-has, legal-plain}
-use Rattle.vx_flow.proofs.Freely.{link-is}
-use Rattle.vx_flow.proofs.Gathering.{fine-goes, first-sound, stays_sound-law, gather_law-holds}
+use Rattle.vx_rules.specs.ListLaws.{along-none}
+use Rattle.vx_flow.specs.ProvedLaws.ByLines.{passed-is, passed-parts}
+use Rattle.vx_flow.specs.ProvedLaws.Jobs.{own-stays}
+use Rattle.vx_flow.specs.ProvedLaws.Kept.{Stays, named-stays, turn-stand}
+use Rattle.vx_flow.specs.ProvedLaws.Making.{later-passes}
+use Rattle.vx_flow.specs.ProvedLaws.Plain.{IsLinkReachable, found-has, legal-plain}
+use Rattle.vx_flow.specs.ProvedLaws.Freely.{link-is}
+use Rattle.vx_flow.specs.ProvedLaws.Gathering.{fine-goes, fine-gathers, first-sound, stays_sound-law}
 
 -- no other link's lock keeps the link of a turn's call off its target
 abbrev IsFree : Tables → Option Turn → Type 0
@@ -42,17 +45,9 @@ none-free t u p l is at on = absurd (none-some u is)
 
 -- ---- a turn begins
 
-passed-is : (l : Admission) → is_passed l ≡ true → l ≡ Passed
-passed-is Passed h = refl
-passed-is (Refused error) h = absurd (false≢true h)
-passed-is (Waiting holder) h = absurd (false≢true h)
-
 -- a call that isn't aborted passed the lines behind that of the abort
 passed-later : (t : Tables) (own conn : ℕ) (p : Pending) (now : ℕ) → is_passed (first_lines t own conn false p now) ≡ true → later_lines t own conn false p now ≡ Passed
-passed-later t own conn p now h = by p.aborted h where
-  by : (aborted : Bool) → is_passed (cond aborted (Refused code.Abort) (later_lines t own conn false p now)) ≡ true → later_lines t own conn false p now ≡ Passed
-  by true e = absurd (false≢true e)
-  by false e = passed-is (later_lines t own conn false p now) e
+passed-later t own conn p now h = (passed-parts p (later_lines t own conn false p now) (passed-is (first_lines t own conn false p now) h)).1
 
 -- a call with a job, for which the gateway has the role, is a bus call
 role-bus : (t : Tables) (w : Wire) (conn : ℕ) (p : Pending) → has_job_role w (job_of t conn p) ≡ true → is_bus_call p.call ≡ true
@@ -164,14 +159,27 @@ along-free (e ∷ es) f g sound free h = by (fine f e) refl h (along-free es) wh
   by None is h rest = absurd (none-some g (sym (along-none fine es) ∙ h))
   by (Some mid) is h rest = rest mid g (stays_sound-law f mid e sound is) (stays_free f mid e sound is free) h
 
+-- where the turn's list isn't whole the gateway has the address that it had as the turn began
+own-steady : (f : FineState) (u : Turn) → Stands f.state.tables f.before f.state.wire f.state.moment u → is_whole (turn_stand f u u.moves) ≡ false
+    → f.state.wire.own ≡ f.before.own
+own-steady f u s more =
+    ap (λ (w : Wire). w.own) s.made
+    ∙ own-stays f.before s.asked.call s.job u.moves s.on_plan
+    (sym (ap is_whole (turn-stand f.state.tables f.before f.state.wire f.state.moment u s u.moves)) ∙ more)
+
 pub turn_free_law-holds : TurnFreeLaw
 turn_free_law-holds abort_port h f u p l is turn at on =
     let t = f.state.tables in
-    let made = gather_law-holds abort_port h f is in
-    let plain = legal-plain abort_port (gather h) (before_turn f made.0) made.1 in
+    let gathered = fine-gathers abort_port h f is in
+    let plain = legal-plain abort_port (gather h) (before_turn f gathered.moment) gathered.reaches in
     let named = link-is t u.connection p.call l on in
+    let reachable = found-has (IsLinkReachable f.before.own) (λ k. (k.number == named.0) && (k.connection == u.connection)) t.links.links l named.2 plain.reachable in
+    let stands : Stands t f.before f.state.wire f.state.moment u = subst (TurnStands t f.before f.state.wire f.state.moment) turn gathered.sound.turn_stands in
     record {
       unlocked = along-free h (first_fine abort_port) f (first-sound abort_port) (none-free (first_fine abort_port).state.tables) is u p l turn at on;
-      reachable = found-has (IsLinkReachable f.before.own) (λ k. (k.number == named.0) && (k.connection == u.connection)) t.links.links l named.2 plain.reachable;
+      reachable = reachable;
       all_reachable = plain.reachable;
+      steady = own-steady f u stands;
+      reachable_now = λ more. subst (λ n. IsReachable n l.target) (sym (own-steady f u stands more)) reachable;
+      all_reachable_now = λ more. subst (λ n. All (IsLinkReachable n) t.links.links) (sym (own-steady f u stands more)) plain.reachable;
     }

@@ -8,7 +8,7 @@ use Rattle.vx_calls.specs.declared.codes.ErrorCode.TheVariants as code
 use Rattle.vx_calls.specs.declared.limits.TheConstants.{WRITE_MAX}
 use Rattle.vx_calls.specs.Call as call
 use Rattle.vx_calls.specs.Reply as reply
-use Rattle.vx_srq.specs.SrqState.{Front, Gone, channel_at}
+use Rattle.vx_rules.specs.SrqState.{Front, Gone, channel_at}
 use Rattle.vx_rules.specs.State.{State, first}
 use Rattle.vx_rules.specs.Entry.{Entry, Up, Arrive, Answer, Sample, Take}
 use Rattle.vx_rules.specs.Legal.{legal_state, queued_along}

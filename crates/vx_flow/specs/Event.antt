@@ -6,7 +6,7 @@ use Rattle.vx_calls.specs.declared.codes.ErrorCode.{ErrorCode}
 use Rattle.vx_calls.specs.Call.{Call}
 use Rattle.vx_calls.specs.Reply.{Reply}
 use Rattle.vx_488.specs.declared.transfers.Transfer.{Transfer}
-use Rattle.vx_srq.specs.SrqState.{Given}
+use Rattle.vx_rules.specs.SrqState.{Given}
 
 pub data Event : Type 0 where
   -- as the entries of the gateway of one thread, but without what the call's turn did

@@ -1,6 +1,6 @@
 -- All that is claimed of a list of interleaved events that are allowed, in one record.
 use Rattle.std.specs.Prelude.{◌≡◌, ◌≢◌, ◌≤◌, ℕ, Bool, true, false, List, [], ◌∷◌, ◌++◌, if◌then◌else◌, Option, Some}
-use Rattle.std.specs.List.{flat_map}
+use Rattle.std.specs.List.{All, flat_map}
 use Rattle.vx_calls.specs.declared.codes.ErrorCode.TheVariants as code
 use Rattle.vx_calls.specs.declared.targets.Target.TheVariants.{Interface, Device}
 use Rattle.vx_calls.specs.Call as call
@@ -10,12 +10,13 @@ use Rattle.vx_488.specs.declared.transfers.Transfer.{Transfer}
 use Rattle.vx_488.specs.Listening.{has_address}
 use Rattle.vx_488.specs.Heard.{reached, heard}
 use Rattle.vx_rules.specs.Table.{Link}
-use Rattle.vx_srq.specs.SrqState.{Channel, channel_at, handles_of, queued_on}
+use Rattle.vx_rules.specs.SrqState.{Channel, LinksRise, channel_at, handles_of, queued_on}
 use Rattle.vx_rules.specs.State.{State, first, pending_at, link_of}
 use Rattle.vx_rules.specs.Calls.{sets_end}
 use Rattle.vx_rules.specs.Entry.{Entry, Answer, Sample}
 use Rattle.vx_rules.specs.One.{one}
 use Rattle.vx_rules.specs.Legal.{legal_state, queued_along}
+use Rattle.vx_rules.specs.Sound.{IsOwned}
 use Rattle.vx_flow.specs.Event.{Event, Move}
 use Rattle.vx_flow.specs.FineState.{FineState, before_turn}
 use Rattle.vx_flow.specs.Gather.{gather}
@@ -70,13 +71,21 @@ OverflowCloses abort_port history = (front behind : List Entry) (s t : State) (n
     → s.tables.srq_state.level ≡ false → channel_at s.tables.srq_state conn ≡ Some c
     → channel_at t.tables.srq_state conn ≡ queued_on (handles_of s.tables.srq_state.enables conn) c
 
--- For a channel that lives at the end: the interrupts that were taken from it and then its outbox are, in order, the handles
--- that rises queued while it lived, with xids 1, 2, 3 and so on.
+-- At each front of the history, for a channel that lives there: the interrupts that were taken from it so far and then its outbox
+-- are, in order, the handles that rises queued while it lived, with xids 1, 2, 3 and so on. So the claim is of a channel that is
+-- closed later too, up to its end.
 abbrev pub IsQueued : ℕ → List Entry → Type 0
-IsQueued abort_port history = (s : State) (conn : ℕ) (c : Channel)
-    → legal_state abort_port history ≡ Some s → channel_at s.tables.srq_state conn ≡ Some c
-    → (handles : List (List ℕ)) × (flat_map (srqs_of conn c.number) history ≡ sent 1 c.program c.version handles)
-    × (handles ++ c.outbox ≡ queued_along conn c.number (Some (first abort_port)) history)
+IsQueued abort_port history = (front behind : List Entry) (s : State) (conn : ℕ) (c : Channel)
+    → history ≡ front ++ behind → legal_state abort_port front ≡ Some s → channel_at s.tables.srq_state conn ≡ Some c
+    → (handles : List (List ℕ)) × (flat_map (srqs_of conn c.number) front ≡ sent 1 c.program c.version handles)
+    × (handles ++ c.outbox ≡ queued_along conn c.number (Some (first abort_port)) front)
+
+-- At each front of the history: the enables stand in order of their links' numbers, so that no link has two, and each is of a
+-- live link of its connection. So what is due at a rise is one handle for each enabled link, in order of the links' numbers.
+abbrev pub EnablesInOrder : ℕ → List Entry → Type 0
+EnablesInOrder abort_port history = (front behind : List Entry) (s : State)
+    → history ≡ front ++ behind → legal_state abort_port front ≡ Some s
+    → LinksRise s.tables.srq_state.enables × All (IsOwned s.tables) s.tables.srq_state.enables
 
 pub record Headline (abort_port : ℕ) (h : List Event) : Type 0 where
   pub gathered : IsGathered abort_port h
@@ -86,6 +95,7 @@ pub record Headline (abort_port : ℕ) (h : List Event) : Type 0 where
   pub heard_on_interface : WritesHeardOnInterface abort_port (gather h)
   pub closes : OverflowCloses abort_port (gather h)
   pub queued : IsQueued abort_port (gather h)
+  pub enables : EnablesInOrder abort_port (gather h)
 
 -- all of it holds of every list of interleaved events that are allowed
 abbrev pub HeadlineLaw : Type 0

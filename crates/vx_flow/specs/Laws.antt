@@ -13,7 +13,7 @@ use Rattle.vx_488.specs.Listening.{has_address}
 use Rattle.vx_488.specs.Heard.{Byte, reached, heard}
 use Rattle.vx_rules.specs.Table.{Link}
 use Rattle.vx_rules.specs.Locks.{Lock, holder_of}
-use Rattle.vx_srq.specs.SrqState.{Channel, Srq, Front, channel_at, handles_of, queued_on}
+use Rattle.vx_rules.specs.SrqState.{Channel, Srq, Front, channel_at, handles_of, queued_on}
 use Rattle.vx_rules.specs.Lists.{along}
 use Rattle.vx_rules.specs.State.{Pending, State, first, pending_at, link_of}
 use Rattle.vx_rules.specs.Calls.{link_named, sets_end}
@@ -23,7 +23,7 @@ use Rattle.vx_rules.specs.One.{one}
 use Rattle.vx_rules.specs.Legal.{legal_state, queued_along}
 use Rattle.vx_flow.specs.Event.{Event, Move}
 use Rattle.vx_flow.specs.FineState.{Turn, FineState, first_fine, before_turn}
-use Rattle.vx_flow.specs.Fine.{fine, job_of}
+use Rattle.vx_flow.specs.Fine.{fine, job_of, turn_stand, is_whole}
 use Rattle.vx_flow.specs.Sound.{IsSound}
 use Rattle.vx_flow.specs.Poll.{at_moment}
 use Rattle.vx_flow.specs.Gather.{gather}
@@ -107,8 +107,8 @@ sent xid program version [] = []
 sent xid program version (handle ∷ handles) =
     record { xid = xid; program = program; version = version; handle = handle } ∷ sent ((xid + 1) % (2 ^ 32)) program version handles
 
--- For a channel that lives: the interrupts that were taken from it and then its outbox are, in order, the handles that rises
--- queued while it lived, with xids 1, 2, 3 and so on.
+-- For a channel that lives behind a history, which may be a front of another: the interrupts that were taken from it and then its
+-- outbox are, in order, the handles that rises queued while it lived, with xids 1, 2, 3 and so on.
 abbrev pub QueuedLaw : Type 0
 QueuedLaw = (abort_port : ℕ) (history : List Entry) (s : State) (conn : ℕ) (c : Channel)
     → legal_state abort_port history ≡ Some s → channel_at s.tables.srq_state conn ≡ Some c
@@ -140,16 +140,20 @@ CallStaysLaw = (f g : FineState) (e : Event) (u : Turn) (p : Pending) → IsSoun
 
 -- What holds of the turn under way from its beginning on, where it has made no transfer yet too. Of the link of its call: no lock
 -- of another link keeps it off its target. Of all live links: what each is to can be reached from the address that the gateway
--- had as the turn began, so that none is to a device at that address.
-pub record IsTurnFree (f : FineState) (l : Link) : Type 0 where
+-- had as the turn began, so that none is to a device at that address. Where the turn's list isn't whole the gateway has this
+-- address still, and so they can be reached from the address that it has now.
+pub record IsTurnFree (f : FineState) (u : Turn) (l : Link) : Type 0 where
   pub unlocked : holder_of f.state.tables.locks l.number l.target ≡ None
   pub reachable : IsReachable f.before.own l.target
   pub all_reachable : All (λ k. IsReachable f.before.own k.target) f.state.tables.links.links
+  pub steady : is_whole (turn_stand f u u.moves) ≡ false → f.state.wire.own ≡ f.before.own
+  pub reachable_now : is_whole (turn_stand f u u.moves) ≡ false → IsReachable f.state.wire.own l.target
+  pub all_reachable_now : is_whole (turn_stand f u u.moves) ≡ false → All (λ k. IsReachable f.state.wire.own k.target) f.state.tables.links.links
 
 abbrev pub TurnFreeLaw : Type 0
 TurnFreeLaw = (abort_port : ℕ) (h : List Event) (f : FineState) (u : Turn) (p : Pending) (l : Link)
     → fine_along abort_port h ≡ Some f → f.turn ≡ Some u → pending_at f.state.tables u.connection ≡ Some p
-    → named_link f.state.tables u.connection p.call ≡ OnLink l → IsTurnFree f l
+    → named_link f.state.tables u.connection p.call ≡ OnLink l → IsTurnFree f u l
 
 -- Events that are allowed from a state at a later moment are allowed at the earlier one, and lead to the same state, but for
 -- its moment, which is no later.

@@ -5,6 +5,8 @@ pub mod Sound
 pub mod Poll
 pub mod Gather
 pub mod Ways
+pub mod Does
+pub mod Frames
 pub mod Laws
 pub mod Headline
 pub mod ProvedLaws
@@ -17,7 +19,7 @@ pub use Rattle.vx_488.specs.Wire
 pub use Rattle.vx_plan.specs.Plan
 pub use Rattle.vx_plan.specs.Results
 pub use Rattle.vx_plan.specs.Roles
-pub use Rattle.vx_srq.specs.SrqState
+pub use Rattle.vx_rules.specs.SrqState
 pub use Rattle.vx_rules.specs.Calls
 pub use Rattle.vx_rules.specs.Checks
 pub use Rattle.vx_rules.specs.Decide

@@ -1,48 +1,56 @@
--- Laws of the state under interleaved events, proved.
-use Rattle.std.proofs.Common.{◌≡◌, ◌≢◌, true, Some, ◌≤◌, ℕ, Option, None, arith}
-use Rattle.std.proofs.lemmas.Bool.{false≢true}
-use Rattle.vx_lemmas.specs.Conditions.{chosen}
-use Rattle.vx_plan.specs.Plan.{Stand, Whole, Part, Off}
-use Rattle.vx_flow.specs.Fine.{is_on, comes_in_turn, fine_step, fine}
-use Rattle.vx_flow.specs.Event.{Event}
-use Rattle.vx_flow.specs.FineState.{FineState, Turn}
-use Rattle.vx_488.specs.declared.wire.Wire.{Wire}
-use Rattle.vx_rules.specs.State.{Tables}
-use Rattle.vx_flow.specs.Sound.{TurnStands}
-use Rattle.vx_flow.specs.Laws.{LaterSoundLaw}
-
--- a list that is on its plan isn't off it
-pub on-is : (s : Stand) → is_on s ≡ true → s ≢ Off
-on-is Whole h e = cc
-on-is Part h e = cc
-on-is Off h e = false≢true h
-
--- the event of a step that was allowed passes its own test
-pub step-made : (f g : FineState) (e : Event) → fine f e ≡ Some g → fine_step f e ≡ Some g
-step-made f g e h = (chosen (comes_in_turn f e f.turn) (fine_step f e) g h).1
-
--- what is kept of the turn under way is kept at a later moment
-pub later-stands : (t : Tables) (before now : Wire) (m m' : ℕ) (turn : Option Turn) → m ≤ m' → TurnStands t before now m turn → TurnStands t before now m' turn
-later-stands t before now m m' None le h = h
-later-stands t before now m m' (Some u) le h = record {
-  asked = h.asked;
-  link = h.link;
-  job = h.job;
-  call_at = h.call_at;
-  on_link = h.on_link;
-  has_job = h.has_job;
-  in_role = h.in_role;
-  made = h.made;
-  on_plan = h.on_plan;
-  came = h.came;
-  began = omega (arith, h.began, le);
-  passes = h.passes;
-  unmarked = h.unmarked;
-}
-
--- what holds between events holds at a later moment
-pub later-sound : LaterSoundLaw
-later-sound f now sound le = record {
-  turn_stands = later-stands f.state.tables f.before f.state.wire f.state.moment now f.turn le sound.turn_stands;
-  have_come = λ conn p at. let came = sound.have_come conn p at in omega (arith, came, le);
-}
+-- Laws of interleaved events, proved: what the crates above cite, each from the file of this folder that has its proof.
+pub mod Jobs
+pub mod Kept
+pub mod Calm
+pub mod Turning
+pub mod Ending
+pub mod Changes
+pub mod Deciding
+pub mod Replies
+pub mod Gathering
+pub mod Whom
+pub mod Making
+pub mod Plain
+pub mod Hearing
+pub mod Reaching
+pub mod Freely
+pub mod Interrupts
+pub mod Sending
+pub mod Earlier
+pub mod Ways
+pub mod ByLines
+pub mod Stepping
+pub mod Framing
+pub mod Later
+pub mod Headline
+-- exactly the events that are allowed do what `Does` says: `fine-does` and `does-fine` are its two ways
+pub use Rattle.vx_flow.specs.ProvedLaws.Stepping.{does_law-holds, fine-does, does-fine}
+-- the first lines let a call pass exactly where neither its mark, nor a check, nor a lock is against it; and whose turn is under way
+pub use Rattle.vx_flow.specs.ProvedLaws.ByLines.{admit, admitted-passes, turn-is, turn-own}
+-- an event changes what `Frame` says, and leaves the rest; so does each line of an answer; a mark leaves the call
+pub use Rattle.vx_flow.specs.ProvedLaws.Framing.{frame_law-holds, fine-frame, line-leaves, mark-call, another}
+-- events gather to a history of one thread; `gathers` has it from any state on, `fine-gathers` from the first, each with what holds
+-- between events
+pub use Rattle.vx_flow.specs.ProvedLaws.Gathering.{gather_law-holds, Gathers, gathers, fine-gathers, first-sound}
+-- what holds between events holds behind each one, and the call of a turn that is left stays
+pub use Rattle.vx_flow.specs.ProvedLaws.Gathering.{stays_sound-law, call_stays-law}
+-- and at a later moment; an event that is allowed is a step; a list on its plan isn't off it
+pub use Rattle.vx_flow.specs.ProvedLaws.Later.{later-sound, later-stands, step-made, on-is}
+-- events that are allowed at a later moment are allowed at an earlier one
+pub use Rattle.vx_flow.specs.ProvedLaws.Earlier.{earlier_law-holds}
+-- where the list of the turn under way stands, by what is kept of it; it isn't whole before another event than its answer
+pub use Rattle.vx_flow.specs.ProvedLaws.Kept.{turn-stand, open_cond}
+-- a list on the plan of known transfers begins them
+pub use Rattle.vx_flow.specs.ProvedLaws.Whom.{just-front}
+-- what holds of the own address, and of the one that a job takes, holds behind a list of the job's
+pub use Rattle.vx_flow.specs.ProvedLaws.Plain.{OwnHas, own-after}
+-- the ways in which a poll ends
+pub use Rattle.vx_flow.specs.ProvedLaws.Ways.{refused_law-holds, waiting_law-holds, in_turn_law-holds, no_role_law-holds, effect_law-holds, dial_law-holds}
+pub use Rattle.vx_flow.specs.ProvedLaws.Ways.{finished_law-holds, broken_law-holds, timeout_law-holds, held_law-holds, begun_law-holds, begins_law-holds}
+-- which channel a connection has behind each change of the state of service requests
+pub use Rattle.vx_flow.specs.ProvedLaws.Interrupts.{channel_of, channel-risen, channel-up, channel-down, channel-put, channel-taken}
+-- an answer in a history of one thread, in its parts
+pub use Rattle.vx_flow.specs.ProvedLaws.Making.{Answered, answer-parts}
+-- what a device hears of a write, and all that is claimed of interleaved events
+pub use Rattle.vx_flow.specs.ProvedLaws.Hearing.{device-holds}
+pub use Rattle.vx_flow.specs.ProvedLaws.Headline.{headline_law-holds}

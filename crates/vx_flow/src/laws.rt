@@ -3,6 +3,19 @@
 ghost use Rattle.vx_flow.specs.Ways.{RefusedLaw, WaitingLaw, InTurnLaw, NoRoleLaw, EffectLaw, DialLaw, FinishedLaw, BrokenLaw, TimeoutLaw, HeldLaw, BegunLaw, BeginsLaw};
 ghost use Rattle.vx_flow.specs.Laws.{GatherLaw, HeardLaw, HeardOnInterfaceLaw, EntriesFreeLaw, MovesFreelyLaw, ClosedLaw, QueuedLaw, FirstSoundLaw, StaysSoundLaw, LaterSoundLaw, CallStaysLaw, TurnFreeLaw, EarlierLaw};
 ghost use Rattle.vx_flow.specs.Headline.{HeadlineLaw};
+ghost use Rattle.vx_flow.specs.Does.{DoesLaw};
+ghost use Rattle.vx_flow.specs.Frames.{FrameLaw};
+
+/// Which events are allowed, and where each leads: exactly what `Does` says, of an answer line by line of the order of answers.
+pub fn does_law()
+    ensures { DoesLaw }
+{}
+
+/// What each event may change of the state, and what stays: the moment never falls; roles, calls, links, locks and service
+/// requests stay, but for those of the connection that the event is of, and for marks.
+pub fn frame_law()
+    ensures { FrameLaw }
+{}
 
 /// Interleaved events gather to a history of the gateway of one thread, which ends in their state before the turn under
 /// way, at their moment or an earlier one.
@@ -25,9 +38,10 @@ pub fn reached_law()
 {}
 
 /// What a client hears of the SRQ line. A rise closes exactly the interrupt channels whose outbox would have more than
-/// 1,024 entries, and queues nothing for them. For a channel that lives, the interrupts that were taken from it and then
-/// its outbox are, in order, the handles that rises queued while it lived, each once, with xids 1, 2, 3 and so on, modulo
-/// 2^32 (VXI-11, device_intr_srq).
+/// 1,024 entries, and queues nothing for them. For a channel that lives behind a history, the interrupts that were taken from
+/// it and then its outbox are, in order, the handles that rises queued while it lived, each once, with xids 1, 2, 3 and so on,
+/// modulo 2^32 (VXI-11, device_intr_srq). A front of a history is one too (`vx_rules::fronts_legal`), so this is of a channel
+/// that is gone at the end too, at each moment at which it lived.
 pub fn interrupt_law()
     ensures closed { ClosedLaw }
     ensures queued { QueuedLaw }
@@ -37,8 +51,9 @@ pub fn interrupt_law()
 /// history of the gateway of one thread. No move of a turn, and no answer or end of a connection in that history, reaches an
 /// address that another link's lock keeps. Of each write that is answered without an error the bytes are heard by the device
 /// to which the link is and by nobody else, or by each listener where it is to the interface. Each rise of SRQ closes exactly
-/// the interrupt channels whose outbox would have more than 1,024 entries, and a channel that lives has had and has in its
-/// outbox exactly the handles that rises queued, in order.
+/// the interrupt channels whose outbox would have more than 1,024 entries. At each front of the history, a channel that lives
+/// there has had and has in its outbox exactly the handles that rises queued, in order, whether it lives at the end or not; and
+/// the enables that rises go by stand in order of their links' numbers, each of a live link of its connection.
 pub fn headline_law()
     ensures { HeadlineLaw }
 {}
@@ -54,7 +69,7 @@ pub fn sound_law()
 
 /// What holds of the turn under way from its beginning on, where it has made no transfer yet too: no lock of another link keeps
 /// its call's link off its target, and no live link is to a device at the address (0 to 30) that the gateway had as the turn
-/// began.
+/// began. Where the turn's list isn't whole the gateway has this address still.
 pub fn turn_free_law()
     ensures { TurnFreeLaw }
 {}

@@ -4,6 +4,6 @@
 mod laws;
 
 pub use laws::{
-    earlier_law, gather_law, headline_law, heard_law, interrupt_law, poll_ways, reached_law,
-    sound_law, turn_free_law,
+    does_law, earlier_law, frame_law, gather_law, headline_law, heard_law, interrupt_law,
+    poll_ways, reached_law, sound_law, turn_free_law,
 };

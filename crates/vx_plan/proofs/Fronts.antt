@@ -14,8 +14,8 @@ use Rattle.vx_plan.specs.Plan.{Slot, This, AnyByte, Reading, Plan, done, is_stop
 use Rattle.vx_plan.specs.Results.{gots, last_of}
 use Rattle.vx_plan.specs.Places.{carries_data}
 use Rattle.vx_plan.specs.ProvedLaws.{same_transfer-is}
-use Rattle.vx_plan.proofs.Walks.{off-stays}
-use Rattle.vx_plan.proofs.Counts.{count-front-yes, count-front-no}
+use Rattle.vx_plan.specs.ProvedLaws.Walks.{off-stays}
+use Rattle.vx_plan.specs.ProvedLaws.Counts.{count-front-yes, count-front-no}
 
 -- how many transfers of a list have no data byte, and how many have one
 abbrev pub steps : Task → List Transfer → ℕ

@@ -24,7 +24,7 @@ use Rattle.vx_plan.specs.Tasks.{ended_poll, secondary_part, spd, unt, unl, mta, 
 use Rattle.vx_plan.specs.Results.{last_of, last_got}
 use Rattle.vx_plan.specs.Places.{carries_data, Reaches, IsNextMove, slot_wanted}
 use Rattle.vx_plan.specs.Moves.{IsStep, IsMoveAt, move_at, is_read_over, poll_tail, tail_after}
-use Rattle.vx_plan.proofs.Walks.{off-stays}
+use Rattle.vx_plan.specs.ProvedLaws.Walks.{off-stays}
 use Rattle.vx_plan.proofs.Fronts.{steps, moves, all_fixed, Within, Beyond, walk-front, walk-done, is_data, walk-data, walk-read, steps-data, moves-data}
 
 -- ---- transfers without data bytes
@@ -201,11 +201,6 @@ puts-at end (b ∷ c ∷ bs) zero h =
 puts-at end (b ∷ c ∷ bs) (suc n) h =
     let same : (n + 1 == suc (length bs)) ≡ (suc n + 1 == suc (suc (length bs))) = grind (arith, nat_tests) in
     puts-at end (c ∷ bs) n (omega arith) ∙ ap (λ e. Some (Put (slice_index (c ∷ bs) n) (end && e))) same
-
-pub length-puts : (end : Bool) (bytes : List ℕ) → length (puts end bytes) ≡ length bytes
-length-puts end [] = refl
-length-puts end (b ∷ []) = refl
-length-puts end (b ∷ c ∷ bs) = ap suc (length-puts end (c ∷ bs))
 
 -- all that a write puts is data
 pub puts-data : (task : Task) (end : Bool) (bytes : List ℕ) → list_all (is_data task) (map This (puts end bytes)) ≡ true

@@ -1,24 +1,15 @@
 -- What the headline's claims say of the worked lists.
-use Rattle.std.proofs.Common.{◌≡◌, ℕ, ◌==◌, Bool, true, false, List, [], ◌∷◌, ◌++◌, Option, Some, None, refl, sym, ap, subst, arith}
-use Rattle.std.specs.Prelude.{if◌then◌else◌}
-use Rattle.std.specs.Option.{option_and_then}
-use Rattle.std.specs.List.{flat_map}
-use Rattle.std.proofs.lemmas.Bool.{true≢false, eqb-true}
+use Rattle.std.proofs.Common.{ℕ, ◌==◌, Bool, true, false, List, [], ◌∷◌, Option, Some, None, refl, sym, ap, arith}
+use Rattle.std.proofs.lemmas.Bool.{true≢false}
 use Rattle.vx_calls.specs.declared.targets.Target.TheVariants.{Device}
 use Rattle.vx_488.specs.declared.transfers.Transfer.TheVariants.{Put}
 use Rattle.vx_488.specs.Heard.{Byte}
-use Rattle.vx_locks.specs.Locks.{Lock}
-use Rattle.vx_srq.specs.SrqState.{Channel, ChannelSlot, channel_at}
-use Rattle.vx_rules.specs.State.{State}
-use Rattle.vx_rules.specs.State as state
-use Rattle.vx_rules.specs.Legal.{queued_along}
+use Rattle.vx_rules.specs.Locks.{Lock}
 use Rattle.vx_flow.specs.Event.{Event, Arrive, Move}
 use Rattle.vx_flow.specs.Gather.{gather}
-use Rattle.vx_flow.specs.Laws.{srqs_of, sent}
-use Rattle.vx_flow.specs.Headline.{MovesFreely, EntriesFree, WritesHeard, IsQueued}
+use Rattle.vx_flow.specs.Headline.{MovesFreely, EntriesFree, WritesHeard}
 use Rattle.vx_test_flow.specs.Lists.{changed, first, behind, puts, write}
 use Rattle.vx_test_flow.specs.Turns.{shared, both, address, entry_2}
-use Rattle.vx_test_flow.specs.Interrupts.{handle, rises}
 use Rattle.vx_test_flow.specs.Claims.{trespass}
 
 -- whether END stands on the last of some bytes
@@ -71,38 +62,3 @@ pub gathers_to_locked : EntriesFree 9011 (gather trespass) → ⊥
 gathers_to_locked claim = true≢false
     (claim (gather (first 14 trespass)) [] _ _ refl refl 1 (address 7) (omega arith) 0 kept (omega arith)
     (λ e. true≢false (ap is_first e)))
-
--- the channel behind the two takes
-abbrev pub channel : Channel
-channel = record { number = 1; program = 0x607B1; version = 1; next_xid = 3; outbox = [] }
-
-abbrev pub channel_or : Channel → Option Channel → Channel
-channel_or c None = c
-channel_or c (Some d) = d
-
-abbrev pub channel_in : Option ChannelSlot → Option Channel
-channel_in slot = option_and_then (λ p. p.channel) slot
-
--- connection 1 alone has one
-only-one : (conn : ℕ) (b : Bool) (c : Channel) → (1 == conn) ≡ b
-    → channel_in (if b then Some (record { connection = 1; channel = Some channel }) else None) ≡ Some c
-    → (conn ≡ 1) × (c ≡ channel)
-only-one conn true c is at = (sym (eqb-true 1 conn is), sym (ap (channel_or channel) at))
-only-one conn false c is at = cc
-
-abbrev pub state_or : State → Option State → State
-state_or s None = s
-state_or s (Some t) = t
-
--- what the claim says of a channel
-abbrev says : ℕ → Channel → Type 0
-says conn c = (handles : List (List ℕ))
-    × (flat_map (srqs_of conn c.number) (gather rises) ≡ sent 1 c.program c.version handles)
-    × (handles ++ c.outbox ≡ queued_along conn c.number (Some (state.first 9011)) (gather rises))
-
-pub queued : IsQueued 9011 (gather rises)
-queued s conn c legal at =
-    let is = sym (ap (state_or s) legal) in
-    let here = subst (λ (t : State). channel_at t.tables.srq_state conn ≡ Some c) is at in
-    let only = only-one conn (1 == conn) c refl here in
-    subst (λ n. says n c) (sym only.0) (subst (λ d. says 1 d) (sym only.1) (handle ∷ handle ∷ [], refl, refl))

@@ -1,13 +1,13 @@
 -- A dial that makes an interrupt channel, and the interrupts that rises of SRQ queue on it.
-use Rattle.std.specs.Prelude.{◌≡◌, ℕ, Bool, true, false, List, [], ◌∷◌, Option, Some, None}
+use Rattle.std.specs.Prelude.{◌≡◌, ℕ, Bool, true, false, List, [], ◌∷◌, ◌++◌, map, Option, Some, None}
 use Rattle.vx_calls.specs.declared.calls.Role.TheVariants as role
 use Rattle.vx_calls.specs.declared.codes.ErrorCode.{ErrorCode}
 use Rattle.vx_calls.specs.declared.codes.ErrorCode.TheVariants as code
 use Rattle.vx_calls.specs.Call.{Call}
 use Rattle.vx_calls.specs.Call as call
 use Rattle.vx_calls.specs.Reply as reply
-use Rattle.vx_srq.specs.SrqState.{Given, Front, Empty, Gone, channel_at}
-use Rattle.vx_flow.specs.Event.{Event, Up, Arrive, Answer, Sample, Take, Dial}
+use Rattle.vx_rules.specs.SrqState.{Given, Front, Empty, Gone, Enable, channel_at}
+use Rattle.vx_flow.specs.Event.{Event, Up, Down, Arrive, Answer, Sample, Take, Dial}
 use Rattle.vx_test_flow.specs.Lists.{changed, first, refused_at, part, device, linked}
 
 -- create_intr_chan to port 1025, of this family (0 is TCP), for calls of program 0x607B1, version 1
@@ -56,8 +56,12 @@ pub record EachAnswerHasItsDial : Type 0 where
 abbrev pub handle : List ℕ
 handle = 7 ∷ 9 ∷ []
 
+-- an interrupt with this handle, and one of link 1
+abbrev pub interrupt_of : ℕ → List ℕ → Given
+interrupt_of xid given = Front (record { xid = xid; program = 0x607B1; version = 1; handle = given })
+
 abbrev pub interrupt : ℕ → Given
-interrupt xid = Front (record { xid = xid; program = 0x607B1; version = 1; handle = handle })
+interrupt xid = interrupt_of xid handle
 
 -- connection 1 has a channel, and its link is enabled; SRQ rises twice, and each interrupt is taken
 abbrev pub rises : List Event
@@ -71,6 +75,27 @@ rises =
     ∷ Sample 40 true ∷ Take 1 1 (interrupt 1) ∷ Sample 41 true
     -- 12 to 14
     ∷ Sample 42 false ∷ Sample 43 true ∷ Take 1 1 (interrupt 2) ∷ [])
+
+-- then the connection goes, and its channel with it
+abbrev pub rises_gone : List Event
+rises_gone = rises ++ Down 1 ∷ []
+
+-- the handle of link 2
+abbrev pub handle_2 : List ℕ
+handle_2 = 8 ∷ []
+
+-- connection 1 has two links; the one that was made later is enabled first, and SRQ rises once
+abbrev pub two_links : List Event
+two_links =
+    -- 1 to 5
+    Up 1 role.Core ∷ linked 1 (device 53) 1 10 (linked 1 (device 55) 2 11
+    -- 6 to 9
+    (Arrive 1 (call.EnableSrq 2 true handle_2) 20 ∷ settled 20 None code.Ok
+    ∷ Arrive 1 (call.EnableSrq 1 true handle) 21 ∷ settled 21 None code.Ok
+    -- 10 to 12
+    ∷ Arrive 1 (intr 0) 30 ∷ Dial 1 30 ∷ settled 31 (Some true) code.Ok
+    -- 13 to 15
+    ∷ Sample 40 true ∷ Take 1 1 (interrupt_of 1 handle) ∷ Take 1 1 (interrupt_of 2 handle_2) ∷ []))
 
 pub record EachRiseQueuesOne : Type 0 where
   pub allowed : refused_at rises ≡ None
@@ -89,3 +114,8 @@ pub record EachRiseQueuesOne : Type 0 where
   pub other_channel : refused_at (changed 10 (Take 1 2 Gone) rises) ≡ Some 14
   -- an outbox that has one isn't empty
   pub not_empty : refused_at (changed 10 (Take 1 1 Empty) rises) ≡ Some 10
+  -- two links have one each, in order of the links' numbers
+  pub both_links : refused_at two_links ≡ None
+  pub in_order : part (λ f. map (λ (e : Enable). e.link) f.state.tables.srq_state.enables) two_links ≡ Some (1 ∷ 2 ∷ [])
+  pub later_first : refused_at (changed 14 (Take 1 1 (interrupt_of 1 handle_2)) two_links) ≡ Some 14
+  pub one_twice : refused_at (changed 15 (Take 1 1 (interrupt_of 2 handle)) two_links) ≡ Some 15

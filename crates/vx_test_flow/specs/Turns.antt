@@ -1,16 +1,17 @@
--- Two connections write, each to its device: one turn at a time on the bus.
+-- Two connections write, each to its device: one turn at a time on the bus. And a turn that gives the gateway a new bus address.
 use Rattle.std.specs.Prelude.{◌≡◌, ℕ, true, false, List, [], ◌∷◌, Some, None}
 use Rattle.vx_calls.specs.declared.calls.Role.TheVariants as role
 use Rattle.vx_calls.specs.declared.codes.ErrorCode.TheVariants as code
+use Rattle.vx_calls.specs.Call as call
 use Rattle.vx_calls.specs.Reply as reply
 use Rattle.vx_488.specs.declared.transfers.Addr.{Addr}
 use Rattle.vx_488.specs.declared.transfers.Transfer.{Transfer}
-use Rattle.vx_488.specs.declared.transfers.Transfer.TheVariants.{Cmd, Put}
+use Rattle.vx_488.specs.declared.transfers.Transfer.TheVariants.{Cmd, Put, Own}
 use Rattle.vx_rules.specs.Entry as entry
-use Rattle.vx_flow.specs.Event.{Event, Up, Down, Arrive, Answer, Sample, Begin, Move}
+use Rattle.vx_flow.specs.Event.{Event, Up, Down, Arrive, Sample, Begin, Move}
 use Rattle.vx_flow.specs.FineState.{Turn}
 use Rattle.vx_flow.specs.Gather.{gather}
-use Rattle.vx_test_flow.specs.Lists.{changed, first, behind, refused_at, part, device, linked, puts, answered, write}
+use Rattle.vx_test_flow.specs.Lists.{changed, first, behind, refused_at, part, device, interface, linked, puts, answered, write}
 
 -- connection 1 writes AB with END to device 5 in two moves, and connection 2 then C with END to device 7
 abbrev pub shared : List Event
@@ -37,6 +38,16 @@ both = Cmd 0x3F ∷ Cmd 0x40 ∷ Cmd 0x25 ∷ Put 65 false ∷ Put 66 true ∷ [
 
 abbrev pub address : ℕ → Addr
 address p = record { p = p; s = None }
+
+-- connection 1 gives the gateway the bus address 7, by a device_docmd on the interface
+abbrev pub bus_address : List Event
+bus_address =
+    -- 1 to 3
+    Up 1 role.Core ∷ linked 1 interface 1 10
+    -- 4 to 6
+    (Arrive 1 (call.Docmd 1 0 1000 0 0x2000A true 4 (0 ∷ 0 ∷ 0 ∷ 7 ∷ [])) 20 ∷ Begin 1 21 ∷ Move 1 (Own 7 ∷ [])
+    -- 7
+    ∷ answered 1 22 (reply.Docmd code.Ok (0 ∷ 0 ∷ 0 ∷ 7 ∷ [])) ∷ [])
 
 pub record OneTurnAtATime : Type 0 where
   -- each event is allowed
@@ -79,6 +90,12 @@ pub record OneTurnAtATime : Type 0 where
   pub begun_before : refused_at (changed 9 (Begin 1 20) shared) ≡ Some 9
   pub sampled_before : refused_at (changed 11 (Sample 21 false) shared) ≡ Some 11
   pub answered_before : refused_at (changed 13 (answered 1 22 (reply.Write code.Ok 2)) shared) ≡ Some 13
+  -- the own address is that of the beginning until the turn's list is whole, and another one where that is a new bus address
+  pub new_address : refused_at bus_address ≡ None
+  pub own_at_first : part (λ f. f.state.wire.own) (first 5 bus_address) ≡ Some 0
+  pub own_before : part (λ f. f.before.own) (first 6 bus_address) ≡ Some 0
+  pub own_now : part (λ f. f.state.wire.own) (first 6 bus_address) ≡ Some 7
+  pub own_unmoved : part (λ f. f.state.wire.own) (first 10 shared) ≡ Some 0
 
 -- the entry of an answer to connection 1 whose turn began then and made these transfers, and that of the other's
 abbrev pub entry_1 : ℕ → ℕ → List Transfer → entry.Entry

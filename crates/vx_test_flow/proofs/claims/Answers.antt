@@ -1,8 +1,9 @@
 use Rattle.std.proofs.Common.{refl}
 use Rattle.vx_test_flow.specs.Turns.{shared}
 use Rattle.vx_test_flow.specs.Locks.{beside, done}
+use Rattle.vx_test_flow.specs.Interrupts.{rises_gone, two_links}
 use Rattle.vx_calls.specs.Call as call
-use Rattle.vx_test_flow.proofs.Claimed.{end_unasked, no_end, other_device, moves_to_locked, gathers_to_locked, queued}
+use Rattle.vx_test_flow.proofs.Claimed.{end_unasked, no_end, other_device, moves_to_locked, gathers_to_locked}
 use Rattle.vx_test_flow.proofs.claims.Goals as goal
 
 -- what holds of each list that is allowed holds of these
@@ -15,5 +16,9 @@ returns c = record {
   free = (c.headline_law.ensures 9011 (beside (call.Lock 3 0 0) done) _ refl).moves_free;
   moves_to_locked = moves_to_locked;
   gathers_to_locked = gathers_to_locked;
-  queued = queued;
+  queued = (c.headline_law.ensures 9011 rises_gone _ refl).queued;
+  gone = refl;
+  taken = refl;
+  due = refl;
+  enables = (c.headline_law.ensures 9011 two_links _ refl).enables;
 }

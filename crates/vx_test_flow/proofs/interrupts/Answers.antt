@@ -31,4 +31,8 @@ returns-clause-rises c = record {
   disabled = refl;
   other_channel = refl;
   not_empty = refl;
+  both_links = refl;
+  in_order = refl;
+  later_first = refl;
+  one_twice = refl;
 }

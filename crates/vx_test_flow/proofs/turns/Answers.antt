@@ -30,6 +30,11 @@ returns-clause-events c = record {
   begun_before = refl;
   sampled_before = refl;
   answered_before = refl;
+  new_address = refl;
+  own_at_first = refl;
+  own_before = refl;
+  own_now = refl;
+  own_unmoved = refl;
 }
 
 pub returns-clause-entries : goal.returns-clause-entries

@@ -1,4 +1,4 @@
-use Rattle.vx_flow.proofs.Earlier.{earlier_law-holds}
+use Rattle.vx_flow.specs.ProvedLaws.Earlier.{earlier_law-holds}
 use Rattle.vx_flow.proofs.laws.earlier_law.Goals as goal
 
 pub returns : goal.returns

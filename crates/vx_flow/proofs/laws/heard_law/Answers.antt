@@ -1,4 +1,4 @@
-use Rattle.vx_flow.proofs.Hearing.{device-holds, interface-holds}
+use Rattle.vx_flow.specs.ProvedLaws.Hearing.{device-holds, interface-holds}
 use Rattle.vx_flow.proofs.laws.heard_law.Goals as goal
 
 pub returns : goal.returns

@@ -1,5 +1,5 @@
-use Rattle.vx_flow.proofs.Interrupts.{closed_law-holds}
-use Rattle.vx_flow.proofs.Sending.{queued_law-holds}
+use Rattle.vx_flow.specs.ProvedLaws.Interrupts.{closed_law-holds}
+use Rattle.vx_flow.specs.ProvedLaws.Sending.{queued_law-holds}
 use Rattle.vx_flow.proofs.laws.interrupt_law.Goals as goal
 
 pub returns-clause-closed : goal.returns-clause-closed

@@ -1,4 +1,4 @@
-use Rattle.vx_flow.proofs.Ways.{refused_law-holds, waiting_law-holds, in_turn_law-holds, no_role_law-holds, effect_law-holds, dial_law-holds, finished_law-holds, broken_law-holds, timeout_law-holds, held_law-holds, begun_law-holds, begins_law-holds}
+use Rattle.vx_flow.specs.ProvedLaws.Ways.{refused_law-holds, waiting_law-holds, in_turn_law-holds, no_role_law-holds, effect_law-holds, dial_law-holds, finished_law-holds, broken_law-holds, timeout_law-holds, held_law-holds, begun_law-holds, begins_law-holds}
 use Rattle.vx_flow.proofs.laws.poll_ways.Goals as goal
 
 pub returns-clause-refused : goal.returns-clause-refused

@@ -1,4 +1,4 @@
-use Rattle.vx_flow.proofs.Freely.{entries-hold, moves-hold}
+use Rattle.vx_flow.specs.ProvedLaws.Freely.{entries-hold, moves-hold}
 use Rattle.vx_flow.proofs.laws.reached_law.Goals as goal
 
 pub returns : goal.returns

@@ -1,4 +1,4 @@
-use Rattle.vx_flow.proofs.Gathering.{stays_sound-law, call_stays-law}
+use Rattle.vx_flow.specs.ProvedLaws.Gathering.{stays_sound-law, call_stays-law}
 use Rattle.vx_flow.proofs.laws.sound_law.Goals as goal
 
 pub returns-clause-stays : goal.returns-clause-stays

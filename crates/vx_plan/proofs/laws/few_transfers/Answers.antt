@@ -1,4 +1,4 @@
-use Rattle.vx_plan.proofs.Turns.{bound-law}
+use Rattle.vx_plan.specs.ProvedLaws.Turns.{bound-law}
 use Rattle.vx_plan.proofs.laws.few_transfers.Goals as goal
 
 pub returns : goal.returns

@@ -1,4 +1,4 @@
-use Rattle.vx_plan.proofs.Turns.{own_stays-law}
+use Rattle.vx_plan.specs.ProvedLaws.Turns.{own_stays-law}
 use Rattle.vx_plan.proofs.laws.own_stays.Goals as goal
 
 pub returns : goal.returns

@@ -1,4 +1,4 @@
-use Rattle.vx_plan.proofs.Turns.{place-goes_on}
+use Rattle.vx_plan.specs.ProvedLaws.Turns.{place-goes_on}
 use Rattle.vx_plan.proofs.laws.place_goes_on.Goals as goal
 
 pub returns : goal.returns

@@ -1,4 +1,4 @@
-use Rattle.vx_plan.proofs.Walks.{whole-law}
+use Rattle.vx_plan.specs.ProvedLaws.Walks.{whole-law}
 use Rattle.vx_plan.proofs.laws.whole_lists.Goals as goal
 
 pub returns : goal.returns

@@ -1,0 +1,173 @@
+-- Events that are allowed at a later moment are allowed at an earlier one.
+use Rattle.std.proofs.Common.{◌≡◌, ◌≤◌, ◌==◌, ℕ, Bool, true, false, cond, [], ◌∷◌, ◌++◌, Option, Some, None, refl, sym, ap, ◌∙◌, arith}
+use Rattle.std.specs.Prelude.{nat_le, is_none, is_some, ◌&&◌}
+use Rattle.std.specs.Option.{option_map, option_and_then}
+use Rattle.vx_lemmas.specs.Conditions.{chosen}
+use Rattle.vx_calls.specs.declared.calls.Role.TheVariants as role
+use Rattle.vx_calls.specs.Reply.{Reply, same_reply}
+use Rattle.vx_calls.specs.ErrorCode.{same_error}
+use Rattle.vx_rules.specs.SrqState.{given, taken, sampled}
+use Rattle.vx_488.specs.Wire.{wire_after}
+use Rattle.std.proofs.lemmas.Bool.{and_parts, and_from, cond-true, leb-true, le-leb}
+use Rattle.std.proofs.lemmas.Option.{none-some, same_Some}
+use Rattle.vx_rules.specs.Lists.{along}
+use Rattle.vx_rules.specs.Decide.{Outside, decide}
+use Rattle.vx_rules.specs.State.{Pending, Tables, State, pending_at, connection_at, lives_as, is_idle, has_room, with_pending, with_connection, without_connection}
+use Rattle.vx_rules.specs.One.{may_wait, arrived, answer, answered, answer_to, if_reply, same_given, abort_reply, abort_tables}
+use Rattle.vx_flow.specs.Event.{Event, Up, Down, Arrive, Answer, Abort, Sample, Take, Begin, Move, Dial}
+use Rattle.vx_flow.specs.FineState.{FineState}
+use Rattle.vx_flow.specs.Fine.{comes_in_turn, fine_after, fine_step, fine, is_answered, outside, answered_fine, wire_for, may_begin, may_dial, may_move, without_dial}
+use Rattle.vx_flow.specs.Poll.{at_moment}
+use Rattle.vx_flow.specs.Laws.{EarlierLaw}
+use Rattle.vx_rules.specs.ListLaws.{along-none}
+
+-- an event leads from the earlier moment to the same state, but for its moment
+abbrev Leads : FineState → Option FineState → FineState → Type 0
+Leads f found g = (moment : ℕ) × (found ≡ Some (at_moment g moment)) × (moment ≤ g.state.moment) × (f.state.moment ≤ moment)
+
+-- a test that passes at the earlier moment where it does at the later one, and then this moment has come
+timed : (f g : FineState) (now told : ℕ) (before after : Bool) (found : Option FineState) → f.state.moment ≤ now → (after ≡ true → (before ≡ true) × (now ≤ told))
+    → cond after found None ≡ Some g → (found ≡ Some g → g.state.moment ≡ told) → Leads f (cond before found None) g
+timed f g now told before after found le lets h is =
+    let parts = chosen after found g h in
+    let let_so = lets parts.0 in
+    (g.state.moment, cond-true before found None let_so.0 ∙ parts.1, omega arith, omega (arith, le, let_so.1, is parts.1))
+
+-- the tests of events with a moment
+first-test : (early late told : ℕ) (rest : Bool) → early ≤ late → (nat_le late told && rest) ≡ true → ((nat_le early told && rest) ≡ true) × (late ≤ told)
+first-test early late told rest le h =
+    let tests = and_parts (nat_le late told) rest h in
+    let later = leb-true late told tests.0 in
+    (and_from (nat_le early told) rest (le-leb early told (omega (arith, le, later))) tests.1, later)
+
+only-test : (early late told : ℕ) → early ≤ late → nat_le late told ≡ true → (nat_le early told ≡ true) × (late ≤ told)
+only-test early late told le h = let later = leb-true late told h in (le-leb early told (omega (arith, le, later)), later)
+
+second-test : (early late told : ℕ) (first rest : Bool) → early ≤ late → (first && nat_le late told && rest) ≡ true
+    → ((first && nat_le early told && rest) ≡ true) × (late ≤ told)
+second-test early late told first rest le h =
+    let tests = and_parts (first && nat_le late told) rest h in
+    let both = and_parts first (nat_le late told) tests.0 in
+    let later = leb-true late told both.1 in
+    (and_from (first && nat_le early told) rest (and_from first (nat_le early told) both.0 (le-leb early told (omega (arith, le, later)))) tests.1, later)
+
+third-test : (early late told : ℕ) (second rest : Bool) → early ≤ late → (nat_le late told && second && rest) ≡ true
+    → ((nat_le early told && second && rest) ≡ true) × (late ≤ told)
+third-test early late told second rest le h =
+    let tests = and_parts (nat_le late told && second) rest h in
+    let both = first-test early late told second le tests.0 in
+    (and_from (nat_le early told && second) rest both.0 tests.1, both.1)
+
+-- a test without one
+untimed : (f g : FineState) (now : ℕ) (test : Bool) (found : FineState) → f.state.moment ≤ now → found.state.moment ≡ now
+    → cond test (Some found) None ≡ Some g → Leads f (cond test (Some (at_moment found f.state.moment)) None) g
+untimed f g now true found le is h =
+    let same = same_Some found g h in
+    (f.state.moment, ap (λ x. Some (at_moment x f.state.moment)) same, omega (arith, le, is, ap (λ (x : FineState). x.state.moment) same), omega arith)
+untimed f g now false found le is h = cc
+
+-- ---- events
+
+-- an entry of one thread without a moment of its own
+calm-one : (f g : FineState) (now : ℕ) (e : Event) (test : Bool) (s : State) → f.state.moment ≤ now → s.moment ≡ now
+    → option_map (fine_after f e f.dialed) (cond test (Some s) None) ≡ Some g
+    → Leads f (option_map (fine_after f e f.dialed) (cond test (Some (record s { moment = f.state.moment })) None)) g
+calm-one f g now e true s le is h = untimed f g now true (fine_after f e f.dialed s) le is h
+calm-one f g now e false s le is h = cc
+
+-- and one with a moment
+timed-one : (f g : FineState) (now told : ℕ) (e : Event) (before after : Bool) (s : State) → f.state.moment ≤ now → s.moment ≡ told
+    → (after ≡ true → (before ≡ true) × (now ≤ told)) → option_map (fine_after f e f.dialed) (cond after (Some s) None) ≡ Some g
+    → Leads f (option_map (fine_after f e f.dialed) (cond before (Some s) None)) g
+timed-one f g now told e before true s le is lets h =
+    let let_so = lets refl in (
+      g.state.moment,
+      ap (option_map (fine_after f e f.dialed)) (cond-true before (Some s) None let_so.0) ∙ h,
+      omega arith,
+      omega (arith, le, let_so.1, is, ap (λ (y : FineState). y.state.moment) (same_Some (fine_after f e f.dialed s) g h)),
+    )
+timed-one f g now told e before false s le is lets h = cc
+
+-- an answer is given at its moment
+answered-moment : (f g : FineState) (e : Event) (conn told : ℕ) (s : State) (o : Outside) (reply : Reply)
+    → option_map (answered_fine f e conn) (option_and_then (if_reply reply) (answer s conn told o)) ≡ Some g → g.state.moment ≡ told
+answered-moment f g e conn told s o reply h = by_call (pending_at s.tables conn) h where
+  by_same : (d : Reply × Tables) (same : Bool) → option_map (answered_fine f e conn) (cond same (Some (answered s conn told o.moves d).1) None) ≡ Some g
+      → g.state.moment ≡ told
+  by_same d true x = sym (ap (λ (y : FineState). y.state.moment) (same_Some (answered_fine f e conn (answered s conn told o.moves d).1) g x))
+  by_same d false x = cc
+
+  by_reply : (d : Option (Reply × Tables))
+      → option_map (answered_fine f e conn) (option_and_then (if_reply reply) (option_map (answered s conn told o.moves) d)) ≡ Some g → g.state.moment ≡ told
+  by_reply None x = cc
+  by_reply (Some d) x = by_same d (same_reply d.0 reply) x
+
+  by_call : (p : Option Pending)
+      → option_map (answered_fine f e conn) (option_and_then (if_reply reply) (option_and_then (answer_to s conn told o) p)) ≡ Some g → g.state.moment ≡ told
+  by_call None x = cc
+  by_call (Some p) x = by_reply (decide s.tables s.wire conn p told o) x
+
+step-earlier : (e : Event) (f g : FineState) (now : ℕ) → f.state.moment ≤ now → fine_step (at_moment f now) e ≡ Some g → Leads f (fine_step f e) g
+step-earlier (Up conn r) f g now le h =
+    calm-one f g now (Up conn r) ((conn == f.state.tables.next_connection) && has_room f.state.tables r)
+    (record f.state { tables = with_connection f.state.tables r; moment = now }) le refl h
+step-earlier (Abort conn lid told) f g now le h =
+    calm-one f g now (Abort conn lid told) (lives_as f.state.tables conn role.Abort && same_error (abort_reply f.state.tables lid) told)
+    (record f.state { tables = abort_tables f.state.tables lid; moment = now }) le refl h
+step-earlier (Take conn chan told) f g now le h =
+    calm-one f g now (Take conn chan told) (is_some (connection_at f.state.tables conn) && same_given (given f.state.tables.srq_state conn chan) told)
+    (record f.state { tables = record f.state.tables { srq_state = taken f.state.tables.srq_state conn chan }; moment = now }) le refl h
+step-earlier (Down conn) f g now le h =
+    untimed f g now (is_some (connection_at f.state.tables conn))
+    (fine_after f (Down conn) (without_dial f.dialed conn) (record f.state { tables = without_connection f.state.tables conn; moment = now })) le refl h
+step-earlier (Move conn moves) f g now le h =
+    untimed f g now (may_move f conn moves f.turn)
+    (fine_after f (Move conn moves) f.dialed (record f.state { wire = wire_after f.state.wire moves; moment = now })) le refl h
+step-earlier (Begin conn told) f g now le h =
+    let found : FineState = record (fine_after f (Begin conn told) f.dialed (record f.state { moment = told })) { before = f.state.wire } in
+    let rest = may_begin f.state conn told (pending_at f.state.tables conn) in
+    timed f g now told (is_none f.turn && nat_le f.state.moment told && rest) (is_none f.turn && nat_le now told && rest) (Some found) le
+    (second-test f.state.moment now told (is_none f.turn) rest le) h (λ is. ap (λ (y : FineState). y.state.moment) (sym (same_Some found g is)))
+step-earlier (Dial conn told) f g now le h =
+    let found : FineState = fine_after f (Dial conn told) (without_dial f.dialed conn ++ conn ∷ []) (record f.state { moment = told }) in
+    let rest = may_dial f.state conn told (pending_at f.state.tables conn) in
+    timed f g now told (nat_le f.state.moment told && rest) (nat_le now told && rest) (Some found) le
+    (first-test f.state.moment now told rest le) h (λ is. ap (λ (y : FineState). y.state.moment) (sym (same_Some found g is)))
+step-earlier (Sample told srq) f g now le h =
+    timed-one f g now told (Sample told srq) (nat_le f.state.moment told) (nat_le now told)
+    (record f.state { tables = record f.state.tables { srq_state = sampled f.state.tables.srq_state srq }; moment = told }) le refl
+    (only-test f.state.moment now told le) h
+step-earlier (Arrive conn asked told) f g now le h =
+    timed-one f g now told (Arrive conn asked told) (nat_le f.state.moment told && is_idle f.state.tables conn && may_wait asked)
+    (nat_le now told && is_idle f.state.tables conn && may_wait asked)
+    (record f.state { tables = with_pending f.state.tables conn (Some (arrived asked told)); moment = told }) le refl
+    (third-test f.state.moment now told (is_idle f.state.tables conn) (may_wait asked) le) h
+step-earlier (Answer conn told failed dialed level reply) f g now le h =
+    let o = outside f conn failed dialed level in
+    let e = Answer conn told failed dialed level reply in
+    let rest = is_answered f conn told o (pending_at f.state.tables conn) in
+    let found = answer (record f.state { wire = wire_for f conn }) conn told o in
+    timed f g now told (nat_le f.state.moment told && rest) (nat_le now told && rest)
+    (option_map (answered_fine f e conn) (option_and_then (if_reply reply) found)) le
+    (first-test f.state.moment now told rest le) h
+    (answered-moment f g e conn told (record f.state { wire = wire_for f conn }) o reply)
+
+-- an event
+fine-earlier : (e : Event) (f g : FineState) (now : ℕ) → f.state.moment ≤ now → fine (at_moment f now) e ≡ Some g → Leads f (fine f e) g
+fine-earlier e f g now le h =
+    let parts = chosen (comes_in_turn f e f.turn) (fine_step (at_moment f now) e) g h in
+    let led = step-earlier e f g now le parts.1 in
+    (led.0, cond-true (comes_in_turn f e f.turn) (fine_step f e) None parts.0 ∙ led.1, led.2, led.3)
+
+pub earlier_law-holds : EarlierLaw
+earlier_law-holds f g now [] le h = (f.state.moment, ap (λ x. Some (at_moment x f.state.moment)) (same_Some (at_moment f now) g h), omega (arith, le, ap (λ (y : FineState). y.state.moment) (same_Some (at_moment f now) g h)))
+earlier_law-holds f g now (e ∷ es) le h = by (fine (at_moment f now) e) refl h (λ f g now le h. earlier_law-holds f g now es le h) where
+  by : (o : Option FineState) → fine (at_moment f now) e ≡ o → along fine o es ≡ Some g
+      → ((f g : FineState) (now : ℕ) → f.state.moment ≤ now → along fine (Some (at_moment f now)) es ≡ Some g
+      → (moment : ℕ) × (along fine (Some f) es ≡ Some (at_moment g moment)) × (moment ≤ g.state.moment))
+      → (moment : ℕ) × (along fine (fine f e) es ≡ Some (at_moment g moment)) × (moment ≤ g.state.moment)
+  by None is x rest = absurd (none-some g (sym (along-none fine es) ∙ x))
+  by (Some mid) is x rest =
+      let led = fine-earlier e f mid now le is in
+      let more = rest (at_moment mid led.0) g mid.state.moment led.2 x in
+      (more.0, ap (λ o. along fine o es) led.1 ∙ more.1, more.2)
