@@ -1,19 +1,18 @@
 -- Whether a poll began its call's turn, told by how it ended.
 use Rattle.std.proofs.Common.{◌≡◌, ℕ, Bool, true, false, cond, List, [], ◌∷◌, ◌++◌, Option, Some, None, refl, sym, ap, ◌∙◌}
 use Rattle.std.specs.Prelude.{not, is_none, is_some, ◌&&◌}
-use Rattle.std.proofs.lemmas.Bool.{and_parts, true≢false, false≢true}
-use Rattle.std.proofs.lemmas.Option.{same_Some}
-use Rattle.vx_lemmas.specs.Conditions.{chosen}
+use Rattle.std.proofs.lemmas.Bool.{and_parts, true≢false}
+use Rattle.std.proofs.lemmas.Option.{none-some, same_Some}
 use Rattle.vx_488.specs.declared.transfers.Transfer.{Transfer}
 use Rattle.vx_rules.specs.Lists.{along}
 use Rattle.vx_rules.specs.State.{Pending, pending_at}
 use Rattle.vx_flow.specs.Event.{Begin, Move}
 use Rattle.vx_flow.specs.FineState.{Turn, FineState, turn_of}
-use Rattle.vx_flow.specs.Fine.{fine, fine_after, may_begin, may_move, is_passed}
-use Rattle.vx_flow.specs.ProvedLaws.{step-made}
+use Rattle.vx_flow.specs.Fine.{fine, may_begin, is_passed}
+use Rattle.vx_flow.specs.Does.{Moves}
+use Rattle.vx_flow.specs.ProvedLaws.{fine-does}
 use Rattle.vx_flow.specs.Poll as poll
 use Rattle.vx_flow.specs.Poll.{Ran, Ending, Polls, RanTo, begins, moved_events, lines_at, runs, ran_of}
-use Rattle.vx_488.specs.Wire.{wire_after}
 use Rattle.vx_kernel.specs.declared.running.Running.{Running}
 use Rattle.vx_kernel.specs.declared.ended.Why.TheVariants as why
 use Rattle.vx_kernel.specs.declared.ended.Ran.TheVariants as ran
@@ -63,9 +62,7 @@ begun-run f b conn now p moves poll.Broken at x h = refl
 unmoved : (f b : FineState) (conn : ℕ) (moves : List Transfer) → f.turn ≡ None → along fine (Some f) (moved_events conn moves) ≡ Some b → b.turn ≡ None
 unmoved f b conn [] none x = ap (λ (g : FineState). g.turn) (sym (same_Some f b x)) ∙ none
 unmoved f b conn (t ∷ ts) none x =
-    let parts = chosen (may_move f conn (t ∷ ts) f.turn) (Some (fine_after f (Move conn (t ∷ ts)) f.dialed (record f.state { wire = wire_after f.state.wire (t ∷ ts) }))) b
-    (step-made f b (Move conn (t ∷ ts)) x) in
-    absurd (false≢true (sym (ap (may_move f conn (t ∷ ts)) none) ∙ parts.0))
+    let made : Moves f conn (t ∷ ts) b = (fine-does f b (Move conn (t ∷ ts)) x).step in absurd (none-some made.turn (sym none ∙ made.under_way))
 
 -- and doesn't go on
 unbegun-run : (f b : FineState) (conn now : ℕ) (p : Pending) (moves : List Transfer) (ran : Ran) → f.turn ≡ None

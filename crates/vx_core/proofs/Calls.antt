@@ -1,35 +1,33 @@
 -- The calls of a core that make no transfer: each is an event that is allowed, behind which the core keeps what it keeps.
 use Rattle.std.proofs.Common.{◌≡◌, ◌≤◌, ◌==◌, ℕ, ◌⊎◌, inl, inr, Bool, true, false, cond, List, [], Option, Some, None, refl, sym, ap, ◌∙◌, subst, arith}
-use Rattle.std.specs.Prelude.{max, nat_le, is_some, ◌&&◌}
-use Rattle.std.specs.Option.{option_map}
-use Rattle.std.proofs.lemmas.Bool.{cond-true, le-leb, and_from, cases_Bool, eq-eqb}
+use Rattle.std.specs.Prelude.{max, is_some, is_none}
+use Rattle.std.proofs.lemmas.Bool.{and_parts, cases_Bool}
 use Rattle.std.proofs.lemmas.List.Elements.{All-nil}
 use Rattle.std.proofs.lemmas.Option.{none-some}
 use Rattle.std.proofs.lemmas.Map.Made.{IsDistinct-from_AllPairs}
 use Rattle.std.proofs.lemmas.Bool.Decides.{Decides-eqb}
 use Rattle.std.specs.List.{IsDistinct}
-use Rattle.vx_lemmas.specs.Conditions.{eqb-self, self_bytes}
+use Rattle.vx_lemmas.specs.Options.{none-is}
 use Rattle.vx_calls.specs.declared.calls.Role.{Role}
 use Rattle.vx_calls.specs.declared.calls.Role.TheVariants as role
 use Rattle.vx_calls.specs.declared.codes.ErrorCode.{ErrorCode}
-use Rattle.vx_calls.specs.ErrorCode.{same_error}
 use Rattle.vx_calls.specs.Call.{Call}
-use Rattle.vx_calls.proofs.Laws.{same_error-refl}
 use Rattle.vx_488.specs.declared.transfers.TheConstants.{ADDRESS_MAX}
 use Rattle.vx_488.specs.declared.transfers.Transfer.{Transfer}
 use Rattle.vx_488.specs.declared.wire.Wire.{Wire}
 use Rattle.vx_488.specs.Wire.{first_wire}
-use Rattle.vx_plan.specs.Plan.{Part}
+use Rattle.vx_plan.specs.Plan.{Whole}
 use Rattle.vx_bus_traits.specs.Means.{Means}
-use Rattle.vx_srq.specs.SrqState.{Srq, Given, Front, Empty, Gone, given, taken, sampled}
-use Rattle.vx_rules.specs.State.{Tables, State, connection_at, lives_as, is_idle, has_room, with_pending, with_connection, without_connection, first_tables}
-use Rattle.vx_rules.specs.Entry as entry
-use Rattle.vx_rules.specs.Entry.{Entry}
-use Rattle.vx_rules.specs.One.{one, may_wait, arrived, same_srq, same_given, abort_reply, abort_tables}
+use Rattle.vx_rules.specs.SrqState.{Given, given, taken, sampled}
+use Rattle.vx_rules.specs.State.{Tables, connection_at, pending_at, lives_as, is_idle, has_room, with_pending, with_connection, without_connection, first_tables}
+use Rattle.vx_rules.specs.One.{may_wait, arrived, abort_reply, abort_tables}
+use Rattle.vx_rules.specs.ProvedLaws.{lives-role}
 use Rattle.vx_flow.specs.Event.{Event, Up, Down, Arrive, Abort, Sample, Take}
-use Rattle.vx_flow.specs.FineState.{Turn, FineState, turn_after}
-use Rattle.vx_flow.specs.Fine.{fine, fine_step, fine_after, as_one, comes_in_turn, is_whole, is_answer_of, turn_stand, wire_before, without_dial}
+use Rattle.vx_flow.specs.FineState.{Turn, FineState}
+use Rattle.vx_flow.specs.Fine.{fine, is_answer_of, turn_stand, wire_before, without_dial}
+use Rattle.vx_flow.specs.Does.{Step, beside}
 use Rattle.vx_flow.specs.Ways.{turn_left_by}
+use Rattle.vx_flow.specs.ProvedLaws.{does-fine}
 use Rattle.vx_kernel.specs.declared.running.Running.{Running}
 use Rattle.vx_kernel.specs.KernelState.{KernelState}
 use Rattle.vx_kernel.specs.CoreState.{CoreState, core_of}
@@ -45,21 +43,16 @@ pub record Steps {B : Type 0} (means : B → Means) (k : KernelState B) (e : Eve
   pub allowed : fine (fine_of means k) e ≡ Some (fine_of means new)
   pub keeps : Keeps means new
 
--- where the list of the turn under way isn't whole every event comes in turn
-comes : (f : FineState) (e : Event) → ((u : Turn) → f.turn ≡ Some u → turn_stand f u u.moves ≡ Part) → comes_in_turn f e f.turn ≡ true
-comes f e part = by f.turn refl
-  where
-    by : (o : Option Turn) → f.turn ≡ o → comes_in_turn f e o ≡ true
-    by None is = refl
-    by (Some u) is = ap (λ s. cond (is_whole s) (is_answer_of u.connection e) true) (part u is)
-
--- an event that is allowed where it comes in turn leads on so
+-- an event that does what it says leads on so: the list of the turn under way isn't whole
 steps : {B : Type 0} (means : B → Means) (k new : KernelState B) (e : Event) → is_still e ≡ true → Keeps means k → LeavesTurn means k new
-    → fine_step (fine_of means k) e ≡ Some (fine_of means new) → Steps means k e new
-steps means k new e still keeps leaves h =
-    let f = fine_of means k in
-    let allowed : fine f e ≡ Some (fine_of means new) = ap (λ b. cond b (fine_step f e) None) (comes f e keeps.is_part) ∙ h in
-    record { allowed = allowed; keeps = keeps-after means k new e still keeps.holds leaves allowed }
+    → Step (fine_of means k) e (fine_of means new) → Steps means k e new
+steps {B} means k new e still keeps leaves does = record { allowed = allowed; keeps = keeps-after means k new e still keeps.holds leaves allowed }
+  where
+    open-yet : (u : Turn) → (fine_of means k).turn ≡ Some u → turn_stand (fine_of means k) u u.moves ≡ Whole → is_answer_of u.connection e ≡ true
+    open-yet u is whole = let part = keeps.is_part u is in cc
+
+    allowed : fine (fine_of means k) e ≡ Some (fine_of means new)
+    allowed = does-fine (fine_of means k) (fine_of means new) e (record { in_turn = open-yet; step = does })
 
 -- a state by its parts
 abbrev state_of : Tables → ℕ → List ℕ → Option Turn → Wire → Wire → FineState
@@ -78,40 +71,29 @@ wire-kept : (running : Option Running) (made : List Transfer) (before now : Wire
 wire-kept None made before now = refl
 wire-kept (Some r) made before now = refl
 
--- an event that only the tables and the moment know of, in the words of the gateway of one thread
-calm : {B : Type 0} (means : B → Means) (k : KernelState B) (bus : B) (t : Tables) (m : ℕ) (e : Event) (same : Entry) → is_still e ≡ true
-    → ((turn : Option Turn) → turn_after turn e ≡ turn) → fine_step (fine_of means k) e ≡ as_one (fine_of means k) e same
-    → Keeps means k → (means bus).wire ≡ (means k.bus).wire
-    → one (fine_of means k).state same ≡ Some (record { tables = t; wire = (means k.bus).wire; moment = m })
+-- an event that changes the tables and the moment alone
+calm : {B : Type 0} (means : B → Means) (k : KernelState B) (bus : B) (t : Tables) (m : ℕ) (e : Event) → is_still e ≡ true → Keeps means k
+    → (means bus).wire ≡ (means k.bus).wire → Step (fine_of means k) e (beside (fine_of means k) t m k.dialed)
     → Steps means k e (record k { bus = bus; tables = t; moment = m })
-calm {B} means k bus t m e same still stays is keeps wire goes =
+calm {B} means k bus t m e still keeps wire does =
     let w = (means k.bus).wire in
-    let f = fine_of means k in
-    let s : State = record { tables = t; wire = w; moment = m } in
     let turn = turn_shown k.running k.made in
-    let after : fine_after f e f.dialed s ≡ state_of t m k.dialed turn (before_shown k.running k.before (means bus).wire) (means bus).wire =
-    ap (λ x. state_of t m k.dialed x (wire_before x w f.before) w) (stays turn)
-    ∙ ap (λ x. state_of t m k.dialed turn x w) (wire-kept k.running k.made k.before w)
+    let after : beside (fine_of means k) t m k.dialed ≡ state_of t m k.dialed turn (before_shown k.running k.before (means bus).wire) (means bus).wire =
+    ap (λ x. state_of t m k.dialed turn x w) (wire-kept k.running k.made k.before w)
     ∙ ap (λ x. state_of t m k.dialed turn (before_shown k.running k.before x) x) (sym wire) in
     steps means k (record k { bus = bus; tables = t; moment = m }) e still keeps
     (record { running = inl (refl, refl); before = refl; made = refl; wire = wire })
-    (is ∙ ap (option_map (fine_after f e f.dialed)) goes ∙ ap Some after)
+    (subst (Step (fine_of means k) e) after does)
 
 -- the lines and addresses of a bus whose list is cut
 pub cut-wire : {B : Type 0} (means : B → Means) (k : KernelState B) (bus : B) → means bus ≡ cut_means (means k.bus) → (means bus).wire ≡ (means k.bus).wire
 cut-wire means k bus h = ap (λ m. m.wire) h
 
--- a moment that is told is no earlier than the one before
-late : (a b : ℕ) → nat_le a (max a b) ≡ true
-late a b = le-leb a (max a b) (omega arith)
-
 -- a connection comes up
 pub ups : {B : Type 0} (means : B → Means) (k : KernelState B) (bus : B) (conn : ℕ) (r : Role) → Keeps means k → means bus ≡ cut_means (means k.bus)
     → conn ≡ k.tables.next_connection → has_room k.tables r ≡ true → Steps means k (Up conn r) (record k { bus = bus; tables = with_connection k.tables r })
 ups means k bus conn r keeps cut number room =
-    calm means k bus (with_connection k.tables r) k.moment (Up conn r) (entry.Up conn r) refl (λ turn. refl) refl keeps (cut-wire means k bus cut)
-    (cond-true ((conn == k.tables.next_connection) && has_room k.tables r) _ _
-    (and_from (conn == k.tables.next_connection) (has_room k.tables r) (eq-eqb conn k.tables.next_connection number) room))
+    calm means k bus (with_connection k.tables r) k.moment (Up conn r) refl keeps (cut-wire means k bus cut) (record { number = number; room = room; leads = refl })
 
 -- a call arrives
 pub arrives : {B : Type 0} (means : B → Means) (k : KernelState B) (bus : B) (conn : ℕ) (asked : Call) (now : ℕ) → Keeps means k → means bus ≡ cut_means (means k.bus)
@@ -120,19 +102,22 @@ pub arrives : {B : Type 0} (means : B → Means) (k : KernelState B) (bus : B) (
     (record k { bus = bus; tables = with_pending k.tables conn (Some (arrived asked (max k.moment now))); moment = max k.moment now })
 arrives means k bus conn asked now keeps cut idle waits =
     let m = max k.moment now in
-    calm means k bus (with_pending k.tables conn (Some (arrived asked m))) m (Arrive conn asked m) (entry.Arrive conn asked m) refl (λ turn. refl) refl keeps (cut-wire means k bus cut)
-    (cond-true (nat_le k.moment m && is_idle k.tables conn && may_wait asked) _ _
-    (and_from (nat_le k.moment m && is_idle k.tables conn) (may_wait asked) (and_from (nat_le k.moment m) (is_idle k.tables conn) (late k.moment now) idle) waits))
+    let parts = and_parts (lives_as k.tables conn role.Core) (is_none (pending_at k.tables conn)) idle in
+    calm means k bus (with_pending k.tables conn (Some (arrived asked m))) m (Arrive conn asked m) refl keeps (cut-wire means k bus cut) (record {
+      late = omega arith;
+      core = lives-role k.tables conn role.Core parts.0;
+      idle = none-is (pending_at k.tables conn) parts.1;
+      waiting = waits;
+      leads = refl;
+    })
 
 -- the calls that name a link are marked
 pub aborts : {B : Type 0} (means : B → Means) (k : KernelState B) (bus : B) (conn lid : ℕ) (told : ErrorCode) → Keeps means k → means bus ≡ cut_means (means k.bus)
     → lives_as k.tables conn role.Abort ≡ true → told ≡ abort_reply k.tables lid
     → Steps means k (Abort conn lid told) (record k { bus = bus; tables = abort_tables k.tables lid })
 aborts means k bus conn lid told keeps cut lives is =
-    calm means k bus (abort_tables k.tables lid) k.moment (Abort conn lid told) (entry.Abort conn lid told) refl (λ turn. refl) refl keeps (cut-wire means k bus cut)
-    (cond-true (lives_as k.tables conn role.Abort && same_error (abort_reply k.tables lid) told) _ _
-    (and_from (lives_as k.tables conn role.Abort) (same_error (abort_reply k.tables lid) told) lives
-    (ap (same_error (abort_reply k.tables lid)) is ∙ same_error-refl (abort_reply k.tables lid))))
+    calm means k bus (abort_tables k.tables lid) k.moment (Abort conn lid told) refl keeps (cut-wire means k bus cut)
+    (record { role_is = lives-role k.tables conn role.Abort lives; reply_is = is; leads = refl })
 
 -- SRQ is sampled
 pub samples : {B : Type 0} (means : B → Means) (k : KernelState B) (bus : B) (now : ℕ) (srq : Bool) → Keeps means k → means bus ≡ cut_means (means k.bus)
@@ -140,29 +125,16 @@ pub samples : {B : Type 0} (means : B → Means) (k : KernelState B) (bus : B) (
     (record k { bus = bus; tables = record k.tables { srq_state = sampled k.tables.srq_state srq }; moment = max k.moment now })
 samples means k bus now srq keeps cut =
     let m = max k.moment now in
-    calm means k bus (record k.tables { srq_state = sampled k.tables.srq_state srq }) m (Sample m srq) (entry.Sample m srq) refl (λ turn. refl) refl keeps (cut-wire means k bus cut)
-    (cond-true (nat_le k.moment m) _ _ (late k.moment now))
-
--- an interrupt call is the same as itself
-same_srq-refl : (a : Srq) → same_srq a a ≡ true
-same_srq-refl a = rw (eqb-self a.xid, eqb-self a.program, eqb-self a.version, self_bytes a.handle) refl
-
--- so is what is given
-same_given-refl : (a : Given) → same_given a a ≡ true
-same_given-refl (Front a) = same_srq-refl a
-same_given-refl Empty = refl
-same_given-refl Gone = refl
+    calm means k bus (record k.tables { srq_state = sampled k.tables.srq_state srq }) m (Sample m srq) refl keeps (cut-wire means k bus cut)
+    (record { late = omega arith; leads = refl })
 
 -- the front of an outbox is taken
 pub takes : {B : Type 0} (means : B → Means) (k : KernelState B) (bus : B) (conn chan : ℕ) (told : Given) → Keeps means k → means bus ≡ cut_means (means k.bus)
     → is_some (connection_at k.tables conn) ≡ true → told ≡ given k.tables.srq_state conn chan
     → Steps means k (Take conn chan told) (record k { bus = bus; tables = record k.tables { srq_state = taken k.tables.srq_state conn chan } })
 takes means k bus conn chan told keeps cut lives is =
-    calm means k bus (record k.tables { srq_state = taken k.tables.srq_state conn chan }) k.moment (Take conn chan told) (entry.Take conn chan told) refl (λ turn. refl) refl keeps
-    (cut-wire means k bus cut)
-    (cond-true (is_some (connection_at k.tables conn) && same_given (given k.tables.srq_state conn chan) told) _ _
-    (and_from (is_some (connection_at k.tables conn)) (same_given (given k.tables.srq_state conn chan) told) lives
-    (ap (same_given (given k.tables.srq_state conn chan)) is ∙ same_given-refl (given k.tables.srq_state conn chan))))
+    calm means k bus (record k.tables { srq_state = taken k.tables.srq_state conn chan }) k.moment (Take conn chan told) refl keeps (cut-wire means k bus cut)
+    (record { lives = lives; given_is = is; leads = refl })
 
 -- ---- the events that end a connection's turn
 
@@ -188,6 +160,22 @@ ends-wire (Some r) made conn before now = by (r.conn == conn)
     by true = refl
     by false = refl
 
+-- a connection's turn and its dial are over, with these tables at this moment
+abbrev ended : FineState → ℕ → Tables → ℕ → FineState
+ended f conn t m =
+    state_of t m (without_dial f.dialed conn) (turn_left_by f.turn conn) (wire_before (turn_left_by f.turn conn) f.state.wire f.before) f.state.wire
+
+-- a core that they are over in, as events know it
+pub left-shown : {B : Type 0} (means : B → Means) (k : KernelState B) (bus : B) (t : Tables) (m conn : ℕ) → (means bus).wire ≡ (means k.bus).wire
+    → fine_of means (record (left k conn) { bus = bus; tables = t; moment = m }) ≡ ended (fine_of means k) conn t m
+left-shown means k bus t m conn wire =
+    let w = (means k.bus).wire in
+    let running = running_without k.running conn in
+    let dialed = without_dial k.dialed conn in
+    ap (λ x. state_of t m dialed (turn_shown running k.made) (before_shown running k.before x) x) wire
+    ∙ ap (λ x. state_of t m dialed (turn_shown running k.made) x w) (sym (ends-wire k.running k.made conn k.before w))
+    ∙ ap (λ x. state_of t m dialed x (wire_before x w (before_shown k.running k.before w)) w) (sym (ends-turn k.running k.made conn))
+
 -- the turn under way is as it was, or it is over
 left-or-over : (running : Option Running) (conn : ℕ) → (running_without running conn ≡ running) ⊎ (running_without running conn ≡ None)
 left-or-over None conn = inr refl
@@ -197,43 +185,29 @@ left-or-over (Some r) conn = by (r.conn == conn)
     by true = inr refl
     by false = inl refl
 
--- an event that ends a connection's turn and its dial
-pub ends : {B : Type 0} (means : B → Means) (k : KernelState B) (bus : B) (t : Tables) (m conn : ℕ) (e : Event) → is_still e ≡ true
-    → ((turn : Option Turn) → turn_after turn e ≡ turn_left_by turn conn) → Keeps means k → (means bus).wire ≡ (means k.bus).wire
-    → fine_step (fine_of means k) e
-    ≡ Some (fine_after (fine_of means k) e (without_dial k.dialed conn) (record { tables = t; wire = (means k.bus).wire; moment = m }))
-    → Steps means k e (record (left k conn) { bus = bus; tables = t; moment = m })
-ends {B} means k bus t m conn e still leaves keeps wire goes =
-    let w = (means k.bus).wire in
-    let f = fine_of means k in
-    let s : State = record { tables = t; wire = w; moment = m } in
-    let running = running_without k.running conn in
-    let turn = turn_shown running k.made in
-    let dialed = without_dial k.dialed conn in
-    let after : fine_after f e dialed s ≡ state_of t m dialed turn (before_shown running k.before (means bus).wire) (means bus).wire =
-    ap (λ x. state_of t m dialed x (wire_before x w f.before) w) (leaves f.turn ∙ ends-turn k.running k.made conn)
-    ∙ ap (λ x. state_of t m dialed turn x w) (ends-wire k.running k.made conn k.before w)
-    ∙ ap (λ x. state_of t m dialed turn (before_shown running k.before x) x) (sym wire) in
-    steps means k (record (left k conn) { bus = bus; tables = t; moment = m }) e still keeps
-    (record { running = by (left-or-over k.running conn); before = refl; made = refl; wire = wire })
-    (goes ∙ ap Some after)
+-- that is what it leaves of the turn
+pub left-leaves : {B : Type 0} (means : B → Means) (k : KernelState B) (bus : B) (t : Tables) (m conn : ℕ) → (means bus).wire ≡ (means k.bus).wire
+    → LeavesTurn means k (record (left k conn) { bus = bus; tables = t; moment = m })
+left-leaves means k bus t m conn wire = record { running = by (left-or-over k.running conn); before = refl; made = refl; wire = wire }
   where
     by : (running_without k.running conn ≡ k.running) ⊎ (running_without k.running conn ≡ None)
         → (running_without k.running conn ≡ k.running) × (k.room ≡ k.room) ⊎ (running_without k.running conn ≡ None)
     by (inl same) = inl (same, refl)
     by (inr over) = inr over
 
--- the end of a connection ends its turn
-down-leaves : (conn : ℕ) (turn : Option Turn) → turn_after turn (Down conn) ≡ turn_left_by turn conn
-down-leaves conn None = refl
-down-leaves conn (Some u) = refl
+-- an event that ends a connection's turn and its dial
+pub ends : {B : Type 0} (means : B → Means) (k : KernelState B) (bus : B) (t : Tables) (m conn : ℕ) (e : Event) → is_still e ≡ true → Keeps means k
+    → (means bus).wire ≡ (means k.bus).wire → Step (fine_of means k) e (ended (fine_of means k) conn t m)
+    → Steps means k e (record (left k conn) { bus = bus; tables = t; moment = m })
+ends means k bus t m conn e still keeps wire does =
+    steps means k (record (left k conn) { bus = bus; tables = t; moment = m }) e still keeps (left-leaves means k bus t m conn wire)
+    (subst (Step (fine_of means k) e) (sym (left-shown means k bus t m conn wire)) does)
 
 -- a connection goes
 pub downs : {B : Type 0} (means : B → Means) (k : KernelState B) (bus : B) (conn : ℕ) → Keeps means k → means bus ≡ cut_means (means k.bus)
     → is_some (connection_at k.tables conn) ≡ true → Steps means k (Down conn) (record (left k conn) { bus = bus; tables = without_connection k.tables conn })
 downs means k bus conn keeps cut lives =
-    ends means k bus (without_connection k.tables conn) k.moment conn (Down conn) refl (down-leaves conn) keeps (cut-wire means k bus cut)
-    (cond-true (is_some (connection_at k.tables conn)) _ _ lives)
+    ends means k bus (without_connection k.tables conn) k.moment conn (Down conn) refl keeps (cut-wire means k bus cut) (record { lives = lives; leads = refl })
 
 -- ---- a change of what hangs on the bus, and the start
 

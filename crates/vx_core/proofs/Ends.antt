@@ -1,40 +1,37 @@
 -- How a poll ends, in the kernel's words.
-use Rattle.std.proofs.Common.{◌≡◌, ◌≤◌, ◌==◌, ℕ, Bool, true, false, cond, ◌⊎◌, inl, inr, List, [], ◌∷◌, ◌++◌, map, append-nil, Option, Some, None, refl, sym, ap, ◌∙◌, subst}
+use Rattle.std.proofs.Common.{◌≡◌, ◌≤◌, ◌==◌, ℕ, Bool, true, false, cond, List, [], ◌∷◌, ◌++◌, map, append-nil, Option, Some, None, refl, sym, ap, ◌∙◌, subst}
 use Rattle.std.specs.Prelude.{if◌then◌else◌, nat_le, is_none, is_some, ◌&&◌}
-use Rattle.std.specs.Option.{option_map, option_and_then}
 use Rattle.std.proofs.lemmas.Bool.{and_parts, cond-true, true≢false}
 use Rattle.std.proofs.lemmas.Option.{same_Some}
 use Rattle.vx_lemmas.specs.Conditions.{chosen, eqb-self}
 use Rattle.vx_calls.specs.declared.limits.TheConstants.{READ_MAX}
-use Rattle.vx_calls.specs.Reply.{Reply}
+use Rattle.vx_calls.specs.Reply.{Reply, same_reply}
 use Rattle.vx_488.specs.declared.transfers.Transfer.{Transfer}
-use Rattle.vx_488.specs.declared.wire.Wire.{Wire}
-use Rattle.vx_488.specs.Wire.{wire_after}
 use Rattle.vx_bus_traits.specs.Means.{Means}
 use Rattle.vx_bus_traits.specs.Steps.{Step, Went}
 use Rattle.vx_bus_traits.specs.Walks.{Walk}
 use Rattle.vx_rules.specs.Lists.{along}
-use Rattle.vx_rules.specs.State.{Pending, Tables, State, pending_at, with_pending}
+use Rattle.vx_rules.specs.State.{Pending, Tables, pending_at, with_pending}
 use Rattle.vx_rules.specs.Lines.{first_lines}
 use Rattle.vx_rules.specs.Decide.{Outside, decide, has_job_role}
 use Rattle.vx_rules.specs.One.{answer, answered, answer_to, if_reply}
-use Rattle.vx_calls.specs.Reply.{same_reply}
+use Rattle.vx_rules.specs.Decide.{has_job_role}
 use Rattle.vx_flow.specs.Event.{Event, Answer, Begin, Move}
-use Rattle.vx_flow.specs.FineState.{Turn, FineState, turn_of, turn_after}
-use Rattle.vx_flow.specs.Fine.{fine, may_begin, may_move, is_passed, job_of, wire_for, wire_before, outside, answered_fine, is_answered, without_dial}
+use Rattle.vx_flow.specs.FineState.{Turn, FineState, turn_of}
+use Rattle.vx_flow.specs.Fine.{fine, may_begin, is_passed, job_of, without_dial}
+use Rattle.vx_flow.specs.Does.{Moves}
 use Rattle.vx_flow.specs.Sound.{IsSound}
 use Rattle.vx_flow.specs.Poll.{Why, Ran, Still, Ending, Answered, Waited, Dialed, Polls, begins, begun_events, moved_events, run_events, at_moment, is_broken, RanTo, runs, ran_of}
-use Rattle.vx_flow.specs.Ways.{turn_left_by, over, moved_on, begun_now}
-use Rattle.vx_flow.specs.ProvedLaws.{step-made}
-use Rattle.vx_flow.proofs.Gathering.{stays_sound-law}
-use Rattle.vx_kernel.specs.declared.running.Running.{Running}
+use Rattle.vx_flow.specs.Ways.{over, moved_on, begun_now}
+use Rattle.vx_flow.specs.ProvedLaws.{fine-does, fine-frame, step-made, stays_sound-law}
 use Rattle.vx_kernel.specs.declared.ended.Ended.{Ended}
 use Rattle.vx_kernel.specs.KernelState.{KernelState}
-use Rattle.vx_kernel.specs.Shown.{fine_of, turn_shown, before_shown, running_without, closed}
+use Rattle.vx_kernel.specs.Shown.{fine_of, closed}
 use Rattle.vx_kernel.specs.Ending.{ended_shown, ended_len}
 use Rattle.vx_kernel.specs.Keeping.{KeepsDials, Holds, Keeps}
 use Rattle.vx_kernel.specs.Polling.{wanted, refused_ask, asks, PollsOver, EndsFrom}
 use Rattle.vx_core.proofs.Keeping.{LeavesTurn, keeps-after}
+use Rattle.vx_core.proofs.Calls.{left-shown, left-leaves}
 
 -- ---- the state behind a poll's transfers
 
@@ -51,14 +48,8 @@ behind-own f b conn now u moves turn h = by moves (sym (ap (λ es. along fine (S
       ∙ ap (λ t. record f { turn = t }) turn
       ∙ ap (λ ts. record f { turn = Some (record u { moves = ts }) }) (sym (append-nil u.moves))
   by (t ∷ ts) x =
-      let At : Option Turn → FineState = λ now. record {
-        state = record f.state { wire = wire_after f.state.wire (t ∷ ts) };
-        turn = turn_after now (Move conn (t ∷ ts));
-        before = wire_before (turn_after now (Move conn (t ∷ ts))) (wire_after f.state.wire (t ∷ ts)) f.before;
-        dialed = f.dialed;
-      } in
-      let parts = chosen (may_move f conn (t ∷ ts) f.turn) (Some (At f.turn)) b (step-made f b (Move conn (t ∷ ts)) x) in
-      sym (same_Some (At f.turn) b parts.1) ∙ ap At turn
+      let made : Moves f conn (t ∷ ts) b = (fine-does f b (Move conn (t ∷ ts)) x).step in
+      made.leads ∙ ap (λ (v : Turn). moved_on f v (t ∷ ts)) (same_Some made.turn u (sym made.under_way ∙ turn))
 
 -- what a beginning leads to, where it is allowed
 pub begun-so : (f b : FineState) (conn now : ℕ) → fine f (Begin conn now) ≡ Some b
@@ -105,41 +96,11 @@ sound-along (e ∷ es) f g sound x = by (fine f e) refl x (λ mid s y. sound-alo
 
 -- ---- the end of a poll
 
--- an answer is given at its moment
-answered-now : (f g : FineState) (conn now : ℕ) (failed : Bool) (dialed : Option Bool) (level : Bool) (told : Reply)
-    → fine f (Answer conn now failed dialed level told) ≡ Some g → g.state.moment ≡ now
-answered-now f g conn now failed dialed level told h =
-    let allowed = chosen (nat_le f.state.moment now && is_answered f conn now o (pending_at f.state.tables conn))
-    (option_map (answered_fine f e conn) (option_and_then (if_reply told) (answer s conn now o))) g (step-made f g e h) in
-    by_call (pending_at f.state.tables conn) allowed.1 where
-      o : Outside
-      o = outside f conn failed dialed level
-
-      e : Event
-      e = Answer conn now failed dialed level told
-
-      s : State
-      s = record f.state { wire = wire_for f conn }
-
-      by_same : (d : Reply × Tables) (same : Bool) → option_map (answered_fine f e conn) (cond same (Some (answered s conn now o.moves d).1) None) ≡ Some g → g.state.moment ≡ now
-      by_same d true x = sym (ap (λ (y : FineState). y.state.moment) (same_Some (answered_fine f e conn (answered s conn now o.moves d).1) g x))
-      by_same d false x = cc
-
-      by_reply : (d : Option (Reply × Tables)) → option_map (answered_fine f e conn) (option_and_then (if_reply told) (option_map (answered s conn now o.moves) d)) ≡ Some g
-          → g.state.moment ≡ now
-      by_reply None x = cc
-      by_reply (Some d) x = by_same d (same_reply d.0 told) x
-
-      by_call : (p : Option Pending) → option_map (answered_fine f e conn) (option_and_then (if_reply told) (option_and_then (answer_to s conn now o) p)) ≡ Some g
-          → g.state.moment ≡ now
-      by_call None x = cc
-      by_call (Some p) x = by_reply (decide s.tables s.wire conn p now o) x
-
 -- the answer of a poll leads from the state behind its transfers to the one that it leaves
 pub answer-ends : (f g : FineState) (conn now : ℕ) (moves : List Transfer) (ran : Ran) (level : Bool) (told : Reply)
     → (polls : Polls f conn now moves (Answered ran level told) g) → fine polls.behind (Answer conn now (is_broken ran) None level told) ≡ Some g
 answer-ends f g conn now moves ran level told polls =
-    let at : polls.last.state.moment ≡ now = answered-now polls.behind polls.last conn now (is_broken ran) None level told polls.ended in
+    let at : polls.last.state.moment ≡ now = (fine-frame polls.behind polls.last (Answer conn now (is_broken ran) None level told) polls.ended).moment_is in
     polls.ended ∙ ap (λ n. Some (at_moment polls.last n)) at ∙ ap Some (sym polls.at_now)
 
 -- ---- what a call leaves that is over
@@ -147,42 +108,11 @@ answer-ends f g conn now moves ran level told polls =
 -- the state of a core whose call is over, with these tables
 pub fine-closed : {B : Type 0} (means : B → Means) (k : KernelState B) (conn : ℕ) (after : Tables)
     → fine_of means (closed (record k { tables = after }) conn) ≡ over (fine_of means k) conn k.moment after
-fine-closed {B} means k conn after = by k.running where
-  with_turn : Option Turn → Wire → FineState
-  with_turn turn before = record {
-    state = record { tables = with_pending after conn None; wire = (means k.bus).wire; moment = k.moment };
-    turn = turn;
-    before = before;
-    dialed = without_dial k.dialed conn;
-  }
-
-  by : (o : Option Running)
-      → with_turn (turn_shown (running_without o conn) k.made) (before_shown (running_without o conn) k.before (means k.bus).wire)
-      ≡ with_turn (turn_left_by (turn_shown o k.made) conn)
-      (wire_before (turn_left_by (turn_shown o k.made) conn) (means k.bus).wire (before_shown o k.before (means k.bus).wire))
-  by None = refl
-  by (Some r) = same (r.conn == conn) where
-    same : (b : Bool)
-        → with_turn (turn_shown (cond b None (Some r)) k.made) (before_shown (cond b None (Some r)) k.before (means k.bus).wire)
-        ≡ with_turn (cond b None (Some (record { connection = r.conn; begun = r.turn.begun; moves = k.made })))
-        (wire_before (cond b None (Some (record { connection = r.conn; begun = r.turn.begun; moves = k.made }))) (means k.bus).wire k.before)
-    same true = refl
-    same false = refl
+fine-closed means k conn after = left-shown means k k.bus (with_pending after conn None) k.moment conn refl
 
 -- its turn is as it was, or over
-left-running : (o : Option Running) (conn : ℕ) → (running_without o conn ≡ o) ⊎ (running_without o conn ≡ None)
-left-running None conn = inl refl
-left-running (Some r) conn = by (r.conn == conn) where
-  by : (b : Bool) → (cond b None (Some r) ≡ Some r) ⊎ (cond b None (Some r) ≡ None)
-  by true = inr refl
-  by false = inl refl
-
 pub closed-leaves : {B : Type 0} (means : B → Means) (k : KernelState B) (conn : ℕ) (after : Tables) → LeavesTurn means k (closed (record k { tables = after }) conn)
-closed-leaves means k conn after = record { running = by (left-running k.running conn); before = refl; made = refl; wire = refl } where
-  by : (running_without k.running conn ≡ k.running) ⊎ (running_without k.running conn ≡ None)
-      → (running_without k.running conn ≡ k.running) × (k.room ≡ k.room) ⊎ (running_without k.running conn ≡ None)
-  by (inl e) = inl (e, refl)
-  by (inr e) = inr e
+closed-leaves means k conn after = left-leaves means k k.bus (with_pending after conn None) k.moment conn refl
 
 -- ---- a poll that makes no transfer
 

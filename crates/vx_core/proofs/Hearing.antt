@@ -13,8 +13,7 @@ use Rattle.vx_flow.specs.FineState.{Turn, FineState}
 use Rattle.vx_flow.specs.Fine.{turn_stand}
 use Rattle.vx_flow.specs.Sound.{IsSound}
 use Rattle.vx_flow.specs.Poll.{Ran, Still, Finished, Paused, Broken, Locked, InTurn, Held, Ending, Answered, Waited, Dialed, RanTo, EndsBy, ran_of, run_events, end_events, at_moment}
-use Rattle.vx_flow.specs.ProvedLaws.{later-sound}
-use Rattle.vx_flow.proofs.Earlier.{earlier_law-holds}
+use Rattle.vx_flow.specs.ProvedLaws.{later-sound, earlier_law-holds}
 use Rattle.vx_kernel.specs.declared.ended.Ended.{Ended}
 use Rattle.vx_kernel.specs.KernelState.{KernelState}
 use Rattle.vx_kernel.specs.Shown.{cut_means, fine_of, turn_shown, before_shown}

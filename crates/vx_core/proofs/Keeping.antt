@@ -1,9 +1,8 @@
 -- What a core keeps over an event that makes no transfer, and at a later moment.
-use Rattle.std.proofs.Common.{◌≡◌, ◌≢◌, ◌≤◌, ℕ, ◌⊎◌, inl, inr, Bool, true, false, cond, List, Option, Some, None, refl, sym, ap, ◌∙◌, subst, arith}
-use Rattle.std.proofs.lemmas.Bool.{true≢false, false≢true}
+use Rattle.std.proofs.Common.{◌≡◌, ◌≢◌, ◌≤◌, ℕ, ◌⊎◌, inl, inr, Bool, true, cond, List, Option, Some, None, refl, sym, ap, ◌∙◌, subst, arith}
+use Rattle.std.proofs.lemmas.Bool.{false≢true}
 use Rattle.std.proofs.lemmas.Cmp.{nat_eq_equiv}
 use Rattle.std.proofs.lemmas.Option.{none-some}
-use Rattle.vx_lemmas.specs.Conditions.{chosen}
 use Rattle.vx_488.specs.declared.transfers.TheConstants.{ADDRESS_MAX}
 use Rattle.vx_488.specs.declared.transfers.Transfer.{Transfer}
 use Rattle.vx_488.specs.declared.wire.Wire.{Wire}
@@ -16,11 +15,9 @@ use Rattle.vx_rules.specs.State.{pending_at}
 use Rattle.vx_rules.specs.Decide.{stand_on, stand_of_job}
 use Rattle.vx_flow.specs.Event.{Event, Answer}
 use Rattle.vx_flow.specs.FineState.{Turn, FineState, turn_after}
-use Rattle.vx_flow.specs.Fine.{fine, fine_step, is_whole, is_answer_of, comes_in_turn, turn_stand, call_stand}
+use Rattle.vx_flow.specs.Fine.{fine, is_answer_of, turn_stand, call_stand}
 use Rattle.vx_flow.specs.Sound.{Stands, TurnStands, IsSound}
-use Rattle.vx_flow.specs.ProvedLaws.{later-stands}
-use Rattle.vx_flow.proofs.Kept.{turn-stand, open_cond}
-use Rattle.vx_flow.proofs.Gathering.{fine-goes, stays_sound-law, call_stays-law}
+use Rattle.vx_flow.specs.ProvedLaws.{fine-does, fine-frame, later-stands, turn-stand, stays_sound-law, call_stays-law}
 use Rattle.vx_kernel.specs.declared.running.Running.{Running}
 use Rattle.vx_kernel.specs.KernelState.{KernelState}
 use Rattle.vx_kernel.specs.Shown.{fine_of, turn_shown, before_shown}
@@ -36,20 +33,13 @@ own-gone (Answer conn now failed dialed level told) u h =
 own-gone _ u h = absurd (false≢true h)
 
 -- so a turn that is left wasn't whole
-left-open : (f g : FineState) (e : Event) (u : Turn) → IsSound f → fine f e ≡ Some g → f.turn ≡ Some u → g.turn ≡ Some u → is_whole (turn_stand f u u.moves) ≡ false
-left-open f g e u sound h is after = by (is_answer_of u.connection e) refl
-  where
-    by : (b : Bool) → is_answer_of u.connection e ≡ b → is_whole (turn_stand f u u.moves) ≡ false
-    by false other =
-        let parts = chosen (comes_in_turn f e f.turn) (fine_step f e) g h in
-        open_cond (is_whole (turn_stand f u u.moves)) (is_answer_of u.connection e) (sym (ap (comes_in_turn f e) is) ∙ parts.0) other
-    by true own =
-        let goes = fine-goes e f g f.state.moment sound (omega arith) h in
-        absurd (none-some u (sym (own-gone e u own) ∙ ap (λ t. turn_after t e) (sym is) ∙ sym goes.turn_is ∙ after))
+left-open : (f g : FineState) (e : Event) (u : Turn) → fine f e ≡ Some g → f.turn ≡ Some u → g.turn ≡ Some u → turn_stand f u u.moves ≢ Whole
+left-open f g e u h is after whole =
+    none-some u (sym (own-gone e u ((fine-does f g e h).in_turn u is whole)) ∙ ap (λ t. turn_after t e) (sym is) ∙ sym (fine-frame f g e h).turn_is ∙ after)
 
 -- what keeps to a plan and isn't whole is a part
-part-of : (s : Stand) → s ≢ Off → is_whole s ≡ false → s ≡ Part
-part-of Whole on more = absurd (true≢false more)
+part-of : (s : Stand) → s ≢ Off → s ≢ Whole → s ≡ Part
+part-of Whole on more = absurd (more refl)
 part-of Part on more = refl
 part-of Off on more = absurd (on refl)
 
@@ -63,7 +53,7 @@ stays-part f g e u sound h is after same =
     let was : turn_stand f u u.moves ≡ stand_on f.before stands.asked.call stands.job u.moves =
     turn-stand f.state.tables f.before f.state.wire f.state.moment u stands u.moves in
     let part : turn_stand f u u.moves ≡ Part =
-    part-of (turn_stand f u u.moves) (λ off. stands.on_plan (sym was ∙ off)) (left-open f g e u sound h is after) in
+    part-of (turn_stand f u u.moves) (λ off. stands.on_plan (sym was ∙ off)) (left-open f g e u h is after) in
     ap (λ (w : Wire). call_stand g.state.tables w u.connection u.moves (pending_at g.state.tables u.connection)) same
     ∙ ap (call_stand g.state.tables f.before u.connection u.moves) call.1
     ∙ ap (stand_of_job f.before stands.asked.call u.moves) call.2

@@ -1,31 +1,25 @@
 -- What a poll leaves of a core, with its reply lent.
-use Rattle.std.proofs.Common.{◌≡◌, ◌≤◌, ◌==◌, ℕ, Bool, true, false, cond, List, [], ◌∷◌, ◌++◌, length, take, Option, Some, None, max, refl, sym, ap, ◌∙◌, subst, arith}
-use Rattle.std.specs.Prelude.{not, ◌&&◌}
+use Rattle.std.proofs.Common.{◌≡◌, ◌≤◌, ℕ, Bool, true, false, cond, List, [], ◌∷◌, ◌++◌, length, take, Option, Some, None, max, refl, sym, ap, ◌∙◌, subst, arith}
 use Rattle.std.specs.Option.{option_map}
-use Rattle.std.proofs.lemmas.Bool.{and_parts, eqb-true}
 use Rattle.std.proofs.lemmas.List.{length-append, length-take}
-use Rattle.vx_lemmas.specs.Conditions.{chosen}
 use Rattle.vx_calls.specs.declared.limits.TheConstants.{READ_MAX, WRITE_MAX}
 use Rattle.vx_calls.specs.Reply.{Reply}
 use Rattle.vx_488.specs.declared.transfers.Transfer.{Transfer}
 use Rattle.vx_plan.specs.declared.tasks.TheConstants.{TURN_MAX}
 use Rattle.vx_plan.specs.declared.tasks.Task.{Task}
-use Rattle.vx_plan.specs.Plan.{stand}
-use Rattle.vx_plan.specs.Tasks.{plan}
-use Rattle.vx_plan.proofs.Turns.{bound-law}
+use Rattle.vx_plan.specs.ProvedLaws.{bound-law}
 use Rattle.vx_bus_traits.specs.Means.{Means}
 use Rattle.vx_bus_traits.specs.Steps.{Step}
 use Rattle.vx_rules.specs.Lists.{along}
-use Rattle.vx_rules.specs.State.{Pending, pending_at}
+use Rattle.vx_rules.specs.State.{pending_at}
 use Rattle.vx_rules.specs.Calls.{bytes_of}
-use Rattle.vx_rules.specs.Lines.{lets_pass}
 use Rattle.vx_rules.specs.Decide.{stand_of_job}
 use Rattle.vx_flow.specs.Event.{Begin, Move}
-use Rattle.vx_flow.specs.FineState.{Turn, FineState}
-use Rattle.vx_flow.specs.Fine.{fine, fine_after, may_move, goes_on, is_on, turn_stand, call_stand, job_of}
+use Rattle.vx_flow.specs.FineState.{FineState}
+use Rattle.vx_flow.specs.Fine.{fine, turn_stand, call_stand, job_of}
+use Rattle.vx_flow.specs.Does.{Moves}
 use Rattle.vx_flow.specs.Poll.{Ending, Polls, begins, moved_events}
-use Rattle.vx_flow.specs.ProvedLaws.{on-is, step-made}
-use Rattle.vx_488.specs.Wire.{wire_after}
+use Rattle.vx_flow.specs.ProvedLaws.{fine-does}
 use Rattle.vx_kernel.specs.declared.ended.Ended.{Ended}
 use Rattle.vx_kernel.specs.declared.given.Given.{Given}
 use Rattle.vx_kernel.specs.declared.given.Given.TheVariants as given
@@ -35,50 +29,32 @@ use Rattle.vx_kernel.specs.Shown.{fine_of}
 use Rattle.vx_kernel.specs.Given.{given_reply, given_len, reply_bytes}
 use Rattle.vx_kernel.specs.Ending.{ended_shown}
 use Rattle.vx_kernel.specs.Polling.{Leaves}
-use Rattle.vx_kernel.proofs.Turning.{few-bytes}
+use Rattle.vx_kernel.specs.ProvedLaws.{few-bytes}
 use Rattle.vx_core.specs.declared.polled.Polled.{Polled}
 use Rattle.vx_core.specs.Lending.{Shows, PollLeaves}
 
 -- ---- a poll makes few transfers
 
--- a call that goes on is there, and nothing is against it
-goes-so : (f : FineState) (conn : ℕ) (o : Option Pending) → goes_on f.state conn o ≡ true
-    → (p : Pending) × (o ≡ Some p) × (lets_pass f.state.tables f.state.wire.own conn p ≡ true)
-goes-so f conn None h = cc
-goes-so f conn (Some p) h = (p, refl, (and_parts (not p.aborted) (lets_pass f.state.tables f.state.wire.own conn p) h).1)
-
 -- the transfers of a turn's move are as few as its plan's
-few-of-job : (f : FineState) (u : Turn) (conn : ℕ) (moves : List Transfer) (p : Pending) → u.connection ≡ conn → pending_at f.state.tables conn ≡ Some p
-    → lets_pass f.state.tables f.state.wire.own conn p ≡ true → is_on (turn_stand f u (u.moves ++ moves)) ≡ true → length moves ≤ TURN_MAX
-few-of-job f u conn moves p own at lets on = by (job_of f.state.tables u.connection p) refl where
-  here : pending_at f.state.tables u.connection ≡ Some p
-  here = ap (pending_at f.state.tables) own ∙ at
+few-of-job : (f g : FineState) (conn : ℕ) (moves : List Transfer) → Moves f conn moves g → length moves ≤ TURN_MAX
+few-of-job f g conn moves made = by (job_of f.state.tables conn made.asked) refl where
+  all : List Transfer
+  all = made.turn.moves ++ moves
 
-  by : (o : Option Task) → job_of f.state.tables u.connection p ≡ o → length moves ≤ TURN_MAX
-  by None e =
-      let off : false ≡ true = sym (ap (λ q. is_on (call_stand f.state.tables f.before u.connection (u.moves ++ moves) q)) here
-      ∙ ap (λ j. is_on (stand_of_job f.before p.call (u.moves ++ moves) j)) e) ∙ on in
-      cc
+  stands : turn_stand f made.turn all ≡ stand_of_job f.before made.asked.call all (job_of f.state.tables conn made.asked)
+  stands = ap (λ n. call_stand f.state.tables f.before n all (pending_at f.state.tables n)) made.of_call ∙ ap (call_stand f.state.tables f.before conn all) made.call_at
+
+  by : (o : Option Task) → job_of f.state.tables conn made.asked ≡ o → length moves ≤ TURN_MAX
+  by None e = absurd (made.on_plan (stands ∙ ap (stand_of_job f.before made.asked.call all) e))
   by (Some job) e =
-      let stands : turn_stand f u (u.moves ++ moves) ≡ stand (plan job (bytes_of p.call) f.before.polling f.before.own) (u.moves ++ moves) =
-      ap (call_stand f.state.tables f.before u.connection (u.moves ++ moves)) here ∙ ap (stand_of_job f.before p.call (u.moves ++ moves)) e in
-      let few : length (bytes_of p.call) ≤ WRITE_MAX =
-      few-bytes f.state.tables f.state.wire.own conn p job lets (ap (λ n. job_of f.state.tables n p) (sym own) ∙ e) in
-      let most : length (u.moves ++ moves) ≤ TURN_MAX =
-      bound-law job (bytes_of p.call) f.before.polling f.before.own (u.moves ++ moves) few (on-is _ (ap is_on (sym stands) ∙ on)) in
-      omega (arith, length-append u.moves moves, most)
+      let few : length (bytes_of made.asked.call) ≤ WRITE_MAX = few-bytes f.state.tables f.state.wire.own conn made.asked job made.admitted.checked e in
+      let most : length (made.turn.moves ++ moves) ≤ TURN_MAX =
+      bound-law job (bytes_of made.asked.call) f.before.polling f.before.own all few
+      (λ off. made.on_plan (stands ∙ ap (stand_of_job f.before made.asked.call all) e ∙ off)) in
+      omega (arith, length-append made.turn.moves moves, most)
 
 move-few : (f g : FineState) (conn : ℕ) (moves : List Transfer) → fine f (Move conn moves) ≡ Some g → length moves ≤ TURN_MAX
-move-few f g conn moves h =
-    by f.turn (chosen (may_move f conn moves f.turn) (Some (fine_after f (Move conn moves) f.dialed (record f.state { wire = wire_after f.state.wire moves }))) g
-    (step-made f g (Move conn moves) h)).0 where
-      by : (turn : Option Turn) → may_move f conn moves turn ≡ true → length moves ≤ TURN_MAX
-      by None x = cc
-      by (Some u) x =
-          let tests = and_parts ((u.connection == conn) && goes_on f.state conn (pending_at f.state.tables conn)) (is_on (turn_stand f u (u.moves ++ moves))) x in
-          let both = and_parts (u.connection == conn) (goes_on f.state conn (pending_at f.state.tables conn)) tests.0 in
-          let goes = goes-so f conn (pending_at f.state.tables conn) both.1 in
-          few-of-job f u conn moves goes.0 (eqb-true u.connection conn both.0) goes.1 goes.2 tests.1
+move-few f g conn moves h = few-of-job f g conn moves (fine-does f g (Move conn moves) h).step
 
 -- a poll makes at most as many transfers as a turn may
 polls-few : (f g : FineState) (conn now : ℕ) (moves : List Transfer) (ending : Ending) → Polls f conn now moves ending g → length moves ≤ TURN_MAX

@@ -1,8 +1,8 @@
 -- A poll that goes on with its call's turn.
-use Rattle.std.proofs.Common.{◌≡◌, ◌≢◌, ◌≤◌, ◌==◌, ℕ, Bool, true, false, cond, ◌⊎◌, inl, inr, List, [], ◌∷◌, ◌++◌, map, append-nil, Option, Some, None, refl, sym, ap, ◌∙◌, subst, arith}
+use Rattle.std.proofs.Common.{◌≡◌, ◌≤◌, ◌==◌, ℕ, Bool, true, false, cond, ◌⊎◌, inl, inr, List, [], ◌∷◌, ◌++◌, map, append-nil, Option, Some, None, refl, sym, ap, ◌∙◌, subst, arith}
 use Rattle.std.specs.Prelude.{IsSome, is_some, not, ◌||◌}
 use Rattle.std.specs.Option.{option_and_then}
-use Rattle.std.proofs.lemmas.Bool.{cases_Bool, cond-true, eq-eqb, eqb-true}
+use Rattle.std.proofs.lemmas.Bool.{cond-true, eq-eqb}
 use Rattle.std.proofs.lemmas.Option.{same_Some}
 use Rattle.std.proofs.Math.Bool.{or-true}
 use Rattle.vx_calls.specs.declared.limits.TheConstants.{ROLE_MAX, READ_MAX}
@@ -12,17 +12,15 @@ use Rattle.vx_calls.specs.Reply.{Reply}
 use Rattle.vx_calls.specs.declared.calls.Role.TheVariants as role
 use Rattle.vx_488.specs.declared.transfers.TheConstants.{ADDRESS_MAX}
 use Rattle.vx_488.specs.declared.transfers.Transfer.{Transfer}
-use Rattle.vx_488.specs.declared.transfers.Transfer.TheVariants as transfer
 use Rattle.vx_488.specs.declared.wire.Wire.{Wire}
-use Rattle.vx_488.specs.Wire.{step, wire_after}
+use Rattle.vx_488.specs.Wire.{wire_after}
 use Rattle.vx_plan.specs.declared.tasks.Task.{Task}
 use Rattle.vx_plan.specs.declared.tasks.Task.TheVariants as task
-use Rattle.vx_plan.specs.Plan.{Slot, Plan, Reading, Part, Off, stand_of, stand, left_after, next_slot}
+use Rattle.vx_plan.specs.Plan.{Slot, Plan, Reading, Part, stand_of, stand, left_after, next_slot}
 use Rattle.vx_plan.specs.Results.{whole_reply}
-use Rattle.vx_plan.specs.Tasks.{plan, is_own_task, IsPlainTask}
-use Rattle.vx_plan.specs.ProvedLaws.{left_after-none, left_after-append, left-on, own-job}
-use Rattle.vx_plan.proofs.Turns.{own_stays-law}
-use Rattle.vx_flow.proofs.Whom.{just-front}
+use Rattle.vx_plan.specs.Tasks.{plan, IsPlainTask}
+use Rattle.vx_plan.specs.ProvedLaws.{left_after-none, left_after-append, left-on}
+use Rattle.vx_flow.specs.ProvedLaws.{OwnHas, own-after, finished_law-holds, broken_law-holds, timeout_law-holds, held_law-holds}
 use Rattle.vx_bus_traits.specs.Means.{Means}
 use Rattle.vx_bus_traits.specs.Steps.{Step, Went}
 use Rattle.vx_bus_traits.specs.Walks.{Walk}
@@ -40,7 +38,6 @@ use Rattle.vx_flow.specs.Fine.{fine, job_of, turn_stand, call_stand}
 use Rattle.vx_flow.specs.Sound.{IsSound}
 use Rattle.vx_flow.specs.Poll.{Ran, Finished, Paused, Broken, Held, Ending, Answered, Waited, Polls, is_broken, ran_of, run_events}
 use Rattle.vx_flow.specs.Ways.{GoesOnBy, over, moved_on}
-use Rattle.vx_flow.proofs.Ways.{finished_law-holds, broken_law-holds, timeout_law-holds, held_law-holds}
 use Rattle.vx_kernel.specs.declared.running.Running.{Running}
 use Rattle.vx_kernel.specs.declared.ended.Why.TheVariants as why
 use Rattle.vx_kernel.specs.declared.ended.Ended.{Ended}
@@ -51,6 +48,7 @@ use Rattle.vx_kernel.specs.KernelState.{KernelState}
 use Rattle.vx_kernel.specs.Shown.{fine_of, turn_shown, before_shown, running_of, running_without, closed}
 use Rattle.vx_kernel.specs.Keeping.{RunsTurn, KeepsDials, Holds}
 use Rattle.vx_kernel.specs.Turning.{HasTurn, WentOn}
+use Rattle.vx_kernel.specs.ProvedLaws.{running-own}
 use Rattle.vx_kernel.specs.Polling.{wanted, wanted_by, refused_ask, level_of, IsTold, PollsOver, EndsFrom}
 use Rattle.vx_core.proofs.Keeping.{keeps-after}
 use Rattle.vx_core.proofs.Ends.{behind-own, sound-along, answer-ends, fine-closed}
@@ -70,23 +68,10 @@ part-or-still p ts us left later h then_so = by left.front left.reading us (sym 
 
 -- ---- the gateway's own address
 
-own-front : (n : ℕ) (ts more : List Transfer) (w : Wire) → w.own ≤ ADDRESS_MAX → n ≤ ADDRESS_MAX → ts ++ more ≡ transfer.Own n ∷ [] → (wire_after w ts).own ≤ ADDRESS_MAX
-own-front n [] more w h within e = h
-own-front n (t ∷ []) more w h within e = let same : t ≡ transfer.Own n = cc in subst (λ x. (step w x).own ≤ ADDRESS_MAX) (sym same) within
-own-front n (t ∷ u ∷ us) more w h within e = cc
-
--- a list on the plan of a job with addresses up to 30 leaves an own address up to 30
-own-after : (job : Task) (bytes : List ℕ) (polling : Bool) (own : ℕ) (ts : List Transfer) (w : Wire) → w.own ≤ ADDRESS_MAX → IsPlainTask job → stand (plan job bytes polling own) ts ≢ Off
-    → (wire_after w ts).own ≤ ADDRESS_MAX
-own-after job bytes polling own ts w h within on = by (cases_Bool (is_own_task job)) where
-  new : (n : ℕ) → IsPlainTask (task.Own n) → stand (plan (task.Own n) bytes polling own) ts ≢ Off → (wire_after w ts).own ≤ ADDRESS_MAX
-  new n within on = let end = just-front (transfer.Own n ∷ []) ts on in own-front n ts end.0 w h within end.1
-
-  by : (is_own_task job ≡ true) ⊎ (is_own_task job ≡ false) → (wire_after w ts).own ≤ ADDRESS_MAX
-  by (inl e) =
-      let is = own-job job e in
-      new is.0 (subst IsPlainTask is.1 within) (subst (λ j. stand (plan j bytes polling own) ts ≢ Off) is.1 on)
-  by (inr e) = subst (λ n. n ≤ ADDRESS_MAX) (sym (own_stays-law job bytes polling own ts w e on)) h
+-- a new own address is up to 30, where the job can be done
+plain-own : (job : Task) → IsPlainTask job → OwnHas (λ n. n ≤ ADDRESS_MAX) job
+plain-own (task.Own n) within = within
+plain-own _ within = tt
 
 -- ---- where a turn stands
 
@@ -109,14 +94,6 @@ stands-so f u p job moves at has_job =
 -- the turn under way, as events know it
 abbrev pub turn_by : {B : Type 0} → KernelState B → Running → Turn
 turn_by k r = record { connection = r.conn; begun = r.turn.begun; moves = k.made }
-
--- the turn of a connection is the one under way
-own-of : (o : Option Running) (conn : ℕ) (r : Running) → running_of o conn ≡ Some r → (o ≡ Some r) × (r.conn ≡ conn)
-own-of None conn r h = cc
-own-of (Some q) conn r h = by (q.conn == conn) refl h where
-  by : (b : Bool) → (q.conn == conn) ≡ b → cond b (Some q) None ≡ Some r → (Some q ≡ Some r) × (r.conn ≡ conn)
-  by true e x = (x, ap (λ (y : Running). y.conn) (sym (same_Some q r x)) ∙ eqb-true q.conn conn e)
-  by false e x = cc
 
 -- what a poll knows of its call's turn once that went on by the bus's transfers, to this outcome
 pub record HasGone {B : Type 0} (means : B → Means) (through : B → Step → B → Type 0) (k : KernelState B) (conn : ℕ) (r : Running) (outcome : Outcome) (m : KernelState B) : Type 0 where
@@ -144,7 +121,7 @@ has-gone {B} means through k conn outcome m has went =
     let r = has.running in
     let f : FineState = fine_of means k in
     let moves : List Transfer = (means m.bus).moves in
-    let own = own-of k.running conn r has.is_own in
+    let own = running-own k.running conn r has.is_own in
     let old = has.holds.runs r own.0 in
     let p : Pending = went.runs.asked in
     let here : pending_at k.tables r.conn ≡ Some p = sym (ap (λ (s : KernelState B). pending_at s.tables r.conn) went.kept) ∙ went.runs.call_at in
@@ -193,7 +170,7 @@ has-gone {B} means through k conn outcome m has went =
           ∙ ap (λ b. M (wire_after (means k.bus).wire moves) b k.before) went.begun
           ∙ ap (M (wire_after (means k.bus).wire moves) r.turn.begun) (sym before);
       own = subst (λ (w : Wire). w.own ≤ ADDRESS_MAX) (sym wire_now)
-          (own-after r.turn.task (bytes_of p.call) k.before.polling k.before.own (k.made ++ moves) k.before old.own old.plain
+          (own-after (λ n. n ≤ ADDRESS_MAX) r.turn.task (bytes_of p.call) k.before.polling k.before.own (k.made ++ moves) k.before old.own (plain-own r.turn.task old.plain)
           (left-on (left_after (Some (plan_at k.before p r.turn.task)) (k.made ++ moves)) went.goes.left later));
       runs = λ s is. subst (RunsTurn means m) (same_Some ran s (sym running ∙ is)) went.runs;
       tables = ap (λ (s : KernelState B). s.tables) went.kept;

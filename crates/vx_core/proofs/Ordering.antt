@@ -21,16 +21,15 @@ use Rattle.vx_rules.specs.Checks.{named_link}
 use Rattle.vx_rules.specs.Dials.{dials_to}
 use Rattle.vx_rules.specs.Lines as lines
 use Rattle.vx_rules.specs.Lines.{first_lines, lock_request}
-use Rattle.vx_rules.specs.Shown.{lines_shown}
-use Rattle.vx_rules.specs.declared.tables.lines.Admission.{Admission}
+use Rattle.vx_tables.specs.Shown.{lines_shown}
+use Rattle.vx_tables.specs.declared.tables.lines.Admission.{Admission}
 use Rattle.vx_rules.specs.Effects.{stopped_reply, effect}
 use Rattle.vx_flow.specs.Event.{Begin}
 use Rattle.vx_flow.specs.FineState.{Turn, FineState, turn_of, moves_of}
 use Rattle.vx_flow.specs.Fine.{fine, job_of, wire_for, waits_for, waits_for_turn, on_conflict, turn_target, may_begin, without_dial}
 use Rattle.vx_flow.specs.Poll.{Still, Locked, InTurn, Ending, Answered, Waited, Dialed, Polls, lines_at, moved_events, run_events}
 use Rattle.vx_flow.specs.Ways.{IsPolled, over, begun_now}
-use Rattle.vx_flow.proofs.Gathering.{stays_sound-law}
-use Rattle.vx_flow.proofs.Ways.{refused_law-holds, waiting_law-holds, in_turn_law-holds, no_role_law-holds, effect_law-holds, dial_law-holds, begun_law-holds}
+use Rattle.vx_flow.specs.ProvedLaws.{stays_sound-law, refused_law-holds, waiting_law-holds, in_turn_law-holds, no_role_law-holds, effect_law-holds, dial_law-holds, begun_law-holds}
 use Rattle.vx_kernel.specs.declared.running.Running.{Running}
 use Rattle.vx_kernel.specs.declared.ended.Why.TheVariants as why
 use Rattle.vx_kernel.specs.declared.ended.Ended.{Ended}
@@ -41,7 +40,7 @@ use Rattle.vx_kernel.specs.Ending.{ended_shown, ended_len}
 use Rattle.vx_kernel.specs.Keeping.{RunsTurn, KeepsDials, Holds}
 use Rattle.vx_kernel.specs.Turning.{HasHeard, HasPassed, IsFree, HasTurn, BeginsTurn, turn_waited}
 use Rattle.vx_kernel.specs.Polling.{PollsOver, EndsFrom}
-use Rattle.vx_kernel.proofs.Turning.{own-is, the_pending}
+use Rattle.vx_kernel.specs.ProvedLaws.{own-is, the_pending}
 use Rattle.vx_core.proofs.Ends.{begun-so, still-ends, waits-ends, dials-ends}
 
 -- ---- a call that is polled

@@ -1,33 +1,32 @@
 -- The answer of a create_intr_chan whose dial was made.
 use Rattle.std.proofs.Common.{◌≡◌, ◌≤◌, ◌<◌, ◌==◌, ℕ, ◌⊎◌, inl, inr, Bool, true, false, cond, List, [], ◌∷◌, length, Option, Some, None, refl, sym, ap, ◌∙◌, subst, arith}
-use Rattle.std.specs.Prelude.{max, not, nat_le, nat_lt, is_some, ◌&&◌, ◌||◌}
-use Rattle.std.specs.Option.{option_map, option_and_then}
+use Rattle.std.specs.Prelude.{max, not, nat_lt, is_some, ◌&&◌, ◌||◌}
 use Rattle.std.specs.List.{All, list_any}
-use Rattle.std.proofs.lemmas.Bool.{false≢true, cond-true, le-leb, and_from, or_cases, or_right, eqb-true}
+use Rattle.std.proofs.lemmas.Bool.{false≢true, le-leb, or_cases, eqb-true}
 use Rattle.std.proofs.lemmas.Bool.Decides.{nat_tests}
 use Rattle.std.proofs.lemmas.List.Elements.{All-head, All-tail}
+use Rattle.std.proofs.lemmas.Option.{same_Some}
 use Rattle.std.proofs.Math.Bool.{and-false}
 use Rattle.vx_calls.specs.declared.limits.TheConstants.{CONNECTION_LAST}
 use Rattle.vx_calls.specs.declared.codes.ErrorCode.{ErrorCode}
+use Rattle.vx_calls.specs.declared.codes.ErrorCode.TheVariants as code
 use Rattle.vx_calls.specs.Call.{Call}
 use Rattle.vx_calls.specs.Call as call
-use Rattle.vx_calls.specs.Reply.{Reply, same_reply}
+use Rattle.vx_calls.specs.Reply.{Reply}
 use Rattle.vx_calls.specs.Reply as reply
-use Rattle.vx_calls.proofs.Laws.{same_reply-refl}
-use Rattle.vx_srq.specs.SrqState.{channel_at, has_number}
 use Rattle.vx_bus_traits.specs.Means.{Means}
 use Rattle.vx_bus_traits.specs.Steps.{Step, Told, Cut}
 use Rattle.vx_bus_traits.specs.Walks.{Walk}
-use Rattle.vx_rules.specs.State.{Pending, Tables, State, pending_at, with_pending}
-use Rattle.vx_rules.specs.Checks.{check_channel}
-use Rattle.vx_rules.specs.Lines.{Passed, first_lines, checked_lines}
+use Rattle.vx_rules.specs.SrqState.{channel_at, has_number, with_new_channel}
+use Rattle.vx_rules.specs.State.{Pending, Tables, pending_at, with_pending}
+use Rattle.vx_rules.specs.Calls.{is_bus_call, is_lock_call}
+use Rattle.vx_rules.specs.Checks.{check_channel, check, named_link}
+use Rattle.vx_rules.specs.Lines.{lock_request, holder_against}
 use Rattle.vx_rules.specs.Effects.{settle}
-use Rattle.vx_rules.specs.Decide.{Outside, by_lines, has_job_role}
-use Rattle.vx_rules.specs.One.{answer, answered, answer_to, if_reply}
-use Rattle.vx_flow.specs.Event.{Event, Answer}
-use Rattle.vx_flow.specs.FineState.{Turn, FineState, turn_of, turn_after}
-use Rattle.vx_flow.specs.Fine.{fine_step, fine_after, outside, wire_for, is_answered, passes_lines, may_answer, waits_for_turn, answered_fine, without_dial, job_of}
-use Rattle.vx_flow.specs.Ways.{turn_left_by}
+use Rattle.vx_flow.specs.Event.{Answer}
+use Rattle.vx_flow.specs.FineState.{Turn, FineState}
+use Rattle.vx_flow.specs.Fine.{outside, wire_for, waits_for_turn, on_conflict, turn_target}
+use Rattle.vx_flow.specs.Does.{IsClear, AnsweredBy, ByDialUp, ByDialDown}
 use Rattle.vx_kernel.specs.KernelState.{KernelState}
 use Rattle.vx_kernel.specs.CoreState.{CoreState, core_of}
 use Rattle.vx_kernel.specs.Shown.{cut_means, fine_of, closed}
@@ -59,46 +58,6 @@ is_dialed t dialed conn k h = among (IsDialed t) conn dialed k.each h
 pub number_left : (t : Tables) (dialed : List ℕ) (conn : ℕ) → KeepsDials t dialed → list_any (λ n. n == conn) dialed ≡ true → has_number t.srq_state ≡ true
 number_left t dialed conn k h = le-leb t.srq_state.next_channel CONNECTION_LAST (omega (arith, k.numbers, some-among conn dialed h))
 
--- a create_intr_chan that came at this moment, unmarked
-abbrev called : (host port prog vers family arrival : ℕ) → Pending
-called host port prog vers family arrival = record { call = call.CreateIntr host port prog vers family; arrival = arrival; aborted = false }
-
--- a connection's create_intr_chan which its checks let pass, but for the number of a channel
-record MayCome (t : Tables) (conn : ℕ) : Type 0 where
-  host : ℕ
-  port : ℕ
-  prog : ℕ
-  vers : ℕ
-  family : ℕ
-  arrival : ℕ
-  call_at : pending_at t conn ≡ Some (called host port prog vers family arrival)
-  tcp : family ≡ 0
-  above : 0 < port
-  within : port ≤ 65535
-  free : channel_at t.srq_state conn ≡ None
-
--- a call of which a dial was asked for is one
-may_come : (t : Tables) (conn : ℕ) → IsDialed t conn → MayCome t conn
-may_come t conn d = by d.asked.call refl d.dialable
-  where
-    by : (asked : Call) → d.asked.call ≡ asked → IsDialable asked → MayCome t conn
-    by (call.CreateIntr host port prog vers family) is able =
-        let of : Call → Bool → Pending = λ c b. record { call = c; arrival = d.asked.arrival; aborted = b } in
-        record {
-          host = host;
-          port = port;
-          prog = prog;
-          vers = vers;
-          family = family;
-          arrival = d.asked.arrival;
-          call_at = d.call_at ∙ ap (λ c. Some (of c d.asked.aborted)) is ∙ ap (λ b. Some (of (call.CreateIntr host port prog vers family) b)) d.unmarked;
-          tcp = able.0;
-          above = able.1;
-          within = able.2;
-          free = d.free;
-        }
-    by _ is able = absurd able
-
 -- ---- its answer
 
 -- four tests, one after the other
@@ -115,61 +74,56 @@ is_port : (n : ℕ) → 0 < n → n ≤ 65535 → ((n == 0) || nat_lt 65535 n) �
 is_port n above within = grind (arith, nat_tests)
 
 -- its checks let it pass
-unchecked : (t : Tables) (conn : ℕ) (m : MayCome t conn) → has_number t.srq_state ≡ true → check_channel t conn true m.family m.port ≡ None
-unchecked t conn m left =
-    tests_pass (not (m.family == 0)) ((m.port == 0) || nat_lt 65535 m.port) (is_some (channel_at t.srq_state conn)) (has_number t.srq_state) _ _ _ _
-    (is_tcp m.family m.tcp) (is_port m.port m.above m.within) (ap is_some m.free) left
-
--- and so do the first lines: it names no link, and is under no lock
-lines_pass : (t : Tables) (own conn now : ℕ) (m : MayCome t conn) → has_number t.srq_state ≡ true
-    → first_lines t own conn true (called m.host m.port m.prog m.vers m.family m.arrival) now ≡ Passed
-lines_pass t own conn now m left =
-    ap (λ e. checked_lines (called m.host m.port m.prog m.vers m.family m.arrival) now e None) (unchecked t conn m left)
+unchecked : (t : Tables) (conn family port : ℕ) → channel_at t.srq_state conn ≡ None → has_number t.srq_state ≡ true → family ≡ 0 → 0 < port → port ≤ 65535
+    → check_channel t conn true family port ≡ None
+unchecked t conn family port free left tcp above within =
+    tests_pass (not (family == 0)) ((port == 0) || nat_lt 65535 port) (is_some (channel_at t.srq_state conn)) (has_number t.srq_state) _ _ _ _
+    (is_tcp family tcp) (is_port port above within) (ap is_some free) left
 
 -- it waits for nobody's turn
-waits_not : (t : Tables) (own conn host port prog vers family arrival : ℕ) (turn : Option Turn)
-    → waits_for_turn t own conn (called host port prog vers family arrival) turn ≡ false
-waits_not t own conn host port prog vers family arrival None = refl
-waits_not t own conn host port prog vers family arrival (Some u) = and-false (not (u.connection == conn))
+waits-not : (t : Tables) (own conn : ℕ) (p : Pending) (host port prog vers family : ℕ) (turn : Option Turn) → p.call ≡ call.CreateIntr host port prog vers family
+    → waits_for_turn t own conn p turn ≡ false
+waits-not t own conn p host port prog vers family None is = refl
+waits-not t own conn p host port prog vers family (Some u) is =
+    ap (λ (c : Call). not (u.connection == conn) && (is_bus_call c || (is_lock_call c && on_conflict (lock_request own (named_link t conn c) c) (turn_target t u)))) is
+    ∙ and-false (not (u.connection == conn))
 
--- the state behind its answer
-abbrev settled_fine : FineState → Event → ℕ → ℕ → Tables → FineState
-settled_fine f e conn now after =
-    fine_after f e (without_dial f.dialed conn) (record { tables = with_pending after conn None; wire = f.state.wire; moment = now })
-
--- the answer comes, with the effect of the dial
-settles-step : (f : FineState) (conn now : ℕ) (up : Bool) (told : Reply) (after : Tables) (m : MayCome f.state.tables conn) → has_number f.state.tables.srq_state ≡ true
-    → list_any (λ n. n == conn) f.dialed ≡ true → f.state.moment ≤ now
-    → settle f.state.tables conn (call.CreateIntr m.host m.port m.prog m.vers m.family) up ≡ Some (told, after)
-    → fine_step f (Answer conn now false (Some up) false told) ≡ Some (settled_fine f (Answer conn now false (Some up) false told) conn now after)
-settles-step f conn now up told after m left dialing late settles =
+-- the lines let it pass: it names no link, and is under no lock
+clear : (f : FineState) (conn : ℕ) (p : Pending) (host port prog vers family : ℕ) → p.aborted ≡ false → channel_at f.state.tables.srq_state conn ≡ None
+    → has_number f.state.tables.srq_state ≡ true → p.call ≡ call.CreateIntr host port prog vers family → IsDialable (call.CreateIntr host port prog vers family)
+    → IsClear f conn true p
+clear f conn p host port prog vers family unmarked free left is able =
     let t = f.state.tables in
-    let w = wire_for f conn in
-    let s : State = record f.state { wire = w } in
-    let o : Outside = outside f conn false (Some up) false in
-    let e : Event = Answer conn now false (Some up) false told in
-    let p : Pending = called m.host m.port m.prog m.vers m.family m.arrival in
-    let lines : first_lines t w.own conn true p now ≡ Passed = lines_pass t w.own conn now m left in
-    let free : not (waits_for_turn t w.own conn p f.turn) ≡ true = ap not (waits_not t w.own conn m.host m.port m.prog m.vers m.family m.arrival f.turn) in
-    let may : may_answer f conn p o ≡ true =
-    and_from _ _ (and_from _ _ free (or_right (is_some (turn_of f.turn conn)) (not (has_job_role f.state.wire (job_of t conn p))) refl)) dialing in
-    let comes : is_answered f conn now o (pending_at t conn) ≡ true = ap (is_answered f conn now o) m.call_at ∙ ap (passes_lines f conn p o) lines ∙ may in
-    let allowed : (nat_le f.state.moment now && is_answered f conn now o (pending_at t conn)) ≡ true =
-    and_from (nat_le f.state.moment now) (is_answered f conn now o (pending_at t conn)) (le-leb f.state.moment now late) comes in
-    let found : answer s conn now o ≡ Some (answered s conn now o.moves (told, after)) =
-    ap (option_and_then (answer_to s conn now o)) m.call_at
-    ∙ ap (λ l. option_map (answered s conn now o.moves) (by_lines t w conn p now o l)) lines
-    ∙ ap (option_map (answered s conn now o.moves)) settles in
-    cond-true (nat_le f.state.moment now && is_answered f conn now o (pending_at t conn)) _ _ allowed
-    ∙ ap (λ a. option_map (answered_fine f e conn) (option_and_then (if_reply told) a)) found
-    ∙ ap (option_map (answered_fine f e conn)) (cond-true (same_reply told told) (Some (answered s conn now o.moves (told, after)).1) None (same_reply-refl told))
+    let own : ℕ = (wire_for f conn).own in
+    record {
+      admitted = record {
+        unmarked = unmarked;
+        checked =
+            ap (λ (c : Call). check t own conn true (named_link t conn c) c) is
+            ∙ unchecked t conn family port free left able.0 able.1 able.2;
+        unlocked = ap (λ (c : Call). holder_against t own (named_link t conn c) c) is;
+      };
+      alone = waits-not t own conn p host port prog vers family f.turn is;
+    }
+
+-- the line that answers a call whose dial was made
+dial-line : (f : FineState) (conn now : ℕ) (p : Pending) (up : Bool) (told : Reply) (after : Tables) → p.aborted ≡ false
+    → channel_at f.state.tables.srq_state conn ≡ None → has_number f.state.tables.srq_state ≡ true → list_any (λ n. n == conn) f.dialed ≡ true
+    → (asked : Call) → p.call ≡ asked → IsDialable asked → settle f.state.tables conn asked up ≡ Some (told, after)
+    → AnsweredBy f conn now p (outside f conn false (Some up) false) told after
+dial-line f conn now p true told after unmarked free left dialing (call.CreateIntr host port prog vers family) is able settles =
+    let made = same_Some (reply.Error code.Ok, record f.state.tables { srq_state = with_new_channel f.state.tables.srq_state conn prog vers }) (told, after) settles in
+    ByDialUp (clear f conn p host port prog vers family unmarked free left is able)
+    (record { host = host; port = port; program = prog; version = vers; family = family; asks = is; wanted = dialing; told_so = refl; held = refl; untold = refl })
+    (ap (λ x. x.0) (sym made)) (ap (λ x. x.1) (sym made))
+dial-line f conn now p false told after unmarked free left dialing (call.CreateIntr host port prog vers family) is able settles =
+    let made = same_Some (reply.Error code.NoChannel, f.state.tables) (told, after) settles in
+    ByDialDown (clear f conn p host port prog vers family unmarked free left is able)
+    (record { host = host; port = port; program = prog; version = vers; family = family; asks = is; wanted = dialing; told_so = refl; held = refl; untold = refl })
+    (ap (λ x. x.0) (sym made)) (ap (λ x. x.1) (sym made))
+dial-line f conn now p up told after unmarked free left dialing _ is able settles = absurd able
 
 -- ---- a core whose dial was made
-
--- its answer ends the connection's turn
-answer-leaves : (conn now : ℕ) (up : Bool) (told : Reply) (turn : Option Turn) → turn_after turn (Answer conn now false (Some up) false told) ≡ turn_left_by turn conn
-answer-leaves conn now up told None = refl
-answer-leaves conn now up told (Some u) = refl
 
 -- the core behind its answer
 pub settles : {B : Type 0} (means : B → Means) (k : KernelState B) (bus : B) (conn now : ℕ) (up : Bool) (told : Reply) (after : Tables)
@@ -178,13 +132,17 @@ pub settles : {B : Type 0} (means : B → Means) (k : KernelState B) (bus : B) (
     → Steps means k (Answer conn (max k.moment now) false (Some up) false told)
     (closed (record k { bus = bus; tables = after; moment = max k.moment now }) conn)
 settles {B} means k bus conn now up told after keeps cut dialing d is =
-    let m = may_come k.tables conn d in
-    let e : Event = Answer conn (max k.moment now) false (Some up) false told in
-    let left = number_left k.tables k.dialed conn keeps.holds.dials dialing in
-    let same : d.asked ≡ called m.host m.port m.prog m.vers m.family m.arrival = cc (d.call_at, m.call_at) in
-    ends means k bus (with_pending after conn None) (max k.moment now) conn e refl (answer-leaves conn (max k.moment now) up told) keeps (cut-wire means k bus cut)
-    (settles-step (fine_of means k) conn (max k.moment now) up told after m left dialing (omega arith)
-    (ap (λ (p : Pending). settle k.tables conn p.call up) (sym same) ∙ is))
+    ends means k bus (with_pending after conn None) (max k.moment now) conn (Answer conn (max k.moment now) false (Some up) false told) refl keeps (cut-wire means k bus cut)
+    (record {
+      late = omega arith;
+      asked = d.asked;
+      call_at = d.call_at;
+      after = after;
+      line =
+          dial-line (fine_of means k) conn (max k.moment now) d.asked up told after d.unmarked d.free (number_left k.tables k.dialed conn keeps.holds.dials dialing) dialing
+          d.asked.call refl d.dialable is;
+      leads = refl;
+    })
 
 -- ---- the call, by what its steps ensure
 

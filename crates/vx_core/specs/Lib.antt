@@ -5,9 +5,8 @@ pub use Rattle.vx_488.specs.Wire
 pub use Rattle.vx_bus_traits.specs.Means
 pub use Rattle.vx_bus_traits.specs.Steps
 pub use Rattle.vx_bus_traits.specs.Walks
-pub use Rattle.vx_srq.specs.SrqState
+pub use Rattle.vx_rules.specs.SrqState
 pub use Rattle.vx_rules.specs.Calls
-pub use Rattle.vx_rules.specs.Held
 pub use Rattle.vx_rules.specs.One
 pub use Rattle.vx_rules.specs.Serving
 pub use Rattle.vx_rules.specs.State

@@ -10,4 +10,4 @@ mod shared;
 pub use polled::Polled;
 pub use shared::{Core, StartRefused};
 pub use vx_kernel::{Settled, Why};
-pub use vx_rules::Connect;
+pub use vx_tables::Connect;

@@ -14,7 +14,7 @@ use vx_bus_traits::Bus;
 use vx_calls::ErrorCode;
 use vx_ctrl::Went;
 use vx_kernel::{Ended, Kernel, Ran, Why};
-use vx_rules::Admission;
+use vx_tables::Admission;
 
 /// Answers the call of a connection by the first line of the order of answers that holds, or says why it isn't answered.
 pub(crate) fn poll<B: Bus>(kernel: &mut Kernel<B>, conn: u32, now: u64) -> Ended

@@ -10,11 +10,11 @@ ghost use Rattle.vx_488.specs.declared.transfers.TheConstants.{ADDRESS_MAX};
 ghost use Rattle.vx_488.specs.Wire.{first_wire};
 ghost use Rattle.vx_bus_traits.specs.Steps.{Told, Cut};
 ghost use Rattle.vx_bus_traits.specs.Walks.{Walk};
-ghost use Rattle.vx_srq.specs.SrqState.{channel_at};
+ghost use Rattle.vx_rules.specs.SrqState.{channel_at};
 ghost use Rattle.vx_srq.specs.Shown.{given_shown};
 ghost use Rattle.vx_rules.specs.State.{connection_at, pending_at, role_at, is_idle, lives_as, has_room};
 ghost use Rattle.vx_rules.specs.One.{may_wait};
-ghost use Rattle.vx_rules.specs.Held.{IsShort};
+ghost use Rattle.vx_rules.specs.Calls.{IsShort};
 ghost use Rattle.vx_rules.specs.Serving.{IsPlainLink};
 ghost use Rattle.vx_flow.specs.Event.{Up, Down, Arrive, Answer, Abort, Sample, Take};
 ghost use Rattle.vx_flow.specs.FineState.{first_fine};
@@ -30,7 +30,7 @@ use vx_488::Transfer;
 use vx_bus_traits::{Bus, Tweak};
 use vx_calls::{CallRef, ErrorCode, Role, Taken};
 use vx_kernel::{Ended, Kernel, Rooms, Settled};
-use vx_rules::{Connect, Tables};
+use vx_tables::{Connect, Tables};
 
 /// Memory ran out as the core was to start; the bus comes back.
 #[derive(Drop)]

@@ -6,17 +6,17 @@ use Rattle.std.proofs.lemmas.Bool.{cases_Bool, cases_eq}
 use Rattle.std.proofs.lemmas.Option.{none-some, same_Some}
 use Rattle.std.proofs.lemmas.List.Elements.{Contains-append_left, Contains-push, Contains-push_cases}
 use Rattle.vx_calls.specs.declared.calls.Role.{Role}
-use Rattle.vx_rules.specs.State.{Tables}
 use Rattle.vx_flow.specs.Event.{Event, Up, Down, Arrive, Answer, Abort, Sample, Take, Begin, Move, Dial}
 use Rattle.vx_flow.specs.FineState.{FineState}
 use Rattle.vx_flow.specs.Fine.{fine}
+use Rattle.vx_flow.specs.ProvedLaws.{fine-does}
 use Rattle.vx_group.specs.Phases.{Phase, Absent, Idle, Asked, phase_after, phase_by, is_up, HasPhase}
 use Rattle.vx_group.specs.Owning.{owner_of, may_make}
-use Rattle.vx_history.proofs.Doing.{fine-does}
 use Rattle.vx_history.proofs.Onward.{fine-onward}
 use Rattle.vx_history.proofs.Plainly.{Plainly, fine-plainly}
-use Rattle.vx_history.proofs.Rows.{changes, does-keeps}
-use Rattle.vx_history.proofs.Phasing.{phase-more, phase-other, keeps-phase, changes-or, made-phase}
+use Rattle.vx_history.proofs.Rows.{changes, fine-keeps}
+use Rattle.vx_history.specs.ProvedLaws.{phase-append}
+use Rattle.vx_history.proofs.Phasing.{phase-other, keeps-phase, changes-or, made-phase}
 
 -- the events of each pass, by its number
 abbrev pub Own : Type 0
@@ -86,8 +86,8 @@ record UsesNext (f g : FineState) (conn : ℕ) : Type 0 where
 -- so it is where it is allowed to come up
 up-uses : (f g : FineState) (e : Event) (conn : ℕ) (r : Role) → e ≡ Up conn r → fine f e ≡ Some g → UsesNext f g conn
 up-uses f g e conn r is h =
-    let d = fine-does (Up conn r) f g (subst (λ x. fine f x ≡ Some g) is h) in
-    record { is = d.number; after = ap (λ (t : Tables). t.next_connection) d.has.tables ∙ ap (λ n. n + 1) (sym d.number) }
+    let d = (fine-does f g (Up conn r) (subst (λ x. fine f x ≡ Some g) is h)).step in
+    record { is = d.number; after = ap (λ (x : FineState). x.state.tables.next_connection) d.leads ∙ ap (λ n. n + 1) (sym d.number) }
 
 -- ---- one event more
 
@@ -169,7 +169,7 @@ module _ (own new : Own) (n : ℕ) (e : Event) (f g : FineState) (more : OneMore
     by : (k ≡ n) ⊎ (k ≡ n → ⊥) → HasRaised (new k) conn
     by (inl is) =
         subst (λ j. HasRaised (new j) conn) (sym is)
-        (at (sym (ap is_up (phase-more conn Absent (own n) e)) ∙ ap (λ es. is_up (phase_by conn es)) (sym more.here ∙ ap new (sym is)) ∙ up) (changes-or e conn))
+        (at (sym (ap is_up (phase-append conn Absent (own n) (e ∷ []))) ∙ ap (λ es. is_up (phase_by conn es)) (sym more.here ∙ ap new (sym is)) ∙ up) (changes-or e conn))
     by (inr ne) =
         raised-still k conn (known.raised k conn (ap (λ es. is_up (phase_by conn es)) (sym (more.there k ne)) ∙ up))
 
@@ -185,7 +185,7 @@ module _ (own new : Own) (n : ℕ) (e : Event) (f g : FineState) (more : OneMore
   other-phase k conn ne = by (changes-or e conn) (cases_Bool (is_up (phase_by conn (own k)))) where
     by : (changes e ≡ Some conn) ⊎ (changes e ≡ Some conn → ⊥) → (is_up (phase_by conn (own k)) ≡ true) ⊎ (is_up (phase_by conn (own k)) ≡ false)
         → HasPhase g conn (phase_by conn (own k))
-    by (inr other) up = keeps-phase (phase_by conn (own k)) f g conn (does-keeps e f g conn other (fine-does e f g h)) (known.phases k conn)
+    by (inr other) up = keeps-phase (phase_by conn (own k)) f g conn (fine-keeps e f g conn other h) (known.phases k conn)
     by (inl is) (inl up) = absurd (not-another k conn ne (changes-owner e conn is) up)
     by (inl is) (inr down) = absent-phase (phase_by conn (own k)) g conn down
 
@@ -195,7 +195,7 @@ module _ (own new : Own) (n : ℕ) (e : Event) (f g : FineState) (more : OneMore
     by : (k ≡ n) ⊎ (k ≡ n → ⊥) → HasPhase g conn (phase_by conn (new k))
     by (inl is) =
         subst (λ es. HasPhase g conn (phase_by conn es)) (sym (ap new is ∙ more.here))
-        (made-phase e (own n) f g conn may known.plain (known.phases n conn) (fine-does e f g h))
+        (made-phase e (own n) f g conn may known.plain (known.phases n conn) h)
     by (inr ne) = subst (λ es. HasPhase g conn (phase_by conn es)) (sym (more.there k ne)) (other-phase k conn ne)
 
   -- all of it is known behind one event more, which the pass may make

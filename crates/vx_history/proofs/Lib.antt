@@ -1,5 +1,3 @@
-pub mod Answering
-pub mod Doing
 pub mod Onward
 pub mod Standing
 pub mod Plainly

@@ -1,6 +1,5 @@
 -- The state has a connection as its own events tell, behind each event.
 use Rattle.std.proofs.Common.{◌≡◌, ◌==◌, ◌++◌, ◌⊎◌, inl, inr, ℕ, Bool, true, false, cond, List, [], ◌∷◌, Option, Some, None, refl, sym, ap, ◌∙◌, subst}
-use Rattle.std.specs.List.{find}
 use Rattle.std.specs.Option.{option_map, option_and_then}
 use Rattle.std.proofs.lemmas.Bool.{false≢true, eq-eqb, ne_eqb, cond-true, cond-false, cases_eq}
 use Rattle.std.proofs.lemmas.Option.{none-some, same_Some}
@@ -8,26 +7,24 @@ use Rattle.vx_lemmas.specs.Options.{mapped}
 use Rattle.vx_calls.specs.declared.calls.Role.{Role}
 use Rattle.vx_calls.specs.declared.calls.Role.TheVariants as role
 use Rattle.vx_calls.specs.Call.{Call}
-use Rattle.vx_rules.specs.State.{Pending, Connection, Tables, role_at, pending_at}
+use Rattle.vx_calls.specs.Reply.{Reply}
+use Rattle.vx_rules.specs.State.{Pending, Connection, role_at, pending_at}
+use Rattle.vx_rules.specs.Decide.{Outside}
 use Rattle.vx_rules.specs.One.{arrived}
+use Rattle.vx_rules.specs.RowLaws.{role-pending, role-same, pending-put, pending-up}
 use Rattle.vx_flow.specs.Event.{Event, Up, Down, Arrive, Answer, Abort, Sample, Take, Begin, Move, Dial}
 use Rattle.vx_flow.specs.FineState.{FineState}
-use Rattle.vx_flow.specs.Fine.{without_dial}
+use Rattle.vx_flow.specs.Fine.{outside, without_dial, fine}
 use Rattle.vx_flow.specs.Poll.{at_moment}
-use Rattle.vx_flow.proofs.Rows.{pending-up}
-use Rattle.vx_group.specs.Phases.{Phase, Absent, Idle, Asked, dialing, phase_after, phase_along, phase_by, is_up, IsAsked, HasPhase}
+use Rattle.vx_flow.specs.Does.{ComesUp, Comes, IsAnswered, Dials, Step}
+use Rattle.vx_flow.specs.ProvedLaws.{fine-does, line-leaves}
+use Rattle.vx_group.specs.Phases.{Phase, Absent, Idle, Asked, dialing, phase_after, phase_by, is_up, IsAsked, HasPhase}
 use Rattle.vx_group.specs.Owning.{may_make}
-use Rattle.vx_history.proofs.Answering.{IsAnswered}
-use Rattle.vx_history.proofs.Doing.{ComesUp, Comes, Dials, Does}
+use Rattle.vx_history.specs.ProvedLaws.{phase-append}
 use Rattle.vx_history.proofs.Plainly.{Plainly, none-below, undialed-below}
-use Rattle.vx_history.proofs.Rows.{role-pending, role-new, pending-put, is_dialed, dialed-gone, dialed-more, changes, Keeps, does-keeps}
+use Rattle.vx_history.proofs.Rows.{role-new, is_dialed, dialed-gone, dialed-more, changes, Keeps, fine-keeps}
 
 -- ---- phases
-
--- the phase behind one more event
-pub phase-more : (conn : ℕ) (phase : Phase) (es : List Event) (e : Event) → phase_along conn phase (es ++ e ∷ []) ≡ phase_after conn (phase_along conn phase es) e
-phase-more conn phase [] e = refl
-phase-more conn phase (x ∷ es) e = phase-more conn (phase_after conn phase x) es e
 
 -- an event that doesn't change the connection leaves its phase
 chosen-other : (c conn : ℕ) (x y : Phase) → (Some c ≡ Some conn → ⊥) → cond (c == conn) x y ≡ y
@@ -98,9 +95,9 @@ up-phase f g conn r plain d =
     let t = f.state.tables in
     let n = t.next_connection in
     subst (λ k. HasPhase g k (Idle r)) (sym d.number) (
-      ap (λ (x : Tables). role_at x n) d.has.tables ∙ role-new t r plain.numbers,
-      ap (λ (x : Tables). pending_at x n) d.has.tables ∙ pending-up t r n ∙ ap (option_and_then (λ (c : Connection). c.pending)) (none-below n t.connections plain.numbers),
-      ap (is_dialed n) d.has.dialed_are ∙ undialed-below n f.dialed plain.dials,
+      ap (λ (x : FineState). role_at x.state.tables n) d.leads ∙ role-new t r plain.numbers,
+      ap (λ (x : FineState). pending_at x.state.tables n) d.leads ∙ pending-up t r n ∙ ap (option_and_then (λ (c : Connection). c.pending)) (none-below n t.connections plain.numbers),
+      ap (λ (x : FineState). is_dialed n x.dialed) d.leads ∙ undialed-below n f.dialed plain.dials,
     )
 
 -- a call comes
@@ -109,24 +106,25 @@ arrive-phase : (phase : Phase) (f g : FineState) (conn : ℕ) (asked : Call) (no
 arrive-phase phase f g conn asked now up phases d =
     let t = f.state.tables in
     let p = arrived asked now in (
-      ap (λ (x : Tables). role_at x conn) d.has.tables ∙ role-pending t conn conn (Some p) ∙ d.core,
+      ap (λ (x : FineState). role_at x.state.tables conn) d.leads ∙ role-pending t conn conn (Some p) ∙ d.core,
       record {
         pending = p;
-        call_at = ap (λ (x : Tables). pending_at x conn) d.has.tables ∙ pending-put t conn (Some p) role.Core d.core;
+        call_at = ap (λ (x : FineState). pending_at x.state.tables conn) d.leads ∙ pending-put t conn (Some p) role.Core d.core;
         call_is = refl;
-        dialed_is = ap (is_dialed conn) d.has.dialed_are ∙ idle-undialed phase f conn up phases d.idle;
+        dialed_is = ap (λ (x : FineState). is_dialed conn x.dialed) d.leads ∙ idle-undialed phase f conn up phases d.idle;
       },
     )
 
 -- it is answered
-answer-phase : (phase : Phase) (f g : FineState) (conn now : ℕ) → is_up phase ≡ true → HasPhase f conn phase → IsAnswered f conn now g → HasPhase g conn (Idle role.Core)
-answer-phase phase f g conn now up phases d =
+answer-phase : (phase : Phase) (f g : FineState) (conn now : ℕ) (o : Outside) (told : Reply) → is_up phase ≡ true → HasPhase f conn phase → IsAnswered f conn now o told g
+    → HasPhase g conn (Idle role.Core)
+answer-phase phase f g conn now o told up phases d =
     let t = f.state.tables in
     let core = asked-core phase f conn d.asked up phases d.call_at in
-    let after : role_at d.after conn ≡ Some role.Core = ap (λ cs. option_map (λ (c : Connection). c.role) (find (λ c. c.number == conn) cs)) d.steady.connections ∙ core in (
-      ap (λ (x : Tables). role_at x conn) d.tables ∙ role-pending d.after conn conn None ∙ after,
-      ap (λ (x : Tables). pending_at x conn) d.tables ∙ pending-put d.after conn None role.Core after,
-      ap (is_dialed conn) d.dialed ∙ dialed-gone conn f.dialed,
+    let after : role_at d.after conn ≡ Some role.Core = role-same t d.after conn (line-leaves f conn now d.asked o told d.after d.line).connections ∙ core in (
+      ap (λ (x : FineState). role_at x.state.tables conn) d.leads ∙ role-pending d.after conn conn None ∙ after,
+      ap (λ (x : FineState). pending_at x.state.tables conn) d.leads ∙ pending-put d.after conn None role.Core after,
+      ap (λ (x : FineState). is_dialed conn x.dialed) d.leads ∙ dialed-gone conn f.dialed,
     )
 
 -- it asks for a dial
@@ -134,12 +132,12 @@ dial-phase : (phase : Phase) (f g : FineState) (conn now : ℕ) → is_up phase 
 dial-phase Absent f g conn now up phases d = tt
 dial-phase (Idle r) f g conn now up phases d = absurd (none-some d.asked (sym phases.1 ∙ d.call_at))
 dial-phase (Asked call dialed) f g conn now up phases d = (
-  ap (λ (x : Tables). role_at x conn) d.has.tables ∙ phases.0,
+  ap (λ (x : FineState). role_at x.state.tables conn) d.leads ∙ phases.0,
   record {
     pending = phases.1.pending;
-    call_at = ap (λ (x : Tables). pending_at x conn) d.has.tables ∙ phases.1.call_at;
+    call_at = ap (λ (x : FineState). pending_at x.state.tables conn) d.leads ∙ phases.1.call_at;
     call_is = phases.1.call_is;
-    dialed_is = ap (is_dialed conn) d.has.dialed_are ∙ dialed-more conn (without_dial f.dialed conn);
+    dialed_is = ap (λ (x : FineState). is_dialed conn x.dialed) d.leads ∙ dialed-more conn (without_dial f.dialed conn);
   },
 )
 
@@ -151,7 +149,7 @@ chosen-own g c conn x y own phases =
 
 -- each of its own events that the pass may make leads to the phase that the events tell
 own-phase : (e : Event) (own : List Event) (f g : FineState) (conn : ℕ) → changes e ≡ Some conn → may_make own e ≡ true → Plainly f → HasPhase f conn (phase_by conn own)
-    → Does f e g → HasPhase g conn (phase_after conn (phase_by conn own) e)
+    → Step f e g → HasPhase g conn (phase_after conn (phase_by conn own) e)
 own-phase (Up c r) own f g conn is may plain phases d =
     chosen-own g c conn (Idle r) (phase_by conn own) is (λ same. subst (λ k. HasPhase g k (Idle r)) same (up-phase f g c r plain d))
 own-phase (Down c) own f g conn is may plain phases d = chosen-own g c conn Absent (phase_by conn own) is (λ same. tt)
@@ -160,7 +158,8 @@ own-phase (Arrive c asked now) own f g conn is may plain phases d =
     arrive-phase (phase_by conn own) f g conn asked now (subst (λ k. is_up (phase_by k own) ≡ true) same may) phases (subst (λ k. Comes f k asked now g) same d))
 own-phase (Answer c now failed dialed level told) own f g conn is may plain phases d =
     chosen-own g c conn (Idle role.Core) (phase_by conn own) is (λ same.
-    answer-phase (phase_by conn own) f g conn now (subst (λ k. is_up (phase_by k own) ≡ true) same may) phases (subst (λ k. IsAnswered f k now g) same d))
+    answer-phase (phase_by conn own) f g conn now (outside f conn failed dialed level) told (subst (λ k. is_up (phase_by k own) ≡ true) same may) phases
+    (subst (λ k. IsAnswered f k now (outside f k failed dialed level) told g) same d))
 own-phase (Dial c now) own f g conn is may plain phases d =
     chosen-own g c conn (dialing (phase_by conn own)) (phase_by conn own) is (λ same.
     dial-phase (phase_by conn own) f g conn now (subst (λ k. is_up (phase_by k own) ≡ true) same may) phases (subst (λ k. Dials f k now g) same d))
@@ -182,11 +181,11 @@ changes-or e conn = by (changes e) where
   by (Some c) = at c (cases_eq c conn)
 
 -- behind an event that the pass may make the state has each connection as the pass's own events tell
-pub made-phase : (e : Event) (own : List Event) (f g : FineState) (conn : ℕ) → may_make own e ≡ true → Plainly f → HasPhase f conn (phase_by conn own) → Does f e g
-    → HasPhase g conn (phase_by conn (own ++ e ∷ []))
-made-phase e own f g conn may plain phases d = subst (HasPhase g conn) (sym (phase-more conn Absent own e)) (by (changes-or e conn)) where
+pub made-phase : (e : Event) (own : List Event) (f g : FineState) (conn : ℕ) → may_make own e ≡ true → Plainly f → HasPhase f conn (phase_by conn own)
+    → fine f e ≡ Some g → HasPhase g conn (phase_by conn (own ++ e ∷ []))
+made-phase e own f g conn may plain phases h = subst (HasPhase g conn) (sym (phase-append conn Absent own (e ∷ []))) (by (changes-or e conn)) where
   by : (changes e ≡ Some conn) ⊎ (changes e ≡ Some conn → ⊥) → HasPhase g conn (phase_after conn (phase_by conn own) e)
-  by (inl is) = own-phase e own f g conn is may plain phases d
+  by (inl is) = own-phase e own f g conn is may plain phases (fine-does f g e h).step
   by (inr other) =
       subst (HasPhase g conn) (sym (phase-other e conn (phase_by conn own) other))
-      (keeps-phase (phase_by conn own) f g conn (does-keeps e f g conn other d) phases)
+      (keeps-phase (phase_by conn own) f g conn (fine-keeps e f g conn other h) phases)

@@ -1,26 +1,19 @@
 -- What a state stands for: one group more, and the headline.
-use Rattle.std.proofs.Common.{◌≡◌, ◌≤◌, ℕ, List, [], ◌∷◌, ◌++◌, append-nil, Some, refl, sym, ap, ◌∙◌, subst, arith}
+use Rattle.std.proofs.Common.{◌≡◌, ◌≤◌, ℕ, List, [], ◌∷◌, ◌++◌, Some, refl, sym, ap, ◌∙◌, subst, arith}
 use Rattle.std.specs.List.{All}
 use Rattle.std.proofs.lemmas.List.Elements.{All-push, All-weaker}
-use Rattle.std.proofs.lemmas.List.Concat.{flat_map-append}
 use Rattle.vx_rules.specs.Lists.{along}
+use Rattle.vx_rules.specs.ListLaws.{along-append}
 use Rattle.vx_flow.specs.FineState.{FineState, first_fine}
 use Rattle.vx_flow.specs.Fine.{fine}
 use Rattle.vx_flow.specs.Poll.{at_moment}
 use Rattle.vx_flow.specs.Sound.{IsSound}
 use Rattle.vx_flow.specs.Laws.{fine_along}
-use Rattle.vx_flow.specs.ProvedLaws.{later-sound}
-use Rattle.vx_flow.proofs.Lookups.{along-append}
-use Rattle.vx_flow.proofs.Earlier.{earlier_law-holds}
-use Rattle.vx_flow.proofs.Gathering.{fine-gathers}
-use Rattle.vx_flow.proofs.Headline.{headline_law-holds}
+use Rattle.vx_flow.specs.ProvedLaws.{fine-gathers, later-sound, earlier_law-holds, headline_law-holds}
 use Rattle.vx_group.specs.Groups.{Group, events_of, moment_behind, IsBy, MomentsRise}
 use Rattle.vx_history.specs.Laws.{group_after, StandsOnLaw, HeadlineOfGroupsLaw, SoundLaw}
+use Rattle.vx_history.specs.ProvedLaws.{events-more}
 use Rattle.vx_history.proofs.Onward.{along-onward}
-
--- the events of one group more
-pub events-more : (log : List Group) (x : Group) → events_of (log ++ x ∷ []) ≡ events_of log ++ x.events
-events-more log x = flat_map-append (λ (g : Group). g.events) log (x ∷ []) ∙ ap (λ es. events_of log ++ es) (append-nil x.events)
 
 -- one group more keeps its moment
 moment-more : (log : List Group) (from : ℕ) (x : Group) → moment_behind from (log ++ x ∷ []) ≡ x.moment

@@ -6,13 +6,13 @@ use Rattle.vx_gate.specs.declared.views.Logged.{Logged}
 use Rattle.vx_gate.specs.History.{groups, made_by, Lawful}
 use Rattle.vx_gate.proofs.Histories.{made_by_mine, made_by_other}
 use Rattle.vx_rules.specs.Lists.{along}
+use Rattle.vx_rules.specs.ListLaws.{along-none, along-append}
 use Rattle.vx_flow.specs.Event.{Event}
 use Rattle.vx_flow.specs.FineState.{FineState, first_fine}
 use Rattle.vx_flow.specs.Fine.{fine}
-use Rattle.vx_flow.proofs.Lookups.{along-none, along-append}
 use Rattle.vx_group.specs.Groups.{Group, events_of, StandsFor}
 use Rattle.vx_group.specs.Owning.{may_make, may_make_all, MayAdd}
-use Rattle.vx_history.proofs.Standing.{events-more}
+use Rattle.vx_history.specs.ProvedLaws.{events-more}
 use Rattle.vx_history.proofs.Plainly.{first-plainly}
 use Rattle.vx_history.proofs.Knowing.{Own, Known, OneMore, known-more}
 

@@ -1,4 +1,5 @@
 pub mod Laws
+pub mod ProvedLaws
 pub use Rattle.vx_rules.specs.Lists
 pub use Rattle.vx_flow.specs.Event
 pub use Rattle.vx_flow.specs.Fine

@@ -8,7 +8,7 @@ use Rattle.std.proofs.lemmas.Option.{same_Some}
 use Rattle.std.proofs.lemmas.List.Elements.{All-filter, All-push, All-weaker}
 use Rattle.vx_lemmas.specs.Conditions.{passes}
 use Rattle.vx_lemmas.specs.Options.{nothing}
-use Rattle.vx_lemmas.specs.Lists.{found_passes}
+use Rattle.vx_lemmas.specs.Lists.{found_passes, found_holds, found_among, All-kept}
 use Rattle.vx_bus_traits.specs.Means.{Means}
 use Rattle.vx_calls.specs.declared.calls.Role.TheVariants as role
 use Rattle.vx_calls.specs.declared.codes.ErrorCode.{ErrorCode}
@@ -19,55 +19,34 @@ use Rattle.vx_calls.specs.declared.limits.TheConstants.{CONNECTION_LAST, ROLE_MA
 use Rattle.vx_calls.specs.Call.{Call}
 use Rattle.vx_calls.specs.Call as call
 use Rattle.vx_calls.specs.Reply.{Reply}
-use Rattle.vx_srq.specs.SrqState.{channel_at}
+use Rattle.vx_rules.specs.SrqState.{channel_at}
 use Rattle.vx_rules.specs.Table.{Link}
 use Rattle.vx_rules.specs.State.{Pending, Connection, Tables, connection_at, pending_at, count_of, same_role}
 use Rattle.vx_rules.specs.Sound.{IsSound, IsAsked}
 use Rattle.vx_rules.specs.Calls.{asks_dial}
 use Rattle.vx_rules.specs.Checks.{NamedLink, NoLink, DeadLink, OnLink, named_link, asks_channel, numbers_asked, check}
 use Rattle.vx_rules.specs.Dials.{dials_to}
-use Rattle.vx_rules.specs.Lines.{checks_pass, lets_pass}
+use Rattle.vx_rules.specs.Lines.{lets_pass}
 use Rattle.vx_rules.specs.PassLaws.{PassedLets}
 use Rattle.vx_rules.specs.Effects as effects
-use Rattle.vx_rules.proofs.Walks.{passed-says}
-use Rattle.vx_rules.proofs.Finds.{found_holds, found_among, All-kept}
+use Rattle.vx_rules.specs.ProvedLaws.Walks.{passed-says}
+use Rattle.vx_lemmas.specs.Lists.{found_holds, found_among, All-kept}
 use Rattle.vx_flow.specs.Fine.{wire_for, without_dial}
-use Rattle.vx_kernel.specs.declared.running.Running.{Running}
+use Rattle.vx_flow.specs.ProvedLaws.{admit}
 use Rattle.vx_kernel.specs.Given.{reply_bytes}
 use Rattle.vx_kernel.specs.KernelState.{KernelState}
-use Rattle.vx_kernel.specs.Shown.{fine_of, own_of, own_by, running_of, turn_shown, before_shown}
+use Rattle.vx_kernel.specs.Shown.{fine_of, own_of}
 use Rattle.vx_kernel.specs.Keeping.{IsDialable, IsDialed, KeepsDials}
 use Rattle.vx_kernel.specs.Turning.{HasPassed}
-use Rattle.vx_kernel.proofs.Counting.{distinct_numbers, distinct-filter, distinct-moved}
-
--- the bus that a connection's call is measured on has this own address
-pub own_wire : {B : Type 0} (means : B → Means) (k : KernelState B) (conn : ℕ) → (wire_for (fine_of means k) conn).own ≡ own_of means k conn
-own_wire {B} means k conn = at k.running
-  where
-    by : (r : Running) (b : Bool) → (cond (is_some (cond b (Some r) None)) k.before (means k.bus).wire).own ≡ own_by (cond b (Some r) None) k.before (means k.bus).wire
-    by r true = refl
-    by r false = refl
-
-    shown : (r : Running) (b : Bool) → is_some (cond b (turn_shown (Some r) k.made) None) ≡ is_some (cond b (Some r) None)
-    shown r true = refl
-    shown r false = refl
-
-    at : (running : Option Running)
-        → (wire_for (record (fine_of means k) { turn = turn_shown running k.made; before = before_shown running k.before (means k.bus).wire }) conn).own
-        ≡ own_by (running_of running conn) k.before (means k.bus).wire
-    at None = refl
-    at (Some r) = ap (λ b. (cond b k.before (means k.bus).wire).own) (shown r (r.conn == conn)) ∙ by r (r.conn == conn)
+use Rattle.vx_kernel.specs.ProvedLaws.{the_pending, own-is, distinct-filter}
+use Rattle.vx_kernel.specs.ProvedLaws.Counting.{distinct_numbers, distinct-moved}
 
 -- a call that the first lines let pass has neither a check nor a lock against it
 pub passed-lets : {B : Type 0} (means : B → Means) (k : KernelState B) (conn : ℕ) → PassedLets → HasPassed means k conn
     → (p : Pending) → pending_at k.tables conn ≡ Some p → lets_pass k.tables (own_of means k conn) conn p ≡ true
 passed-lets means k conn law passed p at =
-    subst (λ own. lets_pass k.tables own conn p ≡ true) (own_wire means k conn)
+    subst (λ own. lets_pass k.tables own conn p ≡ true) (sym (own-is means k conn))
     (law k.tables (wire_for (fine_of means k) conn).own conn k.moment p (passed p at))
-
-unchecked : (checked : Option ErrorCode) (holder : Option ℕ) → checks_pass checked holder ≡ true → checked ≡ None
-unchecked None holder h = refl
-unchecked (Some error) holder h = absurd (false≢true h)
 
 -- a call whose check is passed over, with the rest
 no_refusal : (b : Bool) (error : ErrorCode) (rest : Option ErrorCode) → cond b (Some error) rest ≡ None → (b ≡ false) × (rest ≡ None)
@@ -112,19 +91,16 @@ pub record PassedDial (t : Tables) (conn : ℕ) : Type 0 where
   pub unmarked : asked.aborted ≡ false
   pub may : MayDial t conn asked.call
 
-pub passed_dial : {B : Type 0} (means : B → Means) (k : KernelState B) (conn : ℕ) → PassedLets → IsSome (pending_at k.tables conn) → HasPassed means k conn
+-- it has asked for one, and nothing is against it
+pub passed_dial : {B : Type 0} (means : B → Means) (k : KernelState B) (conn : ℕ) → IsSome (pending_at k.tables conn) → HasPassed means k conn
     → ((p : Pending) → pending_at k.tables conn ≡ Some p → asks_dial p.call ≡ true) → PassedDial k.tables conn
-passed_dial {B} means k conn law pending passed dials = at (pending_at k.tables conn) refl pending
-  where
-    at : (found : Option Pending) → pending_at k.tables conn ≡ found → is_some found ≡ true → PassedDial k.tables conn
-    at None is some = absurd (false≢true some)
-    at (Some p) is some = record {
-      asked = p;
-      call_at = is;
-      unmarked = (passed-says p k.moment p.aborted _ _ (passed p is)).unmarked;
-      may = checked_dial k.tables (own_of means k conn) conn p.call (dials p is) (unchecked _ _ (passed-lets means k conn law passed p is));
-    }
+passed_dial means k conn pending passed dials =
+    let p = the_pending (pending_at k.tables conn) pending in
+    let own : ℕ = (wire_for (fine_of means k) conn).own in
+    let clear = admit k.tables own conn false p.0 k.moment (passed p.0 p.1) in
+    record { asked = p.0; call_at = p.1; unmarked = clear.unmarked; may = checked_dial k.tables own conn p.0.call (dials p.0 p.1) clear.checked }
 
+-- such a call is one of which a dial may be asked for
 pub dialed_by : (t : Tables) (conn : ℕ) → PassedDial t conn → IsDialed t conn
 dialed_by t conn d = record { asked = d.asked; call_at = d.call_at; unmarked = d.unmarked; dialable = d.may.dialable; free = d.may.free }
 

@@ -1,5 +1,4 @@
 pub mod Leaving
 pub mod Replying
 pub mod Turning
-pub mod Counting
 pub mod Dialing

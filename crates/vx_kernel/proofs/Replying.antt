@@ -23,11 +23,10 @@ use Rattle.vx_plan.specs.Whole.{Fill, IsWhole}
 use Rattle.vx_plan.specs.Tasks.{spd, unt, plan, poll_plan, most_bytes, IsPlainTask, IsDevice}
 use Rattle.vx_plan.specs.Results.{gots, bytes_got, puts_made, last_of, two_bytes, read_reason, whole_reply}
 use Rattle.vx_plan.specs.Places.{Reaches}
-use Rattle.vx_plan.proofs.Walks.{whole-law}
+use Rattle.vx_plan.specs.ProvedLaws.{whole-law}
 use Rattle.vx_ctrl.specs.Turns.{TurnState, GetsBytes, moved_by, reason_by}
 use Rattle.vx_ctrl.specs.Goes.{HoldsBytes}
-use Rattle.vx_ctrl.proofs.Sizes.{most_puts, most_gets}
-use Rattle.vx_ctrl.proofs.Fares.{fares, length-gots, length-bytes_got, moved-got}
+use Rattle.vx_ctrl.specs.ProvedLaws.{most_puts, most_gets, fares, length-gots, length-bytes_got, moved-got}
 use Rattle.vx_rules.specs.Effects.{stopped_reply}
 use Rattle.vx_bus_traits.specs.Means.{Means}
 use Rattle.vx_rules.specs.Calls.{bytes_of}
@@ -223,15 +222,6 @@ status-bytes (x ∷ y ∷ rest) number false h small =
     ap (λ n. n ∷ 0 ∷ []) low ∙ ap (λ n. number % 256 ∷ n ∷ []) high
 
 -- ---- a turn that is stopped
-
--- the turn of a connection is the one under way
-pub own-running : (running : Option Running) (conn : ℕ) (r : Running) → running_of running conn ≡ Some r → running ≡ Some r
-own-running None conn r e = cc
-own-running (Some q) conn r e = by (q.conn == conn) e
-  where
-    by : (same : Bool) → cond same (Some q) None ≡ Some r → Some q ≡ Some r
-    by true e = e
-    by false e = cc
 
 -- how many bytes a list put, and how many it got, which stand in front of the room
 pub record Counts (moves : List Transfer) (room : List ℕ) (puts : ℕ × ℕ) : Type 0 where

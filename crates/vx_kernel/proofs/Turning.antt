@@ -1,12 +1,10 @@
 -- The turn of a call, as it begins and goes on, and which calls wait for it.
 use Rattle.std.proofs.Common.{◌≡◌, ◌≢◌, ◌+◌, ◌≤◌, ◌==◌, ℕ, Bool, true, false, cond, List, [], ◌∷◌, ◌++◌, length, take, Option, Some, None, refl, sym, ap, ◌∙◌, subst, arith}
-use Rattle.std.specs.Prelude.{not, is_some, ◌&&◌, ◌||◌, IfSome}
+use Rattle.std.specs.Prelude.{not, ◌&&◌, ◌||◌, IfSome}
 use Rattle.std.specs.Option.{option_map}
-use Rattle.std.proofs.lemmas.Bool.{eqb-true}
 use Rattle.std.proofs.lemmas.List.{length-append}
 use Rattle.std.proofs.lemmas.Option.{same_Some}
-use Rattle.vx_calls.specs.declared.limits.TheConstants.{DOCMD_MAX, READ_MAX, WRITE_MAX}
-use Rattle.vx_calls.specs.declared.codes.ErrorCode.{ErrorCode}
+use Rattle.vx_calls.specs.declared.limits.TheConstants.{READ_MAX, WRITE_MAX}
 use Rattle.vx_calls.specs.declared.codes.ErrorCode.TheVariants as code
 use Rattle.vx_calls.specs.declared.targets.Target.{Target}
 use Rattle.vx_calls.specs.Target.{conflict}
@@ -33,22 +31,24 @@ use Rattle.vx_rules.specs.State.{Pending, Tables, pending_at, link_of}
 use Rattle.vx_rules.specs.Calls.{link_named, bytes_of, is_bus_call, is_lock_call}
 use Rattle.vx_rules.specs.Docmd.{Command, command_of, command_task}
 use Rattle.vx_rules.specs.Checks.{NamedLink, NoLink, DeadLink, OnLink, link_found, link_by_number, named_link, is_interface, check_command, check_on, check}
-use Rattle.vx_rules.specs.Lines.{LockRequest, lock_request, created_request, checks_pass, lets_pass}
+use Rattle.vx_rules.specs.Lines.{LockRequest, lock_request, created_request, lets_pass}
 use Rattle.vx_rules.specs.Effects.{task_on, task_of}
 use Rattle.vx_rules.specs.Serving.{IsDoable}
 use Rattle.vx_rules.specs.PassLaws.{PassedLets}
-use Rattle.vx_rules.specs.declared.tables.lines.Request.{Request}
-use Rattle.vx_rules.specs.Shown.{request_shown}
-use Rattle.vx_rules.specs.ProvedLaws.{bus-job, few_bytes}
+use Rattle.vx_tables.specs.declared.tables.lines.Request.{Request}
+use Rattle.vx_tables.specs.Shown.{request_shown}
+use Rattle.vx_rules.specs.ProvedLaws.{bus-job}
+use Rattle.vx_rules.specs.ProvedLaws.Passing.{lets-says}
 use Rattle.vx_flow.specs.FineState.{Turn}
 use Rattle.vx_flow.specs.Fine.{job_of, wire_for, target_on, call_target, turn_target, on_conflict, waits_for}
 use Rattle.vx_flow.specs.Sound.{Stands, TurnStands}
 use Rattle.vx_kernel.specs.declared.running.Running.{Running}
 use Rattle.vx_kernel.specs.declared.ended.Ended.{Ended}
 use Rattle.vx_kernel.specs.KernelState.{KernelState}
-use Rattle.vx_kernel.specs.Shown.{fine_of, own_of, own_by, running_of, turn_shown, before_shown}
+use Rattle.vx_kernel.specs.Shown.{fine_of, own_of, running_of, turn_shown}
 use Rattle.vx_kernel.specs.Keeping.{RunsTurn, Holds}
 use Rattle.vx_kernel.specs.Turning.{HasPassed, HasTurn, BeginsTurn, WentOn, turn_waited}
+use Rattle.vx_kernel.specs.ProvedLaws.{running-own, own-is, few-bytes}
 
 -- ---- what the first lines' letting pass says
 
@@ -57,11 +57,6 @@ pub passes : {B : Type 0} (means : B → Means) (k : KernelState B) (conn : ℕ)
     → (p : Pending) → pending_at k.tables conn ≡ Some p → (own : ℕ) × (lets_pass k.tables own conn p ≡ true)
 passes means k conn law passed p at =
     ((wire_for (fine_of means k) conn).own, law k.tables (wire_for (fine_of means k) conn).own conn k.moment p (passed p at))
-
--- the call, where one is pending
-pub the_pending : (o : Option Pending) → is_some o ≡ true → (p : Pending) × (o ≡ Some p)
-the_pending None h = cc
-the_pending (Some p) h = (p, refl)
 
 -- the job of a call that may be served, where it has one
 pub doable-some : (o : Option Task) (job : Task) (bytes : List ℕ) → IfSome o (λ task. IsDoable task bytes) → o ≡ Some job → IsDoable job bytes
@@ -101,10 +96,6 @@ no-job-on t own l (call.Remote generic) e b n = cc
 no-job-on t own l (call.Local generic) e b n = cc
 no-job-on t own l _ e b n = cc
 
-checked : (e : Option ErrorCode) (holder : Option ℕ) → checks_pass e holder ≡ true → e ≡ None
-checked None holder h = refl
-checked (Some error) holder h = cc
-
 no-job-found : (t : Tables) (own conn : ℕ) (o : Option Link) (asked : Call) → check t own conn false (link_found o) asked ≡ None
     → is_bus_call asked ≡ true → task_of (link_found o) asked ≡ None → ⊥
 no-job-found t own conn None asked e b n = cc
@@ -127,20 +118,8 @@ no-job t own conn p h b n =
     let m = bus-named p.call b in
     let P : Option ℕ → Type 0 = λ o. check t own conn false (link_by_number t conn o) p.call ≡ None in
     let Q : Option ℕ → Type 0 = λ o. task_of (link_by_number t conn o) p.call ≡ None in
-    let e : check t own conn false (named_link t conn p.call) p.call ≡ None = checked _ _ h in
+    let e : check t own conn false (named_link t conn p.call) p.call ≡ None = (lets-says _ _ h).checks in
     no-job-found t own conn (link_of t conn m.0) p.call (subst P m.1 e) b (subst Q m.1 n)
-
--- ---- a call that nothing is against brings no more bytes than a device_write may
-
-few-found : (t : Tables) (own conn : ℕ) (about : NamedLink) (asked : Call) (job : Task) → check t own conn false about asked ≡ None
-    → task_of about asked ≡ Some job → length (bytes_of asked) ≤ WRITE_MAX
-few-found t own conn NoLink asked job e has = cc
-few-found t own conn DeadLink asked job e has = cc
-few-found t own conn (OnLink l) asked job e has = few_bytes t own l asked e
-
--- so does a call with a job
-pub few-bytes : (t : Tables) (own conn : ℕ) (p : Pending) (job : Task) → lets_pass t own conn p ≡ true → job_of t conn p ≡ Some job → length (bytes_of p.call) ≤ WRITE_MAX
-few-bytes t own conn p job h has = few-found t own conn (named_link t conn p.call) p.call job (checked _ _ h) has
 
 -- ---- a turn begins
 
@@ -181,12 +160,11 @@ begins-turn {B} means k conn turn w made job p holds at has doable same none tas
 -- ---- a turn goes on
 
 -- the turn under way is that of the connection
-of-conn : (b : Bool) (r s : Running) → cond b (Some r) None ≡ Some s → (b ≡ true) × (r ≡ s)
-of-conn true r s h = (refl, cc)
-of-conn false r s h = cc
-
 pub own-running : (r s : Running) (conn : ℕ) → running_of (Some r) conn ≡ Some s → (r.conn ≡ conn) × (r ≡ s)
-own-running r s conn h = let both = of-conn (r.conn == conn) r s h in (eqb-true r.conn conn both.0, both.1)
+own-running r s conn h =
+    let own = running-own (Some r) conn s h in
+    let same : r ≡ s = same_Some r s own.0 in
+    (ap (λ (x : Running). x.conn) same ∙ own.1, same)
 
 -- its room is long enough
 has-room : (job : Task) (n : ℕ) → n ≡ READ_MAX → HasRoom job n
@@ -215,7 +193,7 @@ may-go {B} means k now conn r law view turn at =
       own_turn = own.0;
       runs = runs;
       pending = pending;
-      few = few-bytes k.tables lets.0 conn runs.asked r.turn.task lets.1 job;
+      few = few-bytes k.tables lets.0 conn runs.asked r.turn.task (lets-says _ _ lets.1).checks job;
     }
 
 -- the turn begins again with these bytes, which are its call's
@@ -289,21 +267,6 @@ written n xs ys e = subst (λ m. take m (xs ++ ys) ≡ xs) e (all xs) where
   all (z ∷ zs) = ap (λ rest. z ∷ rest) (all zs)
 
 -- ---- which calls wait for the turn
-
--- a call is measured on the bus as its own turn began, or as it is now
-own-by : {B : Type 0} (means : B → Means) (k : KernelState B) (conn : ℕ) (o : Option Running)
-    → own_by (running_of o conn) k.before (means k.bus).wire
-    ≡ (wire_for (record (fine_of means k) { turn = turn_shown o k.made; before = before_shown o k.before (means k.bus).wire }) conn).own
-own-by means k conn None = refl
-own-by means k conn (Some r) = by (r.conn == conn) refl where
-  by : (b : Bool) → (r.conn == conn) ≡ b
-      → own_by (running_of (Some r) conn) k.before (means k.bus).wire
-      ≡ (wire_for (record (fine_of means k) { turn = turn_shown (Some r) k.made; before = before_shown (Some r) k.before (means k.bus).wire }) conn).own
-  by true e = rw e
-  by false e = rw e
-
-pub own-is : {B : Type 0} (means : B → Means) (k : KernelState B) (conn : ℕ) → own_of means k conn ≡ (wire_for (fine_of means k) conn).own
-own-is means k conn = own-by means k conn k.running
 
 -- a call that is neither a bus call nor a lock call is under no lock
 created-none : (own : ℕ) (asked : Call) → is_lock_call asked ≡ false → created_request own asked ≡ None

@@ -6,7 +6,7 @@ use Rattle.vx_calls.specs.declared.calls.Role.TheVariants as role
 use Rattle.vx_calls.specs.declared.limits.TheConstants.{CONNECTION_LAST, ROLE_MAX}
 use Rattle.vx_calls.specs.Call.{Call}
 use Rattle.vx_calls.specs.Call as call
-use Rattle.vx_srq.specs.SrqState.{channel_at}
+use Rattle.vx_rules.specs.SrqState.{channel_at}
 use Rattle.vx_plan.specs.Tasks.{IsPlainTask, HasBytes, most_bytes}
 use Rattle.vx_plan.specs.Plan.{Part}
 use Rattle.vx_bus_traits.specs.Means.{Means}

@@ -7,6 +7,7 @@ pub mod Replying
 pub mod Turning
 pub mod CoreState
 pub mod Polling
+pub mod ProvedLaws
 pub use Rattle.vx_calls.specs.Call
 pub use Rattle.vx_calls.specs.Reply
 pub use Rattle.vx_488.specs.Wire
@@ -19,12 +20,11 @@ pub use Rattle.vx_plan.specs.Roles
 pub use Rattle.vx_plan.specs.Tasks
 pub use Rattle.vx_ctrl.specs.Goes
 pub use Rattle.vx_ctrl.specs.Turns
-pub use Rattle.vx_srq.specs.SrqState
+pub use Rattle.vx_rules.specs.SrqState
 pub use Rattle.vx_rules.specs.Calls
 pub use Rattle.vx_rules.specs.Checks
 pub use Rattle.vx_rules.specs.Dials
 pub use Rattle.vx_rules.specs.Effects
-pub use Rattle.vx_rules.specs.Held
 pub use Rattle.vx_rules.specs.Lines
 pub use Rattle.vx_rules.specs.One
 pub use Rattle.vx_rules.specs.Serving

@@ -3,15 +3,15 @@ ghost use Rattle.std.specs.Prelude.{◌≡◌, ◌≤◌, ◌==◌, ◌↔◌, t
 ghost use Rattle.std.specs.List.{list_any, All};
 ghost use Rattle.vx_calls.specs.declared.limits.TheConstants.{READ_MAX};
 ghost use Rattle.vx_calls.specs.Call.{call_shown};
-ghost use Rattle.vx_srq.specs.SrqState as srq_state;
+ghost use Rattle.vx_rules.specs.SrqState as srq_state;
 ghost use Rattle.vx_srq.specs.Shown.{given_shown};
 ghost use Rattle.vx_rules.specs.State as state;
 ghost use Rattle.vx_rules.specs.State.{Pending, pending_at};
 ghost use Rattle.vx_rules.specs.Calls as calls;
 ghost use Rattle.vx_rules.specs.Lines.{first_lines};
-ghost use Rattle.vx_rules.specs.Shown.{lines_shown};
+ghost use Rattle.vx_tables.specs.Shown.{lines_shown};
 ghost use Rattle.vx_rules.specs.One.{may_wait, arrived, abort_reply, abort_tables};
-ghost use Rattle.vx_rules.specs.Held.{IsShort};
+ghost use Rattle.vx_rules.specs.Calls.{IsShort};
 ghost use Rattle.vx_rules.specs.Sound.{IsSound};
 ghost use Rattle.vx_rules.specs.Serving.{IsPlainLink};
 ghost use Rattle.vx_kernel.specs.Shown.{own_of, left};
@@ -22,7 +22,7 @@ use std::alloc::Global;
 use vx_488::Transfer;
 use vx_bus_traits::{Bus, Tweak};
 use vx_calls::{CallRef, ErrorCode, Role, Taken};
-use vx_rules::{Admission, Connect};
+use vx_tables::{Admission, Connect};
 
 impl<B: Bus> Kernel<B> {
     /// Takes a connection of this role, and gives its number. A refusal changes nothing.

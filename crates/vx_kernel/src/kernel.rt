@@ -17,7 +17,7 @@ use vx_488::{Transfer, Wire};
 use vx_bus_traits::Bus;
 use vx_calls::{READ_MAX, ROLE_MAX};
 use vx_plan::TURN_MAX;
-use vx_rules::Tables;
+use vx_tables::Tables;
 
 /// The tables, the bus, and the turn under way. The room takes the bytes of a read, and of a reply.
 #[derive(Drop)]

@@ -9,7 +9,7 @@ ghost use Rattle.vx_plan.specs.declared.tasks.Task.{Task};
 ghost use Rattle.vx_plan.specs.Plan.{Whole};
 ghost use Rattle.vx_plan.specs.Roles.{has_role};
 ghost use Rattle.vx_plan.specs.Results as results;
-ghost use Rattle.vx_srq.specs.SrqState.{channel_at, has_number};
+ghost use Rattle.vx_rules.specs.SrqState.{channel_at, has_number};
 ghost use Rattle.vx_calls.specs.Reply as reply;
 ghost use Rattle.vx_rules.specs.State.{Pending, Tables, pending_at};
 ghost use Rattle.vx_rules.specs.Calls as calls;

@@ -1,15 +1,14 @@
 -- What serving a message, and polling a call again, leave.
-use Rattle.std.proofs.Common.{◌≡◌, ◌≢◌, ◌+◌, ◌≤◌, ℕ, Bool, true, false, cond, ◌&&◌, List, [], ◌∷◌, ◌++◌, length, take, Option, Some, None, ◌⊎◌, inl, inr, refl, sym, ap, ◌∙◌, subst, arith, append-nil}
+use Rattle.std.proofs.Common.{◌≡◌, ◌≢◌, ◌+◌, ◌≤◌, ℕ, Bool, true, false, cond, List, [], ◌∷◌, ◌++◌, length, take, Option, Some, None, ◌⊎◌, inl, inr, refl, sym, ap, ◌∙◌, subst, arith, append-nil}
+use Rattle.std.specs.Option.{option_map}
 use Rattle.std.specs.List.{list_all, flat_map}
-use Rattle.std.proofs.lemmas.Bool.{false≢true, and_parts, and_from}
-use Rattle.std.proofs.lemmas.Option.{cond_some, none-some, same_Some}
+use Rattle.std.proofs.lemmas.Bool.{false≢true, and_from}
+use Rattle.std.proofs.lemmas.Option.{none-some, same_Some}
 use Rattle.std.proofs.lemmas.Grind.{flat_map-append}
 use Rattle.std.proofs.lemmas.List.{length-take}
 use Rattle.std.proofs.lemmas.List.Folds.{list_all-append}
-use Rattle.vx_calls.specs.declared.calls.Role.{Role}
 use Rattle.vx_calls.specs.declared.calls.Role.TheVariants as role
 use Rattle.vx_calls.specs.declared.codes.ErrorCode.{ErrorCode}
-use Rattle.vx_calls.specs.ErrorCode.{same_error}
 use Rattle.vx_calls.specs.Call.{Call}
 use Rattle.vx_calls.specs.Reply as reply
 use Rattle.vx_488.specs.declared.transfers.Transfer.{Transfer}
@@ -22,17 +21,15 @@ use Rattle.vx_message.specs.declared.record.TheConstants.{REPLY_ROOM}
 use Rattle.vx_message.specs.Meaning.{Meaning, Junk, Asks, Aborts, xid_by, record_of, reply_record}
 use Rattle.vx_message.specs.Meaning as meant
 use Rattle.vx_rules.specs.Lists.{along}
-use Rattle.vx_rules.specs.State.{Connection, State, connection_at, lives_as, has_role_of, same_role}
-use Rattle.vx_rules.specs.Entry as entry
-use Rattle.vx_rules.specs.One.{abort_reply, abort_tables}
+use Rattle.vx_rules.specs.State.{Connection, connection_at, lives_as, has_role_of, same_role}
 use Rattle.vx_flow.specs.Event.{Event, Arrive, Answer, Abort, Begin, Dial}
 use Rattle.vx_flow.specs.FineState.{FineState, Turn, turn_after}
 use Rattle.vx_flow.specs.Fine.{fine}
 use Rattle.vx_flow.specs.Sound.{IsSound}
 use Rattle.vx_flow.specs.Poll as poll
-use Rattle.vx_flow.specs.Poll.{Ending, Answered, Waited, Dialed, Polls, begins, begun_events, moved_events, run_events, end_events, is_broken, ran_of, at_moment}
-use Rattle.vx_flow.specs.ProvedLaws.{step-made}
-use Rattle.vx_flow.proofs.Gathering.{fine-goes}
+use Rattle.vx_flow.specs.Poll.{Ending, Answered, Waited, Dialed, begins, begun_events, moved_events, run_events, end_events, is_broken, ran_of, at_moment}
+use Rattle.vx_flow.specs.ProvedLaws.{fine-does}
+use Rattle.vx_flow.specs.ProvedLaws.Gathering.{fine-goes}
 use Rattle.vx_kernel.specs.declared.ended.Why.TheVariants as why
 use Rattle.vx_play.specs.declared.note.Gone.TheVariants as gone
 use Rattle.vx_kernel.specs.Polling.{PollsOver, wanted, refused_ask, asks}
@@ -45,7 +42,6 @@ use Rattle.vx_play.specs.Making.{PollMakes, MessageMakes, poll_line}
 use Rattle.vx_play.specs.Serving.{Tells}
 use Rattle.vx_play.specs.Standing.{note_line, NoteWithin}
 use Rattle.vx_play.specs.ProvedLaws.{refused-none}
-use Rattle.vx_play.proofs.Roles.{as-one}
 use Rattle.vx_play.proofs.Upholding.{polls-leads}
 use Rattle.vx_loop.specs.Exchanges.{Adds, of_turn}
 use Rattle.vx_loop.specs.Standing.{IsReached}
@@ -255,21 +251,12 @@ dial-continues before after now xid error room made fit full led bus tells =
 -- ---- a message
 
 -- a core connection makes no device_abort
-roles-apart : (o : Option Connection) → has_role_of role.Core o ≡ true → has_role_of role.Abort o ≡ true → ⊥
+roles-apart : (o : Option Connection) → has_role_of role.Core o ≡ true → option_map (λ (c : Connection). c.role) o ≡ Some role.Abort → ⊥
 roles-apart None core abort = false≢true core
-roles-apart (Some c) core abort = by c.role core abort where
-  by : (r : Role) → same_role r role.Core ≡ true → same_role r role.Abort ≡ true → ⊥
-  by role.Core core abort = false≢true abort
-  by role.Abort core abort = false≢true core
+roles-apart (Some c) core abort = false≢true (ap (λ r. same_role r role.Core) (sym (same_Some c.role role.Abort abort)) ∙ core)
 
 no-abort : (f g : FineState) (lid : ℕ) (error : ErrorCode) → lives_as f.state.tables 1 role.Core ≡ true → fine f (Abort 1 lid error) ≡ Some g → ⊥
-no-abort f g lid error lives h =
-    as-one (λ s. ⊥) f g (Abort 1 lid error) (entry.Abort 1 lid error)
-    (λ s made.
-    let next : State = record f.state { tables = abort_tables f.state.tables lid } in
-    let parts = cond_some (lives_as f.state.tables 1 role.Abort && same_error (abort_reply f.state.tables lid) error) next s made in
-    roles-apart (connection_at f.state.tables 1) lives (and_parts (lives_as f.state.tables 1 role.Abort) (same_error (abort_reply f.state.tables lid) error) parts.0).0)
-    (step-made f g (Abort 1 lid error) h)
+no-abort f g lid error lives h = roles-apart (connection_at f.state.tables 1) lives (fine-does f g (Abort 1 lid error) h).step.role_is
 
 -- one answered without a call
 pub answered-serves : (m : Meaning) (g after : Gateway) (now xid : ℕ) (group : List Event) (room : List ℕ) (n : Note) → lives_as g.fine.state.tables 1 role.Core ≡ true

@@ -12,7 +12,7 @@ use Rattle.vx_calls.specs.declared.calls.Role.TheVariants as role
 use Rattle.vx_calls.specs.declared.limits.TheConstants.{RECORD_MAX}
 use Rattle.vx_record.specs.declared.Feed.TheVariants as feed
 use Rattle.vx_record.specs.Buffer.{BufState, fresh, fed, taken}
-use Rattle.vx_record.proofs.Ends.{fed-append}
+use Rattle.vx_record.specs.ProvedLaws.{fed-append}
 use Rattle.vx_sim.specs.Steps.{Step, Cut}
 use Rattle.vx_sim.specs.SimState.{SimState}
 use Rattle.vx_message.specs.Meaning.{Meaning, Junk, Asks, Aborts, meaning, record_of, reply_record}
@@ -22,8 +22,8 @@ use Rattle.vx_flow.specs.Event.{Event, Arrive, Answer, Down}
 use Rattle.vx_flow.specs.FineState.{FineState, Turn, turn_after}
 use Rattle.vx_flow.specs.Fine.{fine}
 use Rattle.vx_flow.specs.Sound.{IsSound}
-use Rattle.vx_flow.proofs.Gathering.{fine-goes}
-use Rattle.vx_rules.proofs.Finds.{unmapped}
+use Rattle.vx_flow.specs.ProvedLaws.Gathering.{fine-goes}
+use Rattle.vx_lemmas.specs.Options.{unmapped}
 use Rattle.vx_kernel.specs.CoreState.{CoreState}
 use Rattle.vx_play.specs.Gateway.{Gateway, gateway_of, BusGoes}
 use Rattle.vx_play.specs.Item.{moved}

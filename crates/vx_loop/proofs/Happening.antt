@@ -11,10 +11,8 @@ use Rattle.vx_flow.specs.FineState.{FineState, first_fine}
 use Rattle.vx_flow.specs.Fine.{fine}
 use Rattle.vx_flow.specs.Poll.{at_moment}
 use Rattle.vx_flow.specs.Sound.{IsSound}
-use Rattle.vx_flow.specs.ProvedLaws.{later-stands}
-use Rattle.vx_flow.proofs.Lookups.{along-append}
-use Rattle.vx_flow.proofs.Earlier.{earlier_law-holds}
-use Rattle.vx_flow.proofs.Gathering.{fine-gathers}
+use Rattle.vx_flow.specs.ProvedLaws.{later-stands, earlier_law-holds, fine-gathers}
+use Rattle.vx_rules.specs.ListLaws.{along-append}
 use Rattle.vx_play.specs.Gateway.{Gateway, BusGoes}
 use Rattle.vx_play.specs.Item.{moved}
 use Rattle.vx_loop.specs.Exchanges.{Adds}

@@ -1,37 +1,31 @@
 -- What the instruments hear of a write that was exchanged.
-use Rattle.std.proofs.Common.{◌≡◌, ◌≢◌, ◌≤◌, ◌==◌, ℕ, Bool, true, false, cond, not, ◌&&◌, List, [], ◌∷◌, ◌++◌, length, find, Option, Some, None, refl, sym, ap, ◌∙◌, subst, arith, append-nil}
-use Rattle.std.specs.Prelude.{nat_le, is_none}
-use Rattle.std.specs.Option.{option_map, option_and_then}
+use Rattle.std.proofs.Common.{◌≡◌, ◌≢◌, ◌≤◌, ◌==◌, ℕ, true, false, ◌&&◌, List, [], ◌∷◌, ◌++◌, length, find, Option, Some, None, refl, sym, ap, ◌∙◌, subst, arith, append-nil}
+use Rattle.std.specs.Prelude.{nat_le}
 use Rattle.std.specs.List.{flat_map}
-use Rattle.std.proofs.lemmas.Bool.{false≢true, and_parts}
+use Rattle.std.proofs.lemmas.Bool.{false≢true}
 use Rattle.std.proofs.lemmas.Option.{cond_some, none-some, same_Some}
 use Rattle.std.proofs.lemmas.Grind.{flat_map-append}
-use Rattle.vx_lemmas.specs.Options.{mapped}
 use Rattle.vx_calls.specs.declared.calls.Role.TheVariants as role
 use Rattle.vx_calls.specs.declared.codes.ErrorCode.{ErrorCode}
 use Rattle.vx_calls.specs.declared.codes.ErrorCode.TheVariants as code
 use Rattle.vx_calls.specs.declared.targets.Target.TheVariants.{Device}
 use Rattle.vx_calls.specs.Call.{Call}
 use Rattle.vx_calls.specs.Call as call
-use Rattle.vx_calls.specs.Reply.{Reply, same_reply}
+use Rattle.vx_calls.specs.Reply.{Reply}
 use Rattle.vx_calls.specs.Reply as reply
 use Rattle.vx_488.specs.declared.transfers.Addr.{Addr}
-use Rattle.vx_488.specs.declared.wire.Wire.{Wire}
-use Rattle.vx_488.specs.Wire.{step}
+use Rattle.vx_488.specs.declared.transfers.Transfer.{Transfer}
 use Rattle.vx_488.specs.Heard.{heard}
 use Rattle.vx_plan.specs.declared.tasks.Task.{Task}
-use Rattle.vx_plan.specs.Plan.{Stand, Whole, Part, Off}
-use Rattle.vx_plan.specs.Roles.{has_role}
 use Rattle.vx_plan.specs.declared.tasks.Task.TheVariants as task
 use Rattle.vx_plan.specs.Results.{puts_made, whole_reply}
 use Rattle.vx_rules.specs.Table.{Link, Table}
 use Rattle.vx_rules.specs.Lists.{along}
-use Rattle.vx_rules.specs.State.{Pending, Connection, Tables, State, connection_at, pending_at, with_pending, lives_as, has_role_of, is_idle, link_of}
-use Rattle.vx_rules.specs.Calls.{sets_end, has_passed, bytes_of, is_big}
+use Rattle.vx_rules.specs.State.{Pending, Tables, State, pending_at, with_pending, lives_as, is_idle, link_of}
+use Rattle.vx_rules.specs.Calls.{sets_end, bytes_of, is_big}
 use Rattle.vx_rules.specs.Checks.{link_found}
-use Rattle.vx_rules.specs.Lines.{Admission, Refused, Waiting, Passed, first_lines}
-use Rattle.vx_rules.specs.Effects.{task_of, stopped_reply}
-use Rattle.vx_rules.specs.Decide.{Outside, is_quiet, level_fits, turn_answer, job_answer, bus_answer, stand_on, by_lines, decide, settles}
+use Rattle.vx_rules.specs.Effects.{task_of}
+use Rattle.vx_rules.specs.Decide.{Outside}
 use Rattle.vx_rules.specs.Entry as entry
 use Rattle.vx_rules.specs.Entry.{Entry}
 use Rattle.vx_rules.specs.One.{one, may_wait, arrived}
@@ -42,10 +36,12 @@ use Rattle.vx_flow.specs.Fine.{fine}
 use Rattle.vx_flow.specs.Gather.{gather, gather_from}
 use Rattle.vx_flow.specs.Sound.{TurnStands, IsSound}
 use Rattle.vx_flow.specs.Laws.{marked_bytes}
-use Rattle.vx_flow.proofs.Lookups.{along-none, along-append, find_update-here}
-use Rattle.vx_flow.proofs.Gathering.{gather_law-holds, gathers, fine-goes}
-use Rattle.vx_flow.proofs.Hearing.{device-holds}
-use Rattle.vx_flow.proofs.Making.{answer-parts}
+use Rattle.vx_flow.specs.Does.{AnsweredBy, ByAbort, ByNoLink, ByCheck, ByLock, ByDialUp, ByDialDown, ByEffect, ByNoRole, ByFault, ByWhole, ByTimeout, Stops, Comes}
+use Rattle.vx_rules.specs.ListLaws.{along-none, along-append}
+use Rattle.vx_rules.specs.RowLaws.{pending-put}
+use Rattle.vx_rules.specs.ProvedLaws.{role-lives}
+use Rattle.vx_flow.specs.ProvedLaws.{fine-does, fine-frame, gather_law-holds, gathers, device-holds}
+use Rattle.vx_flow.specs.ProvedLaws.Gathering.{fine-goes}
 use Rattle.vx_play.specs.Item.{moved}
 use Rattle.vx_loop.specs.Exchanges.{IsAnswered}
 use Rattle.vx_loop.specs.Standing.{IsReached}
@@ -55,67 +51,45 @@ use Rattle.vx_loop.proofs.Turns.{made_by, turn-run, TurnRun}
 -- ---- the reply of a write
 
 -- a reply to a device_write, which leaves the tables
-pub record IsWriteReply (t : Tables) (d : Reply × Tables) : Type 0 where
-  pub error : ErrorCode
-  pub size : ℕ
-  pub is : d.0 ≡ reply.Write error size
-  pub same : d.1 ≡ t
+record IsWriteReply (t : Tables) (told : Reply) (after : Tables) : Type 0 where
+  error : ErrorCode
+  size : ℕ
+  is : told ≡ reply.Write error size
+  same : after ≡ t
 
-module _ (t : Tables) (w : Wire) (conn now : ℕ) (o : Outside) (lid io_timeout lock_timeout flags : ℕ) (bytes : List ℕ) (arrival : ℕ) (aborted : Bool) where
-  abbrev writes : Call
-  writes = call.Write lid io_timeout lock_timeout flags bytes
-
+module _ (f : FineState) (conn now lid io_timeout lock_timeout flags : ℕ) (bytes : List ℕ) (arrival : ℕ) (o : Outside) (told : Reply) (after : Tables) where
   abbrev waiting : Pending
-  waiting = record { call = writes; arrival = arrival; aborted = aborted }
+  waiting = record { call = call.Write lid io_timeout lock_timeout flags bytes; arrival = arrival; aborted = false }
 
-  -- one of these
-  abbrev IsOne : Reply → Type 0
-  IsOne r = (e : ErrorCode) × (n : ℕ) × (r ≡ reply.Write e n)
+  -- that of one that is stopped
+  stops-write : (error : ErrorCode) → Stops f waiting o error told after → IsWriteReply f.state.tables told after
+  stops-write error stops = record { error = error; size = puts_made o.moves; is = stops.reply_is; same = stops.same }
 
-  whole-one : (l : Link) (job : Task) (r : Reply) (b : Bool) → Some (task.Write l.target (length bytes) (sets_end flags)) ≡ Some job
-      → cond b (Some (whole_reply job (bytes_of writes) w (is_big writes) o.level o.moves)) None ≡ Some r → IsOne r
-  whole-one l job r true is h =
-      let same : task.Write l.target (length bytes) (sets_end flags) ≡ job = same_Some _ job is in
-      (code.Ok, length bytes, sym (same_Some _ r h) ∙ ap (λ j. whole_reply j (bytes_of writes) w (is_big writes) o.level o.moves) (sym same))
-  whole-one l job r false is h = cc
+  -- that of one whose list is whole
+  whole-write : (link : Option Link) (job : Task) (ts : List Transfer) → task_of (link_found link) waiting.call ≡ Some job
+      → whole_reply job (bytes_of waiting.call) f.before (is_big waiting.call) o.level ts ≡ reply.Write code.Ok (length bytes)
+  whole-write None job ts is = absurd (none-some job is)
+  whole-write (Some l) job ts is =
+      ap (λ j. whole_reply j (bytes_of waiting.call) f.before (is_big waiting.call) o.level ts) (sym (same_Some (task.Write l.target (length bytes) (sets_end flags)) job is))
 
-  turn-one : (l : Link) (job : Task) (s : Stand) (r : Reply) → Some (task.Write l.target (length bytes) (sets_end flags)) ≡ Some job
-      → turn_answer w waiting now o job s ≡ Some r → IsOne r
-  turn-one l job Off r is h = cc
-  turn-one l job Whole r is h = whole-one l job r (not o.failed && level_fits job o.level) is h
-  turn-one l job Part r is h = by o.level o.failed (has_passed io_timeout o.begun now) h where
-    by : (level failed passed : Bool)
-        → cond level None (cond failed (Some (stopped_reply writes code.BusFault o.moves)) (cond passed (Some (stopped_reply writes code.Timeout o.moves)) None)) ≡ Some r → IsOne r
-    by true failed passed h = cc
-    by false true passed h = (code.BusFault, puts_made o.moves, sym (same_Some _ r h))
-    by false false true h = (code.Timeout, puts_made o.moves, sym (same_Some _ r h))
-    by false false false h = cc
-
-  job-one : (l : Link) (job : Task) (r : Reply) → Some (task.Write l.target (length bytes) (sets_end flags)) ≡ Some job → job_answer w waiting now o job ≡ Some r → IsOne r
-  job-one l job r is h = by (has_role job w) (is_none o.dialed) (is_quiet o) h where
-    by : (role none quiet : Bool)
-        → cond role (cond none (turn_answer w waiting now o job (stand_on w writes job o.moves)) None) (cond quiet (Some (stopped_reply writes code.BusFault o.moves)) None) ≡ Some r → IsOne r
-    by true true quiet h = turn-one l job (stand_on w writes job o.moves) r is h
-    by true false quiet h = cc
-    by false none true h = (code.BusFault, puts_made o.moves, sym (same_Some _ r h))
-    by false none false h = cc
-
-  bus-one : (link : Option Link) (r : Reply) → bus_answer w waiting now o (task_of (link_found link) writes) ≡ Some r → IsOne r
-  bus-one None r h = cc
-  bus-one (Some l) r h = job-one l (task.Write l.target (length bytes) (sets_end flags)) r refl h
-
-  lines-one : (d : Reply × Tables) (l : Admission) → by_lines t w conn waiting now o l ≡ Some d → IsWriteReply t d
-  lines-one d (Refused e) h =
-      let parts = cond_some (is_quiet o) (stopped_reply writes e o.moves, t) d h in
-      record { error = e; size = puts_made o.moves; is = sym (ap (λ x. x.0) parts.1); same = sym (ap (λ x. x.1) parts.1) }
-  lines-one d (Waiting holder) h = cc
-  lines-one d Passed h =
-      let made = mapped (λ given. (given, t)) (bus_answer w waiting now o (task_of (link_found (link_of t conn lid)) writes)) d h in
-      let one = bus-one (link_of t conn lid) made.0 made.1 in
-      record { error = one.0; size = one.1; is = sym (ap (λ x. x.0) made.2) ∙ one.2; same = sym (ap (λ x. x.1) made.2) }
-
-  pub decide-writes : (d : Reply × Tables) → decide t w conn waiting now o ≡ Some d → IsWriteReply t d
-  decide-writes d h = lines-one d (first_lines t w.own conn (settles o) waiting now) h
+  -- each line that answers a device_write gives one
+  line-writes : AnsweredBy f conn now waiting o told after → IsWriteReply f.state.tables told after
+  line-writes (ByAbort marked still stops) = stops-write code.Abort stops
+  line-writes (ByNoLink unmarked dead still stops) = stops-write code.InvalidLink stops
+  line-writes (ByCheck error unmarked lives checked still stops) = stops-write error stops
+  line-writes (ByLock holder unmarked checked held waits still stops) = stops-write code.Locked stops
+  line-writes (ByDialUp clear d told_is after_is) = let asks = d.asks in absurd (cc)
+  line-writes (ByDialDown clear d told_is after_is) = let asks = d.asks in absurd (cc)
+  line-writes (ByEffect clear bus dial still given) = absurd (false≢true (sym bus))
+  line-writes (ByNoRole job clear has role still stops) = stops-write code.BusFault stops
+  line-writes (ByFault clear broken stops) = stops-write code.BusFault stops
+  line-writes (ByWhole clear done) = record {
+    error = code.Ok;
+    size = length bytes;
+    is = done.reply_is ∙ whole-write (link_of f.state.tables conn lid) done.own.job done.own.turn.moves done.own.has_job;
+    same = done.same;
+  }
+  line-writes (ByTimeout clear overdue stops) = stops-write code.Timeout stops
 
 -- ---- an exchange of a call, as the gateway of one thread makes it
 
@@ -127,17 +101,7 @@ along-split {S = S} step o z xs ys h = by (along step o xs) refl (sym (along-app
   by None is rest = absurd (none-some z (sym (along-none step ys) ∙ rest))
   by (Some mid) is rest = (mid, is, rest)
 
--- a call that came is pending
-come-pending : (t : Tables) (p : Pending) → lives_as t 1 role.Core ≡ true → pending_at (with_pending t 1 (Some p)) 1 ≡ Some p
-come-pending t p lives =
-    ap (option_and_then (λ (c : Connection). c.pending)) (find_update-here (λ c. c.number == 1) (λ c. record c { pending = Some p }) (λ c. refl) t.connections)
-    ∙ by (connection_at t 1) lives
-  where
-    by : (o : Option Connection) → has_role_of role.Core o ≡ true → option_and_then (λ (c : Connection). c.pending) (option_map (λ (c : Connection). record c { pending = Some p }) o) ≡ Some p
-    by None h = absurd (false≢true h)
-    by (Some c) h = refl
-
--- the entries of a call that came and was answered, and the states of one thread behind each
+-- the entries of a call that came and was answered, and the states of one thread behind each; and the line that answered it
 pub record IsOneCall (f : FineState) (asked : Call) (told : Reply) (group : List Event) (last : FineState) : Type 0 where
   pub port : ℕ
   pub earlier : List Entry
@@ -151,8 +115,12 @@ pub record IsOneCall (f : FineState) (asked : Call) (told : Reply) (group : List
   pub moves : o.moves ≡ flat_map moved group
   pub done : State
   pub answers : one come (entry.Answer 1 now o.begun o.moves o.failed o.dialed o.level told) ≡ Some done
-  pub tables : last.state.tables ≡ done.tables
   pub lives : lives_as f.state.tables 1 role.Core ≡ true
+  pub at_end : FineState
+  pub links_left : at_end.state.tables.links ≡ f.state.tables.links
+  pub after : Tables
+  pub line : AnsweredBy at_end 1 now (record { call = asked; arrival = come.moment; aborted = false }) o told after
+  pub links_after : last.state.tables.links ≡ after.links
 
 module _ (f : FineState) (asked : Call) (told : Reply) (group : List Event) (last : FineState) (reached : IsReached f) (calm : f.turn ≡ None) (a : IsAnswered asked told group)
     (led : along fine (Some f) group ≡ Some last) where
@@ -188,10 +156,7 @@ module _ (f : FineState) (asked : Call) (told : Reply) (group : List Event) (las
   turn_parts = along-split fine (Some come_parts.0) last a.turn (the_answer ∷ []) come_parts.2
 
   come-turn : come_parts.0.turn ≡ None
-  come-turn = (fine-goes (Arrive 1 asked a.came) f come_parts.0 f.state.moment sound_f (omega arith) come_parts.1).turn_is ∙ by f.turn calm where
-    by : (turn : Option Turn) → turn ≡ None → turn_after turn (Arrive 1 asked a.came) ≡ None
-    by None h = refl
-    by (Some u) h = absurd (cc)
+  come-turn = (fine-frame f come_parts.0 (Arrive 1 asked a.came) come_parts.1).turn_is ∙ ap (λ turn. turn_after turn (Arrive 1 asked a.came)) calm
 
   ran : TurnRun come_parts.0 turn_parts.0 a.turn
   ran =
@@ -205,6 +170,18 @@ module _ (f : FineState) (asked : Call) (told : Reply) (group : List Event) (las
     dialed = a.dialed;
     level = a.level;
   }
+
+  comes : Comes f 1 asked a.came come_parts.0
+  comes = (fine-does f come_parts.0 (Arrive 1 asked a.came) come_parts.1).step
+
+  -- behind its turn the call is pending, and the links are as they were
+  waits : pending_at turn_parts.0.state.tables 1 ≡ Some (arrived asked a.came)
+  waits =
+      ap (λ (t : Tables). pending_at t 1) ran.tables ∙ ap (λ (x : FineState). pending_at x.state.tables 1) comes.leads
+      ∙ pending-put f.state.tables 1 (Some (arrived asked a.came)) role.Core comes.core
+
+  links-left : turn_parts.0.state.tables.links ≡ f.state.tables.links
+  links-left = ap (λ (t : Tables). t.links) ran.tables ∙ ap (λ (x : FineState). x.state.tables.links) comes.leads
 
   abbrev entries_of : List Entry
   entries_of =
@@ -229,9 +206,7 @@ module _ (f : FineState) (asked : Call) (told : Reply) (group : List Event) (las
       (entry.Answer 1 a.now outside_of.begun outside_of.moves a.failed a.dialed a.level told ∷ []) reaches in
       let next : State = record start_one { tables = with_pending f.state.tables 1 (Some (arrived asked a.came)); moment = a.came } in
       let came = cond_some (nat_le gathered_f.0 a.came && is_idle f.state.tables 1 && may_wait asked) next parts.0 parts.1 in
-      let tests = and_parts (nat_le gathered_f.0 a.came && is_idle f.state.tables 1) (may_wait asked) came.0 in
-      let idle = (and_parts (nat_le gathered_f.0 a.came) (is_idle f.state.tables 1) tests.0).1 in
-      let lives = (and_parts (lives_as f.state.tables 1 role.Core) (is_none (pending_at f.state.tables 1)) idle).0 in
+      let ended = (fine-does turn_parts.0 last the_answer turn_parts.2).step in
       subst (λ (s : State). one s (entry.Answer 1 a.now outside_of.begun outside_of.moves a.failed a.dialed a.level told) ≡ Some (before_turn last made.moment)
       → IsOneCall f asked told group last) came.1
       (λ answers. record {
@@ -241,7 +216,7 @@ module _ (f : FineState) (asked : Call) (told : Reply) (group : List Event) (las
         legal =
             along-append one (legal_state reached.abort_port []) (gather reached.history) (entry.Arrive 1 asked a.came ∷ [])
             ∙ ap (λ o. along one o (entry.Arrive 1 asked a.came ∷ [])) gathered_f.1 ∙ parts.1 ∙ ap Some (sym came.1);
-        call_at = come-pending f.state.tables (arrived asked a.came) lives;
+        call_at = pending-put f.state.tables 1 (Some (arrived asked a.came)) role.Core comes.core;
         wire = wire-is;
         links = refl;
         now = a.now;
@@ -249,8 +224,12 @@ module _ (f : FineState) (asked : Call) (told : Reply) (group : List Event) (las
         moves = moves-are;
         done = before_turn last made.moment;
         answers = answers;
-        tables = refl;
-        lives = lives;
+        lives = role-lives f.state.tables 1 role.Core comes.core;
+        at_end = turn_parts.0;
+        links_left = links-left;
+        after = ended.after;
+        line = subst (λ p. AnsweredBy turn_parts.0 1 a.now p outside_of told ended.after) (same_Some ended.asked (arrived asked a.came) (sym ended.call_at ∙ waits)) ended.line;
+        links_after = ap (λ (x : FineState). x.state.tables.links) ended.leads;
       }) parts.2
 
 -- ---- what is heard
@@ -273,11 +252,5 @@ pub call-replies : (f last : FineState) (group : List Event) (lid io_timeout loc
     → IsOneCall f (call.Write lid io_timeout lock_timeout flags bytes) told group last
     → ((e : ErrorCode) × (n : ℕ) × (told ≡ reply.Write e n)) × (last.state.tables.links ≡ f.state.tables.links)
 call-replies f last group lid io_timeout lock_timeout flags bytes told c =
-    let parts = answer-parts c.come c.done 1 c.now c.o told c.answers in
-    let p : Pending = record { call = call.Write lid io_timeout lock_timeout flags bytes; arrival = c.come.moment; aborted = false } in
-    let asked : parts.asked ≡ p = same_Some parts.asked p (sym parts.at ∙ c.call_at) in
-    let found : decide c.come.tables c.come.wire 1 p c.now c.o ≡ Some parts.decided = ap (λ q. decide c.come.tables c.come.wire 1 q c.now c.o) (sym asked) ∙ parts.found in
-    let r = decide-writes c.come.tables c.come.wire 1 c.now c.o lid io_timeout lock_timeout flags bytes c.come.moment false parts.decided found in (
-      (r.error, r.size, sym parts.same ∙ r.is),
-      ap (λ (t : Tables). t.links) c.tables ∙ ap (λ (s : State). s.tables.links) (sym parts.is) ∙ ap (λ (t : Tables). t.links) r.same ∙ c.links,
-    )
+    let r = line-writes c.at_end 1 c.now lid io_timeout lock_timeout flags bytes c.come.moment c.o told c.after c.line in
+    ((r.error, r.size, r.is), c.links_after ∙ ap (λ (t : Tables). t.links) r.same ∙ c.links_left)

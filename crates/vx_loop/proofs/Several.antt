@@ -1,33 +1,29 @@
 -- What is heard of a write in several pieces.
 use Rattle.std.proofs.Common.{◌≡◌, ◌-◌, ◌≤◌, ◌<◌, ◌==◌, ◌/◌, ◌%◌, ℕ, Bool, true, false, List, [], ◌∷◌, ◌++◌, length, take, drop, Option, Some, None, ◌⊎◌, inl, inr, refl, sym, ap, ◌∙◌, subst, arith, append_assoc, length-drop}
-use Rattle.std.specs.Prelude.{is_none, is_some, nat_le, ◌&&◌}
+use Rattle.std.specs.Prelude.{◌&&◌}
 use Rattle.std.specs.List.{flat_map, find}
 use Rattle.std.proofs.lemmas.Nat.Bits.{bit_at_and}
-use Rattle.std.proofs.lemmas.Option.{cond_some, none-some, same_Some}
+use Rattle.std.proofs.lemmas.Option.{none-some, same_Some}
 use Rattle.std.proofs.lemmas.List.{take_all, take-append-drop, length-take}
 use Rattle.std.proofs.lemmas.Grind.{flat_map-append}
 use Rattle.vx_calls.specs.declared.calls.Role.TheVariants as role
-use Rattle.vx_calls.specs.ErrorCode.{same_error}
 use Rattle.vx_488.specs.declared.transfers.Addr.{Addr}
 use Rattle.vx_488.specs.Wire.{wire_after}
 use Rattle.vx_488.specs.Heard.{Byte, heard}
 use Rattle.vx_488.specs.ProvedLaws.{wire_after-append, heard-append}
 use Rattle.vx_rules.specs.Table.{Link, Table}
-use Rattle.vx_message.specs.SrqState.{sampled, taken, given}
 use Rattle.vx_rules.specs.Lists.{along}
-use Rattle.vx_rules.specs.State.{State, connection_at, pending_at, lives_as, is_idle, has_room, with_connection, with_pending, without_connection}
+use Rattle.vx_rules.specs.State.{lives_as}
 use Rattle.vx_rules.specs.Calls.{sets_end}
-use Rattle.vx_rules.specs.Entry as entry
-use Rattle.vx_rules.specs.One.{may_wait, arrived, abort_reply, abort_tables, same_given}
-use Rattle.vx_flow.specs.Event.{Event, Up, Down, Arrive, Answer, Abort, Sample, Take, Begin, Move, Dial}
+use Rattle.vx_flow.specs.Event.{Event, Move}
 use Rattle.vx_flow.specs.FineState.{FineState}
-use Rattle.vx_flow.specs.Fine.{outside, may_begin, may_dial, may_move, fine_after, without_dial, fine_step, fine}
+use Rattle.vx_flow.specs.Fine.{fine}
+use Rattle.vx_flow.specs.Frames.{moves_by}
 use Rattle.vx_flow.specs.Laws.{marked_bytes}
-use Rattle.vx_flow.specs.ProvedLaws.{step-made}
-use Rattle.vx_flow.proofs.Lookups.{along-none}
+use Rattle.vx_flow.specs.ProvedLaws.{fine-frame}
+use Rattle.vx_rules.specs.ListLaws.{along-none}
 use Rattle.vx_play.specs.Gateway.{Gateway, gateway_of}
 use Rattle.vx_play.specs.Item.{moved}
-use Rattle.vx_play.proofs.Roles.{as-one, tested-fine, answer-leaves}
 use Rattle.vx_client.specs.State.{ClientState}
 use Rattle.vx_client.specs.Chunks.{without_end}
 use Rattle.vx_loop.specs.LoopState.{ServedState, LoopState}
@@ -36,44 +32,13 @@ use Rattle.vx_loop.proofs.Happening.{adds-none, adds-append}
 
 -- ---- the bus behind events
 
-step-wire : (f g : FineState) (e : Event) → fine_step f e ≡ Some g → g.state.wire ≡ wire_after f.state.wire (moved e)
-step-wire f g (Up conn r) h =
-    as-one (λ s. s.wire ≡ f.state.wire) f g (Up conn r) (entry.Up conn r)
-    (λ s made. ap (λ (x : State). x.wire)
-    (sym (cond_some ((conn == f.state.tables.next_connection) && has_room f.state.tables r) (record f.state { tables = with_connection f.state.tables r }) s made).1)) h
-step-wire f g (Arrive conn asked now) h =
-    as-one (λ s. s.wire ≡ f.state.wire) f g (Arrive conn asked now) (entry.Arrive conn asked now)
-    (λ s made. ap (λ (x : State). x.wire)
-    (sym (cond_some (nat_le f.state.moment now && is_idle f.state.tables conn && may_wait asked)
-    (record f.state { tables = with_pending f.state.tables conn (Some (arrived asked now)); moment = now }) s made).1)) h
-step-wire f g (Abort conn lid told) h =
-    as-one (λ s. s.wire ≡ f.state.wire) f g (Abort conn lid told) (entry.Abort conn lid told)
-    (λ s made. ap (λ (x : State). x.wire)
-    (sym (cond_some (lives_as f.state.tables conn role.Abort && same_error (abort_reply f.state.tables lid) told) (record f.state { tables = abort_tables f.state.tables lid }) s made).1)) h
-step-wire f g (Sample now srq) h =
-    as-one (λ s. s.wire ≡ f.state.wire) f g (Sample now srq) (entry.Sample now srq)
-    (λ s made. ap (λ (x : State). x.wire)
-    (sym (cond_some (nat_le f.state.moment now) (record f.state { tables = record f.state.tables { srq_state = sampled f.state.tables.srq_state srq }; moment = now }) s made).1)) h
-step-wire f g (Take conn chan told) h =
-    as-one (λ s. s.wire ≡ f.state.wire) f g (Take conn chan told) (entry.Take conn chan told)
-    (λ s made. ap (λ (x : State). x.wire)
-    (sym (cond_some (is_some (connection_at f.state.tables conn) && same_given (given f.state.tables.srq_state conn chan) told)
-    (record f.state { tables = record f.state.tables { srq_state = taken f.state.tables.srq_state conn chan } }) s made).1)) h
-step-wire f g (Down conn) h =
-    tested-fine (λ s. s.wire ≡ f.state.wire) (is_some (connection_at f.state.tables conn))
-    (fine_after f (Down conn) (without_dial f.dialed conn) (record f.state { tables = without_connection f.state.tables conn })) g refl h
-step-wire f g (Begin conn now) h =
-    tested-fine (λ s. s.wire ≡ f.state.wire) (is_none f.turn && nat_le f.state.moment now && may_begin f.state conn now (pending_at f.state.tables conn))
-    (record (fine_after f (Begin conn now) f.dialed (record f.state { moment = now })) { before = f.state.wire }) g refl h
-step-wire f g (Move conn moves) h =
-    tested-fine (λ s. s.wire ≡ wire_after f.state.wire moves) (may_move f conn moves f.turn)
-    (fine_after f (Move conn moves) f.dialed (record f.state { wire = wire_after f.state.wire moves })) g refl h
-step-wire f g (Dial conn now) h =
-    tested-fine (λ s. s.wire ≡ f.state.wire) (nat_le f.state.moment now && may_dial f.state conn now (pending_at f.state.tables conn))
-    (fine_after f (Dial conn now) (without_dial f.dialed conn ++ conn ∷ []) (record f.state { moment = now })) g refl h
-step-wire f g (Answer conn now failed dialed level told) h =
-    answer-leaves (λ s. s.wire ≡ f.state.wire) f g (Answer conn now failed dialed level told) conn now (outside f conn failed dialed level) told
-    (λ u same. refl) h
+-- the transfers that an event makes are those that it moves
+moves-moved : (e : Event) → moves_by e ≡ moved e
+moves-moved (Move conn moves) = refl
+moves-moved _ = refl
+
+step-wire : (f g : FineState) (e : Event) → fine f e ≡ Some g → g.state.wire ≡ wire_after f.state.wire (moved e)
+step-wire f g e h = (fine-frame f g e h).wire_is ∙ ap (wire_after f.state.wire) (moves-moved e)
 
 wire-along : (es : List Event) (f g : FineState) → along fine (Some f) es ≡ Some g → g.state.wire ≡ wire_after f.state.wire (flat_map moved es)
 wire-along [] f g h = ap (λ (x : FineState). x.state.wire) (sym (same_Some f g h))
@@ -83,7 +48,7 @@ wire-along (e ∷ es) f g h = by (fine f e) refl h (λ mid x. wire-along es mid 
       → g.state.wire ≡ wire_after f.state.wire (moved e ++ flat_map moved es)
   by None is x rest = absurd (none-some g (sym (along-none fine es) ∙ x))
   by (Some mid) is x rest =
-      rest mid x ∙ ap (λ w. wire_after w (flat_map moved es)) (step-wire f mid e (step-made f mid e is)) ∙ sym (wire_after-append f.state.wire (moved e) (flat_map moved es))
+      rest mid x ∙ ap (λ w. wire_after w (flat_map moved es)) (step-wire f mid e is) ∙ sym (wire_after-append f.state.wire (moved e) (flat_map moved es))
 
 -- ---- one part and then another
 

@@ -1,9 +1,8 @@
 -- A link as it is made.
-use Rattle.std.proofs.Common.{◌≡◌, ◌==◌, ℕ, Bool, true, false, cond, ◌&&◌, List, [], ◌∷◌, Some, None, Result, Ok, Err, refl, sym, ap, ◌∙◌, subst, arith}
+use Rattle.std.proofs.Common.{◌≡◌, ℕ, Bool, true, false, cond, List, [], ◌∷◌, Some, None, Result, Ok, Err, refl, sym, ap, ◌∙◌, subst, arith}
 use Rattle.std.specs.Prelude.{OnOk, OnErr, IfOk, is_err, nat_le}
-use Rattle.std.proofs.lemmas.Bool.{false≢true, true≢false, and_parts, eqb-true}
-use Rattle.std.proofs.lemmas.Option.{cond_some, none-some}
-use Rattle.vx_lemmas.specs.Options.{mapped}
+use Rattle.std.proofs.lemmas.Bool.{false≢true, true≢false}
+use Rattle.std.proofs.lemmas.Option.{none-some}
 use Rattle.vx_calls.specs.declared.calls.Role.TheVariants as role
 use Rattle.vx_calls.specs.declared.limits.TheConstants.{RECORD_MAX}
 use Rattle.vx_record.specs.Buffer.{BufState, fresh}
@@ -11,16 +10,15 @@ use Rattle.vx_sim.specs.Steps.{Cut}
 use Rattle.vx_sim.specs.SimState.{SimState}
 use Rattle.vx_message.specs.SrqState as srq_state
 use Rattle.vx_rules.specs.Lists.{along}
-use Rattle.vx_rules.specs.State.{State, pending_at, has_room, with_connection}
-use Rattle.vx_rules.specs.Entry as entry
-use Rattle.vx_rules.specs.One.{one}
+use Rattle.vx_rules.specs.State.{State, pending_at}
 use Rattle.vx_flow.specs.Event.{Up, Sample}
 use Rattle.vx_flow.specs.FineState.{FineState, first_fine}
 use Rattle.vx_flow.specs.Fine.{fine, fine_after}
 use Rattle.std.specs.Option.{option_map}
 use Rattle.std.proofs.lemmas.Bool.Decides.{nat_tests}
 use Rattle.vx_flow.specs.Laws.{fine_along}
-use Rattle.vx_flow.specs.ProvedLaws.{step-made}
+use Rattle.vx_flow.specs.Does.{ComesUp}
+use Rattle.vx_flow.specs.ProvedLaws.{fine-does}
 use Rattle.vx_kernel.specs.CoreState.{CoreState}
 use Rattle.vx_play.specs.Gateway.{BusGoes}
 use Rattle.vx_loop.specs.LoopState.{unconnected, IsUnconnected, IsBeginning}
@@ -57,26 +55,18 @@ module _ (port : ℕ) (level : Bool) (moment conn : ℕ) (g : FineState) (h : fi
   abbrev start_fine : FineState
   start_fine = unconnected port level moment
 
-  abbrev up_state : State
-  up_state = record start_fine.state { tables = with_connection start_fine.state.tables role.Core }
+  comes-up : ComesUp start_fine conn role.Core g
+  comes-up = (fine-does start_fine g (Up conn role.Core) h).step
 
   -- has number 1
-  comes-up : (conn ≡ 1) × (g ≡ fine_after start_fine (Up conn role.Core) [] up_state)
-  comes-up =
-      let made = mapped (fine_after start_fine (Up conn role.Core) []) (one start_fine.state (entry.Up conn role.Core)) g (step-made start_fine g (Up conn role.Core) h) in
-      let parts = cond_some ((conn == 1) && has_room start_fine.state.tables role.Core) up_state made.0 made.1 in (
-        eqb-true conn 1 (and_parts (conn == 1) (has_room start_fine.state.tables role.Core) parts.0).0,
-        sym made.2 ∙ ap (fine_after start_fine (Up conn role.Core) []) (sym parts.1),
-      )
-
   up-fine : fine start_fine (Up 1 role.Core) ≡ Some g
-  up-fine = subst (λ n. fine start_fine (Up n role.Core) ≡ Some g) comes-up.0 h
+  up-fine = subst (λ n. fine start_fine (Up n role.Core) ≡ Some g) comes-up.number h
 
   up-turn : g.turn ≡ None
-  up-turn = ap (λ (f : FineState). f.turn) comes-up.1
+  up-turn = ap (λ (f : FineState). f.turn) comes-up.leads
 
   up-none : pending_at g.state.tables 1 ≡ None
-  up-none = ap (λ (f : FineState). pending_at f.state.tables 1) comes-up.1
+  up-none = ap (λ (f : FineState). pending_at f.state.tables 1) comes-up.leads
 
   up-reached : IsReached g
   up-reached = record {

@@ -11,8 +11,8 @@ use Rattle.vx_record.specs.Fragments.{last_header}
 use Rattle.vx_record.specs.Records.{Split, records}
 use Rattle.vx_record.specs.Buffer.{BufState, fresh, step, fed, taken}
 use Rattle.vx_record.specs.Ends.{is_settled, IsEnd, FeedEnds}
-use Rattle.vx_record.proofs.Feeding.{fed-stopped, taken-more, taken-stopped}
-use Rattle.vx_record.proofs.Ends.{fed-append, feed-ends}
+use Rattle.vx_record.specs.ProvedLaws.{fed-stopped, taken-more, taken-stopped, fed-append}
+use Rattle.vx_record.proofs.Ends.{feed-ends}
 use Rattle.vx_record.proofs.Headers.{fragment_length-last_header}
 use Rattle.vx_record.proofs.Spelling.{records-finished, records-open}
 use Rattle.vx_message.specs.Meaning.{record_of}

@@ -1,27 +1,27 @@
 -- The turn of connection 1's call, from its arrival to its answer.
-use Rattle.std.proofs.Common.{◌≡◌, ◌==◌, ℕ, Bool, true, false, cond, ◌&&◌, List, [], ◌∷◌, ◌++◌, Option, Some, None, refl, sym, ap, ◌∙◌, subst, arith, append_assoc, append-nil}
-use Rattle.std.specs.Prelude.{nat_le, is_none, is_some}
-use Rattle.std.specs.Option.{option_map, option_and_then}
-use Rattle.std.specs.List.{list_all, flat_map, find}
+use Rattle.std.proofs.Common.{◌≡◌, ◌==◌, ℕ, Bool, true, false, cond, List, [], ◌∷◌, ◌++◌, Option, Some, None, refl, sym, ap, ◌∙◌, subst, arith, append_assoc, append-nil}
+use Rattle.std.specs.Prelude.{is_some}
+use Rattle.std.specs.List.{list_all, flat_map}
 use Rattle.std.proofs.lemmas.Bool.{false≢true, and_parts, and_from, eqb-true}
-use Rattle.std.proofs.lemmas.Option.{none-some, same_Some, cond_some}
+use Rattle.std.proofs.lemmas.Option.{none-some, same_Some}
 use Rattle.std.proofs.lemmas.List.Folds.{list_all-append}
 use Rattle.vx_calls.specs.Reply.{Reply}
 use Rattle.vx_488.specs.declared.transfers.Transfer.{Transfer}
-use Rattle.vx_488.specs.Wire.{wire_after}
 use Rattle.vx_rules.specs.Lists.{along}
-use Rattle.vx_rules.specs.State.{Pending, Connection, Tables, pending_at, with_pending}
+use Rattle.vx_rules.specs.State.{Pending, Tables, pending_at}
 use Rattle.vx_flow.specs.Event.{Event, Up, Down, Arrive, Answer, Abort, Sample, Take, Begin, Move, Dial}
 use Rattle.vx_flow.specs.FineState.{FineState, Turn, turn_of, moves_of, turn_after}
-use Rattle.vx_flow.specs.Fine.{outside, may_begin, may_dial, may_move, goes_on, is_on, turn_stand, fine_after, without_dial, fine_step, fine}
+use Rattle.vx_flow.specs.Fine.{fine}
+use Rattle.vx_flow.specs.Does.{Step}
+use Rattle.vx_flow.specs.Frames.{TablesAfter}
 use Rattle.vx_flow.specs.Gather.{gather_from}
 use Rattle.vx_flow.specs.Sound.{IsSound}
 use Rattle.vx_flow.specs.Poll.{Ending, Answered, Waited, Dialed, Polls, begins, begun_events, moved_events, run_events, end_events, is_broken, at_moment}
-use Rattle.vx_flow.specs.ProvedLaws.{step-made}
-use Rattle.vx_flow.proofs.Lookups.{along-none, find_update-here}
-use Rattle.vx_flow.proofs.Gathering.{fine-goes}
+use Rattle.vx_flow.specs.ProvedLaws.{fine-does, fine-frame}
+use Rattle.vx_rules.specs.RowLaws.{pending-over}
+use Rattle.vx_rules.specs.ListLaws.{along-none}
+use Rattle.vx_flow.specs.ProvedLaws.Gathering.{fine-goes}
 use Rattle.vx_play.specs.Item.{moved}
-use Rattle.vx_play.proofs.Roles.{tested-fine, answer-leaves}
 use Rattle.vx_loop.specs.Exchanges.{of_turn}
 
 -- a turn that is under way is connection 1's
@@ -34,34 +34,12 @@ made_by turn = moves_of (turn_of turn 1)
 
 -- ---- one event of a turn
 
-tables-stay : (f g : FineState) (e : Event) → of_turn e ≡ true → fine_step f e ≡ Some g → g.state.tables ≡ f.state.tables
-tables-stay f g (Begin conn now) is h =
-    tested-fine (λ s. s.tables ≡ f.state.tables) (is_none f.turn && nat_le f.state.moment now && may_begin f.state conn now (pending_at f.state.tables conn))
-    (record (fine_after f (Begin conn now) f.dialed (record f.state { moment = now })) { before = f.state.wire }) g refl h
-tables-stay f g (Move conn moves) is h =
-    tested-fine (λ s. s.tables ≡ f.state.tables) (may_move f conn moves f.turn)
-    (fine_after f (Move conn moves) f.dialed (record f.state { wire = wire_after f.state.wire moves })) g refl h
-tables-stay f g (Dial conn now) is h =
-    tested-fine (λ s. s.tables ≡ f.state.tables) (nat_le f.state.moment now && may_dial f.state conn now (pending_at f.state.tables conn))
-    (fine_after f (Dial conn now) (without_dial f.dialed conn ++ conn ∷ []) (record f.state { moment = now })) g refl h
-tables-stay f g (Up conn role) is h = absurd (false≢true is)
-tables-stay f g (Down conn) is h = absurd (false≢true is)
-tables-stay f g (Arrive conn asked now) is h = absurd (false≢true is)
-tables-stay f g (Answer conn now failed dialed level told) is h = absurd (false≢true is)
-tables-stay f g (Abort conn lid told) is h = absurd (false≢true is)
-tables-stay f g (Sample now srq) is h = absurd (false≢true is)
-tables-stay f g (Take conn chan told) is h = absurd (false≢true is)
-
--- no turn is under way where one begins
-begins-none : (f g : FineState) (conn now : ℕ) → fine_step f (Begin conn now) ≡ Some g → is_none f.turn ≡ true
-begins-none f g conn now h =
-    let free = is_none f.turn && nat_le f.state.moment now in
-    let parts = cond_some (free && may_begin f.state conn now (pending_at f.state.tables conn)) _ g h in
-    (and_parts (is_none f.turn) (nat_le f.state.moment now) (and_parts free (may_begin f.state conn now (pending_at f.state.tables conn)) parts.0).0).0
-
--- it is of the connection that moves
-moves-own : (f g : FineState) (conn : ℕ) (moves : List Transfer) → fine_step f (Move conn moves) ≡ Some g → may_move f conn moves f.turn ≡ true
-moves-own f g conn moves h = (cond_some (may_move f conn moves f.turn) _ g h).0
+-- it leaves the tables
+tables-stay : (e : Event) (t u : Tables) → of_turn e ≡ true → TablesAfter t e u → u ≡ t
+tables-stay (Begin conn now) t u is after = after
+tables-stay (Move conn moves) t u is after = after
+tables-stay (Dial conn now) t u is after = after
+tables-stay _ t u is after = absurd (false≢true is)
 
 -- what it has made then
 abbrev Makes : Option Turn → Event → Type 0
@@ -70,17 +48,13 @@ Makes turn e = (made_by (turn_after turn e) ≡ made_by turn ++ moved e) × (IsO
 one-is : (conn : ℕ) → (conn == 1) ≡ true → conn ≡ 1
 one-is conn h = eqb-true conn 1 h
 
-begin-makes : (turn : Option Turn) (conn now : ℕ) → (conn == 1) ≡ true → is_none turn ≡ true → Makes turn (Begin conn now)
-begin-makes None conn now is none =
+begin-makes : (conn now : ℕ) → (conn == 1) ≡ true → Makes None (Begin conn now)
+begin-makes conn now is =
     let made : List Transfer → Bool → List Transfer = λ ms b. moves_of (cond b (Some (record { connection = conn; begun = now; moves = ms })) None) in
     (ap (made []) is, λ own u h. (let same : record { connection = conn; begun = now; moves = [] } ≡ u = same_Some _ u h in ap (λ (v : Turn). v.connection) (sym same) ∙ one-is conn is))
-begin-makes (Some u) conn now is none = absurd (false≢true none)
 
-move-makes : (f : FineState) (turn : Option Turn) (conn : ℕ) (moves : List Transfer) → (conn == 1) ≡ true → may_move f conn moves turn ≡ true → Makes turn (Move conn moves)
-move-makes f None conn moves is may = absurd (false≢true may)
-move-makes f (Some u) conn moves is may =
-    let first = and_parts ((u.connection == conn) && goes_on f.state conn (pending_at f.state.tables conn)) (is_on (turn_stand f u (u.moves ++ moves))) may in
-    let here = eqb-true u.connection conn (and_parts (u.connection == conn) (goes_on f.state conn (pending_at f.state.tables conn)) first.0).0 in
+move-makes : (u : Turn) (conn : ℕ) (moves : List Transfer) → (conn == 1) ≡ true → u.connection ≡ conn → Makes (Some u) (Move conn moves)
+move-makes u conn moves is here =
     let one : (u.connection == 1) ≡ true = ap (λ n. n == 1) here ∙ is in
     let made : List Transfer → Bool → List Transfer = λ ms b. moves_of (cond b (Some (record u { moves = ms })) None) in (
       ap (made (u.moves ++ moves)) one ∙ sym (ap (λ ms. ms ++ moves) (ap (made u.moves) one)),
@@ -91,17 +65,11 @@ dial-makes : (turn : Option Turn) (conn now : ℕ) → Makes turn (Dial conn now
 dial-makes None conn now = (refl, λ own. own)
 dial-makes (Some u) conn now = (sym (append-nil (made_by (Some u))), λ own. own)
 
-step-makes : (f g : FineState) (e : Event) → of_turn e ≡ true → fine_step f e ≡ Some g → Makes f.turn e
-step-makes f g (Begin conn now) is h = begin-makes f.turn conn now is (begins-none f g conn now h)
-step-makes f g (Move conn moves) is h = move-makes f f.turn conn moves is (moves-own f g conn moves h)
-step-makes f g (Dial conn now) is h = dial-makes f.turn conn now
-step-makes f g (Up conn role) is h = absurd (false≢true is)
-step-makes f g (Down conn) is h = absurd (false≢true is)
-step-makes f g (Arrive conn asked now) is h = absurd (false≢true is)
-step-makes f g (Answer conn now failed dialed level told) is h = absurd (false≢true is)
-step-makes f g (Abort conn lid told) is h = absurd (false≢true is)
-step-makes f g (Sample now srq) is h = absurd (false≢true is)
-step-makes f g (Take conn chan told) is h = absurd (false≢true is)
+step-makes : (e : Event) (f g : FineState) → of_turn e ≡ true → Step f e g → Makes f.turn e
+step-makes (Begin conn now) f g is d = subst (λ turn. Makes turn (Begin conn now)) (sym d.no_turn) (begin-makes conn now is)
+step-makes (Move conn moves) f g is d = subst (λ turn. Makes turn (Move conn moves)) (sym d.under_way) (move-makes d.turn conn moves is d.of_call)
+step-makes (Dial conn now) f g is d = dial-makes f.turn conn now
+step-makes _ f g is d = absurd (false≢true is)
 
 -- the gateway of one thread has no entry of it
 gathers-none : (turn : Option Turn) (e : Event) (rest : List Event) → of_turn e ≡ true → gather_from turn (e ∷ rest) ≡ gather_from (turn_after turn e) rest
@@ -127,11 +95,11 @@ pub record TurnRun (f g : FineState) (es : List Event) : Type 0 where
 
 turn-step : (f mid g : FineState) (e : Event) (es : List Event) → IsSound f → of_turn e ≡ true → fine f e ≡ Some mid → TurnRun mid g es → TurnRun f g (e ∷ es)
 turn-step f mid g e es sound is h rest =
-    let step = step-made f mid e h in
-    let after : mid.turn ≡ turn_after f.turn e = (fine-goes e f mid f.state.moment sound (omega arith) h).turn_is in
-    let makes = step-makes f mid e is step in
+    let frame = fine-frame f mid e h in
+    let after : mid.turn ≡ turn_after f.turn e = frame.turn_is in
+    let makes = step-makes e f mid is (fine-does f mid e h).step in
     record {
-      tables = rest.tables ∙ tables-stay f mid e is step;
+      tables = rest.tables ∙ tables-stay e f.state.tables mid.state.tables is frame.tables;
       made =
           rest.made ∙ ap (λ t. made_by t ++ flat_map moved es) after ∙ ap (λ ms. ms ++ flat_map moved es) makes.0
           ∙ append_assoc (made_by f.turn) (moved e) (flat_map moved es);
@@ -156,27 +124,15 @@ turn-run (e ∷ es) f g sound are h =
 
 -- ---- an answer
 
--- a connection whose call was answered has none
-none-pending : (u t : Tables) (conn : ℕ) → pending_at (with_pending u conn None) conn ≡ None
-none-pending u t conn =
-    ap (option_and_then (λ (c : Connection). c.pending)) (find_update-here (λ c. c.number == conn) (λ c. record c { pending = None }) (λ c. refl) u.connections)
-    ∙ by (find (λ c. c.number == conn) u.connections)
-  where
-    by : (o : Option Connection) → option_and_then (λ (c : Connection). c.pending) (option_map (λ (c : Connection). record c { pending = None }) o) ≡ None
-    by None = refl
-    by (Some c) = refl
-
 pub answer-ends : (f g : FineState) (now : ℕ) (failed : Bool) (dialed : Option Bool) (level : Bool) (told : Reply) → fine f (Answer 1 now failed dialed level told) ≡ Some g
     → pending_at g.state.tables 1 ≡ None
 answer-ends f g now failed dialed level told h =
-    answer-leaves (λ s. pending_at s.tables 1 ≡ None) f g (Answer 1 now failed dialed level told) 1 now (outside f 1 failed dialed level) told
-    (λ u same. none-pending u u 1) (step-made f g (Answer 1 now failed dialed level told) h)
+    let behind = (fine-frame f g (Answer 1 now failed dialed level told) h).tables in
+    ap (λ (t : Tables). pending_at t 1) behind.over_is ∙ pending-over behind.after 1
 
 pub answer-moment : (f g : FineState) (now : ℕ) (failed : Bool) (dialed : Option Bool) (level : Bool) (told : Reply) → fine f (Answer 1 now failed dialed level told) ≡ Some g
     → g.state.moment ≡ now
-answer-moment f g now failed dialed level told h =
-    answer-leaves (λ s. s.moment ≡ now) f g (Answer 1 now failed dialed level told) 1 now (outside f 1 failed dialed level) told
-    (λ u same. refl) (step-made f g (Answer 1 now failed dialed level told) h)
+answer-moment f g now failed dialed level told h = (fine-frame f g (Answer 1 now failed dialed level told) h).moment_is
 
 -- and its turn is over
 turn-over : (turn : Option Turn) (now : ℕ) (failed : Bool) (dialed : Option Bool) (level : Bool) (told : Reply) → IsOwn turn
@@ -189,7 +145,7 @@ turn-over (Some u) now failed dialed level told own =
 pub answer-over : (f g : FineState) (now : ℕ) (failed : Bool) (dialed : Option Bool) (level : Bool) (told : Reply) → IsSound f → IsOwn f.turn
     → fine f (Answer 1 now failed dialed level told) ≡ Some g → g.turn ≡ None
 answer-over f g now failed dialed level told sound own h =
-    (fine-goes (Answer 1 now failed dialed level told) f g f.state.moment sound (omega arith) h).turn_is ∙ turn-over f.turn now failed dialed level told own
+    (fine-frame f g (Answer 1 now failed dialed level told) h).turn_is ∙ turn-over f.turn now failed dialed level told own
 
 -- ---- a poll
 

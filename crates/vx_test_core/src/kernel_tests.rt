@@ -7,7 +7,7 @@ use vx_bus::MemBus;
 use vx_bus_traits::Bus;
 use vx_calls::Role;
 use vx_kernel::{Kernel, Rooms};
-use vx_rules::{Connect, Tables};
+use vx_tables::{Connect, Tables};
 
 /// What a kernel says: the number that comes next, the roles of connections 1 and 2, whether 1 has a call, a dial, and the bus
 /// a turn, the channel of 1, and how many transfers were made.

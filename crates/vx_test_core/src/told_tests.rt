@@ -2,7 +2,7 @@
 ghost use Rattle.std.specs.Prelude.{◌≡◌, true};
 ghost use Rattle.vx_calls.specs.Call.{call_shown};
 ghost use Rattle.vx_rules.specs.One.{may_wait};
-ghost use Rattle.vx_rules.specs.Held.{IsShort};
+ghost use Rattle.vx_rules.specs.Calls.{IsShort};
 
 use crate::gateways::PORT;
 use std::alloc::Global;

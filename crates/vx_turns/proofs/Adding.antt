@@ -8,21 +8,21 @@ use Rattle.vx_calls.specs.declared.calls.Role.TheVariants as role
 use Rattle.vx_calls.specs.Call.{Call}
 use Rattle.vx_488.specs.declared.transfers.Transfer.{Transfer}
 use Rattle.vx_bus_traits.specs.Means.{Means}
-use Rattle.vx_srq.specs.SrqState.{Given, Gone}
+use Rattle.vx_rules.specs.SrqState.{Given, Gone}
 use Rattle.vx_rules.specs.Lists.{along}
-use Rattle.vx_rules.specs.State.{Connection, Tables, connection_at, role_at, pending_at}
+use Rattle.vx_rules.specs.ListLaws.{along-append}
+use Rattle.vx_rules.specs.RowLaws.{pending-put}
+use Rattle.vx_rules.specs.State.{Connection, connection_at, role_at, pending_at}
 use Rattle.vx_rules.specs.One.{arrived}
-use Rattle.vx_rules.specs.declared.tables.Connect.{Connect}
+use Rattle.vx_tables.specs.declared.tables.Connect.{Connect}
 use Rattle.vx_flow.specs.Event.{Event, Up, Arrive, Take}
 use Rattle.vx_flow.specs.FineState.{FineState}
 use Rattle.vx_flow.specs.Fine.{fine}
 use Rattle.vx_flow.specs.Poll.{Ending, Polls, at_moment, run_events, end_events}
-use Rattle.vx_flow.proofs.Lookups.{along-append}
+use Rattle.vx_flow.specs.ProvedLaws.{fine-does, fine-frame}
 use Rattle.vx_core.specs.CoreState.{CoreState}
 use Rattle.vx_history.specs.Groups.{Group, StandsFor}
 use Rattle.vx_history.specs.Laws.{group_after, StandsOnLaw}
-use Rattle.vx_history.proofs.Doing.{fine-does}
-use Rattle.vx_history.proofs.Rows.{pending-put}
 use Rattle.vx_turns.specs.declared.acts.PollEnd.{PollEnd}
 use Rattle.vx_turns.specs.Acting.{PollDid, ComeDid, last_ending, poll_events, come_events, come_to, connect_events, take_events}
 use Rattle.vx_turns.proofs.Moments.{along-most, poll-at, come-at}
@@ -100,12 +100,12 @@ poll-stands law {B} means f conn now xid room end core' did =
 -- the call that came is the connection's
 pub arrive-pending : (f g : FineState) (conn now : ℕ) (asked : Call) → fine f (Arrive conn asked now) ≡ Some g → pending_at g.state.tables conn ≡ Some (arrived asked now)
 arrive-pending f g conn now asked h =
-    let comes = fine-does (Arrive conn asked now) f g h in
-    ap (λ (t : Tables). pending_at t conn) comes.has.tables ∙ pending-put f.state.tables conn (Some (arrived asked now)) role.Core comes.core
+    let comes = (fine-does f g (Arrive conn asked now) h).step in
+    ap (λ (x : FineState). pending_at x.state.tables conn) comes.leads ∙ pending-put f.state.tables conn (Some (arrived asked now)) role.Core comes.core
 
 -- and its moment is the state's
 arrive-moment : (f g : FineState) (conn now : ℕ) (asked : Call) → fine f (Arrive conn asked now) ≡ Some g → g.state.moment ≡ now
-arrive-moment f g conn now asked h = (fine-does (Arrive conn asked now) f g h).has.moment_is
+arrive-moment f g conn now asked h = (fine-frame f g (Arrive conn asked now) h).moment_is
 
 -- so it has one
 pub arrive-some : (f g : FineState) (conn now : ℕ) (asked : Call) → fine f (Arrive conn asked now) ≡ Some g → IsSome (pending_at g.state.tables conn)

@@ -8,13 +8,14 @@ use Rattle.vx_calls.specs.Call.{Call}
 use Rattle.vx_calls.specs.Reply.{Reply}
 use Rattle.vx_488.specs.declared.transfers.Transfer.{Transfer}
 use Rattle.vx_rules.specs.Lists.{along}
+use Rattle.vx_rules.specs.ListLaws.{along-none}
 use Rattle.vx_flow.specs.Event.{Event, Up, Down, Arrive, Answer, Abort, Sample, Take, Begin, Move, Dial}
 use Rattle.vx_flow.specs.FineState.{FineState}
 use Rattle.vx_flow.specs.Fine.{fine}
 use Rattle.vx_flow.specs.Poll.{Ending, Answered, Waited, Dialed, is_broken, begins, begun_events, moved_events, run_events, end_events}
-use Rattle.vx_flow.proofs.Lookups.{along-none}
+use Rattle.vx_flow.specs.Frames as frames
+use Rattle.vx_flow.specs.ProvedLaws.{fine-frame}
 use Rattle.vx_history.specs.Groups.{now_of}
-use Rattle.vx_history.proofs.Doing.{Does, fine-does}
 use Rattle.vx_turns.specs.Acting.{poll_events, come_events, come_to}
 
 -- ---- behind one event, and behind a list of them
@@ -24,21 +25,21 @@ abbrev moment_after : ℕ → Event → ℕ
 moment_after before e = unwrap_or (now_of e) before
 
 -- each event leaves it so
-does-moment : (e : Event) (f g : FineState) → Does f e g → g.state.moment ≡ moment_after f.state.moment e
-does-moment (Up conn r) f g d = d.has.moment_is
-does-moment (Down conn) f g d = d.moment_is
-does-moment (Arrive conn asked now) f g d = d.has.moment_is
-does-moment (Answer conn now failed dialed level told) f g d = d.moment
-does-moment (Abort conn lid told) f g d = d.moment_is
-does-moment (Sample now srq) f g d = d.has.moment_is
-does-moment (Take conn chan told) f g d = d.moment_is
-does-moment (Begin conn now) f g d = d.has.moment_is
-does-moment (Move conn moves) f g d = d.moment_is
-does-moment (Dial conn now) f g d = d.has.moment_is
+moment-told : (before : ℕ) (e : Event) → frames.moment_after before e ≡ moment_after before e
+moment-told before (Up conn r) = refl
+moment-told before (Down conn) = refl
+moment-told before (Arrive conn asked now) = refl
+moment-told before (Answer conn now failed dialed level told) = refl
+moment-told before (Abort conn lid told) = refl
+moment-told before (Sample now srq) = refl
+moment-told before (Take conn chan told) = refl
+moment-told before (Begin conn now) = refl
+moment-told before (Move conn moves) = refl
+moment-told before (Dial conn now) = refl
 
 -- so does each event that is allowed
 pub fine-moment : (e : Event) (f g : FineState) → fine f e ≡ Some g → g.state.moment ≡ moment_after f.state.moment e
-fine-moment e f g h = does-moment e f g (fine-does e f g h)
+fine-moment e f g h = (fine-frame f g e h).moment_is ∙ moment-told f.state.moment e
 
 -- the event has this moment, or none
 abbrev pub IsAt : ℕ → Event → Type 0

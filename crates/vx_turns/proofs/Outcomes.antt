@@ -7,10 +7,10 @@ use Rattle.vx_calls.specs.declared.calls.Role.{Role}
 use Rattle.vx_gate.specs.declared.views.Logged.{Logged}
 use Rattle.vx_gate.specs.History.{groups}
 use Rattle.vx_gate.specs.PassView.{PassView}
-use Rattle.vx_srq.specs.SrqState.{Channel, Given, channel_at}
+use Rattle.vx_rules.specs.SrqState.{Channel, Given, channel_at}
 use Rattle.vx_rules.specs.State.{Connection, connection_at}
-use Rattle.vx_rules.specs.declared.tables.Connect.{Connect}
-use Rattle.vx_rules.specs.declared.tables.Connect.TheVariants as connect
+use Rattle.vx_tables.specs.declared.tables.Connect.{Connect}
+use Rattle.vx_tables.specs.declared.tables.Connect.TheVariants as connect
 use Rattle.vx_flow.specs.Event.{Up, Take}
 use Rattle.vx_flow.specs.FineState.{FineState}
 use Rattle.vx_core.specs.CoreState.{CoreState}

@@ -22,7 +22,7 @@ use Rattle.vx_history.specs.Groups.{Group, events_of, StandsFor}
 use Rattle.vx_history.specs.Phases.{Phase, Absent, Idle, Asked, dialing, phase_after, phase_by, is_up, HasPhase}
 use Rattle.vx_history.specs.Owning.{may_make, may_make_all, MayAdd}
 use Rattle.vx_history.specs.Laws.{PhaseLaw}
-use Rattle.vx_history.proofs.Phasing.{phase-more}
+use Rattle.vx_history.specs.ProvedLaws.{phase-append}
 use Rattle.vx_turns.specs.Acting.{poll_events, come_events, come_to}
 use Rattle.vx_turns.specs.Turning.{phase_at}
 use Rattle.vx_turns.proofs.Moments.{poll-all}
@@ -102,7 +102,7 @@ may-all conn [] own all up = refl
 may-all conn (e ∷ es) own all up =
     let one = All-head (KeepsUp conn) e es all in
     and_from (may_make own e) (may_make_all (own ++ e ∷ []) es) (one.may own up)
-    (may-all conn es (own ++ e ∷ []) (All-tail (KeepsUp conn) e es all) (ap is_up (phase-more conn Absent own e) ∙ one.up (phase_by conn own) up))
+    (may-all conn es (own ++ e ∷ []) (All-tail (KeepsUp conn) e es all) (ap is_up (phase-append conn Absent own (e ∷ [])) ∙ one.up (phase_by conn own) up))
 
 -- one event that may be made
 may-one : (own : List Event) (e : Event) → may_make own e ≡ true → may_make_all own (e ∷ []) ≡ true

@@ -10,14 +10,9 @@ use Rattle.vx_flow.specs.FineState.{FineState}
 use Rattle.vx_flow.specs.Poll.{Ending, Answered, Waited, Dialed, begins, moved_events, end_events}
 use Rattle.vx_history.specs.Groups.{Group, events_of}
 use Rattle.vx_history.specs.Phases.{Phase, Absent, Idle, Asked, phase_after, phase_along, phase_by}
-use Rattle.vx_history.proofs.Standing.{events-more}
+use Rattle.vx_history.specs.ProvedLaws.{events-more, phase-append}
 use Rattle.vx_turns.specs.Acting.{poll_events}
 use Rattle.vx_turns.specs.Parts.{IsPollPart, phase_behind}
-
--- the phase behind one list of events, and then another
-phase-append : (conn : ℕ) (phase : Phase) (xs ys : List Event) → phase_along conn phase (xs ++ ys) ≡ phase_along conn (phase_along conn phase xs) ys
-phase-append conn phase [] ys = refl
-phase-append conn phase (x ∷ xs) ys = phase-append conn (phase_after conn phase x) xs ys
 
 -- the phase by groups, and one more
 pub phase-more : (own own' : List Group) (x : Group) (conn : ℕ) → own' ≡ own ++ x ∷ [] → phase_by conn (events_of own') ≡ phase_along conn (phase_by conn (events_of own)) x.events

@@ -4,10 +4,10 @@ use Rattle.vx_calls.specs.declared.calls.Role.{Role}
 use Rattle.vx_calls.specs.Call.{Call}
 use Rattle.vx_488.specs.declared.transfers.Transfer.{Transfer}
 use Rattle.vx_bus_traits.specs.Means.{Means}
-use Rattle.vx_srq.specs.SrqState.{Given, Gone}
+use Rattle.vx_rules.specs.SrqState.{Given, Gone}
 use Rattle.vx_rules.specs.State.{Connection, connection_at, has_room}
-use Rattle.vx_rules.specs.declared.tables.Connect.{Connect}
-use Rattle.vx_rules.specs.declared.tables.Connect.TheVariants as connect
+use Rattle.vx_tables.specs.declared.tables.Connect.{Connect}
+use Rattle.vx_tables.specs.declared.tables.Connect.TheVariants as connect
 use Rattle.vx_flow.specs.Event.{Event, Up, Arrive, Take}
 use Rattle.vx_flow.specs.FineState.{FineState}
 use Rattle.vx_flow.specs.Fine.{fine}

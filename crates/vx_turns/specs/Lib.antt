@@ -2,14 +2,15 @@ pub mod Placing
 pub mod Parts
 pub mod Acting
 pub mod Turning
+pub mod ProvedLaws
 pub use Rattle.vx_calls.specs.Call
 pub use Rattle.vx_calls.specs.Reply
 pub use Rattle.vx_bus_traits.specs.Means
 pub use Rattle.vx_srq.specs.Shown
-pub use Rattle.vx_srq.specs.SrqState
+pub use Rattle.vx_rules.specs.SrqState
 pub use Rattle.vx_message.specs.Meaning
 pub use Rattle.vx_rules.specs.Dials
-pub use Rattle.vx_rules.specs.Held
+pub use Rattle.vx_rules.specs.Calls
 pub use Rattle.vx_rules.specs.One
 pub use Rattle.vx_rules.specs.State
 pub use Rattle.vx_flow.specs.Event

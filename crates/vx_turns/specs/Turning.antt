@@ -8,10 +8,10 @@ use Rattle.vx_calls.specs.Call.{Call}
 use Rattle.vx_gate.specs.declared.views.Logged.{Logged}
 use Rattle.vx_gate.specs.History.{groups}
 use Rattle.vx_gate.specs.PassView.{PassView}
-use Rattle.vx_srq.specs.SrqState.{Given, Gone, channel_at}
+use Rattle.vx_rules.specs.SrqState.{Given, Gone, channel_at}
 use Rattle.vx_rules.specs.State.{connection_at, has_room}
-use Rattle.vx_rules.specs.declared.tables.Connect.{Connect}
-use Rattle.vx_rules.specs.declared.tables.Connect.TheVariants as connect
+use Rattle.vx_tables.specs.declared.tables.Connect.{Connect}
+use Rattle.vx_tables.specs.declared.tables.Connect.TheVariants as connect
 use Rattle.vx_flow.specs.Event.{Event, Down, Arrive, Abort, Sample, Take}
 use Rattle.vx_flow.specs.FineState.{FineState}
 use Rattle.vx_flow.specs.Poll.{Ending}

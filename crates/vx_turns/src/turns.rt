@@ -4,7 +4,7 @@ ghost use Rattle.vx_calls.specs.declared.calls.Role.TheVariants as role;
 ghost use Rattle.vx_calls.specs.Call.{Call, call_shown};
 ghost use Rattle.vx_srq.specs.Shown.{given_shown};
 ghost use Rattle.vx_rules.specs.One.{may_wait};
-ghost use Rattle.vx_rules.specs.Held.{IsShort};
+ghost use Rattle.vx_rules.specs.Calls.{IsShort};
 ghost use Rattle.vx_message.specs.declared.record.TheConstants.{REPLY_ROOM};
 ghost use Rattle.vx_history.specs.Phases.{Idle, Asked, is_up};
 ghost use Rattle.vx_turns.specs.Turning.{phase_at, Comes, PollsAgain, Settles, Aborts, Leaves, Joins, Samples, TakesTurn};

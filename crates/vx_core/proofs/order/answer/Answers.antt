@@ -1,4 +1,4 @@
-use Rattle.vx_rules.specs.declared.tables.lines.Admission.TheVariants as seen
+use Rattle.vx_tables.specs.declared.tables.lines.Admission.TheVariants as seen
 use Rattle.vx_core.proofs.Ordering.{lines-so, refused-ends, locked-ends}
 use Rattle.vx_core.proofs.order.answer.Goals as goal
 

@@ -1,13 +1,13 @@
 use Rattle.std.proofs.Common.{◌≡◌, true, Some, sym, ◌∙◌, subst}
 use Rattle.std.specs.Prelude.{is_some}
-use Rattle.vx_rules.specs.State.{Pending}
+use Rattle.vx_rules.specs.State.{Pending, pending_at}
 use Rattle.vx_rules.specs.Calls.{bytes_of, is_bus_call}
-use Rattle.vx_rules.specs.State.{pending_at}
 use Rattle.vx_kernel.specs.declared.running.Running.{Running}
 use Rattle.vx_kernel.specs.KernelState.{KernelState}
 use Rattle.vx_kernel.specs.Keeping.{Holds}
 use Rattle.vx_kernel.specs.Turning.{HasPassed, BeginsTurn}
-use Rattle.vx_kernel.proofs.Turning.{kernel_of, passes, the_pending, no-job, begins-turn, doable-some}
+use Rattle.vx_kernel.specs.ProvedLaws.{the_pending}
+use Rattle.vx_kernel.proofs.Turning.{kernel_of, passes, no-job, begins-turn, doable-some}
 use Rattle.vx_kernel.proofs.kernel.Kernel.begin.Goals as goal
 
 pub job-requires-clause-passes : goal.job-requires-clause-passes

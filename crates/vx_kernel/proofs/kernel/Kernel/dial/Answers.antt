@@ -13,7 +13,7 @@ pub push_reserved-requires : goal.push_reserved-requires
 push_reserved-requires g c =
     let filtered = filter_same _ (λ n. not (n == c.args.conn)) _ (λ x b f' k. search rules) _ _ c.retain.ensures.filtered in
     let view = c.self.view_is in
-    let d = passed_dial g.B.Bus.means c.args.self.now c.args.conn c.passed_calls.ensures.passed c.requires.pending c.requires.passed c.requires.dials in
+    let d = passed_dial g.B.Bus.means c.args.self.now c.args.conn c.requires.pending c.requires.passed c.requires.dials in
     let sound = subst (λ (k : KernelState g.row.B.Denot). IsSound k.tables) view c.is_sound.ensures in
     let room : length (without_dial c.args.self.now.dialed c.args.conn) < ROLE_MAX =
     room_left c.args.self.now.tables c.args.self.now.dialed c.args.conn sound c.requires.holds.few c.requires.holds.dials d in
@@ -24,7 +24,7 @@ push_reserved-requires g c =
 
 pub overflow_cast-result : goal.overflow_cast-result
 overflow_cast-result g c =
-    let d = passed_dial g.B.Bus.means c.args.self.now c.args.conn c.passed_calls.ensures.passed c.requires.pending c.requires.passed c.requires.dials in
+    let d = passed_dial g.B.Bus.means c.args.self.now c.args.conn c.requires.pending c.requires.passed c.requires.dials in
     let here = subst (λ (k : KernelState g.row.B.Denot). PassedDial k.tables c.args.conn) (sym c.self.view_is) d in
     let within : c.dials_to-host.result.1 ≤ 65535 = port_fits c.self.inside.tables c.args.conn c.dials_to-host.result here c.dials_to-host.ensures in
     omega arith
@@ -39,7 +39,7 @@ pub returns-clause-dials : goal.returns-clause-dials
 returns-clause-dials g c =
     let filtered = filter_same _ (λ n. not (n == c.args.conn)) _ (λ x b f' k. search rules) _ _ c.retain.ensures.filtered in
     let items = c.push_reserved.ensures.items ∙ ap (λ (ns : List ℕ). ns ++ c.args.conn ∷ []) filtered in
-    let d = passed_dial g.B.Bus.means c.args.self.now c.args.conn c.passed_calls.ensures.passed c.requires.pending c.requires.passed c.requires.dials in
+    let d = passed_dial g.B.Bus.means c.args.self.now c.args.conn c.requires.pending c.requires.passed c.requires.dials in
     let after = keeps_dials c.args.self.now.tables c.args.self.now.dialed c.args.conn c.requires.holds.dials d in
     subst (KeepsDials c.self.inside.tables) (sym items)
     (subst (λ (k : KernelState g.row.B.Denot). KeepsDials k.tables (without_dial k.dialed c.args.conn ++ c.args.conn ∷ [])) (sym c.self.view_is) after)

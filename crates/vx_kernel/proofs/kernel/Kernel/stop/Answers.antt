@@ -10,13 +10,14 @@ use Rattle.vx_flow.specs.Poll.{Answered}
 use Rattle.vx_kernel.specs.Shown.{turn_shown}
 use Rattle.vx_kernel.specs.Ending.{ran_shown}
 use Rattle.vx_kernel.specs.Given.{reply_bytes}
-use Rattle.vx_kernel.proofs.Replying.{own-running, Counts, counts-some, counts-none, stopped-front, stopped-few, some-of}
+use Rattle.vx_kernel.specs.ProvedLaws.{running-own}
+use Rattle.vx_kernel.proofs.Replying.{Counts, counts-some, counts-none, stopped-front, stopped-few, some-of}
 use Rattle.vx_kernel.proofs.kernel.Kernel.stop.Goals as goal
 use Rattle.vx_kernel.proofs.kernel.Kernel.stop.Goals.{in-Some, in-None}
 
 pub moved_by-requires : goal.moved_by-requires
 moved_by-requires g c =
-    record { plain = (c.requires.holds.runs c.in-Some.running (own-running c.args.self.now.running c.args.conn c.in-Some.running (sym c.own_turn.ensures ∙ c.in-Some.is))).plain }
+    record { plain = (c.requires.holds.runs c.in-Some.running (running-own c.args.self.now.running c.args.conn c.in-Some.running (sym c.own_turn.ensures ∙ c.in-Some.is)).0).plain }
 
 pub slice_bounds-stopped-end : goal.slice_bounds-stopped-end
 slice_bounds-stopped-end g c =
@@ -25,7 +26,7 @@ slice_bounds-stopped-end g c =
     let counts : Counts moves k.room c.match-own_turn.puts = elim c.match-own_turn.branch [
       | in-Some w ↦
           let own = sym c.own_turn.ensures ∙ w.in-Some.is in
-          let runs = c.requires.holds.runs w.in-Some.running (own-running k.running c.args.conn w.in-Some.running own) in
+          let runs = c.requires.holds.runs w.in-Some.running (running-own k.running c.args.conn w.in-Some.running own).0 in
           subst (Counts moves k.room) (sym w.puts-is)
           (counts-some k.running k.made c.args.conn w.in-Some.running k.room w.moved_by.result own
           (w.moved_by.ensures.within k.before _ k.made runs.begins.left runs.begins.had_made)
@@ -43,7 +44,7 @@ counted g c =
     elim c.match-own_turn.branch [
       | in-Some w ↦
           let own = sym c.own_turn.ensures ∙ w.in-Some.is in
-          let runs = c.requires.holds.runs w.in-Some.running (own-running k.running c.args.conn w.in-Some.running own) in
+          let runs = c.requires.holds.runs w.in-Some.running (running-own k.running c.args.conn w.in-Some.running own).0 in
           subst (Counts moves k.room) (sym w.puts-is)
           (counts-some k.running k.made c.args.conn w.in-Some.running k.room w.moved_by.result own
           (w.moved_by.ensures.within k.before _ k.made runs.begins.left runs.begins.had_made)

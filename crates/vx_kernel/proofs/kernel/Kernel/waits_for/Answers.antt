@@ -1,13 +1,14 @@
 use Rattle.std.proofs.Common.{◌≡◌, ◌==◌, true, Option, Some, sym, ap, ◌∙◌, subst}
 use Rattle.std.specs.Prelude.{is_some, not}
 use Rattle.vx_rules.specs.State.{Pending, pending_at}
-use Rattle.vx_rules.specs.declared.tables.lines.Request.{Request}
+use Rattle.vx_tables.specs.declared.tables.lines.Request.{Request}
 use Rattle.vx_flow.specs.FineState.{Turn}
 use Rattle.vx_flow.specs.Fine.{wire_for, waits_for}
 use Rattle.vx_kernel.specs.KernelState.{KernelState}
 use Rattle.vx_kernel.specs.Shown.{fine_of, own_of, turn_shown}
 use Rattle.vx_kernel.specs.Keeping.{Holds}
-use Rattle.vx_kernel.proofs.Turning.{kernel_of, the_pending, conflicting, waits-for-is}
+use Rattle.vx_kernel.specs.ProvedLaws.{the_pending}
+use Rattle.vx_kernel.proofs.Turning.{kernel_of, conflicting, waits-for-is}
 use Rattle.vx_kernel.proofs.kernel.Kernel.waits_for.Goals as goal
 
 pub returns-in-Some-Some : goal.returns-in-Some-Some
