@@ -63,6 +63,13 @@ for player in "$@"; do
     play 'a word that is no UTF-8' 1 <(line "$usage") $'\xff' < examples/session.vxs
     play 'a word too many' 1 <(line "$usage") run x < examples/session.vxs
 
+    # a run from a number, which reads no input and prints the same again
+    play 'a run' 0 <(printf 'gen 1 4\nanswers 10 errors 0\ntransfers 4\ninterrupts 0\nwaits 2\ndone\n') gen 1 4 < examples
+    play 'a long run' 0 <("$player" gen 7 20000) gen 7 20000 < examples
+    play 'a run of no draws' 1 <(line "$usage") gen 0 0 < examples
+    play 'a number with a leading zero' 1 <(line "$usage") gen 01 4 < examples
+    play_full 'no room for a run' gen 1 4 < examples
+
     # a refused line, an input that can't be read, and an output that takes nothing
     play 'a refused line' 3 <(line 'fault line 1 form') run < <(line 'up 1')
     play 'a folder as its input' 2 /dev/null run < examples

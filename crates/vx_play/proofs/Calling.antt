@@ -1,17 +1,13 @@
 -- What a step that calls the core leaves of the stage that a player stands at.
 use Rattle.std.proofs.Common.{◌≡◌, ℕ, ◌≤◌, max, Bool, true, false, cond, not, ◌==◌, List, [], ◌∷◌, length, Option, Some, None, IfSome, refl, sym, ap, ◌∙◌, subst, arith}
-use Rattle.std.specs.Prelude.{is_none, is_some, nat_le, ◌&&◌}
-use Rattle.std.specs.Option.{option_map, option_and_then}
+use Rattle.std.specs.Prelude.{is_none, is_some}
+use Rattle.std.specs.Option.{option_map}
 use Rattle.std.specs.List.{list_any}
 use Rattle.std.proofs.Math.Nat.{max-eq_right}
 use Rattle.std.proofs.lemmas.Bool.{cond-true, cond-false, false≢true}
-use Rattle.std.proofs.lemmas.Option.{cond_some}
-use Rattle.vx_lemmas.specs.Conditions.{chosen}
-use Rattle.vx_lemmas.specs.Options.{mapped, gone_on}
 use Rattle.vx_calls.specs.declared.calls.Role.{Role}
 use Rattle.vx_calls.specs.declared.calls.Role.TheVariants as role
 use Rattle.vx_calls.specs.declared.codes.ErrorCode.{ErrorCode}
-use Rattle.vx_calls.specs.Reply.{Reply, same_reply}
 use Rattle.vx_calls.specs.Reply as reply
 use Rattle.vx_bus_traits.specs.Steps.{Told, Cut}
 use Rattle.vx_sim.specs.Bench.{some_asks}
@@ -20,15 +16,12 @@ use Rattle.vx_bus_traits.specs.Walks.{Walk}
 use Rattle.vx_script.specs.Command.{Command, At, Poll, Sample, Take, Dial}
 use Rattle.vx_script.specs.declared.Cause.TheVariants as cause
 use Rattle.vx_trace.specs.Output.{Output, Out, IrqClosed}
-use Rattle.vx_message.specs.SrqState.{Given, Channel, channel_at, sampled, taken, given}
-use Rattle.vx_rules.specs.State.{Connection, State, connection_at, pending_at, role_at, lives_as, has_role_of}
-use Rattle.vx_rules.specs.Decide.{Outside, decide}
-use Rattle.vx_rules.specs.Entry as entry
-use Rattle.vx_rules.specs.One.{one, answered, answer_to, answer, if_reply, same_given}
-use Rattle.vx_flow.specs.Event.{Event}
+use Rattle.vx_message.specs.SrqState.{Given, Channel, channel_at}
+use Rattle.vx_rules.specs.State.{Connection, connection_at, pending_at, role_at, lives_as, has_role_of}
 use Rattle.vx_flow.specs.Event as event
 use Rattle.vx_flow.specs.FineState.{FineState}
-use Rattle.vx_flow.specs.Fine.{comes_in_turn, wire_for, outside, is_answered, fine_after, answered_fine, fine_answer, fine_step, fine}
+use Rattle.vx_flow.specs.Fine.{fine}
+use Rattle.vx_flow.specs.ProvedLaws.{fine-frame}
 use Rattle.vx_kernel.specs.CoreState.{CoreState}
 use Rattle.vx_play.specs.declared.streams.Incoming.{Incoming}
 use Rattle.vx_play.specs.declared.note.Made.{Made}
@@ -44,46 +37,6 @@ use Rattle.vx_play.specs.Serving.{MadeBy, Tells}
 use Rattle.vx_play.specs.Standing.{Stands, Holds, TakesTo, NoteWithin, made_lines, note_line}
 use Rattle.vx_play.proofs.Stepping.{takes-to}
 use Rattle.vx_play.proofs.Roles.{roles-stay, polls-roles}
-
--- ---- moments
-
--- the moment of a sample
-sample-moment : (f g : FineState) (now : ℕ) (srq : Bool) → fine f (event.Sample now srq) ≡ Some g → g.state.moment ≡ now
-sample-moment f g now srq h =
-    let went = chosen (comes_in_turn f (event.Sample now srq) f.turn) (fine_step f (event.Sample now srq)) g h in
-    let made = mapped (fine_after f (event.Sample now srq) f.dialed) (one f.state (entry.Sample now srq)) g went.1 in
-    let is = cond_some (nat_le f.state.moment now)
-    (record f.state { tables = record f.state.tables { srq_state = sampled f.state.tables.srq_state srq }; moment = now }) made.0 made.1 in
-    ap (λ (x : FineState). x.state.moment) (sym made.2) ∙ ap (λ (x : State). x.moment) (sym is.1)
-
--- a take changes none
-take-moment : (f g : FineState) (conn chan : ℕ) (told : Given) → fine f (event.Take conn chan told) ≡ Some g → g.state.moment ≡ f.state.moment
-take-moment f g conn chan told h =
-    let went = chosen (comes_in_turn f (event.Take conn chan told) f.turn) (fine_step f (event.Take conn chan told)) g h in
-    let made = mapped (fine_after f (event.Take conn chan told) f.dialed) (one f.state (entry.Take conn chan told)) g went.1 in
-    let is = cond_some (is_some (connection_at f.state.tables conn) && same_given (given f.state.tables.srq_state conn chan) told)
-    (record f.state { tables = record f.state.tables { srq_state = taken f.state.tables.srq_state conn chan } }) made.0 made.1 in
-    ap (λ (x : FineState). x.state.moment) (sym made.2) ∙ ap (λ (x : State). x.moment) (sym is.1)
-
--- the moment of an answer
-answered-moment : (f g : FineState) (e : Event) (conn now : ℕ) (o : Outside) (told : Reply) → fine_answer f e conn now o told ≡ Some g → g.state.moment ≡ now
-answered-moment f g e conn now o told h =
-    let s : State = record f.state { wire = wire_for f conn } in
-    let t = f.state.tables in
-    let allowed = chosen (nat_le f.state.moment now && is_answered f conn now o (pending_at t conn))
-    (option_map (answered_fine f e conn) (option_and_then (if_reply told) (answer s conn now o))) g h in
-    let made = mapped (answered_fine f e conn) (option_and_then (if_reply told) (answer s conn now o)) g allowed.1 in
-    let replied = gone_on (if_reply told) (answer s conn now o) made.0 made.1 in
-    let is = cond_some (same_reply replied.0.0 told) replied.0.1 made.0 replied.2 in
-    let called = gone_on (answer_to s conn now o) (pending_at t conn) replied.0 replied.1 in
-    let decided = mapped (answered s conn now o.moves) (decide t s.wire conn called.0 now o) replied.0 called.2 in
-    ap (λ (x : FineState). x.state.moment) (sym made.2) ∙ ap (λ (x : State). x.moment) (sym is.1) ∙ ap (λ (x : Reply × State). x.1.moment) (sym decided.2)
-
-answer-moment : (f g : FineState) (conn now : ℕ) (failed : Bool) (dialed : Option Bool) (level : Bool) (told : Reply)
-    → fine f (event.Answer conn now failed dialed level told) ≡ Some g → g.state.moment ≡ now
-answer-moment f g conn now failed dialed level told h =
-    let e : Event = event.Answer conn now failed dialed level told in
-    answered-moment f g e conn now (outside f conn failed dialed level) told (chosen (comes_in_turn f e f.turn) (fine_step f e) g h).1
 
 -- ---- what is kept of connections
 
@@ -152,7 +105,7 @@ sample-takes p stage core stands went walk =
     core-takes p stage Sample core p.reply made stands refl
     (subst (λ g. MadeBy (λ group line after. SampleMakes g stage.moment group line after) p.reply made core) stands.gateway
     (subst (λ m. MadeBy (λ group line after. SampleMakes (gateway_of p.core) m group line after) p.reply made core) (at ∙ stands.moment) made_by))
-    (let told : core.fine.state.moment ≡ p.moment = sample-moment p.core.fine core.fine now (some_asks core.bus.bench) went ∙ at in omega arith)
+    (let told : core.fine.state.moment ≡ p.moment = (fine-frame p.core.fine core.fine (event.Sample now (some_asks core.bus.bench)) went).moment_is ∙ at in omega arith)
     (λ n. roles-stay p.core.fine core.fine (event.Sample now (some_asks core.bus.bench)) n refl went) refl refl refl refl
 
 -- ---- a step of a core connection
@@ -265,7 +218,7 @@ dial-takes p stage core room made conn xid up error stands known dialed is went 
     (subst (λ x. MadeBy (λ group line after. DialMakes stage.gateway conn stage.moment x up group line after) room told core) (xid-is p stage conn xid stands known is)
     (subst (λ m. MadeBy (λ group line after. DialMakes stage.gateway conn m xid up group line after) room told core) (at ∙ stands.moment)
     (subst (λ g. MadeBy (λ group line after. DialMakes g conn now xid up group line after) room told core) stands.gateway made_by))))
-    (let later : core.fine.state.moment ≡ p.moment = answer-moment p.core.fine core.fine conn now false (Some up) false (reply.Error error) went ∙ at in omega arith)
+    (let later : core.fine.state.moment ≡ p.moment = (fine-frame p.core.fine core.fine (event.Answer conn now false (Some up) false (reply.Error error)) went).moment_is ∙ at in omega arith)
     (λ n. roles-stay p.core.fine core.fine (event.Answer conn now false (Some up) false (reply.Error error)) n refl went) refl refl refl refl
 
 -- ---- an interrupt is taken
@@ -325,5 +278,5 @@ take-takes p stage core room noted conn chan told stands known has went walk sho
     } in
     core-takes p stage (Take conn) core room made stands (cond-true _ None (Some cause.Conn) lives)
     (subst (λ (g : Gateway). MadeBy (λ group line after. ChannelMakes g conn (channel_at g.fine.state.tables.srq_state conn) group line after) room made core) stands.gateway made_by)
-    (let same : core.fine.state.moment ≡ p.core.fine.state.moment = take-moment p.core.fine core.fine conn chan told went in let late = stands.late in omega arith)
+    (let same : core.fine.state.moment ≡ p.core.fine.state.moment = (fine-frame p.core.fine core.fine (event.Take conn chan told) went).moment_is in let late = stands.late in omega arith)
     (λ n. roles-stay p.core.fine core.fine (event.Take conn chan told) n refl went) refl refl refl refl

@@ -1,7 +1,6 @@
 -- What each step on a connection makes of the stage that a player stands at.
 use Rattle.std.proofs.Common.{◌≡◌, ◌≢◌, ◌==◌, ℕ, ◌<◌, ◌≤◌, Bool, true, false, not, List, [], ◌∷◌, ◌++◌, length, Option, Some, None, is_some, is_none, IfSome, IsSome, IfOk, IfErr, OnOk, Result, Ok, Err, ◌⊎◌, inl, inr, ⊎_elim, refl, sym, ap, ◌∙◌, subst, arith}
-use Rattle.std.proofs.lemmas.Bool.{cond-true, cond-false, false≢true, cases_eq, and_parts, eqb-true, eq-eqb, ne_eqb}
-use Rattle.std.proofs.lemmas.Option.{cond_some}
+use Rattle.std.proofs.lemmas.Bool.{cond-true, cond-false, false≢true, cases_eq, eq-eqb, ne_eqb}
 use Rattle.vx_calls.specs.declared.calls.Role.{Role}
 use Rattle.vx_calls.specs.declared.limits.TheConstants.{RECORD_MAX}
 use Rattle.vx_record.specs.Buffer.{BufState, fresh, fed, taken}
@@ -9,20 +8,19 @@ use Rattle.vx_record.specs.declared.Feed.{Feed}
 use Rattle.vx_record.specs.declared.Feed.TheVariants as feed
 use Rattle.vx_record.specs.Records.{records}
 use Rattle.vx_record.specs.Ends.{FeedEnds}
-use Rattle.vx_record.specs.ProvedLaws.{fed-limit}
-use Rattle.vx_record.proofs.Ends.{feed-ends, fed-append}
+use Rattle.vx_record.specs.ProvedLaws.{fed-limit, fed-append}
+use Rattle.vx_record.proofs.Ends.{feed-ends}
 use Rattle.vx_bus_traits.specs.Steps.{Cut}
 use Rattle.vx_script.specs.declared.Cause.TheVariants as cause
 use Rattle.vx_script.specs.Command.{Command, Up, In, Down}
 use Rattle.vx_trace.specs.Output.{Output}
 use Rattle.vx_rules.specs.Lists.{along}
-use Rattle.vx_rules.specs.State.{Pending, role_at, pending_at, has_room, with_connection}
-use Rattle.vx_rules.specs.Entry as entry
+use Rattle.vx_rules.specs.State.{Pending, role_at, pending_at, has_room}
 use Rattle.vx_flow.specs.Event.{Event}
 use Rattle.vx_flow.specs.Event as event
 use Rattle.vx_flow.specs.FineState.{FineState}
 use Rattle.vx_flow.specs.Fine.{fine}
-use Rattle.vx_flow.specs.ProvedLaws.{step-made}
+use Rattle.vx_flow.specs.ProvedLaws.{fine-does}
 use Rattle.vx_play.specs.declared.note.Made.{Made}
 use Rattle.vx_play.specs.declared.note.Gone.TheVariants as gone
 use Rattle.vx_play.specs.declared.note.Note.TheVariants as note
@@ -40,7 +38,7 @@ use Rattle.vx_play.specs.Serving.{MadeBy}
 use Rattle.vx_play.specs.Feeding.{kept_behind, AnswersRecord, FeedMakes, FeedsPiece, StopsPiece}
 use Rattle.vx_play.specs.Standing.{HoldsStream, Holds, Stands, IsReady, IsPrintable, TakesTo, StopsFor, made_lines}
 use Rattle.vx_play.specs.ProvedLaws.{by_end, brought_of}
-use Rattle.vx_play.proofs.Roles.{roles-stay, polls-roles, up-lives, up-others, down-roles, down-others, as-one}
+use Rattle.vx_play.proofs.Roles.{roles-stay, polls-roles, up-lives, up-others, down-roles, down-others}
 use Rattle.vx_play.proofs.Messages.{up-moment, down-moment}
 use Rattle.vx_play.proofs.Stepping.{HoldsBehind, takes-to}
 
@@ -110,20 +108,6 @@ behind before command conn old new stands others here = λ n.
 
 -- ---- a connection comes up
 
--- what was asked of one that came up
-record CameUp (f : FineState) (n : ℕ) (r : Role) : Type 0 where
-  number : n ≡ f.state.tables.next_connection
-  room : has_room f.state.tables r ≡ true
-
-came-up : (f g : FineState) (n : ℕ) (r : Role) → fine f (event.Up n r) ≡ Some g → CameUp f n r
-came-up f g n r h =
-    as-one (λ s. CameUp f n r) f g (event.Up n r) (entry.Up n r)
-    (λ s made.
-    let parts = cond_some _ (record f.state { tables = with_connection f.state.tables r }) s made in
-    let tests = and_parts (n == f.state.tables.next_connection) (has_room f.state.tables r) parts.0 in
-    record { number = eqb-true n f.state.tables.next_connection tests.0; room = tests.1 })
-    (step-made f g (event.Up n r) h)
-
 -- a number of the stage
 number-next : (stage : Stage) (old : PlayerState) (conn : ℕ) → Stands old stage → conn ≡ old.core.fine.state.tables.next_connection
     → not (conn == (tables_of stage).next_connection) ≡ false
@@ -163,7 +147,7 @@ up-wants stage old conn r stands at room = up-allowed stage old conn r stands at
 
 pub up-came : (stage : Stage) (old : PlayerState) (g : FineState) (conn n : ℕ) (r : Role) → Stands old stage → conn ≡ old.core.fine.state.tables.next_connection
     → fine old.core.fine (event.Up n r) ≡ Some g → refusal stage (Up conn r) ≡ None
-up-came stage old g conn n r stands at came = up-allowed stage old conn r stands at (came-up old.core.fine g n r came).room
+up-came stage old g conn n r stands at came = up-allowed stage old conn r stands at (fine-does old.core.fine g (event.Up n r) came).step.room
 
 pub up-takes : (stage : Stage) (old new : PlayerState) (conn n : ℕ) (r : Role) → Stands old stage → conn ≡ old.core.fine.state.tables.next_connection
     → fine old.core.fine (event.Up n r) ≡ Some new.core.fine → BusGoes old.core.bus (Cut ∷ []) new.core.bus
@@ -172,7 +156,7 @@ pub up-takes : (stage : Stage) (old new : PlayerState) (conn n : ℕ) (r : Role)
     → TakesTo stage (Up conn r) (made_lines new (record { polled = None; note = note.Nothing; answered = None })) None new
 up-takes stage old new conn n r stands at came walk here others rack moment =
     let made : Made = record { polled = None; note = note.Nothing; answered = None } in
-    let same : n ≡ conn = (came-up old.core.fine new.core.fine n r came).number ∙ sym at in
+    let same : n ≡ conn = (fine-does old.core.fine new.core.fine (event.Up n r) came).step.number ∙ sym at in
     let up : fine old.core.fine (event.Up conn r) ≡ Some new.core.fine = subst (λ k. fine old.core.fine (event.Up k r) ≡ Some new.core.fine) same came in
     let lives = up-lives old.core.fine new.core.fine conn r up in
     let still : new.core.fine.state.moment ≡ old.core.fine.state.moment = up-moment old.core.fine new.core.fine conn r up in

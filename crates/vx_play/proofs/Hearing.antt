@@ -1,10 +1,9 @@
 -- What the instruments hear of a write, they take.
 use Rattle.std.proofs.Common.{◌≡◌, ◌≢◌, ◌≤◌, ℕ, Bool, true, false, cond, List, [], ◌∷◌, ◌++◌, map, Option, Some, None, refl, sym, ap, ◌∙◌, subst}
-use Rattle.std.specs.Prelude.{◌==◌, ◌&&◌, nat_le, is_none}
+use Rattle.std.specs.Prelude.{◌==◌, ◌&&◌}
 use Rattle.std.specs.Option.{option_and_then}
 use Rattle.std.specs.List.{All, AllZip, list_all}
-use Rattle.std.proofs.lemmas.Bool.{false≢true, and_parts, and_from, eqb-true}
-use Rattle.std.proofs.lemmas.Option.{cond_some}
+use Rattle.std.proofs.lemmas.Bool.{false≢true, and_parts, and_from}
 use Rattle.std.proofs.lemmas.List.Folds.{list_all-append}
 use Rattle.vx_calls.specs.declared.targets.Target.{Target}
 use Rattle.vx_calls.specs.declared.targets.Target.TheVariants.{Interface, Device}
@@ -32,14 +31,13 @@ use Rattle.vx_rules.specs.Effects.{task_of}
 use Rattle.vx_rules.specs.Serving.{IsPlainLink}
 use Rattle.vx_rules.specs.Decide.{stand_of_job}
 use Rattle.vx_flow.specs.Event.{Begin, Move}
-use Rattle.vx_flow.specs.FineState.{Turn, FineState}
-use Rattle.vx_flow.specs.Fine.{call_stand, turn_stand, is_on, goes_on, may_begin, may_move, comes_in_turn, fine_step, fine}
+use Rattle.vx_flow.specs.FineState.{FineState}
+use Rattle.vx_flow.specs.Fine.{call_stand, fine}
 use Rattle.vx_flow.specs.Poll as poll
 use Rattle.vx_flow.specs.Poll.{Ran, Ending, ran_of, begins, run_events}
 use Rattle.vx_flow.specs.Sound.{TurnStands, IsSound}
-use Rattle.vx_flow.specs.ProvedLaws.{on-is}
-use Rattle.vx_flow.proofs.Whom.{just-front}
-use Rattle.vx_flow.proofs.Plain.{found-has}
+use Rattle.vx_flow.specs.ProvedLaws.{fine-does, just-front}
+use Rattle.vx_flow.specs.ProvedLaws.Plain.{found-has}
 use Rattle.vx_kernel.specs.Polling.{PollsOver, wanted, refused_ask}
 use Rattle.vx_play.specs.Gateway.{Gateway}
 use Rattle.vx_play.specs.Hearing.{is_write, TakesHeard}
@@ -119,46 +117,26 @@ record Writes (f : FineState) (conn : ℕ) (p : Pending) : Type 0 where
   links : All IsPlainLink f.state.tables.links.links
   own : f.before.own ≤ ADDRESS_MAX
 
--- a turn may go on with these transfers
-turn-quiet : (f : FineState) (conn : ℕ) (p : Pending) (moves : List Transfer) (turn : Option Turn) → Writes f conn p → may_move f conn moves turn ≡ true
-    → all_quiet moves ≡ true
-turn-quiet f conn p moves None w h = absurd (false≢true h)
-turn-quiet f conn p moves (Some u) w h =
-    let t = f.state.tables in
-    let made = u.moves ++ moves in
-    let both = and_parts ((u.connection == conn) && goes_on f.state conn (pending_at t conn)) (is_on (turn_stand f u made)) h in
-    let own-turn = eqb-true u.connection conn (and_parts (u.connection == conn) (goes_on f.state conn (pending_at t conn)) both.0).0 in
-    let on = on-is (turn_stand f u made) both.1 in
-    let here : call_stand t f.before conn made (pending_at t conn) ≢ Off = subst (λ n. call_stand t f.before n made (pending_at t n) ≢ Off) own-turn on in
-    (quiet-parts u.moves moves
-    (call-quiet t f.before conn p.call made w.links w.own w.writes (subst (λ o. call_stand t f.before conn made o ≢ Off) w.call_at here))).1
-
--- what is allowed between events is a step
-fine-step : {X : Type 0} (b : Bool) (o : Option X) (x : X) → cond b o None ≡ Some x → o ≡ Some x
-fine-step true o x h = h
-fine-step false o x h = cc
-
+-- its turn goes on by these transfers
 moved-quiet : (f next : FineState) (conn : ℕ) (p : Pending) (moves : List Transfer) → Writes f conn p → fine f (Move conn moves) ≡ Some next → all_quiet moves ≡ true
 moved-quiet f next conn p moves w h =
-    let step = fine-step (comes_in_turn f (Move conn moves) f.turn) (fine_step f (Move conn moves)) next h in
-    turn-quiet f conn p moves f.turn w (cond_some (may_move f conn moves f.turn) _ next step).0
+    let d = (fine-does f next (Move conn moves) h).step in
+    let t = f.state.tables in
+    let made = d.turn.moves ++ moves in
+    let here : call_stand t f.before conn made (pending_at t conn) ≢ Off = subst (λ n. call_stand t f.before n made (pending_at t n) ≢ Off) d.of_call d.on_plan in
+    (quiet-parts d.turn.moves moves
+    (call-quiet t f.before conn p.call made w.links w.own w.writes (subst (λ o. call_stand t f.before conn made o ≢ Off) w.call_at here))).1
 
 -- where no turn is under way the bus as it began is the bus as it is
-wire-is : (f : FineState) → IsSound f → is_none f.turn ≡ true → f.before ≡ f.state.wire
-wire-is f sound h = by f.turn h sound.turn_stands where
-  by : (o : Option Turn) → is_none o ≡ true → TurnStands f.state.tables f.before f.state.wire f.state.moment o → f.before ≡ f.state.wire
-  by None h stands = stands
-  by (Some u) h stands = absurd (false≢true h)
+wire-is : (f : FineState) → IsSound f → f.turn ≡ None → f.before ≡ f.state.wire
+wire-is f sound none = subst (TurnStands f.state.tables f.before f.state.wire f.state.moment) none sound.turn_stands
 
 -- the turn of a write begins
 begun-writes : (f mid : FineState) (conn now : ℕ) (p : Pending) → IsSound f → Writes f conn p → fine f (Begin conn now) ≡ Some mid → Writes mid conn p
 begun-writes f mid conn now p sound w h =
-    let step = fine-step (comes_in_turn f (Begin conn now) f.turn) (fine_step f (Begin conn now)) mid h in
-    let free = is_none f.turn && nat_le f.state.moment now in
-    let parts = cond_some (free && may_begin f.state conn now (pending_at f.state.tables conn)) _ mid step in
-    let none = (and_parts (is_none f.turn) (nat_le f.state.moment now) (and_parts free (may_begin f.state conn now (pending_at f.state.tables conn)) parts.0).0).0 in
-    let small : f.state.wire.own ≤ ADDRESS_MAX = subst (λ (v : Wire). v.own ≤ ADDRESS_MAX) (wire-is f sound none) w.own in
-    subst (λ m. Writes m conn p) parts.1 (record { call_at = w.call_at; writes = w.writes; links = w.links; own = small })
+    let d = (fine-does f mid (Begin conn now) h).step in
+    let small : f.state.wire.own ≤ ADDRESS_MAX = subst (λ (v : Wire). v.own ≤ ADDRESS_MAX) (wire-is f sound d.no_turn) w.own in
+    subst (λ m. Writes m conn p) (sym d.leads) (record { call_at = w.call_at; writes = w.writes; links = w.links; own = small })
 
 -- the transfers of a poll of a write
 run-quiet : (f behind : FineState) (conn now : ℕ) (p : Pending) (moves : List Transfer) → IsSound f → Writes f conn p

@@ -15,3 +15,5 @@ pub mod Completing
 pub mod Ready
 pub mod Printed
 pub mod Both
+pub mod Counted
+pub mod Driving

@@ -1,10 +1,8 @@
 -- What serving a message makes of the gateway.
-use Rattle.std.proofs.Common.{◌≡◌, ◌==◌, ℕ, ◌≤◌, max, Bool, true, false, cond, ◌&&◌, IsTrue, List, [], ◌∷◌, Option, Some, None, is_some, IsSome, refl, sym, ap, ◌∙◌, subst, arith}
-use Rattle.std.specs.Prelude.{is_none, nat_le}
-use Rattle.std.specs.Option.{option_map, option_and_then}
-use Rattle.std.specs.List.{find}
-use Rattle.std.proofs.lemmas.Bool.{false≢true, and_parts, and_from}
-use Rattle.std.proofs.lemmas.Option.{cond_some}
+use Rattle.std.proofs.Common.{◌≡◌, ℕ, ◌≤◌, max, Bool, true, false, IsTrue, List, [], ◌∷◌, Option, Some, None, is_some, IsSome, refl, sym, ap, ◌∙◌, subst, arith}
+use Rattle.std.specs.Prelude.{is_none}
+use Rattle.std.specs.Option.{option_map}
+use Rattle.std.proofs.lemmas.Bool.{false≢true, and_from}
 use Rattle.vx_calls.specs.declared.calls.Role.{Role}
 use Rattle.vx_calls.specs.declared.calls.Role.TheVariants as role
 use Rattle.vx_calls.specs.declared.calls.Proc.{Proc}
@@ -19,38 +17,21 @@ use Rattle.vx_codec.specs.Row.{Contents}
 use Rattle.vx_trace.specs.Output.{Out}
 use Rattle.vx_bus_traits.specs.Steps.{Told, Cut}
 use Rattle.vx_sim.specs.SimState.{SimState}
-use Rattle.vx_rules.specs.Lists.{update_first}
-use Rattle.vx_rules.specs.State.{Pending, Connection, Tables, State, connection_at, pending_at, role_at, lives_as, has_role_of, same_role, is_idle, with_pending}
-use Rattle.vx_rules.specs.Entry as entry
+use Rattle.vx_rules.specs.State.{Connection, Tables, State, connection_at, pending_at, role_at, lives_as, has_role_of, same_role}
 use Rattle.vx_rules.specs.One.{may_wait, arrived}
 use Rattle.vx_flow.specs.Event.{Up, Down, Arrive, Abort}
 use Rattle.vx_flow.specs.FineState.{FineState}
 use Rattle.vx_flow.specs.Fine.{fine}
-use Rattle.vx_flow.specs.ProvedLaws.{step-made}
+use Rattle.vx_rules.specs.RowLaws.{pending-put}
+use Rattle.vx_flow.specs.ProvedLaws.{fine-does, fine-frame}
 use Rattle.vx_kernel.specs.CoreState.{CoreState}
 use Rattle.vx_play.specs.declared.note.Made.{Made}
 use Rattle.vx_play.specs.declared.serve.Served.TheVariants as served
 use Rattle.vx_play.specs.Gateway.{Gateway, gateway_of, BusGoes}
-use Rattle.vx_message.specs.Meaning.{Meaning, Junk, Answered, Aborts, xid_by, record_of, reply_record}
+use Rattle.vx_message.specs.Meaning.{Meaning, Answered, Aborts, record_of, reply_record}
 use Rattle.vx_message.specs.Meaning as meant
 use Rattle.vx_play.specs.Making.{PollMakes, MessageMakes}
 use Rattle.vx_play.specs.Serving.{MadeBy, Tells, IsRipe, Serves}
-use Rattle.vx_play.proofs.Roles.{as-one, tested-fine}
-
--- ---- roles
-
-same-role : (a b : Role) → same_role a b ≡ true → a ≡ b
-same-role role.Core role.Core h = refl
-same-role role.Abort role.Abort h = refl
-same-role role.Core role.Abort h = absurd (false≢true h)
-same-role role.Abort role.Core h = absurd (false≢true h)
-
--- a connection that lives in a role has it
-pub lives-role : (t : Tables) (conn : ℕ) (r : Role) → lives_as t conn r ≡ true → role_at t conn ≡ Some r
-lives-role t conn r = by (connection_at t conn) where
-  by : (o : Option Connection) → has_role_of r o ≡ true → option_map (λ (c : Connection). c.role) o ≡ Some r
-  by None h = absurd (false≢true h)
-  by (Some c) h = ap Some (same-role c.role r h)
 
 -- ---- a call that comes, by its procedure
 
@@ -91,37 +72,14 @@ ripe t conn r p asked args lives idle served asks = record {
 
 -- ---- what events leave of the moment and of calls
 
-tested : (P : State → Type 0) (b : Bool) (s t : State) → P s → cond b (Some s) None ≡ Some t → P t
-tested P b s t holds h = subst P (cond_some b s t h).1 holds
-
 pub up-moment : (f g : FineState) (conn : ℕ) (r : Role) → fine f (Up conn r) ≡ Some g → g.state.moment ≡ f.state.moment
-up-moment f g conn r h =
-    as-one (λ s. s.moment ≡ f.state.moment) f g (Up conn r) (entry.Up conn r) (λ s made. tested (λ s. s.moment ≡ f.state.moment) _ _ s refl made) (step-made f g (Up conn r) h)
+up-moment f g conn r h = (fine-frame f g (Up conn r) h).moment_is
 
 pub down-moment : (f g : FineState) (conn : ℕ) → fine f (Down conn) ≡ Some g → g.state.moment ≡ f.state.moment
-down-moment f g conn h =
-    tested-fine (λ s. s.moment ≡ f.state.moment) (is_some (connection_at f.state.tables conn)) _ g refl (step-made f g (Down conn) h)
+down-moment f g conn h = (fine-frame f g (Down conn) h).moment_is
 
 pub abort-moment : (f g : FineState) (conn lid : ℕ) (told : ErrorCode) → fine f (Abort conn lid told) ≡ Some g → g.state.moment ≡ f.state.moment
-abort-moment f g conn lid told h =
-    as-one (λ s. s.moment ≡ f.state.moment) f g (Abort conn lid told) (entry.Abort conn lid told) (λ s made. tested (λ s. s.moment ≡ f.state.moment) _ _ s refl made)
-    (step-made f g (Abort conn lid told) h)
-
--- a call that is kept is found
-found-pending : (conn : ℕ) (p : Pending) (r : Role) (cs : List Connection) → has_role_of r (find (λ c. c.number == conn) cs) ≡ true
-    → is_some (option_and_then (λ (c : Connection). c.pending) (find (λ c. c.number == conn) (update_first (λ c. c.number == conn) (λ c. record c { pending = Some p }) cs))) ≡ true
-found-pending conn p r [] h = absurd (false≢true h)
-found-pending conn p r (c ∷ cs) h = by (c.number == conn) refl h (found-pending conn p r cs) where
-  by : (b : Bool) → (c.number == conn) ≡ b → has_role_of r (cond b (Some c) (find (λ c. c.number == conn) cs)) ≡ true
-      → (has_role_of r (find (λ c. c.number == conn) cs) ≡ true
-      → is_some (option_and_then (λ (c : Connection). c.pending) (find (λ c. c.number == conn) (update_first (λ c. c.number == conn) (λ c. record c { pending = Some p }) cs))) ≡ true)
-      → is_some (option_and_then (λ (c : Connection). c.pending)
-      (find (λ c. c.number == conn) (cond b (record c { pending = Some p } ∷ cs) (c ∷ update_first (λ c. c.number == conn) (λ c. record c { pending = Some p }) cs)))) ≡ true
-  by true e lives rest = ap (λ b. is_some (option_and_then (λ (c : Connection). c.pending) (cond b (Some (record c { pending = Some p })) (find (λ c. c.number == conn) cs)))) e
-  by false e lives rest =
-      ap (λ b. is_some (option_and_then (λ (c : Connection). c.pending)
-      (cond b (Some c) (find (λ c. c.number == conn) (update_first (λ c. c.number == conn) (λ c. record c { pending = Some p }) cs))))) e
-      ∙ rest lives
+abort-moment f g conn lid told h = (fine-frame f g (Abort conn lid told) h).moment_is
 
 -- a call that came is kept, at its moment
 pub record IsKept (conn now : ℕ) (s : State) : Type 0 where
@@ -130,15 +88,12 @@ pub record IsKept (conn now : ℕ) (s : State) : Type 0 where
 
 pub arrive-kept : (f g : FineState) (conn now : ℕ) (asked : Call) → fine f (Arrive conn asked now) ≡ Some g → IsKept conn now g.state
 arrive-kept f g conn now asked h =
-    as-one (IsKept conn now) f g (Arrive conn asked now) (entry.Arrive conn asked now)
-    (λ s made.
-    let next : State = record f.state { tables = with_pending f.state.tables conn (Some (arrived asked now)); moment = now } in
-    let parts = cond_some (nat_le f.state.moment now && is_idle f.state.tables conn && may_wait asked) next s made in
-    let tests = and_parts (nat_le f.state.moment now && is_idle f.state.tables conn) (may_wait asked) parts.0 in
-    let idle = (and_parts (nat_le f.state.moment now) (is_idle f.state.tables conn) tests.0).1 in
-    let lives = (and_parts (lives_as f.state.tables conn role.Core) (is_none (pending_at f.state.tables conn)) idle).0 in
-    subst (IsKept conn now) parts.1 (record { moment = refl; pending = found-pending conn (arrived asked now) role.Core f.state.tables.connections lives }))
-    (step-made f g (Arrive conn asked now) h)
+    let came = (fine-does f g (Arrive conn asked now) h).step in
+    record {
+      moment = (fine-frame f g (Arrive conn asked now) h).moment_is;
+      pending = ap (λ (x : FineState). is_some (pending_at x.state.tables conn)) came.leads
+          ∙ ap is_some (pending-put f.state.tables conn (Some (arrived asked now)) role.Core came.core);
+    }
 
 -- ---- what was made
 

@@ -22,7 +22,7 @@ use Rattle.vx_play.specs.Making.{MessageMakes, RecordMakes, PieceMakes, ChannelM
 use Rattle.vx_play.specs.Play.{Plays}
 
 -- a note shows no transfers
-abbrev IsPlain : Option Output → Type 0
+abbrev pub IsPlain : Option Output → Type 0
 IsPlain output = flat_map shown_moves (noted output) ≡ []
 
 -- so does one of a line that shows none
@@ -77,7 +77,7 @@ channel-plain g conn None group output after h = plain-line output _ h.1 refl
 channel-plain g conn (Some c) group output after h = plain-line output _ h.told (take-plain conn h.given)
 
 -- so shows none what a command tells beside its transfers
-makes-plain : (s : Stage) (command : Command) (group : List Event) (output : Option Output) (after : Gateway) → Makes s command group output after → IsPlain output
+pub makes-plain : (s : Stage) (command : Command) (group : List Event) (output : Option Output) (after : Gateway) → Makes s command group output after → IsPlain output
 makes-plain s (Up conn r) group output after h = plain-none output h.2
 makes-plain s (In conn bytes) group output after h = piece-plain s.gateway conn s.moment (brought (s.streams conn) bytes) group output after h
 makes-plain s (Down conn) group output after h = plain-line output _ h.told refl
@@ -99,7 +99,7 @@ lines-moves (event.Move conn moves ∷ group) = ap (λ rest. moves ++ rest) (lin
 lines-moves (e ∷ group) = lines-moves group
 
 -- and so do those of an item
-item-shown : (item : Item) → IsPlain item.note → flat_map shown_moves (item_lines item) ≡ flat_map moved item.group
+pub item-shown : (item : Item) → IsPlain item.note → flat_map shown_moves (item_lines item) ≡ flat_map moved item.group
 item-shown item plain =
     flat_map-append shown_moves (flat_map bus_lines item.group) (noted item.note)
     ∙ ap (λ rest. flat_map shown_moves (flat_map bus_lines item.group) ++ rest) plain

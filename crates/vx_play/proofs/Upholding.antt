@@ -1,29 +1,26 @@
 -- The headline holds of the events of a play: each is allowed at its place.
-use Rattle.std.proofs.Common.{◌≡◌, ◌≤◌, ◌==◌, ℕ, Bool, true, false, cond, ◌&&◌, List, [], ◌∷◌, ◌++◌, Option, Some, None, refl, sym, ap, ◌∙◌, subst, arith}
-use Rattle.std.specs.Prelude.{nat_le, is_none}
+use Rattle.std.proofs.Common.{◌≡◌, ◌≤◌, ◌==◌, ℕ, Bool, true, false, cond, List, [], ◌∷◌, ◌++◌, Option, Some, None, refl, sym, ap, ◌∙◌, subst, arith}
 use Rattle.std.specs.List.{list_all}
 use Rattle.std.proofs.lemmas.Bool.{false≢true, and_parts, and_from, eqb-true, eq-eqb}
 use Rattle.std.proofs.lemmas.Option.{none-some, same_Some}
 use Rattle.std.proofs.lemmas.List.Folds.{list_all-append}
-use Rattle.vx_lemmas.specs.Conditions.{chosen}
 use Rattle.vx_calls.specs.declared.calls.Role.{Role}
 use Rattle.vx_488.specs.declared.transfers.Transfer.{Transfer}
-use Rattle.vx_488.specs.Wire.{wire_after}
 use Rattle.vx_script.specs.Command.{Command, Up, In, Down, At, Poll, Sample, Take, Dial, Inst, Plug, Pull, Set, Fail}
 use Rattle.vx_trace.specs.Output.{Output}
 use Rattle.vx_bus_traits.specs.Steps.{Step}
 use Rattle.vx_message.specs.SrqState.{Channel, channel_at}
 use Rattle.vx_sim.specs.SimState.{SimState}
 use Rattle.vx_rules.specs.Lists.{along}
-use Rattle.vx_rules.specs.State.{pending_at, role_at}
+use Rattle.vx_rules.specs.State.{role_at}
 use Rattle.vx_flow.specs.Event.{Event}
 use Rattle.vx_flow.specs.Event as event
 use Rattle.vx_flow.specs.FineState.{FineState, first_fine}
-use Rattle.vx_flow.specs.Fine.{comes_in_turn, outside, may_begin, may_dial, may_move, fine_after, without_dial, fine_step, fine}
+use Rattle.vx_flow.specs.Fine.{fine}
+use Rattle.vx_flow.specs.Frames.{moment_after}
 use Rattle.vx_flow.specs.Poll.{Ending, Answered, Waited, Dialed, Polls, begins, begun_events, moved_events, run_events, end_events, at_moment}
-use Rattle.vx_flow.proofs.Lookups.{along-none, along-append}
-use Rattle.vx_flow.proofs.Earlier.{earlier_law-holds}
-use Rattle.vx_flow.proofs.Headline.{headline_law-holds}
+use Rattle.vx_rules.specs.ListLaws.{along-none, along-append}
+use Rattle.vx_flow.specs.ProvedLaws.{fine-frame, earlier_law-holds, headline_law-holds}
 use Rattle.vx_play.specs.Gateway.{Gateway, Happens, abort_port}
 use Rattle.vx_bench.specs.Script as script
 use Rattle.vx_message.specs.Meaning.{Meaning, Junk, Asks, Aborts, meaning}
@@ -35,7 +32,6 @@ use Rattle.vx_play.specs.Stage.{Stage, tables_of, beginning}
 use Rattle.vx_play.specs.Making.{IsQuiet, PollMakes, Tweaks, MessageMakes, RecordMakes, PieceMakes, ChannelMakes, Makes}
 use Rattle.vx_play.specs.Play.{Plays}
 use Rattle.vx_play.specs.Upholding.{Upholds}
-use Rattle.vx_play.proofs.Roles.{tested-fine, answer-leaves}
 use Rattle.vx_play.proofs.Shown.{lines-shown}
 
 -- Events lead from one state to another, but for a later moment.
@@ -61,20 +57,12 @@ same-late : (told now : ℕ) → (told == now) ≡ true → told ≤ now
 same-late told now h = let same = eqb-true told now h in omega arith
 
 -- behind such an event the moment hasn't passed
-step-late : (f g : FineState) (e : Event) (now : ℕ) → is_polled_at now e ≡ true → f.state.moment ≤ now → fine_step f e ≡ Some g → g.state.moment ≤ now
-step-late f g (event.Begin conn told) now is late h =
-    tested-fine (λ s. s.moment ≤ now) (is_none f.turn && nat_le f.state.moment told && may_begin f.state conn told (pending_at f.state.tables conn))
-    (record (fine_after f (event.Begin conn told) f.dialed (record f.state { moment = told })) { before = f.state.wire }) g (same-late told now is) h
-step-late f g (event.Move conn moves) now is late h =
-    tested-fine (λ s. s.moment ≤ now) (may_move f conn moves f.turn)
-    (fine_after f (event.Move conn moves) f.dialed (record f.state { wire = wire_after f.state.wire moves })) g late h
-step-late f g (event.Answer conn told failed dialed level reply) now is late h =
-    answer-leaves (λ s. s.moment ≤ now) f g (event.Answer conn told failed dialed level reply) conn told (outside f conn failed dialed level) reply
-    (λ u same. same-late told now is) h
-step-late f g (event.Dial conn told) now is late h =
-    tested-fine (λ s. s.moment ≤ now) (nat_le f.state.moment told && may_dial f.state conn told (pending_at f.state.tables conn))
-    (fine_after f (event.Dial conn told) (without_dial f.dialed conn ++ conn ∷ []) (record f.state { moment = told })) g (same-late told now is) h
-step-late f g e now is late h = absurd (false≢true is)
+moment-late : (e : Event) (moment now : ℕ) → is_polled_at now e ≡ true → moment ≤ now → moment_after moment e ≤ now
+moment-late (event.Begin conn told) moment now is late = same-late told now is
+moment-late (event.Move conn moves) moment now is late = late
+moment-late (event.Answer conn told failed dialed level reply) moment now is late = same-late told now is
+moment-late (event.Dial conn told) moment now is late = same-late told now is
+moment-late _ moment now is late = absurd (false≢true is)
 
 -- nor behind a list of them
 along-late : (f g : FineState) (es : List Event) (now : ℕ) → list_all (is_polled_at now) es ≡ true → f.state.moment ≤ now → along fine (Some f) es ≡ Some g
@@ -82,7 +70,7 @@ along-late : (f g : FineState) (es : List Event) (now : ℕ) → list_all (is_po
 along-late f g [] now are late h = subst (λ (x : FineState). x.state.moment ≤ now) (same_Some f g h) late
 along-late f g (e ∷ es) now are late h =
     let parts = and_parts (is_polled_at now e) (list_all (is_polled_at now) es) are in
-    by (fine f e) refl h (λ mid is. step-late f mid e now parts.0 late (chosen (comes_in_turn f e f.turn) (fine_step f e) mid is).1)
+    by (fine f e) refl h (λ mid is. subst (λ m. m ≤ now) (sym (fine-frame f mid e is).moment_is) (moment-late e f.state.moment now parts.0 late))
     (λ mid so x. along-late mid g es now parts.1 so x)
   where
     by : (o : Option FineState) → fine f e ≡ o → along fine o es ≡ Some g → ((mid : FineState) → fine f e ≡ Some mid → mid.state.moment ≤ now)

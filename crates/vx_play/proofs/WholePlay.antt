@@ -7,7 +7,6 @@ use Rattle.std.specs.Io.KnownBytes.{Appends}
 use Rattle.std.proofs.KnownBytes.{Appends-trans, Appends-nil}
 use Rattle.vx_io_traits.specs.ProvedLaws.{rose_earlier}
 use Rattle.vx_script.specs.declared.Cause.{Cause}
-use Rattle.vx_script.specs.declared.Cause.TheVariants as cause
 use Rattle.vx_script.specs.Cause.{cause_word}
 use Rattle.vx_script.specs.Grammar.{Skipped, Does, Outside, reading}
 use Rattle.vx_trace.specs.Output.{Output}
@@ -36,7 +35,7 @@ use Rattle.vx_bench.proofs.Scripts.{behind-more, next-line}
 use Rattle.vx_play.proofs.Upholding.{plays-uphold}
 
 -- one more step of a play
-plays_more : (before mid after : Stage) (steps : List Step) (items : List Item) (step : Step) (item : Item) → Plays before steps items mid → item.command ≡ step.command
+abbrev pub plays_more : (before mid after : Stage) (steps : List Step) (items : List Item) (step : Step) (item : Item) → Plays before steps items mid → item.command ≡ step.command
     → Takes mid item after → Plays before (steps ++ step ∷ []) (items ++ item ∷ []) after
 plays_more before mid after [] [] step item played same takes = (same, after, subst (λ s. Takes s item after) played takes, refl)
 plays_more before mid after [] (i ∷ items) step item played same takes = absurd played
@@ -244,12 +243,12 @@ short-ended t own rack before after alike (items, short, written) = inr (items, 
 -- what was read is played: what the script's end says is the outcome
 read_ended : (words : List (List ℕ)) (rack : List SpareShown) (ends : Ends) (bytes : List ℕ) (how : Status) → is_command words ≡ true → GivesAll SCRIPT_MAX ends.source ends.source_after bytes
     → EndsScript bytes rack ends.sink ends.sink_after how → IsOutcome words rack ends how
-read_ended words rack ends bytes status.Done command read how = record { command = command; bytes = bytes; read = read; ended = how }
+read_ended words rack ends bytes status.Done command read how = inl (record { command = command; bytes = bytes; read = read; ended = how })
 read_ended words rack ends bytes status.Usage command read how = absurd how
 read_ended words rack ends bytes status.SourceFailed command read how = absurd how
-read_ended words rack ends bytes status.Fault command read how = record { command = command; bytes = bytes; read = read; ended = how }
-read_ended words rack ends bytes status.SinkFailed command read how = inr (inr (record { command = command; bytes = bytes; read = read; ended = how }))
-read_ended words rack ends bytes status.NoMemory command read how = inr (record { command = command; bytes = bytes; read = read; ended = how })
+read_ended words rack ends bytes status.Fault command read how = inl (record { command = command; bytes = bytes; read = read; ended = how })
+read_ended words rack ends bytes status.SinkFailed command read how = inr (inr (inl (record { command = command; bytes = bytes; read = read; ended = how })))
+read_ended words rack ends bytes status.NoMemory command read how = inr (inl (record { command = command; bytes = bytes; read = read; ended = how }))
 read_ended words rack ends bytes status.TooLong command read how = absurd how
 
 -- a script that was read ended so

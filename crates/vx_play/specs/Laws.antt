@@ -1,4 +1,4 @@
--- When a play is written whole.
+-- When a play or a run is written whole.
 use Rattle.std.specs.Prelude.{◌≡◌, ◌≤◌, ℕ, true, List, length, ◌++◌, Option, Some, None, ◌⊎◌}
 use Rattle.std.specs.Io.KnownBytes.{Appends}
 use Rattle.vx_io_traits.specs.Faults.{Rose}
@@ -8,7 +8,9 @@ use Rattle.vx_play.specs.declared.run.Status.TheVariants as status
 use Rattle.vx_play.specs.Item.{Item, Fault, text, last_line}
 use Rattle.vx_bench.specs.Rack.{SpareShown}
 use Rattle.vx_play.specs.Play.{IsPlay}
-use Rattle.vx_play.specs.Outcome.{Ends, is_command, status_number}
+use Rattle.vx_gen.specs.declared.words.Ask.{Ask}
+use Rattle.vx_gen.specs.Asked.{IsInRange, spelled}
+use Rattle.vx_play.specs.Outcome.{Ends, MakesRun, is_command, status_number}
 
 -- the status of a play that is written whole
 abbrev pub whole_status : Option Fault → Status
@@ -36,3 +38,10 @@ pub record WritesWhole (rack : List SpareShown) (ends : Ends) (script_text : Lis
 abbrev pub Completes : List (List ℕ) → List SpareShown → Ends → ℕ → Type 0
 Completes words rack ends number = (script_text : List ℕ) → IsUndisturbed words ends script_text
     → (number ≡ status_number status.NoMemory) ⊎ WritesWhole rack ends script_text number
+
+-- Where words ask for a run and the sink's count of faults doesn't rise, the run is made whole or up to a step that is refused, and
+-- written so, or memory is wanting.
+abbrev pub CompletesRun : List (List ℕ) → List SpareShown → Ends → ℕ → Type 0
+CompletesRun words rack ends number = (ask : Ask) → IsInRange ask → words ≡ spelled ask → (Rose ends.sink.faults ends.sink_after.faults → ⊥)
+    → (number ≡ status_number status.NoMemory)
+    ⊎ ((fault : Option Fault) × (number ≡ status_number (whole_status fault)) × MakesRun words rack ends (whole_status fault))

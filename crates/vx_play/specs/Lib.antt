@@ -13,6 +13,8 @@ pub mod Feeding
 pub mod Tweaking
 pub mod Printing
 pub mod LinePlayed
+pub mod Generated
+pub mod Counting
 pub mod Ended
 pub mod Outcome
 pub mod Laws
@@ -39,7 +41,7 @@ pub use Rattle.vx_sim.specs.Occupants
 pub use Rattle.vx_sim.specs.SimState
 pub use Rattle.vx_message.specs.Meaning
 pub use Rattle.vx_message.specs.SrqState
-pub use Rattle.vx_rules.specs.Held
+pub use Rattle.vx_rules.specs.Calls
 pub use Rattle.vx_rules.specs.Lists
 pub use Rattle.vx_rules.specs.One
 pub use Rattle.vx_rules.specs.State
@@ -57,6 +59,10 @@ pub use Rattle.vx_script.specs.Plain
 pub use Rattle.vx_script.specs.Words
 pub use Rattle.vx_trace.specs.Output
 pub use Rattle.vx_trace.specs.Text
+pub use Rattle.vx_gen.specs.Asked
+pub use Rattle.vx_gen.specs.Drawing
+pub use Rattle.vx_gen.specs.Generating
+pub use Rattle.vx_gen.specs.SummaryText
 pub use Rattle.vx_bench.specs.Attaches
 pub use Rattle.vx_bench.specs.Rack
 pub use Rattle.vx_bench.specs.Refusing

@@ -1,5 +1,5 @@
--- How a play of a whole source ends: for each status, what was read, what was written, and why.
-use Rattle.std.specs.Prelude.{◌≡◌, ℕ, ◌+◌, Bool, true, false, List, [], ◌∷◌, codes, ◌⊎◌}
+-- How the program ends, that plays a source or makes a run: for each status, what was read, what was written, and why.
+use Rattle.std.specs.Prelude.{◌≡◌, ◌≢◌, ℕ, ◌+◌, Bool, true, false, List, [], ◌∷◌, codes, ◌⊎◌}
 use Rattle.std.specs.Str.{bytes_eq}
 use Rattle.std.specs.Io.KnownBytes.{Appends}
 use Rattle.vx_io_traits.specs.Faults.{Rose}
@@ -12,7 +12,10 @@ use Rattle.vx_text.specs.Ends.{End}
 use Rattle.vx_text.specs.Reading.{GivesAll, GivesTooMuch, GivesUpTo}
 use Rattle.vx_text.specs.Writing.{StopsIn}
 use Rattle.vx_bench.specs.Rack.{SpareShown}
+use Rattle.vx_gen.specs.declared.words.Ask.{Ask}
+use Rattle.vx_gen.specs.Asked.{IsInRange, spelled}
 use Rattle.vx_play.specs.Ended.{EndsScript}
+use Rattle.vx_play.specs.Generated.{EndsRun}
 
 -- the number of a status
 abbrev pub status_number : Status → ℕ
@@ -24,7 +27,7 @@ status_number status.SinkFailed = 4
 status_number status.NoMemory = 5
 status_number status.TooLong = 6
 
--- the words of the one command: `run` alone
+-- the words of the command that plays a script: `run` alone
 abbrev pub is_command : List (List ℕ) → Bool
 is_command (word ∷ []) = bytes_eq word (codes "run")
 is_command _ = false
@@ -43,9 +46,10 @@ pub record Ends : Type 0 where
   pub sink : End
   pub sink_after : End
 
--- the words aren't a command, and the source is as it was
+-- the words are those of no command, neither that which plays a script nor one that makes a run, and the source is as it was
 pub record IsUnread (words : List (List ℕ)) (ends : Ends) : Type 0 where
   pub no_command : is_command words ≡ false
+  pub no_run : (ask : Ask) → IsInRange ask → words ≢ spelled ask
   pub unread : ends.source_after ≡ ends.source
 
 -- the source gave more than a script has
@@ -67,26 +71,38 @@ pub record PlaysScript (words : List (List ℕ)) (rack : List SpareShown) (ends 
   pub read : GivesAll SCRIPT_MAX ends.source ends.source_after bytes
   pub ended : EndsScript bytes rack ends.sink ends.sink_after how
 
--- how a play ends
+-- the words ask for a run, which ended so, and the source is as it was
+pub record MakesRun (words : List (List ℕ)) (rack : List SpareShown) (ends : Ends) (how : Status) : Type 0 where
+  pub ask : Ask
+  pub in_range : IsInRange ask
+  pub words_are : words ≡ spelled ask
+  pub unread : ends.source_after ≡ ends.source
+  pub ended : EndsRun ask rack ends.sink ends.sink_after how
+
+-- how a play ends, or a run
 abbrev pub IsOutcome : List (List ℕ) → List SpareShown → Ends → Status → Type 0
--- the script was played to its end: its text and `done` were written
-IsOutcome words rack ends status.Done = PlaysScript words rack ends status.Done
+-- the script was played to its end: its text and `done` were written; or the run was made whole, and its text was written
+IsOutcome words rack ends status.Done = PlaysScript words rack ends status.Done ⊎ MakesRun words rack ends status.Done
 -- the words aren't a command: the source is as it was, and the usage line was written
 IsOutcome words rack ends status.Usage = IsUnread words ends × Appends ends.sink.bytes ends.sink_after.bytes usage_line
 -- the source failed: nothing was written
 IsOutcome words rack ends status.SourceFailed = ReadsAtMost words ends × Rose ends.source.faults ends.source_after.faults
--- the script was played to its first fault: the text of the steps before it, and the line of the fault, were written
-IsOutcome words rack ends status.Fault = PlaysScript words rack ends status.Fault
--- the sink failed: a front of the usage line was written, of the line of a script that is too long, or of what the play is due
+-- the script was played to its first fault: the text of the steps before it, and the line of the fault, were written; or a step
+-- of the run was refused, and the line of the fault was written behind the first line
+IsOutcome words rack ends status.Fault = PlaysScript words rack ends status.Fault ⊎ MakesRun words rack ends status.Fault
+-- the sink failed: a front of the usage line was written, of the line of a script that is too long, or of what the play or the run
+-- is due
 IsOutcome words rack ends status.SinkFailed =
     (IsUnread words ends × StopsIn ends.sink ends.sink_after usage_line)
     ⊎ (ReadsTooMuch words ends × StopsIn ends.sink ends.sink_after long_line)
     ⊎ PlaysScript words rack ends status.SinkFailed
--- memory ran out: as the source was read, with nothing written; or in the play
-IsOutcome words rack ends status.NoMemory = ReadsAtMost words ends ⊎ PlaysScript words rack ends status.NoMemory
+    ⊎ MakesRun words rack ends status.SinkFailed
+-- memory ran out: as the source was read, with nothing written; or in the play; or in the run, behind its first line
+IsOutcome words rack ends status.NoMemory =
+    ReadsAtMost words ends ⊎ PlaysScript words rack ends status.NoMemory ⊎ MakesRun words rack ends status.NoMemory
 -- the source has more bytes than a script may have: the line that says so was written
 IsOutcome words rack ends status.TooLong = ReadsTooMuch words ends × Appends ends.sink.bytes ends.sink_after.bytes long_line
 
--- a play ends with the number of its status
+-- the program ends with the number of its status
 abbrev pub EndsSo : List (List ℕ) → List SpareShown → Ends → ℕ → Type 0
 EndsSo words rack ends number = (how : Status) × (number ≡ status_number how) × IsOutcome words rack ends how

@@ -2,6 +2,7 @@
 #![tactic(auto)]
 
 mod bench;
+mod made_run;
 mod note;
 mod pieces;
 mod player;

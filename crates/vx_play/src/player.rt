@@ -1,5 +1,5 @@
 //! The player: the core over a simulated bus, and of each connection what comes in.
-ghost use Rattle.std.specs.Prelude.{◌≡◌, ◌≢◌, ℕ, ◌≤◌, ◌<◌, length, true, false, option_map, position, None, Some, IfOk, IfErr, IfSome, IfNone, IsSome, OnOk, map, []};
+ghost use Rattle.std.specs.Prelude.{◌≡◌, ◌≢◌, ℕ, ◌≤◌, ◌<◌, length, true, false, option_map, position, None, Some, IfOk, IfErr, IfSome, IfNone, IsSome, is_some, OnOk, map, []};
 ghost use Rattle.std.specs.Str.{bytes_eq};
 ghost use Rattle.vx_calls.specs.declared.calls.Role.TheVariants as role;
 ghost use Rattle.vx_script.specs.Command.{Command, Up, In, Down, At, Poll, Sample, Take, Dial, Inst, Plug, Pull, Set, Fail, step_shown};
@@ -121,6 +121,13 @@ impl<I: Instrument> Player<I> {
         ensures { result.now ≡ self.now.core.bus.means.moves }
     {
         self.core.moves()
+    }
+
+    /// Whether a call of the connection isn't answered yet.
+    pub fn is_pending(&self, conn: u32) -> bool
+        ensures { result ≡ is_some (pending_at self.now.core.fine.state.tables conn) }
+    {
+        self.core.pending(conn)
     }
 
     /// The room, with the record of the last reply or interrupt call at its front.

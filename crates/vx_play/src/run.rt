@@ -1,5 +1,6 @@
-//! A whole play: the words, the source read to its end, its lines one after the other, and the last line.
-ghost use Rattle.std.specs.Prelude.{◌≡◌, ℕ, ◌+◌, ◌≤◌, List, length, map, option_map, string_bytes};
+//! A whole play: the words, the source read to its end, its lines one after the other, and the last line; or a whole run that a
+//! number makes.
+ghost use Rattle.std.specs.Prelude.{◌≡◌, ℕ, ◌+◌, ◌≤◌, List, length, map, option_map, string_bytes, Some};
 ghost use Rattle.std.specs.List.{flat_map};
 ghost use Rattle.vx_trace.specs.Output.{line_shown};
 ghost use Rattle.vx_trace.specs.Text.{line_text};
@@ -14,9 +15,13 @@ ghost use Rattle.vx_play.specs.Standing.{IsReady, Stands, IsPrintable, NoteWithi
 ghost use Rattle.vx_play.specs.Printing.{outputs_of};
 ghost use Rattle.vx_play.specs.LinePlayed.{EndsLine};
 ghost use Rattle.vx_play.specs.Ended.{EndsLines, EndsScript, PutsLast};
+ghost use Rattle.vx_play.specs.Generated.{EndsRun};
+ghost use Rattle.vx_play.specs.Counting.{EndsSteps};
+ghost use Rattle.vx_play.specs.Item.{last_line};
 ghost use Rattle.vx_play.specs.Outcome.{Ends, EndsSo, IsOutcome, is_command, status_number};
-ghost use Rattle.vx_play.specs.Laws.{Completes};
+ghost use Rattle.vx_play.specs.Laws.{Completes, CompletesRun};
 
+use crate::made_run::take_all;
 use crate::note::{Gone, Made, Note};
 use crate::player::Player;
 use crate::printer::Printer;
@@ -24,6 +29,7 @@ use std::alloc::Global;
 use vx_488::Transfer;
 use vx_bench::Stop;
 use vx_core::Why;
+use vx_gen::{Ask, Counts, RECORD_ROOM, SUMMARY_ROOM, TITLE_ROOM, ask_of, summary, title};
 use vx_inst::Instrument;
 use vx_io_traits::{Sink, Source};
 use vx_rack::Spare;
@@ -308,7 +314,86 @@ fn play_script<I: Instrument, K: Sink>(
     }
 }
 
-/// Whether the words are those of the one command.
+/// Writes the last line of a run of which the step of this number isn't taken.
+fn put_stop<K: Sink>(sink: &mut K, printer: &mut Printer, number: u64, stop: Stop) -> Status
+    ensures refused { (cause : Cause) → stop ≡ Stop.Refused cause → PutsLast Status.Fault (last_line (Some (record { line = number; cause = cause })))
+        (record { bytes = K.taken sink.old; faults = K.faults sink.old })
+        (record { bytes = K.taken sink.new; faults = K.faults sink.new }) result }
+    ensures memory { stop ≡ Stop.NoMemory → (result ≡ Status.NoMemory) × (sink.new ≡ sink.old) }
+{
+    match stop {
+        Stop::Refused(cause) => {
+            let line = Line::FaultLine {
+                line: number,
+                word: cause.word(),
+            };
+            put_last(sink, printer.line(&line), Status::Fault)
+        }
+        Stop::NoMemory => Status::NoMemory,
+    }
+}
+
+/// Takes the steps of a run that a number makes, with a player that begins, and writes its lines behind the first.
+fn make_over<I: Instrument, K: Sink>(
+    alloc: Global,
+    ask: Ask,
+    player: &mut Player<I>,
+    printer: &mut Printer,
+    sink: &mut K,
+) -> Status
+    requires begins { Stands player.old (beginning player.old.rack) }
+    requires steps { ask.steps ≤ 1000000 }
+    ensures ended { (rack : List SpareShown) → player.old.rack ≡ rack → EndsSteps ask rack
+        (record { bytes = K.taken sink.old; faults = K.faults sink.old })
+        (record { bytes = K.taken sink.new; faults = K.faults sink.new }) result }
+{
+    let mut counts = Counts::default();
+    match take_all(alloc, ask, player, &mut [0; RECORD_ROOM], &mut counts) {
+        Ok(()) => put_last(sink, summary(&counts, &mut [0; SUMMARY_ROOM]), Status::Done),
+        Err(halt) => put_stop(sink, printer, halt.number, halt.stop),
+    }
+}
+
+/// Takes the steps of a run with these spare instruments, and writes its lines behind the first.
+fn make_steps<I: Instrument, K: Sink>(
+    alloc: Global,
+    ask: Ask,
+    sink: &mut K,
+    rack: Vec<Spare<I>>,
+) -> Status
+    requires steps { ask.steps ≤ 1000000 }
+    ensures ended { EndsSteps ask (map (spare_shown (handed_in (λ i. I.behaves i) (λ i. I.nature i))) rack.items)
+        (record { bytes = K.taken sink.old; faults = K.faults sink.old })
+        (record { bytes = K.taken sink.new; faults = K.faults sink.new }) result }
+{
+    let Ok(mut printer) = Printer::new(alloc) else {
+        return Status::NoMemory;
+    };
+    match Player::new(alloc, rack) {
+        Ok(mut player) => make_over(alloc, ask, &mut player, &mut printer, sink),
+        Err(_) => Status::NoMemory,
+    }
+}
+
+/// Makes the run that words ask for, with these spare instruments.
+fn make_run<I: Instrument, K: Sink>(
+    alloc: Global,
+    ask: Ask,
+    sink: &mut K,
+    rack: Vec<Spare<I>>,
+) -> Status
+    requires steps { ask.steps ≤ 1000000 }
+    ensures ended { EndsRun ask (map (spare_shown (handed_in (λ i. I.behaves i) (λ i. I.nature i))) rack.items)
+        (record { bytes = K.taken sink.old; faults = K.faults sink.old })
+        (record { bytes = K.taken sink.new; faults = K.faults sink.new }) result }
+{
+    match put_all(sink, title(ask, &mut [0; TITLE_ROOM])) {
+        Ok(()) => make_steps(alloc, ask, sink, rack),
+        Err(_) => Status::SinkFailed,
+    }
+}
+
+/// Whether the words are those of the command that plays a script.
 fn is_command(words: &[String]) -> bool
     ensures { result ≡ is_command (map string_bytes words.now) }
 {
@@ -341,14 +426,22 @@ fn play<S: Source, K: Sink, I: Instrument>(
             Input::NoMemory => Status::NoMemory,
         }
     } else {
-        put_last(sink, b"usage: vxplay COMMAND\n", Status::Usage)
+        match ask_of(words) {
+            Some(ask) => make_run(alloc, ask, sink, rack),
+            None => put_last(sink, b"usage: vxplay COMMAND\n", Status::Usage),
+        }
     }
 }
 
 /// All that the program `vxplay` does: its words, its input, its output, and the spare instruments that `plug` lines name;
 /// what comes back is the exit status.
 ///
-/// The one command is the word `run` alone. It reads the source to its end, plays its lines one after the other, writes what
+/// The words `gen SEED N`, with SEED 0 to 2147483647 and N 1 to 1,000,000 in decimal digits without a leading zero, make a run
+/// from a number. Its first line is written before anything else, and its other lines when it has ended; the source isn't read.
+/// It ends with 0, 3, 4 or 5: at 3 the first line and a `fault line` with the number of the step that was refused were written,
+/// and at 5 nothing behind the first line.
+///
+/// The word `run` alone plays a script. It reads the source to its end, plays its lines one after the other, writes what
 /// each line makes before it takes the next, and ends with a last line:
 ///
 /// - 0, `done`: every line was played.
@@ -380,6 +473,14 @@ pub fn play_run<S: Source, K: Sink, I: Instrument>(
 
     // A script that the source tells is played whole, or memory is wanting, where neither the source nor the sink fails.
     ensures complete { Completes (map string_bytes words.now) (map (spare_shown (handed_in (λ i. I.behaves i) (λ i. I.nature i))) rack.items) (record {
+      source = record { bytes = S.left source.old; faults = S.faults source.old };
+      source_after = record { bytes = S.left source.new; faults = S.faults source.new };
+      sink = record { bytes = K.taken sink.old; faults = K.faults sink.old };
+      sink_after = record { bytes = K.taken sink.new; faults = K.faults sink.new };
+    }) result }
+
+    // A run is made whole or up to a step that is refused, or memory is wanting, where the sink doesn't fail.
+    ensures made { CompletesRun (map string_bytes words.now) (map (spare_shown (handed_in (λ i. I.behaves i) (λ i. I.nature i))) rack.items) (record {
       source = record { bytes = S.left source.old; faults = S.faults source.old };
       source_after = record { bytes = S.left source.new; faults = S.faults source.new };
       sink = record { bytes = K.taken sink.old; faults = K.faults sink.old };

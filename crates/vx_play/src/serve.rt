@@ -10,7 +10,7 @@ ghost use Rattle.vx_codec.specs.Answered.{IsPuttableReply, results};
 ghost use Rattle.vx_message.specs.declared.record.TheConstants.{REPLY_ROOM};
 ghost use Rattle.vx_rules.specs.State.{is_idle, lives_as, pending_at, role_at};
 ghost use Rattle.vx_rules.specs.One.{may_wait};
-ghost use Rattle.vx_rules.specs.Held.{IsShort};
+ghost use Rattle.vx_rules.specs.Calls.{IsShort};
 ghost use Rattle.vx_play.specs.Item.{reply_error};
 ghost use Rattle.vx_play.specs.Gateway.{gateway_of};
 ghost use Rattle.vx_message.specs.Meaning.{meaning, by_call, record_of, reply_record};

@@ -1,8 +1,9 @@
 //! Plays the scripts of the folder that it runs in, and tells which of them print otherwise than is written down.
 //!
-//! A file `NAME.vxs` is a script; a file `NAME.each` holds a script of one line in each of its lines. Beside it the file
-//! `NAME.out` has what each of them must print, and behind that a last line `status N`, with the exit status. For `plug`
-//! lines there are two spare instruments of each model that takes bytes: `echo`, `slow` and `asker`.
+//! A file `NAME.vxs` is a script; a file `NAME.each` holds a script of one line in each of its lines; a file `NAME.args` has
+//! the words of a call without a script, one a line. Beside it the file `NAME.out` has what each of them must print, and behind
+//! that a last line `status N`, with the exit status. For `plug` lines there are two spare instruments of each model that takes
+//! bytes: `echo`, `slow` and `asker`.
 #![tactic(auto)]
 
 use arrayvec::ArrayString;
@@ -52,9 +53,8 @@ fn add(rack: &mut Vec<Spare<Boxed>>, name: &str, inst: Boxed) -> Result<(), Allo
     Ok(())
 }
 
-/// Plays a script, and answers its status. What it prints goes to the sink.
-fn play(alloc: Global, script: &[u8], sink: &mut MemSink) -> Result<u8, Unmade> {
-    let words = vec![in alloc; String::from_str(alloc, "run")?]?;
+/// Plays a script with these words, and answers its status. What it prints goes to the sink.
+fn play(alloc: Global, words: &[String], script: &[u8], sink: &mut MemSink) -> Result<u8, Unmade> {
     let mut source = MemSource::new(script.to_vec(alloc)?, 100, Vec::new(alloc));
     let mut rack = Vec::new(alloc);
     for _ in 0..SPARES {
@@ -62,7 +62,7 @@ fn play(alloc: Global, script: &[u8], sink: &mut MemSink) -> Result<u8, Unmade> 
         add(&mut rack, "slow", Box::new(alloc, Slow::new(alloc)?)?)?;
         add(&mut rack, "asker", Box::new(alloc, Asker::new(alloc)?)?)?;
     }
-    Ok(play_run(alloc, &words, &mut source, sink, rack))
+    Ok(play_run(alloc, words, &mut source, sink, rack))
 }
 
 /// Whether a text and a line with the status behind it are what is written down.
@@ -71,10 +71,20 @@ fn is_written(alloc: Global, text: &[u8], status: u8, written: &[u8]) -> Result<
     Ok(written.strip_suffix(last.as_bytes()) == Some(text))
 }
 
-/// Whether a script prints otherwise than is written down.
-fn differs(alloc: Global, script: &[u8], written: &[u8]) -> Result<bool, AllocError> {
+/// The words of which each stands in a line.
+fn words_of(alloc: Global, lines: &str) -> Result<Vec<String>, AllocError> {
+    let mut words = Vec::new(alloc);
+    for line in lines.lines() {
+        words.push(String::from_str(alloc, line)?)?;
+    }
+    Ok(words)
+}
+
+/// Whether a script prints otherwise than is written down, with words that stand in lines.
+fn differs(alloc: Global, words: &str, script: &[u8], written: &[u8]) -> Result<bool, AllocError> {
+    let words = words_of(alloc, words)?;
     let mut sink = MemSink::new(Vec::new(alloc), Vec::new(alloc));
-    let Ok(status) = play(alloc, script, &mut sink) else {
+    let Ok(status) = play(alloc, &words, script, &mut sink) else {
         return Err(AllocError);
     };
     Ok(!is_written(alloc, sink.bytes(), status, written)?)
@@ -102,7 +112,7 @@ fn play_whole<R: Files + Print + AllocGlobal>(
 ) -> io::Result<()> {
     let script = fs::read(rt, format!(in rt.alloc(); "{name}.vxs")?)?;
     let written = fs::read(rt, format!(in rt.alloc(); "{name}.out")?)?;
-    let differs = differs(rt.alloc(), &script, &written)?;
+    let differs = differs(rt.alloc(), "run", &script, &written)?;
     tally.count(differs);
     if differs {
         println!(rt; "differs {name}")?;
@@ -119,11 +129,27 @@ fn play_each<R: Files + Print + AllocGlobal>(
     let scripts = fs::read(rt, format!(in rt.alloc(); "{name}.each")?)?;
     let written = fs::read(rt, format!(in rt.alloc(); "{name}.out")?)?;
     for (place, script) in scripts.split_inclusive(|b| *b == b'\n').enumerate() {
-        let differs = differs(rt.alloc(), script, &written)?;
+        let differs = differs(rt.alloc(), "run", script, &written)?;
         tally.count(differs);
         if differs {
             println!(rt; "differs {name} {place}")?;
         }
+    }
+    Ok(())
+}
+
+/// Makes the one call of a file of words.
+fn play_words<R: Files + Print + AllocGlobal>(
+    rt: &R,
+    name: &str,
+    tally: &mut Tally,
+) -> io::Result<()> {
+    let words = fs::read_to_string(rt, format!(in rt.alloc(); "{name}.args")?)?;
+    let written = fs::read(rt, format!(in rt.alloc(); "{name}.out")?)?;
+    let differs = differs(rt.alloc(), &words, &[], &written)?;
+    tally.count(differs);
+    if differs {
+        println!(rt; "differs {name}")?;
     }
     Ok(())
 }
@@ -145,6 +171,8 @@ fn main(rt: HostRuntime) -> io::Result<()> {
             play_whole(&rt, name, &mut tally)?;
         } else if let Some(name) = file.strip_suffix(".each") {
             play_each(&rt, name, &mut tally)?;
+        } else if let Some(name) = file.strip_suffix(".args") {
+            play_words(&rt, name, &mut tally)?;
         }
     }
     let Tally { rows, differ } = tally;

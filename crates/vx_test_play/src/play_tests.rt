@@ -273,6 +273,20 @@ fn first_command(
     Ok(None)
 }
 
+/// How a run ends without `slow` among the spares, in front of a sink that takes all, and of one whose first or second write fails.
+static SHORT_RACK: [(&[u64], u8, &[u8]); 3] = [
+    (&[], 3, b"gen 1 4\nfault line 2 spare\n"),
+    (&[1], 4, b""),
+    (&[2], 4, b"gen 1 4\n"),
+];
+
+#[test]
+fn run_without_a_spare(rt: HostRuntime) -> Result<(), Fail> {
+    let wrong = first_other(rt.alloc(), &["gen", "1", "4"], &SHORT_RACK)?;
+    assert_eq!(rt; wrong, None);
+    Ok(())
+}
+
 #[test]
 fn words_that_are_no_command(rt: HostRuntime) -> Result<(), Fail> {
     let wrong = first_command(rt.alloc(), &NO_COMMANDS, &SINKS)?;

@@ -8,7 +8,7 @@ use Rattle.vx_play.specs.declared.serve.Served.TheVariants as served
 use Rattle.vx_play.specs.Gateway.{Gateway, gateway_of}
 use Rattle.vx_message.specs.Meaning.{meaning}
 use Rattle.vx_play.specs.Serving.{Serves}
-use Rattle.vx_play.proofs.Messages.{lives-role}
+use Rattle.vx_rules.specs.ProvedLaws.{lives-role}
 use Rattle.vx_play.proofs.Feeds.{if-there, sets-xid, record-answered, record-junk}
 use Rattle.vx_play.proofs.pieces.answer.Goals as goal
 

@@ -3,7 +3,7 @@ use Rattle.std.specs.BTreeMap.{get}
 use Rattle.vx_record.specs.declared.Feed.TheVariants as feed
 use Rattle.vx_play.specs.Gateway.{gateway_of}
 use Rattle.vx_rules.specs.ProvedLaws.{role-connection}
-use Rattle.vx_play.proofs.Messages.{lives-role}
+use Rattle.vx_rules.specs.ProvedLaws.{lives-role}
 use Rattle.vx_play.proofs.Feeds.{fed-whole, feeds-piece, stops-piece, fed-state, fed-limits}
 use Rattle.vx_play.proofs.pieces.feed_piece.Goals as goal
 

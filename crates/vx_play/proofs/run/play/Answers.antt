@@ -1,4 +1,5 @@
 use Rattle.std.proofs.Common.{map, string_bytes, refl, sym, ◌∙◌, inl}
+use Rattle.vx_play.proofs.Driving.{run-outcome, usage-outcome}
 use Rattle.vx_play.proofs.WholePlay.{script-ended, long-ended}
 use Rattle.vx_play.proofs.run.play.Goals as goal
 
@@ -24,4 +25,15 @@ returns-in-Failed g c = record {
 pub returns-in-NoMemory : goal.returns-in-NoMemory
 returns-in-NoMemory g c = record {
   outcome = inl (record { command = sym c.is_command.ensures ∙ c.if-is_command.true; read = c.in-NoMemory.ensures.read; unwritten = refl });
+}
+
+pub returns-in-Some : goal.returns-in-Some
+returns-in-Some g c = record {
+  outcome = run-outcome (map string_bytes c.args.words.now) _ _ c.in-Some.ask _ c.in-Some.ensures.some.0 c.in-Some.ensures.some.1 refl c.make_run.ensures.ended;
+}
+
+pub returns-in-None : goal.returns-in-None
+returns-in-None g c = record {
+  outcome = usage-outcome (map string_bytes c.args.words.now) _ _ _
+      (record { no_command = sym c.is_command.ensures ∙ c.if-is_command.false; no_run = c.in-None.ensures.none refl; unread = refl }) c.put_last-in-None.ensures.put;
 }

@@ -1,0 +1,17 @@
+use Rattle.std.proofs.Common.{ℕ, List, subst}
+use Rattle.vx_play.specs.declared.run.Status.TheVariants as status
+use Rattle.vx_play.specs.Ended.{PutsLast}
+use Rattle.vx_play.proofs.Driving.{refused-line}
+use Rattle.vx_play.proofs.WholePlay.{fault-writable}
+use Rattle.vx_play.proofs.run.put_stop.Goals as goal
+
+pub line-requires : goal.line-requires
+line-requires g c =
+    let writable = fault-writable c.in-Refused.cause _ c.word.ensures in record { whole = writable.0; fits = writable.1 }
+
+pub returns-in-Refused-clause-refused : goal.returns-in-Refused-clause-refused
+returns-in-Refused-clause-refused g c = λ cause is.
+    subst
+    (λ (line : List ℕ). PutsLast status.Fault line (record { bytes = g.K.Sink.taken c.args.sink.now; faults = g.K.Sink.faults c.args.sink.now })
+    (record { bytes = g.K.Sink.taken c.put_last.new.sink; faults = g.K.Sink.faults c.put_last.new.sink }) c.put_last.result)
+    (refused-line c.args.stop c.in-Refused.cause cause c.args.number c.line.result.now c.word.result.now c.in-Refused.is is c.word.ensures c.line.ensures) c.put_last.ensures.put
