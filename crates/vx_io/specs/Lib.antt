@@ -5,6 +5,7 @@ pub mod NetState
 pub mod ReachState
 pub mod DoorState
 pub mod SocketState
+pub mod Looking
 pub mod ClockState
 pub mod DialState
 pub mod ProvedLaws

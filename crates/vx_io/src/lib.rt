@@ -3,18 +3,22 @@
 //! stand on this crate.
 #![tactic(auto)]
 
+mod accepting;
 mod clocks;
 mod dials;
 mod doors;
+mod keeping;
 mod links;
 mod memory;
 mod nets;
 mod patience;
+mod places;
 mod reaches;
 mod sockets;
 mod standard;
 mod streams;
 mod tcp_doors;
+mod timeouts;
 
 pub use clocks::{MemClock, StdClock, StdPause};
 pub use dials::MemDial;
@@ -27,6 +31,7 @@ pub use sockets::{TcpLink, TcpNet, TcpPort, TcpReach};
 pub use standard::{StdSink, StdSource};
 pub use streams::MemStreams;
 pub use tcp_doors::TcpDoor;
+pub use timeouts::Timeouts;
 pub use vx_door::{Door, Met};
 pub use vx_io_traits::{
     Accepted, Bound, Clock, Dial, DialOut, Handed, Link, Listen, Net, Pause, Rang, Reach, ReadOut,

@@ -7,13 +7,20 @@ ghost use Rattle.vx_io_traits.specs.Outs.{IfGot, IfTook, OnEnd, OnReadFailed, On
 ghost use Rattle.vx_io_traits.specs.Rung.{OnDialFailed, is_up};
 ghost use Rattle.vx_io_traits.specs.Accepts.{OnAcceptFailed, OnBindFailed, GoesOn, given_after};
 ghost use Rattle.vx_io.specs.SocketState.{TellsNone};
+ghost use Rattle.vx_io.specs.Looking.{OnGot};
 
+use super::accepting::accept_retrying;
+use super::keeping::bear_with;
 use super::patience::{LOOKS, Patience};
-use super::standard::{TRIES, read_retrying, write_retrying};
+use super::places::{Crowd, Place};
+use super::standard::{read_retrying, write_retrying};
+use super::timeouts::Timeouts;
+use std::alloc::Global;
 use std::hint::spin_loop;
 use std::io::{ErrorKind, Read, Write};
 use std::marker::Model;
 use std::net::{Ipv4Addr, Net as Sockets, Shutdown, TcpListener, TcpStream};
+use std::sync::Arc;
 use vx_io_traits::{Accepted, Bound, DialOut, Link, Listen, Net, Reach, ReadOut, WriteOut};
 
 /// A link over a TCP stream of the system.
@@ -21,6 +28,7 @@ use vx_io_traits::{Accepted, Bound, DialOut, Link, Listen, Net, Reach, ReadOut, 
 pub struct TcpLink {
     stream: TcpStream,
     patience: Patience,
+    place: Option<Place>,
     receive_faults: u64,
     send_faults: u64,
 }
@@ -40,11 +48,20 @@ impl TcpLink {
         ensures receive_faults { result.receive_faults ≡ 0 }
         ensures send_faults { result.send_faults ≡ 0 }
     {
+        TcpLink::placed(stream, None)
+    }
+
+    /// A link over `stream`, in this place.
+    fn placed(stream: TcpStream, place: Option<Place>) -> TcpLink
+        ensures receive_faults { result.receive_faults ≡ 0 }
+        ensures send_faults { result.send_faults ≡ 0 }
+    {
         let _ = stream.set_nodelay(true);
         let _ = stream.set_nonblocking(true);
         TcpLink {
             stream,
             patience: Patience::NEW,
+            place,
             receive_faults: 0,
             send_faults: 0,
         }
@@ -56,26 +73,41 @@ impl TcpLink {
     }
 }
 
-/// How many bytes a read gave that didn't sleep, looking at most so often; or none where nothing came, or it failed.
-fn look(stream: &mut TcpStream, into: &mut [u8]) -> Option<usize>
-    ensures { IfSome result (λ n. n ≤ length into.new) }
+/// What looks at a stream met that didn't sleep.
+#[derive(Clone, Copy, Debug, PartialEq, Eq)]
+enum Seen {
+    /// A read gave so many bytes, 0 at the end.
+    Got(usize),
+    /// Nothing came.
+    Nothing,
+    /// A read failed. The system tells an error once, so a later read doesn't.
+    Failed,
+}
+
+/// What a stream has, looking at most so often.
+fn look(stream: &mut TcpStream, into: &mut [u8]) -> Seen
+    ensures { OnGot result (λ n. n ≤ length into.new) }
 {
     for _ in 0..LOOKS {
         match stream.read(into) {
-            Ok(count) => return Some(count),
+            Ok(count) => return Seen::Got(count),
             Err(error) if error.kind() == ErrorKind::WouldBlock => spin_loop(),
-            Err(_) => return None,
+            Err(error) if error.kind() == ErrorKind::Interrupted => {}
+            Err(_) => return Seen::Failed,
         }
     }
-    None
+    Seen::Nothing
 }
 
-/// How many bytes a read gave that slept for them, 0 at the end, or none where it failed.
-fn wait_for(stream: &mut TcpStream, into: &mut [u8]) -> Option<usize>
+/// How many bytes a read gave that slept for them, 0 at the end, or none where it failed, or its place was given up.
+fn wait_for(stream: &mut TcpStream, place: &Option<Place>, into: &mut [u8]) -> Option<usize>
     ensures { IfSome result (λ n. n ≤ length into.new) }
 {
     let _ = stream.set_nonblocking(false);
-    let given = read_retrying(stream, into);
+    let given = match place {
+        Some(place) => place.wait_for(stream, into),
+        None => read_retrying(stream, into),
+    };
     let _ = stream.set_nonblocking(true);
     given
 }
@@ -86,14 +118,20 @@ impl TcpLink {
         ensures given { IfSome result (λ n. n ≤ length into.new) }
         ensures same { self.new ≡ self.old }
     {
-        if self.patience.looks() {
-            if let Some(count) = look(&mut self.stream, into) {
-                self.patience.paid();
-                return Some(count);
-            }
-            self.patience.failed();
+        if let Some(place) = &mut self.place {
+            place.taken();
         }
-        wait_for(&mut self.stream, into)
+        if self.patience.looks() {
+            match look(&mut self.stream, into) {
+                Seen::Got(count) => {
+                    self.patience.paid();
+                    return Some(count);
+                }
+                Seen::Failed => return None,
+                Seen::Nothing => self.patience.failed(),
+            }
+        }
+        wait_for(&mut self.stream, &self.place, into)
     }
 }
 
@@ -160,24 +198,14 @@ fn write_now(stream: &mut TcpStream, from: &[u8]) -> Option<usize>
     taken
 }
 
-/// The stream of the next connection to a port, or none where the wait failed. A connection that its peer gave up before it
-/// was taken is passed over, up to 64 in a row.
-pub(super) fn accept_retrying(listener: &TcpListener) -> Option<TcpStream> {
-    for _ in 0..TRIES {
-        match listener.accept() {
-            Ok((stream, _)) => return Some(stream),
-            Err(error) if error.kind() == ErrorKind::ConnectionAborted => {}
-            Err(_) => return None,
-        }
-    }
-    None
-}
-
 /// A port over a TCP listener of the system. It never answers `Ended`.
 #[derive(Drop)]
 pub struct TcpPort {
     listener: TcpListener,
+    timeouts: Timeouts,
+    crowd: Option<Arc<Crowd, Global>>,
     faults: u64,
+    lost: Option<i32>,
 }
 
 impl Model for TcpPort {
@@ -194,10 +222,41 @@ impl TcpPort {
     pub fn new(listener: TcpListener) -> TcpPort
         ensures { result ≡ 0 }
     {
+        TcpPort::crowded(listener, Timeouts::NONE, None)
+    }
+
+    /// A port over `listener`, with no fault yet, whose links bear with their peers for so long, and are of this crowd.
+    fn crowded(
+        listener: TcpListener,
+        timeouts: Timeouts,
+        crowd: Option<Arc<Crowd, Global>>,
+    ) -> TcpPort
+        ensures { result ≡ 0 }
+    {
         TcpPort {
             listener,
+            timeouts,
+            crowd,
             faults: 0,
+            lost: None,
         }
+    }
+
+    /// The link over a stream that it gave.
+    fn link_of(&self, stream: TcpStream) -> TcpLink {
+        let place = Place::among(&self.crowd, self.timeouts.abort_idle);
+        let idle = if place.is_some() {
+            self.timeouts.abort_idle
+        } else {
+            0
+        };
+        bear_with(&stream, &self.timeouts, idle);
+        TcpLink::placed(stream, place)
+    }
+
+    /// The system's number of the error for which the last wait failed, where it told one.
+    pub fn lost(&self) -> Option<i32> {
+        self.lost
     }
 }
 
@@ -206,15 +265,17 @@ impl Listen for TcpPort {
 
     ghost faults = { λ s. s };
 
-    /// Waits for the next connection. A wait that errs counts a fault.
+    /// Waits for the next connection. A wait that finds its socket lost counts a fault; an error of one peer or of a moment is
+    /// waited over.
     fn accept(&mut self) -> Accepted<TcpLink>
         ensures counted { self.old ≤ self.new }
         ensures goes_on { GoesOn result }
         ensures failed { OnAcceptFailed result (self.new ≡ one_more self.old) }
     {
         match accept_retrying(&self.listener) {
-            Some(stream) => Accepted::Peer(TcpLink::new(stream)),
-            None => {
+            Ok(stream) => Accepted::Peer(self.link_of(stream)),
+            Err(number) => {
+                self.lost = number;
                 self.faults = self.faults.saturating_add(1);
                 Accepted::Failed
             }
@@ -226,9 +287,13 @@ impl Listen for TcpPort {
 #[derive(Drop)]
 pub struct TcpNet<R> {
     rt: R,
+    timeouts: Timeouts,
+    // that of its further ports
+    crowd: Option<Arc<Crowd, Global>>,
     own: Option<TcpListener>,
     faults: u64,
     given: u64,
+    lost: Option<i32>,
 }
 
 impl<R> Model for TcpNet<R> {
@@ -247,13 +312,64 @@ impl<R: Sockets> TcpNet<R> {
         ensures faults { result.faults ≡ 0 }
         ensures given { result.given ≡ 0 }
     {
+        TcpNet::crowded(rt, Timeouts::NONE, None)
+    }
+
+    /// A net over the runtime `rt`, of which no port is open yet, and whose further ports' links are of this crowd.
+    fn crowded(rt: R, timeouts: Timeouts, crowd: Option<Arc<Crowd, Global>>) -> TcpNet<R>
+        ensures is_open { result.is_open ≡ false }
+        ensures faults { result.faults ≡ 0 }
+        ensures given { result.given ≡ 0 }
+    {
         TcpNet {
             rt,
+            timeouts,
+            crowd,
             own: None,
             faults: 0,
             given: 0,
+            lost: None,
         }
     }
+
+    /// A further port of it.
+    fn port_of(&self, listener: TcpListener) -> TcpPort {
+        let crowd = match &self.crowd {
+            Some(crowd) => Arc::try_clone(crowd).ok(),
+            None => None,
+        };
+        TcpPort::crowded(listener, self.timeouts, crowd)
+    }
+
+    /// The system's number of the error for which the last wait at its own port failed, where it told one.
+    pub fn lost(&self) -> Option<i32> {
+        self.lost
+    }
+}
+
+impl<R: Sockets + AllocGlobal> TcpNet<R> {
+    /// A net over the runtime `rt`, of which no port is open yet, and whose links bear with their peers for so long. Where there is
+    /// no memory for what the links of its further ports share, `abort_idle` isn't in force.
+    pub fn with_timeouts(rt: R, timeouts: Timeouts) -> TcpNet<R>
+        ensures is_open { result.is_open ≡ false }
+        ensures faults { result.faults ≡ 0 }
+        ensures given { result.given ≡ 0 }
+    {
+        let mut timeouts = timeouts;
+        let crowd = crowd_of(rt.alloc(), timeouts.abort_idle);
+        if crowd.is_none() {
+            timeouts.abort_idle = 0;
+        }
+        TcpNet::crowded(rt, timeouts, crowd)
+    }
+}
+
+/// A crowd of links that are idle for so long at most; none where that is without end, or there is no memory for it.
+fn crowd_of(alloc: Global, idle: u32) -> Option<Arc<Crowd, Global>> {
+    if idle == 0 {
+        return None;
+    }
+    Arc::new(alloc, Crowd::new()).ok()
 }
 
 impl<R: Sockets<Listener = TcpListener, Stream = TcpStream>> Net for TcpNet<R> {
@@ -286,8 +402,8 @@ impl<R: Sockets<Listener = TcpListener, Stream = TcpStream>> Net for TcpNet<R> {
         }
     }
 
-    /// Waits for the next connection to its own port. A wait that errs counts a fault. So would the wait after 2^64 - 1
-    /// connections, which could not be counted.
+    /// Waits for the next connection to its own port. A wait that finds its socket lost counts a fault; an error of one peer or of
+    /// a moment is waited over. So would the wait after 2^64 - 1 connections, which could not be counted.
     fn accept(&mut self) -> Accepted<TcpLink>
         requires { self.old.is_open ≡ true }
         ensures counted { self.old.faults ≤ self.new.faults }
@@ -298,14 +414,16 @@ impl<R: Sockets<Listener = TcpListener, Stream = TcpStream>> Net for TcpNet<R> {
     {
         let stream = match &self.own {
             Some(listener) if self.given < u64::MAX => accept_retrying(listener),
-            _ => None,
+            _ => Err(None),
         };
         match stream {
-            Some(stream) => {
+            Ok(stream) => {
                 self.given += 1;
+                bear_with(&stream, &self.timeouts, self.timeouts.idle);
                 Accepted::Peer(TcpLink::new(stream))
             }
-            None => {
+            Err(number) => {
+                self.lost = number;
                 self.faults = self.faults.saturating_add(1);
                 Accepted::Failed
             }
@@ -320,7 +438,7 @@ impl<R: Sockets<Listener = TcpListener, Stream = TcpStream>> Net for TcpNet<R> {
         ensures failed { OnBindFailed result (self.new.faults ≡ one_more self.old.faults) }
     {
         match TcpListener::bind(&self.rt, (Ipv4Addr::UNSPECIFIED, port)) {
-            Ok(listener) => Bound::Port(TcpPort::new(listener)),
+            Ok(listener) => Bound::Port(self.port_of(listener)),
             Err(_) => {
                 self.faults = self.faults.saturating_add(1);
                 Bound::Failed

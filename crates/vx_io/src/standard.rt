@@ -1,6 +1,6 @@
 //! The standard library's readers and writers as a source and a sink: the trusted edge, a few lines each.
 
-ghost use Rattle.std.specs.Prelude.{◌≡◌, ◌<◌, ◌≤◌, IfSome, None, length};
+ghost use Rattle.std.specs.Prelude.{◌≡◌, ◌<◌, ◌≤◌, IfOk, IfSome, None, length};
 ghost use Rattle.vx_io_traits.specs.Faults.{one_more};
 ghost use Rattle.vx_io_traits.specs.Outs.{IfGot, IfTook, OnEnd, OnReadFailed, OnWriteFailed};
 
@@ -107,18 +107,25 @@ impl<W: Write> Sink for StdSink<W> {
     }
 }
 
+/// How many bytes a read gave, 0 at the end, or how it failed.
+pub(super) fn try_read<R: Read>(reader: &mut R, into: &mut [u8]) -> Result<usize, ErrorKind>
+    ensures { IfOk result (λ n. n ≤ length into.new) }
+{
+    for _ in 0..TRIES {
+        match reader.read(into) {
+            Ok(count) => return Ok(count),
+            Err(error) if is_interrupted(&error) => {}
+            Err(error) => return Err(error.kind()),
+        }
+    }
+    Err(ErrorKind::Interrupted)
+}
+
 /// How many bytes a read gave, 0 at the end, or none where it failed.
 pub(super) fn read_retrying<R: Read>(reader: &mut R, into: &mut [u8]) -> Option<usize>
     ensures { IfSome result (λ n. n ≤ length into.new) }
 {
-    for _ in 0..TRIES {
-        match reader.read(into) {
-            Ok(count) => return Some(count),
-            Err(error) if is_interrupted(&error) => {}
-            Err(_) => return None,
-        }
-    }
-    None
+    try_read(reader, into).ok()
 }
 
 /// How many bytes a write took, or none where it failed.

@@ -7,7 +7,8 @@ ghost use Rattle.vx_io_traits.specs.Rung.{OnDialFailed};
 ghost use Rattle.vx_door.specs.Meeting.{is_met, met_after, OnMeetFailed};
 ghost use Rattle.vx_io.specs.SocketState.{TellsNone, KeepsOwnCounts};
 
-use super::sockets::{TcpLink, accept_retrying};
+use super::accepting::accept_retrying;
+use super::sockets::TcpLink;
 use std::marker::Model;
 use std::net::{Ipv4Addr, Net as Sockets, TcpListener, TcpStream};
 use std::time::Duration;
@@ -136,7 +137,7 @@ impl<R: Sockets<Stream = TcpStream>> Link for TcpDoor<R> {
 /// The link of the next connection to a port, whose receives and sends wait for 30 s at most; or none where the wait failed, or
 /// the system refuses such limits.
 fn accept_timed(listener: &TcpListener) -> Option<TcpLink> {
-    let stream = accept_retrying(listener)?;
+    let stream = accept_retrying(listener).ok()?;
     let time = Some(Duration::from_secs(PEER_SECONDS));
     if stream.set_read_timeout(time).is_err() || stream.set_write_timeout(time).is_err() {
         return None;
@@ -172,8 +173,8 @@ impl<R: Sockets<Listener = TcpListener, Stream = TcpStream>> Door for TcpDoor<R>
         }
     }
 
-    /// Closes the connection of the present peer, and waits for the next one to its port. A wait that errs counts a fault, and so
-    /// does one while no port is open.
+    /// Closes the connection of the present peer, and waits for the next one to its port. A wait that finds its socket lost counts
+    /// a fault, and so does one while no port is open; an error of one peer or of a moment is waited over.
     fn next(&mut self) -> Met
         ensures counted { self.old.faults ≤ self.new.faults }
         ensures goes_on { result ≢ Met.Ended }

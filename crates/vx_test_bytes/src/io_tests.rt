@@ -496,7 +496,7 @@ fn memory_reach_is_its_link_once_up(rt: HostRuntime) -> Result<(), Fail> {
 }
 
 // Opens the net at some port that is free, and tells which.
-fn open_somewhere(rt: &HostRuntime, net: &mut TcpNet<&HostRuntime>) -> Option<u16>
+pub(super) fn open_somewhere(rt: &HostRuntime, net: &mut TcpNet<&HostRuntime>) -> Option<u16>
     ensures { IfSome result (λ _. net.new.is_open ≡ true) }
 {
     for _ in 0..16 {

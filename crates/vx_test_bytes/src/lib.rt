@@ -22,4 +22,6 @@ mod text_lines_tests;
 #[cfg(test)]
 mod text_tests;
 #[cfg(test)]
+mod timeouts_tests;
+#[cfg(test)]
 mod xdr_tests;
