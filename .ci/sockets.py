@@ -4,17 +4,22 @@
     sockets.py SERVER CLIENT    tests the two programs of these paths
     sockets.py                  has `rt try` build both without proof, with an address sanitizer, and tests those, but for
                                 want of memory
+    sockets.py --soak MINUTES SERVER CLIENT
+                                runs a mixed load for so long and prints a line of figures a minute; no gate runs it
 
 The second form shows that the same sources do over sockets what they should; that they are proved is for `rt ci` to say.
 It prints a line a case and at last 'N passed, M failed', and ends with status 1 where a case failed or something hung.
+What a case wants that this machine refuses, it leaves out and says so.
 
 Each case starts a server of its own, so links are numbered from 1. What is compared is whole records, composed from their
 words by RFC 5531 (headers), RFC 4506 (values) and VXI-11 1.0 (arguments and results).
 """
+import ctypes
 import os
 import random
 import resource
 import select
+import shlex
 import shutil
 import signal
 import socket
@@ -22,8 +27,10 @@ import struct
 import subprocess
 import sys
 import tempfile
+import threading
 import time
 from concurrent.futures import ThreadPoolExecutor
+from contextlib import ExitStack, contextmanager
 
 HOST = "127.0.0.1"
 PATIENCE = 20  # seconds in which whatever is waited for has to come
@@ -180,12 +187,37 @@ class Server:
     def descriptors(self):
         return len(os.listdir(f"/proc/{self.process.pid}/fd"))
 
+    def expect_descriptors(self, due):
+        """It comes to have so many open."""
+        until = time.monotonic() + PATIENCE
+        while self.descriptors() != due and time.monotonic() < until:
+            time.sleep(0.05)
+        assert self.descriptors() == due, f"{self.descriptors()} descriptors are open, {due} are due"
+
+    def limit_descriptors(self, most):
+        """From here on it gets no descriptor beyond so many."""
+        resource.prlimit(self.process.pid, resource.RLIMIT_NOFILE, (most, most))
+
+    def expect_workers(self, number):
+        """It serves so many connections of each port at once."""
+        for port, program in ((self.core, CORE), (self.abort, ABORT)):
+            with ExitStack() as peers:
+                for _ in range(number):
+                    peers.enter_context(Peer(port)).ask(call(1, 0, program=program), reply(1))
+
 
 class Peer:
-    """A connection to a port, or one that was accepted."""
+    """A connection to a port, or one that was accepted. A small one has little room for what comes, and has the server have little
+    room for it."""
 
-    def __init__(self, port=None, stream=None):
-        self.stream = stream or socket.create_connection((HOST, port))
+    def __init__(self, port=None, stream=None, host=HOST, small=False):
+        if stream is None:
+            stream = socket.socket()
+            if small:
+                stream.setsockopt(socket.SOL_SOCKET, socket.SO_RCVBUF, 4096)
+                stream.setsockopt(socket.IPPROTO_TCP, socket.TCP_MAXSEG, 536)
+            stream.connect((host, port))
+        self.stream = stream
         self.stream.settimeout(PATIENCE)
         self.stream.setsockopt(socket.IPPROTO_TCP, socket.TCP_NODELAY, 1)
 
@@ -224,6 +256,16 @@ class Peer:
         rest = self.stream.recv(1)
         assert rest == b"", "the stream goes on"
 
+    def has_ended(self):
+        """Whether the stream has ended, with nothing waiting to be read."""
+        return self.hears(0) and self.stream.recv(1, socket.MSG_PEEK) == b""
+
+    def floods(self):
+        """Sends calls and reads no reply, until the server takes none for two seconds."""
+        calls = call(1, 0) * 100
+        while select.select([], [self.stream], [], 2)[1]:
+            self.stream.send(calls, socket.MSG_DONTWAIT)
+
     def is_answered(self, program):
         """Whether a null call is answered. Where it isn't the stream has ended, with what was sent read or not."""
         try:
@@ -239,6 +281,67 @@ class Peer:
         """Closes it by a reset, with what is on its way lost."""
         self.stream.setsockopt(socket.SOL_SOCKET, socket.SO_LINGER, struct.pack("ii", 1, 0))
         self.stream.close()
+
+
+class Hosts:
+    """Two hosts of this machine's own, each a network namespace, joined by a cable that can be pulled: a host at its far end is
+    gone then without a word."""
+
+    NEAR, FAR = "10.0.0.1", "10.0.0.2"
+    NEW_NETWORK = 0x40000000
+
+    def __init__(self):
+        self.system = ctypes.CDLL(None, use_errno=True)
+        self.home = os.open("/proc/thread-self/ns/net", os.O_RDONLY)
+        self.near, self.far = self.namespace(), self.namespace()
+        cable = "ip link add near type veth peer name far netns /proc/%d/fd/%d" % (os.getpid(), self.far)
+        with self.at(self.near):
+            self.run(f"{cable} && ip addr add {self.NEAR}/24 dev near && ip link set near up && ip link set lo up")
+        with self.at(self.far):
+            self.run(f"ip addr add {self.FAR}/24 dev far && ip link set far up")
+
+    def namespace(self):
+        if self.system.unshare(self.NEW_NETWORK) != 0:
+            raise PermissionError("no network namespace")
+        made = os.open("/proc/thread-self/ns/net", os.O_RDONLY)
+        self.system.setns(self.home, 0)
+        return made
+
+    @contextmanager
+    def at(self, namespace):
+        """Sockets that are made in this block, and processes that are started, belong to this host."""
+        self.system.setns(namespace, 0)
+        try:
+            yield
+        finally:
+            self.system.setns(self.home, 0)
+
+    @staticmethod
+    def run(words):
+        subprocess.run(words, shell=True, check=True, stdout=subprocess.DEVNULL, stderr=subprocess.DEVNULL)
+
+    def pull_the_cable(self):
+        with self.at(self.far):
+            self.run("ip link set far down")
+
+    def close(self):
+        for namespace in (self.near, self.far, self.home):
+            os.close(namespace)
+
+
+@contextmanager
+def hosts_if_any():
+    """Two hosts, or none where this machine makes no namespaces."""
+    try:
+        hosts = Hosts()
+    except (OSError, AttributeError, subprocess.CalledProcessError):
+        print("this machine makes no network namespaces: no host was taken off its cable")
+        yield None
+        return
+    try:
+        yield hosts
+    finally:
+        hosts.close()
 
 
 # Cases
@@ -460,21 +563,160 @@ def refused_connections_end_their_links():
     a_refused_connection_ends_its_link("abort", ABORT)
 
 
-def descriptors_are_given_back():
-    """A thousand connections one after another, each closed, reset or cut short, leave as many open as there were."""
+def nothing_is_left_of_ten_thousand():
+    """Ten thousand connections one after another, each closed, reset or cut short, of which most take the lock that the one before
+    had: no descriptor, no lock and no worker is left of them."""
     with Server() as server:
         before = server.descriptors()
-        for number in range(1000):
-            with Peer(server.abort if number % 10 == 9 else server.core) as peer:
-                peer.ask(call(number, 0, program=ABORT if number % 10 == 9 else CORE), reply(number))
-                if number % 3 == 1:
-                    peer.reset()
-                elif number % 3 == 2:
-                    peer.send(b"\x80\0")
-        until = time.monotonic() + PATIENCE
-        while server.descriptors() != before and time.monotonic() < until:
-            time.sleep(0.05)
-        assert server.descriptors() == before, f"{before} before, {server.descriptors()} after"
+        for number in range(10000):
+            if number % 10 == 9:
+                with Peer(server.abort) as peer:
+                    peer.ask(call(1, 0, program=ABORT), reply(1))
+                    leave(peer, number)
+                continue
+            with Peer(server.core) as peer:
+                peer.ask(create(1, b"gpib0,5", lock=1, lock_timeout=10000), created(1, number - number // 10 + 1, server))
+                leave(peer, number)
+        server.expect_descriptors(before)
+        server.expect_workers(16)
+        server.expect_descriptors(before)
+
+
+def leave(peer, number):
+    """Resets the connection, sends half a mark before it is closed, or nothing."""
+    if number % 3 == 1:
+        peer.reset()
+    elif number % 3 == 2:
+        peer.send(b"\x80\0")
+
+
+def one_that_never_reads_is_cut_off():
+    """A peer that reads none of its replies, and has a lock: the lock is free once a send took nothing for 4 s."""
+    with Server("--send-timeout", "4") as server, Peer(server.core) as other:
+        other.ask(create(1, b"gpib0,5"), created(1, 1, server))
+        with Peer(server.core, small=True) as peer:
+            peer.ask(create(1, b"gpib0,5", lock=1), created(1, 2, server))
+            other.ask(lock(2, 1), reply(2, 11))
+            peer.floods()
+            other.ask(lock(2, 1), reply(2, 11))
+            began = time.monotonic()
+            other.ask(lock(3, 1, WAITLOCK, 60000), reply(3, 0))
+            assert time.monotonic() - began < 10, "the lock of one that never reads was free late"
+
+
+def a_slow_reader_is_served():
+    """A peer that pauses between its replies, but never as long as a send bears, gets all of them."""
+    with Server("--send-timeout", "4", "--keepalive", "60") as server, Peer(server.core, small=True) as peer:
+        sender = threading.Thread(target=peer.send, args=(call(1, 0) * 9000,))
+        sender.start()
+        for _ in range(3):
+            time.sleep(2)
+            for _ in range(3000):
+                peer.expect(reply(1))
+        sender.join()
+
+
+def an_idle_connection_ends():
+    """One that says nothing for a second is gone with its lock; one whose call takes longer, and one that asks again in time, stay."""
+    with Server("--idle", "1") as server, Peer(server.core) as idle, Peer(server.core) as reader, Peer(server.core) as other:
+        idle.ask(create(1, b"gpib0,5", lock=1), created(1, 1, server))
+        reader.ask(create(1, b"gpib0,7"), created(1, 2, server))
+        other.ask(create(1, b"gpib0,5"), created(1, 3, server))
+        other.ask(lock(2, 3), reply(2, 11))
+        reader.send(read(2, 2, io_timeout=2500))
+        for xid in range(3, 8):
+            time.sleep(0.5)
+            other.ask(call(xid, 0), reply(xid))
+        idle.expect_end()
+        other.ask(lock(8, 3), reply(8, 0))
+        reader.expect(reply(2, 15, 0, b""))
+        reader.ask(call(3, DESTROY_LINK, 2), reply(3, 0))
+
+
+def idle_abort_connections_make_way():
+    """64 abort connections that say nothing hold all workers. None ends while nobody wants its place. Then one of them does, for the
+    one that would end a read which keeps the bus."""
+    with Server("--workers", "64", "--abort-idle", "1") as server, Peer(server.core) as reader, ExitStack() as peers:
+        reader.ask(create(1, b"gpib0,5"), created(1, 1, server))
+        reader.send(read(2, 1, io_timeout=0xFFFFFFFF))
+        idle = [peers.enter_context(Peer(server.abort)) for _ in range(64)]
+        for peer in idle:
+            peer.ask(call(1, 0, program=ABORT), reply(1))
+        time.sleep(3)
+        assert not any(peer.has_ended() for peer in idle), "an idle abort connection ended without need"
+        for gone in (1, 2):
+            late = peers.enter_context(Peer(server.abort))
+            began = time.monotonic()
+            late.ask(call(2, DEVICE_ABORT, 1, program=ABORT), reply(2, 0))
+            assert time.monotonic() - began < 5, "a device_abort waited long for a place"
+            idle.append(late)
+            time.sleep(1.5)
+            ended = sum(peer.has_ended() for peer in idle)
+            assert ended == gone, f"{ended} places were given up for {gone}"
+        reader.expect(reply(2, 23, 0, b""))
+        for peer in idle:
+            if not peer.has_ended():
+                peer.ask(call(3, 0, program=ABORT), reply(3))
+
+
+def without_descriptors_it_waits():
+    """A server that has no descriptor left takes no connection, and the next one once there are some again."""
+    with Server("--workers", "64") as server:
+        before = server.descriptors()
+        server.limit_descriptors(before + 8)
+        for port, program in ((server.core, CORE), (server.abort, ABORT)):
+            with ExitStack() as peers:
+                for _ in range(40):
+                    peers.enter_context(Peer(port))
+                time.sleep(1)
+                # the wait at the other port may have one for what comes next
+                assert server.descriptors() in (before + 7, before + 8), "it has descriptors left"
+                assert server.process.poll() is None, "it ended for want of a descriptor"
+            with Peer(port) as peer:
+                peer.ask(call(1, 0, program=program), reply(1))
+        server.expect_descriptors(before)
+        server.expect_workers(7)
+
+
+def a_host_that_is_gone_is_found_out():
+    """60 hosts go without a word: one has a lock and says nothing, one has a lock and a call whose reply doesn't come to it. Their
+    locks, descriptors and workers are free soon. One that is there and says nothing stays."""
+    with hosts_if_any() as hosts, ExitStack() as peers:
+        if hosts is None:
+            return
+        with hosts.at(hosts.near):
+            server = peers.enter_context(Server("--workers", "64", "--keepalive", "2"))
+            before = server.descriptors()
+            other = peers.enter_context(Peer(server.core))
+        other.ask(create(1, b"gpib0,5"), created(1, 1, server))
+        other.ask(create(2, b"gpib0,7"), created(2, 2, server))
+        with hosts.at(hosts.far):
+            gone = [peers.enter_context(Peer(server.core, host=hosts.NEAR)) for _ in range(60)]
+        gone[0].ask(create(1, b"gpib0,5", lock=1), created(1, 3, server))
+        gone[1].ask(create(1, b"gpib0,7", lock=1), created(1, 4, server))
+        for peer in gone[2:]:
+            peer.ask(call(1, 0), reply(1))
+        gone[1].send(read(2, 4, io_timeout=1000))
+        time.sleep(0.3)
+        hosts.pull_the_cable()
+        began = time.monotonic()
+        other.ask(lock(3, 1, WAITLOCK, 60000), reply(3, 0))
+        other.ask(lock(4, 2, WAITLOCK, 60000), reply(4, 0))
+        assert time.monotonic() - began < 10, "hosts that are gone were found out late"
+        server.expect_descriptors(before + 1)
+        time.sleep(3)
+        other.ask(call(5, DESTROY_LINK, 1), reply(5, 0))
+        with hosts.at(hosts.near):
+            server.expect_workers(63)
+
+
+def a_slow_instrument():
+    """One that is ready again only a moment after each byte takes a message and gives it back."""
+    with Server(bench="plug 3 slow\n") as server, Peer(server.core) as peer:
+        peer.ask(create(1, b"gpib0,3"), created(1, 1, server))
+        for xid in (2, 4):
+            peer.ask(write(xid, 1, b"byte by byte"), reply(xid, 0, 12))
+            peer.ask(read(xid + 1, 1), reply(xid + 1, 0, BY_END, b"byte by byte"))
 
 
 def a_limit_ends_it():
@@ -562,6 +804,93 @@ def expect_client(port, device, command, text, status):
     assert got == (text, status), f"{device} {' '.join(command)}: it ended with {got}"
 
 
+def windows_of_the_readme():
+    """The session of the README: of each window, its commands and what they print."""
+    with open(os.path.join(os.path.dirname(__file__), "..", "README.md")) as file:
+        text = file.read().split("**A session.**", 1)[1]
+    blocks = text.split("```")[1:4:2]
+    windows = []
+    for block in blocks:
+        commands = []
+        for line in block.strip().split("\n"):
+            if line.startswith("$ "):
+                commands.append((shlex.split(line[2:]), []))
+            else:
+                commands[-1][1].append(line)
+        windows.append(commands)
+    return windows
+
+
+def the_session_of_the_readme():
+    """Each command prints what stands there. Two lines of the log that two threads write come in either order."""
+    (serving,), asking = windows_of_the_readme()
+    words, lines = serving
+    options, bench = words[1 : words.index("<")], os.path.join(os.path.dirname(__file__), "..", words[-1])
+    core, abort = two_free_ports()
+    words = [*programs["server"], "--core", str(core), "--abort", str(abort), *options]
+    with open(bench) as source:
+        server = start(words, stdin=source, stdout=subprocess.PIPE, stderr=subprocess.PIPE)
+    assert server.stdout.readline().decode() == f"listening {core} {abort}\n"
+    for words, printed in asking:
+        expect_client(core, words[3], words[4:], "".join(line + "\n" for line in printed), 0)
+    text, log = server.communicate(timeout=PATIENCE)
+    assert [lines[0], lines[-1] + "\n"] == ["listening 9010 9011", text.decode()], text
+    got = log.decode().split("\n")[:-1]
+    assert sorted(got) == sorted(lines[1:-1]), f"the log is {got}"
+
+
+def the_abort_of_the_readme():
+    """The words of bash that stand there end a read of link 1, which would take a minute."""
+    with open(os.path.join(os.path.dirname(__file__), "..", "README.md")) as file:
+        line = next(line for line in file if line.startswith("printf ") and "/dev/tcp/" in line)
+    with Server() as server, Peer(server.core) as peer:
+        peer.ask(create(1, b"gpib0,5"), created(1, 1, server))
+        peer.send(read(2, 1, io_timeout=60000))
+        for _ in range(10):
+            subprocess.run(["bash", "-c", line.replace("/9011", f"/{server.abort}")], check=True, timeout=PATIENCE)
+            if peer.hears(1):
+                break
+        peer.expect(reply(2, 23, 0, b""))
+
+
+def a_log_of_ends():
+    """Junk, a record that is too long, a stream cut within a record, a reset, and an abort connection, each with its reason."""
+    core, abort = two_free_ports()
+    words = [*programs["server"], "--core", str(core), "--abort", str(abort), "--log", "--workers", "1"]
+    server = start(words, stdin=subprocess.DEVNULL, stdout=subprocess.PIPE, stderr=subprocess.PIPE)
+    server.stdout.readline()
+
+    def logs(line):
+        got = server.stderr.readline().decode()
+        assert got == line + "\n", f"{got!r} was told, due is {line!r}"
+
+    ends = [
+        (record(1, 0), "a record is no call, 1 calls"),
+        (xdr(0x80000000 | 66561), "a record is too long, 1 calls"),
+        (xdr(0x80000044), "closed by its peer within a record, 1 calls"),
+        (b"", "closed by its peer, 1 calls"),
+    ]
+    for number, (data, end) in enumerate(ends, 1):
+        with Peer(core) as peer:
+            logs(f"core {number} came")
+            peer.ask(call(1, 0), reply(1))
+            peer.send(data)
+            peer.stream.shutdown(socket.SHUT_WR)
+            logs(f"core {number} ended: {end}")
+    peer = Peer(core)
+    logs("core 5 came")
+    peer.ask(call(1, 0), reply(1))
+    peer.reset()
+    logs("core 5 ended: receiving failed, 1 calls")
+    with Peer(abort) as peer:
+        logs("abort 1 came")
+        for xid in range(3):
+            peer.ask(call(xid, DEVICE_ABORT, 1, program=ABORT), reply(xid, 4))
+    logs("abort 1 ended: closed by its peer, 3 calls")
+    server.kill()
+    server.communicate()
+
+
 CASES = [
     a_link_by_its_bytes,
     two_clients_on_two_devices,
@@ -575,16 +904,133 @@ CASES = [
     a_record_in_any_pieces,
     the_greatest_write,
     sixty_four_at_once,
-    descriptors_are_given_back,
+    nothing_is_left_of_ten_thousand,
+    one_that_never_reads_is_cut_off,
+    a_slow_reader_is_served,
+    an_idle_connection_ends,
+    idle_abort_connections_make_way,
+    without_descriptors_it_waits,
+    a_host_that_is_gone_is_found_out,
+    a_slow_instrument,
     a_limit_ends_it,
     a_port_serves_again_at_once,
     refused_starts,
     small_replies_come_at_once,
     the_client,
+    the_session_of_the_readme,
+    the_abort_of_the_readme,
+    a_log_of_ends,
 ]
 
 # those that an address sanitizer doesn't live through, since it ends a process that is refused memory
 PLAIN_CASES = [refused_connections_end_their_links]
+
+
+# The soak
+
+
+class Soak:
+    """A server under a mixed load, of which each kind goes on in threads of its own until the time is over."""
+
+    OPTIONS = ("--workers", "32", "--keepalive", "10", "--send-timeout", "5", "--abort-idle", "5")
+
+    def __init__(self, server, seconds):
+        self.server, self.until = server, time.monotonic() + seconds
+        self.counts = {"queries": 0, "connections": 0, "aborts": 0, "deaf peers": 0, "places": 0}
+        self.turn = threading.Lock()
+
+    def goes_on(self):
+        return time.monotonic() < self.until
+
+    def add(self, what):
+        with self.turn:
+            self.counts[what] += 1
+
+    def query(self, device):
+        """Messages there and back, on one connection."""
+        with Peer(self.server.core) as peer:
+            peer.stream.settimeout(60)
+            peer.send(create(1, device))
+            link = struct.unpack(">I", peer.take(44)[32:36])[0]
+            while self.goes_on():
+                peer.ask(write(2, link, b"ping??"), reply(2, 0, 6))
+                peer.ask(read(3, link), reply(3, 0, BY_END, b"ping??"))
+                self.add("queries")
+
+    def come_and_go(self, number):
+        """Connections that end in each way, with a lock that the next one wants."""
+        while self.goes_on():
+            number += 1
+            with Peer(self.server.core) as peer:
+                peer.stream.settimeout(60)
+                peer.send(create(1, b"gpib0,11", lock=1, lock_timeout=60000))
+                assert peer.take(44)[24:32] == bytes(8), "a lock was refused"
+                leave(peer, number)
+            self.add("connections")
+
+    def abort(self):
+        """A read that would take a minute, once a second, and its end."""
+        with Peer(self.server.core) as peer:
+            peer.send(create(1, b"gpib0,15"))
+            link = struct.unpack(">I", peer.take(44)[32:36])[0]
+            while self.goes_on():
+                peer.send(read(2, link, io_timeout=60000))
+                while not peer.hears(0.1):
+                    with Peer(self.server.abort) as other:
+                        other.ask(call(3, DEVICE_ABORT, link, program=ABORT), reply(3, 0))
+                peer.expect(reply(2, 23, 0, b""))
+                self.add("aborts")
+                time.sleep(1)
+
+    def be_deaf(self):
+        """A peer that reads no reply, until it is cut off."""
+        while self.goes_on():
+            with Peer(self.server.core, small=True) as peer:
+                try:
+                    while self.goes_on():
+                        peer.floods()
+                except ConnectionError:
+                    self.add("deaf peers")
+
+    def be_idle(self):
+        """More abort connections than there are workers, of which each ends when another wants its place."""
+        while self.goes_on():
+            with Peer(self.server.abort) as peer:
+                peer.stream.settimeout(120)
+                if peer.is_answered(ABORT):
+                    while self.goes_on() and not peer.has_ended():
+                        time.sleep(0.2)
+                    self.add("places")
+
+    def figures(self):
+        with open(f"/proc/{self.server.process.pid}/status") as file:
+            status = dict(line.split(":", 1) for line in file)
+        figures = {**self.counts, "descriptors": self.server.descriptors()}
+        figures.update(threads=int(status["Threads"]), KiB=int(status["VmRSS"].split()[0]))
+        return ", ".join(f"{what} {number}" for what, number in figures.items())
+
+    def run(self):
+        jobs = [(self.query, b"gpib0,5"), (self.query, b"gpib0,7")]
+        jobs += [(self.come_and_go, number) for number in range(3)] + [(self.abort,), (self.be_deaf,), (self.be_deaf,)]
+        jobs += [(self.be_idle,)] * 33
+        with ThreadPoolExecutor(len(jobs)) as pool:
+            running = [pool.submit(*job) for job in jobs]
+            while self.goes_on():
+                time.sleep(max(0, min(60, self.until - time.monotonic())))
+                print(self.figures(), flush=True)
+                assert self.server.process.poll() is None, "the server ended"
+            for job in running:
+                job.result()
+
+
+def soak(minutes):
+    """Runs the load, and then looks that nothing is left of it."""
+    with Server(*Soak.OPTIONS) as server:
+        before = server.descriptors()
+        Soak(server, 60 * minutes).run()
+        server.expect_descriptors(before)
+        server.expect_workers(32)
+    print("nothing is left of it")
 
 
 # Programs without proof
@@ -671,8 +1117,11 @@ def passes(case):
 
 
 def main(words):
+    if len(words) == 4 and words[0] == "--soak":
+        programs.update(server=[os.path.abspath(words[2])])
+        return soak(float(words[1]))
     if len(words) not in (0, 2):
-        sys.exit("usage: sockets.py [SERVER CLIENT]")
+        sys.exit("usage: sockets.py [[--soak MINUTES] SERVER CLIENT]")
     with tempfile.TemporaryDirectory() as folder:
         if words:
             programs.update(server=[os.path.abspath(words[0])], client=[os.path.abspath(words[1])])

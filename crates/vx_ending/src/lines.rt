@@ -13,7 +13,7 @@ use vx_trace::{Line, put_line};
 pub(crate) const LINE_ROOM: usize = 64;
 
 /// Writes bytes at a place, and answers the place behind them.
-fn put(out: &mut [u8], at: usize, bytes: &[u8]) -> usize
+pub(crate) fn put(out: &mut [u8], at: usize, bytes: &[u8]) -> usize
     requires { at + length bytes.now ≤ length out.old }
     ensures text { take result out.new ≡ take at out.old ++ bytes.now }
     ensures end { result ≡ at + length bytes.now }
@@ -25,7 +25,7 @@ fn put(out: &mut [u8], at: usize, bytes: &[u8]) -> usize
 }
 
 /// Writes a number in decimal digits.
-fn put_number(out: &mut [u8], at: usize, number: u64) -> usize
+pub(crate) fn put_number(out: &mut [u8], at: usize, number: u64) -> usize
     requires { at + 20 ≤ length out.old }
     ensures text { take result out.new ≡ take at out.old ++ decimal number }
     ensures end { result ≤ at + 20 }

@@ -3,12 +3,15 @@ ghost use Rattle.std.specs.Prelude.{◌≡◌, ℕ, ◌≤◌, None};
 ghost use Rattle.vx_io.specs.Faults.{one_more};
 ghost use Rattle.vx_io.specs.Rung.{OnDialFailed};
 
+use crate::logs::ErrorLog;
 use crossbeam_channel::{Receiver, Sender};
+use std::io::Stderr;
 use std::marker::Model;
 use std::net::{Ipv4Addr, Net as Sockets, SocketAddr, TcpStream};
 use std::rt::Clock as SystemClock;
 use std::sync::Wait;
 use std::time::Duration;
+use vx_ending::Logs;
 use vx_io::{Dial, DialOut, Handed, StdClock, StdPause, Streams, TcpLink};
 use vx_session::Tools;
 
@@ -100,18 +103,41 @@ impl Streams for TcpStreams {
     }
 }
 
-/// Clocks and pauses of the host, and dials and streams of TCP.
+/// Clocks and pauses of the host, dials and streams of TCP, and logs on standard error.
 #[derive(Drop)]
 pub struct TcpTools<R> {
     rt: R,
     pumps: Sender<Dialed>,
     dialed: Receiver<Dialed>,
+    stderr: Stderr,
+    has_log: bool,
 }
 
 impl<R> TcpTools<R> {
-    /// Tools over this runtime, whose dials hand their streams over by this channel.
-    pub fn new(rt: R, pumps: Sender<Dialed>, dialed: Receiver<Dialed>) -> TcpTools<R> {
-        TcpTools { rt, pumps, dialed }
+    /// Tools over this runtime, whose dials hand their streams over by this channel, and whose logs go to this standard error
+    /// where there is a log.
+    pub fn new(
+        rt: R,
+        pumps: Sender<Dialed>,
+        dialed: Receiver<Dialed>,
+        stderr: Stderr,
+        has_log: bool,
+    ) -> TcpTools<R> {
+        TcpTools {
+            rt,
+            pumps,
+            dialed,
+            stderr,
+            has_log,
+        }
+    }
+}
+
+impl<R> Logs for TcpTools<R> {
+    type L = ErrorLog;
+
+    fn log(&mut self) -> ErrorLog {
+        ErrorLog::new(self.stderr, self.has_log)
     }
 }
 

@@ -1,4 +1,5 @@
 pub mod Starting
+pub mod Logged
 pub use Rattle.vx_io_traits.specs.Faults
 pub use Rattle.vx_sim.specs.Means
 pub use Rattle.vx_sim.specs.SimState

@@ -10,26 +10,28 @@ use std::alloc::Global;
 use std::mem;
 use std::sync::{Condvar, Mutex, Wait};
 use vx_core::Core;
-use vx_ending::next_link;
+use vx_ending::{Channel, News, Visitor, next_link, tell};
 use vx_gate::Pass;
 use vx_inst::Instrument;
-use vx_io_traits::{Accepted, Clock, Dial, Link, Net, Pause};
+use vx_io_traits::{Accepted, Clock, Dial, Link, Net, Pause, Sink};
 use vx_session::Tally;
 use vx_sim::SimBus;
 
-/// Hands a core link to the workers. It waits where 64 links wait for one, and serves a link that comes back itself.
-fn hand_on<R: Wait, I: Instrument, L: Link + Drop, C: Clock, P: Pause, D: Dial>(
+/// Tells that a core link came, and hands it to the workers. It waits where 64 links wait for one, and serves a link that comes
+/// back itself.
+fn hand_on<R: Wait, I: Instrument, L: Link + Drop, C: Clock, P: Pause, D: Dial, G: Sink>(
     rt: &R,
     alloc: Global,
-    links: &Sender<L>,
+    links: &Sender<Visitor<L>>,
     shared: &Shared<I>,
     pass: Pass<Core<SimBus<I>>>,
-    link: L,
-    kit: &mut CoreKit<C, P, D>,
+    link: Visitor<L>,
+    kit: &mut CoreKit<C, P, D, G>,
 ) -> Pass<Core<SimBus<I>>>
     requires gate { pass.gate ≡ gate_of shared.now.gate }
     ensures gate { result.gate ≡ pass.gate }
 {
+    let _ = tell(&mut kit.log, Channel::Core, link.number(), News::Came);
     match links.send(rt, link) {
         Ok(()) => pass,
         Err(back) => serve_core(rt, alloc, shared, pass, back.into_inner(), kit),
@@ -38,15 +40,15 @@ fn hand_on<R: Wait, I: Instrument, L: Link + Drop, C: Clock, P: Pause, D: Dial>(
 
 /// Takes the links of the net's own port and hands them on, up to the limit, where that isn't 0, or until no more come, and
 /// answers how many there were, up to 2^64 - 1; none where a wait failed.
-pub(crate) fn accept_links<R: Wait, N: Net, I: Instrument, C: Clock, P: Pause, D: Dial>(
+pub(crate) fn accept_links<R: Wait, N: Net, I: Instrument, C: Clock, P: Pause, D: Dial, G: Sink>(
     rt: &R,
     alloc: Global,
     net: &mut N,
     limit: u32,
-    links: &Sender<Peer<N>>,
+    links: &Sender<Visitor<Peer<N>>>,
     shared: &Shared<I>,
     pass: Pass<Core<SimBus<I>>>,
-    kit: &mut CoreKit<C, P, D>,
+    kit: &mut CoreKit<C, P, D, G>,
 ) -> Option<u64>
 where
     Peer<N>: Drop,
@@ -59,7 +61,10 @@ where
     let mut number = 0u64;
     for _ in rt.forever() {
         match next_link(net, limit, &mut number) {
-            Accepted::Peer(link) => pass = hand_on(rt, alloc, links, shared, pass, link, kit),
+            Accepted::Peer(link) => {
+                let link = Visitor::new(link, number);
+                pass = hand_on(rt, alloc, links, shared, pass, link, kit);
+            }
             Accepted::Ended => return Some(number),
             Accepted::Failed => return None,
         }

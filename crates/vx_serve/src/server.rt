@@ -16,7 +16,7 @@ use std::alloc::Global;
 use std::sync::Wait;
 use std::sync::atomic::Ordering;
 use vx_core::Core;
-use vx_ending::{Status, announce, open_ports, prepare, tell_served};
+use vx_ending::{Logs, Status, Visitor, announce, open_ports, prepare, tell_served};
 use vx_gate::Pass;
 use vx_inst::Instrument;
 use vx_io_traits::{Clock, Dial, Net, Pause, Sink, Source, Spawner, Streams};
@@ -45,14 +45,14 @@ impl Ended {
 }
 
 /// Takes links, waits until each was served, and tells how many there were.
-fn serve_announced<R: Wait, N: Net, I: Instrument, C: Clock, P: Pause, D: Dial, K: Sink>(
+fn serve_announced<R: Wait, N: Net, I: Instrument, C: Clock, P: Pause, D: Dial, G: Sink, K: Sink>(
     rt: &R,
     alloc: Global,
     limit: u32,
-    links: &Sender<Peer<N>>,
+    links: &Sender<Visitor<Peer<N>>>,
     shared: &Shared<I>,
     pass: Pass<Core<SimBus<I>>>,
-    kit: &mut CoreKit<C, P, D>,
+    kit: &mut CoreKit<C, P, D, G>,
     net: &mut N,
     sink: &mut K,
 ) -> Ended
@@ -75,14 +75,14 @@ where
 }
 
 /// Announces the ports, and serves links at them.
-fn serve_links<R: Wait, N: Net, I: Instrument, C: Clock, P: Pause, D: Dial, K: Sink>(
+fn serve_links<R: Wait, N: Net, I: Instrument, C: Clock, P: Pause, D: Dial, G: Sink, K: Sink>(
     rt: &R,
     alloc: Global,
     options: Options,
-    links: &Sender<Peer<N>>,
+    links: &Sender<Visitor<Peer<N>>>,
     shared: &Shared<I>,
     pass: Pass<Core<SimBus<I>>>,
-    kit: &mut CoreKit<C, P, D>,
+    kit: &mut CoreKit<C, P, D, G>,
     net: &mut N,
     sink: &mut K,
 ) -> Ended
@@ -119,12 +119,13 @@ fn serve_accepting<
     C: Clock + Drop,
     P: Pause + Drop,
     D: Dial + Drop,
+    G: Sink + Drop,
     K: Sink,
 >(
     rt: &R,
     alloc: Global,
     options: Options,
-    acceptor: Acceptor<Peer<N>, I, C, P, D>,
+    acceptor: Acceptor<Peer<N>, I, C, P, D, G>,
     net: &mut N,
     sink: &mut K,
 ) -> Ended
@@ -150,7 +151,7 @@ where
 }
 
 /// Opens the ports, starts the workers, and serves links over the bus.
-fn serve_bus<R: Wait, N: Net, W: Spawner<Serve<N, X, I>>, X: Tools, K: Sink, I: Instrument>(
+fn serve_bus<R: Wait, N: Net, W: Spawner<Serve<N, X, I>>, X: Tools + Logs, K: Sink, I: Instrument>(
     rt: &R,
     alloc: Global,
     options: Options,
@@ -189,7 +190,7 @@ fn serve_words<
     R: Wait,
     N: Net,
     W: Spawner<Serve<N, X, I>>,
-    X: Tools,
+    X: Tools + Logs,
     S: Source,
     K: Sink,
     I: Instrument,
@@ -244,7 +245,7 @@ pub fn serve_run<
     R: Wait,
     N: Net,
     W: Spawner<Serve<N, X, I>>,
-    X: Tools,
+    X: Tools + Logs,
     S: Source,
     K: Sink,
     I: Instrument,

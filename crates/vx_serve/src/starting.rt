@@ -9,16 +9,17 @@ ghost use Rattle.vx_words.specs.Meant.{IsInRange};
 ghost use Rattle.vx_serve.specs.declared.starting.Unstarted.TheVariants.{NoMemory};
 ghost use Rattle.vx_serve.specs.Starting.{OnUnstarted};
 
-use crate::workers::{Access, CoreKit, Duty, Pauses, Peer, Serve, Shared};
+use crate::workers::{AbortKit, Access, CoreKit, Duty, Pauses, Peer, Serve, Shared};
 use crossbeam_channel::{Receiver, Sender, bounded};
 use std::alloc::{AllocError, Global};
 use std::sync::atomic::AtomicU64;
 use std::sync::{Arc, Condvar, Mutex};
 use vx_core::Core;
+use vx_ending::{Logs, Visitor};
 use vx_gate::Gate;
 use vx_group::first_law;
 use vx_inst::Instrument;
-use vx_io_traits::{Clock, Dial, Net, Pause, Spawner, Started, Streams};
+use vx_io_traits::{Clock, Dial, Net, Pause, Sink, Spawner, Started, Streams};
 use vx_session::{Room, Tally, Tools};
 use vx_sim::SimBus;
 use vx_words::Options;
@@ -46,15 +47,15 @@ const LINKS_WAITING: usize = 64;
 /// Where the links of the two ports go in.
 #[derive(Drop)]
 struct Givers<L: Drop> {
-    cores: Sender<L>,
-    aborts: Sender<L>,
+    cores: Sender<Visitor<L>>,
+    aborts: Sender<Visitor<L>>,
 }
 
 /// Where they come out, for the workers that serve them. Where these are gone, each link comes back.
 #[derive(Drop)]
 struct Takers<L: Drop> {
-    cores: Receiver<L>,
-    aborts: Receiver<L>,
+    cores: Receiver<Visitor<L>>,
+    aborts: Receiver<Visitor<L>>,
 }
 
 /// The ways of the links of both ports to the workers.
@@ -72,10 +73,17 @@ fn queues<L: Drop>(alloc: Global) -> Result<(Givers<L>, Takers<L>), Unstarted>
 
 /// What the one that takes core links has: where they go to, and what it wants to serve one itself.
 #[derive(Drop)]
-pub struct Acceptor<L: Drop, I: Instrument, C: Clock + Drop, P: Pause + Drop, D: Dial + Drop> {
-    pub links: Sender<L>,
+pub struct Acceptor<
+    L: Drop,
+    I: Instrument,
+    C: Clock + Drop,
+    P: Pause + Drop,
+    D: Dial + Drop,
+    G: Sink + Drop,
+> {
+    pub links: Sender<Visitor<L>>,
     pub access: Access<I>,
-    pub kit: CoreKit<C, P, D>,
+    pub kit: CoreKit<C, P, D, G>,
 }
 
 /// A gateway over the bus, on which nobody asked anything yet, behind a gate, and the access with all parts of it.
@@ -112,7 +120,7 @@ pub fn start_gateway<I: Instrument>(
 }
 
 /// Starts a worker, by a part of the access.
-fn start_worker<N: Net, W: Spawner<Serve<N, X, I>>, X: Tools, I: Instrument>(
+fn start_worker<N: Net, W: Spawner<Serve<N, X, I>>, X: Tools + Logs, I: Instrument>(
     alloc: Global,
     spawner: &mut W,
     access: Access<I>,
@@ -145,7 +153,10 @@ fn room(alloc: Global) -> Result<Room, Unstarted>
 }
 
 /// What serves one core link at a time.
-fn core_kit<X: Tools>(alloc: Global, tools: &mut X) -> Result<CoreKit<X::C, X::P, X::D>, Unstarted>
+fn core_kit<X: Tools + Logs>(
+    alloc: Global,
+    tools: &mut X,
+) -> Result<CoreKit<X::C, X::P, X::D, X::L>, Unstarted>
     ensures { IfErr result (λ e. e ≡ NoMemory) }
 {
     Ok(CoreKit {
@@ -153,14 +164,25 @@ fn core_kit<X: Tools>(alloc: Global, tools: &mut X) -> Result<CoreKit<X::C, X::P
         pause: tools.pause(),
         dial: tools.dial(),
         room: room(alloc)?,
+        log: tools.log(),
+    })
+}
+
+/// What serves one abort link at a time.
+fn abort_kit<X: Logs>(alloc: Global, tools: &mut X) -> Result<AbortKit<X::L>, Unstarted>
+    ensures { IfErr result (λ e. e ≡ NoMemory) }
+{
+    Ok(AbortKit {
+        room: room(alloc)?,
+        log: tools.log(),
     })
 }
 
 /// A worker that serves core links.
-fn core_duty<N: Net, X: Tools>(
+fn core_duty<N: Net, X: Tools + Logs>(
     alloc: Global,
     tools: &mut X,
-    links: &Receiver<Peer<N>>,
+    links: &Receiver<Visitor<Peer<N>>>,
 ) -> Result<Duty<N, X>, Unstarted>
 where
     N::Port: Drop,
@@ -174,9 +196,10 @@ where
 }
 
 /// A worker that serves abort links.
-fn abort_duty<N: Net, X: Tools>(
+fn abort_duty<N: Net, X: Tools + Logs>(
     alloc: Global,
-    links: &Receiver<Peer<N>>,
+    tools: &mut X,
+    links: &Receiver<Visitor<Peer<N>>>,
 ) -> Result<Duty<N, X>, Unstarted>
 where
     N::Port: Drop,
@@ -185,15 +208,16 @@ where
     ensures { IfErr result (λ e. e ≡ NoMemory) }
 {
     let links = links.clone()?;
-    let room = room(alloc)?;
-    Ok(Duty::Abort { links, room })
+    let kit = abort_kit(alloc, tools)?;
+    Ok(Duty::Abort { links, kit })
 }
 
 /// The worker that takes the links of the abort port.
-fn accept_duty<N: Net, X: Tools>(
+fn accept_duty<N: Net, X: Tools + Logs>(
     alloc: Global,
+    tools: &mut X,
     port: N::Port,
-    links: Sender<Peer<N>>,
+    links: Sender<Visitor<Peer<N>>>,
 ) -> Result<Duty<N, X>, Unstarted>
 where
     N::Port: Drop,
@@ -201,8 +225,8 @@ where
     <X::S as Streams>::Peer: Drop,
     ensures { IfErr result (λ e. e ≡ NoMemory) }
 {
-    let room = room(alloc)?;
-    Ok(Duty::Accept { port, links, room })
+    let kit = abort_kit(alloc, tools)?;
+    Ok(Duty::Accept { port, links, kit })
 }
 
 /// So many pauses in a row.
@@ -214,7 +238,7 @@ fn pauses<X: Tools>(tools: &mut X, times: u32) -> Pauses<X::P> {
 }
 
 /// Starts so many workers of core links, of abort links, and of streams that are handed over.
-fn start_threes<N: Net, W: Spawner<Serve<N, X, I>>, X: Tools, I: Instrument>(
+fn start_threes<N: Net, W: Spawner<Serve<N, X, I>>, X: Tools + Logs, I: Instrument>(
     alloc: Global,
     spawner: &mut W,
     tools: &mut X,
@@ -240,7 +264,7 @@ where
 }
 
 /// Starts one worker of each. The one of streams makes `sample` pauses in a row.
-fn start_three<N: Net, W: Spawner<Serve<N, X, I>>, X: Tools, I: Instrument>(
+fn start_three<N: Net, W: Spawner<Serve<N, X, I>>, X: Tools + Logs, I: Instrument>(
     alloc: Global,
     spawner: &mut W,
     tools: &mut X,
@@ -259,7 +283,7 @@ where
 {
     let core = core_duty(alloc, tools, &takers.cores)?;
     let access = start_worker(alloc, spawner, access, core)?;
-    let abort = abort_duty(alloc, &takers.aborts)?;
+    let abort = abort_duty(alloc, tools, &takers.aborts)?;
     let access = start_worker(alloc, spawner, access, abort)?;
     let pump = Duty::Pump {
         streams: tools.streams(),
@@ -269,14 +293,14 @@ where
 }
 
 /// Starts all workers of a server. The sampler comes last.
-pub fn start_all<N: Net, W: Spawner<Serve<N, X, I>>, X: Tools, I: Instrument>(
+pub fn start_all<N: Net, W: Spawner<Serve<N, X, I>>, X: Tools + Logs, I: Instrument>(
     alloc: Global,
     spawner: &mut W,
     tools: &mut X,
     access: Access<I>,
     options: Options,
     port: N::Port,
-) -> Result<Acceptor<Peer<N>, I, X::C, X::P, X::D>, Unstarted>
+) -> Result<Acceptor<Peer<N>, I, X::C, X::P, X::D, X::L>, Unstarted>
 where
     N::Port: Drop,
     Peer<N>: Drop,
@@ -293,7 +317,7 @@ where
 }
 
 /// Starts the worker that takes abort links, and the sampler, which makes `sample` pauses between two looks.
-fn start_last<N: Net, W: Spawner<Serve<N, X, I>>, X: Tools, I: Instrument>(
+fn start_last<N: Net, W: Spawner<Serve<N, X, I>>, X: Tools + Logs, I: Instrument>(
     alloc: Global,
     spawner: &mut W,
     tools: &mut X,
@@ -301,7 +325,7 @@ fn start_last<N: Net, W: Spawner<Serve<N, X, I>>, X: Tools, I: Instrument>(
     sample: u32,
     port: N::Port,
     givers: Givers<Peer<N>>,
-) -> Result<Acceptor<Peer<N>, I, X::C, X::P, X::D>, Unstarted>
+) -> Result<Acceptor<Peer<N>, I, X::C, X::P, X::D, X::L>, Unstarted>
 where
     N::Port: Drop,
     Peer<N>: Drop,
@@ -314,7 +338,7 @@ where
         cores: links,
         aborts,
     } = givers;
-    let accept = accept_duty(alloc, port, aborts)?;
+    let accept = accept_duty(alloc, tools, port, aborts)?;
     let kit = core_kit(alloc, tools)?;
     let access = start_worker(alloc, spawner, access, accept)?;
     let sample = Duty::Sample {

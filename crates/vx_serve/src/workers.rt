@@ -2,17 +2,19 @@
 ghost use Rattle.std.specs.Prelude.{◌≡◌, ◌≤◌, ◌-◌, IfOk};
 ghost use Rattle.std.specs.Arc.{arc_value};
 ghost use Rattle.vx_gate.specs.Gates.{gate_of};
+ghost use Rattle.vx_serve.specs.Logged.{news_of, reason_of};
 
 use crossbeam_channel::{Receiver, Sender};
 use std::alloc::{AllocError, Global};
 use std::sync::atomic::{AtomicU64, Ordering};
 use std::sync::{Arc, Condvar, Mutex, Wait};
 use vx_core::Core;
+use vx_ending::{Channel, Logs, News, Reason, Visitor, tell};
 use vx_gate::{Gate, Pass};
 use vx_inst::Instrument;
-use vx_io_traits::{Accepted, Clock, Dial, Handed, Link, Listen, Net, Pause, Streams, Work};
+use vx_io_traits::{Accepted, Clock, Dial, Handed, Link, Listen, Net, Pause, Sink, Streams, Work};
 use vx_pump::{pump, sample_turn};
-use vx_session::{Room, Tally, Tools, abort_link, core_link};
+use vx_session::{End, Linked, Room, Tally, Tools, abort_link, core_link};
 use vx_sim::SimBus;
 
 /// What the workers of one server share: the gate round its gateway, and the count of the core links that came to their end.
@@ -26,13 +28,21 @@ pub struct Shared<I: Instrument> {
     pub over: AtomicU64,
 }
 
-/// What one core link wants besides itself.
+/// What one core link wants besides itself, and the log that it is told in.
 #[derive(Drop)]
-pub struct CoreKit<C: Clock, P: Pause, D: Dial> {
+pub struct CoreKit<C: Clock, P: Pause, D: Dial, G: Sink> {
     pub clock: C,
     pub pause: P,
     pub dial: D,
     pub room: Room,
+    pub log: G,
+}
+
+/// What one abort link wants besides itself, and the log that it is told in.
+#[derive(Drop)]
+pub struct AbortKit<G: Sink> {
+    pub room: Room,
+    pub log: G,
 }
 
 /// So many pauses, one after the other.
@@ -88,18 +98,47 @@ impl<I: Instrument> Access<I> {
     }
 }
 
-/// Serves a core link, and counts it.
-pub fn serve_core<R: Wait, I: Instrument, L: Link + Drop, C: Clock, P: Pause, D: Dial>(
+/// Why a session ended, as the log tells it.
+fn reason_of(end: End) -> Reason
+    ensures { result ≡ reason_of end }
+{
+    match end {
+        End::Closed => Reason::Closed,
+        End::CutShort { bytes: _ } => Reason::CutShort,
+        End::Junk { length: _ } => Reason::Junk,
+        End::TooLong => Reason::TooLong,
+        End::ReadFault => Reason::ReadFault,
+        End::WriteFault => Reason::WriteFault,
+    }
+}
+
+/// How a link's work ended, of whose calls so many were answered, as the log tells it.
+fn news_of(how: Linked, calls: u64) -> News
+    ensures { result ≡ news_of how calls }
+{
+    match how {
+        Linked::Ended(end) => News::Ended {
+            reason: reason_of(end),
+            calls,
+        },
+        Linked::Full => News::Full,
+        Linked::NoMemory => News::NoMemory,
+    }
+}
+
+/// Serves a core link, tells how it went, and counts it.
+pub fn serve_core<R: Wait, I: Instrument, L: Link + Drop, C: Clock, P: Pause, D: Dial, G: Sink>(
     rt: &R,
     alloc: Global,
     shared: &Shared<I>,
     pass: Pass<Core<SimBus<I>>>,
-    link: L,
-    kit: &mut CoreKit<C, P, D>,
+    link: Visitor<L>,
+    kit: &mut CoreKit<C, P, D, G>,
 ) -> Pass<Core<SimBus<I>>>
     requires gate { pass.gate ≡ gate_of shared.now.gate }
     ensures gate { result.gate ≡ pass.gate }
 {
+    let number = link.number();
     let (pass, done) = core_link(
         rt,
         alloc,
@@ -111,6 +150,8 @@ pub fn serve_core<R: Wait, I: Instrument, L: Link + Drop, C: Clock, P: Pause, D:
         &mut kit.dial,
         &mut kit.room,
     );
+    let news = news_of(*done.how(), done.link().answered());
+    let _ = tell(&mut kit.log, Channel::Core, number, news);
     shared.tally.lock(rt).add(done);
     shared.added.notify_one();
     pass
@@ -121,7 +162,7 @@ pub type Peer<N> = <<N as Net>::Port as Listen>::Peer;
 
 /// What a worker does.
 #[derive(Drop)]
-pub enum Duty<N: Net, X: Tools>
+pub enum Duty<N: Net, X: Tools + Logs>
 where
     N::Port: Drop,
     Peer<N>: Drop,
@@ -129,13 +170,13 @@ where
 {
     /// It serves core links, one after the other.
     Core {
-        links: Receiver<Peer<N>>,
-        kit: CoreKit<X::C, X::P, X::D>,
+        links: Receiver<Visitor<Peer<N>>>,
+        kit: CoreKit<X::C, X::P, X::D, X::L>,
     },
     /// It serves abort links.
     Abort {
-        links: Receiver<Peer<N>>,
-        room: Room,
+        links: Receiver<Visitor<Peer<N>>>,
+        kit: AbortKit<X::L>,
     },
     /// It writes the interrupts of channels to the streams that dials hand over. Interrupts come at samples alone, so it looks
     /// for one as seldom as the sampler looks at the SRQ line.
@@ -146,8 +187,8 @@ where
     /// It takes the links of the abort port and hands them to the abort workers, or serves one that comes back.
     Accept {
         port: N::Port,
-        links: Sender<Peer<N>>,
-        room: Room,
+        links: Sender<Visitor<Peer<N>>>,
+        kit: AbortKit<X::L>,
     },
     /// It looks at the SRQ line, and then pauses.
     Sample {
@@ -158,7 +199,7 @@ where
 
 /// The work of one worker of a server, which [`serve_run`](crate::serve_run) alone makes. Its pass is of its server's gate.
 #[derive(Drop)]
-pub struct Serve<N: Net, X: Tools, I: Instrument>
+pub struct Serve<N: Net, X: Tools + Logs, I: Instrument>
 where
     N::Port: Drop,
     Peer<N>: Drop,
@@ -169,7 +210,7 @@ where
     duty: Duty<N, X>,
 }
 
-impl<N: Net, X: Tools, I: Instrument> Serve<N, X, I>
+impl<N: Net, X: Tools + Logs, I: Instrument> Serve<N, X, I>
 where
     N::Port: Drop,
     Peer<N>: Drop,
@@ -185,7 +226,7 @@ where
     }
 }
 
-impl<N: Net, X: Tools, I: Instrument> Work for Serve<N, X, I>
+impl<N: Net, X: Tools + Logs, I: Instrument> Work for Serve<N, X, I>
 where
     N::Port: Drop,
     Peer<N>: Drop,
@@ -199,10 +240,10 @@ where
         } = self;
         match duty {
             Duty::Core { links, kit } => serve_cores(rt, alloc, access, &links, kit),
-            Duty::Abort { links, room } => serve_aborts(rt, alloc, access, &links, room),
+            Duty::Abort { links, kit } => serve_aborts(rt, alloc, access, &links, kit),
             Duty::Pump { streams, pause } => run_pumps(rt, access, streams, pause),
-            Duty::Accept { port, links, room } => accept_aborts(
-                rt, alloc, access, port, &links, room,
+            Duty::Accept { port, links, kit } => accept_aborts(
+                rt, alloc, access, port, &links, kit,
             ),
             Duty::Sample { clock, pause } => sample_on(rt, access, clock, pause),
         }
@@ -217,7 +258,14 @@ fn serve_cores<
     C: Clock + Drop,
     P: Pause + Drop,
     D: Dial + Drop,
->(rt: &R, alloc: Global, access: Access<I>, links: &Receiver<L>, kit: CoreKit<C, P, D>) {
+    G: Sink + Drop,
+>(
+    rt: &R,
+    alloc: Global,
+    access: Access<I>,
+    links: &Receiver<Visitor<L>>,
+    kit: CoreKit<C, P, D, G>,
+) {
     let Access { shared, mut pass } = access;
     let mut kit = kit;
     for _ in rt.forever() {
@@ -228,49 +276,71 @@ fn serve_cores<
     }
 }
 
-/// Serves an abort link, which is closed then.
-fn serve_abort<R: Wait, I: Instrument, L: Link + Drop>(
+/// Serves an abort link, which is closed then, and tells how it went.
+fn serve_abort<R: Wait, I: Instrument, L: Link + Drop, G: Sink>(
     rt: &R,
     alloc: Global,
     shared: &Shared<I>,
     pass: Pass<Core<SimBus<I>>>,
-    link: L,
-    room: &mut Room,
+    link: Visitor<L>,
+    kit: &mut AbortKit<G>,
 ) -> Pass<Core<SimBus<I>>>
     requires gate { pass.gate ≡ gate_of shared.now.gate }
     ensures gate { result.gate ≡ pass.gate }
 {
     let mut link = link;
-    let (pass, _) = abort_link(rt, alloc, &shared.gate, pass, &mut link, room);
+    let (pass, how) = abort_link(rt, alloc, &shared.gate, pass, &mut link, &mut kit.room);
+    let news = news_of(how, link.answered());
+    let _ = tell(&mut kit.log, Channel::Abort, link.number(), news);
     pass
 }
 
 /// Serves the abort links that come, until no more come.
-fn serve_aborts<R: Wait, I: Instrument, L: Link + Drop>(
+fn serve_aborts<R: Wait, I: Instrument, L: Link + Drop, G: Sink + Drop>(
     rt: &R,
     alloc: Global,
     access: Access<I>,
-    links: &Receiver<L>,
-    room: Room,
+    links: &Receiver<Visitor<L>>,
+    kit: AbortKit<G>,
 ) {
     let Access { shared, mut pass } = access;
-    let mut room = room;
+    let mut kit = kit;
     for _ in rt.forever() {
         match links.recv(rt) {
-            Ok(link) => pass = serve_abort(rt, alloc, &shared, pass, link, &mut room),
+            Ok(link) => pass = serve_abort(rt, alloc, &shared, pass, link, &mut kit),
             Err(_) => return,
         }
     }
 }
 
-/// Takes the links of the abort port until no more come or a wait fails. It waits where the workers have 64 links to serve.
-fn accept_aborts<R: Wait, I: Instrument, T: Listen>(
+/// Hands an abort link to the workers. It waits where 64 links wait for one, and serves a link that comes back itself.
+fn hand_abort<R: Wait, I: Instrument, L: Link + Drop, G: Sink>(
+    rt: &R,
+    alloc: Global,
+    links: &Sender<Visitor<L>>,
+    shared: &Shared<I>,
+    pass: Pass<Core<SimBus<I>>>,
+    link: Visitor<L>,
+    kit: &mut AbortKit<G>,
+) -> Pass<Core<SimBus<I>>>
+    requires gate { pass.gate ≡ gate_of shared.now.gate }
+    ensures gate { result.gate ≡ pass.gate }
+{
+    let _ = tell(&mut kit.log, Channel::Abort, link.number(), News::Came);
+    match links.send(rt, link) {
+        Ok(()) => pass,
+        Err(back) => serve_abort(rt, alloc, shared, pass, back.into_inner(), kit),
+    }
+}
+
+/// Takes the links of the abort port, counts them up to 2^64 - 1 and hands them on, until no more come or a wait fails.
+fn accept_aborts<R: Wait, I: Instrument, T: Listen, G: Sink + Drop>(
     rt: &R,
     alloc: Global,
     access: Access<I>,
     port: T,
-    links: &Sender<T::Peer>,
-    room: Room,
+    links: &Sender<Visitor<T::Peer>>,
+    kit: AbortKit<G>,
 )
 where
     T::Peer: Drop,
@@ -278,13 +348,14 @@ where
 {
     let Access { shared, mut pass } = access;
     let mut port = port;
-    let mut room = room;
+    let mut kit = kit;
+    let mut number = 0u64;
     for _ in rt.forever() {
         match port.accept() {
             Accepted::Peer(link) => {
-                if let Err(back) = links.send(rt, link) {
-                    pass = serve_abort(rt, alloc, &shared, pass, back.into_inner(), &mut room);
-                }
+                number = number.saturating_add(1);
+                let link = Visitor::new(link, number);
+                pass = hand_abort(rt, alloc, links, &shared, pass, link, &mut kit);
             }
             Accepted::Ended | Accepted::Failed => return,
         }

@@ -148,7 +148,7 @@ fn dial_twice<R: Wait, D: Dial>(
 /// Tools whose dials hand their streams on to each other.
 fn tools_of(rt: HostRuntime) -> Result<TcpTools<HostRuntime>, AllocError> {
     let (pumps, dialed) = bounded::<Dialed, Global>(rt.alloc(), 64)?;
-    Ok(TcpTools::new(rt, pumps, dialed))
+    Ok(TcpTools::new(rt, pumps, dialed, rt.stderr(), false))
 }
 
 // A dial reaches a port of this host, and hands its stream on once; a port that nobody listens at fails.

@@ -11,11 +11,11 @@ use std::test::Fail;
 use std::thread::{self, Threads};
 use vx_host::{ThreadSpawner, start_threads};
 use vx_io::{
-    Clock, Dial, DialOut, Handed, Link, MemNet, MemSink, MemSource, Pause, ReadOut, Spawner,
+    Clock, Dial, DialOut, Handed, Link, MemNet, MemSink, MemSource, Pause, ReadOut, Sink, Spawner,
     Streams, WriteOut,
 };
 use vx_rack::{Asker, Spare};
-use vx_serve::{Serve, serve_run};
+use vx_serve::{Logs, Serve, serve_run};
 use vx_session::Tools;
 
 // create_link of `gpib0,5`, xid 1
@@ -65,12 +65,15 @@ const INTERRUPT: [u8; 52] =
 /// The most turns that a link waits for another.
 const TURNS: u64 = 1_000_000;
 
-/// How many bytes the links of each side took that are those of its replies, at their places.
+/// How many bytes the links of each side took that are those of its replies, at their places; how often each line that is due in
+/// the log was written, in eight bits a line; and how many lines were that aren't due.
 #[derive(Drop)]
 pub(crate) struct Counts {
     core: AtomicU64,
     abort: AtomicU64,
     interrupt: AtomicU64,
+    lines: AtomicU64,
+    strange: AtomicU64,
 }
 
 /// Waits until a count is there, and says whether it is.
@@ -263,9 +266,90 @@ impl Streams for Handled {
     }
 }
 
+/// What one line of each place adds to the count of the lines that are due.
+const PLACES: [u64; 6] = [1, 1 << 8, 1 << 16, 1 << 24, 1 << 32, 1 << 40];
+
+/// The count of so many lines, each written once.
+fn each_once(lines: usize) -> u64 {
+    PLACES
+        .iter()
+        .take(lines)
+        .fold(0u64, |sum, one| sum.saturating_add(*one))
+}
+
+/// The log that is due. It is a name and not the lines, since a work with a reference in it can't be handed to a thread here.
+#[derive(Clone, Copy, Debug, PartialEq, Eq)]
+pub(crate) enum Log {
+    Nothing,
+    OneLink,
+    TwoLinks,
+    ThreeLinks,
+    Interrupted,
+}
+
+impl Log {
+    /// Its lines.
+    fn lines(self) -> &'static [&'static str] {
+        match self {
+            Log::Nothing => &THREE_LINKS[..0],
+            Log::OneLink => &THREE_LINKS[..2],
+            Log::TwoLinks => &THREE_LINKS[..4],
+            Log::ThreeLinks => &THREE_LINKS,
+            Log::Interrupted => &INTERRUPTED_LOG,
+        }
+    }
+}
+
+/// The log of three links, one after another.
+static THREE_LINKS: [&str; 6] = [
+    "core 1 came\n",
+    "core 1 ended: closed by its peer, 1 calls\n",
+    "core 2 came\n",
+    "core 2 ended: closed by its peer, 1 calls\n",
+    "core 3 came\n",
+    "core 3 ended: closed by its peer, 1 calls\n",
+];
+
+/// The log of a core link and an abort link.
+static INTERRUPTED_LOG: [&str; 4] = [
+    "core 1 came\n",
+    "core 1 ended: closed by its peer, 4 calls\n",
+    "abort 1 came\n",
+    "abort 1 ended: closed by its peer, 1 calls\n",
+];
+
+/// A log that counts the lines that are due.
+#[derive(Drop)]
+pub(crate) struct Recorder {
+    due: Log,
+    counts: Option<Arc<Counts, Global>>,
+}
+
+impl Sink for Recorder {
+    ghost taken = { λ _. None };
+
+    ghost faults = { λ _. 0 };
+
+    fn write(&mut self, from: &[u8]) -> WriteOut {
+        if let Some(counts) = &self.counts {
+            let place = self
+                .due
+                .lines()
+                .iter()
+                .position(|line| line.as_bytes() == from);
+            match place.and_then(|place| PLACES.get(place)) {
+                Some(one) => counts.lines.fetch_add(*one, Ordering::SeqCst),
+                None => counts.strange.fetch_add(1, Ordering::SeqCst),
+            };
+        }
+        WriteOut::Took(from.len())
+    }
+}
+
 /// The tools of these tests.
 #[derive(Drop)]
 pub(crate) struct Bag {
+    due: Log,
     counts: Arc<Counts, Global>,
     streams: Sender<Channel>,
     dialed: Receiver<Channel>,
@@ -302,6 +386,17 @@ impl Tools for Bag {
     }
 }
 
+impl Logs for Bag {
+    type L = Recorder;
+
+    fn log(&mut self) -> Recorder {
+        Recorder {
+            due: self.due,
+            counts: Arc::try_clone(&self.counts).ok(),
+        }
+    }
+}
+
 /// The work of a worker of these tests.
 pub(crate) type Job = Serve<MemNet<Comparing>, Bag, Asker>;
 
@@ -320,6 +415,8 @@ fn counts_of(alloc: Global) -> Result<Arc<Counts, Global>, AllocError> {
         core: AtomicU64::new(0),
         abort: AtomicU64::new(0),
         interrupt: AtomicU64::new(0),
+        lines: AtomicU64::new(0),
+        strange: AtomicU64::new(0),
     };
     Ok(Arc::new(alloc, counts)?)
 }
@@ -347,10 +444,11 @@ fn net_of(
     Ok(MemNet::new(core, abort, row.fails.to_vec(alloc)?))
 }
 
-fn bag_of(alloc: Global, counts: &Arc<Counts, Global>) -> Result<Bag, AllocError> {
+fn bag_of(alloc: Global, row: &Row, counts: &Arc<Counts, Global>) -> Result<Bag, AllocError> {
     let counts = Arc::try_clone(counts)?;
     let (streams, dialed) = unbounded(alloc)?;
     Ok(Bag {
+        due: row.log,
         counts,
         streams,
         dialed,
@@ -374,7 +472,7 @@ fn source_of(alloc: Global, row: &Row) -> Result<MemSource, AllocError> {
 
 /// A server: its words; its bench, and how many LFs are behind that; the links of its net at its two ports; which reads of the
 /// bench, which writes, and which calls of the net fail, each counted from 1; which worker is refused, where it isn't 0. And
-/// then how it ends.
+/// then how it ends, and the lines of its log, each once and in any order.
 #[derive(Clone, Copy)]
 pub(crate) struct Row {
     pub words: &'static [&'static str],
@@ -387,6 +485,7 @@ pub(crate) struct Row {
     pub fails: &'static [u64],
     pub refuses: u64,
     pub ends: Ends,
+    pub log: Log,
 }
 
 /// How a server ended: its status, what it wrote, and the number of its tally; and how many bytes that were due the core links
@@ -411,7 +510,7 @@ fn run<R: Wait, W: Spawner<Job>>(
     let words = words_of(alloc, row)?;
     let mut source = source_of(alloc, row)?;
     let mut net = net_of(alloc, row, counts)?;
-    let mut tools = bag_of(alloc, counts)?;
+    let mut tools = bag_of(alloc, row, counts)?;
     let rack = askers(alloc)?;
     let (status, tally) = serve_run(
         rt,
@@ -425,6 +524,14 @@ fn run<R: Wait, W: Spawner<Job>>(
         rack,
     );
     Ok((status, tally.number()))
+}
+
+/// Whether each line that is due in the log comes once, and no other was written.
+fn is_logged(row: &Row, counts: &Counts) -> bool {
+    let due = each_once(row.log.lines().len());
+    comes(&counts.lines, due)
+        && counts.lines.load(Ordering::SeqCst) == due
+        && counts.strange.load(Ordering::SeqCst) == 0
 }
 
 /// Whether the server of a row ends as it says.
@@ -442,7 +549,7 @@ pub(crate) fn ends_so<R: Wait, W: Spawner<Job>>(
         counts.abort.load(Ordering::SeqCst),
         counts.interrupt.load(Ordering::SeqCst),
     ];
-    let is_told = sink.bytes() == row.ends.text.as_bytes();
+    let is_told = sink.bytes() == row.ends.text.as_bytes() && is_logged(row, &counts);
     Ok(is_told && (status, number, bytes) == (row.ends.status, row.ends.number, row.ends.bytes))
 }
 
@@ -484,6 +591,7 @@ static SHORT: Row = Row {
         number: 1,
         bytes: [44, 0, 0],
     },
+    log: Log::OneLink,
 };
 
 /// A core link that asks for service and is interrupted, and an abort link. Its replies have 44 bytes, 32, 32 and 36.
@@ -503,6 +611,7 @@ static INTERRUPTED: Row = Row {
         number: 1,
         bytes: [144, 32, 52],
     },
+    log: Log::Interrupted,
 };
 
 #[test]

@@ -1,5 +1,5 @@
 //! Servers whose workers never run: the causes of each status, and what is written.
-use crate::serve_served::{Ends, Job, Row, Side, ends_so};
+use crate::serve_served::{Ends, Job, Log, Row, Side, ends_so};
 use std::alloc::Global;
 use std::sync::Wait;
 use std::test::Fail;
@@ -54,6 +54,7 @@ const PLAIN: Row = Row {
     fails: &[],
     refuses: 0,
     ends: SERVED,
+    log: Log::Nothing,
 };
 
 /// Words that are taken, that are refused, or that ask for a text.
@@ -331,6 +332,7 @@ static LINKS: [Row; 2] = [
             bytes: [87, 0, 0],
             ..SERVED
         },
+        log: Log::TwoLinks,
         ..PLAIN
     },
     Row {
@@ -341,6 +343,7 @@ static LINKS: [Row; 2] = [
             bytes: [130, 0, 0],
             ..SERVED
         },
+        log: Log::ThreeLinks,
         ..PLAIN
     },
 ];

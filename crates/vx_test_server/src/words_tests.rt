@@ -13,7 +13,8 @@ fn asked(alloc: Global, line: &str) -> Result<Asked, AllocError> {
     Ok(read_words(alloc, words.as_slice()))
 }
 
-/// The numbers of options: core, abort, sample, workers, limit.
+/// The numbers of options: core, abort, sample, workers, limit; and behind a bar keepalive, send-timeout, idle, abort-idle and
+/// whether there is a log, where these aren't as usual.
 fn numbers(alloc: Global, options: Options) -> Result<String, AllocError> {
     let Options {
         core,
@@ -21,8 +22,18 @@ fn numbers(alloc: Global, options: Options) -> Result<String, AllocError> {
         sample,
         workers,
         limit,
+        keepalive,
+        send_timeout,
+        idle,
+        abort_idle,
+        log,
     } = options;
-    format!(in alloc; "{core} {abort} {sample} {workers} {limit}")
+    if (keepalive, send_timeout, idle, abort_idle, log) == (120, 60, 0, 5, false) {
+        return format!(in alloc; "{core} {abort} {sample} {workers} {limit}");
+    }
+    format!(in alloc;
+        "{core} {abort} {sample} {workers} {limit} | {keepalive} {send_timeout} {idle} {abort_idle} {log}"
+    )
 }
 
 /// What a line is answered with: the numbers that it sets, the text that is told, or that it is refused.
@@ -42,7 +53,7 @@ const NO: &str = "refused";
 const VERSION: &str = "vxgate 0.1.0\n";
 
 /// Lines of words, and what each is answered with.
-static ROWS: [(&str, &str); 52] = [
+static ROWS: [(&str, &str); 74] = [
     // no word sets an option
     ("", "9010 9011 10 16 0"),
     ("--", "9010 9011 10 16 0"),
@@ -58,6 +69,25 @@ static ROWS: [(&str, &str); 52] = [
     ("--workers 64", "9010 9011 10 64 0"),
     ("--limit 0", "9010 9011 10 16 0"),
     ("--limit 1000000", "9010 9011 10 16 1000000"),
+    ("--keepalive 0", "9010 9011 10 16 0 | 0 60 0 5 false"),
+    (
+        "--keepalive 86400",
+        "9010 9011 10 16 0 | 86400 60 0 5 false",
+    ),
+    ("--send-timeout=0", "9010 9011 10 16 0 | 120 0 0 5 false"),
+    (
+        "--send-timeout 86400",
+        "9010 9011 10 16 0 | 120 86400 0 5 false",
+    ),
+    ("--idle 1", "9010 9011 10 16 0 | 120 60 1 5 false"),
+    ("--idle=86400", "9010 9011 10 16 0 | 120 60 86400 5 false"),
+    ("--idle 0", "9010 9011 10 16 0"),
+    ("--abort-idle 0", "9010 9011 10 16 0 | 120 60 0 0 false"),
+    (
+        "--abort-idle 86400",
+        "9010 9011 10 16 0 | 120 60 0 86400 false",
+    ),
+    ("--log", "9010 9011 10 16 0 | 120 60 0 5 true"),
     // all of them, in any order
     (
         "--core 1024 --abort 1025 --sample 250 --workers 4 --limit 7",
@@ -66,6 +96,14 @@ static ROWS: [(&str, &str); 52] = [
     (
         "--limit=7 --workers=4 --sample=250 --abort=1025 --core=1024",
         "1024 1025 250 4 7",
+    ),
+    (
+        "--log --keepalive 1 --core 1024 --send-timeout 2 --idle 3 --abort-idle 4",
+        "1024 9011 10 16 0 | 1 2 3 4 true",
+    ),
+    (
+        "--abort-idle=4 --idle=3 --send-timeout=2 --log --keepalive=1",
+        "9010 9011 10 16 0 | 1 2 3 4 true",
     ),
     // a number may have a plus and zeros
     ("--workers +4", "9010 9011 10 4 0"),
@@ -81,6 +119,11 @@ static ROWS: [(&str, &str); 52] = [
     ("--workers 65", NO),
     ("--limit 1000001", NO),
     ("--limit 18446744073709551616", NO),
+    ("--keepalive 86401", NO),
+    ("--send-timeout 86401", NO),
+    ("--idle 86401", NO),
+    ("--abort-idle 86401", NO),
+    ("--keepalive=-1", NO),
     // no number
     ("--core x", NO),
     ("--core 9010x", NO),
@@ -93,7 +136,13 @@ static ROWS: [(&str, &str); 52] = [
     ("--workers", NO),
     ("--core --abort 1", NO),
     ("--core -1", NO),
+    ("--idle", NO),
+    // a flag has no value
+    ("--log 1", NO),
+    ("--log=true", NO),
     // an option twice
+    ("--log --log", NO),
+    ("--idle 5 --idle 5", NO),
     ("--workers 4 --workers 4", NO),
     ("--core=1 --core 2", NO),
     // other words, and the program's name
@@ -118,8 +167,9 @@ static ROWS: [(&str, &str); 52] = [
 static HELPS: [&str; 4] = ["--help", "-h", "--workers 64 --help", "--help --port"];
 
 /// What the help tells, among others.
-static PARTS: [&str; 14] = [
+static PARTS: [&str; 24] = [
     "A VXI-11 gateway to a GPIB bus\n",
+    "TCPIP::host::gpib0,5::INSTR",
     "Usage: vxgate [OPTIONS]\n",
     "--core <PORT>",
     "[default: 9010]",
@@ -131,6 +181,15 @@ static PARTS: [&str; 14] = [
     "[default: 16]",
     "--limit <N>",
     "[default: 0]",
+    "--keepalive <SECONDS>",
+    "[default: 120]",
+    "--send-timeout <SECONDS>",
+    "[default: 60]",
+    "--idle <SECONDS>",
+    "--abort-idle <SECONDS>",
+    "[default: 5]",
+    "--log",
+    "vxgate < ",
     "-h, --help",
     "-V, --version",
 ];

@@ -1,5 +1,5 @@
 -- What a parse that succeeds leaves of each option: a value that its parser took.
-use Rattle.std.proofs.Common.{◌≡◌, ◌∙◌, ◌<◌, ◌≤◌, codes, ℕ, Bool, zero, suc, true, false, refl, sym, ap, subst, arith, List, [], ◌∷◌, length, map, get_or, is_some, Option, Some, None, inl, inr}
+use Rattle.std.proofs.Common.{◌≡◌, ◌∙◌, ◌<◌, ◌≤◌, codes, ℕ, Bool, cond, zero, suc, true, false, refl, sym, ap, subst, arith, List, [], ◌∷◌, length, map, get_or, is_some, Option, Some, None, inl, inr}
 use Rattle.std.specs.Prelude.{find, option_map, ◌&&◌}
 use Rattle.std.specs.List.{All}
 use Rattle.std.specs.Borrow.{Bor}
@@ -19,7 +19,7 @@ use Rattle.clap.specs.declared.builder.arg.Arg.{Arg}
 use Rattle.clap.specs.declared.builder.command.Command.{Command}
 use Rattle.clap.specs.declared.builder.range.ValueRange.{ValueRange}
 use Rattle.clap.specs.declared.builder.value_parser.ValueParser.{ValueParser}
-use Rattle.clap.specs.declared.builder.value_parser.ValueParser.TheVariants.{Unsigned}
+use Rattle.clap.specs.declared.builder.value_parser.ValueParser.TheVariants.{Bool as BoolParser, Unsigned}
 use Rattle.clap.specs.declared.builder.value_parser.Reading.{Reading}
 use Rattle.clap.specs.declared.builder.value_parser.Reading.TheVariants.{AsWritten}
 use Rattle.clap.specs.declared.parser.matches.ArgMatches.{ArgMatches}
@@ -29,8 +29,8 @@ use Rattle.clap.proofs.CallerLemmas.{default_present, entry_by_id, same_rules_by
 use Rattle.clap.proofs.SimpleLemmas.{HasPlainFields, is_false, is_nil, plain_fields}
 use Rattle.clap.proofs.TakesLemmas.{each_rule}
 use Rattle.clap.proofs.WalkLemmas.{both}
-use Rattle.vx_words.specs.Form.{number_option, number_options, vxgate}
-use Rattle.vx_words.specs.Parts.{HasNumber, IsGiven}
+use Rattle.vx_words.specs.Form.{flag, number_option, options, vxgate}
+use Rattle.vx_words.specs.Parts.{HasFlag, HasNumber, IsGiven}
 
 -- ---- what the rule of an argument tells of it
 
@@ -78,40 +78,30 @@ plain_arg a e =
     let t = both _ _ s.1 in
     (is_false _ s.0, is_nil _ t.0, is_nil _ p.0, is_nil _ r.0)
 
+-- the place of the first rule of this name
+place : List Rule → Text → ℕ
+place [] name = 0
+place (r ∷ rest) name = cond (bytes_eq r.id name) 0 (suc (place rest name))
+
+-- the name of the option at a place is first found there
+at_place : (k : ℕ) (x : Rule) → k < 10 → place options (get_or options k x).id ≡ k
+unfolding place
+at_place zero x lt = refl
+at_place (suc zero) x lt = refl
+at_place (suc (suc zero)) x lt = refl
+at_place (suc (suc (suc zero))) x lt = refl
+at_place (suc (suc (suc (suc zero)))) x lt = refl
+at_place (suc (suc (suc (suc (suc zero))))) x lt = refl
+at_place (suc (suc (suc (suc (suc (suc zero)))))) x lt = refl
+at_place (suc (suc (suc (suc (suc (suc (suc zero))))))) x lt = refl
+at_place (suc (suc (suc (suc (suc (suc (suc (suc zero)))))))) x lt = refl
+at_place (suc (suc (suc (suc (suc (suc (suc (suc (suc zero))))))))) x lt = refl
+at_place (suc (suc (suc (suc (suc (suc (suc (suc (suc (suc k)))))))))) x lt = absurd (omega arith)
+
 -- no two options have one name
-distinct : (j k : ℕ) (x y : Rule) → j < 5 → k < 5
-    → bytes_eq (get_or number_options j x).id (get_or number_options k y).id ≡ true → j ≡ k
-distinct zero zero x y low high e = refl
-distinct zero (suc zero) x y low high e = absurd cc
-distinct zero (suc (suc zero)) x y low high e = absurd cc
-distinct zero (suc (suc (suc zero))) x y low high e = absurd cc
-distinct zero (suc (suc (suc (suc zero)))) x y low high e = absurd cc
-distinct zero (suc (suc (suc (suc (suc k))))) x y low high e = absurd (omega arith)
-distinct (suc zero) zero x y low high e = absurd cc
-distinct (suc zero) (suc zero) x y low high e = refl
-distinct (suc zero) (suc (suc zero)) x y low high e = absurd cc
-distinct (suc zero) (suc (suc (suc zero))) x y low high e = absurd cc
-distinct (suc zero) (suc (suc (suc (suc zero)))) x y low high e = absurd cc
-distinct (suc zero) (suc (suc (suc (suc (suc k))))) x y low high e = absurd (omega arith)
-distinct (suc (suc zero)) zero x y low high e = absurd cc
-distinct (suc (suc zero)) (suc zero) x y low high e = absurd cc
-distinct (suc (suc zero)) (suc (suc zero)) x y low high e = refl
-distinct (suc (suc zero)) (suc (suc (suc zero))) x y low high e = absurd cc
-distinct (suc (suc zero)) (suc (suc (suc (suc zero)))) x y low high e = absurd cc
-distinct (suc (suc zero)) (suc (suc (suc (suc (suc k))))) x y low high e = absurd (omega arith)
-distinct (suc (suc (suc zero))) zero x y low high e = absurd cc
-distinct (suc (suc (suc zero))) (suc zero) x y low high e = absurd cc
-distinct (suc (suc (suc zero))) (suc (suc zero)) x y low high e = absurd cc
-distinct (suc (suc (suc zero))) (suc (suc (suc zero))) x y low high e = refl
-distinct (suc (suc (suc zero))) (suc (suc (suc (suc zero)))) x y low high e = absurd cc
-distinct (suc (suc (suc zero))) (suc (suc (suc (suc (suc k))))) x y low high e = absurd (omega arith)
-distinct (suc (suc (suc (suc zero)))) zero x y low high e = absurd cc
-distinct (suc (suc (suc (suc zero)))) (suc zero) x y low high e = absurd cc
-distinct (suc (suc (suc (suc zero)))) (suc (suc zero)) x y low high e = absurd cc
-distinct (suc (suc (suc (suc zero)))) (suc (suc (suc zero))) x y low high e = absurd cc
-distinct (suc (suc (suc (suc zero)))) (suc (suc (suc (suc zero)))) x y low high e = refl
-distinct (suc (suc (suc (suc zero)))) (suc (suc (suc (suc (suc k))))) x y low high e = absurd (omega arith)
-distinct (suc (suc (suc (suc (suc j))))) k x y low high e = absurd (omega arith)
+distinct : (j k : ℕ) (x y : Rule) → j < 10 → k < 10
+    → bytes_eq (get_or options j x).id (get_or options k y).id ≡ true → j ≡ k
+distinct j k x y low high e = sym (at_place j x low) ∙ ap (place options) ((bytes_eq-Decides _ _).0 e) ∙ at_place k y high
 
 -- the name isn't that of an option that `clap` adds
 record IsOwn (name : Text) : Type 0 where
@@ -163,6 +153,20 @@ number_at f name least most x found reading some passed = go x.vals.items refl s
       All-head (λ (w : Bor Text). IsUnsignedIn least most w.now) v vs all,
     )
 
+-- a flag has at most a value that passed
+flag_at : (f : Found) (name : Text) (x : MatchedArg) → matched_of f name ≡ Some x → x.reading ≡ AsWritten
+    → All (λ v. Accepts false BoolParser v.now) x.vals.items → HasFlag f name
+flag_at f name x found reading passed = go x.vals.items refl passed
+  where
+    go : (vs : List (Bor Text)) → x.vals.items ≡ vs → All (λ v. Accepts false BoolParser v.now) vs → HasFlag f name
+    go [] e all = inl (rw (found, e) refl, rw (found, e) refl)
+    go (v ∷ vs) e all = inr (
+      v.now,
+      rw (found, e) refl,
+      rw (found, e, reading) refl,
+      All-head (λ (w : Bor Text). Accepts false BoolParser w.now) v vs all,
+    )
+
 head_of : (xs : List Arg) → 0 < length xs → Arg
 head_of [] lt = absurd (omega arith)
 head_of (x ∷ xs) lt = x
@@ -170,13 +174,13 @@ head_of (x ∷ xs) lt = x
 -- ---- the command after a parse
 
 module _ (old : Command) (same : app_of old ≡ vxgate) (m : ArgMatches) (p : IsParsedFrom old m) where
-  rules_are : map rule_of (args_of old) ≡ number_options
+  rules_are : map rule_of (args_of old) ≡ options
   rules_are = ap (λ (a : App). a.top.rules) same
 
-  count : length (args_of old) ≡ 5
+  count : length (args_of old) ≡ 10
   count = sym (length-map (args_of old) rule_of) ∙ ap length rules_are
 
-  rule_at : (k : ℕ) (d : Arg) → k < 5 → rule_of (get_or (args_of old) k d) ≡ get_or number_options k (rule_of d)
+  rule_at : (k : ℕ) (d : Arg) → k < 10 → rule_of (get_or (args_of old) k d) ≡ get_or options k (rule_of d)
   rule_at k d lt =
       sym (get_or-map rule_of (args_of old) k d (rule_of d) (rw count lt)) ∙ ap (λ l. get_or l k (rule_of d)) rules_are
 
@@ -191,38 +195,39 @@ module _ (old : Command) (same : app_of old ≡ vxgate) (m : ArgMatches) (p : Is
   )
 
   -- no two arguments have one id
-  only : (k : ℕ) (d : Arg) → k < 5 → (j : ℕ) (e : Arg) → j < length (args_of old)
+  only : (k : ℕ) (d : Arg) → k < 10 → (j : ℕ) (e : Arg) → j < length (args_of old)
       → bytes_eq (get_or (args_of old) j e).id.now (get_or (args_of old) k d).id.now ≡ true → j ≡ k
   only k d lt j e low ids =
-      let low5 : j < 5 = rw count at low in
-      distinct j k (rule_of e) (rule_of d) low5 lt
-      (rw (← ap (λ (r : Rule). r.id) (rule_at j e low5), ← ap (λ (r : Rule). r.id) (rule_at k d lt)) ids)
+      let below : j < 10 = rw count at low in
+      distinct j k (rule_of e) (rule_of d) below lt
+      (rw (← ap (λ (r : Rule). r.id) (rule_at j e below), ← ap (λ (r : Rule). r.id) (rule_at k d lt)) ids)
 
-  -- what the parse left of the option at place k
-  module _ (k : ℕ) (d : Arg) (name usual : Text) (least most : ℕ) (lt : k < 5)
-      (is : get_or number_options k (rule_of d) ≡ number_option name usual least most) (own : IsOwn name) where
-    it : IsNumberOption name least most (get_or (args_of old) k d)
-    it = option_facts name usual least most (get_or (args_of old) k d) (rule_at k d lt ∙ is)
+  parsed : IsParsed p.built (found_of m) (has_subcommand m)
+  parsed = p.parsed (p.from.globals ∙ fields.globals)
 
+  -- what the parse left of the option at place k, whose values this parser takes
+  module _ (k : ℕ) (d : Arg) (name : Text) (q : ValueParser) (lt : k < 10) (id : (get_or (args_of old) k d).id.now ≡ name)
+      (parser : (get_or (args_of old) k d).value_parser ≡ Some q) (own : IsOwn name) where
     in_args : k < length (args_of old)
     in_args = rw count lt
 
     -- an argument of its name is the option, as built
     as_built : (j : ℕ) (x : Arg) → j < length (args_of p.built) → get_or (args_of p.built) j x ≡ x → bytes_eq x.id.now name ≡ true
         → SameRules (get_or (args_of old) k d) x
-    as_built j x high at ids = same_rules_by_id old m p k d in_args (only k d lt) (not_auto name (get_or (args_of old) k d) own it.id) j x high at (rw it.id ids)
+    as_built j x high at ids = same_rules_by_id old m p k d in_args (only k d lt) (not_auto name (get_or (args_of old) k d) own id) j x high at (rw id ids)
 
-    parser_is : (x : Arg) → SameRules (get_or (args_of old) k d) x → parser_of x ≡ Unsigned least most
-    parser_is x s = ap parser_of_value (s.parser (Unsigned least most) it.parser)
+    parser_is : (x : Arg) → SameRules (get_or (args_of old) k d) x → parser_of x ≡ q
+    parser_is x s = ap parser_of_value (s.parser q parser)
 
-    -- what passes under its name passes its range
-    passes : (v : Bor Text) → PassesArg p.built name v.now → IsUnsignedIn least most v.now
-    passes v any =
+    -- what passes under its name passes its parser
+    passes : (P : Text → Type 0) → ((ignore_case : Bool) (t : Text) → Accepts ignore_case q t → P t)
+        → (v : Bor Text) → PassesArg p.built name v.now → P v.now
+    passes P accepted v any =
         let s = as_built any.0 any.1 any.2 any.3 any.4.0 in
-        subst (λ (q : ValueParser). Accepts any.1.ignore_case q v.now) (parser_is any.1 s) any.4.1
+        accepted any.1.ignore_case v.now (subst (λ (r : ValueParser). Accepts any.1.ignore_case r v.now) (parser_is any.1 s) any.4.1)
 
-    -- and is read as it is written
-    reads : (r : Reading) → HasReading p.built name r → r ≡ AsWritten
+    -- and is read as its parser says
+    reads : (r : Reading) → HasReading p.built name r → r ≡ reading_of q
     reads r any =
         let s = as_built any.0 any.1 any.2 any.3 any.4.0 in
         sym any.4.1 ∙ ap reading_of (parser_is any.1 s)
@@ -234,19 +239,72 @@ module _ (old : Command) (same : app_of old ≡ vxgate) (m : ArgMatches) (p : Is
         let bad : 0 < 0 = rw (p.from.plain plain).1 at some in
         absurd (omega arith)
 
+    -- the values of an entry under its name pass, and are read so
+    taken_values : (P : Text → Type 0) → ((ignore_case : Bool) (t : Text) → Accepts ignore_case q t → P t)
+        → (e : Entry) → e.0.now ≡ name → EntryPasses p.built e → All (λ v. P v.now) e.1.vals.items
+    taken_values P accepted e key pass = elim pass.0 [
+      | inl group ↦ absurd (no_group (subst (IsKnownGroup p.built) key (pass.3 group)))
+      | inr all ↦ λ i x low. passes P accepted (get_or e.1.vals.items i x) (subst (λ (w : Text). PassesArg p.built w (get_or e.1.vals.items i x).now) key (all i x low))
+    ]
+
+    read_as_it_says : (e : Entry) → e.0.now ≡ name → EntryPasses p.built e → e.1.reading ≡ reading_of q
+    read_as_it_says e key pass = elim pass.4 [
+      | inl group ↦ absurd (no_group (subst (IsKnownGroup p.built) key (pass.3 group)))
+      | inr how ↦ reads e.1.reading (subst (λ (w : Text). HasReading p.built w e.1.reading) key how)
+    ]
+
+  -- what it left of the flag at place k
+  module _ (k : ℕ) (d : Arg) (name : Text) (lt : k < 10) (is : get_or options k (rule_of d) ≡ flag name) (own : IsOwn name) where
+    flag_rule : rule_of (get_or (args_of old) k d) ≡ flag name
+    flag_rule = rule_at k d lt ∙ is
+
+    flag_id : (get_or (args_of old) k d).id.now ≡ name
+    flag_id = ap (λ (r : Rule). r.id) flag_rule
+
+    flag_parser : (get_or (args_of old) k d).value_parser ≡ Some BoolParser
+    flag_parser = ap (λ (r : Rule). r.parser) flag_rule
+
+    set : HasFlag (found_of m) name
+    set = go (matched_of (found_of m) name) refl
+      where
+        at : (x : MatchedArg) → matched_of (found_of m) name ≡ Some x
+            → ((e : Entry) × (e.1 ≡ x) × (bytes_eq e.0.now name ≡ true) × EntryPasses p.built e) → HasFlag (found_of m) name
+        at x found got =
+            let key : got.0.0.now ≡ name = (bytes_eq-Decides _ _).0 got.2 in
+            flag_at (found_of m) name x found
+            (rw (← got.1) (read_as_it_says k d name BoolParser lt flag_id flag_parser own got.0 key got.3))
+            (rw (← got.1) (taken_values k d name BoolParser lt flag_id flag_parser own (Accepts false BoolParser) (λ i t a. a) got.0 key got.3))
+
+        go : (o : Option MatchedArg) → matched_of (found_of m) name ≡ o → HasFlag (found_of m) name
+        go None e = inl (rw e refl, rw e refl)
+        go (Some x) e = at x e (entry_by_id (EntryPasses p.built) (found_of m).entries.items name x parsed.values e)
+
+  -- what it left of the option of a number at place k
+  module _ (k : ℕ) (d : Arg) (name usual : Text) (least most : ℕ) (lt : k < 10)
+      (is : get_or options k (rule_of d) ≡ number_option name usual least most) (own : IsOwn name) where
+    it : IsNumberOption name least most (get_or (args_of old) k d)
+    it = option_facts name usual least most (get_or (args_of old) k d) (rule_at k d lt ∙ is)
+
+    built_as : (j : ℕ) (x : Arg) → j < length (args_of p.built) → get_or (args_of p.built) j x ≡ x → bytes_eq x.id.now name ≡ true
+        → SameRules (get_or (args_of old) k d) x
+    built_as = as_built k d name (Unsigned least most) lt it.id it.parser own
+
+    groupless : IsKnownGroup p.built name → ⊥
+    groupless = no_group k d name (Unsigned least most) lt it.id it.parser own
+
     -- an entry under its name has a value
     filled : (e : Entry) → e.0.now ≡ name → EntryPasses p.built e → 0 < length e.1.vals.items
     filled e key pass = elim pass.1 [
-      | inl group ↦ absurd (no_group (subst (IsKnownGroup p.built) key group.1))
+      | inl group ↦ absurd (groupless (subst (IsKnownGroup p.built) key group.1))
       | inr (inl some) ↦ some
       | inr (inr (inl counts)) ↦
           let any = subst (IsCountArg p.built) key counts.1 in
-          let s = as_built any.0 any.1 any.2 any.3 any.4.0 in
+          let s = built_as any.0 any.1 any.2 any.3 any.4.0 in
           let bad : Set ≡ Count = rw (s.action Set it.action) at any.4.1 in
           absurd cc
       | inr (inr (inr none)) ↦
           let any = subst (AllowsNone p.built) key none in
-          let s = as_built any.0 any.1 any.2 any.3 any.4.0 in
+          let s = built_as any.0 any.1 any.2 any.3 any.4.0 in
           absurd (not_empty any.1 s any.4.1)
     ]
       where
@@ -258,38 +316,22 @@ module _ (old : Command) (same : app_of old ≡ vxgate) (m : ArgMatches) (p : Is
             let bad : is_some x.val_delim ≡ false = rw s.val_delim it.delimiter in
             cc
 
-    -- and its values pass, and are read as they are written
-    taken_values : (e : Entry) → e.0.now ≡ name → EntryPasses p.built e → All (λ v. IsUnsignedIn least most v.now) e.1.vals.items
-    taken_values e key pass = elim pass.0 [
-      | inl group ↦ absurd (no_group (subst (IsKnownGroup p.built) key (pass.3 group)))
-      | inr all ↦ λ i x low. passes (get_or e.1.vals.items i x) (subst (λ (w : Text). PassesArg p.built w (get_or e.1.vals.items i x).now) key (all i x low))
-    ]
-
-    read_as_written : (e : Entry) → e.0.now ≡ name → EntryPasses p.built e → e.1.reading ≡ AsWritten
-    read_as_written e key pass = elim pass.4 [
-      | inl group ↦ absurd (no_group (subst (IsKnownGroup p.built) key (pass.3 group)))
-      | inr how ↦ reads e.1.reading (subst (λ (w : Text). HasReading p.built w e.1.reading) key how)
-    ]
-
-    parsed : IsParsed p.built (found_of m) (has_subcommand m)
-    parsed = p.parsed (p.from.globals ∙ fields.globals)
-
     -- its default gives it an entry, so it has a value
     value : HasNumber (found_of m) name least most
     value = go (matched_of (found_of m) name) refl (has_entry (found_of m).entries.items name has.0 has.1 has.2)
       where
         has : HasIn (found_of m).entries.items name
         has = subst (HasIn (found_of m).entries.items) it.id
-            (default_present old m p fields.globals k d in_args (it.default_ifs, it.defaults))
+            (default_present old m p fields.globals k d (rw count lt) (it.default_ifs, it.defaults))
 
         at : (x : MatchedArg) → matched_of (found_of m) name ≡ Some x
             → ((e : Entry) × (e.1 ≡ x) × (bytes_eq e.0.now name ≡ true) × EntryPasses p.built e) → HasNumber (found_of m) name least most
         at x found got =
             let key : got.0.0.now ≡ name = (bytes_eq-Decides _ _).0 got.2 in
             number_at (found_of m) name least most x found
-            (rw (← got.1) (read_as_written got.0 key got.3))
+            (rw (← got.1) (read_as_it_says k d name (Unsigned least most) lt it.id it.parser own got.0 key got.3))
             (rw (← got.1) (filled got.0 key got.3))
-            (rw (← got.1) (taken_values got.0 key got.3))
+            (rw (← got.1) (taken_values k d name (Unsigned least most) lt it.id it.parser own (IsUnsignedIn least most) (λ i t a. a) got.0 key got.3))
 
         go : (o : Option MatchedArg) → matched_of (found_of m) name ≡ o → is_some (matched_of (found_of m) name) ≡ true → HasNumber (found_of m) name least most
         go None e some =
@@ -303,7 +345,7 @@ module _ (old : Command) (same : app_of old ≡ vxgate) (m : ArgMatches) (p : Is
   own_name : (name : Text) → is_empty name ≡ false → bytes_eq name (codes "help") ≡ false → bytes_eq name (codes "version") ≡ false → IsOwn name
   own_name name some help version = record { some = some; help = help; version = version }
 
-  -- each option has its number
+  -- each option has its number, and the flag its value, if it has one
   pub all_given : IsGiven (found_of m)
   all_given = record {
     core = value 0 first (codes "core") (codes "9010") 1 65535 (omega arith) refl (own_name (codes "core") refl refl refl);
@@ -311,4 +353,9 @@ module _ (old : Command) (same : app_of old ≡ vxgate) (m : ArgMatches) (p : Is
     sample = value 2 first (codes "sample") (codes "10") 1 60000 (omega arith) refl (own_name (codes "sample") refl refl refl);
     workers = value 3 first (codes "workers") (codes "16") 1 64 (omega arith) refl (own_name (codes "workers") refl refl refl);
     limit = value 4 first (codes "limit") (codes "0") 0 1000000 (omega arith) refl (own_name (codes "limit") refl refl refl);
+    keepalive = value 5 first (codes "keepalive") (codes "120") 0 86400 (omega arith) refl (own_name (codes "keepalive") refl refl refl);
+    send_timeout = value 6 first (codes "send-timeout") (codes "60") 0 86400 (omega arith) refl (own_name (codes "send-timeout") refl refl refl);
+    idle = value 7 first (codes "idle") (codes "0") 0 86400 (omega arith) refl (own_name (codes "idle") refl refl refl);
+    abort_idle = value 8 first (codes "abort-idle") (codes "5") 0 86400 (omega arith) refl (own_name (codes "abort-idle") refl refl refl);
+    log = set 9 first (codes "log") (omega arith) refl (own_name (codes "log") refl refl refl);
   }

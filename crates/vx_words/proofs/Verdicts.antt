@@ -1,10 +1,13 @@
 -- What an answer says of the words, from what `clap` says of them.
-use Rattle.std.proofs.Common.{◌≡◌, ◌∙◌, ◌⊎◌, ℕ, true, refl, sym, ap, subst, List, [], ◌∷◌, Option, Some, None, Result, Ok, inl, inr}
-use Rattle.std.specs.Prelude.{option_map}
+use Rattle.std.proofs.Common.{◌≡◌, ◌∙◌, ◌⊎◌, codes, ℕ, Bool, true, false, refl, sym, ap, subst, List, [], ◌∷◌, Option, Some, None, Result, Ok, inl, inr}
+use Rattle.std.specs.Prelude.{option_map, ◌||◌}
+use Rattle.std.specs.Option.{option_map_or}
+use Rattle.std.specs.Str.{bytes_eq}
 use Rattle.std.specs.Str.Parse.{ParsesUnsigned}
+use Rattle.std.proofs.lemmas.Slice.Eq.{bytes_eq-Decides}
 use Rattle.clap.specs.Kinds.{IsAmong}
 use Rattle.clap.specs.Faults.{fault_of, is_simple_and_free}
-use Rattle.clap.specs.Matches.{ReadsOne}
+use Rattle.clap.specs.Matches.{ReadsOne, one_text}
 use Rattle.clap.specs.Walk.{Row, Text, rows_of}
 use Rattle.clap.specs.Simple.{is_simple, matches_of}
 use Rattle.clap.specs.declared.error.kind.ErrorKind.{ErrorKind}
@@ -12,8 +15,8 @@ use Rattle.clap.specs.declared.error.kind.ErrorKind.TheVariants as kind
 use Rattle.clap.specs.declared.parser.matches.Found.{Found}
 use Rattle.clap.proofs.WalkLemmas.{first_value-rows}
 use Rattle.vx_words.specs.Form.{vxgate}
-use Rattle.vx_words.specs.Meant.{Answers, Sets, given, number_of, refused, rows, taken, told, verdict, verdict_of}
-use Rattle.vx_words.specs.Parts.{HasNumber, Refuses}
+use Rattle.vx_words.specs.Meant.{Answers, Sets, given, is_set, number_of, refused, rows, taken, told, verdict, verdict_of}
+use Rattle.vx_words.specs.Parts.{HasFlag, HasNumber, Refuses}
 use Rattle.vx_words.specs.declared.words.Options.{Options}
 use Rattle.vx_words.specs.declared.words.Asked.{Asked}
 use Rattle.vx_words.specs.declared.words.Asked.TheVariants as asked
@@ -61,3 +64,26 @@ pub number_given : {E : Type 0} (G : List ℕ → Result ℕ E → Type 0) (k : 
     → ((u : List ℕ) (x : Result ℕ E) → G u x → ParsesUnsigned k 10 u x) → ReadsOne G h.0 r → r ≡ Some n → given name (rows_of f) ≡ Some n
 number_given G k f name least most h r n only read is =
     ap (option_map number_of) (sym (first_value-rows f name) ∙ h.1) ∙ ap Some (number_read G k h.0 r n only read is)
+
+-- whether a value sets a flag
+abbrev set_by : Option Text → Bool
+set_by found = option_map_or (λ text. bytes_eq text (codes "true")) found false
+
+-- the answer of a flag's getter
+abbrev pub ReadsFlag : Option Text → Bool → Type 0
+ReadsFlag text on =
+    (text ≡ None → on ≡ false) × (text ≡ Some (codes "true") → on ≡ true) × (text ≡ Some (codes "false") → on ≡ false)
+
+-- what a flag's getter reads is whether the flag is set
+pub flag_set : (f : Found) (name : Text) (on : Bool) → HasFlag f name → ReadsFlag (one_text f name) on → is_set name (rows_of f) ≡ on
+flag_set f name on (inl none) (unset, set, cleared) =
+    ap set_by (sym (first_value-rows f name) ∙ none.0) ∙ sym (unset none.1)
+flag_set f name on (inr some) (unset, set, cleared) =
+    ap set_by (sym (first_value-rows f name) ∙ some.1) ∙ go (bytes_eq some.0 (codes "true")) refl some.3
+  where
+    go : (b : Bool) → bytes_eq some.0 (codes "true") ≡ b → (bytes_eq some.0 (codes "true") || bytes_eq some.0 (codes "false")) ≡ true
+        → bytes_eq some.0 (codes "true") ≡ on
+    go true e either = e ∙ sym (set (some.2 ∙ ap Some ((bytes_eq-Decides _ _).0 e)))
+    go false e either =
+        let is_false : bytes_eq some.0 (codes "false") ≡ true = rw e at either in
+        e ∙ sym (cleared (some.2 ∙ ap Some ((bytes_eq-Decides _ _).0 is_false)))

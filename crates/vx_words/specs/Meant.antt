@@ -1,5 +1,7 @@
 -- What words mean to the server.
-use Rattle.std.specs.Prelude.{◌≡◌, ◌≤◌, ℕ, ⊤, List, [], ◌∷◌, Option, Some, option_map, codes}
+use Rattle.std.specs.Prelude.{◌≡◌, ◌≤◌, ℕ, ⊤, Bool, false, List, [], ◌∷◌, Option, Some, option_map, codes}
+use Rattle.std.specs.Option.{option_map_or}
+use Rattle.std.specs.Str.{bytes_eq}
 use Rattle.std.specs.Str.Parse.{digits_value, without_leading_plus}
 use Rattle.clap.specs.Walk.{Row, Text, first_of}
 use Rattle.clap.specs.Simple.{matches_of}
@@ -39,21 +41,34 @@ number_of text = digits_value 10 (without_leading_plus text)
 abbrev pub given : Text → List Row → Option ℕ
 given name found = option_map number_of (first_of name found)
 
--- the options have the numbers that were found
+-- whether a flag is set: its value is `true`, as of one in the words
+abbrev pub is_set : Text → List Row → Bool
+is_set name found = option_map_or (λ text. bytes_eq text (codes "true")) (first_of name found) false
+
+-- the options have the numbers that were found, and the log is asked for where its flag is set
 pub record Sets (found : List Row) (o : Options) : Type 0 where
   pub core : given (codes "core") found ≡ Some o.core
   pub abort : given (codes "abort") found ≡ Some o.abort
   pub sample : given (codes "sample") found ≡ Some o.sample
   pub workers : given (codes "workers") found ≡ Some o.workers
   pub limit : given (codes "limit") found ≡ Some o.limit
+  pub keepalive : given (codes "keepalive") found ≡ Some o.keepalive
+  pub send_timeout : given (codes "send-timeout") found ≡ Some o.send_timeout
+  pub idle : given (codes "idle") found ≡ Some o.idle
+  pub abort_idle : given (codes "abort-idle") found ≡ Some o.abort_idle
+  pub log : is_set (codes "log") found ≡ o.log
 
--- each lies in its range
+-- each number lies in its range
 pub record IsInRange (o : Options) : Type 0 where
   pub core : (1 ≤ o.core) × (o.core ≤ 65535)
   pub abort : (1 ≤ o.abort) × (o.abort ≤ 65535)
   pub sample : (1 ≤ o.sample) × (o.sample ≤ 60000)
   pub workers : (1 ≤ o.workers) × (o.workers ≤ 64)
   pub limit : o.limit ≤ 1000000
+  pub keepalive : o.keepalive ≤ 86400
+  pub send_timeout : o.send_timeout ≤ 86400
+  pub idle : o.idle ≤ 86400
+  pub abort_idle : o.abort_idle ≤ 86400
 
 -- the words are taken, and these are the options that they set
 abbrev pub IsSetBy : List Text → Options → Type 0
@@ -74,4 +89,9 @@ usual = record {
   sample = 10;
   workers = 16;
   limit = 0;
+  keepalive = 120;
+  send_timeout = 60;
+  idle = 0;
+  abort_idle = 5;
+  log = false;
 }

@@ -2,7 +2,7 @@
 
 ghost use Rattle.std.specs.Prelude.{◌≡◌, IfOk, false};
 ghost use Rattle.clap.specs.Words.{app_of, rule_of};
-ghost use Rattle.vx_words.specs.Form.{number_option, vxgate};
+ghost use Rattle.vx_words.specs.Form.{flag, number_option, serving, timing, vxgate, with_rules};
 
 use clap::builder::ValueParser;
 use clap::{Arg, ArgAction, Command};
@@ -16,6 +16,23 @@ const SAMPLE_MAX: u64 = 60_000;
 const WORKERS_MAX: u64 = 64;
 /// The greatest limit of connections.
 const LIMIT_MAX: u64 = 1_000_000;
+/// The most seconds of a time for a peer: a day.
+const SECONDS_MAX: u64 = 86_400;
+
+/// What the program is, as its help begins.
+const ABOUT: &str = "A VXI-11 gateway to a GPIB bus
+
+It serves VXI-11 clients over TCP. The bus and its instruments are simulated, as the bench on standard input says:
+  vxgate < examples/bench.txt
+With no bench, nothing stands on the bus:
+  vxgate < /dev/null
+It prints `listening CORE ABORT` once clients can come, and runs until Ctrl-C.
+
+A VISA client finds the instrument at primary address 5 as TCPIP::host::gpib0,5::INSTR, and asks a port mapper at
+port 111 for the port first: beside this program, run
+  vxmap stream 111 9010 9011 1000000
+vxcall wants no port mapper:
+  vxcall 127.0.0.1 9010 gpib0,5 query '*IDN?'";
 
 /// The option `--NAME VALUE`, whose value is a number from `least` to `most`, and `usual` where the option is left out.
 fn number_option<'a>(
@@ -39,22 +56,82 @@ fn number_option<'a>(
         .value_parser(ValueParser::unsigned(least, most))
 }
 
-/// The command `vxgate`, with its five options.
-pub(crate) fn vxgate<'a>(alloc: Global) -> Result<Command<'a>, AllocError>
-    ensures { IfOk result (λ c. app_of c ≡ vxgate) }
+/// The flag `--NAME`.
+fn flag<'a>(alloc: Global, name: &'a str, help: &'a str) -> Arg<'a>
+    ensures rule { rule_of result ≡ flag name.entry.now }
+    ensures local { result.global ≡ false }
 {
-    let core = "TCP port of the core channel, 1 to 65535";
-    let abort = "TCP port of the abort channel, 1 to 65535";
-    let sample = "Milliseconds between two looks at the SRQ line, 1 to 60000";
-    let workers = "Worker threads of each channel, 1 to 64";
-    let limit = "Core connections after which it ends, up to 1000000, or 0 for no end";
-    Command::new(alloc, "vxgate")
-        .no_binary_name(true)
-        .version("0.1.0")
-        .about("A VXI-11 gateway to a GPIB bus")
+    Arg::new(alloc, name)
+        .long(name)
+        .action(ArgAction::SetTrue)
+        .help(help)
+        .value_parser(ValueParser::bool())
+}
+
+/// A command with the options of what is served: the ports, the samples, the workers and the limit.
+fn serving<'a>(alloc: Global, command: Command<'a>) -> Result<Command<'a>, AllocError>
+    ensures { IfOk result (λ c. app_of c ≡ with_rules (app_of command.entry) serving) }
+{
+    let core = "TCP port of the core channel, to which clients connect first, 1 to 65535";
+    let abort = "TCP port of the abort channel, which clients are told, 1 to 65535";
+    let sample =
+        "Milliseconds between two looks at the SRQ line of the bus, 1 to 60000: a service request comes so much later";
+    let workers =
+        "Connections served at a time, of each channel, 1 to 64; others wait until one ends";
+    let limit = "Core connections after which the program ends, 1 to 1000000, or 0: it never does";
+    command
         .arg(number_option(alloc, "core", "PORT", core, "9010", 1, PORT_MAX))?
         .arg(number_option(alloc, "abort", "PORT", abort, "9011", 1, PORT_MAX))?
         .arg(number_option(alloc, "sample", "MS", sample, "10", 1, SAMPLE_MAX))?
         .arg(number_option(alloc, "workers", "N", workers, "16", 1, WORKERS_MAX))?
         .arg(number_option(alloc, "limit", "N", limit, "0", 0, LIMIT_MAX))
+}
+
+/// A command with the options of peers that are gone, that take nothing or say nothing, and of the log.
+fn timing<'a>(alloc: Global, command: Command<'a>) -> Result<Command<'a>, AllocError>
+    ensures { IfOk result (λ c. app_of c ≡ with_rules (app_of command.entry) timing) }
+{
+    let keepalive =
+        "Seconds within which a client is given up from whose host nothing comes, though it is asked, 1 to 86400, or 0: never";
+    let send =
+        "Seconds after which a client that takes none of a reply loses its connection, 1 to 86400, or 0: never";
+    let idle =
+        "Seconds after which a core connection is ended that says nothing between two calls, 1 to 86400, or 0: never";
+    let abort_idle =
+        "Seconds after which an abort connection that says nothing gives its place up where another waits for one, 1 to 86400, or 0: never";
+    let log =
+        "Tell on standard error, a line each, which connections come, are refused, and end, and why";
+    command
+        .arg(number_option(
+            alloc,
+            "keepalive",
+            "SECONDS",
+            keepalive,
+            "120",
+            0,
+            SECONDS_MAX,
+        ))?
+        .arg(number_option(alloc, "send-timeout", "SECONDS", send, "60", 0, SECONDS_MAX))?
+        .arg(number_option(alloc, "idle", "SECONDS", idle, "0", 0, SECONDS_MAX))?
+        .arg(number_option(
+            alloc,
+            "abort-idle",
+            "SECONDS",
+            abort_idle,
+            "5",
+            0,
+            SECONDS_MAX,
+        ))?
+        .arg(flag(alloc, "log", log))
+}
+
+/// The command `vxgate`, with its nine options and its flag.
+pub(crate) fn vxgate<'a>(alloc: Global) -> Result<Command<'a>, AllocError>
+    ensures { IfOk result (λ c. app_of c ≡ vxgate) }
+{
+    let bare = Command::new(alloc, "vxgate")
+        .no_binary_name(true)
+        .version("0.1.0")
+        .about(ABOUT);
+    timing(alloc, serving(alloc, bare)?)
 }

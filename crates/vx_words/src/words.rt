@@ -1,6 +1,6 @@
 //! What words ask of the server.
 
-ghost use Rattle.std.specs.Prelude.{◌≡◌, [], ◌∷◌, codes, map, string_bytes};
+ghost use Rattle.std.specs.Prelude.{◌≡◌, [], ◌∷◌, true, codes, map, string_bytes};
 ghost use Rattle.clap.specs.Words.{found_of, kind_of, rows_of};
 ghost use Rattle.vx_words.specs.Meant.{Answers, IsInRange, IsSetBy, Sets, refused, told, usual, verdict};
 ghost use Rattle.vx_words.specs.Parts.{IsGiven, Refuses};
@@ -23,6 +23,17 @@ pub struct Options {
     pub workers: u32,
     /// After how many core connections the server ends, up to 1,000,000, or 0 for no end.
     pub limit: u32,
+    /// Seconds within which a host is given up from which nothing comes, though it is asked, up to 86,400, or 0 for never.
+    pub keepalive: u32,
+    /// Seconds after which a peer that takes none of a reply loses its connection, up to 86,400, or 0 for never.
+    pub send_timeout: u32,
+    /// Seconds after which a core connection is ended that says nothing between two calls, up to 86,400, or 0 for never.
+    pub idle: u32,
+    /// Seconds after which an abort connection that says nothing gives its place up where another waits for one, up to
+    /// 86,400, or 0 for never.
+    pub abort_idle: u32,
+    /// Whether each connection that comes, ends or is refused is told.
+    pub log: bool,
 }
 
 /// What words ask for.
@@ -38,7 +49,7 @@ pub enum Asked {
     NoMemory,
 }
 
-/// The numbers that words give.
+/// The numbers that words give, and whether they have the flag.
 fn options_of(matches: &ArgMatches<'_>) -> Options
     requires { IsGiven (found_of matches.now) }
     ensures sets { Sets (rows_of (found_of matches.now)) result }
@@ -50,6 +61,11 @@ fn options_of(matches: &ArgMatches<'_>) -> Options
         sample: matches.get_one::<u32>("sample").unwrap(),
         workers: matches.get_one::<u32>("workers").unwrap(),
         limit: matches.get_one::<u32>("limit").unwrap(),
+        keepalive: matches.get_one::<u32>("keepalive").unwrap(),
+        send_timeout: matches.get_one::<u32>("send-timeout").unwrap(),
+        idle: matches.get_one::<u32>("idle").unwrap(),
+        abort_idle: matches.get_one::<u32>("abort-idle").unwrap(),
+        log: matches.get_flag("log"),
     }
 }
 
@@ -84,8 +100,13 @@ pub fn read_words(alloc: Global, words: &[String]) -> Asked
 pub fn words_law()
     ensures none { IsSetBy [] usual }
     ensures some { IsSetBy (codes "--workers" ∷ codes "64" ∷ codes "--core=1" ∷ []) (record usual { workers = 64; core = 1 }) }
+    ensures times { IsSetBy (codes "--abort-idle=86400" ∷ codes "--keepalive" ∷ codes "0" ∷ codes "--send-timeout=1" ∷ codes "--idle" ∷ codes "600" ∷ [])
+        (record usual { keepalive = 0; send_timeout = 1; idle = 600; abort_idle = 86400 }) }
+    ensures log { IsSetBy (codes "--log" ∷ []) (record usual { log = true }) }
     ensures above { verdict (codes "--workers" ∷ codes "65" ∷ []) ≡ refused }
     ensures below { verdict (codes "--sample=0" ∷ []) ≡ refused }
+    ensures late { verdict (codes "--idle=86401" ∷ []) ≡ refused }
+    ensures valued { verdict (codes "--log=true" ∷ []) ≡ refused }
     ensures twice { verdict (codes "--limit" ∷ codes "1" ∷ codes "--limit" ∷ codes "1" ∷ []) ≡ refused }
     ensures stray { verdict (codes "serve" ∷ []) ≡ refused }
     ensures help { verdict (codes "--help" ∷ []) ≡ told }

@@ -11,10 +11,11 @@ use std::env::{self, Env};
 use std::io::ErrorKind;
 use std::process::ExitCode;
 use std::thread;
-use vx_host::{Dialed, TcpTools, ThreadSpawner, start_threads};
-use vx_io::{Started, StdSink, StdSource, TcpNet};
+use vx_host::{Dialed, HostNet, TcpTools, ThreadSpawner, start_threads};
+use vx_io::{Started, StdSink, StdSource, Timeouts};
 use vx_rack::{Asker, Echo, Meter, NoMemory, Slow, Spare};
 use vx_serve::{Serve, serve_run};
+use vx_words::{Asked, read_words};
 
 /// The exit status where there is no memory for the words, the spare instruments, or what starts the workers.
 const NO_MEMORY: u8 = 5;
@@ -26,7 +27,7 @@ const SPARES: usize = 4;
 const STREAMS_WAITING: usize = 64;
 
 /// The work of a worker of this program.
-type Job = Serve<TcpNet<HostRuntime>, TcpTools<HostRuntime>, AnyModel>;
+type Job = Serve<HostNet<HostRuntime>, TcpTools<HostRuntime>, AnyModel>;
 
 /// Adds a spare instrument under a name of at most 16 bytes.
 fn add(rack: &mut Vec<Spare<AnyModel>>, name: &str, inst: AnyModel) -> Result<(), AllocError> {
@@ -106,6 +107,23 @@ fn words_of<R: Env + AllocGlobal>(rt: &R) -> Result<Vec<String>, AllocError> {
     }
 }
 
+/// How long the sockets bear with a peer, and whether there is a log, as the words say. Words that don't ask to serve say nothing of
+/// it: the server meets them itself.
+fn bounds_of(alloc: Global, words: &[String]) -> (Timeouts, bool) {
+    match read_words(alloc, words) {
+        Asked::Serve(options) => {
+            let timeouts = Timeouts {
+                keepalive: options.keepalive,
+                send: options.send_timeout,
+                idle: options.idle,
+                abort_idle: options.abort_idle,
+            };
+            (timeouts, options.log)
+        }
+        Asked::Tell(_) | Asked::Usage | Asked::NoMemory => (Timeouts::NONE, false),
+    }
+}
+
 /// Ends with the status of the server.
 fn main(rt: HostRuntime) -> ExitCode {
     let alloc = rt.alloc();
@@ -121,6 +139,7 @@ fn main(rt: HostRuntime) -> ExitCode {
         pumps,
         dialed,
     } = channels;
+    let (timeouts, has_log) = bounds_of(alloc, words.as_slice());
     // where the host has no thread for it, its ends of the channels are gone, and the spawner refuses each worker
     let _ = thread::spawn(&rt, move || start_threads(rt, queue, answers));
     let (status, _) = serve_run(
@@ -128,9 +147,9 @@ fn main(rt: HostRuntime) -> ExitCode {
         alloc,
         words.as_slice(),
         &mut StdSource::new(rt.stdin()),
-        &mut TcpNet::new(rt),
+        &mut HostNet::new(rt, timeouts),
         &mut ThreadSpawner::new(rt, jobs, started),
-        &mut TcpTools::new(rt, pumps, dialed),
+        &mut TcpTools::new(rt, pumps, dialed, rt.stderr(), has_log),
         &mut StdSink::new(rt.stdout()),
         rack,
     );
