@@ -6,11 +6,7 @@ use Rattle.vx_calls.specs.Call.{Call, CreateLink, Write, EnableSrq, Docmd}
 use Rattle.vx_rpc.specs.Procedure.{program, proc_number}
 use Rattle.vx_rpc.specs.Wording.{call_message}
 use Rattle.vx_codec.specs.Asked.{arguments, proc_of}
-use Rattle.vx_record.specs.Fragments.{last_header}
-
--- a message as one last fragment (RFC 5531, section 11)
-abbrev pub record_of : List ℕ → List ℕ
-record_of message = last_header (length message) ++ message
+use Rattle.vx_record.specs.Fragments.{record_of}
 
 -- a call of the core channel with this number (RFC 5531, section 9)
 abbrev pub message : ℕ → Call → List ℕ

@@ -5,7 +5,8 @@ ghost use Rattle.std.specs.Io.KnownBytes.{Keeps};
 ghost use Rattle.vx_calls.specs.Call.{call_shown};
 ghost use Rattle.vx_codec.specs.Asked.{proc_of};
 ghost use Rattle.vx_rpc.specs.Procedure.{proc_number};
-ghost use Rattle.vx_client.specs.Message.{record_of, message, call_record, IsSendable};
+ghost use Rattle.vx_client.specs.Message.{message, call_record, IsSendable};
+ghost use Rattle.vx_record.specs.Fragments.{record_of};
 ghost use Rattle.vx_client.specs.Exchange.{IsSent};
 
 use vx_calls::{CallRef, PIECE_MAX, Proc};

@@ -1,4 +1,5 @@
 -- The steps of a run that a number makes: those of its head, and those that are drawn.
+use Rattle.vx_record.specs.Fragments.{record_of}
 use Rattle.std.specs.Prelude.{ℕ, ◌==◌, Bool, true, false, if◌then◌else◌, List, [], ◌∷◌, ◌++◌, codes, None, pos}
 use Rattle.vx_calls.specs.declared.calls.Role.{Role}
 use Rattle.vx_calls.specs.declared.calls.Role.TheVariants as role
@@ -6,7 +7,6 @@ use Rattle.vx_calls.specs.Call.{Call, CreateLink, Write, Read, ReadStb, Lock, Un
 use Rattle.vx_rpc.specs.Procedure.{program, proc_number}
 use Rattle.vx_rpc.specs.Wording.{call_message}
 use Rattle.vx_codec.specs.Asked.{arguments, proc_of}
-use Rattle.vx_message.specs.Meaning.{record_of}
 use Rattle.vx_script.specs.Command.{Command, Up, In, Poll, Sample, Take, Dial, Plug}
 use Rattle.vx_gen.specs.Drawing.{kind, connection}
 

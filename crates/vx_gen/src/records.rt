@@ -1,9 +1,9 @@
 //! The records of the calls that are drawn.
+ghost use Rattle.vx_record.specs.Fragments.{record_of};
 ghost use Rattle.std.specs.Prelude.{◌≡◌, ◌+◌, ◌≤◌, ◌<◌, ◌^◌, ◌++◌, length, take, drop};
 ghost use Rattle.vx_calls.specs.Call.{call_shown};
 ghost use Rattle.vx_codec.specs.Asked.{arguments, IsPuttable};
 ghost use Rattle.vx_rpc.specs.Wording.{call_message};
-ghost use Rattle.vx_message.specs.Meaning.{record_of};
 
 use vx_calls::CallRef;
 use vx_codec::put_args;

@@ -1,10 +1,10 @@
 //! The steps of a run that a number makes.
+ghost use Rattle.vx_record.specs.Fragments.{record_of};
 ghost use Rattle.std.specs.Prelude.{◌≡◌, ◌≤◌, ◌<◌, ◌++◌, length, IsTrue, Some, None};
 ghost use Rattle.std.specs.List.{slice_get};
 ghost use Rattle.vx_calls.specs.Call.{call_shown};
 ghost use Rattle.vx_codec.specs.Asked.{arguments, IsPuttable};
 ghost use Rattle.vx_rpc.specs.Wording.{call_message};
-ghost use Rattle.vx_message.specs.Meaning.{record_of};
 ghost use Rattle.vx_script.specs.Command.{In, Plug, Up, step_shown};
 ghost use Rattle.vx_script.specs.declared.TheConstants.{ADDRESS_LAST};
 ghost use Rattle.vx_script.specs.Words.{is_name};

@@ -9,7 +9,8 @@ use Rattle.vx_portmap.specs.Answering.{reply}
 use Rattle.vx_portmap.specs.Replies.{replies}
 use Rattle.vx_link.specs.Shown.{LinkShown}
 use Rattle.vx_link.specs.ProvedLaws.{link-none, link-goes}
-use Rattle.vx_portmap.specs.Streaming.{Progress, HasReply, record_of, reply_stream}
+use Rattle.vx_record.specs.Fragments.{record_of}
+use Rattle.vx_portmap.specs.Streaming.{Progress, HasReply, reply_stream}
 
 -- ---- messages that were answered
 

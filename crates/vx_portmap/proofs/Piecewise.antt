@@ -17,7 +17,8 @@ use Rattle.vx_portmap.specs.declared.ends.MapEnd.TheVariants as end
 use Rattle.vx_portmap.specs.Answering.{reply}
 use Rattle.vx_link.specs.Shown.{LinkShown}
 use Rattle.vx_link.specs.Sending.{SendsAll, IsSent}
-use Rattle.vx_portmap.specs.Streaming.{Progress, HasReply, StopsReply, record_of, reply_stream}
+use Rattle.vx_record.specs.Fragments.{record_of}
+use Rattle.vx_portmap.specs.Streaming.{Progress, HasReply, StopsReply, reply_stream}
 use Rattle.vx_portmap.specs.Pieces.{WholeEnds, ServesWhole, PieceEnds, ServesPiece}
 use Rattle.vx_portmap.proofs.Going.{progress-none, progress-then, wrote-then}
 use Rattle.vx_record.specs.ProvedLaws.{run-on, run-too_long, brought-more, brought-whole, brought-long}

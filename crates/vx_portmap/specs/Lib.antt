@@ -20,6 +20,7 @@ pub use Rattle.vx_text.specs.Writing
 pub use Rattle.vx_io_traits.specs.Faults
 pub use Rattle.vx_io_traits.specs.Stands
 pub use Rattle.vx_record.specs.Buffer
+pub use Rattle.vx_record.specs.Fragments
 pub use Rattle.vx_record.specs.Records
 pub use Rattle.vx_rpc.specs.CallMeaning
 pub use Rattle.vx_rpc.specs.Wording

@@ -4,7 +4,7 @@ use Rattle.std.specs.List.{All, flat_map}
 use Rattle.std.specs.Io.KnownBytes.{IsAtEnd}
 use Rattle.vx_io_traits.specs.Faults.{Rose}
 use Rattle.vx_io_traits.specs.Stands.{Goes}
-use Rattle.vx_record.specs.Fragments.{last_header}
+use Rattle.vx_record.specs.Fragments.{record_of}
 use Rattle.vx_record.specs.Records.{Split, records}
 use Rattle.vx_portmap.specs.declared.limits.TheConstants.{MESSAGE_MAX, STREAM_MAX}
 use Rattle.vx_portmap.specs.declared.table.Mapping.{Mapping}
@@ -13,10 +13,6 @@ use Rattle.vx_portmap.specs.declared.ends.MapEnd.TheVariants as end
 use Rattle.vx_portmap.specs.Answering.{reply}
 use Rattle.vx_portmap.specs.Replies.{replies}
 use Rattle.vx_link.specs.Shown.{LinkShown, LinkGoes}
-
--- a message as a record of one fragment (RFC 5531, section 11)
-abbrev pub record_of : List ℕ → List ℕ
-record_of message = last_header (length message) ++ message
 
 -- the records of the replies to messages, in order
 abbrev pub reply_stream : List Mapping → List (List ℕ) → List ℕ

@@ -2,7 +2,7 @@
 ghost use Rattle.std.specs.Prelude.{◌≡◌, ◌<◌, ◌≤◌, ◌+◌, length, take, drop, option_map, IfSome};
 ghost use Rattle.vx_portmap.specs.declared.limits.TheConstants.{MESSAGE_MAX};
 ghost use Rattle.vx_portmap.specs.Answering.{reply};
-ghost use Rattle.vx_portmap.specs.Streaming.{record_of};
+ghost use Rattle.vx_record.specs.Fragments.{record_of};
 
 use crate::answers::{MapAnswer, map_answer};
 use crate::limits::MESSAGE_MAX;

@@ -2,7 +2,7 @@ use Rattle.std.proofs.Common.{Some, ap, ◌∙◌}
 use Rattle.std.specs.Prelude.{option_map}
 use Rattle.vx_lemmas.specs.Slices.{behind-mark}
 use Rattle.vx_portmap.specs.declared.limits.TheConstants.{MESSAGE_MAX}
-use Rattle.vx_portmap.specs.Streaming.{record_of}
+use Rattle.vx_record.specs.Fragments.{record_of}
 use Rattle.vx_portmap.proofs.sending.put_record.Goals as goal
 
 pub returns-in-Reply-clause-record : goal.returns-in-Reply-clause-record
