@@ -8,22 +8,13 @@ use Rattle.vx_rules.specs.State.{Pending, pending_at}
 use Rattle.vx_rules.specs.Calls.{io_timeout_of, has_passed}
 use Rattle.vx_rules.specs.Dials.{dials_to}
 use Rattle.vx_rules.specs.Lines.{Admission, Waiting, Passed, first_lines}
+use Rattle.vx_flow.specs.declared.progress.Why.{Why}
+use Rattle.vx_flow.specs.declared.progress.Ran.{Ran}
+use Rattle.vx_flow.specs.declared.progress.Why.TheVariants as why
+use Rattle.vx_flow.specs.declared.progress.Ran.TheVariants as ran
 use Rattle.vx_flow.specs.Event.{Event, Answer, Begin, Move, Dial}
 use Rattle.vx_flow.specs.FineState.{Turn, FineState, turn_of}
 use Rattle.vx_flow.specs.Fine.{fine, wire_for, waits_for, may_begin, turn_stand, is_passed}
-
--- why a call isn't answered yet: a link's lock keeps it off, another connection's turn is under way, or the bus held
-pub data Why : Type 0 where
-  Locked : (link : ℕ) → Why
-  InTurn : (conn : ℕ) → Why
-  Held : Why
-
--- how far a poll went on with its call's turn: not at all, to the end, or until the bus held or failed
-pub data Ran : Type 0 where
-  Still : Ran
-  Finished : Ran
-  Paused : Ran
-  Broken : Ran
 
 -- how a poll ends: with a reply, for which a bus status was told a level; without one; or with a dial that is asked for
 pub data Ending : Type 0 where
@@ -32,7 +23,7 @@ pub data Ending : Type 0 where
   Dialed : (host port : ℕ) → Ending
 
 abbrev pub is_broken : Ran → Bool
-is_broken Broken = true
+is_broken ran.Broken = true
 is_broken _ = false
 
 -- the state at a later moment
@@ -72,26 +63,34 @@ runs f conn now p = is_passed (lines_at f conn now p) && is_some (turn_of f.turn
 -- The turn of a call went on so far: where the call's turn didn't go on, it made no transfers; where it did, they are whole
 -- exactly where it finished.
 abbrev pub RanTo : FineState → ℕ → ℕ → Pending → List Transfer → Ran → Type 0
-RanTo f conn now p moves Still = (runs f conn now p ≡ false) × (moves ≡ [])
-RanTo f conn now p moves Finished = (runs f conn now p ≡ true) × ((u : Turn) → turn_of f.turn conn ≡ Some u → turn_stand f u u.moves ≡ Whole)
+RanTo f conn now p moves ran.Still = (runs f conn now p ≡ false) × (moves ≡ [])
+RanTo f conn now p moves ran.Finished = (runs f conn now p ≡ true) × ((u : Turn) → turn_of f.turn conn ≡ Some u → turn_stand f u u.moves ≡ Whole)
 RanTo f conn now p moves _ = (runs f conn now p ≡ true) × ((u : Turn) → turn_of f.turn conn ≡ Some u → turn_stand f u u.moves ≡ Part)
+
+-- whether a poll that went so far went on with the turn
+abbrev pub is_run : Ran → Bool
+is_run ran.Still = false
+is_run _ = true
+
+-- how far a poll went on with the turn whose call waits by this cause: as far as the bus held, or not at all
+abbrev pub ran_before : Why → Ran
+ran_before why.Held = ran.Paused
+ran_before _ = ran.Still
 
 -- how far a poll that ends so went on with the turn
 abbrev pub ran_of : Ending → Ran
-ran_of (Answered ran level reply) = ran
-ran_of (Waited (Locked link)) = Still
-ran_of (Waited (InTurn conn)) = Still
-ran_of (Waited Held) = Paused
-ran_of (Dialed host port) = Still
+ran_of (Answered r level reply) = r
+ran_of (Waited w) = ran_before w
+ran_of (Dialed host port) = ran.Still
 
 -- Why a poll may end without an answer, in the state behind its transfers: a lock that the call waits for keeps it off; it
 -- waits for another connection's turn; or its own turn is held, and its time hasn't passed.
 abbrev pub NotYet : FineState → ℕ → ℕ → Pending → Why → Type 0
-NotYet f conn now p (Locked link) = lines_at f conn now p ≡ Waiting link
-NotYet f conn now p (InTurn other) =
+NotYet f conn now p (why.Locked link) = lines_at f conn now p ≡ Waiting link
+NotYet f conn now p (why.Turn other) =
     (lines_at f conn now p ≡ Passed)
     × (u : Turn) × (f.turn ≡ Some u) × (u.connection ≡ other) × (waits_for f.state.tables (wire_for f conn).own conn p u ≡ true)
-NotYet f conn now p Held =
+NotYet f conn now p why.Held =
     (lines_at f conn now p ≡ Passed) × (u : Turn) × (turn_of f.turn conn ≡ Some u) × (has_passed (io_timeout_of p.call) u.begun now ≡ false)
 
 -- what an ending asks of the call

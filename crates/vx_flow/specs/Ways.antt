@@ -13,14 +13,17 @@ use Rattle.vx_rules.specs.State.{Pending, Tables, pending_at, with_pending}
 use Rattle.vx_rules.specs.Calls.{is_bus_call, asks_dial, io_timeout_of, bytes_of, is_big, has_passed}
 use Rattle.vx_rules.specs.Checks.{named_link}
 use Rattle.vx_rules.specs.Dials.{dials_to}
-use Rattle.vx_rules.specs.Lines.{Refused, Waiting, Passed}
+use Rattle.vx_rules.specs.Lines.{Refused, Passed}
 use Rattle.vx_rules.specs.Effects.{stopped_reply, effect}
 use Rattle.vx_rules.specs.Decide.{level_fits}
 use Rattle.vx_flow.specs.FineState.{Turn, FineState, turn_of, moves_of, turn_without}
 use Rattle.vx_flow.specs.Event.{Begin}
-use Rattle.vx_flow.specs.Fine.{job_of, fine, wire_for, wire_before, waits_for, waits_for_turn, turn_stand, without_dial}
+use Rattle.vx_flow.specs.Fine.{job_of, fine, wire_for, wire_before, waits_for_turn, turn_stand, without_dial}
 use Rattle.vx_flow.specs.Sound.{IsSound}
-use Rattle.vx_flow.specs.Poll.{Still, Finished, Paused, Broken, Answered, Waited, Locked, InTurn, Held, Dialed, Ending, Polls, lines_at, at_moment}
+use Rattle.vx_flow.specs.Poll.{Answered, Waited, Dialed, Ending, NotYet, Polls, lines_at, ran_before, at_moment}
+use Rattle.vx_flow.specs.declared.progress.Why.{Why}
+use Rattle.vx_flow.specs.declared.progress.Ran.TheVariants as ran
+use Rattle.vx_flow.specs.declared.progress.Why.TheVariants as why
 
 -- A connection's call is polled at this moment: the call is pending, and the list of the turn under way isn't whole.
 pub record IsPolled (f : FineState) (conn now : ℕ) (p : Pending) : Type 0 where
@@ -61,30 +64,25 @@ begun_now f conn now = record f {
 -- the first lines refuse the call
 abbrev pub RefusedLaw : Type 0
 RefusedLaw = (f : FineState) (conn now : ℕ) (p : Pending) (error : ErrorCode) → IsPolled f conn now p → lines_at f conn now p ≡ Refused error
-    → Polls f conn now [] (Answered Still false (stopped_reply p.call error (moves_of (turn_of f.turn conn)))) (over f conn now f.state.tables)
+    → Polls f conn now [] (Answered ran.Still false (stopped_reply p.call error (moves_of (turn_of f.turn conn)))) (over f conn now f.state.tables)
 
--- the call waits for a link's lock
-abbrev pub WaitingLaw : Type 0
-WaitingLaw = (f : FineState) (conn now link : ℕ) (p : Pending) → IsPolled f conn now p → lines_at f conn now p ≡ Waiting link
-    → Polls f conn now [] (Waited (Locked link)) (at_moment f now)
-
--- it waits for another connection's turn
-abbrev pub InTurnLaw : Type 0
-InTurnLaw = (f : FineState) (conn now : ℕ) (p : Pending) (u : Turn) → IsPolled f conn now p → lines_at f conn now p ≡ Passed → f.turn ≡ Some u
-    → waits_for f.state.tables (wire_for f conn).own conn p u ≡ true → Polls f conn now [] (Waited (InTurn u.connection)) (at_moment f now)
+-- the call waits, and no turn of its own goes on: for a link's lock, say, or for another connection's turn
+abbrev pub WaitsLaw : Type 0
+WaitsLaw = (f : FineState) (conn now : ℕ) (p : Pending) (w : Why) → IsPolled f conn now p → NotYet f conn now p w → ran_before w ≡ ran.Still
+    → Polls f conn now [] (Waited w) (at_moment f now)
 
 -- the gateway hasn't the role that the call's job needs
 abbrev pub NoRoleLaw : Type 0
 NoRoleLaw = (f : FineState) (conn now : ℕ) (p : Pending) (job : Task) → IsPolled f conn now p → lines_at f conn now p ≡ Passed → f.turn ≡ None
     → job_of f.state.tables conn p ≡ Some job → has_role job f.state.wire ≡ false
-    → Polls f conn now [] (Answered Still false (stopped_reply p.call code.BusFault [])) (over f conn now f.state.tables)
+    → Polls f conn now [] (Answered ran.Still false (stopped_reply p.call code.BusFault [])) (over f conn now f.state.tables)
 
 -- a call that needs neither the bus nor a dial has its effect
 abbrev pub EffectLaw : Type 0
 EffectLaw = (f : FineState) (conn now : ℕ) (p : Pending) (given : Reply) (after : Tables) → IsPolled f conn now p → lines_at f conn now p ≡ Passed
     → (is_bus_call p.call || asks_dial p.call) ≡ false → waits_for_turn f.state.tables (wire_for f conn).own conn p f.turn ≡ false
     → effect f.state.tables (wire_for f conn).own conn (named_link f.state.tables conn p.call) p.call ≡ Some (given, after)
-    → Polls f conn now [] (Answered Still false given) (over f conn now after)
+    → Polls f conn now [] (Answered ran.Still false given) (over f conn now after)
 
 -- a call asks for a dial
 abbrev pub DialLaw : Type 0
@@ -105,26 +103,26 @@ pub record GoesOnBy (f : FineState) (conn now : ℕ) (p : Pending) (u : Turn) (j
 abbrev pub FinishedLaw : Type 0
 FinishedLaw = (f : FineState) (conn now : ℕ) (p : Pending) (u : Turn) (job : Task) (moves : List Transfer) (level : Bool) → GoesOnBy f conn now p u job
     → turn_stand f u u.moves ≡ Part ⊎ moves ≡ [] → turn_stand f u (u.moves ++ moves) ≡ Whole → level_fits job level ≡ true
-    → Polls f conn now moves (Answered Finished level (whole_reply job (bytes_of p.call) f.before (is_big p.call) level (u.moves ++ moves)))
+    → Polls f conn now moves (Answered ran.Finished level (whole_reply job (bytes_of p.call) f.before (is_big p.call) level (u.moves ++ moves)))
     (over (moved_on f u moves) conn now f.state.tables)
 
 -- the bus failed
 abbrev pub BrokenLaw : Type 0
 BrokenLaw = (f : FineState) (conn now : ℕ) (p : Pending) (u : Turn) (job : Task) (moves : List Transfer) → GoesOnBy f conn now p u job
     → turn_stand f u u.moves ≡ Part → turn_stand f u (u.moves ++ moves) ≡ Part
-    → Polls f conn now moves (Answered Broken false (stopped_reply p.call code.BusFault (u.moves ++ moves))) (over (moved_on f u moves) conn now f.state.tables)
+    → Polls f conn now moves (Answered ran.Broken false (stopped_reply p.call code.BusFault (u.moves ++ moves))) (over (moved_on f u moves) conn now f.state.tables)
 
 -- the bus held, and the turn's time has passed
 abbrev pub TimeoutLaw : Type 0
 TimeoutLaw = (f : FineState) (conn now : ℕ) (p : Pending) (u : Turn) (job : Task) (moves : List Transfer) → GoesOnBy f conn now p u job
     → turn_stand f u u.moves ≡ Part → turn_stand f u (u.moves ++ moves) ≡ Part → has_passed (io_timeout_of p.call) u.begun now ≡ true
-    → Polls f conn now moves (Answered Paused false (stopped_reply p.call code.Timeout (u.moves ++ moves))) (over (moved_on f u moves) conn now f.state.tables)
+    → Polls f conn now moves (Answered ran.Paused false (stopped_reply p.call code.Timeout (u.moves ++ moves))) (over (moved_on f u moves) conn now f.state.tables)
 
 -- the bus held, and it hasn't
 abbrev pub HeldLaw : Type 0
 HeldLaw = (f : FineState) (conn now : ℕ) (p : Pending) (u : Turn) (job : Task) (moves : List Transfer) → GoesOnBy f conn now p u job
     → turn_stand f u u.moves ≡ Part → turn_stand f u (u.moves ++ moves) ≡ Part → has_passed (io_timeout_of p.call) u.begun now ≡ false
-    → Polls f conn now moves (Waited Held) (at_moment (moved_on f u moves) now)
+    → Polls f conn now moves (Waited why.Held) (at_moment (moved_on f u moves) now)
 
 -- the call's turn begins, where the gateway has the role that its job needs
 abbrev pub BegunLaw : Type 0

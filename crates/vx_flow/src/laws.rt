@@ -1,6 +1,6 @@
 //! Laws of interleaved events. These functions do nothing: their contracts are what they are for, and a caller that cites
 //! a law calls its function.
-ghost use Rattle.vx_flow.specs.Ways.{RefusedLaw, WaitingLaw, InTurnLaw, NoRoleLaw, EffectLaw, DialLaw, FinishedLaw, BrokenLaw, TimeoutLaw, HeldLaw, BegunLaw, BeginsLaw};
+ghost use Rattle.vx_flow.specs.Ways.{RefusedLaw, WaitsLaw, NoRoleLaw, EffectLaw, DialLaw, FinishedLaw, BrokenLaw, TimeoutLaw, HeldLaw, BegunLaw, BeginsLaw};
 ghost use Rattle.vx_flow.specs.Laws.{GatherLaw, HeardLaw, HeardOnInterfaceLaw, EntriesFreeLaw, MovesFreelyLaw, ClosedLaw, QueuedLaw, FirstSoundLaw, StaysSoundLaw, LaterSoundLaw, CallStaysLaw, TurnFreeLaw, EarlierLaw};
 ghost use Rattle.vx_flow.specs.Headline.{HeadlineLaw};
 ghost use Rattle.vx_flow.specs.Does.{DoesLaw};
@@ -84,8 +84,7 @@ pub fn earlier_law()
 /// turn goes on, or begins: it is whole, the bus fails, or holds, with its time passed or not.
 pub fn poll_ways()
     ensures refused { RefusedLaw }
-    ensures waiting { WaitingLaw }
-    ensures in_turn { InTurnLaw }
+    ensures waits { WaitsLaw }
     ensures no_role { NoRoleLaw }
     ensures effect { EffectLaw }
     ensures dial { DialLaw }

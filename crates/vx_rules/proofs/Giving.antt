@@ -33,7 +33,7 @@ use Rattle.vx_rules.specs.ProvedLaws.Slots.{sampled-next, made-first}
 use Rattle.vx_rules.specs.State.{Pending, Tables, State, first, pending_at, with_pending, with_connection, without_connection}
 use Rattle.vx_rules.specs.Calls.{is_bus_call, asks_dial, is_big, bytes_of, has_passed, io_timeout_of}
 use Rattle.vx_rules.specs.Checks.{NamedLink, NoLink, DeadLink, OnLink, named_link, check_create}
-use Rattle.vx_rules.specs.Lines.{Admission, Refused, Waiting, Passed, lock_lines, checked_lines, holder_against, later_lines, first_lines}
+use Rattle.vx_rules.specs.Lines.{Admission, Refused, Passed, kept_off, lock_lines, checked_lines, holder_against, later_lines, first_lines}
 use Rattle.vx_rules.specs.Effects.{task_of, stopped_reply, create, locked, effect_on, effect, settle}
 use Rattle.vx_rules.specs.Decide.{Outside, is_quiet, level_fits, stand_on, turn_answer, bus_answer, dialed_answer, by_lines, settles, decide}
 use Rattle.vx_rules.specs.Entry.{Entry, Up, Down, Arrive, Answer, Abort, Sample, Take}
@@ -98,8 +98,7 @@ ChecksWell (Some e) = IsError e
 
 abbrev RefusesWell : Admission → Type 0
 RefusesWell (Refused e) = IsError e
-RefusesWell (Waiting holder) = Unit {0}
-RefusesWell Passed = Unit {0}
+RefusesWell _ = Unit {0}
 
 create-checks : (t : Tables) (named : Result Target ErrorCode) → NamesWell named → ChecksWell (check_create t named)
 create-checks t (Err e) well = well
@@ -112,7 +111,7 @@ create-checks t (Ok named) well = by (is_full t.links) where
 lock-refuses : (p : Pending) (now : ℕ) (holder : Option ℕ) → RefusesWell (lock_lines p now holder)
 lock-refuses p now None = tt
 lock-refuses p now (Some holder) = by _ where
-  by : (b : Bool) → RefusesWell (cond b (Waiting holder) (Refused code.Locked))
+  by : (b : Bool) → RefusesWell (kept_off holder b)
   by true = tt
   by false = refl
 
@@ -283,20 +282,17 @@ where_true t conn dialed false x is = tt
 -- a refusal's reply tells of no link
 abbrev RefusesTold : Call → Admission → Type 0
 RefusesTold asked (Refused error) = is_create asked ≡ true → IsError error
-RefusesTold asked (Waiting holder) = Unit {0}
-RefusesTold asked Passed = Unit {0}
+RefusesTold asked _ = Unit {0}
 
 refuses-told : (asked : Call) (l : Admission) → (is_create asked ≡ true → RefusesWell l) → RefusesTold asked l
 refuses-told asked (Refused error) well = well
-refuses-told asked (Waiting holder) well = tt
-refuses-told asked Passed well = tt
+refuses-told asked _ well = tt
 
 -- what each of the first lines gives
 lines-give : (t : Tables) (w : Wire) (conn : ℕ) (p : Pending) (now : ℕ) (o : Outside) (l : Admission) → RefusesTold p.call l → FoundGives t conn o.dialed (by_lines t w conn p now o l)
 lines-give t w conn p now o (Refused error) told =
     where_true t conn o.dialed (is_quiet o) (Some (stopped_reply p.call error o.moves, t))
     (λ h. quiet-gives t conn o.dialed (Some (stopped_reply p.call error o.moves)) (quiet-none o h, stopped-told p.call error o.moves told))
-lines-give t w conn p now o (Waiting holder) told = tt
 lines-give t w conn p now o Passed told =
     let about = named_link t conn p.call in
     let dial = dialed_answer t conn p o o.dialed in
@@ -307,6 +303,7 @@ lines-give t w conn p now o Passed told =
     (either t conn o.dialed (is_bus_call p.call) on_bus (cond (is_quiet o) made None)
     (quiet-gives t conn o.dialed bus (bus-quiet w p now o (task_of about p.call)))
     (where_true t conn o.dialed (is_quiet o) made (λ h. undialed-gives t w.own conn about p.call o.dialed (quiet-none o h))))
+lines-give t w conn p now o _ told = tt
 
 -- so does every answer
 decide-gives : (t : Tables) (w : Wire) (conn : ℕ) (p : Pending) (now : ℕ) (o : Outside) (d : Reply × Tables) → decide t w conn p now o ≡ Some d → Gives t conn o.dialed d

@@ -15,7 +15,7 @@ use Rattle.vx_plan.specs.Results.{whole_reply}
 use Rattle.vx_rules.specs.State.{Pending, Tables}
 use Rattle.vx_rules.specs.Calls.{is_bus_call, asks_dial, io_timeout_of, bytes_of, is_big, has_passed}
 use Rattle.vx_rules.specs.Checks.{named_link}
-use Rattle.vx_rules.specs.Lines.{Admission, Refused, Waiting, Passed, first_lines, later_lines, lets_pass}
+use Rattle.vx_rules.specs.Lines.{Admission, Refused, Passed, first_lines, later_lines, lets_pass}
 use Rattle.vx_rules.specs.Effects.{task_of, stopped_reply, effect, settle}
 
 -- What comes to an answer from outside: the moment at which the call's turn began and the transfers that it made, whether
@@ -82,8 +82,8 @@ passed_answer t w conn p now o =
 -- a call after the first lines: a refusal's reply has what its turn, where one was under way, has made
 abbrev pub by_lines : Tables → Wire → ℕ → Pending → ℕ → Outside → Admission → Option (Reply × Tables)
 by_lines t w conn p now o (Refused error) = if is_quiet o then Some (stopped_reply p.call error o.moves, t) else None
-by_lines t w conn p now o (Waiting holder) = None
 by_lines t w conn p now o Passed = passed_answer t w conn p now o
+by_lines t w conn p now o _ = None
 
 -- whether a dial was made for the call
 abbrev pub settles : Outside → Bool
@@ -141,8 +141,8 @@ passed_fits t w conn p now o =
 
 abbrev pub lines_fit : Tables → Wire → ℕ → Pending → ℕ → Outside → Admission → Bool
 lines_fit t w conn p now o (Refused error) = may_tell p now o.begun && is_nothing o.moves
-lines_fit t w conn p now o (Waiting holder) = false
 lines_fit t w conn p now o Passed = passed_fits t w conn p now o
+lines_fit t w conn p now o _ = false
 
 -- whether the beginning and the transfers are such as the gateway of one thread can have
 abbrev pub turn_fits : Tables → Wire → ℕ → Pending → ℕ → Outside → Bool

@@ -41,11 +41,14 @@ pub data Admission : Type 0 where
   Waiting : (link : ℕ) → Admission
   Passed : Admission
 
--- a lock keeps the call off: it waits where a wait is asked for and its time hasn't passed
+-- a call that a lock keeps off waits for it, or is refused
+abbrev pub kept_off : ℕ → Bool → Admission
+kept_off holder waits = if waits then Waiting holder else Refused code.Locked
+
+-- it waits where a wait is asked for and its time hasn't passed
 abbrev pub lock_lines : Pending → ℕ → Option ℕ → Admission
 lock_lines p now None = Passed
-lock_lines p now (Some holder) =
-    if asks_wait p.call && not (has_passed (lock_timeout_of p.call) p.arrival now) then Waiting holder else Refused code.Locked
+lock_lines p now (Some holder) = kept_off holder (asks_wait p.call && not (has_passed (lock_timeout_of p.call) p.arrival now))
 
 abbrev pub checked_lines : Pending → ℕ → Option ErrorCode → Option ℕ → Admission
 checked_lines p now (Some error) holder = Refused error

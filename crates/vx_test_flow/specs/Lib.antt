@@ -5,3 +5,4 @@ pub mod Locks
 pub mod Interrupts
 pub mod Polled
 pub mod Claims
+pub mod Arrivals

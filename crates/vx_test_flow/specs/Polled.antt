@@ -5,7 +5,9 @@ use Rattle.vx_488.specs.declared.transfers.Transfer.TheVariants.{Put}
 use Rattle.vx_rules.specs.State.{Pending, pending_at}
 use Rattle.vx_flow.specs.Event.{Event, Begin, Move}
 use Rattle.vx_flow.specs.FineState.{FineState}
-use Rattle.vx_flow.specs.Poll.{Why, Locked, InTurn, Held, NotYet, run_events}
+use Rattle.vx_flow.specs.Poll.{NotYet, run_events}
+use Rattle.vx_flow.specs.declared.progress.Why.{Why}
+use Rattle.vx_flow.specs.declared.progress.Why.TheVariants as why
 use Rattle.vx_flow.specs.Laws.{fine_along}
 use Rattle.vx_test_flow.specs.Lists.{first, part, puts}
 use Rattle.vx_test_flow.specs.Turns.{shared}
@@ -40,11 +42,11 @@ pub record PollsMakeEvents : Type 0 where
 
 pub record PollsWait : Type 0 where
   -- for the turn of the other connection, until it is over
-  pub in_turn : Waits 2 23 (InTurn 1) (first 11 shared)
-  pub turn_over : Waits 2 24 (InTurn 1) (first 13 shared) → ⊥
+  pub in_turn : Waits 2 23 (why.Turn 1) (first 11 shared)
+  pub turn_over : Waits 2 24 (why.Turn 1) (first 13 shared) → ⊥
   -- for the bus, until the time from the turn's beginning has passed
-  pub bus_held : Waits 1 124 Held (first 6 held)
-  pub time_passed : Waits 1 125 Held (first 6 held) → ⊥
+  pub bus_held : Waits 1 124 why.Held (first 6 held)
+  pub time_passed : Waits 1 125 why.Held (first 6 held) → ⊥
   -- for the link that holds the lock, until the lock's deadline
-  pub locked : Waits 1 519 (Locked 2) (first 11 kept_off)
-  pub deadline : Waits 1 520 (Locked 2) (first 11 kept_off) → ⊥
+  pub locked : Waits 1 519 (why.Locked 2) (first 11 kept_off)
+  pub deadline : Waits 1 520 (why.Locked 2) (first 11 kept_off) → ⊥

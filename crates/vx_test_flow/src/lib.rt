@@ -9,6 +9,7 @@ ghost use Rattle.vx_test_flow.specs.Locks.{LocksBesideATurn, LocksWait, LocksKee
 ghost use Rattle.vx_test_flow.specs.Interrupts.{EachAnswerHasItsDial, EachRiseQueuesOne};
 ghost use Rattle.vx_test_flow.specs.Polled.{PollsMakeEvents, PollsWait};
 ghost use Rattle.vx_test_flow.specs.Claims.{ClaimsTell};
+ghost use Rattle.vx_test_flow.specs.Arrivals.{CallsStandInLine};
 
 use vx_flow::headline_law;
 
@@ -42,6 +43,11 @@ pub fn interrupts()
 pub fn polls()
     ensures events { PollsMakeEvents }
     ensures waits { PollsWait }
+{}
+
+/// Calls without an answer stand in order of their arrival.
+pub fn arrivals()
+    ensures { CallsStandInLine }
 {}
 
 /// What the claims of interleaved events say.

@@ -22,7 +22,7 @@ use Rattle.vx_rules.specs.SrqState.{with_new_channel}
 use Rattle.vx_rules.specs.State.{Pending, Tables}
 use Rattle.vx_rules.specs.Calls.{is_bus_call, is_lock_call, asks_dial, bytes_of, is_big, io_timeout_of, has_passed}
 use Rattle.vx_rules.specs.Checks.{NamedLink, NoLink, DeadLink, OnLink, named_link, check}
-use Rattle.vx_rules.specs.Lines.{Admission, Refused, Waiting, Passed, holder_against, lock_request, checked_lines, first_lines}
+use Rattle.vx_rules.specs.Lines.{Admission, Refused, Passed, kept_off, holder_against, lock_request, checked_lines, first_lines}
 use Rattle.vx_rules.specs.Effects.{stopped_reply, effect, settle}
 use Rattle.vx_rules.specs.Decide.{Outside, is_quiet, stand_on, level_fits, turn_answer, job_answer, bus_answer, dialed_answer, passed_answer, by_lines, settles, decide, has_job_role}
 use Rattle.vx_rules.specs.ProvedLaws.{bus-job, no-job, dial-no-bus}
@@ -36,8 +36,7 @@ use Rattle.vx_flow.specs.ProvedLaws.Jobs.{job-link, no-dial}
 -- what the lines say of a call that they let pass
 pub passed-is : (l : Admission) → is_passed l ≡ true → l ≡ Passed
 passed-is Passed h = refl
-passed-is (Refused error) h = absurd (false≢true h)
-passed-is (Waiting link) h = absurd (false≢true h)
+passed-is _ h = absurd (false≢true h)
 
 -- they let a call pass only where it isn't marked and the lines behind that of the abort let it pass
 pub passed-parts : (p : Pending) (later : Admission) → cond p.aborted (Refused code.Abort) later ≡ Passed → (p.aborted ≡ false) × (later ≡ Passed)
@@ -51,7 +50,7 @@ pub lines-both : (p : Pending) (now : ℕ) (refused : Option ErrorCode) (holder 
 lines-both p now (Some error) holder h = cc
 lines-both p now None None h = (refl, refl)
 lines-both p now None (Some holder) h = absurd (by _ h) where
-  by : (b : Bool) → cond b (Waiting holder) (Refused code.Locked) ≡ Passed → ⊥
+  by : (b : Bool) → kept_off holder b ≡ Passed → ⊥
   by true e = cc
   by false e = cc
 
@@ -63,7 +62,7 @@ checked-refuses p now (Some e) holder error h = inl (by h) where
   by x = cc
 checked-refuses p now None None error h = cc
 checked-refuses p now None (Some holder) error h = inr (by _ h) where
-  by : (b : Bool) → cond b (Waiting holder) (Refused code.Locked) ≡ Refused error → error ≡ code.Locked
+  by : (b : Bool) → kept_off holder b ≡ Refused error → error ≡ code.Locked
   by true e = cc
   by false e = cc
 
@@ -92,15 +91,14 @@ pub gives : (t : Tables) (w : Wire) (conn : ℕ) (p : Pending) (now : ℕ) (o : 
 gives t w conn p now o d (Refused error) h =
     let parts = cond_some (is_quiet o) (stopped_reply p.call error o.moves, t) d h in
     ByRefusal error refl parts.0 parts.1
-gives t w conn p now o d (Waiting link) h = cc
 gives t w conn p now o d Passed h = ByPassing refl h
+gives t w conn p now o d _ h = cc
 
 -- it gives the same on two buses on which a call that passed is answered alike
 pub gives-alike : (t : Tables) (w b : Wire) (conn : ℕ) (p : Pending) (now : ℕ) (o : Outside) (l : Admission)
     → (l ≡ Passed → passed_answer t w conn p now o ≡ passed_answer t b conn p now o) → by_lines t w conn p now o l ≡ by_lines t b conn p now o l
-gives-alike t w b conn p now o (Refused error) same = refl
-gives-alike t w b conn p now o (Waiting link) same = refl
 gives-alike t w b conn p now o Passed same = same refl
+gives-alike t w b conn p now o _ same = refl
 
 -- what the first lines' letting a call pass says
 pub admit : (t : Tables) (own conn : ℕ) (settling : Bool) (p : Pending) (now : ℕ) → first_lines t own conn settling p now ≡ Passed → IsAdmitted t own conn settling p
@@ -373,7 +371,7 @@ module _ (f : FineState) (conn now : ℕ) (p : Pending) (failed : Bool) (dialed 
           refused-by (named_link t conn p.call) error d.0 d.1 refl a
           (ap (λ tells. check t own conn (is_some tells) (named_link t conn p.call) p.call) (sym stopped.0.undialed) ∙ b) stopped.0 stopped.1
       by false None (Some holder) a b c may h = lock (waits_on p now) refl h where
-        lock : (waits : Bool) → waits_on p now ≡ waits → by_lines t (wire_for f conn) conn p now o (cond waits (Waiting holder) (Refused code.Locked)) ≡ Some d
+        lock : (waits : Bool) → waits_on p now ≡ waits → by_lines t (wire_for f conn) conn p now o (kept_off holder waits) ≡ Some d
             → AnsweredBy f conn now p o d.0 d.1
         lock true e h = cc
         lock false e h =
@@ -500,7 +498,7 @@ module _ (f : FineState) (conn now : ℕ) (p : Pending) (failed : Bool) (dialed 
       refused-gives code.Locked told after
       (unmarked-lines t own conn (settles o) p now None (Some holder) unmarked
       (ap (λ d. check t own conn (is_some d) (named_link t conn p.call) p.call) quiet.undialed ∙ checked) held
-      ∙ cond-false (waits_on p now) (Waiting holder) (Refused code.Locked) waits)
+      ∙ ap (kept_off holder) waits)
       quiet stopped
   line-gives told after (ByDialUp clear d told_is after_is) = dial-gives true told after clear d
       (ap (λ c. settle t conn c true) d.asks ∙ ap (λ r. Some (r, record t { srq_state = with_new_channel t.srq_state conn d.program d.version })) (sym told_is) ∙ ap (λ u. Some (told, u)) (sym after_is))

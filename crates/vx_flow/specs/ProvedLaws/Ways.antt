@@ -28,8 +28,11 @@ use Rattle.vx_flow.specs.Event.{Event, Answer, Begin, Move, Dial}
 use Rattle.vx_flow.specs.FineState.{Turn, FineState, turn_of, begun_of, moves_of, turn_after}
 use Rattle.vx_flow.specs.Fine.{comes_in_turn, fine_after, fine_step, fine, passes_lines, outside, wire_for, wire_before, waits_for, waits_for_turn, turn_stand, is_whole, is_answer_of, is_on, is_passed, goes_on, may_begin, may_dial, without_dial, job_of, on_conflict, turn_target}
 use Rattle.vx_flow.specs.Sound.{Stands, TurnStands, IsSound}
-use Rattle.vx_flow.specs.Poll.{Ending, Finished, Paused, Broken, Answered, Waited, Held, Polls, begins, run_events, moved_events, end_events, ran_of, EndsBy, lines_at, at_moment, RanTo, runs}
-use Rattle.vx_flow.specs.Ways.{IsPolled, GoesOnBy, over, moved_on, begun_now, RefusedLaw, WaitingLaw, InTurnLaw, NoRoleLaw, EffectLaw, DialLaw, FinishedLaw, BrokenLaw, TimeoutLaw, HeldLaw, BegunLaw, BeginsLaw}
+use Rattle.vx_flow.specs.Poll.{Ending, Answered, Waited, NotYet, Polls, begins, run_events, moved_events, end_events, ran_of, EndsBy, lines_at, at_moment, RanTo, runs}
+use Rattle.vx_flow.specs.declared.progress.Why.{Why}
+use Rattle.vx_flow.specs.declared.progress.Ran.TheVariants as ran
+use Rattle.vx_flow.specs.declared.progress.Why.TheVariants as why
+use Rattle.vx_flow.specs.Ways.{IsPolled, GoesOnBy, over, moved_on, begun_now, RefusedLaw, WaitsLaw, NoRoleLaw, EffectLaw, DialLaw, FinishedLaw, BrokenLaw, TimeoutLaw, HeldLaw, BegunLaw, BeginsLaw}
 use Rattle.vx_flow.specs.ProvedLaws.Jobs.{job-link, no-dial, own-stays, passes-from}
 use Rattle.vx_flow.specs.ProvedLaws.ByLines.{passed-parts}
 use Rattle.vx_flow.specs.ProvedLaws.Stepping.{answer-step}
@@ -99,9 +102,18 @@ refused_law-holds f conn now p error h is = record {
   at_now = refl;
 }
 
--- the call waits for a link's lock
-pub waiting_law-holds : WaitingLaw
-waiting_law-holds f conn now link p h is = record {
+-- a call that waits for a turn has none of its own
+other-turn : (f : FineState) (conn : ℕ) (p : Pending) (u : Turn) → waits_for f.state.tables (wire_for f conn).own conn p u ≡ true → (u.connection == conn) ≡ false
+other-turn f conn p u h = by (u.connection == conn) refl h where
+  by : (own : Bool) → (u.connection == conn) ≡ own
+      → (not own && (is_bus_call p.call || (is_lock_call p.call && on_conflict (lock_request (wire_for f conn).own (named_link f.state.tables conn p.call) p.call) (turn_target f.state.tables u)))) ≡ true
+      → own ≡ false
+  by true e x = cc
+  by false e x = refl
+
+-- the call waits, and no turn of its own goes on
+pub waits_law-holds : WaitsLaw
+waits_law-holds f conn now p (why.Locked link) h is still = record {
   asked = p;
   call_at = h.call_at;
   late = h.late;
@@ -113,33 +125,28 @@ waiting_law-holds f conn now link p h is = record {
   ended = refl;
   at_now = refl;
 }
-
--- a call that waits for a turn has none of its own
-other-turn : (f : FineState) (conn : ℕ) (p : Pending) (u : Turn) → waits_for f.state.tables (wire_for f conn).own conn p u ≡ true → (u.connection == conn) ≡ false
-other-turn f conn p u h = by (u.connection == conn) refl h where
-  by : (own : Bool) → (u.connection == conn) ≡ own
-      → (not own && (is_bus_call p.call || (is_lock_call p.call && on_conflict (lock_request (wire_for f conn).own (named_link f.state.tables conn p.call) p.call) (turn_target f.state.tables u)))) ≡ true
-      → own ≡ false
-  by true e x = cc
-  by false e x = refl
-
--- it waits for another connection's turn
-pub in_turn_law-holds : InTurnLaw
-in_turn_law-holds f conn now p u h passed turn waits =
-    let other = other-turn f conn p u waits in
-    let none : turn_of f.turn conn ≡ None = ap (λ t. turn_of t conn) turn ∙ cond-false (u.connection == conn) (Some u) None other in
+waits_law-holds f conn now p (why.Turn by) h is still =
+    let u : Turn = is.1 in
+    let other = other-turn f conn p u is.4 in
+    let none : turn_of f.turn conn ≡ None = ap (λ t. turn_of t conn) is.2 ∙ cond-false (u.connection == conn) (Some u) None other in
     record {
       asked = p;
       call_at = h.call_at;
       late = h.late;
       behind = f;
-      runs_to = still-runs f conn now (ap (λ t. is_none t && may_begin f.state conn now (pending_at f.state.tables conn)) turn);
+      runs_to = still-runs f conn now (ap (λ t. is_none t && may_begin f.state conn now (pending_at f.state.tables conn)) is.2);
       ran = (ap (λ t. is_passed (lines_at f conn now p) && is_some t) none ∙ and-false (is_passed (lines_at f conn now p)), refl);
-      ends_by = (passed, u, turn, refl, waits);
+      ends_by = is;
       last = f;
       ended = refl;
       at_now = refl;
     }
+waits_law-holds f conn now p why.Held h is still = cc
+
+-- why a call isn't answered yet doesn't hang on the moment of the state
+pub not_yet-at : (f : FineState) (moment conn now : ℕ) (p : Pending) (w : Why) → NotYet f conn now p w → NotYet (at_moment f moment) conn now p w
+not_yet-at f moment conn now p why.Held h = h
+not_yet-at f moment conn now p _ h = h
 
 -- ---- calls that the first lines let pass
 
@@ -412,12 +419,12 @@ module _ (s : State) (u : Turn) (before : Wire) (ds : List ℕ) (stands : Stands
   finished : (moves : List Transfer) (level : Bool) → (turn_stand (in_turn s (Some u) before ds) u u.moves ≡ Part) ⊎ (moves ≡ [])
       → turn_stand (in_turn s (Some u) before ds) u (u.moves ++ moves) ≡ Whole → level_fits stands.job level ≡ true
       → Polls (in_turn s (Some u) before ds) u.connection now moves
-      (Answered Finished level (whole_reply stands.job (bytes_of stands.asked.call) before (is_big stands.asked.call) level (u.moves ++ moves)))
+      (Answered ran.Finished level (whole_reply stands.job (bytes_of stands.asked.call) before (is_big stands.asked.call) level (u.moves ++ moves)))
       (over (moved_on (in_turn s (Some u) before ds) u moves) u.connection now s.tables)
   finished moves level may whole fits =
       let told = whole_reply stands.job (bytes_of stands.asked.call) before (is_big stands.asked.call) level (u.moves ++ moves) in
       let o : Outside = record { begun = u.begun; moves = u.moves ++ moves; failed = false; dialed = None; level = level } in
-      turn-polls moves (Answered Finished level told) (over (moved_on (in_turn s (Some u) before ds) u moves) u.connection now s.tables) Whole may whole refl
+      turn-polls moves (Answered ran.Finished level told) (over (moved_on (in_turn s (Some u) before ds) u moves) u.connection now s.tables) Whole may whole refl
       (turn-runs moves, turn-stood moves Whole whole) tt
       (call-answered moves false level told
       (cond-true (is_whole (turn_stand (in_turn s (Some u) before ds) u (u.moves ++ moves))) (u.connection == u.connection) true (ap is_whole whole) ∙ eqb-self u.connection)
@@ -426,24 +433,24 @@ module _ (s : State) (u : Turn) (before : Wire) (ds : List ℕ) (stands : Stands
 
   broken : (moves : List Transfer) → turn_stand (in_turn s (Some u) before ds) u u.moves ≡ Part
       → turn_stand (in_turn s (Some u) before ds) u (u.moves ++ moves) ≡ Part
-      → Polls (in_turn s (Some u) before ds) u.connection now moves (Answered Broken false (stopped_reply stands.asked.call code.BusFault (u.moves ++ moves)))
+      → Polls (in_turn s (Some u) before ds) u.connection now moves (Answered ran.Broken false (stopped_reply stands.asked.call code.BusFault (u.moves ++ moves)))
       (over (moved_on (in_turn s (Some u) before ds) u moves) u.connection now s.tables)
   broken moves may part =
       let told = stopped_reply stands.asked.call code.BusFault (u.moves ++ moves) in
       let o : Outside = record { begun = u.begun; moves = u.moves ++ moves; failed = true; dialed = None; level = false } in
-      turn-polls moves (Answered Broken false told) (over (moved_on (in_turn s (Some u) before ds) u moves) u.connection now s.tables) Part (inl may) part refl
+      turn-polls moves (Answered ran.Broken false told) (over (moved_on (in_turn s (Some u) before ds) u moves) u.connection now s.tables) Part (inl may) part refl
       (turn-runs moves, turn-stood moves Part part) tt
       (call-answered moves true false told (turn-open moves part (Answer u.connection now true None false told))
       (ap (turn_answer before stands.asked now o stands.job) (sym (stand-at (u.moves ++ moves)) ∙ part)))
 
   timeout : (moves : List Transfer) → turn_stand (in_turn s (Some u) before ds) u u.moves ≡ Part
       → turn_stand (in_turn s (Some u) before ds) u (u.moves ++ moves) ≡ Part → has_passed (io_timeout_of stands.asked.call) u.begun now ≡ true
-      → Polls (in_turn s (Some u) before ds) u.connection now moves (Answered Paused false (stopped_reply stands.asked.call code.Timeout (u.moves ++ moves)))
+      → Polls (in_turn s (Some u) before ds) u.connection now moves (Answered ran.Paused false (stopped_reply stands.asked.call code.Timeout (u.moves ++ moves)))
       (over (moved_on (in_turn s (Some u) before ds) u moves) u.connection now s.tables)
   timeout moves may part over_time =
       let told = stopped_reply stands.asked.call code.Timeout (u.moves ++ moves) in
       let o : Outside = record { begun = u.begun; moves = u.moves ++ moves; failed = false; dialed = None; level = false } in
-      turn-polls moves (Answered Paused false told) (over (moved_on (in_turn s (Some u) before ds) u moves) u.connection now s.tables) Part (inl may) part refl
+      turn-polls moves (Answered ran.Paused false told) (over (moved_on (in_turn s (Some u) before ds) u moves) u.connection now s.tables) Part (inl may) part refl
       (turn-runs moves, turn-stood moves Part part) tt
       (call-answered moves false false told (turn-open moves part (Answer u.connection now false None false told))
       (ap (turn_answer before stands.asked now o stands.job) (sym (stand-at (u.moves ++ moves)) ∙ part)
@@ -451,10 +458,10 @@ module _ (s : State) (u : Turn) (before : Wire) (ds : List ℕ) (stands : Stands
 
   held : (moves : List Transfer) → turn_stand (in_turn s (Some u) before ds) u u.moves ≡ Part
       → turn_stand (in_turn s (Some u) before ds) u (u.moves ++ moves) ≡ Part → has_passed (io_timeout_of stands.asked.call) u.begun now ≡ false
-      → Polls (in_turn s (Some u) before ds) u.connection now moves (Waited Held) (at_moment (moved_on (in_turn s (Some u) before ds) u moves) now)
+      → Polls (in_turn s (Some u) before ds) u.connection now moves (Waited why.Held) (at_moment (moved_on (in_turn s (Some u) before ds) u moves) now)
   held moves may part in_time =
       let v : Turn = record u { moves = u.moves ++ moves } in
-      turn-polls moves (Waited Held) (moved_on (in_turn s (Some u) before ds) u moves) Part (inl may) part refl
+      turn-polls moves (Waited why.Held) (moved_on (in_turn s (Some u) before ds) u moves) Part (inl may) part refl
       (turn-runs moves, turn-stood moves Part part) (
         ap (λ t. first_lines s.tables (if is_some t then before else wire_after s.wire moves).own u.connection false stands.asked now) (own-turn v) ∙ passed,
         v,
@@ -499,27 +506,27 @@ module _ (f : FineState) (conn now : ℕ) (p : Pending) (u : Turn) (job : Task) 
 pub finished_law-holds : FinishedLaw
 finished_law-holds f conn now p u job moves level h may whole fits =
     own-polls f conn now p u job h moves
-    (λ q j. Answered Finished level (whole_reply j (bytes_of q.call) f.before (is_big q.call) level (u.moves ++ moves)))
+    (λ q j. Answered ran.Finished level (whole_reply j (bytes_of q.call) f.before (is_big q.call) level (u.moves ++ moves)))
     (λ c. over (moved_on f u moves) c now f.state.tables)
     (finished f.state u f.before f.dialed (own-stands f conn now p u job h) now h.late (own-passed f conn now p u job h) moves level may whole
     (ap (λ j. level_fits j level) (same-job f conn now p u job h) ∙ fits))
 
 pub broken_law-holds : BrokenLaw
 broken_law-holds f conn now p u job moves h may part =
-    own-polls f conn now p u job h moves (λ q j. Answered Broken false (stopped_reply q.call code.BusFault (u.moves ++ moves)))
+    own-polls f conn now p u job h moves (λ q j. Answered ran.Broken false (stopped_reply q.call code.BusFault (u.moves ++ moves)))
     (λ c. over (moved_on f u moves) c now f.state.tables)
     (broken f.state u f.before f.dialed (own-stands f conn now p u job h) now h.late (own-passed f conn now p u job h) moves may part)
 
 pub timeout_law-holds : TimeoutLaw
 timeout_law-holds f conn now p u job moves h may part over_time =
-    own-polls f conn now p u job h moves (λ q j. Answered Paused false (stopped_reply q.call code.Timeout (u.moves ++ moves)))
+    own-polls f conn now p u job h moves (λ q j. Answered ran.Paused false (stopped_reply q.call code.Timeout (u.moves ++ moves)))
     (λ c. over (moved_on f u moves) c now f.state.tables)
     (timeout f.state u f.before f.dialed (own-stands f conn now p u job h) now h.late (own-passed f conn now p u job h) moves may part
     (ap (λ (q : Pending). has_passed (io_timeout_of q.call) u.begun now) (same-asked f conn now p u job h) ∙ over_time))
 
 pub held_law-holds : HeldLaw
 held_law-holds f conn now p u job moves h may part in_time =
-    own-polls f conn now p u job h moves (λ q j. Waited Held) (λ c. at_moment (moved_on f u moves) now)
+    own-polls f conn now p u job h moves (λ q j. Waited why.Held) (λ c. at_moment (moved_on f u moves) now)
     (held f.state u f.before f.dialed (own-stands f conn now p u job h) now h.late (own-passed f conn now p u job h) moves may part
     (ap (λ (q : Pending). has_passed (io_timeout_of q.call) u.begun now) (same-asked f conn now p u job h) ∙ in_time))
 

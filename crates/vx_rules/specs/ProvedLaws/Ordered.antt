@@ -24,7 +24,7 @@ use Rattle.vx_rules.specs.SrqState.{sampled, taken}
 use Rattle.vx_rules.specs.State.{Pending, Tables, State, first, pending_at, arrival_at, has_come, without_arrival, with_pending, with_connection, without_connection}
 use Rattle.vx_rules.specs.Calls.{link_named, is_bus_call, asks_dial}
 use Rattle.vx_rules.specs.Checks.{NamedLink, NoLink, DeadLink, OnLink, named_link}
-use Rattle.vx_rules.specs.Lines.{Admission, Refused, Waiting, Passed, first_lines}
+use Rattle.vx_rules.specs.Lines.{Admission, Refused, Passed, first_lines}
 use Rattle.vx_rules.specs.Effects.{create, locked, effect_on, effect, settle}
 use Rattle.vx_rules.specs.Decide.{Outside, decide, by_lines, dialed_answer, settles}
 use Rattle.vx_rules.specs.Entry.{Entry, Up, Down, Arrive, Answer, Abort, Sample, Take}
@@ -99,10 +99,10 @@ dialed-same t conn p o (Some up) = either-same t _ (settle t conn p.call up) Non
 
 lines-same : (t : Tables) (w : Wire) (conn : ℕ) (p : Pending) (now : ℕ) (o : Outside) (l : Admission) → FoundSame t (by_lines t w conn p now o l)
 lines-same t w conn p now o (Refused error) = either-same t _ (Some (_, t)) None (all-same t) tt
-lines-same t w conn p now o (Waiting holder) = tt
 lines-same t w conn p now o Passed =
     either-same t (asks_dial p.call) _ _ (dialed-same t conn p o o.dialed)
     (either-same t (is_bus_call p.call) _ _ (given-same t _) (either-same t _ _ None (effect-same t w.own conn (named_link t conn p.call) p.call) tt))
+lines-same t w conn p now o _ = tt
 
 -- an answer leaves the connections and the arrivals, while its call isn't over yet
 pub decide-same : (t : Tables) (w : Wire) (conn : ℕ) (p : Pending) (now : ℕ) (o : Outside) (d : Reply × Tables) → decide t w conn p now o ≡ Some d → SameCalls t d.1

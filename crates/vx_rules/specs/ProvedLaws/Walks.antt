@@ -25,7 +25,7 @@ use Rattle.vx_rules.specs.Locks.{Lock, holds, keeps_off, is_blocked, holder_of, 
 use Rattle.vx_rules.specs.State.{Pending, Tables, State, first, link_of, pending_at, with_pending, with_link, without_connection, with_connection}
 use Rattle.vx_rules.specs.Calls.{link_named, is_bus_call, asks_dial}
 use Rattle.vx_rules.specs.Checks.{NamedLink, NoLink, DeadLink, OnLink, named_link, link_by_number, link_found, check, check_create}
-use Rattle.vx_rules.specs.Lines.{Admission, Refused, Waiting, Passed, named_request, holder_against, checked_lines, first_lines}
+use Rattle.vx_rules.specs.Lines.{Admission, Refused, Passed, kept_off, named_request, holder_against, checked_lines, first_lines}
 use Rattle.vx_rules.specs.Effects.{create, locked, locked_link, effect_on, effect, settle}
 use Rattle.vx_rules.specs.Decide.{Outside, decide, by_lines, dialed_answer, settles}
 use Rattle.vx_rules.specs.Entry.{Entry, Up, Down, Arrive, Answer, Abort, Sample, Take}
@@ -48,7 +48,7 @@ passed-says p now false (Some error) holder h = cc
 passed-says p now false None None h = record { unmarked = refl; checks = refl; locks = refl }
 passed-says p now false None (Some holder) h = at _ h
   where
-    at : (b : Bool) → cond b (Waiting holder) (Refused code.Locked) ≡ Passed → Passes false None (Some holder)
+    at : (b : Bool) → kept_off holder b ≡ Passed → Passes false None (Some holder)
     at true e = cc
     at false e = cc
 
@@ -189,10 +189,10 @@ dialed-keeps t conn p o (Some up) s = either (not o.failed && not o.level) (sett
 by_lines-keeps : (t : Tables) (w : Wire) (conn : ℕ) (p : Pending) (now : ℕ) (o : Outside) (lines : Admission) → IsSound t
     → (lines ≡ Passed → Keeps (effect t w.own conn (named_link t conn p.call) p.call)) → Keeps (by_lines t w conn p now o lines)
 by_lines-keeps t w conn p now o (Refused error) s passed = either _ (Some (_, t)) None s tt
-by_lines-keeps t w conn p now o (Waiting holder) s passed = tt
 by_lines-keeps t w conn p now o Passed s passed =
     either (asks_dial p.call) _ _ (dialed-keeps t conn p o o.dialed s)
     (either (is_bus_call p.call) _ _ (unchanged t _ s) (either _ _ None (passed refl) tt))
+by_lines-keeps t w conn p now o _ s passed = tt
 
 pub decide-keeps : (t : Tables) (w : Wire) (conn : ℕ) (p : Pending) (now : ℕ) (o : Outside) → IsSound t → Keeps (decide t w conn p now o)
 decide-keeps t w conn p now o s =

@@ -1,14 +1,11 @@
-use Rattle.vx_flow.specs.ProvedLaws.Ways.{refused_law-holds, waiting_law-holds, in_turn_law-holds, no_role_law-holds, effect_law-holds, dial_law-holds, finished_law-holds, broken_law-holds, timeout_law-holds, held_law-holds, begun_law-holds, begins_law-holds}
+use Rattle.vx_flow.specs.ProvedLaws.Ways.{refused_law-holds, waits_law-holds, no_role_law-holds, effect_law-holds, dial_law-holds, finished_law-holds, broken_law-holds, timeout_law-holds, held_law-holds, begun_law-holds, begins_law-holds}
 use Rattle.vx_flow.proofs.laws.poll_ways.Goals as goal
 
 pub returns-clause-refused : goal.returns-clause-refused
 returns-clause-refused c = refused_law-holds
 
-pub returns-clause-waiting : goal.returns-clause-waiting
-returns-clause-waiting c = waiting_law-holds
-
-pub returns-clause-in_turn : goal.returns-clause-in_turn
-returns-clause-in_turn c = in_turn_law-holds
+pub returns-clause-waits : goal.returns-clause-waits
+returns-clause-waits c = waits_law-holds
 
 pub returns-clause-no_role : goal.returns-clause-no_role
 returns-clause-no_role c = no_role_law-holds
