@@ -1,8 +1,8 @@
 -- What a look into the rows of a table says of the list of links.
-use Rattle.std.proofs.Common.{◌≡◌, ◌==◌, ℕ, Bool, ◌<◌, ◌≤◌, List, map, Option, Some, None, is_some, not, [], ◌∷◌, ◌++◌, ◌+◌, ◌≢◌, length, refl, ap, sym, subst, ◌∙◌}
+use Rattle.std.proofs.Common.{◌≡◌, ◌==◌, ℕ, Bool, ◌<◌, ◌≤◌, List, map, Option, Some, None, is_some, not, [], ◌∷◌, ◌++◌, ◌+◌, ◌≢◌, length, refl, ap, sym, subst, ◌∙◌, arith}
 use Rattle.std.specs.List.{find, filter, list_any, remove, All, AllPairs, HoldsAt}
 use Rattle.std.specs.Option.{option_map, IfSome}
-use Rattle.std.proofs.lemmas.List.{map-append}
+use Rattle.std.proofs.lemmas.List.{map-append, get_or-map, length-map}
 use Rattle.vx_lemmas.specs.Lists.{find-map, filter-map, list_any-map, is_some-find}
 use Rattle.vx_calls.specs.declared.targets.Target.{Target}
 use Rattle.vx_links.specs.declared.links.LinkRow.{LinkRow}
@@ -11,8 +11,8 @@ use Rattle.vx_rules.specs.Table.{Link, Table, IsNumbered, link_at, is_live, firs
 use Rattle.vx_links.specs.Shown.{link_shown}
 use Rattle.vx_links.specs.Inside.{table_of, IsKept}
 use Rattle.vx_lemmas.specs.Filters.{filter-all}
-use Rattle.vx_links.proofs.Places.{Follows, rows_rise, filter-place, none_equals}
-use Rattle.vx_rules.specs.ProvedLaws.Numbers.{found_is, found_given, owned_is, smallest_first}
+use Rattle.vx_links.specs.Places.{Rising, filter-place, none_equals}
+use Rattle.vx_rules.specs.ProvedLaws.Numbers.{Rises, found_is, found_given, owned_is, smallest_first}
 
 -- a fact on the link that is shown is one on the row
 IfSome-shown : (P : Link → Type 0) (o : Option LinkRow) → IfSome (option_map link_shown o) P → IfSome o (λ r. P (link_shown r))
@@ -70,9 +70,17 @@ owned_says t conn o n e =
       smallest = IfSome-shown Smallest o (subst (λ p. IfSome p Smallest) (sym e) (smallest_first conn t.links n.rising));
     }
 
+-- rows whose links stand in order of number stand so themselves
+rows_rise : (rows : List LinkRow) → AllPairs Rises (map link_shown rows) → Rising (λ r. r.lid) rows
+rows_rise rows rising i j d before h =
+    let long = length-map rows link_shown in
+    let near = ap (λ l. l.number) (get_or-map link_shown rows i d (link_shown d) (omega arith)) in
+    let far = ap (λ l. l.number) (get_or-map link_shown rows j d (link_shown d) h) in
+    omega (arith, near, far, rising i j (link_shown d) before (omega arith))
+
 -- the rows stand in order of number
-pub rows_rising : (inside : Inside) (rows : List LinkRow) → rows ≡ inside.rows.items → IsKept inside → AllPairs Follows rows
-rows_rising inside rows here kept = subst (AllPairs Follows) (sym here) (rows_rise inside.rows.items kept.numbered.rising)
+pub rows_rising : (inside : Inside) (rows : List LinkRow) → rows ≡ inside.rows.items → IsKept inside → Rising (λ r. r.lid) rows
+rows_rising inside rows here kept = subst (Rising (λ r. r.lid)) (sym here) (rows_rise inside.rows.items kept.numbered.rising)
 
 -- the rows with one pushed, of the next number, show the links with one added
 pub added_is : (t : Table) (inside : Inside) (rows : List LinkRow) (conn : ℕ) (target : Target) → table_of inside ≡ t
@@ -91,7 +99,7 @@ pub taken_away : (inside : Inside) (rows left : List LinkRow) (lid place : ℕ) 
 taken_away inside rows left lid place here kept within has taken =
     taken
     ∙ ap (λ rs. remove rs place) (sym here)
-    ∙ sym (filter-place rows lid (rows_rising inside rows here kept) place within has)
+    ∙ sym (filter-place (λ r. r.lid) rows lid (rows_rising inside rows here kept) place within has)
     ∙ ap (filter (λ r. not (r.lid == lid))) here
 
 -- where no row has the number the rows without it are the rows
@@ -99,7 +107,7 @@ pub all_left : (inside : Inside) (rows : List LinkRow) (lid : ℕ) → rows ≡ 
     → inside.rows.items ≡ filter (λ r. not (r.lid == lid)) inside.rows.items
 all_left inside rows lid here none =
     subst (λ rs. rs ≡ filter (λ r. not (r.lid == lid)) rs) here
-    (sym (filter-all (λ r. not (r.lid == lid)) rows (λ k d h. ap not (none_equals rows lid none k d h))))
+    (sym (filter-all (λ r. not (r.lid == lid)) rows (λ k d h. ap not (none_equals (λ r. r.lid) rows lid none k d h))))
 
 -- the rows that are left when a number goes show the links that are left
 pub removed_is : (t : Table) (inside : Inside) (rows : List LinkRow) (lid : ℕ) → table_of inside ≡ t

@@ -1,3 +1,4 @@
 pub mod Shown
+pub mod Places
 pub mod Inside
 pub use Rattle.vx_rules.specs.Table

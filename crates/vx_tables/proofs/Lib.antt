@@ -1,4 +1,5 @@
 pub mod Places
+pub mod Order
 pub mod Marks
 pub mod NamedLinks
 pub mod Dropping

@@ -16,7 +16,7 @@ use Rattle.vx_calls.specs.declared.limits.TheConstants.{LINK_MAX, ROLE_MAX}
 use Rattle.vx_rules.specs.Table.{Link, is_live}
 use Rattle.vx_rules.specs.Locks.{holds}
 use Rattle.vx_rules.specs.ProvedLaws.Room.{has_room}
-use Rattle.vx_rules.specs.SrqState.{Enable, LinksRise}
+use Rattle.vx_rules.specs.SrqState.{Enable}
 use Rattle.vx_rules.specs.State.{Tables, Connection, same_role, connection_at, pending_at, has_role_of, lives_as, is_idle}
 use Rattle.vx_rules.specs.Sound.{IsSound, IsOwned, IsAsked}
 use Rattle.std.proofs.lemmas.List.Sums.{length-filter}

@@ -1,6 +1,6 @@
 //! The connections that live, as rows.
 ghost use Rattle.std.specs.Prelude.{◌≡◌, ◌<◌, ◌≤◌, ◌==◌, not, false, length, map, find, filter, IfSome, None, Some, vec_capacity};
-ghost use Rattle.std.specs.List.{position_from, count_by};
+ghost use Rattle.std.specs.List.{position_from, count_by, AllPairs};
 ghost use Rattle.std.specs.Option.{option_copied, option_map};
 ghost use Rattle.vx_calls.specs.declared.limits.TheConstants.{RECORD_MAX};
 ghost use Rattle.vx_rules.specs.Lists.{update_first};
@@ -32,12 +32,13 @@ pub(crate) struct Row {
     pub(crate) handle: Handle,
 }
 
-/// The place of the connection of this number.
+/// The place of the connection of this number, among rows in order of number.
 fn place_of(rows: &[Row], conn: u32) -> Option<usize>
+    requires rising { AllPairs (λ a b. a.number < b.number) rows.now }
     ensures first { result ≡ position_from (λ r. r.number == conn) 0 rows.now }
     ensures inside { IfSome result (λ i. i < length rows.now) }
 {
-    rows.iter().position(|row| row.number == conn)
+    rows.binary_search_by_key(&conn, |row| row.number).ok()
 }
 
 /// Whether two roles are one.
@@ -65,23 +66,29 @@ fn count_rows(rows: &[Row], role: Role) -> usize
         .count()
 }
 
-/// The first row with this number.
-fn first_row(rows: &[Row], conn: u32) -> Option<&Row>
+/// The row with this number.
+fn row_at(rows: &[Row], conn: u32) -> Option<&Row>
+    requires rising { AllPairs (λ a b. a.number < b.number) rows.now }
     ensures { option_copied result ≡ find (λ r. r.number == conn) rows.now }
 {
-    rows.iter().find(|row| row.number == conn)
+    match place_of(rows, conn) {
+        Some(place) => Some(&rows[place]),
+        None => None,
+    }
 }
 
 /// The row of the connection of this number.
 pub(crate) fn find_row(rows: &[Row], conn: u32) -> Option<&Row>
+    requires rising { AllPairs (λ a b. a.number < b.number) rows.now }
     ensures { option_map connection_of (option_copied result) ≡ find (λ c. c.number == conn) (map connection_of rows.now) }
 {
-    first_row(rows, conn)
+    row_at(rows, conn)
 }
 
 /// The connection's call that waits for its answer is now this one.
 pub(crate) fn keep_call(rows: &mut [Row], conn: u32, asked: Asked, text: &[u8], handle: Handle)
-    requires { length text.now ≤ RECORD_MAX }
+    requires short { length text.now ≤ RECORD_MAX }
+    requires rising { AllPairs (λ a b. a.number < b.number) rows.old }
     ensures { map connection_of rows.new ≡ update_first (λ c. c.number == conn)
         (λ c. record c { pending = Some (asked_call asked text.now handle.bytes.items) }) (map connection_of rows.old) }
 {
@@ -95,6 +102,7 @@ pub(crate) fn keep_call(rows: &mut [Row], conn: u32, asked: Asked, text: &[u8], 
 
 /// The same, with bytes that stand in room of their own.
 pub(crate) fn put_call(rows: &mut [Row], conn: u32, asked: Asked, text: Text, handle: Handle)
+    requires rising { AllPairs (λ a b. a.number < b.number) rows.old }
     ensures { map connection_of rows.new ≡ update_first (λ c. c.number == conn)
         (λ c. record c { pending = Some (asked_call asked text.bytes.items handle.bytes.items) }) (map connection_of rows.old) }
 {
@@ -118,6 +126,7 @@ pub(crate) fn procedure_of(row: &Row) -> Option<Proc>
 
 /// The connection's call has its answer.
 pub(crate) fn end_call(rows: &mut [Row], conn: u32)
+    requires rising { AllPairs (λ a b. a.number < b.number) rows.old }
     ensures { map connection_of rows.new ≡ update_first (λ c. c.number == conn) (λ c. record c { pending = None }) (map connection_of rows.old) }
 {
     if let Some(place) = place_of(rows, conn) {

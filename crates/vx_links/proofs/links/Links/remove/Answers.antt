@@ -2,7 +2,7 @@ use Rattle.std.proofs.Common.{◌==◌, true, false, refl, arith, sym, subst, �
 use Rattle.std.proofs.lemmas.List.Folds.{list_any_none}
 use Rattle.vx_rules.specs.Table.{IsNumbered}
 use Rattle.vx_rules.specs.ProvedLaws.Numbers.{numbered-without_link}
-use Rattle.vx_links.proofs.Places.{any-place, none_equals}
+use Rattle.vx_links.specs.Places.{any-place, none_equals}
 use Rattle.vx_links.proofs.Rows.{any-shown, numbered_is, rows_rising, taken_away, all_left, removed_is}
 use Rattle.vx_links.proofs.links.Links.remove.Goals as goal
 
@@ -24,7 +24,7 @@ returns-in-Some-clause-live c =
     let place = c.in-Some.ensures.place in
     let rising = rows_rising c.self.inside c.deref.result.now c.deref.ensures.value c.self.invariant in
     any-shown c.args.self.now c.self.inside c.deref.result.now c.self.view_is c.deref.ensures.value (λ l. l.number == c.args.lid) true
-    (sym (any-place c.deref.result.now c.args.lid rising c.in-Some.place place.0 place.1 c.remove.result))
+    (sym (any-place (λ r. r.lid) c.deref.result.now c.args.lid rising c.in-Some.place place.0 place.1 c.remove.result))
 
 pub returns-in-Some-clause-links : goal.returns-in-Some-clause-links
 returns-in-Some-clause-links c =
@@ -35,7 +35,7 @@ returns-in-Some-clause-links c =
 pub returns-in-None-clause-live : goal.returns-in-None-clause-live
 returns-in-None-clause-live c =
     any-shown c.args.self.now c.self.inside c.deref.result.now c.self.view_is c.deref.ensures.value (λ l. l.number == c.args.lid) false
-    (sym (list_any_none (λ r. r.lid == c.args.lid) c.deref.result.now (none_equals c.deref.result.now c.args.lid (c.in-None.ensures.none refl))))
+    (sym (list_any_none (λ r. r.lid == c.args.lid) c.deref.result.now (none_equals (λ r. r.lid) c.deref.result.now c.args.lid (c.in-None.ensures.none refl))))
 
 pub returns-in-None-clause-links : goal.returns-in-None-clause-links
 returns-in-None-clause-links c =

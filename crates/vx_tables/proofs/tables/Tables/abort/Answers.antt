@@ -5,6 +5,7 @@ use Rattle.vx_tables.specs.Rows.{connection_of}
 use Rattle.vx_tables.specs.Inside.{tables_of}
 use Rattle.vx_rules.specs.ProvedLaws.Keeping.{marked-sound}
 use Rattle.vx_tables.proofs.Closing.{rows_sound}
+use Rattle.vx_tables.proofs.Order.{given_marked}
 use Rattle.vx_tables.proofs.tables.Tables.abort.Goals as goal
 
 pub invariant_of-self : goal.invariant_of-self
@@ -15,6 +16,7 @@ invariant_of-self c =
           (ap (map connection_of) written ∙ c.mark_calls.ensures ∙ ap (λ rs. map (mark_on c.args.lid) (map connection_of rs)) c.deref_mut.ensures.value)
           (marked-sound (tables_of c.self.inside) c.args.lid c.self.invariant.sound);
       room = c.self.invariant.room;
+      ordered = given_marked c.args.lid _ c.deref_mut.result.now _ _ (ap (map connection_of) written ∙ c.mark_calls.ensures) c.deref_mut.ensures.value c.self.invariant.ordered;
       numbers = c.self.invariant.numbers;
       plain = c.self.invariant.plain;
     }

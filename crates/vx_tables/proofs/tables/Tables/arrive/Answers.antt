@@ -12,6 +12,7 @@ use Rattle.vx_rules.specs.ProvedLaws.Arriving.{idle-new}
 use Rattle.vx_rules.specs.ProvedLaws.Keeping.{with_pending-sound}
 use Rattle.vx_tables.proofs.Closing.{calls_sound}
 use Rattle.vx_tables.proofs.Room.{arrival_room}
+use Rattle.vx_tables.proofs.Order.{rows_rising, given_call}
 use Rattle.vx_tables.proofs.tables.Tables.arrive.Goals as goal
 
 pub invariant_of-self : goal.invariant_of-self
@@ -30,6 +31,7 @@ invariant_of-self c =
           c.add_arrival.ensures.added
           (with_pending-sound t c.args.conn (Some (arrived asked c.args.now)) c.self.invariant.sound (λ some. (and_parts _ _ idle).0));
       room = omega (arith, c.self.invariant.room, c.add_arrival.ensures.room);
+      ordered = given_call (λ r. r.number == c.args.conn) _ _ c.deref_mut.result.now _ _ (ap (map connection_of) written ∙ c.keep_call.ensures) c.deref_mut.ensures.value c.self.invariant.ordered;
       numbers = c.self.invariant.numbers;
       plain = c.self.invariant.plain;
     }
@@ -44,3 +46,6 @@ add_arrival-requires-clause-room c =
     let t = tables_of c.self.inside in
     let left = arrival_room t c.args.conn c.self.invariant.sound (subst (λ s. is_idle s c.args.conn ≡ true) (sym c.self.view_is) c.requires.idle) in
     omega (arith, left, c.self.invariant.room)
+
+pub keep_call-requires-clause-rising : goal.keep_call-requires-clause-rising
+keep_call-requires-clause-rising c = rows_rising c.self.inside c.deref_mut.result.now c.deref_mut.ensures.value c.self.invariant

@@ -20,6 +20,7 @@ invariant_of-self c =
           (removed_is t c.args.conn c.args.lid c.remove.new.self c.self.invariant.sound.numbered own c.remove.ensures.links) c.free.ensures.locks c.forget.ensures))
           (without_link-sound t c.args.conn c.args.lid c.self.invariant.sound);
       room = c.self.invariant.room;
+      ordered = c.self.invariant.ordered;
       numbers = c.self.invariant.numbers;
       plain = subst (λ l. All IsPlainLink l.links) (sym c.remove.ensures.links) (All-filter (λ l. not (l.number == c.args.lid)) IsPlainLink t.links.links c.self.invariant.plain);
     }

@@ -22,6 +22,7 @@ invariant_of-self c =
     record {
       sound = srq_state_sound t _ _ c.enable.ensures (with_enable-sound t _ c.self.invariant.sound own);
       room = c.self.invariant.room;
+      ordered = c.self.invariant.ordered;
       numbers = c.self.invariant.numbers;
       plain = c.self.invariant.plain;
     }

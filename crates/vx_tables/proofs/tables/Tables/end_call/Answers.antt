@@ -5,6 +5,7 @@ use Rattle.vx_tables.specs.Rows.{connection_of}
 use Rattle.vx_tables.specs.Inside.{tables_of}
 use Rattle.vx_rules.specs.ProvedLaws.Keeping.{ended-sound}
 use Rattle.vx_tables.proofs.Closing.{calls_sound}
+use Rattle.vx_tables.proofs.Order.{rows_rising, given_call}
 use Rattle.vx_tables.proofs.tables.Tables.end_call.Goals as goal
 
 pub invariant_of-self : goal.invariant_of-self
@@ -17,6 +18,10 @@ invariant_of-self c =
           ∙ ap (λ rs. update_first (λ k. k.number == c.args.conn) (λ k. record k { pending = None }) (map connection_of rs)) c.deref_mut.ensures.value)
           c.drop_arrival.ensures.left (ended-sound (tables_of c.self.inside) c.args.conn c.self.invariant.sound);
       room = omega (arith, c.self.invariant.room, c.drop_arrival.ensures.room);
+      ordered = given_call (λ r. r.number == c.args.conn) _ _ c.deref_mut.result.now _ _ (ap (map connection_of) written ∙ c.end_call.ensures) c.deref_mut.ensures.value c.self.invariant.ordered;
       numbers = c.self.invariant.numbers;
       plain = c.self.invariant.plain;
     }
+
+pub end_call-requires : goal.end_call-requires
+end_call-requires c = record { rising = rows_rising c.self.inside c.deref_mut.result.now c.deref_mut.ensures.value c.self.invariant }

@@ -37,6 +37,7 @@ invariant_of-self c =
           (sym (made_is t c.args.conn c.args.lock c.args.target c.insert.new.self c.in-Ok.lid c.take_if.new.locks c.in-Ok.ensures.added c.in-Ok.ensures.number c.take_if.ensures))
           (create-sound t c.args.conn c.args.lock c.args.target c.self.invariant.sound room (λ l. ap (λ s. holder_of s.locks 0 c.args.target) c.self.view_is ∙ c.requires.free l));
       room = c.self.invariant.room;
+      ordered = c.self.invariant.ordered;
       numbers = c.self.invariant.numbers;
       plain = subst (λ l. All IsPlainLink l.links) (sym c.in-Ok.ensures.added)
           (All-push IsPlainLink t.links.links (record { number = t.links.next; connection = c.args.conn; target = c.args.target }) c.self.invariant.plain c.requires.plain);

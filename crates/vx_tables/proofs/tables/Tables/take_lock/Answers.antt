@@ -46,6 +46,7 @@ invariant_of-self c =
     record {
       sound = subst IsSound (sym kept) (locked-sound t (link_shown row) c.self.invariant.sound (ap (λ n. is_live t.links n) c.in-Some.ensures.number ∙ sym c.in-Some.ensures.live) free);
       room = c.self.invariant.room;
+      ordered = c.self.invariant.ordered;
       numbers = c.self.invariant.numbers;
       plain = c.self.invariant.plain;
     }

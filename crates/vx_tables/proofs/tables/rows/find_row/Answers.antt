@@ -6,4 +6,4 @@ use Rattle.vx_tables.proofs.tables.rows.find_row.Goals as goal
 
 pub returns : goal.returns
 returns c =
-    ap (option_map connection_of) c.first_row.ensures ∙ sym (find-map connection_of (λ k. k.number == c.args.conn) c.args.rows.now)
+    ap (option_map connection_of) c.row_at.ensures ∙ sym (find-map connection_of (λ k. k.number == c.args.conn) c.args.rows.now)
