@@ -11,33 +11,20 @@ use Rattle.vx_flow.specs.FineState.{Turn, FineState, turn_of}
 use Rattle.vx_flow.specs.Fine.{fine, may_begin, is_passed}
 use Rattle.vx_flow.specs.Does.{Moves}
 use Rattle.vx_flow.specs.ProvedLaws.{fine-does}
-use Rattle.vx_flow.specs.Poll as poll
-use Rattle.vx_flow.specs.Poll.{Ran, Ending, Polls, RanTo, begins, moved_events, lines_at, runs, ran_of}
-use Rattle.vx_kernel.specs.declared.running.Running.{Running}
-use Rattle.vx_kernel.specs.declared.ended.Why.TheVariants as why
-use Rattle.vx_kernel.specs.declared.ended.Ran.TheVariants as ran
-use Rattle.vx_kernel.specs.declared.ended.Ended.{Ended}
-use Rattle.vx_kernel.specs.declared.ended.Ended.TheVariants as ended
-use Rattle.vx_kernel.specs.Shown.{turn_shown}
-use Rattle.vx_kernel.specs.Ending.{ended_shown, has_run}
+use Rattle.vx_flow.specs.Poll.{Ending, Polls, RanTo, begins, moved_events, lines_at, runs, is_run, ran_of}
+use Rattle.vx_flow.specs.declared.progress.Ran.{Ran}
+use Rattle.vx_core.specs.declared.running.Running.{Running}
+use Rattle.vx_flow.specs.declared.progress.Ran.TheVariants as ran
+use Rattle.vx_core.specs.declared.ended.Ended.{Ended}
+use Rattle.vx_core.specs.declared.ended.Ended.TheVariants as ended
+use Rattle.vx_core.specs.Shown.{turn_shown}
+use Rattle.vx_core.specs.Ending.{ended_shown, has_run}
 use Rattle.vx_core.proofs.Ends.{begun-so, begun-runs}
 
--- whether a poll went so far with its call's turn
-abbrev is_run : Ran → Bool
-is_run poll.Still = false
-is_run poll.Finished = true
-is_run poll.Paused = true
-is_run poll.Broken = true
-
--- as the kernel has it
+-- whether a poll went on with its call's turn, as the kernel has it
 run-shown : (e : Ended) (room : List ℕ) → has_run e ≡ is_run (ran_of (ended_shown e room))
-run-shown (ended.Answered ran.Still level given) room = refl
-run-shown (ended.Answered ran.Finished level given) room = refl
-run-shown (ended.Answered ran.Paused level given) room = refl
-run-shown (ended.Answered ran.Broken level given) room = refl
-run-shown (ended.Waited (why.Locked by)) room = refl
-run-shown (ended.Waited (why.Turn by)) room = refl
-run-shown (ended.Waited why.Held) room = refl
+run-shown (ended.Answered r level given) room = refl
+run-shown (ended.Waited w) room = refl
 run-shown (ended.Dialed host port) room = refl
 
 free-shown : (o : Option Running) (made : List Transfer) → not (is_some o) ≡ is_none (turn_shown o made)
@@ -51,12 +38,10 @@ no-and false = refl
 -- a poll that begins its call's turn goes on with it
 begun-run : (f b : FineState) (conn now : ℕ) (p : Pending) (moves : List Transfer) (ran : Ran) → pending_at f.state.tables conn ≡ Some p
     → along fine (fine f (Begin conn now)) (moved_events conn moves) ≡ Some b → RanTo b conn now p moves ran → is_run ran ≡ true
-begun-run f b conn now p moves poll.Still at x h =
+begun-run f b conn now p moves ran.Still at x h =
     let so = begun-so f b conn now (sym (ap (λ ts. along fine (fine f (Begin conn now)) (moved_events conn ts)) h.1) ∙ x) in
     absurd (true≢false (sym (begun-runs f conn now p at so.1) ∙ ap (λ g. runs g conn now p) so.2 ∙ h.0))
-begun-run f b conn now p moves poll.Finished at x h = refl
-begun-run f b conn now p moves poll.Paused at x h = refl
-begun-run f b conn now p moves poll.Broken at x h = refl
+begun-run f b conn now p moves _ at x h = refl
 
 -- where no turn is under way, one that doesn't begin it moves nothing
 unmoved : (f b : FineState) (conn : ℕ) (moves : List Transfer) → f.turn ≡ None → along fine (Some f) (moved_events conn moves) ≡ Some b → b.turn ≡ None
@@ -67,15 +52,13 @@ unmoved f b conn (t ∷ ts) none x =
 -- and doesn't go on
 unbegun-run : (f b : FineState) (conn now : ℕ) (p : Pending) (moves : List Transfer) (ran : Ran) → f.turn ≡ None
     → along fine (Some f) (moved_events conn moves) ≡ Some b → RanTo b conn now p moves ran → is_run ran ≡ false
-unbegun-run f b conn now p moves ran none x = by ran where
+unbegun-run f b conn now p moves far none x = by far where
   off : runs b conn now p ≡ false
   off = ap (λ t. is_passed (lines_at b conn now p) && is_some (turn_of t conn)) (unmoved f b conn moves none x) ∙ no-and (is_passed (lines_at b conn now p))
 
-  by : (ran : Ran) → RanTo b conn now p moves ran → is_run ran ≡ false
-  by poll.Still h = refl
-  by poll.Finished h = absurd (true≢false (sym h.0 ∙ off))
-  by poll.Paused h = absurd (true≢false (sym h.0 ∙ off))
-  by poll.Broken h = absurd (true≢false (sym h.0 ∙ off))
+  by : (far : Ran) → RanTo b conn now p moves far → is_run far ≡ false
+  by ran.Still h = refl
+  by _ h = absurd (true≢false (sym h.0 ∙ off))
 
 unbegun : (f b : FineState) (conn now : ℕ) (p : Pending) (moves : List Transfer) (ran : Ran) (turn : Option Turn) → f.turn ≡ turn
     → along fine (Some f) (moved_events conn moves) ≡ Some b → RanTo b conn now p moves ran → false ≡ (is_none turn && is_run ran)

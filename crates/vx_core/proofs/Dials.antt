@@ -3,16 +3,14 @@ use Rattle.std.proofs.Common.{◌≡◌, ◌≢◌, ◌≤◌, ◌<◌, ◌+◌,
 use Rattle.std.specs.Prelude.{option_and_then}
 use Rattle.std.specs.Option.{option_map}
 use Rattle.std.specs.List.{filter, list_any}
-use Rattle.std.proofs.lemmas.Bool.{false≢true, and_parts, eqb-true, ne_eqb}
-use Rattle.std.proofs.lemmas.Option.{cond_some, none-some}
+use Rattle.std.proofs.lemmas.Bool.{false≢true, eqb-true, ne_eqb}
+use Rattle.std.proofs.lemmas.Option.{none-some}
 use Rattle.std.proofs.lemmas.List.Elements.{All-weaker}
 use Rattle.std.proofs.lemmas.List.Filters.{length-filter_both}
-use Rattle.vx_lemmas.specs.Conditions.{chosen, other-number}
-use Rattle.vx_lemmas.specs.Options.{mapped, gone_on}
-use Rattle.std.proofs.lemmas.Bool.{false≢true, and_parts, eqb-true, ne_eqb, ltb-true}
+use Rattle.vx_lemmas.specs.Conditions.{other-number}
+use Rattle.std.proofs.lemmas.Bool.{false≢true, eqb-true, ne_eqb}
 use Rattle.std.proofs.lemmas.Option.{none-some}
-use Rattle.std.proofs.lemmas.List.Filters.{length-filter_both, sum_by-filter_both}
-use Rattle.std.proofs.lemmas.List.Sums.{sum_by-cons, sum_by_push}
+use Rattle.std.proofs.lemmas.List.Filters.{length-filter_both}
 use Rattle.vx_lemmas.specs.Conditions.{other-number}
 use Rattle.vx_lemmas.specs.Lists.{found_passes, All-kept, find_map-same}
 use Rattle.vx_calls.specs.declared.calls.Role.{Role}
@@ -28,21 +26,18 @@ use Rattle.vx_rules.specs.Table.{Link, is_live}
 use Rattle.vx_rules.specs.Locks.{holds, with_lock}
 use Rattle.vx_rules.specs.SrqState.{SrqState, ChannelSlot, Channel, slot_at, channel_at, slot_with, with_channel, with_new_channel, without_slot, queued_on, handles_of, risen_slot, is_rise, sampled, taken_from, taken}
 use Rattle.vx_rules.specs.ProvedLaws.Slots.{slot_with-stays, sampled-next}
-use Rattle.vx_rules.specs.State.{Pending, Connection, Tables, State, same_role, connection_at, pending_at, lives_as, is_idle, count_of, has_room, with_pending, with_connection, without_connection}
+use Rattle.vx_rules.specs.State.{Pending, Connection, Tables, same_role, pending_at, count_of, with_pending, with_connection, without_connection}
 use Rattle.vx_rules.specs.CountLaws.{count-called, count-marks, count-down, count-up}
-use Rattle.vx_rules.specs.Calls.{link_named, is_bus_call, asks_dial}
+use Rattle.vx_rules.specs.Calls.{link_named}
 use Rattle.vx_rules.specs.Checks.{NamedLink, NoLink, DeadLink, OnLink, named_link}
-use Rattle.vx_rules.specs.Lines.{Admission, Refused, Waiting, Passed, first_lines}
-use Rattle.vx_rules.specs.Effects.{task_of, stopped_reply, create, locked, effect_on, effect, settle}
-use Rattle.vx_rules.specs.Decide.{Outside, is_quiet, bus_answer, dialed_answer, by_lines, settles, decide}
-use Rattle.vx_rules.specs.Entry as entry
-use Rattle.vx_rules.specs.One.{one, may_wait, arrived, answered, answer_to, answer, if_reply, names, mark_call, marked, abort_reply, abort_tables, same_given}
-use Rattle.vx_rules.specs.State.{Pending, Connection, Tables, same_role, pending_at, count_of, has_room, with_pending, with_connection, without_connection}
-use Rattle.vx_rules.specs.Lists.{update_first}
+use Rattle.vx_rules.specs.Effects.{create, locked, effect_on, effect}
+use Rattle.vx_rules.specs.Decide.{Outside}
+use Rattle.vx_rules.specs.One.{arrived, names, mark_call, marked, abort_tables}
+use Rattle.vx_rules.specs.State.{Pending, Connection, Tables, same_role, pending_at, count_of, with_pending, with_connection, without_connection}
 use Rattle.vx_rules.specs.Calls.{link_named}
 use Rattle.vx_rules.specs.Effects.{create, locked, effect_on, effect}
 use Rattle.vx_rules.specs.Decide.{Outside}
-use Rattle.vx_rules.specs.One.{arrived, names, mark_call, mark_on, marked, abort_tables}
+use Rattle.vx_rules.specs.One.{arrived, names, mark_call, marked, abort_tables}
 use Rattle.vx_rules.specs.ProvedLaws.{up-next, pending-same}
 use Rattle.vx_rules.specs.RowLaws.{pending-other, pending-up, pending-others, pending-marked}
 use Rattle.vx_flow.specs.Event.{Event, Up, Down, Arrive, Answer, Abort, Sample, Take, Begin, Move, Dial}
@@ -50,8 +45,8 @@ use Rattle.vx_flow.specs.FineState.{FineState}
 use Rattle.vx_flow.specs.Fine.{wire_for, outside, without_dial, fine}
 use Rattle.vx_flow.specs.Does.{AnsweredBy, ByAbort, ByNoLink, ByCheck, ByLock, ByDialUp, ByDialDown, ByEffect, ByNoRole, ByFault, ByWhole, ByTimeout, Step}
 use Rattle.vx_flow.specs.ProvedLaws.{fine-does, line-leaves, channel_of, channel-risen, channel-up, channel-down, channel-taken}
-use Rattle.vx_kernel.specs.Keeping.{IsDialable, IsDialed, KeepsDials}
-use Rattle.vx_kernel.specs.ProvedLaws.{distinct-filter}
+use Rattle.vx_core.specs.Keeping.{IsDialable, IsDialed, KeepsDials}
+use Rattle.vx_core.specs.ProvedLaws.{distinct-filter}
 
 -- the event is neither the beginning nor a move of a turn, nor asks for a dial
 abbrev pub is_still : Event → Bool

@@ -5,7 +5,7 @@ use Rattle.std.proofs.lemmas.Bool.{and_parts, cond-true, true≢false}
 use Rattle.std.proofs.lemmas.Option.{same_Some}
 use Rattle.vx_lemmas.specs.Conditions.{chosen, eqb-self}
 use Rattle.vx_calls.specs.declared.limits.TheConstants.{READ_MAX}
-use Rattle.vx_calls.specs.Reply.{Reply, same_reply}
+use Rattle.vx_calls.specs.Reply.{Reply}
 use Rattle.vx_488.specs.declared.transfers.Transfer.{Transfer}
 use Rattle.vx_bus_traits.specs.Means.{Means}
 use Rattle.vx_bus_traits.specs.Steps.{Step, Went}
@@ -13,25 +13,27 @@ use Rattle.vx_bus_traits.specs.Walks.{Walk}
 use Rattle.vx_rules.specs.Lists.{along}
 use Rattle.vx_rules.specs.State.{Pending, Tables, pending_at, with_pending}
 use Rattle.vx_rules.specs.Lines.{first_lines}
-use Rattle.vx_rules.specs.Decide.{Outside, decide, has_job_role}
-use Rattle.vx_rules.specs.One.{answer, answered, answer_to, if_reply}
+use Rattle.vx_rules.specs.Decide.{has_job_role}
 use Rattle.vx_rules.specs.Decide.{has_job_role}
 use Rattle.vx_flow.specs.Event.{Event, Answer, Begin, Move}
 use Rattle.vx_flow.specs.FineState.{Turn, FineState, turn_of}
 use Rattle.vx_flow.specs.Fine.{fine, may_begin, is_passed, job_of, without_dial}
 use Rattle.vx_flow.specs.Does.{Moves}
 use Rattle.vx_flow.specs.Sound.{IsSound}
-use Rattle.vx_flow.specs.Poll.{Why, Ran, Still, Ending, Answered, Waited, Dialed, Polls, begins, begun_events, moved_events, run_events, at_moment, is_broken, RanTo, runs, ran_of}
+use Rattle.vx_flow.specs.Poll.{Ending, Answered, Waited, Dialed, Polls, begins, begun_events, moved_events, run_events, at_moment, is_broken, RanTo, runs, ran_of}
+use Rattle.vx_flow.specs.declared.progress.Ran.{Ran}
+use Rattle.vx_flow.specs.declared.progress.Why.{Why}
+use Rattle.vx_flow.specs.declared.progress.Ran.TheVariants as ran
 use Rattle.vx_flow.specs.Ways.{over, moved_on, begun_now}
 use Rattle.vx_flow.specs.ProvedLaws.{fine-does, fine-frame, step-made, stays_sound-law}
-use Rattle.vx_kernel.specs.declared.ended.Ended.{Ended}
-use Rattle.vx_kernel.specs.KernelState.{KernelState}
-use Rattle.vx_kernel.specs.Shown.{fine_of, closed}
-use Rattle.vx_kernel.specs.Ending.{ended_shown, ended_len}
-use Rattle.vx_kernel.specs.Keeping.{KeepsDials, Holds, Keeps}
-use Rattle.vx_kernel.specs.Polling.{wanted, refused_ask, asks, PollsOver, EndsFrom}
+use Rattle.vx_core.specs.declared.ended.Ended.{Ended}
+use Rattle.vx_core.specs.KernelState.{KernelState}
+use Rattle.vx_core.specs.Shown.{fine_of, closed}
+use Rattle.vx_core.specs.Ending.{ended_shown, ended_len}
+use Rattle.vx_core.specs.Keeping.{KeepsDials, Holds, Keeps}
+use Rattle.vx_core.specs.Polling.{wanted, refused_ask, asks, PollsOver, EndsFrom}
 use Rattle.vx_core.proofs.Keeping.{LeavesTurn, keeps-after}
-use Rattle.vx_core.proofs.Calls.{left-shown, left-leaves}
+use Rattle.vx_core.proofs.CoreCalls.{left-shown, left-leaves}
 
 -- ---- the state behind a poll's transfers
 
@@ -72,15 +74,15 @@ begun-runs f conn now p at may =
     ∙ ap (λ b. b && true) tests.0
 
 -- where the call's turn didn't go on the poll made nothing
-pub behind-still : (f g : FineState) (conn now : ℕ) (ending : Ending) → (polls : Polls f conn now [] ending g) → ran_of ending ≡ Still → polls.behind ≡ f
+pub behind-still : (f g : FineState) (conn now : ℕ) (ending : Ending) → (polls : Polls f conn now [] ending g) → ran_of ending ≡ ran.Still → polls.behind ≡ f
 behind-still f g conn now ending polls still = by (begins f conn now) polls.runs_to where
   by : (b : Bool) → along fine (Some f) (cond b (Begin conn now ∷ []) [] ++ []) ≡ Some polls.behind → polls.behind ≡ f
   by false x = sym (same_Some f polls.behind x)
   by true x =
       let so = begun-so f polls.behind conn now x in
-      let ran : RanTo polls.behind conn now polls.asked [] Still = subst (RanTo polls.behind conn now polls.asked []) still polls.ran in
+      let gone : RanTo polls.behind conn now polls.asked [] ran.Still = subst (RanTo polls.behind conn now polls.asked []) still polls.ran in
       let on = begun-runs f conn now polls.asked polls.call_at so.1 in
-      absurd (true≢false (sym on ∙ ap (λ b. runs b conn now polls.asked) so.2 ∙ ran.0))
+      absurd (true≢false (sym on ∙ ap (λ b. runs b conn now polls.asked) so.2 ∙ gone.0))
 
 -- what holds between events holds behind a list of them
 pub sound-along : (h : List Event) (f g : FineState) → IsSound f → along fine (Some f) h ≡ Some g → IsSound g
@@ -121,26 +123,26 @@ no-steps : {B : Type 0} (means : B → Means) (through : B → Step → B → Ty
 no-steps means through bus steps e = subst (λ ss. Walk means through bus ss bus) (sym e) refl
 
 -- a poll that made no transfer, and whose call's turn didn't go on, asked the bus for nothing
-no-asks : (b : FineState) (conn : ℕ) (p : Pending) (moves : List Transfer) (ran : Ran) → moves ≡ [] → ran ≡ Still → asks b conn p moves ran ≡ []
-no-asks b conn p moves ran none still =
-    ap (λ ts. map Went ts ++ refused_ask ran (wanted b conn p)) none ∙ ap (λ x. refused_ask x (wanted b conn p)) still
+no-asks : (b : FineState) (conn : ℕ) (p : Pending) (moves : List Transfer) (r : Ran) → moves ≡ [] → r ≡ ran.Still → asks b conn p moves r ≡ []
+no-asks b conn p moves r none still =
+    ap (λ ts. map Went ts ++ refused_ask r (wanted b conn p)) none ∙ ap (λ x. refused_ask x (wanted b conn p)) still
 
 -- a call that is answered where no transfer was made
 pub still-ends : {B : Type 0} (means : B → Means) (through : B → Step → B → Type 0) (srq ndac : B → Bool) (k : KernelState B) (conn : ℕ) (after : Tables)
     (given : Reply) (ended : Ended) → Holds means k → (means k.bus).moves ≡ []
-    → Polls (fine_of means k) conn k.moment [] (Answered Still false given) (over (fine_of means k) conn k.moment after)
-    → ended_shown ended k.room ≡ Answered Still false given → ended_len ended ≤ READ_MAX
+    → Polls (fine_of means k) conn k.moment [] (Answered ran.Still false given) (over (fine_of means k) conn k.moment after)
+    → ended_shown ended k.room ≡ Answered ran.Still false given → ended_len ended ≤ READ_MAX
     → EndsFrom means through srq ndac k conn ended (closed (record k { tables = after }) conn)
 still-ends {B} means through srq ndac k conn after given ended holds cut polls shown within =
     let f : FineState = fine_of means k in
     let new : KernelState B = closed (record k { tables = after }) conn in
     let e : Event = Answer conn k.moment false None false given in
-    let left : Polls f conn k.moment [] (Answered Still false given) (fine_of means new) =
-    subst (Polls f conn k.moment [] (Answered Still false given)) (sym (fine-closed means k conn after)) polls in
-    let behind : left.behind ≡ f = behind-still f (fine_of means new) conn k.moment (Answered Still false given) left refl in
-    let goes : fine f e ≡ Some (fine_of means new) = ap (λ b. fine b e) (sym behind) ∙ answer-ends f (fine_of means new) conn k.moment [] Still false given left in
+    let left : Polls f conn k.moment [] (Answered ran.Still false given) (fine_of means new) =
+    subst (Polls f conn k.moment [] (Answered ran.Still false given)) (sym (fine-closed means k conn after)) polls in
+    let behind : left.behind ≡ f = behind-still f (fine_of means new) conn k.moment (Answered ran.Still false given) left refl in
+    let goes : fine f e ≡ Some (fine_of means new) = ap (λ b. fine b e) (sym behind) ∙ answer-ends f (fine_of means new) conn k.moment [] ran.Still false given left in
     let P : Ending → Type 0 = λ ending. PollsOver means through srq ndac f k.bus conn k.moment [] ending (fine_of means new) k.bus in
-    let M : List Transfer → Type 0 = λ moves. Polls f conn k.moment moves (Answered Still false given) (fine_of means new) in
+    let M : List Transfer → Type 0 = λ moves. Polls f conn k.moment moves (Answered ran.Still false given) (fine_of means new) in
     record {
       keeps = keeps-after means k new e refl holds (closed-leaves means k conn after) goes;
       moment = refl;
@@ -154,7 +156,7 @@ still-ends {B} means through srq ndac k conn after given ended holds cut polls s
 
 -- a call that waits where no transfer was made
 pub waits-ends : {B : Type 0} (means : B → Means) (through : B → Step → B → Type 0) (srq ndac : B → Bool) (k : KernelState B) (conn : ℕ) (why : Why) (ended : Ended)
-    → Keeps means k → (means k.bus).moves ≡ [] → ran_of (Waited why) ≡ Still
+    → Keeps means k → (means k.bus).moves ≡ [] → ran_of (Waited why) ≡ ran.Still
     → Polls (fine_of means k) conn k.moment [] (Waited why) (fine_of means k)
     → ended_shown ended k.room ≡ Waited why → ended_len ended ≤ READ_MAX
     → EndsFrom means through srq ndac k conn ended k

@@ -12,15 +12,17 @@ use Rattle.vx_rules.specs.State.{Pending, pending_at}
 use Rattle.vx_flow.specs.FineState.{Turn, FineState}
 use Rattle.vx_flow.specs.Fine.{turn_stand}
 use Rattle.vx_flow.specs.Sound.{IsSound}
-use Rattle.vx_flow.specs.Poll.{Ran, Still, Finished, Paused, Broken, Locked, InTurn, Held, Ending, Answered, Waited, Dialed, RanTo, EndsBy, ran_of, run_events, end_events, at_moment}
-use Rattle.vx_flow.specs.ProvedLaws.{later-sound, earlier_law-holds}
-use Rattle.vx_kernel.specs.declared.ended.Ended.{Ended}
-use Rattle.vx_kernel.specs.KernelState.{KernelState}
-use Rattle.vx_kernel.specs.Shown.{cut_means, fine_of, turn_shown, before_shown}
-use Rattle.vx_kernel.specs.Ending.{ended_shown}
-use Rattle.vx_kernel.specs.Keeping.{Keeps}
-use Rattle.vx_kernel.specs.Turning.{HasHeard}
-use Rattle.vx_kernel.specs.Polling.{asks, IsTold, PollsOver, Leaves, EndsFrom}
+use Rattle.vx_flow.specs.Poll.{Ending, Answered, Waited, RanTo, EndsBy, ran_of, run_events, end_events, at_moment}
+use Rattle.vx_flow.specs.declared.progress.Ran.{Ran}
+use Rattle.vx_flow.specs.declared.progress.Ran.TheVariants as ran
+use Rattle.vx_flow.specs.ProvedLaws.{later-sound, earlier_law-holds, not_yet-at}
+use Rattle.vx_core.specs.declared.ended.Ended.{Ended}
+use Rattle.vx_core.specs.KernelState.{KernelState}
+use Rattle.vx_core.specs.Shown.{cut_means, fine_of, turn_shown, before_shown}
+use Rattle.vx_core.specs.Ending.{ended_shown}
+use Rattle.vx_core.specs.Keeping.{Keeps}
+use Rattle.vx_core.specs.Turning.{HasHeard}
+use Rattle.vx_core.specs.Polling.{asks, IsTold, PollsOver, Leaves, EndsFrom}
 
 -- the state of a core that was told a moment
 heard-at : {B : Type 0} (means : B → Means) (k : KernelState B) (bus : B) (moment : ℕ) → (means bus).wire ≡ (means k.bus).wire
@@ -76,26 +78,17 @@ has-heard {B} means k new conn now pending keeps kept cut = record {
 -- a poll from the state at the moment that the bus was told is one from the state before
 ran-earlier : (b : FineState) (moment conn now : ℕ) (p : Pending) (moves : List Transfer) (ran : Ran) → RanTo b conn now p moves ran
     → RanTo (at_moment b moment) conn now p moves ran
-ran-earlier b moment conn now p moves Still h = h
-ran-earlier b moment conn now p moves Finished h = h
-ran-earlier b moment conn now p moves Paused h = h
-ran-earlier b moment conn now p moves Broken h = h
+ran-earlier b moment conn now p moves ran.Still h = h
+ran-earlier b moment conn now p moves _ h = h
 
 ends-earlier : (b : FineState) (moment conn now : ℕ) (p : Pending) (ending : Ending) → EndsBy b conn now p ending → EndsBy (at_moment b moment) conn now p ending
-ends-earlier b moment conn now p (Answered ran level reply) h = h
-ends-earlier b moment conn now p (Waited (Locked link)) h = h
-ends-earlier b moment conn now p (Waited (InTurn other)) h = h
-ends-earlier b moment conn now p (Waited Held) h = h
-ends-earlier b moment conn now p (Dialed host port) h = h
+ends-earlier b moment conn now p (Waited w) h = not_yet-at b moment conn now p w h
+ends-earlier b moment conn now p _ h = h
 
 told-earlier : (b : FineState) (moment conn : ℕ) (p : Pending) (srq ndac : Bool) (ending : Ending) → IsTold b conn p srq ndac ending
     → IsTold (at_moment b moment) conn p srq ndac ending
-told-earlier b moment conn p srq ndac (Answered Finished level reply) h = h
-told-earlier b moment conn p srq ndac (Answered Still level reply) h = h
-told-earlier b moment conn p srq ndac (Answered Paused level reply) h = h
-told-earlier b moment conn p srq ndac (Answered Broken level reply) h = h
-told-earlier b moment conn p srq ndac (Waited why) h = h
-told-earlier b moment conn p srq ndac (Dialed host port) h = h
+told-earlier b moment conn p srq ndac (Answered ran.Finished level reply) h = h
+told-earlier b moment conn p srq ndac _ h = h
 
 earlier-over : {B : Type 0} (means : B → Means) (through : B → Step → B → Type 0) (srq ndac : B → Bool) (f g : FineState) (bus mid after : B) (conn now : ℕ) (ending : Ending)
     → f.state.moment ≤ now → Walk means through bus (Cut ∷ Told now ∷ []) mid → PollsOver means through srq ndac (at_moment f now) mid conn now [] ending g after

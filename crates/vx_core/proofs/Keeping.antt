@@ -18,10 +18,10 @@ use Rattle.vx_flow.specs.FineState.{Turn, FineState, turn_after}
 use Rattle.vx_flow.specs.Fine.{fine, is_answer_of, turn_stand, call_stand}
 use Rattle.vx_flow.specs.Sound.{Stands, TurnStands, IsSound}
 use Rattle.vx_flow.specs.ProvedLaws.{fine-does, fine-frame, later-stands, turn-stand, stays_sound-law, call_stays-law}
-use Rattle.vx_kernel.specs.declared.running.Running.{Running}
-use Rattle.vx_kernel.specs.KernelState.{KernelState}
-use Rattle.vx_kernel.specs.Shown.{fine_of, turn_shown, before_shown}
-use Rattle.vx_kernel.specs.Keeping.{RunsTurn, Holds, Keeps}
+use Rattle.vx_core.specs.declared.running.Running.{Running}
+use Rattle.vx_core.specs.KernelState.{KernelState}
+use Rattle.vx_core.specs.Shown.{fine_of, turn_shown, before_shown}
+use Rattle.vx_core.specs.Keeping.{RunsTurn, Holds, Keeps}
 use Rattle.vx_core.proofs.Dials.{is_still, dials-after, few-after}
 
 -- ---- the turn that an event leaves isn't whole

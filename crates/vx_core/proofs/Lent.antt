@@ -20,16 +20,16 @@ use Rattle.vx_flow.specs.Fine.{fine, turn_stand, call_stand, job_of}
 use Rattle.vx_flow.specs.Does.{Moves}
 use Rattle.vx_flow.specs.Poll.{Ending, Polls, begins, moved_events}
 use Rattle.vx_flow.specs.ProvedLaws.{fine-does}
-use Rattle.vx_kernel.specs.declared.ended.Ended.{Ended}
-use Rattle.vx_kernel.specs.declared.given.Given.{Given}
-use Rattle.vx_kernel.specs.declared.given.Given.TheVariants as given
-use Rattle.vx_kernel.specs.KernelState.{KernelState}
-use Rattle.vx_kernel.specs.CoreState.{CoreState, core_of}
-use Rattle.vx_kernel.specs.Shown.{fine_of}
-use Rattle.vx_kernel.specs.Given.{given_reply, given_len, reply_bytes}
-use Rattle.vx_kernel.specs.Ending.{ended_shown}
-use Rattle.vx_kernel.specs.Polling.{Leaves}
-use Rattle.vx_kernel.specs.ProvedLaws.{few-bytes}
+use Rattle.vx_core.specs.declared.ended.Ended.{Ended}
+use Rattle.vx_core.specs.declared.given.Given.{Given}
+use Rattle.vx_core.specs.declared.given.Given.TheVariants as given
+use Rattle.vx_core.specs.KernelState.{KernelState}
+use Rattle.vx_core.specs.CoreState.{CoreState, core_of}
+use Rattle.vx_core.specs.Shown.{fine_of}
+use Rattle.vx_core.specs.Given.{given_reply, given_len, reply_bytes}
+use Rattle.vx_core.specs.Ending.{ended_shown}
+use Rattle.vx_core.specs.Polling.{Leaves}
+use Rattle.vx_core.specs.ProvedLaws.{few-bytes}
 use Rattle.vx_core.specs.declared.polled.Polled.{Polled}
 use Rattle.vx_core.specs.Lending.{Shows, PollLeaves}
 

@@ -1,6 +1,10 @@
+pub mod Leaving
+pub mod Replying
+pub mod Turning
+pub mod Dialing
 pub mod Dials
 pub mod Keeping
-pub mod Calls
+pub mod CoreCalls
 pub mod Settling
 pub mod Ends
 pub mod Moving

@@ -36,20 +36,22 @@ use Rattle.vx_flow.specs.Event.{Event, Answer}
 use Rattle.vx_flow.specs.FineState.{Turn, FineState, turn_of, moves_of}
 use Rattle.vx_flow.specs.Fine.{fine, job_of, turn_stand, call_stand}
 use Rattle.vx_flow.specs.Sound.{IsSound}
-use Rattle.vx_flow.specs.Poll.{Ran, Finished, Paused, Broken, Held, Ending, Answered, Waited, Polls, is_broken, ran_of, run_events}
+use Rattle.vx_flow.specs.Poll.{Ending, Answered, Waited, Polls, is_broken, ran_of, run_events}
+use Rattle.vx_flow.specs.declared.progress.Ran.{Ran}
+use Rattle.vx_flow.specs.declared.progress.Ran.TheVariants as ran
 use Rattle.vx_flow.specs.Ways.{GoesOnBy, over, moved_on}
-use Rattle.vx_kernel.specs.declared.running.Running.{Running}
-use Rattle.vx_kernel.specs.declared.ended.Why.TheVariants as why
-use Rattle.vx_kernel.specs.declared.ended.Ended.{Ended}
-use Rattle.vx_kernel.specs.declared.ended.Ended.TheVariants as ended
-use Rattle.vx_kernel.specs.Ending.{ended_shown, ended_len}
-use Rattle.vx_kernel.specs.Replying.{level_told}
-use Rattle.vx_kernel.specs.KernelState.{KernelState}
-use Rattle.vx_kernel.specs.Shown.{fine_of, turn_shown, before_shown, running_of, running_without, closed}
-use Rattle.vx_kernel.specs.Keeping.{RunsTurn, KeepsDials, Holds}
-use Rattle.vx_kernel.specs.Turning.{HasTurn, WentOn}
-use Rattle.vx_kernel.specs.ProvedLaws.{running-own}
-use Rattle.vx_kernel.specs.Polling.{wanted, wanted_by, refused_ask, level_of, IsTold, PollsOver, EndsFrom}
+use Rattle.vx_core.specs.declared.running.Running.{Running}
+use Rattle.vx_flow.specs.declared.progress.Why.TheVariants as why
+use Rattle.vx_core.specs.declared.ended.Ended.{Ended}
+use Rattle.vx_core.specs.declared.ended.Ended.TheVariants as ended
+use Rattle.vx_core.specs.Ending.{ended_shown, ended_len}
+use Rattle.vx_core.specs.Replying.{level_told}
+use Rattle.vx_core.specs.KernelState.{KernelState}
+use Rattle.vx_core.specs.Shown.{fine_of, turn_shown, before_shown, running_of, running_without, closed}
+use Rattle.vx_core.specs.Keeping.{RunsTurn, KeepsDials, Holds}
+use Rattle.vx_core.specs.Turning.{HasTurn, WentOn}
+use Rattle.vx_core.specs.ProvedLaws.{running-own}
+use Rattle.vx_core.specs.Polling.{wanted, wanted_by, refused_ask, level_of, IsTold, PollsOver, EndsFrom}
 use Rattle.vx_core.proofs.Keeping.{keeps-after}
 use Rattle.vx_core.proofs.Ends.{behind-own, sound-along, answer-ends, fine-closed}
 
@@ -352,7 +354,7 @@ told-fits _ srq ndac = refl
 pub gone-finished : {B : Type 0} (means : B → Means) (through : B → Step → B → Type 0) (srq ndac : B → Bool) (k : KernelState B) (conn : ℕ) (r s : Running)
     (m new : KernelState B) (ended : Ended) → Holds means k → (gone : HasGone means through k conn r went.Finished m) → m.running ≡ Some s
     → new ≡ record (closed m conn) { room = new.room }
-    → ((p : Pending) → pending_at m.tables conn ≡ Some p → ended_shown ended new.room ≡ Answered Finished (level_told s.turn.task (srq m.bus) (ndac m.bus))
+    → ((p : Pending) → pending_at m.tables conn ≡ Some p → ended_shown ended new.room ≡ Answered ran.Finished (level_told s.turn.task (srq m.bus) (ndac m.bus))
     (whole_reply s.turn.task (bytes_of p.call) m.before (is_big p.call) (level_told s.turn.task (srq m.bus) (ndac m.bus)) m.made))
     → ended_len ended ≤ READ_MAX → EndsFrom means through srq ndac k conn ended new
 gone-finished {B} means through srq ndac k conn r s m new ended holds gone running kept reply within =
@@ -362,12 +364,12 @@ gone-finished {B} means through srq ndac k conn r s m new ended holds gone runni
     let p : Pending = gone.asked in
     let level : Task → Bool = λ job. level_told job (srq m.bus) (ndac m.bus) in
     let told : Task → Wire → List Transfer → Reply = λ job before made. whole_reply job (bytes_of p.call) before (is_big p.call) (level job) made in
-    let shown : ended_shown ended new.room ≡ Answered Finished (level r.turn.task) (told r.turn.task f.before (k.made ++ moves)) =
+    let shown : ended_shown ended new.room ≡ Answered ran.Finished (level r.turn.task) (told r.turn.task f.before (k.made ++ moves)) =
     reply p (gone-at means through k conn r went.Finished m gone)
-    ∙ ap (λ job. Answered Finished (level job) (told job m.before m.made)) (gone.task s running).0
-    ∙ ap (λ w. Answered Finished (level r.turn.task) (told r.turn.task w m.made)) (sym gone.before)
-    ∙ ap (λ made. Answered Finished (level r.turn.task) (told r.turn.task f.before made)) gone.made in
-    gone-ends means through srq ndac k conn r went.Finished m new ended Finished (level r.turn.task) (told r.turn.task f.before (k.made ++ moves)) holds gone kept
+    ∙ ap (λ job. Answered ran.Finished (level job) (told job m.before m.made)) (gone.task s running).0
+    ∙ ap (λ w. Answered ran.Finished (level r.turn.task) (told r.turn.task w m.made)) (sym gone.before)
+    ∙ ap (λ made. Answered ran.Finished (level r.turn.task) (told r.turn.task f.before made)) gone.made in
+    gone-ends means through srq ndac k conn r went.Finished m new ended ran.Finished (level r.turn.task) (told r.turn.task f.before (k.made ++ moves)) holds gone kept
     (λ slot. refl) (ap (λ job. level_of job (srq m.bus) (ndac m.bus)) (sym gone.goes.has_job))
     (finished_law-holds f conn k.moment p u r.turn.task moves (level r.turn.task) gone.goes gone.from gone.to (told-fits r.turn.task (srq m.bus) (ndac m.bus)))
     shown within
@@ -385,23 +387,23 @@ stop-told {B} means through k conn r outcome m error gone =
 pub gone-broken : {B : Type 0} (means : B → Means) (through : B → Step → B → Type 0) (srq ndac : B → Bool) (k : KernelState B) (conn : ℕ) (r : Running)
     (m new : KernelState B) (ended : Ended) → Holds means k → (gone : HasGone means through k conn r went.Broken m) → new ≡ closed m conn
     → ((p : Pending) → pending_at m.tables conn ≡ Some p
-    → ended_shown ended new.room ≡ Answered Broken false (stopped_reply p.call code.BusFault (moves_of (turn_of (turn_shown m.running m.made) conn))))
+    → ended_shown ended new.room ≡ Answered ran.Broken false (stopped_reply p.call code.BusFault (moves_of (turn_of (turn_shown m.running m.made) conn))))
     → ended_len ended ≤ READ_MAX → EndsFrom means through srq ndac k conn ended new
 gone-broken {B} means through srq ndac k conn r m new ended holds gone kept reply within =
     let f : FineState = fine_of means k in
     let u : Turn = turn_by k r in
     let moves : List Transfer = (means m.bus).moves in
-    gone-ends means through srq ndac k conn r went.Broken m new ended Broken false (stopped_reply gone.asked.call code.BusFault (k.made ++ moves)) holds gone
-    (room-kept m new conn kept) (refuses Broken) refl
+    gone-ends means through srq ndac k conn r went.Broken m new ended ran.Broken false (stopped_reply gone.asked.call code.BusFault (k.made ++ moves)) holds gone
+    (room-kept m new conn kept) (refuses ran.Broken) refl
     (broken_law-holds f conn k.moment gone.asked u r.turn.task moves gone.goes (part-before f u moves gone.from gone.to) gone.to)
-    (reply gone.asked (gone-at means through k conn r went.Broken m gone) ∙ ap (Answered Broken false) (stop-told means through k conn r went.Broken m code.BusFault gone))
+    (reply gone.asked (gone-at means through k conn r went.Broken m gone) ∙ ap (Answered ran.Broken false) (stop-told means through k conn r went.Broken m code.BusFault gone))
     within where
-      refuses : (ran : Ran) (slot : Option Slot) → refused_steps went.Broken slot ≡ refused_ask Broken slot
+      refuses : (r : Ran) (slot : Option Slot) → refused_steps went.Broken slot ≡ refused_ask ran.Broken slot
       refuses ran None = refl
       refuses ran (Some slot) = refl
 
 -- the bus held
-held-refuses : (slot : Option Slot) → refused_steps went.Held slot ≡ refused_ask Paused slot
+held-refuses : (slot : Option Slot) → refused_steps went.Held slot ≡ refused_ask ran.Paused slot
 held-refuses None = refl
 held-refuses (Some slot) = refl
 
@@ -411,7 +413,7 @@ pub gone-timeout : {B : Type 0} (means : B → Means) (through : B → Step → 
     → ((p : Pending) → pending_at m.tables conn ≡ Some p → has_passed (io_timeout_of p.call) s.turn.begun m.moment ≡ true)
     → new ≡ closed m conn
     → ((p : Pending) → pending_at m.tables conn ≡ Some p
-    → ended_shown ended new.room ≡ Answered Paused false (stopped_reply p.call code.Timeout (moves_of (turn_of (turn_shown m.running m.made) conn))))
+    → ended_shown ended new.room ≡ Answered ran.Paused false (stopped_reply p.call code.Timeout (moves_of (turn_of (turn_shown m.running m.made) conn))))
     → ended_len ended ≤ READ_MAX → EndsFrom means through srq ndac k conn ended new
 gone-timeout {B} means through srq ndac k conn r s m new ended holds gone running late kept reply within =
     let f : FineState = fine_of means k in
@@ -421,10 +423,10 @@ gone-timeout {B} means through srq ndac k conn r s m new ended holds gone runnin
     let over_time : has_passed (io_timeout_of gone.asked.call) r.turn.begun k.moment ≡ true =
     ap (λ n. has_passed (io_timeout_of gone.asked.call) r.turn.begun n) (sym gone.moment)
     ∙ ap (λ n. has_passed (io_timeout_of gone.asked.call) n m.moment) (sym (gone.task s running).1) ∙ late gone.asked at in
-    gone-ends means through srq ndac k conn r went.Held m new ended Paused false (stopped_reply gone.asked.call code.Timeout (k.made ++ moves)) holds gone
+    gone-ends means through srq ndac k conn r went.Held m new ended ran.Paused false (stopped_reply gone.asked.call code.Timeout (k.made ++ moves)) holds gone
     (room-kept m new conn kept) held-refuses refl
     (timeout_law-holds f conn k.moment gone.asked u r.turn.task moves gone.goes (part-before f u moves gone.from gone.to) gone.to over_time)
-    (reply gone.asked at ∙ ap (Answered Paused false) (stop-told means through k conn r went.Held m code.Timeout gone))
+    (reply gone.asked at ∙ ap (Answered ran.Paused false) (stop-told means through k conn r went.Held m code.Timeout gone))
     within
 
 -- and it hasn't
@@ -440,8 +442,8 @@ gone-held {B} means through srq ndac k conn r s m holds gone running late =
     let in_time : has_passed (io_timeout_of gone.asked.call) r.turn.begun k.moment ≡ false =
     ap (λ n. has_passed (io_timeout_of gone.asked.call) r.turn.begun n) (sym gone.moment)
     ∙ ap (λ n. has_passed (io_timeout_of gone.asked.call) n m.moment) (sym (gone.task s running).1) ∙ late gone.asked at in
-    let polls : Polls f conn k.moment moves (Waited Held) (fine_of means m) =
-    subst (Polls f conn k.moment moves (Waited Held)) (sym gone.after)
+    let polls : Polls f conn k.moment moves (Waited why.Held) (fine_of means m) =
+    subst (Polls f conn k.moment moves (Waited why.Held)) (sym gone.after)
     (held_law-holds f conn k.moment gone.asked u r.turn.task moves gone.goes (part-before f u moves gone.from gone.to) gone.to in_time) in
     record {
       keeps = record {
@@ -450,5 +452,5 @@ gone-held {B} means through srq ndac k conn r s m holds gone running late =
       };
       moment = gone.moment;
       within = omega arith;
-      over = gone-over means through srq ndac k conn r went.Held m (Waited Held) (fine_of means m) gone held-refuses tt polls;
+      over = gone-over means through srq ndac k conn r went.Held m (Waited why.Held) (fine_of means m) gone held-refuses tt polls;
     }

@@ -27,20 +27,22 @@ use Rattle.vx_rules.specs.Effects.{stopped_reply, effect}
 use Rattle.vx_flow.specs.Event.{Begin}
 use Rattle.vx_flow.specs.FineState.{Turn, FineState, turn_of, moves_of}
 use Rattle.vx_flow.specs.Fine.{fine, job_of, wire_for, waits_for, waits_for_turn, on_conflict, turn_target, may_begin, without_dial}
-use Rattle.vx_flow.specs.Poll.{Still, Locked, InTurn, Ending, Answered, Waited, Dialed, Polls, lines_at, moved_events, run_events}
+use Rattle.vx_flow.specs.Poll.{Ending, Answered, Dialed, NotYet, Polls, ran_before, lines_at, moved_events, run_events}
+use Rattle.vx_flow.specs.declared.progress.Why.{Why}
+use Rattle.vx_flow.specs.declared.progress.Ran.TheVariants as ran
 use Rattle.vx_flow.specs.Ways.{IsPolled, over, begun_now}
-use Rattle.vx_flow.specs.ProvedLaws.{stays_sound-law, refused_law-holds, waiting_law-holds, in_turn_law-holds, no_role_law-holds, effect_law-holds, dial_law-holds, begun_law-holds}
-use Rattle.vx_kernel.specs.declared.running.Running.{Running}
-use Rattle.vx_kernel.specs.declared.ended.Why.TheVariants as why
-use Rattle.vx_kernel.specs.declared.ended.Ended.{Ended}
-use Rattle.vx_kernel.specs.declared.ended.Ended.TheVariants as ended
-use Rattle.vx_kernel.specs.KernelState.{KernelState}
-use Rattle.vx_kernel.specs.Shown.{fine_of, turn_shown, running_of, own_of, closed}
-use Rattle.vx_kernel.specs.Ending.{ended_shown, ended_len}
-use Rattle.vx_kernel.specs.Keeping.{RunsTurn, KeepsDials, Holds}
-use Rattle.vx_kernel.specs.Turning.{HasHeard, HasPassed, IsFree, HasTurn, BeginsTurn, turn_waited}
-use Rattle.vx_kernel.specs.Polling.{PollsOver, EndsFrom}
-use Rattle.vx_kernel.specs.ProvedLaws.{own-is, the_pending}
+use Rattle.vx_flow.specs.ProvedLaws.{stays_sound-law, refused_law-holds, waits_law-holds, no_role_law-holds, effect_law-holds, dial_law-holds, begun_law-holds}
+use Rattle.vx_core.specs.declared.running.Running.{Running}
+use Rattle.vx_flow.specs.declared.progress.Why.TheVariants as why
+use Rattle.vx_core.specs.declared.ended.Ended.{Ended}
+use Rattle.vx_core.specs.declared.ended.Ended.TheVariants as ended
+use Rattle.vx_core.specs.KernelState.{KernelState}
+use Rattle.vx_core.specs.Shown.{fine_of, turn_shown, running_of, own_of, closed}
+use Rattle.vx_core.specs.Ending.{ended_shown, ended_len}
+use Rattle.vx_core.specs.Keeping.{RunsTurn, KeepsDials, Holds}
+use Rattle.vx_core.specs.Turning.{HasHeard, HasPassed, IsFree, HasTurn, BeginsTurn, turn_waited}
+use Rattle.vx_core.specs.Polling.{PollsOver, EndsFrom}
+use Rattle.vx_core.specs.ProvedLaws.{own-is, the_pending}
 use Rattle.vx_core.proofs.Ends.{begun-so, still-ends, waits-ends, dials-ends}
 
 -- ---- a call that is polled
@@ -59,14 +61,14 @@ lines-so means k conn said told p h is at =
 -- a call that is answered where no transfer was made, with the state that it leaves
 still-so : {B : Type 0} (means : B → Means) (through : B → Step → B → Type 0) (srq ndac : B → Bool) (k new : KernelState B) (conn : ℕ) (after : Tables)
     (given : Reply) (ended : Ended) → HasHeard means k conn → new ≡ closed (record k { tables = after }) conn
-    → Polls (fine_of means k) conn k.moment [] (Answered Still false given) (over (fine_of means k) conn k.moment after)
-    → ended_shown ended new.room ≡ Answered Still false given → ended_len ended ≤ READ_MAX
+    → Polls (fine_of means k) conn k.moment [] (Answered ran.Still false given) (over (fine_of means k) conn k.moment after)
+    → ended_shown ended new.room ≡ Answered ran.Still false given → ended_len ended ≤ READ_MAX
     → EndsFrom means through srq ndac k conn ended new
 still-so {B} means through srq ndac k new conn after given ended heard kept polls shown within =
     let room : new.room ≡ k.room = ap (λ (s : KernelState B). s.room) kept in
     subst (EndsFrom means through srq ndac k conn ended) (sym kept)
     (still-ends means through srq ndac k conn after given ended heard.keeps.holds heard.cut polls
-    (subst (λ r. ended_shown ended r ≡ Answered Still false given) room shown) within)
+    (subst (λ r. ended_shown ended r ≡ Answered ran.Still false given) room shown) within)
 
 -- the first lines refuse it
 pub refused-ends : {B : Type 0} (means : B → Means) (through : B → Step → B → Type 0) (srq ndac : B → Bool) (k new : KernelState B) (conn : ℕ) (error : ErrorCode)
@@ -74,32 +76,38 @@ pub refused-ends : {B : Type 0} (means : B → Means) (through : B → Step → 
     → ((p : Pending) → pending_at k.tables conn ≡ Some p → lines_at (fine_of means k) conn k.moment p ≡ lines.Refused error)
     → new ≡ closed k conn
     → ((p : Pending) → pending_at k.tables conn ≡ Some p
-    → ended_shown ended new.room ≡ Answered Still false (stopped_reply p.call error (moves_of (turn_of (turn_shown k.running k.made) conn))))
+    → ended_shown ended new.room ≡ Answered ran.Still false (stopped_reply p.call error (moves_of (turn_of (turn_shown k.running k.made) conn))))
     → ended_len ended ≤ READ_MAX → EndsFrom means through srq ndac k conn ended new
 refused-ends means through srq ndac k new conn error ended heard says kept reply within =
     let p = the_pending (pending_at k.tables conn) heard.pending in
     still-so means through srq ndac k new conn k.tables _ ended heard kept
     (refused_law-holds (fine_of means k) conn k.moment p.0 error (polled means k conn p.0 heard p.1) (says p.0 p.1)) (reply p.0 p.1) within
 
--- it waits for a link's lock
+-- it waits, and no turn of its own goes on
+waiting-ends : {B : Type 0} (means : B → Means) (through : B → Step → B → Type 0) (srq ndac : B → Bool) (k : KernelState B) (conn : ℕ) (w : Why)
+    → HasHeard means k conn → ((p : Pending) → pending_at k.tables conn ≡ Some p → NotYet (fine_of means k) conn k.moment p w) → ran_before w ≡ ran.Still
+    → EndsFrom means through srq ndac k conn (ended.Waited w) k
+waiting-ends means through srq ndac k conn w heard says still =
+    let p = the_pending (pending_at k.tables conn) heard.pending in
+    waits-ends means through srq ndac k conn w (ended.Waited w) heard.keeps heard.cut still
+    (waits_law-holds (fine_of means k) conn k.moment p.0 w (polled means k conn p.0 heard p.1) (says p.0 p.1) still) refl (omega arith)
+
+-- for a link's lock
 pub locked-ends : {B : Type 0} (means : B → Means) (through : B → Step → B → Type 0) (srq ndac : B → Bool) (k : KernelState B) (conn link : ℕ)
     → HasHeard means k conn → ((p : Pending) → pending_at k.tables conn ≡ Some p → lines_at (fine_of means k) conn k.moment p ≡ lines.Waiting link)
     → EndsFrom means through srq ndac k conn (ended.Waited (why.Locked link)) k
-locked-ends means through srq ndac k conn link heard says =
-    let p = the_pending (pending_at k.tables conn) heard.pending in
-    waits-ends means through srq ndac k conn (Locked link) (ended.Waited (why.Locked link)) heard.keeps heard.cut refl
-    (waiting_law-holds (fine_of means k) conn k.moment link p.0 (polled means k conn p.0 heard p.1) (says p.0 p.1)) refl (omega arith)
+locked-ends means through srq ndac k conn link heard says = waiting-ends means through srq ndac k conn (why.Locked link) heard says refl
 
 -- ---- a call that the first lines let pass
 
 -- the turn that a call waits for
 turn-waits : (f : FineState) (conn : ℕ) (p : Pending) (turn : Option Turn) (by : ℕ) → turn_waited f conn p turn ≡ Some by
-    → (u : Turn) × (turn ≡ Some u) × (waits_for f.state.tables (wire_for f conn).own conn p u ≡ true) × (u.connection ≡ by)
+    → (u : Turn) × (turn ≡ Some u) × (u.connection ≡ by) × (waits_for f.state.tables (wire_for f conn).own conn p u ≡ true)
 turn-waits f conn p None by h = cc
 turn-waits f conn p (Some u) by h = so (waits_for f.state.tables (wire_for f conn).own conn p u) refl h where
   so : (b : Bool) → waits_for f.state.tables (wire_for f conn).own conn p u ≡ b → cond b (Some u.connection) None ≡ Some by
-      → (v : Turn) × (Some u ≡ Some v) × (waits_for f.state.tables (wire_for f conn).own conn p v ≡ true) × (v.connection ≡ by)
-  so true e x = (u, refl, e, same_Some u.connection by x)
+      → (v : Turn) × (Some u ≡ Some v) × (v.connection ≡ by) × (waits_for f.state.tables (wire_for f conn).own conn p v ≡ true)
+  so true e x = (u, refl, same_Some u.connection by x, e)
   so false e x = cc
 
 -- it waits for none
@@ -111,17 +119,14 @@ waits-none f conn p (Some u) h = so (waits_for f.state.tables (wire_for f conn).
   so true x = cc
   so false x = refl
 
+-- it waits for another connection's turn
 pub in-turn-ends : {B : Type 0} (means : B → Means) (through : B → Step → B → Type 0) (srq ndac : B → Bool) (k : KernelState B) (conn by : ℕ)
     → HasHeard means k conn → HasPassed means k conn
     → ((p : Pending) → pending_at k.tables conn ≡ Some p → turn_waited (fine_of means k) conn p (fine_of means k).turn ≡ Some by)
     → EndsFrom means through srq ndac k conn (ended.Waited (why.Turn by)) k
-in-turn-ends {B} means through srq ndac k conn by heard passed waits =
+in-turn-ends means through srq ndac k conn by heard passed waits =
     let f : FineState = fine_of means k in
-    let p = the_pending (pending_at k.tables conn) heard.pending in
-    let u = turn-waits f conn p.0 f.turn by (waits p.0 p.1) in
-    let P : ℕ → Type 0 = λ n. Polls f conn k.moment [] (Waited (InTurn n)) f in
-    waits-ends means through srq ndac k conn (InTurn by) (ended.Waited (why.Turn by)) heard.keeps heard.cut refl
-    (subst P u.3 (in_turn_law-holds f conn k.moment p.0 u.0 (polled means k conn p.0 heard p.1) (passed p.0 p.1) u.1 u.2)) refl (omega arith)
+    waiting-ends means through srq ndac k conn (why.Turn by) heard (λ p at. let u = turn-waits f conn p f.turn by (waits p at) in (passed p at, u.0, u.1, u.2, u.3)) refl
 
 -- a dial is asked for
 pub dialed-ends : {B : Type 0} (means : B → Means) (through : B → Step → B → Type 0) (srq ndac : B → Bool) (k new : KernelState B) (conn : ℕ) (ended : Ended)
@@ -149,7 +154,7 @@ pub effect-ends : {B : Type 0} (means : B → Means) (through : B → Step → B
     → ((p : Pending) → pending_at k.tables conn ≡ Some p → (is_bus_call p.call ≡ false) × (asks_dial p.call ≡ false))
     → ((p : Pending) → pending_at k.tables conn ≡ Some p → (given : Reply) × (after : Tables)
     × (effect k.tables (own_of means k conn) conn (named_link k.tables conn p.call) p.call ≡ Some (given, after))
-    × (ended_shown ended new.room ≡ Answered Still false given) × (new ≡ closed (record k { tables = after }) conn))
+    × (ended_shown ended new.room ≡ Answered ran.Still false given) × (new ≡ closed (record k { tables = after }) conn))
     → ended_len ended ≤ READ_MAX → EndsFrom means through srq ndac k conn ended new
 effect-ends {B} means through srq ndac k new conn ended heard passed free kinds has_effect within =
     let f : FineState = fine_of means k in
@@ -197,7 +202,7 @@ pub no-role-ends : {B : Type 0} (means : B → Means) (through : B → Step → 
     → ((p : Pending) → pending_at k.tables conn ≡ Some p → (job : Task) × (job_of k.tables conn p ≡ Some job) × (has ≡ has_role job (means k.bus).wire))
     → has ≡ false → same ≡ k → new ≡ closed same conn
     → ((p : Pending) → pending_at same.tables conn ≡ Some p
-    → ended_shown ended new.room ≡ Answered Still false (stopped_reply p.call code.BusFault (moves_of (turn_of (turn_shown same.running same.made) conn))))
+    → ended_shown ended new.room ≡ Answered ran.Still false (stopped_reply p.call code.BusFault (moves_of (turn_of (turn_shown same.running same.made) conn))))
     → ended_len ended ≤ READ_MAX → EndsFrom means through srq ndac k conn ended new
 no-role-ends {B} means through srq ndac k same new conn has ended heard passed none job lacks is kept reply within =
     let f : FineState = fine_of means k in
@@ -206,10 +211,10 @@ no-role-ends {B} means through srq ndac k same new conn has ended heard passed n
     let running : k.running ≡ None = none-running k.running none in
     let turn : f.turn ≡ None = ap (λ o. turn_shown o k.made) running in
     let R : KernelState B → Type 0 = λ s. (p : Pending) → pending_at s.tables conn ≡ Some p
-    → ended_shown ended new.room ≡ Answered Still false (stopped_reply p.call code.BusFault (moves_of (turn_of (turn_shown s.running s.made) conn))) in
+    → ended_shown ended new.room ≡ Answered ran.Still false (stopped_reply p.call code.BusFault (moves_of (turn_of (turn_shown s.running s.made) conn))) in
     still-so means through srq ndac k new conn k.tables _ ended heard (kept ∙ ap (λ s. closed s conn) is)
     (no_role_law-holds f conn k.moment p.0 j.0 (polled means k conn p.0 heard p.1) (passed p.0 p.1) turn j.1 (sym j.2 ∙ lacks))
-    (subst R is reply p.0 p.1 ∙ ap (λ t. Answered Still false (stopped_reply p.0.call code.BusFault (moves_of (turn_of t conn)))) turn) within
+    (subst R is reply p.0 p.1 ∙ ap (λ t. Answered ran.Still false (stopped_reply p.0.call code.BusFault (moves_of (turn_of t conn)))) turn) within
 
 -- ---- the turn begins
 

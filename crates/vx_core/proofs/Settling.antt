@@ -27,12 +27,12 @@ use Rattle.vx_flow.specs.Event.{Answer}
 use Rattle.vx_flow.specs.FineState.{Turn, FineState}
 use Rattle.vx_flow.specs.Fine.{outside, wire_for, waits_for_turn, on_conflict, turn_target}
 use Rattle.vx_flow.specs.Does.{IsClear, AnsweredBy, ByDialUp, ByDialDown}
-use Rattle.vx_kernel.specs.KernelState.{KernelState}
-use Rattle.vx_kernel.specs.CoreState.{CoreState, core_of}
-use Rattle.vx_kernel.specs.Shown.{cut_means, fine_of, closed}
-use Rattle.vx_kernel.specs.Keeping.{IsDialable, IsDialed, KeepsDials, Keeps}
+use Rattle.vx_core.specs.KernelState.{KernelState}
+use Rattle.vx_core.specs.CoreState.{CoreState, core_of}
+use Rattle.vx_core.specs.Shown.{cut_means, fine_of, closed}
+use Rattle.vx_core.specs.Keeping.{IsDialable, IsDialed, KeepsDials, Keeps}
 use Rattle.vx_core.proofs.Keeping.{keeps-later}
-use Rattle.vx_core.proofs.Calls.{Steps, Leads, ends, cut-wire, led}
+use Rattle.vx_core.proofs.CoreCalls.{Steps, Leads, ends, cut-wire, led}
 
 -- ---- a call of which a dial was asked for
 

@@ -1,5 +1,5 @@
 -- What a poll leaves, with its reply lent.
-use Rattle.std.specs.Prelude.{◌≡◌, ◌≤◌, ℕ, max, Bool, List, [], ◌∷◌, length, Option, Some}
+use Rattle.std.specs.Prelude.{◌≡◌, ◌≤◌, ℕ, max, Bool, [], ◌∷◌, length, Some}
 use Rattle.std.specs.Borrow.{MutBor, Fml}
 use denote.RattleType.{RattleType}
 use Rattle.std.specs.Io.BufRead.{Rests}
@@ -10,10 +10,9 @@ use Rattle.vx_bus_traits.specs.Means.{Means}
 use Rattle.vx_bus_traits.specs.Steps.{Step, Told, Cut}
 use Rattle.vx_bus_traits.specs.declared.bus.Bus.{Ghosts}
 use Rattle.vx_flow.specs.Poll.{Ending, Answered, Waited, Dialed, begins}
-use Rattle.vx_kernel.specs.CoreState.{CoreState}
-use Rattle.vx_kernel.specs.Given.{reply_bytes}
-use Rattle.vx_kernel.specs.Ending.{why_shown}
-use Rattle.vx_kernel.specs.Polling.{PollsOver}
+use Rattle.vx_core.specs.CoreState.{CoreState}
+use Rattle.vx_core.specs.Given.{reply_bytes}
+use Rattle.vx_core.specs.Polling.{PollsOver}
 use Rattle.vx_core.specs.declared.polled.Polled.{Polled}
 use Rattle.vx_core.specs.declared.polled.Polled.TheVariants as polled
 use Rattle.vx_core.specs.contracts.shared.Core.{the_row}
@@ -21,7 +20,7 @@ use Rattle.vx_core.specs.contracts.shared.Core.{the_row}
 -- what a poll gives tells how it ended
 abbrev pub Shows : Polled → Ending → Type 0
 Shows (polled.Answer given) (Answered ran level reply) = reply_shown given ≡ reply
-Shows (polled.NotYet why) (Waited waits) = why_shown why ≡ waits
+Shows (polled.NotYet why) (Waited waits) = why ≡ waits
 Shows (polled.Dial host port) (Dialed h p) = (host ≡ h) × (port ≡ p)
 Shows _ _ = ⊥
 

@@ -2,12 +2,23 @@
 //! which steps the bus went.
 #![tactic(auto)]
 
+mod calls;
+mod ended;
+mod given;
 mod kept;
+mod kernel;
+mod moves;
 mod order;
 mod polled;
+mod replies;
+mod running;
 mod shared;
 
+pub use ended::{Ended, Settled};
+pub use given::Given;
+pub use kernel::{Kernel, Rooms};
 pub use polled::Polled;
+pub use running::Running;
 pub use shared::{Core, StartRefused};
-pub use vx_kernel::{Settled, Why};
+pub use vx_flow::{Ran, Why};
 pub use vx_tables::Connect;

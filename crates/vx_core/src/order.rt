@@ -4,16 +4,18 @@ ghost use Rattle.vx_calls.specs.declared.limits.TheConstants.{READ_MAX};
 ghost use Rattle.vx_rules.specs.State.{Pending, pending_at};
 ghost use Rattle.vx_rules.specs.Calls as calls;
 ghost use Rattle.vx_flow.specs.Poll.{begins};
-ghost use Rattle.vx_kernel.specs.Shown.{fine_of};
-ghost use Rattle.vx_kernel.specs.Ending.{ended_len, has_run};
-ghost use Rattle.vx_kernel.specs.Keeping.{Keeps};
-ghost use Rattle.vx_kernel.specs.Polling.{Leaves, EndsFrom};
-ghost use Rattle.vx_kernel.specs.Turning.{HasHeard, HasPassed, HasTurn, IsFree};
+ghost use Rattle.vx_core.specs.Shown.{fine_of};
+ghost use Rattle.vx_core.specs.Ending.{ended_len, has_run};
+ghost use Rattle.vx_core.specs.Keeping.{Keeps};
+ghost use Rattle.vx_core.specs.Polling.{Leaves, EndsFrom};
+ghost use Rattle.vx_core.specs.Turning.{HasHeard, HasPassed, HasTurn, IsFree};
 
+use crate::ended::Ended;
+use crate::kernel::Kernel;
 use vx_bus_traits::Bus;
 use vx_calls::ErrorCode;
 use vx_ctrl::Went;
-use vx_kernel::{Ended, Kernel, Ran, Why};
+use vx_flow::{Ran, Why};
 use vx_tables::Admission;
 
 /// Answers the call of a connection by the first line of the order of answers that holds, or says why it isn't answered.

@@ -1,5 +1,5 @@
 use vx_calls::ReplyRef;
-use vx_kernel::Why;
+use vx_flow::Why;
 
 /// What a poll gives.
 #[derive(Clone, Copy, Debug)]

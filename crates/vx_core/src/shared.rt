@@ -20,8 +20,10 @@ ghost use Rattle.vx_flow.specs.Event.{Up, Down, Arrive, Answer, Abort, Sample, T
 ghost use Rattle.vx_flow.specs.FineState.{first_fine};
 ghost use Rattle.vx_flow.specs.Fine.{fine};
 ghost use Rattle.vx_flow.specs.Sound.{IsSound};
-ghost use Rattle.vx_kernel.specs.Shown.{cut_means};
+ghost use Rattle.vx_core.specs.Shown.{cut_means};
 
+use crate::ended::{Ended, Settled};
+use crate::kernel::{Kernel, Rooms};
 use crate::order::poll;
 use crate::polled::Polled;
 use std::alloc::Global;
@@ -29,7 +31,6 @@ use std::marker::Model;
 use vx_488::Transfer;
 use vx_bus_traits::{Bus, Tweak};
 use vx_calls::{CallRef, ErrorCode, Role, Taken};
-use vx_kernel::{Ended, Kernel, Rooms, Settled};
 use vx_tables::{Connect, Tables};
 
 /// Memory ran out as the core was to start; the bus comes back.
@@ -49,8 +50,8 @@ pub struct Core<B: Bus> {
 }
 
 impl<B: Bus> Model for Core<B> {
-    ghost use Rattle.vx_kernel.specs.CoreState.{CoreState, core_of};
-    ghost use Rattle.vx_kernel.specs.Keeping.{Keeps};
+    ghost use Rattle.vx_core.specs.CoreState.{CoreState, core_of};
+    ghost use Rattle.vx_core.specs.Keeping.{Keeps};
 
     ghost Value = { CoreState B };
 

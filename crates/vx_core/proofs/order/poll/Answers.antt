@@ -1,8 +1,8 @@
 use Rattle.std.proofs.Common.{max, ap, ◌∙◌, refl}
 use Rattle.std.specs.Prelude.{not, ◌&&◌}
-use Rattle.vx_kernel.specs.KernelState.{KernelState}
-use Rattle.vx_kernel.specs.Shown.{fine_of}
-use Rattle.vx_kernel.specs.Ending.{has_run}
+use Rattle.vx_core.specs.KernelState.{KernelState}
+use Rattle.vx_core.specs.Shown.{fine_of}
+use Rattle.vx_core.specs.Ending.{has_run}
 use Rattle.vx_core.proofs.Hearing.{has-heard, poll-leaves, noted-keeps}
 use Rattle.vx_core.proofs.Began.{began-so}
 use Rattle.vx_core.proofs.order.poll.Goals as goal

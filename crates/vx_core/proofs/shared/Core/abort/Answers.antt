@@ -1,4 +1,4 @@
-use Rattle.vx_core.proofs.Calls.{aborts-so}
+use Rattle.vx_core.proofs.CoreCalls.{aborts-so}
 use Rattle.vx_core.proofs.shared.Core.abort.Goals as goal
 
 pub invariant_of-self : goal.invariant_of-self

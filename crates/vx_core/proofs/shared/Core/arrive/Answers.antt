@@ -1,5 +1,5 @@
 use Rattle.vx_calls.specs.Call.{call_shown}
-use Rattle.vx_core.proofs.Calls.{arrives-so}
+use Rattle.vx_core.proofs.CoreCalls.{arrives-so}
 use Rattle.vx_core.proofs.shared.Core.arrive.Goals as goal
 
 pub invariant_of-self : goal.invariant_of-self

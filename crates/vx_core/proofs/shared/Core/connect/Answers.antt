@@ -1,4 +1,4 @@
-use Rattle.vx_core.proofs.Calls.{connects}
+use Rattle.vx_core.proofs.CoreCalls.{connects}
 use Rattle.vx_core.proofs.shared.Core.connect.Goals as goal
 
 pub invariant_of-self-2 : goal.invariant_of-self-2

@@ -1,4 +1,4 @@
-use Rattle.vx_core.proofs.Calls.{disconnects}
+use Rattle.vx_core.proofs.CoreCalls.{disconnects}
 use Rattle.vx_core.proofs.shared.Core.disconnect.Goals as goal
 
 pub invariant_of-self : goal.invariant_of-self

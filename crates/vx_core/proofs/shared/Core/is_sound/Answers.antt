@@ -1,11 +1,11 @@
 use Rattle.std.proofs.Common.{◌≡◌, ◌≤◌, Option, None, Some, refl, subst}
 use Rattle.vx_488.specs.declared.transfers.TheConstants.{ADDRESS_MAX}
 use Rattle.vx_bus_traits.specs.Means.{Means}
-use Rattle.vx_kernel.specs.declared.running.Running.{Running}
-use Rattle.vx_kernel.specs.KernelState.{KernelState}
-use Rattle.vx_kernel.specs.CoreState.{CoreState, core_of}
-use Rattle.vx_kernel.specs.Shown.{before_shown, fine_of}
-use Rattle.vx_kernel.specs.Keeping.{Holds, RunsTurn}
+use Rattle.vx_core.specs.declared.running.Running.{Running}
+use Rattle.vx_core.specs.KernelState.{KernelState}
+use Rattle.vx_core.specs.CoreState.{CoreState, core_of}
+use Rattle.vx_core.specs.Shown.{before_shown, fine_of}
+use Rattle.vx_core.specs.Keeping.{Holds, RunsTurn}
 use Rattle.vx_core.proofs.shared.Core.is_sound.Goals as goal
 
 -- the own address is at most 30 as the turn under way began, and where there is none as it is now

@@ -1,8 +1,8 @@
 use Rattle.std.proofs.Common.{◌≤◌, refl, ap, ◌∙◌, subst, arith}
 use Rattle.vx_calls.specs.declared.limits.TheConstants.{READ_MAX}
-use Rattle.vx_kernel.specs.declared.ended.Ended.TheVariants as ended
-use Rattle.vx_kernel.specs.Given.{given_reply}
-use Rattle.vx_kernel.specs.Ending.{ended_len}
+use Rattle.vx_core.specs.declared.ended.Ended.TheVariants as ended
+use Rattle.vx_core.specs.Given.{given_reply}
+use Rattle.vx_core.specs.Ending.{ended_len}
 use Rattle.vx_core.specs.declared.polled.Polled.TheVariants as polled
 use Rattle.vx_core.proofs.Lent.{core-leaves, lent-fits}
 use Rattle.vx_core.proofs.shared.Core.poll.Goals as goal

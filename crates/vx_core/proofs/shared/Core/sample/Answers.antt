@@ -1,4 +1,4 @@
-use Rattle.vx_core.proofs.Calls.{samples-so}
+use Rattle.vx_core.proofs.CoreCalls.{samples-so}
 use Rattle.vx_core.proofs.shared.Core.sample.Goals as goal
 
 pub invariant_of-self : goal.invariant_of-self

@@ -1,4 +1,4 @@
-use Rattle.vx_core.proofs.Calls.{starts}
+use Rattle.vx_core.proofs.CoreCalls.{starts}
 use Rattle.vx_core.proofs.shared.Core.start.Goals as goal
 
 pub invariant_of-result : goal.invariant_of-result

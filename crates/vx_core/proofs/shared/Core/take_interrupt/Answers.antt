@@ -1,5 +1,5 @@
 use Rattle.vx_srq.specs.Shown.{given_shown}
-use Rattle.vx_core.proofs.Calls.{takes-so}
+use Rattle.vx_core.proofs.CoreCalls.{takes-so}
 use Rattle.vx_core.proofs.shared.Core.take_interrupt.Goals as goal
 
 pub invariant_of-self : goal.invariant_of-self

@@ -1,4 +1,4 @@
-use Rattle.vx_core.proofs.Calls.{tweaks}
+use Rattle.vx_core.proofs.CoreCalls.{tweaks}
 use Rattle.vx_core.proofs.shared.Core.tweak.Goals as goal
 
 pub invariant_of-self : goal.invariant_of-self

@@ -1,4 +1,0 @@
-pub mod Leaving
-pub mod Replying
-pub mod Turning
-pub mod Dialing
