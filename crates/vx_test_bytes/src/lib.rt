@@ -12,8 +12,6 @@ mod door_tests;
 #[cfg(test)]
 mod io_tests;
 #[cfg(test)]
-mod message_tests;
-#[cfg(test)]
 mod record_tests;
 #[cfg(test)]
 mod rpc_tests;

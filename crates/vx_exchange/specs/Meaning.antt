@@ -1,11 +1,11 @@
 -- What a message on a connection means to the gateway.
-use Rattle.std.specs.Prelude.{ℕ, List, ◌++◌, length, Option, Some, None}
+use Rattle.std.specs.Prelude.{ℕ, List, ◌++◌, Option, Some, None}
 use Rattle.vx_calls.specs.declared.calls.Role.{Role}
 use Rattle.vx_calls.specs.Call.{Call}
 use Rattle.vx_calls.specs.Call as call
 use Rattle.vx_calls.specs.Reply.{Reply}
 use Rattle.vx_codec.specs.Spelling.{opaque}
-use Rattle.vx_record.specs.Fragments.{last_header}
+use Rattle.vx_record.specs.Fragments.{record_of}
 use Rattle.vx_rpc.specs.declared.refusal.RpcRefusal.TheVariants as refusal
 use Rattle.vx_rpc.specs.Sorting.{Sorting, sorted}
 use Rattle.vx_rpc.specs.Sorting as sort
@@ -46,10 +46,6 @@ meaning message role = by_sorting (sorted message role)
 abbrev pub xid_by : Meaning → ℕ → ℕ
 xid_by (Asks xid asked) last = xid
 xid_by _ last = last
-
--- a message as a record of one fragment (RFC 5531, section 11)
-abbrev pub record_of : List ℕ → List ℕ
-record_of message = last_header (length message) ++ message
 
 -- the record of a reply to the call of this xid
 abbrev pub reply_record : ℕ → Reply → List ℕ

@@ -4,9 +4,9 @@ use Rattle.vx_lemmas.specs.Slices.{two-parts}
 use Rattle.vx_rpc.specs.Wording.{call_message}
 use Rattle.vx_codec.specs.Spelling.{opaque}
 use Rattle.vx_srq.specs.Shown.{handle_shown}
-use Rattle.vx_message.specs.Meaning.{intr_srq}
-use Rattle.vx_message.proofs.Recorded.{opaque-short}
-use Rattle.vx_message.proofs.record.put_srq_message.Goals as goal
+use Rattle.vx_exchange.specs.Meaning.{intr_srq}
+use Rattle.vx_exchange.proofs.Recorded.{opaque-short}
+use Rattle.vx_exchange.proofs.record.put_srq_message.Goals as goal
 
 pub unreachable-requires-in_default-put_srq : goal.unreachable-requires-in_default-put_srq
 unreachable-requires-in_default-put_srq c =

@@ -1,8 +1,8 @@
+use Rattle.vx_record.specs.Fragments.{record_of}
 use Rattle.std.proofs.Common.{◌-◌, ◌≤◌, ap, ◌∙◌, arith}
 use Rattle.vx_lemmas.specs.Slices.{behind-mark}
-use Rattle.vx_message.specs.declared.record.TheConstants.{REPLY_ROOM}
-use Rattle.vx_message.specs.Meaning.{record_of}
-use Rattle.vx_message.proofs.record.put_success_record.Goals as goal
+use Rattle.vx_exchange.specs.declared.record.TheConstants.{REPLY_ROOM}
+use Rattle.vx_exchange.proofs.record.put_success_record.Goals as goal
 
 pub returns-clause-record : goal.returns-clause-record
 returns-clause-record c =

@@ -6,7 +6,8 @@ ghost use Rattle.vx_rpc.specs.Wording.{success_message, refusal_message, call_me
 ghost use Rattle.vx_codec.specs.Spelling.{opaque};
 ghost use Rattle.vx_srq.specs.Shown.{handle_shown};
 ghost use Rattle.vx_codec.specs.Answered.{results, IsPuttableReply};
-ghost use Rattle.vx_message.specs.Meaning.{record_of, reply_record, srq_record, intr_srq};
+ghost use Rattle.vx_record.specs.Fragments.{record_of};
+ghost use Rattle.vx_exchange.specs.Meaning.{reply_record, srq_record, intr_srq};
 
 use vx_calls::{Interrupt, READ_MAX, ReplyRef};
 use vx_codec::{put_results, put_srq};

@@ -1,4 +1,6 @@
 pub mod Meaning
+pub mod Opening
+pub mod Doing
 pub mod ProvedLaws
 pub use Rattle.vx_rules.specs.SrqState
 pub use Rattle.vx_srq.specs.Shown

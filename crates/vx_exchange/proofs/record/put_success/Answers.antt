@@ -3,7 +3,7 @@ use Rattle.vx_lemmas.specs.Slices.{two-parts}
 use Rattle.vx_rpc.specs.Wording.{success_message}
 use Rattle.vx_codec.specs.Answered.{results}
 use Rattle.vx_calls.specs.Reply.{reply_shown}
-use Rattle.vx_message.proofs.record.put_success.Goals as goal
+use Rattle.vx_exchange.proofs.record.put_success.Goals as goal
 
 pub returns-clause-message : goal.returns-clause-message
 returns-clause-message c =

@@ -1,0 +1,4 @@
+pub mod ByProcedure
+pub mod Coming
+pub mod Recorded
+pub mod Saying
