@@ -13,8 +13,7 @@ use vx_ending::{Channel, Logs, News, Reason, Visitor, tell};
 use vx_gate::{Gate, Pass};
 use vx_inst::Instrument;
 use vx_io_traits::{Accepted, Clock, Dial, Handed, Link, Listen, Net, Pause, Sink, Streams, Work};
-use vx_pump::{pump, sample_turn};
-use vx_session::{End, Linked, Room, Tally, Tools, abort_link, core_link};
+use vx_session::{End, Linked, Room, Tally, Tools, abort_link, core_link, pump, sample_turn};
 use vx_sim::SimBus;
 
 /// What the workers of one server share: the gate round its gateway, and the count of the core links that came to their end.

@@ -1,32 +1,38 @@
 -- A call of a session, from its coming to its answer: the groups that it adds, and the calls of the dial.
-use Rattle.std.proofs.Common.{◌≡◌, ◌≤◌, ◌<◌, ◌+◌, ℕ, Bool, true, false, List, [], ◌∷◌, ◌++◌, length, take, count_by, Option, Some, None, refl, sym, ap, ◌∙◌, subst, append-nil, arith}
-use Rattle.std.specs.Prelude.{if◌then◌else◌}
+use Rattle.std.proofs.Common.{◌≡◌, ◌≤◌, ◌<◌, ◌+◌, ℕ, Bool, true, false, List, [], ◌∷◌, ◌++◌, length, take, count_by, cond, Option, Some, None, refl, sym, ap, ◌∙◌, subst, append_assoc, append-nil, arith}
+use Rattle.std.proofs.lemmas.List.Elements.{All-head, All-tail}
+use Rattle.std.proofs.lemmas.List.Sums.{sum_by-cons}
+use Rattle.std.proofs.lemmas.Option.{none-some}
+use Rattle.std.specs.List.{All}
 use Rattle.vx_io_traits.specs.Faults.{Rose}
 use Rattle.vx_io_traits.specs.Rung.{AddsCalls, OnDialFailed, is_up, dialed, handed}
 use Rattle.vx_io_traits.specs.declared.dials.DialOut.{DialOut}
 use Rattle.vx_io_traits.specs.declared.dials.DialOut.TheVariants as dialout
+use Rattle.vx_io_traits.specs.declared.dials.Rang.{Rang}
 use Rattle.vx_io_traits.specs.declared.dials.Rang.TheVariants as rang
 use Rattle.vx_calls.specs.declared.calls.Role.TheVariants as role
 use Rattle.vx_calls.specs.declared.codes.ErrorCode.{ErrorCode}
 use Rattle.vx_calls.specs.Call.{Call}
-use Rattle.vx_calls.specs.Reply as reply
+use Rattle.vx_bus_traits.specs.declared.bus.Bus.{Ghosts}
 use Rattle.vx_gate.specs.PassView.{PassView}
-use Rattle.vx_message.specs.Meaning.{reply_record}
-use Rattle.vx_history.specs.Event.{Event, Arrive, Abort, Begin}
+use Rattle.vx_history.specs.Event.{Event}
+use Rattle.vx_history.specs.FineState.{FineState}
 use Rattle.vx_history.specs.Poll as poll
-use Rattle.vx_history.specs.Poll.{Ending, Waited, Dialed, Why, moved_events, end_events}
+use Rattle.vx_history.specs.Poll.{Ending, Waited, Dialed, moved_events, end_events}
+use Rattle.vx_flow.specs.declared.progress.Why.{Why}
 use Rattle.vx_history.specs.Groups.{Group}
-use Rattle.vx_turns.specs.Placing.{Placed, Makes}
 use Rattle.vx_history.specs.Phases.{Idle, Asked}
-use Rattle.vx_turns.specs.declared.acts.PollEnd.{PollEnd}
-use Rattle.vx_turns.specs.declared.acts.PollEnd.TheVariants as said
-use Rattle.vx_turns.specs.Acting.{Says}
-use Rattle.vx_turns.specs.Parts.{IsPollPart, DialsFor, phase_behind, settled_events}
-use Rattle.vx_turns.specs.Turning.{phase_at, Comes, PollsAgain, Settles}
+use Rattle.vx_exchange.specs.declared.polls.PollEnd.{PollEnd}
+use Rattle.vx_exchange.specs.declared.polls.PollEnd.TheVariants as said
+use Rattle.vx_exchange.specs.declared.polls.DialAnswered.{DialAnswered}
+use Rattle.vx_exchange.specs.Doing.{Says}
+use Rattle.vx_session.specs.Placing.{Placed, Makes, behind}
+use Rattle.vx_session.specs.Parts.{IsPolled, moment_at, phase_behind, settled_events}
+use Rattle.vx_session.specs.Turning.{phase_at, IsChannel, Comes, PollsAgain, Settles}
+use Rattle.vx_session.specs.ProvedLaws.{ispolled-all, makes-later, makes-goes}
 use Rattle.vx_session.specs.Outside.{DialShown, RoseBy, is_failed_dial}
-use Rattle.vx_session.specs.Serving.{IsSettled, Through, rings}
+use Rattle.vx_session.specs.Serving.{IsPoll, IsCalled, GoesOn, rings}
 use Rattle.vx_session.specs.Progress.{Rings, AnswersCall, AnswersDial, failed_dials}
-use Rattle.vx_turns.specs.ProvedLaws.{makes-later, makes-goes}
 use Rattle.vx_session.proofs.Progressing.{adds-none, adds-goes, failed_dials-append}
 
 -- ---- the calls of a dial
@@ -51,24 +57,19 @@ dials-so old new host port dialout.Failed told counted failed = record { told = 
 -- ---- how many dials of some groups failed
 
 -- the events of a group alone
-failed-one : (p : Placed) → failed_dials (p ∷ []) ≡ count_by is_failed_dial p.group.events
+pub failed-one : (p : Placed) → failed_dials (p ∷ []) ≡ count_by is_failed_dial p.group.events
 failed-one p = ap (count_by is_failed_dial) (append-nil p.group.events)
 
--- the events of a poll have no answer behind a dial
-part-quiet : (conn now : ℕ) (ending : Ending) (begins : Bool) (moves : List _)
-    → count_by is_failed_dial ((if begins then Begin conn now ∷ [] else []) ++ moved_events conn moves ++ end_events conn now ending) ≡ 0
-part-quiet conn now (poll.Answered ran level told) true [] = refl
-part-quiet conn now (poll.Answered ran level told) true (t ∷ ts) = refl
-part-quiet conn now (poll.Answered ran level told) false [] = refl
-part-quiet conn now (poll.Answered ran level told) false (t ∷ ts) = refl
-part-quiet conn now (Waited why) true [] = refl
-part-quiet conn now (Waited why) true (t ∷ ts) = refl
-part-quiet conn now (Waited why) false [] = refl
-part-quiet conn now (Waited why) false (t ∷ ts) = refl
-part-quiet conn now (Dialed host port) true [] = refl
-part-quiet conn now (Dialed host port) true (t ∷ ts) = refl
-part-quiet conn now (Dialed host port) false [] = refl
-part-quiet conn now (Dialed host port) false (t ∷ ts) = refl
+-- a sum of nothing and nothing
+both-none : (all front rest : ℕ) → all ≡ front + rest → front ≡ 0 → rest ≡ 0 → all ≡ 0
+both-none all front rest sum none_before none_behind = omega arith
+
+-- where none is an answer behind a failed dial, none counts
+none-failed : (events : List Event) → All (λ e. is_failed_dial e ≡ false) events → count_by is_failed_dial events ≡ 0
+none-failed [] none = refl
+none-failed (e ∷ es) none =
+    both-none (count_by is_failed_dial (e ∷ es)) (cond (is_failed_dial e) 1 0) (count_by is_failed_dial es) (sum_by-cons (λ x. cond (is_failed_dial x) 1 0) e es)
+    (ap (λ b. cond b 1 0) (All-head (λ x. is_failed_dial x ≡ false) e es none)) (none-failed es (All-tail (λ x. is_failed_dial x ≡ false) e es none))
 
 -- a count that stays
 stays : (count : ℕ) → RoseBy 0 count count
@@ -81,10 +82,6 @@ rings-still dial groups none = record {
   failed = subst (λ n. RoseBy n dial.faults dial.faults) (sym none) (stays dial.faults);
 }
 
--- a group that tells a device_abort
-pub rings-abort : (dial : DialShown) (p : Placed) (conn lid : ℕ) (error : ErrorCode) → p.group.events ≡ Abort conn lid error ∷ [] → Rings dial (p ∷ []) [] dial
-rings-abort dial p conn lid error events = rings-still dial (p ∷ []) (failed-one p ∙ ap (count_by is_failed_dial) events)
-
 -- ---- a dial, and the answer of its call
 
 -- the answer has a fault of its own where the dial failed
@@ -96,267 +93,207 @@ settled-failed p conn now up error before after events counted failed =
       by true h = omega arith
       by false h = h
 
--- Its call was answered behind a dial, and a stream that stands was handed on.
-pub dial-answered : (told now : ℕ) (pass pass' : PassView Group) (conn xid host port : ℕ) (up : Bool) (error : ErrorCode) (chan : Option ℕ) (n : ℕ) (old mid new : DialShown) (out : List ℕ)
-    → now ≤ told → Dials old mid host port up → Settles now pass conn up error chan pass' → chan ≡ Some n → AddsCalls mid.calls new.calls (handed conn n ∷ [])
-    → new.faults ≡ mid.faults → out ≡ reply_record xid (reply.Error error) → AnswersDial told pass conn xid host port old out pass' new
-dial-answered told now pass pass' conn xid host port up error chan n old mid new out later dials settles is hands kept record_is =
-    by up dials (subst (λ c. Settles now pass conn up error c pass') is settles) where
-      by : (u : Bool) → Dials old mid host port u → Settles now pass conn u error (Some n) pass' → AnswersDial told pass conn xid host port old out pass' new
-      by true dials settles =
-          let counted : old.faults ≤ new.faults = subst (λ k. old.faults ≤ k) (sym kept) dials.counted in
-          record {
-            group = settles.placed;
-            rung = rings conn host port true (Some n);
-            makes = makes-later now told pass pass' (settles.placed ∷ []) later settles.turns.makes;
-            settled = record {
-              up = true;
-              now = settles.now;
-              error = error;
-              chan = Some n;
-              events = settles.events;
-              chan_is = settles.chan_is;
-              rung = refl;
-              told = record_is;
-            };
-            rings = record {
-              told = adds-goes old.calls mid.calls new.calls (rang.Dialed host port true ∷ []) (handed conn n ∷ []) dials.told hands;
-              failed = settled-failed settles.placed conn settles.now true error old.faults new.faults settles.events counted tt;
-            };
-          }
-      by false dials settles = let none = settles.chan_is in absurd (cc)
+module _ {B : Type 0} (g : Ghosts B) (told now : ℕ) (pass pass' : PassView Group) (conn xid : ℕ) (call : Call) (host port : ℕ) (room : List ℕ) where
+  -- Its call was answered behind a dial: these are the calls of the dial, with those that handed a stream on.
+  settled-so : (up : Bool) (answered : DialAnswered) (chan : Option ℕ) (old new : DialShown) → now ≤ told → Settles now pass conn xid up room answered pass' → answered.chan ≡ chan
+      → AddsCalls old.calls new.calls (rings conn host port up chan) → old.faults ≤ new.faults → IfDown up (Rose old.faults new.faults)
+      → AnswersDial g told pass conn xid call host port old (take answered.len room) pass' new
+  settled-so up answered chan old new later settles is calls counted failed = record {
+    placed = settles.placed ∷ [];
+    rung = rings conn host port up chan;
+    makes = makes-later now told pass pass' (settles.placed ∷ []) later settles.turns.makes;
+    rings = record {
+      told = calls;
+      failed = settled-failed settles.placed conn (moment_at settles.placed now) up answered.error old.faults new.faults settles.events counted failed;
+    };
+    holding = record {
+      up = up;
+      told = now;
+      error = answered.error;
+      chan = answered.chan;
+      events = settles.events;
+      error_is = settles.error_is;
+      chan_is = settles.chan_is;
+      rung = ap (rings conn host port up) (sym is);
+      reply_is = settles.stands.record_is;
+    };
+  }
 
--- Its call was answered behind a dial that failed.
-pub dial-failed : (told now : ℕ) (pass pass' : PassView Group) (conn xid host port : ℕ) (up : Bool) (error : ErrorCode) (chan : Option ℕ) (old new : DialShown) (out : List ℕ)
-    → now ≤ told → Dials old new host port up → Settles now pass conn up error chan pass' → chan ≡ None → out ≡ reply_record xid (reply.Error error)
-    → AnswersDial told pass conn xid host port old out pass' new
-dial-failed told now pass pass' conn xid host port up error chan old new out later dials settles is record_is =
-    by up dials (subst (λ c. Settles now pass conn up error c pass') is settles) where
-      by : (u : Bool) → Dials old new host port u → Settles now pass conn u error None pass' → AnswersDial told pass conn xid host port old out pass' new
-      by true dials settles = absurd settles.chan_is
-      by false dials settles = record {
-        group = settles.placed;
-        rung = rings conn host port false None;
-        makes = makes-later now told pass pass' (settles.placed ∷ []) later settles.turns.makes;
-        settled = record {
-          up = false;
-          now = settles.now;
-          error = error;
-          chan = None;
-          events = settles.events;
-          chan_is = settles.chan_is;
-          rung = refl;
-          told = record_is;
-        };
-        rings = record {
-          told = dials.told;
-          failed = settled-failed settles.placed conn settles.now false error old.faults new.faults settles.events dials.counted dials.failed;
-        };
-      }
+  -- where it made a channel, the dial came up, and a stream that stands was handed on
+  pub dial-answered : (up : Bool) (answered : DialAnswered) (n : ℕ) (old mid new : DialShown) → now ≤ told → Dials old mid host port up
+      → Settles now pass conn xid up room answered pass' → answered.chan ≡ Some n → AddsCalls mid.calls new.calls (handed conn n ∷ []) → new.faults ≡ mid.faults
+      → AnswersDial g told pass conn xid call host port old (take answered.len room) pass' new
+  dial-answered true answered n old mid new later dials settles is hands kept =
+      settled-so true answered (Some n) old new later settles is
+      (adds-goes old.calls mid.calls new.calls (rang.Dialed host port true ∷ []) (handed conn n ∷ []) dials.told hands)
+      (subst (λ k. old.faults ≤ k) (sym kept) dials.counted) tt
+  dial-answered false answered n old mid new later dials settles is hands kept = absurd (none-some n (sym settles.chan_is ∙ is))
+
+  -- where it made none, the dial failed
+  pub dial-failed : (up : Bool) (answered : DialAnswered) (old new : DialShown) → now ≤ told → Dials old new host port up
+      → Settles now pass conn xid up room answered pass' → answered.chan ≡ None → AnswersDial g told pass conn xid call host port old (take answered.len room) pass' new
+  dial-failed true answered old new later dials settles is = absurd (no-channel answered.chan is settles.chan_is) where
+    no-channel : (chan : Option ℕ) → chan ≡ None → IsChannel (behind pass.number settles.placed) conn true chan → ⊥
+    no-channel None none is_channel = is_channel
+    no-channel (Some n) none is_channel = absurd (none-some n (sym none))
+  dial-failed false answered old new later dials settles is = settled-so false answered None old new later settles is dials.told dials.counted dials.failed
 
 -- ---- the polls of a call
 
 -- a poll settles no dial, whatever it did
-poll-quiet : (conn now : ℕ) (ending : Ending) (events : List Event) → IsPollPart conn now ending events → count_by is_failed_dial events ≡ 0
-poll-quiet conn now ending events part = ap (count_by is_failed_dial) part.are ∙ part-quiet conn now ending part.begins part.moves
+poll-quiet : {B : Type 0} (g : Ghosts B) (f : FineState) (conn now : ℕ) (ending : Ending) (events : List Event) → IsPolled g f conn now ending events
+    → count_by is_failed_dial events ≡ 0
+poll-quiet g f conn now ending events polled =
+    none-failed events (ispolled-all (λ e. is_failed_dial e ≡ false) g f conn now ending events polled refl (λ made. refl) (λ failed level told. refl) refl)
 
--- a sum of nothing and nothing
-both-none : (all front rest : ℕ) → all ≡ front + rest → front ≡ 0 → rest ≡ 0 → all ≡ 0
-both-none all front rest sum none_before none_behind = omega arith
+module _ {B : Type 0} (g : Ghosts B) (told : ℕ) (pass pass' : PassView Group) (conn xid : ℕ) (call : Call) where
+  -- The call came and was polled, the last time with this end, as its turn says it: with the groups so far, and those with which
+  -- it goes on from there, it is called. None of the groups has an answer behind a dial.
+  pub record Polled (room : List ℕ) (end : PollEnd) : Type 0 where
+    pub groups : List Placed
+    pub last : Ending
+    pub makes : Makes told pass groups pass'
+    pub called : (rest : List Placed) (rung : List Rang) (out : List ℕ) → GoesOn g pass.number conn xid call last rest rung out
+        → IsCalled g pass.number conn xid call (groups ++ rest) rung out
+    pub quiet : failed_dials groups ≡ 0
+    pub says : Says xid room end last
+    pub phase : phase_at pass' conn ≡ phase_behind call false last
 
--- a sum of nothing and a rest
-front-none : (all front rest : ℕ) → all ≡ front + rest → front ≡ 0 → all ≡ rest
-front-none all front rest sum none_before = omega arith
-
--- so do all polls behind the first
-polls-quiet : (conn : ℕ) (call : Call) (first last : Ending) (ps : List Placed) → Through conn call first ps last → failed_dials ps ≡ 0
-polls-quiet conn call first last [] through = refl
-polls-quiet conn call (Waited why) last (p ∷ ps) through =
-    both-none (failed_dials (p ∷ ps)) (failed_dials (p ∷ [])) (failed_dials ps) (failed_dials-append (p ∷ []) ps)
-    (failed-one p ∙ poll-quiet conn through.0 through.1 p.group.events through.2) (polls-quiet conn call through.1 last ps through.4)
-polls-quiet conn call (poll.Answered ran level told) last (p ∷ ps) through = absurd through
-polls-quiet conn call (Dialed host port) last (p ∷ ps) through = absurd through
-
--- a poll without an answer, and then one more
-through-more : (conn : ℕ) (call : Call) (first : Ending) (why : Why) (ps : List Placed) (p : Placed) (now : ℕ) (last : Ending) → Through conn call first ps (Waited why)
-    → IsPollPart conn now last p.group.events → DialsFor call last → Through conn call first (ps ++ p ∷ []) last
-through-more conn call first why [] p now last through part dials =
-    subst (λ e. Through conn call e (p ∷ []) last) through (now, last, part, dials, refl)
-through-more conn call (Waited first) why (q ∷ ps) p now last through part dials =
-    (through.0, through.1, through.2, through.3, through-more conn call through.1 why ps p now last through.4 part dials)
-through-more conn call (poll.Answered ran level told) why (q ∷ ps) p now last through part dials = absurd through
-through-more conn call (Dialed host port) why (q ∷ ps) p now last through part dials = absurd through
-
--- A call came and was polled, the last time with this end, as its act says it.
-pub record Polled (told : ℕ) (pass : PassView Group) (conn xid : ℕ) (call : Call) (room : List ℕ) (end : PollEnd) (pass' : PassView Group) : Type 0 where
-  pub first : Placed
-  pub polls : List Placed
-  pub now : ℕ
-  pub part : List Event
-  pub begun : Ending
-  pub last : Ending
-  pub makes : Makes told pass (first ∷ polls) pass'
-  pub events : first.group.events ≡ Arrive conn call now ∷ part
-  pub is_part : IsPollPart conn now begun part
-  pub dials : DialsFor call begun
-  pub through : Through conn call begun polls last
-  pub says : Says xid room end last
-  pub phase : phase_at pass' conn ≡ phase_behind call false last
-
-module _ (told : ℕ) (pass pass' : PassView Group) (conn xid : ℕ) (call : Call) (room : List ℕ) where
   -- it came, and was polled once
-  pub polled-once : (now : ℕ) (end : PollEnd) → now ≤ told → Comes now pass conn xid call room end pass' → Polled told pass conn xid call room end pass'
-  polled-once now end later comes = record {
-    first = comes.placed;
-    polls = [];
-    now = comes.now;
-    part = comes.part;
-    begun = comes.ending;
+  pub polled-once : (now : ℕ) (room : List ℕ) (end : PollEnd) → now ≤ told → Comes g now pass conn xid call room end pass' → Polled room end
+  polled-once now room end later comes = record {
+    groups = comes.placed ∷ [];
     last = comes.ending;
     makes = makes-later now told pass pass' (comes.placed ∷ []) later comes.turns.makes;
-    events = comes.events;
-    is_part = comes.is_part;
-    dials = comes.dials;
-    through = refl;
+    called = λ rest rung out goes_on. record {
+      first = comes.placed;
+      later = rest;
+      groups = refl;
+      told = now;
+      begun = comes.ending;
+      comes = comes.comes;
+      dials = comes.dials;
+      goes_on = goes_on;
+    };
+    quiet = failed-one comes.placed ∙ ap (count_by is_failed_dial) comes.comes.events
+        ∙ poll-quiet g comes.comes.come conn (moment_at comes.placed now) comes.ending comes.comes.part comes.comes.polled;
     says = comes.says;
     phase = comes.phase;
-  }
-
-  -- none of its groups has an answer behind a dial
-  called-quiet : (end : PollEnd) (polled : Polled told pass conn xid call room end pass') → failed_dials (polled.first ∷ polled.polls) ≡ 0
-  called-quiet end polled =
-      both-none (failed_dials (polled.first ∷ polled.polls)) (failed_dials (polled.first ∷ [])) (failed_dials polled.polls) (failed_dials-append (polled.first ∷ []) polled.polls)
-      (failed-one polled.first ∙ ap (count_by is_failed_dial) polled.events ∙ poll-quiet conn polled.now polled.begun polled.part polled.is_part)
-      (polls-quiet conn call polled.begun polled.last polled.polls polled.through)
-
-  -- the phase of a call whose last poll left it without an answer
-  waits-at : (last : Ending) → Says xid room said.NotYet last → phase_at pass' conn ≡ phase_behind call false last → phase_at pass' conn ≡ Asked call false
-  waits-at (Waited why) says phase = phase
-  waits-at (poll.Answered ran level reply) says phase = absurd says
-  waits-at (Dialed host port) says phase = absurd says
-
-  -- such a call waits for its answer, and no dial was asked for
-  pub polled-waits : (end : PollEnd) → end ≡ said.NotYet → Polled told pass conn xid call room end pass' → phase_at pass' conn ≡ Asked call false
-  polled-waits end is polled = waits-at polled.last (subst (λ e. Says xid room e polled.last) is polled.says) polled.phase
-
-  -- a poll behind one that its act tells as without an answer
-  through-again : (last next : Ending) (first : Ending) (ps : List Placed) (p : Placed) (now : ℕ) → Says xid room said.NotYet last → Through conn call first ps last
-      → IsPollPart conn now next p.group.events → DialsFor call next → Through conn call first (ps ++ p ∷ []) next
-  through-again (Waited why) next first ps p now says through part dials = through-more conn call first why ps p now next through part dials
-  through-again (poll.Answered ran level reply) next first ps p now says through part dials = absurd says
-  through-again (Dialed host port) next first ps p now says through part dials = absurd says
-
-  -- it has no answer yet, and is polled again
-  pub polled-again : (told' now : ℕ) (pass'' : PassView Group) (room' : List ℕ) (end end' : PollEnd) → told ≤ told' → now ≤ told' → end ≡ said.NotYet
-      → Polled told pass conn xid call room end pass' → PollsAgain now pass' conn xid call false room' end' pass'' → Polled told' pass conn xid call room' end' pass''
-  polled-again told' now pass'' room' end end' later by_then is polled again = record {
-    first = polled.first;
-    polls = polled.polls ++ again.placed ∷ [];
-    now = polled.now;
-    part = polled.part;
-    begun = polled.begun;
-    last = again.ending;
-    makes = makes-goes told told' pass pass' pass'' (polled.first ∷ polled.polls) (again.placed ∷ []) later polled.makes
-        (makes-later now told' pass' pass'' (again.placed ∷ []) by_then again.turns.makes);
-    events = polled.events;
-    is_part = polled.is_part;
-    dials = polled.dials;
-    through = through-again polled.last again.ending polled.begun polled.polls again.placed again.now (subst (λ e. Says xid room e polled.last) is polled.says) polled.through again.is_part again.dials;
-    says = again.says;
-    phase = again.phase;
   }
 
   -- ---- how it ends
 
   -- a poll answered it: the reply's record stands at the front of the room, and the connection is idle again
-  pub record Replies (dial : DialShown) (len : ℕ) : Type 0 where
-    pub answers : AnswersCall told pass conn xid call dial (take len room) pass' dial
+  pub record Replies (room : List ℕ) (dial : DialShown) (len : ℕ) : Type 0 where
+    pub answers : AnswersCall g told pass conn xid call dial (take len room) pass' dial
     pub phase : phase_at pass' conn ≡ Idle role.Core
     pub some : 0 < len
     pub within : len ≤ length room
 
-  -- so it is where the act tells a reply
-  pub polled-replied : (dial : DialShown) (end : PollEnd) (len : ℕ) → end ≡ said.Replied len → Polled told pass conn xid call room end pass' → Replies dial len
-  polled-replied dial end len is polled =
-      by polled.last polled.through (subst (λ e. Says xid room e polled.last) is polled.says) polled.phase where
-        by : (last : Ending) → Through conn call polled.begun polled.polls last → Says xid room (said.Replied len) last → phase_at pass' conn ≡ phase_behind call false last → Replies dial len
-        by (poll.Answered ran level reply) through says phase = record {
-          answers = record {
-            item = record { message = []; placed = polled.first ∷ polled.polls; calls = []; reply = take len room };
-            makes = polled.makes;
-            called = record {
-              first = polled.first;
-              polls = polled.polls;
-              end = [];
-              placed = ap (λ ps. polled.first ∷ ps) (sym (append-nil polled.polls));
-              now = polled.now;
-              part = polled.part;
-              begun = polled.begun;
-              last = poll.Answered ran level reply;
-              events = polled.events;
-              is_part = polled.is_part;
-              dials = polled.dials;
-              through = through;
-              ends = (refl, says.0);
-            };
-            rings = rings-still dial (polled.first ∷ polled.polls) (called-quiet end polled);
-            replied = refl;
-          };
-          phase = phase;
-          some = says.1;
-          within = says.2;
-        }
-        by (Waited why) through says phase = absurd says
-        by (Dialed host port) through says phase = absurd says
+  -- so it is where the turn tells a reply
+  pub polled-replied : (room : List ℕ) (dial : DialShown) (end : PollEnd) (len : ℕ) (error : ErrorCode) → end ≡ said.Replied len error → Polled room end → Replies room dial len
+  polled-replied room dial end len error is polled = by polled.last polled.called (subst (λ e. Says xid room e polled.last) is polled.says) polled.phase where
+    by : (last : Ending) → ((rest : List Placed) (rung : List Rang) (out : List ℕ) → GoesOn g pass.number conn xid call last rest rung out
+        → IsCalled g pass.number conn xid call (polled.groups ++ rest) rung out)
+        → Says xid room (said.Replied len error) last → phase_at pass' conn ≡ phase_behind call false last → Replies room dial len
+    by (poll.Answered ran level reply) called says phase = record {
+      answers = record {
+        placed = polled.groups;
+        rung = [];
+        makes = polled.makes;
+        rings = rings-still dial polled.groups polled.quiet;
+        holding = subst (λ ps. IsCalled g pass.number conn xid call ps [] (take len room)) (append-nil polled.groups) (called [] [] (take len room) (refl, says.0.record_is));
+      };
+      phase = phase;
+      some = says.0.some;
+      within = says.0.within;
+    }
+    by (Waited why) called says phase = absurd says
+    by (Dialed host port) called says phase = absurd says
 
   -- the phase of a call whose last poll asked for a dial
-  pub polled-dials : (end : PollEnd) (host port : ℕ) → end ≡ said.Dial host port → Polled told pass conn xid call room end pass' → phase_at pass' conn ≡ Asked call true
-  polled-dials end host port is polled = by polled.last (subst (λ e. Says xid room e polled.last) is polled.says) polled.phase where
+  pub polled-dials : (room : List ℕ) (end : PollEnd) (host port : ℕ) → end ≡ said.Dial host port → Polled room end → phase_at pass' conn ≡ Asked call true
+  polled-dials room end host port is polled = by polled.last (subst (λ e. Says xid room e polled.last) is polled.says) polled.phase where
     by : (last : Ending) → Says xid room (said.Dial host port) last → phase_at pass' conn ≡ phase_behind call false last → phase_at pass' conn ≡ Asked call true
     by (Dialed h p) says phase = phase
     by (poll.Answered ran level reply) says phase = absurd says
     by (Waited why) says phase = absurd says
 
+  -- the phase of a call whose last poll left it without an answer: it waits for one, and no dial was asked for
+  pub polled-waits : (room : List ℕ) (end : PollEnd) (why : _) → end ≡ said.NotYet why → Polled room end → phase_at pass' conn ≡ Asked call false
+  polled-waits room end why is polled = by polled.last (subst (λ e. Says xid room e polled.last) is polled.says) polled.phase where
+    by : (last : Ending) → Says xid room (said.NotYet why) last → phase_at pass' conn ≡ phase_behind call false last → phase_at pass' conn ≡ Asked call false
+    by (Waited waits) says phase = phase
+    by (poll.Answered ran level reply) says phase = absurd says
+    by (Dialed host port) says phase = absurd says
+
+-- ---- from one poll to the next
+
+-- a sum of nothing and a rest
+front-none : (all front rest : ℕ) → all ≡ front + rest → front ≡ 0 → rest ≡ all
+front-none all front rest sum none_before = omega arith
+
+module _ {B : Type 0} (g : Ghosts B) (told told' : ℕ) (pass pass' pass'' : PassView Group) (conn xid : ℕ) (call : Call) (room : List ℕ) (end : PollEnd) where
+  -- a call without an answer goes on by one more poll
+  goes-by-poll : (last next : Ending) (why : _) (p : Placed) (rest : List Placed) (rung : List Rang) (out : List ℕ) → Says xid room (said.NotYet why) last → IsPoll g conn call p next
+      → GoesOn g pass.number conn xid call next rest rung out → GoesOn g pass.number conn xid call last (p ∷ rest) rung out
+  goes-by-poll (Waited waits) next why p rest rung out says poll goes_on = (next, poll, goes_on)
+  goes-by-poll (poll.Answered ran level reply) next why p rest rung out says poll goes_on = absurd says
+  goes-by-poll (Dialed host port) next why p rest rung out says poll goes_on = absurd says
+
+  -- it has no answer yet, and is polled again
+  pub polled-again : (now : ℕ) (room' : List ℕ) (end' : PollEnd) (why : _) → told ≤ told' → now ≤ told' → end ≡ said.NotYet why
+      → Polled g told pass pass' conn xid call room end → PollsAgain g now pass' conn xid call false room' end' pass'' → Polled g told' pass pass'' conn xid call room' end'
+  polled-again now room' end' why later by_then is polled again =
+      let p = again.placed in
+      let says = subst (λ e. Says xid room e polled.last) is polled.says in
+      record {
+        groups = polled.groups ++ p ∷ [];
+        last = again.ending;
+        makes = makes-goes told told' pass pass' pass'' polled.groups (p ∷ []) later polled.makes (makes-later now told' pass' pass'' (p ∷ []) by_then again.turns.makes);
+        called = λ rest rung out goes_on.
+            subst (λ ps. IsCalled g pass.number conn xid call ps rung out) (sym (append_assoc polled.groups (p ∷ []) rest))
+            (polled.called (p ∷ rest) rung out
+            (goes-by-poll polled.last again.ending why p rest rung out says (record { told = now; polls = again.polls; dials = again.dials }) goes_on));
+        quiet = both-none (failed_dials (polled.groups ++ p ∷ [])) (failed_dials polled.groups) (failed_dials (p ∷ [])) (failed_dials-append polled.groups (p ∷ [])) polled.quiet
+            (failed-one p ∙ poll-quiet g again.polls.state conn (moment_at p now) again.ending p.group.events again.polls.polled);
+        says = again.says;
+        phase = again.phase;
+      }
+
+  -- a call that asked for a dial goes on as it was asked
+  goes-by-dial : (last : Ending) (host port : ℕ) (rest : List Placed) (rung : List Rang) (out : List ℕ) → Says xid room (said.Dial host port) last
+      → GoesOn g pass.number conn xid call (Dialed host port) rest rung out → GoesOn g pass.number conn xid call last rest rung out
+  goes-by-dial (Dialed h p) host port rest rung out says goes_on =
+      subst (λ k. GoesOn g pass.number conn xid call (Dialed h k) rest rung out) says.1
+      (subst (λ k. GoesOn g pass.number conn xid call (Dialed k port) rest rung out) says.0 goes_on)
+  goes-by-dial (poll.Answered ran level reply) host port rest rung out says goes_on = absurd says
+  goes-by-dial (Waited waits) host port rest rung out says goes_on = absurd says
+
   -- the dial was made then, and the call answered
-  pub polled-settled : (told' : ℕ) (dial dial' : DialShown) (out : List ℕ) (pass'' : PassView Group) (end : PollEnd) (host port : ℕ) → told ≤ told' → end ≡ said.Dial host port
-      → Polled told pass conn xid call room end pass' → AnswersDial told' pass' conn xid host port dial out pass'' dial' → AnswersCall told' pass conn xid call dial out pass'' dial'
-  polled-settled told' dial dial' out pass'' end host port later is polled dialed =
-      by polled.last polled.through (subst (λ e. Says xid room e polled.last) is polled.says) where
-        by : (last : Ending) → Through conn call polled.begun polled.polls last → Says xid room (said.Dial host port) last → AnswersCall told' pass conn xid call dial out pass'' dial'
-        by (Dialed h p) through says = record {
-          item = record { message = []; placed = polled.first ∷ polled.polls ++ dialed.group ∷ []; calls = dialed.rung; reply = out };
-          makes = makes-goes told told' pass pass' pass'' (polled.first ∷ polled.polls) (dialed.group ∷ []) later polled.makes dialed.makes;
-          called = record {
-            first = polled.first;
-            polls = polled.polls;
-            end = dialed.group ∷ [];
-            placed = refl;
-            now = polled.now;
-            part = polled.part;
-            begun = polled.begun;
-            last = Dialed h p;
-            events = polled.events;
-            is_part = polled.is_part;
-            dials = polled.dials;
-            through = through;
-            ends = subst (λ k. IsSettled k conn xid h p dialed.group dialed.rung out) polled.makes.number
-                (subst (λ k. IsSettled pass'.number conn xid h k dialed.group dialed.rung out) says.1
-                (subst (λ k. IsSettled pass'.number conn xid k port dialed.group dialed.rung out) says.0 dialed.settled));
-          };
-          rings = record {
-            told = dialed.rings.told;
-            failed = subst (λ n. RoseBy n dial.faults dial'.faults)
-                (sym (front-none (failed_dials ((polled.first ∷ polled.polls) ++ dialed.group ∷ [])) (failed_dials (polled.first ∷ polled.polls)) (failed_dials (dialed.group ∷ []))
-                (failed_dials-append (polled.first ∷ polled.polls) (dialed.group ∷ [])) (called-quiet end polled)))
-                dialed.rings.failed;
-          };
-          replied = refl;
-        }
-        by (poll.Answered ran level reply) through says = absurd says
-        by (Waited why) through says = absurd says
+  pub polled-settled : (dial dial' : DialShown) (out : List ℕ) (host port : ℕ) → told ≤ told' → end ≡ said.Dial host port → Polled g told pass pass' conn xid call room end
+      → AnswersDial g told' pass' conn xid call host port dial out pass'' dial' → AnswersCall g told' pass conn xid call dial out pass'' dial'
+  polled-settled dial dial' out host port later is polled dialed =
+      let says = subst (λ e. Says xid room e polled.last) is polled.says in
+      record {
+        placed = polled.groups ++ dialed.placed;
+        rung = dialed.rung;
+        makes = makes-goes told told' pass pass' pass'' polled.groups dialed.placed later polled.makes dialed.makes;
+        rings = record {
+          told = dialed.rings.told;
+          failed = subst (λ n. RoseBy n dial.faults dial'.faults)
+              (front-none (failed_dials (polled.groups ++ dialed.placed)) (failed_dials polled.groups) (failed_dials dialed.placed)
+              (failed_dials-append polled.groups dialed.placed) polled.quiet)
+              dialed.rings.failed;
+        };
+        holding = polled.called dialed.placed dialed.rung out
+            (goes-by-dial polled.last host port dialed.placed dialed.rung out says
+            (subst (λ n. GoesOn g n conn xid call (Dialed host port) dialed.placed dialed.rung out) polled.makes.number dialed.holding));
+      }
 
 -- The polls of a call so far, while the clock went on and nothing was dialed.
-pub record Polling {C D : Type 0} (told : C → ℕ) (clock clock' : C) (dial dial' : D) (pass : PassView Group) (conn xid : ℕ) (call : Call) (room : List ℕ) (end : PollEnd) (pass' : PassView Group) : Type 0 where
-  pub polled : Polled (told clock') pass conn xid call room end pass'
+pub record Polling {B C D : Type 0} (g : Ghosts B) (told : C → ℕ) (clock clock' : C) (dial dial' : D) (pass : PassView Group) (conn xid : ℕ) (call : Call) (room : List ℕ) (end : PollEnd)
+    (pass' : PassView Group) : Type 0 where
+  pub polled : Polled g (told clock') pass pass' conn xid call room end
   pub later : told clock ≤ told clock'
   pub dial_is : dial' ≡ dial

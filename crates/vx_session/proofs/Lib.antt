@@ -1,3 +1,12 @@
+pub mod Pumped
+pub mod Moments
+pub mod Adding
+pub mod Phased
+pub mod Owned
+pub mod Making
+pub mod Outcomes
+pub mod Channels
+pub mod Polled
 pub mod Calling
 pub mod Finishing
 pub mod Piecewise

@@ -8,6 +8,7 @@ use Rattle.std.proofs.lemmas.List.Concat.{flat_map-append}
 use Rattle.vx_io_traits.specs.Faults.{Rose}
 use Rattle.vx_calls.specs.declared.calls.Role.{Role}
 use Rattle.vx_calls.specs.declared.limits.TheConstants.{RECORD_MAX}
+use Rattle.vx_bus_traits.specs.declared.bus.Bus.{Ghosts}
 use Rattle.vx_gate.specs.PassView.{PassView}
 use Rattle.vx_record.specs.Buffer.{BufState, fresh, step, fed, taken}
 use Rattle.vx_record.specs.Runs.{Stream, brought, run, FedFrom}
@@ -16,7 +17,7 @@ use Rattle.vx_record.specs.declared.Feed.TheVariants.{More, Whole, TooLong}
 use Rattle.vx_record.specs.ProvedLaws.{fed-stopped, taken-more, taken-stopped, run-append, brought-more, brought-whole, brought-long}
 use Rattle.vx_history.specs.Groups.{Group}
 use Rattle.vx_history.specs.Phases.{Idle}
-use Rattle.vx_turns.specs.Turning.{phase_at}
+use Rattle.vx_session.specs.Turning.{phase_at}
 use Rattle.vx_link.specs.Shown.{LinkShown}
 use Rattle.vx_session.specs.Outside.{DialShown}
 use Rattle.vx_session.specs.Serving.{Item}
@@ -110,25 +111,25 @@ ends-behind r seen seen' seen'' items items' kept behind unsent at limit buffer 
 )
 
 -- The records of a piece up to a place were served, and their replies went: the buffer waits for more there.
-pub record PieceSoFar {L : Type 0} (stands : L → List ℕ → List ℕ → Type 0) (r : Role) (conn : ℕ) (pass : PassView Group) (link : L) (seen : LinkShown) (dial : DialShown)
+pub record PieceSoFar {B L : Type 0} (g : Ghosts B) (stands : L → List ℕ → List ℕ → Type 0) (r : Role) (conn : ℕ) (pass : PassView Group) (link : L) (seen : LinkShown) (dial : DialShown)
     (buffer : BufState) (piece : List ℕ) (told at : ℕ) (pass' : PassView Group) (link' : L) (seen' : LinkShown) (dial' : DialShown) (buffer' : BufState) : Type 0 where
   pub items : List Item
   pub written : List ℕ
-  pub progress : Progress stands told r conn pass link seen dial items [] written pass' link' seen' dial'
+  pub progress : Progress g stands told r conn pass link seen dial items [] written pass' link' seen' dial'
   pub wrote : replies items ≡ written
   pub ran : run (record { records = []; buffer = buffer }) (take at piece) ≡ record { records = messages items; buffer = buffer' }
   pub more : buffer'.state ≡ More
   pub phase : phase_at pass' conn ≡ Idle r
 
-module _ {L : Type 0} (stands : L → List ℕ → List ℕ → Type 0) (r : Role) (conn : ℕ) (pass : PassView Group) (link : L) (seen : LinkShown) (dial : DialShown) (buffer : BufState)
+module _ {B L : Type 0} (g : Ghosts B) (stands : L → List ℕ → List ℕ → Type 0) (r : Role) (conn : ℕ) (pass : PassView Group) (link : L) (seen : LinkShown) (dial : DialShown) (buffer : BufState)
     (piece : List ℕ) where
   -- before its first byte
   pub piece-none : (told : ℕ) → buffer.state ≡ More → phase_at pass conn ≡ Idle r
-      → PieceSoFar stands r conn pass link seen dial buffer piece told 0 pass link seen dial buffer
+      → PieceSoFar g stands r conn pass link seen dial buffer piece told 0 pass link seen dial buffer
   piece-none told more phase = record {
     items = [];
     written = [];
-    progress = progress-none stands r conn told pass link seen dial;
+    progress = progress-none g stands r conn told pass link seen dial;
     wrote = refl;
     ran = refl;
     more = more;
@@ -137,8 +138,8 @@ module _ {L : Type 0} (stands : L → List ℕ → List ℕ → Type 0) (r : Rol
 
   -- a feed took the rest of the piece, and the buffer waits for more
   pub piece-more : (told at took : ℕ) (pass' : PassView Group) (link' : L) (seen' : LinkShown) (dial' : DialShown) (old new : BufState)
-      → PieceSoFar stands r conn pass link seen dial buffer piece told at pass' link' seen' dial' old → FedFrom old piece at took new → new.state ≡ More
-      → PieceSoFar stands r conn pass link seen dial buffer piece told (at + took) pass' link' seen' dial' new
+      → PieceSoFar g stands r conn pass link seen dial buffer piece told at pass' link' seen' dial' old → FedFrom old piece at took new → new.state ≡ More
+      → PieceSoFar g stands r conn pass link seen dial buffer piece told (at + took) pass' link' seen' dial' new
   piece-more told at took pass' link' seen' dial' old new so_far fed_so more = record {
     items = so_far.items;
     written = so_far.written;
@@ -153,10 +154,10 @@ module _ {L : Type 0} (stands : L → List ℕ → List ℕ → Type 0) (r : Rol
   -- a record was whole, and it was served
   pub piece-served : (told told' at took : ℕ) (pass' pass'' : PassView Group) (link' link'' : L) (seen' seen'' : LinkShown) (dial' dial'' : DialShown) (old new buffer' : BufState)
       (stop : Option End) → told ≤ told'
-      → PieceSoFar stands r conn pass link seen dial buffer piece told at pass' link' seen' dial' old → FedFrom old piece at took new → new.state ≡ Whole → new.limit ≡ RECORD_MAX
-      → ServesWhole stands told' r conn pass' link' seen' dial' new.kept stop pass'' link'' seen'' dial'' → is_some stop ≡ false → buffer' ≡ fresh RECORD_MAX
+      → PieceSoFar g stands r conn pass link seen dial buffer piece told at pass' link' seen' dial' old → FedFrom old piece at took new → new.state ≡ Whole → new.limit ≡ RECORD_MAX
+      → ServesWhole g stands told' r conn pass' link' seen' dial' new.kept stop pass'' link'' seen'' dial'' → is_some stop ≡ false → buffer' ≡ fresh RECORD_MAX
       → phase_at pass'' conn ≡ Idle r
-      → PieceSoFar stands r conn pass link seen dial buffer piece told' (at + took) pass'' link'' seen'' dial'' buffer'
+      → PieceSoFar g stands r conn pass link seen dial buffer piece told' (at + took) pass'' link'' seen'' dial'' buffer'
   piece-served told told' at took pass' pass'' link' link'' seen' seen'' dial' dial'' old new buffer' stop later so_far fed_so whole limit serves goes_on begun phase =
       let ends = went stop goes_on serves.ends in
       let items = so_far.items ++ serves.items in
@@ -165,7 +166,7 @@ module _ {L : Type 0} (stands : L → List ℕ → List ℕ → Type 0) (r : Rol
       record {
         items = items;
         written = so_far.written ++ serves.written;
-        progress = progress-goes stands r conn told told' pass pass' pass'' link link' link'' seen seen' seen'' dial dial' dial'' so_far.items serves.items [] [] so_far.written
+        progress = progress-goes g stands r conn told told' pass pass' pass'' link link' link'' seen seen' seen'' dial dial' dial'' so_far.items serves.items [] [] so_far.written
             serves.written later so_far.progress serves.progress;
         wrote = replies-append so_far.items serves.items so_far.written serves.written serves.unsent so_far.wrote serves.wrote
             ∙ ap (λ xs. (so_far.written ++ serves.written) ++ xs) ends.1 ∙ append-nil (so_far.written ++ serves.written);
@@ -184,9 +185,9 @@ module _ {L : Type 0} (stands : L → List ℕ → List ℕ → Type 0) (r : Rol
   -- the session stops at a record
   pub piece-stops : (told told' at took : ℕ) (pass' pass'' : PassView Group) (link' link'' : L) (seen' seen'' : LinkShown) (dial' dial'' : DialShown) (old new buffer' : BufState)
       (stop : Option End) → told ≤ told'
-      → PieceSoFar stands r conn pass link seen dial buffer piece told at pass' link' seen' dial' old → FedFrom old piece at took new → new.state ≡ Whole
-      → ServesWhole stands told' r conn pass' link' seen' dial' new.kept stop pass'' link'' seen'' dial'' → is_some stop ≡ true → phase_at pass'' conn ≡ Idle r
-      → ServesPiece stands told' r conn pass link seen dial buffer piece stop pass'' link'' seen'' dial'' buffer'
+      → PieceSoFar g stands r conn pass link seen dial buffer piece told at pass' link' seen' dial' old → FedFrom old piece at took new → new.state ≡ Whole
+      → ServesWhole g stands told' r conn pass' link' seen' dial' new.kept stop pass'' link'' seen'' dial'' → is_some stop ≡ true → phase_at pass'' conn ≡ Idle r
+      → ServesPiece g stands told' r conn pass link seen dial buffer piece stop pass'' link'' seen'' dial'' buffer'
   piece-stops told told' at took pass' pass'' link' link'' seen' seen'' dial' dial'' old new buffer' stop later so_far fed_so whole serves stops phase = record {
     items = so_far.items ++ serves.items;
     front = take (at + took) piece;
@@ -194,7 +195,7 @@ module _ {L : Type 0} (stands : L → List ℕ → List ℕ → Type 0) (r : Rol
     written = so_far.written ++ serves.written;
     unsent = serves.unsent;
     cut = sym (take-append-drop (at + took) piece);
-    progress = progress-goes stands r conn told told' pass pass' pass'' link link' link'' seen seen' seen'' dial dial' dial'' so_far.items serves.items [] [] so_far.written serves.written
+    progress = progress-goes g stands r conn told told' pass pass' pass'' link link' link'' seen seen' seen'' dial dial' dial'' so_far.items serves.items [] [] so_far.written serves.written
         later so_far.progress serves.progress;
     wrote = replies-append so_far.items serves.items so_far.written serves.written serves.unsent so_far.wrote serves.wrote;
     ends = ends-behind r seen seen' seen'' so_far.items serves.items new.kept (drop (at + took) piece) serves.unsent
@@ -207,8 +208,8 @@ module _ {L : Type 0} (stands : L → List ℕ → List ℕ → Type 0) (r : Rol
 
   -- a header took its record above the limit
   pub piece-long : (told at took : ℕ) (pass' : PassView Group) (link' : L) (seen' : LinkShown) (dial' : DialShown) (old new : BufState)
-      → PieceSoFar stands r conn pass link seen dial buffer piece told at pass' link' seen' dial' old → FedFrom old piece at took new → new.state ≡ TooLong
-      → ServesPiece stands told r conn pass link seen dial buffer piece (Some end.TooLong) pass' link' seen' dial' new
+      → PieceSoFar g stands r conn pass link seen dial buffer piece told at pass' link' seen' dial' old → FedFrom old piece at took new → new.state ≡ TooLong
+      → ServesPiece g stands told r conn pass link seen dial buffer piece (Some end.TooLong) pass' link' seen' dial' new
   piece-long told at took pass' link' seen' dial' old new so_far fed_so long =
       let ran : run (record { records = []; buffer = buffer }) (take (at + took) piece) ≡ record { records = messages so_far.items; buffer = new } =
       run-on (record { records = []; buffer = buffer }) piece at took (messages so_far.items) old new so_far.ran so_far.more fed_so
@@ -228,8 +229,8 @@ module _ {L : Type 0} (stands : L → List ℕ → List ℕ → Type 0) (r : Rol
 
   -- the piece was looked at up to its end
   pub piece-all : (told at : ℕ) (pass' : PassView Group) (link' : L) (seen' : LinkShown) (dial' : DialShown) (buffer' : BufState)
-      → PieceSoFar stands r conn pass link seen dial buffer piece told at pass' link' seen' dial' buffer' → length piece ≤ at
-      → ServesPiece stands told r conn pass link seen dial buffer piece None pass' link' seen' dial' buffer'
+      → PieceSoFar g stands r conn pass link seen dial buffer piece told at pass' link' seen' dial' buffer' → length piece ≤ at
+      → ServesPiece g stands told r conn pass link seen dial buffer piece None pass' link' seen' dial' buffer'
   piece-all told at pass' link' seen' dial' buffer' so_far all = record {
     items = so_far.items;
     front = take at piece;

@@ -9,15 +9,16 @@ use Rattle.vx_io_traits.specs.declared.dials.Rang.{Rang}
 use Rattle.vx_io_traits.specs.Rung.{AddsCalls}
 use Rattle.vx_io_traits.specs.Stands.{Goes-none, Goes-goes}
 use Rattle.vx_calls.specs.declared.calls.Role.{Role}
+use Rattle.vx_bus_traits.specs.declared.bus.Bus.{Ghosts}
 use Rattle.vx_gate.specs.PassView.{PassView}
 use Rattle.vx_history.specs.Groups.{Group, events_of}
-use Rattle.vx_turns.specs.Placing.{Placed, Makes}
+use Rattle.vx_session.specs.Placing.{Placed, Makes}
 use Rattle.vx_link.specs.Shown.{LinkShown}
 use Rattle.vx_link.specs.ProvedLaws.{link-none, link-goes}
 use Rattle.vx_session.specs.Outside.{DialShown, RoseBy, is_failed_dial}
 use Rattle.vx_session.specs.Serving.{Item, Serves}
 use Rattle.vx_session.specs.Progress.{Rings, Progress, placed, calls, failed_dials}
-use Rattle.vx_turns.specs.ProvedLaws.{makes-none, makes-goes}
+use Rattle.vx_session.specs.ProvedLaws.{makes-none, makes-goes}
 
 -- a dial told no further call
 pub adds-none : (a : Option (List Rang)) → AddsCalls a a []
@@ -54,12 +55,12 @@ rings-goes a b c ps qs xs ys before after = record {
       (rose-goes (failed_dials ps) (failed_dials qs) a.faults b.faults c.faults before.failed after.failed);
 }
 
-module _ {L : Type 0} (stands : L → List ℕ → List ℕ → Type 0) (r : Role) (conn : ℕ) where
+module _ {B L : Type 0} (g : Ghosts B) (stands : L → List ℕ → List ℕ → Type 0) (r : Role) (conn : ℕ) where
   -- nothing was served yet
-  pub progress-none : (told : ℕ) (pass : PassView Group) (link : L) (seen : LinkShown) (dial : DialShown) → Progress stands told r conn pass link seen dial [] [] [] pass link seen dial
+  pub progress-none : (told : ℕ) (pass : PassView Group) (link : L) (seen : LinkShown) (dial : DialShown) → Progress g stands told r conn pass link seen dial [] [] [] pass link seen dial
   progress-none told pass link seen dial = record {
     makes = makes-none told pass;
-    each = All-nil (Serves pass.number conn r);
+    each = All-nil (Serves g pass.number conn r);
     bytes = Goes-none stands link;
     goes = link-none seen;
     rings = rings-none dial;
@@ -68,17 +69,17 @@ module _ {L : Type 0} (stands : L → List ℕ → List ℕ → Type 0) (r : Rol
   -- some records were served, and then more
   pub progress-goes : (told told' : ℕ) (pass pass' pass'' : PassView Group) (link link' link'' : L) (seen seen' seen'' : LinkShown) (dial dial' dial'' : DialShown)
       (items items' : List Item) (received received' written written' : List ℕ) → told ≤ told'
-      → Progress stands told r conn pass link seen dial items received written pass' link' seen' dial'
-      → Progress stands told' r conn pass' link' seen' dial' items' received' written' pass'' link'' seen'' dial''
-      → Progress stands told' r conn pass link seen dial (items ++ items') (received ++ received') (written ++ written') pass'' link'' seen'' dial''
+      → Progress g stands told r conn pass link seen dial items received written pass' link' seen' dial'
+      → Progress g stands told' r conn pass' link' seen' dial' items' received' written' pass'' link'' seen'' dial''
+      → Progress g stands told' r conn pass link seen dial (items ++ items') (received ++ received') (written ++ written') pass'' link'' seen'' dial''
   progress-goes told told' pass pass' pass'' link link' link'' seen seen' seen'' dial dial' dial'' items items' received received' written written' later before after =
       let groups_are : placed (items ++ items') ≡ placed items ++ placed items' = flat_map-append (λ (i : Item). i.placed) items items' in
       let calls_are : calls (items ++ items') ≡ calls items ++ calls items' = flat_map-append (λ (i : Item). i.calls) items items' in
       record {
         makes = subst (λ ps. Makes told' pass ps pass'') (sym groups_are)
             (makes-goes told told' pass pass' pass'' (placed items) (placed items') later before.makes after.makes);
-        each = All-append (Serves pass.number conn r) items items' before.each
-            (subst (λ n. All (Serves n conn r) items') before.makes.number after.each);
+        each = All-append (Serves g pass.number conn r) items items' before.each
+            (subst (λ n. All (Serves g n conn r) items') before.makes.number after.each);
         bytes = Goes-goes stands link link' link'' written received written' received' before.bytes after.bytes;
         goes = link-goes seen seen' seen'' received received' before.goes after.goes;
         rings = subst (λ ps. Rings dial ps (calls (items ++ items')) dial'') (sym groups_are)

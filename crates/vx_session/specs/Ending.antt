@@ -4,6 +4,7 @@ use Rattle.std.specs.List.{All}
 use Rattle.vx_io_traits.specs.Stands.{Goes}
 use Rattle.vx_calls.specs.declared.calls.Role.{Role}
 use Rattle.vx_calls.specs.declared.limits.TheConstants.{RECORD_MAX}
+use Rattle.vx_bus_traits.specs.declared.bus.Bus.{Ghosts}
 use Rattle.vx_gate.specs.History.{groups}
 use Rattle.vx_gate.specs.PassView.{PassView}
 use Rattle.vx_record.specs.Records.{records}
@@ -11,7 +12,7 @@ use Rattle.vx_history.specs.Event.{Down}
 use Rattle.vx_history.specs.Headline.{Headline}
 use Rattle.vx_history.specs.Groups.{Group, events_of}
 use Rattle.vx_history.specs.Owning.{Owned}
-use Rattle.vx_turns.specs.Placing.{Placed, Makes, IsHistory}
+use Rattle.vx_session.specs.Placing.{Placed, Makes, IsHistory}
 use Rattle.vx_link.specs.Shown.{LinkShown, LinkGoes}
 use Rattle.vx_session.specs.Outside.{DialShown}
 use Rattle.vx_session.specs.Serving.{Item, Serves}
@@ -26,9 +27,10 @@ pub record Upholds (pass : PassView Group) : Type 0 where
   pub headline : Headline history.state.state.tables.abort_port (events_of (groups pass.seen))
   pub owned : Owned pass.seen
 
--- A session on a connection of this role: the records that it served, each before the next was read; the bytes `front` that it
--- looked at, and those that it received behind them; the replies, of which the link took `written`; then the connection went.
-pub record SessionDid {L : Type 0} (stands : L → List ℕ → List ℕ → Type 0) (told : ℕ) (r : Role) (conn : ℕ) (pass : PassView Group) (link : L) (seen : LinkShown) (dial : DialShown)
+-- A session on a connection of this role: the records that it served, in their order; the bytes `front` that it looked at, and
+-- those that it received behind them; the replies, of which the link took `written`; and the end of the connection, its last
+-- group. What it received and what the link took are each in order; which of the two came first isn't said.
+pub record SessionDid {B L : Type 0} (g : Ghosts B) (stands : L → List ℕ → List ℕ → Type 0) (told : ℕ) (r : Role) (conn : ℕ) (pass : PassView Group) (link : L) (seen : LinkShown) (dial : DialShown)
     (how : End) (pass' : PassView Group) (link' : L) (seen' : LinkShown) (dial' : DialShown) : Type 0 where
   pub items : List Item
   pub last : Placed
@@ -38,7 +40,7 @@ pub record SessionDid {L : Type 0} (stands : L → List ℕ → List ℕ → Typ
   pub unsent : List ℕ
   -- the groups that the pass added: those of the records, in order, and the end of the connection
   pub makes : Makes told pass (placed items ++ last ∷ []) pass'
-  pub each : All (Serves pass.number conn r) items
+  pub each : All (Serves g pass.number conn r) items
   pub down : last.group.events ≡ Down conn ∷ []
   -- the bytes that came and went
   pub bytes : Goes stands link link' written (front ++ behind)

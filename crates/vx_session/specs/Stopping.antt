@@ -4,11 +4,12 @@ use Rattle.std.specs.Io.KnownBytes.{IsAtEnd}
 use Rattle.vx_io_traits.specs.Faults.{Rose}
 use Rattle.vx_calls.specs.declared.calls.Role.{Role}
 use Rattle.vx_calls.specs.declared.limits.TheConstants.{RECORD_MAX}
+use Rattle.vx_bus_traits.specs.declared.bus.Bus.{Ghosts}
 use Rattle.vx_gate.specs.PassView.{PassView}
 use Rattle.vx_record.specs.Buffer.{BufState}
 use Rattle.vx_record.specs.Records.{Split, records}
-use Rattle.vx_message.specs.Meaning as meant
-use Rattle.vx_message.specs.Meaning.{meaning}
+use Rattle.vx_exchange.specs.Meaning as meant
+use Rattle.vx_exchange.specs.Meaning.{meaning}
 use Rattle.vx_history.specs.Groups.{Group}
 use Rattle.vx_link.specs.Shown.{LinkShown, Gave, Ended}
 use Rattle.vx_session.specs.Outside.{DialShown}
@@ -45,25 +46,25 @@ input_end zero = end.Closed
 input_end (suc bytes) = end.CutShort (suc bytes)
 
 -- The records of a stream were served, to its end or to where the session stops.
-pub record StreamServed {L : Type 0} (stands : L → List ℕ → List ℕ → Type 0) (told : ℕ) (r : Role) (conn : ℕ) (pass : PassView Group) (link : L) (seen : LinkShown) (dial : DialShown)
+pub record StreamServed {B L : Type 0} (g : Ghosts B) (stands : L → List ℕ → List ℕ → Type 0) (told : ℕ) (r : Role) (conn : ℕ) (pass : PassView Group) (link : L) (seen : LinkShown) (dial : DialShown)
     (how : End) (pass' : PassView Group) (link' : L) (seen' : LinkShown) (dial' : DialShown) : Type 0 where
   pub items : List Item
   pub front : List ℕ
   pub behind : List ℕ
   pub written : List ℕ
   pub unsent : List ℕ
-  pub progress : Progress stands told r conn pass link seen dial items (front ++ behind) written pass' link' seen' dial'
+  pub progress : Progress g stands told r conn pass link seen dial items (front ++ behind) written pass' link' seen' dial'
   pub wrote : replies items ≡ written ++ unsent
   pub ended : EndsSo seen r items (records RECORD_MAX front) behind unsent seen' how
 
 -- a piece came, and its records were served
-pub record PieceServed {L : Type 0} (stands : L → List ℕ → List ℕ → Type 0) (told : ℕ) (r : Role) (conn : ℕ) (pass : PassView Group) (link : L) (seen : LinkShown) (dial : DialShown)
+pub record PieceServed {B L : Type 0} (g : Ghosts B) (stands : L → List ℕ → List ℕ → Type 0) (told : ℕ) (r : Role) (conn : ℕ) (pass : PassView Group) (link : L) (seen : LinkShown) (dial : DialShown)
     (buffer : BufState) (stop : Option End) (pass' : PassView Group) (link' : L) (seen' : LinkShown) (dial' : DialShown) (buffer' : BufState) : Type 0 where
   pub piece : List ℕ
   pub mid : L
   pub mid_seen : LinkShown
   pub gave : Gave stands link mid seen piece mid_seen
-  pub serves : ServesPiece stands told r conn pass mid mid_seen dial buffer piece stop pass' link' seen' dial' buffer'
+  pub serves : ServesPiece g stands told r conn pass mid mid_seen dial buffer piece stop pass' link' seen' dial' buffer'
 
 -- no piece came: the receive failed, or the input ended with these bytes in the buffer
 pub record NoPiece {L : Type 0} (stands : L → List ℕ → List ℕ → Type 0) (before told : ℕ) (pass : PassView Group) (link : L) (seen : LinkShown) (dial : DialShown)
@@ -77,8 +78,8 @@ pub record NoPiece {L : Type 0} (stands : L → List ℕ → List ℕ → Type 0
   pub dial_is : dial' ≡ dial
 
 -- The next piece of a stream was served, or there is none. The clock had told `before`, and has told `told`.
-abbrev pub NextServed : {L : Type 0} → (L → List ℕ → List ℕ → Type 0) → (before told : ℕ) → Role → ℕ → PassView Group → L → LinkShown → DialShown → BufState → Option End
+abbrev pub NextServed : {B L : Type 0} → Ghosts B → (L → List ℕ → List ℕ → Type 0) → (before told : ℕ) → Role → ℕ → PassView Group → L → LinkShown → DialShown → BufState → Option End
     → PassView Group → L → LinkShown → DialShown → BufState → Type 0
-NextServed stands before told r conn pass link seen dial buffer stop pass' link' seen' dial' buffer' =
-    PieceServed stands told r conn pass link seen dial buffer stop pass' link' seen' dial' buffer'
+NextServed g stands before told r conn pass link seen dial buffer stop pass' link' seen' dial' buffer' =
+    PieceServed g stands told r conn pass link seen dial buffer stop pass' link' seen' dial' buffer'
     ⊎ NoPiece stands before told pass link seen dial buffer stop pass' link' seen' dial'

@@ -2,15 +2,16 @@
 use Rattle.std.specs.Prelude.{◌≡◌, ◌<◌, ℕ, List, [], ◌∷◌, ◌++◌, length, Option, Some, None}
 use Rattle.vx_io_traits.specs.Faults.{Rose}
 use Rattle.vx_calls.specs.declared.calls.Role.{Role}
+use Rattle.vx_bus_traits.specs.declared.bus.Bus.{Ghosts}
 use Rattle.vx_gate.specs.PassView.{PassView}
 use Rattle.vx_record.specs.Buffer.{BufState}
 use Rattle.vx_record.specs.Runs.{Stream, run}
 use Rattle.vx_record.specs.declared.Feed.TheVariants as feed
-use Rattle.vx_message.specs.Meaning as meant
-use Rattle.vx_message.specs.Meaning.{meaning}
+use Rattle.vx_exchange.specs.Meaning as meant
+use Rattle.vx_exchange.specs.Meaning.{meaning}
 use Rattle.vx_history.specs.Groups.{Group}
 use Rattle.vx_history.specs.Phases.{Idle}
-use Rattle.vx_turns.specs.Turning.{phase_at}
+use Rattle.vx_session.specs.Turning.{phase_at}
 use Rattle.vx_link.specs.Shown.{LinkShown}
 use Rattle.vx_session.specs.Outside.{DialShown}
 use Rattle.vx_session.specs.Serving.{Item}
@@ -37,12 +38,12 @@ WholeEnds seen r message items unsent seen' (Some end.WriteFault) = (messages it
 WholeEnds seen r message items unsent seen' (Some _) = ⊥
 
 -- A whole record was served, or is junk.
-pub record ServesWhole {L : Type 0} (stands : L → List ℕ → List ℕ → Type 0) (told : ℕ) (r : Role) (conn : ℕ) (pass : PassView Group) (link : L) (seen : LinkShown) (dial : DialShown)
+pub record ServesWhole {B L : Type 0} (g : Ghosts B) (stands : L → List ℕ → List ℕ → Type 0) (told : ℕ) (r : Role) (conn : ℕ) (pass : PassView Group) (link : L) (seen : LinkShown) (dial : DialShown)
     (message : List ℕ) (stop : Option End) (pass' : PassView Group) (link' : L) (seen' : LinkShown) (dial' : DialShown) : Type 0 where
   pub items : List Item
   pub written : List ℕ
   pub unsent : List ℕ
-  pub progress : Progress stands told r conn pass link seen dial items [] written pass' link' seen' dial'
+  pub progress : Progress g stands told r conn pass link seen dial items [] written pass' link' seen' dial'
   pub wrote : replies items ≡ written ++ unsent
   pub ends : WholeEnds seen r message items unsent seen' stop
 
@@ -60,7 +61,7 @@ PieceEnds seen r items behind unsent at buffer seen' (Some _) = ⊥
 
 -- A piece of a stream whose buffer stood so was looked at up to its end, or to the byte at which the session stops: `behind`
 -- is what stands behind that byte. The records in it were served.
-pub record ServesPiece {L : Type 0} (stands : L → List ℕ → List ℕ → Type 0) (told : ℕ) (r : Role) (conn : ℕ) (pass : PassView Group) (link : L) (seen : LinkShown) (dial : DialShown)
+pub record ServesPiece {B L : Type 0} (g : Ghosts B) (stands : L → List ℕ → List ℕ → Type 0) (told : ℕ) (r : Role) (conn : ℕ) (pass : PassView Group) (link : L) (seen : LinkShown) (dial : DialShown)
     (buffer : BufState) (piece : List ℕ) (stop : Option End) (pass' : PassView Group) (link' : L) (seen' : LinkShown) (dial' : DialShown) (buffer' : BufState) : Type 0 where
   pub items : List Item
   pub front : List ℕ
@@ -68,7 +69,7 @@ pub record ServesPiece {L : Type 0} (stands : L → List ℕ → List ℕ → Ty
   pub written : List ℕ
   pub unsent : List ℕ
   pub cut : piece ≡ front ++ behind
-  pub progress : Progress stands told r conn pass link seen dial items [] written pass' link' seen' dial'
+  pub progress : Progress g stands told r conn pass link seen dial items [] written pass' link' seen' dial'
   pub wrote : replies items ≡ written ++ unsent
   pub ends : PieceEnds seen r items behind unsent (run (record { records = []; buffer = buffer }) front) buffer' seen' stop
   pub phase : phase_at pass' conn ≡ Idle r

@@ -4,20 +4,20 @@ ghost use Rattle.vx_calls.specs.declared.calls.Role.TheVariants as role;
 ghost use Rattle.vx_calls.specs.Call.{Call, call_shown};
 ghost use Rattle.vx_rules.specs.One.{may_wait};
 ghost use Rattle.vx_rules.specs.Calls.{IsShort};
-ghost use Rattle.vx_message.specs.declared.record.TheConstants.{REPLY_ROOM};
+ghost use Rattle.vx_exchange.specs.declared.record.TheConstants.{REPLY_ROOM};
 ghost use Rattle.vx_history.specs.Phases.{Idle, Asked};
-ghost use Rattle.vx_turns.specs.Turning.{phase_at};
+ghost use Rattle.vx_session.specs.Turning.{phase_at};
 ghost use Rattle.vx_session.specs.Outside.{dial_shown};
 ghost use Rattle.vx_session.specs.Progress.{AnswersCall, AnswersDial};
 
+use crate::turns::{come, poll_again, settle};
 use std::sync::Wait;
 use vx_bus_traits::Bus;
-use vx_calls::{CallRef, ReplyRef};
+use vx_calls::CallRef;
 use vx_core::Core;
+use vx_exchange::PollEnd;
 use vx_gate::{Pass, Turns};
 use vx_io_traits::{Clock, Dial, DialOut, Pause};
-use vx_message::put_success_record;
-use vx_turns::{PollEnd, come, poll_again, settle};
 
 /// Has a call answered: it comes and is polled in one turn, and is polled again, with a pause outside the gate between two
 /// polls, until it is answered, or until it asks for a dial, which is made then. The record of the reply, of so many bytes,
@@ -39,7 +39,7 @@ pub(crate) fn answer_call<R: Wait, B: Bus, T: Turns<Core<B>>, C: Clock, P: Pause
     requires waits { may_wait (call_shown call.now) ≡ true }
     requires short { IsShort (call_shown call.now) }
     requires room { REPLY_ROOM ≤ length reply.old }
-    ensures answers { AnswersCall (C.told clock.new) pass conn xid (call_shown call.now) (dial_shown D.calls D.faults dial.old) (take result.1 reply.new) result.0 (dial_shown D.calls D.faults dial.new) }
+    ensures answers { AnswersCall B.Bus (C.told clock.new) pass conn xid (call_shown call.now) (dial_shown D.calls D.faults dial.old) (take result.1 reply.new) result.0 (dial_shown D.calls D.faults dial.new) }
     ensures phase { phase_at result.0 conn ≡ Idle role.Core }
     ensures told { C.told clock.old ≤ C.told clock.new }
     ensures some { 0 < result.1 }
@@ -49,11 +49,11 @@ pub(crate) fn answer_call<R: Wait, B: Bus, T: Turns<Core<B>>, C: Clock, P: Pause
     let (mut pass, mut end) = come(rt, turns, pass, conn, xid, call, clock.now(), reply);
     for _ in rt.forever() {
         match end {
-            PollEnd::Replied { len } => return (pass, len),
+            PollEnd::Replied { len, .. } => return (pass, len),
             PollEnd::Dial { host, port } => {
                 return answer_dial(rt, turns, pass, conn, xid, host, port, clock, dial, reply);
             }
-            PollEnd::NotYet => {
+            PollEnd::NotYet(_) => {
                 pause.pause();
                 (pass, end) = poll_again(rt, turns, pass, conn, xid, clock.now(), reply);
             }
@@ -79,7 +79,7 @@ fn answer_dial<R: Wait, B: Bus, T: Turns<Core<B>>, C: Clock, D: Dial>(
     requires gate { pass.gate ≡ T.gate turns.now }
     requires phase { (call : Call) × (phase_at pass conn ≡ Asked call true) }
     requires room { REPLY_ROOM ≤ length reply.old }
-    ensures dials { AnswersDial (C.told clock.new) pass conn xid host port (dial_shown D.calls D.faults dial.old) (take result.1 reply.new) result.0 (dial_shown D.calls D.faults dial.new) }
+    ensures dials { (call : Call) → AnswersDial B.Bus (C.told clock.new) pass conn xid call host port (dial_shown D.calls D.faults dial.old) (take result.1 reply.new) result.0 (dial_shown D.calls D.faults dial.new) }
     ensures phase { phase_at result.0 conn ≡ Idle role.Core }
     ensures told { C.told clock.old ≤ C.told clock.new }
     ensures some { 0 < result.1 }
@@ -87,11 +87,9 @@ fn answer_dial<R: Wait, B: Bus, T: Turns<Core<B>>, C: Clock, D: Dial>(
     ensures len { length reply.new ≡ length reply.old }
 {
     let up = dial.dial(host, port) == DialOut::Up;
-    let (pass, settled) = settle(rt, turns, pass, conn, up, clock.now());
-    if let Some(chan) = settled.chan {
+    let (pass, answered) = settle(rt, turns, pass, conn, xid, up, clock.now(), reply);
+    if let Some(chan) = answered.chan {
         dial.hand(rt, conn, chan);
     }
-    let error = settled.error;
-    let len = put_success_record(xid, &ReplyRef::Error { error }, reply);
-    (pass, len)
+    (pass, answered.len)
 }

@@ -1,15 +1,22 @@
 //! Sessions: what one connection's thread does. It reads records from a link, has each call answered in turns at the gate round
-//! the core, writes the reply before it reads on, and ends with the connection.
+//! the core, writes the replies in the same order, and ends with the connection.
 #![tactic(auto)]
 
+mod acts;
 mod calls;
 mod links;
 mod pieces;
+mod pumps;
 mod records;
+mod samples;
 mod sessions;
 mod still;
 mod tools;
+mod turns;
 
 pub use links::{LinkDone, Linked, Tally, abort_link, core_link};
+pub use pumps::{PumpEnd, pump};
+pub use samples::sample_turn;
 pub use sessions::{End, NoMemory, Room, abort_session, core_session};
 pub use tools::Tools;
+pub use turns::{abort, come, join, leave, poll_again, sample, settle, take};

@@ -6,6 +6,7 @@ ghost use Rattle.vx_session.specs.Outside.{dial_shown, no_dial};
 ghost use Rattle.vx_session.specs.Linking.{LinkDid, refused_as};
 
 use crate::sessions::{End, Room, abort_session, core_session};
+use crate::turns::join;
 use std::alloc::Global;
 use std::marker::Model;
 use std::sync::Wait;
@@ -13,8 +14,8 @@ use vx_bus_traits::Bus;
 use vx_calls::Role;
 use vx_core::{Connect, Core};
 use vx_gate::{Pass, Turns};
+use vx_history::{headline_law, owned_law};
 use vx_io_traits::{Clock, Dial, Link, Pause};
-use vx_turns::join;
 
 /// How a link's work ended.
 #[derive(Clone, Copy, Debug, PartialEq, Eq)]
@@ -109,22 +110,27 @@ pub fn core_link<R: Wait, B: Bus, T: Turns<Core<B>>, L: Link, C: Clock, P: Pause
     room: &mut Room,
 ) -> (Pass<Core<B>>, LinkDone<L>)
     requires gate { pass.gate ≡ T.gate turns.now }
-    ensures did { LinkDid L.stands (C.told clock.new) role.Core pass link (link_shown L.left L.peers L.receive_faults L.send_faults link) (dial_shown D.calls D.faults dial.old)
+    ensures did { LinkDid B.Bus L.stands (C.told clock.new) role.Core pass link (link_shown L.left L.peers L.receive_faults L.send_faults link) (dial_shown D.calls D.faults dial.old)
         result.1.how result.0 result.1.link (link_shown L.left L.peers L.receive_faults L.send_faults result.1.link) (dial_shown D.calls D.faults dial.new) }
     ensures told { C.told clock.old ≤ C.told clock.new }
 {
+    headline_law();
+    owned_law();
     let mut link = link;
     let (pass, joined) = join(rt, alloc, turns, pass, Role::Core);
-    let (pass, how) = match joined {
-        Err(why) => (pass, refused(why)),
+    match joined {
+        Err(why) => {
+            let how = refused(why);
+            (pass, LinkDone { how, link })
+        }
         Ok(conn) => {
             let (pass, end) = core_session(
                 rt, turns, pass, conn, &mut link, clock, pause, dial, room,
             );
-            (pass, Linked::Ended(end))
+            let how = Linked::Ended(end);
+            (pass, LinkDone { how, link })
         }
-    };
-    (pass, LinkDone { how, link })
+    }
 }
 
 /// Serves an abort link in the same way.
@@ -137,9 +143,11 @@ pub fn abort_link<R: Wait, B: Bus, T: Turns<Core<B>>, L: Link>(
     room: &mut Room,
 ) -> (Pass<Core<B>>, Linked)
     requires gate { pass.gate ≡ T.gate turns.now }
-    ensures { LinkDid L.stands 0 role.Abort pass link.old (link_shown L.left L.peers L.receive_faults L.send_faults link.old) no_dial
+    ensures { LinkDid B.Bus L.stands 0 role.Abort pass link.old (link_shown L.left L.peers L.receive_faults L.send_faults link.old) no_dial
         result.1 result.0 link.new (link_shown L.left L.peers L.receive_faults L.send_faults link.new) no_dial }
 {
+    headline_law();
+    owned_law();
     let (pass, joined) = join(rt, alloc, turns, pass, Role::Abort);
     match joined {
         Err(why) => (pass, refused(why)),

@@ -2,9 +2,9 @@
 ghost use Rattle.std.specs.Prelude.{◌≡◌, ◌≤◌, ◌<◌, length};
 ghost use Rattle.vx_calls.specs.declared.limits.TheConstants.{RECORD_MAX};
 ghost use Rattle.vx_record.specs.Buffer.{fresh};
-ghost use Rattle.vx_message.specs.declared.record.TheConstants.{REPLY_ROOM};
+ghost use Rattle.vx_exchange.specs.declared.record.TheConstants.{REPLY_ROOM};
 ghost use Rattle.vx_history.specs.Phases.{Idle};
-ghost use Rattle.vx_turns.specs.Turning.{phase_at};
+ghost use Rattle.vx_session.specs.Turning.{phase_at};
 ghost use Rattle.vx_link.specs.Shown.{link_shown};
 ghost use Rattle.vx_session.specs.Outside.{dial_shown};
 ghost use Rattle.vx_session.specs.Streaming.{ServesPiece, ServesWhole};
@@ -39,7 +39,7 @@ fn serve_whole<R: Wait, B: Bus, T: Turns<Core<B>>, L: Link, C: Clock, P: Pause, 
     requires whole { incoming.old.state ≡ Feed.Whole }
     requires limit { incoming.old.limit ≡ RECORD_MAX }
     requires room { REPLY_ROOM ≤ length reply.old }
-    ensures serves { ServesWhole L.stands (C.told clock.new) role conn pass link.old (link_shown L.left L.peers L.receive_faults L.send_faults link.old) (dial_shown D.calls D.faults dial.old)
+    ensures serves { ServesWhole B.Bus L.stands (C.told clock.new) role conn pass link.old (link_shown L.left L.peers L.receive_faults L.send_faults link.old) (dial_shown D.calls D.faults dial.old)
         incoming.old.kept result.1 result.0 link.new (link_shown L.left L.peers L.receive_faults L.send_faults link.new) (dial_shown D.calls D.faults dial.new) }
     ensures buffer { incoming.new ≡ fresh RECORD_MAX }
     ensures phase { phase_at result.0 conn ≡ Idle role }
@@ -79,7 +79,7 @@ pub(crate) fn serve_piece<R: Wait, B: Bus, T: Turns<Core<B>>, L: Link, C: Clock,
     requires more { incoming.old.state ≡ Feed.More }
     requires limit { incoming.old.limit ≡ RECORD_MAX }
     requires room { REPLY_ROOM ≤ length reply.old }
-    ensures serves { ServesPiece L.stands (C.told clock.new) role conn pass link.old (link_shown L.left L.peers L.receive_faults L.send_faults link.old) (dial_shown D.calls D.faults dial.old)
+    ensures serves { ServesPiece B.Bus L.stands (C.told clock.new) role conn pass link.old (link_shown L.left L.peers L.receive_faults L.send_faults link.old) (dial_shown D.calls D.faults dial.old)
         incoming.old piece.now result.1 result.0 link.new (link_shown L.left L.peers L.receive_faults L.send_faults link.new) (dial_shown D.calls D.faults dial.new) incoming.new }
     ensures limit { incoming.new.limit ≡ RECORD_MAX }
     ensures told { C.told clock.old ≤ C.told clock.new }

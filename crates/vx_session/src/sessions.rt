@@ -2,11 +2,11 @@
 ghost use Rattle.std.specs.Prelude.{◌≡◌, ◌≤◌, ◌<◌, length};
 ghost use Rattle.vx_calls.specs.declared.calls.Role.TheVariants as role;
 ghost use Rattle.vx_calls.specs.declared.limits.TheConstants.{RECORD_MAX};
-ghost use Rattle.vx_message.specs.declared.record.TheConstants.{REPLY_ROOM};
+ghost use Rattle.vx_exchange.specs.declared.record.TheConstants.{REPLY_ROOM};
 ghost use Rattle.vx_record.specs.Buffer.{fresh};
 ghost use Rattle.vx_record.specs.declared.Feed.TheVariants as feed;
 ghost use Rattle.vx_history.specs.Phases.{Idle};
-ghost use Rattle.vx_turns.specs.Turning.{phase_at};
+ghost use Rattle.vx_session.specs.Turning.{phase_at};
 ghost use Rattle.vx_link.specs.Shown.{link_shown};
 ghost use Rattle.vx_session.specs.Outside.{dial_shown, no_dial};
 ghost use Rattle.vx_session.specs.Ending.{SessionDid};
@@ -14,18 +14,18 @@ ghost use Rattle.vx_session.specs.Stopping.{NextServed, StreamServed, input_end}
 
 use crate::pieces::serve_piece;
 use crate::still::Still;
+use crate::turns::leave;
 use std::alloc::Global;
 use std::marker::Model;
 use std::sync::Wait;
 use vx_bus_traits::Bus;
 use vx_calls::{RECORD_MAX, Role};
 use vx_core::Core;
+use vx_exchange::REPLY_ROOM;
 use vx_gate::{Pass, Turns};
 use vx_history::{headline_law, owned_law};
 use vx_io_traits::{Clock, Dial, Link, Pause, ReadOut};
-use vx_message::REPLY_ROOM;
 use vx_record::{RecordBuf, pieces_law};
-use vx_turns::leave;
 
 /// How a session ended.
 #[derive(Clone, Copy, Debug, PartialEq, Eq)]
@@ -63,7 +63,7 @@ pub struct Room {
 impl Model for Room {
     ghost use Rattle.std.specs.Prelude.{◌≡◌, ⊤, length};
     ghost use Rattle.vx_calls.specs.declared.limits.TheConstants.{RECORD_MAX};
-    ghost use Rattle.vx_message.specs.declared.record.TheConstants.{REPLY_ROOM};
+    ghost use Rattle.vx_exchange.specs.declared.record.TheConstants.{REPLY_ROOM};
     ghost use Rattle.vx_session.specs.declared.sessions.TheConstants.{PIECE};
 
     // nothing of it matters to who uses it
@@ -115,7 +115,7 @@ fn serve_next<R: Wait, B: Bus, T: Turns<Core<B>>, L: Link, C: Clock, P: Pause, D
     requires limit { incoming.old.limit ≡ RECORD_MAX }
     requires piece { 0 < length piece.old }
     requires room { REPLY_ROOM ≤ length reply.old }
-    ensures serves { NextServed L.stands (C.told clock.old) (C.told clock.new) role conn pass link.old (link_shown L.left L.peers L.receive_faults L.send_faults link.old) (dial_shown D.calls D.faults dial.old)
+    ensures serves { NextServed B.Bus L.stands (C.told clock.old) (C.told clock.new) role conn pass link.old (link_shown L.left L.peers L.receive_faults L.send_faults link.old) (dial_shown D.calls D.faults dial.old)
         incoming.old result.1 result.0 link.new (link_shown L.left L.peers L.receive_faults L.send_faults link.new) (dial_shown D.calls D.faults dial.new) incoming.new }
     ensures phase { phase_at result.0 conn ≡ Idle role }
     ensures limit { incoming.new.limit ≡ RECORD_MAX }
@@ -155,7 +155,7 @@ fn serve_stream<R: Wait, B: Bus, T: Turns<Core<B>>, L: Link, C: Clock, P: Pause,
     requires buffer { incoming.old ≡ fresh RECORD_MAX }
     requires piece { 0 < length piece.old }
     requires room { REPLY_ROOM ≤ length reply.old }
-    ensures serves { StreamServed L.stands (C.told clock.new) role conn pass link.old (link_shown L.left L.peers L.receive_faults L.send_faults link.old) (dial_shown D.calls D.faults dial.old)
+    ensures serves { StreamServed B.Bus L.stands (C.told clock.new) role conn pass link.old (link_shown L.left L.peers L.receive_faults L.send_faults link.old) (dial_shown D.calls D.faults dial.old)
         result.1 result.0 link.new (link_shown L.left L.peers L.receive_faults L.send_faults link.new) (dial_shown D.calls D.faults dial.new) }
     ensures phase { phase_at result.0 conn ≡ Idle role }
     ensures limit { incoming.new.limit ≡ RECORD_MAX }
@@ -202,7 +202,7 @@ fn run_session<R: Wait, B: Bus, T: Turns<Core<B>>, L: Link, C: Clock, P: Pause, 
 ) -> (Pass<Core<B>>, End)
     requires gate { pass.gate ≡ T.gate turns.now }
     requires phase { phase_at pass conn ≡ Idle role }
-    ensures did { SessionDid L.stands (C.told clock.new) role conn pass link.old (link_shown L.left L.peers L.receive_faults L.send_faults link.old) (dial_shown D.calls D.faults dial.old)
+    ensures did { SessionDid B.Bus L.stands (C.told clock.new) role conn pass link.old (link_shown L.left L.peers L.receive_faults L.send_faults link.old) (dial_shown D.calls D.faults dial.old)
         result.1 result.0 link.new (link_shown L.left L.peers L.receive_faults L.send_faults link.new) (dial_shown D.calls D.faults dial.new) }
     ensures told { C.told clock.old ≤ C.told clock.new }
 {
@@ -231,8 +231,8 @@ fn run_session<R: Wait, B: Bus, T: Turns<Core<B>>, L: Link, C: Clock, P: Pause, 
     (leave(rt, turns, pass, conn), end)
 }
 
-/// The session of a core connection: it reads records from the link, answers each whole one before it reads on, pauses between
-/// two polls of a call that has no answer yet, and ends with the connection. The connection is one that the pass made.
+/// The session of a core connection: it reads records from the link, answers each whole one, in their order, pauses between two
+/// polls of a call that has no answer yet, and ends with the connection. The connection is one that the pass made.
 pub fn core_session<R: Wait, B: Bus, T: Turns<Core<B>>, L: Link, C: Clock, P: Pause, D: Dial>(
     rt: &R,
     turns: &T,
@@ -246,7 +246,7 @@ pub fn core_session<R: Wait, B: Bus, T: Turns<Core<B>>, L: Link, C: Clock, P: Pa
 ) -> (Pass<Core<B>>, End)
     requires gate { pass.gate ≡ T.gate turns.now }
     requires phase { phase_at pass conn ≡ Idle role.Core }
-    ensures did { SessionDid L.stands (C.told clock.new) role.Core conn pass link.old (link_shown L.left L.peers L.receive_faults L.send_faults link.old) (dial_shown D.calls D.faults dial.old)
+    ensures did { SessionDid B.Bus L.stands (C.told clock.new) role.Core conn pass link.old (link_shown L.left L.peers L.receive_faults L.send_faults link.old) (dial_shown D.calls D.faults dial.old)
         result.1 result.0 link.new (link_shown L.left L.peers L.receive_faults L.send_faults link.new) (dial_shown D.calls D.faults dial.new) }
     ensures told { C.told clock.old ≤ C.told clock.new }
 {
@@ -275,7 +275,7 @@ pub fn abort_session<R: Wait, B: Bus, T: Turns<Core<B>>, L: Link>(
 ) -> (Pass<Core<B>>, End)
     requires gate { pass.gate ≡ T.gate turns.now }
     requires phase { phase_at pass conn ≡ Idle role.Abort }
-    ensures did { SessionDid L.stands 0 role.Abort conn pass link.old (link_shown L.left L.peers L.receive_faults L.send_faults link.old) no_dial
+    ensures did { SessionDid B.Bus L.stands 0 role.Abort conn pass link.old (link_shown L.left L.peers L.receive_faults L.send_faults link.old) no_dial
         result.1 result.0 link.new (link_shown L.left L.peers L.receive_faults L.send_faults link.new) no_dial }
 {
     run_session(

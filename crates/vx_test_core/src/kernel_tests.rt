@@ -6,7 +6,7 @@ use std::test::Fail;
 use vx_bus::MemBus;
 use vx_bus_traits::Bus;
 use vx_calls::Role;
-use vx_kernel::{Kernel, Rooms};
+use vx_core::{Kernel, Rooms};
 use vx_tables::{Connect, Tables};
 
 /// What a kernel says: the number that comes next, the roles of connections 1 and 2, whether 1 has a call, a dial, and the bus

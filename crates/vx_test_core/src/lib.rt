@@ -4,6 +4,8 @@
 #[cfg(test)]
 mod core_tests;
 #[cfg(test)]
+mod exchange_tests;
+#[cfg(test)]
 mod gateways;
 #[cfg(test)]
 mod kernel_tests;

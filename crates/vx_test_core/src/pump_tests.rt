@@ -5,10 +5,10 @@ ghost use Rattle.vx_calls.specs.Call.{call_shown};
 ghost use Rattle.vx_calls.specs.declared.calls.Role.TheVariants as role;
 ghost use Rattle.vx_rules.specs.One.{may_wait};
 ghost use Rattle.vx_rules.specs.Calls.{IsShort};
-ghost use Rattle.vx_message.specs.declared.record.TheConstants.{REPLY_ROOM};
+ghost use Rattle.vx_exchange.specs.declared.record.TheConstants.{REPLY_ROOM};
 ghost use Rattle.vx_gate.specs.Gates.{gate_of};
 ghost use Rattle.vx_group.specs.Phases.{Idle};
-ghost use Rattle.vx_turns.specs.Turning.{phase_at};
+ghost use Rattle.vx_session.specs.Turning.{phase_at};
 
 use crate::gateways::{PORT, Pauses, are_words};
 use arrayvec::ArrayVec;
@@ -19,14 +19,13 @@ use vx_488::Addr;
 use vx_bus_traits::Bus;
 use vx_calls::{CallRef, Handle, Role};
 use vx_core::Core;
+use vx_exchange::{PollEnd, REPLY_ROOM};
 use vx_gate::{Gate, Pass, Turns};
 use vx_group::first_law;
 use vx_io::{MemClock, MemLink};
-use vx_message::REPLY_ROOM;
-use vx_pump::{PumpEnd, pump, sample_turn};
 use vx_rack::Echo;
+use vx_session::{PumpEnd, come, join, pump, sample_turn, settle};
 use vx_sim::SimBus;
-use vx_turns::{PollEnd, come, join, settle};
 
 type Asking = Core<SimBus<Echo>>;
 
@@ -121,7 +120,7 @@ fn make_channel<R: Wait, B: Bus, T: Turns<Core<B>>>(
         family: 0,
     };
     match come(rt, turns, pass, conn, 2, &channel, 0, reply) {
-        (pass, PollEnd::Dial { .. }) => Some(settle(rt, turns, pass, conn, true, 0).0),
+        (pass, PollEnd::Dial { .. }) => Some(settle(rt, turns, pass, conn, 2, true, 0, reply).0),
         _ => None,
     }
 }

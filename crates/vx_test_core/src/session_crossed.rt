@@ -14,8 +14,7 @@ use vx_calls::Role;
 use vx_core::Core;
 use vx_gate::{Pass, Turns};
 use vx_io::{Clock, Link, MemDial, Pause, ReadOut, WriteOut};
-use vx_session::{End, Room, core_session};
-use vx_turns::join;
+use vx_session::{End, Room, core_session, join};
 
 /// What the two sessions tell each other, each 1 once it is so.
 #[derive(Drop)]

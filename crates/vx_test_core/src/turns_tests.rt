@@ -1,6 +1,6 @@
 //! Turns at a gate round a gateway. The record is the one of RFC 5531, sections 9 and 11, and of VXI-11, create_link.
 ghost use Rattle.std.specs.Prelude.{◌≡◌, ◌≤◌, length};
-ghost use Rattle.vx_message.specs.declared.record.TheConstants.{REPLY_ROOM};
+ghost use Rattle.vx_exchange.specs.declared.record.TheConstants.{REPLY_ROOM};
 
 use crate::gateways::gateway;
 use std::alloc::Global;
@@ -9,9 +9,9 @@ use std::test::Fail;
 use vx_bus_traits::Bus;
 use vx_calls::{CallRef, Role, Taken};
 use vx_core::Core;
+use vx_exchange::{PollEnd, REPLY_ROOM};
 use vx_gate::{Pass, Turns};
-use vx_message::REPLY_ROOM;
-use vx_turns::{PollEnd, come, join, leave, sample, take};
+use vx_session::{come, join, leave, sample, take};
 
 /// The reply of xid 1: accepted, no verifier, success; no error, link 1, the abort port, and 65,536 bytes at most.
 const LINKED: &[u8; 44] =
@@ -41,7 +41,7 @@ fn link_once<R: Wait, B: Bus, T: Turns<Core<B>>>(
     let (pass, end) = come(rt, turns, pass, conn, 1, &call, 5, reply);
     let _pass = leave(rt, turns, pass, conn);
     match end {
-        PollEnd::Replied { len } => (conn, len),
+        PollEnd::Replied { len, .. } => (conn, len),
         _ => (conn, 0),
     }
 }

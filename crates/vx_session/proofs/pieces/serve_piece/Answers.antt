@@ -5,7 +5,7 @@ use Rattle.vx_session.proofs.pieces.serve_piece.Goals as goal
 
 pub loop-at-init : goal.loop-at-init
 loop-at-init g c = record {
-  so_far = piece-none g.L.Link.stands c.args.role c.args.conn c.args.pass c.args.link.now _ _ c.args.incoming.now c.args.piece.now _ c.requires.more c.requires.phase;
+  so_far = piece-none g.B.Bus g.L.Link.stands c.args.role c.args.conn c.args.pass c.args.link.now _ _ c.args.incoming.now c.args.piece.now _ c.requires.more c.requires.phase;
   gate = c.requires.gate;
   limit = c.requires.limit;
   told = omega arith;
@@ -16,7 +16,7 @@ feed-fed-requires g c = c.loop-at.invariant.so_far.more
 
 pub loop-at-preserved-in-More : goal.loop-at-preserved-in-More
 loop-at-preserved-in-More g c = record {
-  so_far = piece-more g.L.Link.stands c.args.role c.args.conn c.args.pass c.args.link.now _ _ c.args.incoming.now c.args.piece.now _ c.loop-at.at c.feed-fed.result.took
+  so_far = piece-more g.B.Bus g.L.Link.stands c.args.role c.args.conn c.args.pass c.args.link.now _ _ c.args.incoming.now c.args.piece.now _ c.loop-at.at c.feed-fed.result.took
       c.loop-at.pass c.loop-at.link _ _ c.loop-at.incoming c.feed-fed.new.self c.loop-at.invariant.so_far
       (record { after = c.feed-fed.ensures.after; took_is = c.feed-fed.ensures.took })
       (sym c.feed-fed.ensures.state ∙ c.in-More.is);
@@ -27,7 +27,7 @@ loop-at-preserved-in-More g c = record {
 
 pub returns-in-TooLong-clause-serves : goal.returns-in-TooLong-clause-serves
 returns-in-TooLong-clause-serves g c =
-    piece-long g.L.Link.stands c.args.role c.args.conn c.args.pass c.args.link.now _ _ c.args.incoming.now c.args.piece.now _ c.loop-at.at c.feed-fed.result.took
+    piece-long g.B.Bus g.L.Link.stands c.args.role c.args.conn c.args.pass c.args.link.now _ _ c.args.incoming.now c.args.piece.now _ c.loop-at.at c.feed-fed.result.took
     c.loop-at.pass c.loop-at.link _ _ c.loop-at.incoming c.feed-fed.new.self c.loop-at.invariant.so_far
     (record { after = c.feed-fed.ensures.after; took_is = c.feed-fed.ensures.took })
     (sym c.feed-fed.ensures.state ∙ c.in-TooLong.is)
@@ -37,7 +37,7 @@ serve_whole-served-requires-clause-phase g c = c.loop-at.invariant.so_far.phase
 
 pub returns-then-is_some-clause-serves : goal.returns-then-is_some-clause-serves
 returns-then-is_some-clause-serves g c =
-    piece-stops g.L.Link.stands c.args.role c.args.conn c.args.pass c.args.link.now _ _ c.args.incoming.now c.args.piece.now _ _ c.loop-at.at c.feed-fed.result.took
+    piece-stops g.B.Bus g.L.Link.stands c.args.role c.args.conn c.args.pass c.args.link.now _ _ c.args.incoming.now c.args.piece.now _ _ c.loop-at.at c.feed-fed.result.took
     c.loop-at.pass _ c.loop-at.link _ _ _ _ _ c.loop-at.incoming c.feed-fed.new.self _ c.serve_whole-served.result.1 c.serve_whole-served.ensures.told
     c.loop-at.invariant.so_far (record { after = c.feed-fed.ensures.after; took_is = c.feed-fed.ensures.took })
     (sym c.feed-fed.ensures.state ∙ c.in-Whole.is)
@@ -45,7 +45,7 @@ returns-then-is_some-clause-serves g c =
 
 pub loop-at-preserved : goal.loop-at-preserved
 loop-at-preserved g c = record {
-  so_far = piece-served g.L.Link.stands c.args.role c.args.conn c.args.pass c.args.link.now _ _ c.args.incoming.now c.args.piece.now _ _ c.loop-at.at c.feed-fed.result.took
+  so_far = piece-served g.B.Bus g.L.Link.stands c.args.role c.args.conn c.args.pass c.args.link.now _ _ c.args.incoming.now c.args.piece.now _ _ c.loop-at.at c.feed-fed.result.took
       c.loop-at.pass _ c.loop-at.link _ _ _ _ _ c.loop-at.incoming c.feed-fed.new.self _ c.serve_whole-served.result.1 c.serve_whole-served.ensures.told
       c.loop-at.invariant.so_far (record { after = c.feed-fed.ensures.after; took_is = c.feed-fed.ensures.took })
       (sym c.feed-fed.ensures.state ∙ c.in-Whole.is)
@@ -59,5 +59,5 @@ loop-at-preserved g c = record {
 
 pub returns-clause-serves : goal.returns-clause-serves
 returns-clause-serves g c =
-    piece-all g.L.Link.stands c.args.role c.args.conn c.args.pass c.args.link.now _ _ c.args.incoming.now c.args.piece.now _ c.loop-at.at
+    piece-all g.B.Bus g.L.Link.stands c.args.role c.args.conn c.args.pass c.args.link.now _ _ c.args.incoming.now c.args.piece.now _ c.loop-at.at
     c.loop-at.pass c.loop-at.link _ _ c.loop-at.incoming c.loop-at.invariant.so_far c.loop-at-test.false

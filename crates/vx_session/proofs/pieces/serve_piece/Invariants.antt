@@ -7,7 +7,7 @@ use Rattle.vx_session.proofs.pieces.serve_piece.Given as goal
 
 abbrev pub invariant-loop-at : goal.invariant-loop-at
 invariant-loop-at g l = record {
-  so_far : PieceSoFar g.L.Link.stands l.role l.conn l.initial.pass l.initial.link
+  so_far : PieceSoFar g.B.Bus g.L.Link.stands l.role l.conn l.initial.pass l.initial.link
       (link_shown g.L.Link.left g.L.Link.peers g.L.Link.receive_faults g.L.Link.send_faults l.initial.link)
       (dial_shown g.D.Dial.calls g.D.Dial.faults l.initial.dial) l.initial.incoming l.piece (g.C.Clock.told l.clock) l.at l.pass l.link
       (link_shown g.L.Link.left g.L.Link.peers g.L.Link.receive_faults g.L.Link.send_faults l.link)

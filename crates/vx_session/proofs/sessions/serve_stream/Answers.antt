@@ -3,7 +3,7 @@ use Rattle.vx_session.proofs.Streams.{streamed-none, streamed-on, streamed-last}
 use Rattle.vx_session.proofs.sessions.serve_stream.Goals as goal
 
 pub loop-init : goal.loop-init
-loop-init g c = (streamed-none g.L.Link.stands _ _ _ _ _ _ _ _ c.requires.buffer c.requires.phase, omega arith)
+loop-init g c = (streamed-none g.B.Bus g.L.Link.stands _ _ _ _ _ _ _ _ c.requires.buffer c.requires.phase, omega arith)
 
 pub serve_next-served-requires-clause-gate : goal.serve_next-served-requires-clause-gate
 serve_next-served-requires-clause-gate g c = c.loop.invariant.0.progress.makes.gate ∙ c.requires.gate
@@ -21,14 +21,14 @@ pub loop-preserved : goal.loop-preserved
 loop-preserved g c =
     let before = c.loop.invariant.1 in
     let later = c.serve_next-served.ensures.told in (
-      streamed-on g.L.Link.stands _ _ _ _ _ _ _ _ _ _ _ _ _ _ _ _ _ _ _ later c.loop.invariant.0 c.serve_next-served.ensures.serves c.in_default.is
+      streamed-on g.B.Bus g.L.Link.stands _ _ _ _ _ _ _ _ _ _ _ _ _ _ _ _ _ _ _ later c.loop.invariant.0 c.serve_next-served.ensures.serves c.in_default.is
           c.serve_next-served.ensures.limit,
       omega (arith, before, later),
     )
 
 pub returns-in-Some-end-clause-serves : goal.returns-in-Some-end-clause-serves
 returns-in-Some-end-clause-serves g c =
-    streamed-last g.L.Link.stands _ _ c.pieces_law.ensures _ _ _ _ _ _ _ _ _ _ _ _ _ _ _ _ _ _ c.serve_next-served.ensures.told c.loop.invariant.0
+    streamed-last g.B.Bus g.L.Link.stands _ _ c.pieces_law.ensures _ _ _ _ _ _ _ _ _ _ _ _ _ _ _ _ _ _ c.serve_next-served.ensures.told c.loop.invariant.0
     c.serve_next-served.ensures.serves c.in-Some-end.is
 
 pub returns-in-Some-end-clause-told : goal.returns-in-Some-end-clause-told

@@ -2,7 +2,7 @@ use Rattle.std.proofs.Common.{◌≡◌, Bool, true, false, refl, ap, ◌∙◌}
 use Rattle.vx_calls.specs.Call.{Call}
 use Rattle.vx_group.specs.Poll.{Ending, Answered, Waited, Dialed}
 use Rattle.vx_group.specs.Phases.{is_up}
-use Rattle.vx_turns.specs.Parts.{phase_behind}
+use Rattle.vx_session.specs.Parts.{phase_behind}
 use Rattle.vx_test_core.proofs.turns_tests.link_once.Goals as goal
 
 -- a poll leaves its connection up

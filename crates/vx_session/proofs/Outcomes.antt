@@ -1,0 +1,88 @@
+-- What turns tell by what their acts answered.
+use Rattle.std.proofs.Common.{◌≡◌, ◌++◌, ℕ, Bool, true, false, cond, List, [], ◌∷◌, Option, Some, None, Result, Ok, Err, refl, sym, ap, ◌∙◌}
+use Rattle.std.specs.Option.{option_map}
+use Rattle.std.proofs.lemmas.Option.{none-some}
+use Rattle.std.proofs.lemmas.List.Elements.{All-nil}
+use Rattle.vx_calls.specs.declared.calls.Role.{Role}
+use Rattle.vx_gate.specs.declared.views.Logged.{Logged}
+use Rattle.vx_gate.specs.History.{groups}
+use Rattle.vx_gate.specs.PassView.{PassView}
+use Rattle.vx_rules.specs.SrqState.{Channel, Given, channel_at}
+use Rattle.vx_rules.specs.State.{Connection, connection_at}
+use Rattle.vx_tables.specs.declared.tables.Connect.{Connect}
+use Rattle.vx_tables.specs.declared.tables.Connect.TheVariants as connect
+use Rattle.vx_flow.specs.Event.{Up, Take}
+use Rattle.vx_flow.specs.FineState.{FineState}
+use Rattle.vx_core.specs.CoreState.{CoreState}
+use Rattle.vx_history.specs.Groups.{Group, StandsFor}
+use Rattle.vx_history.specs.Laws.{group_after}
+use Rattle.vx_session.specs.Placing.{IsTimely}
+use Rattle.vx_session.specs.Acting.{Connects, TakeAt, TakeDid, connect_events, take_events}
+use Rattle.vx_session.specs.Turning.{phase_at, IsChannel, HasCome, TakesFrom}
+use Rattle.vx_session.specs.Parts.{IsAt}
+use Rattle.vx_session.proofs.Moments.{fine-moment, one-without}
+use Rattle.vx_session.proofs.Phased.{phase-more, phase-up}
+use Rattle.vx_session.proofs.Making.{timely-still}
+
+-- ---- a connection that comes up, or doesn't
+
+module _ {B : Type 0} where
+  -- no event, and nothing changed
+  still : (log : List (Logged Group)) (core core' : CoreState B) → StandsFor core.fine (groups log) → core' ≡ core
+      → IsTimely 0 (record { before = log; group = group_after core.fine [] core'.fine.state.moment })
+  still log core core' stands same =
+      timely-still log core.fine core'.fine [] stands (All-nil (IsAt core.fine.state.moment)) (ap (λ (x : CoreState B). x.fine.state.moment) same)
+
+  -- a turn in which a connection comes up, or is refused, leaves the moment
+  pub joins-timely : (log : List (Logged Group)) (core core' : CoreState B) (r : Role) (answer : Result ℕ Connect) → StandsFor core.fine (groups log) → Connects core r answer core'
+      → IsTimely 0 (record { before = log; group = group_after core.fine (connect_events r answer) core'.fine.state.moment })
+  joins-timely log core core' r (Ok conn) stands did =
+      timely-still log core.fine core'.fine (Up conn r ∷ []) stands (one-without (Up conn r) core.fine.state.moment refl) (fine-moment (Up conn r) core.fine core'.fine did)
+  joins-timely log core core' r (Err connect.Full) stands did = still log core core' stands did.1
+  joins-timely log core core' r (Err connect.NoMemory) stands did = still log core core' stands did
+
+  -- it tells that the connection is up, or that there is no room for it
+  pub joins-come : (pass pass' : PassView Group) (log : List (Logged Group)) (core core' : CoreState B) (r : Role) (answer : Result ℕ Connect)
+      → StandsFor core.fine (groups log) → Connects core r answer core'
+      → pass'.own ≡ pass.own ++ group_after core.fine (connect_events r answer) core'.fine.state.moment ∷ []
+      → HasCome pass r (record { before = log; group = group_after core.fine (connect_events r answer) core'.fine.state.moment }) answer pass'
+  joins-come pass pass' log core core' r (Ok conn) stands did own =
+      phase-more pass.own pass'.own (group_after core.fine (Up conn r ∷ []) core'.fine.state.moment) conn own ∙ phase-up conn (phase_at pass conn) r
+  joins-come pass pass' log core core' r (Err connect.Full) stands did own = record { state = core.fine; stands = stands; full = did.0 }
+  joins-come pass pass' log core core' r (Err connect.NoMemory) stands did own = tt
+
+  -- ---- an interrupt that is taken, or told as none
+
+  -- a turn that takes from a channel leaves the moment
+  pub takes-timely : (log : List (Logged Group)) (core core' : CoreState B) (conn chan : ℕ) (given : Given) → StandsFor core.fine (groups log) → TakeDid core conn chan given core'
+      → IsTimely 0 (record { before = log; group = group_after core.fine (take_events (connection_at core.fine.state.tables conn) conn chan given) core'.fine.state.moment })
+  takes-timely log core core' conn chan given stands = by (connection_at core.fine.state.tables conn) where
+    by : (o : Option Connection) → TakeAt o core conn chan given core'
+        → IsTimely 0 (record { before = log; group = group_after core.fine (take_events o conn chan given) core'.fine.state.moment })
+    by None did = still log core core' stands did.1
+    by (Some c) did =
+        timely-still log core.fine core'.fine (Take conn chan given ∷ []) stands (one-without (Take conn chan given) core.fine.state.moment refl)
+        (fine-moment (Take conn chan given) core.fine core'.fine did)
+
+  -- it tells what it took, or that the connection isn't up
+  pub takes-from : (log : List (Logged Group)) (core core' : CoreState B) (conn chan : ℕ) (given : Given) → StandsFor core.fine (groups log) → TakeDid core conn chan given core'
+      → TakesFrom log conn chan given (take_events (connection_at core.fine.state.tables conn) conn chan given)
+  takes-from log core core' conn chan given stands = by (connection_at core.fine.state.tables conn) refl where
+    by : (o : Option Connection) → connection_at core.fine.state.tables conn ≡ o → TakeAt o core conn chan given core' → TakesFrom log conn chan given (take_events o conn chan given)
+    by None is did = (did.0, record { state = core.fine; stands = stands; absent = is })
+    by (Some c) is did = (refl, refl, refl)
+
+-- ---- a dial
+
+-- the channel of one that came up, and none of one that failed
+pub is-channel : (seen : List (Logged Group)) (f : FineState) (conn : ℕ) (up : Bool) (chan : Option ℕ) → StandsFor f (groups seen)
+    → chan ≡ cond up (option_map (λ c. c.number) (channel_at f.state.tables.srq_state conn)) None
+    → (up ≡ true → (c : Channel) × (channel_at f.state.tables.srq_state conn ≡ Some c)) → IsChannel seen conn up chan
+is-channel seen f conn false chan stands is has = is
+is-channel seen f conn true chan stands is has = by chan is where
+  here : option_map (λ (c : Channel). c.number) (channel_at f.state.tables.srq_state conn) ≡ Some (has refl).0.number
+  here = ap (option_map (λ (c : Channel). c.number)) (has refl).1
+
+  by : (o : Option ℕ) → o ≡ option_map (λ (c : Channel). c.number) (channel_at f.state.tables.srq_state conn) → IsChannel seen conn true o
+  by None is = absurd (none-some (has refl).0.number (is ∙ here))
+  by (Some n) is = record { state = f; stands = stands; channel = sym is }

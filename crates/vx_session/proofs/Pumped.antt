@@ -1,0 +1,154 @@
+-- How a pump comes on: the turns that it made so far, and the records that it wrote of what they were given.
+use Rattle.std.proofs.Common.{◌≡◌, ◌≢◌, ◌≤◌, ℕ, Bool, List, [], ◌∷◌, ◌++◌, map, true, false, refl, sym, ap, ◌∙◌, subst, append_assoc, append-nil, arith}
+use Rattle.std.proofs.lemmas.List.{map-append}
+use Rattle.std.proofs.lemmas.List.Concat.{flat_map-append}
+use Rattle.std.proofs.lemmas.List.Elements.{All-nil, All-push}
+use Rattle.std.specs.List.{All}
+use Rattle.vx_io_traits.specs.Faults.{Rose}
+use Rattle.vx_io_traits.specs.Stands.{Goes, Goes-none, Goes-goes}
+use Rattle.vx_gate.specs.PassView.{PassView}
+use Rattle.vx_exchange.specs.SrqState.{Given, Srq, Front, Empty, Gone}
+use Rattle.vx_exchange.specs.Meaning.{srq_record}
+use Rattle.vx_core.specs.Groups.{Group}
+use Rattle.vx_session.specs.Placing.{Placed, Makes}
+use Rattle.vx_session.specs.Turning.{TakesTurn}
+use Rattle.vx_link.specs.Shown.{LinkShown, LinkGoes}
+use Rattle.vx_link.specs.ProvedLaws.{link-none, link-goes}
+use Rattle.vx_link.specs.Sending.{IsSent, SendsAll}
+use Rattle.vx_session.specs.ProvedLaws.{makes-none, makes-goes}
+use Rattle.vx_session.specs.Pumping.{Taking, IsTaking, given_record, taken_records, HaveLived, Pumps}
+use Rattle.vx_session.specs.declared.pumps.PumpEnd.TheVariants as end
+
+-- the records of turns, and of one more
+records-more : (turns : List Taking) (t : Taking) → taken_records (turns ++ t ∷ []) ≡ taken_records turns ++ given_record t.given
+records-more turns t =
+    flat_map-append (λ (u : Taking). given_record u.given) turns (t ∷ [])
+    ∙ ap (λ xs. taken_records turns ++ xs) (append-nil (given_record t.given))
+
+-- the groups of turns, and of one more
+makes-more : (pass pass' pass'' : PassView Group) (turns : List Taking) (t : Taking) → Makes 0 pass (map (λ u. u.placed) turns) pass' → Makes 0 pass' (t.placed ∷ []) pass''
+    → Makes 0 pass (map (λ u. u.placed) (turns ++ t ∷ [])) pass''
+makes-more pass pass' pass'' turns t before turn =
+    let of : Taking → Placed = λ u. u.placed in
+    subst (λ ps. Makes 0 pass ps pass'') (sym (map-append of turns (t ∷ [])))
+    (makes-goes 0 0 pass pass' pass'' (map of turns) (t.placed ∷ []) (omega arith) before turn)
+
+-- So far the pump made these turns, found the channel in each, and the link took the records of the interrupts that they were
+-- given.
+pub record Pumped {L : Type 0} (stands : L → List ℕ → List ℕ → Type 0) (pass : PassView Group) (conn chan : ℕ) (link : L) (seen : LinkShown) (pass' : PassView Group) (link' : L)
+    (seen' : LinkShown) : Type 0 where
+  pub turns : List Taking
+  pub written : List ℕ
+  pub makes : Makes 0 pass (map (λ t. t.placed) turns) pass'
+  pub each : All (IsTaking conn chan) turns
+  pub lived : HaveLived turns
+  pub bytes : Goes stands link link' written []
+  pub goes : LinkGoes seen [] seen'
+  pub wrote : taken_records turns ≡ written
+
+module _ {L : Type 0} (stands : L → List ℕ → List ℕ → Type 0) (pass : PassView Group) (conn chan : ℕ) (link : L) (seen : LinkShown) where
+  -- before its first turn
+  pub pumped-none : Pumped stands pass conn chan link seen pass link seen
+  pumped-none = record {
+    turns = [];
+    written = [];
+    makes = makes-none 0 pass;
+    each = All-nil (IsTaking conn chan);
+    lived = All-nil (λ t. t.given ≢ Gone);
+    bytes = Goes-none stands link;
+    goes = link-none seen;
+    wrote = refl;
+  }
+
+  -- one more turn, whose outbox was empty
+  pub pumped-empty : (given : Given) (pass' pass'' : PassView Group) (link' : L) (seen' : LinkShown) → Pumped stands pass conn chan link seen pass' link' seen'
+      → TakesTurn pass' conn chan given pass'' → given ≡ Empty → Pumped stands pass conn chan link seen pass'' link' seen'
+  pumped-empty given pass' pass'' link' seen' so_far turn is_empty =
+      let t : Taking = record { placed = turn.placed; given = given } in
+      record {
+        turns = so_far.turns ++ t ∷ [];
+        written = so_far.written;
+        makes = makes-more pass pass' pass'' so_far.turns t so_far.makes turn.turns.makes;
+        each = All-push (IsTaking conn chan) so_far.turns t so_far.each turn.taken;
+        lived = All-push (λ u. u.given ≢ Gone) so_far.turns t so_far.lived (λ e. cc);
+        bytes = so_far.bytes;
+        goes = so_far.goes;
+        wrote = records-more so_far.turns t
+            ∙ ap (λ xs. taken_records so_far.turns ++ xs) (ap given_record is_empty)
+            ∙ append-nil (taken_records so_far.turns)
+            ∙ so_far.wrote;
+      }
+
+  -- one more turn, that was given an interrupt, and all of its record was sent
+  pub pumped-sent : (given : Given) (srq : Srq) (record_sent : List ℕ) (all : Bool) (pass' pass'' : PassView Group) (link' link'' : L) (seen' seen'' : LinkShown)
+      → Pumped stands pass conn chan link seen pass' link' seen' → TakesTurn pass' conn chan given pass'' → given ≡ Front srq
+      → SendsAll stands link' seen' record_sent all link'' seen'' → record_sent ≡ srq_record srq → all ≡ true
+      → Pumped stands pass conn chan link seen pass'' link'' seen''
+  pumped-sent given srq record_sent all pass' pass'' link' link'' seen' seen'' so_far turn is_front sends is_record is_all =
+      let t : Taking = record { placed = turn.placed; given = given } in
+      let none_left : IsSent seen' sends.unsent seen'' true = subst (λ a. IsSent seen' sends.unsent seen'' a) is_all sends.is_sent in
+      record {
+        turns = so_far.turns ++ t ∷ [];
+        written = so_far.written ++ sends.sent;
+        makes = makes-more pass pass' pass'' so_far.turns t so_far.makes turn.turns.makes;
+        each = All-push (IsTaking conn chan) so_far.turns t so_far.each turn.taken;
+        lived = All-push (λ u. u.given ≢ Gone) so_far.turns t so_far.lived (λ e. cc);
+        bytes = Goes-goes stands link link' link'' so_far.written [] sends.sent [] so_far.bytes sends.took;
+        goes = link-goes seen seen' seen'' [] [] so_far.goes sends.goes;
+        wrote = records-more so_far.turns t
+            ∙ ap (λ xs. xs ++ given_record given) so_far.wrote
+            ∙ ap (λ xs. so_far.written ++ xs)
+            (ap given_record is_front ∙ sym is_record ∙ sends.cut ∙ ap (λ ys. sends.sent ++ ys) none_left ∙ append-nil sends.sent);
+      }
+
+  -- its last turn found the channel gone
+  pub pumped-gone : (given : Given) (pass' pass'' : PassView Group) (link' : L) (seen' : LinkShown) → Pumped stands pass conn chan link seen pass' link' seen'
+      → TakesTurn pass' conn chan given pass'' → given ≡ Gone → Pumps stands pass conn chan link seen end.ChannelGone pass'' link' seen'
+  pumped-gone given pass' pass'' link' seen' so_far turn is_gone =
+      let t : Taking = record { placed = turn.placed; given = given } in
+      record {
+        earlier = so_far.turns;
+        last = t;
+        written = so_far.written;
+        unsent = [];
+        makes = makes-more pass pass' pass'' so_far.turns t so_far.makes turn.turns.makes;
+        history = turn.turns.history;
+        each = All-push (IsTaking conn chan) so_far.turns t so_far.each turn.taken;
+        lived = so_far.lived;
+        bytes = so_far.bytes;
+        goes = so_far.goes;
+        wrote = records-more so_far.turns t
+            ∙ ap (λ xs. xs ++ given_record given) so_far.wrote
+            ∙ ap (λ xs. so_far.written ++ xs) (ap given_record is_gone);
+        ends = (is_gone, refl);
+      }
+
+  -- its last turn was given an interrupt, and a send of the record failed
+  pub pumped-fails : (given : Given) (srq : Srq) (record_sent : List ℕ) (all : Bool) (pass' pass'' : PassView Group) (link' link'' : L) (seen' seen'' : LinkShown)
+      → Pumped stands pass conn chan link seen pass' link' seen' → TakesTurn pass' conn chan given pass'' → given ≡ Front srq
+      → SendsAll stands link' seen' record_sent all link'' seen'' → record_sent ≡ srq_record srq → all ≡ false
+      → Pumps stands pass conn chan link seen end.WriteFault pass'' link'' seen''
+  pumped-fails given srq record_sent all pass' pass'' link' link'' seen' seen'' so_far turn is_front sends is_record is_cut =
+      let t : Taking = record { placed = turn.placed; given = given } in
+      let some_left : IsSent seen' sends.unsent seen'' false = subst (λ a. IsSent seen' sends.unsent seen'' a) is_cut sends.is_sent in
+      let cut : given_record given ≡ sends.sent ++ sends.unsent = ap given_record is_front ∙ sym is_record ∙ sends.cut in
+      let earlier : seen.send_faults ≤ seen'.send_faults = so_far.goes.sends in
+      let rose : Rose seen'.send_faults seen''.send_faults = some_left.1 in
+      let risen : Rose seen.send_faults seen''.send_faults = omega arith in
+      record {
+        earlier = so_far.turns;
+        last = t;
+        written = so_far.written ++ sends.sent;
+        unsent = sends.unsent;
+        makes = makes-more pass pass' pass'' so_far.turns t so_far.makes turn.turns.makes;
+        history = turn.turns.history;
+        each = All-push (IsTaking conn chan) so_far.turns t so_far.each turn.taken;
+        lived = so_far.lived;
+        bytes = Goes-goes stands link link' link'' so_far.written [] sends.sent [] so_far.bytes sends.took;
+        goes = link-goes seen seen' seen'' [] [] so_far.goes sends.goes;
+        wrote = records-more so_far.turns t
+            ∙ ap (λ xs. xs ++ given_record given) so_far.wrote
+            ∙ ap (λ xs. so_far.written ++ xs) cut
+            ∙ sym (append_assoc so_far.written sends.sent sends.unsent);
+        ends = (sends.sent, cut, some_left.0, risen);
+      }

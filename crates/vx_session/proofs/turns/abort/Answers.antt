@@ -1,0 +1,38 @@
+use Rattle.std.proofs.Common.{[], ◌∷◌, refl, ap, ◌∙◌, subst, rules}
+use Rattle.vx_calls.specs.declared.calls.Role.TheVariants as role
+use Rattle.vx_flow.specs.Event.{Abort}
+use Rattle.vx_history.specs.Phases.{Idle, is_up}
+use Rattle.vx_history.specs.Laws.{group_after}
+use Rattle.vx_session.specs.Turning.{Aborts}
+use Rattle.vx_session.proofs.Moments.{fine-moment, one-without}
+use Rattle.vx_session.proofs.Phased.{phase-more}
+use Rattle.vx_session.proofs.Making.{timely-still, turns}
+use Rattle.vx_session.proofs.Owned.{own-phase, abort-phase, may-abort}
+use Rattle.vx_session.proofs.turns.abort.Goals as goal
+
+pub turn-requires-clause-act : goal.turn-requires-clause-act
+turn-requires-clause-act g c = λ log kept fits stands. (
+  (
+    abort-phase kept.fine c.args.conn (own-phase c.phase_law.ensures c.args.pass log kept.fine c.args.conn (Idle role.Abort) fits stands c.requires.phase),
+    c.requires.room,
+  ),
+  λ answer act' kept' did. may-abort c.args.pass c.args.conn (ap is_up c.requires.phase) c.args.lid answer.error,
+)
+
+pub returns-clause-aborts : goal.returns-clause-aborts
+returns-clause-aborts g c =
+    let t = c.turn.ensures in
+    let did = t.did.0 in
+    let f = t.before.fine in
+    let answer = c.turn.result.1 in
+    let event = Abort c.args.conn c.args.lid answer.error in
+    let group = group_after f (event ∷ []) t.after.fine.state.moment in
+    subst (λ room. Aborts c.args.pass c.args.conn c.args.lid c.args.xid room answer c.turn.result.0) (search rules)
+    (record {
+      placed = record { before = t.log; group = group };
+      turns = turns 0 t
+          (timely-still t.log f t.after.fine (event ∷ []) t.stood (one-without event f.state.moment refl) (fine-moment event f t.after.fine did.aborts));
+      events = refl;
+      stands = did.stands;
+      phase = phase-more c.args.pass.own c.turn.result.0.own group c.args.conn t.own ∙ c.requires.phase;
+    })

@@ -1,0 +1,27 @@
+use Rattle.std.proofs.Common.{max, [], ◌∷◌, refl, ap, subst}
+use Rattle.vx_bus_traits.specs.Steps.{Told, Cut}
+use Rattle.vx_bus_traits.specs.Walks.{Walk}
+use Rattle.vx_flow.specs.Event.{Sample}
+use Rattle.vx_history.specs.Laws.{group_after}
+use Rattle.vx_session.proofs.Moments.{fine-moment, one-moment}
+use Rattle.vx_session.proofs.Making.{now-is, timely-now, turns}
+use Rattle.vx_session.proofs.turns.sample.Goals as goal
+
+pub returns : goal.returns
+returns g c =
+    let t = c.turn-pass.ensures in
+    let f = t.before.fine in
+    let now = max f.state.moment c.args.now in
+    let level = g.B.Bus.srq_level t.after.bus in
+    let event = Sample now level in
+    let group = group_after f (event ∷ []) t.after.fine.state.moment in
+    let same = now-is c.args.now t.log f group t.stood in
+    record {
+      placed = record { before = t.log; group = group };
+      turns = turns c.args.now t
+          (timely-now c.args.now t.log f t.after.fine (event ∷ []) t.stood (one-moment event now refl) (fine-moment event f t.after.fine t.did.0));
+      bus = t.before.bus;
+      bus_after = t.after.bus;
+      walk = subst (λ n. Walk g.B.Bus.means g.B.Bus.through t.before.bus (Cut ∷ Told n ∷ []) t.after.bus) same t.did.1;
+      events = ap (λ n. Sample n level ∷ []) same;
+    }

@@ -1,0 +1,69 @@
+-- What a pump of a channel did.
+use Rattle.std.specs.Prelude.{◌≡◌, ◌≢◌, ◌<◌, ℕ, max, List, [], ◌∷◌, ◌++◌, map, length}
+use Rattle.std.specs.List.{All, flat_map}
+use Rattle.vx_io_traits.specs.Faults.{Rose}
+use Rattle.vx_io_traits.specs.Stands.{Goes}
+use Rattle.vx_bus_traits.specs.declared.bus.Bus.{Ghosts}
+use Rattle.vx_gate.specs.PassView.{PassView}
+use Rattle.vx_exchange.specs.SrqState.{Given, Front, Empty, Gone}
+use Rattle.vx_exchange.specs.Meaning.{srq_record}
+use Rattle.vx_core.specs.Groups.{Group}
+use Rattle.vx_session.specs.Placing.{Placed, Makes, IsHistory}
+use Rattle.vx_session.specs.Turning.{Samples, TakesFrom}
+use Rattle.vx_link.specs.Shown.{LinkShown, LinkGoes}
+use Rattle.vx_session.specs.declared.pumps.PumpEnd.{PumpEnd}
+use Rattle.vx_session.specs.declared.pumps.PumpEnd.TheVariants as end
+
+-- one turn of a pump: the group that it added, and what it was given
+pub record Taking : Type 0 where
+  pub placed : Placed
+  pub given : Given
+
+-- the group is a take of this channel that gave this, or has no event where the connection isn't up
+abbrev pub IsTaking : ℕ → ℕ → Taking → Type 0
+IsTaking conn chan t = TakesFrom t.placed.before conn chan t.given t.placed.group.events
+
+-- the record of the interrupt call of a turn that was given one
+abbrev pub given_record : Given → List ℕ
+given_record (Front srq) = srq_record srq
+given_record Empty = []
+given_record Gone = []
+
+-- the records of the interrupts that these turns were given, in order
+abbrev pub taken_records : List Taking → List ℕ
+taken_records turns = flat_map (λ t. given_record t.given) turns
+
+-- the channel lived in each of these turns
+abbrev pub HaveLived : List Taking → Type 0
+HaveLived turns = All (λ t. t.given ≢ Gone) turns
+
+-- Why it ended: its last turn, and no earlier one, found the channel gone; or a send of the record of the interrupt that its last
+-- turn was given failed.
+abbrev pub PumpEnds : LinkShown → List Taking → Taking → List ℕ → LinkShown → PumpEnd → Type 0
+PumpEnds seen earlier last unsent seen' end.ChannelGone = (last.given ≡ Gone) × (unsent ≡ [])
+PumpEnds seen earlier last unsent seen' end.WriteFault =
+    (sent : List ℕ) × (given_record last.given ≡ sent ++ unsent) × (0 < length unsent) × Rose seen.send_faults seen'.send_faults
+
+-- A pump made these turns, one after the other, and wrote the records of the interrupts that it took, in order, each once; the
+-- link took `written` of them. What its pass has seen then is a gateway's history.
+pub record Pumps {L : Type 0} (stands : L → List ℕ → List ℕ → Type 0) (pass : PassView Group) (conn chan : ℕ) (link : L) (seen : LinkShown) (how : PumpEnd)
+    (pass' : PassView Group) (link' : L) (seen' : LinkShown) : Type 0 where
+  pub earlier : List Taking
+  pub last : Taking
+  pub written : List ℕ
+  pub unsent : List ℕ
+  pub makes : Makes 0 pass (map (λ t. t.placed) (earlier ++ last ∷ [])) pass'
+  pub history : IsHistory pass'.seen
+  pub each : All (IsTaking conn chan) (earlier ++ last ∷ [])
+  pub lived : HaveLived earlier
+  pub bytes : Goes stands link link' written []
+  pub goes : LinkGoes seen [] seen'
+  pub wrote : taken_records (earlier ++ last ∷ []) ≡ written ++ unsent
+  pub ends : PumpEnds seen earlier last unsent seen' how
+
+-- A turn looked at the SRQ line, at the moment that the clock told in it; `before` and `after` are the greatest moments that the
+-- clock had told before and behind it.
+pub record SamplesNow {B : Type 0} (g : Ghosts B) (before after : ℕ) (pass : PassView Group) (pass' : PassView Group) : Type 0 where
+  pub told : ℕ
+  pub tells : after ≡ max before told
+  pub samples : Samples g told pass pass'
