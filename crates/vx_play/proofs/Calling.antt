@@ -7,7 +7,6 @@ use Rattle.std.proofs.Math.Nat.{max-eq_right}
 use Rattle.std.proofs.lemmas.Bool.{cond-true, cond-false, false≢true}
 use Rattle.vx_calls.specs.declared.calls.Role.{Role}
 use Rattle.vx_calls.specs.declared.calls.Role.TheVariants as role
-use Rattle.vx_calls.specs.declared.codes.ErrorCode.{ErrorCode}
 use Rattle.vx_calls.specs.Reply as reply
 use Rattle.vx_bus_traits.specs.Steps.{Told, Cut}
 use Rattle.vx_sim.specs.Bench.{some_asks}
@@ -15,27 +14,30 @@ use Rattle.vx_sim.specs.SimState.{SimState, Through}
 use Rattle.vx_bus_traits.specs.Walks.{Walk}
 use Rattle.vx_script.specs.Command.{Command, At, Poll, Sample, Take, Dial}
 use Rattle.vx_script.specs.declared.Cause.TheVariants as cause
-use Rattle.vx_trace.specs.Output.{Output, Out, IrqClosed}
-use Rattle.vx_message.specs.SrqState.{Given, Channel, channel_at}
+use Rattle.vx_trace.specs.Output.{Output, IrqClosed}
+use Rattle.vx_exchange.specs.SrqState.{Given, Channel, channel_at}
 use Rattle.vx_rules.specs.State.{Connection, connection_at, pending_at, role_at, lives_as, has_role_of}
 use Rattle.vx_flow.specs.Event as event
 use Rattle.vx_flow.specs.FineState.{FineState}
 use Rattle.vx_flow.specs.Fine.{fine}
 use Rattle.vx_flow.specs.ProvedLaws.{fine-frame}
-use Rattle.vx_kernel.specs.CoreState.{CoreState}
+use Rattle.vx_core.specs.CoreState.{CoreState}
 use Rattle.vx_play.specs.declared.streams.Incoming.{Incoming}
 use Rattle.vx_play.specs.declared.note.Made.{Made}
 use Rattle.vx_play.specs.declared.note.Note.{Note}
 use Rattle.vx_play.specs.declared.note.Note.TheVariants as note
 use Rattle.vx_play.specs.Gateway.{Gateway, gateway_of, Happens}
 use Rattle.vx_play.specs.Stage.{Stage, tables_of, refusal}
-use Rattle.vx_message.specs.Meaning.{reply_record}
+use Rattle.vx_exchange.specs.Meaning.{reply_record}
+use Rattle.vx_exchange.specs.declared.polls.DialAnswered.{DialAnswered}
+use Rattle.vx_exchange.specs.Doing.{Settles}
 use Rattle.vx_play.specs.Making.{Makes, SampleMakes, PollMakes, ChannelMakes, DialMakes, take_line}
 use Rattle.vx_play.specs.Play.{stream_after, xid_after, rack_after, moment_after}
 use Rattle.vx_play.specs.PlayerState.{PlayerState, incoming_at}
-use Rattle.vx_play.specs.Serving.{MadeBy, Tells}
+use Rattle.vx_play.specs.Serving.{MadeBy}
 use Rattle.vx_play.specs.Standing.{Stands, Holds, TakesTo, NoteWithin, made_lines, note_line}
-use Rattle.vx_play.proofs.Stepping.{takes-to}
+use Rattle.vx_play.proofs.Stepping.{made-there, takes-to}
+use Rattle.vx_play.proofs.PollMade.{sim, record-made}
 use Rattle.vx_play.proofs.Roles.{roles-stay, polls-roles}
 
 -- ---- what is kept of connections
@@ -94,7 +96,7 @@ sample-takes p stage core stands went walk =
     let at : max p.core.fine.state.moment p.moment ≡ p.moment = max-eq_right stands.late in
     let now = max p.core.fine.state.moment p.moment in
     let made : Made = record { polled = None; note = note.Nothing; answered = None } in
-    let made_by : MadeBy (λ group line after. SampleMakes (gateway_of p.core) now group line after) p.reply made core = record {
+    let made_by : MadeBy (SampleMakes (gateway_of p.core) now) p.reply made core = record {
       group = event.Sample now (some_asks core.bus.bench) ∷ [];
       makes = record { events = refl; happens = record { events = went; bus = walk }; told = refl };
       lines = refl;
@@ -103,8 +105,7 @@ sample-takes p stage core stands went walk =
       few = λ h. absurd (false≢true h);
     } in
     core-takes p stage Sample core p.reply made stands refl
-    (subst (λ g. MadeBy (λ group line after. SampleMakes g stage.moment group line after) p.reply made core) stands.gateway
-    (subst (λ m. MadeBy (λ group line after. SampleMakes (gateway_of p.core) m group line after) p.reply made core) (at ∙ stands.moment) made_by))
+    (made-there SampleMakes p stage p.reply made core stands (subst (λ m. MadeBy (SampleMakes (gateway_of p.core) m) p.reply made core) at made_by))
     (let told : core.fine.state.moment ≡ p.moment = (fine-frame p.core.fine core.fine (event.Sample now (some_asks core.bus.bench)) went).moment_is ∙ at in omega arith)
     (λ n. roles-stay p.core.fine core.fine (event.Sample now (some_asks core.bus.bench)) n refl went) refl refl refl refl
 
@@ -176,50 +177,34 @@ poll-takes p stage core room made conn xid stands known pending is makes late =
     core-takes p stage (Poll conn) core room made stands
     (cond-false _ (Some cause.Conn) (cond (is_none (pending_at (tables_of stage) conn)) (Some cause.Idle) None) (ap not lives)
     ∙ cond-false _ (Some cause.Idle) None some)
-    (subst (λ x. MadeBy (λ group line after. PollMakes stage.gateway conn stage.moment x group line after) room made core) (xid-is p stage conn xid stands known is)
-    (subst (λ m. MadeBy (λ group line after. PollMakes stage.gateway conn m xid group line after) room made core) stands.moment
-    (subst (λ g. MadeBy (λ group line after. PollMakes g conn p.moment xid group line after) room made core) stands.gateway makes)))
+    (subst (λ x. MadeBy (PollMakes stage.gateway conn stage.moment x) room made core) (xid-is p stage conn xid stands known is)
+    (made-there (λ g now. PollMakes g conn now xid) p stage room made core stands makes))
     late
     (λ n. polls-roles p.core.fine conn p.moment core.bus.means.moves makes.makes.ending core.fine n makes.makes.over.polls) refl refl refl refl
 
 -- the dial of a connection's call was made
-pub dial-takes : (p : PlayerState) (stage : Stage) (core : CoreState SimState) (room : List ℕ) (made : Made) (conn xid : ℕ) (up : Bool) (error : ErrorCode)
+pub dial-takes : (p : PlayerState) (stage : Stage) (core : CoreState SimState) (room : List ℕ) (conn xid : ℕ) (up : Bool) (answered : DialAnswered)
     → Stands p stage → lives_as p.core.fine.state.tables conn role.Core ≡ true → list_any (λ n. n == conn) p.core.fine.dialed ≡ true
     → IfSome (incoming_at p.incoming conn) (λ kept. xid ≡ kept.xid)
-    → fine p.core.fine (event.Answer conn (max p.core.fine.state.moment p.moment) false (Some up) false (reply.Error error)) ≡ Some core.fine
-    → Walk (λ (s : SimState). s.means) Through p.core.bus (Cut ∷ Told (max p.core.fine.state.moment p.moment) ∷ []) core.bus
-    → Tells room conn (reply_record xid (reply.Error error)) made
-    → TakesTo stage (Dial conn up) (made_lines (record p { core = core; reply = room }) (record { polled = None; note = made.note; answered = Some error }))
-    (Some error) (record p { core = core; reply = room })
-dial-takes p stage core room made conn xid up error stands known dialed is went walk tells =
+    → Settles sim p.core conn (max p.core.fine.state.moment p.moment) xid up room answered core
+    → TakesTo stage (Dial conn up)
+    (made_lines (record p { core = core; reply = room }) (record { polled = None; note = note.Replied conn answered.len; answered = Some answered.error }))
+    (Some answered.error) (record p { core = core; reply = room })
+dial-takes p stage core room conn xid up answered stands known dialed is told =
     let lives = at-stage p stage (λ f. lives_as f.state.tables conn role.Core) true stands known in
     let asked = at-stage p stage (λ f. list_any (λ n. n == conn) f.dialed) true stands dialed in
-    let at : max p.core.fine.state.moment p.moment ≡ p.moment = max-eq_right stands.late in
-    let now = max p.core.fine.state.moment p.moment in
-    let told : Made = record { polled = None; note = note.Replied conn tells.len; answered = Some error } in
-    let made_by : MadeBy (λ group line after. DialMakes (gateway_of p.core) conn now xid up group line after) room told core = record {
-      group = event.Answer conn now false (Some up) false (reply.Error error) ∷ [];
-      makes = record {
-        error = error;
-        events = refl;
-        happens = record { events = went; bus = walk };
-        told = ap (λ bytes. Some (Out conn bytes)) tells.record_is;
-      };
-      lines = refl;
-      answered = refl;
-      note = (tells.some, tells.within);
-      few = λ h. absurd (false≢true h);
-    } in
-    core-takes p stage (Dial conn up) core room (record { polled = None; note = made.note; answered = Some error }) stands
+    let settles = subst (λ now. Settles sim p.core conn now xid up room answered core) (max-eq_right stands.late) told in
+    let answer = event.Answer conn p.moment false (Some up) false (reply.Error answered.error) in
+    let made : Made = record { polled = None; note = note.Replied conn answered.len; answered = Some answered.error } in
+    core-takes p stage (Dial conn up) core room made stands
     (cond-false _ (Some cause.Conn) (cond (list_any (λ n. n == conn) stage.gateway.fine.dialed) None (Some cause.Idle)) (ap not lives)
     ∙ cond-true _ None (Some cause.Idle) asked)
-    (subst (λ (m : Made). MadeBy (λ group line after. DialMakes stage.gateway conn stage.moment (stage.xids conn) up group line after) room
-    (record { polled = None; note = m.note; answered = Some error }) core) (sym tells.made_is)
-    (subst (λ x. MadeBy (λ group line after. DialMakes stage.gateway conn stage.moment x up group line after) room told core) (xid-is p stage conn xid stands known is)
-    (subst (λ m. MadeBy (λ group line after. DialMakes stage.gateway conn m xid up group line after) room told core) (at ∙ stands.moment)
-    (subst (λ g. MadeBy (λ group line after. DialMakes g conn now xid up group line after) room told core) stands.gateway made_by))))
-    (let later : core.fine.state.moment ≡ p.moment = (fine-frame p.core.fine core.fine (event.Answer conn now false (Some up) false (reply.Error error)) went).moment_is ∙ at in omega arith)
-    (λ n. roles-stay p.core.fine core.fine (event.Answer conn now false (Some up) false (reply.Error error)) n refl went) refl refl refl refl
+    (subst (λ x. MadeBy (DialMakes stage.gateway conn stage.moment x up) room made core) (xid-is p stage conn xid stands known is)
+    (made-there (λ g now. DialMakes g conn now xid up) p stage room made core stands
+    (record-made (DialMakes (gateway_of p.core) conn p.moment xid up) (answer ∷ []) (reply_record xid (reply.Error answered.error)) room conn answered.len (Some answered.error) core
+    (record { error = answered.error; events = refl; happens = record { events = settles.answers; bus = settles.walk }; told = refl }) refl refl settles.stands)))
+    (let later : core.fine.state.moment ≡ p.moment = (fine-frame p.core.fine core.fine answer settles.answers).moment_is in omega arith)
+    (λ n. roles-stay p.core.fine core.fine answer n refl settles.answers) refl refl refl refl
 
 -- ---- an interrupt is taken
 
@@ -267,7 +252,7 @@ pub take-takes : (p : PlayerState) (stage : Stage) (core : CoreState SimState) (
 take-takes p stage core room noted conn chan told stands known has went walk shown within =
     let lives = at-stage p stage (λ f. lives_as f.state.tables conn role.Core) true stands known in
     let made : Made = record { polled = None; note = noted; answered = None } in
-    let made_by : MadeBy (λ group line after. ChannelMakes (gateway_of p.core) conn (channel_at p.core.fine.state.tables.srq_state conn) group line after) room made core = record {
+    let made_by : MadeBy (ChannelMakes (gateway_of p.core) conn (channel_at p.core.fine.state.tables.srq_state conn)) room made core = record {
       group = event.Take conn chan told ∷ [];
       makes = channel-makes (gateway_of p.core) (gateway_of core) conn chan (channel_at p.core.fine.state.tables.srq_state conn) told (note_line room noted) has
           (record { events = went; bus = walk }) shown;
@@ -277,6 +262,6 @@ take-takes p stage core room noted conn chan told stands known has went walk sho
       few = λ h. absurd (false≢true h);
     } in
     core-takes p stage (Take conn) core room made stands (cond-true _ None (Some cause.Conn) lives)
-    (subst (λ (g : Gateway). MadeBy (λ group line after. ChannelMakes g conn (channel_at g.fine.state.tables.srq_state conn) group line after) room made core) stands.gateway made_by)
+    (made-there (λ g now. ChannelMakes g conn (channel_at g.fine.state.tables.srq_state conn)) p stage room made core stands made_by)
     (let same : core.fine.state.moment ≡ p.core.fine.state.moment = (fine-frame p.core.fine core.fine (event.Take conn chan told) went).moment_is in let late = stands.late in omega arith)
     (λ n. roles-stay p.core.fine core.fine (event.Take conn chan told) n refl went) refl refl refl refl

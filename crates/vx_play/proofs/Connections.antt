@@ -20,7 +20,7 @@ use Rattle.vx_flow.specs.Event.{Event}
 use Rattle.vx_flow.specs.Event as event
 use Rattle.vx_flow.specs.FineState.{FineState}
 use Rattle.vx_flow.specs.Fine.{fine}
-use Rattle.vx_flow.specs.ProvedLaws.{fine-does}
+use Rattle.vx_flow.specs.ProvedLaws.{fine-does, fine-frame}
 use Rattle.vx_play.specs.declared.note.Made.{Made}
 use Rattle.vx_play.specs.declared.note.Gone.TheVariants as gone
 use Rattle.vx_play.specs.declared.note.Note.TheVariants as note
@@ -29,7 +29,7 @@ use Rattle.vx_bench.specs.declared.stops.Stop.TheVariants as stop
 use Rattle.vx_play.specs.declared.streams.Incoming.{Incoming}
 use Rattle.vx_play.specs.Gateway.{Gateway, gateway_of, BusGoes, Happens}
 use Rattle.vx_play.specs.Stream.{Brought, NoEnd, Whole, TooLong, After, brought, by_split, kept_after}
-use Rattle.vx_message.specs.Meaning.{Meaning, Junk, Answered, Asks, Aborts, meaning, xid_by}
+use Rattle.vx_exchange.specs.Meaning.{Meaning, Junk, Answered, Asks, Aborts, meaning, xid_by}
 use Rattle.vx_play.specs.Stage.{Stage, tables_of, refusal, refused_by}
 use Rattle.vx_play.specs.Making.{MessageMakes, RecordMakes, PieceMakes, Makes}
 use Rattle.vx_play.specs.Play.{stream_after, xid_after, xid_of, xid_brought}
@@ -39,8 +39,8 @@ use Rattle.vx_play.specs.Feeding.{kept_behind, AnswersRecord, FeedMakes, FeedsPi
 use Rattle.vx_play.specs.Standing.{HoldsStream, Holds, Stands, IsReady, IsPrintable, TakesTo, StopsFor, made_lines}
 use Rattle.vx_play.specs.ProvedLaws.{by_end, brought_of}
 use Rattle.vx_play.proofs.Roles.{roles-stay, polls-roles, up-lives, up-others, down-roles, down-others}
-use Rattle.vx_play.proofs.Messages.{up-moment, down-moment}
-use Rattle.vx_play.proofs.Stepping.{HoldsBehind, takes-to}
+use Rattle.vx_play.proofs.Stepping.{HoldsBehind, made-there, takes-to}
+use Rattle.vx_play.proofs.Feeds.{kept-behind}
 
 -- ---- what is kept of connections
 
@@ -159,7 +159,7 @@ up-takes stage old new conn n r stands at came walk here others rack moment =
     let same : n ≡ conn = (fine-does old.core.fine new.core.fine (event.Up n r) came).step.number ∙ sym at in
     let up : fine old.core.fine (event.Up conn r) ≡ Some new.core.fine = subst (λ k. fine old.core.fine (event.Up k r) ≡ Some new.core.fine) same came in
     let lives = up-lives old.core.fine new.core.fine conn r up in
-    let still : new.core.fine.state.moment ≡ old.core.fine.state.moment = up-moment old.core.fine new.core.fine conn r up in
+    let still : new.core.fine.state.moment ≡ old.core.fine.state.moment = (fine-frame old.core.fine new.core.fine (event.Up conn r) up).moment_is in
     let late : old.core.fine.state.moment ≤ old.moment = stands.late in
     let happens : Happens stage.gateway (event.Up conn r ∷ []) (Cut ∷ []) (gateway_of new.core) =
     subst (λ g. Happens g (event.Up conn r ∷ []) (Cut ∷ []) (gateway_of new.core)) stands.gateway (record { events = up; bus = walk }) in
@@ -209,7 +209,7 @@ pub down-takes : (stage : Stage) (old new : PlayerState) (conn : ℕ) (r : Role)
 down-takes stage old new conn r stands live went here others rack moment =
     let made : Made = record { polled = None; note = note.Ended conn gone.Down; answered = None } in
     let down : fine old.core.fine (event.Down conn) ≡ Some new.core.fine = went.events in
-    let still : new.core.fine.state.moment ≡ old.core.fine.state.moment = down-moment old.core.fine new.core.fine conn down in
+    let still : new.core.fine.state.moment ≡ old.core.fine.state.moment = (fine-frame old.core.fine new.core.fine (event.Down conn) down).moment_is in
     let late : old.core.fine.state.moment ≤ old.moment = stands.late in
     let happens : Happens stage.gateway (event.Down conn ∷ []) (Cut ∷ []) (gateway_of new.core) =
     subst (λ g. Happens g (event.Down conn ∷ []) (Cut ∷ []) (gateway_of new.core)) stands.gateway went in
@@ -293,8 +293,7 @@ piece-made : (stage : Stage) (old new : PlayerState) (conn : ℕ) (piece : List 
     → MadeBy (PieceMakes (gateway_of old.core) conn old.moment b) new.reply made new.core → MadeBy (Makes stage (In conn piece)) new.reply made new.core
 piece-made stage old new conn piece b made stands is made_by =
     subst (λ v. MadeBy (PieceMakes stage.gateway conn stage.moment v) new.reply made new.core) (sym is)
-    (subst (λ m. MadeBy (PieceMakes stage.gateway conn m b) new.reply made new.core) stands.moment
-    (subst (λ g. MadeBy (PieceMakes g conn old.moment b) new.reply made new.core) stands.gateway made_by))
+    (made-there (λ g now. PieceMakes g conn now b) old stage new.reply made new.core stands made_by)
 
 -- no message but junk changes who lives, and in which role
 message-roles : (g h : Gateway) (conn now : ℕ) (m : Meaning) (group : List Event) (line : Option Output) (n : ℕ) → m ≢ Junk → MessageMakes g conn now m group line h
@@ -310,16 +309,7 @@ message-roles g h conn now (Aborts xid lid) group line n live makes =
 -- whether a message is junk
 junk-or : (m : Meaning) → (m ≡ Junk) ⊎ (m ≢ Junk)
 junk-or Junk = inl refl
-junk-or (Answered message) = inr (λ e. absurd (cc))
-junk-or (Asks xid asked) = inr (λ e. absurd (cc))
-junk-or (Aborts xid lid) = inr (λ e. absurd (cc))
-
--- what is kept behind a message that isn't
-kept-live : (m : Meaning) (kept : Incoming) → m ≢ Junk → kept_behind m kept ≡ Some (record { buffer = fresh kept.buffer.limit; xid = xid_by m kept.xid })
-kept-live Junk kept live = absurd (live refl)
-kept-live (Answered message) kept live = refl
-kept-live (Asks xid asked) kept live = refl
-kept-live (Aborts xid lid) kept live = refl
+junk-or _ = inr (λ e. absurd (cc))
 
 here-stream : (stage : Stage) (conn : ℕ) (piece : List ℕ) → stream_after stage (In conn piece) conn ≡ kept_after (brought (stage.streams conn) piece) (stage.streams conn ++ piece)
 here-stream stage conn piece = cond-true _ _ (stage.streams conn) (eq-eqb conn conn refl)
@@ -432,7 +422,7 @@ record-behind stage old new conn r kept piece made m f means is made_by there = 
       behind stage (In conn piece) conn old new f.stands
       (record { roles = λ n ne. roles n; incoming = f.others; streams = λ n ne. other-stream stage conn n piece ne; xids = λ n ne. other-xid stage conn n piece ne })
       (holds-some _ r _ (record { buffer = fresh (fed kept.buffer piece).limit; xid = xid_by m kept.xid }) _ _ (roles conn ∙ f.live)
-      (there ∙ kept-live m (record kept { buffer = fed kept.buffer piece }) not_junk)
+      (there ∙ sym (kept-behind m (record kept { buffer = fed kept.buffer piece }) not_junk))
       (record {
         held = ap fresh limit ∙ ap (fed (fresh RECORD_MAX)) (sym stream);
         waits = refl;

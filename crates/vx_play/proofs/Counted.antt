@@ -1,5 +1,5 @@
 -- What is counted of a step is what its lines and its answer tell.
-use Rattle.std.proofs.Common.{◌≡◌, ℕ, ◌+◌, Bool, true, false, cond, List, [], ◌∷◌, ◌++◌, length, Option, Some, None, refl, sym, ap, ◌∙◌, arith, append-nil, length-append}
+use Rattle.std.proofs.Common.{◌≡◌, ℕ, ◌+◌, Bool, false, cond, List, [], ◌∷◌, ◌++◌, length, Option, Some, None, refl, sym, ap, ◌∙◌, arith, append-nil, length-append}
 use Rattle.std.specs.Prelude.{count_by}
 use Rattle.std.specs.List.{flat_map}
 use Rattle.std.proofs.lemmas.Grind.{flat_map-append}
@@ -10,24 +10,26 @@ use Rattle.vx_calls.specs.Reply as reply
 use Rattle.vx_488.specs.declared.transfers.Transfer.{Transfer}
 use Rattle.vx_script.specs.Command.{Command, Up, In, Down, At, Poll, Sample, Take, Dial, Inst, Plug, Pull, Set, Fail}
 use Rattle.vx_trace.specs.Output.{Output, Bus, Out, IrqClosed, GoneDown, GoneJunk, GoneLong}
-use Rattle.vx_message.specs.SrqState.{Channel, Given, Front, Empty, Gone, channel_at}
-use Rattle.vx_message.specs.Meaning.{Meaning, Junk, Asks, Aborts, meaning, record_of, reply_record}
-use Rattle.vx_message.specs.Meaning as meant
+use Rattle.vx_exchange.specs.SrqState.{Channel, Given, Front, channel_at}
+use Rattle.vx_record.specs.Fragments.{record_of}
+use Rattle.vx_exchange.specs.Meaning.{Meaning, Junk, Asks, Aborts, meaning, reply_record}
+use Rattle.vx_exchange.specs.Meaning as meant
 use Rattle.vx_rules.specs.State.{role_at}
 use Rattle.vx_flow.specs.Event.{Event}
 use Rattle.vx_flow.specs.Event as event
 use Rattle.vx_flow.specs.FineState.{FineState}
-use Rattle.vx_flow.specs.Poll.{Ending, Answered, Waited, Locked, InTurn, Held, Dialed, begins, begun_events, moved_events, run_events, end_events}
+use Rattle.vx_flow.specs.Poll.{Ending, Waited, moved_events, run_events, end_events}
 use Rattle.vx_gen.specs.declared.telling.Counts.{Counts}
 use Rattle.vx_play.specs.Gateway.{Gateway}
 use Rattle.vx_play.specs.Stream.{Brought, NoEnd, Whole, TooLong, After, brought}
 use Rattle.vx_play.specs.Item.{Item, bus_lines, noted, item_lines, events, answer_errors, errors_of, moved, shown_moves}
 use Rattle.vx_play.specs.Stage.{Stage, tables_of}
-use Rattle.vx_play.specs.Making.{PollMakes, MessageMakes, RecordMakes, PieceMakes, ChannelMakes, Makes, poll_line, take_line}
+use Rattle.vx_play.specs.Making.{PollMakes, MessageMakes, RecordMakes, PieceMakes, ChannelMakes, Makes, is_wait, poll_line, take_line}
 use Rattle.vx_play.specs.Play.{Takes}
-use Rattle.vx_play.specs.Generated.{interrupts, is_wait, is_failure, errors, notes, counts_of}
+use Rattle.vx_play.specs.Generated.{interrupts, is_failure, errors, notes, counts_of}
 use Rattle.vx_play.specs.Counting.{is_interrupt, counts_behind}
-use Rattle.vx_play.proofs.Shown.{makes-plain, item-shown}
+use Rattle.vx_play.proofs.PollEvents.{poll-gives}
+use Rattle.vx_play.proofs.Shown.{waits, makes-plain, item-shown}
 
 -- ---- the interrupts of a step are those that its note tells
 
@@ -39,40 +41,19 @@ tells : (group given : List Event) (output shown : Option Output) → group ≡ 
 tells group given output shown group_is output_is h =
     ap (λ g. length (flat_map interrupts g)) group_is ∙ h ∙ sym (ap (λ o. count_by is_interrupt (noted o)) output_is)
 
--- a poll takes no interrupt: as its turn begins
-begun-none : (f : FineState) (conn now : ℕ) → flat_map interrupts (begun_events f conn now) ≡ []
-begun-none f conn now = by (begins f conn now) where
-  by : (b : Bool) → flat_map interrupts (cond b (event.Begin conn now ∷ []) []) ≡ []
-  by true = refl
-  by false = refl
-
--- by its transfers
-moved-none : (conn : ℕ) (moves : List Transfer) → flat_map interrupts (moved_events conn moves) ≡ []
-moved-none conn [] = refl
-moved-none conn (t ∷ ts) = refl
-
--- and as it ends
-end-none : (conn now : ℕ) (ending : Ending) → flat_map interrupts (end_events conn now ending) ≡ []
-end-none conn now (Answered ran level given) = refl
-end-none conn now (Waited why) = refl
-end-none conn now (Dialed host port) = refl
-
+-- a poll takes no interrupt, and its note tells none
 poll-none : (f : FineState) (conn now : ℕ) (moves : List Transfer) (ending : Ending)
     → flat_map interrupts (run_events f conn now moves ++ end_events conn now ending) ≡ []
-poll-none f conn now moves ending =
-    flat_map-append interrupts (run_events f conn now moves) (end_events conn now ending)
-    ∙ ap (λ xs. xs ++ flat_map interrupts (end_events conn now ending))
-    (flat_map-append interrupts (begun_events f conn now) (moved_events conn moves)
-    ∙ ap (λ xs. xs ++ flat_map interrupts (moved_events conn moves)) (begun-none f conn now) ∙ moved-none conn moves)
-    ∙ end-none conn now ending
+poll-none f conn now moves ending = poll-gives interrupts f conn now moves ending refl ∙ by moves ending where
+  by : (moves : List Transfer) (ending : Ending) → flat_map interrupts (moved_events conn moves) ++ flat_map interrupts (end_events conn now ending) ≡ []
+  by [] (Waited why) = refl
+  by [] _ = refl
+  by (t ∷ ts) (Waited why) = refl
+  by (t ∷ ts) _ = refl
 
--- nor does its note tell one
 line-none : (conn xid : ℕ) (ending : Ending) → 0 ≡ count_by is_interrupt (poll_line conn xid ending ∷ [])
-line-none conn xid (Answered ran level given) = refl
-line-none conn xid (Waited (Locked link)) = refl
-line-none conn xid (Waited (InTurn by)) = refl
-line-none conn xid (Waited Held) = refl
-line-none conn xid (Dialed host port) = refl
+line-none conn xid (Waited why) = sym (ap (λ b. 0 + cond b 1 0) (waits conn why).no_interrupt)
+line-none conn xid _ = refl
 
 poll-tells : (before after : Gateway) (conn now xid : ℕ) (group : List Event) (output : Option Output) → PollMakes before conn now xid group output after → Tells group output
 poll-tells before after conn now xid group output h =
@@ -105,8 +86,7 @@ piece-tells g conn now After group output after h = absurd h
 -- a take
 given-tells : (conn channel : ℕ) (given : Given) → Tells (event.Take conn channel given ∷ []) (Some (take_line conn given))
 given-tells conn channel (Front srq) = refl
-given-tells conn channel Empty = refl
-given-tells conn channel Gone = refl
+given-tells conn channel _ = refl
 
 channel-tells : (g : Gateway) (conn : ℕ) (c : Option Channel) (group : List Event) (output : Option Output) (after : Gateway)
     → ChannelMakes g conn c group output after → Tells group output

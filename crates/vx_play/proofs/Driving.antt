@@ -16,7 +16,6 @@ use Rattle.vx_script.specs.declared.Cause.{Cause}
 use Rattle.vx_script.specs.Cause.{cause_word}
 use Rattle.vx_trace.specs.Output.{Output, Bus, FaultLine}
 use Rattle.vx_trace.specs.Text.{line_text}
-use Rattle.vx_kernel.specs.declared.ended.Why.TheVariants as why
 use Rattle.vx_rules.specs.State.{pending_at}
 use Rattle.vx_bench.specs.declared.stops.Stop.{Stop}
 use Rattle.vx_bench.specs.declared.stops.Stop.TheVariants as stop
@@ -31,7 +30,6 @@ use Rattle.vx_gen.specs.Drawing.{next, draw, connection}
 use Rattle.vx_gen.specs.Generating.{head, drawn}
 use Rattle.vx_gen.specs.SummaryText.{title_text, summary_text}
 use Rattle.vx_play.specs.declared.made_run.Halt.{Halt}
-use Rattle.vx_play.specs.declared.note.Gone.TheVariants as gone
 use Rattle.vx_play.specs.declared.note.Made.{Made}
 use Rattle.vx_play.specs.declared.note.Note.{Note}
 use Rattle.vx_play.specs.declared.note.Note.TheVariants as note
@@ -43,11 +41,14 @@ use Rattle.vx_play.specs.Stage.{Stage, beginning}
 use Rattle.vx_play.specs.Play.{Takes, Plays}
 use Rattle.vx_play.specs.PlayerState.{PlayerState}
 use Rattle.vx_play.specs.Standing.{Stands, TakesTo, StopsFor, note_line, moves_lines, made_lines}
-use Rattle.vx_play.specs.Generated.{is_failure, is_wait, has_call, IsGenerated, AreGenerated, IsDriven, IsRun, IsHalted, EndsRun, counts_of}
+use Rattle.vx_play.specs.Making.{is_wait}
+use Rattle.vx_play.specs.Generated.{is_failure, has_call, IsGenerated, AreGenerated, IsDriven, IsRun, IsHalted, EndsRun, counts_of}
 use Rattle.vx_gen.specs.Asked.{IsInRange, spelled}
 use Rattle.vx_play.specs.Ended.{PutsLast}
 use Rattle.vx_play.specs.Outcome.{Ends, IsUnread, IsOutcome, usage_line}
 use Rattle.vx_play.specs.Counting.{no_counts, is_interrupt, has_error, tells_interrupt, tells_wait, counts_made, counts_behind, IsWithin, TakesCounted, Running, HaltsIn, EndsSteps}
+use Rattle.vx_play.specs.declared.note.Gone.TheVariants as gone
+use Rattle.vx_play.proofs.Shown.{waits}
 use Rattle.vx_play.proofs.Counted.{counts-more, same-counts}
 use Rattle.vx_play.proofs.Upholding.{plays-uphold}
 use Rattle.vx_play.proofs.WholePlay.{plays_more, stops-behind}
@@ -67,46 +68,22 @@ one-error (Some error) = by (is_failure error) where
 
 -- a note shows no transfers, and is an interrupt or a wait where it tells one
 note-moves : (room : List ℕ) (n : Note) → flat_map shown_moves (noted (note_line room n)) ≡ []
-note-moves room note.Nothing = refl
-note-moves room (note.Replied conn len) = refl
-note-moves room (note.Waiting conn (why.Locked by)) = refl
-note-moves room (note.Waiting conn (why.Turn by)) = refl
-note-moves room (note.Waiting conn why.Held) = refl
-note-moves room (note.Dialing conn) = refl
-note-moves room (note.Interrupt conn len) = refl
-note-moves room (note.NoInterrupt conn) = refl
-note-moves room (note.NoChannel conn) = refl
+note-moves room (note.Waiting conn why) = ap (λ moves. moves ++ []) (waits conn why).moves
 note-moves room (note.Ended conn gone.Down) = refl
-note-moves room (note.Ended conn gone.Junk) = refl
-note-moves room (note.Ended conn gone.Long) = refl
+note-moves room (note.Ended conn _) = refl
+note-moves room _ = refl
 
 note-interrupts : (room : List ℕ) (n : Note) → from_bool (tells_interrupt n) ≡ count_by is_interrupt (noted (note_line room n))
-note-interrupts room note.Nothing = refl
-note-interrupts room (note.Replied conn len) = refl
-note-interrupts room (note.Waiting conn (why.Locked by)) = refl
-note-interrupts room (note.Waiting conn (why.Turn by)) = refl
-note-interrupts room (note.Waiting conn why.Held) = refl
-note-interrupts room (note.Dialing conn) = refl
-note-interrupts room (note.Interrupt conn len) = refl
-note-interrupts room (note.NoInterrupt conn) = refl
-note-interrupts room (note.NoChannel conn) = refl
+note-interrupts room (note.Waiting conn why) = sym (ap (λ b. 0 + cond b 1 0) (waits conn why).no_interrupt)
 note-interrupts room (note.Ended conn gone.Down) = refl
-note-interrupts room (note.Ended conn gone.Junk) = refl
-note-interrupts room (note.Ended conn gone.Long) = refl
+note-interrupts room (note.Ended conn _) = refl
+note-interrupts room _ = refl
 
 note-waits : (room : List ℕ) (n : Note) → from_bool (tells_wait n) ≡ count_by is_wait (noted (note_line room n))
-note-waits room note.Nothing = refl
-note-waits room (note.Replied conn len) = refl
-note-waits room (note.Waiting conn (why.Locked by)) = refl
-note-waits room (note.Waiting conn (why.Turn by)) = refl
-note-waits room (note.Waiting conn why.Held) = refl
-note-waits room (note.Dialing conn) = refl
-note-waits room (note.Interrupt conn len) = refl
-note-waits room (note.NoInterrupt conn) = refl
-note-waits room (note.NoChannel conn) = refl
+note-waits room (note.Waiting conn why) = sym (ap (λ b. 0 + cond b 1 0) (waits conn why).wait)
 note-waits room (note.Ended conn gone.Down) = refl
-note-waits room (note.Ended conn gone.Junk) = refl
-note-waits room (note.Ended conn gone.Long) = refl
+note-waits room (note.Ended conn _) = refl
+note-waits room _ = refl
 
 -- the line of a poll's transfers shows them, and is neither
 lines-moves : (polled : Option ℕ) (moves : List Transfer) → length (flat_map shown_moves (moves_lines polled moves)) ≡ cond (is_some polled) (length moves) 0

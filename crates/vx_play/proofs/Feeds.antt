@@ -12,16 +12,17 @@ use Rattle.vx_script.specs.declared.Cause.TheVariants as cause
 use Rattle.vx_bus_traits.specs.Steps.{Cut}
 use Rattle.vx_sim.specs.SimState.{SimState}
 use Rattle.vx_flow.specs.Event as event
-use Rattle.vx_kernel.specs.CoreState.{CoreState}
+use Rattle.vx_core.specs.CoreState.{CoreState}
 use Rattle.vx_play.specs.declared.note.Gone.TheVariants as gone
 use Rattle.vx_play.specs.declared.note.Note.TheVariants as note
 use Rattle.vx_play.specs.declared.note.Made.{Made}
 use Rattle.vx_bench.specs.declared.stops.Stop.TheVariants as stop
 use Rattle.vx_play.specs.declared.streams.Incoming.{Incoming}
 use Rattle.vx_play.specs.Gateway.{Gateway, gateway_of, Happens}
-use Rattle.vx_message.specs.Meaning.{Meaning, Junk, Answered, Asks, Aborts, meaning, xid_by}
+use Rattle.vx_exchange.specs.Meaning.{Meaning, Junk, meaning, xid_by}
 use Rattle.vx_play.specs.Making.{MessageMakes}
-use Rattle.vx_play.specs.Serving.{MadeBy}
+use Rattle.vx_play.specs.declared.serve.Served.{Served}
+use Rattle.vx_play.specs.Serving.{MadeBy, Serves}
 use Rattle.vx_play.specs.Feeding.{FeedsTo, kept_behind, AnswersRecord, FeedMakes, FeedsPiece, StopsPiece}
 
 -- what holds of what is kept holds of what is there
@@ -31,29 +32,21 @@ if-there P o kept is h = subst (λ k. IfSome k P) is h
 pub if-some : (P : Incoming → Type 0) (o : Option Incoming) (kept : Incoming) → o ≡ Some kept → P kept → IfSome o P
 if-some P o kept is h = subst (λ k. IfSome k P) (sym is) h
 
--- behind a call or an answer a buffer begins anew, with the xid that the connection has then
-kept-behind : (m : Meaning) (kept : Incoming) (xid : ℕ) → m ≢ Junk → xid_by m kept.xid ≡ xid
-    → Some (record kept { buffer = fresh kept.buffer.limit; xid = xid }) ≡ kept_behind m kept
-kept-behind Junk kept xid live same = absurd (live refl)
-kept-behind (Answered message) kept xid live same = ap (λ n. Some (record kept { buffer = fresh kept.buffer.limit; xid = n })) (sym same)
-kept-behind (Asks asks_xid asked) kept xid live same = ap (λ n. Some (record kept { buffer = fresh kept.buffer.limit; xid = n })) (sym same)
-kept-behind (Aborts asks_xid lid) kept xid live same = ap (λ n. Some (record kept { buffer = fresh kept.buffer.limit; xid = n })) (sym same)
+-- behind a message that isn't junk a buffer begins anew, with the xid that the connection has then
+pub kept-behind : (m : Meaning) (kept : Incoming) → m ≢ Junk → Some (record kept { buffer = fresh kept.buffer.limit; xid = xid_by m kept.xid }) ≡ kept_behind m kept
+kept-behind Junk kept live = absurd (live refl)
+kept-behind _ kept live = refl
 
--- a meaning that sets the xid isn't junk
-pub sets-xid : (m : Meaning) (xid : ℕ) → ((last : ℕ) → xid_by m last ≡ xid) → m ≢ Junk
-sets-xid m xid same junk =
-    let first : 0 ≡ xid = subst (λ k. xid_by k 0 ≡ xid) junk (same 0) in
-    let second : 1 ≡ xid = subst (λ k. xid_by k 1 ≡ xid) junk (same 1) in
-    omega arith
-
--- a whole record that was answered, or called
-pub record-answered : (g : Gateway) (after : CoreState SimState) (conn now : ℕ) (r : Role) (was kept : Incoming) (room : List ℕ) (after_kept : Option Incoming) (made : Made) (xid : ℕ)
-    → was ≡ kept → meaning was.buffer.kept r ≢ Junk → xid_by (meaning was.buffer.kept r) was.xid ≡ xid
-    → after_kept ≡ Some (record was { buffer = fresh was.buffer.limit; xid = xid })
-    → MadeBy (MessageMakes g conn now (meaning was.buffer.kept r)) room made after → AnswersRecord g conn now r kept room after_kept made after
-record-answered g after conn now r was kept room after_kept made xid same live xid_is is made_by =
-    let P : Incoming → Type 0 = λ k. AnswersRecord g conn now r k room after_kept made after in
-    subst P same (record { made_by = made_by; kept_is = is ∙ kept-behind (meaning was.buffer.kept r) was xid live xid_is })
+-- a whole record that isn't junk
+pub record-served : (g : Gateway) (after : CoreState SimState) (conn now : ℕ) (r : Role) (was kept : Incoming) (room : List ℕ) (after_kept : Option Incoming) (served : Served)
+    → was ≡ kept → Serves g conn now was.xid (meaning was.buffer.kept r) room served after
+    → after_kept ≡ Some (record was { buffer = fresh was.buffer.limit; xid = served.xid })
+    → AnswersRecord g conn now r kept room after_kept served.made after
+record-served g after conn now r was kept room after_kept served same serves is =
+    subst (λ k. AnswersRecord g conn now r k room after_kept served.made after) same (record {
+      made_by = serves.made_by;
+      kept_is = is ∙ ap (λ n. Some (record was { buffer = fresh was.buffer.limit; xid = n })) serves.xid_is ∙ kept-behind (meaning was.buffer.kept r) was serves.call;
+    })
 
 -- a whole record that is junk
 pub record-junk : (before mid after : CoreState SimState) (conn now : ℕ) (r : Role) (was kept : Incoming) (room : List ℕ) (after_kept : Option Incoming)

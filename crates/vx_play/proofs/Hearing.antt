@@ -33,12 +33,13 @@ use Rattle.vx_rules.specs.Decide.{stand_of_job}
 use Rattle.vx_flow.specs.Event.{Begin, Move}
 use Rattle.vx_flow.specs.FineState.{FineState}
 use Rattle.vx_flow.specs.Fine.{call_stand, fine}
-use Rattle.vx_flow.specs.Poll as poll
-use Rattle.vx_flow.specs.Poll.{Ran, Ending, ran_of, begins, run_events}
+use Rattle.vx_flow.specs.Poll.{Ending, ran_of, begins, run_events}
+use Rattle.vx_flow.specs.declared.progress.Ran.{Ran}
+use Rattle.vx_flow.specs.declared.progress.Ran.TheVariants as ran
 use Rattle.vx_flow.specs.Sound.{TurnStands, IsSound}
 use Rattle.vx_flow.specs.ProvedLaws.{fine-does, just-front}
 use Rattle.vx_flow.specs.ProvedLaws.Plain.{found-has}
-use Rattle.vx_kernel.specs.Polling.{PollsOver, wanted, refused_ask}
+use Rattle.vx_core.specs.Polling.{PollsOver, wanted, refused_ask}
 use Rattle.vx_play.specs.Gateway.{Gateway}
 use Rattle.vx_play.specs.Hearing.{is_write, TakesHeard}
 use Rattle.vx_play.specs.ProvedLaws.{refused-none}
@@ -110,6 +111,12 @@ call-quiet t w conn _ ts plain small is on = absurd (false≢true is)
 
 -- ---- the transfers of a poll
 
+-- what holds of every core: it is sound, and the addresses of links, and the own one as the turn began, are at most 30
+pub record IsSteady (f : FineState) : Type 0 where
+  pub sound : IsSound f
+  pub links : All IsPlainLink f.state.tables.links.links
+  pub own : f.before.own ≤ ADDRESS_MAX
+
 -- the call of a connection is a write; the addresses of links, and the own one as its turn began, are at most 30
 record Writes (f : FineState) (conn : ℕ) (p : Pending) : Type 0 where
   call_at : pending_at f.state.tables conn ≡ Some p
@@ -155,12 +162,12 @@ run-quiet f behind conn now p (t ∷ ts) sound w h = by (begins f conn now) h wh
 
 -- an ask that didn't go changes nothing, and is no transfer
 refused-quiet : (ran : Ran) (slot : Option Slot) → list_all only_puts (refused_ask ran slot) ≡ true
-refused-quiet poll.Paused (Some slot) = refl
-refused-quiet poll.Paused None = refl
-refused-quiet poll.Broken (Some slot) = refl
-refused-quiet poll.Broken None = refl
-refused-quiet poll.Still slot = refl
-refused-quiet poll.Finished slot = refl
+refused-quiet ran.Paused (Some slot) = refl
+refused-quiet ran.Paused None = refl
+refused-quiet ran.Broken (Some slot) = refl
+refused-quiet ran.Broken None = refl
+refused-quiet ran.Still slot = refl
+refused-quiet ran.Finished slot = refl
 
 -- transfers that went, and steps behind them
 steps-quiet : (moves : List Transfer) (rest : List Step) → all_quiet moves ≡ true → list_all only_puts rest ≡ true → list_all only_puts (map Went moves ++ rest) ≡ true
@@ -173,14 +180,12 @@ steps-quiet (t ∷ ts) rest h k =
 -- of the poll's transfers, and no others.
 pub write-taken : (before after : Gateway) (conn now : ℕ) (ending : Ending)
     → PollsOver (λ s. s.means) Through (λ s. some_asks s.bench) (λ s. some_refuses s.means.wire s.bench) before.fine before.bus conn now (Cut ∷ Told now ∷ []) ending after.fine after.bus
-    → IsSound before.fine
-    → All IsPlainLink before.fine.state.tables.links.links
-    → before.fine.before.own ≤ ADDRESS_MAX
+    → IsSteady before.fine
     → (p : Pending) → pending_at before.fine.state.tables conn ≡ Some p → is_write p.call ≡ true → TakesHeard before.bus now after.bus.means.moves after.bus
-write-taken before after conn now ending over sound links own p at is =
+write-taken before after conn now ending over steady p at is =
     let moves = after.bus.means.moves in
-    let writes : Writes before.fine conn p = record { call_at = at; writes = is; links = links; own = own } in
-    let quiet = run-quiet before.fine over.polls.behind conn now p moves sound writes over.polls.runs_to in
+    let writes : Writes before.fine conn p = record { call_at = at; writes = is; links = steady.links; own = steady.own } in
+    let quiet = run-quiet before.fine over.polls.behind conn now p moves steady.sound writes over.polls.runs_to in
     let ran = ran_of ending in
     let slot = wanted over.polls.behind conn over.polls.asked in
     let told = over.walk.2.0 in

@@ -1,5 +1,4 @@
 pub mod Stepping
-pub mod Messages
 pub mod Feeds
 pub mod Connections
 pub mod Roles
@@ -8,6 +7,7 @@ pub mod Upholding
 pub mod Hearing
 pub mod Tweaked
 pub mod Calling
+pub mod PollEvents
 pub mod PollMade
 pub mod Playing
 pub mod WholePlay

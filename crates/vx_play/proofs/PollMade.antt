@@ -1,182 +1,191 @@
--- What a poll of the core makes of a play.
-use Rattle.std.proofs.Common.{◌≡◌, ℕ, ◌<◌, ◌≤◌, Bool, true, false, cond, List, [], ◌∷◌, ◌++◌, length, take, Option, Some, None, refl, sym, ap, ◌∙◌, subst, arith}
+-- What comes, polls and answers of the exchange make of a play.
+use Rattle.std.proofs.Common.{◌≡◌, ◌≢◌, ℕ, ◌≤◌, max, List, [], ◌∷◌, ◌++◌, length, Option, Some, None, refl, sym, ap, ◌∙◌, subst}
 use Rattle.std.specs.List.{flat_map, All}
 use Rattle.std.proofs.Math.Nat.{max-eq_right}
-use Rattle.vx_calls.specs.declared.replies.ReplyRef.{ReplyRef}
+use Rattle.std.proofs.lemmas.Bool.{false≢true}
 use Rattle.vx_calls.specs.declared.codes.ErrorCode.{ErrorCode}
-use Rattle.vx_calls.specs.Reply.{reply_shown}
-use Rattle.vx_488.specs.declared.transfers.TheConstants.{ADDRESS_MAX}
+use Rattle.vx_calls.specs.Call.{Call}
+use Rattle.vx_calls.specs.Reply as reply
 use Rattle.vx_488.specs.declared.transfers.Transfer.{Transfer}
-use Rattle.vx_bus_traits.specs.Steps.{Told, Cut}
+use Rattle.vx_488.specs.declared.transfers.TheConstants.{ADDRESS_MAX}
+use Rattle.vx_488.specs.declared.wire.Wire.{Wire}
+use Rattle.vx_bus_traits.specs.declared.bus.Bus.{Ghosts}
 use Rattle.vx_sim.specs.Bench.{some_asks, some_refuses}
 use Rattle.vx_sim.specs.SimState.{SimState, Through}
 use Rattle.vx_rules.specs.Serving.{IsPlainLink}
+use Rattle.vx_flow.specs.Event.{Event, Arrive}
 use Rattle.vx_flow.specs.Event as event
 use Rattle.vx_flow.specs.FineState.{FineState}
-use Rattle.vx_flow.specs.Poll.{Ending, Answered, Waited, Dialed, begins, run_events, end_events, moved_events}
-use Rattle.vx_flow.specs.Sound.{IsSound}
-use Rattle.vx_kernel.specs.CoreState.{CoreState}
-use Rattle.vx_kernel.specs.Ending.{why_shown}
-use Rattle.vx_kernel.specs.Polling.{PollsOver}
-use Rattle.vx_kernel.specs.declared.ended.Why.{Why}
-use Rattle.vx_kernel.specs.declared.ended.Why.TheVariants as why
-use Rattle.vx_core.specs.declared.polled.Polled.{Polled}
-use Rattle.vx_core.specs.declared.polled.Polled.TheVariants as polled
-use Rattle.vx_core.specs.Lending.{Shows, PollLeaves}
-use Rattle.vx_trace.specs.Output.{Out, WaitDial}
-use Rattle.vx_play.specs.declared.note.Note.{Note}
+use Rattle.vx_flow.specs.Fine.{fine}
+use Rattle.vx_flow.specs.Poll.{Ending, Answered, Waited, Dialed, run_events, moved_events, end_events}
+use Rattle.vx_flow.specs.ProvedLaws.{fine-does, fine-frame, stays_sound-law}
+use Rattle.vx_flow.specs.ProvedLaws.Kept.{same-before}
+use Rattle.vx_core.specs.CoreState.{CoreState}
+use Rattle.vx_trace.specs.Output.{Output, Out}
+use Rattle.vx_exchange.specs.declared.polls.PollEnd.{PollEnd}
+use Rattle.vx_exchange.specs.declared.polls.PollEnd.TheVariants as end
+use Rattle.vx_exchange.specs.declared.polls.Aborted.{Aborted}
+use Rattle.vx_exchange.specs.Meaning.{Meaning, Junk, xid_by, reply_record}
+use Rattle.vx_exchange.specs.Meaning as meant
+use Rattle.vx_record.specs.Fragments.{record_of}
+use Rattle.vx_exchange.specs.Opening.{Stands}
+use Rattle.vx_exchange.specs.Doing.{reply_error, Says, Polled, Came, Aborts}
+use Rattle.vx_play.specs.declared.note.Made.{Made}
 use Rattle.vx_play.specs.declared.note.Note.TheVariants as note
-use Rattle.vx_message.specs.Meaning.{reply_record}
-use Rattle.vx_play.specs.Gateway.{gateway_of}
-use Rattle.vx_play.specs.Item.{bus_lines, reply_error, answer_errors, errors_of}
-use Rattle.vx_play.specs.Making.{PollMakes, poll_line}
-use Rattle.vx_play.specs.Serving.{MadeBy}
-use Rattle.vx_play.specs.Standing.{note_line, moves_lines, wait_line, NoteWithin}
-use Rattle.vx_play.proofs.Hearing.{write-taken}
+use Rattle.vx_play.specs.Gateway.{Gateway, gateway_of}
+use Rattle.vx_play.specs.Item.{bus_lines, answer_errors, errors_of}
+use Rattle.vx_play.specs.Making.{PollMakes, MessageMakes, poll_line, wait_line}
+use Rattle.vx_play.specs.Serving.{MadeBy, Serves, poll_made}
+use Rattle.vx_play.specs.Standing.{note_line, moves_lines, NoteWithin}
+use Rattle.vx_play.proofs.Hearing.{IsSteady, write-taken}
+use Rattle.vx_play.proofs.PollEvents.{poll-gives}
 
--- ---- lines
+-- the simulated bus, as the exchange sees a bus
+abbrev pub sim : Ghosts SimState
+sim = record { means = λ s. s.means; srq_level = λ s. some_asks s.bench; ndac_level = λ s. some_refuses s.means.wire s.bench; through = Through }
 
--- the lines of a poll's events are those of its transfers
+-- ---- the lines and the errors of a poll's events
+
+-- the lines are those of its transfers
 poll-lines : (f : FineState) (conn now : ℕ) (moves : List Transfer) (ending : Ending)
     → flat_map bus_lines (run_events f conn now moves ++ end_events conn now ending) ≡ moves_lines (Some conn) moves
-poll-lines f conn now moves ending = by (begins f conn now) moves ending where
-  by : (b : Bool) (moves : List Transfer) (ending : Ending)
-      → flat_map bus_lines ((cond b (event.Begin conn now ∷ []) [] ++ moved_events conn moves) ++ end_events conn now ending) ≡ moves_lines (Some conn) moves
-  by true [] (Answered ran level given) = refl
-  by true [] (Waited w) = refl
-  by true [] (Dialed host port) = refl
-  by true (t ∷ ts) (Answered ran level given) = refl
-  by true (t ∷ ts) (Waited w) = refl
-  by true (t ∷ ts) (Dialed host port) = refl
-  by false [] (Answered ran level given) = refl
-  by false [] (Waited w) = refl
-  by false [] (Dialed host port) = refl
-  by false (t ∷ ts) (Answered ran level given) = refl
-  by false (t ∷ ts) (Waited w) = refl
-  by false (t ∷ ts) (Dialed host port) = refl
+poll-lines f conn now moves ending = poll-gives bus_lines f conn now moves ending refl ∙ by moves ending where
+  by : (moves : List Transfer) (ending : Ending)
+      → flat_map bus_lines (moved_events conn moves) ++ flat_map bus_lines (end_events conn now ending) ≡ moves_lines (Some conn) moves
+  by [] (Waited why) = refl
+  by [] _ = refl
+  by (t ∷ ts) (Waited why) = refl
+  by (t ∷ ts) _ = refl
 
--- the errors of its answers are that of its end
+-- the errors are that of its end
 abbrev ending_errors : Ending → List ErrorCode
 ending_errors (Answered ran level given) = reply_error given ∷ []
 ending_errors _ = []
 
 poll-errors : (f : FineState) (conn now : ℕ) (moves : List Transfer) (ending : Ending)
     → flat_map answer_errors (run_events f conn now moves ++ end_events conn now ending) ≡ ending_errors ending
-poll-errors f conn now moves ending = by (begins f conn now) moves ending where
-  by : (b : Bool) (moves : List Transfer) (ending : Ending)
-      → flat_map answer_errors ((cond b (event.Begin conn now ∷ []) [] ++ moved_events conn moves) ++ end_events conn now ending) ≡ ending_errors ending
-  by true [] (Answered ran level given) = refl
-  by true [] (Waited w) = refl
-  by true [] (Dialed host port) = refl
-  by true (t ∷ ts) (Answered ran level given) = refl
-  by true (t ∷ ts) (Waited w) = refl
-  by true (t ∷ ts) (Dialed host port) = refl
-  by false [] (Answered ran level given) = refl
-  by false [] (Waited w) = refl
-  by false [] (Dialed host port) = refl
-  by false (t ∷ ts) (Answered ran level given) = refl
-  by false (t ∷ ts) (Waited w) = refl
-  by false (t ∷ ts) (Dialed host port) = refl
+poll-errors f conn now moves ending = poll-gives answer_errors f conn now moves ending refl ∙ by moves ending where
+  by : (moves : List Transfer) (ending : Ending)
+      → flat_map answer_errors (moved_events conn moves) ++ flat_map answer_errors (end_events conn now ending) ≡ ending_errors ending
+  by [] (Waited why) = refl
+  by [] _ = refl
+  by (t ∷ ts) (Waited why) = refl
+  by (t ∷ ts) _ = refl
 
--- the error that a reply shows
-answer-error : (ending : Ending) (given : ReplyRef) (error : ErrorCode) → Shows (polled.Answer given) ending → error ≡ reply_error (reply_shown given)
-    → ending_errors ending ≡ errors_of (Some error)
-answer-error (Answered ran level r) given error shows is = ap (λ k. k ∷ []) (ap reply_error (sym shows) ∙ sym is)
-answer-error (Waited w) given error shows is = absurd shows
-answer-error (Dialed host port) given error shows is = absurd shows
+-- ---- what is told of a poll
 
--- and that no other end has
-waits-error : (ending : Ending) (w : Why) → Shows (polled.NotYet w) ending → ending_errors ending ≡ errors_of None
-waits-error (Answered ran level r) w shows = absurd shows
-waits-error (Waited waits) w shows = refl
-waits-error (Dialed host port) w shows = absurd shows
+-- what a poll made that ended so: the line, the error of its answer, and a record within the room
+record Tells (conn xid : ℕ) (room : List ℕ) (told : PollEnd) (ending : Ending) : Type 0 where
+  line : note_line room (poll_made conn told).note ≡ Some (poll_line conn xid ending)
+  errors : ending_errors ending ≡ errors_of (poll_made conn told).answered
+  within : NoteWithin (length room) (poll_made conn told).note
 
-dial-error : (ending : Ending) (host port : ℕ) → Shows (polled.Dial host port) ending → ending_errors ending ≡ errors_of None
-dial-error (Answered ran level r) host port shows = absurd shows
-dial-error (Waited w) host port shows = absurd shows
-dial-error (Dialed h p) host port shows = refl
-
--- a reply's line
-answer-line : (ending : Ending) (given : ReplyRef) (conn xid : ℕ) (told : List ℕ) → Shows (polled.Answer given) ending → told ≡ reply_record xid (reply_shown given)
-    → Some (Out conn told) ≡ Some (poll_line conn xid ending)
-answer-line (Answered ran level r) given conn xid told shows is = ap (λ record_is. Some (Out conn record_is)) (is ∙ ap (reply_record xid) shows)
-answer-line (Waited w) given conn xid told shows is = absurd shows
-answer-line (Dialed host port) given conn xid told shows is = absurd shows
-
--- the line of a call that waits
-wait-shown : (w : Why) (conn xid : ℕ) → Some (wait_line conn w) ≡ Some (poll_line conn xid (Waited (why_shown w)))
-wait-shown (why.Locked by) conn xid = refl
-wait-shown (why.Turn by) conn xid = refl
-wait-shown why.Held conn xid = refl
-
-waits-line : (ending : Ending) (w : Why) (conn xid : ℕ) → Shows (polled.NotYet w) ending → Some (wait_line conn w) ≡ Some (poll_line conn xid ending)
-waits-line (Answered ran level r) w conn xid shows = absurd shows
-waits-line (Waited waits) w conn xid shows = wait-shown w conn xid ∙ ap (λ k. Some (poll_line conn xid (Waited k))) shows
-waits-line (Dialed host port) w conn xid shows = absurd shows
-
--- the line of a dial that is asked for
-dial-line : (ending : Ending) (host port conn xid : ℕ) → Shows (polled.Dial host port) ending → Some (WaitDial conn) ≡ Some (poll_line conn xid ending)
-dial-line (Answered ran level r) host port conn xid shows = absurd shows
-dial-line (Waited w) host port conn xid shows = absurd shows
-dial-line (Dialed h p) host port conn xid shows = refl
-
--- ---- a poll
-
--- what a poll leaves of a core of a simulated bus
-abbrev pub Leaves : CoreState SimState → ℕ → ℕ → Polled → CoreState SimState → Type 0
-Leaves = PollLeaves (λ s. s.means) Through (λ s. some_asks s.bench) (λ s. some_refuses s.means.wire s.bench)
-
--- the moment of a poll
-pub poll-late : (old new : CoreState SimState) (conn now : ℕ) (result : Polled) → old.fine.state.moment ≤ now → Leaves old conn now result new
-    → new.fine.state.moment ≤ now
-poll-late old new conn now result late leaves =
-    let told : new.fine.state.moment ≡ now = ap (λ (f : FineState). f.state.moment) leaves.over.polls.at_now ∙ max-eq_right late in
-    omega arith
+tells : (conn xid : ℕ) (room : List ℕ) (told : PollEnd) (ending : Ending) → Says xid room told ending → Tells conn xid room told ending
+tells conn xid room (end.Replied len error) (Answered ran level given) says = record {
+  line = ap (λ r. Some (Out conn r)) says.0.record_is;
+  errors = ap (λ e. e ∷ []) (sym says.1);
+  within = (says.0.some, says.0.within);
+}
+tells conn xid room (end.NotYet why) (Waited waits) says = record { line = ap (λ w. Some (wait_line conn w)) says; errors = refl; within = tt }
+tells conn xid room (end.Dial host port) (Dialed h p) says = record { line = refl; errors = refl; within = tt }
+tells conn xid room (end.Replied len error) _ says = absurd says
+tells conn xid room (end.NotYet why) _ says = absurd says
+tells conn xid room (end.Dial host port) _ says = absurd says
 
 -- A poll makes its events, the line of its note, and the error of its answer.
-pub poll-made : (old new : CoreState SimState) (conn now xid : ℕ) (result : Polled) (room : List ℕ) (told : Note) (answered : Option ErrorCode) → old.fine.state.moment ≤ now
-    → IsSound old.fine → All IsPlainLink old.fine.state.tables.links.links → old.fine.before.own ≤ ADDRESS_MAX → (leaves : Leaves old conn now result new)
-    → note_line room told ≡ Some (poll_line conn xid leaves.ending) → ending_errors leaves.ending ≡ errors_of answered → NoteWithin (length room) told
-    → MadeBy (PollMakes (gateway_of old) conn now xid) room (record { polled = Some conn; note = told; answered = answered }) new
-poll-made old new conn now xid result room told answered late sound links own leaves line errors within =
-    let over : PollsOver (λ s. s.means) Through (λ s. some_asks s.bench) (λ s. some_refuses s.means.wire s.bench) old.fine old.bus conn now
-    (Cut ∷ Told now ∷ []) leaves.ending new.fine new.bus =
-    subst (λ m. PollsOver (λ s. s.means) Through (λ s. some_asks s.bench) (λ s. some_refuses s.means.wire s.bench) old.fine old.bus conn m
-    (Cut ∷ Told m ∷ []) leaves.ending new.fine new.bus) (max-eq_right late) leaves.over in
+pub poll-made : (old new : CoreState SimState) (conn now xid : ℕ) (room : List ℕ) (told : PollEnd) → IsSteady old.fine → Polled sim old conn now xid room told new
+    → MadeBy (PollMakes (gateway_of old) conn now xid) room (poll_made conn told) new
+poll-made old new conn now xid room told steady polled =
+    let t = tells conn xid room told polled.ending polled.says in
     record {
-      group = run_events old.fine conn now new.bus.means.moves ++ end_events conn now leaves.ending;
+      group = run_events old.fine conn now new.bus.means.moves ++ end_events conn now polled.ending;
       makes = record {
-        ending = leaves.ending;
-        over = over;
+        ending = polled.ending;
+        over = polled.over;
         events = refl;
-        told = line;
-        taken = write-taken (gateway_of old) (gateway_of new) conn now leaves.ending over sound links own;
+        told = t.line;
+        taken = write-taken (gateway_of old) (gateway_of new) conn now polled.ending polled.over steady;
       };
-      lines = poll-lines old.fine conn now new.bus.means.moves leaves.ending;
-      answered = poll-errors old.fine conn now new.bus.means.moves leaves.ending ∙ errors;
-      note = within;
-      few = λ h. leaves.few;
+      lines = poll-lines old.fine conn now new.bus.means.moves polled.ending;
+      answered = poll-errors old.fine conn now new.bus.means.moves polled.ending ∙ t.errors;
+      note = t.within;
+      few = λ h. polled.few;
     }
 
--- by what the poll gave
-pub answer-made : (old new : CoreState SimState) (conn now xid len : ℕ) (given : ReplyRef) (error : ErrorCode) (room : List ℕ) → old.fine.state.moment ≤ now
-    → IsSound old.fine → All IsPlainLink old.fine.state.tables.links.links → old.fine.before.own ≤ ADDRESS_MAX → Leaves old conn now (polled.Answer given) new
-    → take len room ≡ reply_record xid (reply_shown given) → error ≡ reply_error (reply_shown given) → 0 < len → len ≤ length room
-    → MadeBy (PollMakes (gateway_of old) conn now xid) room (record { polled = Some conn; note = note.Replied conn len; answered = Some error }) new
-answer-made old new conn now xid len given error room late sound links own leaves is error_is some within =
-    poll-made old new conn now xid (polled.Answer given) room (note.Replied conn len) (Some error) late sound links own leaves
-    (answer-line leaves.ending given conn xid (take len room) leaves.shows is) (answer-error leaves.ending given error leaves.shows error_is) (some, within)
+-- ---- a call that comes
 
-pub waits-made : (old new : CoreState SimState) (conn now xid : ℕ) (w : Why) (room : List ℕ) → old.fine.state.moment ≤ now
-    → IsSound old.fine → All IsPlainLink old.fine.state.tables.links.links → old.fine.before.own ≤ ADDRESS_MAX → Leaves old conn now (polled.NotYet w) new
-    → MadeBy (PollMakes (gateway_of old) conn now xid) room (record { polled = Some conn; note = note.Waiting conn w; answered = None }) new
-waits-made old new conn now xid w room late sound links own leaves =
-    poll-made old new conn now xid (polled.NotYet w) room (note.Waiting conn w) None late sound links own leaves
-    (waits-line leaves.ending w conn xid leaves.shows) (waits-error leaves.ending w leaves.shows) tt
+-- what holds of every core holds of one to which a call came
+come-steady : (f g : FineState) (conn now : ℕ) (asked : Call) → fine f (Arrive conn asked now) ≡ Some g → IsSteady f → IsSteady g
+come-steady f g conn now asked h steady = record {
+  sound = stays_sound-law f g (Arrive conn asked now) steady.sound h;
+  links = subst (λ l. All IsPlainLink l.links) (sym ((fine-frame f g (Arrive conn asked now) h).all_links refl)) steady.links;
+  own = subst (λ (w : Wire). w.own ≤ ADDRESS_MAX)
+      (sym (ap (λ (x : FineState). x.before) (fine-does f g (Arrive conn asked now) h).step.leads
+      ∙ same-before f.state.tables f.before f.state.wire f.state.moment f.turn steady.sound.turn_stands)) steady.own;
+}
 
-pub dial-made : (old new : CoreState SimState) (conn now xid host port : ℕ) (room : List ℕ) → old.fine.state.moment ≤ now
-    → IsSound old.fine → All IsPlainLink old.fine.state.tables.links.links → old.fine.before.own ≤ ADDRESS_MAX → Leaves old conn now (polled.Dial host port) new
-    → MadeBy (PollMakes (gateway_of old) conn now xid) room (record { polled = Some conn; note = note.Dialing conn; answered = None }) new
-dial-made old new conn now xid host port room late sound links own leaves =
-    poll-made old new conn now xid (polled.Dial host port) room (note.Dialing conn) None late sound links own leaves
-    (dial-line leaves.ending host port conn xid leaves.shows) (dial-error leaves.ending host port leaves.shows) tt
+-- a call that came, and was polled
+pub call-made : (before after : CoreState SimState) (conn now xid : ℕ) (asked : Call) (room : List ℕ) (told : PollEnd) → IsSteady before.fine
+    → Came sim before conn asked now xid room told after → MadeBy (MessageMakes (gateway_of before) conn now (meant.Asks xid asked)) room (poll_made conn told) after
+call-made before after conn now xid asked room told steady came =
+    let polled = poll-made came.come after conn now xid room told (come-steady before.fine came.come.fine conn now asked came.arrives steady) came.polled in
+    record {
+      group = Arrive conn asked now ∷ polled.group;
+      makes = record {
+        come = gateway_of came.come;
+        comes = record { events = came.arrives; bus = came.walk };
+        rest = polled.group;
+        polled = polled.makes;
+        events = refl;
+      };
+      lines = polled.lines;
+      answered = polled.answered;
+      note = polled.note;
+      few = polled.few;
+    }
+
+-- ---- a message, by what it means
+
+-- a record that is told of events without transfers, and the error of their one answer, where there is one
+pub record-made : (StepMakes : List Event → Option Output → Gateway → Type 0) (group : List Event) (told room : List ℕ) (conn len : ℕ) (answered : Option ErrorCode)
+    (after : CoreState SimState) → StepMakes group (Some (Out conn told)) (gateway_of after) → flat_map bus_lines group ≡ [] → flat_map answer_errors group ≡ errors_of answered
+    → Stands told len room → MadeBy StepMakes room (record { polled = None; note = note.Replied conn len; answered = answered }) after
+record-made StepMakes group told room conn len answered after makes none errors stands = record {
+  group = group;
+  makes = subst (λ r. StepMakes group (Some (Out conn r)) (gateway_of after)) (sym stands.record_is) makes;
+  lines = none;
+  answered = errors;
+  note = (stands.some, stands.within);
+  few = λ polled. absurd (false≢true polled);
+}
+
+-- what a message made that means this, and isn't junk
+serves : (before : Gateway) (conn now last : ℕ) (m shown : Meaning) (room : List ℕ) (made : Made) (xid : ℕ) (after : CoreState SimState) → m ≡ shown → shown ≢ Junk
+    → xid ≡ xid_by shown last → MadeBy (MessageMakes before conn now shown) room made after → Serves before conn now last m room (record { made = made; xid = xid }) after
+serves before conn now last m shown room made xid after is live xid_is made_by =
+    subst (λ k. Serves before conn now last k room (record { made = made; xid = xid }) after) (sym is) (record { call = live; xid_is = xid_is; made_by = made_by })
+
+-- one that is answered without the core
+pub answered-serves : (core : CoreState SimState) (conn now last len : ℕ) (m : Meaning) (message room : List ℕ) → m ≡ meant.Answered message → Stands (record_of message) len room
+    → Serves (gateway_of core) conn now last m room (record { made = record { polled = None; note = note.Replied conn len; answered = None }; xid = last }) core
+answered-serves core conn now last len m message room is stands =
+    serves (gateway_of core) conn now last m (meant.Answered message) room _ last core is (λ junk. absurd (cc)) refl
+    (record-made (MessageMakes (gateway_of core) conn now (meant.Answered message)) [] (record_of message) room conn len None core
+    (record { none = refl; same = refl }, refl) refl refl stands)
+
+-- a device_abort
+pub aborted-serves : (before after : CoreState SimState) (conn now last xid lid : ℕ) (m : Meaning) (room : List ℕ) (answered : Aborted) → m ≡ meant.Aborts xid lid
+    → Aborts sim before conn lid xid room answered after
+    → Serves (gateway_of before) conn now last m room (record { made = record { polled = None; note = note.Replied conn answered.len; answered = None }; xid = last }) after
+aborted-serves before after conn now last xid lid m room answered is done =
+    serves (gateway_of before) conn now last m (meant.Aborts xid lid) room _ last after is (λ junk. absurd (cc)) refl
+    (record-made (MessageMakes (gateway_of before) conn now (meant.Aborts xid lid)) (event.Abort conn lid answered.error ∷ []) (reply_record xid (reply.Error answered.error)) room
+    conn answered.len None after (record { error = answered.error; events = refl; happens = record { events = done.aborts; bus = done.walk }; told = refl }) refl refl done.stands)
+
+-- a call to the core
+pub called-serves : (before after : CoreState SimState) (conn now last xid : ℕ) (m : Meaning) (asked : Call) (room : List ℕ) (told : PollEnd) → m ≡ meant.Asks xid asked
+    → IsSteady before.fine → before.fine.state.moment ≤ now → Came sim before conn asked (max before.fine.state.moment now) xid room told after
+    → Serves (gateway_of before) conn now last m room (record { made = poll_made conn told; xid = xid }) after
+called-serves before after conn now last xid m asked room told is steady late came =
+    serves (gateway_of before) conn now last m (meant.Asks xid asked) room (poll_made conn told) xid after is (λ junk. absurd (cc)) refl
+    (call-made before after conn now xid asked room told steady (subst (λ n. Came sim before conn asked n xid room told after) (max-eq_right late) came))

@@ -4,19 +4,19 @@ use Rattle.std.specs.Prelude.{option_map}
 use Rattle.std.specs.List.{flat_map}
 use Rattle.vx_488.specs.declared.transfers.Transfer.{Transfer}
 use Rattle.vx_plan.specs.declared.tasks.TheConstants.{TURN_MAX}
-use Rattle.vx_kernel.specs.declared.ended.Why.TheVariants as why
 use Rattle.vx_trace.specs.declared.lines.Line.{Line}
 use Rattle.vx_trace.specs.Output.{Output, Bus, Out, Irq, line_shown}
 use Rattle.vx_trace.specs.Text.{line_text, text_room, IsWhole}
-use Rattle.vx_play.specs.declared.note.Gone.TheVariants as gone
 use Rattle.vx_play.specs.declared.note.Note.{Note}
 use Rattle.vx_play.specs.declared.note.Note.TheVariants as note
 use Rattle.vx_play.specs.declared.printer.TheConstants.{MOVES_ROOM, NOTE_ROOM}
-use Rattle.vx_message.specs.declared.record.TheConstants.{REPLY_ROOM}
+use Rattle.vx_exchange.specs.declared.record.TheConstants.{REPLY_ROOM}
 use Rattle.vx_text.specs.Ends.{End}
 use Rattle.vx_text.specs.Writing.{IsPut}
 use Rattle.vx_play.specs.Item.{noted}
 use Rattle.vx_play.specs.Standing.{note_line, moves_lines, NoteWithin}
+use Rattle.vx_play.specs.declared.note.Gone.TheVariants as gone
+use Rattle.vx_play.proofs.Shown.{waits}
 use Rattle.vx_play.specs.Printing.{Writable, option_text, outputs_of}
 
 -- an output line that fits into so many bytes
@@ -56,19 +56,14 @@ note_fits room (note.Replied conn len) shown is within all =
     let f = front_fits room len within.0 within.1 all in
     let e : Out conn (take len room) ≡ shown = cc in
     subst (λ o. Fits o NOTE_ROOM) e (record { whole = f.0; fits = f.1 })
-note_fits room (note.Waiting conn (why.Locked by)) shown is within all = fits_as _ shown is (record { whole = tt; fits = omega arith })
-note_fits room (note.Waiting conn (why.Turn by)) shown is within all = fits_as _ shown is (record { whole = tt; fits = omega arith })
-note_fits room (note.Waiting conn why.Held) shown is within all = fits_as _ shown is (record { whole = tt; fits = omega arith })
-note_fits room (note.Dialing conn) shown is within all = fits_as _ shown is (record { whole = tt; fits = omega arith })
+note_fits room (note.Waiting conn why) shown is within all = let w = waits conn why in fits_as _ shown is (record { whole = w.whole; fits = w.fits })
 note_fits room (note.Interrupt conn len) shown is within all =
     let f = front_fits room len within.0 within.1 all in
     let e : Irq conn (take len room) ≡ shown = cc in
     subst (λ o. Fits o NOTE_ROOM) e (record { whole = f.0; fits = f.1 })
-note_fits room (note.NoInterrupt conn) shown is within all = fits_as _ shown is (record { whole = tt; fits = omega arith })
-note_fits room (note.NoChannel conn) shown is within all = fits_as _ shown is (record { whole = tt; fits = omega arith })
 note_fits room (note.Ended conn gone.Down) shown is within all = fits_as _ shown is (record { whole = tt; fits = omega arith })
-note_fits room (note.Ended conn gone.Junk) shown is within all = fits_as _ shown is (record { whole = tt; fits = omega arith })
-note_fits room (note.Ended conn gone.Long) shown is within all = fits_as _ shown is (record { whole = tt; fits = omega arith })
+note_fits room (note.Ended conn _) shown is within all = fits_as _ shown is (record { whole = tt; fits = omega arith })
+note_fits room _ shown is within all = fits_as _ shown is (record { whole = tt; fits = omega arith })
 
 pub note-writable : (line : Option Line) (room : List ℕ) (n : Note) → option_map line_shown line ≡ note_line room n → NoteWithin (length room) n
     → length room ≡ REPLY_ROOM → IfSome line (λ l. Writable l NOTE_ROOM)

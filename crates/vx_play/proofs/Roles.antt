@@ -1,10 +1,9 @@
 -- Which connections live, and in which role: no event changes it but one that comes up and one that ends.
-use Rattle.std.proofs.Common.{◌≡◌, ◌≢◌, ◌==◌, ℕ, Bool, true, false, cond, not, List, [], ◌∷◌, Option, Some, None, refl, sym, ap, ◌∙◌}
+use Rattle.std.proofs.Common.{◌≡◌, ◌≢◌, ◌==◌, ℕ, Bool, true, false, cond, not, List, [], ◌∷◌, ◌++◌, Option, Some, None, refl, sym, ap, ◌∙◌}
 use Rattle.std.specs.Option.{option_map}
 use Rattle.std.specs.List.{list_all}
-use Rattle.std.proofs.lemmas.Bool.{false≢true, and_parts, and_from, eq-eqb}
+use Rattle.std.proofs.lemmas.Bool.{false≢true, and_parts, eq-eqb}
 use Rattle.std.proofs.lemmas.Option.{none-some, same_Some}
-use Rattle.std.proofs.lemmas.List.Folds.{list_all-append}
 use Rattle.vx_lemmas.specs.Options.{mapped}
 use Rattle.vx_lemmas.specs.Lists.{find_append-some, find_append-none, find_filter-gone}
 use Rattle.vx_calls.specs.declared.calls.Role.{Role}
@@ -12,12 +11,13 @@ use Rattle.vx_488.specs.declared.transfers.Transfer.{Transfer}
 use Rattle.vx_rules.specs.Lists.{along}
 use Rattle.vx_rules.specs.State.{Connection, Tables, connection_at, role_at, with_connection, without_connection}
 use Rattle.vx_rules.specs.ListLaws.{along-none}
-use Rattle.vx_flow.specs.Event.{Event, Up, Down, Begin}
+use Rattle.vx_flow.specs.Event.{Event, Up, Down}
 use Rattle.vx_flow.specs.FineState.{FineState}
 use Rattle.vx_flow.specs.Fine.{fine}
 use Rattle.vx_flow.specs.Frames.{lives_by}
-use Rattle.vx_flow.specs.Poll.{Ending, Answered, Waited, Dialed, Polls, begins, begun_events, moved_events, run_events, end_events}
+use Rattle.vx_flow.specs.Poll.{Ending, Waited, Polls, run_events, end_events}
 use Rattle.vx_flow.specs.ProvedLaws.{fine-does, fine-frame}
+use Rattle.vx_play.proofs.PollEvents.{poll-all, along-both}
 
 -- the event is neither a connection that comes up nor one that ends
 abbrev pub leaves_roles : Event → Bool
@@ -83,37 +83,17 @@ roles-along f g (e ∷ es) conn stay h =
     by None is x first rest = absurd (none-some g (sym (along-none fine es) ∙ x))
     by (Some mid) is x first rest = rest mid x ∙ first mid is
 
--- the events of a poll are such: its turn's beginning
-begun-stay : (f : FineState) (conn now : ℕ) → list_all leaves_roles (begun_events f conn now) ≡ true
-begun-stay f conn now = by (begins f conn now) where
-  by : (b : Bool) → list_all leaves_roles (cond b (Begin conn now ∷ []) []) ≡ true
-  by true = refl
-  by false = refl
-
--- its transfers
-moved-stay : (conn : ℕ) (moves : List Transfer) → list_all leaves_roles (moved_events conn moves) ≡ true
-moved-stay conn [] = refl
-moved-stay conn (t ∷ ts) = refl
-
--- both
-run-stay : (f : FineState) (conn now : ℕ) (moves : List Transfer) → list_all leaves_roles (run_events f conn now moves) ≡ true
-run-stay f conn now moves =
-    list_all-append leaves_roles (begun_events f conn now) (moved_events conn moves)
-    ∙ and_from (list_all leaves_roles (begun_events f conn now)) (list_all leaves_roles (moved_events conn moves)) (begun-stay f conn now) (moved-stay conn moves)
-
--- its end
-end-stay : (conn now : ℕ) (ending : Ending) → list_all leaves_roles (end_events conn now ending) ≡ true
-end-stay conn now (Answered ran level reply) = refl
-end-stay conn now (Waited why) = refl
-end-stay conn now (Dialed host port) = refl
-
 -- a poll leaves who lives in which role
 pub polls-roles : (old : FineState) (conn now : ℕ) (moves : List Transfer) (ending : Ending) (new : FineState) (n : ℕ) → Polls old conn now moves ending new
     → role_at new.state.tables n ≡ role_at old.state.tables n
 polls-roles old conn now moves ending new n polls =
     ap (λ (x : FineState). role_at x.state.tables n) polls.at_now
-    ∙ roles-along polls.behind polls.last (end_events conn now ending) n (end-stay conn now ending) polls.ended
-    ∙ roles-along old polls.behind (run_events old conn now moves) n (run-stay old conn now moves) polls.runs_to
+    ∙ roles-along old polls.last (run_events old conn now moves ++ end_events conn now ending) n
+    (poll-all leaves_roles old conn now moves ending refl refl (end-stay ending)) (along-both old polls.behind (Some polls.last) (run_events old conn now moves) (end_events conn now ending) polls.runs_to polls.ended)
+  where
+    end-stay : (ending : Ending) → list_all leaves_roles (end_events conn now ending) ≡ true
+    end-stay (Waited why) = refl
+    end-stay _ = refl
 
 -- ---- a connection that comes up, or ends
 

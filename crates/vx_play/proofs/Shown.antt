@@ -1,25 +1,30 @@
 -- The transfers that the lines of a play show are those of the turns' moves.
-use Rattle.std.proofs.Common.{◌≡◌, ℕ, List, [], ◌∷◌, ◌++◌, Option, Some, None, refl, sym, ap, ◌∙◌}
+use Rattle.std.proofs.Common.{◌≡◌, ◌≤◌, ℕ, true, false, arith, List, [], ◌∷◌, ◌++◌, Option, Some, None, refl, sym, ap, ◌∙◌}
 use Rattle.std.specs.List.{flat_map}
 use Rattle.std.proofs.lemmas.List.{append-nil}
 use Rattle.std.proofs.lemmas.Grind.{flat_map-append}
 use Rattle.vx_calls.specs.declared.calls.Role.{Role}
 use Rattle.vx_script.specs.Command.{Command, Up, In, Down, At, Poll, Sample, Take, Dial, Inst, Plug, Pull, Set, Fail}
 use Rattle.vx_trace.specs.Output.{Output}
-use Rattle.vx_message.specs.SrqState.{Channel, Given, Front, Empty, Gone, channel_at}
+use Rattle.vx_trace.specs.Text.{IsWhole, text_room}
+use Rattle.vx_play.specs.declared.printer.TheConstants.{NOTE_ROOM}
+use Rattle.vx_exchange.specs.SrqState.{Channel, Given, Front, channel_at}
 use Rattle.vx_rules.specs.State.{role_at}
 use Rattle.vx_flow.specs.Event.{Event}
 use Rattle.vx_flow.specs.Event as event
-use Rattle.vx_flow.specs.Poll.{Ending, Answered, Waited, Locked, InTurn, Held, Dialed}
+use Rattle.vx_flow.specs.Poll.{Ending, Waited}
+use Rattle.vx_flow.specs.declared.progress.Why.{Why}
+use Rattle.vx_flow.specs.declared.progress.Why.TheVariants as why
 use Rattle.vx_play.specs.Gateway.{Gateway}
 use Rattle.vx_bench.specs.Script.{Step}
-use Rattle.vx_message.specs.Meaning.{Meaning, Junk, Asks, Aborts, meaning}
-use Rattle.vx_message.specs.Meaning as meant
+use Rattle.vx_exchange.specs.Meaning.{Meaning, Junk, Asks, Aborts, meaning}
+use Rattle.vx_exchange.specs.Meaning as meant
 use Rattle.vx_play.specs.Stream.{Brought, NoEnd, Whole, TooLong, After, brought}
 use Rattle.vx_play.specs.Item.{Item, bus_lines, noted, item_lines, outputs, events, moved, shown_moves}
 use Rattle.vx_play.specs.Stage.{Stage, tables_of}
-use Rattle.vx_play.specs.Making.{MessageMakes, RecordMakes, PieceMakes, ChannelMakes, Makes, poll_line, take_line}
+use Rattle.vx_play.specs.Making.{MessageMakes, RecordMakes, PieceMakes, ChannelMakes, Makes, wait_line, is_wait, poll_line, take_line}
 use Rattle.vx_play.specs.Play.{Plays}
+use Rattle.vx_play.specs.Counting.{is_interrupt}
 
 -- a note shows no transfers
 abbrev pub IsPlain : Option Output → Type 0
@@ -33,19 +38,27 @@ plain-line output line told none = ap (λ n. flat_map shown_moves (noted n)) tol
 plain-none : (output : Option Output) → output ≡ None → IsPlain output
 plain-none output none = ap (λ n. flat_map shown_moves (noted n)) none
 
+-- the line of a call that waits shows none, is a wait and no interrupt, and is short
+pub record Waits (line : Output) : Type 0 where
+  pub moves : shown_moves line ≡ []
+  pub wait : is_wait line ≡ true
+  pub no_interrupt : is_interrupt line ≡ false
+  pub whole : IsWhole line
+  pub fits : text_room line ≤ NOTE_ROOM
+
+pub waits : (conn : ℕ) (why : Why) → Waits (wait_line conn why)
+waits conn why.Held = record { moves = refl; wait = refl; no_interrupt = refl; whole = tt; fits = omega arith }
+waits conn _ = record { moves = refl; wait = refl; no_interrupt = refl; whole = tt; fits = omega arith }
+
 -- the line of a poll
 poll-plain : (conn xid : ℕ) (ending : Ending) → shown_moves (poll_line conn xid ending) ≡ []
-poll-plain conn xid (Answered ran level given) = refl
-poll-plain conn xid (Waited (Locked link)) = refl
-poll-plain conn xid (Waited (InTurn by)) = refl
-poll-plain conn xid (Waited Held) = refl
-poll-plain conn xid (Dialed host port) = refl
+poll-plain conn xid (Waited why) = (waits conn why).moves
+poll-plain conn xid _ = refl
 
 -- the line of a take
 take-plain : (conn : ℕ) (given : Given) → shown_moves (take_line conn given) ≡ []
 take-plain conn (Front srq) = refl
-take-plain conn Empty = refl
-take-plain conn Gone = refl
+take-plain conn _ = refl
 
 -- what a message tells
 message-plain : (g : Gateway) (conn now : ℕ) (m : Meaning) (group : List Event) (output : Option Output) (after : Gateway)

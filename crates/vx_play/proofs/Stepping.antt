@@ -1,22 +1,34 @@
 -- A step of a play, from what a player made and keeps.
-use Rattle.std.proofs.Common.{◌≡◌, ◌≤◌, ℕ, None, refl, ap}
+use Rattle.std.proofs.Common.{◌≡◌, ◌≤◌, ℕ, List, Option, None, refl, ap, subst}
 use Rattle.std.specs.Prelude.{◌++◌}
 use Rattle.vx_script.specs.Command.{Command}
+use Rattle.vx_trace.specs.Output.{Output}
+use Rattle.vx_sim.specs.SimState.{SimState}
+use Rattle.vx_flow.specs.Event.{Event}
+use Rattle.vx_core.specs.CoreState.{CoreState}
 use Rattle.vx_rules.specs.State.{role_at}
 use Rattle.vx_play.specs.declared.note.Made.{Made}
-use Rattle.vx_play.specs.Gateway.{gateway_of}
+use Rattle.vx_play.specs.Gateway.{Gateway, gateway_of}
 use Rattle.vx_play.specs.Item.{noted}
 use Rattle.vx_play.specs.Stage.{Stage, refusal}
 use Rattle.vx_play.specs.Making.{Makes}
 use Rattle.vx_play.specs.Play.{stream_after, xid_after, rack_after, moment_after}
 use Rattle.vx_play.specs.PlayerState.{PlayerState, incoming_at}
 use Rattle.vx_play.specs.Serving.{MadeBy}
-use Rattle.vx_play.specs.Standing.{Holds, TakesTo, note_line, made_lines}
+use Rattle.vx_play.specs.Standing.{Stands, Holds, TakesTo, note_line, made_lines}
 
 -- what is kept of each connection behind a command
 abbrev pub HoldsBehind : Stage → Command → PlayerState → Type 0
 HoldsBehind before command new =
     (conn : ℕ) → Holds (role_at new.core.fine.state.tables conn) (incoming_at new.incoming conn) (stream_after before command conn) (xid_after before command conn)
+
+-- what was made in the player's gateway, at its moment, was made at the stage
+pub made-there : (StepMakes : Gateway → ℕ → List Event → Option Output → Gateway → Type 0) (p : PlayerState) (stage : Stage) (room : List ℕ) (made : Made)
+    (core : CoreState SimState) → Stands p stage → MadeBy (StepMakes (gateway_of p.core) p.moment) room made core
+    → MadeBy (StepMakes stage.gateway stage.moment) room made core
+made-there StepMakes p stage room made core stands h =
+    subst (λ m. MadeBy (StepMakes stage.gateway m) room made core) stands.moment
+    (subst (λ g. MadeBy (StepMakes g p.moment) room made core) stands.gateway h)
 
 -- a command that isn't refused, what it made, and what the player keeps behind it
 pub takes-to : (before : Stage) (command : Command) (new : PlayerState) (made : Made) → refusal before command ≡ None

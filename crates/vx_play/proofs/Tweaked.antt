@@ -23,7 +23,7 @@ use Rattle.vx_script.specs.declared.Cause.TheVariants as cause
 use Rattle.vx_script.specs.Command.{Command, Inst, Plug, Pull, Set, Fail}
 use Rattle.vx_rules.specs.State.{role_at}
 use Rattle.vx_flow.specs.FineState.{FineState}
-use Rattle.vx_kernel.specs.CoreState.{CoreState}
+use Rattle.vx_core.specs.CoreState.{CoreState}
 use Rattle.vx_play.specs.declared.note.Made.{Made}
 use Rattle.vx_play.specs.declared.note.Note.TheVariants as note
 use Rattle.vx_bench.specs.declared.stops.Stop.{Stop}

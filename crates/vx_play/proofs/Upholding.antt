@@ -1,15 +1,14 @@
 -- The headline holds of the events of a play: each is allowed at its place.
-use Rattle.std.proofs.Common.{◌≡◌, ◌≤◌, ◌==◌, ℕ, Bool, true, false, cond, List, [], ◌∷◌, ◌++◌, Option, Some, None, refl, sym, ap, ◌∙◌, subst, arith}
+use Rattle.std.proofs.Common.{◌≡◌, ◌≤◌, ◌==◌, ℕ, Bool, true, false, List, [], ◌∷◌, ◌++◌, Option, Some, None, refl, sym, ap, ◌∙◌, subst, arith}
 use Rattle.std.specs.List.{list_all}
 use Rattle.std.proofs.lemmas.Bool.{false≢true, and_parts, and_from, eqb-true, eq-eqb}
 use Rattle.std.proofs.lemmas.Option.{none-some, same_Some}
-use Rattle.std.proofs.lemmas.List.Folds.{list_all-append}
 use Rattle.vx_calls.specs.declared.calls.Role.{Role}
 use Rattle.vx_488.specs.declared.transfers.Transfer.{Transfer}
 use Rattle.vx_script.specs.Command.{Command, Up, In, Down, At, Poll, Sample, Take, Dial, Inst, Plug, Pull, Set, Fail}
 use Rattle.vx_trace.specs.Output.{Output}
 use Rattle.vx_bus_traits.specs.Steps.{Step}
-use Rattle.vx_message.specs.SrqState.{Channel, channel_at}
+use Rattle.vx_exchange.specs.SrqState.{Channel, channel_at}
 use Rattle.vx_sim.specs.SimState.{SimState}
 use Rattle.vx_rules.specs.Lists.{along}
 use Rattle.vx_rules.specs.State.{role_at}
@@ -18,13 +17,13 @@ use Rattle.vx_flow.specs.Event as event
 use Rattle.vx_flow.specs.FineState.{FineState, first_fine}
 use Rattle.vx_flow.specs.Fine.{fine}
 use Rattle.vx_flow.specs.Frames.{moment_after}
-use Rattle.vx_flow.specs.Poll.{Ending, Answered, Waited, Dialed, Polls, begins, begun_events, moved_events, run_events, end_events, at_moment}
-use Rattle.vx_rules.specs.ListLaws.{along-none, along-append}
+use Rattle.vx_flow.specs.Poll.{Ending, Waited, Polls, run_events, end_events, at_moment}
+use Rattle.vx_rules.specs.ListLaws.{along-none}
 use Rattle.vx_flow.specs.ProvedLaws.{fine-frame, earlier_law-holds, headline_law-holds}
 use Rattle.vx_play.specs.Gateway.{Gateway, Happens, abort_port}
 use Rattle.vx_bench.specs.Script as script
-use Rattle.vx_message.specs.Meaning.{Meaning, Junk, Asks, Aborts, meaning}
-use Rattle.vx_message.specs.Meaning as meant
+use Rattle.vx_exchange.specs.Meaning.{Meaning, Junk, Asks, Aborts, meaning}
+use Rattle.vx_exchange.specs.Meaning as meant
 use Rattle.vx_play.specs.Stream.{Brought, NoEnd, Whole, TooLong, After, brought}
 use Rattle.vx_play.specs.Item.{Item, events}
 use Rattle.vx_bench.specs.Rack.{SpareShown}
@@ -32,6 +31,7 @@ use Rattle.vx_play.specs.Stage.{Stage, tables_of, beginning}
 use Rattle.vx_play.specs.Making.{IsQuiet, PollMakes, Tweaks, MessageMakes, RecordMakes, PieceMakes, ChannelMakes, Makes}
 use Rattle.vx_play.specs.Play.{Plays}
 use Rattle.vx_play.specs.Upholding.{Upholds}
+use Rattle.vx_play.proofs.PollEvents.{poll-all, along-both}
 use Rattle.vx_play.proofs.Shown.{lines-shown}
 
 -- Events lead from one state to another, but for a later moment.
@@ -78,41 +78,18 @@ along-late f g (e ∷ es) now are late h =
     by None is x first rest = absurd (none-some g (sym (along-none fine es) ∙ x))
     by (Some mid) is x first rest = rest mid (first mid is) x
 
--- the events of a poll are such: its turn's beginning
-begun-polled : (f : FineState) (conn now : ℕ) → list_all (is_polled_at now) (begun_events f conn now) ≡ true
-begun-polled f conn now = by (begins f conn now) where
-  by : (b : Bool) → list_all (is_polled_at now) (cond b (event.Begin conn now ∷ []) []) ≡ true
-  by true = and_from (now == now) true (eq-eqb now now refl) refl
-  by false = refl
-
--- its transfers
-moved-polled : (conn now : ℕ) (moves : List Transfer) → list_all (is_polled_at now) (moved_events conn moves) ≡ true
-moved-polled conn now [] = refl
-moved-polled conn now (t ∷ ts) = refl
-
--- its end
-end-polled : (conn now : ℕ) (ending : Ending) → list_all (is_polled_at now) (end_events conn now ending) ≡ true
-end-polled conn now (Answered ran level reply) = and_from (now == now) true (eq-eqb now now refl) refl
-end-polled conn now (Waited why) = refl
-end-polled conn now (Dialed host port) = and_from (now == now) true (eq-eqb now now refl) refl
-
--- all of them
+-- the events of a poll are such
 poll-polled : (f : FineState) (conn now : ℕ) (moves : List Transfer) (ending : Ending)
     → list_all (is_polled_at now) (run_events f conn now moves ++ end_events conn now ending) ≡ true
-poll-polled f conn now moves ending =
-    let all = is_polled_at now in
-    list_all-append all (run_events f conn now moves) (end_events conn now ending)
-    ∙ and_from (list_all all (run_events f conn now moves)) (list_all all (end_events conn now ending))
-    (list_all-append all (begun_events f conn now) (moved_events conn moves)
-    ∙ and_from (list_all all (begun_events f conn now)) (list_all all (moved_events conn moves)) (begun-polled f conn now) (moved-polled conn now moves))
-    (end-polled conn now ending)
+poll-polled f conn now moves ending = poll-all (is_polled_at now) f conn now moves ending same refl (ended ending) where
+  same : (now == now) ≡ true
+  same = eq-eqb now now refl
+
+  ended : (ending : Ending) → list_all (is_polled_at now) (end_events conn now ending) ≡ true
+  ended (Waited why) = refl
+  ended _ = and_from (now == now) true same refl
 
 -- ---- what each step leads to
-
--- two lists of events, one after the other
-pub after-both : (f mid : FineState) (g : Option FineState) (xs ys : List Event) → along fine (Some f) xs ≡ Some mid → along fine (Some mid) ys ≡ g
-    → along fine (Some f) (xs ++ ys) ≡ g
-after-both f mid g xs ys first second = along-append fine (Some f) xs ys ∙ ap (λ o. along fine o ys) first ∙ second
 
 -- events that happen
 happens-leads : (before after : Gateway) (group : List Event) (steps : List Step) → Happens before group steps after → Leads before.fine group after.fine
@@ -144,7 +121,7 @@ pub polls-leads : (old : FineState) (conn now : ℕ) (moves : List Transfer) (en
 polls-leads old conn now moves ending new h =
     let group = run_events old conn now moves ++ end_events conn now ending in
     let goes : along fine (Some old) group ≡ Some h.last =
-    after-both old h.behind (Some h.last) (run_events old conn now moves) (end_events conn now ending) h.runs_to h.ended in
+    along-both old h.behind (Some h.last) (run_events old conn now moves) (end_events conn now ending) h.runs_to h.ended in
     record {
       last = h.last;
       now = now;
@@ -165,7 +142,7 @@ behind-leads : (f mid g : FineState) (xs ys : List Event) → along fine (Some f
 behind-leads f mid g xs ys first h = record {
   last = h.last;
   now = h.now;
-  goes = after-both f mid (Some h.last) xs ys first h.goes;
+  goes = along-both f mid (Some h.last) xs ys first h.goes;
   late = h.late;
   at_now = h.at_now;
 }
@@ -247,7 +224,7 @@ plays-leads f before [] (item ∷ items) end later plays = absurd plays
 plays-leads f before (step ∷ steps) (item ∷ items) end later plays =
     let led = leads-earlier f before plays.1 item.group later (makes-leads before item.command item.group item.note plays.1.gateway plays.2.makes) in
     let rest = plays-leads led.0 plays.1 steps items end led.2 plays.3 in
-    (rest.0, after-both f led.0 (Some rest.0) item.group (events items) led.1 rest.1, rest.2)
+    (rest.0, along-both f led.0 (Some rest.0) item.group (events items) led.1 rest.1, rest.2)
 
 -- the headline holds of the events of a play, and its lines show the transfers
 pub plays-uphold : (rack : List SpareShown) (steps : List script.Step) (items : List Item) (end : Stage) → Plays (beginning rack) steps items end → Upholds items

@@ -24,7 +24,8 @@ use Rattle.vx_text.specs.Writing.{StopsIn}
 use Rattle.vx_play.specs.declared.run.Status.{Status}
 use Rattle.vx_play.specs.declared.run.Status.TheVariants as status
 use Rattle.vx_play.specs.Item.{Fault, last_line}
-use Rattle.vx_play.specs.Generated.{IsGenerated, IsDriven, IsRun, IsHalted, counts_of, is_failure, is_wait}
+use Rattle.vx_play.specs.Making.{is_wait}
+use Rattle.vx_play.specs.Generated.{IsGenerated, IsDriven, IsRun, IsHalted, counts_of, is_failure}
 
 -- nothing is counted
 abbrev pub no_counts : Counts

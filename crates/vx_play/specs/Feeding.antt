@@ -8,7 +8,7 @@ use Rattle.vx_record.specs.declared.Feed.TheVariants as feed
 use Rattle.vx_script.specs.declared.Cause.TheVariants as cause
 use Rattle.vx_bus_traits.specs.Steps.{Cut}
 use Rattle.vx_sim.specs.SimState.{SimState}
-use Rattle.vx_kernel.specs.CoreState.{CoreState}
+use Rattle.vx_core.specs.CoreState.{CoreState}
 use Rattle.vx_flow.specs.Event as event
 use Rattle.vx_play.specs.declared.note.Gone.TheVariants as gone
 use Rattle.vx_play.specs.declared.note.Note.TheVariants as note
@@ -17,7 +17,7 @@ use Rattle.vx_bench.specs.declared.stops.Stop.{Stop}
 use Rattle.vx_bench.specs.declared.stops.Stop.TheVariants as stop
 use Rattle.vx_play.specs.declared.streams.Incoming.{Incoming}
 use Rattle.vx_play.specs.Gateway.{Gateway, gateway_of, Happens}
-use Rattle.vx_message.specs.Meaning.{Meaning, Junk, meaning, xid_by}
+use Rattle.vx_exchange.specs.Meaning.{Meaning, Junk, meaning, xid_by}
 use Rattle.vx_play.specs.Making.{MessageMakes}
 use Rattle.vx_play.specs.Serving.{MadeBy}
 

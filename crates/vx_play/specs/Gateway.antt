@@ -7,7 +7,7 @@ use Rattle.vx_rules.specs.Lists.{along}
 use Rattle.vx_flow.specs.Event.{Event}
 use Rattle.vx_flow.specs.FineState.{FineState, first_fine}
 use Rattle.vx_flow.specs.Fine.{fine}
-use Rattle.vx_kernel.specs.CoreState.{CoreState}
+use Rattle.vx_core.specs.CoreState.{CoreState}
 
 pub record Gateway : Type 0 where
   pub fine : FineState

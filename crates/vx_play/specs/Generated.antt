@@ -5,10 +5,10 @@ use Rattle.std.specs.Io.KnownBytes.{Appends}
 use Rattle.vx_calls.specs.declared.codes.ErrorCode.{ErrorCode}
 use Rattle.vx_calls.specs.declared.codes.ErrorCode.TheVariants as code
 use Rattle.vx_script.specs.Command.{Command, At}
-use Rattle.vx_trace.specs.Output.{Output, WaitLock, WaitTurn, WaitHeld, WaitDial}
+use Rattle.vx_trace.specs.Output.{Output}
 use Rattle.vx_text.specs.Ends.{End}
 use Rattle.vx_text.specs.Writing.{StopsIn}
-use Rattle.vx_message.specs.SrqState.{Srq, Front}
+use Rattle.vx_exchange.specs.SrqState.{Srq, Front}
 use Rattle.vx_rules.specs.State.{pending_at}
 use Rattle.vx_flow.specs.Event.{Event, Take}
 use Rattle.vx_bench.specs.Script.{Step}
@@ -23,6 +23,7 @@ use Rattle.vx_play.specs.declared.run.Status.{Status}
 use Rattle.vx_play.specs.declared.run.Status.TheVariants as status
 use Rattle.vx_play.specs.Item.{Item, Fault, noted, events, answer_errors, moved, last_line}
 use Rattle.vx_play.specs.Stage.{Stage, tables_of, beginning, refusal}
+use Rattle.vx_play.specs.Making.{is_wait}
 use Rattle.vx_play.specs.Play.{Plays}
 use Rattle.vx_play.specs.Upholding.{Upholds}
 
@@ -63,14 +64,6 @@ is_failure _ = true
 abbrev pub interrupts : Event → List Srq
 interrupts (Take conn channel (Front srq)) = srq ∷ []
 interrupts _ = []
-
--- a call is told to wait
-abbrev pub is_wait : Output → Bool
-is_wait (WaitLock conn link) = true
-is_wait (WaitTurn conn by) = true
-is_wait (WaitHeld conn) = true
-is_wait (WaitDial conn) = true
-is_wait _ = false
 
 -- the errors of the answers to calls, in order
 abbrev pub errors : List Item → List ErrorCode

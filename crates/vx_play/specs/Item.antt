@@ -9,10 +9,8 @@ use Rattle.vx_trace.specs.Output.{Output, Bus, Done, FaultLine}
 use Rattle.vx_trace.specs.Text.{line_text}
 use Rattle.vx_sim.specs.SimState.{SimState}
 use Rattle.vx_calls.specs.declared.codes.ErrorCode.{ErrorCode}
-use Rattle.vx_calls.specs.declared.codes.ErrorCode.TheVariants as code
-use Rattle.vx_calls.specs.Reply.{Reply}
-use Rattle.vx_calls.specs.Reply as reply
 use Rattle.vx_flow.specs.Event.{Event, Answer, Move}
+use Rattle.vx_exchange.specs.Doing.{reply_error}
 
 -- a step that was taken: its command, the events that it made in the gateway, the bus after it, and the line that there is
 -- to tell of it, or none
@@ -45,16 +43,6 @@ text items = flat_map line_text (outputs items)
 -- the events that these steps made
 abbrev pub events : List Item → List Event
 events items = flat_map (λ item. item.group) items
-
--- the error of a reply; one that has none counts as no error
-abbrev pub reply_error : Reply → ErrorCode
-reply_error reply.Null = code.Ok
-reply_error (reply.CreateLink error lid abort_port max) = error
-reply_error (reply.Write error size) = error
-reply_error (reply.Read error reason bytes) = error
-reply_error (reply.Stb error stb) = error
-reply_error (reply.Docmd error bytes) = error
-reply_error (reply.Error error) = error
 
 -- the error of an answer to a call
 abbrev pub answer_errors : Event → List ErrorCode

@@ -27,9 +27,6 @@ pub use Rattle.vx_calls.specs.Call
 pub use Rattle.vx_calls.specs.Reply
 pub use Rattle.vx_record.specs.Buffer
 pub use Rattle.vx_record.specs.Records
-pub use Rattle.vx_rpc.specs.Sorting
-pub use Rattle.vx_rpc.specs.Wording
-pub use Rattle.vx_codec.specs.Answered
 pub use Rattle.vx_488.specs.Address
 pub use Rattle.vx_488.specs.Heard
 pub use Rattle.vx_bus_traits.specs.Steps
@@ -39,8 +36,9 @@ pub use Rattle.vx_sim.specs.Attaching
 pub use Rattle.vx_sim.specs.Bench
 pub use Rattle.vx_sim.specs.Occupants
 pub use Rattle.vx_sim.specs.SimState
-pub use Rattle.vx_message.specs.Meaning
-pub use Rattle.vx_message.specs.SrqState
+pub use Rattle.vx_exchange.specs.Doing
+pub use Rattle.vx_exchange.specs.Meaning
+pub use Rattle.vx_exchange.specs.SrqState
 pub use Rattle.vx_rules.specs.Calls
 pub use Rattle.vx_rules.specs.Lists
 pub use Rattle.vx_rules.specs.One
@@ -50,8 +48,8 @@ pub use Rattle.vx_flow.specs.Fine
 pub use Rattle.vx_flow.specs.FineState
 pub use Rattle.vx_flow.specs.Headline
 pub use Rattle.vx_flow.specs.Poll
-pub use Rattle.vx_kernel.specs.CoreState
-pub use Rattle.vx_kernel.specs.Polling
+pub use Rattle.vx_core.specs.CoreState
+pub use Rattle.vx_core.specs.Polling
 pub use Rattle.vx_script.specs.Cause
 pub use Rattle.vx_script.specs.Command
 pub use Rattle.vx_script.specs.Grammar

@@ -10,16 +10,19 @@ use Rattle.vx_bus_traits.specs.Steps.{Told, Cut}
 use Rattle.vx_sim.specs.Bench.{some_asks, some_refuses}
 use Rattle.vx_sim.specs.SimState.{SimState, Through}
 use Rattle.vx_sim.specs.Attaching.{without_place, IsSet}
-use Rattle.vx_message.specs.SrqState.{Channel, Given, Front, Empty, Gone, channel_at}
+use Rattle.vx_exchange.specs.SrqState.{Channel, Given, Front, Empty, Gone, channel_at}
 use Rattle.vx_rules.specs.State.{Pending, role_at, pending_at}
 use Rattle.vx_flow.specs.Event.{Event}
 use Rattle.vx_flow.specs.Event as event
-use Rattle.vx_flow.specs.Poll.{Ending, Answered, Waited, Locked, InTurn, Held, Dialed, run_events, end_events}
-use Rattle.vx_kernel.specs.Polling.{PollsOver}
+use Rattle.vx_flow.specs.Poll.{Ending, Answered, Waited, Dialed, run_events, end_events}
+use Rattle.vx_flow.specs.declared.progress.Why.{Why}
+use Rattle.vx_flow.specs.declared.progress.Why.TheVariants as why
+use Rattle.vx_core.specs.Polling.{PollsOver}
 use Rattle.vx_play.specs.Gateway.{Gateway, BusGoes, Happens}
 use Rattle.vx_play.specs.Hearing.{is_write, TakesHeard}
-use Rattle.vx_message.specs.Meaning.{Meaning, Junk, Asks, Aborts, meaning, record_of, reply_record, srq_record}
-use Rattle.vx_message.specs.Meaning as meant
+use Rattle.vx_record.specs.Fragments.{record_of}
+use Rattle.vx_exchange.specs.Meaning.{Meaning, Junk, Asks, Aborts, meaning, reply_record, srq_record}
+use Rattle.vx_exchange.specs.Meaning as meant
 use Rattle.vx_play.specs.Stream.{Brought, NoEnd, Whole, TooLong, After, brought}
 use Rattle.vx_bench.specs.Rack.{spare_at}
 use Rattle.vx_play.specs.Stage.{Stage, tables_of}
@@ -31,12 +34,24 @@ pub record IsQuiet (before : Gateway) (group : List Event) (after : Gateway) : T
   pub none : group ≡ []
   pub same : after ≡ before
 
+-- the line of a call that waits
+abbrev pub wait_line : ℕ → Why → Output
+wait_line conn (why.Locked link) = WaitLock conn link
+wait_line conn (why.Turn by) = WaitTurn conn by
+wait_line conn why.Held = WaitHeld conn
+
+-- a call is told to wait: for one of these causes, or for a dial
+abbrev pub is_wait : Output → Bool
+is_wait (WaitLock conn link) = true
+is_wait (WaitTurn conn by) = true
+is_wait (WaitHeld conn) = true
+is_wait (WaitDial conn) = true
+is_wait _ = false
+
 -- the line of a poll that ends so, of a call of this xid
 abbrev pub poll_line : ℕ → ℕ → Ending → Output
 poll_line conn xid (Answered ran level given) = Out conn (reply_record xid given)
-poll_line conn xid (Waited (Locked link)) = WaitLock conn link
-poll_line conn xid (Waited (InTurn by)) = WaitTurn conn by
-poll_line conn xid (Waited Held) = WaitHeld conn
+poll_line conn xid (Waited why) = wait_line conn why
 poll_line conn xid (Dialed host port) = WaitDial conn
 
 -- a connection's call is polled at this moment

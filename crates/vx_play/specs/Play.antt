@@ -7,7 +7,7 @@ use Rattle.vx_script.specs.Command.{Command, Up, In, At, Plug}
 use Rattle.vx_rules.specs.State.{role_at}
 use Rattle.vx_bench.specs.Script.{Step, script}
 use Rattle.vx_play.specs.Stream.{Brought, Whole, brought, kept_after}
-use Rattle.vx_message.specs.Meaning.{meaning, xid_by}
+use Rattle.vx_exchange.specs.Meaning.{meaning, xid_by}
 use Rattle.vx_play.specs.Item.{Item, Fault}
 use Rattle.vx_bench.specs.Rack.{SpareShown, without_at}
 use Rattle.vx_play.specs.Stage.{Stage, tables_of, beginning, refusal}

@@ -4,7 +4,7 @@ use Rattle.std.specs.Ordering.{nat_cmp}
 use Rattle.std.specs.Map.{lookup}
 use Rattle.std.specs.BTreeMap.{is_at}
 use Rattle.vx_sim.specs.SimState.{SimState}
-use Rattle.vx_kernel.specs.CoreState.{CoreState}
+use Rattle.vx_core.specs.CoreState.{CoreState}
 use Rattle.vx_play.specs.declared.streams.Incoming.{Incoming}
 use Rattle.vx_bench.specs.Rack.{SpareShown}
 

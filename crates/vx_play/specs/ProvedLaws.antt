@@ -2,9 +2,9 @@
 use Rattle.std.proofs.Common.{◌≡◌, [], Option, Some, None, refl, ℕ, List, ap, ◌∙◌}
 use Rattle.vx_plan.specs.Plan.{Slot}
 use Rattle.vx_sim.specs.Laws.{transfers}
-use Rattle.vx_flow.specs.Poll as poll
-use Rattle.vx_flow.specs.Poll.{Ran}
-use Rattle.vx_kernel.specs.Polling.{refused_ask}
+use Rattle.vx_core.specs.Polling.{refused_ask}
+use Rattle.vx_flow.specs.declared.progress.Ran.{Ran}
+use Rattle.vx_flow.specs.declared.progress.Ran.TheVariants as ran
 use Rattle.vx_record.specs.declared.Feed.{Feed}
 use Rattle.vx_record.specs.declared.Feed.TheVariants as feed
 use Rattle.vx_play.specs.Stream.{Brought, NoEnd, Whole, TooLong, by_split}
@@ -13,12 +13,12 @@ use Rattle.vx_record.specs.Ends.{IsEnd}
 
 -- an ask that didn't go is no transfer
 pub refused-none : (ran : Ran) (slot : Option Slot) → transfers (refused_ask ran slot) ≡ []
-refused-none poll.Paused (Some slot) = refl
-refused-none poll.Paused None = refl
-refused-none poll.Broken (Some slot) = refl
-refused-none poll.Broken None = refl
-refused-none poll.Still slot = refl
-refused-none poll.Finished slot = refl
+refused-none ran.Paused (Some slot) = refl
+refused-none ran.Paused None = refl
+refused-none ran.Broken (Some slot) = refl
+refused-none ran.Broken None = refl
+refused-none ran.Still slot = refl
+refused-none ran.Finished slot = refl
 
 -- what stands at the last byte of a piece, by the buffer's state
 abbrev pub brought_of : Feed → List ℕ → Brought

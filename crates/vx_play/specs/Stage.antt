@@ -27,10 +27,6 @@ pub record Stage : Type 0 where
 abbrev pub beginning : List SpareShown → Stage
 beginning rack = record { gateway = first_gateway; streams = λ conn. []; xids = λ conn. 0; rack = rack; moment = 0 }
 
--- a play over a gateway of which no connection lives begins with these spares
-abbrev pub beginning_over : Gateway → List SpareShown → Stage
-beginning_over gateway rack = record (beginning rack) { gateway = gateway }
-
 abbrev pub tables_of : Stage → Tables
 tables_of s = s.gateway.fine.state.tables
 

@@ -9,9 +9,7 @@ use Rattle.vx_plan.specs.declared.tasks.TheConstants.{TURN_MAX}
 use Rattle.vx_record.specs.Buffer.{fresh, fed}
 use Rattle.vx_record.specs.declared.Feed.TheVariants.{More}
 use Rattle.vx_script.specs.Command.{Command, Up, Inst}
-use Rattle.vx_trace.specs.Output.{Output, Bus, Out, Irq, IrqNone, IrqClosed, WaitLock, WaitTurn, WaitHeld, WaitDial, GoneDown, GoneJunk, GoneLong}
-use Rattle.vx_kernel.specs.declared.ended.Why.{Why}
-use Rattle.vx_kernel.specs.declared.ended.Why.TheVariants as why
+use Rattle.vx_trace.specs.Output.{Output, Bus, Out, Irq, IrqNone, IrqClosed, WaitDial, GoneDown, GoneJunk, GoneLong}
 use Rattle.vx_rules.specs.State.{role_at}
 use Rattle.vx_play.specs.declared.streams.Incoming.{Incoming}
 use Rattle.vx_play.specs.declared.note.Gone.{Gone}
@@ -24,6 +22,7 @@ use Rattle.vx_bench.specs.declared.stops.Stop.TheVariants as stop
 use Rattle.vx_play.specs.Gateway.{gateway_of}
 use Rattle.vx_play.specs.Item.{Item, item_lines, noted, answer_errors, errors_of}
 use Rattle.vx_play.specs.Stage.{Stage, tables_of, refusal}
+use Rattle.vx_play.specs.Making.{wait_line}
 use Rattle.vx_play.specs.Play.{Takes}
 use Rattle.vx_play.specs.PlayerState.{PlayerState, incoming_at}
 
@@ -52,11 +51,6 @@ pub record IsReady (player : PlayerState) : Type 0 where
   pub waits : (conn : ℕ) → IfSome (incoming_at player.incoming conn) (λ kept. kept.buffer.state ≡ More)
   pub limits : (conn : ℕ) → IfSome (incoming_at player.incoming conn) (λ kept. kept.buffer.limit ≡ RECORD_MAX)
   pub late : player.core.fine.state.moment ≤ player.moment
-
-abbrev pub wait_line : ℕ → Why → Output
-wait_line conn (why.Locked by) = WaitLock conn by
-wait_line conn (why.Turn by) = WaitTurn conn by
-wait_line conn why.Held = WaitHeld conn
 
 abbrev pub gone_line : ℕ → Gone → Output
 gone_line conn gone.Down = GoneDown conn

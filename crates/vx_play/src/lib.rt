@@ -8,10 +8,7 @@ mod pieces;
 mod player;
 mod printer;
 mod run;
-pub mod serve;
+mod serve;
 mod streams;
 
-pub use note::{Gone, Made, Note};
-pub use player::Player;
 pub use run::play_run;
-pub use vx_bench::Stop;

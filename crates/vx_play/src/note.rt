@@ -1,7 +1,9 @@
 ghost use Rattle.std.specs.Prelude.{◌≡◌, None};
+ghost use Rattle.vx_play.specs.Serving.{poll_made};
 
 use vx_calls::ErrorCode;
 use vx_core::Why;
+use vx_exchange::PollEnd;
 
 /// How a connection ended.
 #[derive(Clone, Copy, Debug, PartialEq, Eq)]
@@ -59,6 +61,29 @@ impl Made {
             polled: None,
             note,
             answered: None,
+        }
+    }
+
+    /// What a poll of the connection's call makes, that ended so.
+    pub fn of_poll(conn: u32, end: PollEnd) -> Made
+        ensures { result ≡ poll_made conn end }
+    {
+        match end {
+            PollEnd::Replied { len, error } => Made {
+                polled: Some(conn),
+                note: Note::Replied { conn, len },
+                answered: Some(error),
+            },
+            PollEnd::NotYet(why) => Made {
+                polled: Some(conn),
+                note: Note::Waiting { conn, why },
+                answered: None,
+            },
+            PollEnd::Dial { .. } => Made {
+                polled: Some(conn),
+                note: Note::Dialing { conn },
+                answered: None,
+            },
         }
     }
 }

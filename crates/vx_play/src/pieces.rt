@@ -6,13 +6,13 @@ ghost use Rattle.vx_calls.specs.declared.limits.TheConstants.{RECORD_MAX};
 ghost use Rattle.vx_bus_traits.specs.Steps.{Cut};
 ghost use Rattle.vx_rules.specs.State.{connection_at, lives_as, role_at, pending_at};
 ghost use Rattle.vx_flow.specs.Event as event;
-ghost use Rattle.vx_message.specs.declared.record.TheConstants.{REPLY_ROOM};
+ghost use Rattle.vx_exchange.specs.declared.record.TheConstants.{REPLY_ROOM};
 ghost use Rattle.vx_play.specs.declared.streams.Incoming.{Incoming};
 ghost use Rattle.vx_play.specs.Gateway.{Gateway, gateway_of, Happens};
 ghost use Rattle.vx_play.specs.Feeding.{AnswersRecord, FeedsPiece, StopsPiece};
 
 use crate::note::{Gone, Made, Note};
-use crate::serve::{Served, serve};
+use crate::serve::serve;
 use crate::streams::{Incoming, feed};
 use std::collections::BTreeMap;
 use vx_bench::Stop;
@@ -63,17 +63,13 @@ fn answer<I: Instrument>(
     let Some(kept) = incoming.get_mut(&conn) else {
         return Made::QUIET;
     };
-    match serve(core, conn, role, kept.buffer.whole(), now, reply) {
-        Served::Answered(made) => {
+    match serve(core, conn, role, kept.buffer.whole(), kept.xid, now, reply) {
+        Some(served) => {
             kept.buffer.next();
-            made
+            kept.xid = served.xid;
+            served.made
         }
-        Served::Called { xid, made } => {
-            kept.buffer.next();
-            kept.xid = xid;
-            made
-        }
-        Served::Junk => {
+        None => {
             end(core, incoming, conn);
             Made::of(Note::Ended {
                 conn,

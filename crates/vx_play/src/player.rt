@@ -6,10 +6,10 @@ ghost use Rattle.vx_script.specs.Command.{Command, Up, In, Down, At, Poll, Sampl
 ghost use Rattle.vx_script.specs.Plain.{IsPlainStep, IsAddress};
 ghost use Rattle.vx_script.specs.Words.{is_name};
 ghost use Rattle.vx_rules.specs.State.{role_at, lives_as, pending_at};
-ghost use Rattle.vx_message.specs.declared.record.TheConstants.{REPLY_ROOM};
+ghost use Rattle.vx_exchange.specs.declared.record.TheConstants.{REPLY_ROOM};
 ghost use Rattle.vx_play.specs.declared.streams.Incoming.{Incoming};
 ghost use Rattle.vx_play.specs.Gateway.{gateway_of};
-ghost use Rattle.vx_play.specs.Stage.{Stage, beginning, beginning_over};
+ghost use Rattle.vx_play.specs.Stage.{Stage, beginning};
 ghost use Rattle.vx_bench.specs.Rack.{SpareShown};
 ghost use Rattle.vx_bench.specs.Refusing.{cause_of};
 ghost use Rattle.vx_play.specs.PlayerState.{PlayerState, incoming_at};
@@ -20,17 +20,17 @@ ghost use Rattle.vx_play.specs.Standing.{IsReady, Stands, IsPrintable, TakesTo, 
 use crate::bench;
 use crate::note::{Gone, Made, Note};
 use crate::pieces::{end, feed_piece};
-use crate::serve::{poll_call, succeed};
+use crate::serve::poll_call;
 use crate::streams::{self, Incoming};
 use std::alloc::{AllocError, Global};
 use std::collections::BTreeMap;
 use std::marker::Model;
 use vx_488::{Addr, Transfer};
 use vx_bench::{Stop, refused_for, spare_place, table_of};
-use vx_calls::{ReplyRef, Role, Taken};
+use vx_calls::{Role, Taken};
 use vx_core::{Connect, Core};
+use vx_exchange::{REPLY_ROOM, put_srq_record, settle};
 use vx_inst::Instrument;
-use vx_message::{REPLY_ROOM, put_srq_record};
 use vx_rack::Spare;
 use vx_script::{Cause, Step};
 use vx_sim::SimBus;
@@ -52,7 +52,7 @@ pub struct Player<I: Instrument> {
 
 impl<I: Instrument> Model for Player<I> {
     ghost use Rattle.std.specs.Prelude.{◌≡◌, length, map};
-    ghost use Rattle.vx_message.specs.declared.record.TheConstants.{REPLY_ROOM};
+    ghost use Rattle.vx_exchange.specs.declared.record.TheConstants.{REPLY_ROOM};
     ghost use Rattle.vx_play.specs.PlayerState.{PlayerState};
     ghost use Rattle.vx_sim.specs.Occupants.{handed_in};
     ghost use Rattle.vx_bench.specs.Spares.{spare_shown};
@@ -75,32 +75,14 @@ impl<I: Instrument> Player<I> {
     pub fn new(alloc: Global, rack: Vec<Spare<I>>) -> Result<Player<I>, AllocError>
         ensures { IfOk result (λ p. Stands p (beginning (map (spare_shown (handed_in (λ i. I.behaves i) (λ i. I.nature i))) rack.items))) }
     {
+        let Ok(reply) = zeros(alloc, REPLY_ROOM) else {
+            return Err(AllocError);
+        };
         let Ok(bus) = SimBus::new(alloc) else {
             return Err(AllocError);
         };
         let Ok(core) = Core::start(alloc, bus, ABORT_PORT) else {
             return Err(AllocError);
-        };
-        match Player::over(alloc, core, rack) {
-            Ok(player) => Ok(player),
-            Err(_) => Err(AllocError),
-        }
-    }
-
-    /// A player of a gateway of which no connection lives and whose moment is 0, as it starts, and with these spare
-    /// instruments. Where memory runs out the core comes back, and the spares are let go.
-    pub fn over(
-        alloc: Global,
-        core: Core<SimBus<I>>,
-        rack: Vec<Spare<I>>,
-    ) -> Result<Player<I>, Core<SimBus<I>>>
-        requires unconnected { core.fine.state.tables.connections ≡ [] }
-        requires early { core.fine.state.moment ≡ 0 }
-        ensures ok { IfOk result (λ p. Stands p (beginning_over (gateway_of core) (map (spare_shown (handed_in (λ i. I.behaves i) (λ i. I.nature i))) rack.items))) }
-        ensures err { IfErr result (λ back. back ≡ core) }
-    {
-        let Ok(reply) = zeros(alloc, REPLY_ROOM) else {
-            return Err(core);
         };
         Ok(Player {
             core,
@@ -110,11 +92,6 @@ impl<I: Instrument> Player<I> {
             moment: 0,
         })
     }
-
-    /// What holds of every player that stands at a stage: a step may be taken. It does nothing when it runs.
-    pub fn is_ready(&self)
-        ensures { (stage : Stage) → Stands self.now stage → IsReady self.now }
-    {}
 
     /// The transfers of the last step that reached the core, in order.
     pub fn moves(&self) -> &[Transfer]
@@ -321,12 +298,14 @@ impl<I: Instrument> Player<I> {
             return Err(Stop::Refused(Cause::Idle));
         }
         let xid = self.xid(conn);
-        let error = self.core.settle(conn, up, self.moment).error;
-        let note = succeed(conn, xid, &ReplyRef::Error { error }, &mut self.reply).note;
+        let answered = settle(&mut self.core, conn, xid, up, self.moment, &mut self.reply);
         Ok(Made {
             polled: None,
-            note,
-            answered: Some(error),
+            note: Note::Replied {
+                conn,
+                len: answered.len,
+            },
+            answered: Some(answered.error),
         })
     }
 }

@@ -6,7 +6,7 @@ ghost use Rattle.vx_play.specs.declared.printer.TheConstants.{MOVES_ROOM, NOTE_R
 ghost use Rattle.vx_play.specs.Printing.{option_text, AreWritable, Writable};
 
 use std::alloc::{AllocError, Global};
-use vx_message::REPLY_ROOM;
+use vx_exchange::REPLY_ROOM;
 use vx_plan::TURN_MAX;
 use vx_text::zeros;
 use vx_trace::{Line, put_line};

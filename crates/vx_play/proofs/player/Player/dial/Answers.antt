@@ -4,6 +4,7 @@ use denote.Param.{param}
 use Rattle.vx_calls.specs.declared.calls.Role.TheVariants as role
 use Rattle.vx_script.specs.Command.{Dial}
 use Rattle.vx_rules.specs.State.{lives_as}
+use Rattle.vx_play.specs.declared.note.Note.TheVariants as note
 use Rattle.vx_play.specs.contracts.player.Player.{the_view}
 use Rattle.vx_play.specs.PlayerState.{PlayerState, incoming_at}
 use Rattle.vx_play.specs.Standing.{Stands, TakesTo, made_lines}
@@ -13,13 +14,14 @@ use Rattle.vx_play.proofs.player.Player.dial.Goals as goal
 pub returns-clause-taken : goal.returns-clause-taken
 returns-clause-taken g c = λ stage stands.
     let p : PlayerState = the_view (param 0 g.row.I) g.I.Instrument c.self.inside in
-    let room = with_items_is c.self.inside.reply c.succeed-note.new.reply (c.succeed-note.auto.reply ∙ c.deref_mut.ensures.len) in
-    subst (λ xs. TakesTo stage (Dial c.args.conn c.args.up) (made_lines (record p { core = c.settle-error.new.self; reply = xs })
-    (record { polled = None; note = c.succeed-note.result.note; answered = Some c.settle-error.result.error })) (Some c.settle-error.result.error)
-    (record p { core = c.settle-error.new.self; reply = xs })) (sym room)
-    (dial-takes p stage c.settle-error.new.self c.succeed-note.new.reply c.succeed-note.result c.args.conn c.xid-xid.result c.args.up c.settle-error.result.error
+    let answered = c.settle-answered.result in
+    let room = with_items_is c.self.inside.reply c.settle-answered.new.reply (c.settle-answered.auto.reply ∙ c.deref_mut.ensures.len) in
+    subst (λ xs. TakesTo stage (Dial c.args.conn c.args.up) (made_lines (record p { core = c.settle-answered.new.core; reply = xs })
+    (record { polled = None; note = note.Replied c.args.conn answered.len; answered = Some answered.error })) (Some answered.error)
+    (record p { core = c.settle-answered.new.core; reply = xs })) (sym room)
+    (dial-takes p stage c.settle-answered.new.core c.settle-answered.new.reply c.args.conn c.xid-xid.result c.args.up answered
     (subst (λ q. Stands q stage) (sym c.self.view_is) stands)
     (subst (λ (q : PlayerState). lives_as q.core.fine.state.tables c.args.conn role.Core ≡ true) (sym c.self.view_is) c.in_ok-core_only.ensures.ok)
     (search rules)
     (subst (λ (q : PlayerState). IfSome (incoming_at q.incoming c.args.conn) (λ kept. c.xid-xid.result ≡ kept.xid)) (sym c.self.view_is) c.xid-xid.ensures)
-    c.settle-error.ensures.fine c.settle-error.ensures.walk c.succeed-note.ensures.made)
+    c.settle-answered.ensures.settles)

@@ -4,8 +4,8 @@ use Rattle.std.specs.Vec.{with_items}
 use denote.Param.{param}
 use Rattle.vx_calls.specs.declared.calls.Role.TheVariants as role
 use Rattle.vx_calls.specs.declared.replies.Taken.TheVariants as seen
-use Rattle.vx_message.specs.SrqState.{Channel, channel_at}
-use Rattle.vx_message.specs.Shown.{given_shown}
+use Rattle.vx_exchange.specs.SrqState.{Channel, channel_at}
+use Rattle.vx_exchange.specs.Shown.{given_shown}
 use Rattle.vx_script.specs.Command.{Take}
 use Rattle.vx_trace.specs.Output.{Irq}
 use Rattle.vx_rules.specs.State.{lives_as}
