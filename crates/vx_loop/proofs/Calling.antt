@@ -7,7 +7,7 @@ use Rattle.vx_client.specs.State.{ClientState}
 use Rattle.vx_client.specs.Message.{call_record}
 use Rattle.vx_client.specs.Exchange.{Exchange, Idle, Unsent, Unread, Ended, TooLong, Replied, StopsIn, Asks, Exchanged, IsCalled}
 use Rattle.vx_client.specs.declared.answers.ClientErr.{ClientErr}
-use Rattle.vx_play.specs.Gateway.{gateway_of}
+use Rattle.vx_loop.specs.Gateway.{gateway_of}
 use Rattle.vx_loop.specs.LoopState.{ServedState, LoopState, IsIdle}
 use Rattle.vx_loop.specs.Standing.{Went, Since, StandsFor, MarkedStands}
 

@@ -1,5 +1,5 @@
 -- What a write of a client that gave its results did in the gateway of its link.
-use Rattle.std.proofs.Common.{◌≡◌, ◌-◌, ◌≤◌, ◌<◌, ◌^◌, ◌==◌, ℕ, Bool, true, false, cond, List, [], ◌∷◌, ◌++◌, length, take, Option, Some, None, IfSome, Result, Ok, Err, ◌⊎◌, inl, inr, refl, sym, ap, ◌∙◌, subst, arith, append_assoc, append-nil}
+use Rattle.std.proofs.Common.{◌≡◌, ◌-◌, ◌≤◌, ◌<◌, ◌^◌, ◌==◌, ℕ, Bool, true, false, cond, List, [], ◌∷◌, ◌++◌, length, take, Option, Some, None, IfSome, Result, Ok, Err, inl, inr, refl, sym, ap, ◌∙◌, subst, arith, append_assoc, append-nil}
 use Rattle.std.specs.Prelude.{OnOk}
 use Rattle.std.specs.Option.{option_map, option_and_then}
 use Rattle.std.specs.List.{flat_map}
@@ -32,8 +32,9 @@ use Rattle.vx_codec.specs.Asked.{number, arguments, CallFits}
 use Rattle.vx_codec.specs.Answered.{Outcome, Written, outcome_of, answered, results}
 use Rattle.vx_codec.proofs.Rows.{field-again, field-written}
 use Rattle.vx_codec.proofs.Written.{asked-again}
-use Rattle.vx_message.specs.Meaning.{Meaning, Junk, Asks, Aborts, by_sorting, by_arguments, meaning, record_of, reply_record}
-use Rattle.vx_message.specs.Meaning as meant
+use Rattle.vx_record.specs.Fragments.{record_of}
+use Rattle.vx_exchange.specs.Meaning.{Meaning, Junk, Asks, Aborts, by_sorting, by_arguments, meaning}
+use Rattle.vx_exchange.specs.Meaning as meant
 use Rattle.vx_client.specs.State.{ClientState}
 use Rattle.vx_client.specs.Message.{message, call_record}
 use Rattle.vx_client.specs.Stream.{IsReply}
@@ -42,28 +43,23 @@ use Rattle.vx_client.specs.Meaning.{error_of, is_bad, judged, can_be, results_me
 use Rattle.vx_client.specs.Exchange.{Exchange, Idle, Unsent, Unread, Ended, TooLong, Replied, KeepsReply, Asks as Asked, Exchanged, result_of, IsCalled}
 use Rattle.vx_client.proofs.Lengths.{arguments-short}
 use Rattle.vx_client.proofs.Meanings.{success-meaning}
-use Rattle.vx_rules.specs.State.{lives_as}
-use Rattle.vx_flow.specs.Event.{Event}
-use Rattle.vx_sim.specs.Steps.{Step}
-use Rattle.vx_play.specs.Gateway.{Gateway, gateway_of}
-use Rattle.vx_play.specs.Item.{moved}
+use Rattle.vx_flow.specs.Event.{Event, Down}
+use Rattle.vx_bus_traits.specs.Steps.{Step, Cut}
+use Rattle.vx_loop.specs.Gateway.{Gateway, gateway_of}
+use Rattle.vx_flow.specs.Frames.{moves_by}
 use Rattle.vx_loop.specs.LoopState.{ServedState, LoopState, IsIdle}
 use Rattle.vx_loop.specs.Exchanges as exchange
-use Rattle.vx_loop.specs.Exchanges.{Adds, IsAnswered, Replies, IsExchange, Exchanges, streams_of, replies_of}
-use Rattle.vx_loop.specs.Standing.{IsOpen, IsWaiting, IsEnded, Went, Since, MarkedStands, IsKept}
+use Rattle.vx_loop.specs.Exchanges.{Adds, Replies, IsExchange, Exchanges, streams_of, replies_of}
+use Rattle.vx_loop.specs.Serving.{lives}
+use Rattle.vx_loop.specs.Standing.{GoesDown, EndsBy, never, refused, waited, unread, IsAt, Went, Since, MarkedStands, IsKept}
 use Rattle.vx_loop.specs.Heard.{IsResting, IsPieceHeard}
-use Rattle.vx_loop.proofs.Streams.{first_buffer, IsWhole, whole-by, brought-whole, whole-some, record-whole, whole-unique, none-yet}
-use Rattle.vx_loop.proofs.Happening.{adds-none, adds-append}
-use Rattle.vx_loop.proofs.Going.{waits-some}
+use Rattle.vx_loop.proofs.Streams.{first_buffer, IsWhole, whole-by, record-is-whole, whole-some, record-whole, whole-unique, none-yet}
+use Rattle.vx_loop.proofs.Happening.{adds-none, adds-append, happens-adds}
+use Rattle.vx_loop.proofs.Going.{none-parts, come-some}
 use Rattle.vx_loop.proofs.Calling.{marked-from}
 use Rattle.vx_loop.proofs.Hearing.{IsOneCall, one-call, call-heard, call-replies}
 
 -- ---- the one exchange of a record and its reply
-
--- both parts of nothing
-pub none-parts : (xs ys : List ℕ) → xs ++ ys ≡ [] → (xs ≡ []) × (ys ≡ [])
-none-parts [] ys h = (refl, h)
-none-parts (x ∷ xs) ys h = absurd (cc)
 
 -- a reply at the front of what came, as long as a client takes, is a record that a connection may bring: the two are the same
 pub reply-whole : (front reply : List ℕ) → (records REPLY_MAX front).records ≡ reply ∷ [] → is_settled (records REPLY_MAX (take (length front - 1) front)) ≡ false
@@ -72,19 +68,20 @@ reply-whole [] reply whole shortest = absurd (let none : [] ≡ reply ∷ [] = a
 reply-whole (x ∷ xs) reply whole shortest = whole-by (x ∷ xs) reply (omega arith) shortest whole
 
 -- a reply is a record of one fragment
-pub replied-record : (m : Meaning) (group : List Event) (r : List ℕ) → Replies m group r → (text : List ℕ) × (r ≡ record_of text)
-replied-record Junk group r h = absurd h
-replied-record (meant.Answered text) group r h = (text, h.1)
-replied-record (Asks xid asked) group r h = (success_message xid ++ results h.0, h.2)
-replied-record (Aborts xid lid) group r h = absurd h
+pub replied-record : (m : Meaning) (came now : ℕ) (group : List Event) (steps : List Step) (r : List ℕ) → Replies m came now group steps r
+    → (text : List ℕ) × (r ≡ record_of text)
+replied-record Junk came now group steps r h = absurd h
+replied-record (meant.Answered text) came now group steps r h = (text, h.3)
+replied-record (Asks xid asked) came now group steps r h = (success_message xid ++ results h.0, h.2)
+replied-record (Aborts xid lid) came now group steps r h = absurd h
 
 -- what happened from a gateway to another, behind an exchange, without a transfer
 pub record IsStill (before : Gateway) (s : ServedState) : Type 0 where
   pub group : List Event
   pub steps : List Step
   pub adds : Adds before group steps (gateway_of s.core)
-  pub still : flat_map moved group ≡ []
-  pub same : lives_as s.core.fine.state.tables 1 role.Core ≡ true → gateway_of s.core ≡ before
+  pub still : flat_map moves_by group ≡ []
+  pub same : lives (gateway_of s.core) ≡ true → gateway_of s.core ≡ before
 
 -- a whole record was exchanged for a whole reply, and the link is idle again
 pub record IsExchanged (start : Gateway) (s : ServedState) (text reply behind : List ℕ) : Type 0 where
@@ -97,17 +94,37 @@ pub record IsExchanged (start : Gateway) (s : ServedState) (text reply behind : 
   pub idle : IsIdle s
   pub after : IsStill mid s
 
-pub still-by : (mid : Gateway) (s : ServedState) (part : List ℕ) → part ≡ [] → s.left ≡ [] → IsOpen mid s part ⊎ IsWaiting mid s part ⊎ IsEnded mid s part
-    → IsIdle s × IsStill mid s
-still-by mid s part none nothing (inl o) = (
+still-same : (mid : Gateway) (s : ServedState) → gateway_of s.core ≡ mid → IsStill mid s
+still-same mid s same = record { group = []; steps = []; adds = subst (λ g. Adds mid [] [] g) (sym same) (adds-none mid); still = refl; same = λ alive. same }
+
+pub still-by : (mid : Gateway) (s : ServedState) (replied part : List ℕ) → part ≡ [] → s.left ≡ [] → IsAt mid s replied part → IsIdle s × IsStill mid s
+still-by mid s replied part none nothing (inl o) = (
   record { answered = o.answered; fresh_is = o.held ∙ ap (fed first_buffer) none; given = nothing },
-  record { group = []; steps = []; adds = subst (λ g. Adds mid [] [] g) (sym o.same) (adds-none mid); still = refl; same = λ lives. o.same },
+  still-same mid s o.same,
 )
-still-by mid s part none nothing (inr (inl w)) = absurd (waits-some mid s part w none)
-still-by mid s part none nothing (inr (inr e)) = (
+still-by mid s replied part none nothing (inr (inl w)) = absurd (come-some mid part s.xid w.polls (gateway_of s.core) w.come none)
+still-by mid s replied part none nothing (inr (inr e)) = (
   record { answered = e.answered; fresh_is = e.fresh_is none; given = nothing },
-  record { group = e.group; steps = e.steps; adds = e.adds; still = e.still none; same = λ lives. absurd (false≢true (sym e.gone ∙ lives)) },
+  by e.by_cause,
 )
+  where
+    let_go : e.gone ≡ []
+    let_go = (none-parts e.came e.gone (sym e.cut ∙ none)).1
+
+    fell : GoesDown mid (gateway_of s.core) → IsStill mid s
+    fell h = record {
+      group = Down 1 ∷ [];
+      steps = Cut ∷ [];
+      adds = happens-adds mid (gateway_of s.core) (Down 1 ∷ []) (Cut ∷ []) h refl;
+      still = refl;
+      same = λ alive. absurd (false≢true (sym e.down ∙ alive));
+    }
+
+    by : EndsBy mid replied e.came e.gone (gateway_of s.core) → IsStill mid s
+    by (never dead same) = still-same mid s same
+    by (refused bytes why down) = fell down
+    by (waited xid polls last come some down) = absurd (let len = ap (λ (xs : List ℕ). length xs) let_go in omega arith)
+    by (unread given left is some more down) = absurd (let len = ap (λ (xs : List ℕ). length xs) let_go in omega arith)
 
 module _ (start : Gateway) (s : ServedState) (text got reply behind : List ℕ) (short : length text ≤ RECORD_MAX) (w : Went start s (record_of text) got) (r : IsReply got reply behind) where
   front-whole : IsWhole r.front reply
@@ -122,12 +139,12 @@ module _ (start : Gateway) (s : ServedState) (text got reply behind : List ℕ) 
       let len = ap (λ (xs : List ℕ). length xs) front.0 in
       absurd (omega arith)
   exchanged-by (x ∷ xs) (mid, first, more) taken_is given_is =
-      let here = brought-whole x.stream x.message first.whole in
+      let here = record-is-whole x.stream x.message first.whole in
       let sent = record-whole text short in
       let cut = whole-unique x.stream (record_of text) (streams_of xs ++ w.open_part) [] x.message text here sent
       (sym (append_assoc x.stream (streams_of xs) w.open_part) ∙ sym taken_is ∙ sym (append-nil (record_of text))) in
       let rest = none-parts (streams_of xs) w.open_part cut.1 in
-      let said_text = replied-record _ x.group x.reply first.replies in
+      let said_text = replied-record _ _ _ x.group x.steps x.reply first.replies in
       let short_reply = first.short in
       let len = ap (λ (ys : List ℕ). length ys) said_text.1 in
       let replied = record-whole said_text.0 (omega arith) in
@@ -137,7 +154,7 @@ module _ (start : Gateway) (s : ServedState) (text got reply behind : List ℕ) 
       sym (append_assoc r.front behind s.left) ∙ ap (λ ys. ys ++ s.left) (sym r.cut) ∙ given_is ∙ ap (λ ys. x.reply ++ ys) nothing_more.1 in
       let back = whole-unique r.front x.reply (behind ++ s.left) [] reply said_text.0 front-whole reply_whole given in
       let left = none-parts behind s.left back.1 in
-      let still = still-by w.reached s w.open_part rest.1 left.1 w.stands in
+      let still = still-by w.reached s (replies_of w.done) w.open_part rest.1 left.1 w.stands in
       record {
         x = x;
         mid = mid;
@@ -156,7 +173,7 @@ module _ (start : Gateway) (s : ServedState) (text got reply behind : List ℕ) 
       only [] none mid more = (more, refl)
       only (y ∷ ys) none mid more =
           let parts = none-parts y.stream (streams_of ys) none in
-          let some = whole-some y.stream y.message (brought-whole y.stream y.message more.1.whole) in
+          let some = whole-some y.stream y.message (record-is-whole y.stream y.message more.1.whole) in
           let len = ap (λ (zs : List ℕ). length zs) parts.0 in
           absurd (omega arith)
 
@@ -188,40 +205,23 @@ written-error e n o small h =
     by (Some (v, [])) h = ap error_of (sym (same_Some _ o h))
     by (Some (v, b ∷ bs)) h = cc
 
--- only one code has number 0
-zero-ok : (e : ErrorCode) → error_number e ≡ 0 → e ≡ code.Ok
-zero-ok code.Ok h = refl
-zero-ok code.Syntax h = absurd (omega arith)
-zero-ok code.NotAccessible h = absurd (omega arith)
-zero-ok code.InvalidLink h = absurd (omega arith)
-zero-ok code.Parameter h = absurd (omega arith)
-zero-ok code.NoChannel h = absurd (omega arith)
-zero-ok code.NotSupported h = absurd (omega arith)
-zero-ok code.NoResources h = absurd (omega arith)
-zero-ok code.Locked h = absurd (omega arith)
-zero-ok code.NotHeld h = absurd (omega arith)
-zero-ok code.Timeout h = absurd (omega arith)
-zero-ok code.BusFault h = absurd (omega arith)
-zero-ok code.InvalidAddress h = absurd (omega arith)
-zero-ok code.Abort h = absurd (omega arith)
-zero-ok code.ChannelUp h = absurd (omega arith)
-
-small-error : (e : ErrorCode) → error_number e < 2 ^ 32
-small-error code.Ok = omega arith
-small-error code.Syntax = omega arith
-small-error code.NotAccessible = omega arith
-small-error code.InvalidLink = omega arith
-small-error code.Parameter = omega arith
-small-error code.NoChannel = omega arith
-small-error code.NotSupported = omega arith
-small-error code.NoResources = omega arith
-small-error code.Locked = omega arith
-small-error code.NotHeld = omega arith
-small-error code.Timeout = omega arith
-small-error code.BusFault = omega arith
-small-error code.InvalidAddress = omega arith
-small-error code.Abort = omega arith
-small-error code.ChannelUp = omega arith
+-- the number of a code is a word, and only one has number 0
+code-number : (e : ErrorCode) → (error_number e < 2 ^ 32) × (error_number e ≡ 0 → e ≡ code.Ok)
+code-number code.Ok = (omega arith, λ h. refl)
+code-number code.Syntax = (omega arith, λ h. absurd (omega arith))
+code-number code.NotAccessible = (omega arith, λ h. absurd (omega arith))
+code-number code.InvalidLink = (omega arith, λ h. absurd (omega arith))
+code-number code.Parameter = (omega arith, λ h. absurd (omega arith))
+code-number code.NoChannel = (omega arith, λ h. absurd (omega arith))
+code-number code.NotSupported = (omega arith, λ h. absurd (omega arith))
+code-number code.NoResources = (omega arith, λ h. absurd (omega arith))
+code-number code.Locked = (omega arith, λ h. absurd (omega arith))
+code-number code.NotHeld = (omega arith, λ h. absurd (omega arith))
+code-number code.Timeout = (omega arith, λ h. absurd (omega arith))
+code-number code.BusFault = (omega arith, λ h. absurd (omega arith))
+code-number code.InvalidAddress = (omega arith, λ h. absurd (omega arith))
+code-number code.Abort = (omega arith, λ h. absurd (omega arith))
+code-number code.ChannelUp = (omega arith, λ h. absurd (omega arith))
 
 -- results that are an answer have error 0
 judged-done : (c : Call) (room : ℕ) (o d : Outcome) → judged c room o ≡ said.Done d → error_of o ≡ 0
@@ -279,9 +279,11 @@ module _ (old new : ClientState LoopState) (lid io_timeout lock_timeout flags : 
       let e = one-exchange (gateway_of s.core) t (message old.next asked_now) g.asks.got g.reply new.kept message-short w came in
       let is : meaning e.x.message role.Core ≡ Asks old.next asked_now =
       ap (λ m. meaning m role.Core) e.message_is ∙ message-asks old.next lid io_timeout lock_timeout flags bytes numbered fits in
-      let replies : Replies (Asks old.next asked_now) e.x.group e.x.reply = subst (λ m. Replies m e.x.group e.x.reply) is e.exchanged.replies in
+      let came = s.core.fine.state.moment in
+      let now = e.mid.fine.state.moment in
+      let replies : Replies (Asks old.next asked_now) came now e.x.group e.x.steps e.x.reply = subst (λ m. Replies m came now e.x.group e.x.steps e.x.reply) is e.exchanged.replies in
       let told = replies.0 in
-      let one = one-call s.core.fine asked_now told e.x.group e.exchanged.adds.last k.reached (k.calm rests.idle.answered) replies.1 e.exchanged.adds.events in
+      let one = one-call s.core.fine asked_now told came now e.x.group e.x.steps e.exchanged.adds.last k.reached (k.calm rests.idle.answered) replies.1 e.exchanged.adds.events in
       let kind = call-replies s.core.fine e.exchanged.adds.last e.x.group lid io_timeout lock_timeout flags bytes told one in
       let text = success_message old.next ++ results told in
       let short = e.exchanged.short in
@@ -294,11 +296,11 @@ module _ (old new : ClientState LoopState) (lid io_timeout lock_timeout flags : 
       let error = kind.0.0 in
       let size = kind.0.1 in
       let read : answered proc.Write (word (error_number error) ++ word size) ≡ Some had.0 = ap (λ (r : Reply). answered proc.Write (results r)) (sym kind.0.2) ∙ had.1 in
-      let zero = zero-ok error (sym (written-error (error_number error) size had.0 (small-error error) read) ∙ had.2) in
+      let zero = (code-number error).1 (sym (written-error (error_number error) size had.0 (code-number error).0 read) ∙ had.2) in
       let ok : told ≡ reply.Write code.Ok size = kind.0.2 ∙ ap (λ c. reply.Write c size) zero in
       let one_ok = subst (λ r. IsOneCall s.core.fine asked_now r e.x.group e.exchanged.adds.last) ok one in
-      let moves : flat_map moved (e.x.group ++ e.after.group) ≡ flat_map moved e.x.group =
-      flat_map-append moved e.x.group e.after.group ∙ ap (λ ms. flat_map moved e.x.group ++ ms) e.after.still ∙ append-nil (flat_map moved e.x.group) in
+      let moves : flat_map moves_by (e.x.group ++ e.after.group) ≡ flat_map moves_by e.x.group =
+      flat_map-append moves_by e.x.group e.after.group ∙ ap (λ ms. flat_map moves_by e.x.group ++ ms) e.after.still ∙ append-nil (flat_map moves_by e.x.group) in
       record {
         then_served = t;
         rests = record {

@@ -2,7 +2,7 @@
 use Rattle.std.proofs.Common.{◌≡◌, ◌≤◌, ℕ, List, [], ◌∷◌, ◌++◌, Some, refl, sym, ap, ◌∙◌, subst, arith}
 use Rattle.std.specs.List.{flat_map}
 use Rattle.std.proofs.lemmas.Grind.{flat_map-append}
-use Rattle.vx_sim.specs.Steps.{Step, Went, Held, Failed, Told, Cut}
+use Rattle.vx_bus_traits.specs.Steps.{Step, Went, Held, Failed, Told, Cut}
 use Rattle.vx_sim.specs.SimState.{SimState}
 use Rattle.vx_sim.specs.Laws.{transfers}
 use Rattle.vx_rules.specs.Lists.{along}
@@ -13,8 +13,8 @@ use Rattle.vx_flow.specs.Poll.{at_moment}
 use Rattle.vx_flow.specs.Sound.{IsSound}
 use Rattle.vx_flow.specs.ProvedLaws.{later-stands, earlier_law-holds, fine-gathers}
 use Rattle.vx_rules.specs.ListLaws.{along-append}
-use Rattle.vx_play.specs.Gateway.{Gateway, BusGoes}
-use Rattle.vx_play.specs.Item.{moved}
+use Rattle.vx_loop.specs.Gateway.{Gateway, BusGoes, Happens}
+use Rattle.vx_flow.specs.Frames.{moves_by}
 use Rattle.vx_loop.specs.Exchanges.{Adds}
 use Rattle.vx_loop.specs.Standing.{IsReached}
 
@@ -35,6 +35,10 @@ bus-append a b c (x ∷ xs) ys first second = (first.0, first.1, bus-append firs
 -- nothing happens
 pub adds-none : (g : Gateway) → Adds g [] [] g
 adds-none g = record { last = g.fine; events = refl; late = omega arith; at_now = refl; bus = refl; moves = refl }
+
+-- what happened without a transfer
+pub happens-adds : (a b : Gateway) (group : List Event) (steps : List Step) → Happens a group steps b → transfers steps ≡ flat_map moves_by group → Adds a group steps b
+happens-adds a b group steps h moves = record { last = b.fine; events = h.events; late = omega arith; at_now = refl; bus = h.bus; moves = moves }
 
 -- events that are allowed behind a state at a later moment
 pub along-later : (first last : FineState) (f g : FineState) (xs ys : List Event) → along fine (Some first) xs ≡ Some last → last.state.moment ≤ f.state.moment
@@ -57,8 +61,8 @@ adds-append a b c xs ys ss ts first second =
       at_now = second.at_now;
       bus = bus-append a.bus b.bus c.bus ss ts first.bus second.bus;
       moves =
-          transfers-append ss ts ∙ ap (λ ms. ms ++ transfers ts) first.moves ∙ ap (λ ms. flat_map moved xs ++ ms) second.moves
-          ∙ sym (flat_map-append moved xs ys);
+          transfers-append ss ts ∙ ap (λ ms. ms ++ transfers ts) first.moves ∙ ap (λ ms. flat_map moves_by xs ++ ms) second.moves
+          ∙ sym (flat_map-append moves_by xs ys);
     }
 
 -- a state with a history has one behind what happens

@@ -16,6 +16,7 @@ use Rattle.vx_calls.specs.Reply as reply
 use Rattle.vx_488.specs.declared.transfers.Addr.{Addr}
 use Rattle.vx_488.specs.declared.transfers.Transfer.{Transfer}
 use Rattle.vx_488.specs.Heard.{heard}
+use Rattle.vx_bus_traits.specs.Steps.{Step}
 use Rattle.vx_plan.specs.declared.tasks.Task.{Task}
 use Rattle.vx_plan.specs.declared.tasks.Task.TheVariants as task
 use Rattle.vx_plan.specs.Results.{puts_made, whole_reply}
@@ -42,7 +43,7 @@ use Rattle.vx_rules.specs.RowLaws.{pending-put}
 use Rattle.vx_rules.specs.ProvedLaws.{role-lives}
 use Rattle.vx_flow.specs.ProvedLaws.{fine-does, fine-frame, gather_law-holds, gathers, device-holds}
 use Rattle.vx_flow.specs.ProvedLaws.Gathering.{fine-goes}
-use Rattle.vx_play.specs.Item.{moved}
+use Rattle.vx_flow.specs.Frames.{moves_by}
 use Rattle.vx_loop.specs.Exchanges.{IsAnswered}
 use Rattle.vx_loop.specs.Standing.{IsReached}
 use Rattle.vx_loop.proofs.Happening.{reached-sound}
@@ -112,7 +113,7 @@ pub record IsOneCall (f : FineState) (asked : Call) (told : Reply) (group : List
   pub links : come.tables.links ≡ f.state.tables.links
   pub now : ℕ
   pub o : Outside
-  pub moves : o.moves ≡ flat_map moved group
+  pub moves : o.moves ≡ flat_map moves_by group
   pub done : State
   pub answers : one come (entry.Answer 1 now o.begun o.moves o.failed o.dialed o.level told) ≡ Some done
   pub lives : lives_as f.state.tables 1 role.Core ≡ true
@@ -122,7 +123,8 @@ pub record IsOneCall (f : FineState) (asked : Call) (told : Reply) (group : List
   pub line : AnsweredBy at_end 1 now (record { call = asked; arrival = come.moment; aborted = false }) o told after
   pub links_after : last.state.tables.links ≡ after.links
 
-module _ (f : FineState) (asked : Call) (told : Reply) (group : List Event) (last : FineState) (reached : IsReached f) (calm : f.turn ≡ None) (a : IsAnswered asked told group)
+module _ (f : FineState) (asked : Call) (told : Reply) (came now : ℕ) (group : List Event) (steps : List Step) (last : FineState) (reached : IsReached f) (calm : f.turn ≡ None)
+    (a : IsAnswered asked told came now group steps)
     (led : along fine (Some f) group ≡ Some last) where
   sound_f : IsSound f
   sound_f = reached-sound f reached
@@ -144,23 +146,23 @@ module _ (f : FineState) (asked : Call) (told : Reply) (group : List Event) (las
     by (Some u) h stands = absurd (cc)
 
   abbrev the_answer : Event
-  the_answer = Answer 1 a.now a.failed a.dialed a.level told
+  the_answer = Answer 1 now a.failed a.dialed a.level told
 
-  led_parts : along fine (Some f) ((Arrive 1 asked a.came ∷ []) ++ (a.turn ++ the_answer ∷ [])) ≡ Some last
+  led_parts : along fine (Some f) ((Arrive 1 asked came ∷ []) ++ (a.turn ++ the_answer ∷ [])) ≡ Some last
   led_parts = ap (along fine (Some f)) (sym a.events) ∙ led
 
-  come_parts : (mid : FineState) × (along fine (Some f) (Arrive 1 asked a.came ∷ []) ≡ Some mid) × (along fine (Some mid) (a.turn ++ the_answer ∷ []) ≡ Some last)
-  come_parts = along-split fine (Some f) last (Arrive 1 asked a.came ∷ []) (a.turn ++ the_answer ∷ []) led_parts
+  come_parts : (mid : FineState) × (along fine (Some f) (Arrive 1 asked came ∷ []) ≡ Some mid) × (along fine (Some mid) (a.turn ++ the_answer ∷ []) ≡ Some last)
+  come_parts = along-split fine (Some f) last (Arrive 1 asked came ∷ []) (a.turn ++ the_answer ∷ []) led_parts
 
   turn_parts : (mid : FineState) × (along fine (Some come_parts.0) a.turn ≡ Some mid) × (along fine (Some mid) (the_answer ∷ []) ≡ Some last)
   turn_parts = along-split fine (Some come_parts.0) last a.turn (the_answer ∷ []) come_parts.2
 
   come-turn : come_parts.0.turn ≡ None
-  come-turn = (fine-frame f come_parts.0 (Arrive 1 asked a.came) come_parts.1).turn_is ∙ ap (λ turn. turn_after turn (Arrive 1 asked a.came)) calm
+  come-turn = (fine-frame f come_parts.0 (Arrive 1 asked came) come_parts.1).turn_is ∙ ap (λ turn. turn_after turn (Arrive 1 asked came)) calm
 
   ran : TurnRun come_parts.0 turn_parts.0 a.turn
   ran =
-      turn-run a.turn come_parts.0 turn_parts.0 (fine-goes (Arrive 1 asked a.came) f come_parts.0 f.state.moment sound_f (omega arith) come_parts.1).sound a.turn_is turn_parts.1
+      turn-run a.turn come_parts.0 turn_parts.0 (fine-goes (Arrive 1 asked came) f come_parts.0 f.state.moment sound_f (omega arith) come_parts.1).sound a.turn_is turn_parts.1
 
   abbrev outside_of : Outside
   outside_of = record {
@@ -171,55 +173,55 @@ module _ (f : FineState) (asked : Call) (told : Reply) (group : List Event) (las
     level = a.level;
   }
 
-  comes : Comes f 1 asked a.came come_parts.0
-  comes = (fine-does f come_parts.0 (Arrive 1 asked a.came) come_parts.1).step
+  comes : Comes f 1 asked came come_parts.0
+  comes = (fine-does f come_parts.0 (Arrive 1 asked came) come_parts.1).step
 
   -- behind its turn the call is pending, and the links are as they were
-  waits : pending_at turn_parts.0.state.tables 1 ≡ Some (arrived asked a.came)
+  waits : pending_at turn_parts.0.state.tables 1 ≡ Some (arrived asked came)
   waits =
       ap (λ (t : Tables). pending_at t 1) ran.tables ∙ ap (λ (x : FineState). pending_at x.state.tables 1) comes.leads
-      ∙ pending-put f.state.tables 1 (Some (arrived asked a.came)) role.Core comes.core
+      ∙ pending-put f.state.tables 1 (Some (arrived asked came)) role.Core comes.core
 
   links-left : turn_parts.0.state.tables.links ≡ f.state.tables.links
   links-left = ap (λ (t : Tables). t.links) ran.tables ∙ ap (λ (x : FineState). x.state.tables.links) comes.leads
 
   abbrev entries_of : List Entry
   entries_of =
-      entry.Arrive 1 asked a.came ∷ entry.Answer 1 a.now outside_of.begun outside_of.moves a.failed a.dialed a.level told ∷ []
+      entry.Arrive 1 asked came ∷ entry.Answer 1 now outside_of.begun outside_of.moves a.failed a.dialed a.level told ∷ []
 
   gather-is : gather_from f.turn group ≡ entries_of
   gather-is =
-      ap (gather_from f.turn) a.events ∙ ap (λ turn. gather_from turn (Arrive 1 asked a.came ∷ (a.turn ++ the_answer ∷ []))) calm
-      ∙ ap (λ es. entry.Arrive 1 asked a.came ∷ es)
+      ap (gather_from f.turn) a.events ∙ ap (λ turn. gather_from turn (Arrive 1 asked came ∷ (a.turn ++ the_answer ∷ []))) calm
+      ∙ ap (λ es. entry.Arrive 1 asked came ∷ es)
       (ap (λ turn. gather_from turn (a.turn ++ the_answer ∷ [])) (sym come-turn) ∙ ran.gathered (the_answer ∷ []))
 
-  moves-are : made_by turn_parts.0.turn ≡ flat_map moved group
+  moves-are : made_by turn_parts.0.turn ≡ flat_map moves_by group
   moves-are =
-      ran.made ∙ ap (λ turn. made_by turn ++ flat_map moved a.turn) come-turn
-      ∙ sym (append-nil (flat_map moved a.turn)) ∙ sym (flat_map-append moved a.turn (the_answer ∷ [])) ∙ sym (ap (flat_map moved) a.events)
+      ran.made ∙ ap (λ turn. made_by turn ++ flat_map moves_by a.turn) come-turn
+      ∙ sym (append-nil (flat_map moves_by a.turn)) ∙ sym (flat_map-append moves_by a.turn (the_answer ∷ [])) ∙ sym (ap (flat_map moves_by) a.events)
 
   pub one-call : IsOneCall f asked told group last
   one-call =
       let made = gathers group f last gathered_f.0 sound_f gathered_f.2 led in
       let reaches : along one (Some start_one) entries_of ≡ Some (before_turn last made.moment) = ap (along one (Some start_one)) (sym gather-is) ∙ made.reaches in
-      let parts = along-split one (Some start_one) (before_turn last made.moment) (entry.Arrive 1 asked a.came ∷ [])
-      (entry.Answer 1 a.now outside_of.begun outside_of.moves a.failed a.dialed a.level told ∷ []) reaches in
-      let next : State = record start_one { tables = with_pending f.state.tables 1 (Some (arrived asked a.came)); moment = a.came } in
-      let came = cond_some (nat_le gathered_f.0 a.came && is_idle f.state.tables 1 && may_wait asked) next parts.0 parts.1 in
+      let parts = along-split one (Some start_one) (before_turn last made.moment) (entry.Arrive 1 asked came ∷ [])
+      (entry.Answer 1 now outside_of.begun outside_of.moves a.failed a.dialed a.level told ∷ []) reaches in
+      let next : State = record start_one { tables = with_pending f.state.tables 1 (Some (arrived asked came)); moment = came } in
+      let arrives = cond_some (nat_le gathered_f.0 came && is_idle f.state.tables 1 && may_wait asked) next parts.0 parts.1 in
       let ended = (fine-does turn_parts.0 last the_answer turn_parts.2).step in
-      subst (λ (s : State). one s (entry.Answer 1 a.now outside_of.begun outside_of.moves a.failed a.dialed a.level told) ≡ Some (before_turn last made.moment)
-      → IsOneCall f asked told group last) came.1
+      subst (λ (s : State). one s (entry.Answer 1 now outside_of.begun outside_of.moves a.failed a.dialed a.level told) ≡ Some (before_turn last made.moment)
+      → IsOneCall f asked told group last) arrives.1
       (λ answers. record {
         port = reached.abort_port;
-        earlier = gather reached.history ++ entry.Arrive 1 asked a.came ∷ [];
+        earlier = gather reached.history ++ entry.Arrive 1 asked came ∷ [];
         come = next;
         legal =
-            along-append one (legal_state reached.abort_port []) (gather reached.history) (entry.Arrive 1 asked a.came ∷ [])
-            ∙ ap (λ o. along one o (entry.Arrive 1 asked a.came ∷ [])) gathered_f.1 ∙ parts.1 ∙ ap Some (sym came.1);
-        call_at = pending-put f.state.tables 1 (Some (arrived asked a.came)) role.Core comes.core;
+            along-append one (legal_state reached.abort_port []) (gather reached.history) (entry.Arrive 1 asked came ∷ [])
+            ∙ ap (λ o. along one o (entry.Arrive 1 asked came ∷ [])) gathered_f.1 ∙ parts.1 ∙ ap Some (sym arrives.1);
+        call_at = pending-put f.state.tables 1 (Some (arrived asked came)) role.Core comes.core;
         wire = wire-is;
         links = refl;
-        now = a.now;
+        now = now;
         o = outside_of;
         moves = moves-are;
         done = before_turn last made.moment;
@@ -228,7 +230,7 @@ module _ (f : FineState) (asked : Call) (told : Reply) (group : List Event) (las
         at_end = turn_parts.0;
         links_left = links-left;
         after = ended.after;
-        line = subst (λ p. AnsweredBy turn_parts.0 1 a.now p outside_of told ended.after) (same_Some ended.asked (arrived asked a.came) (sym ended.call_at ∙ waits)) ended.line;
+        line = subst (λ p. AnsweredBy turn_parts.0 1 now p outside_of told ended.after) (same_Some ended.asked (arrived asked came) (sym ended.call_at ∙ waits)) ended.line;
         links_after = ap (λ (x : FineState). x.state.tables.links) ended.leads;
       }) parts.2
 
@@ -237,14 +239,14 @@ module _ (f : FineState) (asked : Call) (told : Reply) (group : List Event) (las
 -- a write to a device that was answered without an error is heard by it alone
 pub call-heard : (f last : FineState) (group : List Event) (lid io_timeout lock_timeout flags size : ℕ) (bytes : List ℕ) (a : Addr) (l : Link)
     → IsOneCall f (call.Write lid io_timeout lock_timeout flags bytes) (reply.Write code.Ok size) group last → link_of f.state.tables 1 lid ≡ Some l → l.target ≡ Device a.p a.s
-    → (heard a f.state.wire (flat_map moved group) ≡ marked_bytes (sets_end flags) bytes)
-    × ((b : Addr) → b ≢ a → heard b f.state.wire (flat_map moved group) ≡ [])
+    → (heard a f.state.wire (flat_map moves_by group) ≡ marked_bytes (sets_end flags) bytes)
+    × ((b : Addr) → b ≢ a → heard b f.state.wire (flat_map moves_by group) ≡ [])
 call-heard f last group lid io_timeout lock_timeout flags size bytes a l c at target =
     let here : link_of c.come.tables 1 lid ≡ Some l = ap (λ (ls : Table). find (λ (k : Link). (k.number == lid) && (k.connection == 1)) ls.links) c.links ∙ at in
     let holds = device-holds c.port c.earlier c.come c.done 1 c.now c.o.begun c.o.moves c.o.failed c.o.dialed c.o.level size lid io_timeout lock_timeout flags bytes c.come.moment false l a.p a.s
     c.legal c.call_at here target c.answers in
-    let same : (b : Addr) → heard b f.state.wire (flat_map moved group) ≡ heard b c.come.wire c.o.moves =
-    λ b. ap (λ w. heard b w (flat_map moved group)) (sym c.wire) ∙ ap (heard b c.come.wire) (sym c.moves) in
+    let same : (b : Addr) → heard b f.state.wire (flat_map moves_by group) ≡ heard b c.come.wire c.o.moves =
+    λ b. ap (λ w. heard b w (flat_map moves_by group)) (sym c.wire) ∙ ap (heard b c.come.wire) (sym c.moves) in
     (same a ∙ holds.0, λ b ne. same b ∙ holds.1 b ne)
 
 -- its reply, and what it leaves of the links

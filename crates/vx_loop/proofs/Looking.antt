@@ -6,9 +6,9 @@ use Rattle.vx_io_traits.specs.declared.WriteOut.{WriteOut}
 use Rattle.vx_io_traits.specs.declared.WriteOut.TheVariants.{Took, Failed as Refused}
 use Rattle.vx_io_traits.specs.Outs.{IfGot, IfTook, OnEnd, OnReadFailed, OnWriteFailed}
 use Rattle.vx_io_traits.specs.Stands.{Gives, Takes, Stays, Goes}
-use Rattle.vx_play.specs.Gateway.{Gateway, gateway_of}
+use Rattle.vx_loop.specs.Gateway.{gateway_of}
 use Rattle.vx_loop.specs.LoopState.{ServedState, LoopState}
-use Rattle.vx_loop.specs.Standing.{Went, Since, StandsFor, GoesOn, MarkedStands, EndsTo}
+use Rattle.vx_loop.specs.Standing.{Went, Since, StandsFor, GoesOn, MarkedStands, TakesTo}
 
 -- what a call did, in the words of every link
 pub goes-takes : (old new : LoopState) (sent : List ℕ) → GoesOn old new sent [] → Takes StandsFor old new sent
@@ -84,14 +84,8 @@ failed-both Failed P Q R p q f = f p q
 
 -- ---- what a gateway did, as its link did it
 
--- a link whose gateway took bytes and gave none went on so
-pub went-goes : (old : LoopState) (s new : ServedState) (faults sends : ℕ) (bytes : List ℕ) → old.served ≡ Some s
-    → ((start : Gateway) (taken given : List ℕ) → Went start s taken given → Went start new (taken ++ bytes) given)
-    → GoesOn old (record { served = Some new; receive_faults = faults; send_faults = sends }) bytes []
-went-goes old s new faults sends bytes is went start taken given since =
-    subst (Went start new (taken ++ bytes)) (sym (append-nil given)) (went start taken given (subst (λ o. Since start o taken given) is since))
-
--- and so did one whose connection ended by then
-pub ended-goes : (old : LoopState) (s new : ServedState) (faults sends : ℕ) (bytes : List ℕ) → old.served ≡ Some s → EndsTo s new
-    → GoesOn old (record { served = Some new; receive_faults = faults; send_faults = sends }) bytes []
-ended-goes old s new faults sends bytes is e = went-goes old s new faults sends bytes is (λ start taken given w. e.went start taken given bytes w)
+-- a link whose gateway took bytes went on so
+pub takes-goes : (old : LoopState) (s new : ServedState) (receives sends : ℕ) (bytes : List ℕ) → old.served ≡ Some s → TakesTo s new bytes
+    → GoesOn old (record { served = Some new; receive_faults = receives; send_faults = sends }) bytes []
+takes-goes old s new receives sends bytes is t start taken given since =
+    subst (Went start new (taken ++ bytes)) (sym (append-nil given)) (t.went start taken given (subst (λ o. Since start o taken given) is since))

@@ -1,7 +1,6 @@
 -- A client over a link to a gateway is between calls, from the first one on.
 use Rattle.std.proofs.Common.{◌≡◌, ◌≤◌, ℕ, false, List, [], ◌∷◌, ◌++◌, length, Option, Some, None, refl, sym, ap, ◌∙◌, subst, arith, append_assoc, append-nil}
 use Rattle.std.proofs.lemmas.Bool.{true≢false}
-use Rattle.std.proofs.lemmas.Grind.{flat_map-append}
 use Rattle.std.proofs.lemmas.List.{length-append}
 use Rattle.vx_calls.specs.declared.limits.TheConstants.{RECORD_MAX}
 use Rattle.vx_calls.specs.Call.{Call}
@@ -9,18 +8,19 @@ use Rattle.vx_client.specs.State.{ClientState}
 use Rattle.vx_client.specs.Message.{message, call_record, IsSendable}
 use Rattle.vx_client.specs.Stream.{IsReply}
 use Rattle.vx_client.specs.Exchange as ends
-use Rattle.vx_client.specs.Exchange.{Exchange, Replied, KeepsReply, Asks, Exchanged, IsCalled}
+use Rattle.vx_client.specs.Exchange.{Exchange, Replied, Asks, Exchanged}
 use Rattle.vx_client.proofs.Lengths.{arguments-short}
-use Rattle.vx_play.specs.Gateway.{Gateway, gateway_of}
+use Rattle.vx_loop.specs.Gateway.{Gateway, gateway_of}
 use Rattle.vx_loop.specs.LoopState.{ServedState, LoopState, IsIdle, IsBeginning}
 use Rattle.vx_loop.specs.Exchanges as exchange
-use Rattle.vx_loop.specs.Exchanges.{IsExchange, Exchanges, streams_of, replies_of}
+use Rattle.vx_loop.specs.Exchanges.{Exchanges, streams_of, replies_of}
 use Rattle.vx_loop.specs.Standing.{Went, Since, StandsFor}
 use Rattle.vx_loop.specs.Heard.{IsResting}
 use Rattle.vx_loop.specs.Resting.{Sent, streams, IsAnswered, FirstLaw, CallLaw, RestLaw}
-use Rattle.vx_loop.proofs.Streams.{IsWhole, brought-whole, whole-brought, whole-some, record-whole, whole-unique}
+use Rattle.vx_loop.proofs.Streams.{IsWhole, record-is-whole, whole-is-record, whole-some, record-whole, whole-unique}
 use Rattle.vx_loop.proofs.Calling.{idle-went}
-use Rattle.vx_loop.proofs.Exchanged.{none-parts, reply-whole, replied-record, still-by}
+use Rattle.vx_loop.proofs.Going.{none-parts, flat-snoc}
+use Rattle.vx_loop.proofs.Exchanged.{reply-whole, replied-record, still-by}
 
 -- ---- counts of records on a stream
 
@@ -32,11 +32,11 @@ taken-count start reached [] part [] h is = (omega arith, λ all. is)
 taken-count start reached [] part (r ∷ rs) h is = (omega arith, λ all. absurd (omega arith))
 taken-count start reached (x ∷ xs) part [] (mid, first, more) is =
     let none = none-parts (streams_of (x ∷ xs)) part is in
-    let some = whole-some x.stream x.message (brought-whole x.stream x.message first.whole) in
+    let some = whole-some x.stream x.message (record-is-whole x.stream x.message first.whole) in
     let len = ap (λ (ys : List ℕ). length ys) (none-parts x.stream (streams_of xs) none.0).0 in
     absurd (omega arith)
 taken-count start reached (x ∷ xs) part (r ∷ rs) (mid, first, more) is =
-    let cut = whole-unique x.stream r.stream (streams_of xs ++ part) (streams rs) x.message r.message (brought-whole x.stream x.message first.whole) (brought-whole r.stream r.message r.whole)
+    let cut = whole-unique x.stream r.stream (streams_of xs ++ part) (streams rs) x.message r.message (record-is-whole x.stream x.message first.whole) (record-is-whole r.stream r.message r.whole)
     (sym (append_assoc x.stream (streams_of xs) part) ∙ is) in
     let rest = taken-count mid reached xs part rs more cut.1 in
     (let n = rest.0 in omega arith, λ all. rest.1 (omega arith))
@@ -48,15 +48,15 @@ given-count start reached [] [] tail h is = (omega arith, λ all. is)
 given-count start reached (x ∷ xs) [] tail h is = (omega arith, λ all. absurd (omega arith))
 given-count start reached [] (r ∷ rs) tail h is =
     let none = none-parts (streams (r ∷ rs)) tail is in
-    let some = whole-some r.stream r.message (brought-whole r.stream r.message r.whole) in
+    let some = whole-some r.stream r.message (record-is-whole r.stream r.message r.whole) in
     let len = ap (λ (ys : List ℕ). length ys) (none-parts r.stream (streams rs) none.0).0 in
     absurd (omega arith)
 given-count start reached (x ∷ xs) (r ∷ rs) tail (mid, first, more) is =
-    let text = replied-record _ x.group x.reply first.replies in
+    let text = replied-record _ _ _ x.group x.steps x.reply first.replies in
     let short = first.short in
     let len = ap (λ (ys : List ℕ). length ys) text.1 in
     let whole : IsWhole x.reply text.0 = subst (λ ys. IsWhole ys text.0) (sym text.1) (record-whole text.0 (omega arith)) in
-    let cut = whole-unique r.stream x.reply (streams rs ++ tail) (replies_of xs) r.message text.0 (brought-whole r.stream r.message r.whole) whole
+    let cut = whole-unique r.stream x.reply (streams rs ++ tail) (replies_of xs) r.message text.0 (record-is-whole r.stream r.message r.whole) whole
     (sym (append_assoc r.stream (streams rs) tail) ∙ is) in
     let rest = given-count mid reached xs rs tail more cut.1 in
     (let n = rest.0 in omega arith, λ all. rest.1 (omega arith))
@@ -76,7 +76,7 @@ even-idle start s taken given tail calls replies w taken_is given_is even =
     let b = gave.0 in
     let part = came.1 (omega arith) in
     let nothing = none-parts tail s.left (gave.1 (omega arith)) in
-    record { idle = (still-by w.reached s w.open_part part nothing.1 w.stands).0; none = nothing.0 }
+    record { idle = (still-by w.reached s (replies_of w.done) w.open_part part nothing.1 w.stands).0; none = nothing.0 }
 
 -- ---- the laws
 
@@ -102,10 +102,6 @@ first-holds c s serves begins fit none = record {
   none_kept = none;
 }
 
--- one more
-streams-more : (rs : List Sent) (r : Sent) → streams (rs ++ r ∷ []) ≡ streams rs ++ r.stream
-streams-more rs r = flat_map-append (λ (x : Sent). x.stream) rs (r ∷ []) ∙ ap (λ bs. streams rs ++ bs) (append-nil r.stream)
-
 module _ (old new : ClientState LoopState) (asked : Call) (room : ℕ) (sendable : IsSendable asked) (h : IsAnswered old) (fit : new.spent ≡ false) where
   abbrev call_text : List ℕ
   call_text = message old.next asked
@@ -117,23 +113,23 @@ module _ (old new : ClientState LoopState) (asked : Call) (room : ℕ) (sendable
   the_call = record {
     stream = call_record old.next asked;
     message = call_text;
-    whole = whole-brought (call_record old.next asked) call_text (record-whole call_text text-short);
+    whole = whole-is-record (call_record old.next asked) call_text (record-whole call_text text-short);
   }
 
   replied-on : (reply : List ℕ) → Asks StandsFor (λ l. None) old new asked (λ stream got. IsReply stream reply new.kept) → IsAnswered new
   replied-on reply a =
       let came : IsReply a.got reply new.kept = subst (λ xs. IsReply (xs ++ a.got) reply new.kept) h.none_kept a.came in
       let front = reply-whole came.front reply came.whole came.shortest in
-      let r : Sent = record { stream = came.front; message = reply; whole = whole-brought came.front reply front } in
+      let r : Sent = record { stream = came.front; message = reply; whole = whole-is-record came.front reply front } in
       let taken = h.taken ++ call_record old.next asked in
       let given = h.given ++ a.got in
       let stands : StandsFor new.link taken given = a.moved.goes h.taken h.given h.stands in
       let calls = h.calls ++ the_call ∷ [] in
       let replies = h.replies ++ r ∷ [] in
-      let taken_is : taken ≡ streams calls = ap (λ bs. bs ++ call_record old.next asked) h.taken_is ∙ sym (streams-more h.calls the_call) in
+      let taken_is : taken ≡ streams calls = ap (λ bs. bs ++ call_record old.next asked) h.taken_is ∙ sym (flat-snoc (λ (x : Sent). x.stream) h.calls the_call) in
       let cut : given ≡ streams replies ++ new.kept =
       ap (λ bs. bs ++ a.got) h.given_is ∙ ap (λ bs. streams h.replies ++ bs) came.cut ∙ sym (append_assoc (streams h.replies) came.front new.kept)
-      ∙ ap (λ bs. bs ++ new.kept) (sym (streams-more h.replies r)) in
+      ∙ ap (λ bs. bs ++ new.kept) (sym (flat-snoc (λ (x : Sent). x.stream) h.replies r)) in
       let calls_len = length-append h.calls (the_call ∷ []) in
       let replies_len = length-append h.replies (r ∷ []) in
       let even = h.even in

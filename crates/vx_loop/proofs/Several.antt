@@ -15,15 +15,14 @@ use Rattle.vx_rules.specs.Table.{Link, Table}
 use Rattle.vx_rules.specs.Lists.{along}
 use Rattle.vx_rules.specs.State.{lives_as}
 use Rattle.vx_rules.specs.Calls.{sets_end}
-use Rattle.vx_flow.specs.Event.{Event, Move}
+use Rattle.vx_flow.specs.Event.{Event}
 use Rattle.vx_flow.specs.FineState.{FineState}
 use Rattle.vx_flow.specs.Fine.{fine}
-use Rattle.vx_flow.specs.Frames.{moves_by}
 use Rattle.vx_flow.specs.Laws.{marked_bytes}
 use Rattle.vx_flow.specs.ProvedLaws.{fine-frame}
 use Rattle.vx_rules.specs.ListLaws.{along-none}
-use Rattle.vx_play.specs.Gateway.{Gateway, gateway_of}
-use Rattle.vx_play.specs.Item.{moved}
+use Rattle.vx_loop.specs.Gateway.{Gateway, gateway_of}
+use Rattle.vx_flow.specs.Frames.{moves_by}
 use Rattle.vx_client.specs.State.{ClientState}
 use Rattle.vx_client.specs.Chunks.{without_end}
 use Rattle.vx_loop.specs.LoopState.{ServedState, LoopState}
@@ -32,23 +31,15 @@ use Rattle.vx_loop.proofs.Happening.{adds-none, adds-append}
 
 -- ---- the bus behind events
 
--- the transfers that an event makes are those that it moves
-moves-moved : (e : Event) → moves_by e ≡ moved e
-moves-moved (Move conn moves) = refl
-moves-moved _ = refl
-
-step-wire : (f g : FineState) (e : Event) → fine f e ≡ Some g → g.state.wire ≡ wire_after f.state.wire (moved e)
-step-wire f g e h = (fine-frame f g e h).wire_is ∙ ap (wire_after f.state.wire) (moves-moved e)
-
-wire-along : (es : List Event) (f g : FineState) → along fine (Some f) es ≡ Some g → g.state.wire ≡ wire_after f.state.wire (flat_map moved es)
+wire-along : (es : List Event) (f g : FineState) → along fine (Some f) es ≡ Some g → g.state.wire ≡ wire_after f.state.wire (flat_map moves_by es)
 wire-along [] f g h = ap (λ (x : FineState). x.state.wire) (sym (same_Some f g h))
 wire-along (e ∷ es) f g h = by (fine f e) refl h (λ mid x. wire-along es mid g x) where
   by : (o : Option FineState) → fine f e ≡ o → along fine o es ≡ Some g
-      → ((mid : FineState) → along fine (Some mid) es ≡ Some g → g.state.wire ≡ wire_after mid.state.wire (flat_map moved es))
-      → g.state.wire ≡ wire_after f.state.wire (moved e ++ flat_map moved es)
+      → ((mid : FineState) → along fine (Some mid) es ≡ Some g → g.state.wire ≡ wire_after mid.state.wire (flat_map moves_by es))
+      → g.state.wire ≡ wire_after f.state.wire (moves_by e ++ flat_map moves_by es)
   by None is x rest = absurd (none-some g (sym (along-none fine es) ∙ x))
   by (Some mid) is x rest =
-      rest mid x ∙ ap (λ w. wire_after w (flat_map moved es)) (step-wire f mid e is) ∙ sym (wire_after-append f.state.wire (moved e) (flat_map moved es))
+      rest mid x ∙ ap (λ w. wire_after w (flat_map moves_by es)) (fine-frame f mid e is).wire_is ∙ sym (wire_after-append f.state.wire (moves_by e) (flat_map moves_by es))
 
 -- ---- one part and then another
 
@@ -57,19 +48,19 @@ hears-none g a = record { group = []; steps = []; adds = adds-none g; here = ref
 
 pub hears-append : (f g h : Gateway) (a : Addr) (xs ys : List Byte) → Hears f g a xs → Hears g h a ys → Hears f h a (xs ++ ys)
 hears-append f g h a xs ys first second =
-    let wire : g.fine.state.wire ≡ wire_after f.fine.state.wire (flat_map moved first.group) =
+    let wire : g.fine.state.wire ≡ wire_after f.fine.state.wire (flat_map moves_by first.group) =
     ap (λ (x : FineState). x.state.wire) first.adds.at_now ∙ wire-along first.group f.fine first.adds.last first.adds.events in
-    let both : (b : Addr) → heard b f.fine.state.wire (flat_map moved (first.group ++ second.group))
-    ≡ heard b f.fine.state.wire (flat_map moved first.group) ++ heard b g.fine.state.wire (flat_map moved second.group) =
-    λ b. ap (heard b f.fine.state.wire) (flat_map-append moved first.group second.group)
-    ∙ heard-append b f.fine.state.wire (flat_map moved first.group) (flat_map moved second.group)
-    ∙ ap (λ w. heard b f.fine.state.wire (flat_map moved first.group) ++ heard b w (flat_map moved second.group)) (sym wire) in
+    let both : (b : Addr) → heard b f.fine.state.wire (flat_map moves_by (first.group ++ second.group))
+    ≡ heard b f.fine.state.wire (flat_map moves_by first.group) ++ heard b g.fine.state.wire (flat_map moves_by second.group) =
+    λ b. ap (heard b f.fine.state.wire) (flat_map-append moves_by first.group second.group)
+    ∙ heard-append b f.fine.state.wire (flat_map moves_by first.group) (flat_map moves_by second.group)
+    ∙ ap (λ w. heard b f.fine.state.wire (flat_map moves_by first.group) ++ heard b w (flat_map moves_by second.group)) (sym wire) in
     record {
       group = first.group ++ second.group;
       steps = first.steps ++ second.steps;
       adds = adds-append f g h first.group second.group first.steps second.steps first.adds second.adds;
-      here = both a ∙ ap (λ bs. bs ++ heard a g.fine.state.wire (flat_map moved second.group)) first.here ∙ ap (λ bs. xs ++ bs) second.here;
-      elsewhere = λ b ne. both b ∙ ap (λ bs. bs ++ heard b g.fine.state.wire (flat_map moved second.group)) (first.elsewhere b ne) ∙ second.elsewhere b ne;
+      here = both a ∙ ap (λ bs. bs ++ heard a g.fine.state.wire (flat_map moves_by second.group)) first.here ∙ ap (λ bs. xs ++ bs) second.here;
+      elsewhere = λ b ne. both b ∙ ap (λ bs. bs ++ heard b g.fine.state.wire (flat_map moves_by second.group)) (first.elsewhere b ne) ∙ second.elsewhere b ne;
     }
 
 -- bytes without END, and others behind them

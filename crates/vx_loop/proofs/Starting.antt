@@ -6,9 +6,9 @@ use Rattle.std.proofs.lemmas.Option.{none-some}
 use Rattle.vx_calls.specs.declared.calls.Role.TheVariants as role
 use Rattle.vx_calls.specs.declared.limits.TheConstants.{RECORD_MAX}
 use Rattle.vx_record.specs.Buffer.{BufState, fresh}
-use Rattle.vx_sim.specs.Steps.{Cut}
+use Rattle.vx_bus_traits.specs.Steps.{Cut}
 use Rattle.vx_sim.specs.SimState.{SimState}
-use Rattle.vx_message.specs.SrqState as srq_state
+use Rattle.vx_rules.specs.SrqState as srq_state
 use Rattle.vx_rules.specs.Lists.{along}
 use Rattle.vx_rules.specs.State.{State, pending_at}
 use Rattle.vx_flow.specs.Event.{Up, Sample}
@@ -19,9 +19,9 @@ use Rattle.std.proofs.lemmas.Bool.Decides.{nat_tests}
 use Rattle.vx_flow.specs.Laws.{fine_along}
 use Rattle.vx_flow.specs.Does.{ComesUp}
 use Rattle.vx_flow.specs.ProvedLaws.{fine-does}
-use Rattle.vx_kernel.specs.CoreState.{CoreState}
-use Rattle.vx_play.specs.Gateway.{BusGoes}
-use Rattle.vx_loop.specs.LoopState.{unconnected, IsUnconnected, IsBeginning}
+use Rattle.vx_core.specs.CoreState.{CoreState}
+use Rattle.vx_loop.specs.Gateway.{gateway_of, BusGoes}
+use Rattle.vx_loop.specs.LoopState.{unconnected, IsUnconnected, OnlyComesUp, IsBeginning}
 use Rattle.vx_loop.specs.Standing.{IsReached, IsKept}
 
 -- what holds of a failed result, and of one that didn't fail
@@ -78,17 +78,19 @@ module _ (port : ℕ) (level : Bool) (moment conn : ℕ) (g : FineState) (h : fi
     at_now = refl;
   }
 
+over-unconnected : (f : FineState) (conn : ℕ) (g : FineState) → IsUnconnected f → fine f (Up conn role.Core) ≡ Some g
+    → fine (unconnected f.state.tables.abort_port f.state.tables.srq_state.level f.state.moment) (Up conn role.Core) ≡ Some g
+over-unconnected f conn g alone up = subst (λ (x : FineState). fine x (Up conn role.Core) ≡ Some g) alone up
+
 -- the link is kept as it is made
-pub new-kept : (f : FineState) (conn : ℕ) (core : CoreState SimState) (buffer : BufState) (xid now : ℕ) (left : List ℕ) → IsUnconnected f
-    → fine f (Up conn role.Core) ≡ Some core.fine → buffer ≡ fresh RECORD_MAX → now ≡ core.fine.state.moment
-    → IsKept (record { core = core; buffer = buffer; xid = xid; left = left; moment = now })
-new-kept f conn core buffer xid now left alone up fresh_is now_is =
+pub new-kept : (f : FineState) (conn : ℕ) (core : CoreState SimState) (buffer : BufState) (xid : ℕ) (left : List ℕ) → IsUnconnected f
+    → fine f (Up conn role.Core) ≡ Some core.fine → buffer ≡ fresh RECORD_MAX → IsKept (record { core = core; buffer = buffer; xid = xid; left = left })
+new-kept f conn core buffer xid left alone up fresh_is =
     let port = f.state.tables.abort_port in
     let level = f.state.tables.srq_state.level in
     let moment = f.state.moment in
-    let h : fine (unconnected port level moment) (Up conn role.Core) ≡ Some core.fine = subst (λ (x : FineState). fine x (Up conn role.Core) ≡ Some core.fine) alone up in
+    let h = over-unconnected f conn core.fine alone up in
     record {
-      late = omega arith;
       limit = ap (λ (b : BufState). b.limit) fresh_is;
       waits = ap (λ (b : BufState). b.state) fresh_is;
       reached = up-reached port level moment conn core.fine h;
@@ -96,22 +98,30 @@ new-kept f conn core buffer xid now left alone up fresh_is now_is =
       calm = λ none. up-turn port level moment conn core.fine h;
     }
 
--- and has just begun
-pub new-begins : (f : FineState) (conn : ℕ) (core : CoreState SimState) (buffer : BufState) (xid now : ℕ) (left : List ℕ) → IsUnconnected f
-    → fine f (Up conn role.Core) ≡ Some core.fine → buffer ≡ fresh RECORD_MAX → left ≡ []
-    → IsBeginning (record { core = core; buffer = buffer; xid = xid; left = left; moment = now })
-new-begins f conn core buffer xid now left alone up fresh_is none =
-    let port = f.state.tables.abort_port in
-    let level = f.state.tables.srq_state.level in
-    let moment = f.state.moment in
-    let h : fine (unconnected port level moment) (Up conn role.Core) ≡ Some core.fine = subst (λ (x : FineState). fine x (Up conn role.Core) ≡ Some core.fine) alone up in
+-- nothing but connection 1 has come
+pub new-up : (old : CoreState SimState) (conn : ℕ) (core : CoreState SimState) → IsUnconnected old.fine → fine old.fine (Up conn role.Core) ≡ Some core.fine
+    → BusGoes old.bus (Cut ∷ []) core.bus → OnlyComesUp (gateway_of old) (gateway_of core)
+new-up old conn core alone up bus =
+    let f = old.fine in
     record {
-      idle = record { answered = up-none port level moment conn core.fine h; fresh_is = fresh_is; given = none };
-      before = f;
-      alone = alone;
-      up = subst (λ (x : FineState). fine x (Up 1 role.Core) ≡ Some core.fine) (sym alone) (up-fine port level moment conn core.fine h);
+      events = subst (λ (x : FineState). fine x (Up 1 role.Core) ≡ Some core.fine) (sym alone)
+          (up-fine f.state.tables.abort_port f.state.tables.srq_state.level f.state.moment conn core.fine (over-unconnected f conn core.fine alone up));
+      bus = bus;
     }
 
--- a bus that was cut has the instruments that it had
-pub new-bench : (old new : SimState) → BusGoes old (Cut ∷ []) new → new.bench ≡ old.bench
-new-bench old new w = ap (λ (s : SimState). s.bench) w.2 ∙ w.1.1.2
+-- and it has just begun
+pub new-begins : (old : CoreState SimState) (conn : ℕ) (core : CoreState SimState) (buffer : BufState) (xid : ℕ) (left : List ℕ) → IsUnconnected old.fine
+    → fine old.fine (Up conn role.Core) ≡ Some core.fine → BusGoes old.bus (Cut ∷ []) core.bus → buffer ≡ fresh RECORD_MAX → left ≡ []
+    → IsBeginning (record { core = core; buffer = buffer; xid = xid; left = left })
+new-begins old conn core buffer xid left alone up bus fresh_is none =
+    let f = old.fine in
+    record {
+      idle = record {
+        answered = up-none f.state.tables.abort_port f.state.tables.srq_state.level f.state.moment conn core.fine (over-unconnected f conn core.fine alone up);
+        fresh_is = fresh_is;
+        given = none;
+      };
+      before = gateway_of old;
+      alone = alone;
+      up = new-up old conn core alone up bus;
+    }

@@ -1,5 +1,5 @@
 -- Whole records on a stream, and the one way to cut a stream into them.
-use Rattle.std.proofs.Common.{◌≡◌, ℕ, suc, ◌+◌, ◌-◌, ◌<◌, ◌≤◌, Bool, true, false, cond, List, [], ◌∷◌, ◌++◌, length, take, refl, sym, ap, subst, ◌∙◌, inl, inr, ◌⊎◌, arith, append-nil}
+use Rattle.std.proofs.Common.{◌≡◌, ℕ, suc, ◌+◌, ◌-◌, ◌<◌, ◌≤◌, Bool, true, false, List, [], ◌∷◌, ◌++◌, length, take, refl, sym, ap, subst, ◌∙◌, inl, inr, ◌⊎◌, arith, append-nil}
 use Rattle.std.specs.Prelude.{nat_lt}
 use Rattle.std.proofs.lemmas.Bool.Decides.{nat_tests}
 use Rattle.std.proofs.lemmas.Bool.{false≢true}
@@ -7,7 +7,7 @@ use Rattle.std.proofs.lemmas.List.{length-take}
 use Rattle.vx_calls.specs.declared.limits.TheConstants.{RECORD_MAX}
 use Rattle.vx_record.specs.declared.Feed.{Feed}
 use Rattle.vx_record.specs.declared.Feed.TheVariants as feed
-use Rattle.vx_record.specs.Fragments.{last_header}
+use Rattle.vx_record.specs.Fragments.{last_header, record_of}
 use Rattle.vx_record.specs.Records.{Split, records}
 use Rattle.vx_record.specs.Buffer.{BufState, fresh, step, fed, taken}
 use Rattle.vx_record.specs.Ends.{is_settled, IsEnd, FeedEnds}
@@ -15,10 +15,7 @@ use Rattle.vx_record.specs.ProvedLaws.{fed-stopped, taken-more, taken-stopped, f
 use Rattle.vx_record.proofs.Ends.{feed-ends}
 use Rattle.vx_record.proofs.Headers.{fragment_length-last_header}
 use Rattle.vx_record.proofs.Spelling.{records-finished, records-open}
-use Rattle.vx_message.specs.Meaning.{record_of}
-use Rattle.vx_play.specs.Stream as brings
-use Rattle.vx_play.specs.Stream.{by_split, brought_by}
-use Rattle.vx_play.specs.ProvedLaws.{by_end, brought_of}
+use Rattle.vx_loop.specs.Exchanges.{IsRecord}
 
 -- the buffer that begins a record
 abbrev pub first_buffer : BufState
@@ -85,20 +82,22 @@ fed-taken s (x ∷ xs) = by (is-open s.state) (fed-taken (step s x) xs) where
 pub none-yet : records RECORD_MAX [] ≡ record { records = []; rest = []; too_long = false }
 none-yet = records-open RECORD_MAX [] [] tt (omega arith) (inl (omega arith))
 
-cond-false : {A : Type 0} (b : Bool) (x y : A) → b ≡ false → cond b x y ≡ y
-cond-false b x y e = ap (λ t. cond t x y) e
-
-cond-true : {A : Type 0} (b : Bool) (x y : A) → b ≡ true → cond b x y ≡ x
-cond-true b x y e = ap (λ t. cond t x y) e
-
--- a piece that a buffer takes whole brings what the buffer stands at
-pub brought-is : (part piece : List ℕ) (buffer : BufState) → buffer ≡ fed first_buffer part → buffer.state ≡ feed.More → 0 < length piece
-    → taken buffer piece ≡ length piece → brought_by (part ++ piece) ≡ brought_of (fed buffer piece).state (fed buffer piece).kept
-brought-is part piece buffer held waits some all =
+-- a piece that a buffer takes whole, and that makes its record whole, ends a stream of one record
+pub ends-record : (part piece : List ℕ) (buffer : BufState) → buffer ≡ fed first_buffer part → buffer.state ≡ feed.More → 0 < length piece
+    → taken buffer piece ≡ length piece → (fed buffer piece).state ≡ feed.Whole → IsRecord (part ++ piece) (fed buffer piece).kept
+ends-record part piece buffer held waits some all whole =
     let fresh_waits : (fed first_buffer part).state ≡ feed.More = ap (λ (b : BufState). b.state) (sym held) ∙ waits in
     let ends : FeedEnds RECORD_MAX (part ++ piece) (fed buffer piece) (taken buffer piece) (length piece) =
     subst (λ b. FeedEnds RECORD_MAX (part ++ piece) (fed b piece) (taken b piece) (length piece)) (sym held) (feed-ends RECORD_MAX part piece fresh_waits some) in
-    cond-false _ brings.After _ (ends.open_before all) ∙ by_end (fed buffer piece).state (fed buffer piece).kept (records RECORD_MAX (part ++ piece)) (ends.ends all)
+    record {
+      whole = by (fed buffer piece).state (fed buffer piece).kept (records RECORD_MAX (part ++ piece)) whole (ends.ends all);
+      shortest = ends.open_before all;
+    }
+  where
+    by : (state : Feed) (kept : List ℕ) (split : Split) → state ≡ feed.Whole → IsEnd state kept split → split.records ≡ kept ∷ []
+    by feed.More kept split is h = absurd (cc)
+    by feed.Whole kept split is h = h
+    by feed.TooLong kept split is h = absurd (cc)
 
 -- a stream that isn't settled before its last byte is taken whole
 taken-whole : (took len : ℕ) (settled : Bool) → took ≤ len → settled ≡ false → (took < len → settled ≡ true) → took ≡ len
@@ -121,41 +120,14 @@ whole-by stream message some open_before is =
     let end = end-whole (fed first_buffer stream).state (fed first_buffer stream).kept message (records RECORD_MAX stream) (ends.ends all) is in
     record { state = end.0; kept = end.1; all = all }
 
--- what a stream brings that brings a record
-split-one : (rs : List (List ℕ)) (too_long : Bool) (message : List ℕ) → by_split rs too_long ≡ brings.Whole message → (rest : List (List ℕ)) × (rs ≡ message ∷ rest)
-split-one [] false message h = absurd (cc)
-split-one [] true message h = absurd (cc)
-split-one (r ∷ rs) too_long message h = let same : r ≡ message = cc in (rs, ap (λ x. x ∷ rs) same)
+-- what the split of a stream says and what a buffer says of it are the same
+pub record-is-whole : (stream message : List ℕ) → IsRecord stream message → IsWhole stream message
+record-is-whole [] message r = absurd (let none : [] ≡ message ∷ [] = ap (λ (s : Split). s.records) (sym none-yet) ∙ r.whole in cc)
+record-is-whole (x ∷ xs) message r = whole-by (x ∷ xs) message (omega arith) r.shortest r.whole
 
-brought-split : (settled : Bool) (split : Split) (message : List ℕ) → cond settled brings.After (by_split split.records split.too_long) ≡ brings.Whole message
-    → (settled ≡ false) × (by_split split.records split.too_long ≡ brings.Whole message)
-brought-split true split message h = absurd (cc)
-brought-split false split message h = (refl, h)
-
-end-brought : (state : Feed) (kept message : List ℕ) → brought_of state kept ≡ brings.Whole message → (state ≡ feed.Whole) × (kept ≡ message)
-end-brought feed.More kept message h = absurd (cc)
-end-brought feed.TooLong kept message h = absurd (cc)
-end-brought feed.Whole kept message h = (refl, cc)
-
-pub brought-whole : (stream message : List ℕ) → brought_by stream ≡ brings.Whole message → IsWhole stream message
-brought-whole [] message h =
-    let parts = brought-split _ (records RECORD_MAX []) message h in
-    let none : by_split [] false ≡ brings.Whole message = ap (λ (s : Split). by_split s.records s.too_long) (sym none-yet) ∙ parts.1 in
-    absurd (cc)
-brought-whole (x ∷ xs) message h =
-    let stream : List ℕ = x ∷ xs in
-    let parts = brought-split _ (records RECORD_MAX stream) message h in
-    let ends = feed-ends RECORD_MAX [] stream refl (omega arith) in
-    let all = taken-whole (taken first_buffer stream) (length stream) _ (taken-within first_buffer stream) parts.0 ends.settled_before in
-    let end = end-brought (fed first_buffer stream).state (fed first_buffer stream).kept message
-    (sym (by_end (fed first_buffer stream).state (fed first_buffer stream).kept (records RECORD_MAX stream) (ends.ends all)) ∙ parts.1) in
-    record { state = end.0; kept = end.1; all = all }
-
--- and it brings the record
-pub whole-brought : (stream message : List ℕ) → IsWhole stream message → brought_by stream ≡ brings.Whole message
-whole-brought [] message w = absurd (let both : feed.More ≡ feed.Whole = w.state in cc)
-whole-brought (x ∷ xs) message w =
-    brought-is [] (x ∷ xs) first_buffer refl refl (omega arith) w.all ∙ ap (λ st. brought_of st (fed first_buffer (x ∷ xs)).kept) w.state ∙ ap brings.Whole w.kept
+pub whole-is-record : (stream message : List ℕ) → IsWhole stream message → IsRecord stream message
+whole-is-record [] message w = absurd (let both : feed.More ≡ feed.Whole = w.state in cc)
+whole-is-record (x ∷ xs) message w = subst (IsRecord (x ∷ xs)) w.kept (ends-record [] (x ∷ xs) first_buffer refl refl (omega arith) w.all w.state)
 
 -- a whole record has a byte
 pub whole-some : (stream message : List ℕ) → IsWhole stream message → 0 < length stream

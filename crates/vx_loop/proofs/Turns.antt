@@ -1,27 +1,28 @@
 -- The turn of connection 1's call, from its arrival to its answer.
-use Rattle.std.proofs.Common.{◌≡◌, ◌==◌, ℕ, Bool, true, false, cond, List, [], ◌∷◌, ◌++◌, Option, Some, None, refl, sym, ap, ◌∙◌, subst, arith, append_assoc, append-nil}
+use Rattle.std.proofs.Common.{◌≡◌, ◌==◌, ◌≤◌, ℕ, Bool, true, false, cond, List, [], ◌∷◌, ◌++◌, Option, Some, None, refl, sym, ap, ◌∙◌, subst, arith, append_assoc, append-nil}
 use Rattle.std.specs.Prelude.{is_some}
+use Rattle.std.specs.Option.{option_map}
 use Rattle.std.specs.List.{list_all, flat_map}
-use Rattle.std.proofs.lemmas.Bool.{false≢true, and_parts, and_from, eqb-true}
+use Rattle.std.proofs.lemmas.Bool.{false≢true, and_parts, eqb-true}
 use Rattle.std.proofs.lemmas.Option.{none-some, same_Some}
-use Rattle.std.proofs.lemmas.List.Folds.{list_all-append}
 use Rattle.vx_calls.specs.Reply.{Reply}
 use Rattle.vx_488.specs.declared.transfers.Transfer.{Transfer}
 use Rattle.vx_rules.specs.Lists.{along}
-use Rattle.vx_rules.specs.State.{Pending, Tables, pending_at}
-use Rattle.vx_flow.specs.Event.{Event, Up, Down, Arrive, Answer, Abort, Sample, Take, Begin, Move, Dial}
+use Rattle.vx_calls.specs.declared.calls.Role.{Role}
+use Rattle.vx_calls.specs.declared.calls.Role.TheVariants as role
+use Rattle.vx_rules.specs.State.{Pending, Connection, Tables, connection_at, pending_at, lives_as, has_role_of, same_role}
+use Rattle.vx_flow.specs.Event.{Event, Answer, Begin, Move, Dial}
 use Rattle.vx_flow.specs.FineState.{FineState, Turn, turn_of, moves_of, turn_after}
 use Rattle.vx_flow.specs.Fine.{fine}
 use Rattle.vx_flow.specs.Does.{Step}
-use Rattle.vx_flow.specs.Frames.{TablesAfter}
+use Rattle.vx_flow.specs.Frames.{TablesAfter, moves_by, moment_after, lives_by}
 use Rattle.vx_flow.specs.Gather.{gather_from}
 use Rattle.vx_flow.specs.Sound.{IsSound}
-use Rattle.vx_flow.specs.Poll.{Ending, Answered, Waited, Dialed, Polls, begins, begun_events, moved_events, run_events, end_events, is_broken, at_moment}
+use Rattle.vx_flow.specs.Poll.{Ending, Answered, Waited, Dialed, Polls, begins, moved_events, run_events, end_events, is_broken}
 use Rattle.vx_flow.specs.ProvedLaws.{fine-does, fine-frame}
 use Rattle.vx_rules.specs.RowLaws.{pending-over}
 use Rattle.vx_rules.specs.ListLaws.{along-none}
 use Rattle.vx_flow.specs.ProvedLaws.Gathering.{fine-goes}
-use Rattle.vx_play.specs.Item.{moved}
 use Rattle.vx_loop.specs.Exchanges.{of_turn}
 
 -- a turn that is under way is connection 1's
@@ -43,7 +44,7 @@ tables-stay _ t u is after = absurd (false≢true is)
 
 -- what it has made then
 abbrev Makes : Option Turn → Event → Type 0
-Makes turn e = (made_by (turn_after turn e) ≡ made_by turn ++ moved e) × (IsOwn turn → IsOwn (turn_after turn e))
+Makes turn e = (made_by (turn_after turn e) ≡ made_by turn ++ moves_by e) × (IsOwn turn → IsOwn (turn_after turn e))
 
 one-is : (conn : ℕ) → (conn == 1) ≡ true → conn ≡ 1
 one-is conn h = eqb-true conn 1 h
@@ -76,20 +77,20 @@ gathers-none : (turn : Option Turn) (e : Event) (rest : List Event) → of_turn 
 gathers-none turn (Begin conn now) rest is = refl
 gathers-none turn (Move conn moves) rest is = refl
 gathers-none turn (Dial conn now) rest is = refl
-gathers-none turn (Up conn role) rest is = absurd (false≢true is)
-gathers-none turn (Down conn) rest is = absurd (false≢true is)
-gathers-none turn (Arrive conn asked now) rest is = absurd (false≢true is)
-gathers-none turn (Answer conn now failed dialed level told) rest is = absurd (false≢true is)
-gathers-none turn (Abort conn lid told) rest is = absurd (false≢true is)
-gathers-none turn (Sample now srq) rest is = absurd (false≢true is)
-gathers-none turn (Take conn chan told) rest is = absurd (false≢true is)
+gathers-none turn _ rest is = absurd (false≢true is)
+
+-- the moments that these events tell are no later than this one
+abbrev IsBy : ℕ → List Event → Type 0
+IsBy now [] = Unit {0}
+IsBy now (e ∷ es) = ((moment : ℕ) → moment ≤ now → moment_after moment e ≤ now) × IsBy now es
 
 -- ---- such events, one after the other
 
 pub record TurnRun (f g : FineState) (es : List Event) : Type 0 where
   pub tables : g.state.tables ≡ f.state.tables
-  pub made : made_by g.turn ≡ made_by f.turn ++ flat_map moved es
+  pub made : made_by g.turn ≡ made_by f.turn ++ flat_map moves_by es
   pub own : IsOwn f.turn → IsOwn g.turn
+  pub late : (now : ℕ) → IsBy now es → f.state.moment ≤ now → g.state.moment ≤ now
   pub gathered : (rest : List Event) → gather_from f.turn (es ++ rest) ≡ gather_from g.turn rest
   pub sound : IsSound g
 
@@ -101,9 +102,10 @@ turn-step f mid g e es sound is h rest =
     record {
       tables = rest.tables ∙ tables-stay e f.state.tables mid.state.tables is frame.tables;
       made =
-          rest.made ∙ ap (λ t. made_by t ++ flat_map moved es) after ∙ ap (λ ms. ms ++ flat_map moved es) makes.0
-          ∙ append_assoc (made_by f.turn) (moved e) (flat_map moved es);
+          rest.made ∙ ap (λ t. made_by t ++ flat_map moves_by es) after ∙ ap (λ ms. ms ++ flat_map moves_by es) makes.0
+          ∙ append_assoc (made_by f.turn) (moves_by e) (flat_map moves_by es);
       own = λ own. rest.own (subst IsOwn (sym after) (makes.1 own));
+      late = λ now told late. rest.late now told.1 (subst (λ m. m ≤ now) (sym frame.moment_is) (told.0 f.state.moment late));
       gathered = λ later. gathers-none f.turn e (es ++ later) is ∙ ap (λ t. gather_from t (es ++ later)) (sym after) ∙ rest.gathered later;
       sound = rest.sound;
     }
@@ -111,7 +113,7 @@ turn-step f mid g e es sound is h rest =
 pub turn-run : (es : List Event) (f g : FineState) → IsSound f → list_all of_turn es ≡ true → along fine (Some f) es ≡ Some g → TurnRun f g es
 turn-run [] f g sound are h =
     subst (λ x. TurnRun f x []) (same_Some f g h)
-    (record { tables = refl; made = sym (append-nil (made_by f.turn)); own = λ own. own; gathered = λ rest. refl; sound = sound })
+    (record { tables = refl; made = sym (append-nil (made_by f.turn)); own = λ own. own; late = λ now told late. late; gathered = λ rest. refl; sound = sound })
 turn-run (e ∷ es) f g sound are h =
     let parts = and_parts (of_turn e) (list_all of_turn es) are in
     by (fine f e) refl h (λ mid s x. turn-run es mid g s parts.1 x) parts.0
@@ -121,6 +123,25 @@ turn-run (e ∷ es) f g sound are h =
     by None is x rest own = absurd (none-some g (sym (along-none fine es) ∙ x))
     by (Some mid) is x rest own =
         turn-step f mid g e es sound own is (rest mid (fine-goes e f mid f.state.moment sound (omega arith) is).sound x)
+
+-- ---- who lives
+
+abbrev by_role : Option Role → Bool
+by_role None = false
+by_role (Some r) = same_role r role.Core
+
+-- whether connection 1 lives is told by its role
+role-lives : (o : Option Connection) → has_role_of role.Core o ≡ by_role (option_map (λ (c : Connection). c.role) o)
+role-lives None = refl
+role-lives (Some c) = refl
+
+-- an event by which no connection comes or goes leaves it
+pub life-stays : (f g : FineState) (e : Event) → lives_by e ≡ None → fine f e ≡ Some g
+    → lives_as g.state.tables 1 role.Core ≡ lives_as f.state.tables 1 role.Core
+life-stays f g e none h =
+    role-lives (connection_at g.state.tables 1)
+    ∙ ap by_role ((fine-frame f g e h).roles 1 (λ is. none-some 1 (sym none ∙ is)))
+    ∙ sym (role-lives (connection_at f.state.tables 1))
 
 -- ---- an answer
 
@@ -150,20 +171,22 @@ answer-over f g now failed dialed level told sound own h =
 -- ---- a poll
 
 -- the events of a poll before its end are of the turn
-begun-of : (f : FineState) (now : ℕ) → list_all of_turn (begun_events f 1 now) ≡ true
-begun-of f now = by (begins f 1 now) where
-  by : (b : Bool) → list_all of_turn (cond b (Begin 1 now ∷ []) []) ≡ true
-  by true = refl
-  by false = refl
-
-moved-of : (moves : List Transfer) → list_all of_turn (moved_events 1 moves) ≡ true
-moved-of [] = refl
-moved-of (t ∷ ts) = refl
-
 pub run-of : (f : FineState) (now : ℕ) (moves : List Transfer) → list_all of_turn (run_events f 1 now moves) ≡ true
-run-of f now moves =
-    list_all-append of_turn (begun_events f 1 now) (moved_events 1 moves)
-    ∙ and_from (list_all of_turn (begun_events f 1 now)) (list_all of_turn (moved_events 1 moves)) (begun-of f now) (moved-of moves)
+run-of f now moves = by (begins f 1 now) moves where
+  by : (begun : Bool) (ts : List Transfer) → list_all of_turn (cond begun (Begin 1 now ∷ []) [] ++ moved_events 1 ts) ≡ true
+  by true [] = refl
+  by true (t ∷ ts) = refl
+  by false [] = refl
+  by false (t ∷ ts) = refl
+
+-- and they tell its moment
+run-by : (f : FineState) (now : ℕ) (moves : List Transfer) → IsBy now (run_events f 1 now moves)
+run-by f now moves = by (begins f 1 now) moves where
+  by : (begun : Bool) (ts : List Transfer) → IsBy now (cond begun (Begin 1 now ∷ []) [] ++ moved_events 1 ts)
+  by true [] = ((λ moment late. omega arith), tt)
+  by true (t ∷ ts) = ((λ moment late. omega arith), ((λ moment late. late), tt))
+  by false [] = tt
+  by false (t ∷ ts) = ((λ moment late. late), tt)
 
 -- what a poll leaves, by how it ends: no call and no turn; or the call, and its turn at most
 abbrev pub Leaves : Ending → FineState → Type 0
@@ -171,31 +194,40 @@ Leaves (Answered ran level told) g = (pending_at g.state.tables 1 ≡ None) × (
 Leaves (Waited why) g = (is_some (pending_at g.state.tables 1) ≡ true) × IsOwn g.turn
 Leaves (Dialed host port) g = (is_some (pending_at g.state.tables 1) ≡ true) × IsOwn g.turn
 
--- one event alone
-alone : (f g : FineState) (e : Event) → along fine (Some f) (e ∷ []) ≡ Some g → fine f e ≡ Some g
-alone f g e h = h
+-- its moment, and who lives, too
+pub record LeavesAll (old : FineState) (now : ℕ) (ending : Ending) (g : FineState) : Type 0 where
+  pub leaves : Leaves ending g
+  pub late : g.state.moment ≤ now
+  pub lives_on : lives_as g.state.tables 1 role.Core ≡ lives_as old.state.tables 1 role.Core
 
-leaves-by : (old behind last : FineState) (now : ℕ) (moves : List Transfer) (ending : Ending) (p : Pending) → IsOwn old.turn
-    → TurnRun old behind (run_events old 1 now moves) → pending_at old.state.tables 1 ≡ Some p → along fine (Some behind) (end_events 1 now ending) ≡ Some last
-    → Leaves ending last
-leaves-by old behind last now moves (Answered ran level told) p own run at ended =
-    (answer-ends behind last now (is_broken ran) None level told ended, answer-over behind last now (is_broken ran) None level told run.sound (run.own own) ended)
-leaves-by old behind last now moves (Waited why) p own run at ended =
-    let here : is_some (pending_at behind.state.tables 1) ≡ true = ap (λ (t : Tables). is_some (pending_at t 1)) run.tables ∙ ap is_some at in
-    subst (λ (x : FineState). (is_some (pending_at x.state.tables 1) ≡ true) × IsOwn x.turn) (same_Some behind last ended) (here, run.own own)
-leaves-by old behind last now moves (Dialed host port) p own run at ended =
-    let more = turn-run (Dial 1 now ∷ []) behind last run.sound refl ended in
-    (ap (λ (t : Tables). is_some (pending_at t 1)) (more.tables ∙ run.tables) ∙ ap is_some at, more.own (run.own own))
+module _ (old behind : FineState) (now : ℕ) (moves : List Transfer) (p : Pending) (own : IsOwn old.turn) (run : TurnRun old behind (run_events old 1 now moves))
+    (at : pending_at old.state.tables 1 ≡ Some p) (late : old.state.moment ≤ now) where
+  abbrev alive : Tables → Bool
+  alive t = lives_as t 1 role.Core
 
--- at a later moment too
-later-leaves : (ending : Ending) (f : FineState) (now : ℕ) → Leaves ending f → Leaves ending (at_moment f now)
-later-leaves (Answered ran level told) f now h = h
-later-leaves (Waited why) f now h = h
-later-leaves (Dialed host port) f now h = h
+  leaves-by : (last : FineState) (ending : Ending) → along fine (Some behind) (end_events 1 now ending) ≡ Some last → LeavesAll old now ending last
+  leaves-by last (Answered ran level told) ended =
+      let is = answer-moment behind last now (is_broken ran) None level told ended in
+      record {
+        leaves =
+            (answer-ends behind last now (is_broken ran) None level told ended, answer-over behind last now (is_broken ran) None level told run.sound (run.own own) ended);
+        late = omega arith;
+        lives_on = life-stays behind last (Answer 1 now (is_broken ran) None level told) refl ended ∙ ap alive run.tables;
+      }
+  leaves-by last (Waited why) ended =
+      let here : is_some (pending_at behind.state.tables 1) ≡ true = ap (λ (t : Tables). is_some (pending_at t 1)) run.tables ∙ ap is_some at in
+      subst (LeavesAll old now (Waited why)) (same_Some behind last ended)
+      (record { leaves = (here, run.own own); late = run.late now (run-by old now moves) late; lives_on = ap alive run.tables })
+  leaves-by last (Dialed host port) ended =
+      let more = turn-run (Dial 1 now ∷ []) behind last run.sound refl ended in
+      record {
+        leaves = (ap (λ (t : Tables). is_some (pending_at t 1)) (more.tables ∙ run.tables) ∙ ap is_some at, more.own (run.own own));
+        late = let is = (fine-frame behind last (Dial 1 now) ended).moment_is in omega arith;
+        lives_on = ap alive (more.tables ∙ run.tables);
+      }
 
-pub poll-leaves : (old new : FineState) (now : ℕ) (moves : List Transfer) (ending : Ending) → IsSound old → IsOwn old.turn → Polls old 1 now moves ending new
-    → Leaves ending new
+pub poll-leaves : (old new : FineState) (now : ℕ) (moves : List Transfer) (ending : Ending) → IsSound old → IsOwn old.turn → (polls : Polls old 1 now moves ending new)
+    → LeavesAll old now ending polls.last
 poll-leaves old new now moves ending sound own polls =
     let run = turn-run (run_events old 1 now moves) old polls.behind sound (run-of old now moves) polls.runs_to in
-    subst (Leaves ending) (sym polls.at_now)
-    (later-leaves ending polls.last now (leaves-by old polls.behind polls.last now moves ending polls.asked own run polls.call_at polls.ended))
+    leaves-by old polls.behind now moves polls.asked own run polls.call_at polls.late polls.last ending polls.ended

@@ -1,22 +1,25 @@
 -- What is exchanged over a link to a gateway: records that come, each with what it makes in the gateway and its reply.
-use Rattle.std.specs.Prelude.{◌≡◌, ◌≤◌, ℕ, Bool, true, false, ◌==◌, List, [], ◌∷◌, ◌++◌, length, Option, Some}
+use Rattle.std.specs.Prelude.{◌≡◌, ◌≢◌, ◌≤◌, ℕ, ◌+◌, ◌-◌, Bool, true, false, ◌==◌, List, [], ◌∷◌, ◌++◌, length, take, Option, Some, None}
 use Rattle.std.specs.List.{list_all, flat_map}
+use Rattle.vx_bus_traits.specs.Steps.{Step}
 use Rattle.vx_calls.specs.declared.calls.Role.TheVariants as role
+use Rattle.vx_calls.specs.declared.limits.TheConstants.{RECORD_MAX}
 use Rattle.vx_calls.specs.Call.{Call}
 use Rattle.vx_calls.specs.Reply.{Reply}
-use Rattle.vx_sim.specs.Steps.{Step}
 use Rattle.vx_sim.specs.Laws.{transfers}
-use Rattle.vx_message.specs.Meaning.{Meaning, Junk, Asks, Aborts, meaning, record_of, reply_record}
-use Rattle.vx_message.specs.Meaning as meant
-use Rattle.vx_message.specs.declared.record.TheConstants.{REPLY_ROOM}
+use Rattle.vx_record.specs.Fragments.{record_of}
+use Rattle.vx_record.specs.Records.{records}
+use Rattle.vx_record.specs.Ends.{is_settled}
+use Rattle.vx_exchange.specs.Meaning.{Meaning, Junk, Asks, Aborts, meaning, reply_record}
+use Rattle.vx_exchange.specs.Meaning as meant
+use Rattle.vx_exchange.specs.declared.record.TheConstants.{REPLY_ROOM}
 use Rattle.vx_rules.specs.Lists.{along}
 use Rattle.vx_flow.specs.Event.{Event, Arrive, Answer, Begin, Move, Dial}
 use Rattle.vx_flow.specs.FineState.{FineState}
 use Rattle.vx_flow.specs.Fine.{fine}
+use Rattle.vx_flow.specs.Frames.{moves_by}
 use Rattle.vx_flow.specs.Poll.{at_moment}
-use Rattle.vx_play.specs.Gateway.{Gateway, BusGoes}
-use Rattle.vx_play.specs.Stream.{Whole, brought_by}
-use Rattle.vx_play.specs.Item.{moved}
+use Rattle.vx_loop.specs.Gateway.{Gateway, BusGoes, moments, moments_from}
 
 -- What happened in a gateway: these events, of which each is allowed at its place, lead from the one state to the other, but
 -- for a later moment; and its bus went through these steps, whose transfers are those of the turns' moves.
@@ -26,7 +29,12 @@ pub record Adds (before : Gateway) (group : List Event) (steps : List Step) (aft
   pub late : last.state.moment ≤ after.fine.state.moment
   pub at_now : after.fine ≡ at_moment last after.fine.state.moment
   pub bus : BusGoes before.bus steps after.bus
-  pub moves : transfers steps ≡ flat_map moved group
+  pub moves : transfers steps ≡ flat_map moves_by group
+
+-- a stream that is one whole record, of this message, which ends with its last byte (RFC 5531, section 11)
+pub record IsRecord (stream message : List ℕ) : Type 0 where
+  pub whole : (records RECORD_MAX stream).records ≡ message ∷ []
+  pub shortest : is_settled (records RECORD_MAX (take (length stream - 1) stream)) ≡ false
 
 -- a record that came, with its bytes on the stream and its message; the events and the steps of the bus that it made; and the
 -- record of its reply
@@ -44,29 +52,37 @@ of_turn (Move conn moves) = conn == 1
 of_turn (Dial conn now) = conn == 1
 of_turn _ = false
 
--- a call came, its turn went on, and it was answered so
-pub record IsAnswered (asked : Call) (told : Reply) (group : List Event) : Type 0 where
-  pub came : ℕ
+-- the moment at which a call's dial was told to have failed, where it asked for one: that of its last poll
+abbrev pub again : Option Bool → ℕ → List ℕ
+again None now = []
+again (Some up) now = now ∷ []
+
+-- A call came at this moment, its turn went on, and it was answered so at that one. It was polled at the moment of its arrival,
+-- and then a millisecond later each time; a dial that it asked for failed. The bus was told these moments alone.
+pub record IsAnswered (asked : Call) (told : Reply) (came now : ℕ) (group : List Event) (steps : List Step) : Type 0 where
   pub turn : List Event
   pub turn_is : list_all of_turn turn ≡ true
-  pub now : ℕ
   pub failed : Bool
   pub dialed : Option Bool
   pub level : Bool
   pub events : group ≡ Arrive 1 asked came ∷ turn ++ Answer 1 now failed dialed level told ∷ []
+  pub not_up : dialed ≢ Some true
+  pub polls : ℕ
+  pub told_is : moments steps ≡ came ∷ moments_from came polls ++ again dialed now
+  pub last_is : now + 1 ≡ came + polls
 
--- the events and the reply of a message: a call comes to the gateway and is answered there; the others that have a reply have
--- it without the gateway
-abbrev pub Replies : Meaning → List Event → List ℕ → Type 0
-Replies Junk group reply = ⊥
-Replies (meant.Answered message) group reply = (group ≡ []) × (reply ≡ record_of message)
-Replies (Asks xid asked) group reply = (told : Reply) × IsAnswered asked told group × (reply ≡ reply_record xid told)
-Replies (Aborts xid lid) group reply = ⊥
+-- the events and the reply of a message: a call comes to the gateway at this moment, and is answered there at that one; the others
+-- that have a reply have it without the gateway
+abbrev pub Replies : Meaning → (came now : ℕ) → List Event → List Step → List ℕ → Type 0
+Replies Junk came now group steps reply = ⊥
+Replies (meant.Answered message) came now group steps reply = (group ≡ []) × (steps ≡ []) × (now ≡ came) × (reply ≡ record_of message)
+Replies (Asks xid asked) came now group steps reply = (told : Reply) × IsAnswered asked told came now group steps × (reply ≡ reply_record xid told)
+Replies (Aborts xid lid) came now group steps reply = ⊥
 
 pub record IsExchange (before : Gateway) (x : Exchange) (after : Gateway) : Type 0 where
-  pub whole : brought_by x.stream ≡ Whole x.message
+  pub whole : IsRecord x.stream x.message
   pub adds : Adds before x.group x.steps after
-  pub replies : Replies (meaning x.message role.Core) x.group x.reply
+  pub replies : Replies (meaning x.message role.Core) before.fine.state.moment after.fine.state.moment x.group x.steps x.reply
   pub short : length x.reply ≤ REPLY_ROOM
 
 -- these, one after the other

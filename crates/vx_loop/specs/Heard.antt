@@ -4,13 +4,13 @@ use Rattle.std.specs.List.{flat_map}
 use Rattle.vx_calls.specs.declared.targets.Target.TheVariants.{Device}
 use Rattle.vx_488.specs.declared.transfers.Addr.{Addr}
 use Rattle.vx_488.specs.Heard.{Byte, heard}
-use Rattle.vx_sim.specs.Steps.{Step}
+use Rattle.vx_bus_traits.specs.Steps.{Step}
 use Rattle.vx_rules.specs.Table.{Link}
 use Rattle.vx_calls.specs.declared.calls.Role.TheVariants as role
 use Rattle.vx_rules.specs.State.{link_of, lives_as}
 use Rattle.vx_flow.specs.Event.{Event}
-use Rattle.vx_play.specs.Gateway.{Gateway, gateway_of}
-use Rattle.vx_play.specs.Item.{moved}
+use Rattle.vx_loop.specs.Gateway.{Gateway, gateway_of}
+use Rattle.vx_flow.specs.Frames.{moves_by}
 use Rattle.vx_client.specs.State.{ClientState}
 use Rattle.vx_loop.specs.LoopState.{ServedState, LoopState, IsIdle}
 use Rattle.vx_loop.specs.Exchanges.{Adds}
@@ -21,8 +21,8 @@ pub record Hears (before after : Gateway) (a : Addr) (bytes : List Byte) : Type 
   pub group : List Event
   pub steps : List Step
   pub adds : Adds before group steps after
-  pub here : heard a before.fine.state.wire (flat_map moved group) ≡ bytes
-  pub elsewhere : (b : Addr) → b ≢ a → heard b before.fine.state.wire (flat_map moved group) ≡ []
+  pub here : heard a before.fine.state.wire (flat_map moves_by group) ≡ bytes
+  pub elsewhere : (b : Addr) → b ≢ a → heard b before.fine.state.wire (flat_map moves_by group) ≡ []
 
 -- a client whose link is to this gateway, between calls: it keeps no byte behind the last reply, and isn't spent
 pub record IsResting (c : ClientState LoopState) (s : ServedState) : Type 0 where

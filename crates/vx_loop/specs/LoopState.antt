@@ -1,15 +1,16 @@
 -- What contracts see of a link to connection 1 of a gateway.
-use Rattle.std.specs.Prelude.{◌≡◌, ℕ, Bool, List, [], Option, Some, None}
+use Rattle.std.specs.Prelude.{◌≡◌, ℕ, Bool, List, [], ◌∷◌, Option, None}
+use Rattle.vx_bus_traits.specs.Steps.{Cut}
 use Rattle.vx_calls.specs.declared.calls.Role.TheVariants as role
 use Rattle.vx_calls.specs.declared.limits.TheConstants.{RECORD_MAX}
 use Rattle.vx_record.specs.Buffer.{BufState, fresh}
 use Rattle.vx_sim.specs.SimState.{SimState}
-use Rattle.vx_message.specs.SrqState as srq_state
+use Rattle.vx_rules.specs.SrqState as srq_state
 use Rattle.vx_rules.specs.State.{pending_at, first_tables, first}
 use Rattle.vx_flow.specs.Event.{Up}
 use Rattle.vx_flow.specs.FineState.{FineState, first_fine}
-use Rattle.vx_flow.specs.Fine.{fine}
-use Rattle.vx_kernel.specs.CoreState.{CoreState}
+use Rattle.vx_core.specs.CoreState.{CoreState}
+use Rattle.vx_loop.specs.Gateway.{Gateway, gateway_of, Happens}
 
 -- a gateway that serves a link
 pub record ServedState : Type 0 where
@@ -20,8 +21,6 @@ pub record ServedState : Type 0 where
   pub xid : ℕ
   -- what is left to give of the last reply
   pub left : List ℕ
-  -- the moment of the last poll, in milliseconds
-  pub moment : ℕ
 
 pub record LoopState : Type 0 where
   -- none only while the gateway is looked at apart from the link
@@ -48,9 +47,13 @@ unconnected abort_port level moment = record (first_fine abort_port) {
 abbrev pub IsUnconnected : FineState → Type 0
 IsUnconnected f = f ≡ unconnected f.state.tables.abort_port f.state.tables.srq_state.level f.state.moment
 
--- a link as it is made: connection 1 has come up on a gateway that had none before, and nothing else has happened on it
+-- connection 1 came up on this gateway, and nothing else happened on it
+abbrev pub OnlyComesUp : Gateway → Gateway → Type 0
+OnlyComesUp before after = Happens before (Up 1 role.Core ∷ []) (Cut ∷ []) after
+
+-- a link as it is made: connection 1 has come up on a gateway that had none before
 pub record IsBeginning (s : ServedState) : Type 0 where
   pub idle : IsIdle s
-  pub before : FineState
-  pub alone : IsUnconnected before
-  pub up : fine before (Up 1 role.Core) ≡ Some s.core.fine
+  pub before : Gateway
+  pub alone : IsUnconnected before.fine
+  pub up : OnlyComesUp before (gateway_of s.core)

@@ -2,7 +2,7 @@
 use Rattle.std.specs.Prelude.{◌≡◌, ℕ, false, List, [], length, Some, None}
 use Rattle.std.specs.List.{flat_map}
 use Rattle.vx_calls.specs.Call.{Call}
-use Rattle.vx_play.specs.Stream.{Whole, brought_by}
+use Rattle.vx_loop.specs.Exchanges.{IsRecord}
 use Rattle.vx_client.specs.State.{ClientState}
 use Rattle.vx_client.specs.Message.{IsSendable}
 use Rattle.vx_client.specs.Exchange.{Exchange, Exchanged}
@@ -14,7 +14,7 @@ use Rattle.vx_loop.specs.Heard.{IsResting}
 pub record Sent : Type 0 where
   pub stream : List ℕ
   pub message : List ℕ
-  pub whole : brought_by stream ≡ Whole message
+  pub whole : IsRecord stream message
 
 abbrev pub streams : List Sent → List ℕ
 streams rs = flat_map (λ r. r.stream) rs

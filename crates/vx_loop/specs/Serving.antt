@@ -1,19 +1,21 @@
 -- What serving a record, and polling its call again, leave of a gateway and of what is given.
 use Rattle.std.specs.Prelude.{◌≡◌, ◌≤◌, ℕ, Bool, true, is_some, List, [], ◌∷◌, ◌++◌, length, Option, Some, None, ◌⊎◌}
 use Rattle.std.specs.List.{list_all}
+use Rattle.vx_bus_traits.specs.Steps.{Step, Told, Cut}
+use Rattle.vx_calls.specs.declared.calls.Role.TheVariants as role
 use Rattle.vx_calls.specs.Call.{Call}
 use Rattle.vx_calls.specs.Reply.{Reply}
-use Rattle.vx_sim.specs.Steps.{Step}
-use Rattle.vx_message.specs.Meaning.{Meaning, Junk, Asks, Aborts, record_of, reply_record}
-use Rattle.vx_message.specs.Meaning as meant
-use Rattle.vx_message.specs.declared.record.TheConstants.{REPLY_ROOM}
-use Rattle.vx_rules.specs.State.{pending_at}
+use Rattle.vx_record.specs.Fragments.{record_of}
+use Rattle.vx_exchange.specs.Meaning.{Meaning, Junk, Asks, Aborts, reply_record}
+use Rattle.vx_exchange.specs.Meaning as meant
+use Rattle.vx_exchange.specs.declared.record.TheConstants.{REPLY_ROOM}
+use Rattle.vx_exchange.specs.declared.polls.PollEnd.{PollEnd}
+use Rattle.vx_exchange.specs.declared.polls.PollEnd.TheVariants as end
+use Rattle.vx_rules.specs.State.{pending_at, lives_as}
 use Rattle.vx_flow.specs.Event.{Event, Arrive, Answer}
 use Rattle.vx_flow.specs.FineState.{Turn}
 use Rattle.vx_flow.specs.Sound.{IsSound}
-use Rattle.vx_play.specs.Gateway.{Gateway}
-use Rattle.vx_play.specs.declared.note.Note.{Note}
-use Rattle.vx_play.specs.declared.note.Note.TheVariants as note
+use Rattle.vx_loop.specs.Gateway.{Gateway, Happens, moments}
 use Rattle.vx_loop.specs.Exchanges.{Adds, of_turn}
 
 -- what is needed of a gateway before a poll of connection 1's call
@@ -21,48 +23,54 @@ pub record IsFit (g : Gateway) : Type 0 where
   pub sound : IsSound g.fine
   pub own : (u : Turn) → g.fine.turn ≡ Some u → u.connection ≡ 1
 
--- how long the reply is that a note tells of; 0 where it tells of none
-abbrev pub reply_len : Note → ℕ
-reply_len (note.Replied conn len) = len
+-- how long the reply is that a poll wrote; 0 where it wrote none
+abbrev pub reply_len : PollEnd → ℕ
+reply_len (end.Replied len error) = len
 reply_len _ = 0
 
--- a pending call's turn went on, and the call was answered: no turn is left
-pub record IsReplied (before : Gateway) (xid : ℕ) (after : Gateway) (left : List ℕ) : Type 0 where
+-- whether connection 1 lives
+abbrev pub lives : Gateway → Bool
+lives g = lives_as g.fine.state.tables 1 role.Core
+
+-- a pending call's turn went on at this moment, and the call was answered: no turn is left
+pub record IsReplied (before : Gateway) (xid now : ℕ) (dialed : Option Bool) (after : Gateway) (left : List ℕ) : Type 0 where
   pub turn : List Event
   pub steps : List Step
-  pub now : ℕ
   pub failed : Bool
-  pub dialed : Option Bool
   pub level : Bool
   pub told : Reply
   pub turn_is : list_all of_turn turn ≡ true
   pub adds : Adds before (turn ++ Answer 1 now failed dialed level told ∷ []) steps after
+  pub moment : after.fine.state.moment ≡ now
+  pub told_is : moments steps ≡ now ∷ []
   pub left_is : left ≡ reply_record xid told
   pub short : length left ≤ REPLY_ROOM
   pub answered : pending_at after.fine.state.tables 1 ≡ None
   pub over : after.fine.turn ≡ None
+  pub lives_on : lives after ≡ lives before
 
 -- or it waits: a turn that is left is its own
-pub record IsLeft (before : Gateway) (after : Gateway) (left : List ℕ) : Type 0 where
+pub record IsLeft (before : Gateway) (now : ℕ) (after : Gateway) (left : List ℕ) : Type 0 where
   pub turn : List Event
   pub steps : List Step
   pub turn_is : list_all of_turn turn ≡ true
   pub adds : Adds before turn steps after
+  pub moment : after.fine.state.moment ≡ now
+  pub told_is : moments steps ≡ now ∷ []
   pub none_left : left ≡ []
   pub pending : is_some (pending_at after.fine.state.tables 1) ≡ true
   pub own : (u : Turn) → after.fine.turn ≡ Some u → u.connection ≡ 1
+  pub lives_on : lives after ≡ lives before
 
--- a poll did either
-abbrev pub Continues : Gateway → ℕ → Gateway → List ℕ → Type 0
-Continues before xid after left = IsReplied before xid after left ⊎ IsLeft before after left
+-- a poll at this moment did either
+abbrev pub Continues : Gateway → (xid now : ℕ) → Gateway → List ℕ → Type 0
+Continues before xid now after left = IsReplied before xid now None after left ⊎ IsLeft before now after left
 
--- a call came, and was polled
+-- a call came, and was polled, at the gateway's moment
 pub record CallsOn (before : Gateway) (xid : ℕ) (asked : Call) (after : Gateway) (left : List ℕ) : Type 0 where
   pub come : Gateway
-  pub came : ℕ
-  pub steps : List Step
-  pub arrives : Adds before (Arrive 1 asked came ∷ []) steps come
-  pub continues : Continues come xid after left
+  pub arrives : Happens before (Arrive 1 asked before.fine.state.moment ∷ []) (Cut ∷ Told before.fine.state.moment ∷ []) come
+  pub continues : Continues come xid before.fine.state.moment after left
 
 -- what a message leaves: a call comes; another that has a reply is answered without the gateway
 abbrev pub Serves : Gateway → Meaning → ℕ → Gateway → List ℕ → Type 0

@@ -1,8 +1,9 @@
 //! The link.
 
 ghost use Rattle.std.specs.Prelude.{◌≡◌, Some, None, IfOk, IfErr, IfSome};
+ghost use Rattle.vx_loop.specs.Gateway.{gateway_of};
+ghost use Rattle.vx_loop.specs.LoopState.{ServedState, IsUnconnected, IsBeginning, OnlyComesUp};
 ghost use Rattle.vx_loop.specs.Standing.{IsKept};
-ghost use Rattle.vx_loop.specs.LoopState.{ServedState, IsUnconnected, IsBeginning};
 
 use crate::served::Serving;
 use std::alloc::Global;
@@ -54,7 +55,7 @@ impl<I: Instrument> LoopLink<I> {
     pub fn new(alloc: Global, core: Core<SimBus<I>>) -> Result<LoopLink<I>, LoopRefused<I>>
         requires unconnected { IsUnconnected core.fine }
         ensures made { IfOk result (λ l. (s : ServedState) × (l ≡ record { served = Some s; receive_faults = 0; send_faults = 0 }) × IsBeginning s
-            × (s.core.bus.bench ≡ core.bus.bench)) }
+            × OnlyComesUp (gateway_of core) (gateway_of s.core)) }
         ensures refused { IfErr result (λ r. r.core ≡ core) }
     {
         match Serving::new(alloc, core) {
@@ -93,7 +94,7 @@ impl<I: Instrument> Link for LoopLink<I> {
     ghost use Rattle.vx_io_traits.specs.Outs.{IfGot, IfTook, OnEnd, OnReadFailed, OnWriteFailed};
     ghost use Rattle.vx_io_traits.specs.Stands.{Gives, Takes, Stays};
     ghost use Rattle.std.specs.Prelude.{IfSome};
-    ghost use Rattle.vx_loop.specs.Standing.{StandsFor, GoesOn, IsUnanswered, IsDrained, IsRefused};
+    ghost use Rattle.vx_loop.specs.Standing.{StandsFor, GoesOn, IsUnanswered, IsDrained, IsRefused, LivesAlike, LivesOn};
 
     ghost stands = { StandsFor };
 
@@ -115,6 +116,9 @@ impl<I: Instrument> Link for LoopLink<I> {
         // It fails only where the last moment comes before the answer, and ends only where nothing is left to give.
         ensures last { OnReadFailed result (IfSome self.new.served IsUnanswered) }
         ensures drained { OnEnd result (IfSome self.new.served IsDrained) }
+
+        // It ends no connection.
+        ensures lives { LivesAlike self.old.served self.new.served }
 
         // What every link says.
         ensures counted { self.old.receive_faults ≤ self.new.receive_faults }
@@ -147,8 +151,10 @@ impl<I: Instrument> Link for LoopLink<I> {
         ensures went { IfTook result (λ n. GoesOn self.old self.new (take n from.now) []) }
         ensures broke { OnWriteFailed result (GoesOn self.old self.new [] []) }
 
-        // It fails only where the bytes end a record that is no call, or is too long.
+        // It fails only where the bytes end a record that is no call, or is too long. Where the connection lives, no call waits and
+        // nothing of a reply is left, it fails in each such case, and the connection lives on in every other.
         ensures cause { OnWriteFailed result (IfSome self.old.served (λ s. IsRefused s from.now)) }
+        ensures refused { IfTook result (λ _. LivesOn self.old.served self.new.served from.now) }
 
         // What every link says.
         ensures counted { self.old.send_faults ≤ self.new.send_faults }

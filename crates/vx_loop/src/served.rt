@@ -1,25 +1,23 @@
 //! A gateway that serves one link, as its connection 1.
 
-ghost use Rattle.std.specs.Prelude.{◌≡◌, ◌≤◌, ◌<◌, ◌+◌, ◌-◌, ◌^◌, ◌==◌, ◌++◌, List, ℕ, [], length, take, drop, min, true, false, Some, None, is_some, IfOk, IfErr, IfSome, IfNone, IsSome};
+ghost use Rattle.std.specs.Prelude.{◌≡◌, ◌≤◌, ◌<◌, ◌+◌, ◌-◌, ◌^◌, ◌==◌, ◌++◌, ◌⊎◌, List, ℕ, [], length, take, drop, min, true, false, Some, None, is_some, IfOk, IfErr, IfSome, IfNone, IsSome};
 ghost use Rattle.std.specs.List.{list_any};
 ghost use Rattle.vx_calls.specs.declared.calls.Role.TheVariants as role;
 ghost use Rattle.vx_calls.specs.declared.limits.TheConstants.{RECORD_MAX};
 ghost use Rattle.vx_rules.specs.State.{connection_at, pending_at, lives_as};
-ghost use Rattle.vx_message.specs.declared.record.TheConstants.{REPLY_ROOM};
-ghost use Rattle.vx_message.specs.Meaning.{meaning, Junk};
-ghost use Rattle.vx_play.specs.Gateway.{Gateway, gateway_of};
-ghost use Rattle.vx_loop.specs.LoopState.{IsBeginning, IsUnconnected};
-ghost use Rattle.vx_loop.specs.Standing.{IsKept, IsReached, IsRefused, Went, EndsTo, WaitsTo};
-ghost use Rattle.vx_loop.specs.Serving.{reply_len, Serves, Continues, IsFit};
+ghost use Rattle.vx_exchange.specs.declared.record.TheConstants.{REPLY_ROOM};
+ghost use Rattle.vx_exchange.specs.Meaning.{meaning, Junk};
+ghost use Rattle.vx_loop.specs.Gateway.{Gateway, gateway_of};
+ghost use Rattle.vx_loop.specs.LoopState.{IsBeginning, IsUnconnected, OnlyComesUp};
+ghost use Rattle.vx_loop.specs.Standing.{IsKept, IsReached, IsRefused, IsReady, Went, TakesTo, WaitsTo};
+ghost use Rattle.vx_loop.specs.Serving.{lives, reply_len, Serves, Continues, IsReplied, IsFit};
 
 use std::alloc::Global;
 use std::marker::Model;
-use vx_calls::{RECORD_MAX, ReplyRef, Role};
+use vx_calls::{RECORD_MAX, Role};
 use vx_core::Core;
+use vx_exchange::{Opened, PollEnd, REPLY_ROOM, again, come, open, settle};
 use vx_inst::Instrument;
-use vx_message::REPLY_ROOM;
-use vx_play::serve::{Served, poll_call, serve, succeed};
-use vx_play::{Made, Note};
 use vx_record::{Feed, RecordBuf};
 use vx_sim::SimBus;
 
@@ -32,8 +30,6 @@ pub(crate) struct Serving<I: Instrument> {
     core: Core<SimBus<I>>,
     buffer: RecordBuf,
     xid: u32,
-    // milliseconds
-    moment: u64,
     reply: Vec<u8>,
     from: usize,
     to: usize,
@@ -41,7 +37,7 @@ pub(crate) struct Serving<I: Instrument> {
 
 impl<I: Instrument> Model for Serving<I> {
     ghost use Rattle.std.specs.Prelude.{◌≡◌, ◌≤◌, length, take, drop};
-    ghost use Rattle.vx_message.specs.declared.record.TheConstants.{REPLY_ROOM};
+    ghost use Rattle.vx_exchange.specs.declared.record.TheConstants.{REPLY_ROOM};
     ghost use Rattle.vx_loop.specs.LoopState.{ServedState};
 
     ghost Value = { ServedState };
@@ -51,51 +47,49 @@ impl<I: Instrument> Model for Serving<I> {
       buffer = s.buffer;
       xid = s.xid;
       left = drop s.from (take s.to s.reply.items);
-      moment = s.moment;
     } };
 
     ghost invariant = { λ s. (length s.reply.items ≡ REPLY_ROOM) × (s.from ≤ s.to) × (s.to ≤ REPLY_ROOM) };
 }
 
-/// How long the reply is that a step made; 0 where it made none.
-fn reply_len(made: Made) -> usize
-    ensures { result ≡ reply_len made.note }
+/// How long the reply is that a poll wrote; 0 where it wrote none.
+fn reply_len(end: PollEnd) -> usize
+    ensures { result ≡ reply_len end }
 {
-    match made.note {
-        Note::Replied { len, .. } => len,
+    match end {
+        PollEnd::Replied { len, .. } => len,
         _ => 0,
     }
 }
 
-/// Serves a message at this moment, and answers how long its reply is, 0 where there is none yet; none where it is no call.
+/// Serves a message, and answers how long its reply is, 0 where there is none yet; none where it is no call.
 fn answer<I: Instrument>(
     core: &mut Core<SimBus<I>>,
     message: &[u8],
     xid: &mut u32,
-    now: u64,
     reply: &mut [u8],
 ) -> Option<usize>
     requires lives { lives_as core.old.fine.state.tables 1 role.Core ≡ true }
     requires idle { pending_at core.old.fine.state.tables 1 ≡ None }
     requires calm { core.old.fine.turn ≡ None }
     requires reached { IsReached core.old.fine }
-    requires late { core.old.fine.state.moment ≤ now }
     requires short { length message.now ≤ RECORD_MAX }
     requires room { length reply.old ≡ REPLY_ROOM }
-    ensures junk { IfNone result (gateway_of core.new ≡ gateway_of core.old) }
+    ensures junk { IfNone result (core.new ≡ core.old) }
     ensures means { IfNone result (meaning message.now role.Core ≡ Junk) }
     ensures served { IfSome result (λ len. Serves (gateway_of core.old) (meaning message.now role.Core) xid.new (gateway_of core.new) (take len reply.new)) }
     ensures within { IfSome result (λ len. len ≤ REPLY_ROOM) }
-    ensures late { core.new.fine.state.moment ≤ now }
     ensures room { length reply.new ≡ REPLY_ROOM }
 {
-    match serve(core, CONN, Role::Core, message, now, reply) {
-        Served::Junk => None,
-        Served::Answered(made) => Some(reply_len(made)),
-        Served::Called { xid: number, made } => {
+    match open(message, Role::Core, reply) {
+        Opened::Junk => None,
+        Opened::Answered { len } => Some(len),
+        Opened::Asks { xid: number, call } => {
             *xid = number;
-            Some(reply_len(made))
+            let now = core.moment();
+            Some(reply_len(come(core, CONN, number, &call, now, reply)))
         }
+        Opened::Aborts { .. } => unreachable!(),
     }
 }
 
@@ -105,33 +99,24 @@ fn poll<I: Instrument>(core: &mut Core<SimBus<I>>, xid: u32, now: u64, reply: &m
     requires pending { is_some (pending_at core.old.fine.state.tables 1) ≡ true }
     requires late { core.old.fine.state.moment ≤ now }
     requires room { length reply.old ≡ REPLY_ROOM }
-    ensures continues { Continues (gateway_of core.old) xid (gateway_of core.new) (take result reply.new) }
+    ensures continues { Continues (gateway_of core.old) xid now (gateway_of core.new) (take result reply.new) }
     ensures within { result ≤ REPLY_ROOM }
-    ensures late { core.new.fine.state.moment ≤ now }
     ensures room { length reply.new ≡ REPLY_ROOM }
 {
-    reply_len(poll_call(core, CONN, xid, now, reply))
+    reply_len(again(core, CONN, xid, now, reply))
 }
 
 /// Has the dial fail that the pending call of this xid asked for, and answers how long its reply is.
-fn refuse_dial<I: Instrument>(
-    core: &mut Core<SimBus<I>>,
-    xid: u32,
-    now: u64,
-    reply: &mut [u8],
-) -> usize
+fn refuse_dial<I: Instrument>(core: &mut Core<SimBus<I>>, xid: u32, reply: &mut [u8]) -> usize
     requires fit { IsFit (gateway_of core.old) }
     requires dialed { list_any (λ n. n == 1) core.old.fine.dialed ≡ true }
-    requires late { core.old.fine.state.moment ≤ now }
     requires room { length reply.old ≡ REPLY_ROOM }
-    ensures continues { Continues (gateway_of core.old) xid (gateway_of core.new) (take result reply.new) }
-    ensures settled { pending_at core.new.fine.state.tables 1 ≡ None }
+    ensures replied { IsReplied (gateway_of core.old) xid core.old.fine.state.moment (Some false) (gateway_of core.new) (take result reply.new) }
     ensures within { result ≤ REPLY_ROOM }
-    ensures late { core.new.fine.state.moment ≤ now }
     ensures room { length reply.new ≡ REPLY_ROOM }
 {
-    let error = core.settle(CONN, false, now).error;
-    reply_len(succeed(CONN, xid, &ReplyRef::Error { error }, reply))
+    let now = core.moment();
+    settle(core, CONN, xid, false, now, reply).len
 }
 
 /// Copies as many bytes as fit to the front of `into`, and answers how many.
@@ -152,7 +137,7 @@ impl<I: Instrument> Serving<I> {
         requires unconnected { IsUnconnected core.fine }
         ensures kept { IfOk result IsKept }
         ensures begins { IfOk result IsBeginning }
-        ensures bus { IfOk result (λ s. s.core.bus.bench ≡ core.bus.bench) }
+        ensures up { IfOk result (λ s. OnlyComesUp (gateway_of core) (gateway_of s.core)) }
         ensures refused { IfErr result (λ back. back ≡ core) }
     {
         let mut core = core;
@@ -165,12 +150,10 @@ impl<I: Instrument> Serving<I> {
         if core.connect(alloc, Role::Core).is_err() {
             return Err(core);
         }
-        let moment = core.moment();
         Ok(Serving {
             core,
             buffer,
             xid: 0,
-            moment,
             reply,
             from: 0,
             to: 0,
@@ -188,28 +171,42 @@ impl<I: Instrument> Serving<I> {
 
     /// Whether the connection has ended.
     fn is_gone(&self) -> bool
-        ensures ended { result ≡ true → IsKept self.now → EndsTo self.now self.now }
+        ensures ended { result ≡ true → IsKept self.now → (more : List ℕ) → TakesTo self.now self.now more }
+        ensures gone { result ≡ true → lives (gateway_of self.now.core) ≡ false }
         ensures there { result ≡ false → IsSome (connection_at self.now.core.fine.state.tables 1) }
         ensures lives { result ≡ false → pending_at self.now.core.fine.state.tables 1 ≡ None → lives_as self.now.core.fine.state.tables 1 role.Core ≡ true }
     {
         self.is_down()
     }
 
-    /// Ends the connection. What is left of a reply may still be given.
-    fn end(&mut self)
+    /// Ends the connection, since these bytes come while a call or its reply is under way. What is left of a reply may still be
+    /// given.
+    fn end_early(&mut self, from: &[u8])
         requires kept { IsKept self.old }
+        requires some { 0 < length from.now }
         requires there { IsSome (connection_at self.old.core.fine.state.tables 1) }
-        ensures { EndsTo self.old self.new }
+        requires alive { pending_at self.old.core.fine.state.tables 1 ≡ None → lives (gateway_of self.old.core) ≡ true }
+        requires busy { is_some (pending_at self.old.core.fine.state.tables 1) ≡ true ⊎ 0 < length self.old.left }
+        ensures { TakesTo self.old self.new from.now }
     {
         self.core.disconnect(CONN);
         self.buffer.restart();
     }
 
+    /// Whether bytes of a reply are left to give.
+    fn has_left(&self) -> bool
+        ensures some { result ≡ true → 0 < length self.now.left }
+        ensures none { result ≡ false → self.now.left ≡ [] }
+    {
+        self.from < self.to
+    }
+
     /// Whether a call has no answer yet, or bytes of a reply are left to give.
     fn is_busy(&self) -> bool
-        ensures { result ≡ false → (pending_at self.now.core.fine.state.tables 1 ≡ None) × (self.now.left ≡ []) }
+        ensures idle { result ≡ false → (pending_at self.now.core.fine.state.tables 1 ≡ None) × (self.now.left ≡ []) }
+        ensures busy { result ≡ true → is_some (pending_at self.now.core.fine.state.tables 1) ≡ true ⊎ 0 < length self.now.left }
     {
-        self.core.pending(CONN) || self.from < self.to
+        self.core.pending(CONN) || self.has_left()
     }
 
     /// Takes bytes up to the end of a record, which is served, and answers how many. There are none where they end a
@@ -219,9 +216,9 @@ impl<I: Instrument> Serving<I> {
         requires kept { IsKept self.old }
         requires lives { lives_as self.old.core.fine.state.tables 1 role.Core ≡ true }
         requires idle { (pending_at self.old.core.fine.state.tables 1 ≡ None) × (self.old.left ≡ []) }
-        ensures took { IfSome result (λ n. (0 < n) × (n ≤ length from.now) × IsKept self.new
-            × ((start : Gateway) (taken given : List ℕ) → Went start self.old taken given → Went start self.new (taken ++ take n from.now) given)) }
-        ensures broke { IfNone result (EndsTo self.old self.new) }
+        ensures took { IfSome result (λ n. (0 < n) × (n ≤ length from.now) × TakesTo self.old self.new (take n from.now)) }
+        ensures stays { IfSome result (λ n. IsReady self.old → (IsRefused self.old from.now → ⊥) × (lives (gateway_of self.new.core) ≡ true)) }
+        ensures broke { IfNone result (TakesTo self.old self.new []) }
         ensures cause { IfNone result (IsRefused self.old from.now) }
     {
         let fed = self.buffer.feed(from);
@@ -229,13 +226,7 @@ impl<I: Instrument> Serving<I> {
             Feed::More => Some(fed.took),
             Feed::Whole => {
                 let message = self.buffer.whole();
-                let served = answer(
-                    &mut self.core,
-                    message,
-                    &mut self.xid,
-                    self.moment,
-                    &mut self.reply,
-                );
+                let served = answer(&mut self.core, message, &mut self.xid, &mut self.reply);
                 self.buffer.restart();
                 self.from = 0;
                 match served {
@@ -263,16 +254,16 @@ impl<I: Instrument> Serving<I> {
     pub(crate) fn accept(&mut self, from: &[u8]) -> Option<usize>
         requires some { 0 < length from.now }
         requires kept { IsKept self.old }
-        ensures took { IfSome result (λ n. (0 < n) × (n ≤ length from.now) × IsKept self.new
-            × ((start : Gateway) (taken given : List ℕ) → Went start self.old taken given → Went start self.new (taken ++ take n from.now) given)) }
-        ensures broke { IfNone result (EndsTo self.old self.new) }
+        ensures took { IfSome result (λ n. (0 < n) × (n ≤ length from.now) × TakesTo self.old self.new (take n from.now)) }
+        ensures stays { IfSome result (λ n. IsReady self.old → (IsRefused self.old from.now → ⊥) × (lives (gateway_of self.new.core) ≡ true)) }
+        ensures broke { IfNone result (TakesTo self.old self.new []) }
         ensures cause { IfNone result (IsRefused self.old from.now) }
     {
         if self.is_gone() {
             return Some(from.len());
         }
         if self.is_busy() {
-            self.end();
+            self.end_early(from);
             return Some(from.len());
         }
         self.take(from)
@@ -301,23 +292,23 @@ impl<I: Instrument> Serving<I> {
         ensures settled { pending_at self.new.core.fine.state.tables 1 ≡ None }
     {
         self.from = 0;
-        self.to = refuse_dial(&mut self.core, self.xid, self.moment, &mut self.reply);
+        self.to = refuse_dial(&mut self.core, self.xid, &mut self.reply);
     }
 
-    /// Has the pending call polled at the next moment, where there is one.
+    /// Has the pending call polled a millisecond later, where there is a later moment.
     fn poll(&mut self) -> bool
         requires kept { IsKept self.old }
         requires pending { is_some (pending_at self.old.core.fine.state.tables 1) ≡ true }
         ensures waits { WaitsTo self.old self.new }
-        ensures last { result ≡ false → (2 ^ 64 - 1 ≤ self.new.moment) × (is_some (pending_at self.new.core.fine.state.tables 1) ≡ true) }
-        ensures later { result ≡ true → (self.old.moment < self.new.moment) × (self.new.moment < 2 ^ 64) }
+        ensures last { result ≡ false → (2 ^ 64 - 1 ≤ self.new.core.fine.state.moment) × (is_some (pending_at self.new.core.fine.state.tables 1) ≡ true) }
+        ensures later { result ≡ true → (self.old.core.fine.state.moment < self.new.core.fine.state.moment) × (self.new.core.fine.state.moment < 2 ^ 64) }
     {
-        if self.moment == u64::MAX {
+        let now = self.core.moment();
+        if now == u64::MAX {
             return false;
         }
-        self.moment += 1;
         self.from = 0;
-        self.to = poll(&mut self.core, self.xid, self.moment, &mut self.reply);
+        self.to = poll(&mut self.core, self.xid, now + 1, &mut self.reply);
         true
     }
 
@@ -326,7 +317,7 @@ impl<I: Instrument> Serving<I> {
     pub(crate) fn wait(&mut self) -> bool
         requires kept { IsKept self.old }
         ensures waits { WaitsTo self.old self.new }
-        ensures last { result ≡ false → (2 ^ 64 - 1 ≤ self.new.moment) × (is_some (pending_at self.new.core.fine.state.tables 1) ≡ true) }
+        ensures last { result ≡ false → (2 ^ 64 - 1 ≤ self.new.core.fine.state.moment) × (is_some (pending_at self.new.core.fine.state.tables 1) ≡ true) }
         ensures answered { result ≡ true → pending_at self.new.core.fine.state.tables 1 ≡ None }
     {
         while self.is_waiting() {

@@ -1,29 +1,27 @@
-use Rattle.std.proofs.Common.{◌≡◌, take, max, false, Some, sym, subst, ◌∙◌, arith}
+use Rattle.std.proofs.Common.{◌≡◌, max, [], ◌∷◌, false, Some, ◌∙◌, subst, arith}
 use Rattle.vx_calls.specs.Reply as reply
-use Rattle.vx_play.specs.Gateway.{gateway_of}
-use Rattle.vx_loop.specs.Serving.{Continues}
-use Rattle.vx_loop.proofs.Continuing.{dial-continues}
-use Rattle.vx_loop.proofs.Turns.{answer-moment, answer-ends}
+use Rattle.vx_bus_traits.specs.Steps.{Told, Cut}
+use Rattle.vx_flow.specs.Event.{Answer}
+use Rattle.vx_flow.specs.Fine.{fine}
+use Rattle.vx_loop.specs.Gateway.{BusGoes}
+use Rattle.vx_loop.proofs.Continuing.{dial-replies}
 use Rattle.vx_loop.proofs.served.refuse_dial.Goals as goal
 
-pub returns-clause-continues : goal.returns-clause-continues
-returns-clause-continues g c =
-    let before = gateway_of c.args.core.now in
-    let after = gateway_of c.settle-error.new.self in
-    subst (λ n. Continues before c.args.xid after (take n c.succeed.new.reply)) (sym c.reply_len.ensures)
-    (dial-continues before after (max c.args.core.now.fine.state.moment c.args.now) c.args.xid c.settle-error.result.error c.succeed.new.reply c.succeed.result c.requires.fit
-    (c.succeed.ensures.len ∙ c.requires.room) c.settle-error.ensures.fine c.settle-error.ensures.walk c.succeed.ensures.made)
+pub returns-clause-replied : goal.returns-clause-replied
+returns-clause-replied g c =
+    let before = c.args.core.now in
+    let after = c.settle.new.core in
+    let h = c.settle.ensures.settles in
+    let told = c.settle.result in
+    let at = c.moment-now.ensures in
+    let now : max before.fine.state.moment c.moment-now.result ≡ before.fine.state.moment = omega arith in
+    dial-replies before after before.fine.state.moment c.args.xid c.settle.new.reply told c.requires.fit (c.settle.ensures.len ∙ c.requires.room)
+    (subst (λ n. fine before.fine (Answer 1 n false (Some false) false (reply.Error told.error)) ≡ Some after.fine) now h.answers)
+    (subst (λ n. BusGoes before.bus (Cut ∷ Told n ∷ []) after.bus) now h.walk) h.stands
 
-pub returns-clause-late : goal.returns-clause-late
-returns-clause-late g c =
-    let before = c.args.core.now.fine in
-    let after = c.settle-error.new.self.fine in
-    let is = answer-moment before after (max before.state.moment c.args.now) false (Some false) false (reply.Error c.settle-error.result.error) c.settle-error.ensures.fine in
-    let late = c.requires.late in
-    let top : max before.state.moment c.args.now ≡ c.args.now = omega arith in
+pub returns-clause-within : goal.returns-clause-within
+returns-clause-within g c =
+    let within = c.settle.ensures.settles.stands.within in
+    let len = c.settle.ensures.len in
+    let room = c.requires.room in
     omega arith
-
-pub returns-clause-settled : goal.returns-clause-settled
-returns-clause-settled g c =
-    let before = c.args.core.now.fine in
-    answer-ends before c.settle-error.new.self.fine (max before.state.moment c.args.now) false (Some false) false (reply.Error c.settle-error.result.error) c.settle-error.ensures.fine

@@ -2,7 +2,7 @@ use Rattle.std.proofs.Common.{◌≡◌, ◌-◌, ◌≤◌, take, drop, refl, s
 use Rattle.std.proofs.lemmas.List.{length-take}
 use Rattle.vx_loop.specs.LoopState.{ServedState}
 use Rattle.vx_loop.specs.Standing.{Went}
-use Rattle.vx_loop.proofs.Going.{gives}
+use Rattle.vx_loop.proofs.Going.{seen, gives}
 use Rattle.vx_loop.proofs.served.Serving.give.Goals as goal
 
 pub returns-clause-went : goal.returns-clause-went
@@ -11,7 +11,7 @@ returns-clause-went g c start taken given w =
     let to = c.self.inside.to in
     let items = c.self.inside.reply.items in
     let count = c.copy_front-count.result in
-    let s : ServedState = record { core = c.self.inside.core; buffer = c.self.inside.buffer; xid = c.self.inside.xid; left = drop from (take to items); moment = c.self.inside.moment } in
+    let s = seen c.self.inside.core c.self.inside.buffer c.self.inside.xid from to items in
     let order : from ≤ to = c.self.invariant.1 in
     let len = length-take (to - from) (drop from c.deref.result.now) in
     let most = c.copy_front-count.ensures.count in

@@ -1,5 +1,5 @@
 use Rattle.std.proofs.Common.{sym, ◌∙◌, refl}
-use Rattle.vx_loop.proofs.Starting.{on-err, on-ok, if-ok, new-kept, new-begins, new-bench}
+use Rattle.vx_loop.proofs.Starting.{on-err, on-ok, if-ok, new-kept, new-begins, new-up}
 use Rattle.vx_loop.proofs.served.Serving.new.Goals as goal
 
 pub returns-then-is_err-clause-refused : goal.returns-then-is_err-clause-refused
@@ -8,13 +8,15 @@ returns-then-is_err-clause-refused g c = on-err _ _ (sym c.is_err.ensures.value 
 pub returns-clause-kept : goal.returns-clause-kept
 returns-clause-kept g c =
     let ok = if-ok _ _ (sym c.is_err.ensures.value ∙ c.if-is_err.false) c.connect.ensures.ok in
-    new-kept c.args.core.fine ok.0 c.connect.new.self c.in-Ok-new.buffer 0 c.moment-moment.result _ c.requires.unconnected ok.1 c.in-Ok-new.ensures c.moment-moment.ensures
+    new-kept c.args.core.fine ok.0 c.connect.new.self c.in-Ok-new.buffer 0 _ c.requires.unconnected ok.1 c.in-Ok-new.ensures
 
 pub returns-clause-begins : goal.returns-clause-begins
 returns-clause-begins g c =
     let ok = if-ok _ _ (sym c.is_err.ensures.value ∙ c.if-is_err.false) c.connect.ensures.ok in
-    new-begins c.args.core.fine ok.0 c.connect.new.self c.in-Ok-new.buffer 0 c.moment-moment.result _ c.requires.unconnected ok.1 c.in-Ok-new.ensures refl
+    new-begins c.args.core ok.0 c.connect.new.self c.in-Ok-new.buffer 0 _ c.requires.unconnected ok.1 (on-ok _ _ (sym c.is_err.ensures.value ∙ c.if-is_err.false) c.connect.ensures.walk)
+    c.in-Ok-new.ensures refl
 
-pub returns-clause-bus : goal.returns-clause-bus
-returns-clause-bus g c =
-    new-bench c.args.core.bus c.connect.new.self.bus (on-ok _ _ (sym c.is_err.ensures.value ∙ c.if-is_err.false) c.connect.ensures.walk)
+pub returns-clause-up : goal.returns-clause-up
+returns-clause-up g c =
+    let ok = if-ok _ _ (sym c.is_err.ensures.value ∙ c.if-is_err.false) c.connect.ensures.ok in
+    new-up c.args.core ok.0 c.connect.new.self c.requires.unconnected ok.1 (on-ok _ _ (sym c.is_err.ensures.value ∙ c.if-is_err.false) c.connect.ensures.walk)

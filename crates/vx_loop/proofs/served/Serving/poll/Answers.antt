@@ -1,41 +1,29 @@
-use Rattle.std.proofs.Common.{◌≡◌, ◌+◌, ℕ, List, true, take, drop, sym, subst, ◌∙◌}
+use Rattle.std.proofs.Common.{◌≡◌, ◌+◌, ℕ, List, true, take, sym, ap, subst, ◌∙◌}
 use Rattle.std.specs.Prelude.{is_some}
 use Rattle.std.proofs.lemmas.List.{with_items_is}
 use Rattle.std.specs.Vec.{with_items}
 use Rattle.vx_rules.specs.State.{pending_at}
-use Rattle.vx_play.specs.Gateway.{gateway_of}
 use Rattle.vx_loop.specs.LoopState.{ServedState}
 use Rattle.vx_loop.specs.Standing.{IsKept, WaitsTo}
-use Rattle.vx_loop.proofs.Going.{kept-gateway, fit-gateway, wait-on}
+use Rattle.vx_loop.proofs.Going.{seen, fit-kept, wait-on}
 use Rattle.vx_loop.proofs.served.Serving.poll.Goals as goal
 
 pub poll-self-inside-requires-clause-fit : goal.poll-self-inside-requires-clause-fit
 poll-self-inside-requires-clause-fit g c =
-    let s : ServedState = record {
-      core = c.self.inside.core;
-      buffer = c.self.inside.buffer;
-      xid = c.self.inside.xid;
-      left = drop c.self.inside.from (take c.self.inside.to c.self.inside.reply.items);
-      moment = c.self.inside.moment;
-    } in
+    let s = seen c.self.inside.core c.self.inside.buffer c.self.inside.xid c.self.inside.from c.self.inside.to c.self.inside.reply.items in
     let k : IsKept s = subst IsKept (sym c.self.view_is) c.requires.kept in
-    fit-gateway (gateway_of c.self.inside.core) (kept-gateway s k)
+    fit-kept s k
 
 pub returns-clause-waits : goal.returns-clause-waits
 returns-clause-waits g c =
-    let s : ServedState = record {
-      core = c.self.inside.core;
-      buffer = c.self.inside.buffer;
-      xid = c.self.inside.xid;
-      left = drop c.self.inside.from (take c.self.inside.to c.self.inside.reply.items);
-      moment = c.self.inside.moment;
-    } in
+    let s = seen c.self.inside.core c.self.inside.buffer c.self.inside.xid c.self.inside.from c.self.inside.to c.self.inside.reply.items in
     let k : IsKept s = subst IsKept (sym c.self.view_is) c.requires.kept in
     let some : is_some (pending_at s.core.fine.state.tables 1) ≡ true =
     subst (λ (x : ServedState). is_some (pending_at x.core.fine.state.tables 1) ≡ true) (sym c.self.view_is) c.requires.pending in
     let n = c.poll-self-inside.result in
     let room = with_items_is c.self.inside.reply c.poll-self-inside.new.reply (c.poll-self-inside.auto.reply ∙ c.deref_mut.ensures.len) in
-    let state : List ℕ → ServedState = λ xs. record s { core = c.poll-self-inside.new.core; left = take n xs; moment = c.self.inside.moment + 1 } in
+    let state : List ℕ → ServedState = λ xs. record s { core = c.poll-self-inside.new.core; left = take n xs } in
     subst (λ (x : ServedState). WaitsTo x (state (with_items c.self.inside.reply c.poll-self-inside.new.reply).items)) c.self.view_is
     (subst (λ xs. WaitsTo s (state xs)) (sym room)
-    (wait-on s c.poll-self-inside.new.core (take n c.poll-self-inside.new.reply) (c.self.inside.moment + 1) k some c.poll-self-inside.ensures.late c.poll-self-inside.ensures.continues))
+    (wait-on s c.poll-self-inside.new.core (take n c.poll-self-inside.new.reply) k some (c.moment-now.result + 1) (ap (λ m. m + 1) c.moment-now.ensures)
+    c.poll-self-inside.ensures.continues))

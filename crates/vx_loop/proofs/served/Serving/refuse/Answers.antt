@@ -1,35 +1,22 @@
-use Rattle.std.proofs.Common.{◌≡◌, ℕ, List, true, take, drop, sym, subst, ◌∙◌}
+use Rattle.std.proofs.Common.{◌≡◌, ℕ, List, true, take, refl, sym, subst, ◌∙◌}
 use Rattle.std.specs.Prelude.{is_some}
 use Rattle.std.proofs.lemmas.List.{with_items_is}
 use Rattle.std.specs.Vec.{with_items}
 use Rattle.vx_rules.specs.State.{pending_at}
-use Rattle.vx_play.specs.Gateway.{gateway_of}
 use Rattle.vx_loop.specs.LoopState.{ServedState}
 use Rattle.vx_loop.specs.Standing.{IsKept, WaitsTo}
-use Rattle.vx_loop.proofs.Going.{kept-gateway, fit-gateway, wait-on}
+use Rattle.vx_loop.proofs.Going.{seen, fit-kept, refuse-on}
 use Rattle.vx_loop.proofs.served.Serving.refuse.Goals as goal
 
 pub refuse_dial-self-inside-requires-clause-fit : goal.refuse_dial-self-inside-requires-clause-fit
 refuse_dial-self-inside-requires-clause-fit g c =
-    let s : ServedState = record {
-      core = c.self.inside.core;
-      buffer = c.self.inside.buffer;
-      xid = c.self.inside.xid;
-      left = drop c.self.inside.from (take c.self.inside.to c.self.inside.reply.items);
-      moment = c.self.inside.moment;
-    } in
+    let s = seen c.self.inside.core c.self.inside.buffer c.self.inside.xid c.self.inside.from c.self.inside.to c.self.inside.reply.items in
     let k : IsKept s = subst IsKept (sym c.self.view_is) c.requires.kept in
-    fit-gateway (gateway_of c.self.inside.core) (kept-gateway s k)
+    fit-kept s k
 
 pub returns-clause-waits : goal.returns-clause-waits
 returns-clause-waits g c =
-    let s : ServedState = record {
-      core = c.self.inside.core;
-      buffer = c.self.inside.buffer;
-      xid = c.self.inside.xid;
-      left = drop c.self.inside.from (take c.self.inside.to c.self.inside.reply.items);
-      moment = c.self.inside.moment;
-    } in
+    let s = seen c.self.inside.core c.self.inside.buffer c.self.inside.xid c.self.inside.from c.self.inside.to c.self.inside.reply.items in
     let k : IsKept s = subst IsKept (sym c.self.view_is) c.requires.kept in
     let some : is_some (pending_at s.core.fine.state.tables 1) ≡ true =
     subst (λ (x : ServedState). is_some (pending_at x.core.fine.state.tables 1) ≡ true) (sym c.self.view_is) c.requires.pending in
@@ -38,5 +25,4 @@ returns-clause-waits g c =
     let state : List ℕ → ServedState = λ xs. record s { core = c.refuse_dial-self-inside.new.core; left = take n xs } in
     subst (λ (x : ServedState). WaitsTo x (state (with_items c.self.inside.reply c.refuse_dial-self-inside.new.reply).items)) c.self.view_is
     (subst (λ xs. WaitsTo s (state xs)) (sym room)
-    (wait-on s c.refuse_dial-self-inside.new.core (take n c.refuse_dial-self-inside.new.reply) c.self.inside.moment k some c.refuse_dial-self-inside.ensures.late
-    c.refuse_dial-self-inside.ensures.continues))
+    (refuse-on s c.refuse_dial-self-inside.new.core (take n c.refuse_dial-self-inside.new.reply) k some s.core.fine.state.moment refl c.refuse_dial-self-inside.ensures.replied))
