@@ -5,8 +5,8 @@ what came of it.
     memory.py PLAYER SERVER CLIENT LOOP
 
 A program runs once for each allocation that it makes, with that one refused: `refuse.c`, which `cc` compiles, is preloaded. The
-player plays `examples/session.vxs`, the client asks `*IDN?` of a server, and the server of `examples/bench.txt` is asked the same
-by three clients. The loop asks an instrument of its own, and makes a link or a client once more of what a refused one handed
+player plays `examples/session.vxs`, the client asks `*IDN?` of a server, and the server of `examples/bench.txt`, with a log and a
+time for idle connections, is asked the same by three clients. The loop asks an instrument of its own, and makes a link or a client once more of what a refused one handed
 back, so that it goes on where one of those is refused. A refused allocation has to end the program with its status for want of memory, with a front of its output
 written, or to leave it as it is; at a running server it may end the link of one client, and the others and a next one are served. The script
 ends with status 1 where something else came of one.
@@ -104,7 +104,7 @@ class Server:
 
     def __init__(self, folder, server, number):
         self.port, abort = two_free_ports()
-        self.words = [server, "--core", str(self.port), "--abort", str(abort)]
+        self.words = [server, "--core", str(self.port), "--abort", str(abort), "--log", "--idle", "600"]
         self.env = environment(folder, number)
 
     def __enter__(self):

@@ -68,6 +68,12 @@ for player in "$@"; do
     play 'a long run' 0 <("$player" gen 7 20000) gen 7 20000 < examples
     play 'a run of no draws' 1 <(line "$usage") gen 0 0 < examples
     play 'a number with a leading zero' 1 <(line "$usage") gen 01 4 < examples
+    play 'draws with a leading zero' 1 <(line "$usage") gen 1 04 < examples
+    play 'a number with a sign' 1 <(line "$usage") gen +1 4 < examples
+    play 'a number above the greatest' 1 <(line "$usage") gen 2147483648 4 < examples
+    play 'one draw too many' 1 <(line "$usage") gen 1 1000001 < examples
+    play 'a word behind a run' 1 <(line "$usage") gen 1 4 5 < examples
+    play 'the greatest number' 0 <("$player" gen 2147483647 1) gen 2147483647 1 < examples
     play_full 'no room for a run' gen 1 4 < examples
 
     # a refused line, an input that can't be read, and an output that takes nothing

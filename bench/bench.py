@@ -3,15 +3,17 @@
 
     bench.py [OPTIONS] NAME=PROGRAM ..
 
-Each NAME is a column. PROGRAM is a `vxgate`, or `:PORT` for a server that runs on this host already and has echoes at the
-addresses 5 to 8. `--gate NAME=PROGRAM` adds a `vx_gate_rate` to the column. All programs of a row are measured in turn, run by
-run, so that what else the machine does meets all of them alike. Half of the rows are measured alone, and half beside as many
-busy threads as the machine has processors.
+Each NAME is a column. PROGRAM is a `vxgate`, or a command with `{core}` and `{abort}` for its ports that starts another server,
+which has echoes at the addresses 5 to 8, or `:PORT` for such a server that runs on this host already. `--gate NAME=PROGRAM` adds
+a `vx_gate_rate` to the column. All programs of a row are measured in turn, run by run, so that what else the machine does meets
+all of them alike. Half of the rows are measured alone, and half beside as many busy threads as the machine has processors.
+`--within MINUTES` makes the runs as long as fits into so many.
 
 A query is a device_write of six bytes and the device_read of them, over the loopback; the load is `load.c`, which `cc` compiles.
 """
 import argparse
 import os
+import shlex
 import socket
 import statistics
 import subprocess
@@ -24,6 +26,8 @@ BENCH = "".join(f"plug {address} echo\n" for address in range(5, 9))
 WORKERS = 64  # the most that a vxgate has
 PATIENCE = 60  # seconds that a run may take beyond its own
 BUSY = "while True: pass"
+GATE_COST = 1.6  # a run at a gate, with the turns before it that tell how many it is to take, beside one of a server
+MARGIN = 0.65  # of the minutes that are given; programs and connections have to start, and turns beside busy threads differ
 
 
 def words():
@@ -36,8 +40,19 @@ def words():
     parser.add_argument("--threads", type=numbers, default=[1, 2, 4, 16], help="how many at a gate (1,2,4,16)")
     parser.add_argument("--runs", type=int, default=5, help="of each figure (5)")
     parser.add_argument("--seconds", type=float, default=2.0, help="a run (2)")
+    parser.add_argument("--within", type=float, metavar="MINUTES", help="as many seconds a run as fit, in place of --seconds")
     parser.add_argument("--only", choices=["alone", "busy"], help="leave the other half out")
-    return parser.parse_args()
+    asked = parser.parse_args()
+    asked.halves = [asked.only] if asked.only else ["alone", "busy"]
+    if asked.within:
+        asked.seconds = round(fitting(asked), 2)
+    return asked
+
+
+def fitting(asked):
+    """The seconds of a run with which all of them take so many minutes."""
+    rows = len(asked.connections) * len(asked.servers) + GATE_COST * len(asked.threads) * len(asked.gate)
+    return MARGIN * 60 * asked.within / (len(asked.halves) * asked.runs * rows) if rows else 0
 
 
 def run(*command):
@@ -58,7 +73,10 @@ def start_server(program, started):
     if program.startswith(":"):
         return int(program[1:])
     core, abort = free_port(), free_port()
-    command = [program, "--workers", str(WORKERS), "--core", str(core), "--abort", str(abort)]
+    command = [program, "--workers", str(WORKERS), "--core", "{core}", "--abort", "{abort}"]
+    if "{core}" in program:
+        command = shlex.split(program)
+    command = [word.format(core=core, abort=abort) for word in command]
     server = subprocess.Popen(command, stdin=subprocess.PIPE, stdout=subprocess.DEVNULL)
     started.append(server)
     server.stdin.write(BENCH.encode())
@@ -156,9 +174,8 @@ def main():
     with tempfile.TemporaryDirectory() as folder:
         load = f"{folder}/load"
         run("cc", "-O2", "-pthread", "-o", load, f"{HERE}/load.c")
-        for how in ["alone", "busy"]:
-            if asked.only in (None, how):
-                half(asked, load, names, how)
+        for how in asked.halves:
+            half(asked, load, names, how)
 
 
 if __name__ == "__main__":

@@ -15,10 +15,16 @@ use std::time::Duration;
 /// How often a link that is idle for long looks whether another waits for its place, in seconds.
 const LOOK: u64 = 1;
 
-/// How many links wait for their first receive, and how many places were given up for them.
+/// The links of some ports, in three counts that never fall: how many came, how many of these wait for their first receive no
+/// longer, and up to which of them places were given up. A link counts as one that came before it is handed to anybody, and once
+/// as one that has left; all steps are in one order (`SeqCst`).
+///
+/// So where more links had come at one look than have left at a later one, some link waits from the one to the other. Two links
+/// that free workers are just taking, one at each look, can't be taken for it.
 #[derive(Drop)]
 pub(super) struct Crowd {
-    waiting: AtomicU64,
+    came: AtomicU64,
+    left: AtomicU64,
     given: AtomicU64,
 }
 
@@ -26,45 +32,38 @@ impl Crowd {
     /// That of a net without links.
     pub(super) fn new() -> Crowd {
         Crowd {
-            waiting: AtomicU64::new(0),
+            came: AtomicU64::new(0),
+            left: AtomicU64::new(0),
             given: AtomicU64::new(0),
         }
     }
 
-    /// Whether a place is wanted: more links wait than places were given up for them.
-    fn is_wanted(&self) -> bool {
-        self.given.load(Ordering::SeqCst) < self.waiting.load(Ordering::SeqCst)
+    /// How many links have come.
+    fn count(&self) -> u64 {
+        self.came.load(Ordering::SeqCst)
     }
 
-    /// Whether this place is given up: one is wanted, and nobody else gave one up at the same moment. If so, it counts.
-    fn claims(&self) -> bool {
-        let given = self.given.load(Ordering::SeqCst);
-        if given >= self.waiting.load(Ordering::SeqCst) {
-            return false;
-        }
-        let more = given.saturating_add(1);
-        self.given
-            .compare_exchange(given, more, Ordering::SeqCst, Ordering::SeqCst)
-            .is_ok()
+    /// One more link comes, and waits.
+    fn enter(&self) {
+        self.came.fetch_add(1, Ordering::SeqCst);
     }
 
     /// One link waits no longer, be it for a place that was given up or for another.
     fn leave(&self) {
-        self.waiting.fetch_sub(1, Ordering::SeqCst);
-        for _ in 0..u64::MAX {
-            let given = self.given.load(Ordering::SeqCst);
-            if given == 0 {
-                return;
-            }
-            let fewer = given - 1;
-            if self
-                .given
-                .compare_exchange(given, fewer, Ordering::SeqCst, Ordering::SeqCst)
-                .is_ok()
-            {
-                return;
-            }
+        self.left.fetch_add(1, Ordering::SeqCst);
+    }
+
+    /// Whether this place is given up, for one of the first `came` links: one of them waits still, and no place was given up for
+    /// it. If so, that counts. Where another place is given up at the same moment this one stays, until the next look.
+    fn claims(&self, came: u64) -> bool {
+        let given = self.given.load(Ordering::SeqCst);
+        let provided = self.left.load(Ordering::SeqCst).max(given);
+        if provided >= came {
+            return false;
         }
+        self.given
+            .compare_exchange(given, provided + 1, Ordering::SeqCst, Ordering::SeqCst)
+            .is_ok()
     }
 }
 
@@ -95,7 +94,7 @@ impl Place {
         let crowd = crowd.as_ref()?;
         let own = Arc::try_clone(crowd).ok()?;
         let shared = Arc::try_clone(crowd).ok()?;
-        own.waiting.fetch_add(1, Ordering::SeqCst);
+        own.enter();
         Some(Place {
             crowd: own,
             waits: Some(Waits { crowd: shared }),
@@ -125,18 +124,17 @@ impl Place {
         given
     }
 
-    /// As `wait_for`, of a link that has been idle for so long. A place that is wanted at one look may be one that a free worker is
-    /// about to give; so it is given up where it is still wanted at the next look.
+    /// As `wait_for`, of a link that has been idle for so long. Its place is given up for a link that had come at the look before
+    /// this one and waits still: a free worker would have taken it in the time between.
     fn stay(&self, stream: &mut TcpStream, into: &mut [u8]) -> Option<usize>
         ensures { IfSome result (λ n. n ≤ length into.new) }
     {
-        let mut was_wanted = false;
+        let mut came = 0;
         for _ in 0..u64::MAX {
-            let is_wanted = self.crowd.is_wanted();
-            if is_wanted && was_wanted && self.crowd.claims() {
+            if self.crowd.claims(came) {
                 return None;
             }
-            was_wanted = is_wanted;
+            came = self.crowd.count();
             match try_read(stream, into) {
                 Ok(count) => return Some(count),
                 Err(ErrorKind::WouldBlock) => {}

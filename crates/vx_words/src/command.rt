@@ -73,11 +73,11 @@ fn serving<'a>(alloc: Global, command: Command<'a>) -> Result<Command<'a>, Alloc
     ensures { IfOk result (λ c. app_of c ≡ with_rules (app_of command.entry) serving) }
 {
     let core = "TCP port of the core channel, to which clients connect first, 1 to 65535";
-    let abort = "TCP port of the abort channel, which clients are told, 1 to 65535";
+    let abort = "TCP port of the abort channel, whose number clients are told, 1 to 65535";
     let sample =
-        "Milliseconds between two looks at the SRQ line of the bus, 1 to 60000: a service request comes so much later";
+        "Milliseconds between two looks at the SRQ line of the bus, 1 to 60000: a service request comes up to so much later";
     let workers =
-        "Connections served at a time, of each channel, 1 to 64; others wait until one ends";
+        "Connections served at a time on each channel, 1 to 64; others wait until one ends";
     let limit = "Core connections after which the program ends, 1 to 1000000, or 0: it never does";
     command
         .arg(number_option(alloc, "core", "PORT", core, "9010", 1, PORT_MAX))?
@@ -92,15 +92,15 @@ fn timing<'a>(alloc: Global, command: Command<'a>) -> Result<Command<'a>, AllocE
     ensures { IfOk result (λ c. app_of c ≡ with_rules (app_of command.entry) timing) }
 {
     let keepalive =
-        "Seconds within which a client is given up from whose host nothing comes, though it is asked, 1 to 86400, or 0: never";
+        "End a connection whose host answers nothing for so many seconds, as one without power, 1 to 86400, or 0: never";
     let send =
-        "Seconds after which a client that takes none of a reply loses its connection, 1 to 86400, or 0: never";
+        "End a connection whose client takes nothing of a reply for so many seconds, 1 to 86400, or 0: never";
     let idle =
-        "Seconds after which a core connection is ended that says nothing between two calls, 1 to 86400, or 0: never";
+        "End a core connection after so many seconds without a byte, between records or within one, but not while a call of it is served, 1 to 86400, or 0: never";
     let abort_idle =
-        "Seconds after which an abort connection that says nothing gives its place up where another waits for one, 1 to 86400, or 0: never";
+        "End an abort connection after so many seconds without a byte, but only where another waits to be served, 1 to 86400, or 0: never";
     let log =
-        "Tell on standard error, a line each, which connections come, are refused, and end, and why";
+        "Tell on standard error, a line each, which connections come, are refused and end, and why";
     command
         .arg(number_option(
             alloc,

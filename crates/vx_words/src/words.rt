@@ -23,14 +23,15 @@ pub struct Options {
     pub workers: u32,
     /// After how many core connections the server ends, up to 1,000,000, or 0 for no end.
     pub limit: u32,
-    /// Seconds within which a host is given up from which nothing comes, though it is asked, up to 86,400, or 0 for never.
+    /// Seconds for which a connection's host may answer nothing, up to 86,400, or 0 for without end.
     pub keepalive: u32,
-    /// Seconds after which a peer that takes none of a reply loses its connection, up to 86,400, or 0 for never.
+    /// Seconds for which a connection's client may take nothing of a reply, up to 86,400, or 0 for without end.
     pub send_timeout: u32,
-    /// Seconds after which a core connection is ended that says nothing between two calls, up to 86,400, or 0 for never.
+    /// Seconds for which a core connection of which no call is served may send no byte, between records or within one, up to
+    /// 86,400, or 0 for without end.
     pub idle: u32,
-    /// Seconds after which an abort connection that says nothing gives its place up where another waits for one, up to
-    /// 86,400, or 0 for never.
+    /// Seconds for which an abort connection may send no byte where another waits to be served, up to 86,400, or 0 for without
+    /// end.
     pub abort_idle: u32,
     /// Whether each connection that comes, ends or is refused is told.
     pub log: bool,

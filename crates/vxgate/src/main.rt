@@ -75,7 +75,7 @@ fn channels_of(alloc: Global) -> Result<Channels, AllocError> {
     })
 }
 
-/// There was no memory for the spare instruments, or for what starts the workers.
+/// There was no memory for the words, the spare instruments, or what starts the workers.
 #[derive(Drop)]
 struct Unmade;
 
@@ -107,30 +107,68 @@ fn words_of<R: Env + AllocGlobal>(rt: &R) -> Result<Vec<String>, AllocError> {
     }
 }
 
-/// How long the sockets bear with a peer, and whether there is a log, as the words say. Words that don't ask to serve say nothing of
-/// it: the server meets them itself.
-fn bounds_of(alloc: Global, words: &[String]) -> (Timeouts, bool) {
+/// How long the sockets bear with a peer, and whether there is a log.
+#[derive(Clone, Copy)]
+struct Watch {
+    timeouts: Timeouts,
+    has_log: bool,
+}
+
+/// What the words say of it. Words that don't ask to serve say nothing: the server meets them itself.
+fn watch_of(alloc: Global, words: &[String]) -> Result<Watch, Unmade> {
     match read_words(alloc, words) {
-        Asked::Serve(options) => {
-            let timeouts = Timeouts {
+        Asked::Serve(options) => Ok(Watch {
+            timeouts: Timeouts {
                 keepalive: options.keepalive,
                 send: options.send_timeout,
                 idle: options.idle,
                 abort_idle: options.abort_idle,
-            };
-            (timeouts, options.log)
-        }
-        Asked::Tell(_) | Asked::Usage | Asked::NoMemory => (Timeouts::NONE, false),
+            },
+            has_log: options.log,
+        }),
+        Asked::Tell(_) | Asked::Usage => Ok(Watch {
+            timeouts: Timeouts::NONE,
+            has_log: false,
+        }),
+        Asked::NoMemory => Err(Unmade),
     }
+}
+
+/// What there is before the server runs.
+#[derive(Drop)]
+struct Made {
+    words: Vec<String>,
+    watch: Watch,
+    rack: Vec<Spare<AnyModel>>,
+    channels: Channels,
+}
+
+/// Makes it; the words are read first.
+fn make(rt: &HostRuntime) -> Result<Made, Unmade> {
+    let alloc = rt.alloc();
+    let words = words_of(rt)?;
+    let watch = watch_of(alloc, words.as_slice())?;
+    let rack = rack_of(alloc)?;
+    let channels = channels_of(alloc)?;
+    Ok(Made {
+        words,
+        watch,
+        rack,
+        channels,
+    })
 }
 
 /// Ends with the status of the server.
 fn main(rt: HostRuntime) -> ExitCode {
-    let alloc = rt.alloc();
-    let (Ok(words), Ok(rack), Ok(channels)) = (words_of(&rt), rack_of(alloc), channels_of(alloc))
-    else {
+    let Ok(made) = make(&rt) else {
         return ExitCode::from(NO_MEMORY);
     };
+    let Made {
+        words,
+        watch: Watch { timeouts, has_log },
+        rack,
+        channels,
+    } = made;
     let Channels {
         jobs,
         queue,
@@ -139,12 +177,11 @@ fn main(rt: HostRuntime) -> ExitCode {
         pumps,
         dialed,
     } = channels;
-    let (timeouts, has_log) = bounds_of(alloc, words.as_slice());
     // where the host has no thread for it, its ends of the channels are gone, and the spawner refuses each worker
     let _ = thread::spawn(&rt, move || start_threads(rt, queue, answers));
     let (status, _) = serve_run(
         &rt,
-        alloc,
+        rt.alloc(),
         words.as_slice(),
         &mut StdSource::new(rt.stdin()),
         &mut HostNet::new(rt, timeouts),
