@@ -14,10 +14,12 @@ MAPPER = crates/vxmap/out/vxmap
 RATE = crates/vx_gate_rate/out/vx_gate_rate
 LOOP = crates/vx_loop_once/out/vx_loop_once
 
-# what `make bench` measures beside this server and this gate, as 'NAME=PROGRAM .. --gate NAME=PROGRAM'
+# what `make bench` measures beside this server and this gate, as 'NAME=PROGRAM .. --gate NAME=PROGRAM', and beside this player, as
+# 'NAME=PROGRAM ..'
 OTHERS =
+PLAYERS =
 
-.PHONY: try play serve install player server client mapper rate loop test bench memory
+.PHONY: try play serve install player server client mapper rate loop test bench tables memory
 
 # the same script without a proof
 try:
@@ -60,9 +62,14 @@ rate:
 loop:
 	cd crates/vx_loop_once && rt run < /dev/null > /dev/null
 
-# It takes some ten minutes, and wants a C compiler as cc and a machine that does nothing else. bench/bench.py says what it prints.
-bench: server rate
+# It takes some ten minutes, and wants a C compiler as cc and a machine that does nothing else. bench/bench.py and bench/tables.py
+# say what they print, and with which words the first takes less.
+bench: server rate tables
 	python3 bench/bench.py $(OTHERS) this=$(SERVER) --gate this=$(RATE)
+
+# steps with full tables, and a long run from a number
+tables: player
+	python3 bench/tables.py $(PLAYERS) this=$(PLAYER)
 
 # It runs each of four programs once for each allocation that it makes, in some ten seconds, and wants a C compiler as cc.
 memory: player server client loop
