@@ -5,4 +5,4 @@
 mod memory;
 
 pub use memory::{MemBus, NoMemory};
-pub use vx_bus_traits::{ASK_MAX, Ask, Bus, GetOut, Move, Tweak};
+pub use vx_bus_traits::{ASK_MAX, Ask, Bus, GetOut, Many, ManyGot, Move, Stop, Tweak};

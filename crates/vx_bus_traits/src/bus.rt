@@ -1,15 +1,19 @@
 //! The trait of a bus.
-ghost use Rattle.std.specs.Prelude.{◌≡◌, ◌<◌, ◌≤◌, ℕ, Bool};
+ghost use Rattle.std.specs.Prelude.{◌≡◌, ◌<◌, ◌≤◌, ◌+◌, ◌↔◌, ℕ, Bool, length, take, drop};
 ghost use Rattle.vx_488.specs.declared.transfers.TheConstants.{ADDRESS_MAX};
 ghost use Rattle.vx_488.specs.declared.transfers.Transfer.TheVariants.{Cmd, Put, Ifc, Own};
 ghost use Rattle.vx_bus_traits.specs.Means.{Means};
 ghost use Rattle.vx_bus_traits.specs.Steps.{Step, Told, Cut, move_step, get_step, line_transfer, IsStepped};
+ghost use Rattle.vx_bus_traits.specs.declared.asks.Move.TheVariants.{Went};
+ghost use Rattle.vx_bus_traits.specs.Walks.{Walk};
+ghost use Rattle.vx_bus_traits.specs.Bursts.{puts_steps, gets_steps, StopsAt};
 
 use crate::asks::{ASK_MAX, GetOut, Move};
+use crate::bursts::{Many, ManyGot, Stop};
 use vx_488::{Line, Transfer, Wire};
 
-/// A bus of which the gateway is a controller. It is asked for one transfer at a time; a transfer that it made is
-/// appended to its list and is part of its wire from then on.
+/// A bus of which the gateway is a controller. It is asked for one transfer at a time, or for a burst of data bytes; a
+/// transfer that it made is appended to its list and is part of its wire from then on.
 pub trait Bus {
     // Its wire, the transfers and asks since the last cut, its counts of holds and faults, and the last ask that
     // didn't go.
@@ -40,6 +44,79 @@ pub trait Bus {
         requires { (means self.old).asks < ASK_MAX }
         ensures stepped { IsStepped (means self.old) (get_step result) (means self.new) }
         ensures through { through self.old (get_step result) self.new };
+
+    /// Sends data bytes as puts, one after the other, until one doesn't go, with END on the last of them or not.
+    fn put_many(&mut self, bytes: &[u8], end: bool) -> Many
+        requires some { 0 < length bytes.now }
+        requires asks { (means self.old).asks + length bytes.now ≤ ASK_MAX }
+        ensures walk { Walk means through self.old (puts_steps bytes.now end result) self.new }
+        ensures within { result.moved ≤ length bytes.now }
+        ensures last { (result.last ≡ Went) ↔ (result.moved ≡ length bytes.now) }
+    {
+        let mut moved = 0;
+        while moved < bytes.len() {
+            match self.put(bytes[moved], end && moved + 1 == bytes.len()) {
+                Move::Went => moved += 1,
+                Move::Held => return Many {
+                    moved,
+                    last: Move::Held,
+                },
+                Move::Failed => return Many {
+                    moved,
+                    last: Move::Failed,
+                },
+            }
+        }
+        Many {
+            moved,
+            last: Move::Went,
+        }
+    }
+
+    /// Takes bytes from the talker into a room by gets, one after the other: until a byte has END, or is the stop byte, or
+    /// fills the room, or until one doesn't go. Of these it tells the first.
+    fn get_many(&mut self, room: &mut [u8], stop: Option<u8>) -> ManyGot
+        requires some { 0 < length room.old }
+        requires asks { (means self.old).asks + length room.old ≤ ASK_MAX }
+        ensures walk { Walk means through self.old (gets_steps (take result.got room.new) result.stop) self.new }
+        ensures stops { StopsAt stop (length room.old) (take result.got room.new) result.stop }
+        ensures within { result.got ≤ length room.old }
+        ensures rest { drop result.got room.new ≡ drop result.got room.old }
+    {
+        let mut got = 0;
+        while got < room.len() {
+            match self.get() {
+                GetOut::Held => return ManyGot {
+                    got,
+                    stop: Stop::Held,
+                },
+                GetOut::Failed => return ManyGot {
+                    got,
+                    stop: Stop::Failed,
+                },
+                GetOut::Byte { b, end } => {
+                    room[got] = b;
+                    got += 1;
+                    if end {
+                        return ManyGot {
+                            got,
+                            stop: Stop::End,
+                        };
+                    }
+                    if stop == Some(b) {
+                        return ManyGot {
+                            got,
+                            stop: Stop::Char,
+                        };
+                    }
+                }
+            }
+        }
+        ManyGot {
+            got,
+            stop: Stop::Full,
+        }
+    }
 
     /// Switches a line on or off.
     fn line(&mut self, l: Line, on: bool) -> Move

@@ -1,4 +1,6 @@
 pub mod Answered
 pub mod Walking
 pub mod Rooms
+pub mod Bursts
+pub mod Runs
 pub mod Going

@@ -2,7 +2,7 @@
 use Rattle.std.proofs.Common.{◌≡◌, ℕ, suc, ◌+◌, ◌<◌, ◌≤◌, List, [], ◌∷◌, ◌++◌, length, take, drop, get_or, refl, sym, ap, ◌∙◌, arith, append_assoc, add-zero, length-append, drop-cons}
 use Rattle.std.proofs.Math.ListN.{set}
 use Rattle.std.proofs.Math.Seq.{take-append_seam}
-use Rattle.std.proofs.lemmas.List.{length-take, take-append-drop, append-nil}
+use Rattle.std.proofs.lemmas.List.{length-take, take-append-drop, append-nil, drop-drop}
 use Rattle.vx_ctrl.specs.Turns.{with_bytes}
 
 -- a byte set right behind a front
@@ -42,3 +42,24 @@ with-none at room =
     ap (λ n. take at room ++ [] ++ drop n room) (add-zero at)
     ∙ ap (λ front. front ++ drop at room) (append-nil (take at room))
     ∙ take-append-drop at room
+
+-- behind a front
+pub drop-seam : (front rest : List ℕ) → drop (length front) (front ++ rest) ≡ rest
+drop-seam [] rest = refl
+drop-seam (x ∷ front) rest = drop-seam front rest
+
+-- more bytes behind those that the room got
+pub with-more : (at : ℕ) (xs ys room : List ℕ) (place : ℕ) → place ≡ at + length xs → place ≤ length room
+    → with_bytes place ys (with_bytes at xs room) ≡ with_bytes at (xs ++ ys) room
+with-more at xs ys room place e within =
+    let front = take at room ++ xs in
+    let long : length front ≡ place = length-front at xs room (omega arith) ∙ sym e in
+    let behind : drop (place + length ys) (with_bytes at xs room) ≡ drop (at + length (xs ++ ys)) room =
+    sym (drop-drop (length ys) place (with_bytes at xs room))
+    ∙ ap (λ n. drop (length ys) (drop n (with_bytes at xs room))) (sym long)
+    ∙ ap (drop (length ys)) (drop-seam front (drop (at + length xs) room))
+    ∙ drop-drop (length ys) (at + length xs) room
+    ∙ ap (λ n. drop n room) (omega (arith, length-append xs ys)) in
+    ap (λ zs. zs ++ ys ++ drop (place + length ys) (with_bytes at xs room)) (take-with at xs room place e (omega arith))
+    ∙ ap (λ zs. front ++ ys ++ zs) behind
+    ∙ ap (λ zs. zs ++ drop (at + length (xs ++ ys)) room) (append_assoc (take at room) xs ys)

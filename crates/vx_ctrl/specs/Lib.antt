@@ -1,6 +1,7 @@
 pub mod Turns
 pub mod Goes
 pub mod Asking
+pub mod Runs
 pub mod Laws
 pub mod ProvedLaws
 pub use Rattle.vx_488.specs.Wire

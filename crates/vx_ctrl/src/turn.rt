@@ -1,5 +1,6 @@
-ghost use Rattle.std.specs.Prelude.{◌≡◌, ◌≤◌, ◌<◌, ◌-◌, ◌^◌, ℕ, true, List, [], ◌++◌, length};
-ghost use Rattle.vx_calls.specs.declared.limits.TheConstants.{WRITE_MAX};
+ghost use Rattle.std.specs.Prelude.{◌≡◌, ◌≤◌, ◌<◌, ◌+◌, ◌-◌, ◌^◌, ℕ, true, List, [], ◌++◌, length};
+ghost use Rattle.vx_calls.specs.declared.limits.TheConstants.{READ_MAX, WRITE_MAX};
+ghost use Rattle.vx_calls.specs.declared.targets.Target.{Target};
 ghost use Rattle.vx_488.specs.declared.transfers.TheConstants.{ADDRESS_MAX};
 ghost use Rattle.vx_488.specs.declared.transfers.Transfer.{Transfer};
 ghost use Rattle.vx_488.specs.declared.wire.Wire.{Wire};
@@ -8,17 +9,25 @@ ghost use Rattle.vx_plan.specs.Transfers.{is_got};
 ghost use Rattle.vx_bus_traits.specs.declared.asks.TheConstants.{ASK_MAX};
 ghost use Rattle.vx_plan.specs.Plan.{Plan, next_slot};
 ghost use Rattle.vx_plan.specs.Places.{Reaches};
+ghost use Rattle.vx_plan.specs.Runs.{IsDataLeft};
+ghost use Rattle.vx_plan.specs.declared.tasks.Task.TheVariants.{Write, Read};
 ghost use Rattle.vx_plan.specs.Tasks.{plan, IsPlainTask, HasBytes};
-ghost use Rattle.vx_plan.specs.Results.{bytes_got, reason_of};
+ghost use Rattle.vx_plan.specs.Results.{bytes_got, gots, last_of, reason_of};
+ghost use Rattle.vx_488.specs.declared.transfers.Transfer.TheVariants.{Got};
+ghost use Rattle.vx_bus_traits.specs.Bursts.{ended, is_end};
 ghost use Rattle.vx_ctrl.specs.Turns.{HasMade, HasRoom, GetsBytes, with_bytes, stored, moved_on, turn_reason, moved_by, reason_by};
 ghost use Rattle.vx_ctrl.specs.Asking.{Asks};
+ghost use Rattle.vx_ctrl.specs.Runs.{Runs, stopped_by, cut_short_by};
 ghost use Rattle.vx_ctrl.specs.Goes.{Goes, Begins, HoldsBytes};
 
 use crate::asking::{Asked, ask};
 use std::marker::Model;
 use vx_488::{Transfer, Wire, wire_appends};
-use vx_bus_traits::Bus;
-use vx_plan::{Place, Task, few_transfers, first_place, next_move, place_goes_on};
+use vx_bus_traits::{Bus, Move, Stop};
+use vx_plan::{
+    Place, Task, data_left, few_transfers, few_with_data, first_place, next_move, place_goes_on,
+    run_goes_on,
+};
 
 /// Why a turn stopped for now.
 #[derive(Clone, Copy, Debug, PartialEq, Eq)]
@@ -67,7 +76,7 @@ impl Turn {
         }
     }
 
-    /// Goes on, one transfer after the other, until the job is done or the bus holds or fails.
+    /// Goes on until the job is done or the bus holds or fails: by one transfer after the other, and by bursts of data bytes.
     ///
     /// `bytes` are those of the job, at most `WRITE_MAX`. The bytes that are got stand in `room` at their places: a read
     /// wants room for as many as it may get, up to `READ_MAX`, a serial poll for one. The bus was cut before.
@@ -93,15 +102,94 @@ impl Turn {
             → GetsBytes self.old.task → HoldsBytes self.old made room.old
             → HoldsBytes self.new (made ++ (B.means bus.new).moves) room.new }
     {
+        run_goes_on();
         few_transfers();
-        place_goes_on();
         wire_appends();
         loop {
-            match self.ask(bus, bytes) {
-                Asked::Moved(t) => self.made(t, room),
-                Asked::Stopped(went) => return went,
+            match self.advance(bus, bytes, room) {
+                None => {}
+                Some(went) => return went,
             }
         }
+    }
+
+    /// Goes on by a burst of data bytes where they come in a row, and else by one transfer. Answers why the turn stops, where
+    /// it does.
+    fn advance<B: Bus>(&mut self, bus: &mut B, bytes: &[u8], room: &mut [u8]) -> Option<Went>
+        requires plain { IsPlainTask self.old.task }
+        requires own { self.old.place.own ≤ ADDRESS_MAX }
+        requires short { length bytes.now ≤ WRITE_MAX }
+        requires room { HasRoom self.old.task (length room.old) }
+        requires reached { (ts : List Transfer) × (left : Plan) × Reaches self.old.task bytes.now ts left self.old.place × ((B.means bus.old).asks ≤ length ts) }
+        ensures { Runs B.means B.through self.old bytes.now room.old self.new room.new result bus.old bus.new }
+    {
+        few_with_data();
+        let many = data_left(&self.task, &self.place) as usize;
+        if many == 0 {
+            return self.single(bus, bytes, room);
+        }
+        match self.task {
+            Task::Write { end, .. } => self.put_run(bus, bytes, end),
+            Task::Read { stop, .. } => self.get_run(bus, room, many, stop),
+            _ => self.single(bus, bytes, room),
+        }
+    }
+
+    /// Asks the bus for the next transfer, and makes it a part of what it has made.
+    fn single<B: Bus>(&mut self, bus: &mut B, bytes: &[u8], room: &mut [u8]) -> Option<Went>
+        requires plain { IsPlainTask self.old.task }
+        requires own { self.old.place.own ≤ ADDRESS_MAX }
+        requires short { length bytes.now ≤ WRITE_MAX }
+        requires room { HasRoom self.old.task (length room.old) }
+        requires reached { (ts : List Transfer) × (left : Plan) × Reaches self.old.task bytes.now ts left self.old.place × ((B.means bus.old).asks ≤ length ts) }
+        ensures { Runs B.means B.through self.old bytes.now room.old self.new room.new result bus.old bus.new }
+    {
+        few_transfers();
+        place_goes_on();
+        match self.ask(bus, bytes) {
+            Asked::Moved(t) => {
+                self.made(t, room);
+                None
+            }
+            Asked::Stopped(went) => Some(went),
+        }
+    }
+
+    /// Puts all that is left of a write in one burst, with END on its last byte or not.
+    fn put_run<B: Bus>(&mut self, bus: &mut B, bytes: &[u8], end: bool) -> Option<Went>
+        requires task { (t : Target) × (len : ℕ) × (self.old.task ≡ Write t len end) }
+        requires left { IsDataLeft self.old.task self.old.place (length bytes.now - self.old.place.moved) }
+        requires some { self.old.place.moved < length bytes.now }
+        requires short { length bytes.now ≤ WRITE_MAX }
+        requires asks { (B.means bus.old).asks + (length bytes.now - self.old.place.moved) ≤ ASK_MAX }
+        ensures { (room : List ℕ) → Runs B.means B.through self.old bytes.now room self.new room result bus.old bus.new }
+    {
+        let many = bus.put_many(&bytes[self.place.moved as usize..], end);
+        self.place.moved += many.moved as u32;
+        stopped(many.last)
+    }
+
+    /// Gets so many bytes in one burst into the room, at their places, or fewer where the read ends before.
+    fn get_run<B: Bus>(
+        &mut self,
+        bus: &mut B,
+        room: &mut [u8],
+        many: usize,
+        stop: Option<u8>,
+    ) -> Option<Went>
+        requires task { (t : Target) × (max : ℕ) × (self.old.task ≡ Read t max stop) }
+        requires left { IsDataLeft self.old.task self.old.place many }
+        requires some { 0 < many }
+        requires short { self.old.place.moved + many ≤ READ_MAX }
+        requires room { self.old.place.moved + many ≤ length room.old }
+        requires asks { (B.means bus.old).asks + many ≤ ASK_MAX }
+        ensures { (bytes : List ℕ) → Runs B.means B.through self.old bytes room.old self.new room.new result bus.old bus.new }
+    {
+        let at = self.place.moved as usize;
+        let answer = bus.get_many(&mut room[at..at + many], stop);
+        self.place.last = last_got(self.place.last, &room[at..at + answer.got], answer.stop);
+        self.place.moved += answer.got as u32;
+        cut_short(answer.stop)
     }
 
     /// Asks the bus for what its job wants next.
@@ -176,6 +264,38 @@ impl Turn {
             Task::Read { max, stop, .. } => read_reason(max, stop, &self.place),
             _ => 0,
         }
+    }
+}
+
+/// The last byte got behind a burst of these that stopped so, with whether END stood on it; or the one from before.
+fn last_got(before: Option<(u8, bool)>, bytes: &[u8], stop: Stop) -> Option<(u8, bool)>
+    ensures { result ≡ last_of before (gots (ended Got (is_end stop) bytes.now)) }
+{
+    match bytes.last() {
+        Some(b) => Some((*b, matches!(stop, Stop::End))),
+        None => before,
+    }
+}
+
+/// Why a turn stops behind a burst of puts whose last answer is this, where it does.
+fn stopped(last: Move) -> Option<Went>
+    ensures { result ≡ stopped_by last }
+{
+    match last {
+        Move::Went => None,
+        Move::Held => Some(Went::Held),
+        Move::Failed => Some(Went::Broken),
+    }
+}
+
+/// Why a turn stops behind a burst of gets that stopped for this reason, where it does.
+fn cut_short(stop: Stop) -> Option<Went>
+    ensures { result ≡ cut_short_by stop }
+{
+    match stop {
+        Stop::Held => Some(Went::Held),
+        Stop::Failed => Some(Went::Broken),
+        Stop::Full | Stop::End | Stop::Char => None,
     }
 }
 

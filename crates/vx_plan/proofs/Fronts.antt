@@ -122,7 +122,7 @@ abbrev pub is_data : Task → Slot → Bool
 is_data task (This t) = carries_data task t
 is_data task AnyByte = true
 
-fits-data : (task : Task) (slot : Slot) (t : Transfer) → is_data task slot ≡ true → fits slot t ≡ true → carries_data task t ≡ true
+pub fits-data : (task : Task) (slot : Slot) (t : Transfer) → is_data task slot ≡ true → fits slot t ≡ true → carries_data task t ≡ true
 fits-data task (This a) t carrying h = ap (carries_data task) (same_transfer-is a t h) ∙ carrying
 fits-data task AnyByte t carrying h = got-data task t h
 
@@ -168,10 +168,10 @@ pub record AtRead (task : Task) (r : Reading) (found : Option (ℕ × Bool)) (ts
 abbrev runs_on : Reading → Option (ℕ × Bool) → Bool
 runs_on r found = option_map_or (λ g. g.1 || is_stop r.stop g.0) found false
 
-abbrev one_less : Reading → Reading
+abbrev pub one_less : Reading → Reading
 one_less r = record r { most = r.most - 1 }
 
-abbrev byte_after : Bool → Reading → Plan
+abbrev pub byte_after : Bool → Reading → Plan
 byte_after ends r = record { front = []; reading = if ends then None else Some (one_less r) }
 
 read-none : (r : Reading) (found : Option (ℕ × Bool)) → 1 ≤ r.most → runs_on r found ≡ false → over r found 0 ≡ false

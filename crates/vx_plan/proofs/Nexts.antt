@@ -60,7 +60,7 @@ lines-fixed task (t ∷ ts) raw all =
     and_from _ _ (line-fixed task t raw parts.0) (lines-fixed task ts raw parts.1)
 
 -- what a job on a device begins with
-abbrev front : Bool → List ℕ → ℕ → Option ℕ → List Transfer
+abbrev pub front : Bool → List ℕ → ℕ → Option ℕ → List Transfer
 front polling head primary s = ended_poll polling ++ (map Cmd head ++ Cmd primary ∷ secondary_part s)
 
 lines-head : (head : List ℕ) (primary : ℕ) (s : Option ℕ) → all_lines (map Cmd head ++ Cmd primary ∷ secondary_part s) ≡ true
@@ -131,7 +131,7 @@ next-fixed task fixed ts left n move bytes moved raw lines goes made is =
 steps-of : {task : Task} {bytes : List ℕ} {ts : List Transfer} {left : Plan} {place : Place} → Reaches task bytes ts left place → place.step ≡ steps task ts
 steps-of r = ap (λ (p : Place). p.step) r.at
 
-moves-of : {task : Task} {bytes : List ℕ} {ts : List Transfer} {left : Plan} {place : Place} → Reaches task bytes ts left place → place.moved ≡ moves task ts
+pub moves-of : {task : Task} {bytes : List ℕ} {ts : List Transfer} {left : Plan} {place : Place} → Reaches task bytes ts left place → place.moved ≡ moves task ts
 moves-of r = ap (λ (p : Place). p.moved) r.at
 
 last-of : {task : Task} {bytes : List ℕ} {ts : List Transfer} {left : Plan} {place : Place} → Reaches task bytes ts left place → place.last ≡ last_got ts
@@ -252,11 +252,11 @@ wanted-get true bytes moved = refl
 wanted-get false bytes moved = refl
 
 -- the read of a job
-abbrev reading_of : ℕ → Option ℕ → Reading
+abbrev pub reading_of : ℕ → Option ℕ → Reading
 reading_of max stop = record { most = min max READ_MAX; stop = stop }
 
 -- the plan of a read of some bytes
-reading-some : (fixed : List Transfer) (max : ℕ) (stop : Option ℕ) → (max ≡ 0 → ⊥)
+pub reading-some : (fixed : List Transfer) (max : ℕ) (stop : Option ℕ) → (max ≡ 0 → ⊥)
     → reading fixed max stop ≡ record { front = map This fixed; reading = Some (reading_of max stop) }
 reading-some fixed max stop some =
     ap (λ e. if e then just [] else record { front = map This fixed; reading = Some (reading_of max stop) }) (ne_eqb max 0 some)

@@ -16,6 +16,7 @@ use Rattle.vx_plan.specs.Plan.{Slot, Plan, Whole, Part, Off, stand, left_after_o
 use Rattle.vx_plan.specs.Tasks.{plan, is_own_task}
 use Rattle.vx_plan.specs.Whole.{IsWhole, IsPart, Fits}
 use Rattle.vx_plan.specs.Places.{place_after, Reaches}
+use Rattle.vx_plan.specs.Runs.{DataLeft, place_behind}
 
 -- a list stands as whole exactly where it does the whole job
 abbrev pub WholeLaw : Type 0
@@ -49,10 +50,21 @@ PlaceGoesOnLaw = (task : Task) (bytes : List ℕ) (ts : List Transfer) (left : P
     → Reaches task bytes ts left place → FitsNext (next_slot left) t
     → (left' : Plan) × (left_after_one left t ≡ Some left') × Reaches task bytes (ts ++ t ∷ []) left' (place_after task place t)
 
+-- so does a run of transfers that doesn't leave what is left of the plan
+abbrev pub RunLaw : Type 0
+RunLaw = (task : Task) (bytes : List ℕ) (ts run : List Transfer) (left left' : Plan) (place : Place)
+    → Reaches task bytes ts left place → left_after (Some left) run ≡ Some left'
+    → Reaches task bytes (ts ++ run) left' (place_behind task place run)
+
 -- a list that doesn't leave the plan of a job with at most `WRITE_MAX` bytes has at most so many transfers
 abbrev pub BoundLaw : Type 0
 BoundLaw = (task : Task) (bytes : List ℕ) (polling : Bool) (own : ℕ) (ts : List Transfer)
     → length bytes ≤ WRITE_MAX → stand (plan task bytes polling own) ts ≢ Off → length ts ≤ TURN_MAX
+
+-- with the data bytes that come in a row behind it, too
+abbrev pub DataBoundLaw : Type 0
+DataBoundLaw = (task : Task) (bytes : List ℕ) (ts : List Transfer) (left : Plan) (place : Place) (n : ℕ)
+    → length bytes ≤ WRITE_MAX → Reaches task bytes ts left place → DataLeft task bytes place.moved left n → length ts + n ≤ TURN_MAX
 
 -- a list that is a part of its job has fewer
 abbrev pub PartBoundLaw : Type 0

@@ -4,6 +4,7 @@ pub mod Tasks
 pub mod Whole
 pub mod Results
 pub mod Places
+pub mod Runs
 pub mod Roles
 pub mod Moves
 pub mod Laws

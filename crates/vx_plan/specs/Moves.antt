@@ -1,5 +1,5 @@
 -- Where a step of a job stands, and the moves behind its front.
-use Rattle.std.specs.Prelude.{◌≡◌, ℕ, ◌+◌, Bool, false, ◌||◌, ◌==◌, min, if◌then◌else◌, List, length, Option, Some}
+use Rattle.std.specs.Prelude.{◌≡◌, ℕ, ◌+◌, ◌-◌, Bool, false, ◌||◌, ◌==◌, min, if◌then◌else◌, List, length, Option, Some}
 use Rattle.std.specs.List.{slice_get}
 use Rattle.std.specs.Option.{option_map, option_map_or}
 use Rattle.vx_calls.specs.declared.limits.TheConstants.{READ_MAX}
@@ -41,3 +41,12 @@ poll_tail moved step =
 -- this move, where none was made yet
 abbrev pub tail_after : Next → ℕ → Next
 tail_after only step = if step == 0 then only else next.Finished
+
+-- the data bytes that a write has left, where its next move is one of them, and those that a read may still get
+abbrev pub puts_left : ℕ → ℕ → Next → ℕ
+puts_left len moved (next.Put end) = len - moved
+puts_left len moved _ = 0
+
+abbrev pub gets_left : ℕ → ℕ → Next → ℕ
+gets_left max moved next.Get = min max READ_MAX - moved
+gets_left max moved _ = 0

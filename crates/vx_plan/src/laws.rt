@@ -1,6 +1,6 @@
 //! Laws of plans and lists. These functions do nothing: their contracts are what they are for, and a caller that cites a
 //! law calls its function.
-ghost use Rattle.vx_plan.specs.Laws.{WholeLaw, PartLaw, PrefixFreeLaw, GoesOnLaw, AppendsLaw, PlaceGoesOnLaw, BoundLaw, PartBoundLaw, SteadyLaw, OwnStaysLaw, WantsNothingLaw, SmallPlaceLaw, ReadMovedLaw, WriteMovedLaw};
+ghost use Rattle.vx_plan.specs.Laws.{WholeLaw, PartLaw, PrefixFreeLaw, GoesOnLaw, AppendsLaw, PlaceGoesOnLaw, RunLaw, BoundLaw, DataBoundLaw, PartBoundLaw, SteadyLaw, OwnStaysLaw, WantsNothingLaw, SmallPlaceLaw, ReadMovedLaw, WriteMovedLaw};
 
 /// A list stands as whole exactly where it does the whole job.
 pub fn whole_lists()
@@ -32,9 +32,19 @@ pub fn place_goes_on()
     ensures { PlaceGoesOnLaw }
 {}
 
+/// A turn that makes a run of transfers that its plan wants comes to the place behind them.
+pub fn run_goes_on()
+    ensures { RunLaw }
+{}
+
 /// No list that keeps to a plan has more than [`TURN_MAX`](crate::TURN_MAX) transfers.
 pub fn few_transfers()
     ensures { BoundLaw }
+{}
+
+/// With the data bytes that come in a row behind it, it has no more either.
+pub fn few_with_data()
+    ensures { DataBoundLaw }
 {}
 
 /// A list that is a part of its job has fewer.

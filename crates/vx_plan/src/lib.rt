@@ -8,7 +8,8 @@ mod moves;
 mod tasks;
 
 pub use laws::{
-    appends, few_transfers, goes_on, no_other_own, own_stays, part_is_shorter, part_lists,
-    place_goes_on, prefix_free, read_moved, small_place, wants_nothing, whole_lists, write_moved,
+    appends, few_transfers, few_with_data, goes_on, no_other_own, own_stays, part_is_shorter,
+    part_lists, place_goes_on, prefix_free, read_moved, run_goes_on, small_place, wants_nothing,
+    whole_lists, write_moved,
 };
-pub use tasks::{Next, Place, TURN_MAX, Task, first_place, needs, next_move};
+pub use tasks::{Next, Place, TURN_MAX, Task, data_left, first_place, needs, next_move};

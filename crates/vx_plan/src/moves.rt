@@ -6,7 +6,7 @@ ghost use Rattle.vx_488.specs.declared.transfers.Transfer.TheVariants.{Cmd};
 ghost use Rattle.vx_plan.specs.Plan.{This};
 ghost use Rattle.vx_plan.specs.Tasks.{IsSecondaryPlain, ended_poll, secondary_part, puts};
 ghost use Rattle.vx_plan.specs.Places.{slot_wanted};
-ghost use Rattle.vx_plan.specs.Moves.{IsStep, is_read_over, poll_tail, tail_after, move_at};
+ghost use Rattle.vx_plan.specs.Moves.{IsStep, is_read_over, poll_tail, tail_after, move_at, puts_left, gets_left};
 
 use crate::tasks::{Next, Place};
 use vx_calls::READ_MAX;
@@ -135,6 +135,26 @@ pub fn next_get(max: u32, stop: Option<u8>, place: &Place) -> Next
         Next::Finished
     } else {
         Next::Get
+    }
+}
+
+/// How many bytes a write of `len` has left to put, where this is its next move.
+pub fn puts_left(len: u32, moved: u32, next: Next) -> u32
+    ensures { result ≡ puts_left len moved next }
+{
+    match next {
+        Next::Put { .. } => len.saturating_sub(moved),
+        _ => 0,
+    }
+}
+
+/// How many bytes a read of at most `max` may still get, where this is its next move.
+pub fn gets_left(max: u32, moved: u32, next: Next) -> u32
+    ensures { result ≡ gets_left max moved next }
+{
+    match next {
+        Next::Get => max.min(READ_MAX).saturating_sub(moved),
+        _ => 0,
     }
 }
 

@@ -6,11 +6,12 @@ ghost use Rattle.vx_488.specs.declared.transfers.Transfer.TheVariants.{Cmd};
 ghost use Rattle.vx_plan.specs.Tasks.{IsPlainTask, IsTargetPlain, command_list, remote_list, unl, mta, tct};
 ghost use Rattle.vx_plan.specs.Moves.{IsMoveAt};
 ghost use Rattle.vx_plan.specs.Places.{place_of, IsReached, IsNextMove};
+ghost use Rattle.vx_plan.specs.Runs.{IsDataLeft};
 ghost use Rattle.vx_plan.specs.Roles.{has_role};
 
 use crate::moves::{
-    DCL, GET, GTL, MLA, MTA, SDC, SPE, Step, TCT, UNL, address_step, front_step, next_get,
-    next_put, only_move, poll_end_step, poll_tail,
+    DCL, GET, GTL, MLA, MTA, SDC, SPE, Step, TCT, UNL, address_step, front_step, gets_left,
+    next_get, next_put, only_move, poll_end_step, poll_tail, puts_left,
 };
 use vx_488::Wire;
 use vx_calls::{Target, WRITE_MAX};
@@ -147,6 +148,25 @@ pub fn next_move(task: &Task, place: &Place) -> Next
         Task::Pass(p) => next_of_pass(p, place),
         Task::Own(address) => only_move(Next::Own(address), place.step),
         Task::Ifc => only_move(Next::Ifc, place.step),
+    }
+}
+
+/// How many data bytes come in a row from this place: all that a write has left to put, or as many as a read may still get.
+/// It is 0 where the next move is another, or there is none.
+pub fn data_left(task: &Task, place: &Place) -> u32
+    requires plain { IsPlainTask task.now }
+    requires own { place.now.own ≤ ADDRESS_MAX }
+    requires reached { IsReached task.now place.now }
+    ensures { IsDataLeft task.now place.now result }
+{
+    match *task {
+        Task::Write { t, len, end } => {
+            puts_left(len, place.moved, next_of_write(t, len, end, place))
+        }
+        Task::Read { t, max, stop } => {
+            gets_left(max, place.moved, next_of_read(t, max, stop, place))
+        }
+        _ => 0,
     }
 }
 

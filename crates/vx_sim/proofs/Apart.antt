@@ -80,7 +80,7 @@ both_talk (Some t) a b first second =
     ap (λ (c : Addr). clashes a c) (sym (same_address-equal t b second) ∙ same_address-equal t a first) ∙ clashes-refl a
 
 -- beside a talker there is none among those that it isn't in the way of
-no_other : (w : Wire) (p : Placed) (ps : List Placed) → talks w p ≡ true → list_any (λ r. clashes p.at r.at) ps ≡ false → list_any (talks w) ps ≡ false
+pub no_other : (w : Wire) (p : Placed) (ps : List Placed) → talks w p ≡ true → list_any (λ r. clashes p.at r.at) ps ≡ false → list_any (talks w) ps ≡ false
 no_other w p [] talk apart = refl
 no_other w p (r ∷ rs) talk apart =
     at (talks w r) refl (or_parts (clashes p.at r.at) (list_any (λ z. clashes p.at z.at) rs) apart).0 (no_other w p rs talk (or_parts (clashes p.at r.at) (list_any (λ z. clashes p.at z.at) rs) apart).1)

@@ -2,3 +2,5 @@ pub mod Changes
 pub mod Apart
 pub mod Hears
 pub mod Known
+pub mod Finding
+pub mod Stepping

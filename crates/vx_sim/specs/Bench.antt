@@ -80,9 +80,13 @@ some_refuses w bench = list_any (refuses w) bench
 abbrev pub holds_put : Wire → List Placed → Bool
 holds_put w bench = not (list_any (listens w) bench) || some_refuses w bench
 
--- the talker can answer a get: in serial poll mode it always can
+-- it can answer a get where it is the talker: in serial poll mode it always can
+abbrev pub can_answer : Wire → Placed → Bool
+can_answer w p = w.polling || gives_byte (seen p.occupant)
+
+-- the talker can answer a get
 abbrev pub answers_get : Wire → Placed → Bool
-answers_get w p = talks w p && (w.polling || gives_byte (seen p.occupant))
+answers_get w p = talks w p && can_answer w p
 
 -- no instrument is the talker, or it has no byte to give
 abbrev pub holds_get : Wire → List Placed → Bool

@@ -1,7 +1,7 @@
 -- What the fields of a bench stand for, and whom a signal is for.
 use Rattle.std.specs.Prelude.{◌≡◌, ℕ, zero, suc, true, false, Bool, List, ◌∷◌, map}
 use Rattle.vx_488.specs.declared.transfers.Transfer.{Transfer}
-use Rattle.vx_488.specs.declared.transfers.Transfer.TheVariants.{Atn, Ifc, Own}
+use Rattle.vx_488.specs.declared.transfers.Transfer.TheVariants.{Put, Got, Atn, Ifc, Own}
 use Rattle.vx_488.specs.declared.wire.Wire.{Wire}
 use Rattle.vx_488.specs.Heard.{Byte}
 use Rattle.vx_sim.specs.declared.places.Stand.{Stand}
@@ -12,7 +12,7 @@ use Rattle.vx_sim.specs.declared.signals.Whom.TheVariants as whom
 use Rattle.vx_sim.specs.declared.signals.Question.{Question}
 use Rattle.vx_sim.specs.declared.signals.Question.TheVariants as question
 use Rattle.vx_sim.specs.Occupants.{Occupant, Table, Boxed, Placed}
-use Rattle.vx_sim.specs.Bench.{listens, talks, stands_at, everyone, TalkerGives, refuses, answers_get, asks}
+use Rattle.vx_sim.specs.Bench.{listens, talks, stands_at, everyone, TalkerGives, refuses, asks}
 
 abbrev pub occupant_of : {I : Type 0} → Stand I → Occupant
 occupant_of (stand.Table t) = Table t
@@ -34,7 +34,7 @@ is_meant w (whom.At a) p = stands_at a p
 abbrev pub is_so : Wire → Question → Placed → Bool
 is_so w question.Listens p = listens w p
 is_so w question.Refuses p = refuses w p
-is_so w question.Answers p = answers_get w p
+is_so w question.Talks p = talks w p
 is_so w question.Asks p = asks p
 is_so w (question.Stands a) p = stands_at a p
 
@@ -54,3 +54,9 @@ reaches_nobody (Atn on) = true
 reaches_nobody Ifc = true
 reaches_nobody (Own a) = true
 reaches_nobody _ = false
+
+-- a transfer that carries a data byte, which changes nothing of the wire
+abbrev pub is_byte : Transfer → Bool
+is_byte (Put b end) = true
+is_byte (Got b end) = true
+is_byte _ = false

@@ -5,17 +5,22 @@ ghost use Rattle.std.specs.List.{list_any, insert};
 ghost use Rattle.vx_sim.specs.declared.TheConstants.{PLACES_MAX};
 ghost use Rattle.vx_488.specs.Address.{is_bus_address};
 ghost use Rattle.vx_sim.specs.Occupants.{TakesByte, Receives};
-ghost use Rattle.vx_sim.specs.Bench.{listens, talks, some_refuses, answers_get, holds_get, stands_at, BenchWhere, BenchAfterCommand, BenchAfterRemote, TalkerGives};
-ghost use Rattle.vx_sim.specs.Attaching.{clashes, holder, IsInOrder, AreKnown};
+ghost use Rattle.vx_sim.specs.Bench.{listens, talks, some_refuses, holds_put, holds_get, stands_at, PlaceWhere, BenchWhere, BenchAfterCommand, BenchAfterRemote, TalkerGives};
+ghost use Rattle.vx_sim.specs.Attaching.{clashes, holder, AreApart, IsInOrder, AreKnown};
+ghost use Rattle.vx_sim.specs.Finding.{indices, is_at, waits, ChangesAt};
 ghost use Rattle.vx_sim.specs.Shown.{occupant_of, placed_of, bench_of, is_meant, is_so, AtPlace, TalkerGave};
 
 use crate::places::{Place, Stand};
 use crate::signals::{Question, Signal, Whom};
 use crate::{NoMemory, PLACES_MAX};
+use arrayvec::ArrayVec;
 use std::alloc::Global;
 use std::marker::Model;
 use vx_488::{Addr, Command, Wire};
 use vx_inst::Instrument;
+
+/// Indices of instruments on a bench.
+pub(crate) type Hearers = ArrayVec<u8, PLACES_MAX>;
 
 /// The instruments on a bus, in the order in which they were attached, with room for as many as a bus takes. No two of
 /// them are in each other's way, and each stands at an address of a bus.
@@ -98,12 +103,28 @@ impl<I: Instrument> Bench<I> {
         remove_at(&mut self.places, a);
     }
 
-    /// Every listener takes a byte.
-    pub(crate) fn put(&mut self, wire: &Wire, b: u8, end: bool)
-        requires { some_refuses wire.now self.old ≡ false }
-        ensures { BenchWhere (listens wire.now) (TakesByte b end) self.old self.new }
+    /// The indices of the listeners, in order.
+    pub(crate) fn hearers(&self, wire: &Wire) -> Hearers
+        ensures { result.items ≡ indices (listens wire.now) 0 self.now }
     {
-        put_all(&mut self.places, wire, b, end);
+        hearers(&self.places, wire)
+    }
+
+    /// Whether a put is held: there is no listener, or some listener can't take a byte.
+    pub(crate) fn holds_put(&self, wire: &Wire, hearers: &[u8]) -> bool
+        requires { hearers.now ≡ indices (listens wire.now) 0 self.now }
+        ensures { result ≡ holds_put wire.now self.now }
+    {
+        hearers.is_empty() || some_waits(&self.places, hearers)
+    }
+
+    /// Every listener takes a byte.
+    pub(crate) fn put(&mut self, wire: &Wire, hearers: &[u8], b: u8, end: bool)
+        requires hearers { hearers.now ≡ indices (listens wire.now) 0 self.old }
+        requires takes { some_refuses wire.now self.old ≡ false }
+        ensures put { BenchWhere (listens wire.now) (TakesByte b end) self.old self.new }
+    {
+        put_each(&mut self.places, wire, hearers, b, end);
     }
 
     /// The instruments that are meant are told what they answer nothing to.
@@ -135,12 +156,31 @@ impl<I: Instrument> Bench<I> {
         }
     }
 
+    /// The index of the talker.
+    pub(crate) fn speaker(&self, wire: &Wire) -> Option<usize>
+        ensures { result ≡ position (talks wire.now) self.now }
+    {
+        first_to_talk(&self.places, wire)
+    }
+
+    /// Whether a get is held: there is no talker, or it has no byte to give.
+    pub(crate) fn holds_get(&self, wire: &Wire, speaker: Option<usize>) -> bool
+        requires { speaker ≡ position (talks wire.now) self.now }
+        ensures { result ≡ holds_get wire.now self.now }
+    {
+        match speaker {
+            Some(index) => !self.places[index].can_answer(wire),
+            None => true,
+        }
+    }
+
     /// The talker gives a byte: in serial poll mode its status byte, without END.
-    pub(crate) fn give(&mut self, wire: &Wire) -> (u8, bool)
-        requires { holds_get wire.now self.old ≡ false }
+    pub(crate) fn give(&mut self, wire: &Wire, speaker: Option<usize>) -> (u8, bool)
+        requires speaker { speaker ≡ position (talks wire.now) self.old }
+        requires gives { holds_get wire.now self.old ≡ false }
         ensures { BenchWhere (talks wire.now) (TalkerGives wire.now.polling (record { value = result.0; end = result.1 })) self.old self.new }
     {
-        match first_to_answer(&self.places, wire) {
+        match speaker {
             Some(index) => give_at(&mut self.places, index, wire),
             None => (0, false),
         }
@@ -163,14 +203,45 @@ fn any_place<I: Instrument>(places: &[Place<I>], wire: &Wire, question: Question
     places.iter().any(|place| place.is_so(wire, question))
 }
 
-/// The first place at which the talker can answer a get.
-fn first_to_answer<I: Instrument>(places: &[Place<I>], wire: &Wire) -> Option<usize>
-    ensures first { result ≡ position (λ p. answers_get wire.now (placed_of p)) places.now }
+/// The first place at which the talker stands.
+fn first_to_talk<I: Instrument>(places: &[Place<I>], wire: &Wire) -> Option<usize>
+    ensures first { result ≡ position (λ p. talks wire.now (placed_of p)) places.now }
     ensures within { IfSome result (λ i. i < length places.now) }
 {
     places
         .iter()
-        .position(|place| place.is_so(wire, Question::Answers))
+        .position(|place| place.is_so(wire, Question::Talks))
+}
+
+/// The indices of the listeners, in order.
+fn hearers<I: Instrument>(places: &[Place<I>], wire: &Wire) -> Hearers
+    requires { length places.now ≤ PLACES_MAX }
+    ensures { result.items ≡ indices (λ p. listens wire.now (placed_of p)) 0 places.now }
+{
+    let mut hearers = Hearers::new();
+    for (index, place) in places.iter().enumerate() {
+        if place.is_so(wire, Question::Listens) {
+            hearers.push(index as u8);
+        }
+    }
+    hearers
+}
+
+/// Whether the instrument at this index can't take a byte.
+fn waits_at<I: Instrument>(places: &[Place<I>], index: u8) -> bool
+    ensures { result ≡ is_at waits places.now index }
+{
+    match places.get(usize::from(index)) {
+        Some(place) => place.waits(),
+        None => false,
+    }
+}
+
+/// Whether some instrument at these indices can't take a byte.
+fn some_waits<I: Instrument>(places: &[Place<I>], indices: &[u8]) -> bool
+    ensures { result ≡ list_any (λ i. is_at waits places.now i) indices.now }
+{
+    indices.iter().any(|index| waits_at(places, *index))
 }
 
 /// The first address that is in the way of this one.
@@ -192,13 +263,24 @@ fn clashes(a: Addr, b: Addr) -> bool
 }
 
 /// Every listener takes a byte.
-fn put_all<I: Instrument>(places: &mut [Place<I>], wire: &Wire, b: u8, end: bool)
-    requires { some_refuses wire.now (bench_of places.old) ≡ false }
+fn put_each<I: Instrument>(places: &mut [Place<I>], wire: &Wire, hearers: &[u8], b: u8, end: bool)
+    requires hearers { hearers.now ≡ indices (λ p. listens wire.now (placed_of p)) 0 places.old }
+    requires takes { some_refuses wire.now (bench_of places.old) ≡ false }
     ensures { BenchWhere (listens wire.now) (TakesByte b end) (bench_of places.old) (bench_of places.new) }
 {
-    for place in places.iter_mut() {
-        place.put(wire, b, end);
+    for index in hearers {
+        take_at(places, usize::from(*index), wire, b, end);
     }
+}
+
+/// The listener at this index takes a byte.
+fn take_at<I: Instrument>(places: &mut [Place<I>], index: usize, wire: &Wire, b: u8, end: bool)
+    requires within { index < length places.old }
+    requires listens { is_at (λ p. listens wire.now (placed_of p)) places.old index ≡ true }
+    requires takes { is_at waits places.old index ≡ false }
+    ensures { ChangesAt (λ x y. PlaceWhere (listens wire.now) (TakesByte b end) (placed_of x) (placed_of y)) index places.old places.new }
+{
+    places[index].take(wire, b, end);
 }
 
 /// Those that are meant are told what they answer nothing to.
@@ -212,8 +294,10 @@ fn tell_all<I: Instrument>(places: &mut [Place<I>], wire: &Wire, whom: Whom, sig
 
 /// The talker, which stands at this place, gives a byte.
 fn give_at<I: Instrument>(places: &mut [Place<I>], index: usize, wire: &Wire) -> (u8, bool)
+    requires apart { AreApart (bench_of places.old) }
     requires within { index < length places.old }
-    requires answers { position (λ p. answers_get wire.now (placed_of p)) places.old ≡ Some index }
+    requires talks { position (λ p. talks wire.now (placed_of p)) places.old ≡ Some index }
+    requires gives { holds_get wire.now (bench_of places.old) ≡ false }
     ensures { AtPlace index (TalkerGave wire.now (record { value = result.0; end = result.1 })) (bench_of places.old) (bench_of places.new) }
 {
     let place = &mut places[index];

@@ -3,9 +3,10 @@
 ghost use Rattle.std.specs.Prelude.{◌≡◌, true, false};
 ghost use Rattle.vx_inst.specs.Laws.{takes_byte, gives_byte};
 ghost use Rattle.vx_sim.specs.Occupants.{Table, Boxed, seen, TakesByte, Receives, GivesByte, GivesStatus};
-ghost use Rattle.vx_sim.specs.Bench.{listens, talks, refuses, answers_get, PlaceWhere, TalkerGives};
+ghost use Rattle.vx_sim.specs.Bench.{listens, talks, refuses, can_answer, answers_get, PlaceWhere, TalkerGives};
 ghost use Rattle.vx_sim.specs.Attaching.{IsKnownOccupant};
 ghost use Rattle.vx_sim.specs.Shown.{occupant_of, placed_of, is_meant, is_so};
+ghost use Rattle.vx_sim.specs.Finding.{waits};
 
 use crate::seat::Seat;
 use crate::signals::{Question, Signal, Whom};
@@ -146,11 +147,11 @@ impl<I: Instrument> Place<I> {
         wire.talker == Some(self.at)
     }
 
-    /// Whether it is the talker, and can answer a get.
-    fn answers_get(&self, wire: &Wire) -> bool
-        ensures { result ≡ answers_get wire.now (placed_of self.now) }
+    /// Whether it can answer a get where it is the talker.
+    pub(crate) fn can_answer(&self, wire: &Wire) -> bool
+        ensures { result ≡ can_answer wire.now (placed_of self.now) }
     {
-        self.talks(wire) && (wire.polling || self.stand.can_give())
+        wire.polling || self.stand.can_give()
     }
 
     /// What it answers to a question.
@@ -160,7 +161,7 @@ impl<I: Instrument> Place<I> {
         match question {
             Question::Listens => wire.listeners.has(self.at),
             Question::Refuses => self.refuses(wire),
-            Question::Answers => self.answers_get(wire),
+            Question::Talks => self.talks(wire),
             Question::Asks => self.stand.requests(),
             Question::Stands(a) => self.at == a,
         }
@@ -176,14 +177,20 @@ impl<I: Instrument> Place<I> {
         }
     }
 
-    /// Takes a byte where it is a listener.
-    pub(crate) fn put(&mut self, wire: &Wire, b: u8, end: bool)
-        requires { refuses wire.now (placed_of self.old) ≡ false }
+    /// Whether it can't take a byte.
+    pub(crate) fn waits(&self) -> bool
+        ensures { result ≡ waits self.now }
+    {
+        !self.stand.can_take()
+    }
+
+    /// Takes a byte: it is a listener on this wire.
+    pub(crate) fn take(&mut self, wire: &Wire, b: u8, end: bool)
+        requires listens { listens wire.now (placed_of self.old) ≡ true }
+        requires takes { waits self.old ≡ false }
         ensures { PlaceWhere (listens wire.now) (TakesByte b end) (placed_of self.old) (placed_of self.new) }
     {
-        if wire.listeners.has(self.at) {
-            self.stand.take(b, end);
-        }
+        self.stand.take(b, end);
     }
 
     /// Is told what it answers nothing to, where it is meant.

@@ -30,8 +30,8 @@ pub(crate) enum Question {
     Listens,
     /// Whether it is a listener that can't take a byte.
     Refuses,
-    /// Whether it is the talker, and can answer a get.
-    Answers,
+    /// Whether it is the talker.
+    Talks,
     /// Whether it asks for service.
     Asks,
     /// Whether it stands at this address.

@@ -1,6 +1,6 @@
 //! The simulated bus.
 
-ghost use Rattle.std.specs.Prelude.{◌≡◌, ◌<◌, ◌≤◌, ◌+◌, length, filter, None, Some, true, IfOk, MatchResult, is_ok};
+ghost use Rattle.std.specs.Prelude.{◌≡◌, ◌<◌, ◌≤◌, ◌+◌, ◌∷◌, ◌++◌, ◌↔◌, [], length, filter, position, None, Some, true, IfOk, MatchResult, is_ok};
 ghost use Rattle.std.specs.List.{list_any, list_all};
 ghost use Rattle.vx_488.specs.declared.transfers.TheConstants.{ADDRESS_MAX};
 ghost use Rattle.vx_488.specs.declared.transfers.Transfer.TheVariants.{Cmd, Put, Ren, Ifc, Own};
@@ -9,10 +9,13 @@ ghost use Rattle.vx_488.specs.Address.{is_bus_address};
 ghost use Rattle.vx_bus_traits.specs.Steps.{Went, Held, Failed, Told, Cut, move_step, get_step, line_transfer, IsStepped};
 ghost use Rattle.vx_sim.specs.Occupants.{Table, Boxed, handed_in};
 ghost use Rattle.vx_sim.specs.declared.TheConstants.{PLACES_MAX};
-ghost use Rattle.vx_sim.specs.Bench.{stands_at, talks, some_asks, some_refuses, holds_put, holds_get};
+ghost use Rattle.vx_sim.specs.Bench.{stands_at, listens, talks, some_asks, some_refuses};
+ghost use Rattle.vx_sim.specs.Finding.{indices};
+ghost use Rattle.vx_bus_traits.specs.Walks.{Walk};
+ghost use Rattle.vx_bus_traits.specs.Bursts.{puts_steps};
 ghost use Rattle.vx_sim.specs.SimState.{first_state, is_next, nearer, means_after, Through};
 ghost use Rattle.vx_sim.specs.Attaching.{AreApart, AreKnown, refusal, taken_or_full, IsAttached, without_place, IsSet};
-ghost use Rattle.vx_sim.specs.Shown.{occupant_of, reaches_nobody};
+ghost use Rattle.vx_sim.specs.Shown.{occupant_of, reaches_nobody, is_byte};
 
 use crate::attach::{Absent, Attach, Refused};
 use crate::bench::Bench;
@@ -23,7 +26,7 @@ use crate::{NoMemory, PLACES_MAX};
 use std::alloc::Global;
 use std::marker::Model;
 use vx_488::{Addr, Line, Transfer, Wire, command_of};
-use vx_bus_traits::{ASK_MAX, Ask, Bus, GetOut, Move};
+use vx_bus_traits::{ASK_MAX, Ask, Bus, GetOut, Many, ManyGot, Move, Stop};
 use vx_inst::Instrument;
 use vx_table::TableInst;
 
@@ -213,12 +216,71 @@ impl<I: Instrument> SimBus<I> {
         self.failing == Some(1)
     }
 
-    /// Whether a put is held: no instrument is a listener, or some listener can't take a byte.
-    fn holds_put(&self) -> bool
-        ensures { result ≡ holds_put self.now.means.wire self.now.bench }
+    /// Sends a data byte to these, which are the listeners, unless this is the call that is told to fail. It is held where
+    /// there are none, or one can't take it.
+    fn put_to(&mut self, hearers: &[u8], b: u8, end: bool) -> Move
+        requires room { self.old.means.asks < ASK_MAX }
+        requires hearers { hearers.now ≡ indices (listens self.old.means.wire) 0 self.old.bench }
+        ensures through { Through self.old (move_step (Put b end) result) self.new }
+        ensures hearers { hearers.now ≡ indices (listens self.new.means.wire) 0 self.new.bench }
     {
-        !self.bench.any(&self.wire, Question::Listens)
-            || self.bench.any(&self.wire, Question::Refuses)
+        if self.fails_next() {
+            return self.failed(Ask::Put { b, end });
+        }
+        if self.bench.holds_put(&self.wire, hearers) {
+            return self.held(Ask::Put { b, end });
+        }
+        self.bench.put(&self.wire, hearers, b, end);
+        self.carried(Transfer::Put { b, end })
+    }
+
+    /// Sends data bytes to these, which are the listeners, until one doesn't go.
+    fn put_all_to(&mut self, hearers: &[u8], bytes: &[u8], end: bool) -> Many
+        requires room { self.old.means.asks + length bytes.now ≤ ASK_MAX }
+        requires hearers { hearers.now ≡ indices (listens self.old.means.wire) 0 self.old.bench }
+        ensures walk { Walk (λ s. s.means) Through self.old (puts_steps bytes.now end result) self.new }
+        ensures within { result.moved ≤ length bytes.now }
+        ensures last { (result.last ≡ Move.Went) ↔ (result.moved ≡ length bytes.now) }
+    {
+        let mut moved = 0;
+        while moved < bytes.len() {
+            match self.put_to(hearers, bytes[moved], end && moved + 1 == bytes.len()) {
+                Move::Went => moved += 1,
+                Move::Held => return Many {
+                    moved,
+                    last: Move::Held,
+                },
+                Move::Failed => return Many {
+                    moved,
+                    last: Move::Failed,
+                },
+            }
+        }
+        Many {
+            moved,
+            last: Move::Went,
+        }
+    }
+
+    /// Takes a byte from this one, which is the talker, unless this is the call that is told to fail: in serial poll mode its
+    /// status byte, without END. It is held where there is none, or it has no byte to give.
+    fn get_from(&mut self, speaker: Option<usize>) -> GetOut
+        requires room { self.old.means.asks < ASK_MAX }
+        requires speaker { speaker ≡ position (talks self.old.means.wire) self.old.bench }
+        ensures through { Through self.old (get_step result) self.new }
+        ensures speaker { speaker ≡ position (talks self.new.means.wire) self.new.bench }
+    {
+        if self.fails_next() {
+            self.failed(Ask::Get);
+            return GetOut::Failed;
+        }
+        if self.bench.holds_get(&self.wire, speaker) {
+            self.held(Ask::Get);
+            return GetOut::Held;
+        }
+        let (b, end) = self.bench.give(&self.wire, speaker);
+        self.carried(Transfer::Got { b, end });
+        GetOut::Byte { b, end }
     }
 
     /// Switches remote enable, unless this is the call that is told to fail.
@@ -251,10 +313,29 @@ impl<I: Instrument> SimBus<I> {
         ensures answer { result ≡ Move.Went }
         ensures after { self.new ≡ record self.old { means = means_after self.old.means (Went t); failing = nearer self.old.failing } }
     {
+        self.wire.apply(&t);
+        self.counted(t)
+    }
+
+    /// A data byte was transferred, which changes nothing of the wire.
+    fn carried(&mut self, t: Transfer) -> Move
+        requires room { self.old.means.asks < ASK_MAX }
+        requires byte { is_byte t ≡ true }
+        ensures answer { result ≡ Move.Went }
+        ensures after { self.new ≡ record self.old { means = means_after self.old.means (Went t); failing = nearer self.old.failing } }
+    {
+        self.counted(t)
+    }
+
+    /// A transfer is the next, and is counted. What it means for the wire is told elsewhere.
+    fn counted(&mut self, t: Transfer) -> Move
+        requires { self.old.means.asks < ASK_MAX }
+        ensures answer { result ≡ Move.Went }
+        ensures after { self.new ≡ record self.old { means = record self.old.means { moves = self.old.means.moves ++ t ∷ []; asks = self.old.means.asks + 1 }; failing = nearer self.old.failing } }
+    {
         self.asks += 1;
         self.failing = nearer(self.failing);
         self.moves.push_reserved(t);
-        self.wire.apply(&t);
         Move::Went
     }
 
@@ -302,8 +383,10 @@ fn nearer(failing: Option<u32>) -> Option<u32>
 }
 
 impl<I: Instrument> Bus for SimBus<I> {
-    ghost use Rattle.std.specs.Prelude.{◌≡◌, ◌<◌, ◌≤◌};
+    ghost use Rattle.std.specs.Prelude.{◌≡◌, ◌<◌, ◌≤◌, ◌+◌, ◌↔◌, length, take, drop};
     ghost use Rattle.vx_488.specs.declared.transfers.Transfer.TheVariants.{Cmd, Put, Ifc, Own};
+    ghost use Rattle.vx_bus_traits.specs.Walks.{Walk};
+    ghost use Rattle.vx_bus_traits.specs.Bursts.{puts_steps, gets_steps, StopsAt};
     ghost use Rattle.vx_bus_traits.specs.Steps.{Told, Cut, move_step, get_step, line_transfer, IsStepped};
     ghost use Rattle.vx_sim.specs.Bench.{some_asks, some_refuses};
     ghost use Rattle.vx_sim.specs.SimState.{Through};
@@ -337,14 +420,20 @@ impl<I: Instrument> Bus for SimBus<I> {
         ensures stepped { IsStepped self.old.means (move_step (Put b end) result) self.new.means }
         ensures through { Through self.old (move_step (Put b end) result) self.new }
     {
-        if self.fails_next() {
-            return self.failed(Ask::Put { b, end });
-        }
-        if self.holds_put() {
-            return self.held(Ask::Put { b, end });
-        }
-        self.bench.put(&self.wire, b, end);
-        self.made(Transfer::Put { b, end })
+        let hearers = self.bench.hearers(&self.wire);
+        self.put_to(&hearers, b, end)
+    }
+
+    /// Sends data bytes to the listeners, which are found once, until one doesn't go.
+    fn put_many(&mut self, bytes: &[u8], end: bool) -> Many
+        requires some { 0 < length bytes.now }
+        requires asks { self.old.means.asks + length bytes.now ≤ ASK_MAX }
+        ensures walk { Walk (λ s. s.means) Through self.old (puts_steps bytes.now end result) self.new }
+        ensures within { result.moved ≤ length bytes.now }
+        ensures last { (result.last ≡ Move.Went) ↔ (result.moved ≡ length bytes.now) }
+    {
+        let hearers = self.bench.hearers(&self.wire);
+        self.put_all_to(&hearers, bytes, end)
     }
 
     /// Takes a byte from the talker, unless this is the call that is told to fail: in serial poll mode its status byte,
@@ -354,17 +443,57 @@ impl<I: Instrument> Bus for SimBus<I> {
         ensures stepped { IsStepped self.old.means (get_step result) self.new.means }
         ensures through { Through self.old (get_step result) self.new }
     {
-        if self.fails_next() {
-            self.failed(Ask::Get);
-            return GetOut::Failed;
+        let speaker = self.bench.speaker(&self.wire);
+        self.get_from(speaker)
+    }
+
+    /// Takes bytes from the talker, which is found once, until one ends the burst or doesn't go.
+    fn get_many(&mut self, room: &mut [u8], stop: Option<u8>) -> ManyGot
+        requires some { 0 < length room.old }
+        requires asks { self.old.means.asks + length room.old ≤ ASK_MAX }
+        ensures walk { Walk (λ s. s.means) Through self.old (gets_steps (take result.got room.new) result.stop) self.new }
+        ensures stops { StopsAt stop (length room.old) (take result.got room.new) result.stop }
+        ensures within { result.got ≤ length room.old }
+        ensures rest { drop result.got room.new ≡ drop result.got room.old }
+    {
+        let speaker = self.bench.speaker(&self.wire);
+        let mut got = 0;
+        while got < room.len() {
+            match self.get_from(speaker) {
+                GetOut::Held => {
+                    return ManyGot {
+                        got,
+                        stop: Stop::Held,
+                    };
+                }
+                GetOut::Failed => {
+                    return ManyGot {
+                        got,
+                        stop: Stop::Failed,
+                    };
+                }
+                GetOut::Byte { b, end } => {
+                    room[got] = b;
+                    got += 1;
+                    if end {
+                        return ManyGot {
+                            got,
+                            stop: Stop::End,
+                        };
+                    }
+                    if stop == Some(b) {
+                        return ManyGot {
+                            got,
+                            stop: Stop::Char,
+                        };
+                    }
+                }
+            }
         }
-        if !self.bench.any(&self.wire, Question::Answers) {
-            self.held(Ask::Get);
-            return GetOut::Held;
+        ManyGot {
+            got,
+            stop: Stop::Full,
         }
-        let (b, end) = self.bench.give(&self.wire);
-        self.made(Transfer::Got { b, end });
-        GetOut::Byte { b, end }
     }
 
     /// Switches a line on or off, unless this is the call that is told to fail. REN that goes off sends every instrument

@@ -8,6 +8,8 @@ mod bench_table_tests;
 #[cfg(test)]
 mod bench_tests;
 #[cfg(test)]
+mod burst_tests;
+#[cfg(test)]
 mod bus_tests;
 #[cfg(test)]
 mod ctrl_tests;

@@ -9,7 +9,7 @@ use std::alloc::Global;
 use std::process::Abort;
 use std::test::Fail;
 use vx_488::{ADDRESS_MAX, Addr, Transfer};
-use vx_bus::{Ask, Bus};
+use vx_bus::{Ask, Bus, Many, Move, Stop};
 use vx_inst::{Body, Instrument};
 use vx_sim::*;
 use vx_table::TableInst;
@@ -119,6 +119,10 @@ enum Step {
     Asked(Ask, Answer),
     /// The same of these command bytes, all of which go.
     Sent(&'static [u8]),
+    /// The bus is cut and takes a burst of these bytes, END on the last.
+    Puts(&'static [u8], Many),
+    /// The bus is cut and gives a burst of these bytes, into room for so many, with this stop byte.
+    Gets(usize, Option<u8>, Stop, &'static [u8]),
     /// The transfers since the last cut.
     Moves(&'static [Transfer]),
     Talker(Option<Addr>),
@@ -186,6 +190,32 @@ fn send(bus: &mut SimBus<Toy>, bytes: &[u8]) -> bool {
     true
 }
 
+/// Cuts the bus, and puts these bytes in one burst.
+fn put_anew(bus: &mut SimBus<Toy>, bytes: &[u8]) -> Option<Many> {
+    bus.cut();
+    if bytes.is_empty() || bytes.len() > 8 {
+        return None;
+    }
+    Some(bus.put_many(bytes, true))
+}
+
+/// Cuts the bus, and gets bytes in one burst. Answers whether they are these.
+fn get_anew(
+    bus: &mut SimBus<Toy>,
+    many: usize,
+    char: Option<u8>,
+    stop: Stop,
+    bytes: &[u8],
+) -> bool {
+    bus.cut();
+    let mut room = [0u8; 8];
+    if many == 0 || many > 8 {
+        return false;
+    }
+    let answer = bus.get_many(&mut room[..many], char);
+    answer.stop == stop && &room[..answer.got] == bytes
+}
+
 /// Does a step that may take memory, where it is one. Answers whether it is as wanted.
 fn take_made(alloc: Global, bus: &mut SimBus<Toy>, step: &Step) -> Result<bool, Fail> {
     match *step {
@@ -204,6 +234,8 @@ fn take_step(bus: &mut SimBus<Toy>, step: &Step) -> bool {
         Step::Set(a, status, answer) => bus.set_status(a, status) == answer,
         Step::Asked(asked, answer) => ask_anew(bus, asked) == answer,
         Step::Sent(bytes) => send(bus, bytes),
+        Step::Puts(bytes, many) => put_anew(bus, bytes) == Some(many),
+        Step::Gets(many, char, stop, bytes) => get_anew(bus, many, char, stop, bytes),
         Step::Told(now) => {
             bus.moment(now);
             true
@@ -258,6 +290,101 @@ const SIX_TWO: Addr = Addr { p: 6, s: Some(2) };
 const OWN_THREE: Addr = Addr { p: 0, s: Some(3) };
 
 const NONE: &[Transfer] = &[];
+
+// Two of three instruments listen to a burst, and each gives it back: up to the stop byte, END and the room's end. END is
+// told before the stop byte, and the stop byte before a full room.
+static BURSTS_REACH_THE_LISTENERS: [Step; 23] = [
+    Step::Attach(FIVE, None),
+    Step::Attach(SIX_ONE, None),
+    Step::Attach(SIX_TWO, None),
+    Step::Puts(
+        b"AB",
+        Many {
+            moved: 0,
+            last: Move::Held,
+        },
+    ),
+    Step::Sent(&[0x3F, 0x40, 0x25, 0x26, 0x62]),
+    Step::Puts(
+        b"ABC\n",
+        Many {
+            moved: 4,
+            last: Move::Went,
+        },
+    ),
+    Step::Moves(&[
+        Transfer::Put { b: 65, end: false },
+        Transfer::Put { b: 66, end: false },
+        Transfer::Put { b: 67, end: false },
+        Transfer::Put { b: 10, end: true },
+    ]),
+    Step::Fails(2),
+    Step::Puts(
+        b"DE",
+        Many {
+            moved: 1,
+            last: Move::Failed,
+        },
+    ),
+    Step::Puts(
+        b"E",
+        Many {
+            moved: 1,
+            last: Move::Went,
+        },
+    ),
+    Step::Gets(8, None, Stop::Held, b""),
+    Step::Sent(&[0x3F, 0x20, 0x46, 0x61]),
+    Step::Gets(8, None, Stop::Held, b""),
+    Step::Sent(&[0x45]),
+    Step::Gets(2, Some(66), Stop::Char, b"AB"),
+    Step::Moves(&[
+        Transfer::Got { b: 65, end: false },
+        Transfer::Got { b: 66, end: false },
+    ]),
+    Step::Gets(8, Some(10), Stop::End, b"C\n"),
+    Step::Fails(2),
+    Step::Gets(8, None, Stop::Failed, b"D"),
+    Step::Sent(&[0x46, 0x62]),
+    Step::Gets(3, None, Stop::Full, b"ABC"),
+    Step::Gets(8, None, Stop::End, b"\n"),
+    Step::Gets(1, Some(68), Stop::Char, b"D"),
+];
+
+#[test]
+fn bursts_reach_the_listeners(rt: HostRuntime) -> Result<(), Fail> {
+    play(&rt, rt.alloc(), &BURSTS_REACH_THE_LISTENERS)
+}
+
+// A burst to a slow instrument and a fast one is held at its second byte, and goes on a moment later.
+static A_BURST_WAITS_FOR_THE_SLOWEST: [Step; 9] = [
+    Step::AttachSlow(FIVE, None),
+    Step::Attach(SIX, None),
+    Step::Sent(&[0x3F, 0x40, 0x25, 0x26]),
+    Step::Puts(
+        b"AB",
+        Many {
+            moved: 1,
+            last: Move::Held,
+        },
+    ),
+    Step::Moves(&[Transfer::Put { b: 65, end: false }]),
+    Step::Told(1),
+    Step::Puts(
+        b"B",
+        Many {
+            moved: 1,
+            last: Move::Went,
+        },
+    ),
+    Step::Sent(&[0x3F, 0x20, 0x46]),
+    Step::Gets(8, None, Stop::End, b"AB"),
+];
+
+#[test]
+fn a_burst_waits_for_the_slowest(rt: HostRuntime) -> Result<(), Fail> {
+    play(&rt, rt.alloc(), &A_BURST_WAITS_FOR_THE_SLOWEST)
+}
 
 // Nobody listens at 6, until an instrument is attached there.
 static PUT_IS_HELD_WHERE_NOBODY_LISTENS: [Step; 14] = [

@@ -112,7 +112,7 @@ room-one [] (Some r) (Got b end) left some h = room-read r b end left (ends_with
 room-one [] (Some r) _ left some h = absurd (none-some left h)
 room-one (slot ∷ slots) reading t left some h = room-slot slot slots reading left (fits slot t) some h
 
-room-left : (p : Plan) (ts : List Transfer) (left : Plan) → IsSome p.reading → left_after (Some p) ts ≡ Some left
+pub room-left : (p : Plan) (ts : List Transfer) (left : Plan) → IsSome p.reading → left_after (Some p) ts ≡ Some left
     → IsSome left.reading × (length ts + room left ≤ room p)
 room-left p [] left some h =
     subst (λ (l : Plan). IsSome l.reading × (0 + room l ≤ room p)) (same_Some _ _ h) (some, omega arith)

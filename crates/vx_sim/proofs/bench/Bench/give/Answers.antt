@@ -1,12 +1,17 @@
-use Rattle.std.proofs.Common.{◌≡◌, true, false, sym, ap, ◌∙◌, subst, arith}
-use Rattle.std.specs.Prelude.{map, not}
-use Rattle.std.specs.List.{list_any}
-use Rattle.vx_sim.specs.Bench.{talks, answers_get, TalkerGives}
+use Rattle.std.proofs.Common.{◌≡◌, true, sym, ap, ◌∙◌, subst, arith}
+use Rattle.std.specs.Prelude.{map, not, position}
+use Rattle.vx_sim.specs.Bench.{talks, holds_get, TalkerGives}
 use Rattle.vx_sim.specs.Attaching.{AreApart}
 use Rattle.vx_sim.specs.Shown.{placed_of}
 use Rattle.vx_sim.proofs.Apart.{held_in_order, held_changed, talker_gave}
-use Rattle.vx_sim.proofs.Changes.{any_shown, no_position}
+use Rattle.vx_sim.proofs.Finding.{position-shown, nobody-answers}
 use Rattle.vx_sim.proofs.bench.Bench.give.Goals as goal
+
+pub give_at-requires-clause-talks : goal.give_at-requires-clause-talks
+give_at-requires-clause-talks g c =
+    ap (position (λ p. talks c.args.wire.now (placed_of p))) c.deref_mut.ensures.value
+    ∙ sym (position-shown placed_of (talks c.args.wire.now) c.self.inside.places.items)
+    ∙ ap (position (talks c.args.wire.now)) c.self.view_is ∙ sym c.requires.speaker ∙ c.in-Some.is
 
 pub invariant_of-self : goal.invariant_of-self
 invariant_of-self g c =
@@ -24,9 +29,6 @@ returns-in-Some g c =
 
 pub returns-in-None : goal.returns-in-None
 returns-in-None g c =
-    let answers = answers_get c.args.wire.now in
-    let nobody : list_any answers c.args.self.now ≡ false =
-    ap (list_any answers) (sym c.self.view_is) ∙ any_shown placed_of answers c.self.inside.places.items
-    ∙ ap (list_any (λ p. answers (placed_of p))) (sym c.deref.ensures.value) ∙ no_position (λ p. answers (placed_of p)) c.deref.result.now (sym c.in-None.ensures.first) in
-    let held : not (list_any answers c.args.self.now) ≡ true = ap not nobody in
+    let nobody = nobody-answers c.args.wire.now c.args.self.now (sym c.requires.speaker ∙ c.in-None.is) in
+    let held : holds_get c.args.wire.now c.args.self.now ≡ true = ap not nobody in
     absurd (cc)
