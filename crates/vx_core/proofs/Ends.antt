@@ -149,6 +149,7 @@ still-ends {B} means through srq ndac k conn after given ended holds cut polls s
       within = within;
       over = subst P (sym shown) (record {
         polls = subst M (sym cut) left;
+        wire = refl;
         walk = no-steps means through k.bus _ (ap (λ ts. map Went ts ++ []) cut);
         told = refl;
       });
@@ -171,6 +172,7 @@ waits-ends {B} means through srq ndac k conn why ended keeps cut still polls sho
       within = within;
       over = subst P (sym shown) (record {
         polls = here;
+        wire = refl;
         walk = no-steps means through k.bus _ (no-asks here.behind conn here.asked (means k.bus).moves (ran_of (Waited why)) cut still);
         told = tt;
       });
@@ -207,6 +209,7 @@ dials-ends {B} means through srq ndac k conn host port ended keeps cut dials pol
       within = within;
       over = subst P (sym shown) (record {
         polls = subst M (sym cut) polls;
+        wire = refl;
         walk = no-steps means through k.bus _ (ap (λ ts. map Went ts ++ []) cut);
         told = tt;
       });

@@ -112,6 +112,7 @@ earlier-over {B} means through srq ndac f g bus mid after conn now ending late w
         ended = second.1;
         at_now = o.polls.at_now;
       };
+      wire = sym (ap (λ (m : Means). m.wire) walk.1.0) ∙ sym (ap (λ (m : Means). m.wire) walk.2.1.0) ∙ sym (ap (λ b. (means b).wire) walk.2.2) ∙ o.wire;
       walk = (walk.0, walk.1, (walk.2.0, walk.2.1, subst W walk.2.2 o.walk));
       told = told-earlier b first.0 conn o.polls.asked (srq after) (ndac after) ending o.told;
     }

@@ -21,8 +21,8 @@ use Rattle.vx_flow.specs.Does.{Moves}
 use Rattle.vx_flow.specs.Poll.{Ending, Polls, begins, moved_events}
 use Rattle.vx_flow.specs.ProvedLaws.{fine-does}
 use Rattle.vx_core.specs.declared.ended.Ended.{Ended}
-use Rattle.vx_core.specs.declared.given.Given.{Given}
-use Rattle.vx_core.specs.declared.given.Given.TheVariants as given
+use Rattle.vx_core.specs.declared.ended.Given.{Given}
+use Rattle.vx_core.specs.declared.ended.Given.TheVariants as given
 use Rattle.vx_core.specs.KernelState.{KernelState}
 use Rattle.vx_core.specs.CoreState.{CoreState, core_of}
 use Rattle.vx_core.specs.Shown.{fine_of}

@@ -273,6 +273,7 @@ gone-over {B} means through srq ndac k conn r outcome m ending g gone refused to
     let Steps : List Step → Type 0 = λ steps. Walk means through k.bus (map Went moves ++ steps) m.bus in
     record {
       polls = polls;
+      wire = refl;
       walk = subst Steps (refused (next_slot gone.left) ∙ ap (refused_ask (ran_of ending)) (sym next)) gone.walk;
       told = subst (λ b. IsTold b conn polls.asked (srq m.bus) (ndac m.bus) ending) (sym behind)
           (subst (λ q. IsTold (moved_on f u moves) conn q (srq m.bus) (ndac m.bus) ending) (sym asked) told);

@@ -302,6 +302,7 @@ begins-over {B} means through srq ndac f g h bus after conn now ending late tabl
         ended = o.polls.ended;
         at_now = o.polls.at_now;
       };
+      wire = o.wire ∙ sym (ap (λ (s : FineState). s.state.wire) so.2);
       walk = o.walk;
       told = o.told;
     }

@@ -2,8 +2,8 @@
 use Rattle.std.specs.Prelude.{ℕ, List, [], take}
 use Rattle.vx_calls.specs.Reply.{Reply}
 use Rattle.vx_calls.specs.Reply as reply
-use Rattle.vx_core.specs.declared.given.Given.{Given}
-use Rattle.vx_core.specs.declared.given.Given.TheVariants as given
+use Rattle.vx_core.specs.declared.ended.Given.{Given}
+use Rattle.vx_core.specs.declared.ended.Given.TheVariants as given
 
 -- the reply, with its bytes from the front of the room
 abbrev pub given_reply : Given → List ℕ → Reply

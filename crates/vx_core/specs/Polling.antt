@@ -54,11 +54,12 @@ IsTold f conn p srq ndac (poll.Answered ran.Finished level reply) = level ≡ le
 IsTold f conn p srq ndac (poll.Answered ran level reply) = level ≡ false
 IsTold f conn p srq ndac _ = Unit {0}
 
--- A poll at this moment led from one state to another, and the bus from one to another: by these first steps, the asks of
--- the poll, and nothing else.
+-- A poll at this moment led from one state to another, and the bus, whose wire is the state's, from one to another: by these first
+-- steps, the asks of the poll, and nothing else.
 pub record PollsOver {B : Type 0} (means : B → Means) (through : B → Step → B → Type 0) (srq ndac : B → Bool) (before : FineState) (bus : B)
     (conn now : ℕ) (steps : List Step) (ending : Ending) (after : FineState) (bus_after : B) : Type 0 where
   pub polls : Polls before conn now (means bus_after).moves ending after
+  pub wire : (means bus).wire ≡ before.state.wire
   pub walk : Walk means through bus (steps ++ asks polls.behind conn polls.asked (means bus_after).moves (ran_of ending)) bus_after
   pub told : IsTold polls.behind conn polls.asked (srq bus_after) (ndac bus_after) ending
 

@@ -1,7 +1,9 @@
-ghost use Rattle.std.specs.Prelude.{◌≡◌};
+//! How a poll ended, and the reply that the core keeps then, whose bytes stand at the front of its room.
+ghost use Rattle.std.specs.Prelude.{◌≡◌, ◌≤◌, ℕ, List, length, take};
+ghost use Rattle.vx_calls.specs.Reply.{reply_shown};
+ghost use Rattle.vx_core.specs.Given.{given_reply, given_len, reply_bytes};
 
-use crate::given::Given;
-use vx_calls::ErrorCode;
+use vx_calls::{ErrorCode, ReplyRef};
 use vx_flow::{Ran, Why};
 
 /// How a poll ended.
@@ -23,8 +25,13 @@ impl Ended {
         ensures { result ≡ has_run self.now }
     {
         match *self {
-            Ended::Answered { ran, .. } => ran.is_run(),
-            Ended::Waited(why) => why.ran().is_run(),
+            Ended::Answered {
+                ran: Ran::Still,
+                ..
+            } => false,
+            Ended::Answered { .. } => true,
+            Ended::Waited(Why::Held) => true,
+            Ended::Waited(_) => false,
             Ended::Dialed { .. } => false,
         }
     }
@@ -37,4 +44,107 @@ pub struct Settled {
     pub error: ErrorCode,
     /// The number of the new channel, where the dial came up.
     pub chan: Option<u32>,
+}
+
+/// A reply. A read's bytes, and those of a device_docmd, are so many at the front of the room.
+#[derive(Clone, Copy, Debug)]
+pub enum Given {
+    Null,
+    CreateLink {
+        error: ErrorCode,
+        lid: u32,
+        abort_port: u32,
+        max: u32,
+    },
+    Write {
+        error: ErrorCode,
+        size: u32,
+    },
+    Read {
+        error: ErrorCode,
+        reason: u32,
+        len: usize,
+    },
+    Stb {
+        error: ErrorCode,
+        stb: u8,
+    },
+    Docmd {
+        error: ErrorCode,
+        len: usize,
+    },
+    Error(ErrorCode),
+}
+
+impl Given {
+    /// A reply without its bytes, which stand at the front of the room.
+    pub fn of(reply: &ReplyRef<'_>) -> Given
+        ensures reply { (room : List ℕ) → take (length (reply_bytes (reply_shown reply.now))) room ≡ reply_bytes (reply_shown reply.now)
+            → given_reply result room ≡ reply_shown reply.now }
+        ensures len { given_len result ≡ length (reply_bytes (reply_shown reply.now)) }
+    {
+        match *reply {
+            ReplyRef::Null => Given::Null,
+            ReplyRef::CreateLink {
+                error,
+                lid,
+                abort_port,
+                max,
+            } => Given::CreateLink {
+                error,
+                lid,
+                abort_port,
+                max,
+            },
+            ReplyRef::Write { error, size } => Given::Write { error, size },
+            ReplyRef::Read {
+                error,
+                reason,
+                bytes,
+            } => Given::Read {
+                error,
+                reason,
+                len: bytes.len(),
+            },
+            ReplyRef::Stb { error, stb } => Given::Stb { error, stb },
+            ReplyRef::Docmd { error, bytes } => Given::Docmd {
+                error,
+                len: bytes.len(),
+            },
+            ReplyRef::Error { error } => Given::Error(error),
+        }
+    }
+
+    /// The reply, with its bytes from the front of the room.
+    pub fn lend<'a>(&self, room: &'a [u8]) -> ReplyRef<'a>
+        requires { given_len self.now ≤ length room.now }
+        ensures { reply_shown result ≡ given_reply self.now room.entry.now }
+    {
+        match *self {
+            Given::Null => ReplyRef::Null,
+            Given::CreateLink {
+                error,
+                lid,
+                abort_port,
+                max,
+            } => ReplyRef::CreateLink {
+                error,
+                lid,
+                abort_port,
+                max,
+            },
+            Given::Write { error, size } => ReplyRef::Write { error, size },
+            Given::Read { error, reason, len } => ReplyRef::Read {
+                error,
+                reason,
+                bytes: &room[..len],
+            },
+            Given::Stb { error, stb } => ReplyRef::Stb { error, stb },
+            Given::Docmd { error, len } => ReplyRef::Docmd {
+                error,
+                bytes: &room[..len],
+            },
+            Given::Error(error) => ReplyRef::Error { error },
+        }
+    }
 }

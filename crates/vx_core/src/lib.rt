@@ -2,9 +2,7 @@
 //! which steps the bus went.
 #![tactic(auto)]
 
-mod calls;
 mod ended;
-mod given;
 mod kept;
 mod kernel;
 mod moves;
@@ -14,11 +12,8 @@ mod replies;
 mod running;
 mod shared;
 
-pub use ended::{Ended, Settled};
-pub use given::Given;
-pub use kernel::{Kernel, Rooms};
+pub use ended::Settled;
 pub use polled::Polled;
-pub use running::Running;
 pub use shared::{Core, StartRefused};
 pub use vx_flow::{Ran, Why};
 pub use vx_tables::Connect;

@@ -29,8 +29,7 @@ ghost use Rattle.vx_core.specs.Keeping.{Holds, KeepsDials, IsDialed};
 ghost use Rattle.vx_core.specs.Replying.{level_told};
 ghost use Rattle.vx_core.specs.Turning.{HasPassed, HasTurn, BeginsTurn, WentOn, turn_waited};
 
-use crate::ended::{Ended, Settled};
-use crate::given::Given;
+use crate::ended::{Ended, Given, Settled};
 use crate::kernel::Kernel;
 use crate::replies::{finished, level_told, moved_by};
 use crate::running::Running;

@@ -11,7 +11,7 @@ ghost use Rattle.vx_ctrl.specs.Goes.{HoldsBytes};
 ghost use Rattle.vx_core.specs.Given.{given_reply, given_len};
 ghost use Rattle.vx_core.specs.Replying.{level_told};
 
-use crate::given::Given;
+use crate::ended::Given;
 use vx_488::Wire;
 use vx_bus_traits::Bus;
 use vx_calls::ErrorCode;

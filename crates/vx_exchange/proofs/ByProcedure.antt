@@ -1,5 +1,5 @@
 -- Of which channel a call is, by its procedure.
-use Rattle.std.proofs.Common.{◌≡◌, ℕ, IsTrue, List, refl, sym, subst}
+use Rattle.std.proofs.Common.{ℕ, IsTrue, List, refl, sym, subst}
 use Rattle.std.proofs.lemmas.Bool.{false≢true}
 use Rattle.vx_calls.specs.declared.calls.Role.{Role}
 use Rattle.vx_calls.specs.declared.calls.Role.TheVariants as role

@@ -1,5 +1,5 @@
 -- What the calls of an exchange do to a core, and what they say of it.
-use Rattle.std.specs.Prelude.{◌≡◌, ◌≤◌, ℕ, Bool, false, List, [], ◌∷◌, length, Option, Some, None, option_map, if◌then◌else◌}
+use Rattle.std.specs.Prelude.{◌≡◌, ◌≤◌, ℕ, Bool, false, List, [], ◌∷◌, length, Some, None, option_map, if◌then◌else◌}
 use Rattle.vx_calls.specs.declared.codes.ErrorCode.{ErrorCode}
 use Rattle.vx_calls.specs.declared.codes.ErrorCode.TheVariants as code
 use Rattle.vx_calls.specs.Call.{Call}
@@ -10,7 +10,7 @@ use Rattle.vx_bus_traits.specs.Steps.{Told, Cut}
 use Rattle.vx_bus_traits.specs.Walks.{Walk}
 use Rattle.vx_bus_traits.specs.declared.bus.Bus.{Ghosts}
 use Rattle.vx_rules.specs.SrqState.{channel_at}
-use Rattle.vx_flow.specs.Event.{Event, Arrive, Answer, Abort}
+use Rattle.vx_flow.specs.Event.{Arrive, Answer, Abort}
 use Rattle.vx_flow.specs.Fine.{fine}
 use Rattle.vx_flow.specs.Poll.{Ending, Answered, Waited, Dialed, begins}
 use Rattle.vx_core.specs.CoreState.{CoreState}

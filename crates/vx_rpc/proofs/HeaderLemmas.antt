@@ -11,8 +11,8 @@ use Rattle.vx_xdr.specs.declared.fault.XdrErr.TheVariants as fault
 use Rattle.vx_xdr.specs.Spelling.{Word}
 use Rattle.vx_xdr.specs.Reading.{◌>>=◌, reading}
 use Rattle.vx_xdr.specs.ProvedLaws.{bind_ok, ok_is}
-use Rattle.vx_rpc.specs.declared.call.CallRead.{CallRead}
-use Rattle.vx_rpc.specs.declared.call.CallRead.TheVariants as call
+use Rattle.vx_rpc.specs.declared.header.CallRead.{CallRead}
+use Rattle.vx_rpc.specs.declared.header.CallRead.TheVariants as call
 use Rattle.vx_rpc.specs.declared.read.ReplyRead.{ReplyRead}
 use Rattle.vx_rpc.specs.declared.read.ReplyRead.TheVariants as reply
 use Rattle.vx_rpc.specs.CallMeaning.{NoCall, OfOtherVersion, call_of, call_meaning, CallArgsBehind}

@@ -1,8 +1,8 @@
 -- What a message is as a call, whatever its program (RFC 5531, section 9).
 use Rattle.std.specs.Prelude.{ℕ, ◌≤◌, ◌≡◌, not, ◌||◌, ◌==◌, nat_lt, if◌then◌else◌, List, length, drop, Result, Ok, Err}
 use Rattle.vx_xdr.specs.declared.fault.XdrErr.{XdrErr}
-use Rattle.vx_rpc.specs.declared.call.CallRead.{CallRead}
-use Rattle.vx_rpc.specs.declared.call.CallRead.TheVariants as seen
+use Rattle.vx_rpc.specs.declared.header.CallRead.{CallRead}
+use Rattle.vx_rpc.specs.declared.header.CallRead.TheVariants as seen
 use Rattle.vx_rpc.specs.Header.{number_at, CallBody, call_body}
 
 -- a call of RPC version 2, one of another version, or no call at all

@@ -3,7 +3,6 @@
 //! allocates.
 #![tactic(auto)]
 
-mod call;
 mod header;
 mod laws;
 mod put;
@@ -11,7 +10,7 @@ mod read;
 mod refusal;
 mod sort;
 
-pub use call::{CallRead, read_call};
+pub use header::{CallRead, read_call};
 pub use laws::{
     calls_are_sorted, calls_are_spelled, refusals_are_read, replies_are_spelled, successes_are_read,
 };

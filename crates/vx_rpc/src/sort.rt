@@ -3,7 +3,7 @@ ghost use Rattle.vx_rpc.specs.Procedure.{program, procedure, serves};
 ghost use Rattle.vx_rpc.specs.CallMeaning.{call_shown, CallArgsBehind};
 ghost use Rattle.vx_rpc.specs.Sorting.{sorting_shown, sorted, sorting, IsServed, RefusesByHeader, ArgsEnd, ArgsBehind};
 
-use crate::call::{CallRead, read_call};
+use crate::header::{CallRead, read_call};
 use crate::refusal::RpcRefusal;
 use vx_calls::{Proc, Role};
 

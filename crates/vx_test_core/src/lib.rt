@@ -8,8 +8,6 @@ mod exchange_tests;
 #[cfg(test)]
 mod gateways;
 #[cfg(test)]
-mod kernel_tests;
-#[cfg(test)]
 mod pump_tests;
 #[cfg(test)]
 mod session_crossed;

@@ -1,7 +1,7 @@
 use Rattle.std.proofs.Common.{◌-◌, length, drop, arith}
 use Rattle.std.proofs.lemmas.List.{take_all, length-drop}
 use Rattle.vx_rpc.proofs.HeaderLemmas.{three_words-long, call-end}
-use Rattle.vx_rpc.proofs.call.read_call.Goals as goal
+use Rattle.vx_rpc.proofs.header.read_call.Goals as goal
 
 pub returns-in-Ok-default-eq0-eq2-clause-args : goal.returns-in-Ok-default-eq0-eq2-clause-args
 returns-in-Ok-default-eq0-eq2-clause-args c =
