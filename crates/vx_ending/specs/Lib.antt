@@ -4,7 +4,6 @@ pub mod Running
 pub mod Outcome
 pub mod Preparing
 pub mod Taking
-pub mod Visiting
 pub use Rattle.vx_io_traits.specs.Faults
 pub use Rattle.vx_text.specs.Ends
 pub use Rattle.vx_text.specs.Reading

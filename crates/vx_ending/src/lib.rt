@@ -8,11 +8,9 @@ mod preparing;
 mod status;
 mod taking;
 mod telling;
-mod visitors;
 
 pub use logging::{Channel, Logs, News, Reason, tell};
 pub use preparing::{BENCH_MAX, prepare};
 pub use status::Status;
 pub use taking::{next_link, open_ports};
 pub use telling::{announce, tell_served};
-pub use visitors::Visitor;

@@ -1,10 +1,6 @@
 pub mod Written
 pub mod Answered
 pub mod Packed
-pub mod Going
-pub mod Runs
-pub mod Piecewise
-pub mod Streamwise
 pub mod Read
+pub mod Looked
 pub mod Spent
-pub mod Moving

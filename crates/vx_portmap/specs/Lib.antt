@@ -6,14 +6,13 @@ pub mod Moves
 pub mod Boxes
 pub mod Packing
 pub mod Streaming
-pub mod Pieces
 pub mod Host
 pub mod Mapped
 pub mod Asked
 pub mod Due
 pub mod Outcome
 pub use Rattle.vx_door.specs.Going
-pub use Rattle.vx_link.specs.Shown
+pub use Rattle.vx_stream.specs.Shown
 pub use Rattle.vx_door.specs.Serving
 pub use Rattle.vx_door.specs.Running
 pub use Rattle.vx_text.specs.Writing
@@ -21,6 +20,7 @@ pub use Rattle.vx_io_traits.specs.Faults
 pub use Rattle.vx_io_traits.specs.Stands
 pub use Rattle.vx_record.specs.Buffer
 pub use Rattle.vx_record.specs.Fragments
-pub use Rattle.vx_record.specs.Records
+pub use Rattle.vx_stream.specs.Answered
+pub use Rattle.vx_stream.specs.Stopping
 pub use Rattle.vx_rpc.specs.CallMeaning
 pub use Rattle.vx_rpc.specs.Wording

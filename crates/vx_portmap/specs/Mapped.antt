@@ -6,7 +6,7 @@ use Rattle.vx_door.specs.Going.{Went}
 use Rattle.vx_portmap.specs.declared.table.Mapping.{Mapping}
 use Rattle.vx_portmap.specs.declared.ends.MapEnd.{MapEnd}
 use Rattle.vx_portmap.specs.declared.ends.MapEnd.TheVariants as end
-use Rattle.vx_link.specs.Shown.{LinkShown}
+use Rattle.vx_stream.specs.Shown.{LinkShown}
 use Rattle.vx_portmap.specs.Streaming.{StreamDid}
 
 -- The peer's stream was served, by receives and sends of the door alone, and the table is as it was. `receives` and `sends` are what

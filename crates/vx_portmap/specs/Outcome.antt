@@ -28,7 +28,7 @@ use Rattle.vx_portmap.specs.declared.run.Status.TheVariants as status
 use Rattle.vx_portmap.specs.Asked.{spelled, IsInRange}
 use Rattle.vx_portmap.specs.Due.{mapping_line, served_line, usage_line}
 use Rattle.vx_portmap.specs.Mapped.{StreamMapped, is_own, is_whole}
-use Rattle.vx_link.specs.Shown.{LinkShown}
+use Rattle.vx_stream.specs.Shown.{LinkShown}
 use Rattle.vx_portmap.specs.Packing.{BoxShown, PacketsCounted}
 
 -- the number of a status

@@ -45,7 +45,7 @@ impl<N: Door> Serves<N> for Mapper {
     ghost use Rattle.std.specs.Prelude.{◌≡◌, ◌≤◌, ◌⊎◌, ⊤, true};
     ghost use Rattle.vx_io_traits.specs.Faults.{Rose};
     ghost use Rattle.vx_door.specs.Serving.{is_cut};
-    ghost use Rattle.vx_link.specs.Shown.{link_shown};
+    ghost use Rattle.vx_stream.specs.Shown.{link_shown};
     ghost use Rattle.vx_portmap.specs.Mapped.{StreamMapped, is_own, is_whole};
 
     type End = MapEnd;

@@ -3,7 +3,7 @@ ghost use Rattle.std.specs.Prelude.{◌≡◌, map, string_bytes};
 ghost use Rattle.vx_record.specs.Buffer.{fresh};
 ghost use Rattle.vx_door.specs.Shown.{door_shown};
 ghost use Rattle.vx_portmap.specs.declared.limits.TheConstants.{MESSAGE_MAX};
-ghost use Rattle.vx_link.specs.Shown.{link_shown};
+ghost use Rattle.vx_stream.specs.Shown.{link_shown};
 ghost use Rattle.vx_portmap.specs.Packing.{box_shown};
 ghost use Rattle.vx_portmap.specs.Outcome.{Opens, Works, IsServed, IsAskRun, IsRun, EndsRun, PutsLine, door_end, packets_end, mappings, status_number};
 

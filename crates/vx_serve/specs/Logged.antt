@@ -1,7 +1,7 @@
 -- How a link's work ended, as the log tells it.
 use Rattle.std.specs.Prelude.{ℕ}
-use Rattle.vx_session.specs.declared.sessions.End.{End}
-use Rattle.vx_session.specs.declared.sessions.End.TheVariants as end
+use Rattle.vx_stream.specs.declared.ends.End.{End}
+use Rattle.vx_stream.specs.declared.ends.End.TheVariants as end
 use Rattle.vx_session.specs.declared.links.Linked.{Linked}
 use Rattle.vx_session.specs.declared.links.Linked.TheVariants as linked
 use Rattle.vx_ending.specs.declared.logging.News.{News}

@@ -10,12 +10,13 @@ use std::alloc::Global;
 use std::mem;
 use std::sync::{Condvar, Mutex, Wait};
 use vx_core::Core;
-use vx_ending::{Channel, News, Visitor, next_link, tell};
+use vx_ending::{Channel, News, next_link, tell};
 use vx_gate::Pass;
 use vx_inst::Instrument;
 use vx_io_traits::{Accepted, Clock, Dial, Link, Net, Pause, Sink};
 use vx_session::Tally;
 use vx_sim::SimBus;
+use vx_stream::Visitor;
 
 /// Tells that a core link came, and hands it to the workers. It waits where 64 links wait for one, and serves a link that comes
 /// back itself.

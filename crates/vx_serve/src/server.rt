@@ -16,13 +16,14 @@ use std::alloc::Global;
 use std::sync::Wait;
 use std::sync::atomic::Ordering;
 use vx_core::Core;
-use vx_ending::{Logs, Status, Visitor, announce, open_ports, prepare, tell_served};
+use vx_ending::{Logs, Status, announce, open_ports, prepare, tell_served};
 use vx_gate::Pass;
 use vx_inst::Instrument;
 use vx_io_traits::{Clock, Dial, Net, Pause, Sink, Source, Spawner, Streams};
 use vx_rack::Spare;
 use vx_session::{Tally, Tools};
 use vx_sim::SimBus;
+use vx_stream::Visitor;
 use vx_words::Options;
 
 /// How a run of the server ended, and the links that it served.

@@ -15,13 +15,14 @@ use std::alloc::{AllocError, Global};
 use std::sync::atomic::AtomicU64;
 use std::sync::{Arc, Condvar, Mutex};
 use vx_core::Core;
-use vx_ending::{Logs, Visitor};
+use vx_ending::Logs;
 use vx_gate::Gate;
 use vx_group::first_law;
 use vx_inst::Instrument;
 use vx_io_traits::{Clock, Dial, Net, Pause, Sink, Spawner, Started, Streams};
 use vx_session::{Room, Tally, Tools};
 use vx_sim::SimBus;
+use vx_stream::Visitor;
 use vx_words::Options;
 
 /// Why the workers of a server aren't all started.

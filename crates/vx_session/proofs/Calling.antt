@@ -18,8 +18,7 @@ use Rattle.vx_gate.specs.PassView.{PassView}
 use Rattle.vx_history.specs.Event.{Event}
 use Rattle.vx_history.specs.FineState.{FineState}
 use Rattle.vx_history.specs.Poll as poll
-use Rattle.vx_history.specs.Poll.{Ending, Waited, Dialed, moved_events, end_events}
-use Rattle.vx_flow.specs.declared.progress.Why.{Why}
+use Rattle.vx_history.specs.Poll.{Ending, Waited, Dialed}
 use Rattle.vx_history.specs.Groups.{Group}
 use Rattle.vx_history.specs.Phases.{Idle, Asked}
 use Rattle.vx_exchange.specs.declared.polls.PollEnd.{PollEnd}

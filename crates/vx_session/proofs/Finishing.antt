@@ -1,24 +1,30 @@
 -- How a session comes to its end: its stream was served, and then its connection goes.
-use Rattle.std.proofs.Common.{◌≡◌, ℕ, List, [], ◌∷◌, Result, Err, refl, sym, subst, arith}
+use Rattle.std.proofs.Common.{◌≡◌, ℕ, List, [], ◌∷◌, Some, Result, Err, refl, sym, ap, ◌∙◌, subst, arith}
+use Rattle.std.proofs.lemmas.Option.{same_Some}
 use Rattle.vx_calls.specs.declared.calls.Role.{Role}
+use Rattle.vx_calls.specs.declared.limits.TheConstants.{RECORD_MAX}
+use Rattle.vx_record.specs.Records.{records}
 use Rattle.vx_bus_traits.specs.declared.bus.Bus.{Ghosts}
 use Rattle.vx_gate.specs.History.{groups}
 use Rattle.vx_gate.specs.PassView.{PassView}
+use Rattle.vx_exchange.specs.Meaning.{meaning, Junk}
 use Rattle.vx_history.specs.Laws.{HeadlineOfGroupsLaw, OwnedLaw}
 use Rattle.vx_history.specs.Groups.{Group}
-use Rattle.vx_session.specs.Placing.{IsHistory}
 use Rattle.vx_tables.specs.declared.tables.Connect.{Connect}
 use Rattle.vx_tables.specs.declared.tables.Connect.TheVariants as connect
+use Rattle.vx_stream.specs.Shown.{LinkShown}
+use Rattle.vx_stream.specs.Answered.{replies}
+use Rattle.vx_stream.specs.Stopping.{EndsSo}
+use Rattle.vx_stream.specs.declared.ends.End.{End}
+use Rattle.vx_session.specs.Placing.{Makes, IsHistory}
 use Rattle.vx_session.specs.Turning.{Joins, Leaves}
-use Rattle.vx_link.specs.Shown.{LinkShown}
 use Rattle.vx_session.specs.Outside.{DialShown}
-use Rattle.vx_session.specs.Progress.{placed}
-use Rattle.vx_session.specs.Stopping.{StreamServed}
+use Rattle.vx_session.specs.Progress.{Rings, SessionState, placed, calls}
 use Rattle.vx_session.specs.Ending.{Upholds, SessionDid}
 use Rattle.vx_session.specs.Linking.{LinkDid, refused_as}
-use Rattle.vx_session.specs.declared.sessions.End.{End}
 use Rattle.vx_session.specs.declared.links.Linked.{Linked}
 use Rattle.vx_session.specs.ProvedLaws.{makes-goes, makes-later}
+use Rattle.vx_session.proofs.Progressing.{StreamServed}
 
 -- of a history that a pass has seen, all holds that is claimed
 pub upholds : HeadlineOfGroupsLaw → OwnedLaw → (pass : PassView Group) → IsHistory pass.seen → Upholds pass
@@ -28,28 +34,31 @@ upholds headline owned pass h = record {
   owned = owned pass.seen h.state h.lawful h.stands;
 }
 
--- the stream was served, and then the connection went
-pub session-did : {B L : Type 0} (g : Ghosts B) (stands : L → List ℕ → List ℕ → Type 0) → HeadlineOfGroupsLaw → OwnedLaw → (told : ℕ) (r : Role) (conn : ℕ) (pass mid pass' : PassView Group)
-    (link link' : L) (seen seen' : LinkShown) (dial dial' : DialShown) (how : End) → StreamServed g stands told r conn pass link seen dial how mid link' seen' dial'
-    → Leaves mid conn pass' → SessionDid g stands told r conn pass link seen dial how pass' link' seen' dial'
-session-did g stands headline owned told r conn pass mid pass' link link' seen seen' dial dial' how served leaves =
+-- the records of a stream were served, and then the connection went
+pub session-did : {B L : Type 0} (g : Ghosts B) (stands : L → List ℕ → List ℕ → Type 0) → HeadlineOfGroupsLaw → OwnedLaw → (s s' : SessionState) (pass mid pass' : PassView Group)
+    (link link' : L) (seen seen' : LinkShown) (how : End) (told : ℕ) (dial : DialShown) → StreamServed g stands s pass link seen how s' link' seen' → s'.pass ≡ Some mid
+    → s'.told ≡ told → s'.dial ≡ dial → Leaves mid s.conn pass' → SessionDid g stands told s.role s.conn pass link seen s.dial how pass' link' seen' dial
+session-did g stands headline owned s s' pass mid pass' link link' seen seen' how told dial did has told_is dial_is leaves =
     let last = leaves.placed in
+    let all = did.serves in
     record {
-      items = served.items;
+      items = all.items;
       last = last;
-      front = served.front;
-      behind = served.behind;
-      written = served.written;
-      unsent = served.unsent;
-      makes = makes-goes told told pass mid pass' (placed served.items) (last ∷ []) (omega arith) served.progress.makes
+      front = did.front;
+      behind = did.behind;
+      written = did.written;
+      unsent = did.unsent;
+      makes = makes-goes told told pass mid pass' (placed all.items) (last ∷ []) (omega arith)
+          (subst (λ p. Makes told pass (placed all.items) p) (same_Some all.pass' mid (sym all.has ∙ has))
+          (subst (λ n. Makes n pass (placed all.items) all.pass') told_is all.makes))
           (makes-later 0 told mid pass' (last ∷ []) (omega arith) leaves.turns.makes);
-      each = served.progress.each;
+      each = all.each;
       down = leaves.events;
-      bytes = served.progress.bytes;
-      goes = served.progress.goes;
-      wrote = served.wrote;
-      ended = served.ended;
-      rings = served.progress.rings;
+      bytes = did.bytes;
+      goes = did.goes;
+      wrote = ap replies all.are ∙ did.wrote;
+      ended = subst (λ list. EndsSo (λ message. meaning message s.role ≡ Junk) seen list (records RECORD_MAX did.front) did.behind did.unsent seen' (Some how)) (sym all.are) did.ended;
+      rings = subst (λ d. Rings s.dial (placed all.items) (calls all.items) d) dial_is all.rings;
       upholds = upholds headline owned pass' leaves.turns.history;
     }
 

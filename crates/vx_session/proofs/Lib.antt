@@ -9,8 +9,5 @@ pub mod Channels
 pub mod Polled
 pub mod Calling
 pub mod Finishing
-pub mod Piecewise
 pub mod Progressing
 pub mod Recorded
-pub mod Streams
-pub mod Wholes

@@ -75,7 +75,7 @@ module _ {B : Type 0} (g : Ghosts B) (told : ℕ) (pass pass' : PassView Group) 
             (polled-moment g core conn now xid room end core' did));
         ending = did.ending;
         polls = subst (λ n. PollsAt g placed conn n did.ending events) (now-is told log f group stands)
-            (record { state = f; stands = stands; polled = polled-so now core events did ended });
+            (record { state = f; stands = stands; polled = polled-so now core events did ended; keeps = polled-moment g core conn now xid room end core' did });
         dials = dials-of g core core' conn now xid room end call asked.pending did asked.call_at asked.call_is;
         says = did.says;
         phase = phase-more pass.own pass'.own group conn own
@@ -111,7 +111,7 @@ module _ {B : Type 0} (g : Ghosts B) (told : ℕ) (pass pass' : PassView Group) 
             (came-ends g core conn call now xid room end core' did));
         ending = polled.ending;
         comes = subst (λ n. ComesAt g placed conn call n polled.ending) (now-is told log f group stands)
-            (record { state = f; stands = stands; come = mid; arrives = did.arrives; part = part; polled = polled-so now did.come part polled refl; events = ended });
+            (record { state = f; stands = stands; come = mid; arrives = did.arrives; part = part; polled = polled-so now did.come part polled refl; events = ended; keeps = came-ends g core conn call now xid room end core' did });
         dials = dials-of g did.come core' conn now xid room end call (arrived call now) polled (came-pending g core conn call now xid room end core' did) refl;
         says = polled.says;
         phase = phase-more pass.own pass'.own group conn own

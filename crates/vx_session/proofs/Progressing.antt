@@ -1,23 +1,29 @@
--- How sessions come on: what was served so far, and what is served then.
-use Rattle.std.proofs.Common.{◌≡◌, ◌≤◌, ◌+◌, ℕ, List, [], ◌++◌, Option, None, Some, map, sym, ap, ◌∙◌, subst, append_assoc, append-nil, arith}
+-- How a session comes on: the messages that it answered, one after the other, as the records that it served.
+use Rattle.std.proofs.Common.{◌≡◌, ◌≤◌, ◌+◌, ◌⊎◌, inl, inr, ℕ, List, [], ◌∷◌, ◌++◌, Option, None, Some, map, refl, sym, ap, ◌∙◌, subst, append_assoc, append-nil, arith}
 use Rattle.std.specs.List.{All, count_by}
 use Rattle.std.proofs.lemmas.List.{map-append}
 use Rattle.std.proofs.lemmas.List.Concat.{flat_map-append}
-use Rattle.std.proofs.lemmas.List.Elements.{All-nil, All-append}
+use Rattle.std.proofs.lemmas.List.Elements.{All-nil, All-cons}
 use Rattle.std.proofs.lemmas.List.Sums.{sum_by-append}
+use Rattle.std.proofs.lemmas.Option.{same_Some}
 use Rattle.vx_io_traits.specs.declared.dials.Rang.{Rang}
 use Rattle.vx_io_traits.specs.Rung.{AddsCalls}
-use Rattle.vx_io_traits.specs.Stands.{Goes-none, Goes-goes}
-use Rattle.vx_calls.specs.declared.calls.Role.{Role}
+use Rattle.vx_io_traits.specs.Stands.{Goes}
+use Rattle.vx_calls.specs.declared.limits.TheConstants.{RECORD_MAX}
 use Rattle.vx_bus_traits.specs.declared.bus.Bus.{Ghosts}
 use Rattle.vx_gate.specs.PassView.{PassView}
 use Rattle.vx_history.specs.Groups.{Group, events_of}
+use Rattle.vx_stream.specs.Shown.{LinkShown, LinkGoes}
+use Rattle.vx_record.specs.Records.{Split, records}
+use Rattle.vx_exchange.specs.Meaning.{meaning, Junk}
+use Rattle.vx_stream.specs.Answered.{Answered, AnswersAll, replies}
+use Rattle.vx_stream.specs.Stopping.{EndsSo, IsLeft, StreamAnswered}
+use Rattle.vx_stream.specs.declared.ends.End.{End}
+use Rattle.vx_stream.specs.declared.ends.End.TheVariants as end
 use Rattle.vx_session.specs.Placing.{Placed, Makes}
-use Rattle.vx_link.specs.Shown.{LinkShown}
-use Rattle.vx_link.specs.ProvedLaws.{link-none, link-goes}
 use Rattle.vx_session.specs.Outside.{DialShown, RoseBy, is_failed_dial}
 use Rattle.vx_session.specs.Serving.{Item, Serves}
-use Rattle.vx_session.specs.Progress.{Rings, Progress, placed, calls, failed_dials}
+use Rattle.vx_session.specs.Progress.{Rings, SessionState, ServesRecord, MessageDoes, answered, placed, calls, failed_dials}
 use Rattle.vx_session.specs.ProvedLaws.{makes-none, makes-goes}
 
 -- a dial told no further call
@@ -55,34 +61,161 @@ rings-goes a b c ps qs xs ys before after = record {
       (rose-goes (failed_dials ps) (failed_dials qs) a.faults b.faults c.faults before.failed after.failed);
 }
 
-module _ {B L : Type 0} (g : Ghosts B) (stands : L → List ℕ → List ℕ → Type 0) (r : Role) (conn : ℕ) where
-  -- nothing was served yet
-  pub progress-none : (told : ℕ) (pass : PassView Group) (link : L) (seen : LinkShown) (dial : DialShown) → Progress g stands told r conn pass link seen dial [] [] [] pass link seen dial
-  progress-none told pass link seen dial = record {
-    makes = makes-none told pass;
-    each = All-nil (Serves g pass.number conn r);
-    bytes = Goes-none stands link;
-    goes = link-none seen;
-    rings = rings-none dial;
-  }
+-- ---- the messages of a session
 
-  -- some records were served, and then more
-  pub progress-goes : (told told' : ℕ) (pass pass' pass'' : PassView Group) (link link' link'' : L) (seen seen' seen'' : LinkShown) (dial dial' dial'' : DialShown)
-      (items items' : List Item) (received received' written written' : List ℕ) → told ≤ told'
-      → Progress g stands told r conn pass link seen dial items received written pass' link' seen' dial'
-      → Progress g stands told' r conn pass' link' seen' dial' items' received' written' pass'' link'' seen'' dial''
-      → Progress g stands told' r conn pass link seen dial (items ++ items') (received ++ received') (written ++ written') pass'' link'' seen'' dial''
-  progress-goes told told' pass pass' pass'' link link' link'' seen seen' seen'' dial dial' dial'' items items' received received' written written' later before after =
-      let groups_are : placed (items ++ items') ≡ placed items ++ placed items' = flat_map-append (λ (i : Item). i.placed) items items' in
-      let calls_are : calls (items ++ items') ≡ calls items ++ calls items' = flat_map-append (λ (i : Item). i.calls) items items' in
+-- These messages of a session, whose pass was this one, were served, one after the other, by the groups of its pass and the calls of
+-- its dial.
+pub record ServesAll {B : Type 0} (g : Ghosts B) (s : SessionState) (pass : PassView Group) (list : List Answered) (s' : SessionState) : Type 0 where
+  pub items : List Item
+  pub pass' : PassView Group
+  pub are : answered items ≡ list
+  pub has : s'.pass ≡ Some pass'
+  pub makes : Makes s'.told pass (placed items) pass'
+  pub each : All (Serves g pass.number s.conn s.role) items
+  pub rings : Rings s.dial (placed items) (calls items) s'.dial
+  pub role : s'.role ≡ s.role
+  pub conn : s'.conn ≡ s.conn
+  pub later : s.told ≤ s'.told
+
+-- what a session has in common with what it was, where nothing was served in between
+pub record Stays (s s' : SessionState) : Type 0 where
+  pub role : s'.role ≡ s.role
+  pub conn : s'.conn ≡ s.conn
+  pub pass : s'.pass ≡ s.pass
+  pub dial : s'.dial ≡ s.dial
+  pub later : s.told ≤ s'.told
+
+-- no message was served
+serves-none : {B : Type 0} (g : Ghosts B) (s s' : SessionState) (pass : PassView Group) → s.pass ≡ Some pass → Stays s s' → ServesAll g s pass [] s'
+serves-none g s s' pass had stays = record {
+  items = [];
+  pass' = pass;
+  are = refl;
+  has = stays.pass ∙ had;
+  makes = makes-none s'.told pass;
+  each = All-nil (Serves g pass.number s.conn s.role);
+  rings = subst (λ d. Rings s.dial [] [] d) (sym stays.dial) (rings-none s.dial);
+  role = stays.role;
+  conn = stays.conn;
+  later = stays.later;
+}
+
+-- one message was answered, and then more of them
+serves-more : {B : Type 0} (g : Ghosts B) (s mid s' : SessionState) (pass : PassView Group) (one : Answered) (more : List Answered) → s.pass ≡ Some pass
+    → (does : MessageDoes g s one.message (Some one.reply) mid) → ServesAll g mid does.has.pass' more s' → ServesAll g s pass (one ∷ more) s'
+serves-more g s mid s' pass one more had does rest =
+    let first = subst (λ p. ServesRecord g mid.told s.role p s.conn one.message s.dial one.reply does.has.pass' mid.dial) (same_Some does.has.pass pass (sym does.has.had ∙ had)) does.has.serves in
+    let item : Item = record { answered = one; placed = first.placed; calls = first.rung } in
+    let earlier = does.later in
+    let later = rest.later in
+    record {
+      items = item ∷ rest.items;
+      pass' = rest.pass';
+      are = ap (λ list. one ∷ list) rest.are;
+      has = rest.has;
+      makes = makes-goes mid.told s'.told pass does.has.pass' rest.pass' item.placed (placed rest.items) later first.makes rest.makes;
+      each = All-cons (Serves g pass.number s.conn s.role) item rest.items first.holding
+          (subst (λ n. All (Serves g n s.conn s.role) rest.items) first.makes.number
+          (subst (λ n. All (Serves g does.has.pass'.number n s.role) rest.items) does.conn
+          (subst (λ r. All (Serves g does.has.pass'.number mid.conn r) rest.items) does.role rest.each)));
+      rings = rings-goes s.dial mid.dial s'.dial item.placed (placed rest.items) item.calls (calls rest.items) first.rings rest.rings;
+      role = rest.role ∙ does.role;
+      conn = rest.conn ∙ does.conn;
+      later = omega arith;
+    }
+
+-- ---- the end of its stream
+
+-- what holds of a message without a reply, as another fact of it
+ends-as : (P Q : List ℕ → Type 0) → ((message : List ℕ) → P message → Q message) → (seen : LinkShown) (list : List Answered) (looked : Split) (behind unsent : List ℕ) (seen' : LinkShown)
+    (how : End) → EndsSo P seen list looked behind unsent seen' (Some how) → EndsSo Q seen list looked behind unsent seen' (Some how)
+ends-as P Q so seen list looked behind unsent seen' end.Closed ended = ended
+ends-as P Q so seen list looked behind unsent seen' (end.CutShort bytes) ended = ended
+ends-as P Q so seen list looked behind unsent seen' (end.Junk count) ended = (ended.0, ended.1, ended.2, ended.3, so ended.1 ended.4)
+ends-as P Q so seen list looked behind unsent seen' end.TooLong ended = ended
+ends-as P Q so seen list looked behind unsent seen' end.ReadFault ended = ended
+ends-as P Q so seen list looked behind unsent seen' end.WriteFault ended = ended
+
+-- what answers messages is left as it was behind the last reply, or as a message without a reply left it
+left-so : {S : Type 0} (does : S → List ℕ → S → Type 0) (last s' : S) (seen : LinkShown) (list : List Answered) (looked : Split) (behind unsent : List ℕ) (seen' : LinkShown) (how : End)
+    → EndsSo (λ junk. does last junk s') seen list looked behind unsent seen' (Some how) → IsLeft (Some how) last s' → (s' ≡ last) ⊎ ((junk : List ℕ) × does last junk s')
+left-so does last s' seen list looked behind unsent seen' end.Closed ended left = inl left
+left-so does last s' seen list looked behind unsent seen' (end.CutShort bytes) ended left = inl left
+left-so does last s' seen list looked behind unsent seen' (end.Junk count) ended left = inr (ended.1, ended.4)
+left-so does last s' seen list looked behind unsent seen' end.TooLong ended left = inl left
+left-so does last s' seen list looked behind unsent seen' end.ReadFault ended left = inl left
+left-so does last s' seen list looked behind unsent seen' end.WriteFault ended left = inl left
+
+-- The records of a session's stream were served, up to its end or to where it is no longer read.
+pub record StreamServed {B L : Type 0} (g : Ghosts B) (stands : L → List ℕ → List ℕ → Type 0) (s : SessionState) (pass : PassView Group) (link : L) (seen : LinkShown) (how : End)
+    (s' : SessionState) (link' : L) (seen' : LinkShown) : Type 0 where
+  pub list : List Answered
+  pub front : List ℕ
+  pub behind : List ℕ
+  pub written : List ℕ
+  pub unsent : List ℕ
+  pub serves : ServesAll g s pass list s'
+  pub bytes : Goes stands link link' written (front ++ behind)
+  pub goes : LinkGoes seen (front ++ behind) seen'
+  pub wrote : replies list ≡ written ++ unsent
+  pub ended : EndsSo (λ message. meaning message s.role ≡ Junk) seen list (records RECORD_MAX front) behind unsent seen' (Some how)
+
+-- what answers messages, as a session's state shows it
+module _ {B S : Type 0} (g : Ghosts B) (does : S → List ℕ → Option (List ℕ) → S → Type 0) (shown : S → SessionState)
+    (one : (s s' : S) (message : List ℕ) (reply : Option (List ℕ)) → does s message reply s' → MessageDoes g (shown s) message reply (shown s')) where
+  -- as it is left, it stays
+  left-stays : (last s' : S) → (s' ≡ last) ⊎ ((junk : List ℕ) × does last junk None s') → Stays (shown last) (shown s')
+  left-stays last s' (inl same) = subst (λ x. Stays (shown last) (shown x)) (sym same) (record { role = refl; conn = refl; pass = refl; dial = refl; later = omega arith })
+  left-stays last s' (inr did) =
+      let junk = one last s' did.0 None did.1 in
+      record { role = junk.role; conn = junk.conn; pass = junk.has.1; dial = junk.has.2; later = junk.later }
+
+  -- the messages that it answered were served
+  all-served : (s last s' : S) (pass : PassView Group) (list : List Answered) → (shown s).pass ≡ Some pass → AnswersAll does s list last → Stays (shown last) (shown s')
+      → ServesAll g (shown s) pass list (shown s')
+  all-served s last s' pass [] had all stays = serves-none g (shown s) (shown s') pass had (subst (λ x. Stays (shown x) (shown s')) all stays)
+  all-served s last s' pass (first ∷ more) had all stays =
+      let did = one s all.0 first.message (Some first.reply) all.1 in
+      serves-more g (shown s) (shown all.0) (shown s') pass first more had did (all-served all.0 last s' did.has.pass' more did.has.has all.2 stays)
+
+  -- so the records of its stream were served
+  pub stream-served : {L : Type 0} (stands : L → List ℕ → List ℕ → Type 0) (s s' : S) (pass : PassView Group) (link link' : L) (seen seen' : LinkShown) (limit : ℕ) (how : End)
+      → (shown s).pass ≡ Some pass → limit ≡ RECORD_MAX → StreamAnswered does stands limit None s link seen (Some how) s' link' seen'
+      → StreamServed g stands (shown s) pass link seen how (shown s') link' seen'
+  stream-served stands s s' pass link link' seen seen' limit how had limit_is did =
+      let last = did.last in
+      let looked = records limit did.front in
+      let left = left-so (λ a junk b. does a junk None b) last s' seen did.answered looked did.behind did.unsent seen' how did.ended did.left in
+      let all = all-served s last s' pass did.answered had did.progress.answers (left-stays last s' left) in
       record {
-        makes = subst (λ ps. Makes told' pass ps pass'') (sym groups_are)
-            (makes-goes told told' pass pass' pass'' (placed items) (placed items') later before.makes after.makes);
-        each = All-append (Serves g pass.number conn r) items items' before.each
-            (subst (λ n. All (Serves g n conn r) items') before.makes.number after.each);
-        bytes = Goes-goes stands link link' link'' written received written' received' before.bytes after.bytes;
-        goes = link-goes seen seen' seen'' received received' before.goes after.goes;
-        rings = subst (λ ps. Rings dial ps (calls (items ++ items')) dial'') (sym groups_are)
-            (subst (λ cs. Rings dial (placed items ++ placed items') cs dial'') (sym calls_are)
-            (rings-goes dial dial' dial'' (placed items) (placed items') (calls items) (calls items') before.rings after.rings));
+        list = did.answered;
+        front = did.front;
+        behind = did.behind;
+        written = did.written;
+        unsent = did.unsent;
+        serves = all;
+        bytes = did.progress.bytes;
+        goes = did.progress.goes;
+        wrote = did.wrote;
+        ended = subst (λ n. EndsSo (λ message. meaning message (shown s).role ≡ Junk) seen did.answered (records n did.front) did.behind did.unsent seen' (Some how)) limit_is
+            (ends-as (λ message. does last message None s') (λ message. meaning message (shown s).role ≡ Junk)
+            (λ message d. let junk = one last s' message None d in ap (meaning message) (sym all.role ∙ junk.role) ∙ junk.has.0) seen did.answered looked did.behind did.unsent seen' how did.ended);
       }
+
+module _ {S A : Type 0} (does : S → List ℕ → Option (List ℕ) → S → Type 0) (of : S → A)
+    (one : (s s' : S) (message : List ℕ) (reply : Option (List ℕ)) → does s message reply s' → of s' ≡ of s) where
+  -- what each message keeps is kept by all of them
+  all-keeps : (s s' : S) (list : List Answered) → AnswersAll does s list s' → of s' ≡ of s
+  all-keeps s s' [] all = ap of all
+  all-keeps s s' (first ∷ more) all = all-keeps all.0 s' more all.2 ∙ one s all.0 first.message (Some first.reply) all.1
+
+  -- and to the end of the stream
+  pub stream-keeps : {L : Type 0} (stands : L → List ℕ → List ℕ → Type 0) (s s' : S) (link link' : L) (seen seen' : LinkShown) (limit : ℕ) (how : End)
+      → StreamAnswered does stands limit None s link seen (Some how) s' link' seen' → of s' ≡ of s
+  stream-keeps stands s s' link link' seen seen' limit how did =
+      by (left-so (λ a junk b. does a junk None b) did.last s' seen did.answered (records limit did.front) did.behind did.unsent seen' how did.ended did.left)
+      ∙ all-keeps s did.last did.answered did.progress.answers
+    where
+      by : (s' ≡ did.last) ⊎ ((junk : List ℕ) × does did.last junk None s') → of s' ≡ of did.last
+      by (inl same) = ap of same
+      by (inr junk) = one did.last s' junk.0 None junk.1

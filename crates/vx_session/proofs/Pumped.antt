@@ -12,9 +12,9 @@ use Rattle.vx_exchange.specs.Meaning.{srq_record}
 use Rattle.vx_core.specs.Groups.{Group}
 use Rattle.vx_session.specs.Placing.{Placed, Makes}
 use Rattle.vx_session.specs.Turning.{TakesTurn}
-use Rattle.vx_link.specs.Shown.{LinkShown, LinkGoes}
-use Rattle.vx_link.specs.ProvedLaws.{link-none, link-goes}
-use Rattle.vx_link.specs.Sending.{IsSent, SendsAll}
+use Rattle.vx_stream.specs.Shown.{LinkShown, LinkGoes}
+use Rattle.vx_stream.specs.ProvedLaws.{link-none, link-goes}
+use Rattle.vx_stream.specs.Sending.{IsSent, SendsAll}
 use Rattle.vx_session.specs.ProvedLaws.{makes-none, makes-goes}
 use Rattle.vx_session.specs.Pumping.{Taking, IsTaking, given_record, taken_records, HaveLived, Pumps}
 use Rattle.vx_session.specs.declared.pumps.PumpEnd.TheVariants as end

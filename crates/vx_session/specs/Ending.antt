@@ -1,5 +1,5 @@
 -- What a whole session did.
-use Rattle.std.specs.Prelude.{◌≡◌, ℕ, List, [], ◌∷◌, ◌++◌}
+use Rattle.std.specs.Prelude.{◌≡◌, ℕ, List, [], ◌∷◌, ◌++◌, Some}
 use Rattle.std.specs.List.{All}
 use Rattle.vx_io_traits.specs.Stands.{Goes}
 use Rattle.vx_calls.specs.declared.calls.Role.{Role}
@@ -8,17 +8,19 @@ use Rattle.vx_bus_traits.specs.declared.bus.Bus.{Ghosts}
 use Rattle.vx_gate.specs.History.{groups}
 use Rattle.vx_gate.specs.PassView.{PassView}
 use Rattle.vx_record.specs.Records.{records}
+use Rattle.vx_exchange.specs.Meaning.{meaning, Junk}
 use Rattle.vx_history.specs.Event.{Down}
 use Rattle.vx_history.specs.Headline.{Headline}
 use Rattle.vx_history.specs.Groups.{Group, events_of}
 use Rattle.vx_history.specs.Owning.{Owned}
+use Rattle.vx_stream.specs.Answered.{replies}
+use Rattle.vx_stream.specs.Stopping.{EndsSo}
+use Rattle.vx_stream.specs.declared.ends.End.{End}
 use Rattle.vx_session.specs.Placing.{Placed, Makes, IsHistory}
-use Rattle.vx_link.specs.Shown.{LinkShown, LinkGoes}
+use Rattle.vx_stream.specs.Shown.{LinkShown, LinkGoes}
 use Rattle.vx_session.specs.Outside.{DialShown}
 use Rattle.vx_session.specs.Serving.{Item, Serves}
-use Rattle.vx_session.specs.Progress.{Rings, placed, calls, replies}
-use Rattle.vx_session.specs.Stopping.{EndsSo}
-use Rattle.vx_session.specs.declared.sessions.End.{End}
+use Rattle.vx_session.specs.Progress.{Rings, answered, placed, calls}
 
 -- All that is claimed of the history that the pass has seen: its events gather to a legal history of one gateway of one
 -- thread, with the laws of locks, heard bytes and interrupts; and each connection's calls and answers are of one pass.
@@ -45,8 +47,9 @@ pub record SessionDid {B L : Type 0} (g : Ghosts B) (stands : L → List ℕ →
   -- the bytes that came and went
   pub bytes : Goes stands link link' written (front ++ behind)
   pub goes : LinkGoes seen (front ++ behind) seen'
-  pub wrote : replies items ≡ written ++ unsent
-  pub ended : EndsSo seen r items (records RECORD_MAX front) behind unsent seen' how
+  pub wrote : replies (answered items) ≡ written ++ unsent
+  -- why it ended: a message without a reply is junk
+  pub ended : EndsSo (λ message. meaning message r ≡ Junk) seen (answered items) (records RECORD_MAX front) behind unsent seen' (Some how)
   -- the dial's calls
   pub rings : Rings dial (placed items) (calls items) dial'
   pub upholds : Upholds pass'

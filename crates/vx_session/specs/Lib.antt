@@ -7,8 +7,6 @@ pub mod ProvedLaws
 pub mod Outside
 pub mod Serving
 pub mod Progress
-pub mod Streaming
-pub mod Stopping
 pub mod Ending
 pub mod Linking
 pub use Rattle.vx_io_traits.specs.Faults
@@ -17,7 +15,7 @@ pub use Rattle.vx_exchange.specs.Meaning
 pub use Rattle.vx_exchange.specs.SrqState
 pub use Rattle.vx_gate.specs.PassView
 pub use Rattle.vx_core.specs.Groups
-pub use Rattle.vx_link.specs.Shown
+pub use Rattle.vx_stream.specs.Shown
 pub use Rattle.vx_calls.specs.Call
 pub use Rattle.vx_calls.specs.Reply
 pub use Rattle.vx_bus_traits.specs.Means
@@ -37,9 +35,9 @@ pub use Rattle.vx_history.specs.Owning
 pub use Rattle.vx_history.specs.Phases
 pub use Rattle.vx_core.specs.CoreState
 pub use Rattle.vx_io_traits.specs.Rung
-pub use Rattle.vx_record.specs.Buffer
 pub use Rattle.vx_record.specs.Records
-pub use Rattle.vx_record.specs.Runs
+pub use Rattle.vx_stream.specs.Answered
+pub use Rattle.vx_stream.specs.Stopping
 pub use Rattle.vx_history.specs.Event
 pub use Rattle.vx_history.specs.Headline
 pub use Rattle.vx_history.specs.Poll

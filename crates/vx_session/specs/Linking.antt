@@ -6,11 +6,11 @@ use Rattle.vx_gate.specs.PassView.{PassView}
 use Rattle.vx_tables.specs.declared.tables.Connect.{Connect}
 use Rattle.vx_tables.specs.declared.tables.Connect.TheVariants as connect
 use Rattle.vx_history.specs.Groups.{Group}
+use Rattle.vx_stream.specs.declared.ends.End.{End}
 use Rattle.vx_session.specs.Turning.{Joins}
-use Rattle.vx_link.specs.Shown.{LinkShown}
+use Rattle.vx_stream.specs.Shown.{LinkShown}
 use Rattle.vx_session.specs.Outside.{DialShown}
 use Rattle.vx_session.specs.Ending.{Upholds, SessionDid}
-use Rattle.vx_session.specs.declared.sessions.End.{End}
 use Rattle.vx_session.specs.declared.links.Linked.{Linked}
 use Rattle.vx_session.specs.declared.links.Linked.TheVariants as linked
 

@@ -33,11 +33,13 @@ pub record IsPolled {B : Type 0} (g : Ghosts B) (before : FineState) (conn now :
 abbrev pub moment_at : Placed → ℕ → ℕ
 moment_at placed told = max (last_moment (groups placed.before)) told
 
--- A call of the connection was polled in a turn at its place in the history: a poll of a state that stands for the history.
+-- A call of the connection was polled in a turn at its place in the history: a poll of a state that stands for the history. The
+-- group keeps the moment of the poll.
 pub record PollsAt {B : Type 0} (g : Ghosts B) (placed : Placed) (conn now : ℕ) (ending : Ending) (events : List Event) : Type 0 where
   pub state : FineState
   pub stands : StandsFor state (groups placed.before)
   pub polled : IsPolled g state conn now ending events
+  pub keeps : placed.group.moment ≡ now
 
 -- A call came on the connection and was polled, in a turn at its place in the history.
 pub record ComesAt {B : Type 0} (g : Ghosts B) (placed : Placed) (conn : ℕ) (call : Call) (now : ℕ) (ending : Ending) : Type 0 where
@@ -48,6 +50,7 @@ pub record ComesAt {B : Type 0} (g : Ghosts B) (placed : Placed) (conn : ℕ) (c
   pub part : List Event
   pub polled : IsPolled g come conn now ending part
   pub events : placed.group.events ≡ Arrive conn call now ∷ part
+  pub keeps : placed.group.moment ≡ now
 
 -- an event has this moment, or none
 abbrev pub IsAt : ℕ → Event → Type 0

@@ -1,8 +1,7 @@
 -- How far a session has come.
-use Rattle.std.specs.Prelude.{◌≡◌, ◌≤◌, ◌<◌, ℕ, List, map, length, count_by, take, Option, Some, None}
-use Rattle.std.specs.List.{All, flat_map}
+use Rattle.std.specs.Prelude.{◌≡◌, ◌≤◌, ℕ, List, map, count_by, Option, Some, None}
+use Rattle.std.specs.List.{flat_map}
 use Rattle.vx_io_traits.specs.Rung.{AddsCalls}
-use Rattle.vx_io_traits.specs.Stands.{Goes}
 use Rattle.vx_io_traits.specs.declared.dials.Rang.{Rang}
 use Rattle.vx_calls.specs.declared.calls.Role.{Role}
 use Rattle.vx_calls.specs.Call.{Call}
@@ -11,23 +10,20 @@ use Rattle.vx_gate.specs.PassView.{PassView}
 use Rattle.vx_history.specs.Groups.{Group, events_of}
 use Rattle.vx_history.specs.Poll.{Dialed}
 use Rattle.vx_exchange.specs.Meaning.{meaning, Junk}
+use Rattle.vx_stream.specs.Answered.{Answered}
 use Rattle.vx_session.specs.Placing.{Placed, Makes}
-use Rattle.vx_link.specs.Shown.{LinkShown, LinkGoes}
 use Rattle.vx_session.specs.Outside.{DialShown, RoseBy, is_failed_dial}
-use Rattle.vx_session.specs.Serving.{Item, GoesOn, IsCalled, IsServed, Serves}
+use Rattle.vx_session.specs.Serving.{Item, GoesOn, IsCalled, IsServed}
 
--- the messages of these items, their groups, the calls of the dial and the replies
-abbrev pub messages : List Item → List (List ℕ)
-messages items = map (λ i. i.message) items
+-- the messages of these items with their replies, their groups, and the calls of the dial
+abbrev pub answered : List Item → List Answered
+answered items = map (λ i. i.answered) items
 
 abbrev pub placed : List Item → List Placed
 placed items = flat_map (λ i. i.placed) items
 
 abbrev pub calls : List Item → List Rang
 calls items = flat_map (λ i. i.calls) items
-
-abbrev pub replies : List Item → List ℕ
-replies items = flat_map (λ i. i.reply) items
 
 -- how many of these groups' answers are behind a dial that failed
 abbrev pub failed_dials : List Placed → ℕ
@@ -60,18 +56,31 @@ abbrev pub ServesRecord : {B : Type 0} → Ghosts B → (told : ℕ) → Role �
 ServesRecord g told r pass conn message dial out pass' dial' =
     Uses told pass dial (λ placed rung. IsServed g pass.number conn (meaning message r) placed rung out) pass' dial'
 
--- what a message on the connection does: junk is no call and changes nothing; anything else is served
-abbrev pub MessageDoes : {B : Type 0} → Ghosts B → (told : ℕ) → Role → PassView Group → (conn : ℕ) → List ℕ → DialShown → List ℕ → Option ℕ → PassView Group → DialShown → Type 0
-MessageDoes g told r pass conn message dial room None pass' dial' = (meaning message r ≡ Junk) × (pass' ≡ pass) × (dial' ≡ dial)
-MessageDoes g told r pass conn message dial room (Some len) pass' dial' =
-    ServesRecord g told r pass conn message dial (take len room) pass' dial' × (0 < len) × (len ≤ length room)
+-- what a session has between two messages: the connection's role and number, its pass, the greatest moment that its clock has
+-- told, and its dial
+pub record SessionState : Type 0 where
+  pub role : Role
+  pub conn : ℕ
+  pub pass : Option (PassView Group)
+  pub told : ℕ
+  pub dial : DialShown
 
--- These records were served, in this order: by these groups and replies, of which the link took `written`. It gave the bytes
--- `received`.
-pub record Progress {B L : Type 0} (g : Ghosts B) (stands : L → List ℕ → List ℕ → Type 0) (told : ℕ) (r : Role) (conn : ℕ) (pass : PassView Group) (link : L) (seen : LinkShown) (dial : DialShown)
-    (items : List Item) (received written : List ℕ) (pass' : PassView Group) (link' : L) (seen' : LinkShown) (dial' : DialShown) : Type 0 where
-  pub makes : Makes told pass (placed items) pass'
-  pub each : All (Serves g pass.number conn r) items
-  pub bytes : Goes stands link link' written received
-  pub goes : LinkGoes seen received seen'
-  pub rings : Rings dial (placed items) (calls items) dial'
+-- a message was served by this reply, by the pass that the session had, and has
+pub record IsAnswered {B : Type 0} (g : Ghosts B) (s : SessionState) (message reply : List ℕ) (s' : SessionState) : Type 0 where
+  pub pass : PassView Group
+  pub pass' : PassView Group
+  pub had : s.pass ≡ Some pass
+  pub has : s'.pass ≡ Some pass'
+  pub serves : ServesRecord g s'.told s.role pass s.conn message s.dial reply pass' s'.dial
+
+-- junk is no call and changes nothing; any other message is served
+abbrev pub HasReply : {B : Type 0} → Ghosts B → SessionState → List ℕ → Option (List ℕ) → SessionState → Type 0
+HasReply g s message None s' = (meaning message s.role ≡ Junk) × (s'.pass ≡ s.pass) × (s'.dial ≡ s.dial)
+HasReply g s message (Some reply) s' = IsAnswered g s message reply s'
+
+-- what a message on the connection does
+pub record MessageDoes {B : Type 0} (g : Ghosts B) (s : SessionState) (message : List ℕ) (reply : Option (List ℕ)) (s' : SessionState) : Type 0 where
+  pub role : s'.role ≡ s.role
+  pub conn : s'.conn ≡ s.conn
+  pub later : s.told ≤ s'.told
+  pub has : HasReply g s message reply s'

@@ -10,7 +10,7 @@ use Rattle.vx_exchange.specs.Meaning.{srq_record}
 use Rattle.vx_core.specs.Groups.{Group}
 use Rattle.vx_session.specs.Placing.{Placed, Makes, IsHistory}
 use Rattle.vx_session.specs.Turning.{Samples, TakesFrom}
-use Rattle.vx_link.specs.Shown.{LinkShown, LinkGoes}
+use Rattle.vx_stream.specs.Shown.{LinkShown, LinkGoes}
 use Rattle.vx_session.specs.declared.pumps.PumpEnd.{PumpEnd}
 use Rattle.vx_session.specs.declared.pumps.PumpEnd.TheVariants as end
 

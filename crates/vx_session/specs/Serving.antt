@@ -9,7 +9,9 @@ use Rattle.vx_calls.specs.Call.{Call}
 use Rattle.vx_calls.specs.Reply as reply
 use Rattle.vx_record.specs.Fragments.{record_of}
 use Rattle.vx_bus_traits.specs.declared.bus.Bus.{Ghosts}
-use Rattle.vx_exchange.specs.Meaning.{Meaning, Junk, Answered, Asks, Aborts, meaning, reply_record}
+use Rattle.vx_exchange.specs.Meaning as meant
+use Rattle.vx_exchange.specs.Meaning.{Meaning, Junk, Asks, Aborts, meaning, reply_record}
+use Rattle.vx_stream.specs.Answered.{Answered}
 use Rattle.vx_history.specs.Event.{Abort}
 use Rattle.vx_history.specs.Poll as poll
 use Rattle.vx_history.specs.Poll.{Ending, Waited, Dialed}
@@ -17,13 +19,12 @@ use Rattle.vx_session.specs.Placing.{Placed, behind}
 use Rattle.vx_session.specs.Parts.{PollsAt, ComesAt, moment_at, DialsFor, settled_events}
 use Rattle.vx_session.specs.Turning.{IsChannel}
 
--- A record's message; the groups that it added, at their places in the history; the calls of the dial that were made for it;
--- and the record of its reply.
+-- A record's message and the record of its reply; the groups that it added, at their places in the history; and the calls of the
+-- dial that were made for it.
 pub record Item : Type 0 where
-  pub message : List ℕ
+  pub answered : Answered
   pub placed : List Placed
   pub calls : List Rang
-  pub reply : List ℕ
 
 -- The group is of one more poll of a connection's call, at the moment that its turn was told, which ended so: with a reply;
 -- without one and for this cause; or with a dial that was asked for, the call's.
@@ -83,10 +84,10 @@ pub record IsAborted (conn xid lid : ℕ) (placed : List Placed) (calls : List R
 -- A message that is answered without the core adds no group; a call adds its groups; junk isn't served.
 abbrev pub IsServed : {B : Type 0} → Ghosts B → (number conn : ℕ) → Meaning → List Placed → List Rang → List ℕ → Type 0
 IsServed g number conn Junk placed calls out = ⊥
-IsServed g number conn (Answered message) placed calls out = (placed ≡ []) × (calls ≡ []) × (out ≡ record_of message)
+IsServed g number conn (meant.Answered message) placed calls out = (placed ≡ []) × (calls ≡ []) × (out ≡ record_of message)
 IsServed g number conn (Asks xid call) placed calls out = IsCalled g number conn xid call placed calls out
 IsServed g number conn (Aborts xid lid) placed calls out = IsAborted conn xid lid placed calls out
 
 -- a record on a connection of this role, served by the pass of this number
 abbrev pub Serves : {B : Type 0} → Ghosts B → (number conn : ℕ) → Role → Item → Type 0
-Serves g number conn r item = IsServed g number conn (meaning item.message r) item.placed item.calls item.reply
+Serves g number conn r item = IsServed g number conn (meaning item.answered.message r) item.placed item.calls item.answered.reply

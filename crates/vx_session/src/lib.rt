@@ -3,11 +3,9 @@
 #![tactic(auto)]
 
 mod acts;
-mod calls;
+mod answering;
 mod links;
-mod pieces;
 mod pumps;
-mod records;
 mod samples;
 mod sessions;
 mod still;
@@ -17,6 +15,7 @@ mod turns;
 pub use links::{LinkDone, Linked, Tally, abort_link, core_link};
 pub use pumps::{PumpEnd, pump};
 pub use samples::sample_turn;
-pub use sessions::{End, NoMemory, Room, abort_session, core_session};
+pub use sessions::{NoMemory, Room, abort_session, core_session};
 pub use tools::Tools;
 pub use turns::{abort, come, join, leave, poll_again, sample, settle, take};
+pub use vx_stream::End;

@@ -1,11 +1,11 @@
 //! One link of a server, from its connect to its end, and the count of those that were served.
 ghost use Rattle.std.specs.Prelude.{◌≡◌, ◌≤◌, ◌+◌, ◌-◌, ◌^◌, min};
 ghost use Rattle.vx_calls.specs.declared.calls.Role.TheVariants as role;
-ghost use Rattle.vx_link.specs.Shown.{link_shown};
+ghost use Rattle.vx_stream.specs.Shown.{link_shown};
 ghost use Rattle.vx_session.specs.Outside.{dial_shown, no_dial};
 ghost use Rattle.vx_session.specs.Linking.{LinkDid, refused_as};
 
-use crate::sessions::{End, Room, abort_session, core_session};
+use crate::sessions::{Room, abort_session, core_session};
 use crate::turns::join;
 use std::alloc::Global;
 use std::marker::Model;
@@ -16,6 +16,7 @@ use vx_core::{Connect, Core};
 use vx_gate::{Pass, Turns};
 use vx_history::{headline_law, owned_law};
 use vx_io_traits::{Clock, Dial, Link, Pause};
+use vx_stream::End;
 
 /// How a link's work ended.
 #[derive(Clone, Copy, Debug, PartialEq, Eq)]

@@ -1,6 +1,6 @@
 //! The pump of one interrupt channel.
 ghost use Rattle.std.specs.Prelude.{◌≡◌, ◌≤◌, ◌<◌, length};
-ghost use Rattle.vx_link.specs.Shown.{link_shown};
+ghost use Rattle.vx_stream.specs.Shown.{link_shown};
 ghost use Rattle.vx_session.specs.Pumping.{Pumps};
 
 use crate::turns::take;
@@ -11,7 +11,7 @@ use vx_core::Core;
 use vx_exchange::{SRQ_ROOM, put_srq_record};
 use vx_gate::{Pass, Turns};
 use vx_io_traits::{Link, Pause};
-use vx_link::send_all;
+use vx_stream::send_all;
 
 /// Why a pump ended.
 #[derive(Clone, Copy, Debug, PartialEq, Eq)]

@@ -1,18 +1,13 @@
 //! The session of one connection.
-ghost use Rattle.std.specs.Prelude.{◌≡◌, ◌≤◌, ◌<◌, length};
+ghost use Rattle.std.specs.Prelude.{◌≡◌, ◌≤◌};
 ghost use Rattle.vx_calls.specs.declared.calls.Role.TheVariants as role;
-ghost use Rattle.vx_calls.specs.declared.limits.TheConstants.{RECORD_MAX};
-ghost use Rattle.vx_exchange.specs.declared.record.TheConstants.{REPLY_ROOM};
-ghost use Rattle.vx_record.specs.Buffer.{fresh};
-ghost use Rattle.vx_record.specs.declared.Feed.TheVariants as feed;
 ghost use Rattle.vx_history.specs.Phases.{Idle};
 ghost use Rattle.vx_session.specs.Turning.{phase_at};
-ghost use Rattle.vx_link.specs.Shown.{link_shown};
+ghost use Rattle.vx_stream.specs.Shown.{link_shown};
 ghost use Rattle.vx_session.specs.Outside.{dial_shown, no_dial};
 ghost use Rattle.vx_session.specs.Ending.{SessionDid};
-ghost use Rattle.vx_session.specs.Stopping.{NextServed, StreamServed, input_end};
 
-use crate::pieces::serve_piece;
+use crate::answering::Answering;
 use crate::still::Still;
 use crate::turns::leave;
 use std::alloc::Global;
@@ -24,25 +19,9 @@ use vx_core::Core;
 use vx_exchange::REPLY_ROOM;
 use vx_gate::{Pass, Turns};
 use vx_history::{headline_law, owned_law};
-use vx_io_traits::{Clock, Dial, Link, Pause, ReadOut};
-use vx_record::{RecordBuf, pieces_law};
-
-/// How a session ended.
-#[derive(Clone, Copy, Debug, PartialEq, Eq)]
-pub enum End {
-    /// The input ended behind a whole record, or before the first.
-    Closed,
-    /// It ended so many bytes behind the last whole record; more than 2^62 are told as 2^62.
-    CutShort { bytes: usize },
-    /// A whole record of this length is no call.
-    Junk { length: usize },
-    /// A record goes above [`RECORD_MAX`] bytes.
-    TooLong,
-    /// A receive failed.
-    ReadFault,
-    /// A send failed.
-    WriteFault,
-}
+use vx_io_traits::{Clock, Dial, Link, Pause};
+use vx_record::RecordBuf;
+use vx_stream::{End, answer_stream};
 
 /// There was no memory for the room.
 #[derive(Clone, Copy, Debug, PartialEq, Eq)]
@@ -94,99 +73,6 @@ impl Room {
     }
 }
 
-/// Receives the next piece of a connection's stream and serves its records; says why the session ends, where it does.
-fn serve_next<R: Wait, B: Bus, T: Turns<Core<B>>, L: Link, C: Clock, P: Pause, D: Dial>(
-    rt: &R,
-    turns: &T,
-    pass: Pass<Core<B>>,
-    conn: u32,
-    role: Role,
-    link: &mut L,
-    clock: &mut C,
-    pause: &mut P,
-    dial: &mut D,
-    incoming: &mut RecordBuf,
-    piece: &mut [u8],
-    reply: &mut [u8],
-) -> (Pass<Core<B>>, Option<End>)
-    requires gate { pass.gate ≡ T.gate turns.now }
-    requires phase { phase_at pass conn ≡ Idle role }
-    requires more { incoming.old.state ≡ feed.More }
-    requires limit { incoming.old.limit ≡ RECORD_MAX }
-    requires piece { 0 < length piece.old }
-    requires room { REPLY_ROOM ≤ length reply.old }
-    ensures serves { NextServed B.Bus L.stands (C.told clock.old) (C.told clock.new) role conn pass link.old (link_shown L.left L.peers L.receive_faults L.send_faults link.old) (dial_shown D.calls D.faults dial.old)
-        incoming.old result.1 result.0 link.new (link_shown L.left L.peers L.receive_faults L.send_faults link.new) (dial_shown D.calls D.faults dial.new) incoming.new }
-    ensures phase { phase_at result.0 conn ≡ Idle role }
-    ensures limit { incoming.new.limit ≡ RECORD_MAX }
-    ensures told { C.told clock.old ≤ C.told clock.new }
-    ensures piece { length piece.new ≡ length piece.old }
-    ensures len { length reply.new ≡ length reply.old }
-{
-    match link.receive(piece) {
-        ReadOut::Failed => (pass, Some(End::ReadFault)),
-        ReadOut::End => (pass, Some(end_of_input(incoming.rest()))),
-        ReadOut::Got(count) => {
-            let piece = &piece[..count];
-            serve_piece(
-                rt, turns, pass, conn, role, link, clock, pause, dial, incoming, piece, reply,
-            )
-        }
-    }
-}
-
-/// Serves the records of a connection's stream, to its end or to where it stops.
-fn serve_stream<R: Wait, B: Bus, T: Turns<Core<B>>, L: Link, C: Clock, P: Pause, D: Dial>(
-    rt: &R,
-    turns: &T,
-    pass: Pass<Core<B>>,
-    conn: u32,
-    role: Role,
-    link: &mut L,
-    clock: &mut C,
-    pause: &mut P,
-    dial: &mut D,
-    incoming: &mut RecordBuf,
-    piece: &mut [u8],
-    reply: &mut [u8],
-) -> (Pass<Core<B>>, End)
-    requires gate { pass.gate ≡ T.gate turns.now }
-    requires phase { phase_at pass conn ≡ Idle role }
-    requires buffer { incoming.old ≡ fresh RECORD_MAX }
-    requires piece { 0 < length piece.old }
-    requires room { REPLY_ROOM ≤ length reply.old }
-    ensures serves { StreamServed B.Bus L.stands (C.told clock.new) role conn pass link.old (link_shown L.left L.peers L.receive_faults L.send_faults link.old) (dial_shown D.calls D.faults dial.old)
-        result.1 result.0 link.new (link_shown L.left L.peers L.receive_faults L.send_faults link.new) (dial_shown D.calls D.faults dial.new) }
-    ensures phase { phase_at result.0 conn ≡ Idle role }
-    ensures limit { incoming.new.limit ≡ RECORD_MAX }
-    ensures told { C.told clock.old ≤ C.told clock.new }
-    ensures piece { length piece.new ≡ length piece.old }
-    ensures len { length reply.new ≡ length reply.old }
-{
-    pieces_law();
-    let mut pass = pass;
-    for _ in rt.forever() {
-        let (served, end) = serve_next(
-            rt, turns, pass, conn, role, link, clock, pause, dial, incoming, piece, reply,
-        );
-        pass = served;
-        if let Some(end) = end {
-            return (pass, end);
-        }
-    }
-    unreachable!()
-}
-
-/// How a session ends whose input ended so many bytes behind the last whole record.
-fn end_of_input(bytes: usize) -> End
-    ensures { result ≡ input_end bytes }
-{
-    match bytes {
-        0 => End::Closed,
-        _ => End::CutShort { bytes },
-    }
-}
-
 /// A session, in a room: the records of its stream are served, and then the connection goes.
 fn run_session<R: Wait, B: Bus, T: Turns<Core<B>>, L: Link, C: Clock, P: Pause, D: Dial>(
     rt: &R,
@@ -214,20 +100,26 @@ fn run_session<R: Wait, B: Bus, T: Turns<Core<B>>, L: Link, C: Clock, P: Pause, 
         reply,
     } = room;
     incoming.restart();
-    let (pass, end) = serve_stream(
+    let mut held = Some(pass);
+    let server = Answering {
         rt,
         turns,
-        pass,
+        held: &mut held,
         conn,
         role,
-        link,
         clock,
         pause,
         dial,
+    };
+    let (_, end) = answer_stream(
+        rt,
+        server,
+        link,
         incoming,
         piece.as_mut_slice(),
         reply.as_mut_slice(),
     );
+    let Some(pass) = held else { unreachable!() };
     (leave(rt, turns, pass, conn), end)
 }
 

@@ -3,7 +3,7 @@ use Rattle.std.proofs.Common.{sym, subst}
 use Rattle.vx_door.specs.Shown.{door_shown}
 use Rattle.vx_door.specs.Running.{ServesPeers}
 use Rattle.vx_portmap.specs.Mapped.{StreamMapped, is_own, is_whole}
-use Rattle.vx_link.specs.Shown.{link_shown}
+use Rattle.vx_stream.specs.Shown.{link_shown}
 use Rattle.vx_portmap.specs.Packing.{box_shown}
 use Rattle.vx_portmap.specs.Outcome.{Shows, Works}
 use Rattle.vx_portmap.proofs.run.work.Goals as goal

@@ -1,4 +1,4 @@
-use Rattle.vx_link.specs.Shown.{link_shown}
+use Rattle.vx_stream.specs.Shown.{link_shown}
 use Rattle.vx_session.proofs.Pumped.{Pumped}
 use Rattle.vx_session.proofs.pumps.pump.Given as goal
 

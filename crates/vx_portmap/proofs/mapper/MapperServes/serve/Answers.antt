@@ -1,4 +1,4 @@
-use Rattle.vx_link.specs.Shown.{link_shown}
+use Rattle.vx_stream.specs.Shown.{link_shown}
 use Rattle.vx_portmap.proofs.Spent.{cut-rose}
 use Rattle.vx_portmap.proofs.mapper.MapperServes.serve.Goals as goal
 

@@ -1,0 +1,39 @@
+use Rattle.std.proofs.Common.{◌≡◌, refl, sym, ◌∙◌, subst, take}
+use denote.Enum.Bare.{sameb}
+use Rattle.vx_io_traits.specs.contracts.dials.DialOut.{the_type}
+use Rattle.vx_io_traits.specs.declared.dials.DialOut.{DialOut}
+use Rattle.vx_io_traits.specs.declared.dials.DialOut.TheVariants as dialout
+use Rattle.vx_io_traits.specs.Rung.{is_up}
+use Rattle.vx_session.specs.Outside.{dial_shown}
+use Rattle.vx_session.specs.Progress.{AnswersDial}
+use Rattle.vx_session.proofs.Calling.{Dials, dials-so, dial-answered, dial-failed}
+use Rattle.vx_session.proofs.answering.answer_dial.Goals.{in-Some, in_default}
+use Rattle.vx_session.proofs.answering.answer_dial.Goals as goal
+
+-- whether a stream stands
+up-is : (answer : DialOut) → is_up answer ≡ sameb the_type answer dialout.Up
+up-is dialout.Up = refl
+up-is dialout.Failed = refl
+
+pub returns-clause-dials : goal.returns-clause-dials
+returns-clause-dials g c = λ call.
+    let shown : g.row.D.Denot → _ = dial_shown g.D.Dial.calls g.D.Dial.faults in
+    let dials : Dials (shown c.args.dial.now) (shown c.dial.new.self) c.args.host c.args.port c.eq-up.result =
+    subst (λ u. Dials (shown c.args.dial.now) (shown c.dial.new.self) c.args.host c.args.port u) (up-is c.dial.result ∙ sym c.eq-up.ensures)
+    (dials-so (shown c.args.dial.now) (shown c.dial.new.self) c.args.host c.args.port c.dial.result c.dial.ensures.told c.dial.ensures.counted c.dial.ensures.failed) in
+    let told = g.C.Clock.told c.now.new.self in
+    let room = c.settle-pass.new.reply in
+    let answered = c.settle-pass.result.1 in
+    elim c.match-answered.branch [
+      | in-Some w ↦
+          subst (λ d. AnswersDial g.B.Bus told c.args.pass c.args.conn c.args.xid call c.args.host c.args.port (shown c.args.dial.now) (take answered.len room) c.settle-pass.result.0 (shown d))
+          (sym w.dial-is)
+          (dial-answered g.B.Bus told c.now.result c.args.pass c.settle-pass.result.0 c.args.conn c.args.xid call c.args.host c.args.port room c.eq-up.result answered w.in-Some.chan
+          (shown c.args.dial.now) (shown c.dial.new.self) (shown w.hand.new.self) c.now.ensures.within dials c.settle-pass.ensures.settles w.in-Some.is w.hand.ensures.told
+          w.hand.ensures.counted)
+      | in_default w ↦
+          subst (λ d. AnswersDial g.B.Bus told c.args.pass c.args.conn c.args.xid call c.args.host c.args.port (shown c.args.dial.now) (take answered.len room) c.settle-pass.result.0 (shown d))
+          (sym w.dial-is)
+          (dial-failed g.B.Bus told c.now.result c.args.pass c.settle-pass.result.0 c.args.conn c.args.xid call c.args.host c.args.port room c.eq-up.result answered
+          (shown c.args.dial.now) (shown c.dial.new.self) c.now.ensures.within dials c.settle-pass.ensures.settles w.in_default.is)
+    ]

@@ -1,0 +1,36 @@
+use Rattle.std.proofs.Common.{refl, arith}
+use Rattle.vx_session.specs.Outside.{dial_shown}
+use Rattle.vx_session.proofs.Recorded.{answered-does, aborts-does}
+use Rattle.vx_session.proofs.answering.serve_record.Goals as goal
+
+pub returns-in-Answered-clause-does : goal.returns-in-Answered-clause-does
+returns-in-Answered-clause-does g c =
+    let opens = c.in-Answered.ensures.opens in
+    record {
+      role = refl;
+      conn = refl;
+      later = omega arith;
+      has = record {
+        pass = c.args.pass;
+        pass' = c.args.pass;
+        had = refl;
+        has = refl;
+        serves = answered-does g.B.Bus (g.C.Clock.told c.args.clock.now) c.args.role c.args.pass c.args.conn c.args.message.now (dial_shown g.D.Dial.calls g.D.Dial.faults c.args.dial.now)
+            opens.0 c.open.new.reply c.in-Answered.len opens.1 opens.2;
+      };
+    }
+
+pub returns-in-Aborts-clause-does : goal.returns-in-Aborts-clause-does
+returns-in-Aborts-clause-does g c = record {
+  role = refl;
+  conn = refl;
+  later = omega arith;
+  has = record {
+    pass = c.args.pass;
+    pass' = c.abort-pass.result.0;
+    had = refl;
+    has = refl;
+    serves = aborts-does g.B.Bus (g.C.Clock.told c.args.clock.now) c.args.role c.args.pass c.args.conn c.args.message.now (dial_shown g.D.Dial.calls g.D.Dial.faults c.args.dial.now)
+        c.in-Aborts.xid c.in-Aborts.lid c.abort-pass.new.reply c.abort-pass.result.1 c.abort-pass.result.0 c.in-Aborts.ensures.opens c.abort-pass.ensures.aborts;
+  };
+}

@@ -1,6 +1,0 @@
-use Rattle.vx_calls.specs.Call.{call_shown}
-use Rattle.vx_session.proofs.Calling.{Polling}
-use Rattle.vx_session.proofs.calls.answer_call.Given as goal
-
-abbrev pub invariant-loop : goal.invariant-loop
-invariant-loop g l = Polling g.B.Bus g.C.Clock.told l.fn.clock l.clock l.fn.dial l.dial l.fn.pass l.conn l.xid (call_shown l.call) l.reply l.end l.pass

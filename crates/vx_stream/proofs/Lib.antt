@@ -1,0 +1,7 @@
+pub mod Sends
+pub mod Moving
+pub mod Progressing
+pub mod Wholes
+pub mod Runs
+pub mod Piecewise
+pub mod Streamwise
