@@ -3,6 +3,7 @@ pub mod Sending
 pub mod Reading
 pub mod Meanings
 pub mod Calling
+pub mod Ending
 pub mod Chunks
 pub mod Parts
 pub mod Ports

@@ -9,6 +9,7 @@ pub mod Calls
 pub mod Chunks
 pub mod Parts
 pub mod Swapped
+pub mod Ending
 pub mod Asked
 pub mod Gaining
 pub mod Due

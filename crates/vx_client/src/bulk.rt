@@ -2,6 +2,7 @@
 
 ghost use Rattle.std.specs.Prelude.{◌≡◌, ◌≤◌, ◌<◌, length, min, IfOk};
 ghost use Rattle.vx_client.specs.Exchange.{IsCalled};
+ghost use Rattle.vx_client.specs.Ending.{TellsEnd};
 ghost use Rattle.vx_client.specs.Meaning.{nothing_of};
 ghost use Rattle.vx_client.specs.Chunks.{chunks, write_call, IsWritten};
 ghost use Rattle.vx_client.specs.Parts.{ReadsPart, IsRead};
@@ -24,7 +25,8 @@ impl<L: Link> Client<L> {
         bytes: &[u8],
     ) -> Result<(), ClientErr>
         requires { length bytes.now ≤ PIECE_MAX }
-        ensures { IsCalled L.stands L.left L.receive_faults L.send_faults self.old self.new (write_call lid opts.now flags bytes.now) 0 nothing_of result }
+        ensures called { IsCalled L.stands L.left L.receive_faults L.send_faults self.old self.new (write_call lid opts.now flags bytes.now) 0 nothing_of result }
+        ensures last { TellsEnd L.receives L.sends self.new.link result }
     {
         self.order(&CallRef::Write {
             lid,
@@ -39,7 +41,8 @@ impl<L: Link> Client<L> {
     /// one. The flag END of `opts` stands on the last piece alone. It ends at the first piece that fails.
     pub fn write(&mut self, made: &LinkMade, opts: &CallOpts, bytes: &[u8]) -> Result<(), ClientErr>
         requires { 1 ≤ made.now.max }
-        ensures { IsWritten L.stands L.left L.receive_faults L.send_faults self.old self.new made.now.lid opts.now (chunks (min made.now.max PIECE_MAX) bytes.now) result }
+        ensures written { IsWritten L.stands L.left L.receive_faults L.send_faults self.old self.new made.now.lid opts.now (chunks (min made.now.max PIECE_MAX) bytes.now) result }
+        ensures last { TellsEnd L.receives L.sends self.new.link result }
     {
         let most = made.max.min(PIECE_MAX) as usize;
         let mut rest = bytes;
@@ -59,6 +62,7 @@ impl<L: Link> Client<L> {
         into: &mut [u8],
     ) -> Result<ReadEnd, ClientErr>
         ensures read { ReadsPart L.stands L.left L.receive_faults L.send_faults lid opts.now term self.old self.new into.old into.new result }
+        ensures last { TellsEnd L.receives L.sends self.new.link result }
         ensures within { IfOk result (λ e. e.len ≤ length into.old) }
         ensures some { IfOk result (λ e. e.reason ≡ 0 → 0 < length into.old → 0 < e.len) }
     {
@@ -92,6 +96,7 @@ impl<L: Link> Client<L> {
         into: &mut [u8],
     ) -> Result<ReadEnd, ClientErr>
         ensures read { IsRead L.stands L.left L.receive_faults L.send_faults lid opts.now term self.old self.new into.old into.new result }
+        ensures last { TellsEnd L.receives L.sends self.new.link result }
         ensures within { IfOk result (λ e. e.len ≤ length into.new) }
     {
         let mut len = 0;

@@ -3,6 +3,7 @@
 ghost use Rattle.std.specs.Prelude.{◌≡◌, ◌≤◌, ◌<◌, length};
 ghost use Rattle.vx_calls.specs.Call as call;
 ghost use Rattle.vx_client.specs.Exchange.{IsCalled};
+ghost use Rattle.vx_client.specs.Ending.{TellsEnd};
 ghost use Rattle.vx_client.specs.Meaning.{made_of, stb_of, len_of, nothing_of, meaning};
 ghost use Rattle.vx_client.specs.Calls.{generic, create, lock_call, command, channel, IsFilled};
 
@@ -46,7 +47,8 @@ impl<L: Link> Client<L> {
         device: &[u8],
     ) -> Result<LinkMade, ClientErr>
         requires { length device.now ≤ DEVICE_MAX }
-        ensures { IsCalled L.stands L.left L.receive_faults L.send_faults self.old self.new (create lock lock_timeout device.now) 0 made_of result }
+        ensures called { IsCalled L.stands L.left L.receive_faults L.send_faults self.old self.new (create lock lock_timeout device.now) 0 made_of result }
+        ensures last { TellsEnd L.receives L.sends self.new.link result }
     {
         let call = CallRef::CreateLink {
             client: 0,
@@ -59,7 +61,8 @@ impl<L: Link> Client<L> {
 
     /// device_readstb: the status byte of a serial poll.
     pub fn readstb(&mut self, lid: u32, opts: &CallOpts) -> Result<u8, ClientErr>
-        ensures { IsCalled L.stands L.left L.receive_faults L.send_faults self.old self.new (call.ReadStb (generic lid opts.now)) 0 stb_of result }
+        ensures called { IsCalled L.stands L.left L.receive_faults L.send_faults self.old self.new (call.ReadStb (generic lid opts.now)) 0 stb_of result }
+        ensures last { TellsEnd L.receives L.sends self.new.link result }
     {
         let call = CallRef::ReadStb(generic_parms(lid, opts));
         Ok(self.ask(&call, &mut [])?.stb)
@@ -67,35 +70,40 @@ impl<L: Link> Client<L> {
 
     /// device_trigger.
     pub fn trigger(&mut self, lid: u32, opts: &CallOpts) -> Result<(), ClientErr>
-        ensures { IsCalled L.stands L.left L.receive_faults L.send_faults self.old self.new (call.Trigger (generic lid opts.now)) 0 nothing_of result }
+        ensures called { IsCalled L.stands L.left L.receive_faults L.send_faults self.old self.new (call.Trigger (generic lid opts.now)) 0 nothing_of result }
+        ensures last { TellsEnd L.receives L.sends self.new.link result }
     {
         self.order(&CallRef::Trigger(generic_parms(lid, opts)))
     }
 
     /// device_clear.
     pub fn clear(&mut self, lid: u32, opts: &CallOpts) -> Result<(), ClientErr>
-        ensures { IsCalled L.stands L.left L.receive_faults L.send_faults self.old self.new (call.Clear (generic lid opts.now)) 0 nothing_of result }
+        ensures called { IsCalled L.stands L.left L.receive_faults L.send_faults self.old self.new (call.Clear (generic lid opts.now)) 0 nothing_of result }
+        ensures last { TellsEnd L.receives L.sends self.new.link result }
     {
         self.order(&CallRef::Clear(generic_parms(lid, opts)))
     }
 
     /// device_remote.
     pub fn remote(&mut self, lid: u32, opts: &CallOpts) -> Result<(), ClientErr>
-        ensures { IsCalled L.stands L.left L.receive_faults L.send_faults self.old self.new (call.Remote (generic lid opts.now)) 0 nothing_of result }
+        ensures called { IsCalled L.stands L.left L.receive_faults L.send_faults self.old self.new (call.Remote (generic lid opts.now)) 0 nothing_of result }
+        ensures last { TellsEnd L.receives L.sends self.new.link result }
     {
         self.order(&CallRef::Remote(generic_parms(lid, opts)))
     }
 
     /// device_local.
     pub fn local(&mut self, lid: u32, opts: &CallOpts) -> Result<(), ClientErr>
-        ensures { IsCalled L.stands L.left L.receive_faults L.send_faults self.old self.new (call.Local (generic lid opts.now)) 0 nothing_of result }
+        ensures called { IsCalled L.stands L.left L.receive_faults L.send_faults self.old self.new (call.Local (generic lid opts.now)) 0 nothing_of result }
+        ensures last { TellsEnd L.receives L.sends self.new.link result }
     {
         self.order(&CallRef::Local(generic_parms(lid, opts)))
     }
 
     /// device_lock, with the flags and the lock_timeout of `opts`.
     pub fn lock(&mut self, lid: u32, opts: &CallOpts) -> Result<(), ClientErr>
-        ensures { IsCalled L.stands L.left L.receive_faults L.send_faults self.old self.new (lock_call lid opts.now) 0 nothing_of result }
+        ensures called { IsCalled L.stands L.left L.receive_faults L.send_faults self.old self.new (lock_call lid opts.now) 0 nothing_of result }
+        ensures last { TellsEnd L.receives L.sends self.new.link result }
     {
         self.order(&CallRef::Lock {
             lid,
@@ -106,14 +114,16 @@ impl<L: Link> Client<L> {
 
     /// device_unlock.
     pub fn unlock(&mut self, lid: u32) -> Result<(), ClientErr>
-        ensures { IsCalled L.stands L.left L.receive_faults L.send_faults self.old self.new (call.Unlock lid) 0 nothing_of result }
+        ensures called { IsCalled L.stands L.left L.receive_faults L.send_faults self.old self.new (call.Unlock lid) 0 nothing_of result }
+        ensures last { TellsEnd L.receives L.sends self.new.link result }
     {
         self.order(&CallRef::Unlock { lid })
     }
 
     /// device_enable_srq: whether the link's interrupts are wanted, and the handle that they give back.
     pub fn enable_srq(&mut self, lid: u32, enable: bool, handle: &Handle) -> Result<(), ClientErr>
-        ensures { IsCalled L.stands L.left L.receive_faults L.send_faults self.old self.new (call.EnableSrq lid enable handle.now.bytes.items) 0 nothing_of result }
+        ensures called { IsCalled L.stands L.left L.receive_faults L.send_faults self.old self.new (call.EnableSrq lid enable handle.now.bytes.items) 0 nothing_of result }
+        ensures last { TellsEnd L.receives L.sends self.new.link result }
     {
         self.order(&CallRef::EnableSrq {
             lid,
@@ -138,6 +148,7 @@ impl<L: Link> Client<L> {
         requires room { length bytes.now ≤ length into.old }
         requires two { 2 ≤ length into.old }
         ensures called { IsCalled L.stands L.left L.receive_faults L.send_faults self.old self.new (command lid opts.now cmd bytes.now) (length into.old) len_of result }
+        ensures last { TellsEnd L.receives L.sends self.new.link result }
         ensures into { IsFilled (meaning self.old.next (command lid opts.now cmd bytes.now) (length into.old) self.new.last) into.old into.new result }
     {
         let call = CallRef::Docmd {
@@ -155,7 +166,8 @@ impl<L: Link> Client<L> {
 
     /// destroy_link.
     pub fn destroy_link(&mut self, lid: u32) -> Result<(), ClientErr>
-        ensures { IsCalled L.stands L.left L.receive_faults L.send_faults self.old self.new (call.DestroyLink lid) 0 nothing_of result }
+        ensures called { IsCalled L.stands L.left L.receive_faults L.send_faults self.old self.new (call.DestroyLink lid) 0 nothing_of result }
+        ensures last { TellsEnd L.receives L.sends self.new.link result }
     {
         self.order(&CallRef::DestroyLink { lid })
     }
@@ -169,7 +181,8 @@ impl<L: Link> Client<L> {
         prog: u32,
         vers: u32,
     ) -> Result<(), ClientErr>
-        ensures { IsCalled L.stands L.left L.receive_faults L.send_faults self.old self.new (channel host port prog vers) 0 nothing_of result }
+        ensures called { IsCalled L.stands L.left L.receive_faults L.send_faults self.old self.new (channel host port prog vers) 0 nothing_of result }
+        ensures last { TellsEnd L.receives L.sends self.new.link result }
     {
         self.order(&CallRef::CreateIntr {
             host,
@@ -182,7 +195,8 @@ impl<L: Link> Client<L> {
 
     /// destroy_intr_chan.
     pub fn destroy_intr_chan(&mut self) -> Result<(), ClientErr>
-        ensures { IsCalled L.stands L.left L.receive_faults L.send_faults self.old self.new call.DestroyIntr 0 nothing_of result }
+        ensures called { IsCalled L.stands L.left L.receive_faults L.send_faults self.old self.new call.DestroyIntr 0 nothing_of result }
+        ensures last { TellsEnd L.receives L.sends self.new.link result }
     {
         self.order(&CallRef::DestroyIntr)
     }

@@ -10,6 +10,7 @@ ghost use Rattle.vx_client.specs.Chunks.{write_call};
 ghost use Rattle.vx_client.specs.Meaning.{meaning, nothing_of};
 ghost use Rattle.vx_client.specs.Settled.{answer_of};
 ghost use Rattle.vx_client.specs.Exchange.{IsCalled};
+ghost use Rattle.vx_client.specs.Ending.{TellsEnd, TellsCalls};
 ghost use Rattle.vx_client.specs.Swapped.{IsSwapped, returned_by, settled_bad};
 ghost use Rattle.vx_client.specs.Calls.{IsFilled};
 
@@ -81,6 +82,7 @@ fn exchange<L: Link>(
     requires inbox { inbox.old.reply ≡ fresh REPLY_MAX }
     ensures swapped { IsSwapped L.stands L.left L.receive_faults L.send_faults link.old link.new inbox.old.kept inbox.new
         (call_record xid (call_shown call.now)) result }
+    ensures told { TellsCalls L.receives L.sends link.old link.new (call_record xid (call_shown call.now)) result }
     ensures receives { L.receive_faults link.old ≤ L.receive_faults link.new }
     ensures sends { L.send_faults link.old ≤ L.send_faults link.new }
 {
@@ -129,6 +131,7 @@ impl Talk {
         requires { IsSendable (call_shown call.now) }
         ensures called { IsCalled L.stands L.left L.receive_faults L.send_faults (over_link link.old self.old) (over_link link.new self.new)
             (call_shown call.now) (length into.old) answer_of result }
+        ensures told { TellsCalls L.receives L.sends link.old link.new (call_record self.old.next (call_shown call.now)) result }
         ensures into { IsFilled (meaning self.old.next (call_shown call.now) (length into.old) self.new.last) into.old into.new result }
     {
         if self.spent {
@@ -156,8 +159,9 @@ impl Talk {
     /// Makes a call whose results are its error alone over a link.
     fn order<L: Link>(&mut self, link: &mut L, call: &CallRef<'_>) -> Result<(), ClientErr>
         requires { IsSendable (call_shown call.now) }
-        ensures { IsCalled L.stands L.left L.receive_faults L.send_faults (over_link link.old self.old) (over_link link.new self.new)
+        ensures called { IsCalled L.stands L.left L.receive_faults L.send_faults (over_link link.old self.old) (over_link link.new self.new)
             (call_shown call.now) 0 nothing_of result }
+        ensures told { TellsCalls L.receives L.sends link.old link.new (call_record self.old.next (call_shown call.now)) result }
     {
         self.ask(link, call, &mut [])?;
         Ok(())
@@ -208,6 +212,7 @@ impl<L: Link> Client<L> {
         requires { IsSendable (call_shown call.now) }
         ensures called { IsCalled L.stands L.left L.receive_faults L.send_faults self.old self.new (call_shown call.now)
             (length into.old) answer_of result }
+        ensures last { TellsEnd L.receives L.sends self.new.link result }
         ensures into { IsFilled (meaning self.old.next (call_shown call.now) (length into.old) self.new.last) into.old into.new result }
     {
         self.talk.ask(&mut self.link, call, into)
@@ -216,7 +221,8 @@ impl<L: Link> Client<L> {
     /// Makes a call whose results are its error alone.
     pub(crate) fn order(&mut self, call: &CallRef<'_>) -> Result<(), ClientErr>
         requires { IsSendable (call_shown call.now) }
-        ensures { IsCalled L.stands L.left L.receive_faults L.send_faults self.old self.new (call_shown call.now) 0 nothing_of result }
+        ensures called { IsCalled L.stands L.left L.receive_faults L.send_faults self.old self.new (call_shown call.now) 0 nothing_of result }
+        ensures last { TellsEnd L.receives L.sends self.new.link result }
     {
         self.talk.order(&mut self.link, call)
     }
@@ -244,6 +250,8 @@ impl<L> Client<L> {
         requires { length bytes.now ≤ PIECE_MAX }
         ensures called { IsCalled K.stands K.left K.receive_faults K.send_faults (with_link self.old link.old) (with_link self.new link.new)
             (write_call lid opts.now flags bytes.now) 0 nothing_of result }
+        ensures last { TellsEnd K.receives K.sends link.new result }
+        ensures told { TellsCalls K.receives K.sends link.old link.new (call_record self.old.next (write_call lid opts.now flags bytes.now)) result }
         ensures own { self.new.link ≡ self.old.link }
         ensures number { self.old.next < 2 ^ 32 }
     {

@@ -3,6 +3,7 @@
 ghost use Rattle.std.specs.Prelude.{◌≡◌, ◌+◌, ◌≤◌, ◌<◌, ◌++◌, [], length, take, drop, min, IfOk};
 ghost use Rattle.vx_record.specs.Buffer.{fresh, fed, taken};
 ghost use Rattle.vx_client.specs.Inbox.{IsReady, last_of, Refills, IsBrought};
+ghost use Rattle.vx_client.specs.Ending.{TellsRefill, TellsBrought};
 
 use std::alloc::Global;
 use std::marker::Model;
@@ -111,6 +112,7 @@ impl Inbox {
     /// Receives bytes where all that came have been used.
     fn refill<L: Link>(&mut self, link: &mut L) -> Refill
         ensures brought { Refills L.stands L.left L.receive_faults link.old link.new self.old.kept self.new.kept result }
+        ensures told { TellsRefill L.receives link.old link.new result }
         ensures reply { self.new.reply ≡ self.old.reply }
         ensures receives { L.receive_faults link.old ≤ L.receive_faults link.new }
         ensures sends { L.send_faults link.new ≡ L.send_faults link.old }
@@ -153,6 +155,7 @@ impl Inbox {
     pub(crate) fn read_record<L: Link>(&mut self, link: &mut L) -> Brought
         requires { self.old.reply ≡ fresh REPLY_MAX }
         ensures brought { IsBrought L.stands L.left L.receive_faults link.old link.new self.old.kept self.new result }
+        ensures told { TellsBrought L.receives link.old link.new result }
         ensures receives { L.receive_faults link.old ≤ L.receive_faults link.new }
         ensures sends { L.send_faults link.new ≡ L.send_faults link.old }
     {

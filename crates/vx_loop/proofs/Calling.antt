@@ -1,18 +1,24 @@
 -- A call over a link that is looked at from its start, as the link itself knows it.
-use Rattle.std.proofs.Common.{ℕ, List, [], take, Option, Result, inl, refl, sym, subst}
+use Rattle.std.proofs.Common.{◌≡◌, ℕ, true, List, [], take, Option, Some, None, Result, inl, refl, sym, subst}
 use Rattle.vx_io_traits.specs.Stands.{Goes, Goes-none}
 use Rattle.vx_calls.specs.Call.{Call}
 use Rattle.vx_codec.specs.Answered.{Outcome}
 use Rattle.vx_client.specs.State.{ClientState}
 use Rattle.vx_client.specs.Message.{call_record}
-use Rattle.vx_client.specs.Exchange.{Exchange, Idle, Unsent, Unread, Ended, TooLong, Replied, StopsIn, Asks, Exchanged, IsCalled}
+use Rattle.vx_client.specs.Exchange.{Exchange, Idle, Unsent, StopsIn, Asks, Exchanged, IsCalled}
 use Rattle.vx_client.specs.declared.answers.ClientErr.{ClientErr}
 use Rattle.vx_loop.specs.Gateway.{gateway_of}
 use Rattle.vx_loop.specs.LoopState.{ServedState, LoopState, IsIdle}
+use Rattle.vx_loop.specs.Serving.{lives}
 use Rattle.vx_loop.specs.Standing.{Went, Since, StandsFor, MarkedStands}
 
+-- there is a gateway, and its connection lives
+abbrev pub IsLive : Option ServedState → Type 0
+IsLive (Some s) = lives (gateway_of s.core) ≡ true
+IsLive None = ⊥
+
 -- an idle gateway has taken and given nothing since
-pub idle-went : (s : ServedState) → IsIdle s → Went (gateway_of s.core) s [] []
+idle-went : (s : ServedState) → IsIdle s → Went (gateway_of s.core) s [] []
 idle-went s idle = record {
   done = [];
   reached = gateway_of s.core;
@@ -23,11 +29,11 @@ idle-went s idle = record {
   stands = inl (record { same = refl; answered = idle.answered; held = idle.fresh_is });
 }
 
+pub idle-since : (o : Option ServedState) (s : ServedState) → o ≡ Some s → IsIdle s → Since (gateway_of s.core) o [] []
+idle-since o s is idle = subst (λ p. Since (gateway_of s.core) p [] []) (sym is) (idle-went s idle)
+
 pub marked-first : (start : LoopState) → MarkedStands start start [] []
-marked-first start = (
-  Goes-none StandsFor start,
-  λ s is idle. subst (λ o. Since (gateway_of s.core) o [] []) (sym is) (idle-went s idle),
-)
+marked-first start = (Goes-none StandsFor start, λ s is idle. idle-since start.served s is idle)
 
 -- what a call did from the start
 pub marked-from : (start new : LoopState) (sent got : List ℕ) → Goes (MarkedStands start) start new sent got → MarkedStands start new sent got
@@ -51,10 +57,7 @@ module _ (left : LoopState → Option (List ℕ)) (receives sends : LoopState �
       → Exchanged StandsFor left receives sends old new call room how
   exchanged-plain room Idle h = h
   exchanged-plain room Unsent h = (h.0, stops-plain (call_record old.next call) h.1, h.2)
-  exchanged-plain room Unread h = (h.0, asks-plain _ h.1)
-  exchanged-plain room Ended h = (h.0, asks-plain _ h.1)
-  exchanged-plain room TooLong h = (h.0, asks-plain _ h.1)
-  exchanged-plain room (Replied reply) h = (h.0, asks-plain _ h.1)
+  exchanged-plain room _ h = (h.0, asks-plain _ h.1)
 
   -- it is the same call of the link itself
   pub called-plain : {X : Type 0} (room : ℕ) (view : Outcome → X) (result : Result X ClientErr) → IsCalled (MarkedStands old.link) left receives sends old new call room view result

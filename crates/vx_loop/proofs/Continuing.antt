@@ -29,14 +29,13 @@ use Rattle.vx_exchange.specs.Doing.{Says}
 use Rattle.vx_rules.specs.Lists.{along}
 use Rattle.vx_rules.specs.State.{pending_at, lives_as}
 use Rattle.vx_rules.specs.ListLaws.{along-append}
-use Rattle.vx_flow.specs.Event.{Event, Arrive, Answer, Begin, Dial}
+use Rattle.vx_flow.specs.Event.{Event, Arrive, Answer, Begin}
 use Rattle.vx_flow.specs.FineState.{FineState, Turn, turn_after}
 use Rattle.vx_flow.specs.Fine.{fine}
 use Rattle.vx_flow.specs.Frames.{moves_by}
 use Rattle.vx_flow.specs.Poll.{Ending, Answered, Waited, Dialed, begins, moved_events, run_events, end_events, is_broken, ran_of, at_moment}
 use Rattle.vx_flow.specs.declared.progress.Ran.{Ran}
 use Rattle.vx_flow.specs.declared.progress.Ran.TheVariants as ran
-use Rattle.vx_flow.specs.declared.progress.Why.{Why}
 use Rattle.vx_flow.specs.ProvedLaws.{fine-frame}
 use Rattle.vx_core.specs.CoreState.{CoreState}
 use Rattle.vx_core.specs.Polling.{PollsOver, wanted, refused_ask, asks}
@@ -59,8 +58,7 @@ run-moves f now moves = by (begins f 1 now) moves where
 
 end-moves : (now : ℕ) (ending : Ending) → flat_map moves_by (end_events 1 now ending) ≡ []
 end-moves now (Answered ran level told) = refl
-end-moves now (Waited why) = refl
-end-moves now (Dialed host port) = refl
+end-moves now _ = refl
 
 poll-moves : (f : FineState) (now : ℕ) (moves : List Transfer) (ending : Ending)
     → flat_map moves_by (run_events f 1 now moves ++ end_events 1 now ending) ≡ moves
@@ -89,23 +87,16 @@ PollOf before now ending after =
     PollsOver (λ s. s.means) Through (λ s. some_asks s.bench) (λ s. some_refuses s.means.wire s.bench) before.fine before.bus 1 now (Cut ∷ Told now ∷ []) ending
     after.fine after.bus
 
--- the reply that it wrote, where it was answered
-replied : (xid : ℕ) (room : List ℕ) (said : PollEnd) (ran : Ran) (level : Bool) (told : reply.Reply) → Says xid room said (Answered ran level told)
-    → take (reply_len said) room ≡ reply_record xid told
-replied xid room (ended.Replied len error) ran level told says = says.0.record_is
-replied xid room (ended.NotYet why) ran level told says = absurd says
-replied xid room (ended.Dial host port) ran level told says = absurd says
+-- the reply that it wrote, where it was answered; and none where it wasn't
+abbrev reply_by : ℕ → Ending → List ℕ
+reply_by xid (Answered ran level told) = reply_record xid told
+reply_by xid _ = []
 
--- and none where it wasn't
-silent-waits : (xid : ℕ) (room : List ℕ) (said : PollEnd) (why : Why) → Says xid room said (Waited why) → take (reply_len said) room ≡ []
-silent-waits xid room (ended.Replied len error) why says = absurd says
-silent-waits xid room (ended.NotYet told) why says = refl
-silent-waits xid room (ended.Dial host port) why says = refl
-
-silent-dials : (xid : ℕ) (room : List ℕ) (said : PollEnd) (host port : ℕ) → Says xid room said (Dialed host port) → take (reply_len said) room ≡ []
-silent-dials xid room (ended.Replied len error) host port says = absurd says
-silent-dials xid room (ended.NotYet told) host port says = refl
-silent-dials xid room (ended.Dial h p) host port says = refl
+said-reply : (xid : ℕ) (room : List ℕ) (said : PollEnd) (ending : Ending) → Says xid room said ending → take (reply_len said) room ≡ reply_by xid ending
+said-reply xid room (ended.Replied len error) (Answered ran level told) says = says.0.record_is
+said-reply xid room (ended.NotYet why) (Waited waits) says = refl
+said-reply xid room (ended.Dial host port) (Dialed h p) says = refl
+said-reply xid room _ _ says = absurd says
 
 -- it fits the room
 take-short : (len : ℕ) (room : List ℕ) → length room ≡ REPLY_ROOM → length (take len room) ≤ REPLY_ROOM
@@ -113,10 +104,8 @@ take-short len room full = let some = length-take len room in omega arith
 
 pub says-within : (xid : ℕ) (room : List ℕ) (said : PollEnd) (ending : Ending) → length room ≡ REPLY_ROOM → Says xid room said ending → reply_len said ≤ REPLY_ROOM
 says-within xid room (ended.Replied len error) (Answered ran level told) full says = let within = says.0.within in omega arith
-says-within xid room (ended.Replied len error) (Waited why) full says = absurd says
-says-within xid room (ended.Replied len error) (Dialed host port) full says = absurd says
-says-within xid room (ended.NotYet why) ending full says = omega arith
-says-within xid room (ended.Dial host port) ending full says = omega arith
+says-within xid room (ended.Replied len error) _ full says = absurd says
+says-within xid room _ ending full says = omega arith
 
 module _ (before after : Gateway) (now xid : ℕ) (room : List ℕ) (said : PollEnd) (full : length room ≡ REPLY_ROOM) where
   abbrev run : List Event
@@ -183,14 +172,14 @@ module _ (before after : Gateway) (now xid : ℕ) (room : List ℕ) (said : Poll
         adds = poll-adds (Answered ran level told) over leaves;
         moment = ap (λ (f : FineState). f.state.moment) at;
         told_is = steps-tell (Answered ran level told) over;
-        left_is = replied xid room said ran level told says;
+        left_is = said-reply xid room said (Answered ran level told) says;
         short = take-short (reply_len said) room full;
         answered = ap (λ (f : FineState). pending_at f.state.tables 1) at ∙ leaves.leaves.0;
         over = ap (λ (f : FineState). f.turn) at ∙ leaves.leaves.1;
         lives_on = ap (λ (f : FineState). lives_as f.state.tables 1 role.Core) at ∙ leaves.lives_on;
       })
-  continues-by (Waited why) over leaves says = waits-of (Waited why) over leaves refl (silent-waits xid room said why says) leaves.leaves.0 leaves.leaves.1
-  continues-by (Dialed host port) over leaves says = waits-of (Dialed host port) over leaves refl (silent-dials xid room said host port says) leaves.leaves.0 leaves.leaves.1
+  continues-by (Waited why) over leaves says = waits-of (Waited why) over leaves refl (said-reply xid room said (Waited why) says) leaves.leaves.0 leaves.leaves.1
+  continues-by (Dialed host port) over leaves says = waits-of (Dialed host port) over leaves refl (said-reply xid room said (Dialed host port) says) leaves.leaves.0 leaves.leaves.1
 
   pub poll-continues : (ending : Ending) → IsFit before → PollOf before now ending after → Says xid room said ending
       → Continues before xid now after (take (reply_len said) room)
@@ -216,7 +205,7 @@ dial-replies before after now xid room told fit full led bus stands =
       left_is = stands.record_is;
       short = take-short told.len room full;
       answered = answer-ends before.fine after.fine now false (Some false) false (reply.Error told.error) led;
-      over = answer-over before.fine after.fine now false (Some false) false (reply.Error told.error) fit.sound fit.own led;
+      over = answer-over before.fine after.fine now false (Some false) false (reply.Error told.error) led fit.own;
       lives_on = life-stays before.fine after.fine answer refl led;
     }
 

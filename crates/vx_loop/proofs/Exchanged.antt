@@ -1,6 +1,5 @@
 -- What a write of a client that gave its results did in the gateway of its link.
-use Rattle.std.proofs.Common.{◌≡◌, ◌-◌, ◌≤◌, ◌<◌, ◌^◌, ◌==◌, ℕ, Bool, true, false, cond, List, [], ◌∷◌, ◌++◌, length, take, Option, Some, None, IfSome, Result, Ok, Err, inl, inr, refl, sym, ap, ◌∙◌, subst, arith, append_assoc, append-nil}
-use Rattle.std.specs.Prelude.{OnOk}
+use Rattle.std.proofs.Common.{◌≡◌, ◌-◌, ◌≤◌, ◌<◌, ◌^◌, ◌==◌, ℕ, Bool, true, false, cond, List, [], ◌∷◌, ◌++◌, length, take, Option, Some, None, Ok, inl, inr, refl, sym, ap, ◌∙◌, subst, arith, append_assoc, append-nil}
 use Rattle.std.specs.Option.{option_map, option_and_then}
 use Rattle.std.specs.List.{flat_map}
 use Rattle.std.proofs.lemmas.Bool.{false≢true, eqb-true}
@@ -33,14 +32,14 @@ use Rattle.vx_codec.specs.Answered.{Outcome, Written, outcome_of, answered, resu
 use Rattle.vx_codec.proofs.Rows.{field-again, field-written}
 use Rattle.vx_codec.proofs.Written.{asked-again}
 use Rattle.vx_record.specs.Fragments.{record_of}
-use Rattle.vx_exchange.specs.Meaning.{Meaning, Junk, Asks, Aborts, by_sorting, by_arguments, meaning}
+use Rattle.vx_exchange.specs.Meaning.{Meaning, Asks, by_sorting, by_arguments, meaning}
 use Rattle.vx_exchange.specs.Meaning as meant
 use Rattle.vx_client.specs.State.{ClientState}
 use Rattle.vx_client.specs.Message.{message, call_record}
 use Rattle.vx_client.specs.Stream.{IsReply}
 use Rattle.vx_client.specs.Meaning as said
 use Rattle.vx_client.specs.Meaning.{error_of, is_bad, judged, can_be, results_meaning, returned, nothing_of}
-use Rattle.vx_client.specs.Exchange.{Exchange, Idle, Unsent, Unread, Ended, TooLong, Replied, KeepsReply, Asks as Asked, Exchanged, result_of, IsCalled}
+use Rattle.vx_client.specs.Exchange.{Exchange, Replied, KeepsReply, Asks as Asked, Exchanged, result_of}
 use Rattle.vx_client.proofs.Lengths.{arguments-short}
 use Rattle.vx_client.proofs.Meanings.{success-meaning}
 use Rattle.vx_flow.specs.Event.{Event, Down}
@@ -49,14 +48,14 @@ use Rattle.vx_loop.specs.Gateway.{Gateway, gateway_of}
 use Rattle.vx_flow.specs.Frames.{moves_by}
 use Rattle.vx_loop.specs.LoopState.{ServedState, LoopState, IsIdle}
 use Rattle.vx_loop.specs.Exchanges as exchange
-use Rattle.vx_loop.specs.Exchanges.{Adds, Replies, IsExchange, Exchanges, streams_of, replies_of}
+use Rattle.vx_loop.specs.Exchanges.{Adds, IsRecord, Replies, IsExchange, Exchanges, streams_of, replies_of}
 use Rattle.vx_loop.specs.Serving.{lives}
 use Rattle.vx_loop.specs.Standing.{GoesDown, EndsBy, never, refused, waited, unread, IsAt, Went, Since, MarkedStands, IsKept}
-use Rattle.vx_loop.specs.Heard.{IsResting, IsPieceHeard}
+use Rattle.vx_loop.specs.Heard.{IsResting, IsHeard}
 use Rattle.vx_loop.proofs.Streams.{first_buffer, IsWhole, whole-by, record-is-whole, whole-some, record-whole, whole-unique, none-yet}
 use Rattle.vx_loop.proofs.Happening.{adds-none, adds-append, happens-adds}
 use Rattle.vx_loop.proofs.Going.{none-parts, come-some}
-use Rattle.vx_loop.proofs.Calling.{marked-from}
+use Rattle.vx_loop.proofs.Calling.{IsLive}
 use Rattle.vx_loop.proofs.Hearing.{IsOneCall, one-call, call-heard, call-replies}
 
 -- ---- the one exchange of a record and its reply
@@ -68,12 +67,35 @@ reply-whole [] reply whole shortest = absurd (let none : [] ≡ reply ∷ [] = a
 reply-whole (x ∷ xs) reply whole shortest = whole-by (x ∷ xs) reply (omega arith) shortest whole
 
 -- a reply is a record of one fragment
-pub replied-record : (m : Meaning) (came now : ℕ) (group : List Event) (steps : List Step) (r : List ℕ) → Replies m came now group steps r
+replied-record : (m : Meaning) (came now : ℕ) (group : List Event) (steps : List Step) (r : List ℕ) → Replies m came now group steps r
     → (text : List ℕ) × (r ≡ record_of text)
-replied-record Junk came now group steps r h = absurd h
 replied-record (meant.Answered text) came now group steps r h = (text, h.3)
 replied-record (Asks xid asked) came now group steps r h = (success_message xid ++ results h.0, h.2)
-replied-record (Aborts xid lid) came now group steps r h = absurd h
+replied-record _ came now group steps r h = absurd h
+
+-- and a whole one
+pub exchange-replies : (before after : Gateway) (x : exchange.Exchange) → IsExchange before x after → (text : List ℕ) × IsWhole x.reply text
+exchange-replies before after x e =
+    let text = replied-record _ _ _ x.group x.steps x.reply e.replies in
+    let short = e.short in
+    let len = ap (λ (ys : List ℕ). length ys) text.1 in
+    (text.0, subst (λ ys. IsWhole ys text.0) (sym text.1) (record-whole text.0 (omega arith)))
+
+-- where no byte came there was no exchange
+no-more : (xs : List exchange.Exchange) (mid last : Gateway) → streams_of xs ≡ [] → Exchanges mid xs last → (last ≡ mid) × (replies_of xs ≡ [])
+no-more [] mid last none more = (more, refl)
+no-more (y ∷ ys) mid last none more =
+    absurd (whole-some y.stream y.message (record-is-whole y.stream y.message more.1.whole) (none-parts y.stream (streams_of ys) none).0)
+
+-- where one record came the first exchange was of it, and there was no other
+pub one-record : (x : exchange.Exchange) (xs : List exchange.Exchange) (mid last : Gateway) (text part : List ℕ) → length text ≤ RECORD_MAX → IsRecord x.stream x.message
+    → Exchanges mid xs last → record_of text ≡ streams_of (x ∷ xs) ++ part → (x.stream ≡ record_of text) × (part ≡ []) × (last ≡ mid) × (replies_of xs ≡ [])
+one-record x xs mid last text part short is_whole more taken_is =
+    let cut = whole-unique x.stream (record_of text) (streams_of xs ++ part) [] x.message text (record-is-whole x.stream x.message is_whole) (record-whole text short)
+    (sym (append_assoc x.stream (streams_of xs) part) ∙ sym taken_is ∙ sym (append-nil (record_of text))) in
+    let rest = none-parts (streams_of xs) part cut.1 in
+    let none = no-more xs mid last rest.0 more in
+    (cut.0, rest.1, none.0, none.1)
 
 -- what happened from a gateway to another, behind an exchange, without a transfer
 pub record IsStill (before : Gateway) (s : ServedState) : Type 0 where
@@ -133,49 +155,25 @@ module _ (start : Gateway) (s : ServedState) (text got reply behind : List ℕ) 
   exchanged-by : (done : List exchange.Exchange) → Exchanges start done w.reached → record_of text ≡ streams_of done ++ w.open_part → got ++ s.left ≡ replies_of done
       → IsExchanged start s text reply behind
   exchanged-by [] h taken_is given_is =
-      let none = none-parts got s.left given_is in
-      let front = none-parts r.front behind (sym r.cut ∙ none.0) in
-      let some = whole-some r.front reply front-whole in
-      let len = ap (λ (xs : List ℕ). length xs) front.0 in
-      absurd (omega arith)
+      absurd (whole-some r.front reply front-whole (none-parts r.front behind (sym r.cut ∙ (none-parts got s.left given_is).0)).0)
   exchanged-by (x ∷ xs) (mid, first, more) taken_is given_is =
-      let here = record-is-whole x.stream x.message first.whole in
-      let sent = record-whole text short in
-      let cut = whole-unique x.stream (record_of text) (streams_of xs ++ w.open_part) [] x.message text here sent
-      (sym (append_assoc x.stream (streams_of xs) w.open_part) ∙ sym taken_is ∙ sym (append-nil (record_of text))) in
-      let rest = none-parts (streams_of xs) w.open_part cut.1 in
-      let said_text = replied-record _ _ _ x.group x.steps x.reply first.replies in
-      let short_reply = first.short in
-      let len = ap (λ (ys : List ℕ). length ys) said_text.1 in
-      let replied = record-whole said_text.0 (omega arith) in
-      let reply_whole : IsWhole x.reply said_text.0 = subst (λ ys. IsWhole ys said_text.0) (sym said_text.1) replied in
-      let nothing_more = only xs rest.0 mid more in
+      let one = one-record x xs mid w.reached text w.open_part short first.whole more taken_is in
+      let said = exchange-replies start mid x first in
       let given : r.front ++ (behind ++ s.left) ≡ x.reply ++ [] =
-      sym (append_assoc r.front behind s.left) ∙ ap (λ ys. ys ++ s.left) (sym r.cut) ∙ given_is ∙ ap (λ ys. x.reply ++ ys) nothing_more.1 in
-      let back = whole-unique r.front x.reply (behind ++ s.left) [] reply said_text.0 front-whole reply_whole given in
+      sym (append_assoc r.front behind s.left) ∙ ap (λ ys. ys ++ s.left) (sym r.cut) ∙ given_is ∙ ap (λ ys. x.reply ++ ys) one.3 in
+      let back = whole-unique r.front x.reply (behind ++ s.left) [] reply said.0 front-whole said.1 given in
       let left = none-parts behind s.left back.1 in
-      let still = still-by w.reached s (replies_of w.done) w.open_part rest.1 left.1 w.stands in
+      let still = still-by w.reached s (replies_of w.done) w.open_part one.1 left.1 w.stands in
       record {
         x = x;
         mid = mid;
         exchanged = first;
-        message_is = same-message x.stream (record_of text) x.message text cut.0 here sent;
+        message_is = sym (record-is-whole x.stream x.message first.whole).kept ∙ ap (λ ys. (fed first_buffer ys).kept) one.0 ∙ (record-whole text short).kept;
         reply_is = subst (λ ys. IsWhole ys reply) back.0 front-whole;
         none_behind = left.0;
         idle = still.0;
-        after = subst (λ g. IsStill g s) nothing_more.0 still.1;
+        after = subst (λ g. IsStill g s) one.2 still.1;
       }
-    where
-      same-message : (a b m n : List ℕ) → a ≡ b → IsWhole a m → IsWhole b n → m ≡ n
-      same-message a b m n same first second = sym first.kept ∙ ap (λ ys. (fed first_buffer ys).kept) same ∙ second.kept
-
-      only : (xs : List exchange.Exchange) → streams_of xs ≡ [] → (mid : Gateway) → Exchanges mid xs w.reached → (w.reached ≡ mid) × (replies_of xs ≡ [])
-      only [] none mid more = (more, refl)
-      only (y ∷ ys) none mid more =
-          let parts = none-parts y.stream (streams_of ys) none in
-          let some = whole-some y.stream y.message (record-is-whole y.stream y.message more.1.whole) in
-          let len = ap (λ (zs : List ℕ). length zs) parts.0 in
-          absurd (omega arith)
 
   pub one-exchange : IsExchanged start s text reply behind
   one-exchange = exchanged-by w.done w.exchanged w.taken_is w.given_is
@@ -187,7 +185,7 @@ module _ (xid lid io_timeout lock_timeout flags : ℕ) (bytes : List ℕ) (numbe
   abbrev the_write : Call
   the_write = call.Write lid io_timeout lock_timeout flags bytes
 
-  message-asks : meaning (message xid the_write) role.Core ≡ Asks xid the_write
+  pub message-asks : meaning (message xid the_write) role.Core ≡ Asks xid the_write
   message-asks = ap by_sorting (served-sorted role.Core proc.Write xid (arguments the_write) numbered refl) ∙ ap (by_arguments xid) (asked-again the_write fits)
 
 -- the error of a write's results is the first word
@@ -208,20 +206,7 @@ written-error e n o small h =
 -- the number of a code is a word, and only one has number 0
 code-number : (e : ErrorCode) → (error_number e < 2 ^ 32) × (error_number e ≡ 0 → e ≡ code.Ok)
 code-number code.Ok = (omega arith, λ h. refl)
-code-number code.Syntax = (omega arith, λ h. absurd (omega arith))
-code-number code.NotAccessible = (omega arith, λ h. absurd (omega arith))
-code-number code.InvalidLink = (omega arith, λ h. absurd (omega arith))
-code-number code.Parameter = (omega arith, λ h. absurd (omega arith))
-code-number code.NoChannel = (omega arith, λ h. absurd (omega arith))
-code-number code.NotSupported = (omega arith, λ h. absurd (omega arith))
-code-number code.NoResources = (omega arith, λ h. absurd (omega arith))
-code-number code.Locked = (omega arith, λ h. absurd (omega arith))
-code-number code.NotHeld = (omega arith, λ h. absurd (omega arith))
-code-number code.Timeout = (omega arith, λ h. absurd (omega arith))
-code-number code.BusFault = (omega arith, λ h. absurd (omega arith))
-code-number code.InvalidAddress = (omega arith, λ h. absurd (omega arith))
-code-number code.Abort = (omega arith, λ h. absurd (omega arith))
-code-number code.ChannelUp = (omega arith, λ h. absurd (omega arith))
+code-number _ = (omega arith, λ h. absurd (omega arith))
 
 -- results that are an answer have error 0
 judged-done : (c : Call) (room : ℕ) (o d : Outcome) → judged c room o ≡ said.Done d → error_of o ≡ 0
@@ -238,9 +223,7 @@ results-done c room (Some o) d h = (o, refl, judged-done c room o d h)
 -- a call that returned its results had them
 returned-done : {X : Type 0} (view : Outcome → X) (len : ℕ) (m : said.Meaning) (x : X) → returned view len m ≡ Ok x → (o : Outcome) × (m ≡ said.Done o)
 returned-done view len (said.Done o) x h = (o, refl)
-returned-done view len (said.Failed n) x h = absurd (cc)
-returned-done view len (said.Refused r) x h = absurd (cc)
-returned-done view len said.Bad x h = absurd (cc)
+returned-done view len _ x h = absurd (cc)
 
 -- it got a reply
 pub record GotReply (stands : LoopState → List ℕ → List ℕ → Type 0) (left : LoopState → Option (List ℕ)) (old new : ClientState LoopState) (c : Call) : Type 0 where
@@ -250,31 +233,29 @@ pub record GotReply (stands : LoopState → List ℕ → List ℕ → Type 0) (l
   pub outcome : Outcome
   pub done : said.meaning old.next c 0 reply ≡ said.Done outcome
 
-got-reply : (stands : LoopState → List ℕ → List ℕ → Type 0) (left : LoopState → Option (List ℕ)) (receives sends : LoopState → ℕ) (old new : ClientState LoopState) (c : Call)
+pub got-reply : (stands : LoopState → List ℕ → List ℕ → Type 0) (left : LoopState → Option (List ℕ)) (receives sends : LoopState → ℕ) (old new : ClientState LoopState) (c : Call)
     (how : Exchange) (done : Unit {0}) → Exchanged stands left receives sends old new c 0 how → result_of nothing_of old.next c 0 how ≡ Ok done → GotReply stands left old new c
-got-reply stands left receives sends old new c Idle done h is = absurd (cc)
-got-reply stands left receives sends old new c Unsent done h is = absurd (cc)
-got-reply stands left receives sends old new c Unread done h is = absurd (cc)
-got-reply stands left receives sends old new c Ended done h is = absurd (cc)
-got-reply stands left receives sends old new c TooLong done h is = absurd (cc)
 got-reply stands left receives sends old new c (Replied reply) done h is =
     let found = returned-done nothing_of (length reply) (said.meaning old.next c 0 reply) done is in
     record { reply = reply; keeps = h.0; asks = h.1; outcome = found.0; done = found.1 }
+got-reply stands left receives sends old new c _ done h is = absurd (cc)
 
 -- ---- one write
 
 module _ (old new : ClientState LoopState) (lid io_timeout lock_timeout flags : ℕ) (bytes : List ℕ) (numbered : old.next < 2 ^ 32)
-    (fits : CallFits (call.Write lid io_timeout lock_timeout flags bytes)) (small : length bytes ≤ PIECE_MAX) (s t : ServedState) (k : IsKept s) (rests : IsResting old s)
-    (serves : new.link.served ≡ Some t) where
+    (fits : CallFits (call.Write lid io_timeout lock_timeout flags bytes)) (small : length bytes ≤ PIECE_MAX) (s : ServedState) (k : IsKept s) (rests : IsResting old s) where
   abbrev asked_now : Call
   asked_now = call.Write lid io_timeout lock_timeout flags bytes
 
   message-short : length (message old.next asked_now) ≤ RECORD_MAX
   message-short = let args = arguments-short asked_now small in omega arith
 
-  piece-by : (g : GotReply (MarkedStands old.link) (λ l. None) old new asked_now) → Went (gateway_of s.core) t (call_record old.next asked_now) g.asks.got
-      → IsPieceHeard old new lid (marked_bytes (sets_end flags) bytes) s
-  piece-by g w =
+  -- that got a reply, and behind which the connection lives if it lived
+  pub reply-heard : (g : GotReply (MarkedStands old.link) (λ l. None) old new asked_now) (o : Option ServedState) → new.link.served ≡ o
+      → Since (gateway_of s.core) o (call_record old.next asked_now) g.asks.got → (lives (gateway_of s.core) ≡ true → IsLive o)
+      → IsHeard old new lid (marked_bytes (sets_end flags) bytes) s
+  reply-heard g None serves since lives_on = absurd since
+  reply-heard g (Some t) serves w lives_on =
       let came : IsReply g.asks.got g.reply new.kept = subst (λ xs. IsReply (xs ++ g.asks.got) g.reply new.kept) rests.none_kept g.asks.came in
       let e = one-exchange (gateway_of s.core) t (message old.next asked_now) g.asks.got g.reply new.kept message-short w came in
       let is : meaning e.x.message role.Core ≡ Asks old.next asked_now =
@@ -309,9 +290,10 @@ module _ (old new : ClientState LoopState) (lid io_timeout lock_timeout flags : 
           fit = g.keeps.spent ∙ ap is_bad g.done;
           none_kept = e.none_behind;
         };
-        alive = one.lives;
-        links = λ lives.
-            ap (λ (h : Gateway). h.fine.state.tables.links) (e.after.same lives) ∙ ap (λ (f : FineState). f.state.tables.links) e.exchanged.adds.at_now ∙ kind.1;
+        before = one.lives;
+        alive = lives_on one.lives;
+        links =
+            ap (λ (h : Gateway). h.fine.state.tables.links) (e.after.same (lives_on one.lives)) ∙ ap (λ (f : FineState). f.state.tables.links) e.exchanged.adds.at_now ∙ kind.1;
         hears = λ a device.
             (let heard_now = call-heard s.core.fine e.exchanged.adds.last e.x.group lid io_timeout lock_timeout flags size bytes a device.link one_ok device.live device.target in
             record {
@@ -322,31 +304,3 @@ module _ (old new : ClientState LoopState) (lid io_timeout lock_timeout flags : 
               elsewhere = λ b ne. ap (heard b s.core.fine.state.wire) moves ∙ heard_now.1 b ne;
             });
       }
-
--- a write of one piece, over a link that was looked at from its start
-pub piece-heard : (old new : ClientState LoopState) (lid io_timeout lock_timeout flags : ℕ) (bytes : List ℕ) (done : Unit {0}) → old.next < 2 ^ 32
-    → CallFits (call.Write lid io_timeout lock_timeout flags bytes) → length bytes ≤ PIECE_MAX → IfSome old.link.served IsKept
-    → IsCalled (MarkedStands old.link) (λ l. None) (λ l. l.receive_faults) (λ l. l.send_faults) old new (call.Write lid io_timeout lock_timeout flags bytes) 0 nothing_of (Ok done)
-    → (s : ServedState) → IsResting old s → IsPieceHeard old new lid (marked_bytes (sets_end flags) bytes) s
-piece-heard old new lid io_timeout lock_timeout flags bytes done numbered fits small kept called s rests =
-    let c = call.Write lid io_timeout lock_timeout flags bytes in
-    let g = got-reply (MarkedStands old.link) (λ l. None) (λ l. l.receive_faults) (λ l. l.send_faults) old new c called.how done called.exchanged (sym called.answer) in
-    let k : IsKept s = subst (λ o. IfSome o IsKept) rests.serves kept in
-    let since = (marked-from old.link new.link (call_record old.next c) g.asks.got g.asks.moved.goes).1 s rests.serves rests.idle in
-    by new.link.served refl g k since
-  where
-    by : (o : Option ServedState) → new.link.served ≡ o
-        → (g : GotReply (MarkedStands old.link) (λ l. None) old new (call.Write lid io_timeout lock_timeout flags bytes)) → IsKept s
-        → Since (gateway_of s.core) o (call_record old.next (call.Write lid io_timeout lock_timeout flags bytes)) g.asks.got
-        → IsPieceHeard old new lid (marked_bytes (sets_end flags) bytes) s
-    by None is g k since = absurd since
-    by (Some t) is g k since = piece-by old new lid io_timeout lock_timeout flags bytes numbered fits small s t k rests is g since
-
--- what holds of a result that is there
-pub on-ok : {E : Type 0} (r : Result (Unit {0}) E) (P : Type 0) → ((done : Unit {0}) → r ≡ Ok done → P) → OnOk r P
-on-ok (Ok done) P f = f done refl
-on-ok (Err e) P f = tt
-
-pub at-ok : {E : Type 0} (r : Result (Unit {0}) E) (P : Type 0) (done : Unit {0}) → r ≡ Ok done → OnOk r P → P
-at-ok (Ok found) P done is p = p
-at-ok (Err e) P done is p = absurd (cc)

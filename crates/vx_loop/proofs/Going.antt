@@ -62,10 +62,7 @@ apart p some none = false≢true (sym (ap is_some none) ∙ some)
 
 -- a call that came had a byte
 pub come-some : (reached : Gateway) (part : List ℕ) (xid polls : ℕ) (after : Gateway) → HasCome reached part xid polls after → part ≡ [] → ⊥
-come-some reached part xid polls after h none =
-    let some = whole-some part h.message (record-is-whole part h.message h.whole) in
-    let len = ap (λ (xs : List ℕ). length xs) none in
-    omega arith
+come-some reached part xid polls after h none = whole-some part h.message (record-is-whole part h.message h.whole) none
 
 -- connection 1 lives, and no call of it waits
 pub record IsFree (s : ServedState) : Type 0 where
@@ -242,8 +239,6 @@ module _ (start : Gateway) (given bytes : List ℕ) (s : ServedState) (core : Co
 
   served-by : (m : Meaning) → meaning message role.Core ≡ m → Serves (gateway_of s.core) m xid (gateway_of core) left
       → Went start (behind core xid left) (bytes ++ piece) given
-  served-by Junk is h = absurd h
-  served-by (Aborts number lid) is h = absurd h
   served-by (Asks number asked) is h =
       let here : gateway_of s.core ≡ w.reached = is_open_now.same in
       let calls : CallsOn w.reached number asked (gateway_of core) left = subst (λ g. CallsOn g number asked (gateway_of core) left) here h.1 in
@@ -271,6 +266,7 @@ module _ (start : Gateway) (given bytes : List ℕ) (s : ServedState) (core : Co
         replies = subst (λ n. Replies n w.reached.fine.state.moment core.fine.state.moment [] [] left) (sym is) (refl, refl, now, h.1);
         short = h.2;
       }) refl refl (ap (λ (g : Gateway). pending_at g.fine.state.tables 1) h.0 ∙ free.none)
+  served-by _ is h = absurd h
 
 -- ---- a call that is polled again
 
@@ -337,6 +333,10 @@ pub record IsKeptGateway (g : Gateway) : Type 0 where
 pub kept-gateway : (s : ServedState) → IsKept s → IsKeptGateway (gateway_of s.core)
 kept-gateway s k = record { reached = k.reached; own = k.own; calm = k.calm }
 
+-- a link that has nothing of the next record is kept where its gateway is
+fresh-kept : (s : ServedState) → IsKeptGateway (gateway_of s.core) → s.buffer ≡ fresh RECORD_MAX → IsKept s
+fresh-kept s k is = record { limit = ap (λ (b : BufState). b.limit) is; waits = ap (λ (b : BufState). b.state) is; reached = k.reached; own = k.own; calm = k.calm }
+
 pub fit-kept : (s : ServedState) → IsKept s → IsFit (gateway_of s.core)
 fit-kept s k = record { sound = reached-sound s.core.fine k.reached; own = k.own }
 
@@ -367,7 +367,6 @@ record IsServed (m : Meaning) (before after : Gateway) : Type 0 where
   lives_on : lives after ≡ lives before
 
 serves-kept : (m : Meaning) (before after : Gateway) (xid : ℕ) (left : List ℕ) → IsKeptGateway before → Serves before m xid after left → IsServed m before after
-serves-kept Junk before after xid left k h = absurd h
 serves-kept (meant.Answered text) before after xid left k h = record { kept = subst IsKeptGateway (sym h.0) k; call = λ is. cc; lives_on = ap lives h.0 }
 serves-kept (Asks number asked) before after xid left k h =
     let now = before.fine.state.moment in
@@ -377,7 +376,7 @@ serves-kept (Asks number asked) before after xid left k h =
       call = λ is. cc;
       lives_on = continues-lives h.1.come after number now left h.1.continues ∙ life-stays before.fine h.1.come.fine (Arrive 1 asked now) refl h.1.arrives.events;
     }
-serves-kept (Aborts number lid) before after xid left k h = absurd h
+serves-kept _ before after xid left k h = absurd h
 
 -- ---- the calls of a gateway that serves a link
 
@@ -426,13 +425,7 @@ take-whole s piece message took b core xid left k free nothing took_is some whol
     let g = serves-kept (meaning message role.Core) (gateway_of s.core) (gateway_of core) xid left (kept-gateway s k) h in
     let new : BufState → ServedState = λ c. record { core = core; buffer = c; xid = xid; left = left } in (
       record {
-        kept = record {
-          limit = ap (λ (c : BufState). c.limit) fresh_is;
-          waits = ap (λ (c : BufState). c.state) fresh_is;
-          reached = g.kept.reached;
-          own = g.kept.own;
-          calm = g.kept.calm;
-        };
+        kept = fresh-kept (new b) g.kept fresh_is;
         went = λ start bytes given w.
             subst (λ c. Went start (new c) (bytes ++ take took piece) given) (sym fresh_is)
             (subst (λ n. Went start (new (fresh RECORD_MAX)) (bytes ++ take n piece) given) (sym took_is)
@@ -546,13 +539,13 @@ module _ (s : ServedState) (core : CoreState SimState) (buffer : BufState) (xid 
   gone-kept : IsKept new_state
   gone-kept =
       let none = down-turn s.core.fine core.fine k.own down.events in
-      record {
-        limit = ap (λ (b : BufState). b.limit) fresh_is;
-        waits = ap (λ (b : BufState). b.state) fresh_is;
-        reached = reached-more (gateway_of s.core) (gateway_of core) (Down 1 ∷ []) (Cut ∷ []) k.reached (happens-adds (gateway_of s.core) (gateway_of core) (Down 1 ∷ []) (Cut ∷ []) down refl);
+      let adds = happens-adds (gateway_of s.core) (gateway_of core) (Down 1 ∷ []) (Cut ∷ []) down refl in
+      fresh-kept new_state
+      (record {
+        reached = reached-more (gateway_of s.core) (gateway_of core) (Down 1 ∷ []) (Cut ∷ []) k.reached adds;
         own = λ u is. absurd (none-some u (sym none ∙ is));
         calm = λ pending. none;
-      }
+      }) fresh_is
 
   ended-by : (reached : Gateway) (replied came gone : List ℕ) → EndsBy reached replied came gone (gateway_of core) → IsEnded reached new_state replied (came ++ gone)
   ended-by reached replied came gone why = record {
@@ -569,22 +562,30 @@ module _ (s : ServedState) (core : CoreState SimState) (buffer : BufState) (xid 
   down-from reached same = subst (λ g. GoesDown g (gateway_of core)) same down
 
   -- the bytes of a send that failed ended a record that is too long, or that is no call
-  pub refused-to : (piece : List ℕ) → IsFree s → IsRefused s piece → TakesTo s new_state []
-  refused-to piece free refuses = record {
-    kept = gone-kept;
-    went = λ start bytes given w.
-        (let o = open-of w.reached s (replies_of w.done) w.open_part free w.stands in
-        let at : fed s.buffer piece ≡ fed first_buffer (w.open_part ++ piece) = ap (λ b. fed b piece) o.held ∙ sym (fed-append first_buffer w.open_part piece) in
-        went-ended start s new_state bytes given [] w left_is
-        (ended-by w.reached (replies_of w.done) w.open_part [] (refused piece (subst IsNoCall at refuses) (down-from w.reached o.same))));
-  }
+  pub refused-to : (piece : List ℕ) → IsFree s → IsRefused s piece → TakesTo s new_state [] × IsRefused s piece × (lives (gateway_of core) ≡ false)
+  refused-to piece free refuses = (
+    record {
+      kept = gone-kept;
+      went = λ start bytes given w.
+          (let o = open-of w.reached s (replies_of w.done) w.open_part free w.stands in
+          let at : fed s.buffer piece ≡ fed first_buffer (w.open_part ++ piece) = ap (λ b. fed b piece) o.held ∙ sym (fed-append first_buffer w.open_part piece) in
+          went-ended start s new_state bytes given [] w left_is
+          (ended-by w.reached (replies_of w.done) w.open_part [] (refused piece (subst IsNoCall at refuses) (down-from w.reached o.same))));
+    },
+    refuses,
+    down-lives s.core.fine core.fine k.own down.events,
+  )
 
   -- bytes came too early
-  pub early-to : (gone : List ℕ) → (pending_at s.core.fine.state.tables 1 ≡ None → lives (gateway_of s.core) ≡ true) → 0 < length gone → is_some (pending_at s.core.fine.state.tables 1) ≡ true ⊎ 0 < length s.left → TakesTo s new_state gone
-  early-to gone alive some busy = record {
-    kept = gone-kept;
-    went = λ start bytes given w. went-ended start s new_state bytes given gone w left_is (by w.reached w.open_part (replies_of w.done) given w.given_is busy w.stands);
-  }
+  pub early-to : (gone : List ℕ) → (pending_at s.core.fine.state.tables 1 ≡ None → lives (gateway_of s.core) ≡ true) → 0 < length gone → is_some (pending_at s.core.fine.state.tables 1) ≡ true ⊎ 0 < length s.left
+      → TakesTo s new_state gone × (lives (gateway_of core) ≡ false)
+  early-to gone alive some busy = (
+    record {
+      kept = gone-kept;
+      went = λ start bytes given w. went-ended start s new_state bytes given gone w left_is (by w.reached w.open_part (replies_of w.done) given w.given_is busy w.stands);
+    },
+    down-lives s.core.fine core.fine k.own down.events,
+  )
     where
       reply-left : is_some (pending_at s.core.fine.state.tables 1) ≡ true ⊎ 0 < length s.left → pending_at s.core.fine.state.tables 1 ≡ None → 0 < length s.left
       reply-left (inl pending) none = absurd (apart _ pending none)

@@ -2,7 +2,7 @@
 use Rattle.std.proofs.Common.{◌≡◌, ◌≤◌, ℕ, List, [], ◌∷◌, ◌++◌, Some, refl, sym, ap, ◌∙◌, subst, arith}
 use Rattle.std.specs.List.{flat_map}
 use Rattle.std.proofs.lemmas.Grind.{flat_map-append}
-use Rattle.vx_bus_traits.specs.Steps.{Step, Went, Held, Failed, Told, Cut}
+use Rattle.vx_bus_traits.specs.Steps.{Step, Went}
 use Rattle.vx_sim.specs.SimState.{SimState}
 use Rattle.vx_sim.specs.Laws.{transfers}
 use Rattle.vx_rules.specs.Lists.{along}
@@ -22,10 +22,7 @@ use Rattle.vx_loop.specs.Standing.{IsReached}
 pub transfers-append : (xs ys : List Step) → transfers (xs ++ ys) ≡ transfers xs ++ transfers ys
 transfers-append [] ys = refl
 transfers-append (Went t ∷ xs) ys = ap (λ ts. t ∷ ts) (transfers-append xs ys)
-transfers-append (Held asked ∷ xs) ys = transfers-append xs ys
-transfers-append (Failed asked ∷ xs) ys = transfers-append xs ys
-transfers-append (Told now ∷ xs) ys = transfers-append xs ys
-transfers-append (Cut ∷ xs) ys = transfers-append xs ys
+transfers-append (_ ∷ xs) ys = transfers-append xs ys
 
 -- the bus goes through one list and then another
 bus-append : (a b c : SimState) (xs ys : List Step) → BusGoes a xs b → BusGoes b ys c → BusGoes a (xs ++ ys) c

@@ -9,4 +9,5 @@ pub mod Calling
 pub mod Hearing
 pub mod Exchanged
 pub mod Several
+pub mod Ended
 pub mod Resting

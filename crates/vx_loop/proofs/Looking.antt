@@ -1,61 +1,34 @@
 -- A link as a caller knows it, and as it is looked at from a start on.
-use Rattle.std.proofs.Common.{◌≡◌, ℕ, List, [], ◌++◌, Some, sym, subst, append_assoc, append-nil}
+use Rattle.std.proofs.Common.{◌≡◌, ℕ, List, [], ◌++◌, Some, sym, subst, append-nil}
 use Rattle.vx_io_traits.specs.declared.ReadOut.{ReadOut}
 use Rattle.vx_io_traits.specs.declared.ReadOut.TheVariants.{Got, End, Failed}
 use Rattle.vx_io_traits.specs.declared.WriteOut.{WriteOut}
 use Rattle.vx_io_traits.specs.declared.WriteOut.TheVariants.{Took, Failed as Refused}
 use Rattle.vx_io_traits.specs.Outs.{IfGot, IfTook, OnEnd, OnReadFailed, OnWriteFailed}
-use Rattle.vx_io_traits.specs.Stands.{Gives, Takes, Stays, Goes}
+use Rattle.vx_io_traits.specs.Stands.{Gives, Takes, Stays, Goes, Goes-goes}
 use Rattle.vx_loop.specs.Gateway.{gateway_of}
 use Rattle.vx_loop.specs.LoopState.{ServedState, LoopState}
 use Rattle.vx_loop.specs.Standing.{Went, Since, StandsFor, GoesOn, MarkedStands, TakesTo}
 
 -- what a call did, in the words of every link
-pub goes-takes : (old new : LoopState) (sent : List ℕ) → GoesOn old new sent [] → Takes StandsFor old new sent
-goes-takes old new sent h taken given (start, begins, since) =
-    (start, begins, subst (Since (gateway_of start.core) new.served (taken ++ sent)) (append-nil given) (h (gateway_of start.core) taken given since))
+module _ (stands : LoopState → List ℕ → List ℕ → Type 0) (old new : LoopState) where
+  pub goes-takes : (sent : List ℕ) → Goes stands old new sent [] → Takes stands old new sent
+  goes-takes sent h taken given s = subst (stands new (taken ++ sent)) (append-nil given) (h taken given s)
 
-pub goes-gives : (old new : LoopState) (got : List ℕ) → GoesOn old new [] got → Gives StandsFor old new got
-goes-gives old new got h taken given (start, begins, since) =
-    (start, begins, subst (λ ts. Since (gateway_of start.core) new.served ts (given ++ got)) (append-nil taken) (h (gateway_of start.core) taken given since))
+  pub goes-gives : (got : List ℕ) → Goes stands old new [] got → Gives stands old new got
+  goes-gives got h taken given s = subst (λ ts. stands new ts (given ++ got)) (append-nil taken) (h taken given s)
 
-pub goes-stays : (old new : LoopState) → GoesOn old new [] [] → Stays StandsFor old new
-goes-stays old new h taken given (start, begins, since) = (
-  start,
-  begins,
-  subst (λ ts. Since (gateway_of start.core) new.served ts given) (append-nil taken)
-      (subst (λ gs. Since (gateway_of start.core) new.served (taken ++ []) gs) (append-nil given) (h (gateway_of start.core) taken given since)),
-)
+  pub goes-stays : Goes stands old new [] [] → Stays stands old new
+  goes-stays h taken given s = subst (stands new taken) (append-nil given) (goes-gives [] h taken given s)
 
--- and of one that is looked at
-both-takes : (start old new : LoopState) (sent got taken given : List ℕ) → ((t g : List ℕ) → StandsFor old t g → StandsFor new (t ++ sent) (g ++ got))
-    → Goes StandsFor start old taken given → Goes StandsFor start new (taken ++ sent) (given ++ got)
-both-takes start old new sent got taken given call before t g h =
-    subst (λ ts. StandsFor new ts (g ++ (given ++ got))) (append_assoc t taken sent)
-    (subst (λ gs. StandsFor new ((t ++ taken) ++ sent) gs) (append_assoc g given got) (call (t ++ taken) (g ++ given) (before t g h)))
+-- a link stands for it
+pub stands-goes : (old new : LoopState) (sent got : List ℕ) → GoesOn old new sent got → Goes StandsFor old new sent got
+stands-goes old new sent got h taken given (start, begins, since) = (start, begins, h (gateway_of start.core) taken given since)
 
-goes-stands : (old new : LoopState) (sent got : List ℕ) → GoesOn old new sent got → (t g : List ℕ) → StandsFor old t g → StandsFor new (t ++ sent) (g ++ got)
-goes-stands old new sent got h t g (start, begins, since) = (start, begins, h (gateway_of start.core) t g since)
-
-marked-goes : (start old new : LoopState) (sent got taken given : List ℕ) → GoesOn old new sent got → MarkedStands start old taken given
-    → MarkedStands start new (taken ++ sent) (given ++ got)
-marked-goes start old new sent got taken given h marked = (
-  both-takes start old new sent got taken given (goes-stands old new sent got h) marked.0,
-  λ s is idle. h (gateway_of s.core) taken given (marked.1 s is idle),
-)
-
-pub marked-takes : (start old new : LoopState) (sent : List ℕ) → GoesOn old new sent [] → Takes (MarkedStands start) old new sent
-marked-takes start old new sent h taken given marked =
-    subst (MarkedStands start new (taken ++ sent)) (append-nil given) (marked-goes start old new sent [] taken given h marked)
-
-pub marked-gives : (start old new : LoopState) (got : List ℕ) → GoesOn old new [] got → Gives (MarkedStands start) old new got
-marked-gives start old new got h taken given marked =
-    subst (λ ts. MarkedStands start new ts (given ++ got)) (append-nil taken) (marked-goes start old new [] got taken given h marked)
-
-pub marked-stays : (start old new : LoopState) → GoesOn old new [] [] → Stays (MarkedStands start) old new
-marked-stays start old new h taken given marked =
-    subst (λ ts. MarkedStands start new ts given) (append-nil taken)
-    (subst (λ gs. MarkedStands start new (taken ++ []) gs) (append-nil given) (marked-goes start old new [] [] taken given h marked))
+-- and so does one that is looked at
+pub marked-goes : (start old new : LoopState) (sent got : List ℕ) → GoesOn old new sent got → Goes (MarkedStands start) old new sent got
+marked-goes start old new sent got h taken given marked =
+    (Goes-goes StandsFor start old new taken given sent got marked.0 (stands-goes old new sent got h), λ s is idle. h (gateway_of s.core) taken given (marked.1 s is idle))
 
 -- ---- facts of both answers of a call
 
@@ -69,18 +42,15 @@ refused-both Refused P Q R p q f = f p q
 
 pub got-both : (r : ReadOut) (P Q R : ℕ → Type 0) → IfGot r P → IfGot r Q → ((n : ℕ) → P n → Q n → R n) → IfGot r R
 got-both (Got n) P Q R p q f = f n p q
-got-both End P Q R p q f = tt
-got-both Failed P Q R p q f = tt
+got-both _ P Q R p q f = tt
 
 pub end-both : (r : ReadOut) (P Q R : Type 0) → OnEnd r P → OnEnd r Q → (P → Q → R) → OnEnd r R
-end-both (Got n) P Q R p q f = tt
 end-both End P Q R p q f = f p q
-end-both Failed P Q R p q f = tt
+end-both _ P Q R p q f = tt
 
 pub failed-both : (r : ReadOut) (P Q R : Type 0) → OnReadFailed r P → OnReadFailed r Q → (P → Q → R) → OnReadFailed r R
-failed-both (Got n) P Q R p q f = tt
-failed-both End P Q R p q f = tt
 failed-both Failed P Q R p q f = f p q
+failed-both _ P Q R p q f = tt
 
 -- ---- what a gateway did, as its link did it
 

@@ -11,16 +11,15 @@ use Rattle.vx_client.specs.Exchange as ends
 use Rattle.vx_client.specs.Exchange.{Exchange, Replied, Asks, Exchanged}
 use Rattle.vx_client.proofs.Lengths.{arguments-short}
 use Rattle.vx_loop.specs.Gateway.{Gateway, gateway_of}
-use Rattle.vx_loop.specs.LoopState.{ServedState, LoopState, IsIdle, IsBeginning}
+use Rattle.vx_loop.specs.LoopState.{ServedState, LoopState, IsIdle}
 use Rattle.vx_loop.specs.Exchanges as exchange
 use Rattle.vx_loop.specs.Exchanges.{Exchanges, streams_of, replies_of}
-use Rattle.vx_loop.specs.Standing.{Went, Since, StandsFor}
-use Rattle.vx_loop.specs.Heard.{IsResting}
+use Rattle.vx_loop.specs.Standing.{Since, StandsFor}
 use Rattle.vx_loop.specs.Resting.{Sent, streams, IsAnswered, FirstLaw, CallLaw, RestLaw}
-use Rattle.vx_loop.proofs.Streams.{IsWhole, record-is-whole, whole-is-record, whole-some, record-whole, whole-unique}
-use Rattle.vx_loop.proofs.Calling.{idle-went}
+use Rattle.vx_loop.proofs.Streams.{record-is-whole, whole-is-record, whole-some, record-whole, whole-unique}
+use Rattle.vx_loop.proofs.Calling.{idle-since}
 use Rattle.vx_loop.proofs.Going.{none-parts, flat-snoc}
-use Rattle.vx_loop.proofs.Exchanged.{reply-whole, replied-record, still-by}
+use Rattle.vx_loop.proofs.Exchanged.{reply-whole, exchange-replies, still-by}
 
 -- ---- counts of records on a stream
 
@@ -32,9 +31,7 @@ taken-count start reached [] part [] h is = (omega arith, λ all. is)
 taken-count start reached [] part (r ∷ rs) h is = (omega arith, λ all. absurd (omega arith))
 taken-count start reached (x ∷ xs) part [] (mid, first, more) is =
     let none = none-parts (streams_of (x ∷ xs)) part is in
-    let some = whole-some x.stream x.message (record-is-whole x.stream x.message first.whole) in
-    let len = ap (λ (ys : List ℕ). length ys) (none-parts x.stream (streams_of xs) none.0).0 in
-    absurd (omega arith)
+    absurd (whole-some x.stream x.message (record-is-whole x.stream x.message first.whole) (none-parts x.stream (streams_of xs) none.0).0)
 taken-count start reached (x ∷ xs) part (r ∷ rs) (mid, first, more) is =
     let cut = whole-unique x.stream r.stream (streams_of xs ++ part) (streams rs) x.message r.message (record-is-whole x.stream x.message first.whole) (record-is-whole r.stream r.message r.whole)
     (sym (append_assoc x.stream (streams_of xs) part) ∙ is) in
@@ -48,51 +45,48 @@ given-count start reached [] [] tail h is = (omega arith, λ all. is)
 given-count start reached (x ∷ xs) [] tail h is = (omega arith, λ all. absurd (omega arith))
 given-count start reached [] (r ∷ rs) tail h is =
     let none = none-parts (streams (r ∷ rs)) tail is in
-    let some = whole-some r.stream r.message (record-is-whole r.stream r.message r.whole) in
-    let len = ap (λ (ys : List ℕ). length ys) (none-parts r.stream (streams rs) none.0).0 in
-    absurd (omega arith)
+    absurd (whole-some r.stream r.message (record-is-whole r.stream r.message r.whole) (none-parts r.stream (streams rs) none.0).0)
 given-count start reached (x ∷ xs) (r ∷ rs) tail (mid, first, more) is =
-    let text = replied-record _ _ _ x.group x.steps x.reply first.replies in
-    let short = first.short in
-    let len = ap (λ (ys : List ℕ). length ys) text.1 in
-    let whole : IsWhole x.reply text.0 = subst (λ ys. IsWhole ys text.0) (sym text.1) (record-whole text.0 (omega arith)) in
-    let cut = whole-unique r.stream x.reply (streams rs ++ tail) (replies_of xs) r.message text.0 (record-is-whole r.stream r.message r.whole) whole
+    let said = exchange-replies start mid x first in
+    let cut = whole-unique r.stream x.reply (streams rs ++ tail) (replies_of xs) r.message said.0 (record-is-whole r.stream r.message r.whole) said.1
     (sym (append_assoc r.stream (streams rs) tail) ∙ is) in
     let rest = given-count mid reached xs rs tail more cut.1 in
     (let n = rest.0 in omega arith, λ all. rest.1 (omega arith))
 
 -- as many calls as replies: the link is idle, and nothing stands behind the replies
-pub record IsEven (s : ServedState) (tail : List ℕ) : Type 0 where
+pub record IsEven (l : LoopState) (tail : List ℕ) : Type 0 where
+  pub s : ServedState
+  pub serves : l.served ≡ Some s
   pub idle : IsIdle s
   pub none : tail ≡ []
 
-pub even-idle : (start : Gateway) (s : ServedState) (taken given tail : List ℕ) (calls replies : List Sent) → Went start s taken given → taken ≡ streams calls
-    → given ≡ streams replies ++ tail → length calls ≡ length replies → IsEven s tail
-even-idle start s taken given tail calls replies w taken_is given_is even =
-    let came = taken-count start w.reached w.done w.open_part calls w.exchanged (sym w.taken_is ∙ taken_is) in
-    let gave = given-count start w.reached w.done replies (tail ++ s.left) w.exchanged
-    (sym (append_assoc (streams replies) tail s.left) ∙ ap (λ bs. bs ++ s.left) (sym given_is) ∙ w.given_is) in
-    let a = came.0 in
-    let b = gave.0 in
-    let part = came.1 (omega arith) in
-    let nothing = none-parts tail s.left (gave.1 (omega arith)) in
-    record { idle = (still-by w.reached s (replies_of w.done) w.open_part part nothing.1 w.stands).0; none = nothing.0 }
+pub even-idle : (l : LoopState) (taken given tail : List ℕ) (calls replies : List Sent) → StandsFor l taken given → taken ≡ streams calls → given ≡ streams replies ++ tail
+    → length calls ≡ length replies → IsEven l tail
+even-idle l taken given tail calls replies (start, begins, since) taken_is given_is even = by l.served refl since where
+  by : (o : Option ServedState) → l.served ≡ o → Since (gateway_of start.core) o taken given → IsEven l tail
+  by None is w = absurd w
+  by (Some s) is w =
+      let came = taken-count (gateway_of start.core) w.reached w.done w.open_part calls w.exchanged (sym w.taken_is ∙ taken_is) in
+      let gave = given-count (gateway_of start.core) w.reached w.done replies (tail ++ s.left) w.exchanged
+      (sym (append_assoc (streams replies) tail s.left) ∙ ap (λ bs. bs ++ s.left) (sym given_is) ∙ w.given_is) in
+      let a = came.0 in
+      let b = gave.0 in
+      let part = came.1 (omega arith) in
+      let nothing = none-parts tail s.left (gave.1 (omega arith)) in
+      record { s = s; serves = is; idle = (still-by w.reached s (replies_of w.done) w.open_part part nothing.1 w.stands).0; none = nothing.0 }
 
 -- ---- the laws
 
 pub rest-holds : RestLaw
-rest-holds c h = by c.link.served refl h.stands where
-  by : (o : Option ServedState) → c.link.served ≡ o → ((start : ServedState) × IsBeginning start × Since (gateway_of start.core) o h.taken h.given) → (s : ServedState) × IsResting c s
-  by None is (start, begins, since) = absurd since
-  by (Some s) is (start, begins, w) =
-      let e = even-idle (gateway_of start.core) s h.taken h.given [] h.calls h.replies w h.taken_is (h.given_is ∙ sym (append-nil (streams h.replies))) h.even in
-      (s, record { serves = is; idle = e.idle; fit = h.fit; none_kept = h.none_kept })
+rest-holds c h =
+    let e = even-idle c.link h.taken h.given [] h.calls h.replies h.stands h.taken_is (h.given_is ∙ sym (append-nil (streams h.replies))) h.even in
+    (e.s, record { serves = e.serves; idle = e.idle; fit = h.fit; none_kept = h.none_kept })
 
 pub first-holds : FirstLaw
 first-holds c s serves begins fit none = record {
   taken = [];
   given = [];
-  stands = (s, begins, subst (λ o. Since (gateway_of s.core) o [] []) (sym serves) (idle-went s begins.idle));
+  stands = (s, begins, idle-since c.link.served s serves begins.idle);
   calls = [];
   replies = [];
   taken_is = refl;
@@ -134,7 +128,7 @@ module _ (old new : ClientState LoopState) (asked : Call) (room : ℕ) (sendable
       let replies_len = length-append h.replies (r ∷ []) in
       let even = h.even in
       let same : length calls ≡ length replies = omega arith in
-      let none : new.kept ≡ [] = by new.link.served taken given calls replies stands taken_is cut same in
+      let none = (even-idle new.link taken given new.kept calls replies stands taken_is cut same).none in
       record {
         taken = taken;
         given = given;
@@ -147,20 +141,11 @@ module _ (old new : ClientState LoopState) (asked : Call) (room : ℕ) (sendable
         fit = fit;
         none_kept = none;
       }
-    where
-      by : (o : Option ServedState) (taken given : List ℕ) (calls replies : List Sent) → ((start : ServedState) × IsBeginning start × Since (gateway_of start.core) o taken given)
-          → taken ≡ streams calls → given ≡ streams replies ++ new.kept → length calls ≡ length replies → new.kept ≡ []
-      by None taken given calls replies (start, begins, since) taken_is cut same = absurd since
-      by (Some s) taken given calls replies (start, begins, w) taken_is cut same =
-          (even-idle (gateway_of start.core) s taken given new.kept calls replies w taken_is cut same).none
 
   called-on : (how : Exchange) → Exchanged StandsFor (λ l. None) (λ l. l.receive_faults) (λ l. l.send_faults) old new asked room how → IsAnswered new
   called-on ends.Idle e = absurd (true≢false (sym e.0 ∙ h.fit))
-  called-on ends.Unsent e = absurd (true≢false (sym e.0.spent ∙ fit))
-  called-on ends.Unread e = absurd (true≢false (sym e.0.spent ∙ fit))
-  called-on ends.Ended e = absurd (true≢false (sym e.0.spent ∙ fit))
-  called-on ends.TooLong e = absurd (true≢false (sym e.0.spent ∙ fit))
   called-on (Replied reply) e = replied-on reply e.1
+  called-on _ e = absurd (true≢false (sym e.0.spent ∙ fit))
 
 pub call-holds : CallLaw
 call-holds old new asked room how sendable h exchanged fit = called-on old new asked room sendable h fit how exchanged

@@ -1,19 +1,18 @@
 -- What is heard of a write in several pieces.
-use Rattle.std.proofs.Common.{◌≡◌, ◌-◌, ◌≤◌, ◌<◌, ◌==◌, ◌/◌, ◌%◌, ℕ, Bool, true, false, List, [], ◌∷◌, ◌++◌, length, take, drop, Option, Some, None, ◌⊎◌, inl, inr, refl, sym, ap, ◌∙◌, subst, arith, append_assoc, length-drop}
+use Rattle.std.proofs.Common.{◌≡◌, ◌-◌, ◌≤◌, ◌<◌, ◌==◌, ◌/◌, ◌%◌, ℕ, Bool, false, List, [], ◌∷◌, ◌++◌, length, take, drop, Option, Some, None, ◌⊎◌, inl, inr, refl, sym, ap, ◌∙◌, subst, arith, append_assoc, append-nil, length-drop}
 use Rattle.std.specs.Prelude.{◌&&◌}
 use Rattle.std.specs.List.{flat_map, find}
+use Rattle.std.proofs.lemmas.Bool.{false≢true}
 use Rattle.std.proofs.lemmas.Nat.Bits.{bit_at_and}
 use Rattle.std.proofs.lemmas.Option.{none-some, same_Some}
 use Rattle.std.proofs.lemmas.List.{take_all, take-append-drop, length-take}
 use Rattle.std.proofs.lemmas.Grind.{flat_map-append}
-use Rattle.vx_calls.specs.declared.calls.Role.TheVariants as role
 use Rattle.vx_488.specs.declared.transfers.Addr.{Addr}
 use Rattle.vx_488.specs.Wire.{wire_after}
 use Rattle.vx_488.specs.Heard.{Byte, heard}
 use Rattle.vx_488.specs.ProvedLaws.{wire_after-append, heard-append}
 use Rattle.vx_rules.specs.Table.{Link, Table}
 use Rattle.vx_rules.specs.Lists.{along}
-use Rattle.vx_rules.specs.State.{lives_as}
 use Rattle.vx_rules.specs.Calls.{sets_end}
 use Rattle.vx_flow.specs.Event.{Event}
 use Rattle.vx_flow.specs.FineState.{FineState}
@@ -26,8 +25,9 @@ use Rattle.vx_flow.specs.Frames.{moves_by}
 use Rattle.vx_client.specs.State.{ClientState}
 use Rattle.vx_client.specs.Chunks.{without_end}
 use Rattle.vx_loop.specs.LoopState.{ServedState, LoopState}
-use Rattle.vx_loop.specs.Heard.{Hears, IsResting, IsToDevice, IsPieceHeard, IsHeard}
-use Rattle.vx_loop.proofs.Happening.{adds-none, adds-append}
+use Rattle.vx_loop.specs.Telling.{FindsEnded}
+use Rattle.vx_loop.specs.Heard.{Hears, IsResting, IsToDevice, IsHeard}
+use Rattle.vx_loop.proofs.Happening.{adds-append}
 
 -- ---- the bus behind events
 
@@ -43,10 +43,7 @@ wire-along (e ∷ es) f g h = by (fine f e) refl h (λ mid x. wire-along es mid 
 
 -- ---- one part and then another
 
-pub hears-none : (g : Gateway) (a : Addr) → Hears g g a []
-hears-none g a = record { group = []; steps = []; adds = adds-none g; here = refl; elsewhere = λ b ne. refl }
-
-pub hears-append : (f g h : Gateway) (a : Addr) (xs ys : List Byte) → Hears f g a xs → Hears g h a ys → Hears f h a (xs ++ ys)
+hears-append : (f g h : Gateway) (a : Addr) (xs ys : List Byte) → Hears f g a xs → Hears g h a ys → Hears f h a (xs ++ ys)
 hears-append f g h a xs ys first second =
     let wire : g.fine.state.wire ≡ wire_after f.fine.state.wire (flat_map moves_by first.group) =
     ap (λ (x : FineState). x.state.wire) first.adds.at_now ∙ wire-along first.group f.fine first.adds.last first.adds.events in
@@ -64,15 +61,11 @@ hears-append f g h a xs ys first second =
     }
 
 -- bytes without END, and others behind them
-marked-more : (end : Bool) (xs : List ℕ) (y : ℕ) (ys : List ℕ) → marked_bytes false xs ++ marked_bytes end (y ∷ ys) ≡ marked_bytes end (xs ++ y ∷ ys)
-marked-more end [] y ys = refl
-marked-more end (x ∷ []) y ys = refl
-marked-more end (x ∷ z ∷ xs) y ys = ap (λ bs. record { value = x; end = false } ∷ bs) (marked-more end (z ∷ xs) y ys)
-
-pub marked-append : (end : Bool) (xs ys : List ℕ) → (xs ≡ []) ⊎ (0 < length ys) → marked_bytes false xs ++ marked_bytes end ys ≡ marked_bytes end (xs ++ ys)
-marked-append end xs [] (inl none) = subst (λ zs. marked_bytes false zs ++ [] ≡ marked_bytes end (zs ++ [])) (sym none) refl
-marked-append end xs [] (inr some) = absurd (omega arith)
-marked-append end xs (y ∷ ys) h = marked-more end xs y ys
+marked-append : (end : Bool) (xs ys : List ℕ) → 0 < length ys → marked_bytes false xs ++ marked_bytes end ys ≡ marked_bytes end (xs ++ ys)
+marked-append end [] ys some = refl
+marked-append end (x ∷ []) [] some = absurd (omega arith)
+marked-append end (x ∷ []) (y ∷ ys) some = refl
+marked-append end (x ∷ z ∷ xs) ys some = ap (λ bs. record { value = x; end = false } ∷ bs) (marked-append end (z ∷ xs) ys some)
 
 -- flags without END
 pub no-end : (flags : ℕ) → sets_end (without_end flags) ≡ false
@@ -83,27 +76,6 @@ no-end flags =
 
 -- ---- a write so far
 
--- these bytes were heard without END, and the client is between calls
-pub record IsSoFar (first now : ClientState LoopState) (lid : ℕ) (sent : List ℕ) (s : ServedState) : Type 0 where
-  pub then_served : ServedState
-  pub rests : IsResting now then_served
-  pub links : lives_as then_served.core.fine.state.tables 1 role.Core ≡ true → then_served.core.fine.state.tables.links ≡ s.core.fine.state.tables.links
-  pub hears : (a : Addr) → IsToDevice s lid a → Hears (gateway_of s.core) (gateway_of then_served.core) a (marked_bytes false sent)
-
-pub record HeardSoFar (first now : ClientState LoopState) (lid : ℕ) (all rest : List ℕ) : Type 0 where
-  pub sent : List ℕ
-  pub cut : sent ++ rest ≡ all
-  pub last : (sent ≡ []) ⊎ (0 < length rest)
-  pub so_far : (s : ServedState) → IsResting first s → IsSoFar first now lid sent s
-
-pub heard-none : (c : ClientState LoopState) (lid : ℕ) (all : List ℕ) → HeardSoFar c c lid all all
-heard-none c lid all = record {
-  sent = [];
-  cut = refl;
-  last = inl refl;
-  so_far = λ s rests. record { then_served = s; rests = rests; links = λ lives. refl; hears = λ a device. hears-none (gateway_of s.core) a };
-}
-
 -- the device that the link is to
 device-now : (s t : ServedState) (lid : ℕ) (a : Addr) → t.core.fine.state.tables.links ≡ s.core.fine.state.tables.links → IsToDevice s lid a → IsToDevice t lid a
 device-now s t lid a same d = record {
@@ -112,56 +84,79 @@ device-now s t lid a same d = record {
   target = d.target;
 }
 
--- one piece more
-so-far-more : (first now next : ClientState LoopState) (lid : ℕ) (sent : List ℕ) (said : List Byte) (s : ServedState) (p : IsSoFar first now lid sent s)
-    → IsPieceHeard now next lid said p.then_served → (t : ServedState) × IsResting next t
-    × (lives_as t.core.fine.state.tables 1 role.Core ≡ true → t.core.fine.state.tables.links ≡ s.core.fine.state.tables.links)
-    × ((a : Addr) → IsToDevice s lid a → Hears (gateway_of s.core) (gateway_of t.core) a (marked_bytes false sent ++ said))
-so-far-more first now next lid sent said s p q = (
-  q.then_served,
-  q.rests,
-  λ lives. q.links lives ∙ p.links q.alive,
-  λ a device.
-      hears-append (gateway_of s.core) (gateway_of p.then_served.core) (gateway_of q.then_served.core) a (marked_bytes false sent) said (p.hears a device)
-      (q.hears a (device-now s p.then_served lid a (p.links q.alive) device)),
-)
+-- one write behind another
+both-heard : (first now next : ClientState LoopState) (lid : ℕ) (xs ys : List Byte) (s : ServedState) (p : IsHeard first now lid xs s) → IsHeard now next lid ys p.then_served
+    → IsHeard first next lid (xs ++ ys) s
+both-heard first now next lid xs ys s p q = record {
+  then_served = q.then_served;
+  rests = q.rests;
+  before = p.before;
+  alive = q.alive;
+  links = q.links ∙ p.links;
+  hears = λ a device.
+      hears-append (gateway_of s.core) (gateway_of p.then_served.core) (gateway_of q.then_served.core) a xs ys (p.hears a device)
+      (q.hears a (device-now s p.then_served lid a p.links device));
+}
 
-pub heard-more : (first now next : ClientState LoopState) (lid n : ℕ) (all rest later : List ℕ) (flags : ℕ) → 1 ≤ n → n < length rest → later ≡ take (length rest - n) (drop n rest)
-    → HeardSoFar first now lid all rest
-    → ((s : ServedState) → IsResting now s → IsPieceHeard now next lid (marked_bytes (sets_end (without_end flags)) (take n rest)) s)
-    → HeardSoFar first next lid all later
-heard-more first now next lid n all rest later flags some more later_is h piece =
-    let len = length-drop n rest in
-    let behind : later ≡ drop n rest = later_is ∙ take_all (length rest - n) (drop n rest) (omega arith) in
-    let size = ap (λ (xs : List ℕ). length xs) behind in
-    let part = take n rest in
-    record {
-      sent = h.sent ++ part;
-      cut = append_assoc h.sent part later ∙ ap (λ xs. h.sent ++ (part ++ xs)) behind ∙ ap (λ xs. h.sent ++ xs) (take-append-drop n rest) ∙ h.cut;
-      last = inr (omega arith);
-      so_far = λ s rests.
-          (let p = h.so_far s rests in
-          let q = subst (λ b. IsPieceHeard now next lid (marked_bytes b part) p.then_served) (no-end flags) (piece p.then_served p.rests) in
-          let both = so-far-more first now next lid h.sent (marked_bytes false part) s p q in
-          let one : marked_bytes false h.sent ++ marked_bytes false part ≡ marked_bytes false (h.sent ++ part) = marked-append false h.sent part (inr (let t = length-take n rest in omega arith)) in
-          record {
-            then_served = both.0;
-            rests = both.1;
-            links = both.2;
-            hears = λ a device. subst (λ bs. Hears (gateway_of s.core) (gateway_of both.0.core) a bs) one (both.3 a device);
-          });
-    }
+-- these bytes were heard without END, and others are left
+pub record HasBegun (first now : ClientState LoopState) (lid : ℕ) (all rest : List ℕ) : Type 0 where
+  pub sent : List ℕ
+  pub cut : sent ++ rest ≡ all
+  pub more : 0 < length rest
+  pub heard : (s : ServedState) → IsResting first s → IsHeard first now lid (marked_bytes false sent) s
 
--- the last piece
-pub heard-last : (first now next : ClientState LoopState) (lid : ℕ) (all rest : List ℕ) (end : Bool) → HeardSoFar first now lid all rest
-    → ((s : ServedState) → IsResting now s → IsPieceHeard now next lid (marked_bytes end rest) s) → (s : ServedState) → IsResting first s
-    → IsHeard first next lid (marked_bytes end all) s
-heard-last first now next lid all rest end h piece s rests =
-    let p = h.so_far s rests in
-    let both = so-far-more first now next lid h.sent (marked_bytes end rest) s p (piece p.then_served p.rests) in
-    let one : marked_bytes false h.sent ++ marked_bytes end rest ≡ marked_bytes end all = marked-append end h.sent rest h.last ∙ ap (marked_bytes end) h.cut in
-    record {
-      then_served = both.0;
-      rests = both.1;
-      hears = λ a device. subst (λ bs. Hears (gateway_of s.core) (gateway_of both.0.core) a bs) one (both.3 a device);
-    }
+-- before the first piece, or behind one
+abbrev pub HeardSoFar : (first now : ClientState LoopState) (lid : ℕ) (all rest : List ℕ) → Type 0
+HeardSoFar first now lid all rest = ((now ≡ first) × (rest ≡ all)) ⊎ HasBegun first now lid all rest
+
+module _ (first now next : ClientState LoopState) (lid : ℕ) (all rest : List ℕ) where
+  -- one piece more
+  piece-behind : (end : Bool) (front later : List ℕ) → front ++ later ≡ rest → (0 < length rest → 0 < length front) → HeardSoFar first now lid all rest
+      → ((s : ServedState) → IsResting now s → IsHeard now next lid (marked_bytes end front) s)
+      → (sent : List ℕ) × (sent ++ later ≡ all) × ((s : ServedState) → IsResting first s → IsHeard first next lid (marked_bytes end sent) s)
+  piece-behind end front later cut some (inl (same, whole)) piece =
+      (front, cut ∙ whole, subst (λ c. (s : ServedState) → IsResting c s → IsHeard c next lid (marked_bytes end front) s) same piece)
+  piece-behind end front later cut some (inr h) piece = (
+    h.sent ++ front,
+    append_assoc h.sent front later ∙ ap (λ xs. h.sent ++ xs) cut ∙ h.cut,
+    λ s rests.
+        (let p = h.heard s rests in
+        subst (λ bs. IsHeard first next lid bs s) (marked-append end h.sent front (some h.more))
+        (both-heard first now next lid (marked_bytes false h.sent) (marked_bytes end front) s p (piece p.then_served p.rests))),
+  )
+
+  -- a piece that others follow
+  pub heard-more : (n : ℕ) (later : List ℕ) (flags : ℕ) → 1 ≤ n → n < length rest → later ≡ take (length rest - n) (drop n rest) → HeardSoFar first now lid all rest
+      → ((s : ServedState) → IsResting now s → IsHeard now next lid (marked_bytes (sets_end (without_end flags)) (take n rest)) s) → HeardSoFar first next lid all later
+  heard-more n later flags some more later_is h piece =
+      let len = length-drop n rest in
+      let front = length-take n rest in
+      let behind : later ≡ drop n rest = later_is ∙ take_all (length rest - n) (drop n rest) (omega arith) in
+      let size = ap (λ (xs : List ℕ). length xs) behind in
+      let q = piece-behind (sets_end (without_end flags)) (take n rest) later (ap (λ xs. take n rest ++ xs) behind ∙ take-append-drop n rest) (λ any. omega arith) h piece in
+      inr (record {
+        sent = q.0;
+        cut = q.1;
+        more = omega arith;
+        heard = λ s rests. subst (λ b. IsHeard first next lid (marked_bytes b q.0) s) (no-end flags) (q.2 s rests);
+      })
+
+  -- the last piece
+  pub heard-last : (end : Bool) → HeardSoFar first now lid all rest → ((s : ServedState) → IsResting now s → IsHeard now next lid (marked_bytes end rest) s)
+      → (s : ServedState) → IsResting first s → IsHeard first next lid (marked_bytes end all) s
+  heard-last end h piece s rests =
+      let q = piece-behind end rest [] (append-nil rest) (λ some. some) h piece in
+      subst (λ xs. IsHeard first next lid (marked_bytes end xs) s) (sym (append-nil q.0) ∙ q.1) (q.2 s rests)
+
+-- a piece found the connection ended only where the first did
+pub closed-first : (first now new : ClientState LoopState) (lid : ℕ) (all rest : List ℕ) → HeardSoFar first now lid all rest
+    → ((s : ServedState) → IsResting now s → FindsEnded new s) → (s : ServedState) → IsResting first s → FindsEnded new s
+closed-first first now new lid all rest (inl (same, whole)) piece s rests = piece s (subst (λ c. IsResting c s) (sym same) rests)
+closed-first first now new lid all rest (inr h) piece s rests =
+    let p = h.heard s rests in absurd (false≢true (sym (piece p.then_served p.rests).before ∙ p.alive))
+
+-- no piece was over a client between calls only where the first wasn't
+pub sent-first : (first now : ClientState LoopState) (lid : ℕ) (all rest : List ℕ) → HeardSoFar first now lid all rest → ((s : ServedState) → IsResting now s → ⊥)
+    → (s : ServedState) → IsResting first s → ⊥
+sent-first first now lid all rest (inl (same, whole)) piece s rests = piece s (subst (λ c. IsResting c s) (sym same) rests)
+sent-first first now lid all rest (inr h) piece s rests = let p = h.heard s rests in piece p.then_served p.rests

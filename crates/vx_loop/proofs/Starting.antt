@@ -51,77 +51,55 @@ sampled-first port true moment = let early : nat_le 0 moment ≡ true = grind (a
 sampled-first port false moment = let early : nat_le 0 moment ≡ true = grind (arith, nat_tests) in subst (Samples port false moment) (sym early) refl
 
 -- a connection that comes up on it
-module _ (port : ℕ) (level : Bool) (moment conn : ℕ) (g : FineState) (h : fine (unconnected port level moment) (Up conn role.Core) ≡ Some g) where
+module _ (old core : CoreState SimState) (conn : ℕ) (alone : IsUnconnected old.fine) (up : fine old.fine (Up conn role.Core) ≡ Some core.fine) where
   abbrev start_fine : FineState
-  start_fine = unconnected port level moment
+  start_fine = unconnected old.fine.state.tables.abort_port old.fine.state.tables.srq_state.level old.fine.state.moment
 
-  comes-up : ComesUp start_fine conn role.Core g
-  comes-up = (fine-does start_fine g (Up conn role.Core) h).step
+  -- what comes up on the gateway comes up on that state
+  from-start : (n : ℕ) → fine old.fine (Up n role.Core) ≡ Some core.fine → fine start_fine (Up n role.Core) ≡ Some core.fine
+  from-start n h = subst (λ (x : FineState). fine x (Up n role.Core) ≡ Some core.fine) alone h
+
+  comes-up : ComesUp start_fine conn role.Core core.fine
+  comes-up = (fine-does start_fine core.fine (Up conn role.Core) (from-start conn up)).step
 
   -- has number 1
-  up-fine : fine start_fine (Up 1 role.Core) ≡ Some g
-  up-fine = subst (λ n. fine start_fine (Up n role.Core) ≡ Some g) comes-up.number h
+  up-fine : fine old.fine (Up 1 role.Core) ≡ Some core.fine
+  up-fine = subst (λ n. fine old.fine (Up n role.Core) ≡ Some core.fine) comes-up.number up
 
-  up-turn : g.turn ≡ None
+  up-turn : core.fine.turn ≡ None
   up-turn = ap (λ (f : FineState). f.turn) comes-up.leads
 
-  up-none : pending_at g.state.tables 1 ≡ None
-  up-none = ap (λ (f : FineState). pending_at f.state.tables 1) comes-up.leads
-
-  up-reached : IsReached g
+  up-reached : IsReached core.fine
   up-reached = record {
-    abort_port = port;
-    history = Sample moment level ∷ Up 1 role.Core ∷ [];
-    last = g;
-    allowed = ap (λ o. along fine o (Up 1 role.Core ∷ [])) (sampled-first port level moment) ∙ up-fine;
+    abort_port = old.fine.state.tables.abort_port;
+    history = Sample old.fine.state.moment old.fine.state.tables.srq_state.level ∷ Up 1 role.Core ∷ [];
+    last = core.fine;
+    allowed =
+        ap (λ o. along fine o (Up 1 role.Core ∷ [])) (sampled-first old.fine.state.tables.abort_port old.fine.state.tables.srq_state.level old.fine.state.moment)
+        ∙ from-start 1 up-fine;
     late = omega arith;
     at_now = refl;
   }
 
-over-unconnected : (f : FineState) (conn : ℕ) (g : FineState) → IsUnconnected f → fine f (Up conn role.Core) ≡ Some g
-    → fine (unconnected f.state.tables.abort_port f.state.tables.srq_state.level f.state.moment) (Up conn role.Core) ≡ Some g
-over-unconnected f conn g alone up = subst (λ (x : FineState). fine x (Up conn role.Core) ≡ Some g) alone up
+  -- nothing but connection 1 has come
+  pub new-up : BusGoes old.bus (Cut ∷ []) core.bus → OnlyComesUp (gateway_of old) (gateway_of core)
+  new-up bus = record { events = up-fine; bus = bus }
 
--- the link is kept as it is made
-pub new-kept : (f : FineState) (conn : ℕ) (core : CoreState SimState) (buffer : BufState) (xid : ℕ) (left : List ℕ) → IsUnconnected f
-    → fine f (Up conn role.Core) ≡ Some core.fine → buffer ≡ fresh RECORD_MAX → IsKept (record { core = core; buffer = buffer; xid = xid; left = left })
-new-kept f conn core buffer xid left alone up fresh_is =
-    let port = f.state.tables.abort_port in
-    let level = f.state.tables.srq_state.level in
-    let moment = f.state.moment in
-    let h = over-unconnected f conn core.fine alone up in
-    record {
+  -- the link is kept as it is made, and has just begun
+  module _ (buffer : BufState) (xid : ℕ) (left : List ℕ) (fresh_is : buffer ≡ fresh RECORD_MAX) where
+    pub new-kept : IsKept (record { core = core; buffer = buffer; xid = xid; left = left })
+    new-kept = record {
       limit = ap (λ (b : BufState). b.limit) fresh_is;
       waits = ap (λ (b : BufState). b.state) fresh_is;
-      reached = up-reached port level moment conn core.fine h;
-      own = λ u is. absurd (none-some u (sym (up-turn port level moment conn core.fine h) ∙ is));
-      calm = λ none. up-turn port level moment conn core.fine h;
+      reached = up-reached;
+      own = λ u is. absurd (none-some u (sym up-turn ∙ is));
+      calm = λ none. up-turn;
     }
 
--- nothing but connection 1 has come
-pub new-up : (old : CoreState SimState) (conn : ℕ) (core : CoreState SimState) → IsUnconnected old.fine → fine old.fine (Up conn role.Core) ≡ Some core.fine
-    → BusGoes old.bus (Cut ∷ []) core.bus → OnlyComesUp (gateway_of old) (gateway_of core)
-new-up old conn core alone up bus =
-    let f = old.fine in
-    record {
-      events = subst (λ (x : FineState). fine x (Up 1 role.Core) ≡ Some core.fine) (sym alone)
-          (up-fine f.state.tables.abort_port f.state.tables.srq_state.level f.state.moment conn core.fine (over-unconnected f conn core.fine alone up));
-      bus = bus;
-    }
-
--- and it has just begun
-pub new-begins : (old : CoreState SimState) (conn : ℕ) (core : CoreState SimState) (buffer : BufState) (xid : ℕ) (left : List ℕ) → IsUnconnected old.fine
-    → fine old.fine (Up conn role.Core) ≡ Some core.fine → BusGoes old.bus (Cut ∷ []) core.bus → buffer ≡ fresh RECORD_MAX → left ≡ []
-    → IsBeginning (record { core = core; buffer = buffer; xid = xid; left = left })
-new-begins old conn core buffer xid left alone up bus fresh_is none =
-    let f = old.fine in
-    record {
-      idle = record {
-        answered = up-none f.state.tables.abort_port f.state.tables.srq_state.level f.state.moment conn core.fine (over-unconnected f conn core.fine alone up);
-        fresh_is = fresh_is;
-        given = none;
-      };
+    pub new-begins : BusGoes old.bus (Cut ∷ []) core.bus → left ≡ [] → IsBeginning (record { core = core; buffer = buffer; xid = xid; left = left })
+    new-begins bus none = record {
+      idle = record { answered = ap (λ (f : FineState). pending_at f.state.tables 1) comes-up.leads; fresh_is = fresh_is; given = none };
       before = gateway_of old;
       alone = alone;
-      up = new-up old conn core alone up bus;
+      up = new-up bus;
     }

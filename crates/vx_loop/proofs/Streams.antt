@@ -1,16 +1,17 @@
 -- Whole records on a stream, and the one way to cut a stream into them.
-use Rattle.std.proofs.Common.{◌≡◌, ℕ, suc, ◌+◌, ◌-◌, ◌<◌, ◌≤◌, Bool, true, false, List, [], ◌∷◌, ◌++◌, length, take, refl, sym, ap, subst, ◌∙◌, inl, inr, ◌⊎◌, arith, append-nil}
+use Rattle.std.proofs.Common.{◌≡◌, ℕ, suc, ◌+◌, ◌-◌, ◌<◌, ◌≤◌, Bool, true, false, List, [], ◌∷◌, ◌++◌, length, take, drop, refl, sym, ap, subst, ◌∙◌, inl, inr, ◌⊎◌, arith, append-nil}
 use Rattle.std.specs.Prelude.{nat_lt}
+use Rattle.std.proofs.Math.Seq.{take-append_seam, drop-append_seam}
 use Rattle.std.proofs.lemmas.Bool.Decides.{nat_tests}
 use Rattle.std.proofs.lemmas.Bool.{false≢true}
-use Rattle.std.proofs.lemmas.List.{length-take}
+use Rattle.std.proofs.lemmas.List.{length-take, take-append-drop}
 use Rattle.vx_calls.specs.declared.limits.TheConstants.{RECORD_MAX}
 use Rattle.vx_record.specs.declared.Feed.{Feed}
 use Rattle.vx_record.specs.declared.Feed.TheVariants as feed
 use Rattle.vx_record.specs.Fragments.{last_header, record_of}
 use Rattle.vx_record.specs.Records.{Split, records}
 use Rattle.vx_record.specs.Buffer.{BufState, fresh, step, fed, taken}
-use Rattle.vx_record.specs.Ends.{is_settled, IsEnd, FeedEnds}
+use Rattle.vx_record.specs.Ends.{is_settled, is_settled_by, IsEnd, FeedEnds}
 use Rattle.vx_record.specs.ProvedLaws.{fed-stopped, taken-more, taken-stopped, fed-append}
 use Rattle.vx_record.proofs.Ends.{feed-ends}
 use Rattle.vx_record.proofs.Headers.{fragment_length-last_header}
@@ -130,9 +131,30 @@ whole-is-record [] message w = absurd (let both : feed.More ≡ feed.Whole = w.s
 whole-is-record (x ∷ xs) message w = subst (IsRecord (x ∷ xs)) w.kept (ends-record [] (x ∷ xs) first_buffer refl refl (omega arith) w.all w.state)
 
 -- a whole record has a byte
-pub whole-some : (stream message : List ℕ) → IsWhole stream message → 0 < length stream
-whole-some [] message w = absurd (let both : feed.More ≡ feed.Whole = w.state in cc)
-whole-some (x ∷ xs) message w = omega arith
+pub whole-some : (stream message : List ℕ) → IsWhole stream message → stream ≡ [] → ⊥
+whole-some [] message w none = let both : feed.More ≡ feed.Whole = w.state in cc
+whole-some (x ∷ xs) message w none = cc
+
+-- without its last bytes it has none yet
+pub front-more : (stream message : List ℕ) (n : ℕ) → IsWhole stream message → n < length stream → (fed first_buffer (take n stream)).state ≡ feed.More
+front-more stream message n w less = by (is-open (fed first_buffer (take n stream)).state) where
+  by : ((fed first_buffer (take n stream)).state ≡ feed.More) ⊎ ((fed first_buffer (take n stream)).state ≡ feed.More → ⊥) → (fed first_buffer (take n stream)).state ≡ feed.More
+  by (inl more) = more
+  by (inr stopped) =
+      let parts = taken-append first_buffer (take n stream) (drop n stream) in
+      let cut : taken first_buffer (take n stream ++ drop n stream) ≡ taken first_buffer stream = ap (taken first_buffer) (take-append-drop n stream) in
+      let none = taken-stopped (fed first_buffer (take n stream)) (drop n stream) stopped in
+      let some = taken-within first_buffer (take n stream) in
+      let len = length-take n stream in
+      let all = w.all in
+      absurd (omega arith)
+
+-- a stream with a whole record is settled
+settled-at : (split : Split) (message : List ℕ) → split.records ≡ message ∷ [] → is_settled split ≡ true
+settled-at split message h = ap (λ rs. is_settled_by rs split.too_long) h
+
+pub whole-settled : (stream message : List ℕ) → IsWhole stream message → is_settled (records RECORD_MAX stream) ≡ true
+whole-settled stream message w = settled-at (records RECORD_MAX stream) message (whole-is-record stream message w).whole
 
 -- ---- a message as a record of one fragment
 
@@ -164,14 +186,10 @@ record-whole message short =
 
 -- two fronts of a list of the same length
 fronts : (a b xs ys : List ℕ) → a ++ xs ≡ b ++ ys → length a ≡ length b → (a ≡ b) × (xs ≡ ys)
-fronts [] [] xs ys h e = (refl, h)
-fronts [] (y ∷ b) xs ys h e = absurd (omega arith)
-fronts (x ∷ a) [] xs ys h e = absurd (omega arith)
-fronts (x ∷ a) (y ∷ b) xs ys h e =
-    let first : x ≡ y = cc in
-    let rest : a ++ xs ≡ b ++ ys = cc in
-    let both = fronts a b xs ys rest (omega arith) in
-    (ap (λ c. c ∷ a) first ∙ ap (λ c. y ∷ c) both.0, both.1)
+fronts a b xs ys h e = (
+  sym (take-append_seam a xs) ∙ ap (take (length a)) h ∙ ap (λ n. take n (b ++ ys)) e ∙ take-append_seam b ys,
+  sym (drop-append_seam a xs) ∙ ap (drop (length a)) h ∙ ap (λ n. drop n (b ++ ys)) e ∙ drop-append_seam b ys,
+)
 
 taken-front : (a xs message : List ℕ) → IsWhole a message → taken first_buffer (a ++ xs) ≡ length a
 taken-front a xs message w =

@@ -145,17 +145,7 @@ life-stays f g e none h =
 
 -- ---- an answer
 
-pub answer-ends : (f g : FineState) (now : ℕ) (failed : Bool) (dialed : Option Bool) (level : Bool) (told : Reply) → fine f (Answer 1 now failed dialed level told) ≡ Some g
-    → pending_at g.state.tables 1 ≡ None
-answer-ends f g now failed dialed level told h =
-    let behind = (fine-frame f g (Answer 1 now failed dialed level told) h).tables in
-    ap (λ (t : Tables). pending_at t 1) behind.over_is ∙ pending-over behind.after 1
-
-pub answer-moment : (f g : FineState) (now : ℕ) (failed : Bool) (dialed : Option Bool) (level : Bool) (told : Reply) → fine f (Answer 1 now failed dialed level told) ≡ Some g
-    → g.state.moment ≡ now
-answer-moment f g now failed dialed level told h = (fine-frame f g (Answer 1 now failed dialed level told) h).moment_is
-
--- and its turn is over
+-- its turn is over
 turn-over : (turn : Option Turn) (now : ℕ) (failed : Bool) (dialed : Option Bool) (level : Bool) (told : Reply) → IsOwn turn
     → turn_after turn (Answer 1 now failed dialed level told) ≡ None
 turn-over None now failed dialed level told own = refl
@@ -163,10 +153,17 @@ turn-over (Some u) now failed dialed level told own =
     let one : (u.connection == 1) ≡ true = ap (λ n. n == 1) (own u refl) in
     ap (λ b. cond b None (Some u)) one
 
-pub answer-over : (f g : FineState) (now : ℕ) (failed : Bool) (dialed : Option Bool) (level : Bool) (told : Reply) → IsSound f → IsOwn f.turn
-    → fine f (Answer 1 now failed dialed level told) ≡ Some g → g.turn ≡ None
-answer-over f g now failed dialed level told sound own h =
-    (fine-frame f g (Answer 1 now failed dialed level told) h).turn_is ∙ turn-over f.turn now failed dialed level told own
+module _ (f g : FineState) (now : ℕ) (failed : Bool) (dialed : Option Bool) (level : Bool) (told : Reply) (h : fine f (Answer 1 now failed dialed level told) ≡ Some g) where
+  pub answer-ends : pending_at g.state.tables 1 ≡ None
+  answer-ends =
+      let behind = (fine-frame f g (Answer 1 now failed dialed level told) h).tables in
+      ap (λ (t : Tables). pending_at t 1) behind.over_is ∙ pending-over behind.after 1
+
+  answer-moment : g.state.moment ≡ now
+  answer-moment = (fine-frame f g (Answer 1 now failed dialed level told) h).moment_is
+
+  pub answer-over : IsOwn f.turn → g.turn ≡ None
+  answer-over own = (fine-frame f g (Answer 1 now failed dialed level told) h).turn_is ∙ turn-over f.turn now failed dialed level told own
 
 -- ---- a poll
 
@@ -210,7 +207,7 @@ module _ (old behind : FineState) (now : ℕ) (moves : List Transfer) (p : Pendi
       let is = answer-moment behind last now (is_broken ran) None level told ended in
       record {
         leaves =
-            (answer-ends behind last now (is_broken ran) None level told ended, answer-over behind last now (is_broken ran) None level told run.sound (run.own own) ended);
+            (answer-ends behind last now (is_broken ran) None level told ended, answer-over behind last now (is_broken ran) None level told ended (run.own own));
         late = omega arith;
         lives_on = life-stays behind last (Answer 1 now (is_broken ran) None level told) refl ended ∙ ap alive run.tables;
       }

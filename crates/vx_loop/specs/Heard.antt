@@ -6,14 +6,14 @@ use Rattle.vx_488.specs.declared.transfers.Addr.{Addr}
 use Rattle.vx_488.specs.Heard.{Byte, heard}
 use Rattle.vx_bus_traits.specs.Steps.{Step}
 use Rattle.vx_rules.specs.Table.{Link}
-use Rattle.vx_calls.specs.declared.calls.Role.TheVariants as role
-use Rattle.vx_rules.specs.State.{link_of, lives_as}
+use Rattle.vx_rules.specs.State.{link_of}
 use Rattle.vx_flow.specs.Event.{Event}
 use Rattle.vx_loop.specs.Gateway.{Gateway, gateway_of}
 use Rattle.vx_flow.specs.Frames.{moves_by}
 use Rattle.vx_client.specs.State.{ClientState}
 use Rattle.vx_loop.specs.LoopState.{ServedState, LoopState, IsIdle}
 use Rattle.vx_loop.specs.Exchanges.{Adds}
+use Rattle.vx_loop.specs.Serving.{lives}
 
 -- What happened in a gateway let an address hear these bytes, in order, and every other one none: of the transfers of the turns'
 -- moves, from the bus as it was before.
@@ -37,17 +37,12 @@ pub record IsToDevice (s : ServedState) (lid : ℕ) (a : Addr) : Type 0 where
   pub live : link_of s.core.fine.state.tables 1 lid ≡ Some link
   pub target : link.target ≡ Device a.p a.s
 
--- Over a client between calls one device_write did this to the device that its link is to; and the client is between calls
--- again. The connection lived, and where it still does the links are the same.
-pub record IsPieceHeard (old new : ClientState LoopState) (lid : ℕ) (bytes : List Byte) (s : ServedState) : Type 0 where
-  pub then_served : ServedState
-  pub rests : IsResting new then_served
-  pub alive : lives_as s.core.fine.state.tables 1 role.Core ≡ true
-  pub links : lives_as then_served.core.fine.state.tables 1 role.Core ≡ true → then_served.core.fine.state.tables.links ≡ s.core.fine.state.tables.links
-  pub hears : (a : Addr) → IsToDevice s lid a → Hears (gateway_of s.core) (gateway_of then_served.core) a bytes
-
--- so did a write in pieces
+-- Over a client between calls a write, in one piece or several, did this to the device that its link is to; and the client is between
+-- calls again. The connection lived, and lives now, and the links are the same.
 pub record IsHeard (old new : ClientState LoopState) (lid : ℕ) (bytes : List Byte) (s : ServedState) : Type 0 where
   pub then_served : ServedState
   pub rests : IsResting new then_served
+  pub before : lives (gateway_of s.core) ≡ true
+  pub alive : lives (gateway_of then_served.core) ≡ true
+  pub links : then_served.core.fine.state.tables.links ≡ s.core.fine.state.tables.links
   pub hears : (a : Addr) → IsToDevice s lid a → Hears (gateway_of s.core) (gateway_of then_served.core) a bytes

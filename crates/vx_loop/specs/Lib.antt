@@ -3,6 +3,7 @@ pub mod LoopState
 pub mod Exchanges
 pub mod Serving
 pub mod Standing
+pub mod Telling
 pub mod Heard
 pub mod Resting
 pub use Rattle.vx_io_traits.specs.Faults
@@ -26,5 +27,6 @@ pub use Rattle.vx_flow.specs.Poll
 pub use Rattle.vx_flow.specs.Sound
 pub use Rattle.vx_core.specs.CoreState
 pub use Rattle.vx_client.specs.Chunks
+pub use Rattle.vx_client.specs.Ending
 pub use Rattle.vx_client.specs.Exchange
 pub use Rattle.vx_client.specs.Message

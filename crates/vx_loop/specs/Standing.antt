@@ -170,3 +170,14 @@ abbrev pub LivesOn : Option ServedState → Option ServedState → List ℕ → 
 LivesOn (Some s) (Some t) bytes = IsReady s → (IsRefused s bytes → ⊥) × (lives (gateway_of t.core) ≡ true)
 LivesOn None None bytes = Unit {0}
 LivesOn _ _ bytes = ⊥
+
+-- there is a gateway, and the connection doesn't live
+abbrev pub HasEnded : Option ServedState → Type 0
+HasEnded (Some s) = lives (gateway_of s.core) ≡ false
+HasEnded None = ⊥
+
+-- where the link isn't ready the connection doesn't live
+abbrev pub EndsEarly : Option ServedState → Option ServedState → Type 0
+EndsEarly (Some s) (Some t) = (IsReady s → ⊥) → lives (gateway_of t.core) ≡ false
+EndsEarly None None = Unit {0}
+EndsEarly _ _ = ⊥

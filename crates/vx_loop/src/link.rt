@@ -88,13 +88,16 @@ impl<I: Instrument> LoopLink<I> {
 }
 
 impl<I: Instrument> Link for LoopLink<I> {
-    ghost use Rattle.std.specs.Prelude.{◌≡◌, ◌<◌, ◌≤◌, [], None, length, take};
+    ghost use Rattle.std.specs.Prelude.{◌≡◌, ◌<◌, ◌≤◌, true, [], None, length, take};
     ghost use Rattle.std.specs.Io.KnownBytes.{Consumes, IsAtEnd, Keeps};
     ghost use Rattle.vx_io_traits.specs.Faults.{Rose};
     ghost use Rattle.vx_io_traits.specs.Outs.{IfGot, IfTook, OnEnd, OnReadFailed, OnWriteFailed};
     ghost use Rattle.vx_io_traits.specs.Stands.{Gives, Takes, Stays};
     ghost use Rattle.std.specs.Prelude.{IfSome};
-    ghost use Rattle.vx_loop.specs.Standing.{StandsFor, GoesOn, IsUnanswered, IsDrained, IsRefused, LivesAlike, LivesOn};
+    ghost use Rattle.vx_loop.specs.Standing.{StandsFor, GoesOn, IsUnanswered, IsDrained, IsRefused, LivesAlike, LivesOn, HasEnded, EndsEarly};
+    ghost use Rattle.vx_loop.specs.Gateway.{gateway_of};
+    ghost use Rattle.vx_loop.specs.Serving.{lives};
+    ghost use Rattle.vx_loop.specs.Telling.{IsReceive, IsSend};
 
     ghost stands = { StandsFor };
 
@@ -103,6 +106,10 @@ impl<I: Instrument> Link for LoopLink<I> {
     ghost receive_faults = { λ l. l.receive_faults };
 
     ghost send_faults = { λ l. l.send_faults };
+
+    ghost receives = { IsReceive };
+
+    ghost sends = { IsSend };
 
     /// Gives the bytes that are left of the last reply, once there is one.
     fn receive(&mut self, into: &mut [u8]) -> ReadOut
@@ -123,6 +130,7 @@ impl<I: Instrument> Link for LoopLink<I> {
         // What every link says.
         ensures counted { self.old.receive_faults ≤ self.new.receive_faults }
         ensures apart { self.new.send_faults ≡ self.old.send_faults }
+        ensures receives { IsReceive self.old into.old result into.new self.new }
         ensures peers { Keeps None None }
         ensures got { IfGot result (λ n. (0 < n) × (n ≤ length into.new) × Consumes None None (take n into.new)
             × Gives StandsFor self.old self.new (take n into.new)) }
@@ -151,14 +159,19 @@ impl<I: Instrument> Link for LoopLink<I> {
         ensures went { IfTook result (λ n. GoesOn self.old self.new (take n from.now) []) }
         ensures broke { OnWriteFailed result (GoesOn self.old self.new [] []) }
 
-        // It fails only where the bytes end a record that is no call, or is too long. Where the connection lives, no call waits and
-        // nothing of a reply is left, it fails in each such case, and the connection lives on in every other.
+        // It fails only where the connection lives and the bytes end a record that is no call, or is too long, and the connection
+        // has ended then. Where no call waits and nothing of a reply is left besides, it fails in each such case, and the connection
+        // lives on in every other. Where a call waits or something is left the connection ends, and an ended one stays so.
         ensures cause { OnWriteFailed result (IfSome self.old.served (λ s. IsRefused s from.now)) }
+        ensures alive { OnWriteFailed result (IfSome self.old.served (λ s. lives (gateway_of s.core) ≡ true)) }
         ensures refused { IfTook result (λ _. LivesOn self.old.served self.new.served from.now) }
+        ensures ended { OnWriteFailed result (HasEnded self.new.served) }
+        ensures early { IfTook result (λ _. EndsEarly self.old.served self.new.served) }
 
         // What every link says.
         ensures counted { self.old.send_faults ≤ self.new.send_faults }
         ensures apart { self.new.receive_faults ≡ self.old.receive_faults }
+        ensures sends { IsSend self.old from.now result self.new }
         ensures peers { Keeps None None }
         ensures left { Keeps None None }
         ensures took { IfTook result (λ n. (0 < n) × (n ≤ length from.now) × Takes StandsFor self.old self.new (take n from.now)) }

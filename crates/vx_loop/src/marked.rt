@@ -59,6 +59,7 @@ impl<I: Instrument, M: Mark> Link for Marked<I, M> {
     ghost use Rattle.vx_io_traits.specs.Outs.{IfGot, IfTook, OnEnd, OnReadFailed, OnWriteFailed};
     ghost use Rattle.vx_io_traits.specs.Stands.{Gives, Takes, Stays};
     ghost use Rattle.vx_loop.specs.Standing.{MarkedStands};
+    ghost use Rattle.vx_loop.specs.Telling.{IsReceive, IsSend};
 
     ghost stands = { MarkedStands M.start };
 
@@ -67,6 +68,10 @@ impl<I: Instrument, M: Mark> Link for Marked<I, M> {
     ghost receive_faults = { λ l. l.receive_faults };
 
     ghost send_faults = { λ l. l.send_faults };
+
+    ghost receives = { IsReceive };
+
+    ghost sends = { IsSend };
 
     fn receive(&mut self, into: &mut [u8]) -> ReadOut {
         self.link.receive(into)

@@ -187,7 +187,8 @@ impl<I: Instrument> Serving<I> {
         requires there { IsSome (connection_at self.old.core.fine.state.tables 1) }
         requires alive { pending_at self.old.core.fine.state.tables 1 ≡ None → lives (gateway_of self.old.core) ≡ true }
         requires busy { is_some (pending_at self.old.core.fine.state.tables 1) ≡ true ⊎ 0 < length self.old.left }
-        ensures { TakesTo self.old self.new from.now }
+        ensures takes { TakesTo self.old self.new from.now }
+        ensures ended { lives (gateway_of self.new.core) ≡ false }
     {
         self.core.disconnect(CONN);
         self.buffer.restart();
@@ -220,6 +221,7 @@ impl<I: Instrument> Serving<I> {
         ensures stays { IfSome result (λ n. IsReady self.old → (IsRefused self.old from.now → ⊥) × (lives (gateway_of self.new.core) ≡ true)) }
         ensures broke { IfNone result (TakesTo self.old self.new []) }
         ensures cause { IfNone result (IsRefused self.old from.now) }
+        ensures ended { IfNone result (lives (gateway_of self.new.core) ≡ false) }
     {
         let fed = self.buffer.feed(from);
         match fed.state {
@@ -258,6 +260,9 @@ impl<I: Instrument> Serving<I> {
         ensures stays { IfSome result (λ n. IsReady self.old → (IsRefused self.old from.now → ⊥) × (lives (gateway_of self.new.core) ≡ true)) }
         ensures broke { IfNone result (TakesTo self.old self.new []) }
         ensures cause { IfNone result (IsRefused self.old from.now) }
+        ensures ended { IfNone result (lives (gateway_of self.new.core) ≡ false) }
+        ensures alive { IfNone result (lives (gateway_of self.old.core) ≡ true) }
+        ensures early { IfSome result (λ _. (IsReady self.old → ⊥) → lives (gateway_of self.new.core) ≡ false) }
     {
         if self.is_gone() {
             return Some(from.len());

@@ -1,15 +1,18 @@
 //! A write of a client through a gateway in the same thread.
 
-ghost use Rattle.std.specs.Prelude.{◌≡◌, ◌≤◌, ◌<◌, ◌^◌, min, length, None, OnOk};
+ghost use Rattle.std.specs.Prelude.{◌≡◌, ◌≤◌, ◌<◌, ◌^◌, min, length, None, IfSome, OnOk};
 ghost use Rattle.vx_rules.specs.Calls.{sets_end};
 ghost use Rattle.vx_flow.specs.Laws.{marked_bytes};
 ghost use Rattle.vx_client.specs.State.{with_link};
+ghost use Rattle.vx_client.specs.Message.{call_record};
 ghost use Rattle.vx_client.specs.Exchange.{IsCalled};
+ghost use Rattle.vx_client.specs.Ending.{TellsCalls};
 ghost use Rattle.vx_client.specs.Meaning.{nothing_of};
 ghost use Rattle.vx_client.specs.Chunks.{chunks, write_call, IsWritten};
 ghost use Rattle.vx_loop.specs.LoopState.{ServedState, LoopState};
-ghost use Rattle.vx_loop.specs.Standing.{StandsFor, MarkedStands};
-ghost use Rattle.vx_loop.specs.Heard.{IsResting, IsHeard, IsPieceHeard};
+ghost use Rattle.vx_loop.specs.Standing.{StandsFor, MarkedStands, IsUnanswered};
+ghost use Rattle.vx_loop.specs.Telling.{IsReceive, IsSend, FindsEnded, OnClosed, OnReadFault, OnWriteFault};
+ghost use Rattle.vx_loop.specs.Heard.{IsResting, IsHeard};
 
 use crate::link::LoopLink;
 use crate::marked::{Mark, Marked};
@@ -42,6 +45,7 @@ fn write_marked<I: Instrument, M: Mark>(
     requires start { M.start ≡ link.old }
     ensures called { IsCalled (MarkedStands link.old) (λ _. None) (λ l. l.receive_faults) (λ l. l.send_faults)
         (with_link client.old link.old) (with_link client.new link.new) (write_call lid opts.now flags bytes.now) 0 nothing_of result }
+    ensures told { TellsCalls IsReceive IsSend link.old link.new (call_record client.old.next (write_call lid opts.now flags bytes.now)) result }
     ensures own { client.new.link ≡ client.old.link }
     ensures number { client.old.next < 2 ^ 32 }
 {
@@ -67,7 +71,10 @@ fn write_piece<I: Instrument>(
     requires short { length bytes.now ≤ PIECE_MAX }
     ensures called { IsCalled StandsFor (λ _. None) (λ l. l.receive_faults) (λ l. l.send_faults) client.old client.new
         (write_call lid opts.now flags bytes.now) 0 nothing_of result }
-    ensures heard { OnOk result ((s : ServedState) → IsResting client.old s → IsPieceHeard client.old client.new lid (marked_bytes (sets_end flags) bytes.now) s) }
+    ensures heard { OnOk result ((s : ServedState) → IsResting client.old s → IsHeard client.old client.new lid (marked_bytes (sets_end flags) bytes.now) s) }
+    ensures closed { OnClosed result ((s : ServedState) → IsResting client.old s → FindsEnded client.new s) }
+    ensures fault { OnReadFault result (IfSome client.new.link.served IsUnanswered) }
+    ensures sent { OnWriteFault result ((s : ServedState) → IsResting client.old s → ⊥) }
 {
     is_word(opts.io_timeout);
     is_word(opts.lock_timeout);
@@ -75,6 +82,7 @@ fn write_piece<I: Instrument>(
     client.swap_link(&mut link);
     link.is_kept();
     let result = write_marked::<I, Brand>(client, &mut link, lid, opts, flags, bytes);
+    link.is_kept();
     client.swap_link(&mut link);
     result
 }
@@ -82,9 +90,12 @@ fn write_piece<I: Instrument>(
 /// `Client::write` over a link to a gateway: device_write in pieces of the smaller of `made.max` and `PIECE_MAX` bytes, the
 /// last one shorter, and at least one, with the flag END of `opts` on the last alone.
 ///
-/// On `Ok`, where the client was between two calls as this one began and its link is to a device, what that device's
-/// address heard in this call is `bytes`, in order, with END on the last of them exactly where `opts` asks for it, and no
-/// other address heard any of them.
+/// On `Ok`, where the client was between two calls as this one began, the connection lived and lives now, with the same
+/// links. Where its link is to a device besides, what that device's address heard in this call is `bytes`, in order, with
+/// END on the last of them exactly where `opts` asks for it, and no other address heard any of them.
+///
+/// Where the client was between two calls, `Closed` comes only over a connection that had ended before, and `WriteFault`
+/// never. `ReadFault` comes only where a call still waits at the last moment of a `u64`.
 pub fn through_client<I: Instrument>(
     client: &mut Client<LoopLink<I>>,
     made: &LinkMade,
@@ -95,6 +106,9 @@ pub fn through_client<I: Instrument>(
     ensures written { IsWritten StandsFor (λ _. None) (λ l. l.receive_faults) (λ l. l.send_faults) client.old client.new made.now.lid opts.now
         (chunks (min made.now.max PIECE_MAX) bytes.now) result }
     ensures heard { OnOk result ((s : ServedState) → IsResting client.old s → IsHeard client.old client.new made.now.lid (marked_bytes (sets_end opts.now.flags) bytes.now) s) }
+    ensures closed { OnClosed result ((s : ServedState) → IsResting client.old s → FindsEnded client.new s) }
+    ensures fault { OnReadFault result (IfSome client.new.link.served IsUnanswered) }
+    ensures sent { OnWriteFault result ((s : ServedState) → IsResting client.old s → ⊥) }
 {
     let most = made.max.min(PIECE_MAX) as usize;
     let mut rest = bytes;

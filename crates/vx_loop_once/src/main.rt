@@ -12,7 +12,7 @@ use std::process::ExitCode;
 use vx_488::Addr;
 use vx_client::{CallOpts, Client, ClientErr};
 use vx_core::Core;
-use vx_loop::LoopLink;
+use vx_loop::{LoopLink, through_client};
 use vx_rack::Echo;
 use vx_sim::SimBus;
 
@@ -67,7 +67,7 @@ fn ask(client: &mut Client<LoopLink<Echo>>, into: &mut [u8]) -> Result<bool, Cli
     if made.max == 0 {
         return Ok(false);
     }
-    client.write(&made, &OPTS, TEXT.as_bytes())?;
+    through_client(client, &made, &OPTS, TEXT.as_bytes())?;
     let end = client.read(made.lid, &OPTS, 0, into)?;
     Ok(end.len == TEXT.len() && &*into == TEXT.as_bytes())
 }

@@ -14,7 +14,7 @@ returns-in_err-made-clause-asked g c =
     record {
       mid = c.create_link.new.self;
       answer = Err c.in_err-made.field-0.0;
-      created = c.in_err-made.ensures;
+      created = c.in_err-made.ensures.called;
       behind = (refl, ap (result_shown c.args.room.now) same);
     }
 
@@ -24,16 +24,16 @@ returns-in_err-made-clause-unspent g c =
     let same : c.from_residual.result ≡ Err c.in_err-made.field-0.0 = cc (p.1, p.2) in
     subst IsAnswer (sym same)
     (called-answer g.L.Link.stands g.L.Link.left g.L.Link.receive_faults g.L.Link.send_faults c.args.client.now c.create_link.new.self (create false 0 c.args.ask.now.device.now) 0 made_of
-    (Err c.in_err-made.field-0.0) c.requires.fit c.in_err-made.ensures)
+    (Err c.in_err-made.field-0.0) c.requires.fit c.in_err-made.ensures.called)
 
 pub perform-gained-requires-clause-max : goal.perform-gained-requires-clause-max
 perform-gained-requires-clause-max g c =
-    made-takes g.L.Link.stands g.L.Link.left g.L.Link.receive_faults g.L.Link.send_faults c.args.client.now c.create_link.new.self false 0 c.args.ask.now.device.now c.in_ok-made.made c.in_ok-made.ensures
+    made-takes g.L.Link.stands g.L.Link.left g.L.Link.receive_faults g.L.Link.send_faults c.args.client.now c.create_link.new.self false 0 c.args.ask.now.device.now c.in_ok-made.made c.in_ok-made.ensures.called
 
 pub returns-clause-unspent : goal.returns-clause-unspent
 returns-clause-unspent g c =
     let fit = called-fit g.L.Link.stands g.L.Link.left g.L.Link.receive_faults g.L.Link.send_faults c.args.client.now c.create_link.new.self (create false 0 c.args.ask.now.device.now) 0 made_of
-    c.in_ok-made.made c.in_ok-made.ensures in
+    c.in_ok-made.made c.in_ok-made.ensures.called in
     shown-answer c.perform-gained.new.room c.perform-gained.result
     (performs-answer g.L.Link.stands g.L.Link.left g.L.Link.receive_faults g.L.Link.send_faults c.create_link.new.self c.perform-gained.new.client c.in_ok-made.made (command_shown c.args.ask.now.command)
     (result_shown c.perform-gained.new.room c.perform-gained.result) fit c.perform-gained.ensures.performed)

@@ -14,14 +14,14 @@ returns-in_err-write-in-Query-clause-performed g c =
     let p = err_from_is_err_and c.from_residual.result c.from_residual.ensures.1 in
     let same : c.from_residual.result ≡ Err c.in_err-write-in-Query.field-0.0 = cc (p.1, p.2) in
     query-failed g.L.Link.stands g.L.Link.left g.L.Link.receive_faults g.L.Link.send_faults c.args.client.now c.write.new.self c.args.made.now (command_shown c.args.command) c.in-Query.field-0.now c.args.line.now
-    c.in_err-write-in-Query.field-0.0 (result_shown c.args.room.now c.from_residual.result) (ap command_shown c.in-Query.is) c.requires.line c.in_err-write-in-Query.ensures (ap (result_shown c.args.room.now) same)
+    c.in_err-write-in-Query.field-0.0 (result_shown c.args.room.now c.from_residual.result) (ap command_shown c.in-Query.is) c.requires.line c.in_err-write-in-Query.ensures.written (ap (result_shown c.args.room.now) same)
 
 pub returns-in_err-write-in-Write-clause-performed : goal.returns-in_err-write-in-Write-clause-performed
 returns-in_err-write-in-Write-clause-performed g c =
     let p = err_from_is_err_and c.from_residual-in_err-write-in-Write.result c.from_residual-in_err-write-in-Write.ensures.1 in
     let same : c.from_residual-in_err-write-in-Write.result ≡ Err c.in_err-write-in-Write.field-0.0 = cc (p.1, p.2) in
     write-failed g.L.Link.stands g.L.Link.left g.L.Link.receive_faults g.L.Link.send_faults c.args.client.now c.write-in-Write.new.self c.args.made.now (command_shown c.args.command) c.in-Write.field-0.now c.args.line.now
-    c.in_err-write-in-Write.field-0.0 (result_shown c.args.room.now c.from_residual-in_err-write-in-Write.result) (ap command_shown c.in-Write.is) c.requires.line c.in_err-write-in-Write.ensures (ap (result_shown c.args.room.now) same)
+    c.in_err-write-in-Write.field-0.0 (result_shown c.args.room.now c.from_residual-in_err-write-in-Write.result) (ap command_shown c.in-Write.is) c.requires.line c.in_err-write-in-Write.ensures.written (ap (result_shown c.args.room.now) same)
 
 pub returns-in_err-readstb-in-Stb-clause-performed : goal.returns-in_err-readstb-in-Stb-clause-performed
 returns-in_err-readstb-in-Stb-clause-performed g c =
@@ -31,7 +31,7 @@ returns-in_err-readstb-in-Stb-clause-performed g c =
     λ k. Performs g.L.Link.stands g.L.Link.left g.L.Link.receive_faults g.L.Link.send_faults c.args.client.now c.readstb.new.self c.args.made.now k (result_shown c.args.room.now c.from_residual-in_err-readstb-in-Stb.result) in
     subst Does (sym (ap command_shown c.in-Stb.is))
     (called-error g.L.Link.stands g.L.Link.left g.L.Link.receive_faults g.L.Link.send_faults c.args.client.now c.readstb.new.self (call.ReadStb (generic c.args.made.now.lid plain)) 0 stb_of (λ o. Status (stb_of o))
-    c.in_err-readstb-in-Stb.field-0.0 (result_shown c.args.room.now c.from_residual-in_err-readstb-in-Stb.result) c.in_err-readstb-in-Stb.ensures (ap (result_shown c.args.room.now) same))
+    c.in_err-readstb-in-Stb.field-0.0 (result_shown c.args.room.now c.from_residual-in_err-readstb-in-Stb.result) c.in_err-readstb-in-Stb.ensures.called (ap (result_shown c.args.room.now) same))
 
 pub returns-in_ok-readstb-in-Stb-clause-performed : goal.returns-in_ok-readstb-in-Stb-clause-performed
 returns-in_ok-readstb-in-Stb-clause-performed g c =
@@ -39,7 +39,7 @@ returns-in_ok-readstb-in-Stb-clause-performed g c =
     λ k. Performs g.L.Link.stands g.L.Link.left g.L.Link.receive_faults g.L.Link.send_faults c.args.client.now c.readstb.new.self c.args.made.now k (Ok (Status c.in_ok-readstb-in-Stb.field-0)) in
     subst Does (sym (ap command_shown c.in-Stb.is))
     (called-part g.L.Link.stands g.L.Link.left g.L.Link.receive_faults g.L.Link.send_faults c.args.client.now c.readstb.new.self (call.ReadStb (generic c.args.made.now.lid plain)) 0 stb_of (λ b. Status b)
-    c.in_ok-readstb-in-Stb.field-0 c.in_ok-readstb-in-Stb.ensures)
+    c.in_ok-readstb-in-Stb.field-0 c.in_ok-readstb-in-Stb.ensures.called)
 
 pub returns-in_err-clear-in-Clear-clause-performed : goal.returns-in_err-clear-in-Clear-clause-performed
 returns-in_err-clear-in-Clear-clause-performed g c =
@@ -49,7 +49,7 @@ returns-in_err-clear-in-Clear-clause-performed g c =
     λ k. Performs g.L.Link.stands g.L.Link.left g.L.Link.receive_faults g.L.Link.send_faults c.args.client.now c.clear.new.self c.args.made.now k (result_shown c.args.room.now c.from_residual-in_err-clear-in-Clear.result) in
     subst Does (sym (ap command_shown c.in-Clear.is))
     (called-error g.L.Link.stands g.L.Link.left g.L.Link.receive_faults g.L.Link.send_faults c.args.client.now c.clear.new.self (call.Clear (generic c.args.made.now.lid plain)) 0 nothing_of (λ o. Done)
-    c.in_err-clear-in-Clear.field-0.0 (result_shown c.args.room.now c.from_residual-in_err-clear-in-Clear.result) c.in_err-clear-in-Clear.ensures (ap (result_shown c.args.room.now) same))
+    c.in_err-clear-in-Clear.field-0.0 (result_shown c.args.room.now c.from_residual-in_err-clear-in-Clear.result) c.in_err-clear-in-Clear.ensures.called (ap (result_shown c.args.room.now) same))
 
 pub returns-in_ok-clear-in-Clear-clause-performed : goal.returns-in_ok-clear-in-Clear-clause-performed
 returns-in_ok-clear-in-Clear-clause-performed g c =
@@ -57,7 +57,7 @@ returns-in_ok-clear-in-Clear-clause-performed g c =
     λ k. Performs g.L.Link.stands g.L.Link.left g.L.Link.receive_faults g.L.Link.send_faults c.args.client.now c.clear.new.self c.args.made.now k (Ok Done) in
     subst Does (sym (ap command_shown c.in-Clear.is))
     (called-part g.L.Link.stands g.L.Link.left g.L.Link.receive_faults g.L.Link.send_faults c.args.client.now c.clear.new.self (call.Clear (generic c.args.made.now.lid plain)) 0 nothing_of (λ u. Done)
-    c.in_ok-clear-in-Clear.field-0 c.in_ok-clear-in-Clear.ensures)
+    c.in_ok-clear-in-Clear.field-0 c.in_ok-clear-in-Clear.ensures.called)
 
 pub returns-in_err-trigger-in-Trigger-clause-performed : goal.returns-in_err-trigger-in-Trigger-clause-performed
 returns-in_err-trigger-in-Trigger-clause-performed g c =
@@ -67,7 +67,7 @@ returns-in_err-trigger-in-Trigger-clause-performed g c =
     λ k. Performs g.L.Link.stands g.L.Link.left g.L.Link.receive_faults g.L.Link.send_faults c.args.client.now c.trigger.new.self c.args.made.now k (result_shown c.args.room.now c.from_residual-in_err-trigger-in-Trigger.result) in
     subst Does (sym (ap command_shown c.in-Trigger.is))
     (called-error g.L.Link.stands g.L.Link.left g.L.Link.receive_faults g.L.Link.send_faults c.args.client.now c.trigger.new.self (call.Trigger (generic c.args.made.now.lid plain)) 0 nothing_of (λ o. Done)
-    c.in_err-trigger-in-Trigger.field-0.0 (result_shown c.args.room.now c.from_residual-in_err-trigger-in-Trigger.result) c.in_err-trigger-in-Trigger.ensures (ap (result_shown c.args.room.now) same))
+    c.in_err-trigger-in-Trigger.field-0.0 (result_shown c.args.room.now c.from_residual-in_err-trigger-in-Trigger.result) c.in_err-trigger-in-Trigger.ensures.called (ap (result_shown c.args.room.now) same))
 
 pub returns-in_ok-trigger-in-Trigger-clause-performed : goal.returns-in_ok-trigger-in-Trigger-clause-performed
 returns-in_ok-trigger-in-Trigger-clause-performed g c =
@@ -75,14 +75,14 @@ returns-in_ok-trigger-in-Trigger-clause-performed g c =
     λ k. Performs g.L.Link.stands g.L.Link.left g.L.Link.receive_faults g.L.Link.send_faults c.args.client.now c.trigger.new.self c.args.made.now k (Ok Done) in
     subst Does (sym (ap command_shown c.in-Trigger.is))
     (called-part g.L.Link.stands g.L.Link.left g.L.Link.receive_faults g.L.Link.send_faults c.args.client.now c.trigger.new.self (call.Trigger (generic c.args.made.now.lid plain)) 0 nothing_of (λ u. Done)
-    c.in_ok-trigger-in-Trigger.field-0 c.in_ok-trigger-in-Trigger.ensures)
+    c.in_ok-trigger-in-Trigger.field-0 c.in_ok-trigger-in-Trigger.ensures.called)
 
 pub returns-in_ok-write-in-Query-clause-performed : goal.returns-in_ok-write-in-Query-clause-performed
 returns-in_ok-write-in-Query-clause-performed g c =
     query-read g.L.Link.stands g.L.Link.left g.L.Link.receive_faults g.L.Link.send_faults c.args.client.now c.write.new.self c.read.new.client c.args.made.now (command_shown c.args.command) c.in-Query.field-0.now c.args.line.now
-    c.in_ok-write-in-Query.field-0 (result_shown c.read.new.room c.read.result) (ap command_shown c.in-Query.is) c.requires.line c.in_ok-write-in-Query.ensures c.read.ensures.read
+    c.in_ok-write-in-Query.field-0 (result_shown c.read.new.room c.read.result) (ap command_shown c.in-Query.is) c.requires.line c.in_ok-write-in-Query.ensures.written c.read.ensures.read
 
 pub returns-in_ok-write-in-Write-clause-performed : goal.returns-in_ok-write-in-Write-clause-performed
 returns-in_ok-write-in-Write-clause-performed g c =
     write-done g.L.Link.stands g.L.Link.left g.L.Link.receive_faults g.L.Link.send_faults c.args.client.now c.write-in-Write.new.self c.args.made.now (command_shown c.args.command) c.in-Write.field-0.now c.args.line.now
-    c.in_ok-write-in-Write.field-0 (ap command_shown c.in-Write.is) c.requires.line c.in_ok-write-in-Write.ensures
+    c.in_ok-write-in-Write.field-0 (ap command_shown c.in-Write.is) c.requires.line c.in_ok-write-in-Write.ensures.written

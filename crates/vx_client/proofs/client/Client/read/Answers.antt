@@ -4,6 +4,7 @@ use Rattle.std.proofs.lemmas.Result.{err_from_is_err_and}
 use borrow.Rule.Slice.PartMut.{same_len_mid}
 use Rattle.vx_client.specs.Parts.{ReadsPart, MayEnd}
 use Rattle.vx_client.proofs.Parts.{reads-none, reads-more, reads-end}
+use Rattle.vx_client.proofs.Ending.{last-error}
 use Rattle.vx_client.proofs.client.Client.read.Goals as goal
 use Rattle.vx_client.proofs.client.Client.read.Goals.{then-end-ne0-via-then-end-ne0, then-end-ne0-via-else-end-ne0+then-len-into}
 
@@ -64,3 +65,8 @@ returns-then-end-ne0-clause-within g c =
     let within : c.in_ok-end.end.len ≤ length asked = c.in_ok-end.ensures.within in
     let inside : len ≤ length into = c.loop-end.invariant.within in
     omega arith
+
+pub returns-in_err-end-clause-last : goal.returns-in_err-end-clause-last
+returns-in_err-end-clause-last g c =
+    let p = err_from_is_err_and c.from_residual.result c.from_residual.ensures.1 in
+    last-error g.L.Link.receives g.L.Link.sends c.read_part.new.self.link c.in_err-end.field-0.0 c.from_residual.result c.in_err-end.ensures.last (cc (p.1, p.2))

@@ -10,6 +10,7 @@ use Rattle.vx_client.specs.Settled.{answer_of}
 use Rattle.vx_client.specs.declared.answers.ClientErr.{ClientErr}
 use Rattle.vx_client.specs.declared.answers.ReadEnd.{ReadEnd}
 use Rattle.vx_client.specs.declared.settling.Answer.{Answer}
+use Rattle.vx_client.proofs.Ending.{last-error}
 use Rattle.vx_client.proofs.Calling.{called-part, called-error}
 use Rattle.vx_client.proofs.Parts.{read-answers}
 use Rattle.vx_client.proofs.client.Client.read_part.Goals as goal
@@ -68,3 +69,8 @@ returns-clause-some g c = λ none room.
     c.in_ok-answer.answer (sym called.answer) in
     let asked : 0 < c.min-request.result = (let least = c.min-request.ensures in omega arith) in
     says.1 none asked
+
+pub returns-in_err-answer-clause-last : goal.returns-in_err-answer-clause-last
+returns-in_err-answer-clause-last g c =
+    let p = err_from_is_err_and c.from_residual.result c.from_residual.ensures.1 in
+    last-error g.L.Link.receives g.L.Link.sends c.ask.new.self.link c.in_err-answer.field-0.0 c.from_residual.result c.in_err-answer.ensures.last (cc (p.1, p.2))

@@ -5,6 +5,7 @@ use Rattle.vx_client.specs.Inbox.{last_of}
 use Rattle.vx_client.specs.Message.{call_record}
 use Rattle.vx_client.specs.Settled.{answer_of}
 use Rattle.vx_client.specs.Swapped.{IsSwapped}
+use Rattle.vx_client.proofs.Ending.{calls-error, settled-calls}
 use Rattle.vx_client.proofs.Calling.{called-failed, called-replied, answer-settled, spent-settled, filled-settled}
 use Rattle.vx_client.proofs.client.Talk.ask.Goals as goal
 
@@ -63,3 +64,16 @@ returns-clause-into g c =
     c.last-reply.ensures.bytes c.settle-settled.ensures.into
     (answer-settled c.self.inside.next (length c.args.into.now) (length c.last-reply.result.now) call c.last-reply.result.now last c.settle-settled.result c.returned.result
     c.last-reply.ensures.bytes refl c.settle-settled.ensures.settled c.returned.ensures))
+
+pub returns-in_err-exchange-clause-told : goal.returns-in_err-exchange-clause-told
+returns-in_err-exchange-clause-told g c =
+    let p = err_from_is_err_and c.from_residual.result c.from_residual.ensures.1 in
+    rw (← c.self.view_is) (
+    calls-error g.L.Link.receives g.L.Link.sends c.args.link.now c.exchange.new.link (call_record c.self.inside.next (call_shown c.args.call.now)) c.in_err-exchange.field-0.0
+    c.from_residual.result c.in_err-exchange.ensures.told (cc (p.1, p.2)))
+
+pub returns-clause-told : goal.returns-clause-told
+returns-clause-told g c =
+    rw (← c.self.view_is) (
+    settled-calls g.L.Link.receives g.L.Link.sends c.args.link.now c.exchange.new.link (call_record c.self.inside.next (call_shown c.args.call.now)) (length c.last-reply.result.now)
+    c.settle-settled.result c.returned.result c.returned.ensures c.in_ok-exchange.ensures.told)

@@ -1,43 +1,41 @@
 use Rattle.std.proofs.Common.{rules, ◌≡◌, [], Some, take, sym, ap, subst, ◌∙◌}
 use Rattle.vx_loop.specs.LoopState.{LoopState}
-use Rattle.vx_loop.specs.Standing.{LivesOn}
-use Rattle.vx_loop.proofs.Looking.{goes-takes, goes-stays, takes-goes}
+use Rattle.vx_loop.specs.Standing.{StandsFor, GoesOn, LivesOn, EndsEarly}
+use Rattle.vx_loop.proofs.Looking.{goes-takes, goes-stays, stands-goes, takes-goes}
+use Rattle.vx_loop.proofs.link.LoopLinkLink.send.Given.{Over}
 use Rattle.vx_loop.proofs.link.LoopLinkLink.send.Goals as goal
+
+-- the gateway is the link's
+is_there : (g : Over) (c : goal.In-Some-accept g) → c.args.self.now.served ≡ Some c.in-Some.served
+is_there g c = ap (λ (l : LoopState). l.served) (sym c.self.view_is) ∙ c.in-Some.is
 
 pub returns-in-Some-accept-clause-went : goal.returns-in-Some-accept-clause-went
 returns-in-Some-accept-clause-went g c =
-    let old = c.args.self.now in
-    let s = c.in-Some.served in
-    let is : old.served ≡ Some s = ap (λ (l : LoopState). l.served) (sym c.self.view_is) ∙ c.in-Some.is in
-    let n = c.in-Some-accept.count in
-    takes-goes old s c.accept.new.self old.receive_faults old.send_faults (take n c.args.from.now) is c.in-Some-accept.ensures.took.2
+    takes-goes c.args.self.now c.in-Some.served c.accept.new.self c.args.self.now.receive_faults c.args.self.now.send_faults (take c.in-Some-accept.count c.args.from.now) (is_there g c)
+    c.in-Some-accept.ensures.took.2
 
 pub returns-in-Some-accept-clause-refused : goal.returns-in-Some-accept-clause-refused
-returns-in-Some-accept-clause-refused g c =
-    let old = c.args.self.now in
-    let is : old.served ≡ Some c.in-Some.served = ap (λ (l : LoopState). l.served) (sym c.self.view_is) ∙ c.in-Some.is in
-    subst (λ o. LivesOn o (Some c.accept.new.self) c.args.from.now) (sym is) c.in-Some-accept.ensures.stays
+returns-in-Some-accept-clause-refused g c = subst (λ o. LivesOn o (Some c.accept.new.self) c.args.from.now) (sym (is_there g c)) c.in-Some-accept.ensures.stays
+
+pub returns-in-Some-accept-clause-early : goal.returns-in-Some-accept-clause-early
+returns-in-Some-accept-clause-early g c = subst (λ o. EndsEarly o (Some c.accept.new.self)) (sym (is_there g c)) c.in-Some-accept.ensures.early
+
+pub returns-in-Some-accept-clause-sends : goal.returns-in-Some-accept-clause-sends
+returns-in-Some-accept-clause-sends g c =
+    ((returns-in-Some-accept-clause-went g c, returns-in-Some-accept-clause-refused g c, returns-in-Some-accept-clause-early g c), tt)
 
 pub returns-in-Some-accept-clause-took : goal.returns-in-Some-accept-clause-took
 returns-in-Some-accept-clause-took g c =
     let old = c.args.self.now in
-    let s = c.in-Some.served in
-    let is : old.served ≡ Some s = ap (λ (l : LoopState). l.served) (sym c.self.view_is) ∙ c.in-Some.is in
-    let n = c.in-Some-accept.count in
+    let new : LoopState = record old { served = Some c.accept.new.self } in
+    let bytes = take c.in-Some-accept.count c.args.from.now in
     let took = c.in-Some-accept.ensures.took in
-    let bytes = take n c.args.from.now in (
-      took.0,
-      took.1,
-      goes-takes old (record old { served = Some c.accept.new.self }) bytes (takes-goes old s c.accept.new.self old.receive_faults old.send_faults bytes is took.2),
-    )
+    (took.0, took.1, goes-takes StandsFor old new bytes (stands-goes old new bytes [] (returns-in-Some-accept-clause-went g c)))
 
 pub returns-in-None-clause-failed : goal.returns-in-None-clause-failed
 returns-in-None-clause-failed g c =
     let old = c.args.self.now in
-    let s = c.in-Some.served in
-    let is : old.served ≡ Some s = ap (λ (l : LoopState). l.served) (sym c.self.view_is) ∙ c.in-Some.is in
-    let sends = c.saturating_add-self-inside.result in (
-      search rules,
-      goes-stays old (record { served = Some c.accept.new.self; receive_faults = old.receive_faults; send_faults = sends })
-          (takes-goes old s c.accept.new.self old.receive_faults sends [] is c.in-None.ensures.broke),
-    )
+    let new : LoopState = record { served = Some c.accept.new.self; receive_faults = old.receive_faults; send_faults = c.saturating_add-self-inside.result } in
+    let is : old.served ≡ Some c.in-Some.served = ap (λ (l : LoopState). l.served) (sym c.self.view_is) ∙ c.in-Some.is in
+    let went : GoesOn old new [] [] = takes-goes old c.in-Some.served c.accept.new.self old.receive_faults new.send_faults [] is c.in-None.ensures.broke in
+    (search rules, goes-stays StandsFor old new (stands-goes old new [] [] went))

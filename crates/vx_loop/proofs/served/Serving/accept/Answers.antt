@@ -15,8 +15,14 @@ pub returns-then-is_busy-clause-took : goal.returns-then-is_busy-clause-took
 returns-then-is_busy-clause-took g c = (
   omega arith,
   omega arith,
-  subst (TakesTo c.args.self.now c.end_early.new.self) (sym (take_all (length c.args.from.now) c.args.from.now (omega arith))) c.end_early.ensures,
+  subst (TakesTo c.args.self.now c.end_early.new.self) (sym (take_all (length c.args.from.now) c.args.from.now (omega arith))) c.end_early.ensures.takes,
 )
 
 pub returns-then-is_busy-clause-stays : goal.returns-then-is_busy-clause-stays
 returns-then-is_busy-clause-stays g c = λ ready. absurd (not-ready c.args.self.now (c.is_busy.ensures.busy c.if-is_busy.true) ready)
+
+pub returns-then-is_gone-clause-early : goal.returns-then-is_gone-clause-early
+returns-then-is_gone-clause-early g c = λ not_ready. c.is_gone.ensures.gone c.if-is_gone.true
+
+pub returns-then-is_busy-clause-early : goal.returns-then-is_busy-clause-early
+returns-then-is_busy-clause-early g c = λ not_ready. c.end_early.ensures.ended

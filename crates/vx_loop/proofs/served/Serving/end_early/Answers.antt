@@ -1,4 +1,4 @@
-use Rattle.std.proofs.Common.{◌≡◌, ◌<◌, true, None, length, ◌⊎◌, refl, sym, ap, ◌∙◌, subst}
+use Rattle.std.proofs.Common.{◌≡◌, ◌<◌, true, false, None, length, ◌⊎◌, refl, ap, ◌∙◌, subst}
 use Rattle.std.specs.Prelude.{is_some}
 use Rattle.vx_record.specs.Buffer.{fresh}
 use Rattle.vx_rules.specs.State.{pending_at}
@@ -12,9 +12,10 @@ use Rattle.vx_loop.proofs.served.Serving.end_early.Goals as goal
 pub returns : goal.returns
 returns g c =
     let s = seen c.self.inside.core c.self.inside.buffer c.self.inside.xid c.self.inside.from c.self.inside.to c.self.inside.reply.items in
-    let k : IsKept s = subst IsKept (sym c.self.view_is) c.requires.kept in
-    let alive = subst (λ (x : ServedState). pending_at x.core.fine.state.tables 1 ≡ None → lives (gateway_of x.core) ≡ true) (sym c.self.view_is) c.requires.alive in
-    let busy = subst (λ (x : ServedState). is_some (pending_at x.core.fine.state.tables 1) ≡ true ⊎ 0 < length x.left) (sym c.self.view_is) c.requires.busy in
-    subst (λ (x : ServedState). TakesTo x (gone_state c.disconnect.new.self c.restart.new.self s.xid s.left) c.args.from.now) c.self.view_is
-    (early-to s c.disconnect.new.self c.restart.new.self s.xid s.left k refl (record { events = c.disconnect.ensures.fine; bus = c.disconnect.ensures.walk })
+    let new : ServedState = gone_state c.disconnect.new.self c.restart.new.self s.xid s.left in
+    let made = subst (λ (x : ServedState). IsKept x → (pending_at x.core.fine.state.tables 1 ≡ None → lives (gateway_of x.core) ≡ true)
+    → is_some (pending_at x.core.fine.state.tables 1) ≡ true ⊎ 0 < length x.left → TakesTo x new c.args.from.now × (lives (gateway_of new.core) ≡ false)) c.self.view_is
+    (λ k alive busy. early-to s c.disconnect.new.self c.restart.new.self s.xid s.left k refl (record { events = c.disconnect.ensures.fine; bus = c.disconnect.ensures.walk })
     (c.restart.ensures ∙ ap fresh k.limit) c.args.from.now alive c.requires.some busy)
+    c.requires.kept c.requires.alive c.requires.busy in
+    record { takes = made.0; ended = made.1 }

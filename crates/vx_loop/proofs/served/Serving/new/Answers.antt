@@ -8,15 +8,15 @@ returns-then-is_err-clause-refused g c = on-err _ _ (sym c.is_err.ensures.value 
 pub returns-clause-kept : goal.returns-clause-kept
 returns-clause-kept g c =
     let ok = if-ok _ _ (sym c.is_err.ensures.value ∙ c.if-is_err.false) c.connect.ensures.ok in
-    new-kept c.args.core.fine ok.0 c.connect.new.self c.in-Ok-new.buffer 0 _ c.requires.unconnected ok.1 c.in-Ok-new.ensures
+    new-kept c.args.core c.connect.new.self ok.0 c.requires.unconnected ok.1 c.in-Ok-new.buffer 0 _ c.in-Ok-new.ensures
 
 pub returns-clause-begins : goal.returns-clause-begins
 returns-clause-begins g c =
     let ok = if-ok _ _ (sym c.is_err.ensures.value ∙ c.if-is_err.false) c.connect.ensures.ok in
-    new-begins c.args.core ok.0 c.connect.new.self c.in-Ok-new.buffer 0 _ c.requires.unconnected ok.1 (on-ok _ _ (sym c.is_err.ensures.value ∙ c.if-is_err.false) c.connect.ensures.walk)
-    c.in-Ok-new.ensures refl
+    new-begins c.args.core c.connect.new.self ok.0 c.requires.unconnected ok.1 c.in-Ok-new.buffer 0 _ c.in-Ok-new.ensures
+    (on-ok _ _ (sym c.is_err.ensures.value ∙ c.if-is_err.false) c.connect.ensures.walk) refl
 
 pub returns-clause-up : goal.returns-clause-up
 returns-clause-up g c =
     let ok = if-ok _ _ (sym c.is_err.ensures.value ∙ c.if-is_err.false) c.connect.ensures.ok in
-    new-up c.args.core ok.0 c.connect.new.self c.requires.unconnected ok.1 (on-ok _ _ (sym c.is_err.ensures.value ∙ c.if-is_err.false) c.connect.ensures.walk)
+    new-up c.args.core c.connect.new.self ok.0 c.requires.unconnected ok.1 (on-ok _ _ (sym c.is_err.ensures.value ∙ c.if-is_err.false) c.connect.ensures.walk)
