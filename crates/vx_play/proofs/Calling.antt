@@ -22,7 +22,7 @@ use Rattle.vx_flow.specs.FineState.{FineState}
 use Rattle.vx_flow.specs.Fine.{fine}
 use Rattle.vx_flow.specs.ProvedLaws.{fine-frame}
 use Rattle.vx_core.specs.CoreState.{CoreState}
-use Rattle.vx_play.specs.declared.streams.Incoming.{Incoming}
+use Rattle.vx_play.specs.declared.pieces.Incoming.{Incoming}
 use Rattle.vx_play.specs.declared.note.Made.{Made}
 use Rattle.vx_play.specs.declared.note.Note.{Note}
 use Rattle.vx_play.specs.declared.note.Note.TheVariants as note

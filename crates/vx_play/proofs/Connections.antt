@@ -26,7 +26,7 @@ use Rattle.vx_play.specs.declared.note.Gone.TheVariants as gone
 use Rattle.vx_play.specs.declared.note.Note.TheVariants as note
 use Rattle.vx_bench.specs.declared.stops.Stop.{Stop}
 use Rattle.vx_bench.specs.declared.stops.Stop.TheVariants as stop
-use Rattle.vx_play.specs.declared.streams.Incoming.{Incoming}
+use Rattle.vx_play.specs.declared.pieces.Incoming.{Incoming}
 use Rattle.vx_play.specs.Gateway.{Gateway, gateway_of, BusGoes, Happens}
 use Rattle.vx_play.specs.Stream.{Brought, NoEnd, Whole, TooLong, After, brought, by_split, kept_after}
 use Rattle.vx_exchange.specs.Meaning.{Meaning, Junk, Answered, Asks, Aborts, meaning, xid_by}

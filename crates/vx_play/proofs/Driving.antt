@@ -37,7 +37,7 @@ use Rattle.vx_play.specs.declared.run.Status.{Status}
 use Rattle.vx_play.specs.declared.run.Status.TheVariants as status
 use Rattle.vx_play.specs.Gateway.{Gateway}
 use Rattle.vx_play.specs.Item.{Item, Fault, noted, errors_of, shown_moves, last_line}
-use Rattle.vx_play.specs.Stage.{Stage, beginning}
+use Rattle.vx_play.specs.Stage.{Stage, beginning, refusal}
 use Rattle.vx_play.specs.Play.{Takes, Plays}
 use Rattle.vx_play.specs.PlayerState.{PlayerState}
 use Rattle.vx_play.specs.Standing.{Stands, TakesTo, StopsFor, note_line, moves_lines, made_lines}
@@ -48,6 +48,7 @@ use Rattle.vx_play.specs.Ended.{PutsLast}
 use Rattle.vx_play.specs.Outcome.{Ends, IsUnread, IsOutcome, usage_line}
 use Rattle.vx_play.specs.Counting.{no_counts, is_interrupt, has_error, tells_interrupt, tells_wait, counts_made, counts_behind, IsWithin, TakesCounted, Running, HaltsIn, EndsSteps}
 use Rattle.vx_play.specs.declared.note.Gone.TheVariants as gone
+use Rattle.vx_play.proofs.Halting.{driven-halts}
 use Rattle.vx_play.proofs.Shown.{waits}
 use Rattle.vx_play.proofs.Counted.{counts-more, same-counts}
 use Rattle.vx_play.proofs.Upholding.{plays-uphold}
@@ -305,15 +306,20 @@ run-whole ask own rack count player counts alike r = (
 pub run-refused : (ask : Ask) (own rack : List SpareShown) (halt : Halt) (fault : Fault) → own ≡ rack → (h : HaltsIn ask.seed own halt) → halt.stop ≡ stop.Refused fault.cause
     → fault.line ≡ halt.number → IsHalted ask rack h.items fault
 run-refused ask own rack halt fault alike h is line =
+    let refused : refusal h.stage h.command ≡ Some fault.cause = subst (StopsFor h.stage h.command) is h.stops in
+    let found = driven-halts ask.seed own h.place h.items h.stage h.front h.command fault.cause h.next refused in
     subst (λ x. IsHalted ask x h.items fault) alike
     (record {
       place = h.place;
       end = h.stage;
       front = h.front;
       upholds = plays-uphold own h.front.steps h.items h.stage h.front.driven;
-      command = h.command;
-      next = h.next;
-      refused = subst (StopsFor h.stage h.command) is h.stops;
+      p = found.p;
+      name = found.name;
+      next = found.next;
+      lacks = found.lacks;
+      refused = subst (λ c. refusal h.stage c ≡ Some fault.cause) found.command_is refused;
+      spare = found.spare;
       line = line ∙ h.number;
     })
 

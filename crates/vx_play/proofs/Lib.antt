@@ -16,4 +16,15 @@ pub mod Ready
 pub mod Printed
 pub mod Both
 pub mod Counted
+pub mod Spelled
+pub mod Idle
+pub mod Brief
+pub mod Room
+pub mod Resting
+pub mod Plugging
+pub mod Served
+pub mod Drawn
+pub mod Coming
+pub mod HeadCalls
+pub mod Halting
 pub mod Driving

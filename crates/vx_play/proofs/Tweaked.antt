@@ -49,7 +49,7 @@ pub record Same (before cut : SimState) : Type 0 where
   pub bench : cut.bench ≡ before.bench
   pub wire : cut.means.wire ≡ before.means.wire
 
-cut-same : (before cut : SimState) → BusGoes before (Cut ∷ []) cut → Same before cut
+pub cut-same : (before cut : SimState) → BusGoes before (Cut ∷ []) cut → Same before cut
 cut-same before cut went = record {
   bench = ap (λ (s : SimState). s.bench) went.2 ∙ went.1.1.2;
   wire = ap (λ (s : SimState). s.means.wire) went.2 ∙ ap (λ (m : Means). m.wire) went.1.0;

@@ -1,10 +1,11 @@
 -- A run that a number makes: its steps, each by its place and by where the play then stands, what is counted of it, and how it ends.
-use Rattle.std.specs.Prelude.{◌≡◌, ℕ, ◌+◌, ◌*◌, Bool, true, false, is_some, List, [], ◌∷◌, ◌++◌, length, count_by, Some, ◌⊎◌}
+use Rattle.std.specs.Prelude.{◌≡◌, ℕ, ◌+◌, ◌*◌, Bool, true, false, is_some, List, [], ◌∷◌, ◌++◌, length, count_by, Some, None, ◌⊎◌}
 use Rattle.std.specs.List.{flat_map, slice_get}
 use Rattle.std.specs.Io.KnownBytes.{Appends}
 use Rattle.vx_calls.specs.declared.codes.ErrorCode.{ErrorCode}
 use Rattle.vx_calls.specs.declared.codes.ErrorCode.TheVariants as code
-use Rattle.vx_script.specs.Command.{Command, At}
+use Rattle.vx_script.specs.declared.Cause.TheVariants as cause
+use Rattle.vx_script.specs.Command.{Command, At, Plug}
 use Rattle.vx_trace.specs.Output.{Output}
 use Rattle.vx_text.specs.Ends.{End}
 use Rattle.vx_text.specs.Writing.{StopsIn}
@@ -12,8 +13,7 @@ use Rattle.vx_exchange.specs.SrqState.{Srq, Front}
 use Rattle.vx_rules.specs.State.{pending_at}
 use Rattle.vx_flow.specs.Event.{Event, Take}
 use Rattle.vx_bench.specs.Script.{Step}
-use Rattle.vx_bench.specs.Rack.{SpareShown}
-use Rattle.vx_gen.specs.declared.steps.TheConstants.{HEAD_STEPS}
+use Rattle.vx_bench.specs.Rack.{SpareShown, spare_at}
 use Rattle.vx_gen.specs.declared.telling.Counts.{Counts}
 use Rattle.vx_gen.specs.declared.words.Ask.{Ask}
 use Rattle.vx_gen.specs.Drawing.{draw, connection}
@@ -42,8 +42,8 @@ drawn_at seed k s = drawn k (draw seed k) (has_call s (connection (draw seed k))
 abbrev pub IsGenerated : (seed place : ℕ) → Stage → Command → Type 0
 IsGenerated seed place s command =
     (slice_get head place ≡ Some command)
-    ⊎ ((k : ℕ) × (place ≡ HEAD_STEPS + 2 * k) × (command ≡ At (k + 1)))
-    ⊎ ((k : ℕ) × (place ≡ HEAD_STEPS + 2 * k + 1) × (command ≡ drawn_at seed (k + 1) s))
+    ⊎ ((k : ℕ) × (place ≡ length head + 2 * k) × (command ≡ At (k + 1)))
+    ⊎ ((k : ℕ) × (place ≡ length head + 2 * k + 1) × (command ≡ drawn_at seed (k + 1) s))
 
 -- the steps that a play takes from a place of a run on are those of their places, each at the stage that stands before it, and are
 -- numbered from 1
@@ -96,18 +96,22 @@ pub record IsDriven (seed : ℕ) (rack : List SpareShown) (count : ℕ) (items :
 -- a whole run: the head, and a moment and a step for each draw
 pub record IsRun (ask : Ask) (rack : List SpareShown) (items : List Item) : Type 0 where
   pub end : Stage
-  pub front : IsDriven ask.seed rack (HEAD_STEPS + 2 * ask.steps) items end
+  pub front : IsDriven ask.seed rack (length head + 2 * ask.steps) items end
   pub upholds : Upholds items
 
--- the step of a run behind these is refused for the fault's cause; the steps are numbered from 1
+-- The next step of a run behind these is one of the head's `plug` commands, and the rack has no spare of its name: it is refused for
+-- that. The steps are numbered from 1.
 pub record IsHalted (ask : Ask) (rack : List SpareShown) (items : List Item) (fault : Fault) : Type 0 where
   pub place : ℕ
   pub end : Stage
   pub front : IsDriven ask.seed rack place items end
   pub upholds : Upholds items
-  pub command : Command
-  pub next : IsGenerated ask.seed place end command
-  pub refused : refusal end command ≡ Some fault.cause
+  pub p : ℕ
+  pub name : List ℕ
+  pub next : slice_get head place ≡ Some (Plug p None name)
+  pub lacks : spare_at rack name ≡ None
+  pub refused : refusal end (Plug p None name) ≡ Some fault.cause
+  pub spare : fault.cause ≡ cause.Spare
   pub line : fault.line ≡ place + 1
 
 -- the text of a run: its first line, and what it counted, or the line of the fault at which it ends

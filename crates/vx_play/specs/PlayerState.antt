@@ -5,7 +5,7 @@ use Rattle.std.specs.Map.{lookup}
 use Rattle.std.specs.BTreeMap.{is_at}
 use Rattle.vx_sim.specs.SimState.{SimState}
 use Rattle.vx_core.specs.CoreState.{CoreState}
-use Rattle.vx_play.specs.declared.streams.Incoming.{Incoming}
+use Rattle.vx_play.specs.declared.pieces.Incoming.{Incoming}
 use Rattle.vx_bench.specs.Rack.{SpareShown}
 
 -- the core; of each connection what has come of a record, and the xid of the last call that it kept; the room for a reply's

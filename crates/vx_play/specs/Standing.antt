@@ -11,7 +11,7 @@ use Rattle.vx_record.specs.declared.Feed.TheVariants.{More}
 use Rattle.vx_script.specs.Command.{Command, Up, Inst}
 use Rattle.vx_trace.specs.Output.{Output, Bus, Out, Irq, IrqNone, IrqClosed, WaitDial, GoneDown, GoneJunk, GoneLong}
 use Rattle.vx_rules.specs.State.{role_at}
-use Rattle.vx_play.specs.declared.streams.Incoming.{Incoming}
+use Rattle.vx_play.specs.declared.pieces.Incoming.{Incoming}
 use Rattle.vx_play.specs.declared.note.Gone.{Gone}
 use Rattle.vx_play.specs.declared.note.Gone.TheVariants as gone
 use Rattle.vx_play.specs.declared.note.Note.{Note}

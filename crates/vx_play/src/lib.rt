@@ -9,6 +9,5 @@ mod player;
 mod printer;
 mod run;
 mod serve;
-mod streams;
 
 pub use run::play_run;

@@ -1,27 +1,61 @@
-//! Pieces of a connection's stream, and its end.
-ghost use Rattle.std.specs.Prelude.{◌≡◌, ◌≢◌, ℕ, ◌≤◌, ◌<◌, length, true, None, Some, IfOk, IfErr, OnOk, IfSome, IsSome, [], ◌∷◌};
+//! What has come on the streams of the connections, their pieces, and their end.
+ghost use Rattle.std.specs.Prelude.{◌≡◌, ◌≢◌, ℕ, None, Some, IfSome, IfNone, OnOk, IfErr, ◌≤◌, ◌<◌, length, true, IfOk, IsSome, [], ◌∷◌};
 ghost use Rattle.std.specs.Ordering.{nat_cmp};
 ghost use Rattle.std.specs.BTreeMap.{get};
 ghost use Rattle.vx_calls.specs.declared.limits.TheConstants.{RECORD_MAX};
+ghost use Rattle.vx_record.specs.Buffer.{fresh};
+ghost use Rattle.vx_play.specs.Feeding.{FeedsTo, AnswersRecord, FeedsPiece, StopsPiece};
 ghost use Rattle.vx_bus_traits.specs.Steps.{Cut};
 ghost use Rattle.vx_rules.specs.State.{connection_at, lives_as, role_at, pending_at};
 ghost use Rattle.vx_flow.specs.Event as event;
 ghost use Rattle.vx_exchange.specs.declared.record.TheConstants.{REPLY_ROOM};
-ghost use Rattle.vx_play.specs.declared.streams.Incoming.{Incoming};
+ghost use Rattle.vx_play.specs.declared.pieces.Incoming.{Incoming};
 ghost use Rattle.vx_play.specs.Gateway.{Gateway, gateway_of, Happens};
-ghost use Rattle.vx_play.specs.Feeding.{AnswersRecord, FeedsPiece, StopsPiece};
 
 use crate::note::{Gone, Made, Note};
 use crate::serve::serve;
-use crate::streams::{Incoming, feed};
+use std::alloc::Global;
 use std::collections::BTreeMap;
 use vx_bench::Stop;
-use vx_calls::Role;
+use vx_calls::{RECORD_MAX, Role};
 use vx_core::Core;
 use vx_inst::Instrument;
-use vx_record::Feed;
+use vx_record::{Fed, Feed, RecordBuf};
 use vx_script::Cause;
 use vx_sim::SimBus;
+
+/// What has come of a connection's next record, and the xid of the last call that it kept.
+#[derive(Drop)]
+pub struct Incoming {
+    pub buffer: RecordBuf,
+    pub xid: u32,
+}
+
+/// Takes a piece of a connection's stream into its buffer.
+pub fn feed(incoming: &mut BTreeMap<u32, Incoming>, conn: u32, piece: &[u8]) -> Option<Fed>
+    requires { IfSome (get nat_cmp incoming.old conn) (λ kept. kept.buffer.state ≡ Feed.More) }
+    ensures fed { IfSome result (FeedsTo (get nat_cmp incoming.old conn) piece.now (get nat_cmp incoming.new conn)) }
+    ensures none { IfNone result (get nat_cmp incoming.old conn ≡ None) }
+    ensures others { (n : ℕ) → n ≢ conn → get nat_cmp incoming.new n ≡ get nat_cmp incoming.old n }
+{
+    let kept = incoming.get_mut(&conn)?;
+    Some(kept.buffer.feed(piece))
+}
+
+/// Makes the buffer of a connection that came up.
+pub fn begin(alloc: Global, incoming: &mut BTreeMap<u32, Incoming>, conn: u32) -> Result<(), Stop>
+    ensures here { OnOk result (get nat_cmp incoming.new conn ≡ Some (record { buffer = fresh RECORD_MAX; xid = 0 })) }
+    ensures others { OnOk result ((n : ℕ) → n ≢ conn → get nat_cmp incoming.new n ≡ get nat_cmp incoming.old n) }
+    ensures err { IfErr result (λ stop. stop ≡ Stop.NoMemory) }
+{
+    let Ok(buffer) = RecordBuf::new(alloc, RECORD_MAX) else {
+        return Err(Stop::NoMemory);
+    };
+    match incoming.insert(conn, Incoming { buffer, xid: 0 }) {
+        Ok(_) => Ok(()),
+        Err(_) => Err(Stop::NoMemory),
+    }
+}
 
 /// A connection ends.
 pub fn end<I: Instrument>(

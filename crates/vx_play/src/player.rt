@@ -7,7 +7,7 @@ ghost use Rattle.vx_script.specs.Plain.{IsPlainStep, IsAddress};
 ghost use Rattle.vx_script.specs.Words.{is_name};
 ghost use Rattle.vx_rules.specs.State.{role_at, lives_as, pending_at};
 ghost use Rattle.vx_exchange.specs.declared.record.TheConstants.{REPLY_ROOM};
-ghost use Rattle.vx_play.specs.declared.streams.Incoming.{Incoming};
+ghost use Rattle.vx_play.specs.declared.pieces.Incoming.{Incoming};
 ghost use Rattle.vx_play.specs.Gateway.{gateway_of};
 ghost use Rattle.vx_play.specs.Stage.{Stage, beginning};
 ghost use Rattle.vx_bench.specs.Rack.{SpareShown};
@@ -19,9 +19,8 @@ ghost use Rattle.vx_play.specs.Standing.{IsReady, Stands, IsPrintable, TakesTo, 
 
 use crate::bench;
 use crate::note::{Gone, Made, Note};
-use crate::pieces::{end, feed_piece};
+use crate::pieces::{Incoming, begin, end, feed_piece};
 use crate::serve::poll_call;
-use crate::streams::{self, Incoming};
 use std::alloc::{AllocError, Global};
 use std::collections::BTreeMap;
 use std::marker::Model;
@@ -158,7 +157,7 @@ impl<I: Instrument> Player<I> {
             Err(Connect::Full) => return Err(Stop::Refused(Cause::Full)),
             Err(Connect::NoMemory) => return Err(Stop::NoMemory),
         }
-        streams::begin(alloc, &mut self.incoming, conn)?;
+        begin(alloc, &mut self.incoming, conn)?;
         Ok(Made::QUIET)
     }
 

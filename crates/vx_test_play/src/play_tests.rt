@@ -206,18 +206,21 @@ const FRAGMENTS: &str =
 const ONE_LINK: &[u8] =
     b"out 1 8000002800000001000000010000000000000000000000000000000000000000000000010000233300010000\ndone\n";
 
-/// Adds a spare instrument of the name `echo`.
-fn add_echo(alloc: Global, rack: &mut Vec<Spare<Echo>>) -> Result<(), AllocError> {
-    let mut name = ArrayString::new();
-    match (name.try_push_str("echo"), Echo::new(alloc)) {
-        (Ok(()), Ok(inst)) => rack.push(Spare { name, inst }).map_err(|_| AllocError),
+/// Adds a spare instrument of this name.
+fn add_spare(alloc: Global, name: &str, rack: &mut Vec<Spare<Echo>>) -> Result<(), AllocError> {
+    let mut text = ArrayString::new();
+    match (text.try_push_str(name), Echo::new(alloc)) {
+        (Ok(()), Ok(inst)) => rack
+            .push(Spare { name: text, inst })
+            .map_err(|_| AllocError),
         _ => Err(AllocError),
     }
 }
 
-/// Plays these words with one spare instrument, and answers the status.
+/// Plays these words with spare instruments of these names, and answers the status.
 fn play(
     alloc: Global,
+    names: &[&str],
     words: &[&str],
     source: &mut MemSource,
     sink: &mut MemSink,
@@ -227,13 +230,17 @@ fn play(
         owned.push(String::from_str(alloc, word)?)?;
     }
     let mut rack = Vec::new(alloc);
-    add_echo(alloc, &mut rack)?;
+    for name in names {
+        add_spare(alloc, name, &mut rack)?;
+    }
     Ok(play_run(alloc, &owned, source, sink, rack))
 }
 
-/// Whether words that are no command end so, and leave the source unread: its first read, which fails, is still to come.
-fn is_usage(
+/// Whether these words, which play no script, end so with these spares, and leave the source unread: its first read, which fails, is
+/// still to come.
+fn ends_unread(
     alloc: Global,
+    names: &[&str],
     words: &[&str],
     write_fails: &[u64],
     status: u8,
@@ -241,7 +248,7 @@ fn is_usage(
 ) -> Result<bool, AllocError> {
     let mut source = MemSource::new(Vec::new(alloc), 1, [1u64].to_vec(alloc)?);
     let mut sink = MemSink::new(Vec::new(alloc), write_fails.to_vec(alloc)?);
-    let ended = play(alloc, words, &mut source, &mut sink)?;
+    let ended = play(alloc, names, words, &mut source, &mut sink)?;
     Ok(ended == status && sink.bytes() == text && source.read(&mut [0]) == ReadOut::Failed)
 }
 
@@ -252,7 +259,7 @@ fn first_other(
     sinks: &[(&[u64], u8, &[u8])],
 ) -> Result<Option<usize>, AllocError> {
     for (place, (write_fails, status, text)) in sinks.iter().enumerate() {
-        if !is_usage(alloc, words, write_fails, *status, text)? {
+        if !ends_unread(alloc, &["echo"], words, write_fails, *status, text)? {
             return Ok(Some(place));
         }
     }
@@ -283,6 +290,35 @@ static SHORT_RACK: [(&[u64], u8, &[u8]); 3] = [
 #[test]
 fn run_without_a_spare(rt: HostRuntime) -> Result<(), Fail> {
     let wrong = first_other(rt.alloc(), &["gen", "1", "4"], &SHORT_RACK)?;
+    assert_eq!(rt; wrong, None);
+    Ok(())
+}
+
+/// Spares of which one that the head of a run plugs is missing, and what is printed then.
+static RACKS: [(&[&str], &[u8]); 5] = [
+    (&[], b"gen 1 4\nfault line 1 spare\n"),
+    (&["slow", "asker"], b"gen 1 4\nfault line 1 spare\n"),
+    (&["asker", "echo"], b"gen 1 4\nfault line 2 spare\n"),
+    (&["echo", "slow"], b"gen 1 4\nfault line 3 spare\n"),
+    (
+        &["meter", "slow", "echo", "slow"],
+        b"gen 1 4\nfault line 3 spare\n",
+    ),
+];
+
+/// The place of the first rack with which a run ends otherwise.
+fn first_rack(alloc: Global, racks: &[(&[&str], &[u8])]) -> Result<Option<usize>, AllocError> {
+    for (place, (names, text)) in racks.iter().enumerate() {
+        if !ends_unread(alloc, names, &["gen", "1", "4"], &[], 3, text)? {
+            return Ok(Some(place));
+        }
+    }
+    Ok(None)
+}
+
+#[test]
+fn runs_whose_rack_lacks_a_spare(rt: HostRuntime) -> Result<(), Fail> {
+    let wrong = first_rack(rt.alloc(), &RACKS)?;
     assert_eq!(rt; wrong, None);
     Ok(())
 }
@@ -331,7 +367,7 @@ fn is_right(alloc: Global, row: &Row) -> Result<bool, AllocError> {
     let script = text_of(alloc, row.script)?;
     let mut source = MemSource::new(script, row.read.max(1), row.read_fails.to_vec(alloc)?);
     let mut sink = MemSink::new(Vec::new(alloc), row.write_fails.to_vec(alloc)?);
-    let status = play(alloc, &["run"], &mut source, &mut sink)?;
+    let status = play(alloc, &["echo"], &["run"], &mut source, &mut sink)?;
     Ok(status == row.status && is_printed(sink.bytes(), row.printed))
 }
 
@@ -360,7 +396,7 @@ fn is_made_of_two(alloc: Global, digits: usize) -> Result<bool, AllocError> {
     let script = format!(in alloc; "up 1 core\nin 1 {front}\nin 1 {rest}\n")?;
     let mut source = MemSource::new(script.into_bytes(), 100, Vec::new(alloc));
     let mut sink = MemSink::new(Vec::new(alloc), Vec::new(alloc));
-    let status = play(alloc, &["run"], &mut source, &mut sink)?;
+    let status = play(alloc, &["echo"], &["run"], &mut source, &mut sink)?;
     Ok(status == 0 && sink.bytes() == ONE_LINK)
 }
 
