@@ -13,7 +13,7 @@ pub use calls::{CallRef, Generic, Handle, Proc, Role};
 pub use codes::ErrorCode;
 pub use limits::{
     CONNECTION_LAST, DEVICE_MAX, DOCMD_MAX, HANDLE_MAX, LINK_LAST, LINK_MAX, PIECE_MAX, READ_MAX,
-    RECORD_MAX, REPLY_MAX, ROLE_MAX, WRITE_MAX,
+    RECORD_MAX, REPLY_MAX, ROLE_MAX, SLICE_MAX, WRITE_MAX,
 };
 pub use replies::{Interrupt, ReplyRef, Taken};
 pub use reply_laws::{same_reply_is, same_reply_refl};

@@ -19,6 +19,10 @@ pub const READ_MAX: u32 = 65536;
 /// The longest input of one device_docmd, in bytes.
 pub const DOCMD_MAX: u32 = 65536;
 
+/// The most transfers that the bus makes in one poll of a call. A turn that wants more goes on with the call's next poll, so
+/// that nobody holds the bus for a long transfer.
+pub const SLICE_MAX: u32 = 256;
+
 /// The longest record on a connection of the gateway, in bytes, its fragments taken together and their headers left out.
 pub const RECORD_MAX: usize = 66560;
 

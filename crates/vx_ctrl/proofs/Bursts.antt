@@ -1,9 +1,9 @@
 -- What a burst makes of a plan of which data alone is left.
-use Rattle.std.proofs.Common.{◌≡◌, ◌≢◌, ℕ, zero, suc, ◌-◌, ◌<◌, ◌≤◌, Bool, true, false, not, cond, ◌||◌, ◌==◌, List, [], ◌∷◌, ◌++◌, length, take, drop, count_by, Option, Some, None, refl, sym, ap, ◌∙◌, subst, arith, length-append}
+use Rattle.std.proofs.Common.{◌≡◌, ℕ, zero, suc, ◌-◌, ◌<◌, ◌≤◌, Bool, true, false, not, cond, ◌&&◌, ◌||◌, ◌==◌, List, [], ◌∷◌, ◌++◌, length, take, drop, count_by, Option, Some, None, refl, sym, ap, ◌∙◌, subst, arith, length-append}
 use Rattle.std.specs.Prelude.{slice_get}
 use Rattle.std.specs.List.{list_any}
 use Rattle.std.proofs.lemmas.Option.{same_Some}
-use Rattle.std.proofs.lemmas.Bool.{or_parts}
+use Rattle.std.proofs.lemmas.Bool.{or_parts, eq-eqb}
 use Rattle.std.proofs.lemmas.Bool.Decides.{nat_tests}
 use Rattle.std.proofs.lemmas.List.Folds.{list_any-append}
 use Rattle.std.proofs.lemmas.List.Sums.{sum_by-cons}
@@ -21,6 +21,14 @@ use Rattle.vx_plan.specs.Places.{carries_data}
 use Rattle.vx_plan.specs.ProvedLaws.{left_after-append}
 use Rattle.vx_plan.specs.ProvedLaws.Fitting.{same_transfer-refl}
 
+and-true : (e : Bool) → (e && true) ≡ e
+and-true true = refl
+and-true false = refl
+
+and-false : (e : Bool) → (e && false) ≡ false
+and-false true = refl
+and-false false = refl
+
 -- ---- puts
 
 -- the bytes of a burst are those of a plan
@@ -28,6 +36,29 @@ pub ended-puts : (end : Bool) (bytes : List ℕ) → ended Put end bytes ≡ put
 ended-puts end [] = refl
 ended-puts end (b ∷ []) = refl
 ended-puts end (b ∷ c ∷ bs) = ap (λ ts. Put b false ∷ ts) (ended-puts end (c ∷ bs))
+
+-- so are those of a front of them, with END where the front has the last one
+pub front-puts : (end last : Bool) (bytes : List ℕ) (n : ℕ) → n ≤ length bytes → (n ≡ length bytes → last ≡ end) → (n < length bytes → last ≡ false)
+    → puts last (take n bytes) ≡ take n (puts end bytes)
+front-puts end last bytes zero h whole part = refl
+front-puts end last [] (suc n) h whole part = absurd (omega arith)
+front-puts end last (b ∷ []) (suc zero) h whole part = ap (λ (e : Bool). Put b e ∷ []) (whole refl)
+front-puts end last (b ∷ []) (suc (suc n)) h whole part = absurd (omega arith)
+front-puts end last (b ∷ c ∷ bs) (suc zero) h whole part = ap (λ (e : Bool). Put b e ∷ []) (part (omega arith))
+front-puts end last (b ∷ c ∷ bs) (suc (suc n)) h whole part =
+    ap (λ ts. Put b false ∷ ts) (front-puts end last (c ∷ bs) (suc n) (omega arith) (λ e. whole (omega (arith, e))) (λ e. part (omega (arith, e))))
+
+-- a burst that has the last byte has its END
+pub end-whole : (end last : Bool) (to long : ℕ) → last ≡ (end && (to == long)) → to ≡ long → last ≡ end
+end-whole end last to long is same =
+    let yes : (to == long) ≡ true = eq-eqb to long same in
+    is ∙ ap (λ e. end && e) yes ∙ and-true end
+
+-- and one that hasn't has none
+pub end-part : (end last : Bool) (to long : ℕ) → last ≡ (end && (to == long)) → to < long → last ≡ false
+end-part end last to long is less =
+    let no_more : (to == long) ≡ false = grind (arith, nat_tests) in
+    is ∙ ap (λ e. end && e) no_more ∙ and-false end
 
 -- a plan goes along its own first transfers
 pub just-goes : (ts : List Transfer) (n : ℕ) → left_after (Some (just ts)) (take n ts) ≡ Some (just (drop n ts))
@@ -112,11 +143,12 @@ clear-front : (stop : Option ℕ) (front : List ℕ) (last : ℕ) → IsClear st
 clear-front stop front last clear =
     (or_parts (list_any (is_char stop) front) (list_any (is_char stop) (last ∷ [])) (sym (list_any-append (is_char stop) front (last ∷ [])) ∙ clear)).0
 
--- Where a burst of gets into room for all that a read wants stopped with a byte, the read goes along its bytes.
+-- Where a burst of gets into room for what a read wants, or for a part of it, stopped with a byte, the read goes along its
+-- bytes.
 pub record Goes (n : ℕ) (stop : Option ℕ) (bytes : List ℕ) (end : Bool) : Type 0 where
   pub left : Plan
   pub goes : left_after (Some (reading_left n stop)) (ended Got end bytes) ≡ Some left
-  pub some : bytes ≢ []
+  pub some : 0 < length bytes
 
 goes-last : (n : ℕ) (stop : Option ℕ) (bytes front : List ℕ) (last : ℕ) (end : Bool) → bytes ≡ front ++ last ∷ [] → IsClear stop front → length bytes ≤ n
     → Goes n stop bytes end
@@ -125,25 +157,23 @@ goes-last n stop bytes front last end e clear within =
     record {
       left = one.0;
       goes = ap (λ bs. left_after (Some (reading_left n stop)) (ended Got end bs)) e ∙ one.1;
-      some = λ none.
-          let long : length bytes ≡ 0 = ap (λ (xs : List ℕ). length xs) none in
-          absurd (omega (arith, long, ap (λ (xs : List ℕ). length xs) e, length-append front (last ∷ [])));
+      some = omega (arith, ap (λ (xs : List ℕ). length xs) e, length-append front (last ∷ []));
     }
 
-goes-full : (n : ℕ) (stop : Option ℕ) (bytes : List ℕ) → 0 < n → length bytes ≡ n → IsClear stop bytes → Goes n stop bytes false
-goes-full n stop [] some long clear = absurd (omega arith)
-goes-full n stop (b ∷ bs) some long clear =
+goes-full : (n : ℕ) (stop : Option ℕ) (bytes : List ℕ) → 0 < length bytes → length bytes ≤ n → IsClear stop bytes → Goes n stop bytes false
+goes-full n stop [] some within clear = absurd (omega arith)
+goes-full n stop (b ∷ bs) some within clear =
     let parts = split-last b bs in
-    goes-last n stop (b ∷ bs) parts.0 parts.1 false parts.2 (clear-front stop parts.0 parts.1 (subst (IsClear stop) parts.2 clear)) (omega (arith, long))
+    goes-last n stop (b ∷ bs) parts.0 parts.1 false parts.2 (clear-front stop parts.0 parts.1 (subst (IsClear stop) parts.2 clear)) within
 
-pub goes-end : (n : ℕ) (stop : Option ℕ) (bytes : List ℕ) → length bytes ≤ n → StopsAt stop n bytes why.End → Goes n stop bytes true
-goes-end n stop bytes within s = goes-last n stop bytes s.0 s.1 true s.2 s.3 within
+pub goes-end : (n many : ℕ) (stop : Option ℕ) (bytes : List ℕ) → length bytes ≤ n → StopsAt stop many bytes why.End → Goes n stop bytes true
+goes-end n many stop bytes within s = goes-last n stop bytes s.0 s.1 true s.2 s.3 within
 
-pub goes-char : (n : ℕ) (stop : Option ℕ) (bytes : List ℕ) → length bytes ≤ n → StopsAt stop n bytes why.Char → Goes n stop bytes false
-goes-char n stop bytes within s = goes-last n stop bytes s.0 s.1 false s.2 s.3 within
+pub goes-char : (n many : ℕ) (stop : Option ℕ) (bytes : List ℕ) → length bytes ≤ n → StopsAt stop many bytes why.Char → Goes n stop bytes false
+goes-char n many stop bytes within s = goes-last n stop bytes s.0 s.1 false s.2 s.3 within
 
-pub goes-filled : (n : ℕ) (stop : Option ℕ) (bytes : List ℕ) → 0 < n → StopsAt stop n bytes why.Full → Goes n stop bytes false
-goes-filled n stop bytes some s = goes-full n stop bytes some s.0 s.1
+pub goes-filled : (n many : ℕ) (stop : Option ℕ) (bytes : List ℕ) → 0 < many → many ≤ n → StopsAt stop many bytes why.Full → Goes n stop bytes false
+goes-filled n many stop bytes some fewer s = goes-full n stop bytes (omega (arith, some, s.0)) (omega (arith, fewer, s.0)) s.1
 
 -- the bytes of a burst of gets are data
 pub data-got : (task : Task) (end : Bool) (bytes : List ℕ) → IsData task (ended Got end bytes) (length bytes)
@@ -163,8 +193,11 @@ bytes-ended end [] = refl
 bytes-ended end (b ∷ []) = refl
 bytes-ended end (b ∷ c ∷ bs) = ap (λ xs. b ∷ xs) (bytes-ended end (c ∷ bs))
 
-pub some-ended : (end : Bool) (bytes : List ℕ) → bytes ≢ [] → ended Got end bytes ≢ []
-some-ended end bytes some none = some (sym (bytes-ended end bytes) ∙ ap bytes_got none)
+-- as many as there are
+pub length-ended : (end : Bool) (bytes : List ℕ) → length (ended Got end bytes) ≡ length bytes
+length-ended end [] = refl
+length-ended end (b ∷ []) = refl
+length-ended end (b ∷ c ∷ bs) = ap suc (length-ended end (c ∷ bs))
 
 -- the last of them
 pub last-value : (before : Option (ℕ × Bool)) (end : Bool) (bs : List ℕ) (b : ℕ) → slice_get bs (length bs - 1) ≡ Some b

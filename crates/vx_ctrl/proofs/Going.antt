@@ -10,7 +10,6 @@ use Rattle.vx_488.specs.Laws.{WireAppendsLaw}
 use Rattle.vx_bus_traits.specs.Means.{Means}
 use Rattle.vx_bus_traits.specs.Steps.{Step, Went}
 use Rattle.vx_bus_traits.specs.Walks.{StepsTo, Walk}
-use Rattle.vx_plan.specs.declared.tasks.TheConstants.{TURN_MAX}
 use Rattle.vx_plan.specs.declared.tasks.Task.{Task}
 use Rattle.vx_plan.specs.declared.tasks.Place.{Place}
 use Rattle.vx_plan.specs.declared.tasks.Next.{Next}
@@ -19,19 +18,19 @@ use Rattle.vx_plan.specs.Plan.{Slot, Reading, Plan, stand_of, left_after, next_s
 use Rattle.vx_plan.specs.Results.{bytes_got}
 use Rattle.vx_plan.specs.Transfers.{is_got}
 use Rattle.vx_plan.specs.Tasks.{IsPlainTask}
-use Rattle.vx_calls.specs.declared.limits.TheConstants.{WRITE_MAX}
-use Rattle.vx_plan.specs.Places.{Reaches, slot_wanted}
+use Rattle.vx_calls.specs.declared.limits.TheConstants.{SLICE_MAX, WRITE_MAX}
+use Rattle.vx_plan.specs.Places.{Reaches, IsReached, slot_wanted}
 use Rattle.vx_plan.specs.Runs.{place_behind}
-use Rattle.vx_plan.specs.Laws.{RunLaw, BoundLaw}
-use Rattle.vx_plan.specs.ProvedLaws.{left-on}
+use Rattle.vx_plan.specs.Laws.{RunLaw}
 use Rattle.vx_ctrl.specs.declared.turn.Went.{Went as Outcome}
 use Rattle.vx_ctrl.specs.declared.turn.Went.TheVariants as went
-use Rattle.vx_ctrl.specs.declared.asking.Asked.TheVariants.{Stopped}
+use Rattle.vx_ctrl.specs.declared.turn.Advance.{Advance}
+use Rattle.vx_ctrl.specs.declared.turn.Advance.TheVariants.{Made, Stopped}
+use Rattle.vx_ctrl.specs.declared.asking.Asked.TheVariants as asked
 use Rattle.vx_ctrl.specs.Turns.{TurnState, HasMade, HasRoom, GetsBytes, with_bytes}
-use Rattle.vx_ctrl.specs.Goes.{Begins, Goes, refused_steps, go_steps, outcome_stand, HoldsBytes}
+use Rattle.vx_ctrl.specs.Goes.{Begins, Goes, FitsSlice, refused_steps, go_steps, outcome_stand, HoldsBytes}
 use Rattle.vx_ctrl.specs.Asking.{Asks, IsPlainNext}
-use Rattle.vx_ctrl.specs.Runs.{EndsRun, Runs}
-use Rattle.vx_bus_traits.specs.declared.asks.TheConstants.{ASK_MAX}
+use Rattle.vx_ctrl.specs.Runs.{behind_slice_of, EndsRun, Runs}
 use Rattle.vx_ctrl.specs.ProvedLaws.Sizes.{most_gets}
 use Rattle.vx_ctrl.specs.ProvedLaws.Fares.{fares, own-short, moved-got, room-left, gets-bytes, length-gots, length-bytes_got, bytes_got-append}
 use Rattle.vx_ctrl.proofs.Walking.{path-append, walk-went}
@@ -44,7 +43,7 @@ pub record Stops {B : Type 0} (means : B → Means) (through : B → Step → B 
   pub walk : Walk means through now (refused_steps outcome slot) after
 
 pub stops : {B : Type 0} (means : B → Means) (through : B → Step → B → Type 0) (slot : Option Slot) (outcome : Outcome) (now after : B)
-    → Asks means through slot (Stopped outcome) now after → Stops means through slot outcome now after
+    → Asks means through slot (asked.Stopped outcome) now after → Stops means through slot outcome now after
 stops means through (Some slot) went.Held now after asks = record {
   moves = ap (λ (m : Means). m.moves) asks.0;
   wire = ap (λ (m : Means). m.wire) asks.0;
@@ -63,10 +62,21 @@ stops means through None went.Finished now after asks = record {
 }
 stops means through None went.Held now after asks = absurd asks
 stops means through None went.Broken now after asks = absurd asks
+stops means through (Some slot) went.Slice now after asks = absurd asks
+stops means through None went.Slice now after asks = absurd asks
+
+-- a turn that the bus stops is within its slice
+fits-stops : {B : Type 0} (means : B → Means) (through : B → Step → B → Type 0) (slot : Option Slot) (outcome : Outcome) (n : ℕ) (now after : B)
+    → Asks means through slot (asked.Stopped outcome) now after → n < SLICE_MAX → FitsSlice outcome n
+fits-stops means through slot went.Finished n now after asks h = omega (arith, h)
+fits-stops means through slot went.Held n now after asks h = h
+fits-stops means through slot went.Broken n now after asks h = h
+fits-stops means through (Some slot) went.Slice n now after asks h = absurd asks
+fits-stops means through None went.Slice n now after asks h = absurd asks
 
 -- a plan is whole exactly where nothing is wanted
 stand-stops : {B : Type 0} (means : B → Means) (through : B → Step → B → Type 0) (slots : List Slot) (reading : Option Reading) (outcome : Outcome) (now after : B)
-    → Asks means through (next_slot (record { front = slots; reading = reading })) (Stopped outcome) now after
+    → Asks means through (next_slot (record { front = slots; reading = reading })) (asked.Stopped outcome) now after
     → stand_of (Some (record { front = slots; reading = reading })) ≡ outcome_stand outcome
 stand-stops means through [] None went.Finished now after asks = refl
 stand-stops means through [] None went.Held now after asks = absurd asks
@@ -77,6 +87,38 @@ stand-stops means through [] (Some r) went.Broken now after asks = refl
 stand-stops means through (slot ∷ slots) reading went.Finished now after asks = absurd asks
 stand-stops means through (slot ∷ slots) reading went.Held now after asks = refl
 stand-stops means through (slot ∷ slots) reading went.Broken now after asks = refl
+stand-stops means through [] None went.Slice now after asks = absurd asks
+stand-stops means through [] (Some r) went.Slice now after asks = absurd asks
+stand-stops means through (slot ∷ slots) reading went.Slice now after asks = absurd asks
+
+stand-slice : (slots : List Slot) (reading : Option Reading)
+    → stand_of (Some (record { front = slots; reading = reading })) ≡ outcome_stand (behind_slice_of (next_slot (record { front = slots; reading = reading })))
+stand-slice [] None = refl
+stand-slice [] (Some r) = refl
+stand-slice (slot ∷ slots) reading = refl
+
+-- a whole slice fits, whether the plan is whole or not
+fits-slice : (slot : Option Slot) (n : ℕ) → n ≡ SLICE_MAX → FitsSlice (behind_slice_of slot) n
+fits-slice None n h = omega (arith, h)
+fits-slice (Some slot) n h = h
+
+-- nothing was refused behind it
+none-refused : (slot wanted : Option Slot) → refused_steps (behind_slice_of slot) wanted ≡ []
+none-refused None wanted = refl
+none-refused (Some slot) None = refl
+none-refused (Some slot) (Some other) = refl
+
+-- a move that is wanted is something
+pub something-left : (wanted : Next) (bytes : List ℕ) (moved : ℕ) → (wanted ≡ next.Finished → ⊥) → behind_slice_of (slot_wanted wanted bytes moved) ≡ went.Slice
+something-left (next.Command b) bytes moved h = refl
+something-left next.CommandByte bytes moved h = refl
+something-left (next.Put end) bytes moved h = refl
+something-left next.Get bytes moved h = refl
+something-left (next.Ren on) bytes moved h = refl
+something-left (next.Atn on) bytes moved h = refl
+something-left next.Ifc bytes moved h = refl
+something-left (next.Own a) bytes moved h = refl
+something-left next.Finished bytes moved h = absurd (h refl)
 
 -- what the turn made since it began to go, behind this list
 pub record UnderWay {B : Type 0} (means : B → Means) (through : B → Step → B → Type 0) (turn : TurnState) (w : Wire) (bytes : List ℕ)
@@ -106,9 +148,10 @@ goes-on means through turn w bytes made left left' before now after run law u go
 -- where the turn stops, it went as far as its plan and the bus let it
 pub goes-so-far : {B : Type 0} (means : B → Means) (through : B → Step → B → Type 0) (turn : TurnState) (w : Wire) (bytes : List ℕ)
     (made : List Transfer) (left : Plan) (before now after : B) (outcome : Outcome)
-    → UnderWay means through turn w bytes made left before now → Asks means through (next_slot left) (Stopped outcome) now after
+    → UnderWay means through turn w bytes made left before now → length (means now).moves < SLICE_MAX
+    → Asks means through (next_slot left) (asked.Stopped outcome) now after
     → Goes means through turn w bytes made (means after).moves outcome before after
-goes-so-far means through turn w bytes made left before now after outcome u asked =
+goes-so-far means through turn w bytes made left before now after outcome u few asked =
     let stop = stops means through (next_slot left) outcome now after asked in
     let H : List Transfer → Type 0 = λ ts. HasMade turn w bytes (made ++ ts) left in
     let W : List Transfer → Type 0 = λ ts. Walk means through before (go_steps ts outcome left) after in
@@ -116,15 +159,38 @@ goes-so-far means through turn w bytes made left before now after outcome u aske
       left = left;
       has_made = subst H (sym stop.moves) u.has_made;
       stands = stand-stops means through left.front left.reading outcome now after asked;
+      few = fits-stops means through (next_slot left) outcome (length (means after).moves) now after asked
+          (omega (arith, few, ap (λ (ts : List Transfer). length ts) stop.moves));
       walk = subst W (sym stop.moves)
           (path-append (StepsTo means through) before now after (map Went (means now).moves) (refused_steps outcome (next_slot left)) u.walk stop.walk);
     }
 
--- The loop of a turn that goes: what it made since it began, the room, and what the bus counted.
+-- where its slice is full, it went just so far
+pub goes-slice : {B : Type 0} (means : B → Means) (through : B → Step → B → Type 0) (turn : TurnState) (w : Wire) (bytes : List ℕ)
+    (made : List Transfer) (left : Plan) (before now : B) (outcome : Outcome)
+    → UnderWay means through turn w bytes made left before now → length (means now).moves ≡ SLICE_MAX → outcome ≡ behind_slice_of (next_slot left)
+    → Goes means through turn w bytes made (means now).moves outcome before now
+goes-slice means through turn w bytes made left before now outcome u full is =
+    let moves = (means now).moves in
+    let slot = next_slot left in
+    let same : map Went moves ≡ go_steps moves outcome left =
+    sym (append-nil (map Went moves)) ∙ ap (λ steps. map Went moves ++ steps) (sym (none-refused slot slot))
+    ∙ ap (λ o. map Went moves ++ refused_steps o slot) (sym is) in
+    record {
+      left = left;
+      has_made = u.has_made;
+      stands = stand-slice left.front left.reading ∙ ap outcome_stand (sym is);
+      few = subst (λ o. FitsSlice o (length moves)) (sym is) (fits-slice slot (length moves) full);
+      walk = subst (λ steps. Walk means through before steps now) same u.walk;
+    }
+
+-- The loop of a turn that goes: what it made since it began, the room, what the bus counted, and how many transfers are left
+-- of its slice.
 pub record Going {B : Type 0} (means : B → Means) (through : B → Step → B → Type 0) (first turn : TurnState) (bytes begun room : List ℕ)
-    (before now : B) : Type 0 where
+    (before now : B) (rest : ℕ) : Type 0 where
   pub same : turn ≡ record first { place = turn.place }
   pub asks : (means now).asks ≡ length (means now).moves
+  pub slice : length (means now).moves + rest ≡ SLICE_MAX
   pub wire : (means now).wire ≡ wire_after (means before).wire (means now).moves
   pub stored : room ≡ with_bytes first.place.moved (bytes_got (means now).moves) begun
   pub under_way : (w : Wire) (made : List Transfer) → Begins first w bytes made (means before)
@@ -141,7 +207,7 @@ pub record Ready (first : TurnState) (bytes room : List ℕ) (means : Means) : T
   pub begins : (w : Wire) × (made : List Transfer) × Begins first w bytes made means
 
 pub begins-going : {B : Type 0} (means : B → Means) (through : B → Step → B → Type 0) (first : TurnState) (bytes room : List ℕ) (before : B)
-    → Ready first bytes room (means before) → Going means through first first bytes room room before before
+    → Ready first bytes room (means before) → Going means through first first bytes room room before before SLICE_MAX
 begins-going means through first bytes room before ready =
     let E : List Transfer → Type 0 = λ ts. (means before).asks ≡ length ts in
     let W : List Transfer → Type 0 = λ ts. (means before).wire ≡ wire_after (means before).wire ts in
@@ -150,6 +216,7 @@ begins-going means through first bytes room before ready =
     record {
       same = refl;
       asks = subst E none ready.none_asked;
+      slice = omega (arith, ap (λ (ts : List Transfer). length ts) ready.cut);
       wire = subst W none refl;
       stored = subst R none (sym (with-none first.place.moved room));
       under_way = λ w made b.
@@ -196,10 +263,10 @@ moved-since means through first turn w bytes made left before now same plain get
 
 -- the room of a turn that gets bytes still has all that it got
 pub still-holds : {B : Type 0} (means : B → Means) (through : B → Step → B → Type 0) (first turn : TurnState) (bytes begun room : List ℕ)
-    (before now : B) (w : Wire) (made : List Transfer) → IsPlainTask first.task → Going means through first turn bytes begun room before now
+    (before now : B) (rest : ℕ) (w : Wire) (made : List Transfer) → IsPlainTask first.task → Going means through first turn bytes begun room before now rest
     → Begins first w bytes made (means before) → GetsBytes first.task → HoldsBytes first made begun
     → HoldsBytes turn (made ++ (means now).moves) room
-still-holds means through first turn bytes begun room before now w made plain going b gets held =
+still-holds means through first turn bytes begun room before now rest w made plain going b gets held =
     let moves = (means now).moves in
     let u = going.under_way w made b in
     let place-is = moved-since means through first turn w bytes made u.0 before now (ap (λ (t : TurnState). t.task) going.same) plain gets b u.1 in
@@ -215,10 +282,10 @@ some-long : {X : Type 0} (xs : List X) → xs ≢ [] → 1 ≤ length xs
 some-long [] some = absurd (some refl)
 some-long (x ∷ xs) some = omega arith
 
-module _ {B : Type 0} (means : B → Means) (through : B → Step → B → Type 0) (first turn : TurnState) (bytes begun room : List ℕ) (before now : B)
+module _ {B : Type 0} (means : B → Means) (through : B → Step → B → Type 0) (first turn : TurnState) (bytes begun room : List ℕ) (before now : B) (rest : ℕ)
     (plain : IsPlainTask first.task) (short : length bytes ≤ WRITE_MAX)
     (begins : (w : Wire) × (made : List Transfer) × Begins first w bytes made (means before))
-    (going : Going means through first turn bytes begun room before now) (long-room : length room ≡ length begun) where
+    (going : Going means through first turn bytes begun room before now rest) (long-room : length room ≡ length begun) where
   left : Plan
   left = (going.under_way begins.0 begins.1 begins.2).0
 
@@ -244,21 +311,15 @@ module _ {B : Type 0} (means : B → Means) (through : B → Step → B → Type
   pub room-in : HasRoom first.task (length begun) → HasRoom turn.task (length room)
   room-in h = subst (λ (k : Task). HasRoom k (length room)) (sym same-task) (subst (λ (n : ℕ). HasRoom first.task n) (sym long-room) h)
 
-  few : BoundLaw → length begins.1 + length (means now).moves ≤ TURN_MAX
-  few law =
-      let r = under.has_made.reaches in
-      omega (
-        arith,
-        length-append begins.1 (means now).moves,
-        law turn.task bytes turn.place.polling turn.place.own (begins.1 ++ (means now).moves) short (left-on _ left r.goes),
-      )
+  pub is-reached : IsReached turn.task turn.place
+  is-reached = (bytes, begins.1 ++ (means now).moves, left, under.has_made.reaches)
 
   -- a run from here
-  module _ (new : TurnState) (room' : List ℕ) (stopped : Option Outcome) (after : B) (runs : Runs means through turn bytes room new room' stopped now after)
+  module _ (new : TurnState) (room' : List ℕ) (advance : Advance) (after : B) (runs : Runs means through turn bytes room new room' rest advance now after)
       (law : RunLaw) (wire_law : WireAppendsLaw) (has_room : HasRoom first.task (length begun)) where
     on : (w : Wire) (made : List Transfer) (left : Plan) → UnderWay means through turn w bytes made left before now
         → (left' : Plan) × UnderWay means through new w bytes made left' before runs.between
-        × EndsRun means through (next_slot left') runs.run stopped runs.between after
+        × EndsRun means through (next_slot left') runs.run rest advance runs.between after
     on w made left u =
         let next = runs.goes (made ++ (means now).moves) left u.has_made.reaches in
         let N : TurnState → Type 0 = λ s. UnderWay means through s w bytes made next.0 before runs.between in
@@ -283,14 +344,15 @@ module _ {B : Type 0} (means : B → Means) (through : B → Step → B → Type
           omega (arith, within),
         )
 
-    gone : Going means through first new bytes begun room' before runs.between
-    gone =
+    gone : length runs.run ≤ rest → Going means through first new bytes begun room' before runs.between (rest - length runs.run)
+    gone within =
         let moves = (means now).moves in
         let m = walk-went means through now runs.between runs.run runs.walk in
         let S : TurnState → Type 0 = λ s. s ≡ record first { place = s.place } in
         record {
           same = subst S (sym runs.moved) (ap (λ (s : TurnState). record s { place = place_behind turn.task turn.place runs.run }) going.same);
           asks = omega (arith, ap (λ (m : Means). m.asks) m, ap (λ (ts : List Transfer). length ts) more, length-append moves runs.run, going.asks);
+          slice = omega (arith, within, ap (λ (ts : List Transfer). length ts) more, length-append moves runs.run, going.slice);
           wire = ap (λ (m : Means). m.wire) m ∙ ap (λ w. wire_after w runs.run) going.wire
               ∙ sym (wire_law (means before).wire moves runs.run) ∙ ap (wire_after (means before).wire) (sym more);
           stored = runs.stored ∙ ap (with_bytes turn.place.moved (bytes_got runs.run)) going.stored
@@ -304,34 +366,36 @@ module _ {B : Type 0} (means : B → Means) (through : B → Step → B → Type
         }
 
   -- a run behind which the turn goes on at once
-  module _ (new : TurnState) (room' : List ℕ) (after : B) (runs : Runs means through turn bytes room new room' None now after)
+  module _ (new : TurnState) (room' : List ℕ) (n : ℕ) (after : B) (runs : Runs means through turn bytes room new room' rest (Made n) now after)
       (law : RunLaw) (wire_law : WireAppendsLaw) (has_room : HasRoom first.task (length begun)) where
-    ends : (after ≡ runs.between) × (runs.run ≢ [])
-    ends = (on new room' None after runs law wire_law has_room begins.0 begins.1 left under).2
+    ends : (after ≡ runs.between) × (n ≡ length runs.run) × (0 < n) × (n ≤ rest)
+    ends = (on new room' (Made n) after runs law wire_law has_room begins.0 begins.1 left under).2
 
-    pub preserved : Going means through first new bytes begun room' before after
-    preserved = subst (Going means through first new bytes begun room' before) (sym ends.0) (gone new room' None after runs law wire_law has_room)
+    pub made-few : n ≤ rest
+    made-few = ends.3
 
-    pub smaller : BoundLaw → ASK_MAX - length (means after).moves < ASK_MAX - length (means now).moves
-    smaller bound = omega (
-      arith,
-      few bound,
-      ap (λ b. length (means b).moves) ends.0,
-      ap (λ (ts : List Transfer). length ts) (more new room' None after runs law wire_law has_room),
-      length-append (means now).moves runs.run,
-      some-long runs.run ends.1,
-    )
+    pub preserved : Going means through first new bytes begun room' before after (rest - n)
+    preserved =
+        let G : B → ℕ → Type 0 = λ b k. Going means through first new bytes begun room' before b (rest - k) in
+        subst (λ b. G b n) (sym ends.0)
+        (subst (G runs.between) (sym ends.1) (gone new room' (Made n) after runs law wire_law has_room (omega (arith, ends.1, ends.3))))
+
+    pub smaller : rest - n < rest
+    smaller = omega (arith, ends.2, ends.3)
 
   -- a run behind which it stops
-  module _ (new : TurnState) (room' : List ℕ) (outcome : Outcome) (after : B) (runs : Runs means through turn bytes room new room' (Some outcome) now after)
+  module _ (new : TurnState) (room' : List ℕ) (outcome : Outcome) (after : B) (runs : Runs means through turn bytes room new room' rest (Stopped outcome) now after)
       (law : RunLaw) (wire_law : WireAppendsLaw) (has_room : HasRoom first.task (length begun)) where
-    far : Going means through first new bytes begun room' before runs.between
-    far = gone new room' (Some outcome) after runs law wire_law has_room
+    fewer : length runs.run < rest
+    fewer = (on new room' (Stopped outcome) after runs law wire_law has_room begins.0 begins.1 left under).2.1
+
+    far : Going means through first new bytes begun room' before runs.between (rest - length runs.run)
+    far = gone new room' (Stopped outcome) after runs law wire_law has_room (omega (arith, fewer))
 
     stop : (slot : Option Slot) × Stops means through slot outcome runs.between after
     stop =
-        let next = on new room' (Some outcome) after runs law wire_law has_room begins.0 begins.1 left under in
-        (next_slot next.0, stops means through (next_slot next.0) outcome runs.between after next.2)
+        let next = on new room' (Stopped outcome) after runs law wire_law has_room begins.0 begins.1 left under in
+        (next_slot next.0, stops means through (next_slot next.0) outcome runs.between after next.2.0)
 
     pub same-turn : new ≡ record first { place = new.place }
     same-turn = far.same
@@ -340,8 +404,8 @@ module _ {B : Type 0} (means : B → Means) (through : B → Step → B → Type
         → Goes means through new w bytes made (means after).moves outcome before after
     goes-stops w made b =
         let u = going.under_way w made b in
-        let next = on new room' (Some outcome) after runs law wire_law has_room w made u.0 u.1 in
-        goes-so-far means through new w bytes made next.0 before runs.between after outcome next.1 next.2
+        let next = on new room' (Stopped outcome) after runs law wire_law has_room w made u.0 u.1 in
+        goes-so-far means through new w bytes made next.0 before runs.between after outcome next.1 (omega (arith, far.slice, fewer)) next.2.0
 
     pub wire-stops : (means after).wire ≡ wire_after (means before).wire (means after).moves
     wire-stops = stop.1.wire ∙ far.wire ∙ ap (wire_after (means before).wire) (sym stop.1.moves)
@@ -353,7 +417,7 @@ module _ {B : Type 0} (means : B → Means) (through : B → Step → B → Type
         → HoldsBytes new (made ++ (means after).moves) room'
     holds-stops w made b gets held =
         let P : List Transfer → Type 0 = λ ts. HoldsBytes new (made ++ ts) room' in
-        subst P (sym stop.1.moves) (still-holds means through first new bytes begun room' before runs.between w made plain far b gets held)
+        subst P (sym stop.1.moves) (still-holds means through first new bytes begun room' before runs.between (rest - length runs.run) w made plain far b gets held)
 
     pub begins-again : (w : Wire) (made : List Transfer) → Begins first w bytes made (means before)
         → Begins new w bytes (made ++ (means after).moves) (means after)
@@ -365,3 +429,28 @@ module _ {B : Type 0} (means : B → Means) (through : B → Step → B → Type
           had_made = subst H (sym stop.1.moves) u.1.has_made;
           bus = wire-stops ∙ ap (λ wire. wire_after wire (means after).moves) b.bus ∙ sym (wire_law w made (means after).moves);
         }
+
+  -- its slice is full
+  module _ (full : rest ≡ 0) where
+    pub goes-full : (outcome : Outcome)
+        → ((bytes : List ℕ) (ts : List Transfer) (left : Plan) → Reaches turn.task bytes ts left turn.place → outcome ≡ behind_slice_of (next_slot left))
+        → (w : Wire) (made : List Transfer) → Begins first w bytes made (means before)
+        → Goes means through turn w bytes made (means now).moves outcome before now
+    goes-full outcome is w made b =
+        let u = going.under_way w made b in
+        goes-slice means through turn w bytes made u.0 before now outcome u.1 (omega (arith, going.slice, full))
+        (is bytes (made ++ (means now).moves) u.0 u.1.has_made.reaches)
+
+  pub holds-full : (w : Wire) (made : List Transfer) → Begins first w bytes made (means before) → GetsBytes first.task → HoldsBytes first made begun
+      → HoldsBytes turn (made ++ (means now).moves) room
+  holds-full w made b gets held = still-holds means through first turn bytes begun room before now rest w made plain going b gets held
+
+  pub begins-full : WireAppendsLaw → (w : Wire) (made : List Transfer) → Begins first w bytes made (means before)
+      → Begins turn w bytes (made ++ (means now).moves) (means now)
+  begins-full wire_law w made b =
+      let u = going.under_way w made b in
+      record {
+        left = u.0;
+        had_made = u.1.has_made;
+        bus = going.wire ∙ ap (λ wire. wire_after wire (means now).moves) b.bus ∙ sym (wire_law w made (means now).moves);
+      }

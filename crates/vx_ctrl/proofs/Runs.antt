@@ -1,9 +1,9 @@
 -- What each run of a turn comes to.
-use Rattle.std.proofs.Common.{◌≡◌, ◌≢◌, ◌↔◌, ℕ, ◌+◌, ◌-◌, ◌<◌, ◌≤◌, Bool, true, false, not, cond, List, [], ◌∷◌, ◌++◌, map, length, take, drop, count_by, Option, Some, None, refl, sym, ap, ◌∙◌, subst, arith, add-zero, append_assoc}
+use Rattle.std.proofs.Common.{◌≡◌, ◌≢◌, ◌↔◌, ℕ, zero, suc, ◌+◌, ◌-◌, ◌<◌, ◌≤◌, Bool, true, false, not, cond, List, [], ◌∷◌, ◌++◌, map, length, take, drop, count_by, Option, Some, None, refl, sym, ap, ◌∙◌, subst, arith, add-zero, append_assoc}
 use Rattle.std.specs.Prelude.{slice_set, min}
 use Rattle.std.proofs.Math.Seq.{take-append_seam}
 use Rattle.vx_calls.specs.declared.limits.TheConstants.{READ_MAX}
-use Rattle.std.proofs.lemmas.List.{length-drop, length-take, drop-drop, drop-append-le, take-append-drop}
+use Rattle.std.proofs.lemmas.List.{length-drop, length-take, take-take, drop-take, drop-drop, drop-append-le, take-append-drop}
 use borrow.Rule.Slice.PartMut.{put_mid}
 use Rattle.vx_488.specs.declared.transfers.Transfer.{Transfer}
 use Rattle.vx_488.specs.declared.transfers.Transfer.TheVariants.{Put, Got}
@@ -16,7 +16,7 @@ use Rattle.vx_bus_traits.specs.declared.bursts.Stop.TheVariants as why
 use Rattle.vx_bus_traits.specs.Means.{Means}
 use Rattle.vx_bus_traits.specs.Steps.{Step, Went, Held, Failed, ask_for}
 use Rattle.vx_bus_traits.specs.Walks.{StepsTo, Walk}
-use Rattle.vx_bus_traits.specs.Bursts.{ended, refused_put, puts_steps, is_end, refused_get, gets_steps, StopsAt}
+use Rattle.vx_bus_traits.specs.Bursts.{ended, refused_put, puts_steps, is_end, refused_get, gets_steps, IsClear, StopsAt}
 use Rattle.vx_plan.specs.declared.tasks.Task.{Task}
 use Rattle.vx_plan.specs.declared.tasks.Task.TheVariants.{Write, Read}
 use Rattle.vx_plan.specs.declared.tasks.Place.{Place}
@@ -30,13 +30,15 @@ use Rattle.vx_plan.specs.Laws.{FitsNext, PlaceGoesOnLaw}
 use Rattle.vx_plan.specs.ProvedLaws.Counts.{length-puts}
 use Rattle.vx_ctrl.specs.declared.turn.Went.{Went as Outcome}
 use Rattle.vx_ctrl.specs.declared.turn.Went.TheVariants as went
-use Rattle.vx_ctrl.specs.declared.asking.Asked.TheVariants.{Moved, Stopped}
+use Rattle.vx_ctrl.specs.declared.turn.Advance.{Advance}
+use Rattle.vx_ctrl.specs.declared.turn.Advance.TheVariants.{Made, Stopped}
+use Rattle.vx_ctrl.specs.declared.asking.Asked.TheVariants as asked
 use Rattle.vx_ctrl.specs.Turns.{TurnState, with_bytes, stored, moved_on}
 use Rattle.vx_ctrl.specs.Asking.{Asks}
-use Rattle.vx_ctrl.specs.Runs.{stopped_by, cut_short_by, EndsRun, Runs}
+use Rattle.vx_ctrl.specs.Runs.{behind_puts_of, behind_gets_of, EndsRun, Runs}
 use Rattle.vx_ctrl.proofs.Walking.{path-split}
 use Rattle.vx_ctrl.proofs.Rooms.{with-none, with-one-more, drop-seam}
-use Rattle.vx_ctrl.proofs.Bursts.{ended-puts, just-goes, IsData, data-put, no-gots, reading_left, gets-on, goes-end, goes-char, goes-filled, data-got, bytes-ended, some-ended}
+use Rattle.vx_ctrl.proofs.Bursts.{ended-puts, front-puts, just-goes, IsData, data-put, no-gots, reading_left, gets-on, Goes, goes-end, goes-char, goes-filled, data-got, bytes-ended, length-ended}
 
 -- the place behind data bytes alone
 behind-data : (task : Task) (place : Place) (run : List Transfer) (n : ℕ) (last : Option (ℕ × Bool)) → IsData task run n → last_of place.last (gots run) ≡ last
@@ -48,21 +50,23 @@ behind-data task place run n last d e =
 
 -- ---- a burst of puts
 
-put-held : {B : Type 0} (means : B → Means) (through : B → Step → B → Type 0) (rest : List Transfer) (between after : B) → rest ≢ []
-    → Walk means through between (refused_put move.Held rest) after → Asks means through (next_slot (just rest)) (Stopped went.Held) between after
-put-held means through [] between after some path = absurd (some refl)
-put-held means through (t ∷ ts) between after some path = subst (λ b. StepsTo means through between (Held (ask_for t)) b) (sym path.2) path.1
+put-held : {B : Type 0} (means : B → Means) (through : B → Step → B → Type 0) (rest : List Transfer) (n : ℕ) (between after : B) → rest ≢ [] → 0 < n
+    → Walk means through between (refused_put move.Held (take n rest)) after → Asks means through (next_slot (just rest)) (asked.Stopped went.Held) between after
+put-held means through [] n between after some more path = absurd (some refl)
+put-held means through (t ∷ ts) zero between after some more path = absurd (omega arith)
+put-held means through (t ∷ ts) (suc n) between after some more path = subst (λ b. StepsTo means through between (Held (ask_for t)) b) (sym path.2) path.1
 
-put-failed : {B : Type 0} (means : B → Means) (through : B → Step → B → Type 0) (rest : List Transfer) (between after : B) → rest ≢ []
-    → Walk means through between (refused_put move.Failed rest) after → Asks means through (next_slot (just rest)) (Stopped went.Broken) between after
-put-failed means through [] between after some path = absurd (some refl)
-put-failed means through (t ∷ ts) between after some path = subst (λ b. StepsTo means through between (Failed (ask_for t)) b) (sym path.2) path.1
+put-failed : {B : Type 0} (means : B → Means) (through : B → Step → B → Type 0) (rest : List Transfer) (n : ℕ) (between after : B) → rest ≢ [] → 0 < n
+    → Walk means through between (refused_put move.Failed (take n rest)) after → Asks means through (next_slot (just rest)) (asked.Stopped went.Broken) between after
+put-failed means through [] n between after some more path = absurd (some refl)
+put-failed means through (t ∷ ts) zero between after some more path = absurd (omega arith)
+put-failed means through (t ∷ ts) (suc n) between after some more path = subst (λ b. StepsTo means through between (Failed (ask_for t)) b) (sym path.2) path.1
 
-module _ {B : Type 0} (means : B → Means) (through : B → Step → B → Type 0) (turn new : TurnState) (bytes room : List ℕ) (end : Bool) (m : ℕ) (last : Move) (bus after : B)
+module _ {B : Type 0} (means : B → Means) (through : B → Step → B → Type 0) (turn new : TurnState) (bytes room : List ℕ) (many : ℕ) (end on_last : Bool) (m : ℕ) (last : Move) (bus after : B)
     (task : (t : Target) × (len : ℕ) × (turn.task ≡ Write t len end)) (data_left : IsDataLeft turn.task turn.place (length bytes - turn.place.moved))
-    (some : turn.place.moved < length bytes) (within : m ≤ length (drop turn.place.moved bytes))
-    (whole : (last ≡ move.Went) ↔ (m ≡ length (drop turn.place.moved bytes)))
-    (walk : Walk means through bus (puts_steps (drop turn.place.moved bytes) end (record { moved = m; last = last })) after)
+    (some : 0 < many) (fits : turn.place.moved + many ≤ length bytes) (within : m ≤ many) (whole : (last ≡ move.Went) ↔ (m ≡ many))
+    (on_whole : turn.place.moved + many ≡ length bytes → on_last ≡ end) (on_part : turn.place.moved + many < length bytes → on_last ≡ false)
+    (walk : Walk means through bus (puts_steps (take many (drop turn.place.moved bytes)) on_last (record { moved = m; last = last })) after)
     (moved : new ≡ record turn { place = record turn.place { moved = turn.place.moved + m } }) where
   abbrev pub all : List Transfer
   all = puts end (drop turn.place.moved bytes)
@@ -70,29 +74,57 @@ module _ {B : Type 0} (means : B → Means) (through : B → Step → B → Type
   abbrev pub run : List Transfer
   run = take m all
 
-  parts : (between : B) × Walk means through bus (map Went run) between × Walk means through between (refused_put last (drop m all)) after
+  -- the burst puts a front of what is left, END where it is the write's
+  is-front : ended Put on_last (take many (drop turn.place.moved bytes)) ≡ take many all
+  is-front =
+      let ys = drop turn.place.moved bytes in
+      ended-puts on_last (take many ys)
+      ∙ front-puts end on_last ys many (omega (arith, fits, length-drop turn.place.moved bytes))
+      (λ e. on_whole (omega (arith, e, fits, some, length-drop turn.place.moved bytes)))
+      (λ e. on_part (omega (arith, e, fits, some, length-drop turn.place.moved bytes)))
+
+  parts : (between : B) × Walk means through bus (map Went run) between × Walk means through between (refused_put last (drop m (take many all))) after
   parts =
       let P : List Transfer → Type 0 = λ ts. Walk means through bus (map Went (take m ts) ++ refused_put last (drop m ts)) after in
-      path-split (StepsTo means through) bus after (map Went run) (refused_put last (drop m all)) (subst P (ended-puts end (drop turn.place.moved bytes)) walk)
+      let Q : List Transfer → Type 0 = λ ts. Walk means through bus (map Went ts ++ refused_put last (drop m (take many all))) after in
+      path-split (StepsTo means through) bus after (map Went run) (refused_put last (drop m (take many all)))
+      (subst Q (take-take m many all within) (subst P is-front walk))
+
+  length-all : length all ≡ length bytes - turn.place.moved
+  length-all = length-puts end (drop turn.place.moved bytes) ∙ length-drop turn.place.moved bytes
+
+  length-run : length run ≡ m
+  length-run = length-take m all ∙ omega (arith, length-all, within, fits)
 
   is-data : IsData turn.task run m
-  is-data = data-put turn.task end (drop turn.place.moved bytes) m within
+  is-data = data-put turn.task end (drop turn.place.moved bytes) m (omega (arith, within, fits, length-drop turn.place.moved bytes))
 
   shape : (ts : List Transfer) (left : Plan) → Reaches turn.task bytes ts left turn.place → left ≡ just all
   shape ts left r =
       let D : Task → Type 0 = λ task. DataLeft task bytes turn.place.moved left (length bytes - turn.place.moved) in
       let d = subst D task.2 (data_left bytes ts left r) in
-      (d.1 (λ none. absurd (omega (arith, none)))).0
+      (d.1 (λ none. absurd (omega (arith, none, some, fits)))).0
 
-  rest-some : last ≢ move.Went → drop m all ≢ []
-  rest-some not none =
+  fewer : last ≢ move.Went → m < many
+  fewer not =
+      let differ : m ≢ many = λ e. not (whole.1 e) in
+      omega (arith, within, differ)
+
+  rest-some : m < many → drop m all ≢ []
+  rest-some less none =
       let gone : length (drop m all) ≡ 0 = ap (λ (ts : List Transfer). length ts) none in
-      not (whole.1 (omega (arith, gone, length-drop m all, length-puts end (drop turn.place.moved bytes), within)))
+      omega (arith, gone, length-drop m all, length-all, less, fits)
+
+  -- what the burst still had to put is a front of what the write has
+  burst-rest : drop m (take many all) ≡ take (many - m) (drop m all)
+  burst-rest =
+      let sum : many ≡ m + (many - m) = omega (arith, within) in
+      ap (λ k. drop m (take k all)) sum ∙ drop-take m (many - m) all
 
   -- whichever it ended with, it is a run
-  by-end : (stopped : Option Outcome) → stopped ≡ stopped_by last → EndsRun means through (next_slot (just (drop m all))) run (stopped_by last) parts.0 after
-      → Runs means through turn bytes room new room (stopped_by last) bus after
-  by-end stopped e ends = record {
+  by-end : EndsRun means through (next_slot (just (drop m all))) run many (behind_puts_of m last) parts.0 after
+      → Runs means through turn bytes room new room many (behind_puts_of m last) bus after
+  by-end ends = record {
     run = run;
     between = parts.0;
     walk = parts.1;
@@ -102,33 +134,38 @@ module _ {B : Type 0} (means : B → Means) (through : B → Step → B → Type
     goes = λ ts left r. (just (drop m all), ap (λ l. left_after (Some l) run) (shape ts left r) ∙ just-goes all m, ends);
   }
 
-  ends-went : last ≡ move.Went → (after ≡ parts.0) × (run ≢ [])
+  ends-went : last ≡ move.Went → EndsRun means through (next_slot (just (drop m all))) run many (Made m) parts.0 after
   ends-went e =
-      let P : Move → Type 0 = λ l. Walk means through parts.0 (refused_put l (drop m all)) after in (
-        subst P e parts.2,
-        λ none.
-            let no_moves : count_by (carries_data turn.task) run ≡ 0 = ap (count_by (carries_data turn.task)) none in
-            absurd (omega (arith, whole.0 e, length-drop turn.place.moved bytes, is-data.moves, no_moves)),
+      let P : Move → Type 0 = λ l. Walk means through parts.0 (refused_put l (drop m (take many all))) after in
+      let all-went = whole.0 e in
+      (subst P e parts.2, sym length-run, omega (arith, all-went, some), within)
+
+  ends-held : last ≡ move.Held → EndsRun means through (next_slot (just (drop m all))) run many (Stopped went.Held) parts.0 after
+  ends-held e =
+      let P : Move → Type 0 = λ l. Walk means through parts.0 (refused_put l (drop m (take many all))) after in
+      let Q : List Transfer → Type 0 = λ ts. Walk means through parts.0 (refused_put move.Held ts) after in
+      let less = fewer (λ w. let not : move.Held ≡ move.Went = sym e ∙ w in cc) in (
+        put-held means through (drop m all) (many - m) parts.0 after (rest-some less) (omega (arith, less)) (subst Q burst-rest (subst P e parts.2)),
+        omega (arith, less, length-run),
       )
 
-  ends-held : last ≡ move.Held → Asks means through (next_slot (just (drop m all))) (Stopped went.Held) parts.0 after
-  ends-held e =
-      let P : Move → Type 0 = λ l. Walk means through parts.0 (refused_put l (drop m all)) after in
-      put-held means through (drop m all) parts.0 after (rest-some (λ w. let not : move.Held ≡ move.Went = sym e ∙ w in cc)) (subst P e parts.2)
-
-  ends-failed : last ≡ move.Failed → Asks means through (next_slot (just (drop m all))) (Stopped went.Broken) parts.0 after
+  ends-failed : last ≡ move.Failed → EndsRun means through (next_slot (just (drop m all))) run many (Stopped went.Broken) parts.0 after
   ends-failed e =
-      let P : Move → Type 0 = λ l. Walk means through parts.0 (refused_put l (drop m all)) after in
-      put-failed means through (drop m all) parts.0 after (rest-some (λ w. let not : move.Failed ≡ move.Went = sym e ∙ w in cc)) (subst P e parts.2)
+      let P : Move → Type 0 = λ l. Walk means through parts.0 (refused_put l (drop m (take many all))) after in
+      let Q : List Transfer → Type 0 = λ ts. Walk means through parts.0 (refused_put move.Failed ts) after in
+      let less = fewer (λ w. let not : move.Failed ≡ move.Went = sym e ∙ w in cc) in (
+        put-failed means through (drop m all) (many - m) parts.0 after (rest-some less) (omega (arith, less)) (subst Q burst-rest (subst P e parts.2)),
+        omega (arith, less, length-run),
+      )
 
-  ends-put : (l : Move) → last ≡ l → EndsRun means through (next_slot (just (drop m all))) run (stopped_by l) parts.0 after
+  ends-put : (l : Move) → last ≡ l → EndsRun means through (next_slot (just (drop m all))) run many (behind_puts_of m l) parts.0 after
   ends-put move.Went e = ends-went e
   ends-put move.Held e = ends-held e
   ends-put move.Failed e = ends-failed e
 
   -- a burst of puts is a run
-  pub put-runs : Runs means through turn bytes room new room (stopped_by last) bus after
-  put-runs = by-end (stopped_by last) refl (ends-put last refl)
+  pub put-runs : Runs means through turn bytes room new room many (behind_puts_of m last) bus after
+  put-runs = by-end (ends-put last refl)
 
 -- ---- a burst of gets
 
@@ -153,28 +190,28 @@ part-stored at many n room part fits within long kept =
     ∙ ap (λ k. take at room ++ take n part ++ drop (at + k) room) (sym count)
 
 get-held : {B : Type 0} (means : B → Means) (through : B → Step → B → Type 0) (between after : B)
-    → Walk means through between (refused_get why.Held) after → Asks means through (Some AnyByte) (Stopped went.Held) between after
+    → Walk means through between (refused_get why.Held) after → Asks means through (Some AnyByte) (asked.Stopped went.Held) between after
 get-held means through between after path = subst (λ b. StepsTo means through between (Held ask.Get) b) (sym path.2) path.1
 
 get-failed : {B : Type 0} (means : B → Means) (through : B → Step → B → Type 0) (between after : B)
-    → Walk means through between (refused_get why.Failed) after → Asks means through (Some AnyByte) (Stopped went.Broken) between after
+    → Walk means through between (refused_get why.Failed) after → Asks means through (Some AnyByte) (asked.Stopped went.Broken) between after
 get-failed means through between after path = subst (λ b. StepsTo means through between (Failed ask.Get) b) (sym path.2) path.1
 
-module _ {B : Type 0} (means : B → Means) (through : B → Step → B → Type 0) (turn new : TurnState) (bytes room room' : List ℕ) (stop : Option ℕ) (n : ℕ) (got : List ℕ) (bus after : B)
+module _ {B : Type 0} (means : B → Means) (through : B → Step → B → Type 0) (turn new : TurnState) (bytes room room' : List ℕ) (stop : Option ℕ) (n many : ℕ) (got : List ℕ) (bus after : B)
     (task : (t : Target) × (max : ℕ) × (turn.task ≡ Read t max stop)) (data_left : IsDataLeft turn.task turn.place n)
-    (some : 0 < n) (within : length got ≤ n) (stored : room' ≡ with_bytes turn.place.moved got room) where
+    (some : 0 < many) (fewer : many ≤ n) (within : length got ≤ many) (stored : room' ≡ with_bytes turn.place.moved got room) where
   shape-read : (ts : List Transfer) (left : Plan) → Reaches turn.task bytes ts left turn.place → left ≡ reading_left n stop
   shape-read ts left r =
       let D : Task → Type 0 = λ task. DataLeft task bytes turn.place.moved left n in
       let d = subst D task.2 (data_left bytes ts left r) in
-      (d.1 (λ none. absurd (omega (arith, none)))).0
+      (d.1 (λ none. absurd (omega (arith, none, some, fewer)))).0
 
-  by-stop : (e : Bool) (stopped : Option Outcome) (between : B)
+  by-stop : (e : Bool) (advance : Advance) (between : B)
       → new ≡ record turn { place = record turn.place { moved = turn.place.moved + length got; last = last_of turn.place.last (gots (ended Got e got)) } }
       → Walk means through bus (map Went (ended Got e got)) between
-      → (left' : Plan) × (left_after (Some (reading_left n stop)) (ended Got e got) ≡ Some left') × EndsRun means through (next_slot left') (ended Got e got) stopped between after
-      → Runs means through turn bytes room new room' stopped bus after
-  by-stop e stopped between moved walk goes = record {
+      → (left' : Plan) × (left_after (Some (reading_left n stop)) (ended Got e got) ≡ Some left') × EndsRun means through (next_slot left') (ended Got e got) many advance between after
+      → Runs means through turn bytes room new room' many advance bus after
+  by-stop e advance between moved walk goes = record {
     run = ended Got e got;
     between = between;
     walk = walk;
@@ -183,30 +220,46 @@ module _ {B : Type 0} (means : B → Means) (through : B → Step → B → Type
     goes = λ ts left r. (goes.0, ap (λ l. left_after (Some l) (ended Got e got)) (shape-read ts left r) ∙ goes.1, goes.2);
   }
 
+  -- it stopped with a byte
+  by-byte : (e : Bool) (between : B)
+      → new ≡ record turn { place = record turn.place { moved = turn.place.moved + length got; last = last_of turn.place.last (gots (ended Got e got)) } }
+      → Walk means through bus (map Went (ended Got e got)) between → after ≡ between → Goes n stop got e
+      → Runs means through turn bytes room new room' many (Made (length got)) bus after
+  by-byte e between moved walk same goes =
+      by-stop e (Made (length got)) between moved walk (goes.left, goes.goes, (same, sym (length-ended e got), goes.some, within))
+
+  -- it stopped before the next one
+  by-none : (outcome : Outcome) (between : B)
+      → new ≡ record turn { place = record turn.place { moved = turn.place.moved + length got; last = last_of turn.place.last (gots (ended Got false got)) } }
+      → Walk means through bus (map Went (ended Got false got)) between → Asks means through (Some AnyByte) (asked.Stopped outcome) between after
+      → (length got < many) × IsClear stop got → Runs means through turn bytes room new room' many (Stopped outcome) bus after
+  by-none outcome between moved walk asks stops =
+      by-stop false (Stopped outcome) between moved walk (
+        reading_left (n - length got) stop,
+        gets-on n stop got stops.1 (omega (arith, stops.0, fewer)),
+        (asks, omega (arith, stops.0, length-ended false got)),
+      )
+
   -- a burst of gets is a run
   pub get-runs : (reason : Stop)
       → new ≡ record turn { place = record turn.place { moved = turn.place.moved + length got; last = last_of turn.place.last (gots (ended Got (is_end reason) got)) } }
-      → StopsAt stop n got reason → Walk means through bus (gets_steps got reason) after → Runs means through turn bytes room new room' (cut_short_by reason) bus after
+      → StopsAt stop many got reason → Walk means through bus (gets_steps got reason) after
+      → Runs means through turn bytes room new room' many (behind_gets_of (length got) reason) bus after
   get-runs why.Full moved stops walk =
       let parts = path-split (StepsTo means through) bus after (map Went (ended Got false got)) [] walk in
-      let goes = goes-filled n stop got some stops in
-      by-stop false None parts.0 moved parts.1 (goes.left, goes.goes, (parts.2, some-ended false got goes.some))
+      by-byte false parts.0 moved parts.1 parts.2 (goes-filled n many stop got some fewer stops)
   get-runs why.End moved stops walk =
       let parts = path-split (StepsTo means through) bus after (map Went (ended Got true got)) [] walk in
-      let goes = goes-end n stop got within stops in
-      by-stop true None parts.0 moved parts.1 (goes.left, goes.goes, (parts.2, some-ended true got goes.some))
+      by-byte true parts.0 moved parts.1 parts.2 (goes-end n many stop got (omega (arith, within, fewer)) stops)
   get-runs why.Char moved stops walk =
       let parts = path-split (StepsTo means through) bus after (map Went (ended Got false got)) [] walk in
-      let goes = goes-char n stop got within stops in
-      by-stop false None parts.0 moved parts.1 (goes.left, goes.goes, (parts.2, some-ended false got goes.some))
+      by-byte false parts.0 moved parts.1 parts.2 (goes-char n many stop got (omega (arith, within, fewer)) stops)
   get-runs why.Held moved stops walk =
       let parts = path-split (StepsTo means through) bus after (map Went (ended Got false got)) (refused_get why.Held) walk in
-      by-stop false (Some went.Held) parts.0 moved parts.1
-      (reading_left (n - length got) stop, gets-on n stop got stops.1 stops.0, get-held means through parts.0 after parts.2)
+      by-none went.Held parts.0 moved parts.1 (get-held means through parts.0 after parts.2) stops
   get-runs why.Failed moved stops walk =
       let parts = path-split (StepsTo means through) bus after (map Went (ended Got false got)) (refused_get why.Failed) walk in
-      by-stop false (Some went.Broken) parts.0 moved parts.1
-      (reading_left (n - length got) stop, gets-on n stop got stops.1 stops.0, get-failed means through parts.0 after parts.2)
+      by-none went.Broken parts.0 moved parts.1 (get-failed means through parts.0 after parts.2) stops
 
 -- ---- one transfer
 
@@ -242,16 +295,16 @@ stored-one at t room h = sym (with-none at room)
 
 -- what an ask that made a transfer says
 pub made-fits : {B : Type 0} (means : B → Means) (through : B → Step → B → Type 0) (slot : Option Slot) (t : Transfer) (now after : B)
-    → Asks means through slot (Moved t) now after → FitsNext slot t × StepsTo means through now (Went t) after
+    → Asks means through slot (asked.Moved t) now after → FitsNext slot t × StepsTo means through now (Went t) after
 made-fits means through (Some slot) t now after asks = asks
 made-fits means through None t now after asks = absurd asks
 
 -- an ask that made a transfer is a run of one
 pub one-runs : {B : Type 0} (means : B → Means) (through : B → Step → B → Type 0) (turn : TurnState) (bytes room : List ℕ) (t : Transfer) (bus after : B) → PlaceGoesOnLaw
     → (ts : List Transfer) (left : Plan) → Reaches turn.task bytes ts left turn.place
-    → ((ts : List Transfer) (left : Plan) → Reaches turn.task bytes ts left turn.place → Asks means through (next_slot left) (Moved t) bus after)
+    → ((ts : List Transfer) (left : Plan) → Reaches turn.task bytes ts left turn.place → Asks means through (next_slot left) (asked.Moved t) bus after)
     → (is_got t ≡ true → turn.place.moved < length room)
-    → Runs means through turn bytes room (moved_on turn t) (stored turn.place.moved t room) None bus after
+    → Runs means through turn bytes room (moved_on turn t) (stored turn.place.moved t room) 1 (Made 1) bus after
 one-runs means through turn bytes room t bus after law ts left r asks fits = record {
   run = t ∷ [];
   between = after;
@@ -260,20 +313,39 @@ one-runs means through turn bytes room t bus after law ts left r asks fits = rec
   stored = stored-one turn.place.moved t room fits;
   goes = λ ts left r.
       let next = law turn.task bytes ts left turn.place t r (made-fits means through (next_slot left) t bus after (asks ts left r)).0 in
-      (next.0, next.1, (refl, λ none. cc));
+      (next.0, next.1, (refl, refl, omega arith, omega arith));
 }
 
--- and one that made none a run of none
+-- and one that made none a run of none, where some might have been made
 pub none-runs : {B : Type 0} (means : B → Means) (through : B → Step → B → Type 0) (turn : TurnState) (bytes room : List ℕ) (outcome : Outcome) (bus after : B)
-    → ((ts : List Transfer) (left : Plan) → Reaches turn.task bytes ts left turn.place → Asks means through (next_slot left) (Stopped outcome) bus after)
-    → Runs means through turn bytes room turn room (Some outcome) bus after
+    → ((ts : List Transfer) (left : Plan) → Reaches turn.task bytes ts left turn.place → Asks means through (next_slot left) (asked.Stopped outcome) bus after)
+    → Runs means through turn bytes room turn room 1 (Stopped outcome) bus after
 none-runs means through turn bytes room outcome bus after asks = record {
   run = [];
   between = bus;
   walk = refl;
   moved = ap (λ (p : Place). record turn { place = p }) (behind-none turn.task turn.place);
   stored = sym (with-none turn.place.moved room);
-  goes = λ ts left r. (left, refl, asks ts left r);
+  goes = λ ts left r. (left, refl, (asks ts left r, omega arith));
+}
+
+-- a run of at most so many is one of at most as many, or more
+ends-within : {B : Type 0} (means : B → Means) (through : B → Step → B → Type 0) (slot : Option Slot) (run : List Transfer) (few most : ℕ) (advance : Advance) (between after : B)
+    → few ≤ most → EndsRun means through slot run few advance between after → EndsRun means through slot run most advance between after
+ends-within means through slot run few most (Made n) between after h ends = (ends.0, ends.1, ends.2, omega (arith, h, ends.3))
+ends-within means through slot run few most (Stopped outcome) between after h ends = (ends.0, omega (arith, h, ends.1))
+
+pub runs-within : {B : Type 0} (means : B → Means) (through : B → Step → B → Type 0) (turn : TurnState) (bytes room : List ℕ) (new : TurnState) (room' : List ℕ) (few most : ℕ)
+    (advance : Advance) (bus after : B) → few ≤ most → Runs means through turn bytes room new room' few advance bus after → Runs means through turn bytes room new room' most advance bus after
+runs-within means through turn bytes room new room' few most advance bus after h runs = record {
+  run = runs.run;
+  between = runs.between;
+  walk = runs.walk;
+  moved = runs.moved;
+  stored = runs.stored;
+  goes = λ ts left r.
+      let next = runs.goes ts left r in
+      (next.0, next.1, ends-within means through (next_slot next.0) runs.run few most advance runs.between after h next.2);
 }
 
 -- ---- what a run asks for

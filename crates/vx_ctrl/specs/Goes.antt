@@ -1,5 +1,6 @@
 -- What a turn does when it goes on.
-use Rattle.std.specs.Prelude.{◌≡◌, ℕ, List, [], ◌∷◌, ◌++◌, map, take, Option, Some}
+use Rattle.std.specs.Prelude.{◌≡◌, ◌≤◌, ◌<◌, ℕ, List, [], ◌∷◌, ◌++◌, map, length, take, Option, Some}
+use Rattle.vx_calls.specs.declared.limits.TheConstants.{SLICE_MAX}
 use Rattle.vx_488.specs.declared.transfers.Transfer.{Transfer}
 use Rattle.vx_488.specs.declared.wire.Wire.{Wire}
 use Rattle.vx_488.specs.Wire.{wire_after}
@@ -34,14 +35,21 @@ abbrev pub outcome_stand : Outcome → Stand
 outcome_stand went.Finished = Whole
 outcome_stand _ = Part
 
--- A turn that had made a list goes on by these transfers: together they are a list of its plan, whole where it is
--- finished, and a part where the plan's next ask was held or failed. The bus was asked for these transfers, in order, and
--- for that next one, and for nothing else.
+-- A slice has at most so many transfers: exactly so many where that ends it, fewer where the bus does.
+abbrev pub FitsSlice : Outcome → ℕ → Type 0
+FitsSlice went.Slice moved = moved ≡ SLICE_MAX
+FitsSlice went.Finished moved = moved ≤ SLICE_MAX
+FitsSlice _ moved = moved < SLICE_MAX
+
+-- A turn that had made a list goes on by these transfers, a slice of its plan: together they are a list of that plan, whole
+-- where it is finished, and a part where the plan's next ask was held or failed, or the slice is full. The bus was asked for
+-- these transfers, in order, and for the one that was held or failed, and for nothing else.
 pub record Goes {B : Type 0} (means : B → Means) (through : B → Step → B → Type 0) (new : TurnState) (w : Wire)
     (bytes : List ℕ) (made moves : List Transfer) (outcome : Outcome) (bus after : B) : Type 0 where
   pub left : Plan
   pub has_made : HasMade new w bytes (made ++ moves) left
   pub stands : stand_of (Some left) ≡ outcome_stand outcome
+  pub few : FitsSlice outcome (length moves)
   pub walk : Walk means through bus (go_steps moves outcome left) after
 
 -- the turn had made this list, and the bus is where the list left it

@@ -8,7 +8,7 @@ ghost use Rattle.vx_488.specs.Wire.{wire_after};
 ghost use Rattle.vx_plan.specs.Transfers.{is_got};
 ghost use Rattle.vx_bus_traits.specs.declared.asks.TheConstants.{ASK_MAX};
 ghost use Rattle.vx_plan.specs.Plan.{Plan, next_slot};
-ghost use Rattle.vx_plan.specs.Places.{Reaches};
+ghost use Rattle.vx_plan.specs.Places.{Reaches, IsReached};
 ghost use Rattle.vx_plan.specs.Runs.{IsDataLeft};
 ghost use Rattle.vx_plan.specs.declared.tasks.Task.TheVariants.{Write, Read};
 ghost use Rattle.vx_plan.specs.Tasks.{plan, IsPlainTask, HasBytes};
@@ -17,16 +17,17 @@ ghost use Rattle.vx_488.specs.declared.transfers.Transfer.TheVariants.{Got};
 ghost use Rattle.vx_bus_traits.specs.Bursts.{ended, is_end};
 ghost use Rattle.vx_ctrl.specs.Turns.{HasMade, HasRoom, GetsBytes, with_bytes, stored, moved_on, turn_reason, moved_by, reason_by};
 ghost use Rattle.vx_ctrl.specs.Asking.{Asks};
-ghost use Rattle.vx_ctrl.specs.Runs.{Runs, stopped_by, cut_short_by};
+ghost use Rattle.vx_ctrl.specs.Runs.{Runs, behind_puts_of, behind_gets_of, behind_slice_of};
 ghost use Rattle.vx_ctrl.specs.Goes.{Goes, Begins, HoldsBytes};
 
 use crate::asking::{Asked, ask};
 use std::marker::Model;
 use vx_488::{Transfer, Wire, wire_appends};
 use vx_bus_traits::{Bus, Move, Stop};
+use vx_calls::SLICE_MAX;
 use vx_plan::{
-    Place, Task, data_left, few_transfers, few_with_data, first_place, next_move, place_goes_on,
-    run_goes_on,
+    Next, Place, Task, data_left, few_transfers, few_with_data, first_place, next_move,
+    place_goes_on, run_goes_on,
 };
 
 /// Why a turn stopped for now.
@@ -38,6 +39,17 @@ pub enum Went {
     Held,
     /// The bus failed at the next transfer.
     Broken,
+    /// It made [`SLICE_MAX`] transfers, and the job isn't done.
+    Slice,
+}
+
+/// What a part of a turn came to.
+#[derive(Clone, Copy)]
+enum Advance {
+    /// It made so many transfers, at least one, and the turn goes on at once.
+    Made(u32),
+    /// The turn stops, for this reason.
+    Stopped(Went),
 }
 
 /// A turn on the bus: a job, how far it has come, and the moment at which it began.
@@ -76,7 +88,8 @@ impl Turn {
         }
     }
 
-    /// Goes on until the job is done or the bus holds or fails: by one transfer after the other, and by bursts of data bytes.
+    /// Goes on until the job is done, the bus holds or fails, or it has made [`SLICE_MAX`] transfers: by one transfer after the
+    /// other, and by bursts of data bytes. Behind the last of a slice the bus isn't asked any more.
     ///
     /// `bytes` are those of the job, at most `WRITE_MAX`. The bytes that are got stand in `room` at their places: a read
     /// wants room for as many as it may get, up to `READ_MAX`, a serial poll for one. The bus was cut before.
@@ -103,70 +116,90 @@ impl Turn {
             → HoldsBytes self.new (made ++ (B.means bus.new).moves) room.new }
     {
         run_goes_on();
-        few_transfers();
         wire_appends();
-        loop {
-            match self.advance(bus, bytes, room) {
-                None => {}
-                Some(went) => return went,
+        let mut left = SLICE_MAX;
+        while left > 0 {
+            match self.advance(bus, bytes, room, left) {
+                Advance::Made(n) => left -= n,
+                Advance::Stopped(went) => return went,
             }
+        }
+        self.behind_slice()
+    }
+
+    /// What a turn that made all the transfers of its slice comes to. The bus isn't asked.
+    fn behind_slice(&self) -> Went
+        requires plain { IsPlainTask self.now.task }
+        requires own { self.now.place.own ≤ ADDRESS_MAX }
+        requires reached { IsReached self.now.task self.now.place }
+        ensures { (bytes : List ℕ) (ts : List Transfer) (left : Plan) → Reaches self.now.task bytes ts left self.now.place
+            → result ≡ behind_slice_of (next_slot left) }
+    {
+        match next_move(&self.task, &self.place) {
+            Next::Finished => Went::Finished,
+            _ => Went::Slice,
         }
     }
 
-    /// Goes on by a burst of data bytes where they come in a row, and else by one transfer. Answers why the turn stops, where
-    /// it does.
-    fn advance<B: Bus>(&mut self, bus: &mut B, bytes: &[u8], room: &mut [u8]) -> Option<Went>
+    /// Goes on by a burst of data bytes where they come in a row, and else by one transfer. `most` is how many transfers it may
+    /// make at most.
+    fn advance<B: Bus>(&mut self, bus: &mut B, bytes: &[u8], room: &mut [u8], most: u32) -> Advance
+        requires some { 0 < most }
         requires plain { IsPlainTask self.old.task }
         requires own { self.old.place.own ≤ ADDRESS_MAX }
         requires short { length bytes.now ≤ WRITE_MAX }
         requires room { HasRoom self.old.task (length room.old) }
         requires reached { (ts : List Transfer) × (left : Plan) × Reaches self.old.task bytes.now ts left self.old.place × ((B.means bus.old).asks ≤ length ts) }
-        ensures { Runs B.means B.through self.old bytes.now room.old self.new room.new result bus.old bus.new }
+        ensures { Runs B.means B.through self.old bytes.now room.old self.new room.new most result bus.old bus.new }
     {
         few_with_data();
-        let many = data_left(&self.task, &self.place) as usize;
+        let many = data_left(&self.task, &self.place).min(most) as usize;
         if many == 0 {
             return self.single(bus, bytes, room);
         }
         match self.task {
-            Task::Write { end, .. } => self.put_run(bus, bytes, end),
+            Task::Write { end, .. } => self.put_run(bus, bytes, many, end),
             Task::Read { stop, .. } => self.get_run(bus, room, many, stop),
             _ => self.single(bus, bytes, room),
         }
     }
 
     /// Asks the bus for the next transfer, and makes it a part of what it has made.
-    fn single<B: Bus>(&mut self, bus: &mut B, bytes: &[u8], room: &mut [u8]) -> Option<Went>
+    fn single<B: Bus>(&mut self, bus: &mut B, bytes: &[u8], room: &mut [u8]) -> Advance
         requires plain { IsPlainTask self.old.task }
         requires own { self.old.place.own ≤ ADDRESS_MAX }
         requires short { length bytes.now ≤ WRITE_MAX }
         requires room { HasRoom self.old.task (length room.old) }
         requires reached { (ts : List Transfer) × (left : Plan) × Reaches self.old.task bytes.now ts left self.old.place × ((B.means bus.old).asks ≤ length ts) }
-        ensures { Runs B.means B.through self.old bytes.now room.old self.new room.new result bus.old bus.new }
+        ensures { Runs B.means B.through self.old bytes.now room.old self.new room.new 1 result bus.old bus.new }
     {
         few_transfers();
         place_goes_on();
         match self.ask(bus, bytes) {
             Asked::Moved(t) => {
                 self.made(t, room);
-                None
+                Advance::Made(1)
             }
-            Asked::Stopped(went) => Some(went),
+            Asked::Stopped(went) => Advance::Stopped(went),
         }
     }
 
-    /// Puts all that is left of a write in one burst, with END on its last byte or not.
-    fn put_run<B: Bus>(&mut self, bus: &mut B, bytes: &[u8], end: bool) -> Option<Went>
+    /// Puts so many of a write's next bytes in one burst, with END on the write's last byte or not.
+    fn put_run<B: Bus>(&mut self, bus: &mut B, bytes: &[u8], many: usize, end: bool) -> Advance
         requires task { (t : Target) × (len : ℕ) × (self.old.task ≡ Write t len end) }
         requires left { IsDataLeft self.old.task self.old.place (length bytes.now - self.old.place.moved) }
-        requires some { self.old.place.moved < length bytes.now }
+        requires some { 0 < many }
+        requires within { self.old.place.moved + many ≤ length bytes.now }
         requires short { length bytes.now ≤ WRITE_MAX }
-        requires asks { (B.means bus.old).asks + (length bytes.now - self.old.place.moved) ≤ ASK_MAX }
-        ensures { (room : List ℕ) → Runs B.means B.through self.old bytes.now room self.new room result bus.old bus.new }
+        requires asks { (B.means bus.old).asks + many ≤ ASK_MAX }
+        ensures { (room : List ℕ) → Runs B.means B.through self.old bytes.now room self.new room many result bus.old bus.new }
     {
-        let many = bus.put_many(&bytes[self.place.moved as usize..], end);
-        self.place.moved += many.moved as u32;
-        stopped(many.last)
+        let at = self.place.moved as usize;
+        let to = at + many;
+        let answer = bus.put_many(&bytes[at..to], end && to == bytes.len());
+        let moved = answer.moved as u32;
+        self.place.moved += moved;
+        behind_puts(moved, answer.last)
     }
 
     /// Gets so many bytes in one burst into the room, at their places, or fewer where the read ends before.
@@ -176,20 +209,21 @@ impl Turn {
         room: &mut [u8],
         many: usize,
         stop: Option<u8>,
-    ) -> Option<Went>
+    ) -> Advance
         requires task { (t : Target) × (max : ℕ) × (self.old.task ≡ Read t max stop) }
-        requires left { IsDataLeft self.old.task self.old.place many }
+        requires left { (n : ℕ) × IsDataLeft self.old.task self.old.place n × (many ≤ n) }
         requires some { 0 < many }
         requires short { self.old.place.moved + many ≤ READ_MAX }
         requires room { self.old.place.moved + many ≤ length room.old }
         requires asks { (B.means bus.old).asks + many ≤ ASK_MAX }
-        ensures { (bytes : List ℕ) → Runs B.means B.through self.old bytes room.old self.new room.new result bus.old bus.new }
+        ensures { (bytes : List ℕ) → Runs B.means B.through self.old bytes room.old self.new room.new many result bus.old bus.new }
     {
         let at = self.place.moved as usize;
         let answer = bus.get_many(&mut room[at..at + many], stop);
         self.place.last = last_got(self.place.last, &room[at..at + answer.got], answer.stop);
-        self.place.moved += answer.got as u32;
-        cut_short(answer.stop)
+        let got = answer.got as u32;
+        self.place.moved += got;
+        behind_gets(got, answer.stop)
     }
 
     /// Asks the bus for what its job wants next.
@@ -277,25 +311,25 @@ fn last_got(before: Option<(u8, bool)>, bytes: &[u8], stop: Stop) -> Option<(u8,
     }
 }
 
-/// Why a turn stops behind a burst of puts whose last answer is this, where it does.
-fn stopped(last: Move) -> Option<Went>
-    ensures { result ≡ stopped_by last }
+/// What a burst of puts came to, of which so many went and the last answer is this.
+fn behind_puts(moved: u32, last: Move) -> Advance
+    ensures { result ≡ behind_puts_of moved last }
 {
     match last {
-        Move::Went => None,
-        Move::Held => Some(Went::Held),
-        Move::Failed => Some(Went::Broken),
+        Move::Went => Advance::Made(moved),
+        Move::Held => Advance::Stopped(Went::Held),
+        Move::Failed => Advance::Stopped(Went::Broken),
     }
 }
 
-/// Why a turn stops behind a burst of gets that stopped for this reason, where it does.
-fn cut_short(stop: Stop) -> Option<Went>
-    ensures { result ≡ cut_short_by stop }
+/// What a burst of gets came to, which got so many bytes and stopped for this reason.
+fn behind_gets(got: u32, stop: Stop) -> Advance
+    ensures { result ≡ behind_gets_of got stop }
 {
     match stop {
-        Stop::Held => Some(Went::Held),
-        Stop::Failed => Some(Went::Broken),
-        Stop::Full | Stop::End | Stop::Char => None,
+        Stop::Held => Advance::Stopped(Went::Held),
+        Stop::Failed => Advance::Stopped(Went::Broken),
+        Stop::Full | Stop::End | Stop::Char => Advance::Made(got),
     }
 }
 

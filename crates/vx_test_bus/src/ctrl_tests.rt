@@ -316,34 +316,213 @@ fn goes_on_behind_a_hold(rt: HostRuntime) -> Result<(), Fail> {
     Ok(())
 }
 
-/// How many transfers there are, which is the last, and how many of those behind the front are the first byte's.
-fn summary(moves: &[Transfer]) -> (usize, Option<Transfer>, usize) {
-    let bytes = moves
-        .iter()
-        .skip(4)
-        .filter(|t| **t == Put { b: 7, end: false });
-    (moves.len(), moves.last().copied(), bytes.count())
+/// A turn that goes twice, its job's bytes, what it tells each time, how many transfers it makes at last, and which is the
+/// last of them.
+struct SliceRow {
+    bench: Bench,
+    task: Task,
+    bytes: &'static [u8],
+    told: (Told, Told),
+    moves: (usize, Option<Transfer>),
 }
 
-// The longest write there is, in one go.
+// Writes of 256 and of 257 transfers, with the 3 that go before the bytes, and reads of as many.
+const WRITES_256: Task = Task::Write {
+    t: PRIMARY,
+    len: 253,
+    end: true,
+};
+
+const WRITES_257: Task = Task::Write {
+    t: PRIMARY,
+    len: 254,
+    end: true,
+};
+
+const READS_256: Task = Task::Read {
+    t: Target::Interface,
+    max: 256,
+    stop: None,
+};
+
+const READS_257: Task = Task::Read {
+    t: Target::Interface,
+    max: 257,
+    stop: None,
+};
+
+// More bytes than a slice has transfers.
+const MANY: &[(u8, bool)] = &[(65, false); 300];
+
+const GOES: Bench = Bench {
+    gets: MANY,
+    holds: &[],
+    fails: &[],
+};
+
+const HOLDS_257: Bench = Bench {
+    gets: MANY,
+    holds: &[257],
+    fails: &[],
+};
+
+const FAILS_257: Bench = Bench {
+    gets: MANY,
+    holds: &[],
+    fails: &[257],
+};
+
+// Where call 257 of the bus is held, or fails, a turn that asked behind its slice would tell so at once. And a slice counts
+// anew each time that the turn goes.
+static SLICES: [SliceRow; 10] = [
+    SliceRow {
+        bench: GOES,
+        task: WRITES_256,
+        bytes: &[7; 253],
+        told: ((Went::Finished, 253, 0), (Went::Finished, 253, 0)),
+        moves: (0, None),
+    },
+    SliceRow {
+        bench: FAILS_257,
+        task: WRITES_256,
+        bytes: &[7; 253],
+        told: ((Went::Finished, 253, 0), (Went::Finished, 253, 0)),
+        moves: (0, None),
+    },
+    SliceRow {
+        bench: GOES,
+        task: WRITES_257,
+        bytes: &[7; 254],
+        told: ((Went::Slice, 253, 0), (Went::Finished, 254, 0)),
+        moves: (1, Some(Put { b: 7, end: true })),
+    },
+    SliceRow {
+        bench: HOLDS_257,
+        task: WRITES_257,
+        bytes: &[7; 254],
+        told: ((Went::Slice, 253, 0), (Went::Held, 253, 0)),
+        moves: (0, None),
+    },
+    SliceRow {
+        bench: FAILS_257,
+        task: WRITES_257,
+        bytes: &[7; 254],
+        told: ((Went::Slice, 253, 0), (Went::Broken, 253, 0)),
+        moves: (0, None),
+    },
+    SliceRow {
+        bench: GOES,
+        task: READS_256,
+        bytes: &[],
+        told: ((Went::Finished, 256, 1), (Went::Finished, 256, 1)),
+        moves: (0, None),
+    },
+    SliceRow {
+        bench: GOES,
+        task: READS_257,
+        bytes: &[],
+        told: ((Went::Slice, 256, 0), (Went::Finished, 257, 1)),
+        moves: (1, Some(Got { b: 65, end: false })),
+    },
+    SliceRow {
+        bench: HOLDS_257,
+        task: READS_257,
+        bytes: &[],
+        told: ((Went::Slice, 256, 0), (Went::Held, 256, 0)),
+        moves: (0, None),
+    },
+    SliceRow {
+        bench: FAILS_257,
+        task: READS_257,
+        bytes: &[],
+        told: ((Went::Slice, 256, 0), (Went::Broken, 256, 0)),
+        moves: (0, None),
+    },
+    SliceRow {
+        bench: HOLDS,
+        task: Task::Write {
+            t: PRIMARY,
+            len: 300,
+            end: true,
+        },
+        bytes: &[7; 300],
+        told: ((Went::Held, 0, 0), (Went::Slice, 256, 0)),
+        moves: (256, Some(Put { b: 7, end: false })),
+    },
+];
+
+/// A job goes twice, where it is one that a turn takes. What it told, if it went.
+fn go_slice_row(bus: &mut MemBus, row: &SliceRow, room: &mut [u8]) -> Option<(Told, Told)>
+    requires { bus.old.means ≡ first_means }
+{
+    if !row.task.is_plain()
+        || !has_bytes(&row.task, row.bytes)
+        || !has_room(&row.task, room.len())
+    {
+        return None;
+    }
+    Some(go_twice(bus, row.task, row.bytes, room))
+}
+
+#[test]
+fn stops_behind_256_transfers(rt: HostRuntime) -> Result<(), Fail> {
+    for (number, row) in SLICES.iter().enumerate() {
+        let mut room = [0; 300];
+        let mut bus = told_bus(rt.alloc(), &row.bench)?;
+        let told = go_slice_row(&mut bus, row, &mut room);
+        let moves = (bus.moves().len(), bus.moves().last().copied());
+        compare(&rt, number, &(told, moves), &(Some(row.told), row.moves));
+    }
+    Ok(())
+}
+
+/// How many bytes were put with END on them.
+fn ends(moves: &[Transfer]) -> usize {
+    moves
+        .iter()
+        .filter(|t| matches!(t, Put { end: true, .. }))
+        .count()
+}
+
+/// A turn goes on, behind a cut each time, as long as it makes slices of 256 transfers, and at most 300 times. How many it
+/// makes, how many bytes it puts with END in them, and what it tells then.
+fn go_on(bus: &mut MemBus, task: Task, bytes: &[u8], room: &mut [u8]) -> (u32, usize, Told)
+    requires plain { IsPlainTask task }
+    requires bytes { HasBytes task bytes.now }
+    requires short { length bytes.now ≤ WRITE_MAX }
+    requires room { HasRoom task (length room.old) }
+    requires fresh { bus.old.means ≡ first_means }
+{
+    let mut turn = Turn::begin(task, &bus.wire(), 0);
+    let mut early = 0usize;
+    for slices in 0..300 {
+        let went = turn.go(bus, bytes, room);
+        if went != Went::Slice || bus.moves().len() != 256 {
+            return (slices, early, told(&turn, went));
+        }
+        early = early.saturating_add(ends(bus.moves()));
+        bus.cut();
+    }
+    (300, early, told(&turn, Went::Slice))
+}
+
+// The longest write there is: 256 slices, and then its last three bytes, of which the last one alone has END.
 #[test]
 fn writes_65536_bytes(rt: HostRuntime) -> Result<(), Fail> {
     let bytes = vec![in rt.alloc(); 7u8; 65536]?;
     let mut bus = told_bus(rt.alloc(), &READY)?;
     let write = Task::Write {
-        t: DEVICE,
+        t: PRIMARY,
         len: 65536,
         end: true,
     };
-    let gone = go_once(&mut bus, write, &bytes, &mut []);
-    compare(
-        &rt,
-        0,
-        &(gone, summary(bus.moves())),
-        &(
-            (Went::Finished, 65536, 0),
-            (65540, Some(Put { b: 7, end: true }), 65535),
-        ),
-    );
+    let gone = go_on(&mut bus, write, &bytes, &mut []);
+    let moves: &[Transfer] = &[
+        Put { b: 7, end: false },
+        Put { b: 7, end: false },
+        Put { b: 7, end: true },
+    ];
+    let wanted = (256, 0, (Went::Finished, 65536, 0));
+    compare(&rt, 0, &(gone, bus.moves()), &(wanted, moves));
     Ok(())
 }

@@ -1,5 +1,6 @@
-use Rattle.std.proofs.Common.{ℕ, List, None, refl, sym, subst, arith}
+use Rattle.std.proofs.Common.{ℕ, List, refl, sym, subst, arith}
 use Rattle.vx_plan.specs.Plan.{next_slot}
+use Rattle.vx_ctrl.specs.declared.turn.Advance.TheVariants.{Made}
 use Rattle.vx_ctrl.specs.Turns.{TurnState, stored}
 use Rattle.vx_ctrl.specs.Runs.{Runs}
 use Rattle.vx_ctrl.specs.ProvedLaws.Fares.{step-short, gets-some, room-left}
@@ -26,7 +27,7 @@ returns-in-Moved g c =
     let turn = c.args.self.now in
     let fits = (made-fits g.B.Bus.means g.B.Bus.through (next_slot r.1) c.in-Moved.t c.args.bus.now c.ask.new.bus (c.in-Moved.ensures r.0 r.1 r.2)).0 in
     let R : TurnState → List ℕ → Type 0 = λ new room.
-    Runs g.B.Bus.means g.B.Bus.through turn c.args.bytes.now c.args.room.now new room None c.args.bus.now c.ask.new.bus in
+    Runs g.B.Bus.means g.B.Bus.through turn c.args.bytes.now c.args.room.now new room 1 (Made 1) c.args.bus.now c.ask.new.bus in
     let T : TurnState → Type 0 = λ new. R new (stored turn.place.moved c.in-Moved.t c.args.room.now) in
     let S : List ℕ → Type 0 = λ room. R c.made.new.self room in
     subst S (sym c.made.ensures.stored) (subst T (sym c.made.ensures.turn)
