@@ -107,6 +107,7 @@ earlier-over {B} means through srq ndac f g bus mid after conn now ending late w
         behind = at_moment b first.0;
         runs_to = first.1;
         ran = ran-earlier b first.0 conn now o.polls.asked moves (ran_of ending) o.polls.ran;
+        few = o.polls.few;
         ends_by = ends-earlier b first.0 conn now o.polls.asked ending o.polls.ends_by;
         last = at_moment o.polls.last second.0;
         ended = second.1;

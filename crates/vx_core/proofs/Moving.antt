@@ -1,11 +1,11 @@
 -- A poll that goes on with its call's turn.
-use Rattle.std.proofs.Common.{◌≡◌, ◌≤◌, ◌==◌, ℕ, Bool, true, false, cond, ◌⊎◌, inl, inr, List, [], ◌∷◌, ◌++◌, map, append-nil, Option, Some, None, refl, sym, ap, ◌∙◌, subst, arith}
+use Rattle.std.proofs.Common.{◌≡◌, ◌≤◌, ◌<◌, ◌==◌, ℕ, Bool, true, false, cond, ◌⊎◌, inl, inr, List, [], ◌∷◌, ◌++◌, map, length, append-nil, Option, Some, None, refl, sym, ap, ◌∙◌, subst, arith}
 use Rattle.std.specs.Prelude.{IsSome, is_some, not, ◌||◌}
 use Rattle.std.specs.Option.{option_and_then}
 use Rattle.std.proofs.lemmas.Bool.{cond-true, eq-eqb}
 use Rattle.std.proofs.lemmas.Option.{same_Some}
 use Rattle.std.proofs.Math.Bool.{or-true}
-use Rattle.vx_calls.specs.declared.limits.TheConstants.{ROLE_MAX, READ_MAX}
+use Rattle.vx_calls.specs.declared.limits.TheConstants.{ROLE_MAX, READ_MAX, SLICE_MAX}
 use Rattle.vx_calls.specs.declared.codes.ErrorCode.{ErrorCode}
 use Rattle.vx_calls.specs.declared.codes.ErrorCode.TheVariants as code
 use Rattle.vx_calls.specs.Reply.{Reply}
@@ -20,14 +20,14 @@ use Rattle.vx_plan.specs.Plan.{Slot, Plan, Reading, Part, stand_of, stand, left_
 use Rattle.vx_plan.specs.Results.{whole_reply}
 use Rattle.vx_plan.specs.Tasks.{plan, IsPlainTask}
 use Rattle.vx_plan.specs.ProvedLaws.{left_after-none, left_after-append, left-on}
-use Rattle.vx_flow.specs.ProvedLaws.{OwnHas, own-after, finished_law-holds, broken_law-holds, timeout_law-holds, held_law-holds}
+use Rattle.vx_flow.specs.ProvedLaws.{OwnHas, own-after, finished_law-holds, broken_law-holds, timeout_law-holds, held_law-holds, sliced_law-holds}
 use Rattle.vx_bus_traits.specs.Means.{Means}
 use Rattle.vx_bus_traits.specs.Steps.{Step, Went}
 use Rattle.vx_bus_traits.specs.Walks.{Walk}
 use Rattle.vx_ctrl.specs.declared.turn.Went.{Went as Outcome}
 use Rattle.vx_ctrl.specs.declared.turn.Went.TheVariants as went
 use Rattle.vx_ctrl.specs.Turns.{TurnState, HasMade}
-use Rattle.vx_ctrl.specs.Goes.{go_steps, refused_steps, outcome_stand}
+use Rattle.vx_ctrl.specs.Goes.{go_steps, refused_steps, outcome_stand, FitsSlice}
 use Rattle.vx_rules.specs.State.{Pending, pending_at, count_of}
 use Rattle.vx_rules.specs.Calls.{bytes_of, is_big, io_timeout_of, has_passed}
 use Rattle.vx_rules.specs.Effects.{stopped_reply}
@@ -103,6 +103,7 @@ pub record HasGone {B : Type 0} (means : B → Means) (through : B → Step → 
   pub goes : GoesOnBy (fine_of means k) conn k.moment asked (turn_by k r) r.turn.task
   pub from : (turn_stand (fine_of means k) (turn_by k r) k.made ≡ Part) ⊎ ((means m.bus).moves ≡ [])
   pub to : turn_stand (fine_of means k) (turn_by k r) (k.made ++ (means m.bus).moves) ≡ outcome_stand outcome
+  pub few : FitsSlice outcome (length (means m.bus).moves)
   pub after : fine_of means m ≡ moved_on (fine_of means k) (turn_by k r) (means m.bus).moves
   pub own : (means m.bus).wire.own ≤ ADDRESS_MAX
   pub runs : (s : Running) → m.running ≡ Some s → RunsTurn means m s
@@ -166,6 +167,7 @@ has-gone {B} means through k conn outcome m has went =
       };
       from = from;
       to = stands (k.made ++ moves) ∙ ap stand_of later ∙ went.goes.stands;
+      few = went.goes.few;
       after =
           ap (fine_of means) went.kept
           ∙ ap (λ w. M w went.turn.begun k.before) went.wire
@@ -207,7 +209,7 @@ part-before f u moves (inr none) to =
 gone-sound : {B : Type 0} (means : B → Means) (through : B → Step → B → Type 0) (k : KernelState B) (conn : ℕ) (r : Running) (outcome : Outcome) (m : KernelState B)
     → HasGone means through k conn r outcome m → IsSound (fine_of means m)
 gone-sound {B} means through k conn r outcome m gone =
-    subst IsSound (sym gone.after) (by outcome gone.to) where
+    subst IsSound (sym gone.after) (by outcome gone.to gone.few) where
       f : FineState
       f = fine_of means k
 
@@ -222,13 +224,14 @@ gone-sound {B} means through k conn r outcome m gone =
           subst IsSound (behind-own f polls.behind conn k.moment u moves gone.goes.own polls.runs_to)
           (sound-along (run_events f conn k.moment moves) f polls.behind gone.goes.sound polls.runs_to)
 
-      parted : turn_stand f u (u.moves ++ moves) ≡ Part → IsSound (moved_on f u moves)
-      parted part = along_polls _ _ (broken_law-holds f conn k.moment gone.asked u r.turn.task moves gone.goes (part-before f u moves gone.from part) part)
+      parted : turn_stand f u (u.moves ++ moves) ≡ Part → length moves < SLICE_MAX → IsSound (moved_on f u moves)
+      parted part few = along_polls _ _ (broken_law-holds f conn k.moment gone.asked u r.turn.task moves gone.goes (part-before f u moves gone.from part) part few)
 
-      by : (o : Outcome) → turn_stand f u (u.moves ++ moves) ≡ outcome_stand o → IsSound (moved_on f u moves)
-      by went.Finished whole = along_polls _ _ (finished_law-holds f conn k.moment gone.asked u r.turn.task moves false gone.goes gone.from whole refl)
-      by went.Held part = parted part
-      by went.Broken part = parted part
+      by : (o : Outcome) → turn_stand f u (u.moves ++ moves) ≡ outcome_stand o → FitsSlice o (length moves) → IsSound (moved_on f u moves)
+      by went.Finished whole few = along_polls _ _ (finished_law-holds f conn k.moment gone.asked u r.turn.task moves false gone.goes gone.from whole few refl)
+      by went.Held part few = parted part few
+      by went.Broken part few = parted part few
+      by went.Slice part full = along_polls _ _ (sliced_law-holds f conn k.moment gone.asked u r.turn.task moves gone.goes (part-before f u moves gone.from part) part full)
 
 -- what the core keeps at each moment it keeps there
 pub gone-holds : {B : Type 0} (means : B → Means) (through : B → Step → B → Type 0) (k : KernelState B) (conn : ℕ) (r : Running) (outcome : Outcome) (m : KernelState B)
@@ -372,7 +375,7 @@ gone-finished {B} means through srq ndac k conn r s m new ended holds gone runni
     ∙ ap (λ made. Answered ran.Finished (level r.turn.task) (told r.turn.task f.before made)) gone.made in
     gone-ends means through srq ndac k conn r went.Finished m new ended ran.Finished (level r.turn.task) (told r.turn.task f.before (k.made ++ moves)) holds gone kept
     (λ slot. refl) (ap (λ job. level_of job (srq m.bus) (ndac m.bus)) (sym gone.goes.has_job))
-    (finished_law-holds f conn k.moment p u r.turn.task moves (level r.turn.task) gone.goes gone.from gone.to (told-fits r.turn.task (srq m.bus) (ndac m.bus)))
+    (finished_law-holds f conn k.moment p u r.turn.task moves (level r.turn.task) gone.goes gone.from gone.to gone.few (told-fits r.turn.task (srq m.bus) (ndac m.bus)))
     shown within
 
 -- what a stop tells, of the transfers of the turn
@@ -396,7 +399,7 @@ gone-broken {B} means through srq ndac k conn r m new ended holds gone kept repl
     let moves : List Transfer = (means m.bus).moves in
     gone-ends means through srq ndac k conn r went.Broken m new ended ran.Broken false (stopped_reply gone.asked.call code.BusFault (k.made ++ moves)) holds gone
     (room-kept m new conn kept) (refuses ran.Broken) refl
-    (broken_law-holds f conn k.moment gone.asked u r.turn.task moves gone.goes (part-before f u moves gone.from gone.to) gone.to)
+    (broken_law-holds f conn k.moment gone.asked u r.turn.task moves gone.goes (part-before f u moves gone.from gone.to) gone.to gone.few)
     (reply gone.asked (gone-at means through k conn r went.Broken m gone) ∙ ap (Answered ran.Broken false) (stop-told means through k conn r went.Broken m code.BusFault gone))
     within where
       refuses : (r : Ran) (slot : Option Slot) → refused_steps went.Broken slot ≡ refused_ask ran.Broken slot
@@ -426,7 +429,7 @@ gone-timeout {B} means through srq ndac k conn r s m new ended holds gone runnin
     ∙ ap (λ n. has_passed (io_timeout_of gone.asked.call) n m.moment) (sym (gone.task s running).1) ∙ late gone.asked at in
     gone-ends means through srq ndac k conn r went.Held m new ended ran.Paused false (stopped_reply gone.asked.call code.Timeout (k.made ++ moves)) holds gone
     (room-kept m new conn kept) held-refuses refl
-    (timeout_law-holds f conn k.moment gone.asked u r.turn.task moves gone.goes (part-before f u moves gone.from gone.to) gone.to over_time)
+    (timeout_law-holds f conn k.moment gone.asked u r.turn.task moves gone.goes (part-before f u moves gone.from gone.to) gone.to gone.few over_time)
     (reply gone.asked at ∙ ap (Answered ran.Paused false) (stop-told means through k conn r went.Held m code.Timeout gone))
     within
 
@@ -445,7 +448,7 @@ gone-held {B} means through srq ndac k conn r s m holds gone running late =
     ∙ ap (λ n. has_passed (io_timeout_of gone.asked.call) n m.moment) (sym (gone.task s running).1) ∙ late gone.asked at in
     let polls : Polls f conn k.moment moves (Waited why.Held) (fine_of means m) =
     subst (Polls f conn k.moment moves (Waited why.Held)) (sym gone.after)
-    (held_law-holds f conn k.moment gone.asked u r.turn.task moves gone.goes (part-before f u moves gone.from gone.to) gone.to in_time) in
+    (held_law-holds f conn k.moment gone.asked u r.turn.task moves gone.goes (part-before f u moves gone.from gone.to) gone.to gone.few in_time) in
     record {
       keeps = record {
         holds = gone-holds means through k conn r went.Held m holds gone;
@@ -454,4 +457,28 @@ gone-held {B} means through srq ndac k conn r s m holds gone running late =
       moment = gone.moment;
       within = omega arith;
       over = gone-over means through srq ndac k conn r went.Held m (Waited why.Held) (fine_of means m) gone held-refuses tt polls;
+    }
+
+-- a full slice: the bus was asked for its transfers alone
+slice-refuses : (slot : Option Slot) → refused_steps went.Slice slot ≡ refused_ask ran.Sliced slot
+slice-refuses None = refl
+slice-refuses (Some slot) = refl
+
+pub gone-sliced : {B : Type 0} (means : B → Means) (through : B → Step → B → Type 0) (srq ndac : B → Bool) (k : KernelState B) (conn : ℕ) (r : Running)
+    (m : KernelState B) → Holds means k → (gone : HasGone means through k conn r went.Slice m) → EndsFrom means through srq ndac k conn (ended.Waited why.Slice) m
+gone-sliced {B} means through srq ndac k conn r m holds gone =
+    let f : FineState = fine_of means k in
+    let u : Turn = turn_by k r in
+    let moves : List Transfer = (means m.bus).moves in
+    let polls : Polls f conn k.moment moves (Waited why.Slice) (fine_of means m) =
+    subst (Polls f conn k.moment moves (Waited why.Slice)) (sym gone.after)
+    (sliced_law-holds f conn k.moment gone.asked u r.turn.task moves gone.goes (part-before f u moves gone.from gone.to) gone.to gone.few) in
+    record {
+      keeps = record {
+        holds = gone-holds means through k conn r went.Slice m holds gone;
+        is_part = gone-stands means through k conn r went.Slice m gone;
+      };
+      moment = gone.moment;
+      within = omega arith;
+      over = gone-over means through srq ndac k conn r went.Slice m (Waited why.Slice) (fine_of means m) gone slice-refuses tt polls;
     }

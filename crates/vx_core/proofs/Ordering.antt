@@ -297,6 +297,7 @@ begins-over {B} means through srq ndac f g h bus after conn now ending late tabl
             ∙ sym never
             ∙ o.polls.runs_to;
         ran = o.polls.ran;
+        few = o.polls.few;
         ends_by = o.polls.ends_by;
         last = o.polls.last;
         ended = o.polls.ended;

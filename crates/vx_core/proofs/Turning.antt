@@ -214,6 +214,7 @@ stands-on : (outcome : Went) (left : Plan) → stand_of (Some left) ≡ outcome_
 stands-on went.Finished left e = λ off. cc
 stands-on went.Held left e = λ off. cc
 stands-on went.Broken left e = λ off. cc
+stands-on went.Slice left e = λ off. cc
 
 pub few-made : {B : Type 0} (means : B → Means) (through : B → Step → B → Type 0) (turn : TurnState) (w : Wire) (bytes : List ℕ) (made moves : List Transfer)
     (outcome : Went) (bus after : B) → BoundLaw → length bytes ≤ WRITE_MAX → Goes means through turn w bytes made moves outcome bus after

@@ -3,9 +3,8 @@ use Rattle.std.specs.Prelude.{◌≡◌, ◌≤◌, ℕ, max, Bool, [], ◌∷�
 use Rattle.std.specs.Borrow.{MutBor, Fml}
 use denote.RattleType.{RattleType}
 use Rattle.std.specs.Io.BufRead.{Rests}
-use Rattle.vx_calls.specs.declared.limits.TheConstants.{READ_MAX}
+use Rattle.vx_calls.specs.declared.limits.TheConstants.{READ_MAX, SLICE_MAX}
 use Rattle.vx_calls.specs.Reply.{reply_shown}
-use Rattle.vx_plan.specs.declared.tasks.TheConstants.{TURN_MAX}
 use Rattle.vx_bus_traits.specs.Means.{Means}
 use Rattle.vx_bus_traits.specs.Steps.{Step, Told, Cut}
 use Rattle.vx_bus_traits.specs.declared.bus.Bus.{Ghosts}
@@ -37,8 +36,8 @@ pub record PollLeaves {B : Type 0} (means : B → Means) (through : B → Step �
   pub shows : Shows result ending
   -- it began its call's turn where none was under way and the call's might begin
   pub began : new.began ≡ begins old.fine conn (max old.fine.state.moment now)
-  -- no more transfers than a turn may make
-  pub few : length (means new.bus).moves ≤ TURN_MAX
+  -- no more transfers than a slice may have
+  pub few : length (means new.bus).moves ≤ SLICE_MAX
   pub over : PollsOver means through srq ndac old.fine old.bus conn (max old.fine.state.moment now) (Cut ∷ Told (max old.fine.state.moment now) ∷ [])
       ending new.fine new.bus
 

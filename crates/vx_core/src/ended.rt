@@ -30,7 +30,7 @@ impl Ended {
                 ..
             } => false,
             Ended::Answered { .. } => true,
-            Ended::Waited(Why::Held) => true,
+            Ended::Waited(Why::Held | Why::Slice) => true,
             Ended::Waited(_) => false,
             Ended::Dialed { .. } => false,
         }

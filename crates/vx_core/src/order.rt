@@ -99,5 +99,6 @@ fn go<B: Bus>(kernel: &mut Kernel<B>, conn: u32) -> Ended
             kernel.stop(conn, Ran::Paused, ErrorCode::Timeout)
         }
         Went::Held => Ended::Waited(Why::Held),
+        Went::Slice => Ended::Waited(Why::Slice),
     }
 }

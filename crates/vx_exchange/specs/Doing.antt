@@ -1,11 +1,11 @@
 -- What the calls of an exchange do to a core, and what they say of it.
 use Rattle.std.specs.Prelude.{◌≡◌, ◌≤◌, ℕ, Bool, false, List, [], ◌∷◌, length, Some, None, option_map, if◌then◌else◌}
+use Rattle.vx_calls.specs.declared.limits.TheConstants.{SLICE_MAX}
 use Rattle.vx_calls.specs.declared.codes.ErrorCode.{ErrorCode}
 use Rattle.vx_calls.specs.declared.codes.ErrorCode.TheVariants as code
 use Rattle.vx_calls.specs.Call.{Call}
 use Rattle.vx_calls.specs.Reply.{Reply}
 use Rattle.vx_calls.specs.Reply as reply
-use Rattle.vx_plan.specs.declared.tasks.TheConstants.{TURN_MAX}
 use Rattle.vx_bus_traits.specs.Steps.{Told, Cut}
 use Rattle.vx_bus_traits.specs.Walks.{Walk}
 use Rattle.vx_bus_traits.specs.declared.bus.Bus.{Ghosts}
@@ -45,7 +45,7 @@ pub record Polled {B : Type 0} (g : Ghosts B) (before : CoreState B) (conn now x
   pub last : after.last ≡ Some ending
   pub says : Says xid room end ending
   pub began : after.began ≡ begins before.fine conn now
-  pub few : length (g.means after.bus).moves ≤ TURN_MAX
+  pub few : length (g.means after.bus).moves ≤ SLICE_MAX
   pub over : PollsOver g.means g.through g.srq_level g.ndac_level before.fine before.bus conn now (Cut ∷ Told now ∷ []) ending after.fine after.bus
 
 -- A call came on a connection at this moment, and was polled.

@@ -1,5 +1,6 @@
 -- A poll of a call that has no answer yet: which events it makes, and when it may end without an answer.
-use Rattle.std.specs.Prelude.{◌≡◌, ◌≤◌, ℕ, Bool, true, false, ◌&&◌, if◌then◌else◌, List, [], ◌∷◌, ◌++◌, Some, None, is_none, is_some}
+use Rattle.std.specs.Prelude.{◌≡◌, ◌≤◌, ◌<◌, ℕ, Bool, true, false, ◌&&◌, if◌then◌else◌, List, [], ◌∷◌, ◌++◌, length, Some, None, is_none, is_some}
+use Rattle.vx_calls.specs.declared.limits.TheConstants.{SLICE_MAX}
 use Rattle.vx_calls.specs.Reply.{Reply}
 use Rattle.vx_488.specs.declared.transfers.Transfer.{Transfer}
 use Rattle.vx_plan.specs.Plan.{Whole, Part}
@@ -67,14 +68,22 @@ RanTo f conn now p moves ran.Still = (runs f conn now p ≡ false) × (moves ≡
 RanTo f conn now p moves ran.Finished = (runs f conn now p ≡ true) × ((u : Turn) → turn_of f.turn conn ≡ Some u → turn_stand f u u.moves ≡ Whole)
 RanTo f conn now p moves _ = (runs f conn now p ≡ true) × ((u : Turn) → turn_of f.turn conn ≡ Some u → turn_stand f u u.moves ≡ Part)
 
+-- A poll makes at most so many transfers. Where the slice is full, and the turn isn't whole, it ends there: it made exactly so
+-- many. Where the bus held or failed, it made fewer.
+abbrev pub FitsSlice : Ran → ℕ → Type 0
+FitsSlice ran.Sliced moved = moved ≡ SLICE_MAX
+FitsSlice ran.Finished moved = moved ≤ SLICE_MAX
+FitsSlice _ moved = moved < SLICE_MAX
+
 -- whether a poll that went so far went on with the turn
 abbrev pub is_run : Ran → Bool
 is_run ran.Still = false
 is_run _ = true
 
--- how far a poll went on with the turn whose call waits by this cause: as far as the bus held, or not at all
+-- how far a poll went on with the turn whose call waits by this cause: until the bus held, or the slice was full, or not at all
 abbrev pub ran_before : Why → Ran
 ran_before why.Held = ran.Paused
+ran_before why.Slice = ran.Sliced
 ran_before _ = ran.Still
 
 -- how far a poll that ends so went on with the turn
@@ -84,7 +93,8 @@ ran_of (Waited w) = ran_before w
 ran_of (Dialed host port) = ran.Still
 
 -- Why a poll may end without an answer, in the state behind its transfers: a lock that the call waits for keeps it off; it
--- waits for another connection's turn; or its own turn is held, and its time hasn't passed.
+-- waits for another connection's turn; its own turn is held, and its time hasn't passed; or its own turn has a full slice,
+-- whatever its time.
 abbrev pub NotYet : FineState → ℕ → ℕ → Pending → Why → Type 0
 NotYet f conn now p (why.Locked link) = lines_at f conn now p ≡ Waiting link
 NotYet f conn now p (why.Turn other) =
@@ -92,10 +102,16 @@ NotYet f conn now p (why.Turn other) =
     × (u : Turn) × (f.turn ≡ Some u) × (u.connection ≡ other) × (waits_for f.state.tables (wire_for f conn).own conn p u ≡ true)
 NotYet f conn now p why.Held =
     (lines_at f conn now p ≡ Passed) × (u : Turn) × (turn_of f.turn conn ≡ Some u) × (has_passed (io_timeout_of p.call) u.begun now ≡ false)
+NotYet f conn now p why.Slice = (lines_at f conn now p ≡ Passed) × (u : Turn) × (turn_of f.turn conn ≡ Some u)
 
--- what an ending asks of the call
+-- whether a poll that went so far has a full slice and more to do
+abbrev pub is_sliced : Ran → Bool
+is_sliced ran.Sliced = true
+is_sliced _ = false
+
+-- what an ending asks of the call: behind a full slice, say, it isn't answered yet, though its time has passed
 abbrev pub EndsBy : FineState → ℕ → ℕ → Pending → Ending → Type 0
-EndsBy f conn now p (Answered ran level reply) = Unit {0}
+EndsBy f conn now p (Answered ran level reply) = is_sliced ran ≡ false
 EndsBy f conn now p (Waited why) = NotYet f conn now p why
 EndsBy f conn now p (Dialed host port) = dials_to p.call ≡ (host, port)
 
@@ -108,6 +124,7 @@ pub record Polls (old : FineState) (conn now : ℕ) (moves : List Transfer) (end
   pub behind : FineState
   pub runs_to : along fine (Some old) (run_events old conn now moves) ≡ Some behind
   pub ran : RanTo behind conn now asked moves (ran_of ending)
+  pub few : FitsSlice (ran_of ending) (length moves)
   pub ends_by : EndsBy behind conn now asked ending
   pub last : FineState
   pub ended : along fine (Some behind) (end_events conn now ending) ≡ Some last

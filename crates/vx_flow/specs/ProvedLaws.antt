@@ -46,7 +46,7 @@ pub use Rattle.vx_flow.specs.ProvedLaws.Whom.{just-front}
 pub use Rattle.vx_flow.specs.ProvedLaws.Plain.{OwnHas, own-after}
 -- the ways in which a poll ends
 pub use Rattle.vx_flow.specs.ProvedLaws.Ways.{refused_law-holds, waits_law-holds, no_role_law-holds, effect_law-holds, dial_law-holds}
-pub use Rattle.vx_flow.specs.ProvedLaws.Ways.{finished_law-holds, broken_law-holds, timeout_law-holds, held_law-holds, begun_law-holds, begins_law-holds, not_yet-at}
+pub use Rattle.vx_flow.specs.ProvedLaws.Ways.{finished_law-holds, broken_law-holds, timeout_law-holds, held_law-holds, sliced_law-holds, begun_law-holds, begins_law-holds, not_yet-at}
 -- which channel a connection has behind each change of the state of service requests
 pub use Rattle.vx_flow.specs.ProvedLaws.Interrupts.{channel_of, channel-risen, channel-up, channel-down, channel-put, channel-taken}
 -- an answer in a history of one thread, in its parts

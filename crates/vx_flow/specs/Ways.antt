@@ -1,5 +1,6 @@
 -- The ways in which a poll ends, each with the state that it leads to.
-use Rattle.std.specs.Prelude.{◌≡◌, ◌≤◌, ℕ, Bool, true, false, ◌||◌, List, [], ◌∷◌, ◌++◌, Option, Some, None, ◌⊎◌}
+use Rattle.std.specs.Prelude.{◌≡◌, ◌≤◌, ◌<◌, ℕ, Bool, true, false, ◌||◌, List, [], ◌∷◌, ◌++◌, length, Option, Some, None, ◌⊎◌}
+use Rattle.vx_calls.specs.declared.limits.TheConstants.{SLICE_MAX}
 use Rattle.vx_calls.specs.declared.codes.ErrorCode.{ErrorCode}
 use Rattle.vx_calls.specs.declared.codes.ErrorCode.TheVariants as code
 use Rattle.vx_calls.specs.Reply.{Reply}
@@ -99,30 +100,36 @@ pub record GoesOnBy (f : FineState) (conn now : ℕ) (p : Pending) (u : Turn) (j
   pub of_call : u.connection ≡ conn
   pub has_job : job_of f.state.tables conn p ≡ Some job
 
--- it is whole then
+-- it is whole then, at the last transfer of a slice or before
 abbrev pub FinishedLaw : Type 0
 FinishedLaw = (f : FineState) (conn now : ℕ) (p : Pending) (u : Turn) (job : Task) (moves : List Transfer) (level : Bool) → GoesOnBy f conn now p u job
-    → turn_stand f u u.moves ≡ Part ⊎ moves ≡ [] → turn_stand f u (u.moves ++ moves) ≡ Whole → level_fits job level ≡ true
+    → turn_stand f u u.moves ≡ Part ⊎ moves ≡ [] → turn_stand f u (u.moves ++ moves) ≡ Whole → length moves ≤ SLICE_MAX → level_fits job level ≡ true
     → Polls f conn now moves (Answered ran.Finished level (whole_reply job (bytes_of p.call) f.before (is_big p.call) level (u.moves ++ moves)))
     (over (moved_on f u moves) conn now f.state.tables)
 
 -- the bus failed
 abbrev pub BrokenLaw : Type 0
 BrokenLaw = (f : FineState) (conn now : ℕ) (p : Pending) (u : Turn) (job : Task) (moves : List Transfer) → GoesOnBy f conn now p u job
-    → turn_stand f u u.moves ≡ Part → turn_stand f u (u.moves ++ moves) ≡ Part
+    → turn_stand f u u.moves ≡ Part → turn_stand f u (u.moves ++ moves) ≡ Part → length moves < SLICE_MAX
     → Polls f conn now moves (Answered ran.Broken false (stopped_reply p.call code.BusFault (u.moves ++ moves))) (over (moved_on f u moves) conn now f.state.tables)
 
 -- the bus held, and the turn's time has passed
 abbrev pub TimeoutLaw : Type 0
 TimeoutLaw = (f : FineState) (conn now : ℕ) (p : Pending) (u : Turn) (job : Task) (moves : List Transfer) → GoesOnBy f conn now p u job
-    → turn_stand f u u.moves ≡ Part → turn_stand f u (u.moves ++ moves) ≡ Part → has_passed (io_timeout_of p.call) u.begun now ≡ true
+    → turn_stand f u u.moves ≡ Part → turn_stand f u (u.moves ++ moves) ≡ Part → length moves < SLICE_MAX → has_passed (io_timeout_of p.call) u.begun now ≡ true
     → Polls f conn now moves (Answered ran.Paused false (stopped_reply p.call code.Timeout (u.moves ++ moves))) (over (moved_on f u moves) conn now f.state.tables)
 
 -- the bus held, and it hasn't
 abbrev pub HeldLaw : Type 0
 HeldLaw = (f : FineState) (conn now : ℕ) (p : Pending) (u : Turn) (job : Task) (moves : List Transfer) → GoesOnBy f conn now p u job
-    → turn_stand f u u.moves ≡ Part → turn_stand f u (u.moves ++ moves) ≡ Part → has_passed (io_timeout_of p.call) u.begun now ≡ false
+    → turn_stand f u u.moves ≡ Part → turn_stand f u (u.moves ++ moves) ≡ Part → length moves < SLICE_MAX → has_passed (io_timeout_of p.call) u.begun now ≡ false
     → Polls f conn now moves (Waited why.Held) (at_moment (moved_on f u moves) now)
+
+-- the slice is full, whatever the turn's time
+abbrev pub SlicedLaw : Type 0
+SlicedLaw = (f : FineState) (conn now : ℕ) (p : Pending) (u : Turn) (job : Task) (moves : List Transfer) → GoesOnBy f conn now p u job
+    → turn_stand f u u.moves ≡ Part → turn_stand f u (u.moves ++ moves) ≡ Part → length moves ≡ SLICE_MAX
+    → Polls f conn now moves (Waited why.Slice) (at_moment (moved_on f u moves) now)
 
 -- the call's turn begins, where the gateway has the role that its job needs
 abbrev pub BegunLaw : Type 0

@@ -1,6 +1,6 @@
 //! Laws of interleaved events. These functions do nothing: their contracts are what they are for, and a caller that cites
 //! a law calls its function.
-ghost use Rattle.vx_flow.specs.Ways.{RefusedLaw, WaitsLaw, NoRoleLaw, EffectLaw, DialLaw, FinishedLaw, BrokenLaw, TimeoutLaw, HeldLaw, BegunLaw, BeginsLaw};
+ghost use Rattle.vx_flow.specs.Ways.{RefusedLaw, WaitsLaw, NoRoleLaw, EffectLaw, DialLaw, FinishedLaw, BrokenLaw, TimeoutLaw, HeldLaw, SlicedLaw, BegunLaw, BeginsLaw};
 ghost use Rattle.vx_flow.specs.Laws.{GatherLaw, HeardLaw, HeardOnInterfaceLaw, EntriesFreeLaw, MovesFreelyLaw, ClosedLaw, QueuedLaw, FirstSoundLaw, StaysSoundLaw, LaterSoundLaw, CallStaysLaw, TurnFreeLaw, EarlierLaw};
 ghost use Rattle.vx_flow.specs.Headline.{HeadlineLaw};
 ghost use Rattle.vx_flow.specs.Does.{DoesLaw};
@@ -81,7 +81,7 @@ pub fn earlier_law()
 
 /// The ways in which a poll ends, line by line of the order of answers, each with the state that it leads to: a refusal, a
 /// lock or a turn that the call waits for, a bus that the gateway has no role on, an effect, a dial; and where the call's own
-/// turn goes on, or begins: it is whole, the bus fails, or holds, with its time passed or not.
+/// turn goes on, or begins: it is whole, the bus fails, or holds, with its time passed or not, or the slice is full.
 pub fn poll_ways()
     ensures refused { RefusedLaw }
     ensures waits { WaitsLaw }
@@ -92,6 +92,7 @@ pub fn poll_ways()
     ensures broken { BrokenLaw }
     ensures timeout { TimeoutLaw }
     ensures held { HeldLaw }
+    ensures sliced { SlicedLaw }
     ensures begun { BegunLaw }
     ensures begins { BeginsLaw }
 {}

@@ -11,6 +11,8 @@ pub enum Ran {
     Paused,
     /// Until the bus failed.
     Broken,
+    /// Until it had made as many transfers as one poll may.
+    Sliced,
 }
 
 /// Why a call isn't answered yet.
@@ -22,4 +24,6 @@ pub enum Why {
     Turn { by: u32 },
     /// The bus held.
     Held,
+    /// The poll made as many transfers as one may, and the turn isn't done. It waits for nobody.
+    Slice,
 }

@@ -14,6 +14,8 @@ mod session_crossed;
 #[cfg(test)]
 mod session_tests;
 #[cfg(test)]
+mod slice_tests;
+#[cfg(test)]
 mod told_tests;
 #[cfg(test)]
 mod turns_tests;

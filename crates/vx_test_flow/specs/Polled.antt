@@ -1,11 +1,15 @@
--- Polls behind a list: which events they make, and why they may end without an answer.
+-- Polls behind a list: which events they make, why they may end without an answer, and how many transfers they make.
 use Rattle.std.specs.Prelude.{◌≡◌, ℕ, true, false, List, [], ◌∷◌, Option, Some, None}
+use Rattle.vx_calls.specs.declared.codes.ErrorCode.TheVariants as code
+use Rattle.vx_calls.specs.Reply.{Reply}
+use Rattle.vx_calls.specs.Reply as reply
 use Rattle.vx_488.specs.declared.transfers.Transfer.{Transfer}
 use Rattle.vx_488.specs.declared.transfers.Transfer.TheVariants.{Put}
 use Rattle.vx_rules.specs.State.{Pending, pending_at}
 use Rattle.vx_flow.specs.Event.{Event, Begin, Move}
 use Rattle.vx_flow.specs.FineState.{FineState}
-use Rattle.vx_flow.specs.Poll.{NotYet, run_events}
+use Rattle.vx_flow.specs.Poll.{Ending, Answered, Waited, EndsBy, FitsSlice, run_events}
+use Rattle.vx_flow.specs.declared.progress.Ran.TheVariants as ran
 use Rattle.vx_flow.specs.declared.progress.Why.{Why}
 use Rattle.vx_flow.specs.declared.progress.Why.TheVariants as why
 use Rattle.vx_flow.specs.Laws.{fine_along}
@@ -18,17 +22,25 @@ use Rattle.vx_test_flow.specs.Locks.{kept_off}
 abbrev pub polled : ℕ → ℕ → List Transfer → List Event → Option (List Event)
 polled conn now moves es = part (λ f. run_events f conn now moves) es
 
--- behind these events a poll of the connection's call may end without an answer, for this cause
-abbrev pub WaitsOn : FineState → ℕ → ℕ → Why → Option Pending → Type 0
-WaitsOn f conn now why None = ⊥
-WaitsOn f conn now why (Some p) = NotYet f conn now p why
+-- behind these events a poll of the connection's call may end so
+abbrev pub EndsOn : FineState → ℕ → ℕ → Ending → Option Pending → Type 0
+EndsOn f conn now ending None = ⊥
+EndsOn f conn now ending (Some p) = EndsBy f conn now p ending
 
-abbrev pub WaitsIn : ℕ → ℕ → Why → Option FineState → Type 0
-WaitsIn conn now why None = ⊥
-WaitsIn conn now why (Some f) = WaitsOn f conn now why (pending_at f.state.tables conn)
+abbrev pub EndsIn : ℕ → ℕ → Ending → Option FineState → Type 0
+EndsIn conn now ending None = ⊥
+EndsIn conn now ending (Some f) = EndsOn f conn now ending (pending_at f.state.tables conn)
 
+abbrev pub Ends : ℕ → ℕ → Ending → List Event → Type 0
+Ends conn now ending es = EndsIn conn now ending (fine_along 9011 es)
+
+-- without an answer, for this cause
 abbrev pub Waits : ℕ → ℕ → Why → List Event → Type 0
-Waits conn now why es = WaitsIn conn now why (fine_along 9011 es)
+Waits conn now why es = Ends conn now (Waited why) es
+
+-- the answer that a write is too late, behind its first byte
+abbrev pub too_late : Reply
+too_late = reply.Write code.Timeout 1
 
 pub record PollsMakeEvents : Type 0 where
   -- the first poll begins the turn, whether the bus lets a transfer through or not
@@ -50,3 +62,31 @@ pub record PollsWait : Type 0 where
   -- for the link that holds the lock, until the lock's deadline
   pub locked : Waits 1 519 (why.Locked 2) (first 11 kept_off)
   pub deadline : Waits 1 520 (why.Locked 2) (first 11 kept_off) → ⊥
+  -- for nobody where its own turn has a full slice, before that time has passed and behind it
+  pub slice_in_time : Waits 1 124 why.Slice (first 6 held)
+  pub slice_late : Waits 1 125 why.Slice (first 6 held)
+  pub slice_later : Waits 1 100000 why.Slice (first 6 held)
+  -- it isn't answered then, as it is where the bus held
+  pub slice_answered : Ends 1 125 (Answered ran.Sliced false too_late) (first 6 held) → ⊥
+  pub held_answered : Ends 1 125 (Answered ran.Paused false too_late) (first 6 held)
+  -- in the turn of the other connection, behind that, and before its own begins, it has no slice
+  pub slice_of_other : Waits 2 23 why.Slice (first 11 shared) → ⊥
+  pub slice_behind : Waits 2 24 why.Slice (first 13 shared) → ⊥
+  pub slice_unbegun : Waits 1 22 why.Slice (first 8 shared) → ⊥
+  -- and under a lock none
+  pub slice_locked : Waits 1 30 why.Slice (first 11 kept_off) → ⊥
+
+-- a poll makes 256 transfers at most, and so many exactly where it ends as its slice is full
+pub record SlicesFit : Type 0 where
+  pub full : FitsSlice ran.Sliced 256
+  pub not_full : FitsSlice ran.Sliced 255 → ⊥
+  pub too_full : FitsSlice ran.Sliced 257 → ⊥
+  -- it ends there, and asks the bus for no more that could be held or fail
+  pub held : FitsSlice ran.Paused 255
+  pub held_behind : FitsSlice ran.Paused 256 → ⊥
+  pub failed : FitsSlice ran.Broken 255
+  pub failed_behind : FitsSlice ran.Broken 256 → ⊥
+  -- but a turn that is whole then is finished
+  pub whole : FitsSlice ran.Finished 256
+  pub whole_early : FitsSlice ran.Finished 1
+  pub whole_behind : FitsSlice ran.Finished 257 → ⊥

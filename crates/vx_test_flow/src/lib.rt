@@ -7,7 +7,7 @@ ghost use Rattle.vx_test_flow.specs.Turns.{OneTurnAtATime, EachTurnGathers};
 ghost use Rattle.vx_test_flow.specs.Ends.{ConnectionsGo, CallsAreAborted, TurnsStop};
 ghost use Rattle.vx_test_flow.specs.Locks.{LocksBesideATurn, LocksWait, LocksKeepOff};
 ghost use Rattle.vx_test_flow.specs.Interrupts.{EachAnswerHasItsDial, EachRiseQueuesOne};
-ghost use Rattle.vx_test_flow.specs.Polled.{PollsMakeEvents, PollsWait};
+ghost use Rattle.vx_test_flow.specs.Polled.{PollsMakeEvents, PollsWait, SlicesFit};
 ghost use Rattle.vx_test_flow.specs.Claims.{ClaimsTell};
 ghost use Rattle.vx_test_flow.specs.Arrivals.{CallsStandInLine};
 
@@ -39,10 +39,11 @@ pub fn interrupts()
     ensures rises { EachRiseQueuesOne }
 {}
 
-/// What polls make, and why they wait.
+/// What polls make, why they wait, and how many transfers they make.
 pub fn polls()
     ensures events { PollsMakeEvents }
     ensures waits { PollsWait }
+    ensures slices { SlicesFit }
 {}
 
 /// Calls without an answer stand in order of their arrival.

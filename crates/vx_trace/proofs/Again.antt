@@ -9,7 +9,7 @@ use Rattle.std.specs.Str.{bytes_eq}
 use Rattle.hex.specs.Hex.{encode_upper}
 use Rattle.vx_488.specs.declared.transfers.Transfer.{Transfer}
 use Rattle.vx_488.specs.declared.transfers.Transfer.TheVariants.{Cmd, Put, Got, Ren, Atn, Ifc, Own}
-use Rattle.vx_trace.specs.Output.{Output, Bus, Out, Irq, IrqNone, IrqClosed, WaitLock, WaitTurn, WaitHeld, WaitDial, GoneDown, GoneJunk, GoneLong, Done, FaultLine, FaultLong, Usage}
+use Rattle.vx_trace.specs.Output.{Output, Bus, Out, Irq, IrqNone, IrqClosed, WaitLock, WaitTurn, WaitHeld, WaitSlice, WaitDial, GoneDown, GoneJunk, GoneLong, Done, FaultLine, FaultLong, Usage}
 use Rattle.vx_trace.specs.Text.{transfer_text, moves_text, line_text, IsByteTransfer, IsLine, is_cause}
 use Rattle.vx_trace.specs.Reading.{cut, is_lower_digit, number_of, of_letter, lettered, transfer_of, with_transfer, moves_of, irq_of, wait_of, by_word, fault_of, behind_word, line_of, without_end, reading}
 use Rattle.vx_trace.proofs.Hexadecimal.{all-bytes, upper-plain, upper-lower, bytes-again, byte-again}
@@ -159,6 +159,7 @@ reading-again (WaitTurn conn by) h =
     told-again (codes "wait") conn (codes "turn " ++ decimal by) _ _ refl h.1.0 (λ r. refl) (turn-again conn by h.1.1)
     (ap (λ (r : List ℕ). (codes "wait" ++ 32 ∷ r) ++ codes "\n") (append_assoc (decimal conn) (codes " turn ") (decimal by)))
 reading-again (WaitHeld conn) h = told-again (codes "wait") conn (codes "held") _ _ refl h.1 (λ r. refl) refl (joined (codes "wait") conn (codes "held"))
+reading-again (WaitSlice conn) h = told-again (codes "wait") conn (codes "slice") _ _ refl h.1 (λ r. refl) refl (joined (codes "wait") conn (codes "slice"))
 reading-again (WaitDial conn) h = told-again (codes "wait") conn (codes "dial") _ _ refl h.1 (λ r. refl) refl (joined (codes "wait") conn (codes "dial"))
 reading-again (GoneDown conn) h = told-again (codes "gone") conn (codes "down") _ _ refl h.1 (λ r. refl) refl (joined (codes "gone") conn (codes "down"))
 reading-again (GoneJunk conn) h = told-again (codes "gone") conn (codes "junk") _ _ refl h.1 (λ r. refl) refl (joined (codes "gone") conn (codes "junk"))

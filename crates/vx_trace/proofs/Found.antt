@@ -9,7 +9,7 @@ use Rattle.std.proofs.lemmas.Option.{same_Some}
 use Rattle.hex.specs.Hex.{encode_upper}
 use Rattle.vx_488.specs.declared.transfers.Transfer.{Transfer}
 use Rattle.vx_488.specs.declared.transfers.Transfer.TheVariants.{Cmd, Put, Got, Ren, Atn, Ifc, Own}
-use Rattle.vx_trace.specs.Output.{Output, Bus, Out, Irq, IrqNone, IrqClosed, WaitLock, WaitTurn, WaitHeld, WaitDial, GoneDown, GoneJunk, GoneLong, Done, FaultLine, FaultLong, Usage}
+use Rattle.vx_trace.specs.Output.{Output, Bus, Out, Irq, IrqNone, IrqClosed, WaitLock, WaitTurn, WaitHeld, WaitSlice, WaitDial, GoneDown, GoneJunk, GoneLong, Done, FaultLine, FaultLong, Usage}
 use Rattle.vx_trace.specs.Text.{transfer_text, moves_text, line_text, IsByteTransfer, IsLine, is_cause}
 use Rattle.vx_trace.specs.Reading.{cut, number_of, byte_of, bytes_of, of_letter, lettered, transfer_of, with_transfer, all_transfers, moves_of, irq_of, wait_for, wait_of, gone_of, by_word, fault_for, fault_of, behind_word, line_of, without_end, reading}
 use Rattle.vx_trace.proofs.Hexadecimal.{bytes-all, bytes-read, byte-read}
@@ -176,12 +176,13 @@ wait_for-read conn n what rest line small less parts e =
 wait-read : (conn : ℕ) (rest : List ℕ) (line : Output) → conn < 2 ^ 32 → wait_of conn rest ≡ Some line → LineRead (codes "wait" ++ 32 ∷ (decimal conn ++ 32 ∷ rest)) line
 wait-read conn rest line small e =
     by_text rest (codes "held") (Some (WaitHeld conn)) _ line e (λ w h. told (codes "wait") conn (codes "held") rest (WaitHeld conn) line (tt, small) refl (sym w) h)
+    (λ e. by_text rest (codes "slice") (Some (WaitSlice conn)) _ line e (λ w h. told (codes "wait") conn (codes "slice") rest (WaitSlice conn) line (tt, small) refl (sym w) h)
     (λ e. by_text rest (codes "dial") (Some (WaitDial conn)) _ line e (λ w h. told (codes "wait") conn (codes "dial") rest (WaitDial conn) line (tt, small) refl (sym w) h)
     (λ e. by_then (λ p. option_and_then (λ n. wait_for conn p.0 n) (number_of (2 ^ 32) p.1)) (cut rest) line e (λ p h g.
     by_then (λ n. wait_for conn p.0 n) (number_of (2 ^ 32) p.1) line g (λ n k f.
     let number = number-read (2 ^ 32) p.1 n (omega arith) k in
     let parts = cut-some rest p.0 p.1 h in
-    wait_for-read conn n p.0 rest line small number.0 (parts.joined ∙ ap (λ (r : List ℕ). p.0 ++ 32 ∷ r) (sym number.1)) f))))
+    wait_for-read conn n p.0 rest line small number.0 (parts.joined ∙ ap (λ (r : List ℕ). p.0 ++ 32 ∷ r) (sym number.1)) f)))))
 
 -- the line of a word and a connection
 word-read : (word rest : List ℕ) (conn : ℕ) (line : Output) → conn < 2 ^ 32 → by_word word conn rest ≡ Some line → LineRead (word ++ 32 ∷ (decimal conn ++ 32 ∷ rest)) line

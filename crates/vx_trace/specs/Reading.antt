@@ -7,7 +7,7 @@ use Rattle.std.specs.Str.Parse.{digits_value}
 use Rattle.hex.specs.Hex.{decode_of, decode_sized}
 use Rattle.vx_488.specs.declared.transfers.Transfer.{Transfer}
 use Rattle.vx_488.specs.declared.transfers.Transfer.TheVariants.{Cmd, Put, Got, Ren, Atn, Ifc, Own}
-use Rattle.vx_trace.specs.Output.{Output, Bus, Out, Irq, IrqNone, IrqClosed, WaitLock, WaitTurn, WaitHeld, WaitDial, GoneDown, GoneJunk, GoneLong, Done, FaultLine, FaultLong, Usage}
+use Rattle.vx_trace.specs.Output.{Output, Bus, Out, Irq, IrqNone, IrqClosed, WaitLock, WaitTurn, WaitHeld, WaitSlice, WaitDial, GoneDown, GoneJunk, GoneLong, Done, FaultLine, FaultLong, Usage}
 use Rattle.vx_trace.specs.Text.{is_cause}
 
 -- a text before and behind its place i
@@ -111,6 +111,7 @@ wait_for conn what n =
 abbrev pub wait_of : ℕ → List ℕ → Option Output
 wait_of conn rest =
     if bytes_eq rest (codes "held") then Some (WaitHeld conn)
+    else if bytes_eq rest (codes "slice") then Some (WaitSlice conn)
     else if bytes_eq rest (codes "dial") then Some (WaitDial conn)
     else option_and_then (λ p. option_and_then (λ n. wait_for conn p.0 n) (number_of (2 ^ 32) p.1)) (cut rest)
 

@@ -27,6 +27,8 @@ pub enum Line<'a> {
     WaitTurn { conn: u32, by: u32 },
     /// `wait C held`: the call waits for the bus.
     WaitHeld { conn: u32 },
+    /// `wait C slice`: the call's turn goes on with its next poll.
+    WaitSlice { conn: u32 },
     /// `wait C dial`: the call waits for an interrupt channel to be dialed.
     WaitDial { conn: u32 },
     /// `gone C down`: the connection was taken down.

@@ -280,6 +280,7 @@ fn parts_of<'a>(line: &Line<'a>) -> Parts<'a>
         Line::WaitLock { conn, lid } => Parts::About(b"wait ", conn, b" lock ", Tail::Number(lid)),
         Line::WaitTurn { conn, by } => Parts::About(b"wait ", conn, b" turn ", Tail::Number(by)),
         Line::WaitHeld { conn } => Parts::About(b"wait ", conn, b" ", Tail::Word(b"held")),
+        Line::WaitSlice { conn } => Parts::About(b"wait ", conn, b" ", Tail::Word(b"slice")),
         Line::WaitDial { conn } => Parts::About(b"wait ", conn, b" ", Tail::Word(b"dial")),
         Line::GoneDown { conn } => Parts::About(b"gone ", conn, b" ", Tail::Word(b"down")),
         Line::GoneJunk { conn } => Parts::About(b"gone ", conn, b" ", Tail::Word(b"junk")),

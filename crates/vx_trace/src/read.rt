@@ -41,6 +41,9 @@ fn wait_of(conn: u32, rest: &[u8]) -> Option<Line<'static>>
     if rest == b"held".as_slice() {
         return Some(Line::WaitHeld { conn });
     }
+    if rest == b"slice".as_slice() {
+        return Some(Line::WaitSlice { conn });
+    }
     if rest == b"dial".as_slice() {
         return Some(Line::WaitDial { conn });
     }

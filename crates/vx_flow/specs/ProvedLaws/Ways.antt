@@ -1,5 +1,5 @@
 -- The ways in which a poll ends.
-use Rattle.std.proofs.Common.{◌≡◌, ◌≤◌, ◌==◌, ℕ, Bool, true, false, cond, ◌⊎◌, inl, inr, List, [], ◌∷◌, ◌++◌, append-nil, Option, Some, None, refl, sym, ap, ◌∙◌, subst}
+use Rattle.std.proofs.Common.{◌≡◌, ◌≤◌, ◌<◌, ◌==◌, ℕ, Bool, true, false, cond, ◌⊎◌, inl, inr, List, [], ◌∷◌, ◌++◌, length, append-nil, Option, Some, None, refl, sym, ap, ◌∙◌, subst, arith}
 use Rattle.std.specs.Prelude.{if◌then◌else◌, nat_le, is_none, is_some, not, ◌&&◌, ◌||◌}
 use Rattle.std.specs.Option.{option_map}
 use Rattle.std.specs.List.{list_any}
@@ -7,6 +7,7 @@ use Rattle.std.proofs.lemmas.Bool.{and_from, cond-true, cond-false, le-leb, true
 use Rattle.std.proofs.lemmas.Option.{same_Some}
 use Rattle.std.proofs.Math.Bool.{and-false, or-true}
 use Rattle.vx_lemmas.specs.Conditions.{eqb-self}
+use Rattle.vx_calls.specs.declared.limits.TheConstants.{SLICE_MAX}
 use Rattle.vx_calls.specs.declared.codes.ErrorCode.TheVariants as code
 use Rattle.vx_calls.specs.Reply.{Reply}
 use Rattle.vx_488.specs.declared.transfers.Transfer.{Transfer}
@@ -28,11 +29,11 @@ use Rattle.vx_flow.specs.Event.{Event, Answer, Begin, Move, Dial}
 use Rattle.vx_flow.specs.FineState.{Turn, FineState, turn_of, begun_of, moves_of, turn_after}
 use Rattle.vx_flow.specs.Fine.{comes_in_turn, fine_after, fine_step, fine, passes_lines, outside, wire_for, wire_before, waits_for, waits_for_turn, turn_stand, is_whole, is_answer_of, is_on, is_passed, goes_on, may_begin, may_dial, without_dial, job_of, on_conflict, turn_target}
 use Rattle.vx_flow.specs.Sound.{Stands, TurnStands, IsSound}
-use Rattle.vx_flow.specs.Poll.{Ending, Answered, Waited, NotYet, Polls, begins, run_events, moved_events, end_events, ran_of, EndsBy, lines_at, at_moment, RanTo, runs}
+use Rattle.vx_flow.specs.Poll.{Ending, Answered, Waited, NotYet, Polls, begins, run_events, moved_events, end_events, ran_of, EndsBy, FitsSlice, lines_at, at_moment, RanTo, runs}
 use Rattle.vx_flow.specs.declared.progress.Why.{Why}
 use Rattle.vx_flow.specs.declared.progress.Ran.TheVariants as ran
 use Rattle.vx_flow.specs.declared.progress.Why.TheVariants as why
-use Rattle.vx_flow.specs.Ways.{IsPolled, GoesOnBy, over, moved_on, begun_now, RefusedLaw, WaitsLaw, NoRoleLaw, EffectLaw, DialLaw, FinishedLaw, BrokenLaw, TimeoutLaw, HeldLaw, BegunLaw, BeginsLaw}
+use Rattle.vx_flow.specs.Ways.{IsPolled, GoesOnBy, over, moved_on, begun_now, RefusedLaw, WaitsLaw, NoRoleLaw, EffectLaw, DialLaw, FinishedLaw, BrokenLaw, TimeoutLaw, HeldLaw, SlicedLaw, BegunLaw, BeginsLaw}
 use Rattle.vx_flow.specs.ProvedLaws.Jobs.{job-link, no-dial, own-stays, passes-from}
 use Rattle.vx_flow.specs.ProvedLaws.ByLines.{passed-parts}
 use Rattle.vx_flow.specs.ProvedLaws.Stepping.{answer-step}
@@ -91,7 +92,8 @@ refused_law-holds f conn now p error h is = record {
   behind = f;
   runs_to = still-runs f conn now (waits-begin f conn now p _ h.call_at is refl);
   ran = (ap (λ lines. is_passed lines && is_some (turn_of f.turn conn)) is, refl);
-  ends_by = tt;
+  few = omega arith;
+  ends_by = refl;
   last = over f conn now f.state.tables;
   ended =
       answer-goes f conn now false false (stopped_reply p.call error (moves_of (turn_of f.turn conn))) p
@@ -120,6 +122,7 @@ waits_law-holds f conn now p (why.Locked link) h is still = record {
   behind = f;
   runs_to = still-runs f conn now (waits-begin f conn now p _ h.call_at is refl);
   ran = (ap (λ lines. is_passed lines && is_some (turn_of f.turn conn)) is, refl);
+  few = omega arith;
   ends_by = is;
   last = f;
   ended = refl;
@@ -136,12 +139,14 @@ waits_law-holds f conn now p (why.Turn by) h is still =
       behind = f;
       runs_to = still-runs f conn now (ap (λ t. is_none t && may_begin f.state conn now (pending_at f.state.tables conn)) is.2);
       ran = (ap (λ t. is_passed (lines_at f conn now p) && is_some t) none ∙ and-false (is_passed (lines_at f conn now p)), refl);
+      few = omega arith;
       ends_by = is;
       last = f;
       ended = refl;
       at_now = refl;
     }
 waits_law-holds f conn now p why.Held h is still = cc
+waits_law-holds f conn now p why.Slice h is still = cc
 
 -- why a call isn't answered yet doesn't hang on the moment of the state
 pub not_yet-at : (f : FineState) (moment conn now : ℕ) (p : Pending) (w : Why) → NotYet f conn now p w → NotYet (at_moment f moment) conn now p w
@@ -192,7 +197,8 @@ no_role_law-holds f conn now p job h is turn has_job role =
           ∙ ap (λ b. is_passed (first_lines f.state.tables f.state.wire.own conn false p now) && b) role
           ∙ and-false (is_passed (first_lines f.state.tables f.state.wire.own conn false p now)));
       ran = (ap (λ t. is_passed (lines_at f conn now p) && is_some (turn_of t conn)) turn ∙ and-false (is_passed (lines_at f conn now p)), refl);
-      ends_by = tt;
+      few = omega arith;
+      ends_by = refl;
       last = over f conn now f.state.tables;
       ended = answer-goes f conn now false false told p (told, f.state.tables) (polled-comes f conn now p (Answer conn now false None false told) h) h.late h.call_at
           (answered-passed f conn now p o is refl (ap (waits_for_turn f.state.tables (wire_for f conn).own conn p) turn)
@@ -241,7 +247,8 @@ effect_law-holds f conn now p given after h is kinds free gives =
       behind = f;
       runs_to = still-runs f conn now (table-begins f conn now p h.call_at neither.0);
       ran = (ap (λ t. is_passed (lines_at f conn now p) && is_some t) none ∙ and-false (is_passed (lines_at f conn now p)), refl);
-      ends_by = tt;
+      few = omega arith;
+      ends_by = refl;
       last = over f conn now after;
       ended = answer-goes f conn now false false given p (given, after) (polled-comes f conn now p (Answer conn now false None false given) h) h.late h.call_at
           (answered-passed f conn now p o is refl free
@@ -282,6 +289,7 @@ dial_law-holds f conn now p h is asks =
       behind = f;
       runs_to = still-runs f conn now (table-begins f conn now p h.call_at table);
       ran = (ap (λ t. is_passed (lines_at f conn now p) && is_some t) none ∙ and-false (is_passed (lines_at f conn now p)), refl);
+      few = omega arith;
       ends_by = refl;
       last = record (at_moment f now) { dialed = dialed };
       ended = goes;
@@ -400,16 +408,18 @@ module _ (s : State) (u : Turn) (before : Wire) (ds : List ℕ) (stands : Stands
       → (turn_stand (in_turn s (Some u) before ds) u u.moves ≡ Part) ⊎ (moves ≡ []) → turn_stand (in_turn s (Some u) before ds) u (u.moves ++ moves) ≡ where_it_stands
       → is_on where_it_stands ≡ true
       → RanTo (moved_on (in_turn s (Some u) before ds) u moves) u.connection now stands.asked moves (ran_of ending)
+      → FitsSlice (ran_of ending) (length moves)
       → EndsBy (moved_on (in_turn s (Some u) before ds) u moves) u.connection now stands.asked ending
       → along fine (Some (moved_on (in_turn s (Some u) before ds) u moves)) (end_events u.connection now ending) ≡ Some last
       → Polls (in_turn s (Some u) before ds) u.connection now moves ending (at_moment last now)
-  turn-polls moves ending last where_it_stands may is on ran by_end ended = record {
+  turn-polls moves ending last where_it_stands may is on ran few by_end ended = record {
     asked = stands.asked;
     call_at = stands.call_at;
     late = late;
     behind = moved_on (in_turn s (Some u) before ds) u moves;
     runs_to = runs-moved moves may (ap is_on is ∙ on);
     ran = ran;
+    few = few;
     ends_by = by_end;
     last = last;
     ended = ended;
@@ -417,56 +427,69 @@ module _ (s : State) (u : Turn) (before : Wire) (ds : List ℕ) (stands : Stands
   }
 
   finished : (moves : List Transfer) (level : Bool) → (turn_stand (in_turn s (Some u) before ds) u u.moves ≡ Part) ⊎ (moves ≡ [])
-      → turn_stand (in_turn s (Some u) before ds) u (u.moves ++ moves) ≡ Whole → level_fits stands.job level ≡ true
+      → turn_stand (in_turn s (Some u) before ds) u (u.moves ++ moves) ≡ Whole → length moves ≤ SLICE_MAX
+      → level_fits stands.job level ≡ true
       → Polls (in_turn s (Some u) before ds) u.connection now moves
       (Answered ran.Finished level (whole_reply stands.job (bytes_of stands.asked.call) before (is_big stands.asked.call) level (u.moves ++ moves)))
       (over (moved_on (in_turn s (Some u) before ds) u moves) u.connection now s.tables)
-  finished moves level may whole fits =
+  finished moves level may whole few fits =
       let told = whole_reply stands.job (bytes_of stands.asked.call) before (is_big stands.asked.call) level (u.moves ++ moves) in
       let o : Outside = record { begun = u.begun; moves = u.moves ++ moves; failed = false; dialed = None; level = level } in
       turn-polls moves (Answered ran.Finished level told) (over (moved_on (in_turn s (Some u) before ds) u moves) u.connection now s.tables) Whole may whole refl
-      (turn-runs moves, turn-stood moves Whole whole) tt
+      (turn-runs moves, turn-stood moves Whole whole) few refl
       (call-answered moves false level told
       (cond-true (is_whole (turn_stand (in_turn s (Some u) before ds) u (u.moves ++ moves))) (u.connection == u.connection) true (ap is_whole whole) ∙ eqb-self u.connection)
       (ap (turn_answer before stands.asked now o stands.job) (sym (stand-at (u.moves ++ moves)) ∙ whole)
       ∙ cond-true (level_fits stands.job level) (Some told) None fits))
 
   broken : (moves : List Transfer) → turn_stand (in_turn s (Some u) before ds) u u.moves ≡ Part
-      → turn_stand (in_turn s (Some u) before ds) u (u.moves ++ moves) ≡ Part
+      → turn_stand (in_turn s (Some u) before ds) u (u.moves ++ moves) ≡ Part → length moves < SLICE_MAX
       → Polls (in_turn s (Some u) before ds) u.connection now moves (Answered ran.Broken false (stopped_reply stands.asked.call code.BusFault (u.moves ++ moves)))
       (over (moved_on (in_turn s (Some u) before ds) u moves) u.connection now s.tables)
-  broken moves may part =
+  broken moves may part few =
       let told = stopped_reply stands.asked.call code.BusFault (u.moves ++ moves) in
       let o : Outside = record { begun = u.begun; moves = u.moves ++ moves; failed = true; dialed = None; level = false } in
       turn-polls moves (Answered ran.Broken false told) (over (moved_on (in_turn s (Some u) before ds) u moves) u.connection now s.tables) Part (inl may) part refl
-      (turn-runs moves, turn-stood moves Part part) tt
+      (turn-runs moves, turn-stood moves Part part) few refl
       (call-answered moves true false told (turn-open moves part (Answer u.connection now true None false told))
       (ap (turn_answer before stands.asked now o stands.job) (sym (stand-at (u.moves ++ moves)) ∙ part)))
 
   timeout : (moves : List Transfer) → turn_stand (in_turn s (Some u) before ds) u u.moves ≡ Part
-      → turn_stand (in_turn s (Some u) before ds) u (u.moves ++ moves) ≡ Part → has_passed (io_timeout_of stands.asked.call) u.begun now ≡ true
+      → turn_stand (in_turn s (Some u) before ds) u (u.moves ++ moves) ≡ Part → length moves < SLICE_MAX → has_passed (io_timeout_of stands.asked.call) u.begun now ≡ true
       → Polls (in_turn s (Some u) before ds) u.connection now moves (Answered ran.Paused false (stopped_reply stands.asked.call code.Timeout (u.moves ++ moves)))
       (over (moved_on (in_turn s (Some u) before ds) u moves) u.connection now s.tables)
-  timeout moves may part over_time =
+  timeout moves may part few over_time =
       let told = stopped_reply stands.asked.call code.Timeout (u.moves ++ moves) in
       let o : Outside = record { begun = u.begun; moves = u.moves ++ moves; failed = false; dialed = None; level = false } in
       turn-polls moves (Answered ran.Paused false told) (over (moved_on (in_turn s (Some u) before ds) u moves) u.connection now s.tables) Part (inl may) part refl
-      (turn-runs moves, turn-stood moves Part part) tt
+      (turn-runs moves, turn-stood moves Part part) few refl
       (call-answered moves false false told (turn-open moves part (Answer u.connection now false None false told))
       (ap (turn_answer before stands.asked now o stands.job) (sym (stand-at (u.moves ++ moves)) ∙ part)
       ∙ cond-true (has_passed (io_timeout_of stands.asked.call) u.begun now) (Some told) None over_time))
 
   held : (moves : List Transfer) → turn_stand (in_turn s (Some u) before ds) u u.moves ≡ Part
-      → turn_stand (in_turn s (Some u) before ds) u (u.moves ++ moves) ≡ Part → has_passed (io_timeout_of stands.asked.call) u.begun now ≡ false
+      → turn_stand (in_turn s (Some u) before ds) u (u.moves ++ moves) ≡ Part → length moves < SLICE_MAX → has_passed (io_timeout_of stands.asked.call) u.begun now ≡ false
       → Polls (in_turn s (Some u) before ds) u.connection now moves (Waited why.Held) (at_moment (moved_on (in_turn s (Some u) before ds) u moves) now)
-  held moves may part in_time =
+  held moves may part few in_time =
       let v : Turn = record u { moves = u.moves ++ moves } in
       turn-polls moves (Waited why.Held) (moved_on (in_turn s (Some u) before ds) u moves) Part (inl may) part refl
-      (turn-runs moves, turn-stood moves Part part) (
+      (turn-runs moves, turn-stood moves Part part) few (
         ap (λ t. first_lines s.tables (if is_some t then before else wire_after s.wire moves).own u.connection false stands.asked now) (own-turn v) ∙ passed,
         v,
         own-turn v,
         in_time,
+      ) refl
+
+  sliced : (moves : List Transfer) → turn_stand (in_turn s (Some u) before ds) u u.moves ≡ Part
+      → turn_stand (in_turn s (Some u) before ds) u (u.moves ++ moves) ≡ Part → length moves ≡ SLICE_MAX
+      → Polls (in_turn s (Some u) before ds) u.connection now moves (Waited why.Slice) (at_moment (moved_on (in_turn s (Some u) before ds) u moves) now)
+  sliced moves may part full =
+      let v : Turn = record u { moves = u.moves ++ moves } in
+      turn-polls moves (Waited why.Slice) (moved_on (in_turn s (Some u) before ds) u moves) Part (inl may) part refl
+      (turn-runs moves, turn-stood moves Part part) full (
+        ap (λ t. first_lines s.tables (if is_some t then before else wire_after s.wire moves).own u.connection false stands.asked now) (own-turn v) ∙ passed,
+        v,
+        own-turn v,
       ) refl
 
 -- a poll of a turn that goes on, from its parts
@@ -504,31 +527,36 @@ module _ (f : FineState) (conn now : ℕ) (p : Pending) (u : Turn) (job : Task) 
       (subst (λ j. Polls (in_turn f.state (Some u) f.before f.dialed) u.connection now moves (ending own-stands.asked j) (last u.connection)) same-job polls)))
 
 pub finished_law-holds : FinishedLaw
-finished_law-holds f conn now p u job moves level h may whole fits =
+finished_law-holds f conn now p u job moves level h may whole few fits =
     own-polls f conn now p u job h moves
     (λ q j. Answered ran.Finished level (whole_reply j (bytes_of q.call) f.before (is_big q.call) level (u.moves ++ moves)))
     (λ c. over (moved_on f u moves) c now f.state.tables)
-    (finished f.state u f.before f.dialed (own-stands f conn now p u job h) now h.late (own-passed f conn now p u job h) moves level may whole
+    (finished f.state u f.before f.dialed (own-stands f conn now p u job h) now h.late (own-passed f conn now p u job h) moves level may whole few
     (ap (λ j. level_fits j level) (same-job f conn now p u job h) ∙ fits))
 
 pub broken_law-holds : BrokenLaw
-broken_law-holds f conn now p u job moves h may part =
+broken_law-holds f conn now p u job moves h may part few =
     own-polls f conn now p u job h moves (λ q j. Answered ran.Broken false (stopped_reply q.call code.BusFault (u.moves ++ moves)))
     (λ c. over (moved_on f u moves) c now f.state.tables)
-    (broken f.state u f.before f.dialed (own-stands f conn now p u job h) now h.late (own-passed f conn now p u job h) moves may part)
+    (broken f.state u f.before f.dialed (own-stands f conn now p u job h) now h.late (own-passed f conn now p u job h) moves may part few)
 
 pub timeout_law-holds : TimeoutLaw
-timeout_law-holds f conn now p u job moves h may part over_time =
+timeout_law-holds f conn now p u job moves h may part few over_time =
     own-polls f conn now p u job h moves (λ q j. Answered ran.Paused false (stopped_reply q.call code.Timeout (u.moves ++ moves)))
     (λ c. over (moved_on f u moves) c now f.state.tables)
-    (timeout f.state u f.before f.dialed (own-stands f conn now p u job h) now h.late (own-passed f conn now p u job h) moves may part
+    (timeout f.state u f.before f.dialed (own-stands f conn now p u job h) now h.late (own-passed f conn now p u job h) moves may part few
     (ap (λ (q : Pending). has_passed (io_timeout_of q.call) u.begun now) (same-asked f conn now p u job h) ∙ over_time))
 
 pub held_law-holds : HeldLaw
-held_law-holds f conn now p u job moves h may part in_time =
+held_law-holds f conn now p u job moves h may part few in_time =
     own-polls f conn now p u job h moves (λ q j. Waited why.Held) (λ c. at_moment (moved_on f u moves) now)
-    (held f.state u f.before f.dialed (own-stands f conn now p u job h) now h.late (own-passed f conn now p u job h) moves may part
+    (held f.state u f.before f.dialed (own-stands f conn now p u job h) now h.late (own-passed f conn now p u job h) moves may part few
     (ap (λ (q : Pending). has_passed (io_timeout_of q.call) u.begun now) (same-asked f conn now p u job h) ∙ in_time))
+
+pub sliced_law-holds : SlicedLaw
+sliced_law-holds f conn now p u job moves h may part full =
+    own-polls f conn now p u job h moves (λ q j. Waited why.Slice) (λ c. at_moment (moved_on f u moves) now)
+    (sliced f.state u f.before f.dialed (own-stands f conn now p u job h) now h.late (own-passed f conn now p u job h) moves may part full)
 
 -- ---- the turn begins
 
@@ -564,6 +592,7 @@ begins_law-holds f g conn now p job moves ending h is turn has_job role polls = 
       ∙ ap (λ o. along fine o (moved_events conn moves)) (begun_law-holds f conn now p job h is turn has_job role)
       ∙ polls.runs_to;
   ran = polls.ran;
+  few = polls.few;
   ends_by = polls.ends_by;
   last = polls.last;
   ended = polls.ended;

@@ -1,5 +1,5 @@
 -- each row is computed; where a poll may not wait, its cause is computed too, and is another
-use Rattle.std.proofs.Common.{◌≡◌, Bool, true, false, is_some, refl, sym, ap, subst}
+use Rattle.std.proofs.Common.{◌≡◌, Bool, true, false, is_some, refl, sym, ap, subst, arith}
 use Rattle.std.proofs.lemmas.Bool.{true≢false}
 use Rattle.vx_rules.specs.Calls.{has_passed}
 use Rattle.vx_rules.specs.Lines.{Admission, Waiting}
@@ -29,4 +29,27 @@ returns-clause-waits c = record {
   time_passed = λ h. true≢false (subst (λ b. has_passed 100 b 125 ≡ false) (sym (ap begun_of h.2)) h.3);
   locked = refl;
   deadline = λ h. true≢false (sym (ap waits_for_link h));
+  slice_in_time = (refl, record { connection = 1; begun = 25; moves = puts 5 65 false }, refl);
+  slice_late = (refl, record { connection = 1; begun = 25; moves = puts 5 65 false }, refl);
+  slice_later = (refl, record { connection = 1; begun = 25; moves = puts 5 65 false }, refl);
+  slice_answered = λ h. true≢false h;
+  held_answered = refl;
+  slice_of_other = λ h. true≢false (ap is_some (sym h.2));
+  slice_behind = λ h. true≢false (ap is_some (sym h.2));
+  slice_unbegun = λ h. true≢false (ap is_some (sym h.2));
+  slice_locked = λ h. true≢false (ap waits_for_link h.0);
+}
+
+pub returns-clause-slices : goal.returns-clause-slices
+returns-clause-slices c = record {
+  full = refl;
+  not_full = λ h. omega (arith, h);
+  too_full = λ h. omega (arith, h);
+  held = omega arith;
+  held_behind = λ h. omega (arith, h);
+  failed = omega arith;
+  failed_behind = λ h. omega (arith, h);
+  whole = omega arith;
+  whole_early = omega arith;
+  whole_behind = λ h. omega (arith, h);
 }

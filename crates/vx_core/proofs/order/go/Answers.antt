@@ -1,6 +1,6 @@
 use Rattle.std.proofs.Common.{sym, ◌∙◌}
 use Rattle.vx_ctrl.specs.declared.turn.Went.TheVariants as went
-use Rattle.vx_core.proofs.Moving.{gone, gone-holds, gone-stands, gone-pending, gone-finished, gone-broken, gone-timeout, gone-held}
+use Rattle.vx_core.proofs.Moving.{gone, gone-holds, gone-stands, gone-pending, gone-finished, gone-broken, gone-timeout, gone-held, gone-sliced}
 use Rattle.vx_core.proofs.order.go.Goals as goal
 
 pub finish-requires-clause-holds : goal.finish-requires-clause-holds
@@ -55,3 +55,9 @@ returns-in-Held-2 g c =
     gone-held g.B.Bus.means g.B.Bus.through g.B.Bus.srq_level g.B.Bus.ndac_level c.args.kernel.now c.args.conn c.requires.turn.running
     (record { conn = c.args.conn; turn = c.move_on-went.result.1 }) c.move_on-went.new.self c.requires.turn.holds
     (gone g.B.Bus.means g.B.Bus.through c.args.kernel.now c.args.conn c.move_on-went.result.0 went.Held c.move_on-went.new.self c.requires.turn c.move_on-went.ensures.went c.in-Held.is) c.move_on-went.ensures.turn (λ p at. sym (c.is_over.ensures p at) ∙ c.if-is_over.false)
+
+pub returns-in-Slice : goal.returns-in-Slice
+returns-in-Slice g c =
+    gone-sliced g.B.Bus.means g.B.Bus.through g.B.Bus.srq_level g.B.Bus.ndac_level c.args.kernel.now c.args.conn c.requires.turn.running
+    c.move_on-went.new.self c.requires.turn.holds
+    (gone g.B.Bus.means g.B.Bus.through c.args.kernel.now c.args.conn c.move_on-went.result.0 went.Slice c.move_on-went.new.self c.requires.turn c.move_on-went.ensures.went c.in-Slice.is)

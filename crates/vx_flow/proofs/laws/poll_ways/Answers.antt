@@ -1,4 +1,4 @@
-use Rattle.vx_flow.specs.ProvedLaws.Ways.{refused_law-holds, waits_law-holds, no_role_law-holds, effect_law-holds, dial_law-holds, finished_law-holds, broken_law-holds, timeout_law-holds, held_law-holds, begun_law-holds, begins_law-holds}
+use Rattle.vx_flow.specs.ProvedLaws.Ways.{refused_law-holds, waits_law-holds, no_role_law-holds, effect_law-holds, dial_law-holds, finished_law-holds, broken_law-holds, timeout_law-holds, held_law-holds, sliced_law-holds, begun_law-holds, begins_law-holds}
 use Rattle.vx_flow.proofs.laws.poll_ways.Goals as goal
 
 pub returns-clause-refused : goal.returns-clause-refused
@@ -27,6 +27,9 @@ returns-clause-timeout c = timeout_law-holds
 
 pub returns-clause-held : goal.returns-clause-held
 returns-clause-held c = held_law-holds
+
+pub returns-clause-sliced : goal.returns-clause-sliced
+returns-clause-sliced c = sliced_law-holds
 
 pub returns-clause-begun : goal.returns-clause-begun
 returns-clause-begun c = begun_law-holds

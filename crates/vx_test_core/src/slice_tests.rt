@@ -1,0 +1,265 @@
+//! Calls of many transfers: a poll makes 256 of them at most, and the next one goes on. The list of a write or a read of a
+//! device has three commands (UNL, and the two addresses), and then one transfer a byte (IEEE 488.1).
+ghost use Rattle.std.specs.Prelude.{◌≡◌, true, IfOk};
+ghost use Rattle.vx_bus_traits.specs.Means.{first_means};
+ghost use Rattle.vx_calls.specs.Call.{call_shown};
+ghost use Rattle.vx_rules.specs.One.{may_wait};
+ghost use Rattle.vx_rules.specs.Calls.{IsShort};
+
+use crate::gateways::PORT;
+use std::alloc::{AllocError, Global};
+use std::test::Fail;
+use vx_bus::MemBus;
+use vx_calls::{CallRef, ErrorCode, ReplyRef, Role};
+use vx_core::{Core, Polled, Why};
+
+/// What comes of a poll.
+#[derive(Clone, Copy, PartialEq, Eq)]
+enum Came {
+    NotYet(Why),
+    /// A write is answered with this error and size.
+    Written(ErrorCode, u32),
+    /// A read is answered with this error and reason, and with all bytes that the bus gave.
+    Got(ErrorCode, u32),
+    Other,
+}
+
+/// How many polls had a full slice, one each second; how many transfers the next one made; and what came of it.
+type Polls = (u64, usize, Came);
+
+/// A call on device 5, what its bus does, and what is to come of its polls.
+#[derive(Clone, Copy)]
+struct Row {
+    name: &'static str,
+    /// A read of up to 1,000 bytes, and else a write with END.
+    reads: bool,
+    /// How many bytes it writes, or the bus gives, with END on the last.
+    len: usize,
+    io_timeout: u32,
+    /// Which moving calls of the bus are held, and which fail.
+    holds: &'static [u64],
+    fails: &'static [u64],
+    wanted: Polls,
+}
+
+/// A write of 300 bytes that has a second, on a bus that neither holds nor fails.
+const PLAIN: Row = Row {
+    name: "a write of 303 transfers",
+    reads: false,
+    len: 300,
+    io_timeout: 1000,
+    holds: &[],
+    fails: &[],
+    wanted: (1, 47, Came::Written(ErrorCode::Ok, 300)),
+};
+
+static ROWS: [Row; 12] = [
+    PLAIN,
+    Row {
+        name: "the longest write, of 65,539 transfers",
+        len: 65536,
+        wanted: (256, 3, Came::Written(ErrorCode::Ok, 65536)),
+        ..PLAIN
+    },
+    Row {
+        name: "a write of 256 transfers",
+        len: 253,
+        wanted: (0, 256, Came::Written(ErrorCode::Ok, 253)),
+        ..PLAIN
+    },
+    Row {
+        name: "a write of 257 transfers",
+        len: 254,
+        wanted: (1, 1, Came::Written(ErrorCode::Ok, 254)),
+        ..PLAIN
+    },
+    Row {
+        name: "a write of 512 transfers",
+        len: 509,
+        wanted: (1, 256, Came::Written(ErrorCode::Ok, 509)),
+        ..PLAIN
+    },
+    // no time ends a poll whose slice is full
+    Row {
+        name: "a write that has no time",
+        io_timeout: 0,
+        ..PLAIN
+    },
+    // and each ends one that the bus holds, before the slice is full and behind it
+    Row {
+        name: "a write that has no time, held at transfer 256",
+        io_timeout: 0,
+        holds: &[256],
+        wanted: (0, 255, Came::Written(ErrorCode::Timeout, 252)),
+        ..PLAIN
+    },
+    Row {
+        name: "a write that has no time, held at transfer 257",
+        io_timeout: 0,
+        holds: &[257],
+        wanted: (1, 0, Came::Written(ErrorCode::Timeout, 253)),
+        ..PLAIN
+    },
+    Row {
+        name: "a write that has two seconds, held at transfer 257",
+        io_timeout: 2000,
+        holds: &[257],
+        wanted: (1, 0, Came::NotYet(Why::Held)),
+        ..PLAIN
+    },
+    Row {
+        name: "a write that fails at transfer 257",
+        fails: &[257],
+        wanted: (1, 0, Came::Written(ErrorCode::BusFault, 253)),
+        ..PLAIN
+    },
+    Row {
+        name: "a read of 256 transfers",
+        reads: true,
+        len: 253,
+        wanted: (0, 256, Came::Got(ErrorCode::Ok, 4)),
+        ..PLAIN
+    },
+    Row {
+        name: "a read of 303 transfers",
+        reads: true,
+        wanted: (1, 47, Came::Got(ErrorCode::Ok, 4)),
+        ..PLAIN
+    },
+];
+
+/// So many bytes: 0 to 250, and again.
+fn numbered(alloc: Global, len: usize) -> Result<Vec<u8>, AllocError> {
+    let mut bytes = Vec::new(alloc);
+    for at in 0..len {
+        bytes.push((at % 251) as u8)?;
+    }
+    Ok(bytes)
+}
+
+/// The same bytes as a bus gives them.
+fn given(alloc: Global, bytes: &[u8]) -> Result<Vec<(u8, bool)>, AllocError> {
+    let mut gets = Vec::new(alloc);
+    for (at, b) in bytes.iter().enumerate() {
+        gets.push((*b, at == bytes.len() - 1))?;
+    }
+    Ok(gets)
+}
+
+fn bus_of(alloc: Global, row: &Row, bytes: &[u8]) -> Result<MemBus, Fail>
+    ensures { IfOk result (λ bus. bus.means ≡ first_means) }
+{
+    let gets = given(alloc, bytes)?;
+    let holds = row.holds.to_vec(alloc)?;
+    let fails = row.fails.to_vec(alloc)?;
+    Ok(MemBus::new(alloc, gets, holds, fails).map_err(|_| "no memory")?)
+}
+
+/// A call comes on connection 1, where it waits for nothing.
+fn arrive(core: &mut Core<MemBus>, call: &CallRef<'_>) -> bool
+    requires waits { may_wait (call_shown call.now) ≡ true }
+    requires short { IsShort (call_shown call.now) }
+{
+    if core.role(1) != Some(Role::Core) || core.pending(1) {
+        return false;
+    }
+    core.arrive(1, call, 0);
+    true
+}
+
+/// Polls the call of connection 1, where it has one. A read is to have these bytes.
+fn poll(core: &mut Core<MemBus>, now: u64, wanted: &[u8]) -> Came {
+    if !core.pending(1) {
+        return Came::Other;
+    }
+    match core.poll(1, now) {
+        Polled::NotYet(why) => Came::NotYet(why),
+        Polled::Answer(ReplyRef::Write { error, size }) => Came::Written(error, size),
+        Polled::Answer(
+            ReplyRef::Read {
+                error,
+                reason,
+                bytes,
+            },
+        ) if bytes == wanted => Came::Got(error, reason),
+        _ => Came::Other,
+    }
+}
+
+/// Connection 1 comes up, and makes link 1 to device 5.
+fn link(core: &mut Core<MemBus>, alloc: Global) {
+    let _ = core.connect(alloc, Role::Core);
+    let call = CallRef::CreateLink {
+        client: 42,
+        lock: false,
+        lock_timeout: 0,
+        device: b"gpib0,5",
+    };
+    if arrive(core, &call) {
+        let _ = poll(core, 0, &[]);
+    }
+}
+
+/// The call of a row comes.
+fn ask(core: &mut Core<MemBus>, row: &Row, bytes: &[u8]) -> bool {
+    if row.reads {
+        let call = CallRef::Read {
+            lid: 1,
+            request: 1000,
+            io_timeout: row.io_timeout,
+            lock_timeout: 0,
+            flags: 0,
+            term: 0,
+        };
+        return arrive(core, &call);
+    }
+    if bytes.len() > 65536 {
+        return false;
+    }
+    let call = CallRef::Write {
+        lid: 1,
+        io_timeout: row.io_timeout,
+        lock_timeout: 0,
+        flags: 8,
+        bytes,
+    };
+    arrive(core, &call)
+}
+
+/// Polls the call until one isn't a full slice of 256 transfers.
+fn poll_on(core: &mut Core<MemBus>, wanted: &[u8]) -> Polls {
+    for full in 0..1000u64 {
+        let came = poll(core, full * 1000, wanted);
+        let moved = core.moves().len();
+        if came != Came::NotYet(Why::Slice) || moved != 256 {
+            return (full, moved, came);
+        }
+    }
+    (1000, 0, Came::Other)
+}
+
+/// Whether what comes of a row, on a gateway of its own, is what it wants.
+fn comes(alloc: Global, row: &Row) -> Result<bool, Fail> {
+    let bytes = numbered(alloc, row.len)?;
+    let bus = bus_of(alloc, row, &bytes)?;
+    let mut core = Core::start(alloc, bus, PORT).map_err(|_| "no memory")?;
+    link(&mut core, alloc);
+    Ok(ask(&mut core, row, &bytes) && poll_on(&mut core, &bytes) == row.wanted)
+}
+
+/// The name of the first row of which something else comes.
+fn first_wrong(alloc: Global, rows: &[Row]) -> Result<Option<&'static str>, Fail> {
+    for row in rows {
+        if !comes(alloc, row)? {
+            return Ok(Some(row.name));
+        }
+    }
+    Ok(None)
+}
+
+#[test]
+fn slices(rt: HostRuntime) -> Result<(), Fail> {
+    let wrong = first_wrong(rt.alloc(), &ROWS)?;
+    assert_eq!(rt; wrong, None);
+    Ok(())
+}
