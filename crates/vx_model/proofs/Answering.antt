@@ -1,5 +1,5 @@
 -- The answers to calls, line by line of the order of answers.
-use Rattle.std.proofs.Common.{◌≡◌, ◌<◌, ◌≤◌, leb, ◌⊎◌, inl, inr, arith, ℕ, Bool, true, false, cond, not, ◌&&◌, List, Option, Some, None, Result, Ok, Err, refl, sym, ap, ◌∙◌, subst}
+use Rattle.std.proofs.Common.{◌≡◌, ◌<◌, ◌≤◌, leb, ◌⊎◌, inl, inr, arith, ℕ, Bool, true, false, cond, not, ◌&&◌, ◌||◌, List, Option, Some, None, Result, Ok, Err, refl, sym, ap, ◌∙◌, subst}
 use Rattle.std.specs.Prelude.{is_some, is_none, nat_le, unwrap_or, IfOk, OnOk}
 use Rattle.std.specs.Option.{option_map, option_and_then}
 use Rattle.std.proofs.lemmas.Bool.{true≢false, false≢true}
@@ -22,7 +22,7 @@ use Rattle.vx_plan.specs.Plan.{Stand}
 use Rattle.vx_rules.specs.State.{Pending, Tables, State, pending_at}
 use Rattle.vx_rules.specs.Calls.{is_bus_call, asks_dial}
 use Rattle.vx_rules.specs.Checks.{NamedLink, NoLink, DeadLink, OnLink, named_link, check}
-use Rattle.vx_rules.specs.Lines.{Admission, Refused, Waiting, Passed, holder_against, checks_pass, later_lines}
+use Rattle.vx_rules.specs.Lines.{Bar, Admission, Refused, Waiting, Passed, holder_against, checks_pass, later_lines, is_first}
 use Rattle.vx_rules.specs.Effects.{task_on, task_of, stopped_reply, create, effect, settle}
 use Rattle.vx_rules.specs.Decide.{Outside, is_quiet, settles, may_tell, may_have_made, is_nothing, begun_between, has_job_role, is_part_of, bus_answer, dialed_answer, by_lines, passed_fits, lines_fit, stand_on, turn_answer}
 use Rattle.vx_rules.specs.Entry.{Answer}
@@ -80,39 +80,44 @@ answer_idle s conn now o told due idle =
 abbrev by_fits : State → ℕ → ℕ → Outside → Reply → Pending → Bool → Admission → Option State
 by_fits s conn now o told p fits lines = cond fits (ended s conn now o.moves told (by_lines s.tables s.wire conn p now o lines)) None
 
+-- three tests, in either grouping
+all_three : (a b d : Bool) → (a && b && d) ≡ (a && (b && d))
+all_three true b d = refl
+all_three false b d = refl
+
 module _ (t : Tables) (w : Wire) (conn now : ℕ) (p : Pending) (o : Outside) where
   -- whether what came from outside fits, by the mark and by the lines behind it
   abbrev fits_at : Bool → Admission → Bool
-  fits_at aborted later = cond aborted (may_tell p now o.begun && may_have_made t w conn p o.moves) (lines_fit t w conn p now o later)
+  fits_at aborted later = cond aborted (may_tell p now o.begun && may_have_made t w conn p o.moves && (is_nothing o.moves || is_first t w.own conn p now)) (lines_fit t w conn p now o later)
 
   -- what fits a refusal
   refused_at : (aborted : Bool) (later : Admission) (error : ErrorCode) → cond aborted (Refused code.Abort) later ≡ Refused error
-      → fits_at aborted later ≡ (may_tell p now o.begun && cond aborted (may_have_made t w conn p o.moves) (is_nothing o.moves))
-  refused_at true later error h = refl
+      → fits_at aborted later ≡ (may_tell p now o.begun && cond aborted (may_have_made t w conn p o.moves && (is_nothing o.moves || is_first t w.own conn p now)) (is_nothing o.moves))
+  refused_at true later error h = all_three (may_tell p now o.begun) (may_have_made t w conn p o.moves) (is_nothing o.moves || is_first t w.own conn p now)
   refused_at false (Refused e) error h = refl
-  refused_at false (Waiting holder) error h = cc
+  refused_at false (Waiting bar) error h = cc
   refused_at false Passed error h = cc
 
   -- nothing fits a call that waits
-  waiting_at : (aborted : Bool) (later : Admission) (holder : ℕ) → cond aborted (Refused code.Abort) later ≡ Waiting holder → fits_at aborted later ≡ false
-  waiting_at true later holder h = cc
-  waiting_at false (Refused e) holder h = cc
-  waiting_at false (Waiting l) holder h = refl
-  waiting_at false Passed holder h = cc
+  waiting_at : (aborted : Bool) (later : Admission) (bar : Bar) → cond aborted (Refused code.Abort) later ≡ Waiting bar → fits_at aborted later ≡ false
+  waiting_at true later bar h = cc
+  waiting_at false (Refused e) bar h = cc
+  waiting_at false (Waiting other) bar h = refl
+  waiting_at false Passed bar h = cc
 
   -- what fits a call that passes
   passed_at : (aborted : Bool) (later : Admission) → cond aborted (Refused code.Abort) later ≡ Passed → fits_at aborted later ≡ passed_fits t w conn p now o
   passed_at true later h = cc
   passed_at false (Refused e) h = cc
-  passed_at false (Waiting holder) h = cc
+  passed_at false (Waiting bar) h = cc
   passed_at false Passed h = refl
 
 module _ (s : State) (conn now : ℕ) (o : Outside) (told : Reply) (p : Pending) where
   -- a call that waits has no answer
-  pub waiting-is : (holder : ℕ) → lines_at s conn now o p ≡ Waiting holder → answer_at s conn now o told p ≡ None
-  waiting-is holder lines =
+  pub waiting-is : (bar : Bar) → lines_at s conn now o p ≡ Waiting bar → answer_at s conn now o told p ≡ None
+  waiting-is bar lines =
       ap (λ b. by_fits s conn now o told p b (lines_at s conn now o p))
-      (waiting_at s.tables s.wire conn now p o p.aborted (later_lines s.tables s.wire.own conn (settles o) p now) holder lines)
+      (waiting_at s.tables s.wire conn now p o p.aborted (later_lines s.tables s.wire.own conn (settles o) p now) bar lines)
 
   -- a call that the first lines refuse
   refused_by : (error : ErrorCode) → lines_at s conn now o p ≡ Refused error
@@ -176,7 +181,7 @@ open_at t own conn settling (OnLink l) asked holder c h =
 pub open_is : (s : State) (conn now : ℕ) (o : Outside) (p : Pending) → lines_at s conn now o p ≡ Passed
     → open_job s.tables s.wire conn p ≡ task_of (named_link s.tables conn p.call) p.call
 open_is s conn now o p lines =
-    let says = passed-says p now p.aborted _ _ lines in
+    let says = passed-says p now p.aborted _ _ _ lines in
     open_at s.tables s.wire.own conn (settles o) (named_link s.tables conn p.call) p.call (holder_against s.tables s.wire.own (named_link s.tables conn p.call) p.call) says.checks says.locks
 
 module _ (s : State) (conn now : ℕ) (o : Outside) (told : Reply) (p : Pending) where

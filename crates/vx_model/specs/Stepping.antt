@@ -1,5 +1,5 @@
 -- What a step of the plain gateway does, and its parts: a step takes an entry, or refuses it and changes nothing.
-use Rattle.std.specs.Prelude.{◌≡◌, ℕ, ◌≤◌, Bool, true, false, ◌&&◌, if◌then◌else◌, List, [], ◌∷◌, length, Option, Some, None, is_none, option_and_then}
+use Rattle.std.specs.Prelude.{◌≡◌, ℕ, ◌≤◌, Bool, true, false, ◌&&◌, ◌||◌, if◌then◌else◌, List, [], ◌∷◌, length, Option, Some, None, is_none, option_and_then}
 use Rattle.std.specs.Option.{option_map}
 use Rattle.vx_calls.specs.declared.codes.ErrorCode.{ErrorCode}
 use Rattle.vx_calls.specs.Reply.{Reply}
@@ -12,7 +12,7 @@ use Rattle.vx_plan.specs.Plan.{Slot, Stand, fits}
 use Rattle.vx_plan.specs.declared.tasks.TheConstants.{TURN_MAX}
 use Rattle.vx_rules.specs.State.{Pending, Tables, State, with_pending}
 use Rattle.vx_rules.specs.Checks.{named_link}
-use Rattle.vx_rules.specs.Lines.{Admission, first_lines, lets_pass}
+use Rattle.vx_rules.specs.Lines.{Admission, first_lines, lets_pass, is_first}
 use Rattle.vx_rules.specs.Effects.{task_of, stopped_reply}
 use Rattle.vx_rules.specs.Decide.{Outside, settles, decide, turn_fits, may_tell, may_have_made, is_nothing, begun_between, turn_answer, stand_on}
 use Rattle.vx_rules.specs.One.{answered, if_reply}
@@ -54,9 +54,10 @@ answer_at s conn now o told p =
 abbrev pub stopped_at : State → ℕ → ℕ → ErrorCode → List Transfer → Reply → Pending → Option State
 stopped_at s conn now error moves told p = ended s conn now moves told (Some (stopped_reply p.call error moves, s.tables))
 
--- what comes from outside to a refusal: a beginning may be told, and transfers where the call is marked
+-- what comes from outside to a refusal: a beginning may be told, and transfers where the call is marked and waits behind no other
 abbrev pub refusal_fits : Tables → Wire → ℕ → Pending → ℕ → Outside → Bool
-refusal_fits t w conn p now o = may_tell p now o.begun && (if p.aborted then may_have_made t w conn p o.moves else is_nothing o.moves)
+refusal_fits t w conn p now o = may_tell p now o.begun &&
+    (if p.aborted then may_have_made t w conn p o.moves && (is_nothing o.moves || is_first t w.own conn p now) else is_nothing o.moves)
 
 -- the job of a call that nothing is against
 abbrev pub open_job : Tables → Wire → ℕ → Pending → Option Task

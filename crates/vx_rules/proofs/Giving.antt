@@ -33,7 +33,7 @@ use Rattle.vx_rules.specs.ProvedLaws.Slots.{sampled-next, made-first}
 use Rattle.vx_rules.specs.State.{Pending, Tables, State, first, pending_at, with_pending, with_connection, without_connection}
 use Rattle.vx_rules.specs.Calls.{is_bus_call, asks_dial, is_big, bytes_of, has_passed, io_timeout_of}
 use Rattle.vx_rules.specs.Checks.{NamedLink, NoLink, DeadLink, OnLink, named_link, check_create}
-use Rattle.vx_rules.specs.Lines.{Admission, Refused, Passed, kept_off, lock_lines, checked_lines, holder_against, later_lines, first_lines}
+use Rattle.vx_rules.specs.Lines.{Bar, Admission, Refused, Passed, kept_off, lock_lines, checked_lines, bar_against, later_lines, first_lines}
 use Rattle.vx_rules.specs.Effects.{task_of, stopped_reply, create, locked, effect_on, effect, settle}
 use Rattle.vx_rules.specs.Decide.{Outside, is_quiet, level_fits, stand_on, turn_answer, bus_answer, dialed_answer, by_lines, settles, decide}
 use Rattle.vx_rules.specs.Entry.{Entry, Up, Down, Arrive, Answer, Abort, Sample, Take}
@@ -108,16 +108,16 @@ create-checks t (Ok named) well = by (is_full t.links) where
   by false = tt
 
 -- a lock, what comes behind the checks, and a mark
-lock-refuses : (p : Pending) (now : ℕ) (holder : Option ℕ) → RefusesWell (lock_lines p now holder)
+lock-refuses : (p : Pending) (now : ℕ) (bar : Option Bar) → RefusesWell (lock_lines p now bar)
 lock-refuses p now None = tt
-lock-refuses p now (Some holder) = by _ where
-  by : (b : Bool) → RefusesWell (kept_off holder b)
+lock-refuses p now (Some bar) = by _ where
+  by : (b : Bool) → RefusesWell (kept_off bar b)
   by true = tt
   by false = refl
 
-checked-refuses : (p : Pending) (now : ℕ) (refused : Option ErrorCode) (holder : Option ℕ) → ChecksWell refused → RefusesWell (checked_lines p now refused holder)
-checked-refuses p now None holder well = lock-refuses p now holder
-checked-refuses p now (Some e) holder well = well
+checked-refuses : (p : Pending) (now : ℕ) (refused : Option ErrorCode) (bar : Option Bar) → ChecksWell refused → RefusesWell (checked_lines p now refused bar)
+checked-refuses p now None bar well = lock-refuses p now bar
+checked-refuses p now (Some e) bar well = well
 
 first-refuses : (aborted : Bool) (l : Admission) → RefusesWell l → RefusesWell (cond aborted (Refused code.Abort) l)
 first-refuses true l well = refl
@@ -134,7 +134,7 @@ create-refuses t own conn settling (call.CreateLink client lock lock_timeout dev
     let asked = call.CreateLink client lock lock_timeout device in
     let p : Pending = record { call = asked; arrival = arrival; aborted = aborted } in
     first-refuses aborted (later_lines t own conn settling p now)
-    (checked-refuses p now (check_create t (target device own)) (holder_against t own NoLink asked)
+    (checked-refuses p now (check_create t (target device own)) (bar_against t None own now conn NoLink asked)
     (create-checks t (target device own) (parts-well own (comma_parts device))))
 create-refuses t own conn settling _ arrival aborted now h = absurd (false≢true h)
 

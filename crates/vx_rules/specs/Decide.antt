@@ -15,7 +15,7 @@ use Rattle.vx_plan.specs.Results.{whole_reply}
 use Rattle.vx_rules.specs.State.{Pending, Tables}
 use Rattle.vx_rules.specs.Calls.{is_bus_call, asks_dial, io_timeout_of, bytes_of, is_big, has_passed}
 use Rattle.vx_rules.specs.Checks.{named_link}
-use Rattle.vx_rules.specs.Lines.{Admission, Refused, Passed, first_lines, later_lines, lets_pass}
+use Rattle.vx_rules.specs.Lines.{Admission, Refused, Passed, first_lines_in, later_lines, lets_pass, is_first}
 use Rattle.vx_rules.specs.Effects.{task_of, stopped_reply, effect, settle}
 
 -- What comes to an answer from outside: the moment at which the call's turn began and the transfers that it made, whether
@@ -90,9 +90,12 @@ abbrev pub settles : Outside → Bool
 settles o = is_some o.dialed
 
 -- the reply of a connection's call at this moment, and the tables with its effect, on a bus that was this before the
--- call's transfers; none where it has no answer with what came from outside
+-- call's transfers, while a connection's turn is under way or none; none where it has no answer with what came from outside
+abbrev pub decide_in : Tables → Option ℕ → Wire → ℕ → Pending → ℕ → Outside → Option (Reply × Tables)
+decide_in t busy w conn p now o = by_lines t w conn p now o (first_lines_in t busy w.own conn (settles o) p now)
+
 abbrev pub decide : Tables → Wire → ℕ → Pending → ℕ → Outside → Option (Reply × Tables)
-decide t w conn p now o = by_lines t w conn p now o (first_lines t w.own conn (settles o) p now)
+decide t w conn p now o = decide_in t None w conn p now o
 
 -- What the beginning and the transfers of an answer may be, by the line that gives it.
 
@@ -127,7 +130,7 @@ abbrev pub is_part_of : Wire → Call → List Transfer → Option Task → Bool
 is_part_of w asked moves job = has_job_role w job && is_part (stand_of_job w asked moves job)
 
 -- the transfers that a call may have made which is ended from outside, by an abort or the end of its connection: none, or a
--- part of its job where it was let pass
+-- part of its job where it was let pass, calls in line left out
 abbrev pub may_have_made : Tables → Wire → ℕ → Pending → List Transfer → Bool
 may_have_made t w conn p moves =
     is_nothing moves || (lets_pass t w.own conn p && is_part_of w p.call moves (task_of (named_link t conn p.call) p.call))
@@ -147,5 +150,5 @@ lines_fit t w conn p now o _ = false
 -- whether the beginning and the transfers are such as the gateway of one thread can have
 abbrev pub turn_fits : Tables → Wire → ℕ → Pending → ℕ → Outside → Bool
 turn_fits t w conn p now o =
-    if p.aborted then may_tell p now o.begun && may_have_made t w conn p o.moves
+    if p.aborted then may_tell p now o.begun && may_have_made t w conn p o.moves && (is_nothing o.moves || is_first t w.own conn p now)
     else lines_fit t w conn p now o (later_lines t w.own conn (settles o) p now)

@@ -15,7 +15,7 @@ use Rattle.vx_rules.specs.Table.{is_live}
 use Rattle.vx_rules.specs.SrqState.{Srq, Given, Front, Empty, Gone, given, taken, sampled}
 use Rattle.vx_rules.specs.State.{Pending, Connection, Tables, State, connection_at, pending_at, lives_as, is_idle, has_room, with_pending, with_connection, without_connection}
 use Rattle.vx_rules.specs.Calls.{link_named}
-use Rattle.vx_rules.specs.Decide.{Outside, decide, turn_fits, may_have_made, is_nothing}
+use Rattle.vx_rules.specs.Decide.{Outside, decide_in, turn_fits, may_have_made, is_nothing}
 use Rattle.vx_rules.specs.Entry.{Entry, Up, Down, Arrive, Answer, Abort, Sample, Take}
 
 -- a call that may be without an answer: device_abort is answered at once, and the null procedure asks nothing
@@ -38,12 +38,19 @@ abbrev pub answered : State → ℕ → ℕ → List Transfer → Reply × Table
 answered s conn now moves found =
     (found.0, record { tables = with_pending found.1 conn None; wire = wire_after s.wire moves; moment = now })
 
-abbrev pub answer_to : State → ℕ → ℕ → Outside → Pending → Option (Reply × State)
-answer_to s conn now o p = option_map (answered s conn now o.moves) (decide s.tables s.wire conn p now o)
+abbrev pub answer_to_in : State → Option ℕ → ℕ → ℕ → Outside → Pending → Option (Reply × State)
+answer_to_in s busy conn now o p = option_map (answered s conn now o.moves) (decide_in s.tables busy s.wire conn p now o)
 
--- the answer to a connection's call at this moment with what came from outside, and the state after it
+abbrev pub answer_to : State → ℕ → ℕ → Outside → Pending → Option (Reply × State)
+answer_to s conn now o p = answer_to_in s None conn now o p
+
+-- the answer to a connection's call at this moment with what came from outside, and the state after it, while a connection's turn is
+-- under way or none
+abbrev pub answer_in : State → Option ℕ → ℕ → ℕ → Outside → Option (Reply × State)
+answer_in s busy conn now o = option_and_then (answer_to_in s busy conn now o) (pending_at s.tables conn)
+
 abbrev pub answer : State → ℕ → ℕ → Outside → Option (Reply × State)
-answer s conn now o = option_and_then (answer_to s conn now o) (pending_at s.tables conn)
+answer s conn now o = answer_in s None conn now o
 
 -- the beginning and the transfers are such as the connection's call can have
 abbrev pub call_fits : State → ℕ → ℕ → Outside → Option Pending → Bool

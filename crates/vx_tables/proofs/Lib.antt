@@ -8,3 +8,4 @@ pub mod JobInput
 pub mod Room
 pub mod Granting
 pub mod Doable
+pub mod InLine

@@ -2,6 +2,8 @@
 use Rattle.vx_links.specs.Shown.{link_shown}
 use Rattle.vx_tables.specs.declared.tables.checks.Named.{Named}
 use Rattle.vx_tables.specs.declared.tables.checks.Named.TheVariants as named
+use Rattle.vx_tables.specs.declared.tables.lines.Bar.{Bar}
+use Rattle.vx_tables.specs.declared.tables.lines.Bar.TheVariants as bar
 use Rattle.vx_tables.specs.declared.tables.lines.Admission.{Admission}
 use Rattle.vx_tables.specs.declared.tables.lines.Admission.TheVariants as seen
 use Rattle.vx_tables.specs.declared.tables.lines.Request.{Request}
@@ -17,10 +19,15 @@ named_shown named.Nothing = checks.NoLink
 named_shown named.Dead = checks.DeadLink
 named_shown (named.On row) = checks.OnLink (link_shown row)
 
+-- what keeps a call off its target
+abbrev pub bar_shown : Bar → lines.Bar
+bar_shown (bar.HeldBy link) = lines.HeldBy link
+bar_shown (bar.Behind conn) = lines.Behind conn
+
 -- what the first lines say
 abbrev pub lines_shown : Admission → lines.Admission
 lines_shown (seen.Refused error) = lines.Refused error
-lines_shown (seen.Waiting link) = lines.Waiting link
+lines_shown (seen.Waiting b) = lines.Waiting (bar_shown b)
 lines_shown seen.Passed = lines.Passed
 
 -- what a call is under locks with

@@ -4,4 +4,4 @@
 
 mod tables;
 
-pub use tables::{Admission, Connect, NoMemory, Request, Tables, has_passed, may_wait};
+pub use tables::{Admission, Bar, Connect, NoMemory, Request, Tables, has_passed, may_wait};

@@ -24,7 +24,7 @@ mod text;
 use effects::drop_links;
 pub use kept::may_wait;
 use kept::{handle_of, text_of, words_of};
-pub use lines::{Admission, Request, has_passed};
+pub use lines::{Admission, Bar, Request, has_passed};
 use rows::{
     Asked, Row, add_arrival, count_role, drop_arrival, drop_row, end_call, find_row, is_same_role,
     keep_call, mark_calls, procedure_of, put_call,

@@ -2,6 +2,8 @@
 #![tactic(auto)]
 
 #[cfg(test)]
+mod arrival_tests;
+#[cfg(test)]
 mod links_tests;
 #[cfg(test)]
 mod locks_tests;

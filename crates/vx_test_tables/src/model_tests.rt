@@ -210,6 +210,35 @@ static ABORTED_CALLS: [Case; 18] = [
     ),
 ];
 
+/// A call made no transfers while another stood in line before it, unless that one's time has passed by the answer.
+static ABORTED_BEHIND_ANOTHER: [Case; 16] = [
+    (Up(1, Role::Core), true),
+    (Up(2, Role::Abort), true),
+    (Up(3, Role::Core), true),
+    (Come(1, Create(b"gpib0,5", false)), true),
+    (Answer(1, Bare, Linked(1)), true),
+    (Come(3, Create(b"gpib0,5", false)), true),
+    (Answer(3, Bare, Linked(2)), true),
+    (Come(3, Write(2, 9, 500, b"A")), true),
+    (Come(1, Read(1, 10, 0, 0)), true),
+    (Answer(1, Bare, Got(ErrorCode::Locked, 0, b"")), true),
+    (Come(1, Read(1, 10, 0, 0)), true),
+    (Marked(1, ErrorCode::Ok), true),
+    (
+        Answer(1, Moved(&FROM_5), Got(ErrorCode::Abort, 0, b"A")),
+        false,
+    ),
+    (
+        Answer(1, Held(499, &FROM_5), Got(ErrorCode::Abort, 0, b"A")),
+        false,
+    ),
+    (Answer(1, Bare, Got(ErrorCode::Abort, 0, b"A")), false),
+    (
+        Answer(1, Held(500, &FROM_5), Got(ErrorCode::Abort, 0, b"A")),
+        true,
+    ),
+];
+
 /// A read may end for three reasons at once, and one of no bytes for one; a bus that fails ends a part.
 static READS_AND_FAILURES: [Case; 11] = [
     (Up(1, Role::Core), true),
@@ -429,6 +458,11 @@ fn deadline(rt: HostRuntime) {
 #[test]
 fn aborted_calls(rt: HostRuntime) {
     assert_eq!(rt; first_wrong(rt.alloc(), &ABORTED_CALLS), Ok(None));
+}
+
+#[test]
+fn aborted_behind_another(rt: HostRuntime) {
+    assert_eq!(rt; first_wrong(rt.alloc(), &ABORTED_BEHIND_ANOTHER), Ok(None));
 }
 
 #[test]

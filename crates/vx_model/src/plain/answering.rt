@@ -57,9 +57,9 @@ impl Plain {
             return Ok(false);
         }
         let settling = o.dialed.is_some();
-        match self.tables.lines(conn, self.wire.own, settling, now) {
+        match self.tables.lines(conn, None, self.wire.own, settling, now) {
             Admission::Refused(error) => self.refuse(conn, now, o, error, reply),
-            Admission::Waiting { .. } => Ok(false),
+            Admission::Waiting(_) => Ok(false),
             Admission::Passed => self.passed(conn, now, o, reply),
         }
     }
@@ -319,10 +319,19 @@ impl Plain {
             return false;
         }
         if self.tables.is_aborted(conn) {
-            self.may_have_made(conn, o.moves)
+            self.may_have_made(conn, o.moves) && self.came_first(conn, now, o.moves)
         } else {
             self.has_none(o.moves)
         }
+    }
+
+    /// Whether there is no transfer, or the call waits behind no other at this moment.
+    fn came_first(&self, conn: u32, now: u64, moves: &[Transfer]) -> bool
+        requires { IsSome (pending_at self.now.tables conn) }
+        ensures { (p : Pending) → pending_at self.now.tables conn ≡ Some p
+            → result ≡ (decides.is_nothing moves.now || lines.is_first self.now.tables self.now.wire.own conn p now) }
+    {
+        self.has_none(moves) || self.tables.is_first(conn, self.wire.own, now)
     }
 
     /// Whether the connection, which goes down, may have made these transfers.

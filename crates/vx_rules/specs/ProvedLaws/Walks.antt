@@ -25,7 +25,7 @@ use Rattle.vx_rules.specs.Locks.{Lock, holds, keeps_off, is_blocked, holder_of, 
 use Rattle.vx_rules.specs.State.{Pending, Tables, State, first, link_of, pending_at, with_pending, with_link, without_connection, with_connection}
 use Rattle.vx_rules.specs.Calls.{link_named, is_bus_call, asks_dial}
 use Rattle.vx_rules.specs.Checks.{NamedLink, NoLink, DeadLink, OnLink, named_link, link_by_number, link_found, check, check_create}
-use Rattle.vx_rules.specs.Lines.{Admission, Refused, Passed, kept_off, named_request, holder_against, checked_lines, first_lines}
+use Rattle.vx_rules.specs.Lines.{Bar, Admission, Refused, Passed, kept_off, named_request, holder_against, bar_by, lock_lines, checked_lines, first_lines}
 use Rattle.vx_rules.specs.Effects.{create, locked, locked_link, effect_on, effect, settle}
 use Rattle.vx_rules.specs.Decide.{Outside, decide, by_lines, dialed_answer, settles}
 use Rattle.vx_rules.specs.Entry.{Entry, Up, Down, Arrive, Answer, Abort, Sample, Take}
@@ -35,22 +35,32 @@ use Rattle.vx_rules.specs.Legal.{legal_state}
 use Rattle.vx_rules.specs.Sound.{IsSound, IsHeld, owns}
 use Rattle.vx_rules.specs.ProvedLaws.Keeping.{first-sound, with_link-sound, with_lock-sound, without_lock-sound, without_link-sound, without_connection-sound, with_channel-sound, with_new_channel-sound, taken-sound, sampled-sound, with_enable-sound, with_connection-sound, with_pending-sound, ended-sound, marked-sound}
 
--- the first lines let a call pass: no mark, no check and no lock is against it
-pub record Passes (aborted : Bool) (checked : Option ErrorCode) (holder : Option ℕ) : Type 0 where
+-- nothing bars a call where no lock keeps it off and no other call is before it
+pub unbarred : (holder first : Option ℕ) → bar_by holder first ≡ None → (holder ≡ None) × (first ≡ None)
+unbarred (Some link) first h = cc
+unbarred None None h = (refl, refl)
+unbarred None (Some conn) h = cc
+
+-- the first lines let a call pass: no mark, no check and no lock is against it, and no other call stands in line before it
+pub record Passes (aborted : Bool) (checked : Option ErrorCode) (holder first : Option ℕ) : Type 0 where
   pub unmarked : aborted ≡ false
   pub checks : checked ≡ None
   pub locks : holder ≡ None
+  pub first_come : first ≡ None
 
-pub passed-says : (p : Pending) (now : ℕ) (aborted : Bool) (checked : Option ErrorCode) (holder : Option ℕ)
-    → cond aborted (Refused code.Abort) (checked_lines p now checked holder) ≡ Passed → Passes aborted checked holder
-passed-says p now true checked holder h = cc
-passed-says p now false (Some error) holder h = cc
-passed-says p now false None None h = record { unmarked = refl; checks = refl; locks = refl }
-passed-says p now false None (Some holder) h = at _ h
+pub passed-says : (p : Pending) (now : ℕ) (aborted : Bool) (checked : Option ErrorCode) (holder first : Option ℕ)
+    → cond aborted (Refused code.Abort) (checked_lines p now checked (bar_by holder first)) ≡ Passed → Passes aborted checked holder first
+passed-says p now true checked holder first h = cc
+passed-says p now false (Some error) holder first h = cc
+passed-says p now false None holder first h = by (bar_by holder first) refl h
   where
-    at : (b : Bool) → kept_off holder b ≡ Passed → Passes false None (Some holder)
-    at true e = cc
-    at false e = cc
+    kept : (bar : Bar) (b : Bool) → kept_off bar b ≡ Passed → ⊥
+    kept bar true e = cc
+    kept bar false e = cc
+
+    by : (bar : Option Bar) → bar_by holder first ≡ bar → lock_lines p now bar ≡ Passed → Passes false None holder first
+    by None is e = let none = unbarred holder first is in record { unmarked = refl; checks = refl; locks = none.0; first_come = none.1 }
+    by (Some bar) is e = absurd (kept bar _ e)
 
 -- the link that a call is about is its connection's and lives
 pub record IsOn (t : Tables) (conn : ℕ) (l : Link) : Type 0 where
@@ -197,7 +207,7 @@ by_lines-keeps t w conn p now o _ s passed = tt
 pub decide-keeps : (t : Tables) (w : Wire) (conn : ℕ) (p : Pending) (now : ℕ) (o : Outside) → IsSound t → Keeps (decide t w conn p now o)
 decide-keeps t w conn p now o s =
     by_lines-keeps t w conn p now o (first_lines t w.own conn (settles o) p now) s (λ passed.
-    let says = passed-says p now p.aborted _ _ passed in
+    let says = passed-says p now p.aborted _ _ _ passed in
     effect-keeps t w.own conn (settles o) p.call s says.checks says.locks)
 
 -- each entry
@@ -245,7 +255,7 @@ pub along-none : (history : List Entry) (t : State) → along one None history �
 along-none [] t h = cc
 along-none (e ∷ es) t h = along-none es t h
 
-along-sound : (o : Option State) (history : List Entry) (t : State) → IfSome o (λ s. IsSound s.tables) → along one o history ≡ Some t → IsSound t.tables
+pub along-sound : (o : Option State) (history : List Entry) (t : State) → IfSome o (λ s. IsSound s.tables) → along one o history ≡ Some t → IsSound t.tables
 along-sound None history t sound h = absurd (along-none history t h)
 along-sound (Some s) [] t sound h = subst (λ u. IsSound u.tables) (same_Some s t h) sound
 along-sound (Some s) (e ∷ es) t sound h = along-sound (one s e) es t (next (one s e) (λ u. one-sound s u e sound)) h

@@ -1,5 +1,5 @@
 //! The first lines of the order of answers: an abort, a link that isn't there, the call's own checks, and locks.
-ghost use Rattle.std.specs.Prelude.{◌≡◌, ℕ, List, true, Some, None, IsSome, IfSome, length, ◌≤◌, if◌then◌else◌};
+ghost use Rattle.std.specs.Prelude.{◌≡◌, ℕ, List, true, Some, None, IsSome, IfSome, length, ◌≤◌, if◌then◌else◌, option_and_then};
 ghost use Rattle.std.specs.Option.{option_map};
 ghost use Rattle.vx_calls.specs.declared.limits.TheConstants.{WRITE_MAX};
 ghost use Rattle.vx_calls.specs.Target.{target};
@@ -15,22 +15,36 @@ ghost use Rattle.vx_tables.specs.Held.{kept_call};
 ghost use Rattle.vx_rules.specs.Input.{TakesInput, HasInput};
 ghost use Rattle.vx_tables.specs.Rows.{asked_call, pending_of};
 ghost use Rattle.vx_rules.specs.Serving.{IsDoable};
-ghost use Rattle.vx_tables.specs.Shown.{named_shown, lines_shown, request_shown};
+ghost use Rattle.vx_tables.specs.Shown.{named_shown, bar_shown, lines_shown, request_shown};
+ghost use Rattle.vx_rules.specs.Locks.{holder_of};
 
 use crate::tables::Tables;
 use crate::tables::checks::Named;
 use crate::tables::docmd::{command_of, command_task};
 use crate::tables::kept::Kept;
-use crate::tables::rows::{Asked, Row};
-use vx_calls::{ErrorCode, Target, target_of};
+use crate::tables::rows::{Asked, Row, find_row};
+use vx_488::ADDRESS_MAX;
+use vx_calls::{ErrorCode, Target, conflicts, target_of};
 use vx_links::LinkRow;
 use vx_plan::Task;
 
-/// The first lines refuse a call, let it wait for the lock of a link, or let it pass.
+/// An address that no device and no gateway has.
+const NOBODY: u8 = ADDRESS_MAX + 1;
+
+/// What keeps a call off its target.
+#[derive(Clone, Copy, Debug, PartialEq, Eq)]
+pub enum Bar {
+    /// The lock of this other link.
+    HeldBy { link: u32 },
+    /// The call of this connection, which came first and waits for a lock too, on a conflicting target.
+    Behind { conn: u32 },
+}
+
+/// The first lines refuse a call, let it wait for what keeps it off, or let it pass.
 #[derive(Clone, Copy, Debug, PartialEq, Eq)]
 pub enum Admission {
     Refused(ErrorCode),
-    Waiting { link: u32 },
+    Waiting(Bar),
     Passed,
 }
 
@@ -43,41 +57,49 @@ pub struct Request {
 
 impl Tables {
     /// The first lines for the pending call of a connection at this moment, in milliseconds, on a gateway at this own
-    /// address. A call that settles a dial counts the channel numbers as it does.
-    pub fn lines(&self, conn: u32, own: u8, settling: bool, now: u64) -> Admission
-        requires { IsSome (pending_at self.now conn) }
-        ensures { (p : Pending) → pending_at self.now conn ≡ Some p → lines_shown result ≡ lines.first_lines self.now own conn settling p now }
-    {
-        let row = self.held(conn);
-        let asked = asked_of(row);
-        let text = row.text.bytes.as_slice();
-        if asked.aborted {
-            Admission::Refused(ErrorCode::Abort)
-        } else {
-            self.later_lines(conn, own, settling, now, asked, text)
-        }
-    }
-
-    /// The lines behind that of the abort.
-    fn later_lines(
+    /// address, while the turn of this connection is under way, or none. A call that settles a dial counts the channel numbers as
+    /// it does.
+    pub fn lines(
         &self,
         conn: u32,
+        busy: Option<u32>,
         own: u8,
         settling: bool,
         now: u64,
-        asked: Asked,
-        text: &[u8],
     ) -> Admission
-        ensures { (handle : List ℕ) → lines_shown result ≡ lines.later_lines self.now own conn settling (asked_call asked text.now handle) now }
+        requires { IsSome (pending_at self.now conn) }
+        ensures { (p : Pending) → pending_at self.now conn ≡ Some p → lines_shown result ≡ lines.first_lines_in self.now busy own conn settling p now }
     {
+        let row = self.held(conn);
+        if asked_of(row).aborted {
+            Admission::Refused(ErrorCode::Abort)
+        } else {
+            self.later_lines(conn, busy, own, settling, now, row)
+        }
+    }
+
+    /// The lines behind that of the abort, for the pending call of this row.
+    fn later_lines(
+        &self,
+        conn: u32,
+        busy: Option<u32>,
+        own: u8,
+        settling: bool,
+        now: u64,
+        row: &Row,
+    ) -> Admission
+        requires { IsSome (pending_of row.now) }
+        ensures { (p : Pending) → pending_of row.now ≡ Some p → lines_shown result ≡ lines.later_lines_in self.now busy own conn settling p now }
+    {
+        let asked = asked_of(row);
+        let text = row.text.bytes.as_slice();
         let about = self.named(conn, asked.call);
         match self.check(own, conn, settling, about, asked.call, text) {
             Some(error) => Admission::Refused(error),
-            None => lock_lines(
-                asked,
-                now,
-                self.holder_against(own, about, asked.call, text),
-            ),
+            None => {
+                let request = lock_request(own, about, asked.call, text);
+                lock_lines(asked, now, self.bar_against(conn, busy, now, request))
+            }
         }
     }
 
@@ -90,6 +112,115 @@ impl Tables {
         let row = self.held(conn);
         let asked = asked_of(row);
         self.checks_pass(conn, own, asked, row.text.bytes.as_slice())
+    }
+
+    /// Whether the pending call of a connection waits behind no other at this moment, where no turn is under way.
+    pub fn is_first(&self, conn: u32, own: u8, now: u64) -> bool
+        requires { IsSome (pending_at self.now conn) }
+        ensures { (p : Pending) → pending_at self.now conn ≡ Some p → result ≡ lines.is_first self.now own conn p now }
+    {
+        match self.lock_request(conn, own) {
+            Some(request) => self.first_ahead(conn, None, now, &request).is_none(),
+            None => true,
+        }
+    }
+
+    /// What keeps a call of this connection off what it is under locks with: a lock, or else the first call before it.
+    fn bar_against(
+        &self,
+        conn: u32,
+        busy: Option<u32>,
+        now: u64,
+        request: Option<Request>,
+    ) -> Option<Bar>
+        ensures { option_map bar_shown result ≡ lines.bar_by (option_and_then (λ c. holder_of self.now.locks c.link c.target) (option_map request_shown request))
+            (option_and_then (lines.first_ahead self.now busy now conn) (option_map request_shown request)) }
+    {
+        match request {
+            Some(request) => self.bar_to(conn, busy, now, &request),
+            None => None,
+        }
+    }
+
+    fn bar_to(&self, conn: u32, busy: Option<u32>, now: u64, request: &Request) -> Option<Bar>
+        ensures { option_map bar_shown result ≡ lines.bar_by (holder_of self.now.locks request.now.link request.now.target)
+            (lines.first_ahead self.now busy now conn (request_shown request.now)) }
+    {
+        match self.locks.blocked(request.link, &request.target) {
+            Some(link) => Some(Bar::HeldBy { link }),
+            None => match self.first_ahead(conn, busy, now, request) {
+                Some(other) => Some(Bar::Behind { conn: other }),
+                None => None,
+            },
+        }
+    }
+
+    /// The first connection whose call came before that of this one and stands in line for what conflicts with the request. A
+    /// link that holds a lock lets nobody go first.
+    fn first_ahead(&self, conn: u32, busy: Option<u32>, now: u64, request: &Request) -> Option<u32>
+        ensures { result ≡ lines.first_ahead self.now busy now conn (request_shown request.now) }
+    {
+        if self.locks.holds(request.link) {
+            None
+        } else {
+            self.first_in_line(conn, busy, now, request.target)
+        }
+    }
+
+    /// The first of the calls before that of this connection that stands in line for what conflicts with the target.
+    fn first_in_line(&self, conn: u32, busy: Option<u32>, now: u64, target: Target) -> Option<u32>
+        ensures { result ≡ lines.first_of (lines.ahead self.now busy now conn target) }
+    {
+        self.arrivals
+            .iter()
+            .take_while(|other| **other != conn)
+            .find(|other| self.is_in_line(**other, busy, now, target))
+            .copied()
+    }
+
+    /// Whether the call of a connection stands in line for what conflicts with the target.
+    fn is_in_line(&self, conn: u32, busy: Option<u32>, now: u64, target: Target) -> bool
+        ensures { result ≡ lines.is_in_line self.now busy now target conn }
+    {
+        if busy == Some(conn) {
+            return false;
+        }
+        match self.wanted_by(conn, now) {
+            Some(wanted) => conflicts(&wanted, &target),
+            None => false,
+        }
+    }
+
+    /// What the call of a connection stands in line for at this moment: the target that it is under locks with, where it may
+    /// wait and no device_abort has marked it.
+    fn wanted_by(&self, conn: u32, now: u64) -> Option<Target>
+        ensures { result ≡ option_and_then (λ p. lines.wanted_by self.now now conn p) (pending_at self.now conn) }
+    {
+        match find_row(&self.rows, conn) {
+            Some(row) => self.wanted_in(conn, now, row),
+            None => None,
+        }
+    }
+
+    /// The same, of the call in the connection's row.
+    fn wanted_in(&self, conn: u32, now: u64, row: &Row) -> Option<Target>
+        ensures { result ≡ option_and_then (λ p. lines.wanted_by self.now now conn p) (pending_of row.now) }
+    {
+        match row.asked {
+            Some(asked) => self.wanted_now(conn, now, asked, row.text.bytes.as_slice()),
+            None => None,
+        }
+    }
+
+    fn wanted_now(&self, conn: u32, now: u64, asked: Asked, text: &[u8]) -> Option<Target>
+        ensures { (handle : List ℕ) → result ≡ lines.wanted_by self.now now conn (asked_call asked text.now handle) }
+    {
+        if !asked.aborted && waits_at(asked, now) {
+            let about = self.named(conn, asked.call);
+            target_in(lock_request(NOBODY, about, asked.call, text))
+        } else {
+            None
+        }
     }
 
     fn checks_pass(&self, conn: u32, own: u8, asked: Asked, text: &[u8]) -> bool
@@ -246,19 +377,35 @@ fn bytes_of(call: Kept, text: &[u8]) -> &[u8]
     }
 }
 
-/// A lock keeps the call off: it waits where a wait is asked for and its time hasn't passed.
-fn lock_lines(asked: Asked, now: u64, holder: Option<u32>) -> Admission
-    ensures { (text handle : List ℕ) → lines_shown result ≡ lines.lock_lines (asked_call asked text handle) now holder }
+/// A call that is kept off waits, or is refused.
+fn lock_lines(asked: Asked, now: u64, bar: Option<Bar>) -> Admission
+    ensures { (text handle : List ℕ) → lines_shown result ≡ lines.lock_lines (asked_call asked text handle) now (option_map bar_shown bar) }
 {
-    match holder {
+    match bar {
         None => Admission::Passed,
-        Some(link) => {
-            if asked.call.waits() && !has_passed(asked.call.lock_timeout(), asked.arrival, now) {
-                Admission::Waiting { link }
+        Some(bar) => {
+            if waits_at(asked, now) {
+                Admission::Waiting(bar)
             } else {
                 Admission::Refused(ErrorCode::Locked)
             }
         }
+    }
+}
+
+/// Whether a call may wait at this moment: a wait is asked for, and its time hasn't passed.
+fn waits_at(asked: Asked, now: u64) -> bool
+    ensures { (text handle : List ℕ) → result ≡ lines.waits_at (asked_call asked text handle) now }
+{
+    asked.call.waits() && !has_passed(asked.call.lock_timeout(), asked.arrival, now)
+}
+
+fn target_in(request: Option<Request>) -> Option<Target>
+    ensures { result ≡ option_map (λ c. c.target) request }
+{
+    match request {
+        Some(request) => Some(request.target),
+        None => None,
     }
 }
 

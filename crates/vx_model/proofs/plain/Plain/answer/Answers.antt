@@ -5,7 +5,7 @@ use Rattle.vx_calls.specs.Reply.{reply_shown}
 use Rattle.vx_model.specs.StepShown.{outside_shown}
 use Rattle.vx_rules.specs.State.{State, pending_at}
 use Rattle.vx_rules.specs.Lines.{first_lines}
-use Rattle.vx_tables.specs.Shown.{lines_shown}
+use Rattle.vx_tables.specs.Shown.{bar_shown, lines_shown}
 use Rattle.vx_model.specs.Stepping.{answer_at}
 use Rattle.vx_model.proofs.Answering.{leb-from, leb-not, some_pending, answer_is, answer_early, answer_idle, waiting-is, goes_at}
 use Rattle.vx_model.proofs.plain.Plain.answer.Goals as goal
@@ -58,7 +58,7 @@ returns-in-Waiting-clause-ok c =
     let p = q.0 in
     let here = q.1 in (
       answer_is s c.args.conn c.args.now o told p here (subst (λ (x : State). nat_le x.moment c.args.now ≡ true) c.self.view_is (leb-from c.self.inside.moment c.args.now c.if-now-self.false))
-          ∙ waiting-is s c.args.conn c.args.now o told p c.in-Waiting.link (ap (λ (x : State). first_lines x.tables x.wire.own c.args.conn (is_some c.args.o.now.dialed) p c.args.now) (sym c.self.view_is)
+          ∙ waiting-is s c.args.conn c.args.now o told p (bar_shown c.in-Waiting.field-0) (ap (λ (x : State). first_lines x.tables x.wire.own c.args.conn (is_some c.args.o.now.dialed) p c.args.now) (sym c.self.view_is)
           ∙ ap (λ b. first_lines c.self.inside.tables c.self.inside.wire.own c.args.conn b p c.args.now) (sym c.is_some-settling.ensures)
           ∙ sym (c.lines.ensures p (ap (λ (x : State). pending_at x.tables c.args.conn) c.self.view_is ∙ here)) ∙ ap lines_shown c.in-Waiting.is),
       refl,
