@@ -35,6 +35,7 @@ use Rattle.vx_core.specs.Shown.{cut_means, fine_of, turn_shown, before_shown, ru
 use Rattle.vx_core.specs.Keeping.{IsDialed, Keeps}
 use Rattle.vx_core.proofs.Dials.{is_still}
 use Rattle.vx_core.proofs.Keeping.{LeavesTurn, keeps-after, keeps-later}
+use Rattle.vx_rules.specs.ProvedLaws.Keeping.{first-sound as empty-sound}
 
 -- ---- an event of a core
 
@@ -240,7 +241,7 @@ pub first_keeps : {B : Type 0} (means : B → Means) (bus : B) (room : List ℕ)
     })
 first_keeps means bus room abort_port wire = record {
   holds = record {
-    sound = record { turn_stands = refl; have_come = λ conn p at. absurd (none-some p at) };
+    sound = record { turn_stands = refl; have_come = λ conn p at. absurd (none-some p at); tables = empty-sound abort_port };
     own = subst (λ (w : Wire). w.own ≤ ADDRESS_MAX) (sym wire) (omega arith);
     runs = λ r is. absurd (none-some r is);
     dials = record { each = All-nil (IsDialed (first_tables abort_port)); once = distinct-none; numbers = omega arith };

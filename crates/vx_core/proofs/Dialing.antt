@@ -39,13 +39,14 @@ use Rattle.vx_core.specs.Keeping.{IsDialable, IsDialed, KeepsDials}
 use Rattle.vx_core.specs.Turning.{HasPassed}
 use Rattle.vx_core.specs.ProvedLaws.{the_pending, own-is, distinct-filter}
 use Rattle.vx_core.specs.ProvedLaws.Counting.{distinct_numbers, distinct-moved}
+use Rattle.vx_flow.specs.Fine.{busy_with}
 
 -- a call that the first lines let pass has neither a check nor a lock against it
 pub passed-lets : {B : Type 0} (means : B → Means) (k : KernelState B) (conn : ℕ) → PassedLets → HasPassed means k conn
     → (p : Pending) → pending_at k.tables conn ≡ Some p → lets_pass k.tables (own_of means k conn) conn p ≡ true
 passed-lets means k conn law passed p at =
     subst (λ own. lets_pass k.tables own conn p ≡ true) (sym (own-is means k conn))
-    (law k.tables (wire_for (fine_of means k) conn).own conn k.moment p (passed p at))
+    (law k.tables (busy_with (fine_of means k).turn) (wire_for (fine_of means k) conn).own conn k.moment p (passed p at))
 
 -- a call whose check is passed over, with the rest
 no_refusal : (b : Bool) (error : ErrorCode) (rest : Option ErrorCode) → cond b (Some error) rest ≡ None → (b ≡ false) × (rest ≡ None)
@@ -96,7 +97,7 @@ pub passed_dial : {B : Type 0} (means : B → Means) (k : KernelState B) (conn :
 passed_dial means k conn pending passed dials =
     let p = the_pending (pending_at k.tables conn) pending in
     let own : ℕ = (wire_for (fine_of means k) conn).own in
-    let clear = admit k.tables own conn false p.0 k.moment (passed p.0 p.1) in
+    let clear = admit k.tables (busy_with (fine_of means k).turn) own conn false p.0 k.moment (passed p.0 p.1) in
     record { asked = p.0; call_at = p.1; unmarked = clear.unmarked; may = checked_dial k.tables own conn p.0.call (dials p.0 p.1) clear.checked }
 
 -- such a call is one of which a dial may be asked for

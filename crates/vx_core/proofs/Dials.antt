@@ -43,7 +43,7 @@ use Rattle.vx_rules.specs.RowLaws.{pending-other, pending-up, pending-others, pe
 use Rattle.vx_flow.specs.Event.{Event, Up, Down, Arrive, Answer, Abort, Sample, Take, Begin, Move, Dial}
 use Rattle.vx_flow.specs.FineState.{FineState}
 use Rattle.vx_flow.specs.Fine.{wire_for, outside, without_dial, fine}
-use Rattle.vx_flow.specs.Does.{AnsweredBy, ByAbort, ByNoLink, ByCheck, ByLock, ByDialUp, ByDialDown, ByEffect, ByNoRole, ByFault, ByWhole, ByTimeout, Step}
+use Rattle.vx_flow.specs.Does.{AnsweredBy, ByAbort, ByNoLink, ByCheck, ByBar, ByDialUp, ByDialDown, ByEffect, ByNoRole, ByFault, ByWhole, ByTimeout, Step}
 use Rattle.vx_flow.specs.ProvedLaws.{fine-does, line-leaves, channel_of, channel-risen, channel-up, channel-down, channel-taken}
 use Rattle.vx_core.specs.Keeping.{IsDialable, IsDialed, KeepsDials}
 use Rattle.vx_core.specs.ProvedLaws.{distinct-filter}
@@ -266,7 +266,7 @@ line-channels : (f : FineState) (conn now : ℕ) (p : Pending) (o : Outside) (to
 line-channels f conn now p o told after (ByAbort marked still stops) = same-channels f.state.tables after conn f.dialed stops.same
 line-channels f conn now p o told after (ByNoLink unmarked dead still stops) = same-channels f.state.tables after conn f.dialed stops.same
 line-channels f conn now p o told after (ByCheck error unmarked lives checked still stops) = same-channels f.state.tables after conn f.dialed stops.same
-line-channels f conn now p o told after (ByLock holder unmarked checked held waits still stops) = same-channels f.state.tables after conn f.dialed stops.same
+line-channels f conn now p o told after (ByBar bar unmarked checked barred waits still stops) = same-channels f.state.tables after conn f.dialed stops.same
 line-channels f conn now p o told after (ByDialUp clear d told_is after_is) =
     subst (λ (x : Tables). LeavesChannels f.state.tables x conn f.dialed) (sym after_is) (dial-leaves f.state.tables conn d.program d.version f.dialed d.wanted)
 line-channels f conn now p o told after (ByDialDown clear d told_is after_is) = same-channels f.state.tables after conn f.dialed after_is

@@ -34,6 +34,8 @@ use Rattle.vx_core.specs.Keeping.{KeepsDials, Holds, Keeps}
 use Rattle.vx_core.specs.Polling.{wanted, refused_ask, asks, PollsOver, EndsFrom}
 use Rattle.vx_core.proofs.Keeping.{LeavesTurn, keeps-after}
 use Rattle.vx_core.proofs.CoreCalls.{left-shown, left-leaves}
+use Rattle.vx_rules.specs.Lines.{first_lines_in}
+use Rattle.vx_flow.specs.ProvedLaws.{busy-passes, passed-is}
 
 -- ---- the state behind a poll's transfers
 
@@ -70,8 +72,9 @@ begun-runs f conn now p at may =
     let own : turn_of (Some u) conn ≡ Some u = cond-true (conn == conn) (Some u) None (eqb-self conn) in
     let tests = and_parts (is_passed (first_lines f.state.tables f.state.wire.own conn false p now)) (has_job_role f.state.wire (job_of f.state.tables conn p))
     (sym (ap (may_begin f.state conn now) at) ∙ may) in
-    ap (λ t. is_passed (first_lines f.state.tables (if is_some t then f.state.wire else f.state.wire).own conn false p now) && is_some t) own
-    ∙ ap (λ b. b && true) tests.0
+    ap (λ t. is_passed (first_lines_in f.state.tables (Some conn) (if is_some t then f.state.wire else f.state.wire).own conn false p now) && is_some t) own
+    ∙ ap (λ l. is_passed l && true)
+    (busy-passes f.state.tables f.state.wire.own conn p now conn false (passed-is (first_lines f.state.tables f.state.wire.own conn false p now) tests.0))
 
 -- where the call's turn didn't go on the poll made nothing
 pub behind-still : (f g : FineState) (conn now : ℕ) (ending : Ending) → (polls : Polls f conn now [] ending g) → ran_of ending ≡ ran.Still → polls.behind ≡ f
@@ -195,7 +198,7 @@ dials-ends {B} means through srq ndac k conn host port ended keeps cut dials pol
     record {
       keeps = record {
         holds = record {
-          sound = record { turn_stands = h.sound.turn_stands; have_come = h.sound.have_come };
+          sound = record { turn_stands = h.sound.turn_stands; have_come = h.sound.have_come; tables = h.sound.tables };
           own = h.own;
           runs = λ r at.
               let x = h.runs r at in

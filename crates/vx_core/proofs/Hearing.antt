@@ -23,6 +23,7 @@ use Rattle.vx_core.specs.Ending.{ended_shown}
 use Rattle.vx_core.specs.Keeping.{Keeps}
 use Rattle.vx_core.specs.Turning.{HasHeard}
 use Rattle.vx_core.specs.Polling.{asks, IsTold, PollsOver, Leaves, EndsFrom}
+use Rattle.vx_core.proofs.Ends.{sound-along}
 
 -- the state of a core that was told a moment
 heard-at : {B : Type 0} (means : B → Means) (k : KernelState B) (bus : B) (moment : ℕ) → (means bus).wire ≡ (means k.bus).wire
@@ -91,13 +92,14 @@ told-earlier b moment conn p srq ndac (Answered ran.Finished level reply) h = h
 told-earlier b moment conn p srq ndac _ h = h
 
 earlier-over : {B : Type 0} (means : B → Means) (through : B → Step → B → Type 0) (srq ndac : B → Bool) (f g : FineState) (bus mid after : B) (conn now : ℕ) (ending : Ending)
-    → f.state.moment ≤ now → Walk means through bus (Cut ∷ Told now ∷ []) mid → PollsOver means through srq ndac (at_moment f now) mid conn now [] ending g after
+    → IsSound f → f.state.moment ≤ now → Walk means through bus (Cut ∷ Told now ∷ []) mid → PollsOver means through srq ndac (at_moment f now) mid conn now [] ending g after
     → PollsOver means through srq ndac f bus conn now (Cut ∷ Told now ∷ []) ending g after
-earlier-over {B} means through srq ndac f g bus mid after conn now ending late walk o =
+earlier-over {B} means through srq ndac f g bus mid after conn now ending sound late walk o =
     let moves : List Transfer = (means after).moves in
     let b : FineState = o.polls.behind in
-    let first = earlier_law-holds f b now (run_events f conn now moves) late o.polls.runs_to in
-    let second = earlier_law-holds (at_moment b first.0) o.polls.last b.state.moment (end_events conn now ending) first.2 o.polls.ended in
+    let first = earlier_law-holds f b now (run_events f conn now moves) sound late o.polls.runs_to in
+    let then_sound = sound-along (run_events f conn now moves) f (at_moment b first.0) sound first.1 in
+    let second = earlier_law-holds (at_moment b first.0) o.polls.last b.state.moment (end_events conn now ending) then_sound first.2 o.polls.ended in
     let W : B → Type 0 = λ at. Walk means through at (asks b conn o.polls.asked moves (ran_of ending)) after in
     record {
       polls = record {
@@ -120,11 +122,11 @@ earlier-over {B} means through srq ndac f g bus mid after conn now ending late w
 
 -- what a poll leaves, once its end is noted
 pub poll-leaves : {B : Type 0} (means : B → Means) (through : B → Step → B → Type 0) (srq ndac : B → Bool) (k heard left new : KernelState B) (conn now : ℕ) (ended : Ended) (began : Bool)
-    → heard ≡ record k { bus = heard.bus; moment = max k.moment now } → means heard.bus ≡ cut_means (means k.bus)
+    → Keeps means k → heard ≡ record k { bus = heard.bus; moment = max k.moment now } → means heard.bus ≡ cut_means (means k.bus)
     → Walk means through k.bus (Cut ∷ Told (max k.moment now) ∷ []) heard.bus
     → EndsFrom means through srq ndac heard conn ended left → new ≡ record left { last = Some ended; began = began }
     → Leaves means through srq ndac k conn now ended new
-poll-leaves {B} means through srq ndac k heard left new conn now ended began kept cut walk ends noted =
+poll-leaves {B} means through srq ndac k heard left new conn now ended began keeps kept cut walk ends noted =
     let n : ℕ = max k.moment now in
     let moment : heard.moment ≡ n = ap (λ (s : KernelState B). s.moment) kept in
     let wire : (means heard.bus).wire ≡ (means k.bus).wire = ap (λ (m : Means). m.wire) cut in
@@ -132,7 +134,7 @@ poll-leaves {B} means through srq ndac k heard left new conn now ended began kep
     let P : FineState → ℕ → Type 0 = λ f now. PollsOver means through srq ndac f heard.bus conn now [] (ended_shown ended left.room) (fine_of means left) left.bus in
     let over : P (at_moment (fine_of means k) n) n = subst (λ f. P f n) at (subst (P (fine_of means heard)) moment ends.over) in
     subst (Leaves means through srq ndac k conn now ended) (sym noted)
-    (earlier-over means through srq ndac (fine_of means k) (fine_of means left) k.bus heard.bus left.bus conn n (ended_shown ended left.room) (omega arith) walk over)
+    (earlier-over means through srq ndac (fine_of means k) (fine_of means left) k.bus heard.bus left.bus conn n (ended_shown ended left.room) keeps.holds.sound (omega arith) walk over)
 
 -- and what the core keeps then
 pub noted-keeps : {B : Type 0} (means : B → Means) (left new : KernelState B) (ended : Ended) (began : Bool) → Keeps means left → new ≡ record left { last = Some ended; began = began } → Keeps means new

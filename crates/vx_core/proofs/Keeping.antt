@@ -158,6 +158,7 @@ keeps-later {B} means k bus moment wire le keeps = record {
       turn_stands = subst TurnOn (sym wire)
           (later-stands k.tables (fine_of means k).before (means k.bus).wire k.moment moment (fine_of means k).turn le keeps.holds.sound.turn_stands);
       have_come = λ conn p at. let came = keeps.holds.sound.have_come conn p at in omega (arith, came, le);
+      tables = keeps.holds.sound.tables;
     };
     own = subst (λ (w : Wire). w.own ≤ ADDRESS_MAX) (sym wire) keeps.holds.own;
     runs = runs;

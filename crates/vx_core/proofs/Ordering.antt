@@ -20,29 +20,31 @@ use Rattle.vx_rules.specs.Calls.{is_bus_call, is_lock_call, asks_dial}
 use Rattle.vx_rules.specs.Checks.{named_link}
 use Rattle.vx_rules.specs.Dials.{dials_to}
 use Rattle.vx_rules.specs.Lines as lines
-use Rattle.vx_rules.specs.Lines.{first_lines, lock_request}
-use Rattle.vx_tables.specs.Shown.{lines_shown}
+use Rattle.vx_rules.specs.Lines.{first_lines_in, first_lines, lock_request}
+use Rattle.vx_tables.specs.Shown.{bar_shown, lines_shown}
+use Rattle.vx_tables.specs.declared.tables.lines.Bar.{Bar}
+use Rattle.vx_tables.specs.declared.tables.lines.Bar.TheVariants as bar
 use Rattle.vx_tables.specs.declared.tables.lines.Admission.{Admission}
 use Rattle.vx_rules.specs.Effects.{stopped_reply, effect}
 use Rattle.vx_flow.specs.Event.{Begin}
 use Rattle.vx_flow.specs.FineState.{Turn, FineState, turn_of, moves_of}
-use Rattle.vx_flow.specs.Fine.{fine, job_of, wire_for, waits_for, waits_for_turn, on_conflict, turn_target, may_begin, without_dial}
+use Rattle.vx_flow.specs.Fine.{busy_with, fine, job_of, wire_for, waits_for, waits_for_turn, on_conflict, turn_target, may_begin, without_dial}
 use Rattle.vx_flow.specs.Poll.{Ending, Answered, Dialed, NotYet, Polls, ran_before, lines_at, moved_events, run_events}
 use Rattle.vx_flow.specs.declared.progress.Why.{Why}
 use Rattle.vx_flow.specs.declared.progress.Ran.TheVariants as ran
 use Rattle.vx_flow.specs.Ways.{IsPolled, over, begun_now}
-use Rattle.vx_flow.specs.ProvedLaws.{stays_sound-law, refused_law-holds, waits_law-holds, no_role_law-holds, effect_law-holds, dial_law-holds, begun_law-holds}
+use Rattle.vx_flow.specs.ProvedLaws.{stays_sound-law, refused_law-holds, waits_law-holds, no_role_law-holds, effect_law-holds, dial_law-holds, begun_law-holds, busy-passes}
 use Rattle.vx_core.specs.declared.running.Running.{Running}
 use Rattle.vx_flow.specs.declared.progress.Why.TheVariants as why
 use Rattle.vx_core.specs.declared.ended.Ended.{Ended}
 use Rattle.vx_core.specs.declared.ended.Ended.TheVariants as ended
 use Rattle.vx_core.specs.KernelState.{KernelState}
-use Rattle.vx_core.specs.Shown.{fine_of, turn_shown, running_of, own_of, closed}
-use Rattle.vx_core.specs.Ending.{ended_shown, ended_len}
+use Rattle.vx_core.specs.Shown.{busy_of, fine_of, turn_shown, running_of, own_of, closed}
+use Rattle.vx_core.specs.Ending.{ended_shown, ended_len, why_barred}
 use Rattle.vx_core.specs.Keeping.{RunsTurn, KeepsDials, Holds}
 use Rattle.vx_core.specs.Turning.{HasHeard, HasPassed, IsFree, HasTurn, BeginsTurn, turn_waited}
 use Rattle.vx_core.specs.Polling.{PollsOver, EndsFrom}
-use Rattle.vx_core.specs.ProvedLaws.{own-is, the_pending}
+use Rattle.vx_core.specs.ProvedLaws.{own-is, busy-is, the_pending}
 use Rattle.vx_core.proofs.Ends.{begun-so, still-ends, waits-ends, dials-ends}
 
 -- ---- a call that is polled
@@ -53,10 +55,11 @@ polled means k conn p heard at = record { sound = heard.keeps.holds.sound; call_
 
 -- what the first lines say, by what the tables say
 pub lines-so : {B : Type 0} (means : B → Means) (k : KernelState B) (conn : ℕ) (said told : Admission) (p : Pending)
-    → ((p : Pending) → pending_at k.tables conn ≡ Some p → lines_shown said ≡ first_lines k.tables (own_of means k conn) conn false p k.moment)
+    → ((p : Pending) → pending_at k.tables conn ≡ Some p → lines_shown said ≡ first_lines_in k.tables (busy_of k) (own_of means k conn) conn false p k.moment)
     → said ≡ told → pending_at k.tables conn ≡ Some p → lines_at (fine_of means k) conn k.moment p ≡ lines_shown told
 lines-so means k conn said told p h is at =
-    ap (λ own. first_lines k.tables own conn false p k.moment) (sym (own-is means k conn)) ∙ sym (h p at) ∙ ap lines_shown is
+    ap (λ own. first_lines_in k.tables (busy_with (fine_of means k).turn) own conn false p k.moment) (sym (own-is means k conn))
+    ∙ ap (λ busy. first_lines_in k.tables busy (own_of means k conn) conn false p k.moment) (sym (busy-is means k)) ∙ sym (h p at) ∙ ap lines_shown is
 
 -- a call that is answered where no transfer was made, with the state that it leaves
 still-so : {B : Type 0} (means : B → Means) (through : B → Step → B → Type 0) (srq ndac : B → Bool) (k new : KernelState B) (conn : ℕ) (after : Tables)
@@ -92,11 +95,12 @@ waiting-ends means through srq ndac k conn w heard says still =
     waits-ends means through srq ndac k conn w (ended.Waited w) heard.keeps heard.cut still
     (waits_law-holds (fine_of means k) conn k.moment p.0 w (polled means k conn p.0 heard p.1) (says p.0 p.1) still) refl (omega arith)
 
--- for a link's lock
-pub locked-ends : {B : Type 0} (means : B → Means) (through : B → Step → B → Type 0) (srq ndac : B → Bool) (k : KernelState B) (conn link : ℕ)
-    → HasHeard means k conn → ((p : Pending) → pending_at k.tables conn ≡ Some p → lines_at (fine_of means k) conn k.moment p ≡ lines.Waiting link)
-    → EndsFrom means through srq ndac k conn (ended.Waited (why.Locked link)) k
-locked-ends means through srq ndac k conn link heard says = waiting-ends means through srq ndac k conn (why.Locked link) heard says refl
+-- for what keeps it off: a link's lock, or a call that stands in line before it
+pub barred-ends : {B : Type 0} (means : B → Means) (through : B → Step → B → Type 0) (srq ndac : B → Bool) (k : KernelState B) (conn : ℕ) (b : Bar)
+    → HasHeard means k conn → ((p : Pending) → pending_at k.tables conn ≡ Some p → lines_at (fine_of means k) conn k.moment p ≡ lines.Waiting (bar_shown b))
+    → EndsFrom means through srq ndac k conn (ended.Waited (why_barred b)) k
+barred-ends means through srq ndac k conn (bar.HeldBy link) heard says = waiting-ends means through srq ndac k conn (why.Locked link) heard says refl
+barred-ends means through srq ndac k conn (bar.Behind other) heard says = waiting-ends means through srq ndac k conn (why.Behind other) heard says refl
 
 -- ---- a call that the first lines let pass
 
@@ -253,11 +257,11 @@ has-begun {B} means k new conn has heard passed none job has_it begins =
       few = subst (λ (s : KernelState B). count_of s.tables role.Core ≤ ROLE_MAX) (sym begins.kept) heard.keeps.holds.few;
     } in
     let on_now : (q : Pending) → pending_at k.tables conn ≡ Some q → first_lines k.tables (means k.bus).wire.own conn false q k.moment ≡ lines.Passed =
-    λ q at. ap (λ t. first_lines k.tables (cond (is_some (turn_of t conn)) f.before f.state.wire).own conn false q k.moment) (sym turn) ∙ passed q at in
+    λ q at. ap (λ t. first_lines_in k.tables (busy_with t) (cond (is_some (turn_of t conn)) f.before f.state.wire).own conn false q k.moment) (sym turn) ∙ passed q at in
     let u : Turn = record { connection = r.conn; begun = r.turn.begun; moves = [] } in
     let passed_then : HasPassed means N conn =
-    λ q at. ap (λ b. first_lines k.tables (cond (is_some (cond b (Some u) None)) (means k.bus).wire (means k.bus).wire).own conn false q k.moment)
-    (eq-eqb r.conn conn begins.of_call) ∙ on_now q at in
+    λ q at. ap (λ b. first_lines_in k.tables (Some r.conn) (cond (is_some (cond b (Some u) None)) (means k.bus).wire (means k.bus).wire).own conn false q k.moment)
+    (eq-eqb r.conn conn begins.of_call) ∙ busy-passes k.tables (means k.bus).wire.own conn q k.moment r.conn false (on_now q at) in
     record {
       asked = p.0;
       call_at = p.1;

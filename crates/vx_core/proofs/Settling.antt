@@ -33,6 +33,8 @@ use Rattle.vx_core.specs.Shown.{cut_means, fine_of, closed}
 use Rattle.vx_core.specs.Keeping.{IsDialable, IsDialed, KeepsDials, Keeps}
 use Rattle.vx_core.proofs.Keeping.{keeps-later}
 use Rattle.vx_core.proofs.CoreCalls.{Steps, Leads, ends, cut-wire, led}
+use Rattle.vx_rules.specs.Lines.{ahead_of}
+use Rattle.vx_flow.specs.Fine.{busy_with}
 
 -- ---- a call of which a dial was asked for
 
@@ -89,10 +91,10 @@ waits-not t own conn p host port prog vers family (Some u) is =
     ∙ and-false (not (u.connection == conn))
 
 -- the lines let it pass: it names no link, and is under no lock
-clear : (f : FineState) (conn : ℕ) (p : Pending) (host port prog vers family : ℕ) → p.aborted ≡ false → channel_at f.state.tables.srq_state conn ≡ None
+clear : (f : FineState) (conn now : ℕ) (p : Pending) (host port prog vers family : ℕ) → p.aborted ≡ false → channel_at f.state.tables.srq_state conn ≡ None
     → has_number f.state.tables.srq_state ≡ true → p.call ≡ call.CreateIntr host port prog vers family → IsDialable (call.CreateIntr host port prog vers family)
-    → IsClear f conn true p
-clear f conn p host port prog vers family unmarked free left is able =
+    → IsClear f conn true p now
+clear f conn now p host port prog vers family unmarked free left is able =
     let t = f.state.tables in
     let own : ℕ = (wire_for f conn).own in
     record {
@@ -102,6 +104,7 @@ clear f conn p host port prog vers family unmarked free left is able =
             ap (λ (c : Call). check t own conn true (named_link t conn c) c) is
             ∙ unchecked t conn family port free left able.0 able.1 able.2;
         unlocked = ap (λ (c : Call). holder_against t own (named_link t conn c) c) is;
+        first = ap (λ (c : Call). ahead_of t (busy_with f.turn) own now conn (named_link t conn c) c) is;
       };
       alone = waits-not t own conn p host port prog vers family f.turn is;
     }
@@ -113,12 +116,12 @@ dial-line : (f : FineState) (conn now : ℕ) (p : Pending) (up : Bool) (told : R
     → AnsweredBy f conn now p (outside f conn false (Some up) false) told after
 dial-line f conn now p true told after unmarked free left dialing (call.CreateIntr host port prog vers family) is able settles =
     let made = same_Some (reply.Error code.Ok, record f.state.tables { srq_state = with_new_channel f.state.tables.srq_state conn prog vers }) (told, after) settles in
-    ByDialUp (clear f conn p host port prog vers family unmarked free left is able)
+    ByDialUp (clear f conn now p host port prog vers family unmarked free left is able)
     (record { host = host; port = port; program = prog; version = vers; family = family; asks = is; wanted = dialing; told_so = refl; held = refl; untold = refl })
     (ap (λ x. x.0) (sym made)) (ap (λ x. x.1) (sym made))
 dial-line f conn now p false told after unmarked free left dialing (call.CreateIntr host port prog vers family) is able settles =
     let made = same_Some (reply.Error code.NoChannel, f.state.tables) (told, after) settles in
-    ByDialDown (clear f conn p host port prog vers family unmarked free left is able)
+    ByDialDown (clear f conn now p host port prog vers family unmarked free left is able)
     (record { host = host; port = port; program = prog; version = vers; family = family; asks = is; wanted = dialing; told_so = refl; held = refl; untold = refl })
     (ap (λ x. x.0) (sym made)) (ap (λ x. x.1) (sym made))
 dial-line f conn now p up told after unmarked free left dialing _ is able settles = absurd able

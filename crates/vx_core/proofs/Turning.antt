@@ -49,6 +49,7 @@ use Rattle.vx_core.specs.Shown.{fine_of, own_of, running_of, turn_shown}
 use Rattle.vx_core.specs.Keeping.{RunsTurn, Holds}
 use Rattle.vx_core.specs.Turning.{HasPassed, HasTurn, BeginsTurn, WentOn, turn_waited}
 use Rattle.vx_core.specs.ProvedLaws.{running-own, own-is, few-bytes}
+use Rattle.vx_flow.specs.Fine.{busy_with}
 
 -- ---- what the first lines' letting pass says
 
@@ -56,7 +57,7 @@ use Rattle.vx_core.specs.ProvedLaws.{running-own, own-is, few-bytes}
 pub passes : {B : Type 0} (means : B → Means) (k : KernelState B) (conn : ℕ) → PassedLets → HasPassed means k conn
     → (p : Pending) → pending_at k.tables conn ≡ Some p → (own : ℕ) × (lets_pass k.tables own conn p ≡ true)
 passes means k conn law passed p at =
-    ((wire_for (fine_of means k) conn).own, law k.tables (wire_for (fine_of means k) conn).own conn k.moment p (passed p at))
+    ((wire_for (fine_of means k) conn).own, law k.tables (busy_with (fine_of means k).turn) (wire_for (fine_of means k) conn).own conn k.moment p (passed p at))
 
 -- the job of a call that may be served, where it has one
 pub doable-some : (o : Option Task) (job : Task) (bytes : List ℕ) → IfSome o (λ task. IsDoable task bytes) → o ≡ Some job → IsDoable job bytes

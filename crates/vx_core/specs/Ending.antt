@@ -1,5 +1,9 @@
 -- How a poll ended, as events know it.
 use Rattle.std.specs.Prelude.{ℕ, Bool, false, List}
+use Rattle.vx_tables.specs.declared.tables.lines.Bar.{Bar}
+use Rattle.vx_tables.specs.declared.tables.lines.Bar.TheVariants as bar
+use Rattle.vx_flow.specs.declared.progress.Why.{Why}
+use Rattle.vx_flow.specs.declared.progress.Why.TheVariants as why
 use Rattle.vx_flow.specs.Poll as poll
 use Rattle.vx_core.specs.declared.ended.Ended.{Ended}
 use Rattle.vx_core.specs.declared.ended.Ended.TheVariants as ended
@@ -15,6 +19,11 @@ ended_shown (ended.Dialed host port) room = poll.Dialed host port
 abbrev pub ended_len : Ended → ℕ
 ended_len (ended.Answered r level given) = given_len given
 ended_len _ = 0
+
+-- why a call waits that is kept off its target
+abbrev pub why_barred : Bar → Why
+why_barred (bar.HeldBy link) = why.Locked link
+why_barred (bar.Behind conn) = why.Behind conn
 
 -- whether the poll went on with its call's turn
 abbrev pub has_run : Ended → Bool

@@ -1,4 +1,5 @@
 -- What a core shows of what it keeps, and its small changes.
+use Rattle.std.specs.Option.{option_map}
 use Rattle.std.specs.Prelude.{ℕ, not, ◌==◌, if◌then◌else◌, List, [], filter, Option, Some, None}
 use Rattle.vx_488.specs.declared.transfers.Transfer.{Transfer}
 use Rattle.vx_488.specs.declared.wire.Wire.{Wire}
@@ -43,6 +44,10 @@ own_by (Some r) before now = before.own
 -- the own address of the bus that a connection's call is measured on
 abbrev pub own_of : {B : Type 0} → (B → Means) → KernelState B → ℕ → ℕ
 own_of means k conn = own_by (running_of k.running conn) k.before (means k.bus).wire
+
+-- the connection whose turn is under way, where one is
+abbrev pub busy_of : {B : Type 0} → KernelState B → Option ℕ
+busy_of k = option_map (λ (r : Running). r.conn) k.running
 
 -- the turn, unless it is of this connection
 abbrev pub running_without : Option Running → ℕ → Option Running

@@ -13,13 +13,13 @@ ghost use Rattle.vx_rules.specs.State as state;
 ghost use Rattle.vx_rules.specs.State.{Pending, pending_at, first_tables, with_pending};
 ghost use Rattle.vx_rules.specs.Calls as calls;
 ghost use Rattle.vx_rules.specs.Calls.{IsShort};
-ghost use Rattle.vx_rules.specs.Lines.{first_lines};
+ghost use Rattle.vx_rules.specs.Lines.{first_lines_in};
 ghost use Rattle.vx_rules.specs.One.{may_wait, arrived, abort_reply, abort_tables};
 ghost use Rattle.vx_rules.specs.Sound.{IsSound};
 ghost use Rattle.vx_rules.specs.Serving.{IsPlainLink};
 ghost use Rattle.vx_tables.specs.Shown.{lines_shown};
 ghost use Rattle.vx_core.specs.KernelState.{KernelState};
-ghost use Rattle.vx_core.specs.Shown.{cut_means, own_of, running_of, closed, left};
+ghost use Rattle.vx_core.specs.Shown.{cut_means, busy_of, own_of, running_of, closed, left};
 
 use crate::ended::Ended;
 use crate::running::Running;
@@ -164,6 +164,16 @@ impl<B: Bus> Kernel<B> {
         }
     }
 
+    /// The connection whose turn on the bus is under way, where one is.
+    fn busy(&self) -> Option<u32>
+        ensures { result ≡ busy_of self.now }
+    {
+        match self.running {
+            Some(running) => Some(running.conn),
+            None => None,
+        }
+    }
+
     /// The turn of a connection's call, where it is under way.
     pub fn own_turn(&self, conn: u32) -> Option<Running>
         ensures { result ≡ running_of self.now.running conn }
@@ -248,10 +258,10 @@ impl<B: Bus> Kernel<B> {
     pub fn lines(&self, conn: u32) -> Admission
         requires { IsSome (pending_at self.now.tables conn) }
         ensures { (p : Pending) → pending_at self.now.tables conn ≡ Some p
-            → lines_shown result ≡ first_lines self.now.tables (own_of B.means self.now conn) conn false p self.now.moment }
+            → lines_shown result ≡ first_lines_in self.now.tables (busy_of self.now) (own_of B.means self.now conn) conn false p self.now.moment }
     {
         self.tables
-            .lines(conn, self.own_for(conn), false, self.moment)
+            .lines(conn, self.busy(), self.own_for(conn), false, self.moment)
     }
 
     /// Whether the pending call of a connection needs the bus.

@@ -5,7 +5,7 @@ ghost use Rattle.vx_rules.specs.State.{Pending, pending_at};
 ghost use Rattle.vx_rules.specs.Calls as calls;
 ghost use Rattle.vx_flow.specs.Poll.{begins};
 ghost use Rattle.vx_core.specs.Shown.{fine_of};
-ghost use Rattle.vx_core.specs.Ending.{ended_len, has_run};
+ghost use Rattle.vx_core.specs.Ending.{ended_len, has_run, why_barred};
 ghost use Rattle.vx_core.specs.Keeping.{Keeps};
 ghost use Rattle.vx_core.specs.Polling.{Leaves, EndsFrom};
 ghost use Rattle.vx_core.specs.Turning.{HasHeard, HasPassed, HasTurn, IsFree};
@@ -16,7 +16,7 @@ use vx_bus_traits::Bus;
 use vx_calls::ErrorCode;
 use vx_ctrl::Went;
 use vx_flow::{Ran, Why};
-use vx_tables::Admission;
+use vx_tables::{Admission, Bar};
 
 /// Answers the call of a connection by the first line of the order of answers that holds, or says why it isn't answered.
 pub(crate) fn poll<B: Bus>(kernel: &mut Kernel<B>, conn: u32, now: u64) -> Ended
@@ -50,8 +50,18 @@ fn answer<B: Bus>(kernel: &mut Kernel<B>, conn: u32) -> Ended
 {
     match kernel.lines(conn) {
         Admission::Refused(error) => kernel.stop(conn, Ran::Still, error),
-        Admission::Waiting { link } => Ended::Waited(Why::Locked { by: link }),
+        Admission::Waiting(bar) => Ended::Waited(barred(bar)),
         Admission::Passed => pass(kernel, conn),
+    }
+}
+
+/// Why a call waits that is kept off its target.
+fn barred(bar: Bar) -> Why
+    ensures { result ≡ why_barred bar }
+{
+    match bar {
+        Bar::HeldBy { link } => Why::Locked { by: link },
+        Bar::Behind { conn } => Why::Behind { by: conn },
     }
 }
 

@@ -1,5 +1,5 @@
 -- What each event does: when it is allowed, and the state behind it; of an answer, by which line of the order of answers it is given.
-use Rattle.std.specs.Prelude.{◌≡◌, ◌≢◌, ◌≤◌, ℕ, Bool, true, false, not, ◌&&◌, ◌==◌, List, [], ◌∷◌, ◌++◌, Some, None, IsSome}
+use Rattle.std.specs.Prelude.{◌≡◌, ◌≢◌, ◌≤◌, ℕ, Bool, true, false, ◌==◌, List, [], ◌∷◌, ◌++◌, Option, Some, None, IsSome}
 use Rattle.std.specs.List.{list_any}
 use Rattle.vx_calls.specs.declared.calls.Role.{Role}
 use Rattle.vx_calls.specs.declared.calls.Role.TheVariants as role
@@ -16,15 +16,15 @@ use Rattle.vx_plan.specs.Roles.{has_role}
 use Rattle.vx_plan.specs.Results.{whole_reply}
 use Rattle.vx_rules.specs.SrqState.{Given, given, taken, sampled, with_new_channel}
 use Rattle.vx_rules.specs.State.{Pending, Tables, connection_at, role_at, pending_at, has_room, with_pending, with_connection, without_connection}
-use Rattle.vx_rules.specs.Calls.{is_bus_call, asks_dial, asks_wait, lock_timeout_of, io_timeout_of, bytes_of, is_big, has_passed}
+use Rattle.vx_rules.specs.Calls.{is_bus_call, asks_dial, io_timeout_of, bytes_of, is_big, has_passed}
 use Rattle.vx_rules.specs.Checks.{DeadLink, named_link, check}
-use Rattle.vx_rules.specs.Lines.{holder_against}
+use Rattle.vx_rules.specs.Lines.{Bar, waits_at, holder_against, ahead_of, bar_against}
 use Rattle.vx_rules.specs.Effects.{stopped_reply, effect}
 use Rattle.vx_rules.specs.Decide.{Outside, stand_on, level_fits}
 use Rattle.vx_rules.specs.One.{may_wait, arrived, abort_reply, abort_tables}
 use Rattle.vx_flow.specs.Event.{Event, Up, Down, Arrive, Answer, Abort, Sample, Take, Begin, Move, Dial}
 use Rattle.vx_flow.specs.FineState.{Turn, FineState}
-use Rattle.vx_flow.specs.Fine.{job_of, turn_stand, is_answer_of, waits_for_turn, wire_for, wire_before, outside, without_dial, fine}
+use Rattle.vx_flow.specs.Fine.{job_of, busy_with, turn_stand, is_answer_of, waits_for_turn, wire_for, wire_before, outside, without_dial, fine}
 use Rattle.vx_flow.specs.Ways.{turn_left_by, over, moved_on, begun_now}
 
 -- ---- the state behind an event
@@ -49,21 +49,19 @@ gone_down f conn = record {
 
 -- ---- what an answer rests on
 
--- The first lines let a call pass, on a gateway at this own address: it isn't marked, no check of its own and no lock is against
--- it. A call that settles a dial counts the channel numbers as it does.
-pub record IsAdmitted (t : Tables) (own conn : ℕ) (settling : Bool) (p : Pending) : Type 0 where
+-- The first lines let a call pass at this moment, on a gateway at this own address, while a connection's turn is under way or none:
+-- it isn't marked, no check of its own and no lock is against it, and no other call stands in line before it. A call that settles a
+-- dial counts the channel numbers as it does.
+pub record IsAdmitted (t : Tables) (busy : Option ℕ) (own conn : ℕ) (settling : Bool) (p : Pending) (now : ℕ) : Type 0 where
   pub unmarked : p.aborted ≡ false
   pub checked : check t own conn settling (named_link t conn p.call) p.call ≡ None
   pub unlocked : holder_against t own (named_link t conn p.call) p.call ≡ None
+  pub first : ahead_of t busy own now conn (named_link t conn p.call) p.call ≡ None
 
 -- they do, on the bus that the call is measured on, and it waits for no other connection's turn
-pub record IsClear (f : FineState) (conn : ℕ) (settling : Bool) (p : Pending) : Type 0 where
-  pub admitted : IsAdmitted f.state.tables (wire_for f conn).own conn settling p
+pub record IsClear (f : FineState) (conn : ℕ) (settling : Bool) (p : Pending) (now : ℕ) : Type 0 where
+  pub admitted : IsAdmitted f.state.tables (busy_with f.turn) (wire_for f conn).own conn settling p now
   pub alone : waits_for_turn f.state.tables (wire_for f conn).own conn p f.turn ≡ false
-
--- a lock that is against the call is waited for: a wait is asked for, and its time hasn't passed
-abbrev pub waits_on : Pending → ℕ → Bool
-waits_on p now = asks_wait p.call && not (has_passed (lock_timeout_of p.call) p.arrival now)
 
 -- nothing comes from outside: the bus didn't fail, no dial was made, no level is told
 pub record IsStill (o : Outside) : Type 0 where
@@ -134,31 +132,31 @@ pub data AnsweredBy (f : FineState) (conn now : ℕ) (p : Pending) (o : Outside)
   ByCheck : (error : ErrorCode) → p.aborted ≡ false → named_link f.state.tables conn p.call ≢ DeadLink
       → check f.state.tables (wire_for f conn).own conn false (named_link f.state.tables conn p.call) p.call ≡ Some error → IsStill o
       → Stops f p o error told after → AnsweredBy f conn now p o told after
-  -- a lock of this link keeps it off, and it doesn't wait, or no longer
-  ByLock : (holder : ℕ) → p.aborted ≡ false
+  -- another link's lock keeps it off, or a call that stands in line before it, and it doesn't wait, or no longer
+  ByBar : (bar : Bar) → p.aborted ≡ false
       → check f.state.tables (wire_for f conn).own conn false (named_link f.state.tables conn p.call) p.call ≡ None
-      → holder_against f.state.tables (wire_for f conn).own (named_link f.state.tables conn p.call) p.call ≡ Some holder
-      → waits_on p now ≡ false → IsStill o → Stops f p o code.Locked told after → AnsweredBy f conn now p o told after
+      → bar_against f.state.tables (busy_with f.turn) (wire_for f conn).own now conn (named_link f.state.tables conn p.call) p.call ≡ Some bar
+      → waits_at p now ≡ false → IsStill o → Stops f p o code.Locked told after → AnsweredBy f conn now p o told after
   -- its dial came up: the channel is made
-  ByDialUp : IsClear f conn true p → (d : IsDialed f conn p o true) → told ≡ reply.Error code.Ok
+  ByDialUp : IsClear f conn true p now → (d : IsDialed f conn p o true) → told ≡ reply.Error code.Ok
       → after ≡ record f.state.tables { srq_state = with_new_channel f.state.tables.srq_state conn d.program d.version }
       → AnsweredBy f conn now p o told after
   -- it didn't
-  ByDialDown : IsClear f conn true p → IsDialed f conn p o false → told ≡ reply.Error code.NoChannel → after ≡ f.state.tables
+  ByDialDown : IsClear f conn true p now → IsDialed f conn p o false → told ≡ reply.Error code.NoChannel → after ≡ f.state.tables
       → AnsweredBy f conn now p o told after
   -- a call that needs neither the bus nor a dial has its effect
-  ByEffect : IsClear f conn false p → is_bus_call p.call ≡ false → asks_dial p.call ≡ false → IsStill o
+  ByEffect : IsClear f conn false p now → is_bus_call p.call ≡ false → asks_dial p.call ≡ false → IsStill o
       → effect f.state.tables (wire_for f conn).own conn (named_link f.state.tables conn p.call) p.call ≡ Some (told, after)
       → AnsweredBy f conn now p o told after
   -- the gateway hasn't the role that its job needs
-  ByNoRole : (job : Task) → IsClear f conn false p → job_of f.state.tables conn p ≡ Some job → has_role job (wire_for f conn) ≡ false
+  ByNoRole : (job : Task) → IsClear f conn false p now → job_of f.state.tables conn p ≡ Some job → has_role job (wire_for f conn) ≡ false
       → IsStill o → Stops f p o code.BusFault told after → AnsweredBy f conn now p o told after
   -- its turn's bus failed
-  ByFault : IsClear f conn false p → IsBroken f conn p o → Stops f p o code.BusFault told after → AnsweredBy f conn now p o told after
+  ByFault : IsClear f conn false p now → IsBroken f conn p o → Stops f p o code.BusFault told after → AnsweredBy f conn now p o told after
   -- its turn's list is whole
-  ByWhole : IsClear f conn false p → IsDone f conn p o told after → AnsweredBy f conn now p o told after
+  ByWhole : IsClear f conn false p now → IsDone f conn p o told after → AnsweredBy f conn now p o told after
   -- its turn's time has passed
-  ByTimeout : IsClear f conn false p → IsOverdue f conn now p o → Stops f p o code.Timeout told after → AnsweredBy f conn now p o told after
+  ByTimeout : IsClear f conn false p now → IsOverdue f conn now p o → Stops f p o code.Timeout told after → AnsweredBy f conn now p o told after
 
 -- ---- what each event does
 
@@ -213,7 +211,7 @@ pub record Begins (f : FineState) (conn now : ℕ) (g : FineState) : Type 0 wher
   pub no_turn : f.turn ≡ None
   pub asked : Pending
   pub call_at : pending_at f.state.tables conn ≡ Some asked
-  pub admitted : IsAdmitted f.state.tables f.state.wire.own conn false asked
+  pub admitted : IsAdmitted f.state.tables None f.state.wire.own conn false asked now
   pub job : Task
   pub has_job : job_of f.state.tables conn asked ≡ Some job
   pub in_role : has_role job f.state.wire ≡ true
@@ -226,7 +224,7 @@ pub record Moves (f : FineState) (conn : ℕ) (moves : List Transfer) (g : FineS
   pub of_call : turn.connection ≡ conn
   pub asked : Pending
   pub call_at : pending_at f.state.tables conn ≡ Some asked
-  pub admitted : IsAdmitted f.state.tables f.state.wire.own conn false asked
+  pub admitted : IsAdmitted f.state.tables None f.state.wire.own conn false asked f.state.moment
   pub on_plan : turn_stand f turn (turn.moves ++ moves) ≢ Off
   pub leads : g ≡ moved_on f turn moves
 
@@ -236,7 +234,7 @@ pub record Dials (f : FineState) (conn now : ℕ) (g : FineState) : Type 0 where
   pub asked : Pending
   pub call_at : pending_at f.state.tables conn ≡ Some asked
   pub asks : asks_dial asked.call ≡ true
-  pub admitted : IsAdmitted f.state.tables f.state.wire.own conn false asked
+  pub admitted : IsAdmitted f.state.tables None f.state.wire.own conn false asked now
   pub leads : g ≡ beside f f.state.tables now (without_dial f.dialed conn ++ conn ∷ [])
 
 -- what each event does, by its kind

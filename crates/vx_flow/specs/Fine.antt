@@ -13,11 +13,11 @@ use Rattle.vx_plan.specs.Plan.{Stand, Whole, Off}
 use Rattle.vx_rules.specs.State.{Pending, Tables, State, connection_at, pending_at, without_connection}
 use Rattle.vx_rules.specs.Calls.{is_bus_call, is_lock_call, asks_dial}
 use Rattle.vx_rules.specs.Checks.{NamedLink, NoLink, DeadLink, OnLink, named_link}
-use Rattle.vx_rules.specs.Lines.{LockRequest, Admission, Passed, lock_request, first_lines, lets_pass}
+use Rattle.vx_rules.specs.Lines.{LockRequest, Admission, Passed, lock_request, first_lines_in, first_lines, lets_pass, is_first}
 use Rattle.vx_rules.specs.Effects.{task_of}
 use Rattle.vx_rules.specs.Decide.{Outside, stand_of_job, has_job_role, settles}
 use Rattle.vx_rules.specs.Entry as entry
-use Rattle.vx_rules.specs.One.{one, answer, if_reply}
+use Rattle.vx_rules.specs.One.{one, answer_in, if_reply}
 use Rattle.vx_flow.specs.Event.{Event, Up, Down, Arrive, Answer, Abort, Sample, Take, Begin, Move, Dial}
 use Rattle.vx_flow.specs.FineState.{Turn, FineState, turn_of, begun_of, moves_of, turn_after}
 
@@ -78,6 +78,10 @@ abbrev pub waits_for_turn : Tables → ℕ → ℕ → Pending → Option Turn �
 waits_for_turn t own conn p None = false
 waits_for_turn t own conn p (Some u) = waits_for t own conn p u
 
+-- the connection whose turn is under way, where one is
+abbrev pub busy_with : Option Turn → Option ℕ
+busy_with turn = option_map (λ u. u.connection) turn
+
 -- the bus that a connection's call is measured on: as its turn began, where that is under way
 abbrev pub wire_for : FineState → ℕ → Wire
 wire_for f conn = if is_some (turn_of f.turn conn) then f.before else f.state.wire
@@ -107,7 +111,7 @@ passes_lines f conn p o _ = true
 abbrev pub is_answered : FineState → ℕ → ℕ → Outside → Option Pending → Bool
 is_answered f conn now o None = false
 is_answered f conn now o (Some p) =
-    passes_lines f conn p o (first_lines f.state.tables (wire_for f conn).own conn (settles o) p now)
+    passes_lines f conn p o (first_lines_in f.state.tables (busy_with f.turn) (wire_for f conn).own conn (settles o) p now)
 
 abbrev pub is_passed : Admission → Bool
 is_passed Passed = true
@@ -127,7 +131,7 @@ may_dial s conn now (Some p) = asks_dial p.call && is_passed (first_lines s.tabl
 -- a turn may go on: nothing has come against its call
 abbrev pub goes_on : State → ℕ → Option Pending → Bool
 goes_on s conn None = false
-goes_on s conn (Some p) = not p.aborted && lets_pass s.tables s.wire.own conn p
+goes_on s conn (Some p) = not p.aborted && lets_pass s.tables s.wire.own conn p && is_first s.tables s.wire.own conn p s.moment
 
 abbrev pub may_move : FineState → ℕ → List Transfer → Option Turn → Bool
 may_move f conn moves None = false
@@ -162,7 +166,7 @@ answered_fine f e conn s = fine_after f e (without_dial f.dialed conn) (record s
 abbrev pub fine_answer : FineState → Event → ℕ → ℕ → Outside → Reply → Option FineState
 fine_answer f e conn now o told =
     if nat_le f.state.moment now && is_answered f conn now o (pending_at f.state.tables conn)
-    then option_map (answered_fine f e conn) (option_and_then (if_reply told) (answer (record f.state { wire = wire_for f conn }) conn now o))
+    then option_map (answered_fine f e conn) (option_and_then (if_reply told) (answer_in (record f.state { wire = wire_for f conn }) (busy_with f.turn) conn now o))
     else None
 
 abbrev pub fine_step : FineState → Event → Option FineState

@@ -155,8 +155,8 @@ TurnFreeLaw = (abort_port : ℕ) (h : List Event) (f : FineState) (u : Turn) (p 
     → fine_along abort_port h ≡ Some f → f.turn ≡ Some u → pending_at f.state.tables u.connection ≡ Some p
     → named_link f.state.tables u.connection p.call ≡ OnLink l → IsTurnFree f u l
 
--- Events that are allowed from a state at a later moment are allowed at the earlier one, and lead to the same state, but for
--- its moment, which is no later.
+-- Events that are allowed from a state at a later moment are allowed at the earlier one, where what holds between events holds, and
+-- lead to the same state, but for its moment, which is no later.
 abbrev pub EarlierLaw : Type 0
-EarlierLaw = (f g : FineState) (now : ℕ) (h : List Event) → f.state.moment ≤ now → along fine (Some (at_moment f now)) h ≡ Some g
+EarlierLaw = (f g : FineState) (now : ℕ) (h : List Event) → IsSound f → f.state.moment ≤ now → along fine (Some (at_moment f now)) h ≡ Some g
     → (moment : ℕ) × (along fine (Some f) h ≡ Some (at_moment g moment)) × (moment ≤ g.state.moment)

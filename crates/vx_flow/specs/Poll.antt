@@ -8,14 +8,14 @@ use Rattle.vx_rules.specs.Lists.{along}
 use Rattle.vx_rules.specs.State.{Pending, pending_at}
 use Rattle.vx_rules.specs.Calls.{io_timeout_of, has_passed}
 use Rattle.vx_rules.specs.Dials.{dials_to}
-use Rattle.vx_rules.specs.Lines.{Admission, Waiting, Passed, first_lines}
+use Rattle.vx_rules.specs.Lines.{HeldBy, Behind, Admission, Waiting, Passed, first_lines_in}
 use Rattle.vx_flow.specs.declared.progress.Why.{Why}
 use Rattle.vx_flow.specs.declared.progress.Ran.{Ran}
 use Rattle.vx_flow.specs.declared.progress.Why.TheVariants as why
 use Rattle.vx_flow.specs.declared.progress.Ran.TheVariants as ran
 use Rattle.vx_flow.specs.Event.{Event, Answer, Begin, Move, Dial}
 use Rattle.vx_flow.specs.FineState.{Turn, FineState, turn_of}
-use Rattle.vx_flow.specs.Fine.{fine, wire_for, waits_for, may_begin, turn_stand, is_passed}
+use Rattle.vx_flow.specs.Fine.{fine, busy_with, wire_for, waits_for, may_begin, turn_stand, is_passed}
 
 -- how a poll ends: with a reply, for which a bus status was told a level; without one; or with a dial that is asked for
 pub data Ending : Type 0 where
@@ -55,7 +55,7 @@ end_events conn now (Dialed host port) = Dial conn now ∷ []
 
 -- what the first lines say of a connection's call, on the bus that it is measured on
 abbrev pub lines_at : FineState → ℕ → ℕ → Pending → Admission
-lines_at f conn now p = first_lines f.state.tables (wire_for f conn).own conn false p now
+lines_at f conn now p = first_lines_in f.state.tables (busy_with f.turn) (wire_for f conn).own conn false p now
 
 -- the poll of a call goes on with its turn: the first lines let it pass, and its turn is under way
 abbrev pub runs : FineState → ℕ → ℕ → Pending → Bool
@@ -92,11 +92,12 @@ ran_of (Answered r level reply) = r
 ran_of (Waited w) = ran_before w
 ran_of (Dialed host port) = ran.Still
 
--- Why a poll may end without an answer, in the state behind its transfers: a lock that the call waits for keeps it off; it
--- waits for another connection's turn; its own turn is held, and its time hasn't passed; or its own turn has a full slice,
--- whatever its time.
+-- Why a poll may end without an answer, in the state behind its transfers: a lock that the call waits for keeps it off; the call of
+-- another connection, which it waits behind, stands in line before it; it waits for another connection's turn; its own turn is
+-- held, and its time hasn't passed; or its own turn has a full slice, whatever its time.
 abbrev pub NotYet : FineState → ℕ → ℕ → Pending → Why → Type 0
-NotYet f conn now p (why.Locked link) = lines_at f conn now p ≡ Waiting link
+NotYet f conn now p (why.Locked link) = lines_at f conn now p ≡ Waiting (HeldBy link)
+NotYet f conn now p (why.Behind other) = lines_at f conn now p ≡ Waiting (Behind other)
 NotYet f conn now p (why.Turn other) =
     (lines_at f conn now p ≡ Passed)
     × (u : Turn) × (f.turn ≡ Some u) × (u.connection ≡ other) × (waits_for f.state.tables (wire_for f conn).own conn p u ≡ true)
@@ -115,8 +116,9 @@ EndsBy f conn now p (Answered ran level reply) = is_sliced ran ≡ false
 EndsBy f conn now p (Waited why) = NotYet f conn now p why
 EndsBy f conn now p (Dialed host port) = dials_to p.call ≡ (host, port)
 
--- A poll of a connection's call at this moment, which isn't before the state's: the turn's beginning, where it begins now, and its transfers lead from the one
--- state to a state in which the poll may end so; the end leads to the other state, at this moment.
+-- A poll of a connection's call at this moment, which isn't before the state's: the turn's beginning, where it begins now, and its
+-- transfers, no more than fit a slice, lead from the one state to a state in which the poll may end so; the end leads to the other
+-- state, at this moment.
 pub record Polls (old : FineState) (conn now : ℕ) (moves : List Transfer) (ending : Ending) (new : FineState) : Type 0 where
   pub asked : Pending
   pub call_at : pending_at old.state.tables conn ≡ Some asked

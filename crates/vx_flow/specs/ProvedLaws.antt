@@ -1,5 +1,6 @@
 -- Laws of interleaved events, proved: what the crates above cite, each from the file of this folder that has its proof.
 pub mod Jobs
+pub mod Ahead
 pub mod Kept
 pub mod Calm
 pub mod Turning
@@ -25,8 +26,12 @@ pub mod Later
 pub mod Headline
 -- exactly the events that are allowed do what `Does` says: `fine-does` and `does-fine` are its two ways
 pub use Rattle.vx_flow.specs.ProvedLaws.Stepping.{does_law-holds, fine-does, does-fine}
--- the first lines let a call pass exactly where neither its mark, nor a check, nor a lock is against it; and whose turn is under way
+-- the first lines let a call pass exactly where neither its mark, nor a check, nor a lock is against it, nor
+-- another call before it; and whose turn is under way
 pub use Rattle.vx_flow.specs.ProvedLaws.ByLines.{admit, admitted-passes, turn-is, turn-own}
+-- a call that they let pass they let pass while a turn is under way
+pub use Rattle.vx_flow.specs.ProvedLaws.ByLines.{passed-is}
+pub use Rattle.vx_flow.specs.ProvedLaws.Replies.{busy-passes}
 -- an event changes what `Frame` says, and leaves the rest; so does each line of an answer; a mark leaves the call
 pub use Rattle.vx_flow.specs.ProvedLaws.Framing.{frame_law-holds, fine-frame, line-leaves, mark-call, another}
 -- events gather to a history of one thread; `gathers` has it from any state on, `fine-gathers` from the first, each with what holds

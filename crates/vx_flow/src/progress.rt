@@ -20,6 +20,8 @@ pub enum Ran {
 pub enum Why {
     /// The link of this number holds a lock on a conflicting target.
     Locked { by: u32 },
+    /// The call of this connection came first, may wait for a lock, and is on a conflicting target.
+    Behind { by: u32 },
     /// The turn of this connection on the bus is under way.
     Turn { by: u32 },
     /// The bus held.

@@ -42,7 +42,7 @@ stands_on-holds f g log events moment stands goes late =
     let port = f.state.tables.abort_port in
     let on = along-onward events f g goes in
     let from_last : along fine (Some (at_moment stands.last f.state.moment)) events ≡ Some g = ap (λ s. along fine (Some s) events) (sym stands.same) ∙ goes in
-    let led = earlier_law-holds stands.last g f.state.moment events stands.later from_last in
+    let led = earlier_law-holds stands.last g f.state.moment events (fine-gathers port (events_of log) stands.last stands.allowed).sound stands.later from_last in
     record {
       last = at_moment g led.0;
       allowed = subst (λ p. fine_along p (events_of (log ++ x ∷ [])) ≡ Some (at_moment g led.0)) (sym on.port)

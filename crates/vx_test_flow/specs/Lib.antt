@@ -6,3 +6,4 @@ pub mod Interrupts
 pub mod Polled
 pub mod Claims
 pub mod Arrivals
+pub mod InLine

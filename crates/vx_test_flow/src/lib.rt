@@ -10,6 +10,7 @@ ghost use Rattle.vx_test_flow.specs.Interrupts.{EachAnswerHasItsDial, EachRiseQu
 ghost use Rattle.vx_test_flow.specs.Polled.{PollsMakeEvents, PollsWait, SlicesFit};
 ghost use Rattle.vx_test_flow.specs.Claims.{ClaimsTell};
 ghost use Rattle.vx_test_flow.specs.Arrivals.{CallsStandInLine};
+ghost use Rattle.vx_test_flow.specs.InLine.{EarlierCallsComeFirst, WaitersCount, LaterCallsAreKeptOff, TurnsStandInLine};
 
 use vx_flow::headline_law;
 
@@ -49,6 +50,14 @@ pub fn polls()
 /// Calls without an answer stand in order of their arrival.
 pub fn arrivals()
     ensures { CallsStandInLine }
+{}
+
+/// Calls that wait for a lock come in order of their arrival.
+pub fn in_line()
+    ensures first { EarlierCallsComeFirst }
+    ensures count { WaitersCount }
+    ensures keep_off { LaterCallsAreKeptOff }
+    ensures turns { TurnsStandInLine }
 {}
 
 /// What the claims of interleaved events say.

@@ -9,7 +9,7 @@ use Rattle.std.specs.Str.{bytes_eq}
 use Rattle.hex.specs.Hex.{encode_upper}
 use Rattle.vx_488.specs.declared.transfers.Transfer.{Transfer}
 use Rattle.vx_488.specs.declared.transfers.Transfer.TheVariants.{Cmd, Put, Got, Ren, Atn, Ifc, Own}
-use Rattle.vx_trace.specs.Output.{Output, Bus, Out, Irq, IrqNone, IrqClosed, WaitLock, WaitTurn, WaitHeld, WaitSlice, WaitDial, GoneDown, GoneJunk, GoneLong, Done, FaultLine, FaultLong, Usage}
+use Rattle.vx_trace.specs.Output.{Output, Bus, Out, Irq, IrqNone, IrqClosed, WaitLock, WaitTurn, WaitBehind, WaitHeld, WaitSlice, WaitDial, GoneDown, GoneJunk, GoneLong, Done, FaultLine, FaultLong, Usage}
 use Rattle.vx_trace.specs.Text.{transfer_text, moves_text, line_text, IsByteTransfer, IsLine, is_cause}
 use Rattle.vx_trace.specs.Reading.{cut, is_lower_digit, number_of, of_letter, lettered, transfer_of, with_transfer, moves_of, irq_of, wait_of, by_word, fault_of, behind_word, line_of, without_end, reading}
 use Rattle.vx_trace.proofs.Hexadecimal.{all-bytes, upper-plain, upper-lower, bytes-again, byte-again}
@@ -106,7 +106,7 @@ told-again word conn rest text line plain small first e shape =
 joined : (word : List ℕ) (conn : ℕ) (rest : List ℕ) → (word ++ 32 ∷ ((decimal conn ++ 32 ∷ []) ++ rest)) ++ codes "\n" ≡ (word ++ 32 ∷ (decimal conn ++ 32 ∷ rest)) ++ codes "\n"
 joined word conn rest = ap (λ (r : List ℕ). (word ++ 32 ∷ r) ++ codes "\n") (append_assoc (decimal conn) (32 ∷ []) rest)
 
--- a wait for the lock of a link, or the turn of a connection
+-- a wait for the lock of a link, for the turn of a connection, or behind its call
 lock-again : (conn lid : ℕ) → lid < 2 ^ 32 → wait_of conn (codes "lock " ++ decimal lid) ≡ Some (WaitLock conn lid)
 lock-again conn lid h =
     let parts = cut-again (codes "lock") (decimal lid) refl in
@@ -116,6 +116,12 @@ lock-again conn lid h =
 turn-again : (conn by : ℕ) → by < 2 ^ 32 → wait_of conn (codes "turn " ++ decimal by) ≡ Some (WaitTurn conn by)
 turn-again conn by h =
     let parts = cut-again (codes "turn") (decimal by) refl in
+    let number = number-again (2 ^ 32) by h (omega arith) in
+    rw (parts, number) refl
+
+behind-again : (conn by : ℕ) → by < 2 ^ 32 → wait_of conn (codes "behind " ++ decimal by) ≡ Some (WaitBehind conn by)
+behind-again conn by h =
+    let parts = cut-again (codes "behind") (decimal by) refl in
     let number = number-again (2 ^ 32) by h (omega arith) in
     rw (parts, number) refl
 
@@ -158,6 +164,9 @@ reading-again (WaitLock conn lid) h =
 reading-again (WaitTurn conn by) h =
     told-again (codes "wait") conn (codes "turn " ++ decimal by) _ _ refl h.1.0 (λ r. refl) (turn-again conn by h.1.1)
     (ap (λ (r : List ℕ). (codes "wait" ++ 32 ∷ r) ++ codes "\n") (append_assoc (decimal conn) (codes " turn ") (decimal by)))
+reading-again (WaitBehind conn by) h =
+    told-again (codes "wait") conn (codes "behind " ++ decimal by) _ _ refl h.1.0 (λ r. refl) (behind-again conn by h.1.1)
+    (ap (λ (r : List ℕ). (codes "wait" ++ 32 ∷ r) ++ codes "\n") (append_assoc (decimal conn) (codes " behind ") (decimal by)))
 reading-again (WaitHeld conn) h = told-again (codes "wait") conn (codes "held") _ _ refl h.1 (λ r. refl) refl (joined (codes "wait") conn (codes "held"))
 reading-again (WaitSlice conn) h = told-again (codes "wait") conn (codes "slice") _ _ refl h.1 (λ r. refl) refl (joined (codes "wait") conn (codes "slice"))
 reading-again (WaitDial conn) h = told-again (codes "wait") conn (codes "dial") _ _ refl h.1 (λ r. refl) refl (joined (codes "wait") conn (codes "dial"))

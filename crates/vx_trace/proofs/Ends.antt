@@ -8,7 +8,7 @@ use Rattle.std.proofs.lemmas.List.Folds.{list_all-append}
 use Rattle.std.proofs.lemmas.List.Elements.{All-head, All-tail}
 use Rattle.hex.specs.Hex.{encode_upper}
 use Rattle.vx_488.specs.declared.transfers.Transfer.{Transfer}
-use Rattle.vx_trace.specs.Output.{Output, Bus, Out, Irq, IrqNone, IrqClosed, WaitLock, WaitTurn, WaitHeld, WaitSlice, WaitDial, GoneDown, GoneJunk, GoneLong, Done, FaultLine, FaultLong, Usage}
+use Rattle.vx_trace.specs.Output.{Output, Bus, Out, Irq, IrqNone, IrqClosed, WaitLock, WaitTurn, WaitBehind, WaitHeld, WaitSlice, WaitDial, GoneDown, GoneJunk, GoneLong, Done, FaultLine, FaultLong, Usage}
 use Rattle.vx_trace.specs.Text.{transfer_text, moves_text, line_text, IsByteTransfer, IsLine, cause_words, is_cause}
 use Rattle.vx_trace.proofs.Hexadecimal.{all-bytes, upper-plain}
 use Rattle.vx_trace.proofs.Cuts.{is_plain}
@@ -96,6 +96,7 @@ one-end (IrqNone conn) h = known (codes "irq ") conn (codes "none") refl h.1 ref
 one-end (IrqClosed conn) h = known (codes "irq ") conn (codes "closed") refl h.1 refl
 one-end (WaitLock conn lid) h = let (small, less) = h.1 in told (codes "wait ") conn (codes " lock ") (decimal lid) refl (omega arith) refl (free-decimal lid (omega arith))
 one-end (WaitTurn conn by) h = let (small, less) = h.1 in told (codes "wait ") conn (codes " turn ") (decimal by) refl (omega arith) refl (free-decimal by (omega arith))
+one-end (WaitBehind conn by) h = let (small, less) = h.1 in told (codes "wait ") conn (codes " behind ") (decimal by) refl (omega arith) refl (free-decimal by (omega arith))
 one-end (WaitHeld conn) h = known (codes "wait ") conn (codes "held") refl h.1 refl
 one-end (WaitSlice conn) h = known (codes "wait ") conn (codes "slice") refl h.1 refl
 one-end (WaitDial conn) h = known (codes "wait ") conn (codes "dial") refl h.1 refl

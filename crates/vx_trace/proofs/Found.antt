@@ -9,7 +9,7 @@ use Rattle.std.proofs.lemmas.Option.{same_Some}
 use Rattle.hex.specs.Hex.{encode_upper}
 use Rattle.vx_488.specs.declared.transfers.Transfer.{Transfer}
 use Rattle.vx_488.specs.declared.transfers.Transfer.TheVariants.{Cmd, Put, Got, Ren, Atn, Ifc, Own}
-use Rattle.vx_trace.specs.Output.{Output, Bus, Out, Irq, IrqNone, IrqClosed, WaitLock, WaitTurn, WaitHeld, WaitSlice, WaitDial, GoneDown, GoneJunk, GoneLong, Done, FaultLine, FaultLong, Usage}
+use Rattle.vx_trace.specs.Output.{Output, Bus, Out, Irq, IrqNone, IrqClosed, WaitLock, WaitTurn, WaitBehind, WaitHeld, WaitSlice, WaitDial, GoneDown, GoneJunk, GoneLong, Done, FaultLine, FaultLong, Usage}
 use Rattle.vx_trace.specs.Text.{transfer_text, moves_text, line_text, IsByteTransfer, IsLine, is_cause}
 use Rattle.vx_trace.specs.Reading.{cut, number_of, byte_of, bytes_of, of_letter, lettered, transfer_of, with_transfer, all_transfers, moves_of, irq_of, wait_for, wait_of, gone_of, by_word, fault_for, fault_of, behind_word, line_of, without_end, reading}
 use Rattle.vx_trace.proofs.Hexadecimal.{bytes-all, bytes-read, byte-read}
@@ -163,9 +163,11 @@ wait_for-read : (conn n : ℕ) (what rest : List ℕ) (line : Output) → conn <
 wait_for-read conn n what rest line small less parts e =
     by_text what (codes "lock") (Some (WaitLock conn n)) _ line e
     (λ w h. line-is _ (WaitLock conn n) line (tt, (small, less)) (whole (codes "lock") w) h)
-    (λ e. by_text what (codes "turn") (Some (WaitTurn conn n)) None line e
+    (λ e. by_text what (codes "turn") (Some (WaitTurn conn n)) _ line e
     (λ w h. line-is _ (WaitTurn conn n) line (tt, (small, less)) (whole (codes "turn") w) h)
-    (λ e. absurd cc))
+    (λ e. by_text what (codes "behind") (Some (WaitBehind conn n)) None line e
+    (λ w h. line-is _ (WaitBehind conn n) line (tt, (small, less)) (whole (codes "behind") w) h)
+    (λ e. absurd cc)))
   where
     whole : (word : List ℕ) → what ≡ word → (codes "wait" ++ 32 ∷ ((decimal conn ++ (32 ∷ word ++ codes " ")) ++ decimal n)) ++ codes "\n" ≡ (codes "wait" ++ 32 ∷ (decimal conn ++ 32 ∷ rest)) ++ codes "\n"
     whole word w =

@@ -13,6 +13,7 @@ pub data Output : Type 0 where
   IrqClosed : (conn : ℕ) → Output
   WaitLock : (conn lid : ℕ) → Output
   WaitTurn : (conn by : ℕ) → Output
+  WaitBehind : (conn by : ℕ) → Output
   WaitHeld : (conn : ℕ) → Output
   WaitSlice : (conn : ℕ) → Output
   WaitDial : (conn : ℕ) → Output
@@ -33,6 +34,7 @@ line_shown (seen.IrqNone conn) = IrqNone conn
 line_shown (seen.IrqClosed conn) = IrqClosed conn
 line_shown (seen.WaitLock conn lid) = WaitLock conn lid
 line_shown (seen.WaitTurn conn by) = WaitTurn conn by
+line_shown (seen.WaitBehind conn by) = WaitBehind conn by
 line_shown (seen.WaitHeld conn) = WaitHeld conn
 line_shown (seen.WaitSlice conn) = WaitSlice conn
 line_shown (seen.WaitDial conn) = WaitDial conn

@@ -7,7 +7,7 @@ use Rattle.std.specs.Str.Parse.{digits_value}
 use Rattle.hex.specs.Hex.{decode_of, decode_sized}
 use Rattle.vx_488.specs.declared.transfers.Transfer.{Transfer}
 use Rattle.vx_488.specs.declared.transfers.Transfer.TheVariants.{Cmd, Put, Got, Ren, Atn, Ifc, Own}
-use Rattle.vx_trace.specs.Output.{Output, Bus, Out, Irq, IrqNone, IrqClosed, WaitLock, WaitTurn, WaitHeld, WaitSlice, WaitDial, GoneDown, GoneJunk, GoneLong, Done, FaultLine, FaultLong, Usage}
+use Rattle.vx_trace.specs.Output.{Output, Bus, Out, Irq, IrqNone, IrqClosed, WaitLock, WaitTurn, WaitBehind, WaitHeld, WaitSlice, WaitDial, GoneDown, GoneJunk, GoneLong, Done, FaultLine, FaultLong, Usage}
 use Rattle.vx_trace.specs.Text.{is_cause}
 
 -- a text before and behind its place i
@@ -106,6 +106,7 @@ abbrev pub wait_for : ℕ → List ℕ → ℕ → Option Output
 wait_for conn what n =
     if bytes_eq what (codes "lock") then Some (WaitLock conn n)
     else if bytes_eq what (codes "turn") then Some (WaitTurn conn n)
+    else if bytes_eq what (codes "behind") then Some (WaitBehind conn n)
     else None
 
 abbrev pub wait_of : ℕ → List ℕ → Option Output

@@ -5,7 +5,7 @@ use Rattle.std.specs.Str.{bytes_eq}
 use Rattle.hex.specs.Hex.{encode_upper}
 use Rattle.vx_488.specs.declared.transfers.Transfer.{Transfer}
 use Rattle.vx_488.specs.declared.transfers.Transfer.TheVariants.{Cmd, Put, Got, Ren, Atn, Ifc, Own}
-use Rattle.vx_trace.specs.Output.{Output, Bus, Out, Irq, IrqNone, IrqClosed, WaitLock, WaitTurn, WaitHeld, WaitSlice, WaitDial, GoneDown, GoneJunk, GoneLong, Done, FaultLine, FaultLong, Usage}
+use Rattle.vx_trace.specs.Output.{Output, Bus, Out, Irq, IrqNone, IrqClosed, WaitLock, WaitTurn, WaitBehind, WaitHeld, WaitSlice, WaitDial, GoneDown, GoneJunk, GoneLong, Done, FaultLine, FaultLong, Usage}
 
 -- a transfer: a letter and the byte's two hexadecimal digits, or a word; END makes the letter a capital
 abbrev pub transfer_text : Transfer → List ℕ
@@ -34,6 +34,7 @@ line_text (IrqNone conn) = codes "irq " ++ decimal conn ++ codes " " ++ codes "n
 line_text (IrqClosed conn) = codes "irq " ++ decimal conn ++ codes " " ++ codes "closed" ++ codes "\n"
 line_text (WaitLock conn lid) = codes "wait " ++ decimal conn ++ codes " lock " ++ decimal lid ++ codes "\n"
 line_text (WaitTurn conn by) = codes "wait " ++ decimal conn ++ codes " turn " ++ decimal by ++ codes "\n"
+line_text (WaitBehind conn by) = codes "wait " ++ decimal conn ++ codes " behind " ++ decimal by ++ codes "\n"
 line_text (WaitHeld conn) = codes "wait " ++ decimal conn ++ codes " " ++ codes "held" ++ codes "\n"
 line_text (WaitSlice conn) = codes "wait " ++ decimal conn ++ codes " " ++ codes "slice" ++ codes "\n"
 line_text (WaitDial conn) = codes "wait " ++ decimal conn ++ codes " " ++ codes "dial" ++ codes "\n"
@@ -51,6 +52,7 @@ abbrev pub text_room : Output → ℕ
 text_room (Bus conn moves) = 15 + 7 * length moves
 text_room (Out conn bytes) = 16 + 2 * length bytes
 text_room (Irq conn bytes) = 16 + 2 * length bytes
+text_room (WaitBehind conn by) = 34
 text_room (FaultLine line word) = 39
 text_room _ = 32
 
@@ -88,6 +90,7 @@ HasRanges (IrqNone conn) = conn < 2 ^ 32
 HasRanges (IrqClosed conn) = conn < 2 ^ 32
 HasRanges (WaitLock conn lid) = (conn < 2 ^ 32) × (lid < 2 ^ 32)
 HasRanges (WaitTurn conn by) = (conn < 2 ^ 32) × (by < 2 ^ 32)
+HasRanges (WaitBehind conn by) = (conn < 2 ^ 32) × (by < 2 ^ 32)
 HasRanges (WaitHeld conn) = conn < 2 ^ 32
 HasRanges (WaitSlice conn) = conn < 2 ^ 32
 HasRanges (WaitDial conn) = conn < 2 ^ 32

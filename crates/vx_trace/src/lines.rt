@@ -25,6 +25,8 @@ pub enum Line<'a> {
     WaitLock { conn: u32, lid: u32 },
     /// `wait C turn D`: the call waits for the turn of this connection on the bus.
     WaitTurn { conn: u32, by: u32 },
+    /// `wait C behind D`: the call waits behind that of this connection, which came first.
+    WaitBehind { conn: u32, by: u32 },
     /// `wait C held`: the call waits for the bus.
     WaitHeld { conn: u32 },
     /// `wait C slice`: the call's turn goes on with its next poll.

@@ -279,6 +279,12 @@ fn parts_of<'a>(line: &Line<'a>) -> Parts<'a>
         Line::IrqClosed { conn } => Parts::About(b"irq ", conn, b" ", Tail::Word(b"closed")),
         Line::WaitLock { conn, lid } => Parts::About(b"wait ", conn, b" lock ", Tail::Number(lid)),
         Line::WaitTurn { conn, by } => Parts::About(b"wait ", conn, b" turn ", Tail::Number(by)),
+        Line::WaitBehind { conn, by } => Parts::About(
+            b"wait ",
+            conn,
+            b" behind ",
+            Tail::Number(by),
+        ),
         Line::WaitHeld { conn } => Parts::About(b"wait ", conn, b" ", Tail::Word(b"held")),
         Line::WaitSlice { conn } => Parts::About(b"wait ", conn, b" ", Tail::Word(b"slice")),
         Line::WaitDial { conn } => Parts::About(b"wait ", conn, b" ", Tail::Word(b"dial")),

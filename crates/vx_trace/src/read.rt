@@ -30,6 +30,8 @@ fn wait_for(conn: u32, what: &[u8], number: u32) -> Option<Line<'static>>
         Some(Line::WaitLock { conn, lid: number })
     } else if what == b"turn".as_slice() {
         Some(Line::WaitTurn { conn, by: number })
+    } else if what == b"behind".as_slice() {
+        Some(Line::WaitBehind { conn, by: number })
     } else {
         None
     }

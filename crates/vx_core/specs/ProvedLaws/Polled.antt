@@ -15,7 +15,9 @@ use Rattle.vx_rules.specs.ProvedLaws.{few_bytes}
 use Rattle.vx_flow.specs.Fine.{job_of, wire_for}
 use Rattle.vx_core.specs.declared.running.Running.{Running}
 use Rattle.vx_core.specs.KernelState.{KernelState}
-use Rattle.vx_core.specs.Shown.{fine_of, own_of, own_by, running_of, turn_shown, before_shown}
+use Rattle.vx_core.specs.Shown.{fine_of, busy_of, own_of, own_by, running_of, turn_shown, before_shown}
+use Rattle.std.specs.Option.{option_map}
+use Rattle.vx_flow.specs.Fine.{busy_with}
 
 -- the call, where one is pending
 pub the_pending : (o : Option Pending) → is_some o ≡ true → (p : Pending) × (o ≡ Some p)
@@ -49,6 +51,13 @@ own-by means k conn (Some r) = by (r.conn == conn) refl where
 -- so is the own address, as events know it
 pub own-is : {B : Type 0} (means : B → Means) (k : KernelState B) (conn : ℕ) → own_of means k conn ≡ (wire_for (fine_of means k) conn).own
 own-is means k conn = own-by means k conn k.running
+
+-- and the connection whose turn is under way
+pub busy-is : {B : Type 0} (means : B → Means) (k : KernelState B) → busy_of k ≡ busy_with (fine_of means k).turn
+busy-is means k = by k.running where
+  by : (o : Option Running) → option_map (λ (r : Running). r.conn) o ≡ busy_with (turn_shown o k.made)
+  by None = refl
+  by (Some r) = refl
 
 -- ---- the bytes that a call brings
 

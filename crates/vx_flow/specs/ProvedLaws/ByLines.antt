@@ -22,13 +22,14 @@ use Rattle.vx_rules.specs.SrqState.{with_new_channel}
 use Rattle.vx_rules.specs.State.{Pending, Tables}
 use Rattle.vx_rules.specs.Calls.{is_bus_call, is_lock_call, asks_dial, bytes_of, is_big, io_timeout_of, has_passed}
 use Rattle.vx_rules.specs.Checks.{NamedLink, NoLink, DeadLink, OnLink, named_link, check}
-use Rattle.vx_rules.specs.Lines.{Admission, Refused, Passed, kept_off, holder_against, lock_request, checked_lines, first_lines}
+use Rattle.vx_rules.specs.Lines.{Bar, Behind, Admission, Refused, Passed, kept_off, waits_at, holder_against, ahead_of, bar_by, bar_against, lock_request, lock_lines, checked_lines, first_lines_in}
 use Rattle.vx_rules.specs.Effects.{stopped_reply, effect, settle}
-use Rattle.vx_rules.specs.Decide.{Outside, is_quiet, stand_on, level_fits, turn_answer, job_answer, bus_answer, dialed_answer, passed_answer, by_lines, settles, decide, has_job_role}
+use Rattle.vx_rules.specs.Decide.{Outside, is_quiet, stand_on, level_fits, turn_answer, job_answer, bus_answer, dialed_answer, passed_answer, by_lines, settles, decide_in, has_job_role}
 use Rattle.vx_rules.specs.ProvedLaws.{bus-job, no-job, dial-no-bus}
+use Rattle.vx_rules.specs.ProvedLaws.Walks.{unbarred}
 use Rattle.vx_flow.specs.FineState.{Turn, FineState, turn_of, begun_of, moves_of}
-use Rattle.vx_flow.specs.Fine.{job_of, on_conflict, turn_target, waits_for, waits_for_turn, wire_for, outside, may_answer, passes_lines, is_answered, is_passed}
-use Rattle.vx_flow.specs.Does.{IsAdmitted, IsClear, waits_on, IsStill, Stops, IsDialed, HasTurn, AnsweredBy, ByAbort, ByNoLink, ByCheck, ByLock, ByDialUp, ByDialDown, ByEffect, ByNoRole, ByFault, ByWhole, ByTimeout}
+use Rattle.vx_flow.specs.Fine.{job_of, on_conflict, turn_target, busy_with, waits_for, waits_for_turn, wire_for, outside, may_answer, passes_lines, is_answered, is_passed}
+use Rattle.vx_flow.specs.Does.{IsAdmitted, IsClear, IsStill, Stops, IsDialed, HasTurn, AnsweredBy, ByAbort, ByNoLink, ByCheck, ByBar, ByDialUp, ByDialDown, ByEffect, ByNoRole, ByFault, ByWhole, ByTimeout}
 use Rattle.vx_flow.specs.ProvedLaws.Jobs.{job-link, no-dial}
 
 -- ---- the first lines
@@ -45,40 +46,45 @@ passed-parts p later h = by p.aborted h where
   by true x = cc
   by false x = (refl, x)
 
--- those let it pass only where neither a check nor a lock is against it
-pub lines-both : (p : Pending) (now : ℕ) (refused : Option ErrorCode) (holder : Option ℕ) → checked_lines p now refused holder ≡ Passed → (refused ≡ None) × (holder ≡ None)
-lines-both p now (Some error) holder h = cc
-lines-both p now None None h = (refl, refl)
-lines-both p now None (Some holder) h = absurd (by _ h) where
-  by : (b : Bool) → kept_off holder b ≡ Passed → ⊥
-  by true e = cc
-  by false e = cc
+-- those let it pass only where neither a check nor a lock is against it, and no other call stands in line before it
+pub lines-both : (p : Pending) (now : ℕ) (refused : Option ErrorCode) (holder first : Option ℕ) → checked_lines p now refused (bar_by holder first) ≡ Passed
+    → (refused ≡ None) × (holder ≡ None) × (first ≡ None)
+lines-both p now (Some error) holder first h = cc
+lines-both p now None holder first h = by (bar_by holder first) refl h where
+  kept : (bar : Bar) (b : Bool) → kept_off bar b ≡ Passed → ⊥
+  kept bar true e = cc
+  kept bar false e = cc
+
+  by : (bar : Option Bar) → bar_by holder first ≡ bar → lock_lines p now bar ≡ Passed → (◌≡◌ {A = Option ErrorCode} None None) × (holder ≡ None) × (first ≡ None)
+  by None is e = let none = unbarred holder first is in (refl, none.0, none.1)
+  by (Some bar) is e = absurd (kept bar (waits_at p now) e)
 
 -- and refuse it only with the error of its check, or with that of a lock
-checked-refuses : (p : Pending) (now : ℕ) (refused : Option ErrorCode) (holder : Option ℕ) (error : ErrorCode) → checked_lines p now refused holder ≡ Refused error
+checked-refuses : (p : Pending) (now : ℕ) (refused : Option ErrorCode) (bar : Option Bar) (error : ErrorCode) → checked_lines p now refused bar ≡ Refused error
     → (refused ≡ Some error) ⊎ (error ≡ code.Locked)
-checked-refuses p now (Some e) holder error h = inl (by h) where
+checked-refuses p now (Some e) bar error h = inl (by h) where
   by : Refused e ≡ Refused error → Some e ≡ Some error
   by x = cc
 checked-refuses p now None None error h = cc
-checked-refuses p now None (Some holder) error h = inr (by _ h) where
-  by : (b : Bool) → kept_off holder b ≡ Refused error → error ≡ code.Locked
+checked-refuses p now None (Some bar) error h = inr (by _ h) where
+  by : (b : Bool) → kept_off bar b ≡ Refused error → error ≡ code.Locked
   by true e = cc
   by false e = cc
 
 -- the first lines refuse a call only with the error of an abort, of its check or of a lock
-pub first-refuses : (t : Tables) (own conn : ℕ) (settling : Bool) (p : Pending) (now : ℕ) (error : ErrorCode) → first_lines t own conn settling p now ≡ Refused error
+pub first-refuses : (t : Tables) (busy : Option ℕ) (own conn : ℕ) (settling : Bool) (p : Pending) (now : ℕ) (error : ErrorCode)
+    → first_lines_in t busy own conn settling p now ≡ Refused error
     → (error ≡ code.Abort) ⊎ ((check t own conn settling (named_link t conn p.call) p.call ≡ Some error) ⊎ (error ≡ code.Locked))
-first-refuses t own conn settling p now error h = by p.aborted h where
-  by : (aborted : Bool)
-      → cond aborted (Refused code.Abort) (checked_lines p now (check t own conn settling (named_link t conn p.call) p.call) (holder_against t own (named_link t conn p.call) p.call))
-      ≡ Refused error
+first-refuses t busy own conn settling p now error h = by p.aborted h where
+  bar : Option Bar
+  bar = bar_against t busy own now conn (named_link t conn p.call) p.call
+
+  by : (aborted : Bool) → cond aborted (Refused code.Abort) (checked_lines p now (check t own conn settling (named_link t conn p.call) p.call) bar) ≡ Refused error
       → (error ≡ code.Abort) ⊎ ((check t own conn settling (named_link t conn p.call) p.call ≡ Some error) ⊎ (error ≡ code.Locked))
   by true x = inl (marked x) where
     marked : Refused code.Abort ≡ Refused error → error ≡ code.Abort
     marked y = cc
-  by false x =
-      inr (checked-refuses p now (check t own conn settling (named_link t conn p.call) p.call) (holder_against t own (named_link t conn p.call) p.call) error x)
+  by false x = inr (checked-refuses p now (check t own conn settling (named_link t conn p.call) p.call) bar error x)
 
 -- What the order of answers gives a call behind the first lines: they refuse it, and nothing comes from outside, or let it pass.
 pub data Gives (t : Tables) (w : Wire) (conn : ℕ) (p : Pending) (now : ℕ) (o : Outside) (d : Reply × Tables) (l : Admission) : Type 0 where
@@ -101,28 +107,35 @@ gives-alike t w b conn p now o Passed same = same refl
 gives-alike t w b conn p now o _ same = refl
 
 -- what the first lines' letting a call pass says
-pub admit : (t : Tables) (own conn : ℕ) (settling : Bool) (p : Pending) (now : ℕ) → first_lines t own conn settling p now ≡ Passed → IsAdmitted t own conn settling p
-admit t own conn settling p now h = by p.aborted refl h where
+pub admit : (t : Tables) (busy : Option ℕ) (own conn : ℕ) (settling : Bool) (p : Pending) (now : ℕ) → first_lines_in t busy own conn settling p now ≡ Passed
+    → IsAdmitted t busy own conn settling p now
+admit t busy own conn settling p now h = by p.aborted refl h where
   by : (aborted : Bool) → p.aborted ≡ aborted
-      → cond aborted (Refused code.Abort) (checked_lines p now (check t own conn settling (named_link t conn p.call) p.call) (holder_against t own (named_link t conn p.call) p.call)) ≡ Passed
-      → IsAdmitted t own conn settling p
+      → cond aborted (Refused code.Abort)
+      (checked_lines p now (check t own conn settling (named_link t conn p.call) p.call) (bar_against t busy own now conn (named_link t conn p.call) p.call)) ≡ Passed
+      → IsAdmitted t busy own conn settling p now
   by true e h = cc
   by false e h =
-      let parts = lines-both p now (check t own conn settling (named_link t conn p.call) p.call) (holder_against t own (named_link t conn p.call) p.call) h in
-      record { unmarked = e; checked = parts.0; unlocked = parts.1 }
+      let parts = lines-both p now (check t own conn settling (named_link t conn p.call) p.call) (holder_against t own (named_link t conn p.call) p.call)
+      (ahead_of t busy own now conn (named_link t conn p.call) p.call) h in
+      record { unmarked = e; checked = parts.0; unlocked = parts.1; first = parts.2 }
 
 -- the lines of a call that isn't marked
-unmarked-lines : (t : Tables) (own conn : ℕ) (settling : Bool) (p : Pending) (now : ℕ) (error : Option ErrorCode) (holder : Option ℕ) → p.aborted ≡ false
-    → check t own conn settling (named_link t conn p.call) p.call ≡ error → holder_against t own (named_link t conn p.call) p.call ≡ holder
-    → first_lines t own conn settling p now ≡ checked_lines p now error holder
-unmarked-lines t own conn settling p now error holder unmarked checked held =
-    cond-false p.aborted (Refused code.Abort) (checked_lines p now (check t own conn settling (named_link t conn p.call) p.call) (holder_against t own (named_link t conn p.call) p.call)) unmarked
-    ∙ ap (λ c. checked_lines p now c (holder_against t own (named_link t conn p.call) p.call)) checked
-    ∙ ap (checked_lines p now error) held
+unmarked-lines : (t : Tables) (busy : Option ℕ) (own conn : ℕ) (settling : Bool) (p : Pending) (now : ℕ) (error : Option ErrorCode) (bar : Option Bar) → p.aborted ≡ false
+    → check t own conn settling (named_link t conn p.call) p.call ≡ error → bar_against t busy own now conn (named_link t conn p.call) p.call ≡ bar
+    → first_lines_in t busy own conn settling p now ≡ checked_lines p now error bar
+unmarked-lines t busy own conn settling p now error bar unmarked checked kept =
+    cond-false p.aborted (Refused code.Abort)
+    (checked_lines p now (check t own conn settling (named_link t conn p.call) p.call) (bar_against t busy own now conn (named_link t conn p.call) p.call)) unmarked
+    ∙ ap (λ c. checked_lines p now c (bar_against t busy own now conn (named_link t conn p.call) p.call)) checked
+    ∙ ap (checked_lines p now error) kept
 
 -- and back
-pub admitted-passes : (t : Tables) (own conn : ℕ) (settling : Bool) (p : Pending) (now : ℕ) → IsAdmitted t own conn settling p → first_lines t own conn settling p now ≡ Passed
-admitted-passes t own conn settling p now a = unmarked-lines t own conn settling p now None None a.unmarked a.checked a.unlocked
+pub admitted-passes : (t : Tables) (busy : Option ℕ) (own conn : ℕ) (settling : Bool) (p : Pending) (now : ℕ) → IsAdmitted t busy own conn settling p now
+    → first_lines_in t busy own conn settling p now ≡ Passed
+admitted-passes t busy own conn settling p now a =
+    unmarked-lines t busy own conn settling p now None None a.unmarked a.checked
+    (ap (λ held. bar_by held (ahead_of t busy own now conn (named_link t conn p.call) p.call)) a.unlocked ∙ ap (option_map Behind) a.first)
 
 -- ---- what comes from outside
 
@@ -170,6 +183,10 @@ module _ (f : FineState) (conn now : ℕ) (p : Pending) (failed : Bool) (dialed 
   abbrev own : ℕ
   own = (wire_for f conn).own
 
+  -- the connection whose turn is under way
+  abbrev busy : Option ℕ
+  busy = busy_with f.turn
+
   -- a refusal
   stops : (error : ErrorCode) (d : Reply × Tables) → cond (is_quiet o) (Some (stopped_reply p.call error o.moves, t)) None ≡ Some d
       → IsStill o × Stops f p o error d.0 d.1
@@ -194,7 +211,7 @@ module _ (f : FineState) (conn now : ℕ) (p : Pending) (failed : Bool) (dialed 
       not_dead e = cc
 
   -- a dial that is told
-  dialed-by : (asked : Call) (up : Bool) (d : Reply × Tables) → p.call ≡ asked → dialed ≡ Some up → IsClear f conn true p → list_any (λ n. n == conn) f.dialed ≡ true
+  dialed-by : (asked : Call) (up : Bool) (d : Reply × Tables) → p.call ≡ asked → dialed ≡ Some up → IsClear f conn true p now → list_any (λ n. n == conn) f.dialed ≡ true
       → failed ≡ false → level ≡ false → settle t conn asked up ≡ Some d → AnsweredBy f conn now p o d.0 d.1
   dialed-by (call.CreateIntr host port program version family) true d is told clear wanted held untold h =
       let e = same_Some (reply.Error code.Ok, record t { srq_state = with_new_channel t.srq_state conn program version }) d h in
@@ -231,7 +248,7 @@ module _ (f : FineState) (conn now : ℕ) (p : Pending) (failed : Bool) (dialed 
   own-moves u e = ap moves_of e
 
   -- a turn's answer, by where its list stands
-  turn-by : (h : HasTurn f conn p) (r : Reply) (s : Stand) → turn_of f.turn conn ≡ Some h.turn → IsClear f conn false p → dialed ≡ None
+  turn-by : (h : HasTurn f conn p) (r : Reply) (s : Stand) → turn_of f.turn conn ≡ Some h.turn → IsClear f conn false p now → dialed ≡ None
       → stand_on (wire_for f conn) p.call h.job o.moves ≡ s → turn_answer (wire_for f conn) p now o h.job s ≡ Some r → AnsweredBy f conn now p o r t
   turn-by h r Whole own_is clear undialed stands given =
       let parts = cond_some (not failed && level_fits h.job level) (whole_reply h.job (bytes_of p.call) (wire_for f conn) (is_big p.call) level o.moves) r given in
@@ -282,12 +299,12 @@ module _ (f : FineState) (conn now : ℕ) (p : Pending) (failed : Bool) (dialed 
   turn-by h r Off own_is clear undialed stands given = cc
 
   -- a bus call's answer
-  job-by : (job : Task) (r : Reply) → job_of t conn p ≡ Some job → IsClear f conn (settles o) p
+  job-by : (job : Task) (r : Reply) → job_of t conn p ≡ Some job → IsClear f conn (settles o) p now
       → (is_some (turn_of f.turn conn) || not (has_job_role f.state.wire (job_of t conn p))) ≡ true
       → job_answer (wire_for f conn) p now o job ≡ Some r → AnsweredBy f conn now p o r t
   job-by job r has clear free given = by (has_role job (wire_for f conn)) refl given where
-    unsettled : dialed ≡ None → IsClear f conn false p
-    unsettled e = subst (λ d. IsClear f conn (is_some d) p) e clear
+    unsettled : dialed ≡ None → IsClear f conn false p now
+    unsettled e = subst (λ d. IsClear f conn (is_some d) p now) e clear
 
     turned : (b : Bool) → is_none dialed ≡ b → has_role job (wire_for f conn) ≡ true
         → cond b (turn_answer (wire_for f conn) p now o job (stand_on (wire_for f conn) p.call job o.moves)) None ≡ Some r → AnsweredBy f conn now p o r t
@@ -310,7 +327,7 @@ module _ (f : FineState) (conn now : ℕ) (p : Pending) (failed : Bool) (dialed 
         ByNoRole job (unsettled quiet.undialed) has role quiet (record { reply_is = sym parts.1; same = refl })
 
   -- a call that passed
-  passed-by : (d : Reply × Tables) → IsAdmitted t own conn (settles o) p → may_answer f conn p o ≡ true → passed_answer t (wire_for f conn) conn p now o ≡ Some d
+  passed-by : (d : Reply × Tables) → IsAdmitted t busy own conn (settles o) p now → may_answer f conn p o ≡ true → passed_answer t (wire_for f conn) conn p now o ≡ Some d
       → AnsweredBy f conn now p o d.0 d.1
   passed-by d admitted may h = by (asks_dial p.call) (is_bus_call p.call) refl refl h where
     waits : Bool
@@ -325,7 +342,7 @@ module _ (f : FineState) (conn now : ℕ) (p : Pending) (failed : Bool) (dialed 
     tests : ((not waits && role) ≡ true) × (wanted ≡ true)
     tests = and_parts (not waits && role) wanted may
 
-    clear : IsClear f conn (settles o) p
+    clear : IsClear f conn (settles o) p now
     clear = record { admitted = admitted; alone = not-true waits (and_parts (not waits) role tests.0).0 }
 
     dial : (tells : Option Bool) → dialed ≡ tells → (is_none tells || list_any (λ n. n == conn) f.dialed) ≡ true → dialed_answer t conn p o tells ≡ Some d → AnsweredBy f conn now p o d.0 d.1
@@ -333,7 +350,7 @@ module _ (f : FineState) (conn now : ℕ) (p : Pending) (failed : Bool) (dialed 
     dial (Some up) e asked x =
         let parts = chosen (not failed && not level) (settle t conn p.call up) d x in
         let quiet = and_parts (not failed) (not level) parts.0 in
-        dialed-by p.call up d refl e (subst (λ tells. IsClear f conn (is_some tells) p) e clear) asked (not-true failed quiet.0) (not-true level quiet.1) parts.1
+        dialed-by p.call up d refl e (subst (λ tells. IsClear f conn (is_some tells) p now) e clear) asked (not-true failed quiet.0) (not-true level quiet.1) parts.1
 
     bus_by : (job : Option Task) → job_of t conn p ≡ job → option_map (λ (given : Reply). (given, t)) (bus_answer (wire_for f conn) p now o job) ≡ Some d → AnsweredBy f conn now p o d.0 d.1
     bus_by None e x = cc
@@ -352,42 +369,44 @@ module _ (f : FineState) (conn now : ℕ) (p : Pending) (failed : Bool) (dialed 
     by false false a b x =
         let parts = chosen (is_quiet o) (effect t own conn (named_link t conn p.call) p.call) d x in
         let quiet = still o parts.0 in
-        ByEffect (subst (λ tells. IsClear f conn (is_some tells) p) quiet.undialed clear) b a quiet parts.1
+        ByEffect (subst (λ tells. IsClear f conn (is_some tells) p now) quiet.undialed clear) b a quiet parts.1
 
   -- an answer that was decided, where the call may be answered
-  pub decided-by : (d : Reply × Tables) → is_answered f conn now o (Some p) ≡ true → decide t (wire_for f conn) conn p now o ≡ Some d
+  pub decided-by : (d : Reply × Tables) → is_answered f conn now o (Some p) ≡ true → decide_in t busy (wire_for f conn) conn p now o ≡ Some d
       → AnsweredBy f conn now p o d.0 d.1
   decided-by d may h =
-      by p.aborted (check t own conn (settles o) (named_link t conn p.call) p.call) (holder_against t own (named_link t conn p.call) p.call) refl refl refl may h
+      by p.aborted (check t own conn (settles o) (named_link t conn p.call) p.call) (bar_against t busy own now conn (named_link t conn p.call) p.call) refl refl refl may h
     where
-      by : (aborted : Bool) (error : Option ErrorCode) (holder : Option ℕ) → p.aborted ≡ aborted
-          → check t own conn (settles o) (named_link t conn p.call) p.call ≡ error → holder_against t own (named_link t conn p.call) p.call ≡ holder
-          → passes_lines f conn p o (cond aborted (Refused code.Abort) (checked_lines p now error holder)) ≡ true
-          → by_lines t (wire_for f conn) conn p now o (cond aborted (Refused code.Abort) (checked_lines p now error holder)) ≡ Some d
+      by : (aborted : Bool) (error : Option ErrorCode) (bar : Option Bar) → p.aborted ≡ aborted
+          → check t own conn (settles o) (named_link t conn p.call) p.call ≡ error → bar_against t busy own now conn (named_link t conn p.call) p.call ≡ bar
+          → passes_lines f conn p o (cond aborted (Refused code.Abort) (checked_lines p now error bar)) ≡ true
+          → by_lines t (wire_for f conn) conn p now o (cond aborted (Refused code.Abort) (checked_lines p now error bar)) ≡ Some d
           → AnsweredBy f conn now p o d.0 d.1
-      by true error holder a b c may h = let stopped = stops code.Abort d h in ByAbort a stopped.0 stopped.1
-      by false (Some error) holder a b c may h =
+      by true error bar a b c may h = let stopped = stops code.Abort d h in ByAbort a stopped.0 stopped.1
+      by false (Some error) bar a b c may h =
           let stopped = stops error d h in
           refused-by (named_link t conn p.call) error d.0 d.1 refl a
           (ap (λ tells. check t own conn (is_some tells) (named_link t conn p.call) p.call) (sym stopped.0.undialed) ∙ b) stopped.0 stopped.1
-      by false None (Some holder) a b c may h = lock (waits_on p now) refl h where
-        lock : (waits : Bool) → waits_on p now ≡ waits → by_lines t (wire_for f conn) conn p now o (kept_off holder waits) ≡ Some d
+      by false None (Some bar) a b c may h = kept (waits_at p now) refl h where
+        kept : (waits : Bool) → waits_at p now ≡ waits → by_lines t (wire_for f conn) conn p now o (kept_off bar waits) ≡ Some d
             → AnsweredBy f conn now p o d.0 d.1
-        lock true e h = cc
-        lock false e h =
+        kept true e h = cc
+        kept false e h =
             let stopped = stops code.Locked d h in
-            ByLock holder a (ap (λ tells. check t own conn (is_some tells) (named_link t conn p.call) p.call) (sym stopped.0.undialed) ∙ b) c e stopped.0 stopped.1
-      by false None None a b c may h = passed-by d (record { unmarked = a; checked = b; unlocked = c }) may h
+            ByBar bar a (ap (λ tells. check t own conn (is_some tells) (named_link t conn p.call) p.call) (sym stopped.0.undialed) ∙ b) c e stopped.0 stopped.1
+      by false None None a b c may h =
+          let free = unbarred (holder_against t own (named_link t conn p.call) p.call) (ahead_of t busy own now conn (named_link t conn p.call) p.call) c in
+          passed-by d (record { unmarked = a; checked = b; unlocked = free.0; first = free.1 }) may h
 
   -- ---- from the line to the answer
 
   -- the call may be answered so, and this is decided
   pub record Decided (told : Reply) (after : Tables) : Type 0 where
     pub may : is_answered f conn now o (Some p) ≡ true
-    pub found : decide t (wire_for f conn) conn p now o ≡ Some (told, after)
+    pub found : decide_in t busy (wire_for f conn) conn p now o ≡ Some (told, after)
 
   -- by a refusal of the first lines
-  refused-gives : (error : ErrorCode) (told : Reply) (after : Tables) → first_lines t own conn (settles o) p now ≡ Refused error → IsStill o
+  refused-gives : (error : ErrorCode) (told : Reply) (after : Tables) → first_lines_in t busy own conn (settles o) p now ≡ Refused error → IsStill o
       → Stops f p o error told after → Decided told after
   refused-gives error told after is quiet stopped = record {
     may = ap (passes_lines f conn p o) is;
@@ -399,11 +418,11 @@ module _ (f : FineState) (conn now : ℕ) (p : Pending) (failed : Bool) (dialed 
   }
 
   -- by what answers a call that they let pass
-  passed-gives : (told : Reply) (after : Tables) → IsClear f conn (settles o) p
+  passed-gives : (told : Reply) (after : Tables) → IsClear f conn (settles o) p now
       → (is_some (turn_of f.turn conn) || not (has_job_role f.state.wire (job_of t conn p))) ≡ true
       → (is_none dialed || list_any (λ n. n == conn) f.dialed) ≡ true → passed_answer t (wire_for f conn) conn p now o ≡ Some (told, after) → Decided told after
   passed-gives told after clear role wanted given =
-      let passed = admitted-passes t own conn (settles o) p now clear.admitted in
+      let passed = admitted-passes t busy own conn (settles o) p now clear.admitted in
       let waits = waits_for_turn t own conn p f.turn in
       record {
         may =
@@ -427,7 +446,7 @@ module _ (f : FineState) (conn now : ℕ) (p : Pending) (failed : Bool) (dialed 
       ∙ ap (λ job. option_map (λ (given : Reply). (given, t)) (bus_answer (wire_for f conn) p now o job)) has
 
   -- by its turn
-  turn-gives : (h : HasTurn f conn p) (told : Reply) (after : Tables) (s : Stand) → IsClear f conn false p → dialed ≡ None → after ≡ t
+  turn-gives : (h : HasTurn f conn p) (told : Reply) (after : Tables) (s : Stand) → IsClear f conn false p now → dialed ≡ None → after ≡ t
       → stand_on f.before p.call h.job h.turn.moves ≡ s → turn_answer f.before p now (record { begun = h.turn.begun; moves = h.turn.moves; failed = failed; dialed = dialed; level = level }) h.job s ≡ Some told
       → Decided told after
   turn-gives h told after s clear undialed same stands given =
@@ -442,7 +461,7 @@ module _ (f : FineState) (conn now : ℕ) (p : Pending) (failed : Bool) (dialed 
       ∙ ap (λ d. cond (is_none d) (turn_answer f.before p now inner h.job (stand_on f.before p.call h.job h.turn.moves)) None) undialed
       ∙ ap (turn_answer f.before p now inner h.job) stands
       ∙ given in
-      passed-gives told after (subst (λ d. IsClear f conn (is_some d) p) (sym undialed) clear)
+      passed-gives told after (subst (λ d. IsClear f conn (is_some d) p now) (sym undialed) clear)
       (ap (λ own. is_some own || not (has_job_role f.state.wire (job_of t conn p))) own_is)
       (ap (λ d. is_none d || list_any (λ n. n == conn) f.dialed) undialed)
       (job-passed h.job h.has_job ∙ ap (option_map (λ (r : Reply). (r, t))) answers ∙ ap (λ u. Some (told, u)) (sym same))
@@ -459,10 +478,10 @@ module _ (f : FineState) (conn now : ℕ) (p : Pending) (failed : Bool) (dialed 
         (ap not (ap (has_job_role f.state.wire) has ∙ ap (has_role job) (sym wire) ∙ role))
 
   -- a dial that is told decides
-  dial-gives : (up : Bool) (told : Reply) (after : Tables) → IsClear f conn true p → IsDialed f conn p o up → settle t conn p.call up ≡ Some (told, after) → Decided told after
+  dial-gives : (up : Bool) (told : Reply) (after : Tables) → IsClear f conn true p now → IsDialed f conn p o up → settle t conn p.call up ≡ Some (told, after) → Decided told after
   dial-gives up told after clear d given =
       let asks : asks_dial p.call ≡ true = ap asks_dial d.asks in
-      passed-gives told after (subst (λ tells. IsClear f conn (is_some tells) p) (sym d.told_so) clear) (no-role (dial-no-bus p.call asks))
+      passed-gives told after (subst (λ tells. IsClear f conn (is_some tells) p now) (sym d.told_so) clear) (no-role (dial-no-bus p.call asks))
       (ap (λ tells. is_none tells || list_any (λ n. n == conn) f.dialed) d.told_so ∙ d.wanted)
       (cond-true (asks_dial p.call) (dialed_answer t conn p o dialed) _ asks
       ∙ ap (dialed_answer t conn p o) d.told_so
@@ -482,35 +501,36 @@ module _ (f : FineState) (conn now : ℕ) (p : Pending) (failed : Bool) (dialed 
   pub line-gives : (told : Reply) (after : Tables) → AnsweredBy f conn now p o told after → Decided told after
   line-gives told after (ByAbort marked quiet stopped) =
       refused-gives code.Abort told after
-      (cond-true p.aborted (Refused code.Abort) (checked_lines p now (check t own conn (settles o) (named_link t conn p.call) p.call) (holder_against t own (named_link t conn p.call) p.call)) marked)
+      (cond-true p.aborted (Refused code.Abort)
+      (checked_lines p now (check t own conn (settles o) (named_link t conn p.call) p.call) (bar_against t busy own now conn (named_link t conn p.call) p.call)) marked)
       quiet stopped
   line-gives told after (ByNoLink unmarked dead quiet stopped) =
       refused-gives code.InvalidLink told after
-      (unmarked-lines t own conn (settles o) p now (Some code.InvalidLink) (holder_against t own (named_link t conn p.call) p.call) unmarked
+      (unmarked-lines t busy own conn (settles o) p now (Some code.InvalidLink) (bar_against t busy own now conn (named_link t conn p.call) p.call) unmarked
       (ap (λ a. check t own conn (settles o) a p.call) dead) refl)
       quiet stopped
   line-gives told after (ByCheck error unmarked lives checked quiet stopped) =
       refused-gives error told after
-      (unmarked-lines t own conn (settles o) p now (Some error) (holder_against t own (named_link t conn p.call) p.call) unmarked
+      (unmarked-lines t busy own conn (settles o) p now (Some error) (bar_against t busy own now conn (named_link t conn p.call) p.call) unmarked
       (ap (λ d. check t own conn (is_some d) (named_link t conn p.call) p.call) quiet.undialed ∙ checked) refl)
       quiet stopped
-  line-gives told after (ByLock holder unmarked checked held waits quiet stopped) =
+  line-gives told after (ByBar bar unmarked checked kept waits quiet stopped) =
       refused-gives code.Locked told after
-      (unmarked-lines t own conn (settles o) p now None (Some holder) unmarked
-      (ap (λ d. check t own conn (is_some d) (named_link t conn p.call) p.call) quiet.undialed ∙ checked) held
-      ∙ ap (kept_off holder) waits)
+      (unmarked-lines t busy own conn (settles o) p now None (Some bar) unmarked
+      (ap (λ d. check t own conn (is_some d) (named_link t conn p.call) p.call) quiet.undialed ∙ checked) kept
+      ∙ ap (kept_off bar) waits)
       quiet stopped
   line-gives told after (ByDialUp clear d told_is after_is) = dial-gives true told after clear d
       (ap (λ c. settle t conn c true) d.asks ∙ ap (λ r. Some (r, record t { srq_state = with_new_channel t.srq_state conn d.program d.version })) (sym told_is) ∙ ap (λ u. Some (told, u)) (sym after_is))
   line-gives told after (ByDialDown clear d told_is after_is) = dial-gives false told after clear d
       (ap (λ c. settle t conn c false) d.asks ∙ ap (λ r. Some (r, t)) (sym told_is) ∙ ap (λ u. Some (told, u)) (sym after_is))
   line-gives told after (ByEffect clear bus dial quiet given) =
-      passed-gives told after (subst (λ d. IsClear f conn (is_some d) p) (sym quiet.undialed) clear) (no-role bus)
+      passed-gives told after (subst (λ d. IsClear f conn (is_some d) p now) (sym quiet.undialed) clear) (no-role bus)
       (ap (λ d. is_none d || list_any (λ n. n == conn) f.dialed) quiet.undialed)
       (cond-false (asks_dial p.call) _ _ dial ∙ cond-false (is_bus_call p.call) _ _ bus
       ∙ cond-true (is_quiet o) (effect t own conn (named_link t conn p.call) p.call) None (still-quiet o quiet) ∙ given)
   line-gives told after (ByNoRole job clear has role quiet stopped) =
-      passed-gives told after (subst (λ d. IsClear f conn (is_some d) p) (sym quiet.undialed) clear) (roleless job has role)
+      passed-gives told after (subst (λ d. IsClear f conn (is_some d) p now) (sym quiet.undialed) clear) (roleless job has role)
       (ap (λ d. is_none d || list_any (λ n. n == conn) f.dialed) quiet.undialed)
       (job-passed job has
       ∙ ap (option_map (λ (r : Reply). (r, t)))

@@ -1,6 +1,6 @@
 -- The events that leave the turn under way and the bus: connections come up, calls arrive or are marked, SRQ is sampled,
 -- interrupts are taken, dials asked for.
-use Rattle.std.proofs.Common.{◌≡◌, ◌≢◌, ◌≤◌, ◌==◌, ℕ, Bool, true, false, cond, ◌⊎◌, inl, inr, [], ◌∷◌, ◌++◌, Option, Some, None, refl, sym, ap, ◌∙◌, subst, arith}
+use Rattle.std.proofs.Common.{is_some, ◌≡◌, ◌≢◌, ◌≤◌, ◌==◌, ℕ, Bool, true, false, cond, ◌⊎◌, inl, inr, [], ◌∷◌, ◌++◌, Option, Some, None, refl, sym, ap, ◌∙◌, subst, arith}
 use Rattle.std.specs.Prelude.{is_none, nat_le, ◌&&◌, if◌then◌else◌}
 use Rattle.std.specs.Option.{option_map}
 use Rattle.std.proofs.lemmas.Bool.{false≢true, and_parts, and_from, cond-true, leb-true, le-leb, cases_eq}
@@ -25,6 +25,10 @@ use Rattle.vx_flow.specs.Gather.{gathered}
 use Rattle.vx_flow.specs.Sound.{Stands, HaveCome, IsSound}
 use Rattle.vx_rules.specs.RowLaws.{pending-other, pending-here, pending-up, pending-marked}
 use Rattle.vx_flow.specs.ProvedLaws.Kept.{Goes, IsOpen, Stays, calm}
+use Rattle.vx_rules.specs.Locks.{holds}
+use Rattle.vx_rules.specs.ProvedLaws.Arriving.{idle-new}
+use Rattle.vx_flow.specs.Sound.{request_on}
+use Rattle.vx_flow.specs.ProvedLaws.Ahead.{Shrinks, ahead-stays, same-shrinks, come-shrinks, mark-shrinks}
 
 -- an event that isn't the turn's leads on so
 abbrev pub GoesOn : FineState → ℕ → Event → FineState → Type 0
@@ -32,12 +36,13 @@ GoesOn f k e g = Goes f k (gathered f.turn e) (turn_after f.turn e) g
 
 -- tables that have the links, the locks and the calls of others
 same-stays : (t u : Tables) (conn : ℕ) (l : Link) (p : Pending) → pending_at t conn ≡ Some p → pending_at u conn ≡ pending_at t conn → u.links ≡ t.links → u.locks ≡ t.locks
-    → Stays t u conn l p
-same-stays t u conn l p here same links locks = record {
+    → Shrinks t u conn → Stays t u conn l p
+same-stays t u conn l p here same links locks shrinks = record {
   aborted = p.aborted;
   call_at = same ∙ here;
   links = λ lid h. subst (λ x. link_of (record u { links = x }) conn lid ≡ Some l) (sym links) h;
   locks = λ h. subst (λ x. holder_of x l.number l.target ≡ None) (sym locks) h;
+  ahead = λ at h. ahead-stays t u conn at (request_on l) shrinks (λ held. ap (λ ls. holds ls l.number) locks ∙ held) h;
 }
 
 pub up : (f g : FineState) (k conn : ℕ) (r : Role) → IsSound f → k ≤ f.state.moment → IsOpen f → fine_step f (Up conn r) ≡ Some g → GoesOn f k (Up conn r) g
@@ -48,7 +53,8 @@ up f g k conn r sound early more h =
     subst (Goes f k (entry.Up conn r ∷ []) f.turn) (ap (fine_after f (Up conn r) f.dialed) parts.1 ∙ step.2)
     (calm f k (entry.Up conn r ∷ []) (with_connection t r) f.state.moment k f.dialed sound more
     (cond-true ((conn == t.next_connection) && has_room t r) _ _ parts.0) early (omega arith)
-    (λ u is s. same-stays t (with_connection t r) u.connection s.link s.asked s.call_at (pending-up t r u.connection) refl refl)
+    (λ u is s. same-stays t (with_connection t r) u.connection s.link s.asked s.call_at (pending-up t r u.connection) refl refl
+    (same-shrinks t (with_connection t r) u.connection refl (λ n lid. refl) (pending-up t r)))
     (λ m p at. sound.have_come m p (sym (pending-up t r m) ∙ at)))
 
 pub sample : (f g : FineState) (k now : ℕ) (srq : Bool) → IsSound f → k ≤ f.state.moment → IsOpen f → fine_step f (Sample now srq) ≡ Some g → GoesOn f k (Sample now srq) g
@@ -61,7 +67,7 @@ sample f g k now srq sound early more h =
     subst (Goes f k (entry.Sample now srq ∷ []) f.turn) (ap (fine_after f (Sample now srq) f.dialed) parts.1 ∙ step.2)
     (calm f k (entry.Sample now srq ∷ []) u now now f.dialed sound more
     (cond-true (nat_le k now) _ _ (le-leb k now (omega arith))) (omega arith) le
-    (λ v is s. same-stays t u v.connection s.link s.asked s.call_at refl refl refl)
+    (λ v is s. same-stays t u v.connection s.link s.asked s.call_at refl refl refl (same-shrinks t u v.connection refl (λ n lid. refl) (λ n. refl)))
     (λ m p at. let before = sound.have_come m p at in omega arith))
 
 pub take : (f g : FineState) (k conn chan : ℕ) (told : Given) → IsSound f → k ≤ f.state.moment → IsOpen f → fine_step f (Take conn chan told) ≡ Some g
@@ -74,7 +80,7 @@ take f g k conn chan told sound early more h =
     subst (Goes f k (entry.Take conn chan told ∷ []) f.turn) (ap (fine_after f (Take conn chan told) f.dialed) parts.1 ∙ step.2)
     (calm f k (entry.Take conn chan told ∷ []) u f.state.moment k f.dialed sound more
     (cond-true _ _ _ parts.0) early (omega arith)
-    (λ v is s. same-stays t u v.connection s.link s.asked s.call_at refl refl refl)
+    (λ v is s. same-stays t u v.connection s.link s.asked s.call_at refl refl refl (same-shrinks t u v.connection refl (λ n lid. refl) (λ n. refl)))
     (λ m p at. sound.have_come m p at))
 
 pub dial : (f g : FineState) (k conn now : ℕ) → IsSound f → k ≤ f.state.moment → IsOpen f → fine_step f (Dial conn now) ≡ Some g → GoesOn f k (Dial conn now) g
@@ -86,7 +92,7 @@ dial f g k conn now sound early more h =
     let le : f.state.moment ≤ now = leb-true f.state.moment now (and_parts _ _ parts.0).0 in
     subst (Goes f k [] f.turn) parts.1
     (calm f k [] t now k listed sound more refl (omega arith) le
-    (λ v is s. same-stays t t v.connection s.link s.asked s.call_at refl refl refl)
+    (λ v is s. same-stays t t v.connection s.link s.asked s.call_at refl refl refl (same-shrinks t t v.connection refl (λ n lid. refl) (λ n. refl)))
     (λ m p at. let before = sound.have_come m p at in omega arith))
 
 -- ---- a call arrives
@@ -121,7 +127,8 @@ arrive f g k conn asked now sound early more h =
     (cond-true (nat_le k now && is_idle t conn && may_wait asked) _ _
     (and_from _ _ (and_from _ _ (le-leb k now (omega arith)) first.1) tests.1))
     (omega arith) le
-    (λ v is s. same-stays t u v.connection s.link s.asked s.call_at (pending-other t conn v.connection (Some (arrived asked now)) (ne v s)) refl refl)
+    (λ v is s. same-stays t u v.connection s.link s.asked s.call_at (pending-other t conn v.connection (Some (arrived asked now)) (ne v s)) refl refl
+    (come-shrinks t conn v.connection (arrived asked now) (sound.tables.waiting v.connection ∙ ap is_some s.call_at) (idle-new t conn sound.tables.waiting first.1)))
     (arrived-come t conn asked f.state.moment now sound.have_come le))
 
 -- ---- calls are marked
@@ -142,8 +149,14 @@ abort-pending t lid conn p h = pending-marked t lid conn ∙ ap (option_map (mar
 abort-stays : (t : Tables) (lid conn : ℕ) (l : Link) (p : Pending) → pending_at t conn ≡ Some p → Stays t (abort_tables t lid) conn l p
 abort-stays t lid conn l p h = by (is_live t.links lid) where
   by : (b : Bool) → Stays t (cond b (marked t lid) t) conn l p
-  by true = record { aborted = if marks lid p then true else p.aborted; call_at = abort-pending t lid conn p h; links = λ n e. e; locks = λ e. e }
-  by false = record { aborted = p.aborted; call_at = h; links = λ n e. e; locks = λ e. e }
+  by true = record {
+    aborted = if marks lid p then true else p.aborted;
+    call_at = abort-pending t lid conn p h;
+    links = λ n e. e;
+    locks = λ e. e;
+    ahead = λ at e. ahead-stays t (marked t lid) conn at (request_on l) (mark-shrinks t lid conn) (λ held. held) e;
+  }
+  by false = record { aborted = p.aborted; call_at = h; links = λ n e. e; locks = λ e. e; ahead = λ at e. e }
 
 abort-come : (t : Tables) (lid moment : ℕ) → HaveCome t moment → HaveCome (abort_tables t lid) moment
 abort-come t lid moment come = by (is_live t.links lid) where

@@ -1,6 +1,6 @@
 -- An answer is decided alike on the bus before the turn and on the present one, and its turn is such as one thread can have.
 use Rattle.std.proofs.Common.{◌≡◌, ◌≤◌, ℕ, Bool, true, false, cond, ◌⊎◌, inl, inr, [], Option, Some, None, refl, sym, ap, ◌∙◌, arith}
-use Rattle.std.specs.Prelude.{is_some, nat_le, ◌&&◌}
+use Rattle.std.specs.Prelude.{is_some, is_none, nat_le, ◌&&◌, ◌||◌}
 use Rattle.std.specs.Option.{option_map, option_and_then}
 use Rattle.std.proofs.lemmas.Bool.{cases_Bool, true≢false, and_from, or_left, or_right, cond-false, cond-true, le-leb}
 use Rattle.vx_calls.specs.declared.codes.ErrorCode.{ErrorCode}
@@ -12,16 +12,16 @@ use Rattle.vx_rules.specs.Table.{Link}
 use Rattle.vx_rules.specs.Calls.{is_bus_call, asks_dial}
 use Rattle.vx_rules.specs.State.{Pending, Tables, State, pending_at, with_pending}
 use Rattle.vx_rules.specs.Checks.{OnLink, named_link, check}
-use Rattle.vx_rules.specs.Lines.{Admission, Refused, Passed, holder_against, lock_lines, checked_lines, later_lines, first_lines}
+use Rattle.vx_rules.specs.Lines.{Behind, Admission, Refused, Passed, first_ahead, ahead_of, bar_by, bar_against, lock_lines, checked_lines, later_lines_in, later_lines, first_lines_in, first_lines, is_first}
 use Rattle.vx_rules.specs.Effects.{task_of, effect}
-use Rattle.vx_rules.specs.Decide.{Outside, is_quiet, stand_on, bus_answer, dialed_answer, by_lines, settles, decide, is_nothing, begun_between, may_tell, has_job_role, may_have_made, lines_fit, turn_fits}
+use Rattle.vx_rules.specs.Decide.{Outside, is_quiet, stand_on, bus_answer, dialed_answer, by_lines, settles, decide_in, decide, is_nothing, begun_between, may_tell, has_job_role, may_have_made, lines_fit, turn_fits}
 use Rattle.vx_rules.specs.Entry as entry
 use Rattle.vx_rules.specs.One.{one, answer, answer_to, answered, if_reply, call_fits}
 use Rattle.vx_rules.specs.ProvedLaws.{bus-job}
 use Rattle.vx_flow.specs.FineState.{Turn}
 use Rattle.vx_flow.specs.Fine.{is_whole}
-use Rattle.vx_flow.specs.Sound.{Passes, Stands}
-use Rattle.vx_flow.specs.ProvedLaws.Jobs.{against}
+use Rattle.vx_flow.specs.Sound.{Passes, request_on, Stands}
+use Rattle.vx_flow.specs.ProvedLaws.Jobs.{against, behind}
 use Rattle.vx_flow.specs.ProvedLaws.ByLines.{Gives, ByRefusal, ByPassing, gives, gives-alike}
 use Rattle.vx_flow.specs.ProvedLaws.Ending.{job-is, may-made}
 
@@ -37,15 +37,20 @@ agree-passed t w b conn p now o true bus quiet x r s same no_bus = refl
 agree-passed t w b conn p now o false true quiet x r s same no_bus = absurd (true≢false no_bus)
 agree-passed t w b conn p now o false false quiet x r s same no_bus = ap (λ own. cond quiet (effect t own conn (named_link t conn p.call) p.call) None) same
 
--- a call that no turn was for is decided alike
-pub agree : (t : Tables) (w b : Wire) (conn : ℕ) (p : Pending) (now : ℕ) (o : Outside) → w.own ≡ b.own
-    → (first_lines t w.own conn (settles o) p now ≡ Passed → is_bus_call p.call ≡ false) → decide t w conn p now o ≡ decide t b conn p now o
-agree t w b conn p now o same no_bus =
-    gives-alike t w b conn p now o (first_lines t w.own conn (settles o) p now)
+-- a call that no turn was for is decided alike, whoever's turn is under way
+pub agree-in : (t : Tables) (busy : Option ℕ) (w b : Wire) (conn : ℕ) (p : Pending) (now : ℕ) (o : Outside) → w.own ≡ b.own
+    → (first_lines_in t busy w.own conn (settles o) p now ≡ Passed → is_bus_call p.call ≡ false) → decide_in t busy w conn p now o ≡ decide_in t busy b conn p now o
+agree-in t busy w b conn p now o same no_bus =
+    gives-alike t w b conn p now o (first_lines_in t busy w.own conn (settles o) p now)
     (λ passed.
     agree-passed t w b conn p now o (asks_dial p.call) (is_bus_call p.call) (is_quiet o) (dialed_answer t conn p o o.dialed)
     (bus_answer w p now o (task_of (named_link t conn p.call) p.call)) (bus_answer b p now o (task_of (named_link t conn p.call) p.call)) same (no_bus passed))
-    ∙ ap (λ own. by_lines t b conn p now o (first_lines t own conn (settles o) p now)) same
+    ∙ ap (λ own. by_lines t b conn p now o (first_lines_in t busy own conn (settles o) p now)) same
+
+-- and where none is
+pub agree : (t : Tables) (w b : Wire) (conn : ℕ) (p : Pending) (now : ℕ) (o : Outside) → w.own ≡ b.own
+    → (first_lines t w.own conn (settles o) p now ≡ Passed → is_bus_call p.call ≡ false) → decide t w conn p now o ≡ decide t b conn p now o
+agree t w b conn p now o same no_bus = agree-in t None w b conn p now o same no_bus
 
 -- ---- an answer without a turn
 
@@ -57,7 +62,7 @@ quiet_turn failed dialed level = record { begun = 0; moves = []; failed = failed
 fits-lines : (t : Tables) (w : Wire) (conn : ℕ) (p : Pending) (now : ℕ) (failed : Bool) (dialed : Option Bool) (level : Bool) (d : Reply × Tables) (aborted : Bool) (l : Admission)
     → by_lines t w conn p now (quiet_turn failed dialed level) (cond aborted (Refused code.Abort) l) ≡ Some d
     → (cond aborted (Refused code.Abort) l ≡ Passed → has_job_role w (task_of (named_link t conn p.call) p.call) ≡ false)
-    → cond aborted (may_tell p now 0 && may_have_made t w conn p []) (lines_fit t w conn p now (quiet_turn failed dialed level) l) ≡ true
+    → cond aborted (may_tell p now 0 && may_have_made t w conn p [] && (is_nothing [] || is_first t w.own conn p now)) (lines_fit t w conn p now (quiet_turn failed dialed level) l) ≡ true
 fits-lines t w conn p now failed dialed level d true l h role = refl
 fits-lines t w conn p now failed dialed level d false l h role = by (gives t w conn p now (quiet_turn failed dialed level) d l h) where
   by : Gives t w conn p now (quiet_turn failed dialed level) d l → lines_fit t w conn p now (quiet_turn failed dialed level) l ≡ true
@@ -75,13 +80,25 @@ fits-quiet t w conn p now failed dialed level d h role =
 
 -- ---- an answer of the call whose turn it is
 
--- the lines behind that of the abort let a call pass that has made transfers
-later-passed : (t : Tables) (own conn : ℕ) (settling : Bool) (p : Pending) (now : ℕ) (l : Link) → named_link t conn p.call ≡ OnLink l → is_bus_call p.call ≡ true
-    → Passes t own l p.call → later_lines t own conn settling p now ≡ Passed
-later-passed t own conn settling p now l on bus h =
-    ap (λ a. checked_lines p now (check t own conn settling a p.call) (holder_against t own a p.call)) on
-    ∙ ap (λ c. checked_lines p now c (holder_against t own (OnLink l) p.call)) h.checked
-    ∙ ap (lock_lines p now) (against t own l p.call bus ∙ h.free)
+-- the lines behind that of the abort let a call pass that has made transfers, where no other stands in line before it
+pub later-passed-in : (t : Tables) (busy : Option ℕ) (own conn : ℕ) (settling : Bool) (p : Pending) (now : ℕ) (l : Link) → named_link t conn p.call ≡ OnLink l
+    → is_bus_call p.call ≡ true → Passes t own l p.call → first_ahead t busy now conn (request_on l) ≡ None → later_lines_in t busy own conn settling p now ≡ Passed
+later-passed-in t busy own conn settling p now l on bus h first =
+    ap (λ a. checked_lines p now (check t own conn settling a p.call) (bar_against t busy own now conn a p.call)) on
+    ∙ ap (λ c. checked_lines p now c (bar_against t busy own now conn (OnLink l) p.call)) h.checked
+    ∙ ap (λ held. lock_lines p now (bar_by held (ahead_of t busy own now conn (OnLink l) p.call))) (against t own l p.call bus ∙ h.free)
+    ∙ ap (λ o. lock_lines p now (option_map Behind o)) (behind t busy own now conn l p.call bus ∙ first)
+
+-- and where no turn is under way
+pub later-passed : (t : Tables) (own conn : ℕ) (settling : Bool) (p : Pending) (now : ℕ) (l : Link) → named_link t conn p.call ≡ OnLink l → is_bus_call p.call ≡ true
+    → Passes t own l p.call → first_ahead t None now conn (request_on l) ≡ None → later_lines t own conn settling p now ≡ Passed
+later-passed t own conn settling p now l on bus h first = later-passed-in t None own conn settling p now l on bus h first
+
+-- it waits behind no other
+pub first-is : (t : Tables) (own conn : ℕ) (p : Pending) (now : ℕ) (l : Link) → named_link t conn p.call ≡ OnLink l → is_bus_call p.call ≡ true
+    → first_ahead t None now conn (request_on l) ≡ None → is_first t own conn p now ≡ true
+first-is t own conn p now l on bus first =
+    ap (λ a. is_none (ahead_of t None own now conn a p.call)) on ∙ ap is_none (behind t None own now conn l p.call bus ∙ first)
 
 -- what comes to the answer of the call whose turn this is
 abbrev pub own_outside : Turn → Bool → Option Bool → Bool → Outside
@@ -92,6 +109,13 @@ module _ (t : Tables) (before present : Wire) (m now : ℕ) (u : Turn) (s : Stan
     -- the turn began between the call's arrival and its answer
     between : begun_between s.asked now u.begun ≡ true
     between = and_from _ _ (le-leb s.asked.arrival u.begun s.came) (le-leb u.begun now (omega (arith, s.began, late)))
+
+    -- its call is one for the bus, before which no other stands in line
+    on_bus : is_bus_call s.asked.call ≡ true
+    on_bus = bus-job s.link.target s.asked.call s.job s.has_job
+
+    leads : first_ahead t None now u.connection (request_on s.link) ≡ None
+    leads = s.first now (omega (arith, s.began, late))
 
     tells : may_tell s.asked now u.begun ≡ true
     tells = or_right _ _ between
@@ -119,14 +143,18 @@ module _ (t : Tables) (before present : Wire) (m now : ℕ) (u : Turn) (s : Stan
       by : (is_nothing u.moves ≡ true) ⊎ (is_nothing u.moves ≡ false) → is_nothing u.moves ≡ true
       by (inl e) = e
       by (inr some) =
-          absurd (never (sym h ∙ later-passed t before.own u.connection (is_some dialed) s.asked now s.link s.on_link (bus-job s.link.target s.asked.call s.job s.has_job) (s.passes some)))
+          absurd (never (sym h ∙ later-passed t before.own u.connection (is_some dialed) s.asked now s.link s.on_link on_bus (s.passes some) leads))
 
     -- by the line that gives the answer
     own-lines : (d : Reply × Tables) (aborted : Bool) (l : Admission) → s.asked.aborted ≡ aborted → later_lines t before.own u.connection (is_some dialed) s.asked now ≡ l
         → by_lines t before u.connection s.asked now (own_outside u failed dialed level) (cond aborted (Refused code.Abort) l) ≡ Some d
-        → cond aborted (may_tell s.asked now u.begun && may_have_made t before u.connection s.asked u.moves)
+        → cond aborted
+        (may_tell s.asked now u.begun && may_have_made t before u.connection s.asked u.moves && (is_nothing u.moves || is_first t before.own u.connection s.asked now))
         (lines_fit t before u.connection s.asked now (own_outside u failed dialed level) l) ≡ true
-    own-lines d true l marked is h = and_from _ _ tells (marked-made marked)
+    own-lines d true l marked is h =
+        and_from (may_tell s.asked now u.begun && may_have_made t before u.connection s.asked u.moves) (is_nothing u.moves || is_first t before.own u.connection s.asked now)
+        (and_from (may_tell s.asked now u.begun) (may_have_made t before u.connection s.asked u.moves) tells (marked-made marked))
+        (or_right (is_nothing u.moves) (is_first t before.own u.connection s.asked now) (first-is t before.own u.connection s.asked now s.link s.on_link on_bus leads))
     own-lines d false l marked is h = by (gives t before u.connection s.asked now (own_outside u failed dialed level) d l h) where
       by : Gives t before u.connection s.asked now (own_outside u failed dialed level) d l
           → lines_fit t before u.connection s.asked now (own_outside u failed dialed level) l ≡ true

@@ -12,7 +12,7 @@ use Rattle.vx_plan.specs.Plan.{Stand, Whole, Part, Off}
 use Rattle.vx_rules.specs.Table.{Link}
 use Rattle.vx_rules.specs.Locks.{Lock, keeps_off, holder_of, with_lock}
 use Rattle.vx_rules.specs.State.{Pending, Tables, State, connection_at, pending_at, without_connection, is_lock_of}
-use Rattle.vx_rules.specs.Checks.{named_link}
+use Rattle.vx_rules.specs.Checks.{OnLink, named_link}
 use Rattle.vx_rules.specs.Lines.{lets_pass}
 use Rattle.vx_rules.specs.Effects.{task_of}
 use Rattle.vx_rules.specs.Decide.{is_nothing, is_part, stand_on, is_part_of, may_have_made}
@@ -29,6 +29,10 @@ use Rattle.vx_flow.specs.ProvedLaws.Jobs.{passes-from}
 use Rattle.vx_flow.specs.ProvedLaws.Kept.{Goes, IsOpen, Stays, turn-stand, calm}
 use Rattle.vx_flow.specs.ProvedLaws.Calm.{GoesOn}
 use Rattle.vx_flow.specs.ProvedLaws.Turning.{in_turn}
+use Rattle.vx_rules.specs.Sound as rules
+use Rattle.vx_rules.specs.ProvedLaws.Keeping.{without_connection-sound}
+use Rattle.vx_flow.specs.Sound.{request_on}
+use Rattle.vx_flow.specs.ProvedLaws.Ahead.{ahead-stays, left-shrinks, on-number, held-kept, others-locks, none-of-another}
 
 -- ---- what a call may have made that ends early
 
@@ -89,12 +93,18 @@ gone-come t conn moment come m p at = by (cases_eq conn m) where
       absurd (none-some p (sym (pending-gone t conn) ∙ ap (pending_at (without_connection t conn)) e ∙ at))
   by (inr ne) = come m p (sym (pending-others t conn m ne) ∙ at)
 
-gone-stays : (t : Tables) (conn other : ℕ) (l : Link) (p : Pending) → conn ≢ other → pending_at t other ≡ Some p → Stays t (without_connection t conn) other l p
-gone-stays t conn other l p ne at = record {
+gone-stays : (t : Tables) (conn other : ℕ) (l : Link) (p : Pending) → rules.IsSound t → conn ≢ other → pending_at t other ≡ Some p → named_link t other p.call ≡ OnLink l
+    → Stays t (without_connection t conn) other l p
+gone-stays t conn other l p sound ne at on = record {
   aborted = p.aborted;
   call_at = pending-others t conn other ne ∙ at;
   links = λ lid h. link-others t conn other lid ne ∙ h;
   locks = λ h. holder-filter (λ k. not (is_lock_of t.links.links conn k)) t.locks l.number l.target h;
+  ahead = λ at h.
+      let link = on-number t other p.call l on in
+      ahead-stays t (without_connection t conn) other at (request_on l)
+      (left-shrinks t (without_connection t conn) conn other ne refl (λ n lid other. link-others t conn n lid other) (λ n other. pending-others t conn n other))
+      (held-kept t.locks (λ k. not (is_lock_of t.links.links conn k)) l.number (others-locks t conn l.number (none-of-another t conn other link.0 l sound link.1 ne))) h;
 }
 
 -- a connection may always go with no transfers
@@ -130,7 +140,7 @@ down-calm s turn before dialed k conn sound early more lives ne =
     (cond-true (is_some (connection_at t conn) && may_leave t (before_turn f k) conn [] (pending_at t conn)) _ _
     (and_from _ _ lives (leaves-nothing t (before_turn f k) conn (pending_at t conn))))
     early (omega arith)
-    (λ u is st. gone-stays t conn u.connection st.link st.asked (ne u is) st.call_at)
+    (λ u is st. gone-stays t conn u.connection st.link st.asked sound.tables (ne u is) st.call_at st.on_link)
     (gone-come t conn s.moment sound.have_come)
 
 -- in the middle of its turn
@@ -153,7 +163,7 @@ down-own s u before dialed k conn sound early more lives same =
           ∙ ap (λ w. Some (record { tables = without_connection t conn; wire = w; moment = k })) (sym st.made);
       earlier = early;
       turn_is = refl;
-      sound = record { turn_stands = refl; have_come = gone-come t conn s.moment sound.have_come };
+      sound = record { turn_stands = refl; have_come = gone-come t conn s.moment sound.have_come; tables = without_connection-sound t conn sound.tables };
       stays = λ v same is sv. absurd (none-some u same);
     }
 

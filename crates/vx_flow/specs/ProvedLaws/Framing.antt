@@ -29,7 +29,7 @@ use Rattle.vx_rules.specs.RowLaws.{pending-other, pending-up, pending-others, pe
 use Rattle.vx_flow.specs.Event.{Event, Up, Down, Arrive, Answer, Abort, Sample, Take, Begin, Move, Dial}
 use Rattle.vx_flow.specs.FineState.{FineState, turn_after}
 use Rattle.vx_flow.specs.Fine.{wire_for, outside, fine}
-use Rattle.vx_flow.specs.Does.{AnsweredBy, ByAbort, ByNoLink, ByCheck, ByLock, ByDialUp, ByDialDown, ByEffect, ByNoRole, ByFault, ByWhole, ByTimeout, Step}
+use Rattle.vx_flow.specs.Does.{AnsweredBy, ByAbort, ByNoLink, ByCheck, ByBar, ByDialUp, ByDialDown, ByEffect, ByNoRole, ByFault, ByWhole, ByTimeout, Step}
 use Rattle.vx_flow.specs.Frames.{mark_by, LeavesOthers, Frame, FrameLaw}
 use Rattle.vx_flow.specs.ProvedLaws.Stepping.{turn-answered, turn-down, does_law-holds}
 
@@ -139,7 +139,7 @@ pub line-leaves : (f : FineState) (conn now : ℕ) (p : Pending) (o : Outside) (
 line-leaves f conn now p o told after (ByAbort marked still stops) = same-leaves f.state.tables after conn stops.same
 line-leaves f conn now p o told after (ByNoLink unmarked dead still stops) = same-leaves f.state.tables after conn stops.same
 line-leaves f conn now p o told after (ByCheck error unmarked lives checked still stops) = same-leaves f.state.tables after conn stops.same
-line-leaves f conn now p o told after (ByLock holder unmarked checked held waits still stops) = same-leaves f.state.tables after conn stops.same
+line-leaves f conn now p o told after (ByBar bar unmarked checked kept waits still stops) = same-leaves f.state.tables after conn stops.same
 line-leaves f conn now p o told after (ByDialUp clear d told_is after_is) =
     subst (LeavesOthers f.state.tables conn) (sym after_is)
     (record { connections = refl; arrivals = refl; next = refl; port = refl; others = λ m lid ne. refl; held = λ n none ne. refl; link_numbers = omega arith; channel_numbers = omega arith })

@@ -19,6 +19,7 @@ use Rattle.vx_flow.specs.ProvedLaws.Calm.{GoesOn, up, sample, take, dial, arrive
 use Rattle.vx_flow.specs.ProvedLaws.Turning.{begin, move}
 use Rattle.vx_flow.specs.ProvedLaws.Ending.{down}
 use Rattle.vx_flow.specs.ProvedLaws.Replies.{replied}
+use Rattle.vx_rules.specs.ProvedLaws.Keeping.{first-sound as empty-sound}
 
 -- every event that is allowed leads on
 step-goes : (e : Event) (f g : FineState) (k : ℕ) → IsSound f → k ≤ f.state.moment → comes_in_turn f e f.turn ≡ true → fine_step f e ≡ Some g → GoesOn f k e g
@@ -89,7 +90,7 @@ gathers (e ∷ es) f g k sound early h = by (fine f e) refl h (gathers es) where
 
 -- a gateway as it starts
 pub first-sound : (abort_port : ℕ) → IsSound (first_fine abort_port)
-first-sound abort_port = record { turn_stands = refl; have_come = λ conn p at. absurd (none-some p at) }
+first-sound abort_port = record { turn_stands = refl; have_come = λ conn p at. absurd (none-some p at); tables = empty-sound abort_port }
 
 -- what is kept holds behind every list of events that is allowed
 pub fine-gathers : (abort_port : ℕ) (h : List Event) (f : FineState) → fine_along abort_port h ≡ Some f → Gathers (first_fine abort_port) 0 h f

@@ -89,7 +89,7 @@ module _ (t : Tables) (w : Wire) (conn now : ℕ) (o : Outside) (lid io_timeout 
 
   -- the first lines refuse it with an error
   lines-refuse : (error : ErrorCode) → first_lines t w.own conn (settles o) waiting now ≡ Refused error → error ≢ code.Ok
-  lines-refuse error h = by (first-refuses t w.own conn (settles o) waiting now error h) where
+  lines-refuse error h = by (first-refuses t None w.own conn (settles o) waiting now error h) where
     by : (error ≡ code.Abort) ⊎ ((check t w.own conn (settles o) (named_link t conn asked) asked ≡ Some error) ⊎ (error ≡ code.Locked)) → error ≢ code.Ok
     by (inl e) ok = abort_is (sym e ∙ ok)
     by (inr (inl e)) ok = subst IsError e (check-error w.own (settles o) (link_of t conn lid)) ok

@@ -23,11 +23,11 @@ use Rattle.vx_rules.specs.State.{Pending, Tables}
 use Rattle.vx_rules.specs.Calls.{is_bus_call, is_lock_call, asks_dial, bytes_of}
 use Rattle.vx_rules.specs.Docmd.{Command, BusAddress, command_of, command_task}
 use Rattle.vx_rules.specs.Checks.{NamedLink, NoLink, DeadLink, OnLink, named_link, is_interface, check_command, check_on, check}
-use Rattle.vx_rules.specs.Lines.{LockRequest, holder_against, checks_pass, lets_pass}
+use Rattle.vx_rules.specs.Lines.{LockRequest, holder_against, first_ahead, ahead_of, checks_pass, lets_pass}
 use Rattle.vx_rules.specs.Effects.{task_on, task_of}
 use Rattle.vx_rules.specs.Decide.{stand_on, has_job_role}
 use Rattle.vx_flow.specs.Fine.{is_whole}
-use Rattle.vx_flow.specs.Sound.{Passes}
+use Rattle.vx_flow.specs.Sound.{Passes, request_on}
 
 -- the job of a call is that of its link
 pub job-link : (about : NamedLink) (asked : Call) (job : Task) → task_of about asked ≡ Some job → (l : Link) × (about ≡ OnLink l) × (task_on l.target asked ≡ Some job)
@@ -93,6 +93,12 @@ own-stays before asked job (t ∷ ts) on more =
 -- a bus call is kept off by the holder of a lock against its link's target
 pub against : (t : Tables) (own : ℕ) (l : Link) (asked : Call) → is_bus_call asked ≡ true → holder_against t own (OnLink l) asked ≡ holder_of t.locks l.number l.target
 against t own l asked bus = ap (λ b. option_and_then (λ (c : LockRequest). holder_of t.locks c.link c.target) (if b || is_lock_call asked then Some (record { link = l.number; target = l.target }) else None)) bus
+
+-- and waits behind the first call before it that is on a target conflicting with its link's
+pub behind : (t : Tables) (busy : Option ℕ) (own now conn : ℕ) (l : Link) (asked : Call) → is_bus_call asked ≡ true
+    → ahead_of t busy own now conn (OnLink l) asked ≡ first_ahead t busy now conn (request_on l)
+behind t busy own now conn l asked bus =
+    ap (λ b. option_and_then (first_ahead t busy now conn) (if b || is_lock_call asked then Some (record { link = l.number; target = l.target }) else None)) bus
 
 about_passes : (refused : Option ErrorCode) (holder : Option ℕ) → checks_pass refused holder ≡ true → (refused ≡ None) × (holder ≡ None)
 about_passes None None h = (refl, refl)

@@ -9,6 +9,8 @@ use Rattle.vx_plan.specs.Plan.{Off}
 use Rattle.vx_plan.specs.Tasks.{is_own_task}
 use Rattle.vx_rules.specs.Table.{Link}
 use Rattle.vx_rules.specs.Locks.{holder_of}
+use Rattle.vx_rules.specs.Lines.{first_ahead}
+use Rattle.vx_rules.specs.ProvedLaws.Walks.{along-sound}
 use Rattle.vx_rules.specs.Calls.{link_named, bytes_of}
 use Rattle.vx_rules.specs.State.{Pending, Tables, pending_at, link_of}
 use Rattle.vx_rules.specs.Checks.{OnLink, link_found, link_by_number, named_link}
@@ -20,7 +22,7 @@ use Rattle.vx_rules.specs.One.{one}
 use Rattle.vx_flow.specs.Event.{Event}
 use Rattle.vx_flow.specs.FineState.{Turn, FineState, before_turn}
 use Rattle.vx_flow.specs.Fine.{call_stand, is_whole, turn_stand, is_answer_of, comes_in_turn, wire_before}
-use Rattle.vx_flow.specs.Sound.{Stands, TurnStands, HaveCome, IsSound}
+use Rattle.vx_flow.specs.Sound.{request_on, Stands, TurnStands, HaveCome, IsSound}
 use Rattle.vx_flow.specs.ProvedLaws.Jobs.{check-same, not-own}
 
 -- ---- the turn's transfers aren't whole before its answer comes
@@ -48,12 +50,13 @@ is-open f e h other u is =
 -- ---- the turn's call under changes of the tables
 
 -- What a change of the tables leaves the turn's call: it is pending, marked or not; its link lives; no lock that keeps it off is
--- taken.
+-- taken; no other call comes to stand in line before it.
 pub record Stays (t u : Tables) (conn : ℕ) (l : Link) (p : Pending) : Type 0 where
   pub aborted : Bool
   pub call_at : pending_at u conn ≡ Some (record p { aborted = aborted })
   pub links : (lid : ℕ) → link_of t conn lid ≡ Some l → link_of u conn lid ≡ Some l
   pub locks : holder_of t.locks l.number l.target ≡ None → holder_of u.locks l.number l.target ≡ None
+  pub ahead : (at : ℕ) → first_ahead t None at conn (request_on l) ≡ None → first_ahead u None at conn (request_on l) ≡ None
 
 -- From the state before the turn at an earlier moment the gateway of one thread goes by these entries to that of another fine
 -- state. A turn that is left has its call.
@@ -98,6 +101,7 @@ carry t t' before now m m' u s more stays le = record {
   on_plan = s.on_plan;
   came = s.came;
   began = omega (arith, s.began, le);
+  first = λ at after. stays.ahead at (s.first at after);
   passes = λ some. record {
     checked =
         sym (check-same t t' before.own s.link s.asked.call s.job s.has_job (begun-steady before s.asked.call s.job u.moves some s.on_plan more))
@@ -145,6 +149,7 @@ calm f k entries t m k' dialed sound more goes early le stays come = record {
   sound = record {
     turn_stands = carry-turn f.state.tables t f.before f.state.wire f.state.moment m f.turn sound.turn_stands more stays le;
     have_come = come;
+    tables = along-sound (Some (before_turn f k)) entries (record { tables = t; wire = f.before; moment = k' }) sound.tables goes;
   };
   stays = λ u same is s. stays u is s;
 }

@@ -36,6 +36,7 @@ later-stands t before now m m' (Some u) le h = record {
   on_plan = h.on_plan;
   came = h.came;
   began = omega (arith, h.began, le);
+  first = h.first;
   passes = h.passes;
   unmarked = h.unmarked;
 }
@@ -45,4 +46,5 @@ pub later-sound : LaterSoundLaw
 later-sound f now sound le = record {
   turn_stands = later-stands f.state.tables f.before f.state.wire f.state.moment now f.turn le sound.turn_stands;
   have_come = λ conn p at. let came = sound.have_come conn p at in omega (arith, came, le);
+  tables = sound.tables;
 }

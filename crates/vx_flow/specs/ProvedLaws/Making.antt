@@ -19,7 +19,7 @@ use Rattle.vx_rules.specs.Table.{Link}
 use Rattle.vx_rules.specs.Calls.{is_bus_call, asks_dial}
 use Rattle.vx_rules.specs.State.{Pending, Tables, State, pending_at, with_pending}
 use Rattle.vx_rules.specs.Checks.{OnLink, named_link, check_on, check}
-use Rattle.vx_rules.specs.Lines.{Admission, Refused, Passed, holder_against, checked_lines, later_lines, lets_pass}
+use Rattle.vx_rules.specs.Lines.{Admission, Refused, Passed, holder_against, ahead_of, bar_against, checked_lines, later_lines_in, later_lines, lets_pass, is_first}
 use Rattle.vx_rules.specs.Effects.{task_on, task_of, stopped_reply, effect}
 use Rattle.vx_rules.specs.Decide.{Outside, is_quiet, stand_on, turn_answer, job_answer, bus_answer, dialed_answer, passed_answer, by_lines, settles, decide, is_nothing, begun_between, may_tell, is_part, has_job_role, is_part_of, may_have_made, passed_fits, lines_fit, turn_fits}
 use Rattle.vx_rules.specs.Entry as entry
@@ -77,12 +77,18 @@ may-made-parts t w conn p moves h = by (is_nothing moves) refl h where
 
 -- ---- a call that passed the first lines
 
+-- whoever's turn is under way
+pub later-passes-in : (t : Tables) (busy : Option ℕ) (own conn : ℕ) (settling : Bool) (p : Pending) (now : ℕ) (l : Link) → named_link t conn p.call ≡ OnLink l
+    → is_bus_call p.call ≡ true → later_lines_in t busy own conn settling p now ≡ Passed → Passes t own l p.call
+later-passes-in t busy own conn settling p now l on bus h =
+    let parts = lines-both p now (check_on t own l p.call) (holder_against t own (OnLink l) p.call) (ahead_of t busy own now conn (OnLink l) p.call)
+    (sym (ap (λ a. checked_lines p now (check t own conn settling a p.call) (bar_against t busy own now conn a p.call)) on) ∙ h) in
+    record { checked = parts.0; free = sym (against t own l p.call bus) ∙ parts.1 }
+
+-- and where none is
 pub later-passes : (t : Tables) (own conn : ℕ) (settling : Bool) (p : Pending) (now : ℕ) (l : Link) → named_link t conn p.call ≡ OnLink l → is_bus_call p.call ≡ true
     → later_lines t own conn settling p now ≡ Passed → Passes t own l p.call
-later-passes t own conn settling p now l on bus h =
-    let parts = lines-both p now (check_on t own l p.call) (holder_against t own (OnLink l) p.call)
-    (sym (ap (λ a. checked_lines p now (check t own conn settling a p.call) (holder_against t own a p.call)) on) ∙ h) in
-    record { checked = parts.0; free = sym (against t own l p.call bus) ∙ parts.1 }
+later-passes t own conn settling p now l on bus h = later-passes-in t None own conn settling p now l on bus h
 
 bus-only : (asks bus : Bool) (x y z : Option (Reply × Tables)) → asks ≡ false → bus ≡ true → cond asks x (cond bus y z) ≡ y
 bus-only true bus x y z a b = absurd (true≢false a)
@@ -145,9 +151,11 @@ answer-made t w conn p now o d fits found = by p.aborted (later_lines t w.own co
       (sym (ap (lines_fit t w conn p now o) passed) ∙ fits) answers
 
   by : (aborted : Bool) (l : Admission) → later_lines t w.own conn (settles o) p now ≡ l
-      → cond aborted (may_tell p now o.begun && may_have_made t w conn p o.moves) (lines_fit t w conn p now o l) ≡ true
+      → cond aborted (may_tell p now o.begun && may_have_made t w conn p o.moves && (is_nothing o.moves || is_first t w.own conn p now)) (lines_fit t w conn p now o l) ≡ true
       → by_lines t w conn p now o (cond aborted (Refused code.Abort) l) ≡ Some d → MadeAny t w conn p o.moves
-  by true l is fits found = may-made-parts t w conn p o.moves (and_parts _ _ fits).1
+  by true l is fits found = may-made-parts t w conn p o.moves
+      (and_parts (may_tell p now o.begun) (may_have_made t w conn p o.moves)
+      (and_parts (may_tell p now o.begun && may_have_made t w conn p o.moves) (is_nothing o.moves || is_first t w.own conn p now) fits).0).1
   by false l is fits found = given l is fits (gives t w conn p now o d l found)
 
 -- ---- entries

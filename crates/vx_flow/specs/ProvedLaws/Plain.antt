@@ -309,7 +309,7 @@ one-plain (Answer conn now begun moves failed dialed level told) s t plain h =
     subst IsPlain a.is (is-plain (record { tables = with_pending a.decided.1 conn None; wire = wire_after s.wire moves; moment = now })
     (any-own (λ n. n ≤ ADDRESS_MAX) s.tables s.wire conn a.asked moves (λ n le none. le) plain.own made)
     (answer-reachable s.tables s.wire conn a.asked (first_lines s.tables s.wire.own conn (settles o) a.asked now) a.decided moves
-    (decide-found s.tables s.wire conn a.asked now o a.decided a.found) plain.reachable made))
+    (decide-found s.tables None s.wire conn a.asked now o a.decided a.found) plain.reachable made))
 one-plain (Abort conn lid told) s t plain h =
     let parts = cond_some (lives_as s.tables conn role.Abort && same_error (abort_reply s.tables lid) told) (record s { tables = abort_tables s.tables lid }) t h in
     subst IsPlain parts.1 (is-plain (record s { tables = abort_tables s.tables lid }) plain.own

@@ -12,11 +12,11 @@ use Rattle.vx_488.specs.declared.wire.Wire.{Wire}
 use Rattle.vx_488.specs.Wire.{wire_after}
 use Rattle.vx_rules.specs.Calls.{is_bus_call, is_lock_call}
 use Rattle.vx_rules.specs.State.{Pending, Tables, State, pending_at, with_pending}
-use Rattle.vx_rules.specs.Checks.{named_link}
-use Rattle.vx_rules.specs.Lines.{Passed, lock_request, first_lines}
-use Rattle.vx_rules.specs.Decide.{Outside, settles, decide, has_job_role, turn_fits}
+use Rattle.vx_rules.specs.Checks.{OnLink, named_link}
+use Rattle.vx_rules.specs.Lines.{LockRequest, Passed, lock_request, first_ahead, ahead_of, first_lines_in, first_lines}
+use Rattle.vx_rules.specs.Decide.{Outside, settles, by_lines, decide_in, decide, has_job_role, turn_fits}
 use Rattle.vx_rules.specs.Entry as entry
-use Rattle.vx_rules.specs.One.{answer, answer_to, answered, if_reply}
+use Rattle.vx_rules.specs.One.{answer_in, answer_to_in, answered, if_reply}
 use Rattle.vx_rules.specs.ProvedLaws.{no-job}
 use Rattle.vx_flow.specs.Event.{Answer}
 use Rattle.vx_flow.specs.FineState.{Turn, FineState, before_turn, turn_of, begun_of, moves_of, turn_after}
@@ -29,6 +29,14 @@ use Rattle.vx_flow.specs.ProvedLaws.Turning.{in_turn}
 use Rattle.vx_flow.specs.ProvedLaws.Ending.{own_turn, turn_left}
 use Rattle.vx_flow.specs.ProvedLaws.Changes.{Found, decide-found, found-connections, found-apart, over-stays, over-come}
 use Rattle.vx_flow.specs.ProvedLaws.Deciding.{agree, quiet_turn, fits-quiet, own_outside, fits-own, one-answer}
+use Rattle.std.specs.Option.{option_and_then}
+use Rattle.vx_rules.specs.Sound as rules
+use Rattle.vx_rules.specs.ProvedLaws.Keeping.{ended-sound}
+use Rattle.vx_rules.specs.ProvedLaws.Walks.{Keeps, decide-keeps, passed-says}
+use Rattle.vx_rules.specs.ProvedLaws.{bus-job}
+use Rattle.vx_flow.specs.Fine.{busy_with}
+use Rattle.vx_flow.specs.Sound.{request_on}
+use Rattle.vx_flow.specs.ProvedLaws.Ahead.{ahead-on, ahead-busy, lines-by, on-number, numbers-apart, decided-beside}
 
 -- ---- what an answer says
 
@@ -71,29 +79,29 @@ pub record IsAnswer (f : FineState) (conn now : ℕ) (failed : Bool) (dialed : O
   pub decided : Reply × Tables
   pub at : pending_at f.state.tables conn ≡ Some asked
   pub late : f.state.moment ≤ now
-  pub free : first_lines f.state.tables (bus_for f own).own conn (is_some dialed) asked now ≡ Passed → is_free f conn asked own dialed ≡ true
-  pub found : decide f.state.tables (bus_for f own) conn asked now (from_outside own failed dialed level) ≡ Some decided
+  pub free : first_lines_in f.state.tables (busy_with f.turn) (bus_for f own).own conn (is_some dialed) asked now ≡ Passed → is_free f conn asked own dialed ≡ true
+  pub found : decide_in f.state.tables (busy_with f.turn) (bus_for f own) conn asked now (from_outside own failed dialed level) ≡ Some decided
   pub same : same_reply decided.0 told ≡ true
   pub is : answered_to f decided.1 conn now left ≡ g
 
 -- the lines let a pending call's answer pass
 answered-at : (f : FineState) (conn now : ℕ) (o : Outside) (q : Option Pending) (p : Pending) → q ≡ Some p → is_answered f conn now o q ≡ true
-    → passes_lines f conn p o (first_lines f.state.tables (wire_for f conn).own conn (settles o) p now) ≡ true
+    → passes_lines f conn p o (first_lines_in f.state.tables (busy_with f.turn) (wire_for f conn).own conn (settles o) p now) ≡ true
 answered-at f conn now o q p e h = subst (λ x. is_answered f conn now o x ≡ true) e h
 
 -- what the gateway of one thread answered, in its parts
-record WasAnswered (s : State) (conn now : ℕ) (o : Outside) (told : Reply) (after : State) : Type 0 where
+record WasAnswered (s : State) (busy : Option ℕ) (conn now : ℕ) (o : Outside) (told : Reply) (after : State) : Type 0 where
   pub asked : Pending
   pub decided : Reply × Tables
   pub at : pending_at s.tables conn ≡ Some asked
-  pub found : decide s.tables s.wire conn asked now o ≡ Some decided
+  pub found : decide_in s.tables busy s.wire conn asked now o ≡ Some decided
   pub same : same_reply decided.0 told ≡ true
   pub is : record { tables = with_pending decided.1 conn None; wire = wire_after s.wire o.moves; moment = now } ≡ after
 
-replied-so : (s : State) (conn now : ℕ) (o : Outside) (told : Reply) (after : State) (asked : Pending) (decided : Reply × Tables) (found : Reply × State)
-    → pending_at s.tables conn ≡ Some asked → decide s.tables s.wire conn asked now o ≡ Some decided → answered s conn now o.moves decided ≡ found
-    → if_reply told found ≡ Some after → WasAnswered s conn now o told after
-replied-so s conn now o told after asked decided found at is made h =
+replied-so : (s : State) (busy : Option ℕ) (conn now : ℕ) (o : Outside) (told : Reply) (after : State) (asked : Pending) (decided : Reply × Tables) (found : Reply × State)
+    → pending_at s.tables conn ≡ Some asked → decide_in s.tables busy s.wire conn asked now o ≡ Some decided → answered s conn now o.moves decided ≡ found
+    → if_reply told found ≡ Some after → WasAnswered s busy conn now o told after
+replied-so s busy conn now o told after asked decided found at is made h =
     let same = cond_some (same_reply found.0 told) found.1 after h in
     record {
       asked = asked;
@@ -104,13 +112,13 @@ replied-so s conn now o told after asked decided found at is made h =
       is = ap (λ (x : Reply × State). x.1) made ∙ same.1;
     }
 
-was-answered : (s : State) (conn now : ℕ) (o : Outside) (told : Reply) (after : State) → option_and_then (if_reply told) (answer s conn now o) ≡ Some after
-    → WasAnswered s conn now o told after
-was-answered s conn now o told after h =
-    let found = gone_on (if_reply told) (answer s conn now o) after h in
-    let asked = gone_on (answer_to s conn now o) (pending_at s.tables conn) found.0 found.1 in
-    let decided = mapped (answered s conn now o.moves) (decide s.tables s.wire conn asked.0 now o) found.0 asked.2 in
-    replied-so s conn now o told after asked.0 decided.0 found.0 asked.1 decided.1 decided.2 found.2
+was-answered : (s : State) (busy : Option ℕ) (conn now : ℕ) (o : Outside) (told : Reply) (after : State)
+    → option_and_then (if_reply told) (answer_in s busy conn now o) ≡ Some after → WasAnswered s busy conn now o told after
+was-answered s busy conn now o told after h =
+    let found = gone_on (if_reply told) (answer_in s busy conn now o) after h in
+    let asked = gone_on (answer_to_in s busy conn now o) (pending_at s.tables conn) found.0 found.1 in
+    let decided = mapped (answered s conn now o.moves) (decide_in s.tables busy s.wire conn asked.0 now o) found.0 asked.2 in
+    replied-so s busy conn now o told after asked.0 decided.0 found.0 asked.1 decided.1 decided.2 found.2
 
 -- an answer that is allowed is one in its parts
 answer-parts : (f g : FineState) (conn now : ℕ) (failed : Bool) (dialed : Option Bool) (level : Bool) (told : Reply)
@@ -121,10 +129,10 @@ answer-parts f g conn now failed dialed level told h =
     let o = outside f conn failed dialed level in
     let s : State = record f.state { wire = wire_for f conn } in
     let step = chosen (nat_le f.state.moment now && is_answered f conn now o (pending_at f.state.tables conn))
-    (option_map (answered_fine f e conn) (option_and_then (if_reply told) (answer s conn now o))) g h in
+    (option_map (answered_fine f e conn) (option_and_then (if_reply told) (answer_in s (busy_with f.turn) conn now o))) g h in
     let tests = and_parts (nat_le f.state.moment now) (is_answered f conn now o (pending_at f.state.tables conn)) step.0 in
-    let behind = mapped (answered_fine f e conn) (option_and_then (if_reply told) (answer s conn now o)) g step.1 in
-    let was = was-answered s conn now o told behind.0 behind.1 in
+    let behind = mapped (answered_fine f e conn) (option_and_then (if_reply told) (answer_in s (busy_with f.turn) conn now o)) g step.1 in
+    let was = was-answered s (busy_with f.turn) conn now o told behind.0 behind.1 in
     record {
       asked = was.asked;
       decided = was.decided;
@@ -171,8 +179,24 @@ answer-none s before ds g k conn now failed dialed level told sound early a =
     (answer-quiet f k conn now failed dialed level told a.asked a.decided sound early (λ u is. absurd (none-some u is)) a.late a.at found
     (fits-quiet t before conn a.asked now failed dialed level a.decided found role)
     a.same
-    (found-connections t s.wire conn a.asked _ a.decided (decide-found t s.wire conn a.asked now (quiet_turn failed dialed level) a.decided a.found))
+    (found-connections t s.wire conn a.asked _ a.decided (decide-found t None s.wire conn a.asked now (quiet_turn failed dialed level) a.decided a.found))
     (λ u is. absurd (none-some u is)))
+
+-- what was decided keeps what holds of the tables
+decided-sound : (t : Tables) (w : Wire) (conn : ℕ) (p : Pending) (now : ℕ) (o : Outside) (d : Reply × Tables) → rules.IsSound t → decide t w conn p now o ≡ Some d → rules.IsSound d.1
+decided-sound t w conn p now o d sound h = subst Keeps h (decide-keeps t w conn p now o sound)
+
+-- a call that the lines let pass, they let pass while a turn is under way
+pub busy-passes : (t : Tables) (own conn : ℕ) (p : Pending) (now other : ℕ) (settling : Bool) → first_lines t own conn settling p now ≡ Passed
+    → first_lines_in t (Some other) own conn settling p now ≡ Passed
+busy-passes t own conn p now other settling h =
+    let about = named_link t conn p.call in
+    let none = (passed-says p now p.aborted _ _ _ h).first_come in
+    lines-by t (Some other) None own conn settling p now (less (lock_request own about p.call) none ∙ sym none) ∙ h
+  where
+    less : (r : Option LockRequest) → option_and_then (first_ahead t None now conn) r ≡ None → option_and_then (first_ahead t (Some other) now conn) r ≡ None
+    less None x = refl
+    less (Some c) x = ahead-busy t (Some other) now conn c x
 
 -- ---- a call beside another connection's turn
 
@@ -197,27 +221,35 @@ answer-beside s u before ds g k conn now failed dialed level told sound early mo
     let ne : conn ≢ u.connection = λ e. eqb-false u.connection conn other (sym e) in
     let rest = sym (ap is_whole (turn-stand t before s.wire s.moment u st u.moves)) ∙ more u refl in
     let own : s.wire.own ≡ before.own = ap (λ w. w.own) st.made ∙ own-stays before st.asked.call st.job u.moves st.on_plan rest in
-    let parts : first_lines t s.wire.own conn (is_some dialed) a.asked now ≡ Passed
+    let parts : first_lines_in t (Some u.connection) s.wire.own conn (is_some dialed) a.asked now ≡ Passed
     → (is_bus_call a.asked.call ≡ false)
     × ((is_lock_call a.asked.call && on_conflict (lock_request s.wire.own (named_link t conn a.asked.call) a.asked.call) (turn_target t u)) ≡ false) = λ passed.
     or_parts (is_bus_call a.asked.call) (is_lock_call a.asked.call && on_conflict (lock_request s.wire.own (named_link t conn a.asked.call) a.asked.call) (turn_target t u))
     (sym (ap (λ b. not b && beside t s.wire.own conn a.asked u) other) ∙ (free-parts f conn a.asked None dialed (a.free passed)).0) in
+    let single : decide t s.wire conn a.asked now o ≡ Some a.decided =
+    sym (decided-beside t s.wire conn u.connection a.asked now o st.asked st.link st.call_at st.on_link
+    (λ passed. (
+      (parts passed).0,
+      ap (λ x. is_lock_call a.asked.call && on_conflict (lock_request s.wire.own (named_link t conn a.asked.call) a.asked.call) x)
+          (sym (turn-target t before s.wire s.moment u st)) ∙ (parts passed).1,
+    ))) ∙ a.found in
     let found : decide t before conn a.asked now o ≡ Some a.decided =
-    sym (agree t s.wire before conn a.asked now o own (λ passed. (parts passed).0)) ∙ a.found in
+    sym (agree t s.wire before conn a.asked now o own (λ passed. (parts (busy-passes t s.wire.own conn a.asked now u.connection (is_some dialed) passed)).0)) ∙ single in
     let role : first_lines t before.own conn (is_some dialed) a.asked now ≡ Passed → has_job_role before (job_of t conn a.asked) ≡ false = λ passed.
     ap (has_job_role before)
-    (no-job (named_link t conn a.asked.call) a.asked.call (parts (ap (λ n. first_lines t n conn (is_some dialed) a.asked now) own ∙ passed)).0) in
-    let gives = decide-found t s.wire conn a.asked now o a.decided a.found in
+    (no-job (named_link t conn a.asked.call) a.asked.call
+    (parts (busy-passes t s.wire.own conn a.asked now u.connection (is_some dialed) (ap (λ n. first_lines t n conn (is_some dialed) a.asked now) own ∙ passed))).0) in
+    let gives = decide-found t (Some u.connection) s.wire conn a.asked now o a.decided a.found in
     subst (Goes f k (entry.Answer conn now 0 [] failed dialed level told ∷ []) (Some u)) a.is
     (answer-quiet f k conn now failed dialed level told a.asked a.decided sound early more a.late a.at found
     (fits-quiet t before conn a.asked now failed dialed level a.decided found role)
     a.same
-    (found-connections t s.wire conn a.asked (first_lines t s.wire.own conn (is_some dialed) a.asked now) a.decided gives)
+    (found-connections t s.wire conn a.asked (first_lines_in t (Some u.connection) s.wire.own conn (is_some dialed) a.asked now) a.decided gives)
     (λ v is sv. beside-stays v is sv gives (λ passed. (parts passed).1)))
   where
     beside-stays : (v : Turn) → Some u ≡ Some v → (sv : Stands s.tables before s.wire s.moment v)
-        → Found s.tables s.wire conn a.asked (first_lines s.tables s.wire.own conn (is_some dialed) a.asked now) a.decided
-        → (first_lines s.tables s.wire.own conn (is_some dialed) a.asked now ≡ Passed
+        → Found s.tables s.wire conn a.asked (first_lines_in s.tables (Some u.connection) s.wire.own conn (is_some dialed) a.asked now) a.decided
+        → (first_lines_in s.tables (Some u.connection) s.wire.own conn (is_some dialed) a.asked now ≡ Passed
         → (is_lock_call a.asked.call && on_conflict (lock_request s.wire.own (named_link s.tables conn a.asked.call) a.asked.call) (turn_target s.tables u)) ≡ false)
         → Stays s.tables (with_pending a.decided.1 conn None) v.connection sv.link sv.asked
     beside-stays v is sv gives free =
@@ -225,7 +257,11 @@ answer-beside s u before ds g k conn now failed dialed level told sound early mo
         let ne : conn ≢ v.connection = λ e. eqb-false u.connection conn other (ap (λ x. x.connection) one ∙ sym e) in
         let target = ap (turn_target s.tables) one ∙ turn-target s.tables before s.wire s.moment v sv in
         over-stays s.tables a.decided.1 conn v.connection sv.link sv.asked ne sv.call_at
-        (found-apart s.tables s.wire conn v.connection a.asked (first_lines s.tables s.wire.own conn (is_some dialed) a.asked now) sv.link a.decided ne
+        (found-apart s.tables s.wire conn v.connection a.asked (first_lines_in s.tables (Some u.connection) s.wire.own conn (is_some dialed) a.asked now) sv.link a.decided ne
+        (λ k on.
+        let mine = on-number s.tables conn a.asked.call k on in
+        let its = on-number s.tables v.connection sv.asked.call sv.link sv.on_link in
+        numbers-apart s.tables conn v.connection mine.0 its.0 k sv.link sound.tables mine.1 its.1 ne)
         (λ passed.
         subst (λ x. (is_lock_call a.asked.call && on_conflict (lock_request s.wire.own (named_link s.tables conn a.asked.call) a.asked.call) x) ≡ false) target (free passed))
         gives)
@@ -242,9 +278,20 @@ answer-own s u before ds g k now failed dialed level told sound early a =
     let o = own_outside u failed dialed level in
     let st : Stands t before s.wire s.moment u = sound.turn_stands in
     let same : a.asked ≡ st.asked = same_Some a.asked st.asked (sym a.at ∙ st.call_at) in
-    let found : decide t before u.connection st.asked now o ≡ Some a.decided = subst (λ p. decide t before u.connection p now o ≡ Some a.decided) same a.found in
+    let after : u.begun ≤ now = omega (arith, st.began, a.late) in
+    let bus : is_bus_call st.asked.call ≡ true = bus-job st.link.target st.asked.call st.job st.has_job in
+    let alone : ahead_of t None before.own now u.connection (OnLink st.link) st.asked.call ≡ None = ahead-on t None before.own now u.connection st.link st.asked.call bus ∙ st.first now after in
+    let busy : ahead_of t (Some u.connection) before.own now u.connection (OnLink st.link) st.asked.call ≡ None =
+    ahead-on t (Some u.connection) before.own now u.connection st.link st.asked.call bus ∙ ahead-busy t (Some u.connection) now u.connection (request_on st.link) (st.first now after) in
+    let line : first_lines_in t (Some u.connection) before.own u.connection (settles o) st.asked now ≡ first_lines t before.own u.connection (settles o) st.asked now =
+    lines-by t (Some u.connection) None before.own u.connection (settles o) st.asked now
+    (ap (λ about. ahead_of t (Some u.connection) before.own now u.connection about st.asked.call) st.on_link ∙ busy ∙ sym alone
+    ∙ sym (ap (λ about. ahead_of t None before.own now u.connection about st.asked.call) st.on_link)) in
+    let found : decide t before u.connection st.asked now o ≡ Some a.decided =
+    ap (by_lines t before u.connection st.asked now o) (sym line)
+    ∙ subst (λ p. decide_in t (Some u.connection) before u.connection p now o ≡ Some a.decided) same a.found in
     let leaves = found-connections t before u.connection st.asked (first_lines t before.own u.connection (is_some dialed) st.asked now) a.decided
-    (decide-found t before u.connection st.asked now o a.decided found) in
+    (decide-found t None before u.connection st.asked now o a.decided found) in
     subst (Goes f k (entry.Answer u.connection now u.begun u.moves failed dialed level told ∷ []) None) a.is (record {
       moment = now;
       reaches =
@@ -253,7 +300,11 @@ answer-own s u before ds g k now failed dialed level told sound early a =
           ∙ ap (λ w. Some (record { tables = with_pending a.decided.1 u.connection None; wire = w; moment = now })) (sym st.made);
       earlier = omega arith;
       turn_is = refl;
-      sound = record { turn_stands = refl; have_come = over-come t a.decided.1 u.connection s.moment now leaves sound.have_come a.late };
+      sound = record {
+        turn_stands = refl;
+        have_come = over-come t a.decided.1 u.connection s.moment now leaves sound.have_come a.late;
+        tables = ended-sound a.decided.1 u.connection (decided-sound t before u.connection st.asked now o a.decided sound.tables found);
+      };
       stays = λ v same is sv. absurd (none-some u same);
     })
 

@@ -225,7 +225,7 @@ answer-changed mine s t conn now o told h =
     let called = gone_on (answer_to s conn now o) (pending_at s.tables conn) replied.0 replied.1 in
     let decided = mapped (answered s conn now o.moves) (decide s.tables s.wire conn called.0 now o) replied.0 called.2 in
     subst (λ (u : State). Changed mine s.tables.srq_state u.tables.srq_state) (ap (λ (x : Reply × State). x.1) decided.2 ∙ is.1)
-    (found-changed mine s.tables s.wire conn called.0 _ decided.0 (decide-found s.tables s.wire conn called.0 now o decided.0 decided.1))
+    (found-changed mine s.tables s.wire conn called.0 _ decided.0 (decide-found s.tables None s.wire conn called.0 now o decided.0 decided.1))
 
 -- ---- takes
 

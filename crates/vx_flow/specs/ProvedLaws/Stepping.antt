@@ -19,13 +19,13 @@ use Rattle.vx_rules.specs.Entry as entry
 use Rattle.vx_rules.specs.State.{Pending, Tables, State, connection_at, pending_at, lives_as, is_idle, has_room, with_pending, with_connection, without_connection}
 use Rattle.vx_rules.specs.Calls.{asks_dial}
 use Rattle.vx_rules.specs.Checks.{named_link, check}
-use Rattle.vx_rules.specs.Lines.{holder_against, checks_pass, first_lines, lets_pass}
-use Rattle.vx_rules.specs.Decide.{decide, has_job_role}
-use Rattle.vx_rules.specs.One.{one, may_wait, arrived, same_given, abort_reply, abort_tables, answer, answer_to, answered, if_reply}
+use Rattle.vx_rules.specs.Lines.{holder_against, ahead_of, checks_pass, first_lines, lets_pass, is_first}
+use Rattle.vx_rules.specs.Decide.{decide_in, has_job_role}
+use Rattle.vx_rules.specs.One.{one, may_wait, arrived, same_given, abort_reply, abort_tables, answer_in, answer_to_in, answered, if_reply}
 use Rattle.vx_rules.specs.ProvedLaws.{role-lives, lives-role, same_given-is, same_given-self}
 use Rattle.vx_flow.specs.Event.{Event, Up, Down, Arrive, Answer, Abort, Sample, Take, Begin, Move, Dial}
 use Rattle.vx_flow.specs.FineState.{Turn, FineState, turn_after}
-use Rattle.vx_flow.specs.Fine.{as_one, job_of, is_whole, is_on, turn_stand, is_answer_of, comes_in_turn, wire_for, wire_before, outside, is_answered, is_passed, may_begin, may_dial, goes_on, may_move, without_dial, answered_fine, fine_after, fine_step, fine}
+use Rattle.vx_flow.specs.Fine.{as_one, job_of, is_whole, is_on, turn_stand, is_answer_of, comes_in_turn, wire_for, wire_before, busy_with, outside, is_answered, is_passed, may_begin, may_dial, goes_on, may_move, without_dial, answered_fine, fine_after, fine_step, fine}
 use Rattle.vx_flow.specs.ProvedLaws.Later.{on-is}
 use Rattle.vx_flow.specs.Ways.{turn_left_by, over, moved_on, begun_now}
 use Rattle.vx_flow.specs.Does.{beside, gone_down, IsAdmitted, AnsweredBy, IsAnswered, Begins, Moves, Dials, Step, Does, DoesLaw}
@@ -46,16 +46,28 @@ checks-none None None h = (refl, refl)
 checks-none None (Some l) h = absurd (false≢true h)
 checks-none (Some e) holder h = absurd (false≢true h)
 
-lets-admit : (t : Tables) (own conn : ℕ) (p : Pending) → (not p.aborted && lets_pass t own conn p) ≡ true → IsAdmitted t own conn false p
-lets-admit t own conn p h =
-    let tests = and_parts (not p.aborted) (lets_pass t own conn p) h in
-    let parts = checks-none (check t own conn false (named_link t conn p.call) p.call) (holder_against t own (named_link t conn p.call) p.call) tests.1 in
-    record { unmarked = not-true p.aborted tests.0; checked = parts.0; unlocked = parts.1 }
+-- before which no other call stands in line
+lets-admit : (t : Tables) (own conn : ℕ) (p : Pending) (now : ℕ) → (not p.aborted && lets_pass t own conn p && is_first t own conn p now) ≡ true
+    → IsAdmitted t None own conn false p now
+lets-admit t own conn p now h =
+    let tests = and_parts (not p.aborted && lets_pass t own conn p) (is_first t own conn p now) h in
+    let first = and_parts (not p.aborted) (lets_pass t own conn p) tests.0 in
+    let parts = checks-none (check t own conn false (named_link t conn p.call) p.call) (holder_against t own (named_link t conn p.call) p.call) first.1 in
+    record {
+      unmarked = not-true p.aborted first.0;
+      checked = parts.0;
+      unlocked = parts.1;
+      first = none-is (ahead_of t None own now conn (named_link t conn p.call) p.call) tests.1;
+    }
 
-admit-lets : (t : Tables) (own conn : ℕ) (p : Pending) → IsAdmitted t own conn false p → (not p.aborted && lets_pass t own conn p) ≡ true
-admit-lets t own conn p a =
-    and_from (not p.aborted) (lets_pass t own conn p) (ap not a.unmarked)
-    (ap (λ c. checks_pass c (holder_against t own (named_link t conn p.call) p.call)) a.checked ∙ ap (checks_pass None) a.unlocked)
+-- and back
+admit-lets : (t : Tables) (own conn : ℕ) (p : Pending) (now : ℕ) → IsAdmitted t None own conn false p now
+    → (not p.aborted && lets_pass t own conn p && is_first t own conn p now) ≡ true
+admit-lets t own conn p now a =
+    and_from (not p.aborted && lets_pass t own conn p) (is_first t own conn p now)
+    (and_from (not p.aborted) (lets_pass t own conn p) (ap not a.unmarked)
+    (ap (λ c. checks_pass c (holder_against t own (named_link t conn p.call) p.call)) a.checked ∙ ap (checks_pass None) a.unlocked))
+    (ap is_none a.first)
 
 -- ---- the turn under way
 
@@ -117,12 +129,12 @@ answer-does f g conn now failed dialed level told h =
     let o = outside f conn failed dialed level in
     let s : State = record f.state { wire = wire_for f conn } in
     let parts = chosen (nat_le f.state.moment now && is_answered f conn now o (pending_at f.state.tables conn))
-    (option_map (answered_fine f e conn) (option_and_then (if_reply told) (answer s conn now o))) g h in
+    (option_map (answered_fine f e conn) (option_and_then (if_reply told) (answer_in s (busy_with f.turn) conn now o))) g h in
     let tests = and_parts (nat_le f.state.moment now) (is_answered f conn now o (pending_at f.state.tables conn)) parts.0 in
-    let step = mapped (answered_fine f e conn) (option_and_then (if_reply told) (answer s conn now o)) g parts.1 in
-    let replied = gone_on (if_reply told) (answer s conn now o) step.0 step.1 in
-    let asked = gone_on (answer_to s conn now o) (pending_at f.state.tables conn) replied.0 replied.1 in
-    let found = mapped (answered s conn now o.moves) (decide f.state.tables (wire_for f conn) conn asked.0 now o) replied.0 asked.2 in
+    let step = mapped (answered_fine f e conn) (option_and_then (if_reply told) (answer_in s (busy_with f.turn) conn now o)) g parts.1 in
+    let replied = gone_on (if_reply told) (answer_in s (busy_with f.turn) conn now o) step.0 step.1 in
+    let asked = gone_on (answer_to_in s (busy_with f.turn) conn now o) (pending_at f.state.tables conn) replied.0 replied.1 in
+    let found = mapped (answered s conn now o.moves) (decide_in f.state.tables (busy_with f.turn) (wire_for f conn) conn asked.0 now o) replied.0 asked.2 in
     let same = cond_some (same_reply replied.0.0 told) replied.0.1 step.0 replied.2 in
     let reply_is = told-by (answered s conn now o.moves found.0) replied.0 told found.2 same.0 in
     record {
@@ -139,17 +151,17 @@ answer-does f g conn now failed dialed level told h =
 -- what was decided for a call that may be answered is its answer
 pub answer-step : (f : FineState) (conn now : ℕ) (failed : Bool) (dialed : Option Bool) (level : Bool) (told : Reply) (p : Pending) (d : Reply × Tables)
     → f.state.moment ≤ now → pending_at f.state.tables conn ≡ Some p → is_answered f conn now (outside f conn failed dialed level) (Some p) ≡ true
-    → decide f.state.tables (wire_for f conn) conn p now (outside f conn failed dialed level) ≡ Some d → d.0 ≡ told
+    → decide_in f.state.tables (busy_with f.turn) (wire_for f conn) conn p now (outside f conn failed dialed level) ≡ Some d → d.0 ≡ told
     → fine_step f (Answer conn now failed dialed level told) ≡ Some (over f conn now d.1)
 answer-step f conn now failed dialed level told p d late at may found is =
     let e = Answer conn now failed dialed level told in
     let o = outside f conn failed dialed level in
     let s : State = record f.state { wire = wire_for f conn } in
     cond-true (nat_le f.state.moment now && is_answered f conn now o (pending_at f.state.tables conn))
-    (option_map (answered_fine f e conn) (option_and_then (if_reply told) (answer s conn now o))) None
+    (option_map (answered_fine f e conn) (option_and_then (if_reply told) (answer_in s (busy_with f.turn) conn now o))) None
     (and_from (nat_le f.state.moment now) (is_answered f conn now o (pending_at f.state.tables conn)) (le-leb f.state.moment now late)
     (ap (is_answered f conn now o) at ∙ may))
-    ∙ ap (λ x. option_map (answered_fine f e conn) (option_and_then (if_reply told) (option_and_then (answer_to s conn now o) x))) at
+    ∙ ap (λ x. option_map (answered_fine f e conn) (option_and_then (if_reply told) (option_and_then (answer_to_in s (busy_with f.turn) conn now o) x))) at
     ∙ ap (λ x. option_map (answered_fine f e conn) (option_and_then (if_reply told) (option_map (answered s conn now o.moves) x))) found
     ∙ ap (option_map (answered_fine f e conn))
     (cond-true (same_reply d.0 told) (Some (answered s conn now o.moves d).1) None (ap (same_reply d.0) (sym is) ∙ same_reply-refl d.0))
@@ -176,7 +188,7 @@ begin-does f g conn now (Some p) at none late may leads =
       no_turn = none;
       asked = p;
       call_at = at;
-      admitted = admit t f.state.wire.own conn false p now (passed-is lines tests.0);
+      admitted = admit t None f.state.wire.own conn false p now (passed-is lines tests.0);
       job = job.0;
       has_job = job.1;
       in_role = job.2;
@@ -189,11 +201,11 @@ does-begin f conn now g b =
     let p = b.asked in
     ap (may_begin f.state conn now) b.call_at
     ∙ and_from (is_passed (first_lines t f.state.wire.own conn false p now)) (has_job_role f.state.wire (job_of t conn p))
-    (ap is_passed (admitted-passes t f.state.wire.own conn false p now b.admitted)) (ap (has_job_role f.state.wire) b.has_job ∙ b.in_role)
+    (ap is_passed (admitted-passes t None f.state.wire.own conn false p now b.admitted)) (ap (has_job_role f.state.wire) b.has_job ∙ b.in_role)
 
-move-call : (s : State) (conn : ℕ) (o : Option Pending) → goes_on s conn o ≡ true → (p : Pending) × (o ≡ Some p) × (IsAdmitted s.tables s.wire.own conn false p)
+move-call : (s : State) (conn : ℕ) (o : Option Pending) → goes_on s conn o ≡ true → (p : Pending) × (o ≡ Some p) × (IsAdmitted s.tables None s.wire.own conn false p s.moment)
 move-call s conn None h = absurd (false≢true h)
-move-call s conn (Some p) h = (p, refl, lets-admit s.tables s.wire.own conn p h)
+move-call s conn (Some p) h = (p, refl, lets-admit s.tables s.wire.own conn p s.moment h)
 
 move-does : (f g : FineState) (conn : ℕ) (moves : List Transfer) (turn : Option Turn) → f.turn ≡ turn
     → cond (may_move f conn moves turn)
@@ -225,7 +237,7 @@ does-move f g conn moves m =
     let may : may_move f conn moves (Some u) ≡ true =
     and_from ((u.connection == conn) && goes_on f.state conn (pending_at t conn)) (is_on (turn_stand f u (u.moves ++ moves)))
     (and_from (u.connection == conn) (goes_on f.state conn (pending_at t conn)) (eq-eqb u.connection conn m.of_call)
-    (ap (goes_on f.state conn) m.call_at ∙ admit-lets t f.state.wire.own conn m.asked m.admitted))
+    (ap (goes_on f.state conn) m.call_at ∙ admit-lets t f.state.wire.own conn m.asked f.state.moment m.admitted))
     (is-on (turn_stand f u (u.moves ++ moves)) m.on_plan) in
     ap
     (λ turn. cond (may_move f conn moves turn)
@@ -246,7 +258,7 @@ dial-does f g conn now (Some p) at late may leads =
       asked = p;
       call_at = at;
       asks = tests.0;
-      admitted = admit t f.state.wire.own conn false p now (passed-is lines tests.1);
+      admitted = admit t None f.state.wire.own conn false p now (passed-is lines tests.1);
       leads = leads;
     }
 
@@ -256,7 +268,7 @@ does-dial f conn now g d =
     let p = d.asked in
     ap (may_dial f.state conn now) d.call_at
     ∙ and_from (asks_dial p.call) (is_passed (first_lines t f.state.wire.own conn false p now)) d.asks
-    (ap is_passed (admitted-passes t f.state.wire.own conn false p now d.admitted))
+    (ap is_passed (admitted-passes t None f.state.wire.own conn false p now d.admitted))
 
 -- ---- each event
 

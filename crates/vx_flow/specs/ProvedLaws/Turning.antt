@@ -13,17 +13,21 @@ use Rattle.vx_plan.specs.Tasks.{plan}
 use Rattle.vx_rules.specs.Calls.{bytes_of}
 use Rattle.vx_rules.specs.State.{Pending, Tables, State, pending_at}
 use Rattle.vx_rules.specs.Checks.{named_link}
-use Rattle.vx_rules.specs.Lines.{lets_pass}
+use Rattle.vx_rules.specs.Lines.{lets_pass, ahead_of, is_first, first_lines}
 use Rattle.vx_rules.specs.Decide.{stand_on, has_job_role}
 use Rattle.vx_rules.specs.ProvedLaws.{bus-job}
 use Rattle.vx_flow.specs.Event.{Begin, Move}
 use Rattle.vx_flow.specs.FineState.{Turn, FineState}
-use Rattle.vx_flow.specs.Fine.{job_of, is_whole, is_on, may_begin, goes_on, turn_stand, fine_after, fine_step}
+use Rattle.vx_flow.specs.Fine.{is_passed, job_of, is_whole, is_on, may_begin, goes_on, turn_stand, fine_after, fine_step}
 use Rattle.vx_flow.specs.Sound.{Stands, TurnStands, IsSound}
 use Rattle.vx_flow.specs.ProvedLaws.Later.{on-is}
 use Rattle.vx_flow.specs.ProvedLaws.Jobs.{job-link, role-job, own-stays, passes-parts}
 use Rattle.vx_flow.specs.ProvedLaws.Kept.{Goes, IsOpen, turn-stand}
 use Rattle.vx_flow.specs.ProvedLaws.Calm.{GoesOn}
+use Rattle.vx_rules.specs.ProvedLaws.Walks.{passed-says}
+use Rattle.vx_flow.specs.Sound.{request_on}
+use Rattle.vx_flow.specs.ProvedLaws.Ahead.{ahead-on, ahead-later}
+use Rattle.vx_flow.specs.ProvedLaws.ByLines.{passed-is}
 
 -- ---- a turn begins
 
@@ -38,13 +42,16 @@ begun-on p = by p.front p.reading where
 -- a turn begins for a call with a job, for which the gateway has the role
 begin-parts : (s : State) (conn now : ℕ) (o : Option Pending) → may_begin s conn now o ≡ true
     → (p : Pending) × (o ≡ Some p) × (has_job_role s.wire (job_of s.tables conn p) ≡ true)
+    × (ahead_of s.tables None s.wire.own now conn (named_link s.tables conn p.call) p.call ≡ None)
 begin-parts s conn now None h = absurd (false≢true h)
-begin-parts s conn now (Some p) h = (p, refl, (and_parts _ _ h).1)
+begin-parts s conn now (Some p) h =
+    let parts = and_parts (is_passed (first_lines s.tables s.wire.own conn false p now)) (has_job_role s.wire (job_of s.tables conn p)) h in
+    (p, refl, parts.1, (passed-says p now p.aborted _ _ _ (passed-is (first_lines s.tables s.wire.own conn false p now) parts.0)).first_come)
 
 -- so it stands as it begins
 begun-stands : (t : Tables) (w : Wire) (conn now : ℕ) (p : Pending) → pending_at t conn ≡ Some p → has_job_role w (job_of t conn p) ≡ true → p.arrival ≤ now
-    → Stands t w w now (record { connection = conn; begun = now; moves = [] })
-begun-stands t w conn now p at role came =
+    → ahead_of t None w.own now conn (named_link t conn p.call) p.call ≡ None → Stands t w w now (record { connection = conn; begun = now; moves = [] })
+begun-stands t w conn now p at role came none =
     let job = role-job w (job_of t conn p) role in
     let link = job-link (named_link t conn p.call) p.call job.0 job.1 in
     record {
@@ -59,6 +66,8 @@ begun-stands t w conn now p at role came =
       on_plan = begun-on (plan job.0 (bytes_of p.call) w.polling w.own);
       came = came;
       began = omega arith;
+      first = λ at after. ahead-later t conn now at (request_on link.0) after
+          (sym (ap (λ about. ahead_of t None w.own now conn about p.call) link.1 ∙ ahead-on t None w.own now conn link.0 p.call (bus-job link.0.target p.call job.0 link.2)) ∙ none);
       passes = λ some. absurd (true≢false some);
       unmarked = λ some whole. absurd (true≢false some);
     }
@@ -81,8 +90,9 @@ begin f g k conn now sound early h =
       earlier = omega arith;
       turn_is = refl;
       sound = record {
-        turn_stands = begun-stands t w conn now asked.0 asked.1 asked.2 (omega (arith, came, le));
+        turn_stands = begun-stands t w conn now asked.0 asked.1 asked.2 (omega (arith, came, le)) asked.3;
         have_come = λ m p at. let earlier = sound.have_come m p at in omega arith;
+        tables = sound.tables;
       };
       stays = λ u same is s. absurd (none-some u (sym (none-is f.turn first.0) ∙ is));
     })
@@ -95,7 +105,9 @@ pub goes-parts : (s : State) (conn : ℕ) (o : Option Pending) (p : Pending) →
 goes-parts s conn None p e h = cc
 goes-parts s conn (Some q) p e h =
     let same : q ≡ p = cc in
-    let parts = and_parts _ _ (subst (λ x. (not x.aborted && lets_pass s.tables s.wire.own conn x) ≡ true) same h) in
+    let all = and_parts (not p.aborted && lets_pass s.tables s.wire.own conn p) (is_first s.tables s.wire.own conn p s.moment)
+    (subst (λ x. (not x.aborted && lets_pass s.tables s.wire.own conn x && is_first s.tables s.wire.own conn x s.moment) ≡ true) same h) in
+    let parts = and_parts (not p.aborted) (lets_pass s.tables s.wire.own conn p) all.0 in
     (by p.aborted parts.0, parts.1)
   where
     by : (b : Bool) → not b ≡ true → b ≡ false
@@ -121,6 +133,7 @@ moved-stands t before now moment u moves s more on unmarked passes =
       on_plan = on-is (stand_on before s.asked.call s.job (u.moves ++ moves)) on;
       came = s.came;
       began = s.began;
+      first = s.first;
       passes = λ some. passes-parts t before.own u.connection s.asked s.link s.on_link (bus-job s.link.target s.asked.call s.job s.has_job)
           (subst (λ o. lets_pass t o u.connection s.asked ≡ true) own passes);
       unmarked = λ some whole. unmarked;
@@ -164,8 +177,9 @@ move-turn s (Some u) before dialed g k conn moves sound early more h =
             (sym (ap is_on (turn-stand t before s.wire s.moment u stands (u.moves ++ moves))) ∙ tests.1)
             goes.0 goes.1;
         have_come = sound.have_come;
+        tables = sound.tables;
       };
-      stays = λ v same is sv. record { aborted = sv.asked.aborted; call_at = sv.call_at; links = λ lid x. x; locks = λ x. x };
+      stays = λ v same is sv. record { aborted = sv.asked.aborted; call_at = sv.call_at; links = λ lid x. x; locks = λ x. x; ahead = λ at x. x };
     })
 
 pub move : (f g : FineState) (k conn : ℕ) (moves : List Transfer) → IsSound f → k ≤ f.state.moment → IsOpen f → fine_step f (Move conn moves) ≡ Some g

@@ -1,14 +1,16 @@
 -- The ways in which a poll ends.
 use Rattle.std.proofs.Common.{◌≡◌, ◌≤◌, ◌<◌, ◌==◌, ℕ, Bool, true, false, cond, ◌⊎◌, inl, inr, List, [], ◌∷◌, ◌++◌, length, append-nil, Option, Some, None, refl, sym, ap, ◌∙◌, subst, arith}
 use Rattle.std.specs.Prelude.{if◌then◌else◌, nat_le, is_none, is_some, not, ◌&&◌, ◌||◌}
-use Rattle.std.specs.Option.{option_map}
+use Rattle.std.specs.Option.{option_map, option_and_then}
 use Rattle.std.specs.List.{list_any}
-use Rattle.std.proofs.lemmas.Bool.{and_from, cond-true, cond-false, le-leb, true≢false, eqb-true, eq-eqb, or_parts}
+use Rattle.std.proofs.lemmas.Bool.{and_from, cond-true, cond-false, le-leb, true≢false, false≢true, eqb-true, eq-eqb, or_parts}
 use Rattle.std.proofs.lemmas.Option.{same_Some}
 use Rattle.std.proofs.Math.Bool.{and-false, or-true}
 use Rattle.vx_lemmas.specs.Conditions.{eqb-self}
 use Rattle.vx_calls.specs.declared.limits.TheConstants.{SLICE_MAX}
 use Rattle.vx_calls.specs.declared.codes.ErrorCode.TheVariants as code
+use Rattle.vx_calls.specs.Call.{Call}
+use Rattle.vx_calls.specs.Call as call
 use Rattle.vx_calls.specs.Reply.{Reply}
 use Rattle.vx_488.specs.declared.transfers.Transfer.{Transfer}
 use Rattle.vx_488.specs.declared.wire.Wire.{Wire}
@@ -20,14 +22,14 @@ use Rattle.vx_rules.specs.State.{Pending, Tables, State, pending_at}
 use Rattle.vx_plan.specs.Roles.{has_role}
 use Rattle.vx_plan.specs.Results.{whole_reply}
 use Rattle.vx_rules.specs.Calls.{is_bus_call, is_lock_call, asks_dial, bytes_of, is_big, io_timeout_of, has_passed}
-use Rattle.vx_rules.specs.Checks.{named_link}
+use Rattle.vx_rules.specs.Checks.{named_link, check}
 use Rattle.vx_rules.specs.Effects.{stopped_reply, task_of}
-use Rattle.vx_rules.specs.Lines.{Admission, Passed, first_lines, later_lines, lets_pass, lock_request}
-use Rattle.vx_rules.specs.Decide.{Outside, decide, by_lines, has_job_role, bus_answer, turn_answer, stand_on, is_quiet, level_fits}
+use Rattle.vx_rules.specs.Lines.{Admission, Refused, Passed, lock_request, holder_against, first_ahead, bar_by, checked_lines, first_lines_in, first_lines, later_lines_in, lets_pass, is_first}
+use Rattle.vx_rules.specs.Decide.{Outside, decide_in, by_lines, has_job_role, bus_answer, turn_answer, stand_on, is_quiet, level_fits}
 use Rattle.vx_rules.specs.ProvedLaws.{bus-job, no-job, dial-no-bus}
 use Rattle.vx_flow.specs.Event.{Event, Answer, Begin, Move, Dial}
 use Rattle.vx_flow.specs.FineState.{Turn, FineState, turn_of, begun_of, moves_of, turn_after}
-use Rattle.vx_flow.specs.Fine.{comes_in_turn, fine_after, fine_step, fine, passes_lines, outside, wire_for, wire_before, waits_for, waits_for_turn, turn_stand, is_whole, is_answer_of, is_on, is_passed, goes_on, may_begin, may_dial, without_dial, job_of, on_conflict, turn_target}
+use Rattle.vx_flow.specs.Fine.{comes_in_turn, fine_after, fine_step, fine, passes_lines, busy_with, outside, wire_for, wire_before, waits_for, waits_for_turn, turn_stand, is_whole, is_answer_of, is_on, is_passed, goes_on, may_begin, may_dial, without_dial, job_of, on_conflict, turn_target}
 use Rattle.vx_flow.specs.Sound.{Stands, TurnStands, IsSound}
 use Rattle.vx_flow.specs.Poll.{Ending, Answered, Waited, NotYet, Polls, begins, run_events, moved_events, end_events, ran_of, EndsBy, FitsSlice, lines_at, at_moment, RanTo, runs}
 use Rattle.vx_flow.specs.declared.progress.Why.{Why}
@@ -38,8 +40,9 @@ use Rattle.vx_flow.specs.ProvedLaws.Jobs.{job-link, no-dial, own-stays, passes-f
 use Rattle.vx_flow.specs.ProvedLaws.ByLines.{passed-parts}
 use Rattle.vx_flow.specs.ProvedLaws.Stepping.{answer-step}
 use Rattle.vx_flow.specs.ProvedLaws.Kept.{same-before, turn-stand}
-use Rattle.vx_flow.specs.ProvedLaws.Making.{later-passes}
+use Rattle.vx_flow.specs.ProvedLaws.Making.{later-passes-in}
 use Rattle.vx_flow.specs.ProvedLaws.Turning.{in_turn}
+use Rattle.vx_flow.specs.ProvedLaws.Deciding.{first-is}
 
 -- ---- an answer
 
@@ -47,7 +50,7 @@ use Rattle.vx_flow.specs.ProvedLaws.Turning.{in_turn}
 pub answer-goes : (f : FineState) (conn now : ℕ) (failed level : Bool) (told : Reply) (p : Pending) (d : Reply × Tables)
     → comes_in_turn f (Answer conn now failed None level told) f.turn ≡ true → f.state.moment ≤ now → pending_at f.state.tables conn ≡ Some p
     → passes_lines f conn p (outside f conn failed None level) (lines_at f conn now p) ≡ true
-    → decide f.state.tables (wire_for f conn) conn p now (outside f conn failed None level) ≡ Some d → d.0 ≡ told
+    → decide_in f.state.tables (busy_with f.turn) (wire_for f conn) conn p now (outside f conn failed None level) ≡ Some d → d.0 ≡ told
     → fine f (Answer conn now failed None level told) ≡ Some (over f conn now d.1)
 answer-goes f conn now failed level told p d comes late at passes found is =
     let e = Answer conn now failed None level told in
@@ -77,7 +80,8 @@ waits-begin f conn now p lines at is stays = by f.turn refl where
   by None here =
       ap (may_begin f.state conn now) at
       ∙ ap (λ x. x && has_job_role f.state.wire (job_of f.state.tables conn p))
-      (ap (λ turn. is_passed (first_lines f.state.tables (if is_some (turn_of turn conn) then f.before else f.state.wire).own conn false p now)) (sym here) ∙ ap is_passed is ∙ stays)
+      (ap (λ turn. is_passed (first_lines_in f.state.tables (busy_with turn) (if is_some (turn_of turn conn) then f.before else f.state.wire).own conn false p now)) (sym here)
+      ∙ ap is_passed is ∙ stays)
 
 -- a poll that makes no transfer and begins no turn
 still-runs : (f : FineState) (conn now : ℕ) → begins f conn now ≡ false → along fine (Some f) (run_events f conn now []) ≡ Some f
@@ -116,6 +120,19 @@ other-turn f conn p u h = by (u.connection == conn) refl h where
 -- the call waits, and no turn of its own goes on
 pub waits_law-holds : WaitsLaw
 waits_law-holds f conn now p (why.Locked link) h is still = record {
+  asked = p;
+  call_at = h.call_at;
+  late = h.late;
+  behind = f;
+  runs_to = still-runs f conn now (waits-begin f conn now p _ h.call_at is refl);
+  ran = (ap (λ lines. is_passed lines && is_some (turn_of f.turn conn)) is, refl);
+  few = omega arith;
+  ends_by = is;
+  last = f;
+  ended = refl;
+  at_now = refl;
+}
+waits_law-holds f conn now p (why.Behind other) h is still = record {
   asked = p;
   call_at = h.call_at;
   late = h.late;
@@ -177,7 +194,7 @@ no_role_law-holds f conn now p job h is turn has_job role =
     let told : Reply = stopped_reply p.call code.BusFault [] in
     let link = job-link (named_link f.state.tables conn p.call) p.call job has_job in
     let bus : is_bus_call p.call ≡ true = bus-job link.0.target p.call job link.2 in
-    let found : decide f.state.tables (wire_for f conn) conn p now o ≡ Some (told, f.state.tables) =
+    let found : decide_in f.state.tables (busy_with f.turn) (wire_for f conn) conn p now o ≡ Some (told, f.state.tables) =
     ap (by_lines f.state.tables (wire_for f conn) conn p now o) is
     ∙ cond-false (asks_dial p.call) _ _ (no-dial p.call bus)
     ∙ cond-true (is_bus_call p.call) _ _ bus
@@ -235,7 +252,7 @@ effect_law-holds f conn now p given after h is kinds free gives =
     let o = outside f conn false None false in
     let neither = or_parts (is_bus_call p.call) (asks_dial p.call) kinds in
     let none = no-own-turn f conn p h.sound h.call_at neither.0 in
-    let found : decide f.state.tables (wire_for f conn) conn p now o ≡ Some (given, after) =
+    let found : decide_in f.state.tables (busy_with f.turn) (wire_for f conn) conn p now o ≡ Some (given, after) =
     ap (by_lines f.state.tables (wire_for f conn) conn p now o) is
     ∙ cond-false (asks_dial p.call) _ _ neither.1
     ∙ cond-false (is_bus_call p.call) _ _ neither.0
@@ -263,6 +280,20 @@ turn-dialed : (turn : Option Turn) (conn now : ℕ) → turn_after turn (Dial co
 turn-dialed None conn now = refl
 turn-dialed (Some u) conn now = refl
 
+-- a call that asks for a dial is under no locks, and waits behind no other
+dial-free : (t : Tables) (own conn : ℕ) (asked : Call) → asks_dial asked ≡ true → lock_request own (named_link t conn asked) asked ≡ None
+dial-free t own conn (call.CreateIntr host port program version family) asks = refl
+dial-free t own conn _ asks = absurd (false≢true asks)
+
+-- so whoever's turn is under way the first lines say the same of it
+dial-lines : (t : Tables) (busy : Option ℕ) (own conn : ℕ) (p : Pending) (now : ℕ) → asks_dial p.call ≡ true
+    → first_lines_in t busy own conn false p now ≡ first_lines t own conn false p now
+dial-lines t busy own conn p now asks =
+    let about = named_link t conn p.call in
+    let none = dial-free t own conn p.call asks in
+    ap (λ first. cond p.aborted (Refused code.Abort) (checked_lines p now (check t own conn false about p.call) (bar_by (holder_against t own about p.call) first)))
+    (ap (option_and_then (first_ahead t busy now conn)) none ∙ sym (ap (option_and_then (first_ahead t None now conn)) none))
+
 -- a call asks for a dial
 pub dial_law-holds : DialLaw
 dial_law-holds f conn now p h is asks =
@@ -270,7 +301,8 @@ dial_law-holds f conn now p h is asks =
     let none = no-own-turn f conn p h.sound h.call_at table in
     let wire : wire_for f conn ≡ f.state.wire = ap (λ t. if is_some t then f.before else f.state.wire) none in
     let lines : first_lines f.state.tables f.state.wire.own conn false p now ≡ Passed =
-    ap (λ (w : Wire). first_lines f.state.tables w.own conn false p now) (sym wire) ∙ is in
+    sym (dial-lines f.state.tables (busy_with f.turn) f.state.wire.own conn p now asks)
+    ∙ ap (λ (w : Wire). first_lines_in f.state.tables (busy_with f.turn) w.own conn false p now) (sym wire) ∙ is in
     let dialed = without_dial f.dialed conn ++ conn ∷ [] in
     let goes : fine f (Dial conn now) ≡ Some (record (at_moment f now) { dialed = dialed }) =
     cond-true (comes_in_turn f (Dial conn now) f.turn) (fine_step f (Dial conn now)) None (polled-comes f conn now p (Dial conn now) h)
@@ -304,7 +336,7 @@ own-turn u = cond-true (u.connection == u.connection) (Some u) None (eqb-self u.
 
 -- what is known of a turn that may go on
 module _ (s : State) (u : Turn) (before : Wire) (ds : List ℕ) (stands : Stands s.tables before s.wire s.moment u) (now : ℕ) (late : s.moment ≤ now)
-    (passed : first_lines s.tables before.own u.connection false stands.asked now ≡ Passed) where
+    (passed : first_lines_in s.tables (Some u.connection) before.own u.connection false stands.asked now ≡ Passed) where
   bus : is_bus_call stands.asked.call ≡ true
   bus = bus-job stands.link.target stands.asked.call stands.job stands.has_job
 
@@ -315,13 +347,13 @@ module _ (s : State) (u : Turn) (before : Wire) (ds : List ℕ) (stands : Stands
   stand-at moves = turn-stand s.tables before s.wire s.moment u stands moves
 
   unmarked : stands.asked.aborted ≡ false
-  unmarked = (passed-parts stands.asked (later_lines s.tables before.own u.connection false stands.asked now) passed).0
+  unmarked = (passed-parts stands.asked (later_lines_in s.tables (Some u.connection) before.own u.connection false stands.asked now) passed).0
 
   lets : lets_pass s.tables before.own u.connection stands.asked ≡ true
   lets =
       passes-from s.tables before.own u.connection stands.asked stands.link stands.on_link bus
-      (later-passes s.tables before.own u.connection false stands.asked now stands.link stands.on_link bus
-      (passed-parts stands.asked (later_lines s.tables before.own u.connection false stands.asked now) passed).1)
+      (later-passes-in s.tables (Some u.connection) before.own u.connection false stands.asked now stands.link stands.on_link bus
+      (passed-parts stands.asked (later_lines_in s.tables (Some u.connection) before.own u.connection false stands.asked now) passed).1)
 
   -- it makes transfers
   move-goes : (moves : List Transfer) → turn_stand (in_turn s (Some u) before ds) u u.moves ≡ Part
@@ -339,8 +371,10 @@ module _ (s : State) (u : Turn) (before : Wire) (ds : List ℕ) (stands : Stands
       (and_from ((u.connection == u.connection) && goes_on s u.connection (pending_at s.tables u.connection)) (is_on (turn_stand f u (u.moves ++ moves)))
       (and_from (u.connection == u.connection) (goes_on s u.connection (pending_at s.tables u.connection)) (eqb-self u.connection)
       (ap (goes_on s u.connection) stands.call_at
-      ∙ and_from (not stands.asked.aborted) (lets_pass s.tables s.wire.own u.connection stands.asked) (ap not unmarked)
-      (ap (λ own. lets_pass s.tables own u.connection stands.asked) own ∙ lets)))
+      ∙ and_from (not stands.asked.aborted && lets_pass s.tables s.wire.own u.connection stands.asked) (is_first s.tables s.wire.own u.connection stands.asked s.moment)
+      (and_from (not stands.asked.aborted) (lets_pass s.tables s.wire.own u.connection stands.asked) (ap not unmarked)
+      (ap (λ own. lets_pass s.tables own u.connection stands.asked) own ∙ lets))
+      (first-is s.tables s.wire.own u.connection stands.asked s.moment stands.link stands.on_link bus (stands.first s.moment stands.began))))
       on)
 
   -- a poll's transfers, where it made any
@@ -365,9 +399,9 @@ module _ (s : State) (u : Turn) (before : Wire) (ds : List ℕ) (stands : Stands
       let p = stands.asked in
       let o : Outside = record { begun = u.begun; moves = u.moves ++ moves; failed = failed; dialed = None; level = level } in
       let lines : lines_at b conn now p ≡ Passed =
-      ap (λ t. first_lines s.tables (if is_some t then before else wire_after s.wire moves).own conn false p now) (own-turn v) ∙ passed in
-      let found : decide s.tables (wire_for b conn) conn p now (outside b conn failed None level) ≡ Some (told, s.tables) =
-      ap (λ t. decide s.tables (if is_some t then before else wire_after s.wire moves) conn p now
+      ap (λ t. first_lines_in s.tables (Some conn) (if is_some t then before else wire_after s.wire moves).own conn false p now) (own-turn v) ∙ passed in
+      let found : decide_in s.tables (Some conn) (wire_for b conn) conn p now (outside b conn failed None level) ≡ Some (told, s.tables) =
+      ap (λ t. decide_in s.tables (Some conn) (if is_some t then before else wire_after s.wire moves) conn p now
       (record { begun = begun_of t; moves = moves_of t; failed = failed; dialed = None; level = level })) (own-turn v)
       ∙ ap (by_lines s.tables before conn p now o) passed
       ∙ cond-false (asks_dial p.call) _ _ (no-dial p.call bus)
@@ -387,7 +421,7 @@ module _ (s : State) (u : Turn) (before : Wire) (ds : List ℕ) (stands : Stands
   turn-runs : (moves : List Transfer) → runs (moved_on (in_turn s (Some u) before ds) u moves) u.connection now stands.asked ≡ true
   turn-runs moves =
       let v : Turn = record u { moves = u.moves ++ moves } in
-      ap (λ t. is_passed (first_lines s.tables (if is_some t then before else wire_after s.wire moves).own u.connection false stands.asked now) && is_some t) (own-turn v)
+      ap (λ t. is_passed (first_lines_in s.tables (Some u.connection) (if is_some t then before else wire_after s.wire moves).own u.connection false stands.asked now) && is_some t) (own-turn v)
       ∙ ap (λ lines. is_passed lines && true) passed
 
   turn-stood : (moves : List Transfer) (where_it_stands : Stand) → turn_stand (in_turn s (Some u) before ds) u (u.moves ++ moves) ≡ where_it_stands
@@ -474,7 +508,7 @@ module _ (s : State) (u : Turn) (before : Wire) (ds : List ℕ) (stands : Stands
       let v : Turn = record u { moves = u.moves ++ moves } in
       turn-polls moves (Waited why.Held) (moved_on (in_turn s (Some u) before ds) u moves) Part (inl may) part refl
       (turn-runs moves, turn-stood moves Part part) few (
-        ap (λ t. first_lines s.tables (if is_some t then before else wire_after s.wire moves).own u.connection false stands.asked now) (own-turn v) ∙ passed,
+        ap (λ t. first_lines_in s.tables (Some u.connection) (if is_some t then before else wire_after s.wire moves).own u.connection false stands.asked now) (own-turn v) ∙ passed,
         v,
         own-turn v,
         in_time,
@@ -487,7 +521,7 @@ module _ (s : State) (u : Turn) (before : Wire) (ds : List ℕ) (stands : Stands
       let v : Turn = record u { moves = u.moves ++ moves } in
       turn-polls moves (Waited why.Slice) (moved_on (in_turn s (Some u) before ds) u moves) Part (inl may) part refl
       (turn-runs moves, turn-stood moves Part part) full (
-        ap (λ t. first_lines s.tables (if is_some t then before else wire_after s.wire moves).own u.connection false stands.asked now) (own-turn v) ∙ passed,
+        ap (λ t. first_lines_in s.tables (Some u.connection) (if is_some t then before else wire_after s.wire moves).own u.connection false stands.asked now) (own-turn v) ∙ passed,
         v,
         own-turn v,
       ) refl
@@ -509,12 +543,13 @@ module _ (f : FineState) (conn now : ℕ) (p : Pending) (u : Turn) (job : Task) 
       (sym (ap (λ a. task_of a own-stands.asked.call) own-stands.on_link ∙ own-stands.has_job)
       ∙ ap (λ c. job_of f.state.tables c own-stands.asked) h.of_call ∙ ap (job_of f.state.tables conn) same-asked ∙ h.has_job)
 
-  own-passed : first_lines f.state.tables f.before.own u.connection false own-stands.asked now ≡ Passed
+  own-passed : first_lines_in f.state.tables (Some u.connection) f.before.own u.connection false own-stands.asked now ≡ Passed
   own-passed =
-      ap (λ c. first_lines f.state.tables f.before.own c false own-stands.asked now) h.of_call
-      ∙ ap (λ q. first_lines f.state.tables f.before.own conn false q now) same-asked
-      ∙ ap (λ t. first_lines f.state.tables (if is_some t then f.before else f.state.wire).own conn false p now)
-      (sym (ap (λ t. turn_of t conn) h.own ∙ cond-true (u.connection == conn) (Some u) None (eq-eqb u.connection conn h.of_call)))
+      ap (λ c. first_lines_in f.state.tables (Some u.connection) f.before.own c false own-stands.asked now) h.of_call
+      ∙ ap (λ q. first_lines_in f.state.tables (Some u.connection) f.before.own conn false q now) same-asked
+      ∙ ap (λ t. first_lines_in f.state.tables (Some u.connection) (if is_some t then f.before else f.state.wire).own conn false p now)
+      (sym (cond-true (u.connection == conn) (Some u) None (eq-eqb u.connection conn h.of_call)))
+      ∙ ap (λ turn. first_lines_in f.state.tables (busy_with turn) (if is_some (turn_of turn conn) then f.before else f.state.wire).own conn false p now) (sym h.own)
       ∙ h.passed
 
   own-polls : (moves : List Transfer) (ending : Pending → Task → Ending) (last : ℕ → FineState)
@@ -563,7 +598,8 @@ sliced_law-holds f conn now p u job moves h may part full =
 -- the first lines let the call pass on the bus as it is
 passed-now : (f : FineState) (conn now : ℕ) (p : Pending) → lines_at f conn now p ≡ Passed → f.turn ≡ None
     → first_lines f.state.tables f.state.wire.own conn false p now ≡ Passed
-passed-now f conn now p is turn = ap (λ t. first_lines f.state.tables (if is_some (turn_of t conn) then f.before else f.state.wire).own conn false p now) (sym turn) ∙ is
+passed-now f conn now p is turn =
+    ap (λ t. first_lines_in f.state.tables (busy_with t) (if is_some (turn_of t conn) then f.before else f.state.wire).own conn false p now) (sym turn) ∙ is
 
 begins-now : (f : FineState) (conn now : ℕ) (p : Pending) (job : Task) → IsPolled f conn now p → lines_at f conn now p ≡ Passed → f.turn ≡ None
     → job_of f.state.tables conn p ≡ Some job → has_role job f.state.wire ≡ true → may_begin f.state conn now (pending_at f.state.tables conn) ≡ true

@@ -1,5 +1,9 @@
 use Rattle.vx_tables.specs.declared.tables.lines.Admission.TheVariants as seen
-use Rattle.vx_core.proofs.Ordering.{lines-so, refused-ends, locked-ends}
+use Rattle.std.proofs.Common.{sym, subst}
+use Rattle.vx_flow.specs.declared.progress.Why.{Why}
+use Rattle.vx_core.specs.declared.ended.Ended.TheVariants as ended
+use Rattle.vx_core.specs.Polling.{EndsFrom}
+use Rattle.vx_core.proofs.Ordering.{lines-so, refused-ends, barred-ends}
 use Rattle.vx_core.proofs.order.answer.Goals as goal
 
 pub pass-requires-clause-passed : goal.pass-requires-clause-passed
@@ -13,5 +17,7 @@ returns-in-Refused g c =
 
 pub returns-in-Waiting : goal.returns-in-Waiting
 returns-in-Waiting g c =
-    locked-ends g.B.Bus.means g.B.Bus.through g.B.Bus.srq_level g.B.Bus.ndac_level c.args.kernel.now c.args.conn c.in-Waiting.link c.requires.heard
-    (λ p at. lines-so g.B.Bus.means c.args.kernel.now c.args.conn c.lines.result (seen.Waiting c.in-Waiting.link) p c.lines.ensures c.in-Waiting.is at)
+    let E : Why → Type 0 = λ w. EndsFrom g.B.Bus.means g.B.Bus.through g.B.Bus.srq_level g.B.Bus.ndac_level c.args.kernel.now c.args.conn (ended.Waited w) c.args.kernel.now in
+    subst E (sym c.barred.ensures)
+    (barred-ends g.B.Bus.means g.B.Bus.through g.B.Bus.srq_level g.B.Bus.ndac_level c.args.kernel.now c.args.conn c.in-Waiting.bar c.requires.heard
+    (λ p at. lines-so g.B.Bus.means c.args.kernel.now c.args.conn c.lines.result (seen.Waiting c.in-Waiting.bar) p c.lines.ensures c.in-Waiting.is at))

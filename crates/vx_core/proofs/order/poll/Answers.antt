@@ -17,13 +17,13 @@ returns-clause-keeps g c = noted-keeps g.B.Bus.means c.answer-ended.new.kernel c
 pub returns-clause-leaves : goal.returns-clause-leaves
 returns-clause-leaves g c =
     poll-leaves g.B.Bus.means g.B.Bus.through g.B.Bus.srq_level g.B.Bus.ndac_level c.args.kernel.now c.hear.new.self c.answer-ended.new.kernel c.note_end.new.self
-    c.args.conn c.args.now c.answer-ended.result _ c.hear.ensures.kept c.hear.ensures.means c.hear.ensures.walk c.answer-ended.ensures c.note_end.ensures
+    c.args.conn c.args.now c.answer-ended.result _ c.requires.keeps c.hear.ensures.kept c.hear.ensures.means c.hear.ensures.walk c.answer-ended.ensures c.note_end.ensures
 
 pub returns-clause-began : goal.returns-clause-began
 returns-clause-began g c =
     let k : KernelState g.row.B.Denot = c.args.kernel.now in
     let leaves = poll-leaves g.B.Bus.means g.B.Bus.through g.B.Bus.srq_level g.B.Bus.ndac_level k c.hear.new.self c.answer-ended.new.kernel c.note_end.new.self
-    c.args.conn c.args.now c.answer-ended.result _ c.hear.ensures.kept c.hear.ensures.means c.hear.ensures.walk c.answer-ended.ensures c.note_end.ensures in
+    c.args.conn c.args.now c.answer-ended.result _ c.requires.keeps c.hear.ensures.kept c.hear.ensures.means c.hear.ensures.walk c.answer-ended.ensures c.note_end.ensures in
     ap (λ (s : KernelState g.row.B.Denot). s.began) c.note_end.ensures
     ∙ c.began_by-began.ensures
     ∙ ap (λ b. not b && has_run c.answer-ended.result) c.has_turn-had_turn.ensures
