@@ -13,7 +13,7 @@ use Rattle.vx_flow.specs.Event.{Answer}
 use Rattle.vx_flow.specs.FineState.{FineState, before_turn}
 use Rattle.vx_flow.specs.Fine.{outside, fine}
 use Rattle.vx_flow.specs.Gather.{gather}
-use Rattle.vx_flow.specs.Does.{AnsweredBy, ByAbort, ByNoLink, ByCheck, ByLock, ByDialUp, ByDialDown, ByEffect, ByNoRole, ByFault, ByWhole, ByTimeout}
+use Rattle.vx_flow.specs.Does.{AnsweredBy, ByAbort, ByNoLink, ByCheck, ByBar, ByDialUp, ByDialDown, ByEffect, ByNoRole, ByFault, ByWhole, ByTimeout}
 use Rattle.vx_flow.specs.ProvedLaws.{gather_law-holds, fine-does}
 use Rattle.vx_history.specs.Groups.{Group, events_of, StandsFor}
 
@@ -35,7 +35,7 @@ up-makes : (f : FineState) (conn now : ℕ) (p : Pending) (o : Outside) (told : 
 up-makes f conn now p o told after up (ByAbort marked still stops) = none-up o up still.undialed
 up-makes f conn now p o told after up (ByNoLink unmarked dead still stops) = none-up o up still.undialed
 up-makes f conn now p o told after up (ByCheck error unmarked lives checked still stops) = none-up o up still.undialed
-up-makes f conn now p o told after up (ByLock holder unmarked checked held waits still stops) = none-up o up still.undialed
+up-makes f conn now p o told after up (ByBar bar unmarked checked barred waits still stops) = none-up o up still.undialed
 up-makes f conn now p o told after up (ByDialUp clear d told_is after_is) =
     record { program = d.program; version = d.version; is = ap (λ (t : Tables). t.srq_state) after_is }
 up-makes f conn now p o told after up (ByDialDown clear d told_is after_is) = let down = d.told_so in absurd (cc)

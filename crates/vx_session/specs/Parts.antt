@@ -1,10 +1,10 @@
 -- The events of a poll, as a group of a history has them.
 use Rattle.std.specs.Prelude.{◌≡◌, ◌≤◌, ℕ, max, Bool, true, false, List, [], ◌∷◌, length, Option, Some, None}
+use Rattle.vx_calls.specs.declared.limits.TheConstants.{SLICE_MAX}
 use Rattle.vx_calls.specs.Call.{Call}
 use Rattle.vx_calls.specs.declared.calls.Role.TheVariants as role
 use Rattle.vx_calls.specs.declared.codes.ErrorCode.{ErrorCode}
 use Rattle.vx_calls.specs.Reply as reply
-use Rattle.vx_plan.specs.declared.tasks.TheConstants.{TURN_MAX}
 use Rattle.vx_bus_traits.specs.Steps.{Told, Cut}
 use Rattle.vx_bus_traits.specs.declared.bus.Bus.{Ghosts}
 use Rattle.vx_gate.specs.History.{groups}
@@ -26,7 +26,7 @@ pub record IsPolled {B : Type 0} (g : Ghosts B) (before : FineState) (conn now :
   pub bus_after : B
   pub after : FineState
   pub over : PollsOver g.means g.through g.srq_level g.ndac_level before bus conn now (Cut ∷ Told now ∷ []) ending after bus_after
-  pub few : length (g.means bus_after).moves ≤ TURN_MAX
+  pub few : length (g.means bus_after).moves ≤ SLICE_MAX
   pub are : events ≡ poll_events before conn now (g.means bus_after).moves ending
 
 -- the moment of a turn: the greater of the one that the history before it keeps, and the one that its caller told

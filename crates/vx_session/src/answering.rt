@@ -15,9 +15,10 @@ ghost use Rattle.vx_rules.specs.Calls.{IsShort};
 
 use crate::turns::{abort, come, poll_again, settle};
 use std::sync::Wait;
+use std::thread;
 use vx_bus_traits::Bus;
 use vx_calls::{CallRef, Role};
-use vx_core::Core;
+use vx_core::{Core, Why};
 use vx_exchange::{Opened, PollEnd, open};
 use vx_gate::{Pass, Turns};
 use vx_io_traits::{Clock, Dial, DialOut, Pause};
@@ -124,7 +125,7 @@ fn serve_record<R: Wait, B: Bus, T: Turns<Core<B>>, C: Clock, P: Pause, D: Dial>
     }
 }
 
-/// Has a call answered: it comes and is polled in one turn, and is polled again, with a pause outside the gate between two
+/// Has a call answered: it comes and is polled in one turn, and is polled again, with a rest outside the gate between two
 /// polls, until it is answered, or until it asks for a dial, which is made then. The record of the reply, of so many bytes,
 /// stands at the front of `reply`.
 pub(crate) fn answer_call<R: Wait, B: Bus, T: Turns<Core<B>>, C: Clock, P: Pause, D: Dial>(
@@ -158,13 +159,22 @@ pub(crate) fn answer_call<R: Wait, B: Bus, T: Turns<Core<B>>, C: Clock, P: Pause
             PollEnd::Dial { host, port } => {
                 return answer_dial(rt, turns, pass, conn, xid, host, port, clock, dial, reply);
             }
-            PollEnd::NotYet(_) => {
-                pause.pause();
+            PollEnd::NotYet(why) => {
+                rest(pause, why);
                 (pass, end) = poll_again(rt, turns, pass, conn, xid, clock.now(), reply);
             }
         }
     }
     unreachable!()
+}
+
+/// Rests outside the gate before a call is polled again. It pauses where the call waits: for a lock, for a turn or for the bus. A
+/// full slice waits for nobody, so behind one the thread only gives its processor away.
+fn rest<P: Pause>(pause: &mut P, why: Why) {
+    match why {
+        Why::Slice => thread::yield_now(),
+        Why::Locked { .. } | Why::Behind { .. } | Why::Turn { .. } | Why::Held => pause.pause(),
+    }
 }
 
 /// Makes the dial that a call asked for, has the call answered, and hands a stream that stands on to the pump of the channel

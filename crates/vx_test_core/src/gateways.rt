@@ -7,7 +7,7 @@ use vx_bus::MemBus;
 use vx_core::Core;
 use vx_gate::{Gate, Pass};
 use vx_group::first_law;
-use vx_io::Pause;
+use vx_io::{Clock, Pause};
 
 /// The port of the abort channel.
 pub(crate) const PORT: u16 = 9011;
@@ -66,5 +66,20 @@ pub(crate) struct Pauses {
 impl Pause for Pauses {
     fn pause(&mut self) {
         self.count = self.count.saturating_add(1);
+    }
+}
+
+/// Tells one more each time.
+#[derive(Drop)]
+pub(crate) struct Counting {
+    pub(crate) told: u64,
+}
+
+impl Clock for Counting {
+    ghost told = { λ c. c.told };
+
+    fn now(&mut self) -> u64 {
+        self.told = self.told.saturating_add(1);
+        self.told
     }
 }

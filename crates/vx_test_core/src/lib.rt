@@ -8,6 +8,8 @@ mod exchange_tests;
 #[cfg(test)]
 mod gateways;
 #[cfg(test)]
+mod pause_tests;
+#[cfg(test)]
 mod pump_tests;
 #[cfg(test)]
 mod session_crossed;

@@ -2,7 +2,7 @@ ghost use Rattle.std.specs.Prelude.{◌≡◌, ◌+◌, None};
 ghost use Rattle.vx_gate.specs.Gates.{gate_of};
 ghost use Rattle.std.specs.Thread.{IsSync};
 
-use crate::gateways::{Gateway, gateway};
+use crate::gateways::{Counting, Gateway, gateway};
 use std::alloc::Global;
 use std::sync::Wait;
 use std::sync::atomic::{AtomicU64, Ordering};
@@ -13,7 +13,7 @@ use vx_bus_traits::Bus;
 use vx_calls::Role;
 use vx_core::Core;
 use vx_gate::{Pass, Turns};
-use vx_io::{Clock, Link, MemDial, Pause, ReadOut, WriteOut};
+use vx_io::{Link, MemDial, Pause, ReadOut, WriteOut};
 use vx_session::{End, Room, core_session, join};
 
 /// What the two sessions tell each other, each 1 once it is so.
@@ -119,21 +119,6 @@ impl<'a> Link for Crossing<'a> {
             _ => {}
         }
         WriteOut::Took(from.len())
-    }
-}
-
-/// Tells one more each time.
-#[derive(Drop)]
-struct Counting {
-    told: u64,
-}
-
-impl Clock for Counting {
-    ghost told = { λ c. c.told };
-
-    fn now(&mut self) -> u64 {
-        self.told = self.told.saturating_add(1);
-        self.told
     }
 }
 
