@@ -17,18 +17,18 @@ use Rattle.vx_rules.specs.State.{Pending, Tables, pending_at}
 use Rattle.vx_rules.specs.Calls.{is_bus_call, is_lock_call, asks_dial}
 use Rattle.vx_rules.specs.Checks.{NamedLink, NoLink, DeadLink, OnLink, named_link, check}
 use Rattle.vx_rules.specs.Decide.{Outside, has_job_role}
-use Rattle.vx_rules.specs.Lines.{Refused, Waiting, LockRequest, lock_request, holder_against, checked_lines, first_lines}
+use Rattle.vx_rules.specs.Lines.{LockRequest, lock_request, first_ahead, Bar, HeldBy, Behind, bar_by, bar_against, Refused, Waiting, checked_lines, first_lines_in, first_lines}
 use Rattle.vx_rules.specs.Locks.{holder_of}
 use Rattle.vx_rules.specs.ProvedLaws.{bus-job, no-job}
 use Rattle.vx_flow.specs.Event.{Event, Answer, Begin, Move, Dial}
 use Rattle.vx_flow.specs.FineState.{Turn, FineState, turn_of}
-use Rattle.vx_flow.specs.Fine.{fine, wire_for, job_of, is_passed, may_begin, waits_for, outside}
+use Rattle.vx_flow.specs.Fine.{fine, busy_with, wire_for, job_of, is_passed, may_begin, waits_for, outside}
 use Rattle.vx_flow.specs.Frames.{moment_after}
 use Rattle.vx_flow.specs.Sound.{Stands, TurnStands, IsSound}
 use Rattle.vx_flow.specs.Poll.{Ending, Answered, Waited, Dialed, is_broken, at_moment, begins, moved_events, run_events, end_events, NotYet, EndsBy, Polls}
 use Rattle.vx_flow.specs.declared.progress.Why.{Why}
 use Rattle.vx_flow.specs.declared.progress.Why.TheVariants as why
-use Rattle.vx_flow.specs.Does.{IsAnswered, AnsweredBy, ByAbort, ByNoLink, ByCheck, ByLock, ByDialUp, ByDialDown, ByEffect, ByNoRole, ByFault, ByWhole, ByTimeout}
+use Rattle.vx_flow.specs.Does.{IsAnswered, AnsweredBy, ByAbort, ByNoLink, ByCheck, ByBar, ByDialUp, ByDialDown, ByEffect, ByNoRole, ByFault, ByWhole, ByTimeout}
 use Rattle.vx_flow.specs.ProvedLaws.{fine-does, fine-frame, stays_sound-law, turn-is, turn-own}
 
 -- a call that needs no bus and takes no lock
@@ -87,18 +87,21 @@ no-request own NoLink (call.CreateLink client false lock_timeout device) brief =
 no-request own NoLink _ brief = refl
 no-request own DeadLink asked brief = refl
 
--- so no lock keeps it off
-pub no-holder : (t : Tables) (own : ℕ) (about : NamedLink) (asked : Call) → IsBrief asked → holder_against t own about asked ≡ None
-no-holder t own about asked brief = ap (λ o. option_and_then (λ (c : LockRequest). holder_of t.locks c.link c.target) o) (no-request own about asked brief)
+-- so neither a lock nor a call before it keeps it off
+pub no-bar : (t : Tables) (busy : Option ℕ) (own now conn : ℕ) (about : NamedLink) (asked : Call) → IsBrief asked → bar_against t busy own now conn about asked ≡ None
+no-bar t busy own now conn about asked brief =
+    ap (λ o. bar_by (option_and_then (λ (c : LockRequest). holder_of t.locks c.link c.target) o) (option_and_then (first_ahead t busy now conn) o))
+    (no-request own about asked brief)
 
--- so it never waits for one
-no-lock-wait : (t : Tables) (own conn : ℕ) (p : Pending) (now link : ℕ) → IsBrief p.call → first_lines t own conn false p now ≡ Waiting link → ⊥
-no-lock-wait t own conn p now link brief h =
+-- so it never waits for one of them
+no-bar-wait : (t : Tables) (busy : Option ℕ) (own conn : ℕ) (p : Pending) (now : ℕ) (bar : Bar) → IsBrief p.call
+    → first_lines_in t busy own conn false p now ≡ Waiting bar → ⊥
+no-bar-wait t busy own conn p now bar brief h =
     by p.aborted (check t own conn false (named_link t conn p.call) p.call)
     (ap (λ o. cond p.aborted (Refused code.Abort) (checked_lines p now (check t own conn false (named_link t conn p.call) p.call) o))
-    (sym (no-holder t own (named_link t conn p.call) p.call brief)) ∙ h)
+    (sym (no-bar t busy own now conn (named_link t conn p.call) p.call brief)) ∙ h)
   where
-    by : (aborted : Bool) (o : Option ErrorCode) → cond aborted (Refused code.Abort) (checked_lines p now o None) ≡ Waiting link → ⊥
+    by : (aborted : Bool) (o : Option ErrorCode) → cond aborted (Refused code.Abort) (checked_lines p now o None) ≡ Waiting bar → ⊥
     by true o h = cc
     by false (Some error) h = cc
     by false None h = cc
@@ -115,10 +118,12 @@ no-turn-wait t own conn p u brief h =
 
 -- it doesn't wait
 pub no-wait : (f : FineState) (conn now : ℕ) (p : Pending) (w : Why) → IsBrief p.call → turn_of f.turn conn ≡ None → NotYet f conn now p w → ⊥
-no-wait f conn now p (why.Locked link) brief none waits = no-lock-wait f.state.tables (wire_for f conn).own conn p now link brief waits
+no-wait f conn now p (why.Locked link) brief none waits = no-bar-wait f.state.tables (busy_with f.turn) (wire_for f conn).own conn p now (HeldBy link) brief waits
+no-wait f conn now p (why.Behind other) brief none waits = no-bar-wait f.state.tables (busy_with f.turn) (wire_for f conn).own conn p now (Behind other) brief waits
 no-wait f conn now p (why.Turn other) brief none (passed, u, under_way, of_other, waits) =
     no-turn-wait f.state.tables (wire_for f conn).own conn p u brief waits
 no-wait f conn now p why.Held brief none (passed, u, own, later) = none-some u (sym none ∙ own)
+no-wait f conn now p why.Slice brief none (passed, u, own) = none-some u (sym none ∙ own)
 
 -- ---- how its poll ends
 
@@ -207,7 +212,8 @@ unanswered f conn now p o told after unmarked dial brief free checked undialed =
     no-dead : NoLink ≡ DeadLink → ⊥
     no-dead h = cc
   by (ByCheck error unmarked lives refused still stops) = none-some error (sym checked ∙ refused)
-  by (ByLock holder unmarked passes held waits still stops) = none-some holder (sym (no-holder f.state.tables (wire_for f conn).own _ p.call brief) ∙ held)
+  by (ByBar bar unmarked passes barred waits still stops) =
+      none-some bar (sym (no-bar f.state.tables (busy_with f.turn) (wire_for f conn).own now conn _ p.call brief) ∙ barred)
   by (ByDialUp clear d told_is after_is) = none-some true (sym undialed ∙ d.told_so)
   by (ByDialDown clear d told_is after_is) = none-some false (sym undialed ∙ d.told_so)
   by (ByEffect clear bus no_dial still given) = true≢false (sym dial ∙ no_dial)

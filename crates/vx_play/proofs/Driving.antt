@@ -9,7 +9,7 @@ use Rattle.std.proofs.lemmas.Grind.{flat_map-append}
 use Rattle.std.proofs.lemmas.List.Sums.{sum_by-append}
 use Rattle.vx_calls.specs.declared.codes.ErrorCode.{ErrorCode}
 use Rattle.vx_488.specs.declared.transfers.Transfer.{Transfer}
-use Rattle.vx_plan.specs.declared.tasks.TheConstants.{TURN_MAX}
+use Rattle.vx_calls.specs.declared.limits.TheConstants.{SLICE_MAX}
 use Rattle.vx_script.specs.Command.{Command, At}
 use Rattle.std.specs.Prelude.{◌^◌, suc, Result, Ok, Err, IfErr}
 use Rattle.vx_script.specs.declared.Cause.{Cause}
@@ -193,12 +193,12 @@ within-more n m c more h =
 -- the counts of a run are small
 pub run-small : (seed : ℕ) (rack : List SpareShown) (count : ℕ) (player : PlayerState) (counts : Counts) → Running seed rack count player counts → count ≤ 4000000
     → IsWithin (2 ^ 62) counts
-run-small seed rack count player counts r few = within-more (count * TURN_MAX) (2 ^ 62) counts (omega arith) r.few
+run-small seed rack count player counts r few = within-more (count * SLICE_MAX) (2 ^ 62) counts (omega arith) r.few
 
 -- a run goes on
 pub run-goes-on : (seed : ℕ) (rack : List SpareShown) (count : ℕ) (player next : PlayerState) (counts more : Counts) (command : Command)
     → (r : Running seed rack count player counts) → IsGenerated seed count r.stage command → TakesCounted r.stage command counts next more
-    → ((most : ℕ) → IsWithin most counts → IsWithin (most + TURN_MAX) more) → Running seed rack (count + 1) next more
+    → ((most : ℕ) → IsWithin most counts → IsWithin (most + SLICE_MAX) more) → Running seed rack (count + 1) next more
 run-goes-on seed rack count player next counts more command r is t grown = record {
   items = r.items ++ t.takes.item ∷ [];
   stage = t.takes.after;
@@ -207,7 +207,7 @@ run-goes-on seed rack count player next counts more command r is t grown = recor
   stands = t.takes.stands;
   counted = t.counted ∙ ap (λ c. counts_behind c t.answered t.lines) r.counted
       ∙ sym (counts-more r.stage t.takes.after r.items t.takes.item t.lines t.answered t.takes.takes t.takes.lines_are t.takes.answered_is);
-  few = within-same (count * TURN_MAX + TURN_MAX) ((count + 1) * TURN_MAX) more (omega arith) (grown (count * TURN_MAX) r.few);
+  few = within-same (count * SLICE_MAX + SLICE_MAX) ((count + 1) * SLICE_MAX) more (omega arith) (grown (count * SLICE_MAX) r.few);
 }
 
 -- a run stops
@@ -250,7 +250,7 @@ run_at seed n m rack player counts same r = subst (λ k. Running seed rack k pla
 
 -- a moment was taken, or wasn't
 pub moment-goes-on : (seed k moment : ℕ) (rack : List SpareShown) (player next : PlayerState) (counts more : Counts) → moment ≡ k + 1 → Running seed rack (HEAD_STEPS + 2 * k) player counts
-    → ((stage : Stage) → Stands player stage → TakesCounted stage (At moment) counts next more) → ((most : ℕ) → IsWithin most counts → IsWithin (most + TURN_MAX) more)
+    → ((stage : Stage) → Stands player stage → TakesCounted stage (At moment) counts next more) → ((most : ℕ) → IsWithin most counts → IsWithin (most + SLICE_MAX) more)
     → Running seed rack (HEAD_STEPS + 2 * k + 1) next more
 moment-goes-on seed k moment rack player next counts more is r takes grown =
     run-goes-on seed rack (HEAD_STEPS + 2 * k) player next counts more (At moment) r
@@ -265,7 +265,7 @@ moment-halts seed k moment rack player counts halt is r stops number =
 -- a drawn step was taken, or wasn't
 pub drawn-goes-on : (seed k x : ℕ) (is_pending : Bool) (command : Command) (rack : List SpareShown) (player next : PlayerState) (counts more : Counts) → x ≡ draw seed (k + 1)
     → is_pending ≡ is_some (pending_at player.core.fine.state.tables (connection x)) → command ≡ drawn (k + 1) x is_pending → Running seed rack (HEAD_STEPS + 2 * k + 1) player counts
-    → ((stage : Stage) → Stands player stage → TakesCounted stage command counts next more) → ((most : ℕ) → IsWithin most counts → IsWithin (most + TURN_MAX) more)
+    → ((stage : Stage) → Stands player stage → TakesCounted stage command counts next more) → ((most : ℕ) → IsWithin most counts → IsWithin (most + SLICE_MAX) more)
     → Running seed rack (HEAD_STEPS + 2 * (k + 1)) next more
 drawn-goes-on seed k x is_pending command rack player next counts more x_is pending_is command_is r takes grown =
     run_at seed (HEAD_STEPS + 2 * k + 1 + 1) (HEAD_STEPS + 2 * (k + 1)) rack next more (omega arith)

@@ -167,6 +167,7 @@ refused-quiet ran.Paused None = refl
 refused-quiet ran.Broken (Some slot) = refl
 refused-quiet ran.Broken None = refl
 refused-quiet ran.Still slot = refl
+refused-quiet ran.Sliced slot = refl
 refused-quiet ran.Finished slot = refl
 
 -- transfers that went, and steps behind them

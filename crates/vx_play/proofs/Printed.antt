@@ -3,7 +3,7 @@ use Rattle.std.proofs.Common.{Result, ◌≡◌, ◌≤◌, ◌<◌, ◌+◌, �
 use Rattle.std.specs.Prelude.{option_map}
 use Rattle.std.specs.List.{flat_map}
 use Rattle.vx_488.specs.declared.transfers.Transfer.{Transfer}
-use Rattle.vx_plan.specs.declared.tasks.TheConstants.{TURN_MAX}
+use Rattle.vx_calls.specs.declared.limits.TheConstants.{SLICE_MAX}
 use Rattle.vx_trace.specs.declared.lines.Line.{Line}
 use Rattle.vx_trace.specs.Output.{Output, Bus, Out, Irq, line_shown}
 use Rattle.vx_trace.specs.Text.{line_text, text_room, IsWhole}
@@ -31,12 +31,12 @@ shows line shown room is fit =
 
 -- the line of a poll's transfers fits
 pub moves-writable : (line : Option Line) (polled : Option ℕ) (moves : List Transfer) → outputs_of line ≡ moves_lines polled moves
-    → (IsSome polled → length moves ≤ TURN_MAX) → IfSome line (λ l. Writable l MOVES_ROOM)
+    → (IsSome polled → length moves ≤ SLICE_MAX) → IfSome line (λ l. Writable l MOVES_ROOM)
 moves-writable None polled moves is few = tt
 moves-writable (Some line) None moves is few = absurd (cc)
 moves-writable (Some line) (Some conn) [] is few = absurd (cc)
 moves-writable (Some line) (Some conn) (t ∷ ts) is few =
-    let within : length (t ∷ ts) ≤ TURN_MAX = few refl in
+    let within : length (t ∷ ts) ≤ SLICE_MAX = few refl in
     shows line (Bus conn (t ∷ ts)) MOVES_ROOM (cc) (record { whole = omega arith; fits = omega arith })
 
 -- a record at the front of the room fits

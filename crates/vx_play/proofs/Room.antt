@@ -21,7 +21,7 @@ use Rattle.vx_rules.specs.Effects.{locked, create, effect_on, effect}
 use Rattle.vx_rules.specs.Decide.{Outside}
 use Rattle.vx_flow.specs.FineState.{FineState}
 use Rattle.vx_flow.specs.Fine.{wire_for}
-use Rattle.vx_flow.specs.Does.{AnsweredBy, ByAbort, ByNoLink, ByCheck, ByLock, ByDialUp, ByDialDown, ByEffect, ByNoRole, ByFault, ByWhole, ByTimeout}
+use Rattle.vx_flow.specs.Does.{AnsweredBy, ByAbort, ByNoLink, ByCheck, ByBar, ByDialUp, ByDialDown, ByEffect, ByNoRole, ByFault, ByWhole, ByTimeout}
 use Rattle.vx_flow.specs.ProvedLaws.{channel-put, line-leaves}
 
 -- ---- what one change leaves
@@ -110,7 +110,7 @@ line-keeps Free f conn now p o told after apart = by where
   by (ByAbort marked still stops) = same stops.same
   by (ByNoLink unmarked dead still stops) = same stops.same
   by (ByCheck error unmarked lives checked still stops) = same stops.same
-  by (ByLock holder unmarked checked held waits still stops) = same stops.same
+  by (ByBar bar unmarked checked barred waits still stops) = same stops.same
   by (ByDialUp clear d told_is after_is) =
       let dial : asks_dial p.call ≡ true = ap asks_dial d.asks in
       let d0 = f.state.tables.srq_state in

@@ -19,7 +19,8 @@ use Rattle.vx_flow.specs.Fine.{fine}
 use Rattle.vx_flow.specs.Frames.{moment_after}
 use Rattle.vx_flow.specs.Poll.{Ending, Waited, Polls, run_events, end_events, at_moment}
 use Rattle.vx_rules.specs.ListLaws.{along-none}
-use Rattle.vx_flow.specs.ProvedLaws.{fine-frame, earlier_law-holds, headline_law-holds}
+use Rattle.vx_flow.specs.Sound.{IsSound}
+use Rattle.vx_flow.specs.ProvedLaws.{fine-frame, first-sound, gathers, earlier_law-holds, headline_law-holds}
 use Rattle.vx_play.specs.Gateway.{Gateway, Happens, abort_port}
 use Rattle.vx_bench.specs.Script as script
 use Rattle.vx_exchange.specs.Meaning.{Meaning, Junk, Asks, Aborts, meaning}
@@ -201,9 +202,10 @@ makes-leads s (Fail n) group output after h = tweak-leads s.gateway _ group outp
 
 -- ---- a whole play
 
--- A stage's state is this one at a later moment.
+-- A stage's state is this one at a later moment, and what holds between events holds of it.
 record IsLater (f : FineState) (s : Stage) : Type 0 where
   now : ℕ
+  sound : IsSound f
   late : f.state.moment ≤ now
   at_now : s.gateway.fine ≡ at_moment f now
 
@@ -211,9 +213,10 @@ record IsLater (f : FineState) (s : Stage) : Type 0 where
 leads-earlier : (f : FineState) (before after : Stage) (group : List Event) → IsLater f before → Leads before.gateway.fine group after.gateway.fine
     → (mid : FineState) × (along fine (Some f) group ≡ Some mid) × IsLater mid after
 leads-earlier f before after group later h =
-    let led = earlier_law-holds f h.last later.now group later.late (ap (λ x. along fine (Some x) group) (sym later.at_now) ∙ h.goes) in
+    let led = earlier_law-holds f h.last later.now group later.sound later.late (ap (λ x. along fine (Some x) group) (sym later.at_now) ∙ h.goes) in
     let late : led.0 ≤ h.now = (let a = led.2 in let b = h.late in omega arith) in
-    (at_moment h.last led.0, led.1, record { now = h.now; late = late; at_now = h.at_now })
+    let made = gathers group f (at_moment h.last led.0) f.state.moment later.sound (omega arith) led.1 in
+    (at_moment h.last led.0, led.1, record { now = h.now; sound = made.sound; late = late; at_now = h.at_now })
 
 -- the events of a play are allowed, each at its place, and lead to the last stage's state, but for a later moment
 plays-leads : (f : FineState) (before : Stage) (steps : List script.Step) (items : List Item) (end : Stage) → IsLater f before → Plays before steps items end
@@ -229,7 +232,7 @@ plays-leads f before (step ∷ steps) (item ∷ items) end later plays =
 -- the headline holds of the events of a play, and its lines show the transfers
 pub plays-uphold : (rack : List SpareShown) (steps : List script.Step) (items : List Item) (end : Stage) → Plays (beginning rack) steps items end → Upholds items
 plays-uphold rack steps items end plays =
-    let led = plays-leads (first_fine abort_port) (beginning rack) steps items end (record { now = 0; late = omega arith; at_now = refl }) plays in
+    let led = plays-leads (first_fine abort_port) (beginning rack) steps items end (record { now = 0; sound = first-sound abort_port; late = omega arith; at_now = refl }) plays in
     record {
       headline = headline_law-holds abort_port (events items) led.0 led.1;
       shown = lines-shown (beginning rack) steps items end plays;

@@ -4,7 +4,7 @@ use Rattle.std.specs.List.{flat_map}
 use Rattle.std.specs.Io.KnownBytes.{Appends}
 use Rattle.std.specs.Int.{from_bool}
 use Rattle.vx_calls.specs.declared.codes.ErrorCode.{ErrorCode}
-use Rattle.vx_plan.specs.declared.tasks.TheConstants.{TURN_MAX}
+use Rattle.vx_calls.specs.declared.limits.TheConstants.{SLICE_MAX}
 use Rattle.vx_script.specs.Command.{Command}
 use Rattle.vx_trace.specs.Output.{Output, Irq}
 use Rattle.vx_bench.specs.Rack.{SpareShown}
@@ -93,7 +93,7 @@ pub record Running (seed : ℕ) (rack : List SpareShown) (count : ℕ) (player :
   pub front : IsDriven seed rack count items stage
   pub stands : Stands player stage
   pub counted : counts ≡ counts_of items
-  pub few : IsWithin (count * TURN_MAX) counts
+  pub few : IsWithin (count * SLICE_MAX) counts
 
 -- the next step of a run isn't taken
 pub record HaltsIn (seed : ℕ) (rack : List SpareShown) (halt : Halt) : Type 0 where

@@ -5,7 +5,7 @@ use Rattle.vx_calls.specs.declared.codes.ErrorCode.{ErrorCode}
 use Rattle.vx_calls.specs.Call.{Call}
 use Rattle.vx_calls.specs.Reply as reply
 use Rattle.vx_script.specs.Command.{Command, Up, In, Down, At, Poll, Sample, Take, Dial, Inst, Plug, Pull, Set, Fail}
-use Rattle.vx_trace.specs.Output.{Output, Out, Irq, IrqNone, IrqClosed, WaitLock, WaitTurn, WaitHeld, WaitDial, GoneDown, GoneJunk, GoneLong}
+use Rattle.vx_trace.specs.Output.{Output, Out, Irq, IrqNone, IrqClosed, WaitLock, WaitTurn, WaitBehind, WaitHeld, WaitSlice, WaitDial, GoneDown, GoneJunk, GoneLong}
 use Rattle.vx_bus_traits.specs.Steps.{Told, Cut}
 use Rattle.vx_sim.specs.Bench.{some_asks, some_refuses}
 use Rattle.vx_sim.specs.SimState.{SimState, Through}
@@ -37,14 +37,18 @@ pub record IsQuiet (before : Gateway) (group : List Event) (after : Gateway) : T
 -- the line of a call that waits
 abbrev pub wait_line : ℕ → Why → Output
 wait_line conn (why.Locked link) = WaitLock conn link
+wait_line conn (why.Behind by) = WaitBehind conn by
 wait_line conn (why.Turn by) = WaitTurn conn by
 wait_line conn why.Held = WaitHeld conn
+wait_line conn why.Slice = WaitSlice conn
 
 -- a call is told to wait: for one of these causes, or for a dial
 abbrev pub is_wait : Output → Bool
 is_wait (WaitLock conn link) = true
+is_wait (WaitBehind conn by) = true
 is_wait (WaitTurn conn by) = true
 is_wait (WaitHeld conn) = true
+is_wait (WaitSlice conn) = true
 is_wait (WaitDial conn) = true
 is_wait _ = false
 

@@ -18,6 +18,7 @@ refused-none ran.Paused None = refl
 refused-none ran.Broken (Some slot) = refl
 refused-none ran.Broken None = refl
 refused-none ran.Still slot = refl
+refused-none ran.Sliced slot = refl
 refused-none ran.Finished slot = refl
 
 -- what stands at the last byte of a piece, by the buffer's state

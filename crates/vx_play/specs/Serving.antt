@@ -2,7 +2,7 @@
 use Rattle.std.specs.Prelude.{◌≡◌, ◌≢◌, ◌≤◌, ℕ, List, length, Option, None, Some, IsSome}
 use Rattle.std.specs.List.{flat_map}
 use Rattle.vx_calls.specs.declared.codes.ErrorCode.{ErrorCode}
-use Rattle.vx_plan.specs.declared.tasks.TheConstants.{TURN_MAX}
+use Rattle.vx_calls.specs.declared.limits.TheConstants.{SLICE_MAX}
 use Rattle.vx_trace.specs.Output.{Output}
 use Rattle.vx_sim.specs.SimState.{SimState}
 use Rattle.vx_flow.specs.Event.{Event}
@@ -41,7 +41,7 @@ pub record MadeBy (StepMakes : List Event → Option Output → Gateway → Type
   pub lines : flat_map bus_lines group ≡ moves_lines made.polled after.bus.means.moves
   pub answered : flat_map answer_errors group ≡ errors_of made.answered
   pub note : NoteWithin (length room) made.note
-  pub few : IsSome made.polled → length after.bus.means.moves ≤ TURN_MAX
+  pub few : IsSome made.polled → length after.bus.means.moves ≤ SLICE_MAX
 
 -- What a message of this meaning made, which isn't junk, and the xid of the last call that its connection kept, which was `last`.
 pub record Serves (before : Gateway) (conn now last : ℕ) (m : Meaning) (room : List ℕ) (served : Served) (after : CoreState SimState) : Type 0 where

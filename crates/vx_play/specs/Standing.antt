@@ -5,7 +5,7 @@ use Rattle.vx_calls.specs.declared.calls.Role.{Role}
 use Rattle.vx_calls.specs.declared.codes.ErrorCode.{ErrorCode}
 use Rattle.vx_calls.specs.declared.limits.TheConstants.{RECORD_MAX}
 use Rattle.vx_488.specs.declared.transfers.Transfer.{Transfer}
-use Rattle.vx_plan.specs.declared.tasks.TheConstants.{TURN_MAX}
+use Rattle.vx_calls.specs.declared.limits.TheConstants.{SLICE_MAX}
 use Rattle.vx_record.specs.Buffer.{fresh, fed}
 use Rattle.vx_record.specs.declared.Feed.TheVariants.{More}
 use Rattle.vx_script.specs.Command.{Command, Up, Inst}
@@ -87,7 +87,7 @@ NoteWithin room _ = Unit {0}
 -- there is room for the lines of a step that made this
 pub record IsPrintable (player : PlayerState) (made : Made) : Type 0 where
   pub note : NoteWithin (length player.reply) made.note
-  pub few : IsSome made.polled → length player.core.bus.means.moves ≤ TURN_MAX
+  pub few : IsSome made.polled → length player.core.bus.means.moves ≤ SLICE_MAX
 
 -- a command was taken, with these lines, and with this error of the one answer to a call, where there is one: the player stands at
 -- the next stage

@@ -1,6 +1,6 @@
 //! A run that a number makes: its steps taken one after the other, and counted.
 ghost use Rattle.std.specs.Prelude.{◌≡◌, ◌≤◌, ◌<◌, ℕ, ◌+◌, ◌*◌, ◌-◌, ◌^◌, List, length, cond, is_some, true, OnOk, IfErr};
-ghost use Rattle.vx_plan.specs.declared.tasks.TheConstants.{TURN_MAX};
+ghost use Rattle.vx_calls.specs.declared.limits.TheConstants.{SLICE_MAX};
 ghost use Rattle.vx_script.specs.Command.{step_shown};
 ghost use Rattle.vx_script.specs.Plain.{IsPlainStep};
 ghost use Rattle.vx_bench.specs.Rack.{SpareShown};
@@ -63,9 +63,9 @@ fn moved_by(polled: Option<u32>, moves: usize) -> u64
 /// The counts with those of a step that made this, after so many transfers.
 fn counted(counts: &Counts, made: &Made, moves: usize) -> Counts
     requires few { IsWithin (2 ^ 62) counts.now }
-    requires moves { is_some made.now.polled ≡ true → moves ≤ TURN_MAX }
+    requires moves { is_some made.now.polled ≡ true → moves ≤ SLICE_MAX }
     ensures counts { result ≡ counts_made counts.now made.now moves }
-    ensures grown { (most : ℕ) → IsWithin most counts.now → IsWithin (most + TURN_MAX) result }
+    ensures grown { (most : ℕ) → IsWithin most counts.now → IsWithin (most + SLICE_MAX) result }
 {
     Counts {
         answers: counts.answers + u64::from(made.answered.is_some()),
@@ -87,7 +87,7 @@ fn take<I: Instrument>(
     requires ready { IsReady player.old }
     requires few { IsWithin (2 ^ 62) counts.old }
     ensures taken { OnOk result ((stage : Stage) → Stands player.old stage → TakesCounted stage (step_shown step.now) counts.old player.new counts.new) }
-    ensures grown { OnOk result ((most : ℕ) → IsWithin most counts.old → IsWithin (most + TURN_MAX) counts.new) }
+    ensures grown { OnOk result ((most : ℕ) → IsWithin most counts.old → IsWithin (most + SLICE_MAX) counts.new) }
     ensures stopped { IfErr result (λ stop. (stage : Stage) → Stands player.old stage → StopsFor stage (step_shown step.now) stop) }
 {
     let made = player.step(alloc, step)?;

@@ -6,14 +6,14 @@ ghost use Rattle.vx_play.specs.declared.printer.TheConstants.{MOVES_ROOM, NOTE_R
 ghost use Rattle.vx_play.specs.Printing.{option_text, AreWritable, Writable};
 
 use std::alloc::{AllocError, Global};
+use vx_calls::SLICE_MAX;
 use vx_exchange::REPLY_ROOM;
-use vx_plan::TURN_MAX;
 use vx_text::zeros;
 use vx_trace::{Line, put_line};
 
 /// Room for the longest line of a poll's transfers, in bytes: `bus`, a connection's number of ten digits and LF take at most
-/// 15, and each transfer of a turn at most 7.
-const MOVES_ROOM: usize = 15 + 7 * TURN_MAX as usize;
+/// 15, and each transfer of a slice at most 7.
+const MOVES_ROOM: usize = 15 + 7 * SLICE_MAX as usize;
 
 /// Room for the longest other line, in bytes: `out`, a connection's number of ten digits, a space and LF take at most 16, and
 /// each byte of a reply's record two digits.

@@ -134,8 +134,10 @@ fn wait_line(conn: u32, why: Why) -> Line<'static>
 {
     match why {
         Why::Locked { by } => Line::WaitLock { conn, lid: by },
+        Why::Behind { by } => Line::WaitBehind { conn, by },
         Why::Turn { by } => Line::WaitTurn { conn, by },
         Why::Held => Line::WaitHeld { conn },
+        Why::Slice => Line::WaitSlice { conn },
     }
 }
 

@@ -52,6 +52,12 @@ const THREE_LINES: &[Piece] = &[("up 1 core\ndown 1\nup 2 core\ndown 2\n", 1)];
 /// What it prints.
 const THREE_PRINTED: Printed = Printed::FrontOf("gone 1 down\ngone 2 down\ndone\n");
 
+/// The lines of a slice: 256 transfers that each put the byte 41, and the wait for the next poll.
+const SLICE_OF_41: &str =
+    "bus 1 p41 p41 p41 p41 p41 p41 p41 p41 p41 p41 p41 p41 p41 p41 p41 p41 p41 p41 p41 p41 p41 p41 p41 p41 p41 p41 p41 p41 p41 p41 p41 p41 p41 p41 p41 p41 p41 p41 p41 p41 p41 p41 p41 p41 p41 p41 p41 p41 p41 p41 p41 p41 p41 p41 p41 p41 p41 p41 p41 p41 p41 p41 p41 p41 p41 p41 p41 p41 p41 p41 p41 p41 p41 p41 p41 p41 p41 p41 p41 p41 p41 p41 p41 p41 p41 p41 p41 p41 p41 p41 p41 p41 p41 p41 p41 p41 p41 p41 p41 p41 p41 p41 p41 p41 p41 p41 p41 p41 p41 p41 p41 p41 p41 p41 p41 p41 p41 p41 p41 p41 p41 p41 p41 p41 p41 p41 p41 p41 p41 p41 p41 p41 p41 p41 p41 p41 p41 p41 p41 p41 p41 p41 p41 p41 p41 p41 p41 p41 p41 p41 p41 p41 p41 p41 p41 p41 p41 p41 p41 p41 p41 p41 p41 p41 p41 p41 p41 p41 p41 p41 p41 p41 p41 p41 p41 p41 p41 p41 p41 p41 p41 p41 p41 p41 p41 p41 p41 p41 p41 p41 p41 p41 p41 p41 p41 p41 p41 p41 p41 p41 p41 p41 p41 p41 p41 p41 p41 p41 p41 p41 p41 p41 p41 p41 p41 p41 p41 p41 p41 p41 p41 p41 p41 p41 p41 p41 p41 p41 p41 p41 p41 p41 p41 p41 p41 p41 p41 p41 p41 p41 p41 p41 p41 p41 p41 p41 p41 p41 p41 p41 p41 p41 p41 p41 p41 p41
+wait 1 slice
+";
+
 static ROWS: [Row; 12] = [
     // A source whose second read fails: nothing is written.
     Row {
@@ -155,7 +161,8 @@ static ROWS: [Row; 12] = [
         status: 3,
         printed: Printed::All(&[("fault line 1 form\n", 1)]),
     },
-    // A write of 65,536 bytes is made whole; one of a byte more is refused before anything is put.
+    // A write of 65,536 bytes is made whole, in slices of 256 transfers: its 65,539 take 257 polls, the last of 3. One of a byte
+    // more is refused before anything is put.
     Row {
         name: "longest write",
         script: &[
@@ -167,6 +174,7 @@ in 1 8001003C000000020000000000000002000607AF000000010000000B0000000000000000000
                 1,
             ),
             ("41", 65_536),
+            ("\npoll 1", 256),
             (
                 "
 in 1 80010040000000030000000000000002000607AF000000010000000B000000000000000000000000000000000000000100002710000000000000000800010001",
@@ -185,9 +193,11 @@ in 1 80010040000000030000000000000002000607AF000000010000000B0000000000000000000
 bus 1 c3F c40 c25",
                 1,
             ),
-            (" p41", 65_535),
+            (" p41", 253),
+            ("\nwait 1 slice\n", 1),
+            (SLICE_OF_41, 255),
             (
-                " P41
+                "bus 1 p41 p41 P41
 out 1 800000200000000200000001000000000000000000000000000000000000000000010000
 out 1 800000200000000300000001000000000000000000000000000000000000000500000000
 done

@@ -32,7 +32,7 @@ const OTHERS: [Transfer; 10] = [
 ];
 
 /// Each kind of line, beside its text.
-static LINES: [(Line<'static>, &[u8]); 22] = [
+static LINES: [(Line<'static>, &[u8]); 25] = [
     (
         Line::Bus {
             conn: 1,
@@ -71,7 +71,19 @@ static LINES: [(Line<'static>, &[u8]); 22] = [
         b"wait 2 lock 1073741823\n",
     ),
     (Line::WaitTurn { conn: 2, by: 1 }, b"wait 2 turn 1\n"),
+    (Line::WaitBehind { conn: 2, by: 1 }, b"wait 2 behind 1\n"),
+    (
+        Line::WaitBehind {
+            conn: 0,
+            by: 4294967295,
+        },
+        b"wait 0 behind 4294967295\n",
+    ),
     (Line::WaitHeld { conn: 2 }, b"wait 2 held\n"),
+    (
+        Line::WaitSlice { conn: 2147483647 },
+        b"wait 2147483647 slice\n",
+    ),
     (
         Line::WaitDial { conn: 2147483647 },
         b"wait 2147483647 dial\n",
@@ -174,7 +186,7 @@ fn lines(rt: HostRuntime) {
 }
 
 /// Texts that are no output line.
-static NO_LINES: [&[u8]; 44] = [
+static NO_LINES: [&[u8]; 52] = [
     b"",
     b"\n",
     b"done",
@@ -218,6 +230,14 @@ static NO_LINES: [&[u8]; 44] = [
     b"out +1 0A\n",
     b"irq 1 NONE\n",
     b"wait 1 lock\n",
+    b"wait 1 slices\n",
+    b"wait 1 slice \n",
+    b"wait 1 behind\n",
+    b"wait 1 behind \n",
+    b"wait 1 behind 02\n",
+    b"wait 1 behind 4294967296\n",
+    b"wait 1 behind 2 3\n",
+    b"wait 1 Behind 2\n",
     b"gone 1 up\n",
 ];
 
@@ -263,11 +283,15 @@ fn put_fault(line: u64, word: &[u8], out: &mut [u8; 72]) -> bool
 }
 
 /// The longest lines of their kinds, into one room: whether each was written, and what stands at its last place.
-fn longest_lines() -> [(bool, u8); 4] {
+fn longest_lines() -> [(bool, u8); 5] {
     let mut out = [0; 72];
     let lock = Line::WaitLock {
         conn: u32::MAX,
         lid: u32::MAX,
+    };
+    let behind = Line::WaitBehind {
+        conn: u32::MAX,
+        by: u32::MAX,
     };
     [
         (
@@ -277,10 +301,11 @@ fn longest_lines() -> [(bool, u8); 4] {
         (put_out(u32::MAX, &[0xAA; 28], &mut out), out[71]),
         (put_fault(u64::MAX, b"absent", &mut out), out[38]),
         (put_line(&lock, &mut out) == Ok(32), out[31]),
+        (put_line(&behind, &mut out) == Ok(34), out[33]),
     ]
 }
 
 #[test]
 fn longest(rt: HostRuntime) {
-    assert_eq!(rt; longest_lines(), [(true, b'\n'); 4]);
+    assert_eq!(rt; longest_lines(), [(true, b'\n'); 5]);
 }

@@ -1,5 +1,5 @@
 use Rattle.std.proofs.Common.{length, sym, subst, ap, ◌∙◌, ◌≤◌, IsSome}
-use Rattle.vx_plan.specs.declared.tasks.TheConstants.{TURN_MAX}
+use Rattle.vx_calls.specs.declared.limits.TheConstants.{SLICE_MAX}
 use Rattle.vx_text.specs.declared.output.SinkFailed.{SinkFailed}
 use Rattle.vx_play.specs.Standing.{NoteWithin, moves_lines, note_line}
 use Rattle.vx_play.proofs.Printed.{moves-writable, note-writable, lines-put}
@@ -8,7 +8,7 @@ use Rattle.vx_play.proofs.run.put_made.Goals as goal
 pub lines-requires : goal.lines-requires
 lines-requires g c = record {
   first_fits = moves-writable _ _ _ c.moves_line-moves.ensures
-      (subst (λ m. IsSome c.args.made.polled → length m ≤ TURN_MAX) (sym c.moves.ensures) c.requires.few);
+      (subst (λ m. IsSome c.args.made.polled → length m ≤ SLICE_MAX) (sym c.moves.ensures) c.requires.few);
   second_fits = note-writable _ _ _ c.note_line-note.ensures
       (subst (λ r. NoteWithin (length r) c.args.made.note) (sym c.room.ensures.value) c.requires.note) c.room.ensures.len;
 }
