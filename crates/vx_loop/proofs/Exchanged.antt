@@ -53,7 +53,7 @@ use Rattle.vx_loop.specs.Serving.{lives}
 use Rattle.vx_loop.specs.Standing.{GoesDown, EndsBy, never, refused, waited, unread, IsAt, Went, Since, MarkedStands, IsKept}
 use Rattle.vx_loop.specs.Heard.{IsResting, IsHeard}
 use Rattle.vx_loop.proofs.Streams.{first_buffer, IsWhole, whole-by, record-is-whole, whole-some, record-whole, whole-unique, none-yet}
-use Rattle.vx_loop.proofs.Happening.{adds-none, adds-append, happens-adds}
+use Rattle.vx_loop.proofs.Happening.{adds-none, adds-append, happens-adds, reached-sound}
 use Rattle.vx_loop.proofs.Going.{none-parts, come-some}
 use Rattle.vx_loop.proofs.Calling.{IsLive}
 use Rattle.vx_loop.proofs.Hearing.{IsOneCall, one-call, call-heard, call-replies}
@@ -299,7 +299,7 @@ module _ (old new : ClientState LoopState) (lid io_timeout lock_timeout flags : 
             record {
               group = e.x.group ++ e.after.group;
               steps = e.x.steps ++ e.after.steps;
-              adds = adds-append (gateway_of s.core) e.mid (gateway_of t.core) e.x.group e.after.group e.x.steps e.after.steps e.exchanged.adds e.after.adds;
+              adds = adds-append (gateway_of s.core) e.mid (gateway_of t.core) e.x.group e.after.group e.x.steps e.after.steps (reached-sound s.core.fine k.reached) e.exchanged.adds e.after.adds;
               here = ap (heard a s.core.fine.state.wire) moves ∙ heard_now.0;
               elsewhere = λ b ne. ap (heard b s.core.fine.state.wire) moves ∙ heard_now.1 b ne;
             });

@@ -22,6 +22,7 @@ use Rattle.vx_rules.specs.State.{Pending, Connection, Tables, connection_at, pen
 use Rattle.vx_flow.specs.Event.{Event, Arrive, Answer, Down}
 use Rattle.vx_flow.specs.FineState.{FineState, Turn, turn_after}
 use Rattle.vx_flow.specs.Fine.{fine}
+use Rattle.vx_flow.specs.Sound.{IsSound}
 use Rattle.vx_flow.specs.ProvedLaws.{fine-frame}
 use Rattle.vx_core.specs.CoreState.{CoreState}
 use Rattle.vx_loop.specs.Gateway.{Gateway, gateway_of, BusGoes, told_by, moments, moments_from}
@@ -133,7 +134,7 @@ module _ (start reached : Gateway) (done : List Exchange) (stream bytes given : 
     stands = inl (record { same = refl; answered = answered; held = refl });
   }
 
-  module _ (before : Gateway) (polls : ℕ) (come : HasCome reached stream xid polls before) where
+  module _ (sound : IsSound reached.fine) (before : Gateway) (polls : ℕ) (come : HasCome reached stream xid polls before) where
     abbrev came : ℕ
     came = reached.fine.state.moment
 
@@ -154,7 +155,7 @@ module _ (start reached : Gateway) (done : List Exchange) (stream bytes given : 
         exchanged-on x
         (record {
           whole = come.whole;
-          adds = adds-append reached before (gateway_of core) _ _ come.steps r.steps come.adds r.adds;
+          adds = adds-append reached before (gateway_of core) _ _ come.steps r.steps sound come.adds r.adds;
           replies = subst (λ n. Replies n came core.fine.state.moment group steps left) (sym come.asks) (
             r.told,
             subst (λ m. IsAnswered come.asked r.told came m group steps) (sym r.moment)
@@ -186,6 +187,7 @@ module _ (start reached : Gateway) (done : List Exchange) (stream bytes given : 
           taken_is = so_far.taken_is;
           given_is = ap (λ bs. given ++ bs) l.none_left ∙ append-nil given ∙ so_far.given_is;
           stands = inr (inl (record {
+            sound = sound;
             polls = suc polls;
             come = record {
               message = come.message;
@@ -194,7 +196,7 @@ module _ (start reached : Gateway) (done : List Exchange) (stream bytes given : 
               steps = come.steps ++ l.steps;
               whole = come.whole;
               asks = come.asks;
-              adds = adds-append reached before (gateway_of core) _ _ come.steps l.steps come.adds l.adds;
+              adds = adds-append reached before (gateway_of core) _ _ come.steps l.steps sound come.adds l.adds;
               turn_is = both-turn l.turn l.turn_is;
               told_is =
                   both-tell l.steps (now ∷ []) l.told_is ∙ ap (λ n. came ∷ (moments_from came polls ++ n ∷ [])) now_is
@@ -223,7 +225,7 @@ pub record Ends (s : ServedState) (piece message : List ℕ) : Type 0 where
   pub kept : (fed s.buffer piece).kept ≡ message
 
 module _ (start : Gateway) (given bytes : List ℕ) (s : ServedState) (core : CoreState SimState) (xid : ℕ) (left piece message : List ℕ) (w : Went start s bytes given)
-    (free : IsFree s) (nothing : s.left ≡ []) (e : Ends s piece message) where
+    (sound : IsSound s.core.fine) (free : IsFree s) (nothing : s.left ≡ []) (e : Ends s piece message) where
   abbrev is_open_now : IsOpen w.reached s w.open_part
   is_open_now = open-of w.reached s (replies_of w.done) w.open_part free w.stands
 
@@ -243,7 +245,7 @@ module _ (start : Gateway) (given bytes : List ℕ) (s : ServedState) (core : Co
       let here : gateway_of s.core ≡ w.reached = is_open_now.same in
       let calls : CallsOn w.reached number asked (gateway_of core) left = subst (λ g. CallsOn g number asked (gateway_of core) left) here h.1 in
       let now = w.reached.fine.state.moment in
-      polled-on start w.reached w.done (w.open_part ++ piece) (bytes ++ piece) given so_far_now core xid left calls.come 0
+      polled-on start w.reached w.done (w.open_part ++ piece) (bytes ++ piece) given so_far_now core xid left (subst (λ (g : Gateway). IsSound g.fine) here sound) calls.come 0
       (record {
         message = message;
         asked = asked;
@@ -292,13 +294,13 @@ module _ (start : Gateway) (given bytes : List ℕ) (s : ServedState) (core : Co
   went-polled : (now : ℕ) → now ≡ s.core.fine.state.moment + 1 → Continues (gateway_of s.core) s.xid now (gateway_of core) left → Went start polled bytes given
   went-polled now next h =
       let last = waits_now.last_is in
-      with-buffer (polled-on start w.reached w.done w.open_part bytes given so_far_waits core s.xid left (gateway_of s.core) waits_now.polls waits_now.come now (omega arith) h)
+      with-buffer (polled-on start w.reached w.done w.open_part bytes given so_far_waits core s.xid left waits_now.sound (gateway_of s.core) waits_now.polls waits_now.come now (omega arith) h)
 
   -- its dial fails
   went-refused : (now : ℕ) → now ≡ s.core.fine.state.moment → IsReplied (gateway_of s.core) s.xid now (Some false) (gateway_of core) left → Went start polled bytes given
   went-refused now same r =
       let last = waits_now.last_is in
-      with-buffer (replied-on start w.reached w.done w.open_part bytes given so_far_waits core s.xid left (gateway_of s.core) waits_now.polls waits_now.come now waits_now.polls (Some false) r
+      with-buffer (replied-on start w.reached w.done w.open_part bytes given so_far_waits core s.xid left waits_now.sound (gateway_of s.core) waits_now.polls waits_now.come now waits_now.polls (Some false) r
       (λ is. cc) refl (omega arith))
 
 -- ---- bytes that are given
@@ -306,7 +308,7 @@ module _ (start : Gateway) (given bytes : List ℕ) (s : ServedState) (core : Co
 give-stands : (reached : Gateway) (s : ServedState) (replied part rest : List ℕ) → (s.left ≡ [] → rest ≡ []) → IsAt reached s replied part → IsAt reached (record s { left = rest }) replied part
 give-stands reached s replied part rest none (inl h) = inl (record { same = h.same; answered = h.answered; held = h.held })
 give-stands reached s replied part rest none (inr (inl h)) =
-    inr (inl (record { polls = h.polls; come = h.come; last_is = h.last_is; pending = h.pending; fresh_is = h.fresh_is; none_left = none h.none_left }))
+    inr (inl (record { sound = h.sound; polls = h.polls; come = h.come; last_is = h.last_is; pending = h.pending; fresh_is = h.fresh_is; none_left = none h.none_left }))
 give-stands reached s replied part rest none (inr (inr h)) =
     inr (inr (record { came = h.came; gone = h.gone; cut = h.cut; by_cause = h.by_cause; down = h.down; answered = h.answered; fresh_is = h.fresh_is }))
 
@@ -429,7 +431,7 @@ take-whole s piece message took b core xid left k free nothing took_is some whol
         went = λ start bytes given w.
             subst (λ c. Went start (new c) (bytes ++ take took piece) given) (sym fresh_is)
             (subst (λ n. Went start (new (fresh RECORD_MAX)) (bytes ++ take n piece) given) (sym took_is)
-            (served-by start given bytes s core xid left part message w free nothing e (meaning message role.Core) refl h));
+            (served-by start given bytes s core xid left part message w (reached-sound s.core.fine k.reached) free nothing e (meaning message role.Core) refl h));
       },
       λ ready. (not-refused (ap (λ m. meaning m role.Core) kept) g.call, g.lives_on ∙ free.alive),
     )

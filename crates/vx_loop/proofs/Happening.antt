@@ -11,7 +11,7 @@ use Rattle.vx_flow.specs.FineState.{FineState, first_fine}
 use Rattle.vx_flow.specs.Fine.{fine}
 use Rattle.vx_flow.specs.Poll.{at_moment}
 use Rattle.vx_flow.specs.Sound.{IsSound}
-use Rattle.vx_flow.specs.ProvedLaws.{later-stands, earlier_law-holds, fine-gathers}
+use Rattle.vx_flow.specs.ProvedLaws.{later-stands, earlier_law-holds, fine-gathers, gathers}
 use Rattle.vx_rules.specs.ListLaws.{along-append}
 use Rattle.vx_loop.specs.Gateway.{Gateway, BusGoes, Happens}
 use Rattle.vx_flow.specs.Frames.{moves_by}
@@ -39,16 +39,20 @@ happens-adds a b group steps h moves = record { last = b.fine; events = h.events
 
 -- events that are allowed behind a state at a later moment
 pub along-later : (first last : FineState) (f g : FineState) (xs ys : List Event) → along fine (Some first) xs ≡ Some last → last.state.moment ≤ f.state.moment
-    → f ≡ at_moment last f.state.moment → along fine (Some f) ys ≡ Some g
+    → f ≡ at_moment last f.state.moment → IsSound last → along fine (Some f) ys ≡ Some g
     → (moment : ℕ) × (along fine (Some first) (xs ++ ys) ≡ Some (at_moment g moment)) × (moment ≤ g.state.moment)
-along-later first last f g xs ys led late at goes =
-    let more = earlier_law-holds last g f.state.moment ys late (ap (λ x. along fine (Some x) ys) (sym at) ∙ goes) in
+along-later first last f g xs ys led late at sound goes =
+    let more = earlier_law-holds last g f.state.moment ys sound late (ap (λ x. along fine (Some x) ys) (sym at) ∙ goes) in
     (more.0, along-append fine (Some first) xs ys ∙ ap (λ o. along fine o ys) led ∙ more.1, more.2)
 
+-- what holds between events holds behind what happened
+adds-sound : (a b : Gateway) (xs : List Event) (ss : List Step) → IsSound a.fine → (adds : Adds a xs ss b) → IsSound adds.last
+adds-sound a b xs ss sound adds = (gathers xs a.fine adds.last a.fine.state.moment sound (omega arith) adds.events).sound
+
 -- one part and then another
-pub adds-append : (a b c : Gateway) (xs ys : List Event) (ss ts : List Step) → Adds a xs ss b → Adds b ys ts c → Adds a (xs ++ ys) (ss ++ ts) c
-adds-append a b c xs ys ss ts first second =
-    let led = along-later a.fine first.last b.fine second.last xs ys first.events first.late first.at_now second.events in
+pub adds-append : (a b c : Gateway) (xs ys : List Event) (ss ts : List Step) → IsSound a.fine → Adds a xs ss b → Adds b ys ts c → Adds a (xs ++ ys) (ss ++ ts) c
+adds-append a b c xs ys ss ts sound first second =
+    let led = along-later a.fine first.last b.fine second.last xs ys first.events first.late first.at_now (adds-sound a b xs ss sound first) second.events in
     let late = second.late in
     let early = led.2 in
     record {
@@ -65,7 +69,8 @@ adds-append a b c xs ys ss ts first second =
 -- a state with a history has one behind what happens
 pub reached-more : (a b : Gateway) (xs : List Event) (ss : List Step) → IsReached a.fine → Adds a xs ss b → IsReached b.fine
 reached-more a b xs ss r h =
-    let led = along-later (first_fine r.abort_port) r.last a.fine h.last r.history xs r.allowed r.late r.at_now h.events in
+    let sound = (fine-gathers r.abort_port r.history r.last r.allowed).sound in
+    let led = along-later (first_fine r.abort_port) r.last a.fine h.last r.history xs r.allowed r.late r.at_now sound h.events in
     let late = h.late in
     let early = led.2 in
     record {
@@ -84,4 +89,5 @@ reached-sound f r =
     subst IsSound (sym r.at_now) (record {
       turn_stands = later-stands r.last.state.tables r.last.before r.last.state.wire r.last.state.moment f.state.moment r.last.turn late sound.turn_stands;
       have_come = λ conn p at. (let came = sound.have_come conn p at in omega arith);
+      tables = sound.tables;
     })

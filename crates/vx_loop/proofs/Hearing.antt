@@ -37,7 +37,7 @@ use Rattle.vx_flow.specs.Fine.{fine}
 use Rattle.vx_flow.specs.Gather.{gather, gather_from}
 use Rattle.vx_flow.specs.Sound.{TurnStands, IsSound}
 use Rattle.vx_flow.specs.Laws.{marked_bytes}
-use Rattle.vx_flow.specs.Does.{AnsweredBy, ByAbort, ByNoLink, ByCheck, ByLock, ByDialUp, ByDialDown, ByEffect, ByNoRole, ByFault, ByWhole, ByTimeout, Stops, Comes}
+use Rattle.vx_flow.specs.Does.{AnsweredBy, ByAbort, ByNoLink, ByCheck, ByBar, ByDialUp, ByDialDown, ByEffect, ByNoRole, ByFault, ByWhole, ByTimeout, Stops, Comes}
 use Rattle.vx_rules.specs.ListLaws.{along-none, along-append}
 use Rattle.vx_rules.specs.RowLaws.{pending-put}
 use Rattle.vx_rules.specs.ProvedLaws.{role-lives}
@@ -78,7 +78,7 @@ module _ (f : FineState) (conn now lid io_timeout lock_timeout flags : ℕ) (byt
   line-writes (ByAbort marked still stops) = stops-write code.Abort stops
   line-writes (ByNoLink unmarked dead still stops) = stops-write code.InvalidLink stops
   line-writes (ByCheck error unmarked lives checked still stops) = stops-write error stops
-  line-writes (ByLock holder unmarked checked held waits still stops) = stops-write code.Locked stops
+  line-writes (ByBar bar unmarked checked barred waits still stops) = stops-write code.Locked stops
   line-writes (ByDialUp clear d told_is after_is) = let asks = d.asks in absurd (cc)
   line-writes (ByDialDown clear d told_is after_is) = let asks = d.asks in absurd (cc)
   line-writes (ByEffect clear bus dial still given) = absurd (false≢true (sym bus))

@@ -17,6 +17,7 @@ use Rattle.vx_rules.specs.Calls.{sets_end}
 use Rattle.vx_flow.specs.Event.{Event}
 use Rattle.vx_flow.specs.FineState.{FineState}
 use Rattle.vx_flow.specs.Fine.{fine}
+use Rattle.vx_flow.specs.Sound.{IsSound}
 use Rattle.vx_flow.specs.Laws.{marked_bytes}
 use Rattle.vx_flow.specs.ProvedLaws.{fine-frame}
 use Rattle.vx_rules.specs.ListLaws.{along-none}
@@ -43,8 +44,8 @@ wire-along (e ∷ es) f g h = by (fine f e) refl h (λ mid x. wire-along es mid 
 
 -- ---- one part and then another
 
-hears-append : (f g h : Gateway) (a : Addr) (xs ys : List Byte) → Hears f g a xs → Hears g h a ys → Hears f h a (xs ++ ys)
-hears-append f g h a xs ys first second =
+hears-append : (f g h : Gateway) (a : Addr) (xs ys : List Byte) → IsSound f.fine → Hears f g a xs → Hears g h a ys → Hears f h a (xs ++ ys)
+hears-append f g h a xs ys sound first second =
     let wire : g.fine.state.wire ≡ wire_after f.fine.state.wire (flat_map moves_by first.group) =
     ap (λ (x : FineState). x.state.wire) first.adds.at_now ∙ wire-along first.group f.fine first.adds.last first.adds.events in
     let both : (b : Addr) → heard b f.fine.state.wire (flat_map moves_by (first.group ++ second.group))
@@ -55,7 +56,7 @@ hears-append f g h a xs ys first second =
     record {
       group = first.group ++ second.group;
       steps = first.steps ++ second.steps;
-      adds = adds-append f g h first.group second.group first.steps second.steps first.adds second.adds;
+      adds = adds-append f g h first.group second.group first.steps second.steps sound first.adds second.adds;
       here = both a ∙ ap (λ bs. bs ++ heard a g.fine.state.wire (flat_map moves_by second.group)) first.here ∙ ap (λ bs. xs ++ bs) second.here;
       elsewhere = λ b ne. both b ∙ ap (λ bs. bs ++ heard b g.fine.state.wire (flat_map moves_by second.group)) (first.elsewhere b ne) ∙ second.elsewhere b ne;
     }
@@ -85,16 +86,16 @@ device-now s t lid a same d = record {
 }
 
 -- one write behind another
-both-heard : (first now next : ClientState LoopState) (lid : ℕ) (xs ys : List Byte) (s : ServedState) (p : IsHeard first now lid xs s) → IsHeard now next lid ys p.then_served
+both-heard : (first now next : ClientState LoopState) (lid : ℕ) (xs ys : List Byte) (s : ServedState) → IsSound s.core.fine → (p : IsHeard first now lid xs s) → IsHeard now next lid ys p.then_served
     → IsHeard first next lid (xs ++ ys) s
-both-heard first now next lid xs ys s p q = record {
+both-heard first now next lid xs ys s sound p q = record {
   then_served = q.then_served;
   rests = q.rests;
   before = p.before;
   alive = q.alive;
   links = q.links ∙ p.links;
   hears = λ a device.
-      hears-append (gateway_of s.core) (gateway_of p.then_served.core) (gateway_of q.then_served.core) a xs ys (p.hears a device)
+      hears-append (gateway_of s.core) (gateway_of p.then_served.core) (gateway_of q.then_served.core) a xs ys sound (p.hears a device)
       (q.hears a (device-now s p.then_served lid a p.links device));
 }
 
@@ -103,6 +104,7 @@ pub record HasBegun (first now : ClientState LoopState) (lid : ℕ) (all rest : 
   pub sent : List ℕ
   pub cut : sent ++ rest ≡ all
   pub more : 0 < length rest
+  pub sound : (s : ServedState) → IsResting first s → IsSound s.core.fine
   pub heard : (s : ServedState) → IsResting first s → IsHeard first now lid (marked_bytes false sent) s
 
 -- before the first piece, or behind one
@@ -122,13 +124,18 @@ module _ (first now next : ClientState LoopState) (lid : ℕ) (all rest : List �
     λ s rests.
         (let p = h.heard s rests in
         subst (λ bs. IsHeard first next lid bs s) (marked-append end h.sent front (some h.more))
-        (both-heard first now next lid (marked_bytes false h.sent) (marked_bytes end front) s p (piece p.then_served p.rests))),
+        (both-heard first now next lid (marked_bytes false h.sent) (marked_bytes end front) s (h.sound s rests) p (piece p.then_served p.rests))),
   )
 
+  -- the gateway was sound before the first piece where it is before this one
+  sound-first : ((s : ServedState) → IsResting now s → IsSound s.core.fine) → HeardSoFar first now lid all rest → (s : ServedState) → IsResting first s → IsSound s.core.fine
+  sound-first sound (inl (same, whole)) s rests = sound s (subst (λ c. IsResting c s) (sym same) rests)
+  sound-first sound (inr h) s rests = h.sound s rests
+
   -- a piece that others follow
-  pub heard-more : (n : ℕ) (later : List ℕ) (flags : ℕ) → 1 ≤ n → n < length rest → later ≡ take (length rest - n) (drop n rest) → HeardSoFar first now lid all rest
+  pub heard-more : (n : ℕ) (later : List ℕ) (flags : ℕ) → 1 ≤ n → n < length rest → later ≡ take (length rest - n) (drop n rest) → ((s : ServedState) → IsResting now s → IsSound s.core.fine) → HeardSoFar first now lid all rest
       → ((s : ServedState) → IsResting now s → IsHeard now next lid (marked_bytes (sets_end (without_end flags)) (take n rest)) s) → HeardSoFar first next lid all later
-  heard-more n later flags some more later_is h piece =
+  heard-more n later flags some more later_is sound h piece =
       let len = length-drop n rest in
       let front = length-take n rest in
       let behind : later ≡ drop n rest = later_is ∙ take_all (length rest - n) (drop n rest) (omega arith) in
@@ -138,6 +145,7 @@ module _ (first now next : ClientState LoopState) (lid : ℕ) (all rest : List �
         sent = q.0;
         cut = q.1;
         more = omega arith;
+        sound = sound-first sound h;
         heard = λ s rests. subst (λ b. IsHeard first next lid (marked_bytes b q.0) s) (no-end flags) (q.2 s rests);
       })
 

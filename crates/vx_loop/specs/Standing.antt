@@ -15,6 +15,7 @@ use Rattle.vx_flow.specs.Event.{Event, Arrive, Down}
 use Rattle.vx_flow.specs.FineState.{FineState, Turn}
 use Rattle.vx_flow.specs.Laws.{fine_along}
 use Rattle.vx_flow.specs.Poll.{at_moment}
+use Rattle.vx_flow.specs.Sound.{IsSound}
 use Rattle.vx_loop.specs.Gateway.{Gateway, gateway_of, Happens, moments, moments_from}
 use Rattle.vx_loop.specs.LoopState.{ServedState, LoopState, IsIdle, IsBeginning}
 use Rattle.vx_loop.specs.Exchanges.{Exchange, Adds, IsRecord, Exchanges, of_turn, streams_of, replies_of}
@@ -39,8 +40,9 @@ pub record HasCome (reached : Gateway) (stream : List ℕ) (xid polls : ℕ) (af
   pub turn_is : list_all of_turn turn ≡ true
   pub told_is : moments steps ≡ reached.fine.state.moment ∷ moments_from reached.fine.state.moment polls
 
--- a call waits, which came as this record
+-- a call waits, which came as this record to a gateway of which holds what does between events
 pub record IsWaiting (reached : Gateway) (s : ServedState) (stream : List ℕ) : Type 0 where
+  pub sound : IsSound reached.fine
   pub polls : ℕ
   pub come : HasCome reached stream s.xid polls (gateway_of s.core)
   pub last_is : s.core.fine.state.moment + 1 ≡ reached.fine.state.moment + polls

@@ -21,7 +21,7 @@ pub struct LoopRefused<I: Instrument> {
 
 /// A link to connection 1 of a gateway over a simulated bus. A record that comes to its end is served before the send
 /// returns. A receive polls a call that waits, with a moment one greater each time, until it is answered; a dial that the
-/// call asks for fails.
+/// call asks for fails. A poll makes at most 256 transfers, so a write of 64 KiB ages by 256 milliseconds.
 ///
 /// A receive fails where a call waits at the last moment of a `u64`. A send fails where it ends a record that is no call
 /// or is too long, and the connection ends. It ends too where bytes come before the whole reply to the last call was

@@ -3,6 +3,7 @@
 ghost use Rattle.std.specs.Prelude.{◌≡◌, ◌≤◌, ◌<◌, ◌^◌, min, length, None, IfSome, OnOk};
 ghost use Rattle.vx_rules.specs.Calls.{sets_end};
 ghost use Rattle.vx_flow.specs.Laws.{marked_bytes};
+ghost use Rattle.vx_flow.specs.Sound.{IsSound};
 ghost use Rattle.vx_client.specs.State.{with_link};
 ghost use Rattle.vx_client.specs.Message.{call_record};
 ghost use Rattle.vx_client.specs.Exchange.{IsCalled};
@@ -71,6 +72,7 @@ fn write_piece<I: Instrument>(
     requires short { length bytes.now ≤ PIECE_MAX }
     ensures called { IsCalled StandsFor (λ _. None) (λ l. l.receive_faults) (λ l. l.send_faults) client.old client.new
         (write_call lid opts.now flags bytes.now) 0 nothing_of result }
+    ensures sound { (s : ServedState) → IsResting client.old s → IsSound s.core.fine }
     ensures heard { OnOk result ((s : ServedState) → IsResting client.old s → IsHeard client.old client.new lid (marked_bytes (sets_end flags) bytes.now) s) }
     ensures closed { OnClosed result ((s : ServedState) → IsResting client.old s → FindsEnded client.new s) }
     ensures fault { OnReadFault result (IfSome client.new.link.served IsUnanswered) }

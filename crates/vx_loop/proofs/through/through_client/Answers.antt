@@ -21,7 +21,7 @@ loop-rest-preserved g c = (
   leads-on _ _ _ c.loop-rest.client _ _ _ c.loop-rest.rest.now _ c.in_ok-write_piece.field-0 c.loop-rest.invariant.1 c.loop-rest-test.true refl c.loop-rest.invariant.2
       c.in_ok-write_piece.ensures.called,
   heard-more c.args.client.now c.loop-rest.client c.write_piece.new.client c.args.made.now.lid c.args.bytes.now c.loop-rest.rest.now _ _ c.args.opts.now.flags
-      c.loop-rest.invariant.1 c.loop-rest-test.true refl c.loop-rest.invariant.3 c.in_ok-write_piece.ensures.heard,
+      c.loop-rest.invariant.1 c.loop-rest-test.true refl c.in_ok-write_piece.ensures.sound c.loop-rest.invariant.3 c.in_ok-write_piece.ensures.heard,
 )
 
 -- the answer is the error of the piece

@@ -1,4 +1,6 @@
-use Rattle.std.proofs.Common.{◌≡◌, ◌<◌, ◌^◌, None, IfSome, arith, sym, ap, ◌∙◌, subst}
+use Rattle.std.proofs.Common.{◌≡◌, ◌<◌, ◌^◌, Option, Some, None, IfSome, arith, sym, ap, ◌∙◌, subst}
+use Rattle.std.proofs.lemmas.Option.{none-some, same_Some}
+use Rattle.vx_flow.specs.Sound.{IsSound}
 use Rattle.vx_codec.specs.Asked.{CallFits}
 use Rattle.vx_client.specs.State.{ClientState, with_link}
 use Rattle.vx_client.specs.Message.{call_record}
@@ -6,12 +8,18 @@ use Rattle.vx_client.specs.Exchange.{IsCalled}
 use Rattle.vx_client.specs.Ending.{TellsCalls}
 use Rattle.vx_client.specs.Chunks.{write_call}
 use Rattle.vx_client.specs.Meaning.{nothing_of}
-use Rattle.vx_loop.specs.LoopState.{LoopState}
+use Rattle.vx_loop.specs.LoopState.{ServedState, LoopState}
 use Rattle.vx_loop.specs.Standing.{MarkedStands, IsKept}
 use Rattle.vx_loop.specs.Telling.{IsReceive, IsSend}
 use Rattle.vx_loop.proofs.Calling.{called-plain}
+use Rattle.vx_loop.proofs.Happening.{reached-sound}
 use Rattle.vx_loop.proofs.Ended.{piece-heard, piece-closed, piece-fault, piece-sent}
 use Rattle.vx_loop.proofs.through.write_piece.Goals as goal
+
+-- the gateway of a link that is kept is sound
+kept-sound : (o : Option ServedState) (s : ServedState) → o ≡ Some s → IfSome o IsKept → IsSound s.core.fine
+kept-sound None s is kept = absurd (none-some s is)
+kept-sound (Some t) s is kept = subst (λ (u : ServedState). IsSound u.core.fine) (same_Some t s is) (reached-sound t.core.fine kept.reached)
 
 -- what the call over the link that stands aside did, the client did
 pub returns : goal.returns
@@ -35,6 +43,7 @@ returns g c =
     let fits : CallFits call = (c.ranges.lid.fits, (c.is_word.ensures, (c.is_word-2.ensures, (c.ranges.flags.fits, (((omega arith), (omega arith)), tt))))) in
     let short = c.requires.short in
     record {
+      sound = λ s rests. kept-sound old.link.served s rests.serves did.2;
       called = called-plain (λ l. None) (λ l. l.receive_faults) (λ l. l.send_faults) old new call 0 nothing_of r did.0;
       heard = piece-heard old new c.args.lid opts.io_timeout opts.lock_timeout c.args.flags bytes did.4 fits short r did.2 did.0 did.1;
       closed = piece-closed old new c.args.lid opts.io_timeout opts.lock_timeout c.args.flags bytes did.4 fits short r did.3 did.0 did.1;
