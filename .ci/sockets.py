@@ -449,6 +449,30 @@ def locks_keep_clients_apart():
             peer.stream.close()
 
 
+def two_that_lock_without_end_take_turns():
+    """Two clients that ask for the same lock, let go, and ask again, without a break: the one that asks again comes behind the one
+    that waits, so neither gets it much more often than the other."""
+    with Server() as server, Peer(server.core) as one, Peer(server.core) as two:
+        one.ask(create(1, b"gpib0,5"), created(1, 1, server))
+        two.ask(create(1, b"gpib0,5"), created(1, 2, server))
+        together = threading.Barrier(2)
+        until = time.monotonic() + 2
+
+        def grants(link, peer):
+            together.wait()
+            count = 0
+            while time.monotonic() < until:
+                xid = 2 * count + 2
+                peer.ask(lock(xid, link, WAITLOCK, 60000), reply(xid, 0))
+                peer.ask(call(xid + 1, UNLOCK, link), reply(xid + 1, 0))
+                count += 1
+            return count
+
+        with ThreadPoolExecutor(2) as pool:
+            counts = [turns.result() for turns in [pool.submit(grants, 1, one), pool.submit(grants, 2, two)]]
+        assert min(counts) > 20 and 2 * min(counts) > max(counts), f"the grants are {counts}"
+
+
 def a_read_is_aborted():
     """A read of a device that says nothing would take a minute."""
     with Server() as server, Peer(server.core) as peer, Peer(server.abort) as other:
@@ -1042,6 +1066,7 @@ CASES = [
     a_link_by_its_bytes,
     two_clients_on_two_devices,
     locks_keep_clients_apart,
+    two_that_lock_without_end_take_turns,
     a_read_is_aborted,
     a_service_request,
     a_channel_that_nobody_takes,
