@@ -19,6 +19,7 @@ use Rattle.vx_plan.specs.Results.{bytes_got}
 use Rattle.vx_plan.specs.Transfers.{is_got}
 use Rattle.vx_plan.specs.Tasks.{IsPlainTask}
 use Rattle.vx_calls.specs.declared.limits.TheConstants.{SLICE_MAX, WRITE_MAX}
+use Rattle.vx_bus_traits.specs.declared.asks.TheConstants.{ASK_MAX}
 use Rattle.vx_plan.specs.Places.{Reaches, IsReached, slot_wanted}
 use Rattle.vx_plan.specs.Runs.{place_behind}
 use Rattle.vx_plan.specs.Laws.{RunLaw}
@@ -299,8 +300,12 @@ module _ {B : Type 0} (means : B → Means) (through : B → Step → B → Type
   plain-now : IsPlainTask turn.task
   plain-now = subst IsPlainTask (sym same-task) plain
 
-  pub reached : (ts : List Transfer) × (left : Plan) × Reaches turn.task bytes ts left turn.place × ((means now).asks ≤ length ts)
-  reached = (begins.1 ++ (means now).moves, left, under.has_made.reaches, omega (arith, going.asks, length-append begins.1 (means now).moves))
+  pub reached : (ts : List Transfer) × (left : Plan) × Reaches turn.task bytes ts left turn.place
+  reached = (begins.1 ++ (means now).moves, left, under.has_made.reaches)
+
+  -- the bus has room for as many asks as the slice has left
+  pub asks-left : (means now).asks + rest ≤ ASK_MAX
+  asks-left = omega (arith, going.asks, going.slice)
 
   pub plain-in : IsPlainTask turn.task
   plain-in = plain-now

@@ -26,8 +26,7 @@ use vx_488::{Transfer, Wire, wire_appends};
 use vx_bus_traits::{Bus, Move, Stop};
 use vx_calls::SLICE_MAX;
 use vx_plan::{
-    Next, Place, Task, data_left, few_transfers, few_with_data, first_place, next_move,
-    place_goes_on, run_goes_on,
+    Next, Place, Task, data_left, few_transfers, first_place, next_move, place_goes_on, run_goes_on,
 };
 
 /// Why a turn stopped for now.
@@ -149,10 +148,10 @@ impl Turn {
         requires own { self.old.place.own ≤ ADDRESS_MAX }
         requires short { length bytes.now ≤ WRITE_MAX }
         requires room { HasRoom self.old.task (length room.old) }
-        requires reached { (ts : List Transfer) × (left : Plan) × Reaches self.old.task bytes.now ts left self.old.place × ((B.means bus.old).asks ≤ length ts) }
+        requires reached { (ts : List Transfer) × (left : Plan) × Reaches self.old.task bytes.now ts left self.old.place }
+        requires asks { (B.means bus.old).asks + most ≤ ASK_MAX }
         ensures { Runs B.means B.through self.old bytes.now room.old self.new room.new most result bus.old bus.new }
     {
-        few_with_data();
         let many = data_left(&self.task, &self.place).min(most) as usize;
         if many == 0 {
             return self.single(bus, bytes, room);
@@ -170,7 +169,8 @@ impl Turn {
         requires own { self.old.place.own ≤ ADDRESS_MAX }
         requires short { length bytes.now ≤ WRITE_MAX }
         requires room { HasRoom self.old.task (length room.old) }
-        requires reached { (ts : List Transfer) × (left : Plan) × Reaches self.old.task bytes.now ts left self.old.place × ((B.means bus.old).asks ≤ length ts) }
+        requires reached { (ts : List Transfer) × (left : Plan) × Reaches self.old.task bytes.now ts left self.old.place }
+        requires asks { (B.means bus.old).asks < ASK_MAX }
         ensures { Runs B.means B.through self.old bytes.now room.old self.new room.new 1 result bus.old bus.new }
     {
         few_transfers();

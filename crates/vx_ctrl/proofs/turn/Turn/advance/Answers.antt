@@ -39,15 +39,7 @@ put_run-requires-clause-within g c =
     omega (arith, whole, c.min-many.ensures)
 
 pub put_run-requires-clause-asks : goal.put_run-requires-clause-asks
-put_run-requires-clause-asks g c =
-    let r = c.requires.reached in
-    let turn = c.args.self.now in
-    let n = c.data_left.result in
-    let D : TurnState → Type 0 = λ turn. IsDataLeft turn.task turn.place n in
-    let d = subst D c.self.view_is c.data_left.ensures in
-    let some : n ≢ 0 = λ none. c.if-many-eq0.false (omega (arith, none, c.min-many.ensures)) in
-    let few = c.few_with_data.ensures turn.task c.args.bytes.now r.0 r.1 turn.place n c.requires.short r.2 (d c.args.bytes.now r.0 r.1 r.2) in
-    omega (arith, few, c.min-many.ensures, r.3)
+put_run-requires-clause-asks g c = omega (arith, c.min-many.ensures, c.requires.asks)
 
 pub get_run-requires-clause-left : goal.get_run-requires-clause-left
 get_run-requires-clause-left g c =
@@ -85,15 +77,7 @@ get_run-requires-clause-room g c =
     omega (arith, whole, c.min-many.ensures, subst R is c.requires.room)
 
 pub get_run-requires-clause-asks : goal.get_run-requires-clause-asks
-get_run-requires-clause-asks g c =
-    let r = c.requires.reached in
-    let turn = c.args.self.now in
-    let n = c.data_left.result in
-    let D : TurnState → Type 0 = λ turn. IsDataLeft turn.task turn.place n in
-    let d = subst D c.self.view_is c.data_left.ensures in
-    let some : n ≢ 0 = λ none. c.if-many-eq0.false (omega (arith, none, c.min-many.ensures)) in
-    let few = c.few_with_data.ensures turn.task c.args.bytes.now r.0 r.1 turn.place n c.requires.short r.2 (d c.args.bytes.now r.0 r.1 r.2) in
-    omega (arith, few, c.min-many.ensures, r.3)
+get_run-requires-clause-asks g c = omega (arith, c.min-many.ensures, c.requires.asks)
 
 pub returns-then-many-eq0 : goal.returns-then-many-eq0
 returns-then-many-eq0 g c =

@@ -1,5 +1,5 @@
 use Rattle.std.proofs.Common.{arith}
-use Rattle.vx_ctrl.proofs.Going.{reached, is-reached, own-in, made-few, smaller, preserved, goes-stops, wire-stops, got-stops, holds-stops, begins-again, goes-full, holds-full, begins-full}
+use Rattle.vx_ctrl.proofs.Going.{reached, asks-left, is-reached, own-in, made-few, smaller, preserved, goes-stops, wire-stops, got-stops, holds-stops, begins-again, goes-full, holds-full, begins-full}
 use Rattle.vx_ctrl.proofs.turn.Turn.go.Goals as goal
 
 pub advance-requires-clause-own : goal.advance-requires-clause-own
@@ -9,6 +9,10 @@ advance-requires-clause-own g c =
 pub advance-requires-clause-reached : goal.advance-requires-clause-reached
 advance-requires-clause-reached g c =
     reached g.B.Bus.means g.B.Bus.through _ _ _ _ _ _ _ _ c.requires.plain c.requires.short c.requires.begun c.loop-left.invariant c.loop-left.auto.room
+
+pub advance-requires-clause-asks : goal.advance-requires-clause-asks
+advance-requires-clause-asks g c =
+    asks-left g.B.Bus.means g.B.Bus.through _ _ _ _ _ _ _ _ c.requires.plain c.requires.short c.requires.begun c.loop-left.invariant c.loop-left.auto.room
 
 pub overflow_sub-left : goal.overflow_sub-left
 overflow_sub-left g c =
