@@ -5,13 +5,13 @@ pub const ROLE_MAX: usize = 64;
 pub const CONNECTION_LAST: u32 = 0x7FFF_FFFF;
 
 /// How many links may live at once, over all connections.
-pub const LINK_MAX: u32 = 256;
+pub const LINK_MAX: u32 = 1024;
 
 /// The greatest number of a link. The least is 1.
 pub const LINK_LAST: u32 = 0x3FFF_FFFF;
 
 /// The longest data of one device_write, in bytes. No call brings more: [`DOCMD_MAX`] is no greater.
-pub const WRITE_MAX: u32 = 65536;
+pub const WRITE_MAX: u32 = 262_144;
 
 /// The longest data of one device_read, in bytes, however many it asks for.
 pub const READ_MAX: u32 = 65536;
@@ -24,7 +24,7 @@ pub const DOCMD_MAX: u32 = 65536;
 pub const SLICE_MAX: u32 = 256;
 
 /// The longest record on a connection of the gateway, in bytes, its fragments taken together and their headers left out.
-pub const RECORD_MAX: usize = 66560;
+pub const RECORD_MAX: usize = 263_168;
 
 /// The longest record of a reply that a client takes, in bytes, counted in the same way.
 pub const REPLY_MAX: usize = 66560;
