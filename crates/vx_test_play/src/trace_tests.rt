@@ -2,6 +2,7 @@ ghost use Rattle.std.specs.Prelude.{◌≡◌, ◌<◌, ◌≤◌, true, length,
 ghost use Rattle.vx_trace.specs.Text.{is_cause};
 
 use vx_488::Transfer;
+use vx_calls::Role;
 use vx_trace::*;
 
 const READ: [Transfer; 5] = [
@@ -142,6 +143,7 @@ static LINES: [(Line<'static>, &[u8]); 25] = [
 fn is_written(line: &Line, text: &[u8]) -> bool {
     let mut out = [b'#'; 72];
     line.is_whole()
+        && line.is_first()
         && put_line(line, &mut out) == Ok(text.len())
         && out
             .strip_prefix(text)
@@ -152,6 +154,7 @@ fn is_written(line: &Line, text: &[u8]) -> bool {
 fn is_full(line: &Line, text: &[u8]) -> bool {
     let mut out = [0; 72];
     line.is_whole()
+        && line.is_first()
         && text.len() <= 72
         && put_line(line, &mut out[..text.len().saturating_sub(1)]) == Err(Full)
 }
@@ -185,8 +188,8 @@ fn lines(rt: HostRuntime) {
     assert_eq!(rt; first_wrong(&LINES), None);
 }
 
-/// Texts that are no output line.
-static NO_LINES: [&[u8]; 52] = [
+/// Texts that are no output line of version 1.
+static NO_LINES: [&[u8]; 65] = [
     b"",
     b"\n",
     b"done",
@@ -239,6 +242,19 @@ static NO_LINES: [&[u8]; 52] = [
     b"wait 1 behind 2 3\n",
     b"wait 1 Behind 2\n",
     b"gone 1 up\n",
+    b"vxtrace 2\n",
+    b"up 1 core\n",
+    b"up 1 abort\n",
+    b"call 1 0A\n",
+    b"call 1 \n",
+    b"begin 1\n",
+    b"dial 1 ok\n",
+    b"dial 1 fail\n",
+    b"srq 0\n",
+    b"srq 1\n",
+    b"0 srq 1\n",
+    b"5 out 1 0A\n",
+    b"0 wait 2 held\n",
 ];
 
 /// The first text that is a line.
@@ -308,4 +324,306 @@ fn longest_lines() -> [(bool, u8); 5] {
 #[test]
 fn longest(rt: HostRuntime) {
     assert_eq!(rt; longest_lines(), [(true, b'\n'); 5]);
+}
+
+/// Lines of version 2: the moment and the line, their text, and the moment that is read of it.
+static LINES2: [(u64, Line<'static>, &[u8], u64); 31] = [
+    (0, Line::TraceHead, b"vxtrace 2\n", 0),
+    (
+        0,
+        Line::Up {
+            conn: 1,
+            role: Role::Core,
+        },
+        b"0 up 1 core\n",
+        0,
+    ),
+    (
+        0,
+        Line::Up {
+            conn: 4294967295,
+            role: Role::Abort,
+        },
+        b"0 up 4294967295 abort\n",
+        0,
+    ),
+    (
+        0,
+        Line::Call {
+            conn: 1,
+            bytes: b"\x00\x0A\xF9\xFF",
+        },
+        b"0 call 1 000AF9FF\n",
+        0,
+    ),
+    (
+        0,
+        Line::Call {
+            conn: 4294967295,
+            bytes: b"",
+        },
+        b"0 call 4294967295 \n",
+        0,
+    ),
+    (0, Line::Begin { conn: 0 }, b"0 begin 0\n", 0),
+    (0, Line::DialDone { conn: 3, up: true }, b"0 dial 3 ok\n", 0),
+    (
+        0,
+        Line::DialDone { conn: 3, up: false },
+        b"0 dial 3 fail\n",
+        0,
+    ),
+    (0, Line::Srq { level: false }, b"0 srq 0\n", 0),
+    (0, Line::Srq { level: true }, b"0 srq 1\n", 0),
+    (0, Line::Done, b"done\n", 0),
+    (18446744073709551615, Line::TraceHead, b"vxtrace 2\n", 0),
+    (
+        18446744073709551615,
+        Line::Up {
+            conn: 1,
+            role: Role::Core,
+        },
+        b"18446744073709551615 up 1 core\n",
+        18446744073709551615,
+    ),
+    (
+        18446744073709551615,
+        Line::Up {
+            conn: 4294967295,
+            role: Role::Abort,
+        },
+        b"18446744073709551615 up 4294967295 abort\n",
+        18446744073709551615,
+    ),
+    (
+        18446744073709551615,
+        Line::Call {
+            conn: 1,
+            bytes: b"\x00\x0A\xF9\xFF",
+        },
+        b"18446744073709551615 call 1 000AF9FF\n",
+        18446744073709551615,
+    ),
+    (
+        18446744073709551615,
+        Line::Call {
+            conn: 4294967295,
+            bytes: b"",
+        },
+        b"18446744073709551615 call 4294967295 \n",
+        18446744073709551615,
+    ),
+    (
+        18446744073709551615,
+        Line::Begin { conn: 0 },
+        b"18446744073709551615 begin 0\n",
+        18446744073709551615,
+    ),
+    (
+        18446744073709551615,
+        Line::DialDone { conn: 3, up: true },
+        b"18446744073709551615 dial 3 ok\n",
+        18446744073709551615,
+    ),
+    (
+        18446744073709551615,
+        Line::DialDone { conn: 3, up: false },
+        b"18446744073709551615 dial 3 fail\n",
+        18446744073709551615,
+    ),
+    (
+        18446744073709551615,
+        Line::Srq { level: false },
+        b"18446744073709551615 srq 0\n",
+        18446744073709551615,
+    ),
+    (
+        18446744073709551615,
+        Line::Srq { level: true },
+        b"18446744073709551615 srq 1\n",
+        18446744073709551615,
+    ),
+    (18446744073709551615, Line::Done, b"done\n", 0),
+    (
+        7,
+        Line::Bus {
+            conn: 1,
+            moves: &READ,
+        },
+        b"7 bus 1 c3F c20 c45 g41 G42\n",
+        7,
+    ),
+    (
+        10,
+        Line::Out {
+            conn: 3,
+            bytes: b"\x80\x00\x00\x02\x0A\xF9",
+        },
+        b"10 out 3 800000020AF9\n",
+        10,
+    ),
+    (100, Line::IrqNone { conn: 1 }, b"100 irq 1 none\n", 100),
+    (
+        0,
+        Line::WaitBehind { conn: 2, by: 1 },
+        b"0 wait 2 behind 1\n",
+        0,
+    ),
+    (1, Line::WaitDial { conn: 2 }, b"1 wait 2 dial\n", 1),
+    (9, Line::GoneLong { conn: 5 }, b"9 gone 5 long\n", 9),
+    (
+        9,
+        Line::FaultLine {
+            line: 3,
+            word: b"form",
+        },
+        b"fault line 3 form\n",
+        0,
+    ),
+    (9, Line::FaultLong, b"fault long\n", 0),
+    (9, Line::Usage, b"usage: vxplay COMMAND\n", 0),
+];
+
+/// Texts that are no line of version 2: without the moment that the line has, with one that it hasn't, or with one that
+/// no number writes so.
+static NO_LINES2: [&[u8]; 63] = [
+    b"",
+    b"\n",
+    b"0",
+    b"0\n",
+    b"0 \n",
+    b"up 1 core\n",
+    b"call 1 0A\n",
+    b"begin 1\n",
+    b"dial 1 ok\n",
+    b"srq 1\n",
+    b"bus 1 ifc\n",
+    b"out 1 0A\n",
+    b"wait 2 held\n",
+    b"gone 5 down\n",
+    b" srq 1\n",
+    b"00 srq 1\n",
+    b"01 srq 1\n",
+    b"+1 srq 1\n",
+    b"-0 srq 1\n",
+    b"0x1 srq 1\n",
+    b"18446744073709551616 srq 1\n",
+    b"99999999999999999999 srq 1\n",
+    b"1  srq 1\n",
+    b" 1 srq 1\n",
+    b"1\tsrq 1\n",
+    b"1 1 srq 1\n",
+    b"0 vxtrace 2\n",
+    b"0 done\n",
+    b"0 fault line 3 form\n",
+    b"0 fault long\n",
+    b"0 usage: vxplay COMMAND\n",
+    b"vxtrace 1\n",
+    b"vxtrace 2 \n",
+    b"vxtrace 2",
+    b"vxtrace\n",
+    b"0 up 1\n",
+    b"0 up 1 \n",
+    b"0 up 1 Core\n",
+    b"0 up 1 core \n",
+    b"0 up 01 core\n",
+    b"0 up 4294967296 core\n",
+    b"0 call 1\n",
+    b"0 call 1  \n",
+    b"0 call 1 0\n",
+    b"0 call 1 0a\n",
+    b"0 call 1 0A 0A\n",
+    b"0 begin\n",
+    b"0 begin \n",
+    b"0 begin 1 \n",
+    b"0 begin 01\n",
+    b"0 begin 1 2\n",
+    b"0 begin 4294967296\n",
+    b"0 dial 1\n",
+    b"0 dial 1 OK\n",
+    b"0 dial 1 fail \n",
+    b"0 srq\n",
+    b"0 srq 2\n",
+    b"0 srq 01\n",
+    b"0 srq 1",
+    b"0 srq 1\n\n",
+    b"0 srq 1\r\n",
+    b"0 out 1 \n",
+    b"0 gone 1 up\n",
+];
+
+/// Whether a line is written as this text at this moment, into room for 72 bytes of which the rest stays as it was.
+fn is_written2(moment: u64, line: &Line, text: &[u8]) -> bool {
+    let mut out = [b'#'; 72];
+    line.is_whole()
+        && put_line2(moment, line, &mut out) == Ok(text.len())
+        && out
+            .strip_prefix(text)
+            .is_some_and(|rest| rest.first() == Some(&b'#'))
+}
+
+/// Whether a line has no room in a byte less than its text at this moment has, and leaves that room as it was.
+fn is_full2(moment: u64, line: &Line, text: &[u8]) -> bool {
+    let mut out = [b'#'; 72];
+    line.is_whole()
+        && text.len() <= 72
+        && put_line2(moment, line, &mut out[..text.len().saturating_sub(1)]) == Err(Full)
+        && out == [b'#'; 72]
+}
+
+/// Whether a text of at most 72 bytes is read as this moment and line, or as none.
+fn is_read2(text: &[u8], line: Option<(u64, Line)>) -> bool {
+    let len = text.len();
+    let mut moves = [Transfer::Ifc; 72];
+    let mut bytes = [0; 72];
+    len <= 72 && read_line2(text, &mut moves[..len], &mut bytes[..len]) == line
+}
+
+/// The first row whose line is another text at its moment, or whose text another line.
+fn first_wrong2(rows: &[(u64, Line<'_>, &[u8], u64)]) -> Option<usize> {
+    for (place, (moment, line, text, read)) in rows.iter().enumerate() {
+        if !is_written2(*moment, line, text)
+            || !is_full2(*moment, line, text)
+            || !is_read2(text, Some((*read, *line)))
+        {
+            return Some(place);
+        }
+    }
+    None
+}
+
+// Each line of version 2 is written at its moment, and read back with it.
+#[test]
+fn lines2(rt: HostRuntime) {
+    assert_eq!(rt; first_wrong2(&LINES2), None);
+}
+
+/// The first text that is a line of version 2.
+fn first_read2(texts: &[&[u8]]) -> Option<usize> {
+    for (place, text) in texts.iter().enumerate() {
+        if !is_read2(text, None) {
+            return Some(place);
+        }
+    }
+    None
+}
+
+#[test]
+fn no_lines2(rt: HostRuntime) {
+    assert_eq!(rt; first_read2(&NO_LINES2), None);
+}
+
+/// A message of at most 17 bytes is written at every moment.
+fn put_call(moment: u64, conn: u32, bytes: &[u8], out: &mut [u8; 72]) -> bool
+    requires { length bytes.now ≤ 17 }
+    ensures { result ≡ true }
+{
+    put_line2(moment, &Line::Call { conn, bytes }, out).is_ok()
+}
+
+#[test]
+fn longest2(rt: HostRuntime) {
+    let mut out = [0; 72];
+    assert!(rt; put_call(u64::MAX, u32::MAX, &[0xAA; 17], &mut out));
+    assert_eq!(rt; out[71], b'\n');
 }

@@ -1,5 +1,5 @@
 -- Each line is read from its text.
-use Rattle.std.proofs.Common.{◌≡◌, ℕ, ◌-◌, ◌^◌, ◌<◌, true, false, List, [], ◌∷◌, ◌++◌, length, Option, Some, refl, ap, ◌∙◌, append_assoc, append-nil, arith, codes, decimal}
+use Rattle.std.proofs.Common.{◌≡◌, ℕ, ◌-◌, ◌^◌, ◌<◌, Bool, true, false, List, [], ◌∷◌, ◌++◌, length, Option, Some, refl, ap, ◌∙◌, append_assoc, append-nil, arith, codes, decimal}
 use Rattle.std.specs.Prelude.{option_map, option_and_then}
 use Rattle.std.specs.List.{All, list_all, list_any}
 use Rattle.std.proofs.lemmas.Bool.{false_from_ne_true, both_ways}
@@ -7,12 +7,14 @@ use Rattle.std.proofs.lemmas.List.{take_at, drop_at, length-append}
 use Rattle.std.proofs.lemmas.List.Elements.{All-head, All-tail}
 use Rattle.std.specs.Str.{bytes_eq}
 use Rattle.hex.specs.Hex.{encode_upper}
+use Rattle.vx_calls.specs.declared.calls.Role.{Role}
+use Rattle.vx_calls.specs.declared.calls.Role.TheVariants as role
 use Rattle.vx_488.specs.declared.transfers.Transfer.{Transfer}
 use Rattle.vx_488.specs.declared.transfers.Transfer.TheVariants.{Cmd, Put, Got, Ren, Atn, Ifc, Own}
-use Rattle.vx_trace.specs.Output.{Output, Bus, Out, Irq, IrqNone, IrqClosed, WaitLock, WaitTurn, WaitBehind, WaitHeld, WaitSlice, WaitDial, GoneDown, GoneJunk, GoneLong, Done, FaultLine, FaultLong, Usage}
-use Rattle.vx_trace.specs.Text.{transfer_text, moves_text, line_text, IsByteTransfer, IsLine, is_cause}
-use Rattle.vx_trace.specs.Reading.{cut, is_lower_digit, number_of, of_letter, lettered, transfer_of, with_transfer, moves_of, irq_of, wait_of, by_word, fault_of, behind_word, line_of, without_end, reading}
-use Rattle.vx_trace.proofs.Hexadecimal.{all-bytes, upper-plain, upper-lower, bytes-again, byte-again}
+use Rattle.vx_trace.specs.Output.{Output, Bus, Out, Irq, IrqNone, IrqClosed, WaitLock, WaitTurn, WaitBehind, WaitHeld, WaitSlice, WaitDial, GoneDown, GoneJunk, GoneLong, Done, FaultLine, FaultLong, Usage, TraceHead, Up, Call, Begin, DialDone, Srq}
+use Rattle.vx_trace.specs.Text.{transfer_text, moves_text, role_text, dial_text, line_text, IsByteTransfer, IsLine, is_cause}
+use Rattle.vx_trace.specs.Reading.{cut, is_lower_digit, number_of, of_letter, lettered, transfer_of, with_transfer, moves_of, irq_of, wait_of, role_of, dial_of, by_word, fault_of, behind_word, line_of, without_end, reading}
+use Rattle.vx_trace.proofs.Hexadecimal.{all-bytes, upper-plain, upper-lower, any-bytes-again, bytes-again, byte-again}
 use Rattle.vx_trace.proofs.Cuts.{is_plain, cut-again, cut_plain}
 use Rattle.vx_trace.proofs.Numbers.{number-again, decimal-plain}
 use Rattle.vx_lemmas.specs.Conditions.{same_bytes}
@@ -145,6 +147,15 @@ irq-bytes conn bytes some h =
     let read = bytes-again bytes some fit in
     rw (first, second, read) refl
 
+-- the name of a channel, and how a dial ended
+role-again : (r : Role) → role_of (role_text r) ≡ Some r
+role-again role.Core = refl
+role-again role.Abort = refl
+
+dial-again : (conn : ℕ) (up : Bool) → dial_of conn (dial_text up) ≡ Some (DialDone conn up)
+dial-again conn true = refl
+dial-again conn false = refl
+
 -- each line is read from its text
 pub reading-again : (line : Output) → IsLine line → reading (line_text line) ≡ Some line
 reading-again (Bus conn []) h = let some = h.0 in absurd (omega arith)
@@ -180,3 +191,16 @@ reading-again (FaultLine line word) h =
     ap reading shape ∙ line-again (codes "fault line " ++ (decimal line ++ 32 ∷ word)) (FaultLine line word) (fault-again line word h.1 h.0)
 reading-again FaultLong h = refl
 reading-again Usage h = refl
+reading-again TraceHead h = refl
+reading-again (Up conn r) h =
+    told-again (codes "up") conn (role_text r) _ _ refl h.1 (λ t. refl)
+    (ap (option_map (λ x. Up conn x)) (role-again r)) (joined (codes "up") conn (role_text r))
+reading-again (Call conn bytes) h =
+    told-again (codes "call") conn (encode_upper bytes) _ _ refl h.1.0 (λ r. refl)
+    (ap (option_map (λ b. Call conn b)) (any-bytes-again bytes (all-bytes bytes h.1.1))) (joined (codes "call") conn (encode_upper bytes))
+reading-again (Begin conn) h =
+    line-again (codes "begin " ++ decimal conn) (Begin conn) (ap (option_map (λ n. Begin n)) (number-again (2 ^ 32) conn h.1 (omega arith)))
+reading-again (DialDone conn up) h =
+    told-again (codes "dial") conn (dial_text up) _ _ refl h.1 (λ r. refl) (dial-again conn up) (joined (codes "dial") conn (dial_text up))
+reading-again (Srq true) h = refl
+reading-again (Srq false) h = refl

@@ -1,15 +1,16 @@
 -- A line's text has no LF but its last byte.
-use Rattle.std.proofs.Common.{◌≡◌, ◌≢◌, ℕ, zero, suc, ◌<◌, ◌^◌, Bool, true, List, [], ◌∷◌, ◌++◌, length, get_or, refl, sym, ap, ◌∙◌, arith, codes, decimal, inl, inr}
+use Rattle.std.proofs.Common.{◌≡◌, ◌≢◌, ℕ, zero, suc, ◌<◌, ◌^◌, Bool, true, false, cond, List, [], ◌∷◌, ◌++◌, length, get_or, refl, sym, ap, ◌∙◌, append_assoc, arith, codes, decimal, inl, inr}
 use Rattle.std.specs.Prelude.{not, ◌==◌}
 use Rattle.std.specs.List.{All, list_all, list_any}
 use Rattle.std.specs.Str.{bytes_eq}
 use Rattle.std.proofs.lemmas.Bool.{and_parts, and_from, or_cases, ltb-true, ne_eqb, eq-eqb, not-true, both_ways, not_from_false}
 use Rattle.std.proofs.lemmas.List.Folds.{list_all-append}
-use Rattle.std.proofs.lemmas.List.Elements.{All-head, All-tail}
+use Rattle.std.proofs.lemmas.List.Elements.{All-head, All-tail, All-append}
 use Rattle.hex.specs.Hex.{encode_upper}
+use Rattle.vx_calls.specs.declared.calls.Role.TheVariants as role
 use Rattle.vx_488.specs.declared.transfers.Transfer.{Transfer}
-use Rattle.vx_trace.specs.Output.{Output, Bus, Out, Irq, IrqNone, IrqClosed, WaitLock, WaitTurn, WaitBehind, WaitHeld, WaitSlice, WaitDial, GoneDown, GoneJunk, GoneLong, Done, FaultLine, FaultLong, Usage}
-use Rattle.vx_trace.specs.Text.{transfer_text, moves_text, line_text, IsByteTransfer, IsLine, cause_words, is_cause}
+use Rattle.vx_trace.specs.Output.{Output, Bus, Out, Irq, IrqNone, IrqClosed, WaitLock, WaitTurn, WaitBehind, WaitHeld, WaitSlice, WaitDial, GoneDown, GoneJunk, GoneLong, Done, FaultLine, FaultLong, Usage, TraceHead, Up, Call, Begin, DialDone, Srq}
+use Rattle.vx_trace.specs.Text.{transfer_text, moves_text, line_text, line_text2, is_timed, IsByteTransfer, IsLine, cause_words, is_cause}
 use Rattle.vx_trace.proofs.Hexadecimal.{all-bytes, upper-plain}
 use Rattle.vx_trace.proofs.Cuts.{is_plain}
 use Rattle.vx_trace.proofs.Numbers.{decimal-plain}
@@ -107,3 +108,29 @@ one-end Done h = ended (codes "done") (record { free = refl })
 one-end (FaultLine line word) h = told (codes "fault line ") line (codes " ") word refl h.1 refl (free-cause word h.0)
 one-end FaultLong h = ended (codes "fault long") (record { free = refl })
 one-end Usage h = ended (codes "usage: vxplay COMMAND") (record { free = refl })
+one-end TraceHead h = ended (codes "vxtrace 2") (record { free = refl })
+one-end (Up conn role.Core) h = known (codes "up ") conn (codes "core") refl h.1 refl
+one-end (Up conn role.Abort) h = known (codes "up ") conn (codes "abort") refl h.1 refl
+one-end (Call conn bytes) h = let small = h.1.0 in told (codes "call ") conn (codes " ") (encode_upper bytes) refl (omega arith) refl (free-bytes bytes h.1.1)
+one-end (Begin conn) h =
+    let small = h.1 in
+    ended (codes "begin " ++ decimal conn) (free-append (codes "begin ") (decimal conn) (record { free = refl }) (free-decimal conn (omega arith)))
+one-end (DialDone conn true) h = known (codes "dial ") conn (codes "ok") refl h.1 refl
+one-end (DialDone conn false) h = known (codes "dial ") conn (codes "fail") refl h.1 refl
+one-end (Srq true) h = ended (codes "srq 1") (record { free = refl })
+one-end (Srq false) h = ended (codes "srq 0") (record { free = refl })
+
+-- a front without LF before a text with one end
+behind : (front text : List ℕ) → Free front → OneEnd text → OneEnd (front ++ text)
+behind front text h (body, e, others) = (
+  front ++ body,
+  ap (λ (t : List ℕ). front ++ t) e ∙ sym (append_assoc front body (codes "\n")),
+  All-append (λ b. b ≢ 10) front body (λ k d lt. all-other front k d h.free lt) others,
+)
+
+pub one-end2 : (moment : ℕ) (line : Output) → moment < 2 ^ 64 → IsLine line → OneEnd (line_text2 moment line)
+one-end2 moment line small h = by_version (is_timed line)
+  where
+    by_version : (timed : Bool) → OneEnd (cond timed (decimal moment ++ codes " " ++ line_text line) (line_text line))
+    by_version true = behind (decimal moment ++ codes " ") (line_text line) (free-append (decimal moment) (codes " ") (free-decimal moment small) (record { free = refl })) (one-end line h)
+    by_version false = one-end line h

@@ -7,12 +7,14 @@ use Rattle.std.proofs.lemmas.List.{take-append-drop}
 use Rattle.std.proofs.lemmas.List.Elements.{All-nil, All-cons}
 use Rattle.std.proofs.lemmas.Option.{same_Some}
 use Rattle.hex.specs.Hex.{encode_upper}
+use Rattle.vx_calls.specs.declared.calls.Role.{Role}
+use Rattle.vx_calls.specs.declared.calls.Role.TheVariants as role
 use Rattle.vx_488.specs.declared.transfers.Transfer.{Transfer}
 use Rattle.vx_488.specs.declared.transfers.Transfer.TheVariants.{Cmd, Put, Got, Ren, Atn, Ifc, Own}
-use Rattle.vx_trace.specs.Output.{Output, Bus, Out, Irq, IrqNone, IrqClosed, WaitLock, WaitTurn, WaitBehind, WaitHeld, WaitSlice, WaitDial, GoneDown, GoneJunk, GoneLong, Done, FaultLine, FaultLong, Usage}
-use Rattle.vx_trace.specs.Text.{transfer_text, moves_text, line_text, IsByteTransfer, IsLine, is_cause}
-use Rattle.vx_trace.specs.Reading.{cut, number_of, byte_of, bytes_of, of_letter, lettered, transfer_of, with_transfer, all_transfers, moves_of, irq_of, wait_for, wait_of, gone_of, by_word, fault_for, fault_of, behind_word, line_of, without_end, reading}
-use Rattle.vx_trace.proofs.Hexadecimal.{bytes-all, bytes-read, byte-read}
+use Rattle.vx_trace.specs.Output.{Output, Bus, Out, Irq, IrqNone, IrqClosed, WaitLock, WaitTurn, WaitBehind, WaitHeld, WaitSlice, WaitDial, GoneDown, GoneJunk, GoneLong, Done, FaultLine, FaultLong, Usage, TraceHead, Up, Call, Begin, DialDone, Srq}
+use Rattle.vx_trace.specs.Text.{transfer_text, moves_text, role_text, line_text, IsByteTransfer, IsLine, is_cause}
+use Rattle.vx_trace.specs.Reading.{cut, number_of, byte_of, any_bytes_of, bytes_of, of_letter, lettered, transfer_of, with_transfer, all_transfers, moves_of, irq_of, wait_for, wait_of, gone_of, role_of, dial_of, by_word, begin_of, fault_for, fault_of, behind_word, numbered_of, line_of, without_end}
+use Rattle.vx_trace.proofs.Hexadecimal.{bytes-all, any-bytes-read, bytes-read, byte-read}
 use Rattle.vx_trace.proofs.Cuts.{is_space, cut-some}
 use Rattle.vx_lemmas.specs.Conditions.{by_test, by_text}
 use Rattle.vx_trace.proofs.Choices.{by_map, by_then}
@@ -111,9 +113,9 @@ words-some text (w ∷ ws) e = omega arith
 -- ---- lines
 
 -- a line whose text this is, but for its LF
-record LineRead (text : List ℕ) (line : Output) : Type 0 where
-  is : IsLine line
-  spelled : line_text line ≡ text ++ codes "\n"
+pub record LineRead (text : List ℕ) (line : Output) : Type 0 where
+  pub is : IsLine line
+  pub spelled : line_text line ≡ text ++ codes "\n"
 
 line-is : (text : List ℕ) (made line : Output) → IsLine made → line_text made ≡ text ++ codes "\n" → Some made ≡ Some line → LineRead text line
 line-is text made line h spelled e =
@@ -141,7 +143,7 @@ out-read : (conn : ℕ) (rest : List ℕ) (line : Output) → conn < 2 ^ 32 → 
 out-read conn rest line small e =
     by_map (λ bytes. Out conn bytes) (bytes_of rest) line e (λ bytes h s.
     let read = bytes-read rest bytes h in
-    told (codes "out") conn (encode_upper bytes) rest (Out conn bytes) line (read.some, (small, bytes-all bytes read.fit)) refl read.spelled (ap (λ (l : Output). Some l) s))
+    told (codes "out") conn (encode_upper bytes) rest (Out conn bytes) line (read.1, (small, bytes-all bytes read.0.fit)) refl read.0.spelled (ap (λ (l : Output). Some l) s))
 
 irq-read : (conn : ℕ) (rest : List ℕ) (line : Output) → conn < 2 ^ 32 → irq_of conn rest ≡ Some line → LineRead (codes "irq" ++ 32 ∷ (decimal conn ++ 32 ∷ rest)) line
 irq-read conn rest line small e =
@@ -149,7 +151,7 @@ irq-read conn rest line small e =
     (λ e. by_text rest (codes "closed") (Some (IrqClosed conn)) _ line e (λ w h. told (codes "irq") conn (codes "closed") rest (IrqClosed conn) line (tt, small) refl (sym w) h)
     (λ e. by_map (λ bytes. Irq conn bytes) (bytes_of rest) line e (λ bytes h s.
     let read = bytes-read rest bytes h in
-    told (codes "irq") conn (encode_upper bytes) rest (Irq conn bytes) line (read.some, (small, bytes-all bytes read.fit)) refl read.spelled (ap (λ (l : Output). Some l) s))))
+    told (codes "irq") conn (encode_upper bytes) rest (Irq conn bytes) line (read.1, (small, bytes-all bytes read.0.fit)) refl read.0.spelled (ap (λ (l : Output). Some l) s))))
 
 gone-read : (conn : ℕ) (rest : List ℕ) (line : Output) → conn < 2 ^ 32 → gone_of conn rest ≡ Some line → LineRead (codes "gone" ++ 32 ∷ (decimal conn ++ 32 ∷ rest)) line
 gone-read conn rest line small e =
@@ -186,6 +188,29 @@ wait-read conn rest line small e =
     let parts = cut-some rest p.0 p.1 h in
     wait_for-read conn n p.0 rest line small number.0 (parts.joined ∙ ap (λ (r : List ℕ). p.0 ++ 32 ∷ r) (sym number.1)) f)))))
 
+role-read : (text : List ℕ) (r : Role) → role_of text ≡ Some r → role_text r ≡ text
+role-read text r e =
+    by_text text (codes "core") (Some role.Core) _ r e (λ w h. ap role_text (sym (same_Some role.Core r h)) ∙ sym w)
+    (λ e. by_text text (codes "abort") (Some role.Abort) None r e (λ w h. ap role_text (sym (same_Some role.Abort r h)) ∙ sym w)
+    (λ e. absurd cc))
+
+up-read : (conn : ℕ) (rest : List ℕ) (line : Output) → conn < 2 ^ 32 → option_map (λ r. Up conn r) (role_of rest) ≡ Some line → LineRead (codes "up" ++ 32 ∷ (decimal conn ++ 32 ∷ rest)) line
+up-read conn rest line small e =
+    by_map (λ r. Up conn r) (role_of rest) line e (λ r h s.
+    told (codes "up") conn (role_text r) rest (Up conn r) line (tt, small) refl (role-read rest r h) (ap (λ (l : Output). Some l) s))
+
+call-read : (conn : ℕ) (rest : List ℕ) (line : Output) → conn < 2 ^ 32 → option_map (λ bytes. Call conn bytes) (any_bytes_of rest) ≡ Some line → LineRead (codes "call" ++ 32 ∷ (decimal conn ++ 32 ∷ rest)) line
+call-read conn rest line small e =
+    by_map (λ bytes. Call conn bytes) (any_bytes_of rest) line e (λ bytes h s.
+    let read = any-bytes-read rest bytes h in
+    told (codes "call") conn (encode_upper bytes) rest (Call conn bytes) line (tt, (small, bytes-all bytes read.fit)) refl read.spelled (ap (λ (l : Output). Some l) s))
+
+dial-read : (conn : ℕ) (rest : List ℕ) (line : Output) → conn < 2 ^ 32 → dial_of conn rest ≡ Some line → LineRead (codes "dial" ++ 32 ∷ (decimal conn ++ 32 ∷ rest)) line
+dial-read conn rest line small e =
+    by_text rest (codes "ok") (Some (DialDone conn true)) _ line e (λ w h. told (codes "dial") conn (codes "ok") rest (DialDone conn true) line (tt, small) refl (sym w) h)
+    (λ e. by_text rest (codes "fail") (Some (DialDone conn false)) None line e (λ w h. told (codes "dial") conn (codes "fail") rest (DialDone conn false) line (tt, small) refl (sym w) h)
+    (λ e. absurd cc))
+
 -- the line of a word and a connection
 word-read : (word rest : List ℕ) (conn : ℕ) (line : Output) → conn < 2 ^ 32 → by_word word conn rest ≡ Some line → LineRead (word ++ 32 ∷ (decimal conn ++ 32 ∷ rest)) line
 word-read word rest conn line small e =
@@ -193,8 +218,11 @@ word-read word rest conn line small e =
     (λ e. by_text word (codes "out") _ _ line e (λ w h. of_word (codes "out") w (out-read conn rest line small h))
     (λ e. by_text word (codes "irq") _ _ line e (λ w h. of_word (codes "irq") w (irq-read conn rest line small h))
     (λ e. by_text word (codes "wait") _ _ line e (λ w h. of_word (codes "wait") w (wait-read conn rest line small h))
-    (λ e. by_text word (codes "gone") _ None line e (λ w h. of_word (codes "gone") w (gone-read conn rest line small h))
-    (λ e. absurd cc)))))
+    (λ e. by_text word (codes "gone") _ _ line e (λ w h. of_word (codes "gone") w (gone-read conn rest line small h))
+    (λ e. by_text word (codes "up") _ _ line e (λ w h. of_word (codes "up") w (up-read conn rest line small h))
+    (λ e. by_text word (codes "call") _ _ line e (λ w h. of_word (codes "call") w (call-read conn rest line small h))
+    (λ e. by_text word (codes "dial") _ None line e (λ w h. of_word (codes "dial") w (dial-read conn rest line small h))
+    (λ e. absurd cc))))))))
   where
     of_word : (known : List ℕ) → word ≡ known → LineRead (known ++ 32 ∷ (decimal conn ++ 32 ∷ rest)) line → LineRead (word ++ 32 ∷ (decimal conn ++ 32 ∷ rest)) line
     of_word known w read =
@@ -223,27 +251,41 @@ fault-read rest line e =
     line-is (codes "fault line " ++ rest) (FaultLine n p.1) line (b, number.0) (ap (λ (r : List ℕ). (codes "fault line " ++ r) ++ codes "\n") spelled) s)
     (λ b s. absurd cc)))
 
-line-read : (text : List ℕ) (line : Output) → line_of text ≡ Some line → LineRead text line
+begin-read : (rest : List ℕ) (line : Output) → begin_of rest ≡ Some line → LineRead (codes "begin " ++ rest) line
+begin-read rest line e =
+    by_map (λ conn. Begin conn) (number_of (2 ^ 32) rest) line e (λ conn h s.
+    let number = number-read (2 ^ 32) rest conn (omega arith) h in
+    line-is (codes "begin " ++ rest) (Begin conn) line (tt, number.0) (ap (λ (r : List ℕ). (codes "begin " ++ r) ++ codes "\n") number.1) (ap (λ (l : Output). Some l) s))
+
+numbered-read : (text : List ℕ) (line : Output) → numbered_of text ≡ Some line → LineRead text line
+numbered-read text line e =
+    by_text (take 11 text) (codes "fault line ") (fault_of (drop 11 text)) _ line e (λ w h. front-read 11 (codes "fault line ") w (fault-read (drop 11 text) line h))
+    (λ e. by_text (take 6 text) (codes "begin ") (begin_of (drop 6 text)) _ line e (λ w h. front-read 6 (codes "begin ") w (begin-read (drop 6 text) line h))
+    (λ e. by_then (λ p. behind_word p.0 p.1) (cut text) line e (λ p h g.
+    let P : List ℕ → Type 0 = λ x. LineRead x line in
+    let parts = cut-some text p.0 p.1 h in
+    subst P (sym parts.joined) (behind-read p.0 p.1 line g))))
+  where
+    front-read : (n : ℕ) (front : List ℕ) → take n text ≡ front → LineRead (front ++ drop n text) line → LineRead text line
+    front-read n front w read =
+        let P : List ℕ → Type 0 = λ x. LineRead x line in
+        subst P (ap (λ (f : List ℕ). f ++ drop n text) (sym w) ∙ take-append-drop n text) read
+
+pub line-read : (text : List ℕ) (line : Output) → line_of text ≡ Some line → LineRead text line
 line-read text line e =
     by_text text (codes "done") (Some Done) _ line e (λ w h. line-is text Done line (tt, tt) (ap (λ (x : List ℕ). x ++ codes "\n") (sym w)) h)
     (λ e. by_text text (codes "fault long") (Some FaultLong) _ line e (λ w h. line-is text FaultLong line (tt, tt) (ap (λ (x : List ℕ). x ++ codes "\n") (sym w)) h)
     (λ e. by_text text (codes "usage: vxplay COMMAND") (Some Usage) _ line e (λ w h. line-is text Usage line (tt, tt) (ap (λ (x : List ℕ). x ++ codes "\n") (sym w)) h)
-    (λ e. by_text (take 11 text) (codes "fault line ") (fault_of (drop 11 text)) _ line e
-    (λ w h.
-    let P : List ℕ → Type 0 = λ x. LineRead x line in
-    subst P (ap (λ (f : List ℕ). f ++ drop 11 text) (sym w) ∙ take-append-drop 11 text) (fault-read (drop 11 text) line h))
-    (λ e. by_then (λ p. behind_word p.0 p.1) (cut text) line e (λ p h g.
-    let P : List ℕ → Type 0 = λ x. LineRead x line in
-    let parts = cut-some text p.0 p.1 h in
-    subst P (sym parts.joined) (behind-read p.0 p.1 line g))))))
+    (λ e. by_text text (codes "vxtrace 2") (Some TraceHead) _ line e (λ w h. line-is text TraceHead line (tt, tt) (ap (λ (x : List ℕ). x ++ codes "\n") (sym w)) h)
+    (λ e. by_text text (codes "srq 0") (Some (Srq false)) _ line e (λ w h. line-is text (Srq false) line (tt, tt) (ap (λ (x : List ℕ). x ++ codes "\n") (sym w)) h)
+    (λ e. by_text text (codes "srq 1") (Some (Srq true)) _ line e (λ w h. line-is text (Srq true) line (tt, tt) (ap (λ (x : List ℕ). x ++ codes "\n") (sym w)) h)
+    (λ e. numbered-read text line e))))))
 
--- what is read is a line, and the text is its text
-pub reading-read : (text : List ℕ) (line : Output) → reading text ≡ Some line → IsLine line × (line_text line ≡ text)
-reading-read text line e =
-    by_then line_of (without_end text) line e (λ body h g.
-    by_text (drop (length text - 1) text) (codes "\n") (Some (take (length text - 1) text)) None body h
+-- a text without its LF
+pub end-read : (text body : List ℕ) → without_end text ≡ Some body → text ≡ body ++ codes "\n"
+end-read text body e =
+    by_text (drop (length text - 1) text) (codes "\n") (Some (take (length text - 1) text)) None body e
     (λ w s.
-    let read = line-read body line g in
     let front = same_Some (take (length text - 1) text) body s in
-    (read.is, read.spelled ∙ ap (λ (x : List ℕ). x ++ codes "\n") (sym front) ∙ ap (λ (x : List ℕ). take (length text - 1) text ++ x) (sym w) ∙ take-append-drop (length text - 1) text))
-    (λ s. absurd cc))
+    sym (take-append-drop (length text - 1) text) ∙ ap (λ (x : List ℕ). take (length text - 1) text ++ x) w ∙ ap (λ (x : List ℕ). x ++ codes "\n") front)
+    (λ s. absurd cc)

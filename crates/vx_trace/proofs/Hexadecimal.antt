@@ -13,7 +13,7 @@ use Rattle.hex.specs.declared.error.FromHexError.{FromHexError}
 use Rattle.hex.specs.declared.error.FromHexError.TheVariants.{OddLength, InvalidStringLength}
 use Rattle.hex.proofs.HexLemmas.{decode_of-encode_upper, decode_pairs-encode_with, decode_pairs-ok, IsDigits-upper_digits}
 use Rattle.vx_lemmas.specs.Hexadecimal.{length_upper}
-use Rattle.vx_trace.specs.Reading.{is_lower_digit, bytes_of, byte_of, first_of}
+use Rattle.vx_trace.specs.Reading.{is_lower_digit, any_bytes_of, bytes_of, byte_of, first_of}
 use Rattle.vx_trace.proofs.Cuts.{is_plain}
 use Rattle.vx_lemmas.specs.Conditions.{by_test}
 
@@ -75,14 +75,19 @@ upper-lower bytes h = none-lower (encode_upper bytes) (upper-digits bytes h)
 
 -- ---- bytes are read from their text
 
-pub bytes-again : (bytes : List ℕ) → 0 < length bytes → IsBytes bytes → bytes_of (encode_upper bytes) ≡ Some bytes
-bytes-again bytes some h =
-    of_text (encode_upper bytes) (omega (arith, length_upper bytes)) (none-lower (encode_upper bytes) (upper-digits bytes h))
-    ∙ ap result_ok (decode_of-encode_upper bytes h)
+pub any-bytes-again : (bytes : List ℕ) → IsBytes bytes → any_bytes_of (encode_upper bytes) ≡ Some bytes
+any-bytes-again bytes h =
+    of_text (encode_upper bytes) (none-lower (encode_upper bytes) (upper-digits bytes h)) ∙ ap result_ok (decode_of-encode_upper bytes h)
   where
-    of_text : (text : List ℕ) → 0 < length text → list_any is_lower_digit text ≡ false → bytes_of text ≡ result_ok (decode_of text)
-    of_text [] lt e = absurd (omega arith)
-    of_text (c ∷ cs) lt e = rw e refl
+    of_text : (text : List ℕ) → list_any is_lower_digit text ≡ false → any_bytes_of text ≡ result_ok (decode_of text)
+    of_text text e = rw e refl
+
+pub bytes-again : (bytes : List ℕ) → 0 < length bytes → IsBytes bytes → bytes_of (encode_upper bytes) ≡ Some bytes
+bytes-again bytes some h = of_text (encode_upper bytes) (omega (arith, length_upper bytes)) ∙ any-bytes-again bytes h
+  where
+    of_text : (text : List ℕ) → 0 < length text → bytes_of text ≡ any_bytes_of text
+    of_text [] lt = absurd (omega arith)
+    of_text (c ∷ cs) lt = refl
 
 pub byte-again : (b : ℕ) → b < 2 ^ 8 → byte_of (encode_upper (b ∷ [])) ≡ Some b
 byte-again b h =
@@ -142,10 +147,10 @@ pairs-read i (a ∷ b ∷ rest) bytes h lower =
     let low : p0.0 % 16 ≡ p2.0 = let lt = db.0 in omega arith in
     ap encode_upper (sym e) ∙ (rw (high, low, da.1, db.1, ih) refl)
 
--- what stands in bytes that are read: they are bytes, at least one, and the text is theirs
+-- what stands in bytes that are read: they are bytes, and the text is theirs
 pub record BytesRead (text bytes : List ℕ) : Type 0 where
   pub spelled : encode_upper bytes ≡ text
-  pub some : 0 < length bytes
+  pub long : length text ≡ 2 * length bytes
   pub fit : IsBytes bytes
 
 abbrev ok : {A : Type 0} → A → Result A FromHexError
@@ -155,26 +160,32 @@ ok_is : {A : Type 0} (r : Result A FromHexError) (x : A) → result_ok r ≡ Som
 ok_is {A} (Ok y) x e = ap (λ (z : A). ok z) (same_Some y x e)
 ok_is (Err d) x e = absurd cc
 
-pub bytes-read : (text bytes : List ℕ) → bytes_of text ≡ Some bytes → BytesRead text bytes
-bytes-read [] bytes e = absurd cc
-bytes-read (c ∷ cs) bytes e =
-    by_test (list_any is_lower_digit (c ∷ cs)) None (result_ok (decode_of (c ∷ cs))) bytes e
+pub any-bytes-read : (text bytes : List ℕ) → any_bytes_of text ≡ Some bytes → BytesRead text bytes
+any-bytes-read text bytes e =
+    by_test (list_any is_lower_digit text) None (result_ok (decode_of text)) bytes e
     (λ b h. absurd cc)
-    (λ lower h. whole lower (of_pairs (eqb (length (c ∷ cs) % 2) 1) (ok_is (decode_of (c ∷ cs)) bytes h)))
+    (λ lower h. whole lower (of_pairs (eqb (length text % 2) 1) (ok_is (decode_of text) bytes h)))
   where
-    of_pairs : (b : Bool) → cond b (Err OddLength) (decode_pairs 0 (c ∷ cs)) ≡ Ok bytes → decode_pairs 0 (c ∷ cs) ≡ Ok bytes
+    of_pairs : (b : Bool) → cond b (Err OddLength) (decode_pairs 0 text) ≡ Ok bytes → decode_pairs 0 text ≡ Ok bytes
     of_pairs true h = absurd cc
     of_pairs false h = h
 
-    whole : list_any is_lower_digit (c ∷ cs) ≡ false → decode_pairs 0 (c ∷ cs) ≡ Ok bytes → BytesRead (c ∷ cs) bytes
+    whole : list_any is_lower_digit text ≡ false → decode_pairs 0 text ≡ Ok bytes → BytesRead text bytes
     whole lower h =
-        let parts = decode_pairs-ok 0 (c ∷ cs) bytes h in
-        let len = parts.1 in
+        let parts = decode_pairs-ok 0 text bytes h in
         record {
-          spelled = pairs-read 0 (c ∷ cs) bytes h lower;
-          some = omega arith;
+          spelled = pairs-read 0 text bytes h lower;
+          long = parts.1;
           fit = parts.2;
         }
+
+-- where there must be one, the bytes are some
+pub bytes-read : (text bytes : List ℕ) → bytes_of text ≡ Some bytes → BytesRead text bytes × (0 < length bytes)
+bytes-read [] bytes e = absurd cc
+bytes-read (c ∷ cs) bytes e =
+    let read = any-bytes-read (c ∷ cs) bytes e in
+    let long = read.long in
+    (read, omega arith)
 
 pub byte-read : (text : List ℕ) (b : ℕ) → byte_of text ≡ Some b → (b < 2 ^ 8) × (encode_upper (b ∷ []) ≡ text)
 byte-read text b e =

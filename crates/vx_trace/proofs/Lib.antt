@@ -9,3 +9,5 @@ pub mod Found
 pub mod Answered
 pub mod Ends
 pub mod Causes
+pub mod Moments
+pub mod Versions

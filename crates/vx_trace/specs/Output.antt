@@ -1,5 +1,6 @@
 -- An output line as plain data: what a `Line` shows.
-use Rattle.std.specs.Prelude.{ℕ, List}
+use Rattle.std.specs.Prelude.{ℕ, Bool, List}
+use Rattle.vx_calls.specs.declared.calls.Role.{Role}
 use Rattle.vx_488.specs.declared.transfers.Transfer.{Transfer}
 use Rattle.vx_trace.specs.declared.lines.Line.{Line}
 use Rattle.vx_trace.specs.declared.lines.Line.TheVariants as seen
@@ -24,6 +25,12 @@ pub data Output : Type 0 where
   FaultLine : (line : ℕ) (word : List ℕ) → Output
   FaultLong : Output
   Usage : Output
+  TraceHead : Output
+  Up : (conn : ℕ) (role : Role) → Output
+  Call : (conn : ℕ) (bytes : List ℕ) → Output
+  Begin : (conn : ℕ) → Output
+  DialDone : (conn : ℕ) (up : Bool) → Output
+  Srq : (level : Bool) → Output
 
 -- the line that a `Line` shows
 abbrev pub line_shown : Line → Output
@@ -45,3 +52,9 @@ line_shown seen.Done = Done
 line_shown (seen.FaultLine line word) = FaultLine line word.now
 line_shown seen.FaultLong = FaultLong
 line_shown seen.Usage = Usage
+line_shown seen.TraceHead = TraceHead
+line_shown (seen.Up conn role) = Up conn role
+line_shown (seen.Call conn bytes) = Call conn bytes.now
+line_shown (seen.Begin conn) = Begin conn
+line_shown (seen.DialDone conn up) = DialDone conn up
+line_shown (seen.Srq level) = Srq level

@@ -5,10 +5,12 @@ use Rattle.std.specs.Result.{result_ok}
 use Rattle.std.specs.Str.{bytes_eq}
 use Rattle.std.specs.Str.Parse.{digits_value}
 use Rattle.hex.specs.Hex.{decode_of, decode_sized}
+use Rattle.vx_calls.specs.declared.calls.Role.{Role}
+use Rattle.vx_calls.specs.declared.calls.Role.TheVariants as role
 use Rattle.vx_488.specs.declared.transfers.Transfer.{Transfer}
 use Rattle.vx_488.specs.declared.transfers.Transfer.TheVariants.{Cmd, Put, Got, Ren, Atn, Ifc, Own}
-use Rattle.vx_trace.specs.Output.{Output, Bus, Out, Irq, IrqNone, IrqClosed, WaitLock, WaitTurn, WaitBehind, WaitHeld, WaitSlice, WaitDial, GoneDown, GoneJunk, GoneLong, Done, FaultLine, FaultLong, Usage}
-use Rattle.vx_trace.specs.Text.{is_cause}
+use Rattle.vx_trace.specs.Output.{Output, Bus, Out, Irq, IrqNone, IrqClosed, WaitLock, WaitTurn, WaitBehind, WaitHeld, WaitSlice, WaitDial, GoneDown, GoneJunk, GoneLong, Done, FaultLine, FaultLong, Usage, TraceHead, Up, Call, Begin, DialDone, Srq}
+use Rattle.vx_trace.specs.Text.{is_cause, is_first, is_timed}
 
 -- a text before and behind its place i
 abbrev pub cut_at : List ℕ → Option ℕ → Option (List ℕ × List ℕ)
@@ -39,11 +41,14 @@ number_of bound text =
 abbrev pub is_lower_digit : ℕ → Bool
 is_lower_digit c = nat_le 97 c && nat_le c 102
 
--- the bytes of one or more pairs of hexadecimal digits in upper case
+-- the bytes of pairs of hexadecimal digits in upper case
+abbrev pub any_bytes_of : List ℕ → Option (List ℕ)
+any_bytes_of text = if list_any is_lower_digit text then None else result_ok (decode_of text)
+
+-- the bytes of one or more pairs
 abbrev pub bytes_of : List ℕ → Option (List ℕ)
 bytes_of [] = None
-bytes_of (digit ∷ digits) =
-    if list_any is_lower_digit (digit ∷ digits) then None else result_ok (decode_of (digit ∷ digits))
+bytes_of (digit ∷ digits) = any_bytes_of (digit ∷ digits)
 
 abbrev pub first_of : Option (List ℕ) → Option ℕ
 first_of None = None
@@ -123,6 +128,16 @@ gone_of conn rest =
     else if bytes_eq rest (codes "long") then Some (GoneLong conn)
     else None
 
+-- a channel of this name
+abbrev pub role_of : List ℕ → Option Role
+role_of text = if bytes_eq text (codes "core") then Some role.Core else if bytes_eq text (codes "abort") then Some role.Abort else None
+
+abbrev pub dial_of : ℕ → List ℕ → Option Output
+dial_of conn rest =
+    if bytes_eq rest (codes "ok") then Some (DialDone conn true)
+    else if bytes_eq rest (codes "fail") then Some (DialDone conn false)
+    else None
+
 -- the line of a word and a connection, and of what stands behind them
 abbrev pub by_word : List ℕ → ℕ → List ℕ → Option Output
 by_word word conn rest =
@@ -131,6 +146,9 @@ by_word word conn rest =
     else if bytes_eq word (codes "irq") then irq_of conn rest
     else if bytes_eq word (codes "wait") then wait_of conn rest
     else if bytes_eq word (codes "gone") then gone_of conn rest
+    else if bytes_eq word (codes "up") then option_map (λ r. Up conn r) (role_of rest)
+    else if bytes_eq word (codes "call") then option_map (λ bytes. Call conn bytes) (any_bytes_of rest)
+    else if bytes_eq word (codes "dial") then dial_of conn rest
     else None
 
 -- the line of a refused step, behind its first two words
@@ -145,20 +163,69 @@ abbrev pub behind_word : List ℕ → List ℕ → Option Output
 behind_word word rest =
     option_and_then (λ p. option_and_then (λ conn. by_word word conn p.1) (number_of (2 ^ 32) p.0)) (cut rest)
 
--- the line of a text, its LF left out
+abbrev pub begin_of : List ℕ → Option Output
+begin_of number = option_map (λ conn. Begin conn) (number_of (2 ^ 32) number)
+
+-- the line of a text with a number
+abbrev pub numbered_of : List ℕ → Option Output
+numbered_of text =
+    if bytes_eq (take 11 text) (codes "fault line ") then fault_of (drop 11 text)
+    else if bytes_eq (take 6 text) (codes "begin ") then begin_of (drop 6 text)
+    else option_and_then (λ p. behind_word p.0 p.1) (cut text)
+
+-- the line of a text, its LF and its moment left out
 abbrev pub line_of : List ℕ → Option Output
 line_of text =
     if bytes_eq text (codes "done") then Some Done
     else if bytes_eq text (codes "fault long") then Some FaultLong
     else if bytes_eq text (codes "usage: vxplay COMMAND") then Some Usage
-    else if bytes_eq (take 11 text) (codes "fault line ") then fault_of (drop 11 text)
-    else option_and_then (λ p. behind_word p.0 p.1) (cut text)
+    else if bytes_eq text (codes "vxtrace 2") then Some TraceHead
+    else if bytes_eq text (codes "srq 0") then Some (Srq false)
+    else if bytes_eq text (codes "srq 1") then Some (Srq true)
+    else numbered_of text
 
 -- a text without its last byte, which is LF
 abbrev pub without_end : List ℕ → Option (List ℕ)
 without_end text =
     if bytes_eq (drop (length text - 1) text) (codes "\n") then Some (take (length text - 1) text) else None
 
--- the line that a text is
+-- the line whose own text this is
 abbrev pub reading : List ℕ → Option Output
 reading text = option_and_then line_of (without_end text)
+
+-- ---- versions
+
+abbrev pub if_first : Output → Option Output
+if_first line = if is_first line then Some line else None
+
+-- the line of version 1 of a text, its LF left out
+abbrev pub line1_of : List ℕ → Option Output
+line1_of text = option_and_then if_first (line_of text)
+
+-- the moment that a text begins with, and what stands behind it
+abbrev pub moment_of : List ℕ → Option (ℕ × List ℕ)
+moment_of text = option_and_then (λ p. option_map (λ moment. (moment, p.1)) (number_of (2 ^ 64) p.0)) (cut text)
+
+-- a line with a moment
+abbrev pub if_timed : ℕ → Output → Option (ℕ × Output)
+if_timed moment line = if is_timed line then Some (moment, line) else None
+
+-- a line without one
+abbrev pub if_untimed : Output → Option (ℕ × Output)
+if_untimed line = if is_timed line then None else Some (0, line)
+
+abbrev pub line2_with : List ℕ → Option (ℕ × List ℕ) → Option (ℕ × Output)
+line2_with text None = option_and_then if_untimed (line_of text)
+line2_with text (Some p) = option_and_then (if_timed p.0) (line_of p.1)
+
+-- the line of version 2 of a text, its LF left out, and its moment
+abbrev pub line2_of : List ℕ → Option (ℕ × Output)
+line2_of text = line2_with text (moment_of text)
+
+-- the line of version 1 that a text is
+abbrev pub reading1 : List ℕ → Option Output
+reading1 text = option_and_then line1_of (without_end text)
+
+-- the line of version 2 that a text is
+abbrev pub reading2 : List ℕ → Option (ℕ × Output)
+reading2 text = option_and_then line2_of (without_end text)

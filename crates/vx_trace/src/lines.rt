@@ -1,14 +1,15 @@
 ghost use Rattle.std.specs.Prelude.{◌≡◌, ◌↔◌, IsTrue};
 ghost use Rattle.vx_trace.specs.Output.{line_shown};
-ghost use Rattle.vx_trace.specs.Text.{IsWhole, is_cause};
+ghost use Rattle.vx_trace.specs.Text.{IsWhole, is_cause, is_first, is_timed};
 
 use vx_488::Transfer;
+use vx_calls::Role;
 
 /// The room is too small for the line.
 #[derive(Clone, Copy, Debug, PartialEq, Eq)]
 pub struct Full;
 
-/// A line of output. `conn` is the number of the connection that it is about.
+/// A line of output. `conn` is the number of the connection that it is about. The last six are lines of version 2 alone.
 #[derive(Clone, Copy, Debug, PartialEq, Eq)]
 pub enum Line<'a> {
     /// `bus C T T T`: these transfers, at least one, went over the bus.
@@ -47,11 +48,23 @@ pub enum Line<'a> {
     FaultLong,
     /// `usage: vxplay COMMAND`: the words aren't a command.
     Usage,
+    /// `vxtrace 2`: what follows has version 2.
+    TraceHead,
+    /// `up C core` or `up C abort`: the connection came up on this channel.
+    Up { conn: u32, role: Role },
+    /// `call C HEX`: a whole record came, its message without marks; it may have no byte.
+    Call { conn: u32, bytes: &'a [u8] },
+    /// `begin C`: the connection's turn on the bus began.
+    Begin { conn: u32 },
+    /// `dial C ok` or `dial C fail`: the interrupt channel came up, or not.
+    DialDone { conn: u32, up: bool },
+    /// `srq 0` or `srq 1`: the service request line had this level when it was looked at.
+    Srq { level: bool },
 }
 
 impl Line<'_> {
-    /// Whether this is one of the output lines: a bus line has a transfer, a line with bytes has one, and a fault's
-    /// word is the name of a cause.
+    /// Whether this is one of the output lines: a bus line has a transfer, a reply and an interrupt have a byte, and a
+    /// fault's word is the name of a cause.
     pub fn is_whole(&self) -> bool
         ensures { IsTrue result ↔ IsWhole (line_shown self.now) }
     {
@@ -61,6 +74,31 @@ impl Line<'_> {
             Line::FaultLine { word, .. } => is_cause(word),
             _ => true,
         }
+    }
+
+    /// Whether version 1 of the output has this line.
+    pub fn is_first(&self) -> bool
+        ensures { result ≡ is_first (line_shown self.now) }
+    {
+        !matches!(
+            self,
+            Line::TraceHead
+                | Line::Up { .. }
+                | Line::Call { .. }
+                | Line::Begin { .. }
+                | Line::DialDone { .. }
+                | Line::Srq { .. }
+        )
+    }
+
+    /// Whether a moment stands before this line in version 2: before any but the head and the last lines.
+    pub fn is_timed(&self) -> bool
+        ensures { result ≡ is_timed (line_shown self.now) }
+    {
+        !matches!(
+            self,
+            Line::TraceHead | Line::Done | Line::FaultLine { .. } | Line::FaultLong | Line::Usage
+        )
     }
 }
 

@@ -1,14 +1,15 @@
 //! Writing a line: first its length is measured, so that a room that is too small stays as it was.
-ghost use Rattle.std.specs.Prelude.{◌≡◌, ◌+◌, ◌*◌, ◌^◌, ◌<◌, ◌≤◌, ◌↔◌, IsErr, IfOk, IfNone, OnOk, OnErr, MatchOption, [], ◌∷◌, ◌++◌, length, decimal, codes};
+ghost use Rattle.std.specs.Prelude.{◌≡◌, true, ◌+◌, ◌*◌, ◌^◌, ◌<◌, ◌≤◌, ◌↔◌, IsErr, IfOk, IfNone, OnOk, OnErr, MatchOption, [], ◌∷◌, ◌++◌, length, decimal, codes};
 ghost use Rattle.std.specs.List.{All};
 ghost use Rattle.hex.specs.Hex.{encode_upper};
 ghost use Rattle.vx_trace.specs.Output.{line_shown};
-ghost use Rattle.vx_trace.specs.Text.{IsWhole, IsLine, HasRanges, IsByteTransfer, line_text, text_room, transfer_text, moves_text};
+ghost use Rattle.vx_trace.specs.Text.{IsWhole, IsLine, HasRanges, IsByteTransfer, is_first, role_text, dial_text, line_text, line_text2, text_room, text_room2, transfer_text, moves_text};
 ghost use Rattle.vx_trace.specs.Numbered.{TailFits, tail_text, tail_room, numbered_text, numbered_room, PartsFit, parts_text, parts_room};
-ghost use Rattle.vx_trace.specs.Writing.{WritesFirst, Puts, overwritten};
+ghost use Rattle.vx_trace.specs.Writing.{WritesFirst, Puts, PutsBehind, overwritten};
 
 use crate::lines::{Full, Line};
 use vx_488::Transfer;
+use vx_calls::Role;
 
 /// What stands behind a line's number.
 #[derive(Clone, Copy)]
@@ -266,6 +267,21 @@ fn put_text(out: &mut [u8], text: &[u8]) -> Result<usize, Full>
     Ok(put(out, 0, text))
 }
 
+fn role_text(role: Role) -> &'static [u8]
+    ensures { result.now ≡ role_text role }
+{
+    match role {
+        Role::Core => b"core",
+        Role::Abort => b"abort",
+    }
+}
+
+fn dial_text(up: bool) -> &'static [u8]
+    ensures { result.now ≡ dial_text up }
+{
+    if up { b"ok" } else { b"fail" }
+}
+
 fn parts_of<'a>(line: &Line<'a>) -> Parts<'a>
     ensures text { parts_text result ≡ line_text (line_shown line.now) }
     ensures fits { PartsFit result → HasRanges (line_shown line.now) }
@@ -295,6 +311,18 @@ fn parts_of<'a>(line: &Line<'a>) -> Parts<'a>
         Line::FaultLine { line, word } => Parts::Fault { line, word },
         Line::FaultLong => Parts::Text(b"fault long\n"),
         Line::Usage => Parts::Text(b"usage: vxplay COMMAND\n"),
+        Line::TraceHead => Parts::Text(b"vxtrace 2\n"),
+        Line::Up { conn, role } => Parts::About(b"up ", conn, b" ", Tail::Word(role_text(role))),
+        Line::Call { conn, bytes } => Parts::About(b"call ", conn, b" ", Tail::Hex(bytes)),
+        Line::Begin { conn } => Parts::About(b"begin ", conn, b"", Tail::Word(b"")),
+        Line::DialDone { conn, up } => Parts::About(
+            b"dial ",
+            conn,
+            b" ",
+            Tail::Word(dial_text(up)),
+        ),
+        Line::Srq { level: false } => Parts::Text(b"srq 0\n"),
+        Line::Srq { level: true } => Parts::Text(b"srq 1\n"),
     }
 }
 
@@ -321,10 +349,39 @@ fn write_line(line: &Line<'_>, out: &mut [u8]) -> Result<usize, Full>
     put_line_parts(out, &parts_of(line))
 }
 
-/// Writes a line that is whole (`Line::is_whole`), its LF included, to the front of `out`, and answers its length in
-/// bytes; what lies behind it stays as it was. `Full`, with nothing changed, exactly where the room is too small.
+/// Writes a line behind the first `at` bytes of `out`, where there is room for it.
+fn write_behind(line: &Line<'_>, out: &mut [u8], at: usize) -> Result<usize, Full>
+    requires { at ≤ length out.old }
+    ensures puts { PutsBehind at (line_text (line_shown line.now)) out.old result out.new }
+    ensures fits { OnOk result (HasRanges (line_shown line.now)) }
+    ensures room { OnErr result (IsWhole (line_shown line.now) → length out.old < at + text_room (line_shown line.now)) }
+{
+    write_line(line, &mut out[at..])
+}
+
+/// Writes a moment, a space and a line, where there is room for them: the line first, so that a room that is too small
+/// for it stays as it was.
+fn write_timed(moment: u64, line: &Line<'_>, out: &mut [u8]) -> Result<usize, Full>
+    ensures puts { Puts (decimal moment ++ codes " " ++ line_text (line_shown line.now)) out.old result out.new }
+    ensures fits { OnOk result (HasRanges (line_shown line.now)) }
+    ensures room { OnErr result (IsWhole (line_shown line.now) → length out.old < text_room2 (line_shown line.now)) }
+{
+    let front = number_len(moment) + 1;
+    if out.len() < front {
+        return Err(Full);
+    }
+    let len = write_behind(line, out, front)?;
+    let at = put_number(out, 0, moment);
+    put(out, at, b" ");
+    Ok(front + len)
+}
+
+/// Writes a line of version 1 (`Line::is_first`) that is whole (`Line::is_whole`), its LF included, to the front of
+/// `out`, and answers its length in bytes; what lies behind it stays as it was. `Full`, with nothing changed, exactly
+/// where the room is too small.
 pub fn put_line(line: &Line<'_>, out: &mut [u8]) -> Result<usize, Full>
-    requires { IsWhole (line_shown line.now) }
+    requires whole { IsWhole (line_shown line.now) }
+    requires first { is_first (line_shown line.now) ≡ true }
     ensures ok { IfOk result (λ n. WritesFirst (line_text (line_shown line.now)) out.old n out.new) }
     ensures full { IsErr result ↔ (length out.old < length (line_text (line_shown line.now))) }
     ensures err { OnErr result (out.new ≡ out.old) }
@@ -336,4 +393,25 @@ pub fn put_line(line: &Line<'_>, out: &mut [u8]) -> Result<usize, Full>
     ensures room { OnErr result (length out.old < text_room (line_shown line.now)) }
 {
     write_line(line, out)
+}
+
+/// Writes a line that is whole, as version 2 has it: its moment in milliseconds and a space stand before it, where it
+/// has a moment (`Line::is_timed`). Else as `put_line`.
+pub fn put_line2(moment: u64, line: &Line<'_>, out: &mut [u8]) -> Result<usize, Full>
+    requires { IsWhole (line_shown line.now) }
+    ensures ok { IfOk result (λ n. WritesFirst (line_text2 moment (line_shown line.now)) out.old n out.new) }
+    ensures full { IsErr result ↔ (length out.old < length (line_text2 moment (line_shown line.now))) }
+    ensures err { OnErr result (out.new ≡ out.old) }
+
+    // So the text is one that `read_line2` reads.
+    ensures is { OnOk result (IsLine (line_shown line.now)) }
+
+    // So room for the longest text of such a line is enough, whatever its numbers and its moment.
+    ensures room { OnErr result (length out.old < text_room2 (line_shown line.now)) }
+{
+    if line.is_timed() {
+        write_timed(moment, line, out)
+    } else {
+        write_line(line, out)
+    }
 }

@@ -1,13 +1,14 @@
 //! Reading a line back from its text.
-ghost use Rattle.std.specs.Prelude.{◌≡◌, ◌≢◌, ◌<◌, ◌≤◌, length, IfNone, IfSome, option_map};
+ghost use Rattle.std.specs.Prelude.{◌≡◌, ◌≢◌, ℕ, ◌^◌, ◌<◌, ◌≤◌, true, false, length, IfNone, IfSome, option_map};
 ghost use Rattle.vx_trace.specs.Output.{Output, line_shown};
-ghost use Rattle.vx_trace.specs.Text.{IsLine, line_text};
-ghost use Rattle.vx_trace.specs.Reading.{irq_of, wait_for, wait_of, gone_of, by_word, fault_of, behind_word, line_of};
+ghost use Rattle.vx_trace.specs.Text.{IsLine, is_first, is_timed, line_text, line_text2};
+ghost use Rattle.vx_trace.specs.Reading.{irq_of, wait_for, wait_of, gone_of, role_of, dial_of, by_word, begin_of, fault_of, behind_word, numbered_of, line_of, if_first, line1_of, moment_of, if_timed, if_untimed, line2_of};
 
 use crate::lines::{Line, is_cause};
 use crate::transfers::moves_of;
-use crate::values::{bytes_of, cut, number_of, word_of};
+use crate::values::{any_bytes_of, bytes_of, cut, number_of, word_of};
 use vx_488::Transfer;
+use vx_calls::Role;
 
 fn irq_of<'a>(conn: u32, rest: &[u8], room: &'a mut [u8]) -> Option<Line<'a>>
     requires { length rest.now ≤ length room.old }
@@ -67,6 +68,30 @@ fn gone_of(conn: u32, rest: &[u8]) -> Option<Line<'static>>
     }
 }
 
+fn role_of(text: &[u8]) -> Option<Role>
+    ensures { result ≡ role_of text.now }
+{
+    if text == b"core".as_slice() {
+        Some(Role::Core)
+    } else if text == b"abort".as_slice() {
+        Some(Role::Abort)
+    } else {
+        None
+    }
+}
+
+fn dial_of(conn: u32, rest: &[u8]) -> Option<Line<'static>>
+    ensures { option_map line_shown result ≡ dial_of conn rest.now }
+{
+    if rest == b"ok".as_slice() {
+        Some(Line::DialDone { conn, up: true })
+    } else if rest == b"fail".as_slice() {
+        Some(Line::DialDone { conn, up: false })
+    } else {
+        None
+    }
+}
+
 /// The line of a word and a connection, and of what stands behind them.
 fn by_word<'a>(
     word: &[u8],
@@ -91,6 +116,14 @@ fn by_word<'a>(
         wait_of(conn, rest)
     } else if word == b"gone".as_slice() {
         gone_of(conn, rest)
+    } else if word == b"up".as_slice() {
+        let role = role_of(rest)?;
+        Some(Line::Up { conn, role })
+    } else if word == b"call".as_slice() {
+        let bytes = any_bytes_of(rest, bytes)?;
+        Some(Line::Call { conn, bytes })
+    } else if word == b"dial".as_slice() {
+        dial_of(conn, rest)
     } else {
         None
     }
@@ -111,6 +144,13 @@ fn behind_word<'a>(
     by_word(word, word_of(number)?, rest, moves, bytes)
 }
 
+fn begin_of(number: &[u8]) -> Option<Line<'static>>
+    ensures { option_map line_shown result ≡ begin_of number.now }
+{
+    let conn = word_of(number)?;
+    Some(Line::Begin { conn })
+}
+
 /// The line of a refused step, behind its first two words.
 fn fault_of<'a>(rest: &[u8], room: &'a mut [u8]) -> Option<Line<'a>>
     requires { length rest.now ≤ length room.old }
@@ -126,7 +166,25 @@ fn fault_of<'a>(rest: &[u8], room: &'a mut [u8]) -> Option<Line<'a>>
     Some(Line::FaultLine { line, word })
 }
 
-/// The line of a text, its LF left out.
+/// The line of a text with a number.
+fn numbered_of<'a>(text: &[u8], moves: &'a mut [Transfer], bytes: &'a mut [u8]) -> Option<Line<'a>>
+    requires moves { length text.now ≤ length moves.old }
+    requires bytes { length text.now ≤ length bytes.old }
+    ensures { option_map line_shown result ≡ numbered_of text.now }
+{
+    if let Some(rest) = text.strip_prefix(b"fault line ".as_slice()) {
+        return fault_of(rest, bytes);
+    }
+    match text.strip_prefix(b"begin ".as_slice()) {
+        Some(number) => begin_of(number),
+        None => {
+            let (word, rest) = cut(text)?;
+            behind_word(word, rest, moves, bytes)
+        }
+    }
+}
+
+/// The line of a text, its LF and its moment left out.
 fn line_of<'a>(text: &[u8], moves: &'a mut [Transfer], bytes: &'a mut [u8]) -> Option<Line<'a>>
     requires moves { length text.now ≤ length moves.old }
     requires bytes { length text.now ≤ length bytes.old }
@@ -141,16 +199,83 @@ fn line_of<'a>(text: &[u8], moves: &'a mut [Transfer], bytes: &'a mut [u8]) -> O
     if text == b"usage: vxplay COMMAND".as_slice() {
         return Some(Line::Usage);
     }
-    match text.strip_prefix(b"fault line ".as_slice()) {
-        Some(rest) => fault_of(rest, bytes),
-        None => {
-            let (word, rest) = cut(text)?;
-            behind_word(word, rest, moves, bytes)
-        }
+    if text == b"vxtrace 2".as_slice() {
+        return Some(Line::TraceHead);
+    }
+    if text == b"srq 0".as_slice() {
+        return Some(Line::Srq { level: false });
+    }
+    if text == b"srq 1".as_slice() {
+        return Some(Line::Srq { level: true });
+    }
+    numbered_of(text, moves, bytes)
+}
+
+/// The line, where version 1 has it.
+fn if_first(line: Line<'_>) -> Option<Line<'_>>
+    ensures { option_map line_shown result ≡ if_first (line_shown line.entry) }
+{
+    if line.is_first() { Some(line) } else { None }
+}
+
+/// The line of version 1 of a text, its LF left out.
+fn line1_of<'a>(text: &[u8], moves: &'a mut [Transfer], bytes: &'a mut [u8]) -> Option<Line<'a>>
+    requires moves { length text.now ≤ length moves.old }
+    requires bytes { length text.now ≤ length bytes.old }
+    ensures { option_map line_shown result ≡ line1_of text.now }
+{
+    if_first(line_of(text, moves, bytes)?)
+}
+
+/// The moment that a text begins with, and what stands behind it.
+fn moment_of(text: &[u8]) -> Option<(u64, &[u8])>
+    ensures { option_map (λ p. (p.0, p.1.now)) result ≡ moment_of text.now }
+{
+    let (number, rest) = cut(text)?;
+    let moment = number_of(number)?;
+    Some((moment, rest))
+}
+
+/// A line behind its moment, where it has one.
+fn if_timed(moment: u64, line: Line<'_>) -> Option<(u64, Line<'_>)>
+    ensures { option_map (λ p. (p.0, line_shown p.1)) result ≡ if_timed moment (line_shown line.entry) }
+{
+    if line.is_timed() {
+        Some((moment, line))
+    } else {
+        None
     }
 }
 
-/// Reads a line from its text, which ends with LF. None exactly where no line has this text: each line has one text.
+/// A line without a moment in front, where it has none.
+fn if_untimed(line: Line<'_>) -> Option<(u64, Line<'_>)>
+    ensures { option_map (λ p. (p.0, line_shown p.1)) result ≡ if_untimed (line_shown line.entry) }
+{
+    if line.is_timed() {
+        None
+    } else {
+        Some((0, line))
+    }
+}
+
+/// The line of version 2 of a text, its LF left out, and its moment. No line's own text begins with a number.
+fn line2_of<'a>(
+    text: &[u8],
+    moves: &'a mut [Transfer],
+    bytes: &'a mut [u8],
+) -> Option<(u64, Line<'a>)>
+    requires moves { length text.now ≤ length moves.old }
+    requires bytes { length text.now ≤ length bytes.old }
+    ensures { option_map (λ p. (p.0, line_shown p.1)) result ≡ line2_of text.now }
+{
+    match moment_of(text) {
+        Some((moment, rest)) => if_timed(moment, line_of(rest, moves, bytes)?),
+        None => if_untimed(line_of(text, moves, bytes)?),
+    }
+}
+
+/// Reads a line of version 1 from its text, which ends with LF. None exactly where no line of version 1 has this text:
+/// each line has one text.
 /// `moves` and `bytes`, as long as the text, are room for the line's transfers and bytes.
 pub fn read_line<'a>(
     text: &[u8],
@@ -159,8 +284,24 @@ pub fn read_line<'a>(
 ) -> Option<Line<'a>>
     requires moves { length moves.old ≡ length text.now }
     requires bytes { length bytes.old ≡ length text.now }
-    ensures some { IfSome result (λ line. IsLine (line_shown line) × (line_text (line_shown line) ≡ text.now)) }
-    ensures none { IfNone result ((line : Output) → IsLine line → line_text line ≢ text.now) }
+    ensures some { IfSome result (λ line. IsLine (line_shown line) × (is_first (line_shown line) ≡ true) × (line_text (line_shown line) ≡ text.now)) }
+    ensures none { IfNone result ((line : Output) → IsLine line → is_first line ≡ true → line_text line ≢ text.now) }
 {
-    line_of(text.strip_suffix(b"\n".as_slice())?, moves, bytes)
+    line1_of(text.strip_suffix(b"\n".as_slice())?, moves, bytes)
+}
+
+/// Reads a line of version 2 and its moment in milliseconds from its text, which ends with LF; the moment is 0 where the
+/// line has none. None exactly where no line of version 2 has this text at any moment. `moves` and `bytes` as for
+/// `read_line`.
+pub fn read_line2<'a>(
+    text: &[u8],
+    moves: &'a mut [Transfer],
+    bytes: &'a mut [u8],
+) -> Option<(u64, Line<'a>)>
+    requires moves { length moves.old ≡ length text.now }
+    requires bytes { length bytes.old ≡ length text.now }
+    ensures some { IfSome result (λ p. IsLine (line_shown p.1) × (line_text2 p.0 (line_shown p.1) ≡ text.now) × (is_timed (line_shown p.1) ≡ false → p.0 ≡ 0)) }
+    ensures none { IfNone result ((moment : ℕ) (line : Output) → moment < 2 ^ 64 → IsLine line → line_text2 moment line ≢ text.now) }
+{
+    line2_of(text.strip_suffix(b"\n".as_slice())?, moves, bytes)
 }

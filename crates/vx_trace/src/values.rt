@@ -1,7 +1,7 @@
 //! Words, numbers and bytes as a line writes them.
 ghost use Rattle.std.specs.Prelude.{◌≡◌, ◌^◌, ◌≤◌, ◌==◌, length, position, option_copied, option_map};
 ghost use Rattle.std.specs.List.{list_all, list_any};
-ghost use Rattle.vx_trace.specs.Reading.{cut, is_digit, is_decimal, number_of, is_lower_digit, bytes_of, byte_of};
+ghost use Rattle.vx_trace.specs.Reading.{cut, is_digit, is_decimal, number_of, is_lower_digit, any_bytes_of, bytes_of, byte_of};
 
 /// What stands before and behind the first space.
 pub fn cut(text: &[u8]) -> Option<(&[u8], &[u8])>
@@ -71,7 +71,18 @@ pub fn bytes_of<'a>(text: &[u8], room: &'a mut [u8]) -> Option<&'a [u8]>
     requires { length text.now ≤ length room.old }
     ensures { option_copied result ≡ bytes_of text.now }
 {
-    if text.is_empty() || has_lower_digit(text) {
+    if text.is_empty() {
+        return None;
+    }
+    any_bytes_of(text, room)
+}
+
+/// The same, where there may be no pair.
+pub fn any_bytes_of<'a>(text: &[u8], room: &'a mut [u8]) -> Option<&'a [u8]>
+    requires { length text.now ≤ length room.old }
+    ensures { option_copied result ≡ any_bytes_of text.now }
+{
+    if has_lower_digit(text) {
         return None;
     }
     let out = &mut room[..text.len() / 2];
