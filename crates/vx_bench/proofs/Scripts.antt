@@ -1,27 +1,28 @@
 -- The steps of a script, line by line.
-use Rattle.std.proofs.Common.{◌≡◌, ℕ, ◌+◌, List, [], ◌∷◌, ◌++◌, Option, Some, Ok, refl, sym, ap, subst, ◌∙◌}
+use Rattle.std.proofs.Common.{◌≡◌, ℕ, ◌+◌, List, [], ◌∷◌, ◌++◌, Option, Some, Ok, refl, sym, ap, subst, ◌∙◌, append_assoc}
 use Rattle.vx_script.specs.declared.Step.{Step as LineStep}
-use Rattle.vx_script.specs.Command.{step_shown}
-use Rattle.vx_script.specs.Grammar.{Reading, Skipped, Does, Outside, reading}
+use Rattle.vx_script.specs.declared.Version.{Version}
+use Rattle.vx_script.specs.Command.{Command, step_shown}
+use Rattle.vx_script.specs.Grammar.{Reading, Skipped, Does, Outside}
 use Rattle.vx_script.specs.Reads.{Reads}
 use Rattle.vx_text.specs.TextLines.{lines}
-use Rattle.vx_bench.specs.Script.{Step, Script, script, script_by, script_from, behind_steps}
+use Rattle.vx_bench.specs.Script.{Step, Script, commands, script_by, script_from, behind_steps}
 
--- a script with a step in front
-abbrev pub onto : Step → Script → Script
-onto step rest = record { steps = step ∷ rest.steps; bad = rest.bad }
+-- a script with steps in front of the rest's
+abbrev pub onto : List Step → Script → Script
+onto steps rest = record { steps = steps ++ rest.steps; bad = rest.bad }
 
--- a step more in front of the rest
-pub behind-more : (steps : List Step) (step : Step) (rest : Script) → behind_steps steps (onto step rest) ≡ behind_steps (steps ++ step ∷ []) rest
-behind-more [] step rest = refl
-behind-more (s ∷ steps) step rest = ap (onto s) (behind-more steps step rest)
+-- steps more in front of the rest
+pub behind-more : (steps more : List Step) (rest : Script) → behind_steps steps (onto more rest) ≡ behind_steps (steps ++ more) rest
+behind-more steps more rest = ap (λ (all : List Step). let s : Script = record { steps = all; bad = rest.bad } in s) (sym (append_assoc steps more rest.steps))
 
 -- what stands in front of the next line is its steps, and the next line
-pub next-line : (t rest line behind : List ℕ) (count : ℕ) (steps : List Step) (said : Reading) → script t ≡ behind_steps steps (script_from (count + 1) (lines rest))
-    → lines rest ≡ line ∷ lines behind → reading line ≡ said → script t ≡ behind_steps steps (script_by (count + 1) said (script_from (count + 1 + 1) (lines behind)))
-next-line t rest line behind count steps said front cut says =
-    front ∙ ap (λ ls. behind_steps steps (script_from (count + 1) ls)) cut
-    ∙ ap (λ r. behind_steps steps (script_by (count + 1) r (script_from (count + 1 + 1) (lines behind)))) says
+pub next-line : (version : Version) (all : Script) (rest line behind : List ℕ) (count : ℕ) (steps : List Step) (found : Option (List Command))
+    → all ≡ behind_steps steps (script_from version (count + 1) (lines rest)) → lines rest ≡ line ∷ lines behind → commands version line ≡ found
+    → all ≡ behind_steps steps (script_by (count + 1) found (script_from version (count + 1 + 1) (lines behind)))
+next-line version all rest line behind count steps found front cut says =
+    front ∙ ap (λ ls. behind_steps steps (script_from version (count + 1) ls)) cut
+    ∙ ap (λ r. behind_steps steps (script_by (count + 1) r (script_from version (count + 1 + 1) (lines behind)))) says
 
 -- a line of which a step was read says that step's command
 says : (said : Reading) (step : LineStep) → Reads said (Ok (Some step)) → said ≡ Does (step_shown step)

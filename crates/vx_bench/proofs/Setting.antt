@@ -2,13 +2,14 @@
 use Rattle.std.proofs.Common.{◌≡◌, ℕ, ◌+◌, List, [], ◌∷◌, ◌++◌, None, refl, ap, sym, subst, ◌∙◌, inl, inr, ◌⊎◌, append-nil, Option, Some, Result, Ok, Err}
 use Rattle.vx_script.specs.declared.Cause.{Cause}
 use Rattle.vx_script.specs.declared.Step.{Step as LineStep}
+use Rattle.vx_script.specs.declared.Version.TheVariants.{One}
 use Rattle.vx_script.specs.Command.{step_shown}
 use Rattle.vx_script.specs.Grammar.{Reading, Skipped, Does, Outside, reading}
 use Rattle.vx_script.specs.Reads.{Reads}
 use Rattle.vx_bench.specs.declared.stops.Stop.{Stop}
 use Rattle.vx_bench.specs.declared.stops.Stop.TheVariants as stop
 use Rattle.vx_text.specs.TextLines.{lines}
-use Rattle.vx_bench.specs.Script.{Step, script, script_from, behind_steps}
+use Rattle.vx_bench.specs.Script.{Step, commands_read, plain_script, script_from, behind_steps}
 use Rattle.vx_bench.specs.SettingUp.{BenchState, Takes, SetsUp, IsSetUp, IsStopped, IsRefused, IsOutside, LacksMemory}
 use Rattle.vx_bench.specs.LineSet.{TakesOrStops, IsSkipped, IsTaken, IsBad, IsTurnedDown, EndsLine, UnderWay}
 use Rattle.vx_bench.proofs.Scripts.{behind-more, next-line, doing}
@@ -36,15 +37,15 @@ pub goes-on : (text : List ℕ) (before : BenchState) (rest line behind : List �
     → lines rest ≡ line ∷ lines behind → IsSkipped (reading line) now next ⊎ IsTaken (reading line) now next → UnderWay text before behind (count + 1) next
 goes-on text before rest line behind count now next u cut (inl k) = record {
   steps = u.steps;
-  is_front = next-line text rest line behind count u.steps Skipped u.is_front cut k.skipped;
+  is_front = next-line One (plain_script text) rest line behind count u.steps (Some []) u.is_front cut (ap commands_read k.skipped);
   set_up = subst (SetsUp before u.steps) (sym k.same) u.set_up;
 }
 goes-on text before rest line behind count now next u cut (inr k) =
     let step : Step = record { line = count + 1; command = k.command } in
     record {
       steps = u.steps ++ step ∷ [];
-      is_front = next-line text rest line behind count u.steps (Does k.command) u.is_front cut k.said_is
-          ∙ behind-more u.steps step (script_from (count + 1 + 1) (lines behind));
+      is_front = next-line One (plain_script text) rest line behind count u.steps (Some (k.command ∷ [])) u.is_front cut (ap commands_read k.said_is)
+          ∙ behind-more u.steps (step ∷ []) (script_from One (count + 1 + 1) (lines behind));
       set_up = sets-more before now next u.steps step u.set_up k.takes;
     }
 
@@ -52,9 +53,9 @@ goes-on text before rest line behind count now next u cut (inr k) =
 pub whole : (text : List ℕ) (before : BenchState) (rest : List ℕ) (count : ℕ) (now : BenchState) → UnderWay text before rest count now → rest ≡ []
     → IsSetUp text before now
 whole text before rest count now u at_end =
-    let all : script text ≡ behind_steps u.steps (record { steps = []; bad = None }) =
-    u.is_front ∙ ap (λ xs. behind_steps u.steps (script_from (count + 1) (lines xs))) at_end in
-    let steps : (script text).steps ≡ u.steps = ap (λ s. s.steps) all ∙ append-nil u.steps in
+    let all : plain_script text ≡ behind_steps u.steps (record { steps = []; bad = None }) =
+    u.is_front ∙ ap (λ xs. behind_steps u.steps (script_from One (count + 1) (lines xs))) at_end in
+    let steps : (plain_script text).steps ≡ u.steps = ap (λ s. s.steps) all ∙ append-nil u.steps in
     record {
       none_bad = ap (λ s. s.bad) all;
       set_up = subst (λ (ss : List Step). SetsUp before ss now) (sym steps) u.set_up;
@@ -70,13 +71,13 @@ stopped text before rest line behind count now after why u cut how =
     by : IsBad (reading line) now after why ⊎ IsTurnedDown (reading line) now after why
         → IsRefused text u.steps now after (count + 1) why ⊎ IsOutside text u.steps now after (count + 1) why
     by (inl k) =
-        let all = next-line text rest line behind count u.steps Outside u.is_front cut k.outside in
+        let all = next-line One (plain_script text) rest line behind count u.steps None u.is_front cut (ap commands_read k.outside) in
         inr (record { all = ap (λ s. s.steps) all ∙ append-nil u.steps; bad = ap (λ s. s.bad) all; form = k.form; same = k.same })
     by (inr k) =
-        let all = next-line text rest line behind count u.steps (Does k.command) u.is_front cut k.said_is in
+        let all = next-line One (plain_script text) rest line behind count u.steps (Some (k.command ∷ [])) u.is_front cut (ap commands_read k.said_is) in
         inl (record {
           step = record { line = count + 1; command = k.command };
-          later = (script_from (count + 1 + 1) (lines behind)).steps;
+          later = (script_from One (count + 1 + 1) (lines behind)).steps;
           next = ap (λ s. s.steps) all;
           line_is = refl;
           refused = k.refused;
@@ -89,11 +90,11 @@ pub lacking : (text : List ℕ) (before : BenchState) (rest : List ℕ) (count :
     → after ≡ now → LacksMemory text before after
 lacking text before rest count now after u same = record {
   steps = u.steps;
-  later = (script_from (count + 1) (lines rest)).steps;
+  later = (script_from One (count + 1) (lines rest)).steps;
   front = ap (λ s. s.steps) u.is_front;
   set_up = subst (SetsUp before u.steps) (sym same) u.set_up;
 }
 
 -- or before any line
 pub lacking-all : (text : List ℕ) (before : BenchState) → LacksMemory text before before
-lacking-all text before = record { steps = []; later = (script text).steps; front = refl; set_up = refl }
+lacking-all text before = record { steps = []; later = (plain_script text).steps; front = refl; set_up = refl }

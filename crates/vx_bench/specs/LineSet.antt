@@ -2,12 +2,13 @@
 use Rattle.std.specs.Prelude.{◌≡◌, ℕ, ◌+◌, List, Some, Result, Ok, Err, ◌⊎◌}
 use Rattle.vx_script.specs.declared.Cause.{Cause}
 use Rattle.vx_script.specs.declared.Cause.TheVariants as cause
+use Rattle.vx_script.specs.declared.Version.TheVariants.{One}
 use Rattle.vx_script.specs.Command.{Command}
 use Rattle.vx_script.specs.Grammar.{Reading, Skipped, Does, Outside}
 use Rattle.vx_text.specs.TextLines.{lines}
 use Rattle.vx_bench.specs.declared.stops.Stop.{Stop}
 use Rattle.vx_bench.specs.declared.stops.Stop.TheVariants as stop
-use Rattle.vx_bench.specs.Script.{Step, script, script_from, behind_steps}
+use Rattle.vx_bench.specs.Script.{Step, plain_script, script_from, behind_steps}
 use Rattle.vx_bench.specs.SettingUp.{BenchState, refusal, Takes, SetsUp, MayLose}
 
 -- what came of a command: it was taken; or it is refused and the bus is as it was; or memory ran out, and nothing changed
@@ -50,5 +51,5 @@ EndsLine said old new (Err stop.NoMemory) = new ≡ old
 -- a bench under way: the steps of so many lines are taken, and this text is what is left
 pub record UnderWay (text : List ℕ) (before : BenchState) (rest : List ℕ) (count : ℕ) (now : BenchState) : Type 0 where
   pub steps : List Step
-  pub is_front : script text ≡ behind_steps steps (script_from (count + 1) (lines rest))
+  pub is_front : plain_script text ≡ behind_steps steps (script_from One (count + 1) (lines rest))
   pub set_up : SetsUp before steps now

@@ -6,7 +6,7 @@ use Rattle.vx_script.specs.Command.{Command, Inst, Plug}
 use Rattle.vx_sim.specs.SimState.{SimState}
 use Rattle.vx_bench.specs.declared.bench.BenchStop.{BenchStop}
 use Rattle.vx_bench.specs.declared.bench.BenchStop.TheVariants as stop
-use Rattle.vx_bench.specs.Script.{Step, script}
+use Rattle.vx_bench.specs.Script.{Step, plain_script}
 use Rattle.vx_bench.specs.Rack.{SpareShown, spare_at, without_spare}
 use Rattle.vx_bench.specs.Refusing.{address, rules_in, table_refused, spare_refused}
 use Rattle.vx_bench.specs.Attaches.{AttachesTable, AttachesSpare}
@@ -41,8 +41,8 @@ SetsUp before (step ∷ steps) after = (next : BenchState) × Takes before step.
 
 -- no line is outside the grammar, and each step is taken
 pub record IsSetUp (text : List ℕ) (before after : BenchState) : Type 0 where
-  pub none_bad : (script text).bad ≡ None
-  pub set_up : SetsUp before (script text).steps after
+  pub none_bad : (plain_script text).bad ≡ None
+  pub set_up : SetsUp before (plain_script text).steps after
 
 -- where a command is refused the spare that it names may be gone from the rack, and no other
 abbrev pub MayLose : Command → List SpareShown → List SpareShown → Type 0
@@ -53,7 +53,7 @@ MayLose _ old new = new ≡ old
 pub record IsRefused (text : List ℕ) (steps : List Step) (end after : BenchState) (line : ℕ) (why : Cause) : Type 0 where
   pub step : Step
   pub later : List Step
-  pub next : (script text).steps ≡ steps ++ step ∷ later
+  pub next : (plain_script text).steps ≡ steps ++ step ∷ later
   pub line_is : line ≡ step.line
   pub refused : refusal end step.command ≡ Some why
   pub bus_is : after.bus ≡ end.bus
@@ -61,8 +61,8 @@ pub record IsRefused (text : List ℕ) (steps : List Step) (end after : BenchSta
 
 -- there are no more steps, and the line behind them is outside the grammar
 pub record IsOutside (text : List ℕ) (steps : List Step) (end after : BenchState) (line : ℕ) (why : Cause) : Type 0 where
-  pub all : (script text).steps ≡ steps
-  pub bad : (script text).bad ≡ Some line
+  pub all : (plain_script text).steps ≡ steps
+  pub bad : (plain_script text).bad ≡ Some line
   pub form : why ≡ cause.Form
   pub same : after ≡ end
 
@@ -77,7 +77,7 @@ pub record IsStopped (text : List ℕ) (before after : BenchState) (line : ℕ) 
 pub record LacksMemory (text : List ℕ) (before after : BenchState) : Type 0 where
   pub steps : List Step
   pub later : List Step
-  pub front : (script text).steps ≡ steps ++ later
+  pub front : (plain_script text).steps ≡ steps ++ later
   pub set_up : SetsUp before steps after
 
 -- how a bench is set up: each line, or those in front of the first that is refused, or that memory ran out at

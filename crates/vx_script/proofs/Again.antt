@@ -1,5 +1,5 @@
 -- A command that a line writes, by the table, is read of it.
-use Rattle.std.proofs.Common.{◌≡◌, ℕ, ◌+◌, ◌-◌, ◌^◌, ◌<◌, ◌≤◌, Bool, true, false, List, [], ◌∷◌, ◌++◌, Option, Some, None, refl, ap, ◌∙◌, arith, codes, decimal, cond}
+use Rattle.std.proofs.Common.{◌≡◌, ℕ, ◌-◌, ◌^◌, Bool, true, false, List, ◌∷◌, ◌++◌, Option, Some, None, refl, ap, ◌∙◌, arith, codes, decimal, cond}
 use Rattle.std.specs.Prelude.{option_map, option_and_then}
 use Rattle.vx_calls.specs.declared.calls.Role.{Role}
 use Rattle.vx_calls.specs.declared.calls.Role.TheVariants as role
@@ -7,8 +7,8 @@ use Rattle.vx_calls.specs.declared.limits.TheConstants.{CONNECTION_LAST}
 use Rattle.vx_script.specs.Command.{Command, Up, In, Down, At, Poll, Sample, Take, Dial, Inst, Plug, Pull, Set, Fail}
 use Rattle.vx_script.specs.Grammar.{role_of, dialed_of, at_connection, behind_connection, of_connection, at_address, behind_address, of_address, behind_word, command_of, is_skipped}
 use Rattle.vx_script.specs.Plain.{IsConnection, IsAddress}
-use Rattle.vx_script.specs.Table.{spaced, role_word, dial_word, address_word, Writes}
-use Rattle.vx_script.specs.Words.{cut, connection_of, address_of, address_at, bytes_of, byte_of, is_name}
+use Rattle.vx_script.specs.Table.{role_word, dial_word, address_word, Writes}
+use Rattle.vx_script.specs.Words.{cut, connection_of, address_of, address_at}
 use Rattle.vx_script.proofs.Cuts.{lacks, cut-again, cut-whole}
 use Rattle.vx_script.proofs.Numbers.{positive-again, number-again, decimal-lacks}
 use Rattle.vx_script.proofs.Parts.{address-again, address-lacks, bytes-again, byte-again, name-again}

@@ -1,6 +1,6 @@
 -- Cutting a text at the first byte of a kind.
 use Rattle.std.proofs.Common.{◌≡◌, ℕ, ◌+◌, Bool, true, false, ltb, List, [], ◌∷◌, ◌++◌, length, get_or, take, drop, Option, Some, None, refl, sym, ap, ◌∙◌, append_assoc, arith}
-use Rattle.std.specs.Prelude.{not, ◌==◌, ◌&&◌}
+use Rattle.std.specs.Prelude.{not, ◌==◌}
 use Rattle.std.specs.List.{list_all, position, position_or_len}
 use Rattle.std.proofs.lemmas.Bool.{and_parts, and_from, lt-ltb, eqb-true, not-true, not_from_false}
 use Rattle.std.proofs.lemmas.List.{take_at, drop_at, take-append-drop, drop_more, length-append}

@@ -5,3 +5,4 @@ pub mod Parts
 pub mod Found
 pub mod Again
 pub mod Tabled
+pub mod Moments

@@ -1,7 +1,7 @@
 -- What is read of a line is what the table says of it.
-use Rattle.std.proofs.Common.{◌≡◌, ℕ, ◌<◌, ◌≤◌, Bool, true, false, ltb, List, [], ◌∷◌, length, Option, Some, None, refl, sym, ap, ◌∙◌, subst, arith, cond, inl, inr}
-use Rattle.std.specs.Prelude.{◌↔◌, ◌==◌, ◌⊎◌}
-use Rattle.std.proofs.lemmas.Bool.{cond-true, cond-false, eqb-true, false≢true, ltb-true, ltb-false, lt-ltb, le-ltb}
+use Rattle.std.proofs.Common.{◌≡◌, ℕ, Bool, true, false, ltb, List, [], ◌∷◌, length, Option, Some, None, refl, sym, ap, ◌∙◌, subst, cond, inl, inr}
+use Rattle.std.specs.Prelude.{◌↔◌}
+use Rattle.std.proofs.lemmas.Bool.{cond-false, eqb-true, false≢true, ltb-true, ltb-false, lt-ltb, le-ltb}
 use Rattle.std.proofs.lemmas.Option.{none-some, same_Some}
 use Rattle.vx_script.specs.declared.TheConstants.{LINE_MAX}
 use Rattle.vx_script.specs.Command.{Command}
@@ -12,11 +12,11 @@ use Rattle.vx_script.proofs.Again.{command_in, command-again, unskipped}
 
 -- ---- lines to skip
 
-remark-read : (line : List ℕ) → is_skipped line ≡ true → IsRemark line
+pub remark-read : (line : List ℕ) → is_skipped line ≡ true → IsRemark line
 remark-read [] h = inl refl
 remark-read (b ∷ bs) h = inr (bs, ap (λ (x : ℕ). x ∷ bs) (eqb-true b 35 h))
 
-remark-again : (line : List ℕ) → IsRemark line → is_skipped line ≡ true
+pub remark-again : (line : List ℕ) → IsRemark line → is_skipped line ≡ true
 remark-again line (inl e) = ap is_skipped e
 remark-again line (inr (rest, e)) = ap is_skipped e
 

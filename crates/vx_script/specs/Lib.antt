@@ -1,6 +1,8 @@
 pub mod Command
 pub mod Words
 pub mod Grammar
+pub mod Version
+pub mod Timed
 pub mod Plain
 pub mod Reads
 pub mod Cause

@@ -4,10 +4,11 @@ use Rattle.std.specs.List.{All, join_with_byte}
 use Rattle.hex.specs.Hex.{decode_of}
 use Rattle.vx_calls.specs.declared.calls.Role.{Role}
 use Rattle.vx_calls.specs.declared.calls.Role.TheVariants as role
-use Rattle.vx_script.specs.declared.TheConstants.{LINE_MAX, NAME_MAX}
+use Rattle.vx_script.specs.declared.TheConstants.{LINE_MAX, LINE2_MAX, NAME_MAX}
 use Rattle.vx_script.specs.Command.{Command, Up, In, Down, At, Poll, Sample, Take, Dial, Inst, Plug, Pull, Set, Fail}
 use Rattle.vx_script.specs.Grammar.{Reading, Skipped, Does, Outside}
 use Rattle.vx_script.specs.Plain.{IsConnection, IsAddress}
+use Rattle.vx_script.specs.Timed.{Timed, Blank, DoesAt, Strange, is_at}
 
 -- ---- the words of a line
 
@@ -79,3 +80,20 @@ abbrev pub SaysWithin : List ℕ → Reading → Type 0
 SaysWithin line Skipped = (length line ≤ LINE_MAX) × IsRemark line
 SaysWithin line (Does command) = (length line ≤ LINE_MAX) × Writes command line
 SaysWithin line Outside = (LINE_MAX < length line) ⊎ IsOutside line
+
+-- ---- version 2
+
+-- a line of version 2 writes a command at a moment: the moment, a space, and a line that writes the command, which is no `at`
+abbrev pub WritesAt : ℕ → Command → List ℕ → Type 0
+WritesAt moment command line =
+    (moment < 2 ^ 64) × (is_at command ≡ false) × ((text : List ℕ) × Writes command text × (line ≡ spaced (decimal moment ∷ text ∷ [])))
+
+-- the line is none to skip, and writes no command at any moment
+abbrev pub IsStrange : List ℕ → Type 0
+IsStrange line = (IsRemark line → ⊥) × ((moment : ℕ) (command : Command) → WritesAt moment command line → ⊥)
+
+-- what a line of version 2 says, by the table; one that is longer than it may be is outside the grammar, whatever it says
+abbrev pub TimedSays : List ℕ → Timed → Type 0
+TimedSays line Blank = (length line ≤ LINE2_MAX) × IsRemark line
+TimedSays line (DoesAt moment command) = (length line ≤ LINE2_MAX) × WritesAt moment command line
+TimedSays line Strange = (LINE2_MAX < length line) ⊎ IsStrange line

@@ -1,29 +1,55 @@
 //! The script of the player, line by line: the steps that it asks for, and why a step is refused.
 #![tactic(auto)]
 
-ghost use Rattle.std.specs.Prelude.{◌≡◌, ◌↔◌, length, IfSome, IfOk};
+ghost use Rattle.std.specs.Prelude.{◌≡◌, ◌↔◌, false, length, IfSome, IfOk};
 ghost use Rattle.vx_script.specs.Cause.{cause_word};
+ghost use Rattle.vx_script.specs.Command.{step_shown};
 ghost use Rattle.vx_script.specs.Grammar.{Skipped, Outside, reading};
 ghost use Rattle.vx_script.specs.Plain.{IsPlainStep};
-ghost use Rattle.vx_script.specs.Reads.{Reads, answered};
-ghost use Rattle.vx_script.specs.Table.{SaysWithin};
+ghost use Rattle.vx_script.specs.Reads.{Reads, ReadsAt, answered, answered_at};
+ghost use Rattle.vx_script.specs.Table.{SaysWithin, TimedSays};
+ghost use Rattle.vx_script.specs.Timed.{Blank, Strange, is_at, timed};
+ghost use Rattle.vx_script.specs.Version.{version_by};
 
 mod laws;
 mod lines;
 mod values;
 
-pub use laws::{grammar, one_command, within_limit};
-use lines::command_of;
+pub use laws::{grammar, one_command, timed_grammar, within_limit};
+use lines::{command_of, timed_of};
 use vx_calls::Role;
 
 /// The longest line, in bytes, its LF left out.
 pub const LINE_MAX: usize = 1_048_576;
+
+/// The longest line of a script of version 2, in bytes, its LF left out.
+pub const LINE2_MAX: usize = 1_048_600;
 
 /// The greatest part of a bus address. The least is 0.
 pub const ADDRESS_LAST: u8 = 30;
 
 /// The longest name of a spare instrument, in bytes.
 pub const NAME_MAX: usize = 16;
+
+/// The version of a script.
+#[derive(Clone, Copy, Debug, PartialEq, Eq)]
+pub enum Version {
+    /// Each line that isn't skipped is a step; `at` is one of them.
+    One,
+    /// Each line behind the first that isn't skipped is a moment, a space and a step other than `at`.
+    Two,
+}
+
+/// The version of a script with this first line, its LF left out: 2 where it is `vxscript 2` to the byte, and else 1.
+pub fn version_of(first: &[u8]) -> Version
+    ensures { result ≡ version_by first.now }
+{
+    if first == b"vxscript 2".as_slice() {
+        Version::Two
+    } else {
+        Version::One
+    }
+}
 
 /// Why a step of a script is refused.
 #[derive(Clone, Copy, Debug, PartialEq, Eq)]
@@ -164,4 +190,28 @@ pub fn read_step<'a>(line: &'a [u8], bytes: &'a mut [u8]) -> Result<Option<Step<
         Some(step) => Ok(Some(step)),
         None => Err(Cause::Form),
     }
+}
+
+/// Reads a line of a script of version 2, not its first one, its LF left out: its moment, in milliseconds, and its step,
+/// which is no `at`; or none for a line to skip. `bytes` is room for the bytes of an `in` line. The one refusal is `Form`,
+/// for a line outside the grammar; one above `LINE2_MAX` bytes is outside.
+pub fn read_step2<'a>(line: &'a [u8], bytes: &'a mut [u8]) -> Result<Option<(u64, Step<'a>)>, Cause>
+    requires { length bytes.old ≡ length line.now }
+    ensures table { TimedSays line.now (answered_at result) }
+    ensures reads { ReadsAt (timed line.now) result }
+    ensures form { (result ≡ Err Cause.Form) ↔ (timed line.now ≡ Strange) }
+    ensures skipped { (result ≡ Ok None) ↔ (timed line.now ≡ Blank) }
+    ensures plain { IfOk result (λ found. IfSome found (λ x. IsPlainStep x.1)) }
+    ensures other { IfOk result (λ found. IfSome found (λ x. is_at (step_shown x.1) ≡ false)) }
+{
+    if line.len() > LINE2_MAX {
+        return Err(Cause::Form);
+    }
+    if matches!(line, [] | [b'#', ..]) {
+        return Ok(None);
+    }
+    let Some((moment, step)) = timed_of(line, bytes) else {
+        return Err(Cause::Form);
+    };
+    Ok(Some((moment, step)))
 }

@@ -1,9 +1,11 @@
 //! The step of a line, by its first word and what stands behind it.
-ghost use Rattle.std.specs.Prelude.{◌≡◌, ◌≤◌, length, option_copied, option_map, IfSome};
+ghost use Rattle.std.specs.Prelude.{◌≡◌, ◌≤◌, ◌-◌, ◌^◌, ℕ, false, length, option_copied, option_map, IfSome};
 ghost use Rattle.vx_script.specs.Command.{Command, step_shown};
-ghost use Rattle.vx_script.specs.Grammar.{role_of, dialed_of, at_connection, behind_connection, of_connection, is_bus_word, at_address, behind_address, of_address, behind_word, command_of};
+ghost use Rattle.vx_script.specs.Grammar.{role_of, dialed_of, at_connection, behind_connection, of_connection, is_bus_word, at_address, behind_address, of_address, behind_word, command_of, said};
 ghost use Rattle.vx_script.specs.Plain.{IsConnection, IsAddress, IsPlainStep};
-ghost use Rattle.vx_script.specs.Words.{cut};
+ghost use Rattle.vx_script.specs.Reads.{stamped, found_at};
+ghost use Rattle.vx_script.specs.Timed.{is_at, at_moment, timed_by};
+ghost use Rattle.vx_script.specs.Words.{cut, number_up_to};
 
 use crate::Step;
 use crate::values::{
@@ -170,4 +172,35 @@ pub fn command_of<'a>(line: &'a [u8], room: &'a mut [u8]) -> Option<Step<'a>>
         (_, None) => None,
         (word, Some(rest)) => behind_word(word, rest, room),
     }
+}
+
+/// Whether a step is a moment of its own.
+fn is_at(step: &Step<'_>) -> bool
+    ensures { result ≡ is_at (step_shown step.now) }
+{
+    matches!(step, Step::At(_))
+}
+
+/// The step that stands behind the moment of a line of version 2.
+fn behind_moment<'a>(text: &'a [u8], room: &'a mut [u8]) -> Option<Step<'a>>
+    requires { length text.now ≤ length room.old }
+    ensures value { (moment : ℕ) → stamped moment result ≡ at_moment moment (said text.now) }
+    ensures plain { IfSome result IsPlainStep }
+    ensures other { IfSome result (λ step. is_at (step_shown step) ≡ false) }
+{
+    let step = command_of(text, room)?;
+    if is_at(&step) { None } else { Some(step) }
+}
+
+/// The moment and the step of a line of version 2 that isn't skipped. `room` is for the bytes of an `in`.
+pub fn timed_of<'a>(line: &'a [u8], room: &'a mut [u8]) -> Option<(u64, Step<'a>)>
+    requires { length line.now ≤ length room.old }
+    ensures value { found_at result ≡ timed_by (number_up_to (2 ^ 64 - 1) (cut 32 line.now).0) (cut 32 line.now).1 }
+    ensures plain { IfSome result (λ found. IsPlainStep found.1) }
+    ensures other { IfSome result (λ found. is_at (step_shown found.1) ≡ false) }
+{
+    let (number, rest) = cut(line, b' ');
+    let moment = number_up_to(number, u64::MAX)?;
+    let step = behind_moment(rest?, room)?;
+    Some((moment, step))
 }

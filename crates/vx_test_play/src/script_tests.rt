@@ -7,6 +7,9 @@ use vx_script::*;
 
 type Read<'a> = Result<Option<Step<'a>>, Cause>;
 
+/// What is read of a line of version 2.
+type Timed<'a> = Result<Option<(u64, Step<'a>)>, Cause>;
+
 /// Lines, each with what it says.
 static LINES: [(&[u8], Read<'static>); 40] = [
     (b"", Ok(None)),
@@ -321,6 +324,203 @@ fn first_misread(
 #[test]
 fn long_lines(rt: HostRuntime) -> Result<(), Fail> {
     let wrong = first_misread(rt.alloc(), &LONG_LINES)?;
+    assert_eq!(rt; wrong, None);
+    Ok(())
+}
+
+/// Lines of version 2, each with what it says.
+static TIMED_LINES: [(&[u8], Timed<'static>); 34] = [
+    (b"", Ok(None)),
+    (b"#", Ok(None)),
+    (b"# 5 sample", Ok(None)),
+    (b"0 sample", Ok(Some((0, Step::Sample)))),
+    (b"7 sample", Ok(Some((7, Step::Sample)))),
+    (
+        b"0 up 1 core",
+        Ok(Some((
+            0,
+            Step::Up {
+                conn: 1,
+                role: Role::Core,
+            },
+        ))),
+    ),
+    (
+        b"5 in 1 0aFF",
+        Ok(Some((
+            5,
+            Step::In {
+                conn: 1,
+                bytes: b"\x0A\xFF",
+            },
+        ))),
+    ),
+    (
+        b"10 inst 5,0 {\"a\": [1, 2]}  ",
+        Ok(Some((
+            10,
+            Step::Inst {
+                p: 5,
+                s: Some(0),
+                text: b"{\"a\": [1, 2]}  ",
+            },
+        ))),
+    ),
+    // A CR in front of the LF is a part of the text.
+    (
+        b"10 inst 5 {}\r",
+        Ok(Some((
+            10,
+            Step::Inst {
+                p: 5,
+                s: None,
+                text: b"{}\r",
+            },
+        ))),
+    ),
+    (
+        b"18446744073709551615 fail 4294967295",
+        Ok(Some((u64::MAX, Step::Fail(u32::MAX)))),
+    ),
+    (b"18446744073709551616 fail 4294967295", Err(Cause::Form)),
+    (b"100000000000000000000 sample", Err(Cause::Form)),
+    // A moment has no leading zero, no sign, and one space behind it alone.
+    (b"00 sample", Err(Cause::Form)),
+    (b"05 sample", Err(Cause::Form)),
+    (b"+5 sample", Err(Cause::Form)),
+    (b"-1 sample", Err(Cause::Form)),
+    (b"5a sample", Err(Cause::Form)),
+    (b"5  sample", Err(Cause::Form)),
+    (b" 5 sample", Err(Cause::Form)),
+    (b" sample", Err(Cause::Form)),
+    (b"5\tsample", Err(Cause::Form)),
+    (b"5 sample ", Err(Cause::Form)),
+    (b"5 sample\r", Err(Cause::Form)),
+    // There is a step behind the moment, and a moment in front of the step.
+    (b"5", Err(Cause::Form)),
+    (b"5 ", Err(Cause::Form)),
+    (b"5 5 sample", Err(Cause::Form)),
+    (b"sample", Err(Cause::Form)),
+    (b"up 1 core", Err(Cause::Form)),
+    // It is no remark, no `at`, and no head of a script.
+    (b"5 #", Err(Cause::Form)),
+    (b"5 # text", Err(Cause::Form)),
+    (b"5 at 9", Err(Cause::Form)),
+    (b"at 5", Err(Cause::Form)),
+    (b"vxscript 2", Err(Cause::Form)),
+    (b"5 UP 1 core", Err(Cause::Form)),
+];
+
+/// Whether a line of version 2 of at most 64 bytes says this.
+fn says_timed(line: &[u8], wanted: &Timed) -> bool {
+    let mut room = [0u8; 64];
+    line.len() <= 64 && read_step2(line, &mut room[..line.len()]) == *wanted
+}
+
+/// The first row whose line of version 2 says something else.
+fn first_wrong_timed(rows: &[(&[u8], Timed<'_>)]) -> Option<usize> {
+    for (place, (line, wanted)) in rows.iter().enumerate() {
+        if !says_timed(line, wanted) {
+            return Some(place);
+        }
+    }
+    None
+}
+
+#[test]
+fn timed_lines(rt: HostRuntime) {
+    assert_eq!(rt; first_wrong_timed(&TIMED_LINES), None);
+}
+
+/// First lines of a script, each with the version that it gives it.
+static FIRST_LINES: [(&[u8], Version); 8] = [
+    (b"vxscript 2", Version::Two),
+    (b"vxscript 2\r", Version::One),
+    (b"vxscript 2 ", Version::One),
+    (b"vxscript 1", Version::One),
+    (b"VXSCRIPT 2", Version::One),
+    (b"# vxscript 2", Version::One),
+    (b"", Version::One),
+    (b"up 1 core", Version::One),
+];
+
+/// The first row whose line gives another version.
+fn first_other_version(rows: &[(&[u8], Version)]) -> Option<usize> {
+    for (place, (line, version)) in rows.iter().enumerate() {
+        if version_of(line) != *version {
+            return Some(place);
+        }
+    }
+    None
+}
+
+#[test]
+fn versions(rt: HostRuntime) {
+    assert_eq!(rt; first_other_version(&FIRST_LINES), None);
+}
+
+/// What a longer line of version 2 says where it isn't too long.
+fn timed_by(line: &[u8]) -> Timed<'_> {
+    match line.strip_prefix(b"7 inst 5 ".as_slice()) {
+        Some(text) => Ok(Some((
+            7,
+            Step::Inst {
+                p: 5,
+                s: None,
+                text,
+            },
+        ))),
+        None => Ok(None),
+    }
+}
+
+/// Whether such a line, with room for its bytes, is read, or is too long.
+fn is_long_timed_line(line: &[u8], room: &mut [u8], is_read: bool) -> bool {
+    let wanted = if is_read {
+        timed_by(line)
+    } else {
+        Err(Cause::Form)
+    };
+    line.len() == room.len() && read_step2(line, room) == wanted
+}
+
+// The longest line of version 2 has 1,048,600 bytes, and the step behind its moment no limit of its own.
+/// The fronts of lines of version 2, how long the lines are, and whether they are read.
+static LONG_TIMED_LINES: [(&[u8], usize, bool); 4] = [
+    (b"#", 1_048_600, true),
+    (b"#", 1_048_601, false),
+    (b"7 inst 5 ", 1_048_600, true),
+    (b"7 inst 5 ", 1_048_601, false),
+];
+
+/// Whether a line of version 2 that begins so and has so many bytes is read, or is too long.
+fn is_long_timed(
+    alloc: Global,
+    front: &[u8],
+    len: usize,
+    is_read: bool,
+) -> Result<bool, AllocError> {
+    let line = long_line(alloc, front, len)?;
+    let mut room = long_line(alloc, b"", len)?;
+    Ok(is_long_timed_line(&line, &mut room, is_read))
+}
+
+/// The place of the first row whose line of version 2 is read otherwise.
+fn first_misread_timed(
+    alloc: Global,
+    rows: &[(&[u8], usize, bool)],
+) -> Result<Option<usize>, AllocError> {
+    for (place, (front, len, is_read)) in rows.iter().enumerate() {
+        if !is_long_timed(alloc, front, *len, *is_read)? {
+            return Ok(Some(place));
+        }
+    }
+    Ok(None)
+}
+
+#[test]
+fn long_timed_lines(rt: HostRuntime) -> Result<(), Fail> {
+    let wrong = first_misread_timed(rt.alloc(), &LONG_TIMED_LINES)?;
     assert_eq!(rt; wrong, None);
     Ok(())
 }

@@ -1,7 +1,7 @@
 use Rattle.std.proofs.Common.{Err, [], map, refl, subst}
 use Rattle.vx_sim.specs.Occupants.{handed_in}
 use Rattle.vx_bench.specs.declared.bench.BenchStop.TheVariants as stop
-use Rattle.vx_bench.specs.Script.{script}
+use Rattle.vx_bench.specs.Script.{plain_script}
 use Rattle.vx_bench.specs.Spares.{spare_shown}
 use Rattle.vx_bench.specs.SettingUp.{EndsBench, IsSetUp}
 use Rattle.vx_ending.specs.Outcome.{first_bench}
@@ -11,7 +11,7 @@ pub returns-in_default-clause-early : goal.returns-in_default-clause-early
 returns-in_default-clause-early g c o net refused tally = record {
   set = Err stop.NoMemory;
   end = first_bench (map (spare_shown (handed_in (λ i. g.I.Instrument.behaves i) (λ i. g.I.Instrument.nature i))) c.args.rack.now.items);
-  sets = record { steps = []; later = (script c.args.text.now).steps; front = refl; set_up = refl };
+  sets = record { steps = []; later = (plain_script c.args.text.now).steps; front = refl; set_up = refl };
   ends = ((refl, refl), (refl, refl));
 }
 
