@@ -1,6 +1,8 @@
-//! Tests of the player, its script and its lines.
+//! Tests of the player, its script, its lines and its lift.
 #![tactic(auto)]
 
+#[cfg(test)]
+mod lift_tests;
 #[cfg(test)]
 mod play_tests;
 #[cfg(test)]
