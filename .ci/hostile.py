@@ -13,7 +13,7 @@ import struct
 import subprocess
 import sys
 
-RECORD_MAX = 66560
+RECORD_MAX = 263168
 LAST = 0x80000000
 CORE, ABORT = 0x0607AF, 0x0607B0
 DEAD = 7  # a link that nobody made

@@ -46,6 +46,7 @@ DEVICE_ABORT, INTR_SRQ = 1, 30
 
 WAITLOCK, END = 0x01, 0x08  # flags of a call
 BY_COUNT, BY_END = 1, 4  # reasons of a read
+LINK_MAX, WRITE_MAX, READ_MAX, RECORD_MAX = 1024, 262144, 65536, 263168  # links, and bytes of a write, of a read, of a record
 
 BENCH = """\
 plug 5 echo
@@ -92,7 +93,7 @@ def create(xid, device, lock=0, lock_timeout=0):
 
 
 def created(xid, link, server):
-    return reply(xid, 0, link, server.abort, 65536)
+    return reply(xid, 0, link, server.abort, WRITE_MAX)
 
 
 def write(xid, link, data):
@@ -401,7 +402,7 @@ def a_link_by_its_bytes():
         peer.send(bytes.fromhex(asked + "00000000000000000000000767706962302C3500"))
         due = bytes.fromhex("8000002800000001000000010000000000000000000000000000000000000000000000010000")
         got = peer.take(44)
-        assert got == due + struct.pack(">H", server.abort) + bytes.fromhex("00010000"), got.hex(" ", 4)
+        assert got == due + struct.pack(">H", server.abort) + bytes.fromhex("00040000"), got.hex(" ", 4)
 
 
 def two_clients_on_two_devices():
@@ -550,10 +551,10 @@ def an_abort_ends_the_call_of_one_that_is_gone():
 
 
 def junk_closes():
-    """A record that is no call, and one above 66,560 bytes, end their connection and no other."""
+    """A record that is no call, and one above 263,168 bytes, end their connection and no other."""
     with Server() as server, Peer(server.core) as other:
         other.ask(create(1, b"gpib0,5"), created(1, 1, server))
-        for junk in (record(1, 0), reply(1), record(1, 0, 2, CORE, 1, 0, 0, 401), xdr(0x80000000 | 66561)):
+        for junk in (record(1, 0), reply(1), record(1, 0, 2, CORE, 1, 0, 0, 401), xdr(0x80000000 | RECORD_MAX + 1)):
             with Peer(server.core) as peer:
                 peer.ask(call(7, 0), reply(7))
                 peer.send(junk)
@@ -577,12 +578,14 @@ def a_record_in_any_pieces():
 
 
 def the_greatest_write():
-    """65,536 bytes are written and read again at once; one byte more gets error 5."""
+    """262,144 bytes are written at once, and read again in reads of 65,536; one byte more gets error 5."""
     with Server() as server, Peer(server.core) as peer:
-        data = os.urandom(65536)
+        data = os.urandom(WRITE_MAX)
         peer.ask(create(1, b"gpib0,5"), created(1, 1, server))
-        peer.ask(write(2, 1, data), reply(2, 0, 65536))
-        peer.ask(call(3, READ, 1, 65536, 10000, 0, 0, 0), reply(3, 0, BY_COUNT | BY_END, data))
+        peer.ask(write(2, 1, data), reply(2, 0, WRITE_MAX))
+        for at in range(0, WRITE_MAX, READ_MAX):
+            reason = BY_COUNT | BY_END if at + READ_MAX == WRITE_MAX else BY_COUNT
+            peer.ask(call(3, READ, 1, READ_MAX, 10000, 0, 0, 0), reply(3, 0, reason, data[at : at + READ_MAX]))
         peer.ask(write(4, 1, data + b"."), reply(4, 5, 0))
 
 
@@ -619,14 +622,14 @@ def the_sixty_fifth_waits():
         server.expect_told("abort .* refused.*", 0)
 
 
-def two_hundred_and_fifty_six_links():
+def a_thousand_and_twenty_four_links():
     """So many live at once, over two connections. The next one gets error 9, until one has gone."""
     with Server() as server, Peer(server.core) as one, Peer(server.core) as two:
-        for link in range(1, 257):
+        for link in range(1, LINK_MAX + 1):
             (one, two)[link % 2].ask(create(link, b"gpib0,5"), created(link, link, server))
-        one.ask(create(300, b"gpib0,7"), reply(300, 9, 0, 0, 0))
-        two.ask(call(301, DESTROY_LINK, 1), reply(301, 0))
-        one.ask(create(302, b"gpib0,7"), created(302, 257, server))
+        one.ask(create(2000, b"gpib0,7"), reply(2000, 9, 0, 0, 0))
+        two.ask(call(2001, DESTROY_LINK, 1), reply(2001, 0))
+        one.ask(create(2002, b"gpib0,7"), created(2002, LINK_MAX + 1, server))
 
 
 # so that a thread that is refused memory of its own heap finds none in another
@@ -1037,7 +1040,7 @@ def a_log_of_ends():
 
     ends = [
         (record(1, 0), "a record is no call, 1 calls"),
-        (xdr(0x80000000 | 66561), "a record is too long, 1 calls"),
+        (xdr(0x80000000 | RECORD_MAX + 1), "a record is too long, 1 calls"),
         (xdr(0x80000044), "closed by its peer within a record, 1 calls"),
         (b"", "closed by its peer, 1 calls"),
     ]
@@ -1077,7 +1080,7 @@ CASES = [
     the_greatest_write,
     sixty_four_at_once,
     the_sixty_fifth_waits,
-    two_hundred_and_fifty_six_links,
+    a_thousand_and_twenty_four_links,
     nothing_is_left_of_ten_thousand,
     one_that_never_reads_is_cut_off,
     a_slow_reader_is_served,

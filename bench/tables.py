@@ -3,7 +3,7 @@
 
     tables.py [OPTIONS] NAME=PROGRAM ..
 
-Each NAME is a column, and PROGRAM a `vxplay`. The steps are taken with 64 core connections and 256 links, of which the last is
+Each NAME is a column, and PROGRAM a `vxplay`. The steps are taken with 64 core connections and 1,024 links, of which the last is
 made in the first row, while 63 calls wait, or 64 in the row of polls. A figure is what a play with the steps takes more than
 one without them. All programs of a row are measured in turn, run by run, so that what else the machine does meets all alike.
 A program that knows no run from a number has no figure in the last row.
@@ -18,7 +18,7 @@ import tempfile
 import time
 
 CONNECTIONS = 64  # the most of the core channel
-LINKS_EACH = 4
+LINKS_EACH = 16
 FREE = CONNECTIONS  # the connection whose steps are measured
 CORE = 0x0607AF
 CREATE_LINK, LOCK, UNLOCK, DESTROY_LINK, CREATE_INTR = 10, 18, 19, 23, 25

@@ -484,7 +484,7 @@ fn ends(moves: &[Transfer]) -> usize {
         .count()
 }
 
-/// A turn goes on, behind a cut each time, as long as it makes slices of 256 transfers, and at most 300 times. How many it
+/// A turn goes on, behind a cut each time, as long as it makes slices of 256 transfers, and at most 2,000 times. How many it
 /// makes, how many bytes it puts with END in them, and what it tells then.
 fn go_on(bus: &mut MemBus, task: Task, bytes: &[u8], room: &mut [u8]) -> (u32, usize, Told)
     requires plain { IsPlainTask task }
@@ -495,7 +495,7 @@ fn go_on(bus: &mut MemBus, task: Task, bytes: &[u8], room: &mut [u8]) -> (u32, u
 {
     let mut turn = Turn::begin(task, &bus.wire(), 0);
     let mut early = 0usize;
-    for slices in 0..300 {
+    for slices in 0..2000 {
         let went = turn.go(bus, bytes, room);
         if went != Went::Slice || bus.moves().len() != 256 {
             return (slices, early, told(&turn, went));
@@ -503,17 +503,17 @@ fn go_on(bus: &mut MemBus, task: Task, bytes: &[u8], room: &mut [u8]) -> (u32, u
         early = early.saturating_add(ends(bus.moves()));
         bus.cut();
     }
-    (300, early, told(&turn, Went::Slice))
+    (2000, early, told(&turn, Went::Slice))
 }
 
-// The longest write there is: 256 slices, and then its last three bytes, of which the last one alone has END.
+// The longest write there is: 1,024 slices, and then its last three bytes, of which the last one alone has END.
 #[test]
-fn writes_65536_bytes(rt: HostRuntime) -> Result<(), Fail> {
-    let bytes = vec![in rt.alloc(); 7u8; 65536]?;
+fn writes_262144_bytes(rt: HostRuntime) -> Result<(), Fail> {
+    let bytes = vec![in rt.alloc(); 7u8; 262_144]?;
     let mut bus = told_bus(rt.alloc(), &READY)?;
     let write = Task::Write {
         t: PRIMARY,
-        len: 65536,
+        len: 262_144,
         end: true,
     };
     let gone = go_on(&mut bus, write, &bytes, &mut []);
@@ -522,7 +522,7 @@ fn writes_65536_bytes(rt: HostRuntime) -> Result<(), Fail> {
         Put { b: 7, end: false },
         Put { b: 7, end: true },
     ];
-    let wanted = (256, 0, (Went::Finished, 65536, 0));
+    let wanted = (1024, 0, (Went::Finished, 262_144, 0));
     compare(&rt, 0, &(gone, bus.moves()), &(wanted, moves));
     Ok(())
 }

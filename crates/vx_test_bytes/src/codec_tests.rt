@@ -142,15 +142,15 @@ static REPLIES: [(ReplyRef<'static>, Proc, &[u8], Results<'static>); 7] = [
             error: ErrorCode::Ok,
             lid: 1,
             abort_port: 9011,
-            max: 65536,
+            max: 262_144,
         },
         Proc::CreateLink,
-        b"\0\0\0\0\0\0\0\x01\0\0\x23\x33\0\x01\0\0",
+        b"\0\0\0\0\0\0\0\x01\0\0\x23\x33\0\x04\0\0",
         Results::CreateLink {
             error: 0,
             lid: 1,
             abort_port: 9011,
-            max: 65536,
+            max: 262_144,
         },
     ),
     (

@@ -29,7 +29,7 @@ const OPTS: CallOpts = CallOpts {
 const LINK: LinkMade = LinkMade {
     lid: 1,
     abort_port: 9011,
-    max: 65536,
+    max: 262_144,
 };
 
 /// A gateway with that instrument.
@@ -208,7 +208,7 @@ static ROWS: [Row; 5] = [
                 Ok(Got::Link(LinkMade {
                     lid: 2,
                     abort_port: 9011,
-                    max: 65536,
+                    max: 262_144,
                 })),
             ),
             (Ask::Docmd(1), Err(ClientErr::Device(8))),
@@ -393,8 +393,8 @@ static ACTS: [&[Act]; 3] = [
         Act::Send(&[0, 1], WriteOut::Took(2)),
         Act::Receive(8, ReadOut::End, &[]),
     ],
-    // So does one of 66,561 bytes, which is too long.
-    &[Act::Send(&[0x80, 1, 4, 1, 0], WriteOut::Failed)],
+    // So does one of 263,169 bytes, which is too long.
+    &[Act::Send(&[0x80, 4, 4, 1, 0], WriteOut::Failed)],
     // A reply is given once, in parts of at most 20 bytes; and what comes before a whole reply was received ends the
     // connection.
     &[

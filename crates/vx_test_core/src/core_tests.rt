@@ -124,7 +124,7 @@ fn linked(lid: u32) -> Came {
         error: ErrorCode::Ok,
         lid,
         abort_port: 9011,
-        max: 65536,
+        max: 262_144,
     }
 }
 
@@ -431,21 +431,21 @@ const LINKED_1: Came = Came::Link {
     error: ErrorCode::Ok,
     lid: 1,
     abort_port: 9011,
-    max: 65536,
+    max: 262_144,
 };
 
 const LINKED_2: Came = Came::Link {
     error: ErrorCode::Ok,
     lid: 2,
     abort_port: 9011,
-    max: 65536,
+    max: 262_144,
 };
 
-const LINKED_257: Came = Came::Link {
+const LINKED_1025: Came = Came::Link {
     error: ErrorCode::Ok,
-    lid: 257,
+    lid: 1025,
     abort_port: 9011,
-    max: 65536,
+    max: 262_144,
 };
 
 /// No link is left.
@@ -478,7 +478,7 @@ const PENDING_CALLS: &[(Step, Came)] = &[
     (Step::Pending(2), Came::Is(false)),
 ];
 
-// 256 links over all connections; a link is its own connection's, and goes with it.
+// 1,024 links over all connections; a link is its own connection's, and goes with it.
 const LINKS: &[(Step, Came)] = &[
     (Step::Connect(Role::Core), Came::Connected(Ok(1))),
     (Step::Connect(Role::Core), Came::Connected(Ok(2))),
@@ -486,7 +486,7 @@ const LINKS: &[(Step, Came)] = &[
         Step::LinkAll {
             conn: 1,
             first: 1,
-            last: 257,
+            last: 1025,
         },
         Came::Is(true),
     ),
@@ -526,7 +526,7 @@ const LINKS: &[(Step, Came)] = &[
             conn: 2,
             device: b"gpib0,5",
         },
-        LINKED_257,
+        LINKED_1025,
     ),
     (
         Step::Link {
@@ -539,8 +539,8 @@ const LINKS: &[(Step, Came)] = &[
     (
         Step::LinkAll {
             conn: 2,
-            first: 258,
-            last: 513,
+            first: 1026,
+            last: 2049,
         },
         Came::Is(true),
     ),
@@ -556,7 +556,7 @@ const LINKS: &[(Step, Came)] = &[
         Came::Reply(ErrorCode::InvalidLink, 0),
     ),
     (
-        Step::Destroy { conn: 2, lid: 257 },
+        Step::Destroy { conn: 2, lid: 1025 },
         Came::Reply(ErrorCode::Ok, 0),
     ),
 ];

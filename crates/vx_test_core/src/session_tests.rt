@@ -34,8 +34,8 @@ const CREATE: [u32; 17] = [
     0x80000040, 1, 0, 2, 0x0607AF, 1, 10, 0, 0, 0, 0, 42, 0, 0, 7, 0x67706962, 0x302C3500,
 ];
 
-/// Its reply: error 0, link 1, the abort port, and at most 65,536 bytes a write.
-const CREATED: [u32; 11] = [0x80000028, 1, 1, 0, 0, 0, 0, 0, 1, 9011, 65536];
+/// Its reply: error 0, link 1, the abort port, and at most 262,144 bytes a write.
+const CREATED: [u32; 11] = [0x80000028, 1, 1, 0, 0, 0, 0, 0, 1, 9011, 262144];
 
 /// The reply to arguments that can't be read (RFC 5531, GARBAGE_ARGS).
 const GARBAGE: [u32; 7] = [0x80000018, 1, 1, 0, 0, 0, 4];
@@ -156,7 +156,7 @@ static ROWS: [Row; 19] = [
     },
     Row {
         name: "a record that is too long",
-        gives: &[0x80010401],
+        gives: &[0x80040401],
         piece: 4,
         how: Linked::Ended(End::TooLong),
         took: &[],
@@ -197,7 +197,7 @@ static ROWS: [Row; 19] = [
         holds: &[4, 5],
         moments: &[0, 0, 100],
         took: &[
-            0x80000028, 1, 1, 0, 0, 0, 0, 0, 1, 9011, 65536, 0x80000020, 2, 1, 0, 0, 0, 0, 15, 0,
+            0x80000028, 1, 1, 0, 0, 0, 0, 0, 1, 9011, 262144, 0x80000020, 2, 1, 0, 0, 0, 0, 15, 0,
         ],
         ..PLAIN
     },

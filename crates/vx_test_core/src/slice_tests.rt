@@ -56,9 +56,9 @@ const PLAIN: Row = Row {
 static ROWS: [Row; 12] = [
     PLAIN,
     Row {
-        name: "the longest write, of 65,539 transfers",
-        len: 65536,
-        wanted: (256, 3, Came::Written(ErrorCode::Ok, 65536)),
+        name: "the longest write, of 262,147 transfers",
+        len: 262_144,
+        wanted: (1024, 3, Came::Written(ErrorCode::Ok, 262_144)),
         ..PLAIN
     },
     Row {
@@ -213,7 +213,7 @@ fn ask(core: &mut Core<MemBus>, row: &Row, bytes: &[u8]) -> bool {
         };
         return arrive(core, &call);
     }
-    if bytes.len() > 65536 {
+    if bytes.len() > 262_144 {
         return false;
     }
     let call = CallRef::Write {
@@ -228,14 +228,14 @@ fn ask(core: &mut Core<MemBus>, row: &Row, bytes: &[u8]) -> bool {
 
 /// Polls the call until one isn't a full slice of 256 transfers.
 fn poll_on(core: &mut Core<MemBus>, wanted: &[u8]) -> Polls {
-    for full in 0..1000u64 {
+    for full in 0..2000u64 {
         let came = poll(core, full * 1000, wanted);
         let moved = core.moves().len();
         if came != Came::NotYet(Why::Slice) || moved != 256 {
             return (full, moved, came);
         }
     }
-    (1000, 0, Came::Other)
+    (2000, 0, Came::Other)
 }
 
 /// Whether what comes of a row, on a gateway of its own, is what it wants.

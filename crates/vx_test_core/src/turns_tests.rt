@@ -13,9 +13,9 @@ use vx_exchange::{PollEnd, REPLY_ROOM};
 use vx_gate::{Pass, Turns};
 use vx_session::{come, join, leave, sample, take};
 
-/// The reply of xid 1: accepted, no verifier, success; no error, link 1, the abort port, and 65,536 bytes at most.
+/// The reply of xid 1: accepted, no verifier, success; no error, link 1, the abort port, and 262,144 bytes at most.
 const LINKED: &[u8; 44] =
-    b"\x80\0\0\x28\0\0\0\x01\0\0\0\x01\0\0\0\0\0\0\0\0\0\0\0\0\0\0\0\0\0\0\0\0\0\0\0\x01\0\0\x23\x33\0\x01\0\0";
+    b"\x80\0\0\x28\0\0\0\x01\0\0\0\x01\0\0\0\0\0\0\0\0\0\0\0\0\0\0\0\0\0\0\0\0\0\0\0\x01\0\0\x23\x33\0\x04\0\0";
 
 /// A connection of this pass comes up, makes a link in its first turn, and goes: its number, and how long the reply is.
 fn link_once<R: Wait, B: Bus, T: Turns<Core<B>>>(

@@ -55,9 +55,9 @@ interface = 103 ∷ 112 ∷ 105 ∷ 98 ∷ 48 ∷ []
 abbrev pub create : Bool → List ℕ → Call
 create lock text = call.CreateLink (pos 1) lock 0 text
 
--- the reply of one that made this link: the port of the abort channel, and at most 65,536 bytes a write
+-- the reply of one that made this link: the port of the abort channel, and at most 262,144 bytes a write
 abbrev pub made : ℕ → Reply
-made lid = reply.CreateLink code.Ok lid 9011 65536
+made lid = reply.CreateLink code.Ok lid 9011 262144
 
 -- an answer to which nothing came from outside: the bus didn't fail, there was no dial, and no level is told
 abbrev pub answered : ℕ → ℕ → Reply → Event

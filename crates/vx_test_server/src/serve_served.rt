@@ -38,9 +38,9 @@ const WRITE: [u8; 68] =
 const ABORT: [u8; 48] =
     *b"\x80\0\0,\0\0\0\x01\0\0\0\0\0\0\0\x02\0\x06\x07\xb0\0\0\0\x01\0\0\0\x01\0\0\0\0\0\0\0\0\0\0\0\0\0\0\0\0\0\0\0\x01";
 
-// the reply to create_link: link 1, abort port 9011, at most 65,536 bytes
+// the reply to create_link: link 1, abort port 9011, at most 262,144 bytes
 const CREATED: [u8; 44] =
-    *b"\x80\0\0(\0\0\0\x01\0\0\0\x01\0\0\0\0\0\0\0\0\0\0\0\0\0\0\0\0\0\0\0\0\0\0\0\x01\0\0#3\0\x01\0\0";
+    *b"\x80\0\0(\0\0\0\x01\0\0\0\x01\0\0\0\0\0\0\0\0\0\0\0\0\0\0\0\0\0\0\0\0\0\0\0\x01\0\0#3\0\x04\0\0";
 
 // the reply to create_intr_chan
 const CHANNEL_MADE: [u8; 32] =

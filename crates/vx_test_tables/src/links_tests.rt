@@ -48,11 +48,11 @@ static TWO_CONNECTIONS: [Step; 20] = [
 ];
 
 static FULL_TABLE: [Step; 5] = [
-    Fill(256),
+    Fill(1024),
     Full(true),
     Insert(None),
     Remove(100, true),
-    Insert(Some(257)),
+    Insert(Some(1025)),
 ];
 
 fn is_made(links: &mut Links, conn: u32, target: Target, lid: u32) -> bool {

@@ -273,7 +273,7 @@ fn reply(said: &Said) -> ReplyRef<'static> {
             error: ErrorCode::Ok,
             lid,
             abort_port: 9011,
-            max: 65536,
+            max: 262_144,
         },
         Said::NoLink(error) => ReplyRef::CreateLink {
             error,

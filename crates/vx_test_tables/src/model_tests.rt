@@ -372,17 +372,17 @@ static SERVICE_REQUESTS: [Case; 38] = [
     (Takes(2, 2, Interrupt(2, b'b')), true),
 ];
 
-/// 256 links fill the table; the number of one that is destroyed isn't given again.
+/// 1,024 links fill the table; the number of one that is destroyed isn't given again.
 static FULL_LINKS: [Case; 9] = [
     (Up(1, Role::Core), true),
-    (Links(256), true),
+    (Links(1024), true),
     (Come(1, Create(b"gpib0,5", false)), true),
-    (Answer(1, Bare, Linked(257)), false),
+    (Answer(1, Bare, Linked(1025)), false),
     (Answer(1, Bare, NoLink(ErrorCode::NoResources)), true),
     (Come(1, Destroy(7)), true),
     (Answer(1, Bare, Gave(ErrorCode::Ok)), true),
     (Come(1, Create(b"gpib0,5", false)), true),
-    (Answer(1, Bare, Linked(257)), true),
+    (Answer(1, Bare, Linked(1025)), true),
 ];
 
 /// A turn that the bus held for longer than its time ends with a timeout, at its deadline and not before; a connection that
@@ -408,7 +408,7 @@ static HELD_TURNS: [Case; 10] = [
 
 /// A call with more bytes than a write or a record takes is kept, and refused.
 static LONG_CALL: [Case; 2] = [
-    (Answer(1, Bare, Wrote(ErrorCode::Ok, 70_000)), false),
+    (Answer(1, Bare, Wrote(ErrorCode::Ok, 270_000)), false),
     (Answer(1, Bare, Wrote(ErrorCode::Parameter, 0)), true),
 ];
 
@@ -502,7 +502,7 @@ fn held_turns(rt: HostRuntime) {
 
 #[test]
 fn long_call(rt: HostRuntime) -> Result<(), Fail> {
-    let bytes = vec![in rt.alloc(); 0u8; 70_000]?;
+    let bytes = vec![in rt.alloc(); 0u8; 270_000]?;
     assert_eq!(rt; write(rt.alloc(), bytes.as_slice()), Ok((true, None)));
     Ok(())
 }
