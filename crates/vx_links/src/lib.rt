@@ -1,4 +1,4 @@
-//! The links of a gateway that live: a table of at most 256 rows, in room that is made once, which gives each link a
+//! The links of a gateway that live: a table of at most 1,024 rows, in room that is made once, which gives each link a
 //! number of its own and finds links by number, by connection and by bus address.
 #![tactic(auto)]
 

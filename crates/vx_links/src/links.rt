@@ -13,7 +13,7 @@ use vx_calls::{LINK_LAST, LINK_MAX, Target};
 #[derive(Clone, Copy, Debug, PartialEq, Eq)]
 pub struct NoMemory;
 
-/// No link can be made: 256 live, or number 2^30 - 1 was given out.
+/// No link can be made: 1,024 live, or number 2^30 - 1 was given out.
 #[derive(Clone, Copy, Debug, PartialEq, Eq)]
 pub struct Full;
 
@@ -58,7 +58,7 @@ impl Links {
         }
     }
 
-    /// Whether no link can be made: 256 live, or number 2^30 - 1 was given out.
+    /// Whether no link can be made: 1,024 live, or number 2^30 - 1 was given out.
     pub fn is_full(&self) -> bool
         ensures { result ≡ is_full self.now }
     {
@@ -135,7 +135,7 @@ impl Links {
     }
 
     /// What holds of every table: each link's number is below those of the links after it, from 1 on and already given
-    /// out; at most 256 links live; and the next number is at most one past the greatest. It does nothing when it runs.
+    /// out; at most 1,024 links live; and the next number is at most one past the greatest. It does nothing when it runs.
     pub fn numbers_rise(&self)
         ensures rising { AllPairs (λ a b. a.number < b.number) self.now.links }
         ensures given { All (λ l. (0 < l.number) × (l.number < self.now.next)) self.now.links }

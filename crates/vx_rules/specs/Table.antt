@@ -20,7 +20,7 @@ pub record Table : Type 0 where
 abbrev pub empty : Table
 empty = record { links = []; next = 1 }
 
--- whether no link can be made: 256 live, or number 2^30 - 1 was given out
+-- whether no link can be made: 1,024 live, or number 2^30 - 1 was given out
 abbrev pub is_full : Table → Bool
 is_full t = nat_le LINK_MAX (length t.links) || nat_lt LINK_LAST t.next
 
@@ -56,7 +56,7 @@ with_link t conn target = record {
 abbrev pub without_link : Table → ℕ → Table
 without_link t lid = record t { links = filter (λ l. not (l.number == lid)) t.links }
 
--- the numbers of a table's links rise, from 1 on and below the one that comes next; there are at most 256 links and
+-- the numbers of a table's links rise, from 1 on and below the one that comes next; there are at most 1,024 links and
 -- numbers up to 2^30 - 1
 pub record IsNumbered (t : Table) : Type 0 where
   pub rising : AllPairs (λ a b. a.number < b.number) t.links

@@ -184,7 +184,7 @@ impl Srq {
     }
 
     /// The enable of a link of this connection, in place of its earlier one. The connection was added, and fewer than
-    /// 256 other links have an entry.
+    /// 1,024 other links have an entry.
     pub fn enable(&mut self, conn: u32, lid: u32, on: bool, handle: Handle)
         requires added { srq_state.is_added self.old conn ≡ true }
         requires room { length (filter (λ e. not (e.link == lid)) self.old.enables) < LINK_MAX }
@@ -201,7 +201,7 @@ impl Srq {
         );
     }
 
-    /// Whether fewer than 256 links have an enable: then there is room for that of any link.
+    /// Whether fewer than 1,024 links have an enable: then there is room for that of any link.
     pub fn has_room(&self) -> bool
         ensures { result ≡ nat_lt (length self.now.enables) LINK_MAX }
     {
@@ -246,8 +246,9 @@ impl Srq {
         front(&self.slots, conn, chan)
     }
 
-    /// What holds of every state of service requests: links and their enables rise in number, and at most 256 have one; an outbox has at most
-    /// 1,024 interrupts; each channel's number was given out, and the next one was not. It does nothing when it runs.
+    /// What holds of every state of service requests: links and their enables rise in number, and at most 1,024 have one; an
+    /// outbox has at most 1,024 interrupts; each channel's number was given out, and the next one was not. It does nothing when
+    /// it runs.
     pub fn is_sound(&self)
         ensures links { srq_state.LinksRise self.now.enables }
         ensures few { length self.now.enables ≤ LINK_MAX }
