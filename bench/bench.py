@@ -10,6 +10,7 @@ all of them alike. Half of the rows are measured alone, and half beside as many 
 `--within MINUTES` makes the runs as long as fits into so many.
 
 A query is a device_write of six bytes and the device_read of them, over the loopback; the load is `load.c`, which `cc` compiles.
+A writer makes device_writes of 65,536 bytes one after the other, on a device of its own, while one connection makes queries.
 """
 import argparse
 import os
@@ -37,6 +38,7 @@ def words():
     parser.add_argument("servers", nargs="*", type=pair, metavar="NAME=PROGRAM")
     parser.add_argument("--gate", action="append", default=[], type=pair, metavar="NAME=PROGRAM")
     parser.add_argument("--connections", type=numbers, default=[1, 2, 4, 16, 64], help="how many at once (1,2,4,16,64)")
+    parser.add_argument("--writers", type=numbers, default=[1, 2], help="how many beside one connection (1,2)")
     parser.add_argument("--threads", type=numbers, default=[1, 2, 4, 16], help="how many at a gate (1,2,4,16)")
     parser.add_argument("--runs", type=int, default=5, help="of each figure (5)")
     parser.add_argument("--seconds", type=float, default=2.0, help="a run (2)")
@@ -51,7 +53,7 @@ def words():
 
 def fitting(asked):
     """The seconds of a run with which all of them take so many minutes."""
-    rows = len(asked.connections) * len(asked.servers) + GATE_COST * len(asked.threads) * len(asked.gate)
+    rows = (len(asked.connections) + len(asked.writers)) * len(asked.servers) + GATE_COST * len(asked.threads) * len(asked.gate)
     return MARGIN * 60 * asked.within / (len(asked.halves) * asked.runs * rows) if rows else 0
 
 
@@ -90,9 +92,9 @@ def start_server(program, started):
     sys.exit(f"bench: {program} doesn't listen")
 
 
-def queries(load, port, connections, seconds):
+def queries(load, port, connections, seconds, writers=0):
     """Queries a second, and the time of one at the 99th of a hundred, in milliseconds."""
-    said = dict(word.split("=") for word in run(load, str(port), str(connections), str(seconds)).split())
+    said = dict(word.split("=") for word in run(load, str(port), str(connections), str(seconds), str(writers)).split())
     return int(said["queries"]) / float(said["seconds"]), float(said["last"]) / 1000
 
 
@@ -153,6 +155,9 @@ def half(asked, load, names, how):
         for number in asked.connections if ports else []:
             figure = lambda port: queries(load, port, number, asked.seconds)
             row(f"{counted(number, 'connection')}, {where}", measured(figure, ports, asked.runs), names)
+        for number in asked.writers if ports else []:
+            figure = lambda port: queries(load, port, 1, asked.seconds, number)
+            row(f"1 connection beside {counted(number, 'writer')}, {where}", measured(figure, ports, asked.runs), names)
         gates = dict(asked.gate)
         for number in asked.threads if gates else []:
             figure = lambda program: turns(program, number, asked.seconds)

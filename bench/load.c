@@ -1,10 +1,13 @@
 /* Makes queries of a VXI-11 server on this host, each a device_write of a short text and a device_read of it.
  *
- *     load PORT CONNECTIONS SECONDS
+ *     load PORT CONNECTIONS SECONDS [WRITERS]
  *
  * Each connection has a thread and a link of its own, to one of the devices gpib0,5 to gpib0,8, which are echoes. All start
  * together. It prints `queries=N seconds=S median=U last=V`: how many were made, in which time, and in how many microseconds half
  * and 99 of a hundred of them were answered. Each reply is compared whole. Status 1: a reply was wrong or a connection failed.
+ *
+ * WRITERS are so many connections more, on the devices behind those of the others, and each makes a device_write of 65,536 bytes
+ * after the other. These aren't counted.
  */
 #include <arpa/inet.h>
 #include <netinet/tcp.h>
@@ -18,12 +21,12 @@
 #include <unistd.h>
 
 enum { CORE = 0x0607AF, CREATE_LINK = 10, DEVICE_WRITE = 11, DEVICE_READ = 12 };
-enum { FIRST_ADDRESS = 5, DEVICES = 4, MOST_WORDS = 32, WAIT_MS = 10000, END = 8, BY_END = 4, READ_BYTES = 1024 };
+enum { FIRST_ADDRESS = 5, DEVICES = 4, MOST_WORDS = 32, WAIT_MS = 10000, END = 8, BY_END = 4, READ_BYTES = 1024, LONG_WORDS = 16384 };
 static const uint32_t LAST_FRAGMENT = 0x80000000u;
 static const char TEXT[8] = "*IDN?\n"; /* six bytes, and two of padding */
 
 struct connection {
-    int number, socket;
+    int number, socket, writes;
     uint32_t xid, link;
     double *times; /* of each query, in seconds */
     size_t queries, room;
@@ -65,7 +68,9 @@ static int receive_all(int from, void *bytes, size_t n) {
 
 /* Makes a call with these words behind its header, and leaves the words of its results in `results`, which are `count`. */
 static int call(struct connection *c, uint32_t procedure, const uint32_t *words, int n, uint32_t *results, int count) {
-    uint32_t out[MOST_WORDS] = { LAST_FRAGMENT | 4 * (10 + n), ++c->xid, 0, 2, CORE, 1, procedure }, in[MOST_WORDS];
+    const uint32_t header[11] = { LAST_FRAGMENT | 4 * (10 + n), ++c->xid, 0, 2, CORE, 1, procedure };
+    uint32_t out[11 + n], in[MOST_WORDS];
+    memcpy(out, header, sizeof header);
     memcpy(out + 11, words, 4 * n);
     for (int i = 0; i < 11 + n; i++) out[i] = htonl(out[i]);
     if (!send_all(c->socket, out, 4 * (11 + n))) return fail(c, "a call wasn't taken");
@@ -105,6 +110,13 @@ static int query(struct connection *c, const uint32_t *text) {
     return !memcmp(results, echoed, sizeof echoed) || fail(c, "a read was answered otherwise");
 }
 
+static int write_long(struct connection *c) {
+    uint32_t words[5 + LONG_WORDS] = { c->link, WAIT_MS, WAIT_MS, END, 4 * LONG_WORDS };
+    uint32_t wrote[] = { 0, 4 * LONG_WORDS }, results[2];
+    if (!call(c, DEVICE_WRITE, words, 5 + LONG_WORDS, results, 2)) return 0;
+    return !memcmp(results, wrote, sizeof wrote) || fail(c, "a long write was answered otherwise");
+}
+
 static int keep(struct connection *c, double time) {
     if (c->queries == c->room) {
         c->room = c->room ? 2 * c->room : 4096;
@@ -124,9 +136,9 @@ static void *work(void *of) {
     pthread_barrier_wait(&ready);
     pthread_barrier_wait(&start);
     for (double from = now(), to; goes && from < end; from = to) {
-        goes = query(c, text);
+        goes = c->writes ? write_long(c) : query(c, text);
         to = now();
-        goes = goes && keep(c, to - from);
+        goes = goes && (c->writes || keep(c, to - from));
     }
     return NULL;
 }
@@ -137,8 +149,8 @@ static int by_size(const void *a, const void *b) {
 }
 
 int main(int count, char **words) {
-    int connections = count == 4 ? atoi(words[2]) : 0;
-    if (connections < 1) return fprintf(stderr, "usage: load PORT CONNECTIONS SECONDS\n"), 2;
+    int asking = count == 4 || count == 5 ? atoi(words[2]) : 0, connections = asking + (count == 5 ? atoi(words[4]) : 0);
+    if (asking < 1 || connections < asking) return fprintf(stderr, "usage: load PORT CONNECTIONS SECONDS [WRITERS]\n"), 2;
     port = atoi(words[1]), seconds = atof(words[3]);
     struct connection *all = calloc(connections, sizeof *all);
     pthread_t *threads = calloc(connections, sizeof *threads);
@@ -146,7 +158,7 @@ int main(int count, char **words) {
     pthread_barrier_init(&ready, NULL, connections + 1);
     pthread_barrier_init(&start, NULL, connections + 1);
     for (int i = 0; i < connections; i++) {
-        all[i].number = i;
+        all[i].number = i, all[i].writes = i >= asking;
         if (pthread_create(&threads[i], NULL, work, &all[i])) return perror("load"), 2;
     }
     pthread_barrier_wait(&ready);

@@ -154,9 +154,14 @@ impl<R: Sockets<Stream = TcpStream> + SystemClock + Copy> Tools for TcpTools<R> 
         StdClock::new(self.rt)
     }
 
-    /// A pause of one millisecond.
+    /// A pause of at most one millisecond: the first ones of a wait are short.
     fn pause(&mut self) -> StdPause<R> {
         StdPause::new(self.rt)
+    }
+
+    /// A pause of one millisecond.
+    fn whole_pause(&mut self) -> StdPause<R> {
+        StdPause::whole(self.rt)
     }
 
     /// A dial. Each dial of one that has no way to the pumps, since memory ran out, fails.

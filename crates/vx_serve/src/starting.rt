@@ -230,10 +230,10 @@ where
     Ok(Duty::Accept { port, links, kit })
 }
 
-/// So many pauses in a row.
+/// So many whole pauses in a row.
 fn pauses<X: Tools>(tools: &mut X, times: u32) -> Pauses<X::P> {
     Pauses {
-        one: tools.pause(),
+        one: tools.whole_pause(),
         times,
     }
 }

@@ -13,7 +13,13 @@ pub trait Tools {
 
     fn clock(&mut self) -> Self::C;
 
+    /// A pause of a session, which waits for calls of others.
     fn pause(&mut self) -> Self::P;
+
+    /// A pause between two looks at what comes by the hour, and not by a call: each is as long as the others.
+    fn whole_pause(&mut self) -> Self::P {
+        self.pause()
+    }
 
     fn dial(&mut self) -> Self::D;
 

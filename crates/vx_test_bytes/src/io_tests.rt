@@ -308,7 +308,7 @@ fn memory_clocks_tell_moments(rt: HostRuntime) -> Result<(), Fail> {
 #[test]
 fn the_system_tells_moments(rt: HostRuntime) {
     let mut system = StdClock::new(&rt);
-    let mut pause = StdPause::new(&rt);
+    let mut pause = StdPause::whole(&rt);
     let before = system.now();
     for _ in 0..3 {
         pause.pause();
@@ -318,6 +318,25 @@ fn the_system_tells_moments(rt: HostRuntime) {
         before < after && after - before < 60_000,
         "{before} to {after}"
     );
+}
+
+// How many milliseconds so many pauses take, one after another.
+fn row_of<C: Clock, P: Pause>(clock: &mut C, pause: &mut P, times: u32) -> u64 {
+    let before = clock.now();
+    for _ in 0..times {
+        pause.pause();
+    }
+    clock.now().saturating_sub(before)
+}
+
+// No pause is shorter than a tenth of a millisecond, and no whole one than a millisecond. A clock of whole milliseconds may tell
+// one less.
+#[test]
+fn pauses_take_their_time(rt: HostRuntime) {
+    let mut system = StdClock::new(&rt);
+    let short = row_of(&mut system, &mut StdPause::new(&rt), 80);
+    let whole = row_of(&mut system, &mut StdPause::whole(&rt), 20);
+    assert!(rt; short >= 7 && whole >= 19, "{short} and {whole}");
 }
 
 // A link that gives this byte alone, and the byte that a link gives.
