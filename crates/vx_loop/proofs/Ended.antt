@@ -37,9 +37,9 @@ use Rattle.vx_loop.specs.Serving.{lives}
 use Rattle.vx_loop.specs.Standing.{IsNoCall, IsOpen, IsAt, Went, Since, MarkedStands, IsKept, IsDrained, IsReady, IsUnanswered, IsRefused, LivesAlike, LivesOn}
 use Rattle.vx_loop.specs.Heard.{IsResting, IsHeard}
 use Rattle.vx_loop.specs.Telling.{IsReceive, IsSend, FindsEnded, OnClosed, OnReadFault, OnWriteFault}
-use Rattle.vx_loop.proofs.Streams.{first_buffer, record-is-whole, record-whole, open-front, front-more, whole-settled}
+use Rattle.vx_loop.proofs.Streams.{first_buffer, record-is-whole, record-whole, open-front, front-more}
 use Rattle.vx_loop.proofs.Calling.{IsLive, idle-since, marked-from}
-use Rattle.vx_loop.proofs.Exchanged.{exchange-replies, one-record, message-asks, got-reply, reply-heard}
+use Rattle.vx_loop.proofs.Exchanged.{reply-settled, one-record, message-asks, got-reply, reply-heard}
 
 -- ---- a front of a record that a link took
 
@@ -135,10 +135,9 @@ module _ (start : Gateway) (t : ServedState) (text got : List ℕ) (short : leng
   down-by [] h taken_is given_is = down-at (replies_of w.done) w.open_part taken_is w.stands
   down-by (x ∷ xs) (mid, first, more) taken_is given_is =
       let nothing_more = (one-record x xs mid w.reached text w.open_part short first.whole more taken_is).3 in
-      let said = exchange-replies start mid x first in
       let given : got ≡ x.reply =
       sym (append-nil got) ∙ ap (λ ys. got ++ ys) (sym d.none_left) ∙ given_is ∙ ap (λ ys. x.reply ++ ys) nothing_more ∙ append-nil x.reply in
-      absurd (false≢true (sym unsettled ∙ ap (λ ys. is_settled (records REPLY_MAX ys)) given ∙ whole-settled x.reply said.0 said.1))
+      absurd (false≢true (sym unsettled ∙ ap (λ ys. is_settled (records REPLY_MAX ys)) given ∙ reply-settled start mid x first))
 
   has-ended : lives (gateway_of t.core) ≡ false
   has-ended = down-by w.done w.exchanged w.taken_is w.given_is

@@ -52,7 +52,7 @@ use Rattle.vx_loop.specs.Exchanges.{Adds, IsRecord, Replies, IsExchange, Exchang
 use Rattle.vx_loop.specs.Serving.{lives}
 use Rattle.vx_loop.specs.Standing.{GoesDown, EndsBy, never, refused, waited, unread, IsAt, Went, Since, MarkedStands, IsKept}
 use Rattle.vx_loop.specs.Heard.{IsResting, IsHeard}
-use Rattle.vx_loop.proofs.Streams.{first_buffer, IsWhole, whole-by, record-is-whole, whole-some, record-whole, whole-unique, none-yet}
+use Rattle.vx_loop.proofs.Streams.{first_buffer, IsWhole, whole-by, record-is-whole, whole-some, whole-wider, record-whole, record-settled, whole-unique, none-yet}
 use Rattle.vx_loop.proofs.Happening.{adds-none, adds-append, happens-adds, reached-sound}
 use Rattle.vx_loop.proofs.Going.{none-parts, come-some}
 use Rattle.vx_loop.proofs.Calling.{IsLive}
@@ -60,11 +60,11 @@ use Rattle.vx_loop.proofs.Hearing.{IsOneCall, one-call, call-heard, call-replies
 
 -- ---- the one exchange of a record and its reply
 
--- a reply at the front of what came, as long as a client takes, is a record that a connection may bring: the two are the same
+-- a reply at the front of what came, no longer than a client takes, is a record that a connection may bring: those may be longer
 pub reply-whole : (front reply : List ℕ) → (records REPLY_MAX front).records ≡ reply ∷ [] → is_settled (records REPLY_MAX (take (length front - 1) front)) ≡ false
-    → IsWhole front reply
-reply-whole [] reply whole shortest = absurd (let none : [] ≡ reply ∷ [] = ap (λ (s : Split). s.records) (sym none-yet) ∙ whole in cc)
-reply-whole (x ∷ xs) reply whole shortest = whole-by (x ∷ xs) reply (omega arith) shortest whole
+    → IsWhole RECORD_MAX front reply
+reply-whole [] reply whole shortest = absurd (let none : [] ≡ reply ∷ [] = ap (λ (s : Split). s.records) (sym (none-yet REPLY_MAX)) ∙ whole in cc)
+reply-whole (x ∷ xs) reply whole shortest = whole-wider REPLY_MAX RECORD_MAX (x ∷ xs) reply (omega arith) (whole-by REPLY_MAX (x ∷ xs) reply (omega arith) shortest whole)
 
 -- a reply is a record of one fragment
 replied-record : (m : Meaning) (came now : ℕ) (group : List Event) (steps : List Step) (r : List ℕ) → Replies m came now group steps r
@@ -74,12 +74,20 @@ replied-record (Asks xid asked) came now group steps r h = (success_message xid 
 replied-record _ came now group steps r h = absurd h
 
 -- and a whole one
-pub exchange-replies : (before after : Gateway) (x : exchange.Exchange) → IsExchange before x after → (text : List ℕ) × IsWhole x.reply text
+pub exchange-replies : (before after : Gateway) (x : exchange.Exchange) → IsExchange before x after → (text : List ℕ) × IsWhole RECORD_MAX x.reply text
 exchange-replies before after x e =
     let text = replied-record _ _ _ x.group x.steps x.reply e.replies in
     let short = e.short in
     let len = ap (λ (ys : List ℕ). length ys) text.1 in
-    (text.0, subst (λ ys. IsWhole ys text.0) (sym text.1) (record-whole text.0 (omega arith)))
+    (text.0, subst (λ ys. IsWhole RECORD_MAX ys text.0) (sym text.1) (record-whole text.0 (omega arith)))
+
+-- which a client takes
+pub reply-settled : (before after : Gateway) (x : exchange.Exchange) → IsExchange before x after → is_settled (records REPLY_MAX x.reply) ≡ true
+reply-settled before after x e =
+    let text = replied-record _ _ _ x.group x.steps x.reply e.replies in
+    let short = e.short in
+    let len = ap (λ (ys : List ℕ). length ys) text.1 in
+    ap (λ ys. is_settled (records REPLY_MAX ys)) text.1 ∙ record-settled REPLY_MAX text.0 (omega arith) (omega arith)
 
 -- where no byte came there was no exchange
 no-more : (xs : List exchange.Exchange) (mid last : Gateway) → streams_of xs ≡ [] → Exchanges mid xs last → (last ≡ mid) × (replies_of xs ≡ [])
@@ -111,7 +119,7 @@ pub record IsExchanged (start : Gateway) (s : ServedState) (text reply behind : 
   pub mid : Gateway
   pub exchanged : IsExchange start x mid
   pub message_is : x.message ≡ text
-  pub reply_is : IsWhole x.reply reply
+  pub reply_is : IsWhole RECORD_MAX x.reply reply
   pub none_behind : behind ≡ []
   pub idle : IsIdle s
   pub after : IsStill mid s
@@ -149,7 +157,7 @@ still-by mid s replied part none nothing (inr (inr e)) = (
     by (unread given left is some more down) = absurd (let len = ap (λ (xs : List ℕ). length xs) let_go in omega arith)
 
 module _ (start : Gateway) (s : ServedState) (text got reply behind : List ℕ) (short : length text ≤ RECORD_MAX) (w : Went start s (record_of text) got) (r : IsReply got reply behind) where
-  front-whole : IsWhole r.front reply
+  front-whole : IsWhole RECORD_MAX r.front reply
   front-whole = reply-whole r.front reply r.whole r.shortest
 
   exchanged-by : (done : List exchange.Exchange) → Exchanges start done w.reached → record_of text ≡ streams_of done ++ w.open_part → got ++ s.left ≡ replies_of done
@@ -169,7 +177,7 @@ module _ (start : Gateway) (s : ServedState) (text got reply behind : List ℕ) 
         mid = mid;
         exchanged = first;
         message_is = sym (record-is-whole x.stream x.message first.whole).kept ∙ ap (λ ys. (fed first_buffer ys).kept) one.0 ∙ (record-whole text short).kept;
-        reply_is = subst (λ ys. IsWhole ys reply) back.0 front-whole;
+        reply_is = subst (λ ys. IsWhole RECORD_MAX ys reply) back.0 front-whole;
         none_behind = left.0;
         idle = still.0;
         after = subst (λ g. IsStill g s) one.2 still.1;

@@ -1,5 +1,5 @@
 -- Whole records on a stream, and the one way to cut a stream into them.
-use Rattle.std.proofs.Common.{◌≡◌, ℕ, suc, ◌+◌, ◌-◌, ◌<◌, ◌≤◌, Bool, true, false, List, [], ◌∷◌, ◌++◌, length, take, drop, refl, sym, ap, subst, ◌∙◌, inl, inr, ◌⊎◌, arith, append-nil}
+use Rattle.std.proofs.Common.{◌≡◌, ℕ, suc, ◌+◌, ◌-◌, ◌<◌, ◌≤◌, ◌^◌, ◌==◌, ◌&&◌, if◌then◌else◌, Bool, true, false, List, [], ◌∷◌, ◌++◌, length, take, drop, refl, sym, ap, subst, ◌∙◌, inl, inr, ◌⊎◌, arith, append-nil}
 use Rattle.std.specs.Prelude.{nat_lt}
 use Rattle.std.proofs.Math.Seq.{take-append_seam, drop-append_seam}
 use Rattle.std.proofs.lemmas.Bool.Decides.{nat_tests}
@@ -8,11 +8,11 @@ use Rattle.std.proofs.lemmas.List.{length-take, take-append-drop}
 use Rattle.vx_calls.specs.declared.limits.TheConstants.{RECORD_MAX}
 use Rattle.vx_record.specs.declared.Feed.{Feed}
 use Rattle.vx_record.specs.declared.Feed.TheVariants as feed
-use Rattle.vx_record.specs.Fragments.{last_header, record_of}
+use Rattle.vx_record.specs.Fragments.{fragment_length, is_last, last_header, record_of}
 use Rattle.vx_record.specs.Records.{Split, records}
-use Rattle.vx_record.specs.Buffer.{BufState, fresh, step, fed, taken}
-use Rattle.vx_record.specs.Ends.{is_settled, is_settled_by, IsEnd, FeedEnds}
-use Rattle.vx_record.specs.ProvedLaws.{fed-stopped, taken-more, taken-stopped, fed-append}
+use Rattle.vx_record.specs.Buffer.{BufState, fresh, counted, closed, opened, header_byte, body_bytes, step_at, step, fed, one_more_at, taken}
+use Rattle.vx_record.specs.Ends.{is_settled, IsEnd, FeedEnds}
+use Rattle.vx_record.specs.ProvedLaws.{step-limit, fed-stopped, taken-more, taken-stopped, fed-append}
 use Rattle.vx_record.proofs.Ends.{feed-ends}
 use Rattle.vx_record.proofs.Headers.{fragment_length-last_header}
 use Rattle.vx_record.proofs.Spelling.{records-finished, records-open}
@@ -22,11 +22,11 @@ use Rattle.vx_loop.specs.Exchanges.{IsRecord}
 abbrev pub first_buffer : BufState
 first_buffer = fresh RECORD_MAX
 
--- these bytes are one whole record of this message, with nothing behind it
-pub record IsWhole (stream message : List ℕ) : Type 0 where
-  pub state : (fed first_buffer stream).state ≡ feed.Whole
-  pub kept : (fed first_buffer stream).kept ≡ message
-  pub all : taken first_buffer stream ≡ length stream
+-- these bytes are one whole record of this message, no longer than the limit, with nothing behind it
+pub record IsWhole (limit : ℕ) (stream message : List ℕ) : Type 0 where
+  pub state : (fed (fresh limit) stream).state ≡ feed.Whole
+  pub kept : (fed (fresh limit) stream).kept ≡ message
+  pub all : taken (fresh limit) stream ≡ length stream
 
 -- a record that is whole, or too long, takes no more
 whole-stops : (s : BufState) → s.state ≡ feed.Whole → s.state ≡ feed.More → ⊥
@@ -80,8 +80,8 @@ fed-taken s (x ∷ xs) = by (is-open s.state) (fed-taken (step s x) xs) where
 -- ---- whole records
 
 -- an empty stream has no record
-pub none-yet : records RECORD_MAX [] ≡ record { records = []; rest = []; too_long = false }
-none-yet = records-open RECORD_MAX [] [] tt (omega arith) (inl (omega arith))
+pub none-yet : (limit : ℕ) → records limit [] ≡ record { records = []; rest = []; too_long = false }
+none-yet limit = records-open limit [] [] tt (omega arith) (inl (omega arith))
 
 -- a piece that a buffer takes whole, and that makes its record whole, ends a stream of one record
 pub ends-record : (part piece : List ℕ) (buffer : BufState) → buffer ≡ fed first_buffer part → buffer.state ≡ feed.More → 0 < length piece
@@ -113,30 +113,30 @@ end-whole feed.More kept message split h is = let both : [] ≡ message ∷ [] =
 end-whole feed.TooLong kept message split h is = let both : [] ≡ message ∷ [] = sym h.0 ∙ is in absurd (cc)
 end-whole feed.Whole kept message split h is = let both : kept ∷ [] ≡ message ∷ [] = sym h ∙ is in (refl, cc)
 
-pub whole-by : (stream message : List ℕ) → 0 < length stream → is_settled (records RECORD_MAX (take (length stream - 1) stream)) ≡ false
-    → (records RECORD_MAX stream).records ≡ message ∷ [] → IsWhole stream message
-whole-by stream message some open_before is =
-    let ends = feed-ends RECORD_MAX [] stream refl some in
-    let all = taken-whole (taken first_buffer stream) (length stream) _ (taken-within first_buffer stream) open_before ends.settled_before in
-    let end = end-whole (fed first_buffer stream).state (fed first_buffer stream).kept message (records RECORD_MAX stream) (ends.ends all) is in
+pub whole-by : (limit : ℕ) (stream message : List ℕ) → 0 < length stream → is_settled (records limit (take (length stream - 1) stream)) ≡ false
+    → (records limit stream).records ≡ message ∷ [] → IsWhole limit stream message
+whole-by limit stream message some open_before is =
+    let ends = feed-ends limit [] stream refl some in
+    let all = taken-whole (taken (fresh limit) stream) (length stream) _ (taken-within (fresh limit) stream) open_before ends.settled_before in
+    let end = end-whole (fed (fresh limit) stream).state (fed (fresh limit) stream).kept message (records limit stream) (ends.ends all) is in
     record { state = end.0; kept = end.1; all = all }
 
 -- what the split of a stream says and what a buffer says of it are the same
-pub record-is-whole : (stream message : List ℕ) → IsRecord stream message → IsWhole stream message
-record-is-whole [] message r = absurd (let none : [] ≡ message ∷ [] = ap (λ (s : Split). s.records) (sym none-yet) ∙ r.whole in cc)
-record-is-whole (x ∷ xs) message r = whole-by (x ∷ xs) message (omega arith) r.shortest r.whole
+pub record-is-whole : (stream message : List ℕ) → IsRecord stream message → IsWhole RECORD_MAX stream message
+record-is-whole [] message r = absurd (let none : [] ≡ message ∷ [] = ap (λ (s : Split). s.records) (sym (none-yet RECORD_MAX)) ∙ r.whole in cc)
+record-is-whole (x ∷ xs) message r = whole-by RECORD_MAX (x ∷ xs) message (omega arith) r.shortest r.whole
 
-pub whole-is-record : (stream message : List ℕ) → IsWhole stream message → IsRecord stream message
+pub whole-is-record : (stream message : List ℕ) → IsWhole RECORD_MAX stream message → IsRecord stream message
 whole-is-record [] message w = absurd (let both : feed.More ≡ feed.Whole = w.state in cc)
 whole-is-record (x ∷ xs) message w = subst (IsRecord (x ∷ xs)) w.kept (ends-record [] (x ∷ xs) first_buffer refl refl (omega arith) w.all w.state)
 
 -- a whole record has a byte
-pub whole-some : (stream message : List ℕ) → IsWhole stream message → stream ≡ [] → ⊥
+pub whole-some : (stream message : List ℕ) → IsWhole RECORD_MAX stream message → stream ≡ [] → ⊥
 whole-some [] message w none = let both : feed.More ≡ feed.Whole = w.state in cc
 whole-some (x ∷ xs) message w none = cc
 
 -- without its last bytes it has none yet
-pub front-more : (stream message : List ℕ) (n : ℕ) → IsWhole stream message → n < length stream → (fed first_buffer (take n stream)).state ≡ feed.More
+pub front-more : (stream message : List ℕ) (n : ℕ) → IsWhole RECORD_MAX stream message → n < length stream → (fed first_buffer (take n stream)).state ≡ feed.More
 front-more stream message n w less = by (is-open (fed first_buffer (take n stream)).state) where
   by : ((fed first_buffer (take n stream)).state ≡ feed.More) ⊎ ((fed first_buffer (take n stream)).state ≡ feed.More → ⊥) → (fed first_buffer (take n stream)).state ≡ feed.More
   by (inl more) = more
@@ -149,12 +149,81 @@ front-more stream message n w less = by (is-open (fed first_buffer (take n strea
       let all = w.all in
       absurd (omega arith)
 
--- a stream with a whole record is settled
-settled-at : (split : Split) (message : List ℕ) → split.records ≡ message ∷ [] → is_settled split ≡ true
-settled-at split message h = ap (λ rs. is_settled_by rs split.too_long) h
+-- ---- a greater limit
 
-pub whole-settled : (stream message : List ℕ) → IsWhole stream message → is_settled (records RECORD_MAX stream) ≡ true
-whole-settled stream message w = settled-at (records RECORD_MAX stream) message (whole-is-record stream message w).whole
+-- the same buffer with another limit
+abbrev wide : ℕ → BufState → BufState
+wide big s = record s { limit = big }
+
+-- where a fragment ends
+closed-wide : (big : ℕ) (s : BufState) → closed (wide big s) ≡ wide big (closed s)
+closed-wide big s = by ((s.left == 0) && s.last) where
+  by : (done : Bool) → (if done then record (wide big s) { state = feed.Whole; rest = 0 } else wide big s) ≡ wide big (if done then record s { state = feed.Whole; rest = 0 } else s)
+  by true = refl
+  by false = refl
+
+-- where one begins that fits
+opened-wide : (big : ℕ) (s : BufState) (header : List ℕ) → s.limit ≤ big → ((opened s header).state ≡ feed.TooLong → ⊥) → opened (wide big s) header ≡ wide big (opened s header)
+opened-wide big s header more fits =
+    by (nat_lt s.limit size) (nat_lt big size) refl refl fits where
+      size : ℕ
+      size = length s.kept + fragment_length header
+
+      behind : BufState
+      behind = record s { header = []; last = is_last header; left = fragment_length header }
+
+      by : (long long_still : Bool) → nat_lt s.limit size ≡ long → nat_lt big size ≡ long_still
+          → ((if long then record s { header = []; state = feed.TooLong } else closed behind).state ≡ feed.TooLong → ⊥)
+          → (if long_still then record (wide big s) { header = []; state = feed.TooLong } else closed (wide big behind))
+          ≡ wide big (if long then record s { header = []; state = feed.TooLong } else closed behind)
+      by true still e f fits = absurd (fits refl)
+      by false true e f fits = let short : size ≤ s.limit = grind (arith, nat_tests) in let long : big < size = grind (arith, nat_tests) in absurd (omega arith)
+      by false false e f fits = closed-wide big behind
+
+-- a stream byte does the same to it, unless it makes the record too long
+step-wide : (big : ℕ) (s : BufState) (byte : ℕ) → s.limit ≤ big → ((step s byte).state ≡ feed.TooLong → ⊥) → step (wide big s) byte ≡ wide big (step s byte)
+step-wide big s byte more fits = by s.state fits where
+  header : (part : Bool) → ((if part then record (counted s 1) { header = s.header ++ byte ∷ [] } else opened (counted s 1) (s.header ++ byte ∷ [])).state ≡ feed.TooLong → ⊥)
+      → (if part then record (wide big (counted s 1)) { header = s.header ++ byte ∷ [] } else opened (wide big (counted s 1)) (s.header ++ byte ∷ []))
+      ≡ wide big (if part then record (counted s 1) { header = s.header ++ byte ∷ [] } else opened (counted s 1) (s.header ++ byte ∷ []))
+  header true fits = refl
+  header false fits = opened-wide big (counted s 1) (s.header ++ byte ∷ []) more fits
+
+  at : (none : Bool) → ((if none then header_byte (counted s 1) byte else body_bytes (counted s 1) (byte ∷ [])).state ≡ feed.TooLong → ⊥)
+      → (if none then header_byte (wide big (counted s 1)) byte else body_bytes (wide big (counted s 1)) (byte ∷ []))
+      ≡ wide big (if none then header_byte (counted s 1) byte else body_bytes (counted s 1) (byte ∷ []))
+  at true fits = header (nat_lt (length s.header) 3) fits
+  at false fits = closed-wide big (record (counted s 1) { kept = s.kept ++ byte ∷ []; left = s.left - 1 })
+
+  by : (state : Feed) → ((step_at state s byte).state ≡ feed.TooLong → ⊥) → step_at state (wide big s) byte ≡ wide big (step_at state s byte)
+  by feed.More fits = at (s.left == 0) fits
+  by feed.Whole fits = refl
+  by feed.TooLong fits = refl
+
+-- a buffer that isn't too long at the end was so at no byte
+fits-first : (s : BufState) (xs : List ℕ) → ((fed s xs).state ≡ feed.TooLong → ⊥) → s.state ≡ feed.TooLong → ⊥
+fits-first s xs fits long =
+    fits (ap (λ (t : BufState). t.state) (fed-stopped s xs (λ more. let both : feed.TooLong ≡ feed.More = sym long ∙ more in cc)) ∙ long)
+
+-- where it isn't too long it takes the same bytes to the same record by a greater limit
+fed-wide : (big : ℕ) (s : BufState) (xs : List ℕ) → s.limit ≤ big → ((fed s xs).state ≡ feed.TooLong → ⊥)
+    → (fed (wide big s) xs ≡ wide big (fed s xs)) × (taken (wide big s) xs ≡ taken s xs)
+fed-wide big s [] more fits = (refl, refl)
+fed-wide big s (x ∷ xs) more fits =
+    let one = step-wide big s x more (fits-first (step s x) xs fits) in
+    let limit = step-limit s x in
+    let rest = fed-wide big (step s x) xs (omega arith) fits in
+    (ap (λ t. fed t xs) one ∙ rest.0, ap (λ t. one_more_at s.state (taken t xs)) one ∙ ap (one_more_at s.state) rest.1)
+
+-- a whole record is one by a greater limit too
+pub whole-wider : (small big : ℕ) (stream message : List ℕ) → small ≤ big → IsWhole small stream message → IsWhole big stream message
+whole-wider small big stream message more w =
+    let same = fed-wide big (fresh small) stream more (λ long. let both : feed.Whole ≡ feed.TooLong = sym w.state ∙ long in cc) in
+    record {
+      state = ap (λ (s : BufState). s.state) same.0 ∙ w.state;
+      kept = ap (λ (s : BufState). s.kept) same.0 ∙ w.kept;
+      all = same.1 ∙ w.all;
+    }
 
 -- ---- a message as a record of one fragment
 
@@ -174,13 +243,18 @@ part-open (b ∷ bs) short =
     (records-open RECORD_MAX [] (header ++ take (length bs) (b ∷ bs)) tt (omega arith)
     (inr (header, take (length bs) (b ∷ bs), refl, refl, (omega arith), (omega arith))))
 
-pub record-whole : (message : List ℕ) → length message ≤ RECORD_MAX → IsWhole (record_of message) message
+pub record-whole : (message : List ℕ) → length message ≤ RECORD_MAX → IsWhole RECORD_MAX (record_of message) message
 record-whole message short =
     let all = records-finished RECORD_MAX [] message [] tt (omega arith) (omega arith) in
     let is : (records RECORD_MAX (record_of message)).records ≡ message ∷ [] =
     ap (λ xs. (records RECORD_MAX xs).records) (sym (append-nil (record_of message))) ∙ ap (λ (s : Split). s.records) all
-    ∙ ap (λ (s : Split). message ∷ s.records) none-yet in
-    whole-by (record_of message) message (omega arith) (ap is_settled (part-open message short)) is
+    ∙ ap (λ (s : Split). message ∷ s.records) (none-yet RECORD_MAX) in
+    whole-by RECORD_MAX (record_of message) message (omega arith) (ap is_settled (part-open message short)) is
+
+-- whoever takes so long a record has one then
+pub record-settled : (limit : ℕ) (message : List ℕ) → length message < 2 ^ 31 → length message ≤ limit → is_settled (records limit (record_of message)) ≡ true
+record-settled limit message small short =
+    ap (λ xs. is_settled (records limit xs)) (sym (append-nil (record_of message))) ∙ ap is_settled (records-finished limit [] message [] tt small short)
 
 -- ---- a stream is cut into records in one way
 
@@ -191,19 +265,19 @@ fronts a b xs ys h e = (
   sym (drop-append_seam a xs) ∙ ap (drop (length a)) h ∙ ap (λ n. drop n (b ++ ys)) e ∙ drop-append_seam b ys,
 )
 
-taken-front : (a xs message : List ℕ) → IsWhole a message → taken first_buffer (a ++ xs) ≡ length a
+taken-front : (a xs message : List ℕ) → IsWhole RECORD_MAX a message → taken first_buffer (a ++ xs) ≡ length a
 taken-front a xs message w =
     let n = taken-append first_buffer a xs in
     let none = taken-stopped (fed first_buffer a) xs (whole-stops (fed first_buffer a) w.state) in
     let all = w.all in
     omega arith
 
-pub whole-unique : (a b xs ys m n : List ℕ) → IsWhole a m → IsWhole b n → a ++ xs ≡ b ++ ys → (a ≡ b) × (xs ≡ ys)
+pub whole-unique : (a b xs ys m n : List ℕ) → IsWhole RECORD_MAX a m → IsWhole RECORD_MAX b n → a ++ xs ≡ b ++ ys → (a ≡ b) × (xs ≡ ys)
 whole-unique a b xs ys m n w v h =
     fronts a b xs ys h (sym (taken-front a xs m w) ∙ ap (taken first_buffer) h ∙ taken-front b ys n v)
 
 -- a stream with no whole record doesn't begin with one
-pub open-front : (a xs part m : List ℕ) → IsWhole a m → (fed first_buffer part).state ≡ feed.More → part ≡ a ++ xs → ⊥
+pub open-front : (a xs part m : List ℕ) → IsWhole RECORD_MAX a m → (fed first_buffer part).state ≡ feed.More → part ≡ a ++ xs → ⊥
 open-front a xs part m w waits h =
     let stays : fed first_buffer (a ++ xs) ≡ fed first_buffer a = fed-append first_buffer a xs ∙ fed-stopped (fed first_buffer a) xs (whole-stops (fed first_buffer a) w.state) in
     let both : feed.Whole ≡ feed.More = sym w.state ∙ ap (λ (s : BufState). s.state) (sym stays) ∙ ap (λ ps. (fed first_buffer ps).state) (sym h) ∙ waits in
