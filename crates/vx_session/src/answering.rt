@@ -15,7 +15,6 @@ ghost use Rattle.vx_rules.specs.Calls.{IsShort};
 
 use crate::turns::{abort, come, poll_again, settle};
 use std::sync::Wait;
-use std::thread;
 use vx_bus_traits::Bus;
 use vx_calls::{CallRef, Role};
 use vx_core::{Core, Why};
@@ -125,9 +124,10 @@ fn serve_record<R: Wait, B: Bus, T: Turns<Core<B>>, C: Clock, P: Pause, D: Dial>
     }
 }
 
-/// Has a call answered: it comes and is polled in one turn, and is polled again, with a rest outside the gate between two
-/// polls, until it is answered, or until it asks for a dial, which is made then. The record of the reply, of so many bytes,
-/// stands at the front of `reply`.
+/// Has a call answered: it comes and is polled in one turn, and is polled again, each time in a new turn, until it is answered, or
+/// until it asks for a dial, which is made then. Between two polls it is outside the gate, and pauses there where it waits
+/// (`rest`). Behind a call of more than a slice it pauses once, before its reply goes out, so that who waits for the bus finds it
+/// free. The record of the reply, of so many bytes, stands at the front of `reply`.
 pub(crate) fn answer_call<R: Wait, B: Bus, T: Turns<Core<B>>, C: Clock, P: Pause, D: Dial>(
     rt: &R,
     turns: &T,
@@ -153,13 +153,20 @@ pub(crate) fn answer_call<R: Wait, B: Bus, T: Turns<Core<B>>, C: Clock, P: Pause
     ensures len { length reply.new ≡ length reply.old }
 {
     let (mut pass, mut end) = come(rt, turns, pass, conn, xid, call, clock.now(), reply);
+    let mut was_sliced = false;
     for _ in rt.forever() {
         match end {
-            PollEnd::Replied { len, .. } => return (pass, len),
+            PollEnd::Replied { len, .. } => {
+                if was_sliced {
+                    pause.pause();
+                }
+                return (pass, len);
+            }
             PollEnd::Dial { host, port } => {
                 return answer_dial(rt, turns, pass, conn, xid, host, port, clock, dial, reply);
             }
             PollEnd::NotYet(why) => {
+                was_sliced = was_sliced || matches!(why, Why::Slice);
                 rest(pause, why);
                 (pass, end) = poll_again(rt, turns, pass, conn, xid, clock.now(), reply);
             }
@@ -168,11 +175,12 @@ pub(crate) fn answer_call<R: Wait, B: Bus, T: Turns<Core<B>>, C: Clock, P: Pause
     unreachable!()
 }
 
-/// Rests outside the gate before a call is polled again. It pauses where the call waits: for a lock, for a turn or for the bus. A
-/// full slice waits for nobody, so behind one the thread only gives its processor away.
+/// Rests outside the gate before a call is polled again: it pauses where the call waits for a lock, for another call, for a turn
+/// or for the bus, and not where its slice is full.
 fn rest<P: Pause>(pause: &mut P, why: Why) {
     match why {
-        Why::Slice => thread::yield_now(),
+        // waits for nobody, and keeps the bus from all until its turn is whole; who drew a ticket meanwhile goes first
+        Why::Slice => {}
         Why::Locked { .. } | Why::Behind { .. } | Why::Turn { .. } | Why::Held => pause.pause(),
     }
 }
