@@ -6,9 +6,10 @@ use Rattle.vx_trace.specs.declared.lines.Line.{Line}
 use Rattle.vx_play.specs.Printing.{Writable}
 
 -- a line that fits into a room fits into a larger one
-pub writable-more : (line : Option Line) (small large : ℕ) → small ≤ large → IfSome line (λ l. Writable l small) → IfSome line (λ l. Writable l large)
-writable-more None small large more h = tt
-writable-more (Some line) small large more h = record { whole = h.whole; fits = (let f = h.fits in omega arith) }
+pub writable-more : (moment : Option ℕ) (line : Option Line) (small large : ℕ) → small ≤ large → IfSome line (λ l. Writable moment l small)
+    → IfSome line (λ l. Writable moment l large)
+writable-more moment None small large more h = tt
+writable-more moment (Some line) small large more h = record { whole = h.whole; first = h.first; fits = (let f = h.fits in omega arith) }
 
 -- as many bytes as are left behind the first text
 pub left-behind : (room new : List ℕ) (m len : ℕ) → m ≤ length room → length new ≡ m → len ≤ m

@@ -15,7 +15,7 @@ use Rattle.vx_flow.specs.Does.{beside}
 use Rattle.vx_flow.specs.Sound.{IsSound}
 use Rattle.vx_flow.specs.ProvedLaws.{fine-does, stays_sound-law, first-sound}
 use Rattle.vx_play.specs.Gateway.{abort_port}
-use Rattle.vx_play.specs.Item.{Item}
+use Rattle.vx_run.specs.Item.{Item}
 use Rattle.vx_play.specs.Stage.{Stage, refusal}
 use Rattle.vx_play.specs.Play.{Takes}
 use Rattle.vx_play.proofs.Idle.{idle-stays}

@@ -13,7 +13,7 @@ use Rattle.vx_record.proofs.Ends.{feed-ends}
 use Rattle.vx_bus_traits.specs.Steps.{Cut}
 use Rattle.vx_script.specs.declared.Cause.TheVariants as cause
 use Rattle.vx_script.specs.Command.{Command, Up, In, Down}
-use Rattle.vx_trace.specs.Output.{Output}
+use Rattle.vx_trace.specs.Output.{Output, Call}
 use Rattle.vx_rules.specs.Lists.{along}
 use Rattle.vx_rules.specs.State.{Pending, role_at, pending_at, has_room}
 use Rattle.vx_flow.specs.Event.{Event}
@@ -21,6 +21,7 @@ use Rattle.vx_flow.specs.Event as event
 use Rattle.vx_flow.specs.FineState.{FineState}
 use Rattle.vx_flow.specs.Fine.{fine}
 use Rattle.vx_flow.specs.ProvedLaws.{fine-does, fine-frame}
+use Rattle.vx_play.specs.declared.note.Intake.TheVariants as intake
 use Rattle.vx_play.specs.declared.note.Made.{Made}
 use Rattle.vx_play.specs.declared.note.Gone.TheVariants as gone
 use Rattle.vx_play.specs.declared.note.Note.TheVariants as note
@@ -28,18 +29,21 @@ use Rattle.vx_bench.specs.declared.stops.Stop.{Stop}
 use Rattle.vx_bench.specs.declared.stops.Stop.TheVariants as stop
 use Rattle.vx_play.specs.declared.pieces.Incoming.{Incoming}
 use Rattle.vx_play.specs.Gateway.{Gateway, gateway_of, BusGoes, Happens}
-use Rattle.vx_play.specs.Stream.{Brought, NoEnd, Whole, TooLong, After, brought, by_split, kept_after}
+use Rattle.vx_run.specs.Stream.{Brought, NoEnd, Whole, TooLong, After, brought, by_split, kept_after, message_by}
+use Rattle.vx_run.specs.RunText.{message_lines}
 use Rattle.vx_exchange.specs.Meaning.{Meaning, Junk, Answered, Asks, Aborts, meaning, xid_by}
-use Rattle.vx_play.specs.Stage.{Stage, tables_of, refusal, refused_by}
+use Rattle.vx_play.specs.Stage.{Stage, tables_of, refusal}
+use Rattle.vx_run.specs.Forming.{refused_by}
 use Rattle.vx_play.specs.Making.{MessageMakes, RecordMakes, PieceMakes, Makes}
-use Rattle.vx_play.specs.Play.{stream_after, xid_after, xid_of, xid_brought}
+use Rattle.vx_play.specs.Play.{stream_after, xid_after}
+use Rattle.vx_run.specs.Position.{xid_of, xid_brought}
 use Rattle.vx_play.specs.PlayerState.{PlayerState, incoming_at}
 use Rattle.vx_play.specs.Serving.{MadeBy}
 use Rattle.vx_play.specs.Feeding.{kept_behind, AnswersRecord, FeedMakes, FeedsPiece, StopsPiece}
-use Rattle.vx_play.specs.Standing.{HoldsStream, Holds, Stands, IsReady, IsPrintable, TakesTo, StopsFor, made_lines}
+use Rattle.vx_play.specs.Standing.{HoldsStream, Holds, Stands, IsReady, IsPrintable, TakesTo, StopsFor}
 use Rattle.vx_play.specs.ProvedLaws.{by_end, brought_of}
 use Rattle.vx_play.proofs.Roles.{roles-stay, polls-roles, up-lives, up-others, down-roles, down-others}
-use Rattle.vx_play.proofs.Stepping.{HoldsBehind, made-there, takes-to}
+use Rattle.vx_play.proofs.Stepping.{HoldsBehind, made-there, takes-to, call_lines}
 use Rattle.vx_play.proofs.Feeds.{kept-behind}
 
 -- ---- what is kept of connections
@@ -153,9 +157,9 @@ pub up-takes : (stage : Stage) (old new : PlayerState) (conn n : ℕ) (r : Role)
     → fine old.core.fine (event.Up n r) ≡ Some new.core.fine → BusGoes old.core.bus (Cut ∷ []) new.core.bus
     → incoming_at new.incoming conn ≡ Some (record { buffer = fresh RECORD_MAX; xid = 0 })
     → ((m : ℕ) → m ≢ conn → incoming_at new.incoming m ≡ incoming_at old.incoming m) → new.rack ≡ old.rack → new.moment ≡ old.moment
-    → TakesTo stage (Up conn r) (made_lines new (record { polled = None; note = note.Nothing; answered = None })) None new
+    → TakesTo stage (Up conn r) (record { intake = intake.Up conn r; polled = None; note = note.Nothing; answered = None }) new
 up-takes stage old new conn n r stands at came walk here others rack moment =
-    let made : Made = record { polled = None; note = note.Nothing; answered = None } in
+    let made : Made = record { intake = intake.Up conn r; polled = None; note = note.Nothing; answered = None } in
     let same : n ≡ conn = (fine-does old.core.fine new.core.fine (event.Up n r) came).step.number ∙ sym at in
     let up : fine old.core.fine (event.Up conn r) ≡ Some new.core.fine = subst (λ k. fine old.core.fine (event.Up k r) ≡ Some new.core.fine) same came in
     let lives = up-lives old.core.fine new.core.fine conn r up in
@@ -164,8 +168,8 @@ up-takes stage old new conn n r stands at came walk here others rack moment =
     let happens : Happens stage.gateway (event.Up conn r ∷ []) (Cut ∷ []) (gateway_of new.core) =
     subst (λ g. Happens g (event.Up conn r ∷ []) (Cut ∷ []) (gateway_of new.core)) stands.gateway (record { events = up; bus = walk }) in
     takes-to stage (Up conn r) new made (up-came stage old new.core.fine conn n r stands at came)
-    (record { group = event.Up conn r ∷ []; makes = (refl, happens, refl); lines = refl; answered = refl; note = tt; few = λ polled. absurd (false≢true polled) })
-    (omega arith) (moment ∙ stands.moment) (rack ∙ stands.rack)
+    (record { group = event.Up conn r ∷ []; makes = (refl, happens, refl); lines = refl; lines2 = refl; answered = refl; note = tt; few = λ polled. absurd (false≢true polled) })
+    refl (omega arith) (moment ∙ stands.moment) (rack ∙ stands.rack)
     (behind stage (Up conn r) conn old new stands
     (record {
       roles = λ m ne. up-others old.core.fine new.core.fine conn r m (λ e. ne (sym e)) up;
@@ -205,9 +209,9 @@ behind-gone before command conn old new stands went here others streams xids =
 pub down-takes : (stage : Stage) (old new : PlayerState) (conn : ℕ) (r : Role) → Stands old stage → role_at old.core.fine.state.tables conn ≡ Some r
     → Happens (gateway_of old.core) (event.Down conn ∷ []) (Cut ∷ []) (gateway_of new.core) → incoming_at new.incoming conn ≡ None
     → ((m : ℕ) → m ≢ conn → incoming_at new.incoming m ≡ incoming_at old.incoming m) → new.rack ≡ old.rack → new.moment ≡ old.moment
-    → TakesTo stage (Down conn) (made_lines new (record { polled = None; note = note.Ended conn gone.Down; answered = None })) None new
+    → TakesTo stage (Down conn) (record { intake = intake.Nothing; polled = None; note = note.Ended conn gone.Down; answered = None }) new
 down-takes stage old new conn r stands live went here others rack moment =
-    let made : Made = record { polled = None; note = note.Ended conn gone.Down; answered = None } in
+    let made : Made = record { intake = intake.Nothing; polled = None; note = note.Ended conn gone.Down; answered = None } in
     let down : fine old.core.fine (event.Down conn) ≡ Some new.core.fine = went.events in
     let still : new.core.fine.state.moment ≡ old.core.fine.state.moment = (fine-frame old.core.fine new.core.fine (event.Down conn) down).moment_is in
     let late : old.core.fine.state.moment ≤ old.moment = stands.late in
@@ -218,11 +222,12 @@ down-takes stage old new conn r stands live went here others rack moment =
       group = event.Down conn ∷ [];
       makes = record { events = refl; happens = happens; told = refl };
       lines = refl;
+      lines2 = refl;
       answered = refl;
       note = tt;
       few = λ polled. absurd (false≢true polled);
     })
-    (omega arith) (moment ∙ stands.moment) (rack ∙ stands.rack)
+    refl (omega arith) (moment ∙ stands.moment) (rack ∙ stands.rack)
     (behind-gone stage (Down conn) conn old new stands down here others (λ m ne. refl) (λ m ne. refl))
 
 -- ---- a piece of a stream comes
@@ -346,18 +351,18 @@ fed-holds stage old new conn r kept piece f =
 -- a piece that isn't refused, by what it brings
 fed-takes : (stage : Stage) (old new : PlayerState) (conn : ℕ) (r : Role) (kept : Incoming) (piece : List ℕ) (b : Brought) (made : Made) → Fed stage old new conn r kept piece
     → brought (stage.streams conn) piece ≡ b → refused_by b ≡ None → MadeBy (PieceMakes (gateway_of old.core) conn old.moment b) new.reply made new.core
-    → HoldsBehind stage (In conn piece) new → TakesTo stage (In conn piece) (made_lines new made) made.answered new
-fed-takes stage old new conn r kept piece b made f is allowed made_by holds =
+    → message_lines (In conn piece) (message_by b) ≡ call_lines new.message made.intake → HoldsBehind stage (In conn piece) new → TakesTo stage (In conn piece) made new
+fed-takes stage old new conn r kept piece b made f is allowed made_by called holds =
     let late = f.late in
     let moment = f.moment in
     takes-to stage (In conn piece) new made (piece-refusal stage old conn r piece b f.stands f.live f.idle is ∙ allowed)
-    (piece-made stage old new conn piece b made f.stands is made_by) (omega arith) (f.moment ∙ f.stands.moment) (f.rack ∙ f.stands.rack) holds
+    (piece-made stage old new conn piece b made f.stands is made_by) (ap (λ k. message_lines (In conn piece) (message_by k)) is ∙ called) (omega arith) (f.moment ∙ f.stands.moment) (f.rack ∙ f.stands.rack) holds
 
 -- no record ends in it
 more-takes : (stage : Stage) (old new : PlayerState) (conn : ℕ) (r : Role) (kept : Incoming) (piece : List ℕ) → Fed stage old new conn r kept piece
     → brought (stage.streams conn) piece ≡ NoEnd → (fed kept.buffer piece).state ≡ feed.More → gateway_of new.core ≡ gateway_of old.core
     → incoming_at new.incoming conn ≡ Some (record kept { buffer = fed kept.buffer piece })
-    → TakesTo stage (In conn piece) (made_lines new (record { polled = None; note = note.Nothing; answered = None })) None new
+    → TakesTo stage (In conn piece) (record { intake = intake.Nothing; polled = None; note = note.Nothing; answered = None }) new
 more-takes stage old new conn r kept piece f is more same there =
     let holds = fed-holds stage old new conn r kept piece f in
     let roles : (m : ℕ) → role_at new.core.fine.state.tables m ≡ role_at old.core.fine.state.tables m = λ m. ap (λ (g : Gateway). role_at g.fine.state.tables m) same in
@@ -367,8 +372,8 @@ more-takes stage old new conn r kept piece f is more same there =
     here-stream stage conn piece ∙ ap (λ b. kept_after b (stage.streams conn ++ piece)) is in
     let xid : xid_after stage (In conn piece) conn ≡ stage.xids conn =
     here-xid stage conn piece ∙ ap (λ b. xid_brought b (role_at (tables_of stage) conn) (stage.xids conn)) is in
-    fed-takes stage old new conn r kept piece NoEnd (record { polled = None; note = note.Nothing; answered = None }) f is refl
-    (record { group = []; makes = (record { none = refl; same = same }, refl); lines = refl; answered = refl; note = tt; few = λ polled. absurd (false≢true polled) })
+    fed-takes stage old new conn r kept piece NoEnd (record { intake = intake.Nothing; polled = None; note = note.Nothing; answered = None }) f is refl
+    (record { group = []; makes = (record { none = refl; same = same }, refl); lines = refl; lines2 = refl; answered = refl; note = tt; few = λ polled. absurd (false≢true polled) }) refl
     (behind stage (In conn piece) conn old new f.stands
     (record { roles = λ m ne. roles m; incoming = f.others; streams = λ m ne. other-stream stage conn m piece ne; xids = λ m ne. other-xid stage conn m piece ne })
     (holds-some _ r _ (record kept { buffer = fed kept.buffer piece }) _ _ (roles conn ∙ f.live) there
@@ -378,17 +383,18 @@ more-takes stage old new conn r kept piece f is more same there =
 long-takes : (stage : Stage) (old new : PlayerState) (conn : ℕ) (r : Role) (kept : Incoming) (piece : List ℕ) → Fed stage old new conn r kept piece
     → brought (stage.streams conn) piece ≡ TooLong → Happens (gateway_of old.core) (event.Down conn ∷ []) (Cut ∷ []) (gateway_of new.core)
     → incoming_at new.incoming conn ≡ None
-    → TakesTo stage (In conn piece) (made_lines new (record { polled = None; note = note.Ended conn gone.Long; answered = None })) None new
+    → TakesTo stage (In conn piece) (record { intake = intake.Nothing; polled = None; note = note.Ended conn gone.Long; answered = None }) new
 long-takes stage old new conn r kept piece f is went there =
-    fed-takes stage old new conn r kept piece TooLong (record { polled = None; note = note.Ended conn gone.Long; answered = None }) f is refl
+    fed-takes stage old new conn r kept piece TooLong (record { intake = intake.Nothing; polled = None; note = note.Ended conn gone.Long; answered = None }) f is refl
     (record {
       group = event.Down conn ∷ [];
       makes = record { events = refl; happens = went; told = refl };
       lines = refl;
+      lines2 = refl;
       answered = refl;
       note = tt;
       few = λ polled. absurd (false≢true polled);
-    })
+    }) refl
     (behind-gone stage (In conn piece) conn old new f.stands went.events there f.others (λ m ne. other-stream stage conn m piece ne) (λ m ne. other-xid stage conn m piece ne))
 
 -- a whole record: what is kept behind it
@@ -432,18 +438,19 @@ record-behind stage old new conn r kept piece made m f means is made_by there = 
 -- a whole record that was answered
 record-takes : (stage : Stage) (old new : PlayerState) (conn : ℕ) (r : Role) (kept : Incoming) (piece : List ℕ) (made : Made) → Fed stage old new conn r kept piece
     → brought (stage.streams conn) piece ≡ Whole (fed kept.buffer piece).kept
-    → AnswersRecord (gateway_of old.core) conn old.moment r (record kept { buffer = fed kept.buffer piece }) new.reply (incoming_at new.incoming conn) made new.core
-    → TakesTo stage (In conn piece) (made_lines new made) made.answered new
+    → AnswersRecord (gateway_of old.core) conn old.moment r (record kept { buffer = fed kept.buffer piece }) new.reply new.message (incoming_at new.incoming conn) made new.core
+    → TakesTo stage (In conn piece) made new
 record-takes stage old new conn r kept piece made f is answers =
     let message = (fed kept.buffer piece).kept in
     fed-takes stage old new conn r kept piece (Whole message) made f is refl
     (subst (λ o. MadeBy (RecordMakes (gateway_of old.core) conn old.moment message o) new.reply made new.core) (sym f.live) answers.made_by)
+    (ap (λ m. Call conn m ∷ []) (sym answers.message_is) ∙ sym (ap (call_lines new.message) answers.intake_is))
     (record-behind stage old new conn r kept piece made (meaning message r) f refl is answers.made_by answers.kept_is)
 
 -- a piece that was taken, whatever it brought
 pub piece-takes : (stage : Stage) (old new : PlayerState) (conn : ℕ) (r : Role) (kept : Incoming) (piece : List ℕ) (made : Made) → Fed stage old new conn r kept piece
-    → FeedMakes (gateway_of old.core) conn old.moment r (record kept { buffer = fed kept.buffer piece }) new.reply (incoming_at new.incoming conn) made new.core (fed kept.buffer piece).state
-    → TakesTo stage (In conn piece) (made_lines new made) made.answered new
+    → FeedMakes (gateway_of old.core) conn old.moment r (record kept { buffer = fed kept.buffer piece }) new.reply new.message (incoming_at new.incoming conn) made new.core (fed kept.buffer piece).state
+    → TakesTo stage (In conn piece) made new
 piece-takes stage old new conn r kept piece made f makes = by (fed kept.buffer piece).state refl makes where
   holds : HoldsStream kept (stage.streams conn) (stage.xids conn)
   holds = fed-holds stage old new conn r kept piece f
@@ -452,17 +459,17 @@ piece-takes stage old new conn r kept piece made f makes = by (fed kept.buffer p
   brings state is = brought-is (stage.streams conn) piece kept.buffer holds.held holds.waits f.some f.whole ∙ ap (λ s. brought_of s (fed kept.buffer piece).kept) is
 
   by : (state : Feed) → (fed kept.buffer piece).state ≡ state
-      → FeedMakes (gateway_of old.core) conn old.moment r (record kept { buffer = fed kept.buffer piece }) new.reply (incoming_at new.incoming conn) made new.core state
-      → TakesTo stage (In conn piece) (made_lines new made) made.answered new
+      → FeedMakes (gateway_of old.core) conn old.moment r (record kept { buffer = fed kept.buffer piece }) new.reply new.message (incoming_at new.incoming conn) made new.core state
+      → TakesTo stage (In conn piece) made new
   by feed.More is h =
-      subst (λ k. TakesTo stage (In conn piece) (made_lines new k) k.answered new) (sym h.2) (more-takes stage old new conn r kept piece f (brings feed.More is) is h.0 h.1)
+      subst (λ k. TakesTo stage (In conn piece) k new) (sym h.2) (more-takes stage old new conn r kept piece f (brings feed.More is) is h.0 h.1)
   by feed.Whole is h = record-takes stage old new conn r kept piece made f (brings feed.Whole is) h
   by feed.TooLong is h =
-      subst (λ k. TakesTo stage (In conn piece) (made_lines new k) k.answered new) (sym h.2) (long-takes stage old new conn r kept piece f (brings feed.TooLong is) h.0 h.1)
+      subst (λ k. TakesTo stage (In conn piece) k new) (sym h.2) (long-takes stage old new conn r kept piece f (brings feed.TooLong is) h.0 h.1)
 
 -- there is room for what it made
 pub piece-printable : (new : PlayerState) (g : Gateway) (conn now : ℕ) (r : Role) (fed_kept : Incoming) (after_kept : Option Incoming) (made : Made) (state : Feed)
-    → FeedMakes g conn now r fed_kept new.reply after_kept made new.core state → IsPrintable new made
+    → FeedMakes g conn now r fed_kept new.reply new.message after_kept made new.core state → IsPrintable new made
 piece-printable new g conn now r fed_kept after_kept made feed.More h =
     subst (IsPrintable new) (sym h.2) (record { note = tt; few = λ polled. absurd (false≢true polled) })
 piece-printable new g conn now r fed_kept after_kept made feed.Whole h = record { note = h.made_by.note; few = h.made_by.few }
@@ -486,7 +493,7 @@ pub record PieceFed (old new : PlayerState) (conn : ℕ) (r : Role) (piece room 
   pub idle : pending_at old.core.fine.state.tables conn ≡ None
   pub some : 0 < length piece
   pub taken : IfOk result (λ made. (kept : Incoming) → incoming_at old.incoming conn ≡ Some kept
-      → FeedsPiece (gateway_of old.core) conn old.moment r kept piece room (incoming_at new.incoming conn) made new.core)
+      → FeedsPiece (gateway_of old.core) conn old.moment r kept piece room new.message (incoming_at new.incoming conn) made new.core)
   pub known : OnOk result (IsSome (incoming_at old.incoming conn))
   pub stopped : IfErr result (λ why. (kept : Incoming) → incoming_at old.incoming conn ≡ Some kept → StopsPiece kept piece why)
   pub late : new.core.fine.state.moment ≤ old.moment
@@ -507,9 +514,9 @@ if-err P R (Err why) h f = f why h
 -- a piece that was taken
 pub pieces-taken : (player old new : PlayerState) (conn : ℕ) (r : Role) (piece room : List ℕ) (result : Result Made Stop) → old ≡ player
     → PieceFed old new conn r piece room result
-    → IfOk result (λ made. (stage : Stage) → Stands player stage → TakesTo stage (In conn piece) (made_lines new made) made.answered new)
+    → IfOk result (λ made. (stage : Stage) → Stands player stage → TakesTo stage (In conn piece) made new)
 pieces-taken player old new conn r piece room result view p =
-    if-ok _ (λ made. (stage : Stage) → Stands player stage → TakesTo stage (In conn piece) (made_lines new made) made.answered new) _ result p.taken p.known
+    if-ok _ (λ made. (stage : Stage) → Stands player stage → TakesTo stage (In conn piece) made new) _ result p.taken p.known
     (λ made feeds known stage stands.
     let found = some-of (incoming_at old.incoming conn) known in
     let kept : Incoming = found.0 in
@@ -527,7 +534,7 @@ pieces-taken player old new conn r piece room result view p =
       rack = p.rack;
       moment = p.moment;
     })
-    (subst (λ x. FeedMakes (gateway_of old.core) conn old.moment r (record kept { buffer = fed kept.buffer piece }) x (incoming_at new.incoming conn) made new.core
+    (subst (λ x. FeedMakes (gateway_of old.core) conn old.moment r (record kept { buffer = fed kept.buffer piece }) x new.message (incoming_at new.incoming conn) made new.core
     (fed kept.buffer piece).state) (sym p.room_is) fed_piece.makes))
 
 -- one that wasn't
@@ -549,5 +556,5 @@ pieces-printable player old new conn r piece room result view p =
     let fed_piece = feeds kept found.1 in
     piece-printable new (gateway_of old.core) conn old.moment r (record kept { buffer = fed kept.buffer piece }) (incoming_at new.incoming conn) made
     (fed kept.buffer piece).state
-    (subst (λ x. FeedMakes (gateway_of old.core) conn old.moment r (record kept { buffer = fed kept.buffer piece }) x (incoming_at new.incoming conn) made new.core
+    (subst (λ x. FeedMakes (gateway_of old.core) conn old.moment r (record kept { buffer = fed kept.buffer piece }) x new.message (incoming_at new.incoming conn) made new.core
     (fed kept.buffer piece).state) (sym p.room_is) fed_piece.makes))

@@ -21,10 +21,11 @@ use Rattle.vx_flow.specs.FineState.{FineState}
 use Rattle.vx_flow.specs.Poll.{Ending, Waited, moved_events, run_events, end_events}
 use Rattle.vx_gen.specs.declared.telling.Counts.{Counts}
 use Rattle.vx_play.specs.Gateway.{Gateway}
-use Rattle.vx_play.specs.Stream.{Brought, NoEnd, Whole, TooLong, After, brought}
-use Rattle.vx_play.specs.Item.{Item, bus_lines, noted, item_lines, events, answer_errors, errors_of, moved, shown_moves}
+use Rattle.vx_run.specs.Stream.{Brought, NoEnd, Whole, TooLong, After, brought}
+use Rattle.vx_run.specs.Item.{Item, bus_lines, noted, item_lines, events, answer_errors, errors_of, moved, shown_moves}
 use Rattle.vx_play.specs.Stage.{Stage, tables_of}
-use Rattle.vx_play.specs.Making.{PollMakes, MessageMakes, RecordMakes, PieceMakes, ChannelMakes, Makes, is_wait, poll_line, take_line}
+use Rattle.vx_play.specs.Making.{PollMakes, MessageMakes, RecordMakes, PieceMakes, ChannelMakes, Makes}
+use Rattle.vx_run.specs.Notes.{is_wait, poll_line, take_line}
 use Rattle.vx_play.specs.Play.{Takes}
 use Rattle.vx_play.specs.Generated.{interrupts, is_failure, errors, notes, counts_of}
 use Rattle.vx_play.specs.Counting.{is_interrupt, counts_behind}

@@ -36,12 +36,12 @@ use Rattle.vx_play.specs.declared.note.Note.TheVariants as note
 use Rattle.vx_play.specs.declared.run.Status.{Status}
 use Rattle.vx_play.specs.declared.run.Status.TheVariants as status
 use Rattle.vx_play.specs.Gateway.{Gateway}
-use Rattle.vx_play.specs.Item.{Item, Fault, noted, errors_of, shown_moves, last_line}
+use Rattle.vx_run.specs.Item.{Item, Fault, noted, errors_of, shown_moves, last_line}
 use Rattle.vx_play.specs.Stage.{Stage, beginning, refusal}
 use Rattle.vx_play.specs.Play.{Takes, Plays}
 use Rattle.vx_play.specs.PlayerState.{PlayerState}
 use Rattle.vx_play.specs.Standing.{Stands, TakesTo, StopsFor, note_line, moves_lines, made_lines}
-use Rattle.vx_play.specs.Making.{is_wait}
+use Rattle.vx_run.specs.Notes.{is_wait}
 use Rattle.vx_play.specs.Generated.{is_failure, has_call, IsGenerated, AreGenerated, IsDriven, IsRun, IsHalted, EndsRun, counts_of}
 use Rattle.vx_gen.specs.Asked.{IsInRange, spelled}
 use Rattle.vx_play.specs.Ended.{PutsLast}
@@ -127,11 +127,10 @@ made-counts player made c =
 
 -- a step that was taken, and counted so
 pub taken-counted : (stage : Stage) (command : Command) (old new : Counts) (player : PlayerState) (made : Made) (moves : List Transfer)
-    → TakesTo stage command (made_lines player made) made.answered player → new ≡ counts_made old made (length moves) → moves ≡ player.core.bus.means.moves
+    → TakesTo stage command made player → new ≡ counts_made old made (length moves) → moves ≡ player.core.bus.means.moves
     → TakesCounted stage command old player new
 taken-counted stage command old new player made moves takes counted moves_are = record {
-  lines = made_lines player made;
-  answered = made.answered;
+  made = made;
   takes = takes;
   counted = counted ∙ ap (λ ms. counts_made old made (length ms)) moves_are ∙ made-counts player made old;
 }
@@ -205,8 +204,8 @@ run-goes-on seed rack count player next counts more command r is t grown = recor
   front = driven-more seed rack count r.items r.stage t.takes.after t.takes.item r.front
       (subst (IsGenerated seed count r.stage) (sym t.takes.command_is) is) t.takes.takes;
   stands = t.takes.stands;
-  counted = t.counted ∙ ap (λ c. counts_behind c t.answered t.lines) r.counted
-      ∙ sym (counts-more r.stage t.takes.after r.items t.takes.item t.lines t.answered t.takes.takes t.takes.lines_are t.takes.answered_is);
+  counted = t.counted ∙ ap (λ c. counts_behind c t.made.answered (made_lines next t.made)) r.counted
+      ∙ sym (counts-more r.stage t.takes.after r.items t.takes.item (made_lines next t.made) t.made.answered t.takes.takes t.takes.lines_are t.takes.answered_is);
   few = within-same (count * SLICE_MAX + SLICE_MAX) ((count + 1) * SLICE_MAX) more (omega arith) (grown (count * SLICE_MAX) r.few);
 }
 
@@ -391,12 +390,12 @@ run-ended ask rack before mid after status.TooLong title counted h = absurd h
 -- words that ask for a run
 pub run-outcome : (words : List (List ℕ)) (rack : List SpareShown) (ends : Ends) (ask : Ask) (how : Status) → IsInRange ask → words ≡ spelled ask
     → ends.source_after ≡ ends.source → EndsRun ask rack ends.sink ends.sink_after how → IsOutcome words rack ends how
-run-outcome words rack ends ask status.Done range are unread ended = inr (record { ask = ask; in_range = range; words_are = are; unread = unread; ended = ended })
-run-outcome words rack ends ask status.Fault range are unread ended = inr (record { ask = ask; in_range = range; words_are = are; unread = unread; ended = ended })
+run-outcome words rack ends ask status.Done range are unread ended = inr (inr (record { ask = ask; in_range = range; words_are = are; unread = unread; ended = ended }))
+run-outcome words rack ends ask status.Fault range are unread ended = inr (inr (record { ask = ask; in_range = range; words_are = are; unread = unread; ended = ended }))
 run-outcome words rack ends ask status.SinkFailed range are unread ended =
-    inr (inr (inr (record { ask = ask; in_range = range; words_are = are; unread = unread; ended = ended })))
+    inr (inr (inr (inr (record { ask = ask; in_range = range; words_are = are; unread = unread; ended = ended }))))
 run-outcome words rack ends ask status.NoMemory range are unread ended =
-    inr (inr (record { ask = ask; in_range = range; words_are = are; unread = unread; ended = ended }))
+    inr (inr (inr (record { ask = ask; in_range = range; words_are = are; unread = unread; ended = ended })))
 run-outcome words rack ends ask status.Usage range are unread ended = absurd ended
 run-outcome words rack ends ask status.SourceFailed range are unread ended = absurd ended
 run-outcome words rack ends ask status.TooLong range are unread ended = absurd ended

@@ -1,5 +1,5 @@
 -- What feeding and answering the buffer of a connection leave.
-use Rattle.std.proofs.Common.{◌≡◌, ◌≢◌, ℕ, ◌<◌, ◌≤◌, List, [], ◌∷◌, length, Option, Some, None, IfSome, refl, sym, ap, ◌∙◌, subst, arith}
+use Rattle.std.proofs.Common.{◌≡◌, ◌≢◌, ℕ, ◌<◌, ◌≤◌, List, [], ◌∷◌, ◌++◌, length, Option, Some, None, IfSome, refl, sym, ap, ◌∙◌, subst, arith}
 use Rattle.std.proofs.lemmas.Bool.{false≢true}
 use Rattle.std.proofs.lemmas.Option.{same_Some}
 use Rattle.vx_calls.specs.declared.calls.Role.{Role}
@@ -15,6 +15,7 @@ use Rattle.vx_flow.specs.Event as event
 use Rattle.vx_core.specs.CoreState.{CoreState}
 use Rattle.vx_play.specs.declared.note.Gone.TheVariants as gone
 use Rattle.vx_play.specs.declared.note.Note.TheVariants as note
+use Rattle.vx_play.specs.declared.note.Intake.TheVariants as intake
 use Rattle.vx_play.specs.declared.note.Made.{Made}
 use Rattle.vx_bench.specs.declared.stops.Stop.TheVariants as stop
 use Rattle.vx_play.specs.declared.pieces.Incoming.{Incoming}
@@ -22,7 +23,10 @@ use Rattle.vx_play.specs.Gateway.{Gateway, gateway_of, Happens}
 use Rattle.vx_exchange.specs.Meaning.{Meaning, Junk, meaning, xid_by}
 use Rattle.vx_play.specs.Making.{MessageMakes}
 use Rattle.vx_play.specs.declared.serve.Served.{Served}
-use Rattle.vx_play.specs.Serving.{MadeBy, Serves}
+use Rattle.vx_play.specs.Serving.{MadeBy, Serves, given_lines}
+use Rattle.vx_play.specs.Standing.{begun_lines, moves_lines}
+use Rattle.vx_trace.specs.Output.{Output}
+use Rattle.vx_flow.specs.Event.{Event}
 use Rattle.vx_play.specs.Feeding.{FeedsTo, kept_behind, AnswersRecord, FeedMakes, FeedsPiece, StopsPiece}
 
 -- what holds of what is kept holds of what is there
@@ -37,25 +41,41 @@ pub kept-behind : (m : Meaning) (kept : Incoming) → m ≢ Junk → Some (recor
 kept-behind Junk kept live = absurd (live refl)
 kept-behind _ kept live = refl
 
+-- what gave the gateway a message made the same events and lines
+told-message : (StepMakes : List Event → Option Output → Gateway → Type 0) (room : List ℕ) (made : Made) (conn : ℕ) (after : CoreState SimState) → made.intake ≡ intake.Nothing
+    → MadeBy StepMakes room made after → MadeBy StepMakes room (record made { intake = intake.Message conn }) after
+told-message StepMakes room made conn after quiet m = record {
+  group = m.group;
+  makes = m.makes;
+  lines = m.lines;
+  lines2 = m.lines2 ∙ ap (λ i. given_lines i ++ begun_lines made.polled after.began ++ moves_lines made.polled after.bus.means.moves) quiet;
+  answered = m.answered;
+  note = m.note;
+  few = m.few;
+}
+
 -- a whole record that isn't junk
-pub record-served : (g : Gateway) (after : CoreState SimState) (conn now : ℕ) (r : Role) (was kept : Incoming) (room : List ℕ) (after_kept : Option Incoming) (served : Served)
-    → was ≡ kept → Serves g conn now was.xid (meaning was.buffer.kept r) room served after
+pub record-served : (g : Gateway) (after : CoreState SimState) (conn now : ℕ) (r : Role) (was kept : Incoming) (room message : List ℕ) (after_kept : Option Incoming) (served : Served)
+    → was ≡ kept → Serves g conn now was.xid (meaning was.buffer.kept r) room served after → message ≡ was.buffer.kept
     → after_kept ≡ Some (record was { buffer = fresh was.buffer.limit; xid = served.xid })
-    → AnswersRecord g conn now r kept room after_kept served.made after
-record-served g after conn now r was kept room after_kept served same serves is =
-    subst (λ k. AnswersRecord g conn now r k room after_kept served.made after) same (record {
-      made_by = serves.made_by;
+    → AnswersRecord g conn now r kept room message after_kept (record served.made { intake = intake.Message conn }) after
+record-served g after conn now r was kept room message after_kept served same serves is_message is =
+    subst (λ k. AnswersRecord g conn now r k room message after_kept (record served.made { intake = intake.Message conn }) after) same (record {
+      made_by = told-message (MessageMakes g conn now (meaning was.buffer.kept r)) room served.made conn after serves.quiet serves.made_by;
+      intake_is = refl;
+      message_is = is_message;
       kept_is = is ∙ ap (λ n. Some (record was { buffer = fresh was.buffer.limit; xid = n })) serves.xid_is ∙ kept-behind (meaning was.buffer.kept r) was serves.call;
     })
 
 -- a whole record that is junk
-pub record-junk : (before mid after : CoreState SimState) (conn now : ℕ) (r : Role) (was kept : Incoming) (room : List ℕ) (after_kept : Option Incoming)
-    → was ≡ kept → meaning was.buffer.kept r ≡ Junk → gateway_of mid ≡ gateway_of before
+pub record-junk : (before mid after : CoreState SimState) (conn now : ℕ) (r : Role) (was kept : Incoming) (room message : List ℕ) (after_kept : Option Incoming)
+    → was ≡ kept → meaning was.buffer.kept r ≡ Junk → message ≡ was.buffer.kept → gateway_of mid ≡ gateway_of before
     → Happens (gateway_of mid) (event.Down conn ∷ []) (Cut ∷ []) (gateway_of after) → after_kept ≡ None
-    → AnswersRecord (gateway_of before) conn now r kept room after_kept (record { polled = None; note = note.Ended conn gone.Junk; answered = None }) after
-record-junk before mid after conn now r was kept room after_kept same junk stays went none =
-    let made : Made = record { polled = None; note = note.Ended conn gone.Junk; answered = None } in
-    let P : Incoming → Type 0 = λ k. AnswersRecord (gateway_of before) conn now r k room after_kept made after in
+    → AnswersRecord (gateway_of before) conn now r kept room message after_kept
+    (record { intake = intake.Message conn; polled = None; note = note.Ended conn gone.Junk; answered = None }) after
+record-junk before mid after conn now r was kept room message after_kept same junk is_message stays went none =
+    let made : Made = record { intake = intake.Message conn; polled = None; note = note.Ended conn gone.Junk; answered = None } in
+    let P : Incoming → Type 0 = λ k. AnswersRecord (gateway_of before) conn now r k room message after_kept made after in
     let Q : Meaning → Type 0 = λ m. MadeBy (MessageMakes (gateway_of before) conn now m) room made after in
     let from : Happens (gateway_of before) (event.Down conn ∷ []) (Cut ∷ []) (gateway_of after) =
     subst (λ g. Happens g (event.Down conn ∷ []) (Cut ∷ []) (gateway_of after)) stays went in
@@ -64,10 +84,13 @@ record-junk before mid after conn now r was kept room after_kept same junk stays
         group = event.Down conn ∷ [];
         makes = record { events = refl; happens = from; told = refl };
         lines = refl;
+        lines2 = refl;
         answered = refl;
         note = tt;
         few = λ polled. absurd (false≢true polled);
       });
+      intake_is = refl;
+      message_is = is_message;
       kept_is = subst (λ m. after_kept ≡ kept_behind m was) (sym junk) none;
     })
 
@@ -87,13 +110,13 @@ fed-whole old new kept piece result state f was all is =
     subst (λ k. IsFedWhole k piece new state) same (record { whole = sym f.took ∙ took; is = f.is; state_is = sym f.state ∙ is })
 
 -- what stands in the buffer then was answered so
-pub feeds-piece : (g : Gateway) (conn now : ℕ) (r : Role) (kept : Incoming) (piece room : List ℕ) (new after_kept : Option Incoming) (made : Made)
+pub feeds-piece : (g : Gateway) (conn now : ℕ) (r : Role) (kept : Incoming) (piece room message : List ℕ) (new after_kept : Option Incoming) (made : Made)
     (after : CoreState SimState) (state : Feed) → IsFedWhole kept piece new state
-    → FeedMakes g conn now r (record kept { buffer = fed kept.buffer piece }) room after_kept made after state
-    → FeedsPiece g conn now r kept piece room after_kept made after
-feeds-piece g conn now r kept piece room new after_kept made after state is makes = record {
+    → FeedMakes g conn now r (record kept { buffer = fed kept.buffer piece }) room message after_kept made after state
+    → FeedsPiece g conn now r kept piece room message after_kept made after
+feeds-piece g conn now r kept piece room message new after_kept made after state is makes = record {
   whole = is.whole;
-  makes = subst (FeedMakes g conn now r (record kept { buffer = fed kept.buffer piece }) room after_kept made after) (sym is.state_is) makes;
+  makes = subst (FeedMakes g conn now r (record kept { buffer = fed kept.buffer piece }) room message after_kept made after) (sym is.state_is) makes;
 }
 
 -- bytes follow a record

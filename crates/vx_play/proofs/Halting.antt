@@ -17,7 +17,7 @@ use Rattle.vx_bench.specs.Refusing.{address}
 use Rattle.vx_gen.specs.Drawing.{draw}
 use Rattle.vx_gen.specs.Generating.{head, on_core, link_made, requests_enabled}
 use Rattle.vx_gen.proofs.Spelled.{IsSpelled, link-spelled, requests-spelled}
-use Rattle.vx_play.specs.Item.{Item}
+use Rattle.vx_run.specs.Item.{Item}
 use Rattle.vx_play.specs.Stage.{Stage, beginning, refusal}
 use Rattle.vx_play.specs.Play.{Takes, Plays}
 use Rattle.vx_play.specs.Generated.{IsGenerated, AreGenerated, IsDriven}

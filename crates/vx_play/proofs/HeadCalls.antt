@@ -8,7 +8,7 @@ use Rattle.vx_rules.specs.Calls.{asks_dial}
 use Rattle.vx_flow.specs.Fine.{fine}
 use Rattle.vx_gen.specs.Generating.{on_core, channel_made}
 use Rattle.vx_gen.proofs.Spelled.{channel-spelled}
-use Rattle.vx_play.specs.Item.{Item}
+use Rattle.vx_run.specs.Item.{Item}
 use Rattle.vx_play.specs.Stage.{Stage, refusal}
 use Rattle.vx_play.specs.Play.{Takes}
 use Rattle.vx_play.proofs.Brief.{IsBrief}

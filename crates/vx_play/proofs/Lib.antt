@@ -28,3 +28,4 @@ pub mod Coming
 pub mod HeadCalls
 pub mod Halting
 pub mod Driving
+pub mod Formed

@@ -1,59 +1,188 @@
 -- Steps of playing one line.
-use Rattle.std.proofs.Common.{◌≡◌, List, Option, Some, Ok, subst}
+use Rattle.std.proofs.Common.{◌≡◌, ℕ, ◌∙◌, List, [], ◌∷◌, ◌++◌, Option, Some, None, Ok, Err, ap, sym, subst, refl, append-nil, inl, inr}
 use Rattle.std.specs.List.{flat_map}
+use Rattle.std.proofs.lemmas.List.{append_assoc}
 use Rattle.std.specs.Io.KnownBytes.{Appends}
-use Rattle.vx_calls.specs.declared.codes.ErrorCode.{ErrorCode}
-use Rattle.vx_script.specs.declared.Step.{Step}
-use Rattle.vx_script.specs.Command.{step_shown}
-use Rattle.vx_script.specs.Grammar.{Reading}
-use Rattle.vx_script.specs.Reads.{Reads}
+use Rattle.std.proofs.KnownBytes.{Appends-nil}
 use Rattle.vx_script.specs.declared.Cause.{Cause}
-use Rattle.vx_trace.specs.Output.{Output}
-use Rattle.vx_trace.specs.Text.{line_text}
+use Rattle.vx_script.specs.declared.Cause.TheVariants as cause
+use Rattle.vx_script.specs.declared.Version.{Version}
+use Rattle.vx_script.specs.declared.Version.TheVariants as version
+use Rattle.vx_script.specs.Command.{Command, At, step_shown}
+use Rattle.vx_script.specs.declared.Step.{Step}
+use Rattle.vx_script.specs.Grammar.{reading}
+use Rattle.vx_script.specs.Timed.{Timed, Blank, DoesAt, Strange, timed}
+use Rattle.vx_script.specs.Reads.{Reads, ReadsAt}
+use Rattle.vx_bench.specs.Script.{commands, commands_read, commands_timed}
+use Rattle.vx_bench.proofs.Scripts.{doing}
+use Rattle.vx_trace.specs.Text.{line_text, line_text2}
 use Rattle.vx_bench.specs.declared.stops.Stop.{Stop}
 use Rattle.vx_bench.specs.declared.stops.Stop.TheVariants as stops
 use Rattle.vx_text.specs.Ends.{End}
 use Rattle.vx_text.specs.Writing.{StopsIn}
-use Rattle.vx_play.specs.Stage.{Stage}
+use Rattle.vx_run.specs.Item.{Item}
+use Rattle.vx_run.specs.RunText.{item_text}
+use Rattle.vx_play.specs.declared.note.Made.{Made}
+use Rattle.vx_play.specs.declared.run.LineEnd.{LineEnd}
+use Rattle.vx_play.specs.declared.run.LineEnd.TheVariants as line_end
+use Rattle.vx_play.specs.Stage.{Stage, refusal}
+use Rattle.vx_play.specs.Play.{Takes}
 use Rattle.vx_play.specs.PlayerState.{PlayerState}
-use Rattle.vx_play.specs.Standing.{TakesTo, StopsFor}
-use Rattle.vx_play.specs.LinePlayed.{IsPlayed, IsCut, IsTurnedDown, IsWanting}
-use Rattle.vx_bench.proofs.Scripts.{doing}
+use Rattle.vx_play.specs.Printing.{made_text}
+use Rattle.vx_play.specs.Standing.{Stands, TakesTo, StopsFor, WantsMemory, made_lines2}
+use Rattle.vx_play.specs.StepPlayed.{IsTaken, IsWritten, IsCutShort, EndsStep}
+use Rattle.vx_play.specs.LinePlayed.{TakesAll, IsFrontOf, EndsLine}
 
--- a line whose step was taken, and its text written
-pub played-line : (said : Reading) (found : Option Step) (step : Step) (stage : Stage) (player : PlayerState) (before after : End) (lines : List Output) (answered : Option ErrorCode)
-    → Reads said (Ok found) → found ≡ Some step → TakesTo stage (step_shown step) lines answered player
-    → Appends before.bytes after.bytes (flat_map line_text lines) → IsPlayed said stage player before after
-played-line said found step stage player before after lines answered reads some takes written = record {
-  command = step_shown step;
-  said_is = doing said found step reads some;
-  lines = lines;
-  answered = answered;
-  takes = takes;
-  written = written;
+-- ---- one step
+
+-- the text of what a step made is that of its item
+text-of : (v : Version) (stage : Stage) (command : Command) (made : Made) (player : PlayerState) → (t : TakesTo stage command made player)
+    → made_text v player made ≡ item_text v t.item
+text-of version.One stage command made player t = ap (flat_map line_text) (sym t.lines_are)
+text-of version.Two stage command made player t =
+    ap (λ m. flat_map (line_text2 m) (made_lines2 player made)) (sym t.moment_is) ∙ ap (flat_map (line_text2 t.item.moment)) (sym t.lines2_are)
+
+abbrev taken : (stage : Stage) (command : Command) (made : Made) (player : PlayerState) → TakesTo stage command made player → IsTaken stage command
+taken stage command made player t = record { item = t.item; after = t.after; command_is = t.command_is; takes = t.takes }
+
+-- a step that was taken, and its text written
+pub step-written : (v : Version) (stage : Stage) (command : Command) (made : Made) (player : PlayerState) (before after : End) → TakesTo stage command made player
+    → Appends before.bytes after.bytes (made_text v player made) → IsWritten v stage command player before after
+step-written v stage command made player before after t put = record {
+  taken = taken stage command made player t;
+  stands = t.stands;
+  written = subst (Appends before.bytes after.bytes) (text-of v stage command made player t) put;
 }
 
--- a line whose step was taken, and the sink failed at its text
-pub cut-line : (said : Reading) (found : Option Step) (step : Step) (stage : Stage) (player : PlayerState) (before after : End) (lines : List Output) (answered : Option ErrorCode)
-    → Reads said (Ok found) → found ≡ Some step → TakesTo stage (step_shown step) lines answered player
-    → StopsIn before after (flat_map line_text lines) → IsCut said stage player before after
-cut-line said found step stage player before after lines answered reads some takes stopped = record {
-  command = step_shown step;
-  said_is = doing said found step reads some;
-  lines = lines;
-  answered = answered;
-  takes = takes;
-  stops = stopped;
+-- and one at whose text the sink failed
+pub step-cut : (v : Version) (stage : Stage) (command : Command) (made : Made) (player : PlayerState) (before after : End) → TakesTo stage command made player
+    → StopsIn before after (made_text v player made) → IsCutShort v stage command before after
+step-cut v stage command made player before after t put = record {
+  taken = taken stage command made player t;
+  stops = subst (StopsIn before after) (text-of v stage command made player t) put;
 }
 
--- a line whose step is refused
-pub turned-down : (said : Reading) (found : Option Step) (step : Step) (stage : Stage) (why : Cause) → Reads said (Ok found) → found ≡ Some step
-    → (stop : Stop) → StopsFor stage (step_shown step) stop → stop ≡ stops.Refused why → IsTurnedDown said stage why
-turned-down said found step stage why reads some stop refused is =
-    record { command = step_shown step; said_is = doing said found step reads some; refused = subst (StopsFor stage (step_shown step)) is refused }
+-- one that is refused, and one that wants memory
+pub step-refused : (stage : Stage) (command : Command) (stop : Stop) (why : Cause) (bytes : Option (List ℕ)) → StopsFor stage command stop → stop ≡ stops.Refused why
+    → (refusal stage command ≡ Some why) × Appends bytes bytes []
+step-refused stage command stop why bytes h is = (subst (StopsFor stage command) is h, Appends-nil bytes)
 
--- a line whose step wants memory
-pub wanting : (said : Reading) (found : Option Step) (step : Step) (stage : Stage) → Reads said (Ok found) → found ≡ Some step
-    → (stop : Stop) → StopsFor stage (step_shown step) stop → stop ≡ stops.NoMemory → IsWanting said stage
-wanting said found step stage reads some stop wants is =
-    record { command = step_shown step; said_is = doing said found step reads some; wants = subst (StopsFor stage (step_shown step)) is wants }
+pub step-wants : (stage : Stage) (command : Command) (stop : Stop) (bytes : Option (List ℕ)) → StopsFor stage command stop → stop ≡ stops.NoMemory
+    → WantsMemory stage command × Appends bytes bytes []
+step-wants stage command stop bytes h is = (subst (StopsFor stage command) is h, Appends-nil bytes)
+
+-- ---- a line, by its one step
+
+-- what is written of one item
+one-text : (v : Version) (item : Item) → item_text v item ≡ flat_map (item_text v) (item ∷ [])
+one-text v item = sym (append-nil (item_text v item))
+
+-- Commands in front that make no text, and the step behind them.
+module _ (v : Version) (said : Option (List Command)) (front : List Command) (command : Command) (says : said ≡ Some (front ++ command ∷ [])) (stage mid : Stage) (quiet : List Item)
+    (took : TakesAll stage front quiet mid) (silent : flat_map (item_text v) quiet ≡ []) where
+  all-taken : (item : Item) (after : Stage) → item.command ≡ command → Takes mid item after → TakesAll stage (front ++ command ∷ []) (quiet ++ item ∷ []) after
+  all-taken item after is takes = by stage front quiet took where
+    by : (before : Stage) (front : List Command) (quiet : List Item) → TakesAll before front quiet mid
+        → TakesAll before (front ++ command ∷ []) (quiet ++ item ∷ []) after
+    by before [] [] same = (is, after, subst (λ s. Takes s item after) same takes, refl)
+    by before [] (i ∷ items) h = absurd h
+    by before (c ∷ commands) [] h = absurd h
+    by before (c ∷ commands) (i ∷ items) (first, next, took, rest) = (first, next, took, by next commands items rest)
+
+  quiet-text : (item : Item) → flat_map (item_text v) (quiet ++ item ∷ []) ≡ item_text v item
+  quiet-text item = text-behind v quiet item ∙ ap (λ xs. xs ++ item_text v item) silent where
+    text-behind : (v : Version) (items : List Item) (item : Item) → flat_map (item_text v) (items ++ item ∷ []) ≡ flat_map (item_text v) items ++ item_text v item
+    text-behind v [] item = append-nil (item_text v item)
+    text-behind v (i ∷ items) item = ap (λ xs. item_text v i ++ xs) (text-behind v items item) ∙ sym (append_assoc (item_text v i) (flat_map (item_text v) items) (item_text v item))
+
+  pub line-ended : (player : PlayerState) (before after : End) (result : LineEnd) → EndsStep v command mid player before after result
+      → EndsLine v said stage player before after result
+  line-ended player before after line_end.Played h = record {
+    commands = front ++ command ∷ [];
+    said_is = says;
+    front = record { items = quiet ++ h.taken.item ∷ []; after = h.taken.after; takes = all-taken h.taken.item h.taken.after h.taken.command_is h.taken.takes };
+    stands = h.stands;
+    written = subst (Appends before.bytes after.bytes) (sym (quiet-text h.taken.item)) h.written;
+  }
+  line-ended player before after line_end.SinkFailed h = record {
+    commands = front ++ command ∷ [];
+    said_is = says;
+    front = record { items = quiet ++ h.taken.item ∷ []; after = h.taken.after; takes = all-taken h.taken.item h.taken.after h.taken.command_is h.taken.takes };
+    stops = subst (StopsIn before after) (sym (quiet-text h.taken.item)) h.stops;
+  }
+  line-ended player before after (line_end.Refused why) h = inr (record { at = at h.1; refused = h.0 }) where
+    at : Appends before.bytes after.bytes [] → IsFrontOf v said stage before after
+    at unwritten = record {
+      commands = front;
+      command = command;
+      later = [];
+      said_is = says;
+      front = record { items = quiet; after = mid; takes = took };
+      written = subst (Appends before.bytes after.bytes) (sym silent) unwritten;
+    }
+  line-ended player before after line_end.NoMemory h = record {
+    at = record {
+      commands = front;
+      command = command;
+      later = [];
+      said_is = says;
+      front = record { items = quiet; after = mid; takes = took };
+      written = subst (Appends before.bytes after.bytes) (sym silent) h.1;
+    };
+    wants = h.0;
+  }
+
+-- a line of one step
+pub plain-ended : (said : Option (List Command)) (command : Command) (stage : Stage) (player : PlayerState) (before after : End) (result : LineEnd)
+    → said ≡ Some (command ∷ []) → EndsStep version.One command stage player before after result → EndsLine version.One said stage player before after result
+plain-ended said command stage player before after result says ends =
+    line-ended version.One said [] command says stage stage [] refl refl player before after result ends
+
+-- a line of a moment and a step
+pub timed-ended : (said : Option (List Command)) (moment : ℕ) (command : Command) (made : Made) (stage : Stage) (mid player : PlayerState) (before after : End) (result : LineEnd)
+    → said ≡ Some (At moment ∷ command ∷ []) → TakesTo stage (At moment) made mid → made_lines2 mid made ≡ []
+    → ((s : Stage) → Stands mid s → EndsStep version.Two command s player before after result) → EndsLine version.Two said stage player before after result
+timed-ended said moment command made stage mid player before after result says t quiet ends =
+    line-ended version.Two said (At moment ∷ []) command says stage t.after (t.item ∷ []) (t.command_is, t.after, t.takes, refl)
+    (append-nil (item_text version.Two t.item) ∙ ap (flat_map (line_text2 t.item.moment)) (t.lines2_are ∙ quiet)) player before after result (ends t.after t.stands)
+
+-- a line that says nothing
+pub nothing-ended : (v : Version) (said : Option (List Command)) (stage : Stage) (player : PlayerState) (ends : End) → said ≡ Some [] → Stands player stage
+    → EndsLine v said stage player ends ends line_end.Played
+nothing-ended v said stage player ends says stands = record {
+  commands = [];
+  said_is = says;
+  front = record { items = []; after = stage; takes = refl };
+  stands = stands;
+  written = Appends-nil ends.bytes;
+}
+
+-- a line outside the grammar
+pub outside-ended : (v : Version) (said : Option (List Command)) (stage : Stage) (player : PlayerState) (ends : End) → said ≡ None
+    → EndsLine v said stage player ends ends (line_end.Refused cause.Form)
+outside-ended v said stage player ends says = inl (record { outside = says; form = refl; unwritten = Appends-nil ends.bytes })
+
+-- ---- what was read of a line
+
+-- a line of version 1 of which a step was read
+pub plain-said : (line : List ℕ) (found : Option Step) (step : Step) → Reads (reading line) (Ok found) → found ≡ Some step → commands version.One line ≡ Some (step_shown step ∷ [])
+plain-said line found step reads some = ap commands_read (doing (reading line) found step reads some)
+
+-- a line of version 2 of which a moment and a step were read, or nothing
+pub timed-said : (line : List ℕ) (found : Option (ℕ × Step)) (moment : ℕ) (step : Step) → ReadsAt (timed line) (Ok found) → found ≡ Some (moment, step)
+    → commands version.Two line ≡ Some (At moment ∷ step_shown step ∷ [])
+timed-said line found moment step reads some =
+    ap commands_timed (by (timed line) (subst (λ (o : Option (ℕ × Step)). ReadsAt (timed line) (Ok o)) some reads)) where
+      by : (says : Timed) → ReadsAt says (Ok (Some (moment, step))) → says ≡ DoesAt moment (step_shown step)
+      by Blank reads = absurd reads
+      by (DoesAt m command) reads = ap (λ n. DoesAt n command) (sym reads.0) ∙ ap (DoesAt moment) (sym reads.1)
+      by Strange reads = absurd reads
+
+-- a line of version 2 that is refused is outside the grammar
+pub strange-ended : (line : List ℕ) (why : Cause) (stage : Stage) (player : PlayerState) (ends : End) → ReadsAt (timed line) (Err why)
+    → EndsLine version.Two (commands version.Two line) stage player ends ends (line_end.Refused why)
+strange-ended line why stage player ends reads = by (timed line) reads where
+  by : (says : Timed) → ReadsAt says (Err why) → EndsLine version.Two (commands_timed says) stage player ends ends (line_end.Refused why)
+  by Blank reads = absurd reads
+  by (DoesAt moment command) reads = absurd reads
+  by Strange reads = inl (record { outside = refl; form = reads; unwritten = Appends-nil ends.bytes })

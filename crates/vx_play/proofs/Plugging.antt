@@ -25,7 +25,7 @@ use Rattle.vx_bench.specs.Refusing.{address, cause_of, spare_refused}
 use Rattle.vx_bench.specs.Attaches.{AttachesSpare}
 use Rattle.vx_flow.specs.FineState.{first_fine}
 use Rattle.vx_play.specs.Gateway.{BusGoes, abort_port}
-use Rattle.vx_play.specs.Item.{Item}
+use Rattle.vx_run.specs.Item.{Item}
 use Rattle.vx_play.specs.Stage.{Stage, refusal}
 use Rattle.vx_play.specs.Making.{Tweaks, Makes}
 use Rattle.vx_play.specs.Play.{Takes, stream_after, rack_after}

@@ -1,90 +1,142 @@
 -- The lines of a step fit into the printer's room, and their text is the step's.
-use Rattle.std.proofs.Common.{Result, ◌≡◌, ◌≤◌, ◌<◌, ◌+◌, ◌*◌, ℕ, List, [], ◌∷◌, ◌++◌, length, take, Option, Some, None, IfSome, IsSome, refl, ap, sym, subst, ◌∙◌, arith, length-take, append-nil}
+use Rattle.std.proofs.Common.{Result, ◌≡◌, ◌≤◌, ◌<◌, ◌+◌, ◌*◌, ℕ, Bool, true, false, List, [], ◌∷◌, ◌++◌, length, take, Option, Some, None, IfSome, IsSome, refl, ap, sym, subst, ◌∙◌, arith, length-take, append-nil}
 use Rattle.std.specs.Prelude.{option_map}
 use Rattle.std.specs.List.{flat_map}
+use Rattle.std.proofs.lemmas.List.{append_assoc}
+use Rattle.std.proofs.lemmas.Grind.{flat_map-append}
 use Rattle.vx_488.specs.declared.transfers.Transfer.{Transfer}
-use Rattle.vx_calls.specs.declared.limits.TheConstants.{SLICE_MAX}
+use Rattle.vx_calls.specs.declared.limits.TheConstants.{SLICE_MAX, RECORD_MAX}
 use Rattle.vx_trace.specs.declared.lines.Line.{Line}
-use Rattle.vx_trace.specs.Output.{Output, Bus, Out, Irq, line_shown}
-use Rattle.vx_trace.specs.Text.{line_text, text_room, IsWhole}
+use Rattle.vx_trace.specs.Output.{Output, Up, Call, Begin, DialDone, Srq, Bus, Out, Irq, line_shown}
+use Rattle.vx_trace.specs.Text.{text_room, IsWhole, is_first}
+use Rattle.vx_play.specs.declared.note.Intake.{Intake}
+use Rattle.vx_play.specs.declared.note.Intake.TheVariants as intake
 use Rattle.vx_play.specs.declared.note.Note.{Note}
 use Rattle.vx_play.specs.declared.note.Note.TheVariants as note
-use Rattle.vx_play.specs.declared.printer.TheConstants.{MOVES_ROOM, NOTE_ROOM}
+use Rattle.vx_play.specs.declared.printer.TheConstants.{STAMP_ROOM, INTAKE_ROOM, BEGUN_ROOM, MOVES_ROOM, NOTE_ROOM}
 use Rattle.vx_exchange.specs.declared.record.TheConstants.{REPLY_ROOM}
 use Rattle.vx_text.specs.Ends.{End}
 use Rattle.vx_text.specs.Writing.{IsPut}
-use Rattle.vx_play.specs.Item.{noted}
-use Rattle.vx_play.specs.Standing.{note_line, moves_lines, NoteWithin}
+use Rattle.vx_run.specs.Item.{noted}
+use Rattle.vx_play.specs.Standing.{note_line, moves_lines, intake_lines, begun_lines, NoteWithin}
 use Rattle.vx_play.specs.declared.note.Gone.TheVariants as gone
 use Rattle.vx_play.proofs.Shown.{waits}
-use Rattle.vx_play.specs.Printing.{Writable, option_text, outputs_of}
+use Rattle.vx_play.specs.Printing.{Writable, stamped, option_text, outputs_of}
 
--- an output line that fits into so many bytes
-record Fits (line : Output) (room : ℕ) : Type 0 where
+-- an output line that fits into so many bytes, with a moment or without
+record Fits (moment : Option ℕ) (line : Output) (room : ℕ) : Type 0 where
   whole : IsWhole line
-  fits : text_room line ≤ room
+  first : moment ≡ None → is_first line ≡ true
+  fits : STAMP_ROOM + text_room line ≤ room
 
 -- a line that shows one that fits
-shows : (line : Line) (shown : Output) (room : ℕ) → line_shown line ≡ shown → Fits shown room → Writable line room
-shows line shown room is fit =
-    let f = subst (λ o. Fits o room) (sym is) fit in record { whole = f.whole; fits = f.fits }
+shows : (moment : Option ℕ) (line : Line) (shown : Output) (room : ℕ) → line_shown line ≡ shown → Fits moment shown room → Writable moment line room
+shows moment line shown room is fit =
+    let f = subst (λ o. Fits moment o room) (sym is) fit in record { whole = f.whole; first = f.first; fits = f.fits }
+
+-- a line of version 2 alone has a moment
+timed : (m : ℕ) (line : Output) → Some m ≡ None → is_first line ≡ true
+timed m line none = absurd (cc)
+
+-- the line of what a step gave the gateway fits
+pub intake-writable : (m : ℕ) (line : Option Line) (message : List ℕ) (i : Intake) → outputs_of line ≡ intake_lines message i → length message ≤ RECORD_MAX
+    → IfSome line (λ l. Writable (Some m) l INTAKE_ROOM)
+intake-writable m None message i is few = tt
+intake-writable m (Some line) message intake.Nothing is few = absurd (cc)
+intake-writable m (Some line) message (intake.Up conn role) is few =
+    shows (Some m) line (Up conn role) INTAKE_ROOM (cc) (record { whole = tt; first = timed m (Up conn role); fits = omega arith })
+intake-writable m (Some line) message (intake.Message conn) is few =
+    shows (Some m) line (Call conn message) INTAKE_ROOM (cc) (record { whole = tt; first = timed m (Call conn message); fits = omega arith })
+intake-writable m (Some line) message (intake.Dialed conn up) is few =
+    shows (Some m) line (DialDone conn up) INTAKE_ROOM (cc) (record { whole = tt; first = timed m (DialDone conn up); fits = omega arith })
+intake-writable m (Some line) message (intake.Sampled level) is few =
+    shows (Some m) line (Srq level) INTAKE_ROOM (cc) (record { whole = tt; first = timed m (Srq level); fits = omega arith })
+
+-- the line of the turn that a poll began fits
+pub begun-writable : (m : ℕ) (line : Option Line) (polled : Option ℕ) (began : Bool) → outputs_of line ≡ begun_lines polled began → IfSome line (λ l. Writable (Some m) l BEGUN_ROOM)
+begun-writable m None polled began is = tt
+begun-writable m (Some line) None began is = absurd (cc)
+begun-writable m (Some line) (Some conn) false is = absurd (cc)
+begun-writable m (Some line) (Some conn) true is =
+    shows (Some m) line (Begin conn) BEGUN_ROOM (cc) (record { whole = tt; first = timed m (Begin conn); fits = omega arith })
 
 -- the line of a poll's transfers fits
-pub moves-writable : (line : Option Line) (polled : Option ℕ) (moves : List Transfer) → outputs_of line ≡ moves_lines polled moves
-    → (IsSome polled → length moves ≤ SLICE_MAX) → IfSome line (λ l. Writable l MOVES_ROOM)
-moves-writable None polled moves is few = tt
-moves-writable (Some line) None moves is few = absurd (cc)
-moves-writable (Some line) (Some conn) [] is few = absurd (cc)
-moves-writable (Some line) (Some conn) (t ∷ ts) is few =
+pub moves-writable : (moment : Option ℕ) (line : Option Line) (polled : Option ℕ) (moves : List Transfer) → outputs_of line ≡ moves_lines polled moves
+    → (IsSome polled → length moves ≤ SLICE_MAX) → IfSome line (λ l. Writable moment l MOVES_ROOM)
+moves-writable moment None polled moves is few = tt
+moves-writable moment (Some line) None moves is few = absurd (cc)
+moves-writable moment (Some line) (Some conn) [] is few = absurd (cc)
+moves-writable moment (Some line) (Some conn) (t ∷ ts) is few =
     let within : length (t ∷ ts) ≤ SLICE_MAX = few refl in
-    shows line (Bus conn (t ∷ ts)) MOVES_ROOM (cc) (record { whole = omega arith; fits = omega arith })
+    shows moment line (Bus conn (t ∷ ts)) MOVES_ROOM (cc) (record { whole = omega arith; first = λ none. refl; fits = omega arith })
 
 -- a record at the front of the room fits
-front_fits : (room : List ℕ) (len : ℕ) → 0 < len → len ≤ length room → length room ≡ REPLY_ROOM → (0 < length (take len room)) × (16 + 2 * length (take len room) ≤ NOTE_ROOM)
+front_fits : (room : List ℕ) (len : ℕ) → 0 < len → len ≤ length room → length room ≡ REPLY_ROOM
+    → (0 < length (take len room)) × (STAMP_ROOM + (16 + 2 * length (take len room)) ≤ NOTE_ROOM)
 front_fits room len some within all = let n = length-take len room in (omega arith, omega arith)
 
 -- a line that is there and fits
-fits_as : (line shown : Output) → Some line ≡ Some shown → Fits line NOTE_ROOM → Fits shown NOTE_ROOM
-fits_as line shown is fit =
+fits_as : (moment : Option ℕ) (line shown : Output) → Some line ≡ Some shown → Fits moment line NOTE_ROOM → Fits moment shown NOTE_ROOM
+fits_as moment line shown is fit =
     let e : line ≡ shown = cc in
-    subst (λ o. Fits o NOTE_ROOM) e fit
+    subst (λ o. Fits moment o NOTE_ROOM) e fit
 
 -- the line of a note fits
-note_fits : (room : List ℕ) (n : Note) (shown : Output) → note_line room n ≡ Some shown → NoteWithin (length room) n → length room ≡ REPLY_ROOM → Fits shown NOTE_ROOM
-note_fits room note.Nothing shown is within all = absurd (cc)
-note_fits room (note.Replied conn len) shown is within all =
+note_fits : (moment : Option ℕ) (room : List ℕ) (n : Note) (shown : Output) → note_line room n ≡ Some shown → NoteWithin (length room) n → length room ≡ REPLY_ROOM
+    → Fits moment shown NOTE_ROOM
+note_fits moment room note.Nothing shown is within all = absurd (cc)
+note_fits moment room (note.Replied conn len) shown is within all =
     let f = front_fits room len within.0 within.1 all in
     let e : Out conn (take len room) ≡ shown = cc in
-    subst (λ o. Fits o NOTE_ROOM) e (record { whole = f.0; fits = f.1 })
-note_fits room (note.Waiting conn why) shown is within all = let w = waits conn why in fits_as _ shown is (record { whole = w.whole; fits = w.fits })
-note_fits room (note.Interrupt conn len) shown is within all =
+    subst (λ o. Fits moment o NOTE_ROOM) e (record { whole = f.0; first = λ none. refl; fits = f.1 })
+note_fits moment room (note.Waiting conn why) shown is within all =
+    let w = waits conn why in
+    let small = w.fits in
+    fits_as moment _ shown is (record { whole = w.whole; first = λ none. w.first; fits = omega arith })
+note_fits moment room (note.Interrupt conn len) shown is within all =
     let f = front_fits room len within.0 within.1 all in
     let e : Irq conn (take len room) ≡ shown = cc in
-    subst (λ o. Fits o NOTE_ROOM) e (record { whole = f.0; fits = f.1 })
-note_fits room (note.Ended conn gone.Down) shown is within all = fits_as _ shown is (record { whole = tt; fits = omega arith })
-note_fits room (note.Ended conn _) shown is within all = fits_as _ shown is (record { whole = tt; fits = omega arith })
-note_fits room _ shown is within all = fits_as _ shown is (record { whole = tt; fits = omega arith })
+    subst (λ o. Fits moment o NOTE_ROOM) e (record { whole = f.0; first = λ none. refl; fits = f.1 })
+note_fits moment room (note.Ended conn gone.Down) shown is within all = fits_as moment _ shown is (record { whole = tt; first = λ none. refl; fits = omega arith })
+note_fits moment room (note.Ended conn _) shown is within all = fits_as moment _ shown is (record { whole = tt; first = λ none. refl; fits = omega arith })
+note_fits moment room _ shown is within all = fits_as moment _ shown is (record { whole = tt; first = λ none. refl; fits = omega arith })
 
-pub note-writable : (line : Option Line) (room : List ℕ) (n : Note) → option_map line_shown line ≡ note_line room n → NoteWithin (length room) n
-    → length room ≡ REPLY_ROOM → IfSome line (λ l. Writable l NOTE_ROOM)
-note-writable None room n is within all = tt
-note-writable (Some line) room n is within all = shows line (line_shown line) NOTE_ROOM refl (note_fits room n (line_shown line) (sym is) within all)
+pub note-writable : (moment : Option ℕ) (line : Option Line) (room : List ℕ) (n : Note) → option_map line_shown line ≡ note_line room n → NoteWithin (length room) n
+    → length room ≡ REPLY_ROOM → IfSome line (λ l. Writable moment l NOTE_ROOM)
+note-writable moment None room n is within all = tt
+note-writable moment (Some line) room n is within all =
+    shows moment line (line_shown line) NOTE_ROOM refl (note_fits moment room n (line_shown line) (sym is) within all)
 
--- the text of two lines is that of the outputs that they show
-both_text : (first second : Option Line) → option_text first ++ option_text second ≡ flat_map line_text (outputs_of first ++ noted (option_map line_shown second))
-both_text None None = refl
-both_text None (Some b) = sym (append-nil (line_text (line_shown b)))
-both_text (Some a) None = refl
-both_text (Some a) (Some b) = ap (λ xs. line_text (line_shown a) ++ xs) (sym (append-nil (line_text (line_shown b))))
+-- ---- the text of lines is that of the outputs that they show
 
-pub lines-text : (first second : Option Line) (moves : List Output) (told : Option Output) → outputs_of first ≡ moves → option_map line_shown second ≡ told
-    → option_text first ++ option_text second ≡ flat_map line_text (moves ++ noted told)
-lines-text first second moves told a b =
-    both_text first second ∙ ap (λ ms. flat_map line_text (ms ++ noted (option_map line_shown second))) a ∙ ap (λ o. flat_map line_text (moves ++ noted o)) b
+abbrev pub texts : Option ℕ → List Output → List ℕ
+texts moment lines = flat_map (stamped moment) lines
 
--- what came of writing the text of two lines
-pub lines-put : {E : Type 0} (before after : End) (written : List ℕ) (first second : Option Line) (moves : List Output) (told : Option Output) (result : Result Unit E)
-    → written ≡ option_text first ++ option_text second → outputs_of first ≡ moves → option_map line_shown second ≡ told
-    → IsPut before after written result → IsPut before after (flat_map line_text (moves ++ noted told)) result
-lines-put before after written first second moves told result is a b put =
-    subst (λ text. IsPut before after text result) (is ∙ lines-text first second moves told a b) put
+one_text : (moment : Option ℕ) (line : Option Line) → option_text moment line ≡ texts moment (outputs_of line)
+one_text moment None = refl
+one_text moment (Some line) = sym (append-nil (stamped moment (line_shown line)))
+
+told_text : (moment : Option ℕ) (line : Option Line) → option_text moment line ≡ texts moment (noted (option_map line_shown line))
+told_text moment None = refl
+told_text moment (Some line) = sym (append-nil (stamped moment (line_shown line)))
+
+pub lines-text : (moment : Option ℕ) (first second third last : Option Line) (a b c : List Output) (told : Option Output) → outputs_of first ≡ a → outputs_of second ≡ b
+    → outputs_of third ≡ c → option_map line_shown last ≡ told
+    → (option_text moment first ++ option_text moment second) ++ (option_text moment third ++ option_text moment last) ≡ texts moment (a ++ b ++ c ++ noted told)
+lines-text moment first second third last a b c told ha hb hc hd =
+    sym (append_assoc (option_text moment first ++ option_text moment second) (option_text moment third) (option_text moment last))
+    ∙ ap (λ x. x ++ option_text moment second ++ option_text moment third ++ option_text moment last) (one_text moment first ∙ ap (texts moment) ha)
+    ∙ ap (λ x. texts moment a ++ x ++ option_text moment third ++ option_text moment last) (one_text moment second ∙ ap (texts moment) hb)
+    ∙ ap (λ x. texts moment a ++ texts moment b ++ x ++ option_text moment last) (one_text moment third ∙ ap (texts moment) hc)
+    ∙ ap (λ x. texts moment a ++ texts moment b ++ texts moment c ++ x) (told_text moment last ∙ ap (λ o. texts moment (noted o)) hd)
+    ∙ ap (λ x. x ++ texts moment c ++ texts moment (noted told)) (sym (flat_map-append (stamped moment) a b))
+    ∙ ap (λ x. x ++ texts moment (noted told)) (sym (flat_map-append (stamped moment) (a ++ b) c))
+    ∙ sym (flat_map-append (stamped moment) (a ++ b ++ c) (noted told))
+
+-- what came of writing the text of lines
+pub lines-put : {E : Type 0} (before after : End) (written : List ℕ) (moment : Option ℕ) (first second third last : Option Line) (a b c : List Output) (told : Option Output)
+    (result : Result Unit E) → written ≡ (option_text moment first ++ option_text moment second) ++ (option_text moment third ++ option_text moment last)
+    → outputs_of first ≡ a → outputs_of second ≡ b → outputs_of third ≡ c → option_map line_shown last ≡ told
+    → IsPut before after written result → IsPut before after (texts moment (a ++ b ++ c ++ noted told)) result
+lines-put before after written moment first second third last a b c told result is ha hb hc hd put =
+    subst (λ text. IsPut before after text result) (is ∙ lines-text moment first second third last a b c told ha hb hc hd) put

@@ -14,9 +14,9 @@ pub begins-own : (player : PlayerState) (rack : List SpareShown) → Stands play
 begins-own player rack h = subst (λ r. Stands player (beginning r)) (sym h.rack) h
 
 -- a player over a core as it starts, on a bus with nothing on it, is at the beginning
-pub fresh-stands : (core : CoreState SimState) (reply : List ℕ) (rack : List SpareShown) → core.fine ≡ first_fine abort_port → core.bus ≡ first_state
-    → Stands (record { core = core; incoming = []; reply = reply; rack = rack; moment = 0 }) (beginning rack)
-fresh-stands core reply rack fine bus =
+pub fresh-stands : (core : CoreState SimState) (reply message : List ℕ) (rack : List SpareShown) → core.fine ≡ first_fine abort_port → core.bus ≡ first_state
+    → Stands (record { core = core; incoming = []; reply = reply; message = message; rack = rack; moment = 0 }) (beginning rack)
+fresh-stands core reply message rack fine bus =
     let of : FineState → SimState → Gateway = λ f b. record { fine = f; bus = b } in
     record {
       gateway = ap (λ (f : FineState). of f core.bus) fine ∙ ap (λ (b : SimState). of (first_fine abort_port) b) bus;

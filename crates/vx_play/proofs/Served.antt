@@ -23,9 +23,10 @@ use Rattle.vx_exchange.specs.Meaning.{Meaning, Asks, Aborts, by_call}
 use Rattle.vx_gen.specs.Generating.{asking, on_core}
 use Rattle.vx_gen.proofs.Spelled.{IsSpelled, message, abort-spelled}
 use Rattle.vx_play.specs.Gateway.{Gateway}
-use Rattle.vx_play.specs.Item.{Item}
-use Rattle.vx_play.specs.Stream.{Whole, brought, kept_after}
-use Rattle.vx_play.specs.Stage.{Stage, tables_of, refusal, refused_by}
+use Rattle.vx_run.specs.Item.{Item}
+use Rattle.vx_run.specs.Stream.{Whole, brought, kept_after}
+use Rattle.vx_play.specs.Stage.{Stage, tables_of, refusal}
+use Rattle.vx_run.specs.Forming.{refused_by}
 use Rattle.vx_play.specs.Making.{CallMakes, AbortMakes, MessageMakes, RecordMakes, PieceMakes, ChannelMakes, Makes}
 use Rattle.vx_play.specs.Play.{Takes, stream_after}
 use Rattle.vx_play.proofs.PollEvents.{poll-all, along-both}

@@ -1,13 +1,13 @@
 -- The transfers that the lines of a play show are those of the turns' moves.
-use Rattle.std.proofs.Common.{◌≡◌, ◌≤◌, ℕ, true, false, arith, List, [], ◌∷◌, ◌++◌, Option, Some, None, refl, sym, ap, ◌∙◌}
+use Rattle.std.proofs.Common.{◌≡◌, ◌≤◌, ◌+◌, ℕ, true, false, arith, List, [], ◌∷◌, ◌++◌, Option, Some, None, refl, sym, ap, ◌∙◌}
 use Rattle.std.specs.List.{flat_map}
 use Rattle.std.proofs.lemmas.List.{append-nil}
 use Rattle.std.proofs.lemmas.Grind.{flat_map-append}
 use Rattle.vx_calls.specs.declared.calls.Role.{Role}
 use Rattle.vx_script.specs.Command.{Command, Up, In, Down, At, Poll, Sample, Take, Dial, Inst, Plug, Pull, Set, Fail}
 use Rattle.vx_trace.specs.Output.{Output}
-use Rattle.vx_trace.specs.Text.{IsWhole, text_room}
-use Rattle.vx_play.specs.declared.printer.TheConstants.{NOTE_ROOM}
+use Rattle.vx_trace.specs.Text.{IsWhole, is_first, text_room}
+use Rattle.vx_play.specs.declared.printer.TheConstants.{STAMP_ROOM, NOTE_ROOM}
 use Rattle.vx_exchange.specs.SrqState.{Channel, Given, Front, channel_at}
 use Rattle.vx_rules.specs.State.{role_at}
 use Rattle.vx_flow.specs.Event.{Event}
@@ -19,10 +19,11 @@ use Rattle.vx_play.specs.Gateway.{Gateway}
 use Rattle.vx_bench.specs.Script.{Step}
 use Rattle.vx_exchange.specs.Meaning.{Meaning, Junk, Asks, Aborts, meaning}
 use Rattle.vx_exchange.specs.Meaning as meant
-use Rattle.vx_play.specs.Stream.{Brought, NoEnd, Whole, TooLong, After, brought}
-use Rattle.vx_play.specs.Item.{Item, bus_lines, noted, item_lines, outputs, events, moved, shown_moves}
+use Rattle.vx_run.specs.Stream.{Brought, NoEnd, Whole, TooLong, After, brought}
+use Rattle.vx_run.specs.Item.{Item, bus_lines, noted, item_lines, outputs, events, moved, shown_moves}
 use Rattle.vx_play.specs.Stage.{Stage, tables_of}
-use Rattle.vx_play.specs.Making.{MessageMakes, RecordMakes, PieceMakes, ChannelMakes, Makes, wait_line, is_wait, poll_line, take_line}
+use Rattle.vx_play.specs.Making.{MessageMakes, RecordMakes, PieceMakes, ChannelMakes, Makes}
+use Rattle.vx_run.specs.Notes.{wait_line, is_wait, poll_line, take_line}
 use Rattle.vx_play.specs.Play.{Plays}
 use Rattle.vx_play.specs.Counting.{is_interrupt}
 
@@ -44,11 +45,12 @@ pub record Waits (line : Output) : Type 0 where
   pub wait : is_wait line ≡ true
   pub no_interrupt : is_interrupt line ≡ false
   pub whole : IsWhole line
-  pub fits : text_room line ≤ NOTE_ROOM
+  pub first : is_first line ≡ true
+  pub fits : STAMP_ROOM + text_room line ≤ NOTE_ROOM
 
 pub waits : (conn : ℕ) (why : Why) → Waits (wait_line conn why)
-waits conn why.Held = record { moves = refl; wait = refl; no_interrupt = refl; whole = tt; fits = omega arith }
-waits conn _ = record { moves = refl; wait = refl; no_interrupt = refl; whole = tt; fits = omega arith }
+waits conn why.Held = record { moves = refl; wait = refl; no_interrupt = refl; whole = tt; first = refl; fits = omega arith }
+waits conn _ = record { moves = refl; wait = refl; no_interrupt = refl; whole = tt; first = refl; fits = omega arith }
 
 -- the line of a poll
 poll-plain : (conn xid : ℕ) (ending : Ending) → shown_moves (poll_line conn xid ending) ≡ []

@@ -12,7 +12,7 @@ use Rattle.vx_record.proofs.Headers.{fragment_length-last_header}
 use Rattle.vx_record.proofs.Spelling.{records-finished, records-open}
 use Rattle.vx_exchange.specs.Meaning.{by_call, by_arguments, by_sorting, meaning}
 use Rattle.vx_gen.proofs.Spelled.{IsSpelled, message, message-sorted, message-read, message-short}
-use Rattle.vx_play.specs.Stream.{Whole, After, by_split, brought}
+use Rattle.vx_run.specs.Stream.{Whole, After, by_split, brought}
 
 -- ---- a record on a stream that begins anew
 

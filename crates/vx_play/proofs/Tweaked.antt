@@ -24,6 +24,7 @@ use Rattle.vx_script.specs.Command.{Command, Inst, Plug, Pull, Set, Fail}
 use Rattle.vx_rules.specs.State.{role_at}
 use Rattle.vx_flow.specs.FineState.{FineState}
 use Rattle.vx_core.specs.CoreState.{CoreState}
+use Rattle.vx_play.specs.declared.note.Intake.TheVariants as intake
 use Rattle.vx_play.specs.declared.note.Made.{Made}
 use Rattle.vx_play.specs.declared.note.Note.TheVariants as note
 use Rattle.vx_bench.specs.declared.stops.Stop.{Stop}
@@ -34,7 +35,9 @@ use Rattle.vx_play.specs.Stage.{Stage, tables_of, absent_at, refusal}
 use Rattle.vx_bench.specs.Refusing.{address, cause_of, rules_in, table_refused, spare_refused}
 use Rattle.vx_play.specs.Making.{Tweaks, Makes}
 use Rattle.vx_bench.specs.Attaches.{AttachesTable, AttachesSpare}
-use Rattle.vx_play.specs.Play.{stream_after, xid_after, rack_after, moment_after}
+use Rattle.vx_play.specs.Play.{stream_after, xid_after, rack_after, message_of}
+use Rattle.vx_run.specs.Position.{moment_after}
+use Rattle.vx_run.specs.RunText.{message_lines}
 use Rattle.vx_play.specs.PlayerState.{PlayerState, incoming_at}
 use Rattle.vx_bench.specs.Spares.{spare_shown}
 use Rattle.vx_play.specs.Standing.{Stands, Holds, TakesTo, StopsFor}
@@ -73,18 +76,18 @@ record Leaves (stage : Stage) (command : Command) : Type 0 where
   streams : (conn : ℕ) → stream_after stage command conn ≡ stage.streams conn
   xids : (conn : ℕ) → xid_after stage command conn ≡ stage.xids conn
   moment : moment_after stage.moment command ≡ stage.moment
+  called : message_lines command (message_of stage command) ≡ []
 
 -- nothing is told of a change
-quiet : Made
-quiet = record { polled = None; note = note.Nothing; answered = None }
+abbrev pub quiet : Made
+quiet = record { intake = intake.Nothing; polled = None; note = note.Nothing; answered = None }
 
 -- a change that isn't refused takes the player to the next stage
 tweak-takes : (stage : Stage) (command : Command) (Change : SimState → SimState → Type 0) (old now : PlayerState) (core : CoreState SimState) (rack : List SpareShown)
     (cut : SimState) → old ≡ now → Stands now stage → core.fine ≡ old.core.fine → BusGoes old.core.bus (Cut ∷ []) cut → Change cut core.bus
     → rack ≡ rack_after old.rack command → (Same stage.gateway.bus cut → stage.rack ≡ old.rack → refusal stage command ≡ None)
     → (stage.rack ≡ old.rack → (after : Gateway) → Tweaks stage.gateway Change [] None after → Makes stage command [] None after)
-    → Leaves stage command → TakesTo stage command [] None (record old { core = core; rack = rack })
-unfolding quiet
+    → Leaves stage command → TakesTo stage command quiet (record old { core = core; rack = rack })
 tweak-takes stage command Change old now core rack cut seen stands_now fine_kept went change rack_is allowed makes leaves =
     let stands : Stands old stage = subst (λ (p : PlayerState). Stands p stage) (sym seen) stands_now in
     let through : BusGoes stage.gateway.bus (Cut ∷ []) cut = subst (λ (g : Gateway). BusGoes g.bus (Cut ∷ []) cut) stands.gateway went in
@@ -96,10 +99,11 @@ tweak-takes stage command Change old now core rack cut seen stands_now fine_kept
       group = [];
       makes = makes shown (gateway_of core) (record { none = refl; fine = fine_is; cut = cut; bus = through; change = change; told = refl });
       lines = refl;
+      lines2 = refl;
       answered = refl;
       note = tt;
       few = λ some. absurd (false≢true some);
-    })
+    }) leaves.called
     (subst (λ (f : FineState). f.state.moment ≤ old.moment) (sym fine_kept) stands.late)
     (stands.moment ∙ sym leaves.moment)
     (rack_is ∙ ap (λ (r : List SpareShown). rack_after r command) stands.rack)
@@ -114,33 +118,33 @@ tweak-takes stage command Change old now core rack cut seen stands_now fine_kept
 
 pub fail-takes : (stage : Stage) (n m : ℕ) (old now : PlayerState) (core : CoreState SimState) → m ≡ n → old ≡ now → Stands now stage → core.fine ≡ old.core.fine
     → ((cut : SimState) × BusGoes old.core.bus (Cut ∷ []) cut × (core.bus ≡ record cut { failing = Some m }))
-    → TakesTo stage (Fail n) [] None (record old { core = core })
+    → TakesTo stage (Fail n) quiet (record old { core = core })
 fail-takes stage n m old now core e seen stands kept changes =
     let cut : SimState = changes.0 in
     tweak-takes stage (Fail n) (λ o s. s ≡ record o { failing = Some n }) old now core old.rack cut seen stands kept changes.1
     (changes.2 ∙ ap (λ (k : ℕ). record cut { failing = Some k }) e) refl (λ same shown. refl) (λ shown after t. t)
-    (record { streams = λ conn. refl; xids = λ conn. refl; moment = refl })
+    (record { streams = λ conn. refl; xids = λ conn. refl; moment = refl; called = refl })
 
 pub set-takes : (stage : Stage) (p : ℕ) (s : Option ℕ) (b : ℕ) (answer : Bool) (old now : PlayerState) (core : CoreState SimState) → old ≡ now → Stands now stage
     → core.fine ≡ old.core.fine → ((cut : SimState) × BusGoes old.core.bus (Cut ∷ []) cut × ChangesAt (address p s) (IsSet (address p s) b) cut answer core.bus)
-    → answer ≡ true → TakesTo stage (Set p s b) [] None (record old { core = core })
+    → answer ≡ true → TakesTo stage (Set p s b) quiet (record old { core = core })
 set-takes stage p s b answer old now core seen stands kept changes reached =
     let change = changes.2 in
     tweak-takes stage (Set p s b) (IsSet (address p s) b) old now core old.rack changes.0 seen stands kept changes.1 (change.change reached) refl
     (λ same shown. stands-allowed stage.gateway.bus changes.0 (address p s) answer change.stands reached same) (λ shown after t. t)
-    (record { streams = λ conn. refl; xids = λ conn. refl; moment = refl })
+    (record { streams = λ conn. refl; xids = λ conn. refl; moment = refl; called = refl })
 
 pub pull-takes : (stage : Stage) (p : ℕ) (s : Option ℕ) (place : Addr) (answer : Bool) (old now : PlayerState) (core : CoreState SimState) → place ≡ address p s
     → old ≡ now → Stands now stage → core.fine ≡ old.core.fine
     → ((cut : SimState) × BusGoes old.core.bus (Cut ∷ []) cut × ChangesAt place (λ o n. n ≡ without_place place o) cut answer core.bus)
-    → answer ≡ true → TakesTo stage (Pull p s) [] None (record old { core = core })
+    → answer ≡ true → TakesTo stage (Pull p s) quiet (record old { core = core })
 pull-takes stage p s place answer old now core e seen stands kept changes reached =
     let cut : SimState = changes.0 in
     let change : ChangesAt (address p s) (λ o n. n ≡ without_place (address p s) o) cut answer core.bus =
     subst (λ (a : Addr). ChangesAt a (λ o n. n ≡ without_place a o) cut answer core.bus) e changes.2 in
     tweak-takes stage (Pull p s) (λ o n. n ≡ without_place (address p s) o) old now core old.rack cut seen stands kept changes.1 (change.change reached) refl
     (λ same shown. stands-allowed stage.gateway.bus cut (address p s) answer change.stands reached same) (λ shown after t. t)
-    (record { streams = λ conn. refl; xids = λ conn. refl; moment = refl })
+    (record { streams = λ conn. refl; xids = λ conn. refl; moment = refl; called = refl })
 
 -- ---- an instrument attached
 
@@ -158,7 +162,7 @@ pub inst-takes : (stage : Stage) (p : ℕ) (s : Option ℕ) (text : List ℕ) (i
     (core : CoreState SimState) → ((rules : List Rule) × (rules_in text ≡ Some (Ok rules)) × (inst ≡ fresh_table rules)) → place ≡ address p s → kept ≡ Some inst
     → old ≡ now → Stands now stage → core.fine ≡ old.core.fine
     → ((cut : SimState) × BusGoes old.core.bus (Cut ∷ []) cut × AttachesOne place (option_map (λ t. Table t) kept) cut None core.bus)
-    → TakesTo stage (Inst p s text) [] None (record old { core = core })
+    → TakesTo stage (Inst p s text) quiet (record old { core = core })
 inst-takes stage p s text inst place kept old now core table place_is kept_is seen stands fine_kept changes =
     let cut : SimState = changes.0 in
     let a : Addr = address p s in
@@ -170,7 +174,7 @@ inst-takes stage p s text inst place kept old now core table place_is kept_is se
     ap (λ (r : Option (Result (List Rule) TableErr)). table_refused stage.gateway.bus a r) table.1 ∙ attach-allowed stage.gateway.bus cut a came.0 same)
     (λ shown after t.
     subst (λ (r : Option (Result (List Rule) TableErr)). Tweaks stage.gateway (AttachesTable a r) [] None after) (sym table.1) t)
-    (record { streams = λ conn. refl; xids = λ conn. refl; moment = refl })
+    (record { streams = λ conn. refl; xids = λ conn. refl; moment = refl; called = refl })
 
 -- ---- a spare attached
 
@@ -216,7 +220,7 @@ module _ {I : Type 0} (seat : I → Seated) (name : List ℕ) where
       → rest ≡ take at_place rack ++ drop (suc at_place) rack → place ≡ address p s → kept ≡ Some spare.inst → old ≡ now → Stands now stage
       → old.rack ≡ map (spare_shown seat) rack → core.fine ≡ old.core.fine
       → ((cut : SimState) × BusGoes old.core.bus (Cut ∷ []) cut × AttachesOne place (option_map (λ i. Boxed (seat i)) kept) cut None core.bus)
-      → TakesTo stage (Plug p s name) [] None (record old { core = core; rack = map (spare_shown seat) rest })
+      → TakesTo stage (Plug p s name) quiet (record old { core = core; rack = map (spare_shown seat) rest })
   plug-takes stage p s rack rest at_place spare place kept old now core e is rest_is place_is kept_is seen stands shown fine_kept changes =
       let cut : SimState = changes.0 in
       let a : Addr = address p s in
@@ -234,4 +238,4 @@ module _ {I : Type 0} (seat : I → Seated) (name : List ℕ) where
       (λ known after t.
       subst (λ (o : Option SpareShown). Tweaks stage.gateway (AttachesSpare a o) [] None after)
       (sym (ap (λ (r : List SpareShown). spare_at r name) known ∙ there)) t)
-      (record { streams = λ conn. refl; xids = λ conn. refl; moment = refl })
+      (record { streams = λ conn. refl; xids = λ conn. refl; moment = refl; called = refl })

@@ -25,11 +25,12 @@ use Rattle.vx_play.specs.Gateway.{Gateway, Happens, abort_port}
 use Rattle.vx_bench.specs.Script as script
 use Rattle.vx_exchange.specs.Meaning.{Meaning, Junk, Asks, Aborts, meaning}
 use Rattle.vx_exchange.specs.Meaning as meant
-use Rattle.vx_play.specs.Stream.{Brought, NoEnd, Whole, TooLong, After, brought}
-use Rattle.vx_play.specs.Item.{Item, events}
+use Rattle.vx_run.specs.Stream.{Brought, NoEnd, Whole, TooLong, After, brought}
+use Rattle.vx_run.specs.Item.{Item, events}
 use Rattle.vx_bench.specs.Rack.{SpareShown}
 use Rattle.vx_play.specs.Stage.{Stage, tables_of, beginning}
 use Rattle.vx_play.specs.Making.{IsQuiet, PollMakes, Tweaks, MessageMakes, RecordMakes, PieceMakes, ChannelMakes, Makes}
+use Rattle.vx_play.proofs.Formed.{plays-formed}
 use Rattle.vx_play.specs.Play.{Plays}
 use Rattle.vx_play.specs.Upholding.{Upholds}
 use Rattle.vx_play.proofs.PollEvents.{poll-all, along-both}
@@ -236,4 +237,5 @@ plays-uphold rack steps items end plays =
     record {
       headline = headline_law-holds abort_port (events items) led.0 led.1;
       shown = lines-shown (beginning rack) steps items end plays;
+      formed = plays-formed rack steps items end plays;
     }

@@ -13,18 +13,18 @@ use Rattle.vx_play.specs.declared.made_run.Halt.{Halt}
 use Rattle.vx_play.specs.declared.note.Made.{Made}
 use Rattle.vx_play.specs.declared.note.Note.{Note}
 use Rattle.vx_play.specs.declared.note.Note.TheVariants as note
-use Rattle.vx_play.specs.Item.{Item, errors_of, shown_moves}
+use Rattle.vx_run.specs.Item.{Item, errors_of, shown_moves}
 use Rattle.vx_play.specs.Stage.{Stage}
 use Rattle.vx_play.specs.PlayerState.{PlayerState}
-use Rattle.vx_play.specs.Standing.{Stands, TakesTo, StopsFor}
+use Rattle.vx_play.specs.Standing.{Stands, TakesTo, StopsFor, made_lines}
 use Rattle.vx_gen.specs.declared.words.Ask.{Ask}
 use Rattle.vx_gen.specs.SummaryText.{summary_text}
 use Rattle.vx_text.specs.Ends.{End}
 use Rattle.vx_text.specs.Writing.{StopsIn}
 use Rattle.vx_play.specs.declared.run.Status.{Status}
 use Rattle.vx_play.specs.declared.run.Status.TheVariants as status
-use Rattle.vx_play.specs.Item.{Fault, last_line}
-use Rattle.vx_play.specs.Making.{is_wait}
+use Rattle.vx_run.specs.Item.{Fault, last_line}
+use Rattle.vx_run.specs.Notes.{is_wait}
 use Rattle.vx_play.specs.Generated.{IsGenerated, IsDriven, IsRun, IsHalted, counts_of, is_failure}
 
 -- nothing is counted
@@ -81,10 +81,9 @@ pub record IsWithin (most : ℕ) (c : Counts) : Type 0 where
 
 -- a step was taken and counted
 pub record TakesCounted (before : Stage) (command : Command) (old : Counts) (player : PlayerState) (new : Counts) : Type 0 where
-  pub lines : List Output
-  pub answered : Option ErrorCode
-  pub takes : TakesTo before command lines answered player
-  pub counted : new ≡ counts_behind old answered lines
+  pub made : Made
+  pub takes : TakesTo before command made player
+  pub counted : new ≡ counts_behind old made.answered (made_lines player made)
 
 -- so many steps of a run are taken and counted
 pub record Running (seed : ℕ) (rack : List SpareShown) (count : ℕ) (player : PlayerState) (counts : Counts) : Type 0 where

@@ -7,15 +7,21 @@ use Rattle.vx_play.specs.declared.run.Status.{Status}
 use Rattle.vx_play.specs.declared.run.Status.TheVariants as status
 use Rattle.vx_text.specs.Ends.{End}
 use Rattle.vx_text.specs.Writing.{StopsIn}
-use Rattle.vx_bench.specs.Script.{Step, script, script_from, behind_steps}
+use Rattle.vx_bench.specs.Script.{Step, script, script_from, behind_steps, version_of_lines}
 use Rattle.vx_text.specs.TextLines.{lines}
-use Rattle.vx_play.specs.Item.{Item, Fault, text, last_line}
+use Rattle.vx_run.specs.Item.{Item, Fault, last_line}
+use Rattle.vx_run.specs.RunText.{text}
+use Rattle.vx_script.specs.declared.Version.{Version}
 use Rattle.vx_bench.specs.Rack.{SpareShown}
 use Rattle.vx_play.specs.Stage.{Stage, beginning}
 use Rattle.vx_play.specs.Play.{Plays, PlaysFront, IsPlay}
 use Rattle.vx_play.specs.Upholding.{Upholds}
 use Rattle.vx_play.specs.PlayerState.{PlayerState}
 use Rattle.vx_play.specs.Standing.{Stands, WantsMemory}
+
+-- the version of a script's text
+abbrev pub version_in : List ℕ → Version
+version_in script_text = version_of_lines (lines script_text)
 
 -- a script that is played to its end or to its first fault, with these spares
 pub record IsPlayed (script_text : List ℕ) (rack : List SpareShown) (items : List Item) (fault : Option Fault) : Type 0 where
@@ -41,27 +47,28 @@ pub record IsShort (script_text : List ℕ) (rack : List SpareShown) (items : Li
   pub front : IsFront script_text rack items
   pub wants : WantsAtStep script_text front.steps front.stage
 
--- a play under way: so many lines are played, and this text is what is left
-pub record UnderWay (script_text : List ℕ) (rack : List SpareShown) (rest : List ℕ) (count : ℕ) (player : PlayerState) (before after : End) : Type 0 where
+-- a play of a script of this version under way: so many lines are played, and this text is what is left
+pub record UnderWay (script_text : List ℕ) (rack : List SpareShown) (v : Version) (rest : List ℕ) (count : ℕ) (player : PlayerState) (before after : End) : Type 0 where
   pub steps : List Step
   pub items : List Item
   pub stage : Stage
-  pub is_front : script script_text ≡ behind_steps steps (script_from (count + 1) (lines rest))
+  pub version_is : version_in script_text ≡ v
+  pub is_front : script script_text ≡ behind_steps steps (script_from v (count + 1) (lines rest))
   pub played : Plays (beginning rack) steps items stage
   pub stands : Stands player stage
-  pub written : Appends before.bytes after.bytes (text items)
+  pub written : Appends before.bytes after.bytes (text v items)
   pub counted : before.faults ≤ after.faults
 
 -- how the play of a script's lines ends, and what was written
 abbrev pub EndsLines : List ℕ → List SpareShown → End → End → Ending → Type 0
 EndsLines script_text rack before after ending.Whole =
-    (items : List Item) × IsPlayed script_text rack items None × Appends before.bytes after.bytes (text items)
+    (items : List Item) × IsPlayed script_text rack items None × Appends before.bytes after.bytes (text (version_in script_text) items)
 EndsLines script_text rack before after (ending.Fault line why) =
-    (items : List Item) × IsPlayed script_text rack items (Some (record { line = line; cause = why })) × Appends before.bytes after.bytes (text items)
+    (items : List Item) × IsPlayed script_text rack items (Some (record { line = line; cause = why })) × Appends before.bytes after.bytes (text (version_in script_text) items)
 EndsLines script_text rack before after ending.SinkFailed =
-    (items : List Item) × IsFront script_text rack items × StopsIn before after (text items)
+    (items : List Item) × IsFront script_text rack items × StopsIn before after (text (version_in script_text) items)
 EndsLines script_text rack before after ending.NoMemory =
-    (items : List Item) × IsShort script_text rack items × Appends before.bytes after.bytes (text items)
+    (items : List Item) × IsShort script_text rack items × Appends before.bytes after.bytes (text (version_in script_text) items)
 
 -- the last line was written, or the sink failed in it
 abbrev pub PutsLast : Status → List ℕ → End → End → Status → Type 0
@@ -73,12 +80,12 @@ PutsLast how line before after result =
 -- the steps in front of the one that wants it.
 abbrev pub EndsScript : List ℕ → List SpareShown → End → End → Status → Type 0
 EndsScript script_text rack before after status.Done =
-    (items : List Item) × IsPlayed script_text rack items None × Appends before.bytes after.bytes (text items ++ last_line None)
+    (items : List Item) × IsPlayed script_text rack items None × Appends before.bytes after.bytes (text (version_in script_text) items ++ last_line None)
 EndsScript script_text rack before after status.Fault =
-    (items : List Item) × (fault : Fault) × IsPlayed script_text rack items (Some fault) × Appends before.bytes after.bytes (text items ++ last_line (Some fault))
+    (items : List Item) × (fault : Fault) × IsPlayed script_text rack items (Some fault) × Appends before.bytes after.bytes (text (version_in script_text) items ++ last_line (Some fault))
 EndsScript script_text rack before after status.SinkFailed =
-    ((items : List Item) × IsFront script_text rack items × StopsIn before after (text items))
-    ⊎ ((items : List Item) × (fault : Option Fault) × IsPlayed script_text rack items fault × StopsIn before after (text items ++ last_line fault))
+    ((items : List Item) × IsFront script_text rack items × StopsIn before after (text (version_in script_text) items))
+    ⊎ ((items : List Item) × (fault : Option Fault) × IsPlayed script_text rack items fault × StopsIn before after (text (version_in script_text) items ++ last_line fault))
 EndsScript script_text rack before after status.NoMemory =
-    (after ≡ before) ⊎ ((items : List Item) × IsShort script_text rack items × Appends before.bytes after.bytes (text items))
+    (after ≡ before) ⊎ ((items : List Item) × IsShort script_text rack items × Appends before.bytes after.bytes (text (version_in script_text) items))
 EndsScript script_text rack before after _ = ⊥

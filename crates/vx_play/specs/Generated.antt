@@ -21,9 +21,9 @@ use Rattle.vx_gen.specs.Generating.{head, drawn}
 use Rattle.vx_gen.specs.SummaryText.{title_text, summary_text}
 use Rattle.vx_play.specs.declared.run.Status.{Status}
 use Rattle.vx_play.specs.declared.run.Status.TheVariants as status
-use Rattle.vx_play.specs.Item.{Item, Fault, noted, events, answer_errors, moved, last_line}
+use Rattle.vx_run.specs.Item.{Item, Fault, noted, events, answer_errors, moved, last_line}
 use Rattle.vx_play.specs.Stage.{Stage, tables_of, beginning, refusal}
-use Rattle.vx_play.specs.Making.{is_wait}
+use Rattle.vx_run.specs.Notes.{is_wait}
 use Rattle.vx_play.specs.Play.{Plays}
 use Rattle.vx_play.specs.Upholding.{Upholds}
 

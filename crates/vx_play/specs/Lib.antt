@@ -1,6 +1,4 @@
-pub mod Stream
 pub mod Gateway
-pub mod Item
 pub mod Stage
 pub mod Hearing
 pub mod Making
@@ -12,6 +10,7 @@ pub mod Serving
 pub mod Feeding
 pub mod Tweaking
 pub mod Printing
+pub mod StepPlayed
 pub mod LinePlayed
 pub mod Generated
 pub mod Counting
@@ -20,6 +19,14 @@ pub mod Outcome
 pub mod Laws
 pub mod ProvedLaws
 pub use Rattle.vx_io_traits.specs.Faults
+pub use Rattle.vx_lift.specs.Lifted
+pub use Rattle.vx_run.specs.Stream
+pub use Rattle.vx_run.specs.Item
+pub use Rattle.vx_run.specs.RunText
+pub use Rattle.vx_run.specs.Notes
+pub use Rattle.vx_run.specs.Position
+pub use Rattle.vx_run.specs.Giving
+pub use Rattle.vx_run.specs.Forming
 pub use Rattle.vx_text.specs.Reading
 pub use Rattle.vx_text.specs.TextLines
 pub use Rattle.vx_text.specs.Writing

@@ -1,67 +1,78 @@
 -- What playing one line of a script does.
-use Rattle.std.specs.Prelude.{◌≡◌, List, [], Option, Some, ◌⊎◌}
+use Rattle.std.specs.Prelude.{◌≡◌, List, [], ◌∷◌, ◌++◌, Option, Some, None, ◌⊎◌}
 use Rattle.std.specs.List.{flat_map}
 use Rattle.std.specs.Io.KnownBytes.{Appends}
-use Rattle.vx_calls.specs.declared.codes.ErrorCode.{ErrorCode}
 use Rattle.vx_script.specs.declared.Cause.{Cause}
 use Rattle.vx_script.specs.declared.Cause.TheVariants as cause
+use Rattle.vx_script.specs.declared.Version.{Version}
 use Rattle.vx_script.specs.Command.{Command}
-use Rattle.vx_script.specs.Grammar.{Reading, Skipped, Does, Outside}
-use Rattle.vx_trace.specs.Output.{Output}
-use Rattle.vx_trace.specs.Text.{line_text}
 use Rattle.vx_play.specs.declared.run.LineEnd.{LineEnd}
 use Rattle.vx_play.specs.declared.run.LineEnd.TheVariants as line_end
 use Rattle.vx_text.specs.Ends.{End}
 use Rattle.vx_text.specs.Writing.{StopsIn}
+use Rattle.vx_run.specs.Item.{Item}
+use Rattle.vx_run.specs.RunText.{item_text}
 use Rattle.vx_play.specs.Stage.{Stage, refusal}
+use Rattle.vx_play.specs.Play.{Takes}
 use Rattle.vx_play.specs.PlayerState.{PlayerState}
-use Rattle.vx_play.specs.Standing.{Stands, TakesTo, WantsMemory}
+use Rattle.vx_play.specs.Standing.{Stands, WantsMemory}
 
--- a line that says nothing changed nothing
-pub record IsSkipped (said : Reading) (stage : Stage) (player : PlayerState) (before after : End) : Type 0 where
-  pub skipped : said ≡ Skipped
-  pub stands : Stands player stage
-  pub kept : Appends before.bytes after.bytes []
+-- these commands, one item each, take a play from one stage to another
+abbrev pub TakesAll : Stage → List Command → List Item → Stage → Type 0
+TakesAll before [] [] after = after ≡ before
+TakesAll before (command ∷ commands) (item ∷ items) after =
+    (item.command ≡ command) × (next : Stage) × Takes before item next × TakesAll next commands items after
+TakesAll before [] (item ∷ items) after = ⊥
+TakesAll before (command ∷ commands) [] after = ⊥
 
--- a line's command was taken, and its text written
-pub record IsPlayed (said : Reading) (stage : Stage) (player : PlayerState) (before after : End) : Type 0 where
-  pub command : Command
-  pub said_is : said ≡ Does command
-  pub lines : List Output
-  pub answered : Option ErrorCode
-  pub takes : TakesTo stage command lines answered player
-  pub written : Appends before.bytes after.bytes (flat_map line_text lines)
+-- some first commands of a line were taken
+pub record TakesFront (before : Stage) (commands : List Command) : Type 0 where
+  pub items : List Item
+  pub after : Stage
+  pub takes : TakesAll before commands items after
 
--- a line's command was taken, and the sink failed at its text
-pub record IsCut (said : Reading) (stage : Stage) (player : PlayerState) (before after : End) : Type 0 where
-  pub command : Command
-  pub said_is : said ≡ Does command
-  pub lines : List Output
-  pub answered : Option ErrorCode
-  pub takes : TakesTo stage command lines answered player
-  pub stops : StopsIn before after (flat_map line_text lines)
+-- a line's commands, none or more, were taken, and their text written
+pub record IsPlayed (v : Version) (said : Option (List Command)) (stage : Stage) (player : PlayerState) (before after : End) : Type 0 where
+  pub commands : List Command
+  pub said_is : said ≡ Some commands
+  pub front : TakesFront stage commands
+  pub stands : Stands player front.after
+  pub written : Appends before.bytes after.bytes (flat_map (item_text v) front.items)
+
+-- a line's commands were taken, and the sink failed at their text
+pub record IsCut (v : Version) (said : Option (List Command)) (stage : Stage) (before after : End) : Type 0 where
+  pub commands : List Command
+  pub said_is : said ≡ Some commands
+  pub front : TakesFront stage commands
+  pub stops : StopsIn before after (flat_map (item_text v) front.items)
 
 -- a line outside the grammar
-pub record IsBad (said : Reading) (why : Cause) : Type 0 where
-  pub outside : said ≡ Outside
+pub record IsBad (said : Option (List Command)) (why : Cause) (before after : End) : Type 0 where
+  pub outside : said ≡ None
   pub form : why ≡ cause.Form
+  pub unwritten : Appends before.bytes after.bytes []
 
--- a line's command is refused
-pub record IsTurnedDown (said : Reading) (stage : Stage) (why : Cause) : Type 0 where
+-- the commands of a line in front of one of them were taken, and their text written
+pub record IsFrontOf (v : Version) (said : Option (List Command)) (stage : Stage) (before after : End) : Type 0 where
+  pub commands : List Command
   pub command : Command
-  pub said_is : said ≡ Does command
-  pub refused : refusal stage command ≡ Some why
+  pub later : List Command
+  pub said_is : said ≡ Some (commands ++ command ∷ later)
+  pub front : TakesFront stage commands
+  pub written : Appends before.bytes after.bytes (flat_map (item_text v) front.items)
 
--- a line's command wants memory
-pub record IsWanting (said : Reading) (stage : Stage) : Type 0 where
-  pub command : Command
-  pub said_is : said ≡ Does command
-  pub wants : WantsMemory stage command
+-- a command of the line is refused behind them
+pub record IsTurnedDown (v : Version) (said : Option (List Command)) (stage : Stage) (why : Cause) (before after : End) : Type 0 where
+  pub at : IsFrontOf v said stage before after
+  pub refused : refusal at.front.after at.command ≡ Some why
 
-abbrev pub EndsLine : Reading → Stage → PlayerState → End → End → LineEnd → Type 0
-EndsLine said stage player before after line_end.Played =
-    IsSkipped said stage player before after ⊎ IsPlayed said stage player before after
-EndsLine said stage player before after (line_end.Refused why) =
-    (IsBad said why ⊎ IsTurnedDown said stage why) × Appends before.bytes after.bytes []
-EndsLine said stage player before after line_end.SinkFailed = IsCut said stage player before after
-EndsLine said stage player before after line_end.NoMemory = IsWanting said stage × Appends before.bytes after.bytes []
+-- a command of the line wants memory
+pub record IsWanting (v : Version) (said : Option (List Command)) (stage : Stage) (before after : End) : Type 0 where
+  pub at : IsFrontOf v said stage before after
+  pub wants : WantsMemory at.front.after at.command
+
+abbrev pub EndsLine : Version → Option (List Command) → Stage → PlayerState → End → End → LineEnd → Type 0
+EndsLine v said stage player before after line_end.Played = IsPlayed v said stage player before after
+EndsLine v said stage player before after (line_end.Refused why) = IsBad said why before after ⊎ IsTurnedDown v said stage why before after
+EndsLine v said stage player before after line_end.SinkFailed = IsCut v said stage before after
+EndsLine v said stage player before after line_end.NoMemory = IsWanting v said stage before after

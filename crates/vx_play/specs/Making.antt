@@ -5,25 +5,24 @@ use Rattle.vx_calls.specs.declared.codes.ErrorCode.{ErrorCode}
 use Rattle.vx_calls.specs.Call.{Call}
 use Rattle.vx_calls.specs.Reply as reply
 use Rattle.vx_script.specs.Command.{Command, Up, In, Down, At, Poll, Sample, Take, Dial, Inst, Plug, Pull, Set, Fail}
-use Rattle.vx_trace.specs.Output.{Output, Out, Irq, IrqNone, IrqClosed, WaitLock, WaitTurn, WaitBehind, WaitHeld, WaitSlice, WaitDial, GoneDown, GoneJunk, GoneLong}
+use Rattle.vx_trace.specs.Output.{Output, Out, IrqClosed, GoneDown, GoneJunk, GoneLong}
 use Rattle.vx_bus_traits.specs.Steps.{Told, Cut}
 use Rattle.vx_sim.specs.Bench.{some_asks, some_refuses}
 use Rattle.vx_sim.specs.SimState.{SimState, Through}
 use Rattle.vx_sim.specs.Attaching.{without_place, IsSet}
-use Rattle.vx_exchange.specs.SrqState.{Channel, Given, Front, Empty, Gone, channel_at}
+use Rattle.vx_exchange.specs.SrqState.{Channel, Given, channel_at}
 use Rattle.vx_rules.specs.State.{Pending, role_at, pending_at}
 use Rattle.vx_flow.specs.Event.{Event}
 use Rattle.vx_flow.specs.Event as event
-use Rattle.vx_flow.specs.Poll.{Ending, Answered, Waited, Dialed, run_events, end_events}
-use Rattle.vx_flow.specs.declared.progress.Why.{Why}
-use Rattle.vx_flow.specs.declared.progress.Why.TheVariants as why
+use Rattle.vx_flow.specs.Poll.{Ending, run_events, end_events}
 use Rattle.vx_core.specs.Polling.{PollsOver}
+use Rattle.vx_run.specs.Notes.{poll_line, take_line}
 use Rattle.vx_play.specs.Gateway.{Gateway, BusGoes, Happens}
 use Rattle.vx_play.specs.Hearing.{is_write, TakesHeard}
 use Rattle.vx_record.specs.Fragments.{record_of}
-use Rattle.vx_exchange.specs.Meaning.{Meaning, Junk, Asks, Aborts, meaning, reply_record, srq_record}
+use Rattle.vx_exchange.specs.Meaning.{Meaning, Junk, Asks, Aborts, meaning, reply_record}
 use Rattle.vx_exchange.specs.Meaning as meant
-use Rattle.vx_play.specs.Stream.{Brought, NoEnd, Whole, TooLong, After, brought}
+use Rattle.vx_run.specs.Stream.{Brought, NoEnd, Whole, TooLong, After, brought}
 use Rattle.vx_bench.specs.Rack.{spare_at}
 use Rattle.vx_play.specs.Stage.{Stage, tables_of}
 use Rattle.vx_bench.specs.Refusing.{address, rules_in}
@@ -33,30 +32,6 @@ use Rattle.vx_bench.specs.Attaches.{AttachesTable, AttachesSpare}
 pub record IsQuiet (before : Gateway) (group : List Event) (after : Gateway) : Type 0 where
   pub none : group ≡ []
   pub same : after ≡ before
-
--- the line of a call that waits
-abbrev pub wait_line : ℕ → Why → Output
-wait_line conn (why.Locked link) = WaitLock conn link
-wait_line conn (why.Behind by) = WaitBehind conn by
-wait_line conn (why.Turn by) = WaitTurn conn by
-wait_line conn why.Held = WaitHeld conn
-wait_line conn why.Slice = WaitSlice conn
-
--- a call is told to wait: for one of these causes, or for a dial
-abbrev pub is_wait : Output → Bool
-is_wait (WaitLock conn link) = true
-is_wait (WaitBehind conn by) = true
-is_wait (WaitTurn conn by) = true
-is_wait (WaitHeld conn) = true
-is_wait (WaitSlice conn) = true
-is_wait (WaitDial conn) = true
-is_wait _ = false
-
--- the line of a poll that ends so, of a call of this xid
-abbrev pub poll_line : ℕ → ℕ → Ending → Output
-poll_line conn xid (Answered ran level given) = Out conn (reply_record xid given)
-poll_line conn xid (Waited why) = wait_line conn why
-poll_line conn xid (Dialed host port) = WaitDial conn
 
 -- a connection's call is polled at this moment
 pub record PollMakes (before : Gateway) (conn now xid : ℕ) (group : List Event) (note : Option Output) (after : Gateway) : Type 0 where
@@ -108,12 +83,6 @@ PieceMakes g conn now NoEnd group line after = IsQuiet g group after × (line �
 PieceMakes g conn now (Whole message) group line after = RecordMakes g conn now message (role_at g.fine.state.tables conn) group line after
 PieceMakes g conn now TooLong group line after = EndMakes g conn (GoneLong conn) group line after
 PieceMakes g conn now After group line after = ⊥
-
--- the line of what a take gives
-abbrev pub take_line : ℕ → Given → Output
-take_line conn (Front srq) = Irq conn (srq_record srq)
-take_line conn Empty = IrqNone conn
-take_line conn Gone = IrqClosed conn
 
 -- an interrupt is taken from this channel
 pub record TakeMakes (before : Gateway) (conn : ℕ) (c : Channel) (group : List Event) (note : Option Output) (after : Gateway) : Type 0 where

@@ -1,54 +1,38 @@
 -- A play: its items, one for each step, and how it ends.
-use Rattle.std.specs.Prelude.{◌≡◌, ℕ, ◌==◌, max, if◌then◌else◌, List, [], ◌∷◌, ◌++◌, position, Option, Some, None, ◌⊎◌}
+use Rattle.std.specs.Prelude.{◌≡◌, ℕ, List, [], ◌∷◌, ◌++◌, position, Option, Some, None, ◌⊎◌}
 use Rattle.std.specs.Str.{bytes_eq}
-use Rattle.vx_calls.specs.declared.calls.Role.{Role}
 use Rattle.vx_script.specs.declared.Cause.TheVariants as cause
-use Rattle.vx_script.specs.Command.{Command, Up, In, At, Plug}
-use Rattle.vx_rules.specs.State.{role_at}
+use Rattle.vx_script.specs.Command.{Command, Plug}
 use Rattle.vx_bench.specs.Script.{Step, script}
-use Rattle.vx_play.specs.Stream.{Brought, Whole, brought, kept_after}
-use Rattle.vx_exchange.specs.Meaning.{meaning, xid_by}
-use Rattle.vx_play.specs.Item.{Item, Fault}
+use Rattle.vx_run.specs.Position.{streams_after, xids_after, moment_after, message_after}
+use Rattle.vx_run.specs.Item.{Item, Fault}
 use Rattle.vx_bench.specs.Rack.{SpareShown, without_at}
 use Rattle.vx_play.specs.Stage.{Stage, tables_of, beginning, refusal}
 use Rattle.vx_play.specs.Making.{Makes}
 
 -- the bytes of a connection's stream since its last whole record, after a command
 abbrev pub stream_after : Stage → Command → ℕ → List ℕ
-stream_after s (Up conn r) n = if n == conn then [] else s.streams n
-stream_after s (In conn bytes) n = if n == conn then kept_after (brought (s.streams conn) bytes) (s.streams conn ++ bytes) else s.streams n
-stream_after s _ n = s.streams n
+stream_after s command n = streams_after s.streams command n
 
--- the xid of the last call that a connection kept, after a record on it, and after what a piece brought
-abbrev pub xid_of : List ℕ → Option Role → ℕ → ℕ
-xid_of message None last = last
-xid_of message (Some r) last = xid_by (meaning message r) last
-
-abbrev pub xid_brought : Brought → Option Role → ℕ → ℕ
-xid_brought (Whole message) r last = xid_of message r last
-xid_brought _ r last = last
-
+-- the xid of the last call that a connection kept, after a command
 abbrev pub xid_after : Stage → Command → ℕ → ℕ
-xid_after s (Up conn r) n = if n == conn then 0 else s.xids n
-xid_after s (In conn bytes) n =
-    if n == conn then xid_brought (brought (s.streams conn) bytes) (role_at (tables_of s) conn) (s.xids conn) else s.xids n
-xid_after s _ n = s.xids n
+xid_after s command n = xids_after (tables_of s) s.streams s.xids command n
+
+-- the message of the record that a command brings to its end
+abbrev pub message_of : Stage → Command → Option (List ℕ)
+message_of s command = message_after s.streams command
 
 -- the spares without the first of the name of a `plug`
 abbrev pub rack_after : List SpareShown → Command → List SpareShown
 rack_after rack (Plug p secondary name) = without_at rack (position (λ spare. bytes_eq spare.name name) rack)
 rack_after rack _ = rack
 
--- the moment of the next steps: an earlier one counts as the present one
-abbrev pub moment_after : ℕ → Command → ℕ
-moment_after moment (At later) = max moment later
-moment_after moment _ = moment
-
 -- an item takes a play from one stage to the next: its command isn't refused, and it made what it should
 pub record Takes (before : Stage) (item : Item) (after : Stage) : Type 0 where
   pub allowed : refusal before item.command ≡ None
   pub makes : Makes before item.command item.group item.note after.gateway
-  pub bus : item.bus ≡ after.gateway.bus
+  pub message : item.message ≡ message_of before item.command
+  pub at : item.moment ≡ after.moment
   pub streams : (conn : ℕ) → after.streams conn ≡ stream_after before item.command conn
   pub xids : (conn : ℕ) → after.xids conn ≡ xid_after before item.command conn
   pub rack : after.rack ≡ rack_after before.rack item.command

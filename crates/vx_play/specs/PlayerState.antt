@@ -9,11 +9,12 @@ use Rattle.vx_play.specs.declared.pieces.Incoming.{Incoming}
 use Rattle.vx_bench.specs.Rack.{SpareShown}
 
 -- the core; of each connection what has come of a record, and the xid of the last call that it kept; the room for a reply's
--- record; the spare instruments that are left; and the moment of the next steps, in milliseconds
+-- record; the message of the last whole record; the spare instruments that are left; and the moment of the next steps, in milliseconds
 pub record PlayerState : Type 0 where
   pub core : CoreState SimState
   pub incoming : List (ℕ × Incoming)
   pub reply : List ℕ
+  pub message : List ℕ
   pub rack : List SpareShown
   pub moment : ℕ
 

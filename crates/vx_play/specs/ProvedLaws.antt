@@ -7,7 +7,7 @@ use Rattle.vx_flow.specs.declared.progress.Ran.{Ran}
 use Rattle.vx_flow.specs.declared.progress.Ran.TheVariants as ran
 use Rattle.vx_record.specs.declared.Feed.{Feed}
 use Rattle.vx_record.specs.declared.Feed.TheVariants as feed
-use Rattle.vx_play.specs.Stream.{Brought, NoEnd, Whole, TooLong, by_split}
+use Rattle.vx_run.specs.Stream.{Brought, NoEnd, Whole, TooLong, by_split}
 use Rattle.vx_record.specs.Records.{Split}
 use Rattle.vx_record.specs.Ends.{IsEnd}
 

@@ -12,7 +12,8 @@ use Rattle.vx_rules.specs.State.{Tables, role_at, lives_as, pending_at, has_room
 use Rattle.vx_bench.specs.Rack.{SpareShown, spare_at}
 use Rattle.vx_bench.specs.Refusing.{address, rules_in, table_refused, spare_refused}
 use Rattle.vx_play.specs.Gateway.{Gateway, first_gateway}
-use Rattle.vx_play.specs.Stream.{Brought, After, brought}
+use Rattle.vx_run.specs.Stream.{brought}
+use Rattle.vx_run.specs.Forming.{refused_by}
 
 -- where a play stands: the gateway; of each connection the stream bytes since its last whole record, and the xid of the last
 -- call that it kept; the spare instruments that are left; and the moment of the next steps, in milliseconds
@@ -29,11 +30,6 @@ beginning rack = record { gateway = first_gateway; streams = λ conn. []; xids =
 
 abbrev pub tables_of : Stage → Tables
 tables_of s = s.gateway.fine.state.tables
-
--- why an `in` is refused: bytes follow a record
-abbrev pub refused_by : Brought → Option Cause
-refused_by After = Some cause.After
-refused_by _ = None
 
 -- nobody stands at the address
 abbrev pub absent_at : SimState → Addr → Option Cause

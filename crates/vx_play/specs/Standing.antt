@@ -1,17 +1,19 @@
 -- A player that stands at a stage of a play, and what a step leaves of it.
-use Rattle.std.specs.Prelude.{◌≡◌, ◌≤◌, ◌<◌, ℕ, List, [], ◌∷◌, ◌++◌, length, take, Option, Some, None, IfSome, IsSome}
+use Rattle.std.specs.Prelude.{◌≡◌, ◌≤◌, ◌<◌, ℕ, Bool, true, List, [], ◌∷◌, ◌++◌, length, take, Option, Some, None, IfSome, IsSome}
 use Rattle.std.specs.List.{flat_map}
 use Rattle.vx_calls.specs.declared.calls.Role.{Role}
-use Rattle.vx_calls.specs.declared.codes.ErrorCode.{ErrorCode}
 use Rattle.vx_calls.specs.declared.limits.TheConstants.{RECORD_MAX}
 use Rattle.vx_488.specs.declared.transfers.Transfer.{Transfer}
 use Rattle.vx_calls.specs.declared.limits.TheConstants.{SLICE_MAX}
 use Rattle.vx_record.specs.Buffer.{fresh, fed}
 use Rattle.vx_record.specs.declared.Feed.TheVariants.{More}
-use Rattle.vx_script.specs.Command.{Command, Up, Inst}
-use Rattle.vx_trace.specs.Output.{Output, Bus, Out, Irq, IrqNone, IrqClosed, WaitDial, GoneDown, GoneJunk, GoneLong}
+use Rattle.vx_script.specs.Command.{Command, Inst}
+use Rattle.vx_script.specs.Command as command
+use Rattle.vx_trace.specs.Output.{Output, Up, Call, Begin, DialDone, Srq, Bus, Out, Irq, IrqNone, IrqClosed, WaitDial, GoneDown, GoneJunk, GoneLong}
 use Rattle.vx_rules.specs.State.{role_at}
 use Rattle.vx_play.specs.declared.pieces.Incoming.{Incoming}
+use Rattle.vx_play.specs.declared.note.Intake.{Intake}
+use Rattle.vx_play.specs.declared.note.Intake.TheVariants as intake
 use Rattle.vx_play.specs.declared.note.Gone.{Gone}
 use Rattle.vx_play.specs.declared.note.Gone.TheVariants as gone
 use Rattle.vx_play.specs.declared.note.Note.{Note}
@@ -20,9 +22,10 @@ use Rattle.vx_play.specs.declared.note.Made.{Made}
 use Rattle.vx_bench.specs.declared.stops.Stop.{Stop}
 use Rattle.vx_bench.specs.declared.stops.Stop.TheVariants as stop
 use Rattle.vx_play.specs.Gateway.{gateway_of}
-use Rattle.vx_play.specs.Item.{Item, item_lines, noted, answer_errors, errors_of}
+use Rattle.vx_run.specs.Item.{Item, item_lines, noted, answer_errors, errors_of}
+use Rattle.vx_run.specs.RunText.{item_lines2}
 use Rattle.vx_play.specs.Stage.{Stage, tables_of, refusal}
-use Rattle.vx_play.specs.Making.{wait_line}
+use Rattle.vx_run.specs.Notes.{wait_line}
 use Rattle.vx_play.specs.Play.{Takes}
 use Rattle.vx_play.specs.PlayerState.{PlayerState, incoming_at}
 
@@ -78,6 +81,25 @@ moves_lines (Some conn) (t ∷ ts) = Bus conn (t ∷ ts) ∷ []
 abbrev pub made_lines : PlayerState → Made → List Output
 made_lines player made = moves_lines made.polled player.core.bus.means.moves ++ noted (note_line player.reply made.note)
 
+-- the line of what a step gave the gateway, where the last whole record has this message
+abbrev pub intake_lines : List ℕ → Intake → List Output
+intake_lines message intake.Nothing = []
+intake_lines message (intake.Up conn role) = Up conn role ∷ []
+intake_lines message (intake.Message conn) = Call conn message ∷ []
+intake_lines message (intake.Dialed conn up) = DialDone conn up ∷ []
+intake_lines message (intake.Sampled level) = Srq level ∷ []
+
+-- the line of the turn that a connection's poll began, where it began one
+abbrev pub begun_lines : Option ℕ → Bool → List Output
+begun_lines (Some conn) true = Begin conn ∷ []
+begun_lines _ _ = []
+
+-- the lines of a step that made this, in version 2
+abbrev pub made_lines2 : PlayerState → Made → List Output
+made_lines2 player made =
+    intake_lines player.message made.intake ++ begun_lines made.polled player.core.began
+    ++ moves_lines made.polled player.core.bus.means.moves ++ noted (note_line player.reply made.note)
+
 -- a record that a note tells of lies within the room, and isn't empty
 abbrev pub NoteWithin : ℕ → Note → Type 0
 NoteWithin room (note.Replied conn len) = (0 < len) × (len ≤ room)
@@ -89,20 +111,22 @@ pub record IsPrintable (player : PlayerState) (made : Made) : Type 0 where
   pub note : NoteWithin (length player.reply) made.note
   pub few : IsSome made.polled → length player.core.bus.means.moves ≤ SLICE_MAX
 
--- a command was taken, with these lines, and with this error of the one answer to a call, where there is one: the player stands at
--- the next stage
-pub record TakesTo (before : Stage) (command : Command) (lines : List Output) (answered : Option ErrorCode) (player : PlayerState) : Type 0 where
+-- a command was taken and made this, with its lines in both versions, and with the error of the one answer to a call, where there is
+-- one: the player stands at the next stage
+pub record TakesTo (before : Stage) (command : Command) (made : Made) (player : PlayerState) : Type 0 where
   pub item : Item
   pub after : Stage
   pub command_is : item.command ≡ command
-  pub lines_are : item_lines item ≡ lines
-  pub answered_is : flat_map answer_errors item.group ≡ errors_of answered
+  pub lines_are : item_lines item ≡ made_lines player made
+  pub lines2_are : item_lines2 item ≡ made_lines2 player made
+  pub moment_is : item.moment ≡ player.moment
+  pub answered_is : flat_map answer_errors item.group ≡ errors_of made.answered
   pub takes : Takes before item after
   pub stands : Stands player after
 
 -- where memory may be wanted: a connection comes up that isn't refused, or a table instrument is made
 abbrev pub WantsMemory : Stage → Command → Type 0
-WantsMemory s (Up conn r) = refusal s (Up conn r) ≡ None
+WantsMemory s (command.Up conn r) = refusal s (command.Up conn r) ≡ None
 WantsMemory s (Inst p secondary text) = Unit {0}
 WantsMemory s _ = ⊥
 

@@ -3,9 +3,12 @@ use Rattle.std.specs.Prelude.{◌≡◌, List}
 use Rattle.std.specs.List.{flat_map}
 use Rattle.vx_flow.specs.Headline.{Headline}
 use Rattle.vx_play.specs.Gateway.{abort_port}
-use Rattle.vx_play.specs.Item.{Item, outputs, events, moved, shown_moves}
+use Rattle.vx_run.specs.Item.{Item, outputs, events, moved, shown_moves}
+use Rattle.vx_run.specs.Forming.{IsFormed}
 
--- The headline holds of the events; and the transfers that the lines of the bus show are those of the turns' moves, in order.
+-- The headline holds of the events; the transfers that the lines of the bus show are those of the turns' moves, in order; and the run is
+-- formed.
 pub record Upholds (items : List Item) : Type 0 where
   pub headline : Headline abort_port (events items)
   pub shown : flat_map shown_moves (outputs items) ≡ flat_map moved (events items)
+  pub formed : IsFormed abort_port items

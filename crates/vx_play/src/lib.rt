@@ -3,6 +3,7 @@
 
 mod bench;
 mod made_run;
+mod message;
 mod note;
 mod pieces;
 mod player;

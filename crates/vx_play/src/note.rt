@@ -1,7 +1,8 @@
 ghost use Rattle.std.specs.Prelude.{◌≡◌, None};
+ghost use Rattle.vx_play.specs.declared.note.Intake.TheVariants as intake;
 ghost use Rattle.vx_play.specs.Serving.{poll_made};
 
-use vx_calls::ErrorCode;
+use vx_calls::{ErrorCode, Role};
 use vx_core::Why;
 use vx_exchange::PollEnd;
 
@@ -14,6 +15,20 @@ pub enum Gone {
     Junk,
     /// By a record above the limit.
     Long,
+}
+
+/// What a step gave the gateway, which version 2 of the output tells. The message of a record is the last that the player keeps.
+#[derive(Clone, Copy, Debug)]
+pub enum Intake {
+    Nothing,
+    /// A connection came up.
+    Up { conn: u32, role: Role },
+    /// A whole record came on a connection.
+    Message { conn: u32 },
+    /// A dial was made, and came up or failed.
+    Dialed { conn: u32, up: bool },
+    /// The SRQ line was looked at.
+    Sampled { level: bool },
 }
 
 /// What there is to tell of a step that was taken. A record is so many bytes at the front of the player's room.
@@ -36,10 +51,11 @@ pub enum Note {
     Ended { conn: u32, how: Gone },
 }
 
-/// What a step made: the connection whose call was polled, where one was, what there is to tell, and the error of the answer,
+/// What a step made: what it gave the gateway, the connection whose call was polled, where one was, what there is to tell, and the error of the answer,
 /// `Ok` included, where the step answered a call that the gateway kept.
 #[derive(Clone, Copy, Debug)]
 pub struct Made {
+    pub intake: Intake,
     pub polled: Option<u32>,
     pub note: Note,
     pub answered: Option<ErrorCode>,
@@ -48,6 +64,7 @@ pub struct Made {
 impl Made {
     /// Nothing to tell.
     pub const QUIET: Made = Made {
+        intake: Intake::Nothing,
         polled: None,
         note: Note::Nothing,
         answered: None,
@@ -55,12 +72,25 @@ impl Made {
 
     /// No call was polled or answered, and this is to be told.
     pub fn of(note: Note) -> Made
-        ensures { result ≡ record { polled = None; note = note; answered = None } }
+        ensures { result ≡ record { intake = intake.Nothing; polled = None; note = note; answered = None } }
     {
         Made {
+            intake: Intake::Nothing,
             polled: None,
             note,
             answered: None,
+        }
+    }
+
+    /// The same, of a step that gave the gateway this.
+    pub fn of_intake(self, intake: Intake) -> Made
+        ensures { result ≡ record self { intake = intake } }
+    {
+        Made {
+            intake,
+            polled: self.polled,
+            note: self.note,
+            answered: self.answered,
         }
     }
 
@@ -70,16 +100,19 @@ impl Made {
     {
         match end {
             PollEnd::Replied { len, error } => Made {
+                intake: Intake::Nothing,
                 polled: Some(conn),
                 note: Note::Replied { conn, len },
                 answered: Some(error),
             },
             PollEnd::NotYet(why) => Made {
+                intake: Intake::Nothing,
                 polled: Some(conn),
                 note: Note::Waiting { conn, why },
                 answered: None,
             },
             PollEnd::Dial { .. } => Made {
+                intake: Intake::Nothing,
                 polled: Some(conn),
                 note: Note::Dialing { conn },
                 answered: None,

@@ -12,7 +12,8 @@ ghost use Rattle.vx_exchange.specs.declared.record.TheConstants.{REPLY_ROOM};
 ghost use Rattle.vx_play.specs.declared.pieces.Incoming.{Incoming};
 ghost use Rattle.vx_play.specs.Gateway.{Gateway, gateway_of, Happens};
 
-use crate::note::{Gone, Made, Note};
+use crate::message::Message;
+use crate::note::{Gone, Intake, Made, Note};
 use crate::serve::serve;
 use std::alloc::Global;
 use std::collections::BTreeMap;
@@ -73,13 +74,14 @@ pub fn end<I: Instrument>(
     let _ = incoming.remove(&conn);
 }
 
-/// Answers the whole record that came on a connection.
+/// Answers the whole record that came on a connection, and keeps its message.
 fn answer<I: Instrument>(
     core: &mut Core<SimBus<I>>,
     incoming: &mut BTreeMap<u32, Incoming>,
     conn: u32,
     role: Role,
     now: u64,
+    message: &mut Message,
     reply: &mut [u8],
 ) -> Made
     requires lives { lives_as core.old.fine.state.tables conn role ≡ true }
@@ -89,7 +91,7 @@ fn answer<I: Instrument>(
     requires late { core.old.fine.state.moment ≤ now }
     requires room { REPLY_ROOM ≤ length reply.old }
     ensures answered { (kept : Incoming) → get nat_cmp incoming.old conn ≡ Some kept
-        → AnswersRecord (gateway_of core.old) conn now role kept reply.new (get nat_cmp incoming.new conn) result core.new }
+        → AnswersRecord (gateway_of core.old) conn now role kept reply.new message.new (get nat_cmp incoming.new conn) result core.new }
     ensures late { core.new.fine.state.moment ≤ now }
     ensures others { (n : ℕ) → n ≢ conn → get nat_cmp incoming.new n ≡ get nat_cmp incoming.old n }
     ensures len { length reply.new ≡ length reply.old }
@@ -97,11 +99,13 @@ fn answer<I: Instrument>(
     let Some(kept) = incoming.get_mut(&conn) else {
         return Made::QUIET;
     };
-    match serve(core, conn, role, kept.buffer.whole(), kept.xid, now, reply) {
+    let whole = kept.buffer.whole();
+    message.keep(whole);
+    match serve(core, conn, role, whole, kept.xid, now, reply) {
         Some(served) => {
             kept.buffer.next();
             kept.xid = served.xid;
-            served.made
+            served.made.of_intake(Intake::Message { conn })
         }
         None => {
             end(core, incoming, conn);
@@ -109,11 +113,12 @@ fn answer<I: Instrument>(
                 conn,
                 how: Gone::Junk,
             })
+            .of_intake(Intake::Message { conn })
         }
     }
 }
 
-/// Takes a piece of the stream of a connection without a call.
+/// Takes a piece of the stream of a connection without a call. The message of a record that it brings to its end is kept.
 pub fn feed_piece<I: Instrument>(
     core: &mut Core<SimBus<I>>,
     incoming: &mut BTreeMap<u32, Incoming>,
@@ -121,6 +126,7 @@ pub fn feed_piece<I: Instrument>(
     role: Role,
     bytes: &[u8],
     now: u64,
+    message: &mut Message,
     reply: &mut [u8],
 ) -> Result<Made, Stop>
     requires bytes { 0 < length bytes.now }
@@ -131,7 +137,7 @@ pub fn feed_piece<I: Instrument>(
     requires late { core.old.fine.state.moment ≤ now }
     requires room { REPLY_ROOM ≤ length reply.old }
     ensures taken { IfOk result (λ made. (kept : Incoming) → get nat_cmp incoming.old conn ≡ Some kept
-        → FeedsPiece (gateway_of core.old) conn now role kept bytes.now reply.new (get nat_cmp incoming.new conn) made core.new) }
+        → FeedsPiece (gateway_of core.old) conn now role kept bytes.now reply.new message.new (get nat_cmp incoming.new conn) made core.new) }
     ensures known { OnOk result (IsSome (get nat_cmp incoming.old conn)) }
     ensures stopped { IfErr result (λ stop. (kept : Incoming) → get nat_cmp incoming.old conn ≡ Some kept → StopsPiece kept bytes.now stop) }
     ensures late { core.new.fine.state.moment ≤ now }
@@ -143,7 +149,7 @@ pub fn feed_piece<I: Instrument>(
         Some(fed) if fed.took < bytes.len() => Err(Stop::Refused(Cause::After)),
         Some(fed) => match fed.state {
             Feed::More => Ok(Made::QUIET),
-            Feed::Whole => Ok(answer(core, incoming, conn, role, now, reply)),
+            Feed::Whole => Ok(answer(core, incoming, conn, role, now, message, reply)),
             Feed::TooLong => {
                 end(core, incoming, conn);
                 Ok(Made::of(Note::Ended {

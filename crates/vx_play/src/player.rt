@@ -2,12 +2,15 @@
 ghost use Rattle.std.specs.Prelude.{◌≡◌, ◌≢◌, ℕ, ◌≤◌, ◌<◌, length, true, false, option_map, position, None, Some, IfOk, IfErr, IfSome, IfNone, IsSome, is_some, OnOk, map, []};
 ghost use Rattle.std.specs.Str.{bytes_eq};
 ghost use Rattle.vx_calls.specs.declared.calls.Role.TheVariants as role;
+ghost use Rattle.vx_calls.specs.declared.limits.TheConstants.{RECORD_MAX};
 ghost use Rattle.vx_script.specs.Command.{Command, Up, In, Down, At, Poll, Sample, Take, Dial, Inst, Plug, Pull, Set, Fail, step_shown};
 ghost use Rattle.vx_script.specs.Plain.{IsPlainStep, IsAddress};
 ghost use Rattle.vx_script.specs.Words.{is_name};
 ghost use Rattle.vx_rules.specs.State.{role_at, lives_as, pending_at};
 ghost use Rattle.vx_exchange.specs.declared.record.TheConstants.{REPLY_ROOM};
 ghost use Rattle.vx_play.specs.declared.pieces.Incoming.{Incoming};
+ghost use Rattle.vx_play.specs.declared.note.Intake.TheVariants as intake;
+ghost use Rattle.vx_play.specs.declared.note.Note.TheVariants as note;
 ghost use Rattle.vx_play.specs.Gateway.{gateway_of};
 ghost use Rattle.vx_play.specs.Stage.{Stage, beginning};
 ghost use Rattle.vx_bench.specs.Rack.{SpareShown};
@@ -15,10 +18,11 @@ ghost use Rattle.vx_bench.specs.Refusing.{cause_of};
 ghost use Rattle.vx_play.specs.PlayerState.{PlayerState, incoming_at};
 ghost use Rattle.vx_sim.specs.Occupants.{handed_in};
 ghost use Rattle.vx_bench.specs.Spares.{spare_shown};
-ghost use Rattle.vx_play.specs.Standing.{IsReady, Stands, IsPrintable, TakesTo, StopsFor, made_lines};
+ghost use Rattle.vx_play.specs.Standing.{IsReady, Stands, IsPrintable, TakesTo, StopsFor};
 
 use crate::bench;
-use crate::note::{Gone, Made, Note};
+use crate::message::Message;
+use crate::note::{Gone, Intake, Made, Note};
 use crate::pieces::{Incoming, begin, end, feed_piece};
 use crate::serve::poll_call;
 use std::alloc::{AllocError, Global};
@@ -44,6 +48,7 @@ pub struct Player<I: Instrument> {
     core: Core<SimBus<I>>,
     incoming: BTreeMap<u32, Incoming>,
     reply: Vec<u8>,
+    message: Message,
     rack: Vec<Spare<I>>,
     // milliseconds
     moment: u64,
@@ -62,6 +67,7 @@ impl<I: Instrument> Model for Player<I> {
       core = p.core;
       incoming = p.incoming.entries;
       reply = p.reply.items;
+      message = p.message;
       rack = map (spare_shown (handed_in (λ i. I.behaves i) (λ i. I.nature i))) p.rack.items;
       moment = p.moment;
     } };
@@ -77,6 +83,7 @@ impl<I: Instrument> Player<I> {
         let Ok(reply) = zeros(alloc, REPLY_ROOM) else {
             return Err(AllocError);
         };
+        let message = Message::new(alloc)?;
         let Ok(bus) = SimBus::new(alloc) else {
             return Err(AllocError);
         };
@@ -87,6 +94,7 @@ impl<I: Instrument> Player<I> {
             core,
             incoming: BTreeMap::new(alloc),
             reply,
+            message,
             rack,
             moment: 0,
         })
@@ -114,11 +122,33 @@ impl<I: Instrument> Player<I> {
         self.reply.as_slice()
     }
 
+    /// The message of the last whole record.
+    pub fn message(&self) -> &[u8]
+        ensures value { result.now ≡ self.now.message }
+        ensures len { length result.now ≤ RECORD_MAX }
+    {
+        self.message.as_slice()
+    }
+
+    /// Whether the last poll of a call began its turn.
+    pub fn began(&self) -> bool
+        ensures { result ≡ self.now.core.began }
+    {
+        self.core.began()
+    }
+
+    /// The moment of the next steps, in milliseconds.
+    pub fn moment(&self) -> u64
+        ensures { result ≡ self.now.moment }
+    {
+        self.moment
+    }
+
     /// Takes a step, and tells what it made; or says why it isn't taken.
     pub fn step(&mut self, alloc: Global, step: &Step<'_>) -> Result<Made, Stop>
         requires plain { IsPlainStep step.now }
         requires ready { IsReady self.old }
-        ensures taken { IfOk result (λ made. (stage : Stage) → Stands self.old stage → TakesTo stage (step_shown step.now) (made_lines self.new made) made.answered self.new) }
+        ensures taken { IfOk result (λ made. (stage : Stage) → Stands self.old stage → TakesTo stage (step_shown step.now) made self.new) }
         ensures stopped { IfErr result (λ stop. (stage : Stage) → Stands self.old stage → StopsFor stage (step_shown step.now) stop) }
         ensures printable { IfOk result (IsPrintable self.new) }
     {
@@ -145,7 +175,7 @@ impl<I: Instrument> Player<I> {
     /// A connection comes up.
     fn up(&mut self, alloc: Global, conn: u32, role: Role) -> Result<Made, Stop>
         requires ready { IsReady self.old }
-        ensures taken { IfOk result (λ made. (stage : Stage) → Stands self.old stage → TakesTo stage (Up conn role) (made_lines self.new made) made.answered self.new) }
+        ensures taken { IfOk result (λ made. (stage : Stage) → Stands self.old stage → TakesTo stage (Up conn role) made self.new) }
         ensures stopped { IfErr result (λ stop. (stage : Stage) → Stands self.old stage → StopsFor stage (Up conn role) stop) }
         ensures printable { IfOk result (IsPrintable self.new) }
     {
@@ -158,13 +188,13 @@ impl<I: Instrument> Player<I> {
             Err(Connect::NoMemory) => return Err(Stop::NoMemory),
         }
         begin(alloc, &mut self.incoming, conn)?;
-        Ok(Made::QUIET)
+        Ok(Made::QUIET.of_intake(Intake::Up { conn, role }))
     }
 
     /// A connection goes down.
     fn down(&mut self, conn: u32) -> Result<Made, Stop>
         requires ready { IsReady self.old }
-        ensures taken { IfOk result (λ made. (stage : Stage) → Stands self.old stage → TakesTo stage (Down conn) (made_lines self.new made) made.answered self.new) }
+        ensures taken { IfOk result (λ made. (stage : Stage) → Stands self.old stage → TakesTo stage (Down conn) made self.new) }
         ensures stopped { IfErr result (λ stop. (stage : Stage) → Stands self.old stage → StopsFor stage (Down conn) stop) }
         ensures printable { IfOk result (IsPrintable self.new) }
     {
@@ -184,7 +214,7 @@ impl<I: Instrument> Player<I> {
     fn piece(&mut self, conn: u32, bytes: &[u8]) -> Result<Made, Stop>
         requires bytes { 0 < length bytes.now }
         requires ready { IsReady self.old }
-        ensures taken { IfOk result (λ made. (stage : Stage) → Stands self.old stage → TakesTo stage (In conn bytes.now) (made_lines self.new made) made.answered self.new) }
+        ensures taken { IfOk result (λ made. (stage : Stage) → Stands self.old stage → TakesTo stage (In conn bytes.now) made self.new) }
         ensures stopped { IfErr result (λ stop. (stage : Stage) → Stands self.old stage → StopsFor stage (In conn bytes.now) stop) }
         ensures printable { IfOk result (IsPrintable self.new) }
     {
@@ -201,6 +231,7 @@ impl<I: Instrument> Player<I> {
             role,
             bytes,
             self.moment,
+            &mut self.message,
             &mut self.reply,
         )
     }
@@ -230,10 +261,12 @@ impl<I: Instrument> Player<I> {
     }
 
     /// The moment of the next steps comes, where it is later.
-    fn at(&mut self, moment: u64) -> Made
+    pub fn at(&mut self, moment: u64) -> Made
         requires ready { IsReady self.old }
-        ensures taken { (stage : Stage) → Stands self.old stage → TakesTo stage (At moment) (made_lines self.new result) result.answered self.new }
+        ensures taken { (stage : Stage) → Stands self.old stage → TakesTo stage (At moment) result self.new }
         ensures printable { IsPrintable self.new result }
+        ensures quiet { result ≡ record { intake = intake.Nothing; polled = None; note = note.Nothing; answered = None } }
+        ensures ready { IsReady self.new }
     {
         self.moment = self.moment.max(moment);
         Made::QUIET
@@ -242,7 +275,7 @@ impl<I: Instrument> Player<I> {
     /// A connection's call is polled.
     fn poll(&mut self, conn: u32) -> Result<Made, Stop>
         requires ready { IsReady self.old }
-        ensures taken { IfOk result (λ made. (stage : Stage) → Stands self.old stage → TakesTo stage (Poll conn) (made_lines self.new made) made.answered self.new) }
+        ensures taken { IfOk result (λ made. (stage : Stage) → Stands self.old stage → TakesTo stage (Poll conn) made self.new) }
         ensures stopped { IfErr result (λ stop. (stage : Stage) → Stands self.old stage → StopsFor stage (Poll conn) stop) }
         ensures printable { IfOk result (IsPrintable self.new) }
     {
@@ -257,17 +290,19 @@ impl<I: Instrument> Player<I> {
     /// The SRQ line is looked at.
     fn sample(&mut self) -> Made
         requires ready { IsReady self.old }
-        ensures taken { (stage : Stage) → Stands self.old stage → TakesTo stage Sample (made_lines self.new result) result.answered self.new }
+        ensures taken { (stage : Stage) → Stands self.old stage → TakesTo stage Sample result self.new }
         ensures printable { IsPrintable self.new result }
     {
         self.core.sample(self.moment);
-        Made::QUIET
+        Made::QUIET.of_intake(Intake::Sampled {
+            level: self.core.level(),
+        })
     }
 
     /// An interrupt is taken from a connection's channel.
     fn take(&mut self, conn: u32) -> Result<Made, Stop>
         requires ready { IsReady self.old }
-        ensures taken { IfOk result (λ made. (stage : Stage) → Stands self.old stage → TakesTo stage (Take conn) (made_lines self.new made) made.answered self.new) }
+        ensures taken { IfOk result (λ made. (stage : Stage) → Stands self.old stage → TakesTo stage (Take conn) made self.new) }
         ensures stopped { IfErr result (λ stop. (stage : Stage) → Stands self.old stage → StopsFor stage (Take conn) stop) }
         ensures printable { IfOk result (IsPrintable self.new) }
     {
@@ -288,7 +323,7 @@ impl<I: Instrument> Player<I> {
     /// The dial that a connection's call asked for came up, or failed.
     fn dial(&mut self, conn: u32, up: bool) -> Result<Made, Stop>
         requires ready { IsReady self.old }
-        ensures taken { IfOk result (λ made. (stage : Stage) → Stands self.old stage → TakesTo stage (Dial conn up) (made_lines self.new made) made.answered self.new) }
+        ensures taken { IfOk result (λ made. (stage : Stage) → Stands self.old stage → TakesTo stage (Dial conn up) made self.new) }
         ensures stopped { IfErr result (λ stop. (stage : Stage) → Stands self.old stage → StopsFor stage (Dial conn up) stop) }
         ensures printable { IfOk result (IsPrintable self.new) }
     {
@@ -299,6 +334,7 @@ impl<I: Instrument> Player<I> {
         let xid = self.xid(conn);
         let answered = settle(&mut self.core, conn, xid, up, self.moment, &mut self.reply);
         Ok(Made {
+            intake: Intake::Dialed { conn, up },
             polled: None,
             note: Note::Replied {
                 conn,
@@ -315,7 +351,7 @@ impl<I: Instrument> Player<I> {
     fn inst(&mut self, alloc: Global, p: u8, s: Option<u8>, text: &[u8]) -> Result<Made, Stop>
         requires address { IsAddress p s }
         requires ready { IsReady self.old }
-        ensures taken { IfOk result (λ made. (stage : Stage) → Stands self.old stage → TakesTo stage (Inst p s text.now) (made_lines self.new made) made.answered self.new) }
+        ensures taken { IfOk result (λ made. (stage : Stage) → Stands self.old stage → TakesTo stage (Inst p s text.now) made self.new) }
         ensures stopped { IfErr result (λ stop. (stage : Stage) → Stands self.old stage → StopsFor stage (Inst p s text.now) stop) }
         ensures printable { IfOk result (IsPrintable self.new) }
     {
@@ -331,7 +367,7 @@ impl<I: Instrument> Player<I> {
     fn plug(&mut self, p: u8, s: Option<u8>, name: &[u8]) -> Result<Made, Stop>
         requires address { IsAddress p s }
         requires ready { IsReady self.old }
-        ensures taken { IfOk result (λ made. (stage : Stage) → Stands self.old stage → TakesTo stage (Plug p s name.now) (made_lines self.new made) made.answered self.new) }
+        ensures taken { IfOk result (λ made. (stage : Stage) → Stands self.old stage → TakesTo stage (Plug p s name.now) made self.new) }
         ensures stopped { IfErr result (λ stop. (stage : Stage) → Stands self.old stage → StopsFor stage (Plug p s name.now) stop) }
         ensures printable { IfOk result (IsPrintable self.new) }
     {
@@ -350,7 +386,7 @@ impl<I: Instrument> Player<I> {
     fn pull(&mut self, p: u8, s: Option<u8>) -> Result<Made, Stop>
         requires address { IsAddress p s }
         requires ready { IsReady self.old }
-        ensures taken { IfOk result (λ made. (stage : Stage) → Stands self.old stage → TakesTo stage (Pull p s) (made_lines self.new made) made.answered self.new) }
+        ensures taken { IfOk result (λ made. (stage : Stage) → Stands self.old stage → TakesTo stage (Pull p s) made self.new) }
         ensures stopped { IfErr result (λ stop. (stage : Stage) → Stands self.old stage → StopsFor stage (Pull p s) stop) }
         ensures printable { IfOk result (IsPrintable self.new) }
     {
@@ -364,7 +400,7 @@ impl<I: Instrument> Player<I> {
     /// An instrument gets a status byte.
     fn set(&mut self, p: u8, s: Option<u8>, b: u8) -> Result<Made, Stop>
         requires ready { IsReady self.old }
-        ensures taken { IfOk result (λ made. (stage : Stage) → Stands self.old stage → TakesTo stage (Set p s b) (made_lines self.new made) made.answered self.new) }
+        ensures taken { IfOk result (λ made. (stage : Stage) → Stands self.old stage → TakesTo stage (Set p s b) made self.new) }
         ensures stopped { IfErr result (λ stop. (stage : Stage) → Stands self.old stage → StopsFor stage (Set p s b) stop) }
         ensures printable { IfOk result (IsPrintable self.new) }
     {
@@ -380,7 +416,7 @@ impl<I: Instrument> Player<I> {
     fn fail(&mut self, n: u32) -> Made
         requires count { 1 ≤ n }
         requires ready { IsReady self.old }
-        ensures taken { (stage : Stage) → Stands self.old stage → TakesTo stage (Fail n) (made_lines self.new result) result.answered self.new }
+        ensures taken { (stage : Stage) → Stands self.old stage → TakesTo stage (Fail n) result self.new }
         ensures printable { IsPrintable self.new result }
     {
         self.core.tweak(&mut bench::FailAfter::new(n));

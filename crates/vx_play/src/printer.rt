@@ -1,28 +1,41 @@
 //! The lines of a play, written into room that is made once.
-ghost use Rattle.std.specs.Prelude.{◌≡◌, ◌≤◌, ◌++◌, ◌+◌, ◌-◌, length, take, vec_len, IfSome};
-ghost use Rattle.vx_trace.specs.Text.{IsWhole, line_text, text_room};
+ghost use Rattle.std.specs.Prelude.{◌≡◌, ◌≤◌, ◌++◌, ◌+◌, ◌-◌, false, length, take, vec_len, None, Some, IfSome};
+ghost use Rattle.vx_trace.specs.Text.{IsWhole, is_timed, line_text};
 ghost use Rattle.vx_trace.specs.Output.{line_shown};
-ghost use Rattle.vx_play.specs.declared.printer.TheConstants.{MOVES_ROOM, NOTE_ROOM, TEXT_ROOM};
-ghost use Rattle.vx_play.specs.Printing.{option_text, AreWritable, Writable};
+ghost use Rattle.vx_play.specs.declared.printer.TheConstants.{TEXT_ROOM};
+ghost use Rattle.vx_play.specs.Printing.{option_text, stamped, IsClosing, AreWritable, Writable};
 
 use std::alloc::{AllocError, Global};
-use vx_calls::SLICE_MAX;
+use vx_calls::{RECORD_MAX, SLICE_MAX};
 use vx_exchange::REPLY_ROOM;
 use vx_text::zeros;
-use vx_trace::{Line, put_line};
+use vx_trace::{Line, put_line, put_line2};
+
+/// Room for a moment and the space behind it, in bytes: it has at most 20 digits.
+const STAMP_ROOM: usize = 21;
+
+/// Room for the line of a message, in bytes: `call`, a connection's number of ten digits, two spaces and LF take at most 17, and
+/// each byte of a message two digits.
+const INTAKE_ROOM: usize = STAMP_ROOM + 32 + 2 * RECORD_MAX;
+
+/// Room for the line of a turn that begins, in bytes.
+const BEGUN_ROOM: usize = STAMP_ROOM + 32;
+
+/// Room for both, in bytes.
+const HEAD_ROOM: usize = INTAKE_ROOM + BEGUN_ROOM;
 
 /// Room for the longest line of a poll's transfers, in bytes: `bus`, a connection's number of ten digits and LF take at most
 /// 15, and each transfer of a slice at most 7.
-const MOVES_ROOM: usize = 15 + 7 * SLICE_MAX as usize;
+const MOVES_ROOM: usize = STAMP_ROOM + 15 + 7 * SLICE_MAX as usize;
 
 /// Room for the longest other line, in bytes: `out`, a connection's number of ten digits, a space and LF take at most 16, and
 /// each byte of a reply's record two digits.
-const NOTE_ROOM: usize = 16 + 2 * REPLY_ROOM;
+const NOTE_ROOM: usize = STAMP_ROOM + 16 + 2 * REPLY_ROOM;
 
 /// Room for the longest text of a step, in bytes.
-const TEXT_ROOM: usize = MOVES_ROOM + NOTE_ROOM;
+const TEXT_ROOM: usize = HEAD_ROOM + MOVES_ROOM + NOTE_ROOM;
 
-/// Prints lines into room that is made once.
+/// Prints lines into room that is made once. In version 2 a line of a step has the step's moment in front, in version 1 none.
 #[derive(Debug, Drop)]
 pub struct Printer {
     room: Vec<u8>,
@@ -36,68 +49,101 @@ impl Printer {
         Ok(Printer { room })
     }
 
-    /// The text of a poll's transfers, and of another line behind it, of those that are there.
-    pub fn lines(&mut self, first: &Option<Line<'_>>, second: &Option<Line<'_>>) -> &[u8]
-        requires { AreWritable first.now second.now }
-        ensures { result.now ≡ option_text first.now ++ option_text second.now }
+    /// The text of the lines of a step, of those that are there, with its moment in front of each where there is one: what it gave
+    /// the gateway, the turn that it began, the transfers that it made, and what else there is to tell.
+    pub fn lines(
+        &mut self,
+        moment: Option<u64>,
+        intake: &Option<Line<'_>>,
+        begun: &Option<Line<'_>>,
+        moves: &Option<Line<'_>>,
+        note: &Option<Line<'_>>,
+    ) -> &[u8]
+        requires { AreWritable moment intake.now begun.now moves.now note.now }
+        ensures { result.now ≡ (option_text moment intake.now ++ option_text moment begun.now) ++ (option_text moment moves.now ++ option_text moment note.now) }
     {
-        let len = put_both(first, second, MOVES_ROOM, &mut self.room);
+        let len = put_four(moment, intake, begun, moves, note, &mut self.room);
         &self.room[..len]
     }
 
-    /// The text of a line.
+    /// The text of a line that has no moment.
     pub fn line(&mut self, line: &Line<'_>) -> &[u8]
-        requires { Writable line.now NOTE_ROOM }
+        requires { IsClosing line.now }
         ensures { result.now ≡ line_text (line_shown line.now) }
     {
-        let len = put_one(line, &mut self.room);
+        let len = put_one(Some(0), line, &mut self.room);
         &self.room[..len]
     }
 }
 
+/// Writes the text of four lines, of those that are there, at the front of the room, and answers how long it is.
+fn put_four(
+    moment: Option<u64>,
+    intake: &Option<Line<'_>>,
+    begun: &Option<Line<'_>>,
+    moves: &Option<Line<'_>>,
+    note: &Option<Line<'_>>,
+    room: &mut [u8],
+) -> usize
+    requires room { length room.old ≡ TEXT_ROOM }
+    requires lines { AreWritable moment intake.now begun.now moves.now note.now }
+    ensures text { take result room.new ≡ (option_text moment intake.now ++ option_text moment begun.now) ++ (option_text moment moves.now ++ option_text moment note.now) }
+    ensures within { result ≤ length room.new }
+    ensures len { length room.new ≡ length room.old }
+{
+    let len = put_two(moment, intake, begun, INTAKE_ROOM, &mut room[..HEAD_ROOM]);
+    let more = put_two(moment, moves, note, MOVES_ROOM, &mut room[len..]);
+    len + more
+}
+
 /// Writes the text of a line, which has room in so many bytes, and of another behind it, of those that are there, at the front
 /// of the room, and answers how long both are.
-fn put_both(
+fn put_two(
+    moment: Option<u64>,
     first: &Option<Line<'_>>,
     second: &Option<Line<'_>>,
     front: usize,
     room: &mut [u8],
 ) -> usize
     requires front { front ≤ length room.old }
-    requires first { IfSome first.now (λ l. Writable l front) }
-    requires second { IfSome second.now (λ l. Writable l (length room.old - front)) }
-    ensures text { take result room.new ≡ option_text first.now ++ option_text second.now }
+    requires first { IfSome first.now (λ l. Writable moment l front) }
+    requires second { IfSome second.now (λ l. Writable moment l (length room.old - front)) }
+    ensures text { take result room.new ≡ option_text moment first.now ++ option_text moment second.now }
     ensures within { result ≤ length room.new }
     ensures len { length room.new ≡ length room.old }
 {
-    let len = put(first, &mut room[..front]);
-    let more = put(second, &mut room[len..]);
+    let len = put(moment, first, &mut room[..front]);
+    let more = put(moment, second, &mut room[len..]);
     len + more
 }
 
 /// Writes the text of a line, where there is one, at the front of the room, and answers how long it is.
-fn put(line: &Option<Line<'_>>, room: &mut [u8]) -> usize
-    requires { IfSome line.now (λ l. Writable l (length room.old)) }
-    ensures text { take result room.new ≡ option_text line.now }
-    ensures long { result ≡ length (option_text line.now) }
+fn put(moment: Option<u64>, line: &Option<Line<'_>>, room: &mut [u8]) -> usize
+    requires { IfSome line.now (λ l. Writable moment l (length room.old)) }
+    ensures text { take result room.new ≡ option_text moment line.now }
+    ensures long { result ≡ length (option_text moment line.now) }
     ensures within { result ≤ length room.new }
     ensures len { length room.new ≡ length room.old }
 {
     match line {
-        Some(line) => put_one(line, room),
+        Some(line) => put_one(moment, line, room),
         None => 0,
     }
 }
 
 /// Writes the text of a line at the front of the room, and answers how long it is.
-fn put_one(line: &Line<'_>, room: &mut [u8]) -> usize
-    requires { Writable line.now (length room.old) }
-    ensures text { take result room.new ≡ line_text (line_shown line.now) }
-    ensures long { result ≡ length (line_text (line_shown line.now)) }
+fn put_one(moment: Option<u64>, line: &Line<'_>, room: &mut [u8]) -> usize
+    requires { Writable moment line.now (length room.old) }
+    ensures text { take result room.new ≡ stamped moment (line_shown line.now) }
+    ensures long { result ≡ length (stamped moment (line_shown line.now)) }
     ensures within { result ≤ length room.new }
     ensures len { length room.new ≡ length room.old }
 {
-    match put_line(line, room) {
+    let put = match moment {
+        None => put_line(line, room),
+        Some(moment) => put_line2(moment, line, room),
+    };
+    match put {
         Ok(len) => len,
         Err(_) => unreachable!(),
     }

@@ -4,26 +4,35 @@ ghost use Rattle.std.specs.Prelude.{◌≡◌, ℕ, ◌+◌, ◌≤◌, List, le
 ghost use Rattle.std.specs.List.{flat_map};
 ghost use Rattle.vx_trace.specs.Output.{line_shown};
 ghost use Rattle.vx_trace.specs.Text.{line_text};
-ghost use Rattle.vx_script.specs.Grammar.{reading};
+ghost use Rattle.vx_script.specs.declared.Version.{Version};
+ghost use Rattle.vx_script.specs.declared.Version.TheVariants as version;
+ghost use Rattle.vx_script.specs.Command.{step_shown};
+ghost use Rattle.vx_bench.specs.Script.{commands, script, script_from, version_of_lines};
+ghost use Rattle.vx_text.specs.TextLines.{lines};
+ghost use Rattle.vx_run.specs.RunText.{head_text};
 ghost use Rattle.vx_play.specs.Stage.{Stage, beginning};
 ghost use Rattle.vx_bench.specs.Rack.{SpareShown};
 ghost use Rattle.vx_sim.specs.Occupants.{handed_in};
 ghost use Rattle.vx_bench.specs.Spares.{spare_shown};
 ghost use Rattle.vx_text.specs.Reading.{GivesUpTo};
 ghost use Rattle.vx_text.specs.Writing.{IsPut};
-ghost use Rattle.vx_play.specs.Standing.{IsReady, Stands, IsPrintable, NoteWithin, made_lines, moves_lines, note_line as line_of_note, gone_line as line_of_end};
-ghost use Rattle.vx_play.specs.Making.{wait_line as line_of_wait};
-ghost use Rattle.vx_play.specs.Printing.{outputs_of};
+ghost use Rattle.vx_play.specs.Standing.{IsReady, Stands, IsPrintable, NoteWithin, intake_lines, begun_lines, moves_lines, note_line as line_of_note, gone_line as line_of_end};
+ghost use Rattle.vx_run.specs.Notes.{wait_line as line_of_wait};
+ghost use Rattle.vx_play.specs.Printing.{outputs_of, made_text};
+ghost use Rattle.vx_play.specs.StepPlayed.{EndsStep};
 ghost use Rattle.vx_play.specs.LinePlayed.{EndsLine};
 ghost use Rattle.vx_play.specs.Ended.{EndsLines, EndsScript, PutsLast};
 ghost use Rattle.vx_play.specs.Generated.{EndsRun};
 ghost use Rattle.vx_play.specs.Counting.{EndsSteps};
-ghost use Rattle.vx_play.specs.Item.{last_line};
-ghost use Rattle.vx_play.specs.Outcome.{Ends, EndsSo, IsOutcome, is_command, status_number};
-ghost use Rattle.vx_play.specs.Laws.{Completes, CompletesRun};
+ghost use Rattle.vx_run.specs.Item.{last_line};
+ghost use Rattle.vx_play.specs.Outcome.{Ends, EndsSo, EndsLifted, IsOutcome, order_of, status_number};
+ghost use Rattle.vx_play.specs.Laws.{Completes, CompletesLift, CompletesRun};
+ghost use Rattle.vx_play.specs.declared.run.TheConstants.{FAULT_ROOM};
+ghost use Rattle.vx_script.specs.declared.Cause.TheVariants as cause;
+ghost use Rattle.vx_script.specs.Plain.{IsPlainStep};
 
 use crate::made_run::take_all;
-use crate::note::{Gone, Made, Note};
+use crate::note::{Gone, Intake, Made, Note};
 use crate::player::Player;
 use crate::printer::Printer;
 use std::alloc::Global;
@@ -33,13 +42,17 @@ use vx_core::Why;
 use vx_gen::{Ask, Counts, RECORD_ROOM, SUMMARY_ROOM, TITLE_ROOM, ask_of, summary, title};
 use vx_inst::Instrument;
 use vx_io_traits::{Sink, Source};
+use vx_lift::{LiftEnd, lift_script};
 use vx_rack::Spare;
-use vx_script::{Cause, LINE_MAX, read_step};
+use vx_script::{Cause, LINE_MAX, LINE2_MAX, Step, Version, read_step, read_step2, version_of};
 use vx_text::{Input, SinkFailed, first_line, put_all, read_all, zeros};
-use vx_trace::Line;
+use vx_trace::{Line, put_line};
 
 /// The longest script, in bytes.
 pub const SCRIPT_MAX: usize = 67_108_864;
+
+/// Room for the line of a fault, in bytes: `fault line`, a line's number of 20 digits, a cause of 6 letters, two spaces and LF.
+const FAULT_ROOM: usize = 39;
 
 /// How a play ended, as the program's exit status tells it.
 #[derive(Clone, Copy, Debug, PartialEq, Eq)]
@@ -93,6 +106,32 @@ pub enum LineEnd {
     Refused(Cause),
     SinkFailed,
     NoMemory,
+}
+
+/// The line of what a step gave the gateway, which version 2 has, where it gave it anything. The message of a record is this.
+fn intake_line<'a>(intake: Intake, message: &'a [u8]) -> Option<Line<'a>>
+    ensures { outputs_of result ≡ intake_lines message.now intake }
+{
+    match intake {
+        Intake::Nothing => None,
+        Intake::Up { conn, role } => Some(Line::Up { conn, role }),
+        Intake::Message { conn } => Some(Line::Call {
+            conn,
+            bytes: message,
+        }),
+        Intake::Dialed { conn, up } => Some(Line::DialDone { conn, up }),
+        Intake::Sampled { level } => Some(Line::Srq { level }),
+    }
+}
+
+/// The line of the turn that a poll of this connection began, which version 2 has, where it began one.
+fn begun_line(polled: Option<u32>, began: bool) -> Option<Line<'static>>
+    ensures { outputs_of result ≡ begun_lines polled began }
+{
+    match polled {
+        Some(conn) if began => Some(Line::Begin { conn }),
+        _ => None,
+    }
 }
 
 /// The line of the transfers that a poll of this connection made, where it made any.
@@ -156,22 +195,57 @@ fn gone_line(conn: u32, how: Gone) -> Line<'static>
 fn put_made<I: Instrument, K: Sink>(
     player: &Player<I>,
     made: Made,
+    version: Version,
     printer: &mut Printer,
     sink: &mut K,
 ) -> Result<(), SinkFailed>
     requires { IsPrintable player.now made }
     ensures put { IsPut
         (record { bytes = K.taken sink.old; faults = K.faults sink.old })
-        (record { bytes = K.taken sink.new; faults = K.faults sink.new }) (flat_map line_text (made_lines player.now made)) result }
+        (record { bytes = K.taken sink.new; faults = K.faults sink.new }) (made_text version player.now made) result }
     ensures counted { K.faults sink.old ≤ K.faults sink.new }
 {
     let moves = moves_line(made.polled, player.moves());
     let note = note_line(made.note, player.room());
-    put_all(sink, printer.lines(&moves, &note))
+    match version {
+        Version::One => put_all(sink, printer.lines(None, &None, &None, &moves, &note)),
+        Version::Two => {
+            let intake = intake_line(made.intake, player.message());
+            let begun = begun_line(made.polled, player.began());
+            let moment = Some(player.moment());
+            put_all(sink, printer.lines(moment, &intake, &begun, &moves, &note))
+        }
+    }
 }
 
-/// Plays one line: its step is taken, and its text written. `room` is for the bytes of an `in`.
-fn play_line<I: Instrument, K: Sink>(
+/// Takes a step, and writes its text.
+fn play_step<I: Instrument, K: Sink>(
+    alloc: Global,
+    step: &Step<'_>,
+    version: Version,
+    player: &mut Player<I>,
+    printer: &mut Printer,
+    sink: &mut K,
+) -> LineEnd
+    requires plain { IsPlainStep step.now }
+    requires ready { IsReady player.old }
+    ensures ended { (stage : Stage) → Stands player.old stage → EndsStep version (step_shown step.now) stage player.new
+        (record { bytes = K.taken sink.old; faults = K.faults sink.old })
+        (record { bytes = K.taken sink.new; faults = K.faults sink.new }) result }
+    ensures counted { K.faults sink.old ≤ K.faults sink.new }
+{
+    match player.step(alloc, step) {
+        Ok(made) => match put_made(player, made, version, printer, sink) {
+            Ok(()) => LineEnd::Played,
+            Err(_) => LineEnd::SinkFailed,
+        },
+        Err(Stop::Refused(cause)) => LineEnd::Refused(cause),
+        Err(Stop::NoMemory) => LineEnd::NoMemory,
+    }
+}
+
+/// Plays a line of a script of version 1: its step is taken, and its text written. `room` is for the bytes of an `in`.
+fn play_plain<I: Instrument, K: Sink>(
     alloc: Global,
     line: &[u8],
     player: &mut Player<I>,
@@ -181,7 +255,7 @@ fn play_line<I: Instrument, K: Sink>(
 ) -> LineEnd
     requires room { LINE_MAX ≤ length room.old }
     requires ready { IsReady player.old }
-    ensures ended { (stage : Stage) → Stands player.old stage → EndsLine (reading line.now) stage player.new
+    ensures ended { (stage : Stage) → Stands player.old stage → EndsLine version.One (commands version.One line.now) stage player.new
         (record { bytes = K.taken sink.old; faults = K.faults sink.old })
         (record { bytes = K.taken sink.new; faults = K.faults sink.new }) result }
     ensures counted { K.faults sink.old ≤ K.faults sink.new }
@@ -189,18 +263,102 @@ fn play_line<I: Instrument, K: Sink>(
     if line.len() > LINE_MAX {
         return LineEnd::Refused(Cause::Form);
     }
-    let step = match read_step(line, &mut room[..line.len()]) {
-        Ok(Some(step)) => step,
-        Ok(None) => return LineEnd::Played,
-        Err(cause) => return LineEnd::Refused(cause),
-    };
-    match player.step(alloc, &step) {
-        Ok(made) => match put_made(player, made, printer, sink) {
-            Ok(()) => LineEnd::Played,
-            Err(_) => LineEnd::SinkFailed,
-        },
-        Err(Stop::Refused(cause)) => LineEnd::Refused(cause),
-        Err(Stop::NoMemory) => LineEnd::NoMemory,
+    match read_step(line, &mut room[..line.len()]) {
+        Ok(Some(step)) => play_step(alloc, &step, Version::One, player, printer, sink),
+        Ok(None) => LineEnd::Played,
+        Err(cause) => LineEnd::Refused(cause),
+    }
+}
+
+/// Plays a line of a script of version 2: its moment comes, its step is taken, and its text written. `room` is for the bytes of
+/// an `in`.
+fn play_timed<I: Instrument, K: Sink>(
+    alloc: Global,
+    line: &[u8],
+    player: &mut Player<I>,
+    printer: &mut Printer,
+    room: &mut [u8],
+    sink: &mut K,
+) -> LineEnd
+    requires room { LINE2_MAX ≤ length room.old }
+    requires ready { IsReady player.old }
+    ensures ended { (stage : Stage) → Stands player.old stage → EndsLine version.Two (commands version.Two line.now) stage player.new
+        (record { bytes = K.taken sink.old; faults = K.faults sink.old })
+        (record { bytes = K.taken sink.new; faults = K.faults sink.new }) result }
+    ensures counted { K.faults sink.old ≤ K.faults sink.new }
+{
+    if line.len() > LINE2_MAX {
+        return LineEnd::Refused(Cause::Form);
+    }
+    match read_step2(line, &mut room[..line.len()]) {
+        Ok(Some((moment, step))) => {
+            player.at(moment);
+            play_step(alloc, &step, Version::Two, player, printer, sink)
+        }
+        Ok(None) => LineEnd::Played,
+        Err(cause) => LineEnd::Refused(cause),
+    }
+}
+
+/// Plays a line of a script of this version.
+fn play_line<I: Instrument, K: Sink>(
+    alloc: Global,
+    line: &[u8],
+    version: Version,
+    player: &mut Player<I>,
+    printer: &mut Printer,
+    room: &mut [u8],
+    sink: &mut K,
+) -> LineEnd
+    requires room { LINE2_MAX ≤ length room.old }
+    requires ready { IsReady player.old }
+    ensures ended { (stage : Stage) → Stands player.old stage → EndsLine version (commands version line.now) stage player.new
+        (record { bytes = K.taken sink.old; faults = K.faults sink.old })
+        (record { bytes = K.taken sink.new; faults = K.faults sink.new }) result }
+    ensures counted { K.faults sink.old ≤ K.faults sink.new }
+{
+    match version {
+        Version::One => play_plain(alloc, line, player, printer, room, sink),
+        Version::Two => play_timed(alloc, line, player, printer, room, sink),
+    }
+}
+
+/// The version of a script, by its first line.
+fn version_in(script: &[u8]) -> Version
+    ensures { result ≡ version_of_lines (lines script.now) }
+{
+    if script.is_empty() {
+        return Version::One;
+    }
+    version_of(first_line(script).0)
+}
+
+/// The lines of a script of this version that have steps, and how many stand in front of them.
+fn stepped(text: &[u8], version: Version) -> (&[u8], u64)
+    requires { version ≡ version_of_lines (lines text.now) }
+    ensures script { script text.now ≡ script_from version (result.1 + 1) (lines result.0.now) }
+    ensures within { result.1 + length result.0.now ≤ length text.now }
+{
+    match version {
+        Version::One => (text, 0),
+        Version::Two => (first_line(text).1, 1),
+    }
+}
+
+/// Writes the line that a text of this version begins with.
+fn put_head<K: Sink>(
+    version: Version,
+    printer: &mut Printer,
+    sink: &mut K,
+) -> Result<(), SinkFailed>
+    ensures put { IsPut
+        (record { bytes = K.taken sink.old; faults = K.faults sink.old })
+        (record { bytes = K.taken sink.new; faults = K.faults sink.new }) (head_text version) result }
+    ensures counted { K.faults sink.old ≤ K.faults sink.new }
+{
+    match version {
+        Version::One => put_all(sink, &[]),
+        Version::Two => put_all(sink, printer.line(&Line::TraceHead)),
     }
 }
 
@@ -213,19 +371,22 @@ fn play_lines<I: Instrument, K: Sink>(
     room: &mut [u8],
     sink: &mut K,
 ) -> Ending
-    requires room { LINE_MAX ≤ length room.old }
+    requires room { LINE2_MAX ≤ length room.old }
     requires begins { Stands player.old (beginning player.old.rack) }
     ensures ended { EndsLines script.now player.old.rack
         (record { bytes = K.taken sink.old; faults = K.faults sink.old })
         (record { bytes = K.taken sink.new; faults = K.faults sink.new }) result }
     ensures counted { K.faults sink.old ≤ K.faults sink.new }
 {
-    let mut rest = script;
-    let mut line = 0u64;
+    let version = version_in(script);
+    let Ok(()) = put_head(version, printer, sink) else {
+        return Ending::SinkFailed;
+    };
+    let (mut rest, mut line) = stepped(script, version);
     while !rest.is_empty() {
         let (first, behind) = first_line(rest);
         line += 1;
-        match play_line(alloc, first, player, printer, room, sink) {
+        match play_line(alloc, first, version, player, printer, room, sink) {
             LineEnd::Played => {}
             LineEnd::Refused(cause) => return Ending::Fault { line, cause },
             LineEnd::SinkFailed => return Ending::SinkFailed,
@@ -258,7 +419,7 @@ fn play_over<I: Instrument, K: Sink>(
     room: &mut [u8],
     sink: &mut K,
 ) -> Status
-    requires room { LINE_MAX ≤ length room.old }
+    requires room { LINE2_MAX ≤ length room.old }
     requires begins { Stands player.old (beginning player.old.rack) }
     ensures ended { (rack : List SpareShown) → player.old.rack ≡ rack → EndsScript script.now rack
         (record { bytes = K.taken sink.old; faults = K.faults sink.old })
@@ -294,7 +455,7 @@ fn play_in_room<I: Instrument, K: Sink>(
     let Ok(mut printer) = Printer::new(alloc) else {
         return Status::NoMemory;
     };
-    let Ok(mut room) = zeros(alloc, LINE_MAX) else {
+    let Ok(mut room) = zeros(alloc, LINE2_MAX) else {
         return Status::NoMemory;
     };
     play_over(alloc, script, player, &mut printer, &mut room, sink)
@@ -396,17 +557,59 @@ fn make_run<I: Instrument, K: Sink>(
     }
 }
 
-/// Whether the words are those of the command that plays a script.
-fn is_command(words: &[String]) -> bool
-    ensures { result ≡ is_command (map string_bytes words.now) }
+/// What words ask for that read the source.
+#[derive(Clone, Copy, Debug, PartialEq, Eq)]
+pub enum Order {
+    /// A script is played.
+    Play,
+    /// A script of version 1 is lifted to one of version 2.
+    Lift,
+}
+
+/// What the words ask for, where they ask for what reads the source.
+fn order_of(words: &[String]) -> Option<Order>
+    ensures { result ≡ order_of (map string_bytes words.now) }
 {
     match words {
-        [word] => word.as_bytes() == b"run".as_slice(),
-        _ => false,
+        [word] if word.as_bytes() == b"run".as_slice() => Some(Order::Play),
+        [word] if word.as_bytes() == b"lift".as_slice() => Some(Order::Lift),
+        _ => None,
     }
 }
 
-/// Plays the script that the source gives, where the words are a command.
+/// Lifts a script, and writes the line of its fault, where it has one.
+fn lift<K: Sink>(alloc: Global, script: &[u8], sink: &mut K) -> Status
+    ensures ended { EndsLifted script.now
+        (record { bytes = K.taken sink.old; faults = K.faults sink.old })
+        (record { bytes = K.taken sink.new; faults = K.faults sink.new }) result }
+{
+    match lift_script(alloc, script, sink) {
+        LiftEnd::Whole => Status::Done,
+        LiftEnd::Fault { line } => {
+            let mut room = [0; FAULT_ROOM];
+            put_last(sink, form_line(line, &mut room), Status::Fault)
+        }
+        LiftEnd::SinkFailed => Status::SinkFailed,
+        LiftEnd::NoMemory => Status::NoMemory,
+    }
+}
+
+/// The line of a script's first line outside the grammar, at the front of the room.
+fn form_line(line: u64, room: &mut [u8]) -> &[u8]
+    requires room { FAULT_ROOM ≤ length room.old }
+    ensures { result.now ≡ last_line (Some (record { line = line; cause = cause.Form })) }
+{
+    let fault = Line::FaultLine {
+        line,
+        word: Cause::Form.word(),
+    };
+    match put_line(&fault, room) {
+        Ok(len) => &room[..len],
+        Err(_) => unreachable!(),
+    }
+}
+
+/// Plays or lifts the script that the source gives, or makes a run, as the words ask.
 fn play<S: Source, K: Sink, I: Instrument>(
     alloc: Global,
     words: &[String],
@@ -421,18 +624,20 @@ fn play<S: Source, K: Sink, I: Instrument>(
       sink_after = record { bytes = K.taken sink.new; faults = K.faults sink.new };
     }) result }
 {
-    if is_command(words) {
-        match read_all(alloc, source, SCRIPT_MAX) {
-            Input::Whole(script) => play_script(alloc, &script, sink, rack),
+    match order_of(words) {
+        Some(order) => match read_all(alloc, source, SCRIPT_MAX) {
+            Input::Whole(script) => match order {
+                Order::Play => play_script(alloc, &script, sink, rack),
+                Order::Lift => lift(alloc, &script, sink),
+            },
             Input::TooLong => put_last(sink, b"fault long\n", Status::TooLong),
             Input::Failed => Status::SourceFailed,
             Input::NoMemory => Status::NoMemory,
-        }
-    } else {
-        match ask_of(words) {
+        },
+        None => match ask_of(words) {
             Some(ask) => make_run(alloc, ask, sink, rack),
             None => put_last(sink, b"usage: vxplay COMMAND\n", Status::Usage),
-        }
+        },
     }
 }
 
@@ -455,6 +660,13 @@ fn play<S: Source, K: Sink, I: Instrument>(
 /// - 4: the sink failed; a front of what was due was written.
 /// - 5: memory ran out; what the steps in front made was written, or nothing.
 /// - 6, `fault long`: the source has more than 67,108,864 bytes.
+///
+/// A script whose first line is `vxscript 2` has version 2, and what is written of it too: `vxtrace 2` first, and then each line
+/// with the moment of its step in front. Any other script has version 1.
+///
+/// The word `lift` alone reads a script of version 1 and writes it as one of version 2, each step behind the greatest moment so far,
+/// and ends as a play does, but for the last lines: at 0 nothing stands behind the lifted script; at 3, where a line is outside the
+/// grammar of version 1, what stands in front of it was lifted, and `fault line N form` was written; at 5 nothing was written.
 pub fn play_run<S: Source, K: Sink, I: Instrument>(
     alloc: Global,
     words: &[String],
@@ -476,6 +688,15 @@ pub fn play_run<S: Source, K: Sink, I: Instrument>(
 
     // A script that the source tells is played whole, or memory is wanting, where neither the source nor the sink fails.
     ensures complete { Completes (map string_bytes words.now) (map (spare_shown (handed_in (λ i. I.behaves i) (λ i. I.nature i))) rack.items) (record {
+      source = record { bytes = S.left source.old; faults = S.faults source.old };
+      source_after = record { bytes = S.left source.new; faults = S.faults source.new };
+      sink = record { bytes = K.taken sink.old; faults = K.faults sink.old };
+      sink_after = record { bytes = K.taken sink.new; faults = K.faults sink.new };
+    }) result }
+
+    // A script that the source tells is lifted whole, or up to its first line outside the grammar, or memory is wanting, where neither
+    // the source nor the sink fails.
+    ensures lifts { CompletesLift (map string_bytes words.now) (record {
       source = record { bytes = S.left source.old; faults = S.faults source.old };
       source_after = record { bytes = S.left source.new; faults = S.faults source.new };
       sink = record { bytes = K.taken sink.old; faults = K.faults sink.old };

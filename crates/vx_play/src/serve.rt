@@ -4,6 +4,7 @@ ghost use Rattle.vx_calls.specs.declared.limits.TheConstants.{RECORD_MAX};
 ghost use Rattle.vx_exchange.specs.declared.record.TheConstants.{REPLY_ROOM};
 ghost use Rattle.vx_exchange.specs.Meaning.{Junk, meaning};
 ghost use Rattle.vx_rules.specs.State.{lives_as, pending_at};
+ghost use Rattle.vx_play.specs.declared.note.Intake.TheVariants as intake;
 ghost use Rattle.vx_play.specs.Gateway.{gateway_of};
 ghost use Rattle.vx_play.specs.Making.{PollMakes};
 ghost use Rattle.vx_play.specs.Serving.{MadeBy, Serves};
@@ -81,6 +82,7 @@ pub fn poll_call<I: Instrument>(
     requires late { core.old.fine.state.moment ≤ now }
     requires room { REPLY_ROOM ≤ length reply.old }
     ensures made { MadeBy (PollMakes (gateway_of core.old) conn now xid) reply.new result core.new }
+    ensures quiet { result.intake ≡ intake.Nothing }
     ensures late { core.new.fine.state.moment ≤ now }
     ensures len { length reply.new ≡ length reply.old }
 {

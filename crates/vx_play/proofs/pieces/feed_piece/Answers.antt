@@ -30,18 +30,18 @@ pub returns-in-More-clause-taken : goal.returns-in-More-clause-taken
 returns-in-More-clause-taken g c = λ kept was.
     let is = fed-whole (get nat_cmp c.args.incoming.now c.args.conn) (get nat_cmp c.feed.new.incoming c.args.conn) kept c.args.bytes.now c.in-Some.fed feed.More
     c.in-Some.ensures.fed was c.if-fed-bytes.false c.in-More.is in
-    feeds-piece (gateway_of c.args.core.now) c.args.conn c.args.now c.args.role kept c.args.bytes.now c.args.reply.now _ _ _ c.args.core.now feed.More is (refl, is.is, refl)
+    feeds-piece (gateway_of c.args.core.now) c.args.conn c.args.now c.args.role kept c.args.bytes.now c.args.reply.now c.args.message.now _ _ _ c.args.core.now feed.More is (refl, is.is, refl)
 
 pub returns-in-Whole-clause-taken : goal.returns-in-Whole-clause-taken
 returns-in-Whole-clause-taken g c = λ kept was.
     let is = fed-whole (get nat_cmp c.args.incoming.now c.args.conn) (get nat_cmp c.feed.new.incoming c.args.conn) kept c.args.bytes.now c.in-Some.fed feed.Whole
     c.in-Some.ensures.fed was c.if-fed-bytes.false c.in-Whole.is in
-    feeds-piece (gateway_of c.args.core.now) c.args.conn c.args.now c.args.role kept c.args.bytes.now c.answer.new.reply _ _ _ c.answer.new.core feed.Whole is
+    feeds-piece (gateway_of c.args.core.now) c.args.conn c.args.now c.args.role kept c.args.bytes.now c.answer.new.reply c.answer.new.message _ _ _ c.answer.new.core feed.Whole is
     (c.answer.ensures.answered _ is.is)
 
 pub returns-in-TooLong-clause-taken : goal.returns-in-TooLong-clause-taken
 returns-in-TooLong-clause-taken g c = λ kept was.
     let is = fed-whole (get nat_cmp c.args.incoming.now c.args.conn) (get nat_cmp c.feed.new.incoming c.args.conn) kept c.args.bytes.now c.in-Some.fed feed.TooLong
     c.in-Some.ensures.fed was c.if-fed-bytes.false c.in-TooLong.is in
-    feeds-piece (gateway_of c.args.core.now) c.args.conn c.args.now c.args.role kept c.args.bytes.now c.args.reply.now _ _ _ c.end.new.core feed.TooLong is
+    feeds-piece (gateway_of c.args.core.now) c.args.conn c.args.now c.args.role kept c.args.bytes.now c.args.reply.now c.args.message.now _ _ _ c.end.new.core feed.TooLong is
     (c.end.ensures.happens, c.end.ensures.gone, c.of.ensures)

@@ -5,8 +5,8 @@ use Rattle.vx_play.proofs.run.play_lines.Given as goal
 abbrev pub invariant-loop-rest : goal.invariant-loop-rest
 invariant-loop-rest g l =
     (l.line + length l.rest ≤ length l.script)
-    × UnderWay l.script l.initial.player.rack l.rest l.line l.player
-    (record { bytes = g.K.Sink.taken l.initial.sink; faults = g.K.Sink.faults l.initial.sink })
+    × UnderWay l.script l.initial.player.rack l.version l.rest l.line l.player
+    (record { bytes = g.K.Sink.taken l.fn.sink; faults = g.K.Sink.faults l.fn.sink })
     (record { bytes = g.K.Sink.taken l.sink; faults = g.K.Sink.faults l.sink })
 
 abbrev pub decreases-loop-rest : goal.decreases-loop-rest

@@ -1,4 +1,4 @@
-use Rattle.std.proofs.Common.{Some, None, ap, ◌∙◌}
+use Rattle.std.proofs.Common.{Some, None, refl, ap, ◌∙◌}
 use Rattle.vx_trace.specs.Output.{FaultLine}
 use Rattle.vx_trace.specs.Text.{line_text}
 use Rattle.vx_play.specs.declared.run.Status.TheVariants as status
@@ -15,7 +15,7 @@ returns-in-Whole g c =
 
 pub line-requires-in-Fault : goal.line-requires-in-Fault
 line-requires-in-Fault g c =
-    let writable = fault-writable c.in-Fault.cause _ c.word-word.ensures in record { whole = writable.0; fits = writable.1 }
+    let writable = fault-writable c.in-Fault.cause _ c.word-word.ensures in record { whole = writable.0; closing = refl; fits = writable.1 }
 
 pub returns-in-Fault : goal.returns-in-Fault
 returns-in-Fault g c =

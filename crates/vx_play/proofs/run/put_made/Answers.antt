@@ -1,21 +1,23 @@
-use Rattle.std.proofs.Common.{length, sym, subst, ap, ◌∙◌, ◌≤◌, IsSome}
-use Rattle.vx_calls.specs.declared.limits.TheConstants.{SLICE_MAX}
+use Rattle.std.proofs.Common.{◌++◌, Some, subst, ap, ◌∙◌}
 use Rattle.vx_text.specs.declared.output.SinkFailed.{SinkFailed}
-use Rattle.vx_play.specs.Standing.{NoteWithin, moves_lines, note_line}
-use Rattle.vx_play.proofs.Printed.{moves-writable, note-writable, lines-put}
+use Rattle.vx_text.specs.Writing.{IsPut}
+use Rattle.vx_play.specs.Standing.{moves_lines, note_line, intake_lines, begun_lines}
+use Rattle.vx_play.proofs.Printed.{texts, lines-put}
+use Rattle.vx_run.specs.Item.{noted}
 use Rattle.vx_play.proofs.run.put_made.Goals as goal
 
-pub lines-requires : goal.lines-requires
-lines-requires g c = record {
-  first_fits = moves-writable _ _ _ c.moves_line-moves.ensures
-      (subst (λ m. IsSome c.args.made.polled → length m ≤ SLICE_MAX) (sym c.moves.ensures) c.requires.few);
-  second_fits = note-writable _ _ _ c.note_line-note.ensures
-      (subst (λ r. NoteWithin (length r) c.args.made.note) (sym c.room.ensures.value) c.requires.note) c.room.ensures.len;
-}
-
-pub returns-clause-put : goal.returns-clause-put
-returns-clause-put g c = lines-put {E = SinkFailed}
+pub returns-in-Two-clause-put : goal.returns-in-Two-clause-put
+returns-in-Two-clause-put g c =
+    rw c.in-Two.is (subst (λ m. IsPut
     (record { bytes = g.K.Sink.taken c.args.sink.now; faults = g.K.Sink.faults c.args.sink.now })
-    (record { bytes = g.K.Sink.taken c.put_all.new.sink; faults = g.K.Sink.faults c.put_all.new.sink }) _ _ _ _ _ c.put_all.result c.lines.ensures
+    (record { bytes = g.K.Sink.taken c.put_all-in-Two.new.sink; faults = g.K.Sink.faults c.put_all-in-Two.new.sink })
+    (texts (Some m) (intake_lines c.args.player.now.message c.args.made.intake ++ begun_lines c.args.made.polled c.args.player.now.core.began
+    ++ moves_lines c.args.made.polled c.args.player.now.core.bus.means.moves ++ noted (note_line c.args.player.now.reply c.args.made.note))) c.put_all-in-Two.result) c.moment.ensures
+    (lines-put {E = SinkFailed}
+    (record { bytes = g.K.Sink.taken c.args.sink.now; faults = g.K.Sink.faults c.args.sink.now })
+    (record { bytes = g.K.Sink.taken c.put_all-in-Two.new.sink; faults = g.K.Sink.faults c.put_all-in-Two.new.sink }) _ (Some c.moment.result) _ _ _ _ _ _ _ _ c.put_all-in-Two.result
+    c.lines-in-Two.ensures
+    (c.intake_line-intake.ensures ∙ ap (λ m. intake_lines m c.args.made.intake) c.message.ensures.value)
+    (c.begun_line-begun.ensures ∙ ap (λ b. begun_lines c.args.made.polled b) c.began.ensures)
     (c.moves_line-moves.ensures ∙ ap (λ m. moves_lines c.args.made.polled m) c.moves.ensures)
-    (c.note_line-note.ensures ∙ ap (λ r. note_line r c.args.made.note) c.room.ensures.value) c.put_all.ensures.put
+    (c.note_line-note.ensures ∙ ap (λ r. note_line r c.args.made.note) c.room.ensures.value) c.put_all-in-Two.ensures.put))

@@ -1,4 +1,4 @@
-use Rattle.std.proofs.Common.{ℕ, List, subst}
+use Rattle.std.proofs.Common.{ℕ, List, refl, subst}
 use Rattle.vx_play.specs.declared.run.Status.TheVariants as status
 use Rattle.vx_play.specs.Ended.{PutsLast}
 use Rattle.vx_play.proofs.Driving.{refused-line}
@@ -7,7 +7,7 @@ use Rattle.vx_play.proofs.run.put_stop.Goals as goal
 
 pub line-requires : goal.line-requires
 line-requires g c =
-    let writable = fault-writable c.in-Refused.cause _ c.word.ensures in record { whole = writable.0; fits = writable.1 }
+    let writable = fault-writable c.in-Refused.cause _ c.word.ensures in record { whole = writable.0; closing = refl; fits = writable.1 }
 
 pub returns-in-Refused-clause-refused : goal.returns-in-Refused-clause-refused
 returns-in-Refused-clause-refused g c = λ cause is.

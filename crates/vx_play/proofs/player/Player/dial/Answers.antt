@@ -4,10 +4,11 @@ use denote.Param.{param}
 use Rattle.vx_calls.specs.declared.calls.Role.TheVariants as role
 use Rattle.vx_script.specs.Command.{Dial}
 use Rattle.vx_rules.specs.State.{lives_as}
+use Rattle.vx_play.specs.declared.note.Intake.TheVariants as intake
 use Rattle.vx_play.specs.declared.note.Note.TheVariants as note
 use Rattle.vx_play.specs.contracts.player.Player.{the_view}
 use Rattle.vx_play.specs.PlayerState.{PlayerState, incoming_at}
-use Rattle.vx_play.specs.Standing.{Stands, TakesTo, made_lines}
+use Rattle.vx_play.specs.Standing.{Stands, TakesTo}
 use Rattle.vx_play.proofs.Calling.{dial-takes}
 use Rattle.vx_play.proofs.player.Player.dial.Goals as goal
 
@@ -16,8 +17,7 @@ returns-clause-taken g c = λ stage stands.
     let p : PlayerState = the_view (param 0 g.row.I) g.I.Instrument c.self.inside in
     let answered = c.settle-answered.result in
     let room = with_items_is c.self.inside.reply c.settle-answered.new.reply (c.settle-answered.auto.reply ∙ c.deref_mut.ensures.len) in
-    subst (λ xs. TakesTo stage (Dial c.args.conn c.args.up) (made_lines (record p { core = c.settle-answered.new.core; reply = xs })
-    (record { polled = None; note = note.Replied c.args.conn answered.len; answered = Some answered.error })) (Some answered.error)
+    subst (λ xs. TakesTo stage (Dial c.args.conn c.args.up) (record { intake = intake.Dialed c.args.conn c.args.up; polled = None; note = note.Replied c.args.conn answered.len; answered = Some answered.error })
     (record p { core = c.settle-answered.new.core; reply = xs })) (sym room)
     (dial-takes p stage c.settle-answered.new.core c.settle-answered.new.reply c.args.conn c.xid-xid.result c.args.up answered
     (subst (λ q. Stands q stage) (sym c.self.view_is) stands)

@@ -22,5 +22,5 @@ returns-in-Err-NoMemory-clause-stopped g c = λ stage stands.
 pub returns-clause-taken : goal.returns-clause-taken
 returns-clause-taken g c = λ stage stands.
     let there = subst (λ p. Stands p stage) (sym c.self.view_is) stands in
-    up-takes stage _ _ c.args.conn c.in-Ok.field-0 c.args.role there (c.if-conn-next_number.false ∙ c.next_number.ensures) c.in-Ok.ensures.ok c.in-Ok.ensures.walk
-    c.in_ok-begin.ensures.here c.in_ok-begin.ensures.others refl refl
+    rw c.of_intake.ensures (up-takes stage _ _ c.args.conn c.in-Ok.field-0 c.args.role there (c.if-conn-next_number.false ∙ c.next_number.ensures) c.in-Ok.ensures.ok c.in-Ok.ensures.walk
+    c.in_ok-begin.ensures.here c.in_ok-begin.ensures.others refl refl)

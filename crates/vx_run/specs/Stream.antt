@@ -1,5 +1,5 @@
 -- What a piece of a connection's stream brings.
-use Rattle.std.specs.Prelude.{ℕ, ◌-◌, Bool, true, false, if◌then◌else◌, List, [], ◌∷◌, ◌++◌, length, take}
+use Rattle.std.specs.Prelude.{ℕ, ◌-◌, Option, Some, None, Bool, true, false, if◌then◌else◌, List, [], ◌∷◌, ◌++◌, length, take}
 use Rattle.vx_calls.specs.declared.limits.TheConstants.{RECORD_MAX}
 use Rattle.vx_record.specs.Records.{records}
 use Rattle.vx_record.specs.Ends.{is_settled}
@@ -31,3 +31,8 @@ brought kept piece = brought_by (kept ++ piece)
 abbrev pub kept_after : Brought → List ℕ → List ℕ
 kept_after NoEnd stream = stream
 kept_after _ stream = []
+
+-- the message that a piece brought to its end
+abbrev pub message_by : Brought → Option (List ℕ)
+message_by (Whole message) = Some message
+message_by _ = None

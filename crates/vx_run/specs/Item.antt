@@ -1,4 +1,4 @@
--- One step of a play, and the lines that are printed of it.
+-- One step of a run, and the lines of the output that every version has.
 use Rattle.std.specs.Prelude.{ℕ, List, [], ◌∷◌, ◌++◌, Option, Some, None}
 use Rattle.std.specs.List.{flat_map}
 use Rattle.vx_488.specs.declared.transfers.Transfer.{Transfer}
@@ -7,17 +7,18 @@ use Rattle.vx_script.specs.Command.{Command}
 use Rattle.vx_script.specs.Cause.{cause_word}
 use Rattle.vx_trace.specs.Output.{Output, Bus, Done, FaultLine}
 use Rattle.vx_trace.specs.Text.{line_text}
-use Rattle.vx_sim.specs.SimState.{SimState}
 use Rattle.vx_calls.specs.declared.codes.ErrorCode.{ErrorCode}
 use Rattle.vx_flow.specs.Event.{Event, Answer, Move}
 use Rattle.vx_exchange.specs.Doing.{reply_error}
 
--- a step that was taken: its command, the events that it made in the gateway, the bus after it, and the line that there is
--- to tell of it, or none
+-- a step that was taken: its command; its moment in milliseconds, the greatest that was told up to it; the message of the record
+-- that it brought to its end, without marks, where it brought one; the events that it made in the gateway; and the line that there
+-- is to tell of it, or none
 pub record Item : Type 0 where
   pub command : Command
+  pub moment : ℕ
+  pub message : Option (List ℕ)
   pub group : List Event
-  pub bus : SimState
   pub note : Option Output
 
 -- the line of a turn that moved: the transfers that it made, in order
@@ -33,12 +34,9 @@ noted (Some line) = line ∷ []
 abbrev pub item_lines : Item → List Output
 item_lines item = flat_map bus_lines item.group ++ noted item.note
 
--- the lines of these steps, and their text
+-- the lines of these steps
 abbrev pub outputs : List Item → List Output
 outputs items = flat_map item_lines items
-
-abbrev pub text : List Item → List ℕ
-text items = flat_map line_text (outputs items)
 
 -- the events that these steps made
 abbrev pub events : List Item → List Event
@@ -62,12 +60,12 @@ abbrev pub shown_moves : Output → List Transfer
 shown_moves (Bus conn moves) = moves
 shown_moves _ = []
 
--- a line at which a play ends, and why
+-- a line at which a run ends, and why
 pub record Fault : Type 0 where
   pub line : ℕ
   pub cause : Cause
 
--- the last line of a play
+-- the last line of a run
 abbrev pub last_output : Option Fault → Output
 last_output None = Done
 last_output (Some fault) = FaultLine fault.line (cause_word fault.cause)
