@@ -1,6 +1,6 @@
 //! Plays the scripts of the folder that it runs in, and tells which of them print otherwise than is written down.
 //!
-//! A file `NAME.vxs` is a script; a file `NAME.each` holds a script of one line in each of its lines; a file `NAME.args` has
+//! A file `NAME.vxs` is a script, and a file `NAME.lift` one that is lifted to version 2; a file `NAME.each` holds a script of one line in each of its lines; a file `NAME.args` has
 //! the words of a call without a script, one a line. Beside it the file `NAME.out` has what each of them must print, and behind
 //! that a last line `status N`, with the exit status. For `plug` lines there are two spare instruments of each model that takes
 //! bytes: `echo`, `slow` and `asker`.
@@ -104,15 +104,17 @@ impl Tally {
     }
 }
 
-/// Plays the one script of a file.
+/// Plays the one script of a file, or does with it what another word says.
 fn play_whole<R: Files + Print + AllocGlobal>(
     rt: &R,
+    file: &str,
     name: &str,
+    word: &str,
     tally: &mut Tally,
 ) -> io::Result<()> {
-    let script = fs::read(rt, format!(in rt.alloc(); "{name}.vxs")?)?;
+    let script = fs::read(rt, file)?;
     let written = fs::read(rt, format!(in rt.alloc(); "{name}.out")?)?;
-    let differs = differs(rt.alloc(), "run", &script, &written)?;
+    let differs = differs(rt.alloc(), word, &script, &written)?;
     tally.count(differs);
     if differs {
         println!(rt; "differs {name}")?;
@@ -168,7 +170,9 @@ fn main(rt: HostRuntime) -> io::Result<()> {
     let mut tally = Tally::default();
     for file in &files_of(&rt)? {
         if let Some(name) = file.strip_suffix(".vxs") {
-            play_whole(&rt, name, &mut tally)?;
+            play_whole(&rt, file, name, "run", &mut tally)?;
+        } else if let Some(name) = file.strip_suffix(".lift") {
+            play_whole(&rt, file, name, "lift", &mut tally)?;
         } else if let Some(name) = file.strip_suffix(".each") {
             play_each(&rt, name, &mut tally)?;
         } else if let Some(name) = file.strip_suffix(".args") {
