@@ -128,7 +128,7 @@ fn serve_record<R: Wait, B: Bus, T: Turns<Core<B>>, C: Clock, P: Pause, D: Dial>
 /// until it asks for a dial, which is made then. Between two polls it is outside the gate, and pauses there where it waits
 /// (`rest`). Behind a call of more than a slice it pauses once, before its reply goes out, so that who waits for the bus finds it
 /// free. The record of the reply, of so many bytes, stands at the front of `reply`.
-pub(crate) fn answer_call<R: Wait, B: Bus, T: Turns<Core<B>>, C: Clock, P: Pause, D: Dial>(
+pub fn answer_call<R: Wait, B: Bus, T: Turns<Core<B>>, C: Clock, P: Pause, D: Dial>(
     rt: &R,
     turns: &T,
     pass: Pass<Core<B>>,

@@ -12,10 +12,12 @@ mod still;
 mod tools;
 mod turns;
 
+pub use answering::answer_call;
 pub use links::{LinkDone, Linked, Tally, abort_link, core_link};
 pub use pumps::{PumpEnd, pump};
 pub use samples::sample_turn;
 pub use sessions::{NoMemory, Room, abort_session, core_session};
+pub use still::Still;
 pub use tools::Tools;
 pub use turns::{abort, come, join, leave, poll_again, sample, settle, take};
 pub use vx_stream::End;

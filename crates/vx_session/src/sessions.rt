@@ -1,9 +1,13 @@
 //! The session of one connection.
-ghost use Rattle.std.specs.Prelude.{◌≡◌, ◌≤◌};
+ghost use Rattle.std.specs.Prelude.{◌≡◌, ◌≤◌, None, Some};
+ghost use Rattle.vx_calls.specs.declared.limits.TheConstants.{RECORD_MAX};
 ghost use Rattle.vx_calls.specs.declared.calls.Role.TheVariants as role;
 ghost use Rattle.vx_history.specs.Phases.{Idle};
 ghost use Rattle.vx_session.specs.Turning.{phase_at};
+ghost use Rattle.vx_door.specs.Going.{Went};
+ghost use Rattle.vx_exchange.specs.declared.record.TheConstants.{REPLY_ROOM};
 ghost use Rattle.vx_stream.specs.Shown.{link_shown};
+ghost use Rattle.vx_stream.specs.Stopping.{StreamAnswered};
 ghost use Rattle.vx_session.specs.Outside.{dial_shown, no_dial};
 ghost use Rattle.vx_session.specs.Ending.{SessionDid};
 
@@ -21,7 +25,7 @@ use vx_gate::{Pass, Turns};
 use vx_history::{headline_law, owned_law};
 use vx_io_traits::{Clock, Dial, Link, Pause};
 use vx_record::RecordBuf;
-use vx_stream::{End, answer_stream};
+use vx_stream::{Answers, End, answer_stream};
 
 /// There was no memory for the room.
 #[derive(Clone, Copy, Debug, PartialEq, Eq)]
@@ -71,6 +75,38 @@ impl Room {
             reply,
         })
     }
+
+    /// Has the records of a link's stream answered in this room, each before the next is looked for, to the end of the input or to
+    /// where another end comes.
+    pub fn answer<R: Wait, S: Answers, L: Link>(
+        &mut self,
+        rt: &R,
+        server: S,
+        link: &mut L,
+    ) -> (S, End)
+        requires can { S.can server }
+        requires longest { RECORD_MAX ≤ S.longest }
+        requires room { S.room ≤ REPLY_ROOM }
+        ensures answers { StreamAnswered S.does L.stands RECORD_MAX None server link.old (link_shown L.left L.peers L.receive_faults L.send_faults link.old)
+            (Some result.1) result.0 link.new (link_shown L.left L.peers L.receive_faults L.send_faults link.new) }
+        ensures went { Went L.receives L.sends link.old link.new }
+        ensures can { S.can result.0 }
+    {
+        let Room {
+            incoming,
+            piece,
+            reply,
+        } = self;
+        incoming.restart();
+        answer_stream(
+            rt,
+            server,
+            link,
+            incoming,
+            piece.as_mut_slice(),
+            reply.as_mut_slice(),
+        )
+    }
 }
 
 /// A session, in a room: the records of its stream are served, and then the connection goes.
@@ -94,12 +130,6 @@ fn run_session<R: Wait, B: Bus, T: Turns<Core<B>>, L: Link, C: Clock, P: Pause, 
 {
     headline_law();
     owned_law();
-    let Room {
-        incoming,
-        piece,
-        reply,
-    } = room;
-    incoming.restart();
     let mut held = Some(pass);
     let server = Answering {
         rt,
@@ -111,14 +141,7 @@ fn run_session<R: Wait, B: Bus, T: Turns<Core<B>>, L: Link, C: Clock, P: Pause, 
         pause,
         dial,
     };
-    let (_, end) = answer_stream(
-        rt,
-        server,
-        link,
-        incoming,
-        piece.as_mut_slice(),
-        reply.as_mut_slice(),
-    );
+    let (_, end) = room.answer(rt, server, link);
     let Some(pass) = held else { unreachable!() };
     (leave(rt, turns, pass, conn), end)
 }

@@ -8,11 +8,12 @@ use vx_io_traits::{Clock, Dial, DialOut, Pause};
 
 /// Tells moment 0, pauses for no time, and dials nobody.
 #[derive(Drop)]
-pub(crate) struct Still {
+pub struct Still {
     asked: bool,
 }
 
 impl Still {
+    /// One that was asked nothing yet.
     pub fn new() -> Still {
         Still { asked: false }
     }
