@@ -1,0 +1,138 @@
+-- A message of a session to four buses: what it means, and how it is served.
+use Rattle.std.proofs.Common.{◌≡◌, ◌≤◌, ℕ, zero, suc, List, [], take, Some, refl, sym, ap, ◌∙◌, subst, arith}
+use Rattle.vx_calls.specs.declared.calls.Role.{Role}
+use Rattle.vx_calls.specs.declared.codes.ErrorCode.{ErrorCode}
+use Rattle.vx_calls.specs.Call.{Call}
+use Rattle.vx_calls.specs.Reply as reply
+use Rattle.vx_record.specs.Fragments.{record_of}
+use Rattle.vx_bus_traits.specs.declared.bus.Bus.{Ghosts}
+use Rattle.vx_exchange.specs.Meaning as one
+use Rattle.vx_exchange.specs.Meaning.{Meaning, meaning}
+use Rattle.vx_exchange.specs.Opening.{Stands}
+use Rattle.vx_gate.specs.PassView.{PassView, GateId}
+use Rattle.vx_gates.specs.Four.{Four, at, Each}
+use Rattle.vx_gates.specs.Passing.{IsOf}
+use Rattle.vx_history.specs.Groups.{Group}
+use Rattle.vx_history.specs.Phases.{Idle}
+use Rattle.vx_routes.specs.Replying.{success_record}
+use Rattle.vx_routes.specs.Routing.{Way, Refused, Goes, route_of, place_of}
+use Rattle.vx_session.specs.Placing.{Placed}
+use Rattle.vx_session.specs.ProvedLaws.{makes-none, makes-later}
+use Rattle.vx_session.specs.Serving.{IsAborted}
+use Rattle.vx_session.specs.Turning.{phase_at}
+use Rattle.vx_buses.specs.Asking.{OnBus}
+use Rattle.vx_buses.specs.Holding.{AreIdle, Holds}
+use Rattle.vx_buses.specs.Meant.{by_way, by_meaning}
+use Rattle.vx_buses.specs.Serving.{IsServed, IsAsked, IsAnswered, ServesCall, State, numbers}
+use Rattle.vx_buses.proofs.Fours.{at-put, each-at, each-put}
+
+-- the number of a bus's pass
+at-numbers : (b : ℕ) (f : Four (PassView Group)) → (at b f).number ≡ at b (numbers f)
+at-numbers zero f = refl
+at-numbers (suc zero) f = refl
+at-numbers (suc (suc zero)) f = refl
+at-numbers (suc (suc (suc n))) f = refl
+
+-- ---- what is held
+
+-- of what is held, the connection of a bus is idle
+pub idle-at : (b : ℕ) (passes : Four (PassView Group)) (gates : Four GateId) (conns : Four ℕ) (r : Role) → Holds passes gates conns r → phase_at (at b passes) (at b conns) ≡ Idle r
+idle-at b passes gates conns r holds = each-at (λ pass conn. phase_at pass conn ≡ Idle r) b passes conns holds.idle
+
+-- it is held still where one bus's pass went on and its connection is idle again
+pub holds-on : (told b : ℕ) (P : List Placed → Type 0) (passes passes' : Four (PassView Group)) (gates : Four GateId) (conns : Four ℕ) (r : Role) → Holds passes gates conns r
+    → OnBus told passes b P passes' → phase_at (at b passes') (at b conns) ≡ Idle r → Holds passes' gates conns r
+holds-on told b P passes passes' gates conns r holds went phase =
+    let own = went.own in
+    let here : at b passes' ≡ own = ap (at b) went.is ∙ at-put b own passes in
+    record {
+      of = subst (λ p. Each IsOf p gates) (sym went.is) (each-put IsOf b own passes gates holds.of (went.makes.gate ∙ each-at IsOf b passes gates holds.of));
+      idle = subst (λ p. AreIdle p conns r) (sym went.is)
+          (each-put (λ pass conn. phase_at pass conn ≡ Idle r) b own passes conns holds.idle (subst (λ p. phase_at p (at b conns) ≡ Idle r) here phase));
+    }
+
+module _ {B : Type 0} (g : Ghosts B) (told : ℕ) (passes : Four (PassView Group)) (conns : Four ℕ) where
+  -- ---- a call
+
+  -- a call that is refused is answered without a bus
+  pub refused-served : (xid : ℕ) (asked : Call) (error : ErrorCode) (out : List ℕ) → Refused error ≡ route_of asked → out ≡ success_record xid (reply.Error error)
+      → ServesCall g told passes conns (by_way xid (route_of asked)) out passes
+  refused-served xid asked error out way out_is = record {
+    bus = 0;
+    within = omega arith;
+    placed = [];
+    own = passes.zero_;
+    is = refl;
+    makes = makes-none told passes.zero_;
+    served = subst (λ (w : Way). IsServed g (numbers passes) conns (by_way xid w) 0 [] out) way (refl, out_is);
+  }
+
+  -- any other is answered by its bus
+  pub asked-served : (xid : ℕ) (asked there : Call) (bus : ℕ) (out : List ℕ) (passes' : Four (PassView Group)) → Goes bus there ≡ route_of asked → bus ≤ 3
+      → OnBus told passes bus (λ placed. IsAsked g (at bus passes).number (at bus conns) xid there bus placed out) passes'
+      → ServesCall g told passes conns (by_way xid (route_of asked)) out passes'
+  asked-served xid asked there bus out passes' way within went = record {
+    bus = bus;
+    within = within;
+    placed = went.placed;
+    own = went.own;
+    is = went.is;
+    makes = went.makes;
+    served = subst (λ (w : Way). IsServed g (numbers passes) conns (by_way xid w) bus went.placed out) way
+        (refl, subst (λ n. IsAsked g n (at bus conns) xid there bus went.placed out) (at-numbers bus passes) went.holding);
+  }
+
+  -- ---- a message
+
+  module _ (first : ℕ) (r : Role) (message : List ℕ) where
+    -- the state before, and behind passes that went on
+    abbrev before : State
+    before = record { role = r; conns = conns; passes = Some passes; told = first }
+
+    abbrev after : Four (PassView Group) → State
+    after passes' = record { role = r; conns = conns; passes = Some passes'; told = told }
+
+    -- a message that says what is answered without a bus
+    pub answered-does : (text room : List ℕ) (len : ℕ) → meaning message r ≡ one.Answered text → Stands (record_of text) len room → IsAnswered g before message (take len room) (after passes)
+    answered-does text room len is stands = record {
+      passes = passes;
+      bus = 0;
+      within = omega arith;
+      placed = [];
+      own = passes.zero_;
+      had = refl;
+      has = refl;
+      makes = makes-none told passes.zero_;
+      served = subst (λ (m : Meaning). IsServed g (numbers passes) conns (by_meaning m) 0 [] (take len room)) (sym is) (refl, stands.record_is);
+    }
+
+    -- a call
+    pub asks-does : (xid : ℕ) (asked : Call) (out : List ℕ) (passes' : Four (PassView Group)) → meaning message r ≡ one.Asks xid asked
+        → ServesCall g told passes conns (by_way xid (route_of asked)) out passes' → IsAnswered g before message out (after passes')
+    asks-does xid asked out passes' is serves = record {
+      passes = passes;
+      bus = serves.bus;
+      within = serves.within;
+      placed = serves.placed;
+      own = serves.own;
+      had = refl;
+      has = ap Some serves.is;
+      makes = serves.makes;
+      served = subst (λ (m : Meaning). IsServed g (numbers passes) conns (by_meaning m) serves.bus serves.placed out) (sym is) serves.served;
+    }
+
+    -- a device_abort
+    pub aborts-does : (xid lid bus link : ℕ) (out : List ℕ) (passes' : Four (PassView Group)) → meaning message r ≡ one.Aborts xid lid → (bus, link) ≡ place_of lid → bus ≤ 3
+        → OnBus 0 passes bus (λ placed. IsAborted (at bus conns) xid link placed [] out) passes' → IsAnswered g before message out (after passes')
+    aborts-does xid lid bus link out passes' is place within went = record {
+      passes = passes;
+      bus = bus;
+      within = within;
+      placed = went.placed;
+      own = went.own;
+      had = refl;
+      has = ap Some went.is;
+      makes = makes-later 0 told (at bus passes) went.own went.placed (omega arith) went.makes;
+      served = subst (λ (m : Meaning). IsServed g (numbers passes) conns (by_meaning m) bus went.placed out) (sym is)
+          (ap (λ (p : ℕ × ℕ). p.0) place, subst (λ n. IsAborted (at bus conns) xid n went.placed [] out) (ap (λ (p : ℕ × ℕ). p.1) place) went.holding);
+    }

@@ -1,0 +1,71 @@
+-- A call, or a device_abort, at the one of four buses that it goes to: its pass is brought to the first place, and back.
+use Rattle.std.proofs.Common.{◌≡◌, ◌≤◌, ℕ, List, [], ◌∷◌, take, refl, ap, ◌∙◌, subst, slice_index}
+use Rattle.vx_calls.specs.Call.{Call}
+use Rattle.vx_bus_traits.specs.declared.bus.Bus.{Ghosts}
+use Rattle.vx_exchange.specs.declared.polls.Aborted.{Aborted}
+use Rattle.vx_gate.specs.PassView.{PassView}
+use Rattle.vx_gates.specs.Four.{Four, at, put, swapped}
+use Rattle.vx_history.specs.Event.{Abort}
+use Rattle.vx_history.specs.Groups.{Group}
+use Rattle.vx_session.specs.Outside.{DialShown}
+use Rattle.vx_session.specs.Placing.{Makes}
+use Rattle.vx_session.specs.Progress.{AnswersCall}
+use Rattle.vx_session.specs.Serving.{IsCalled, IsAborted}
+use Rattle.vx_session.specs.Turning as turning
+use Rattle.vx_buses.specs.Asking.{OnBus}
+use Rattle.vx_buses.specs.Holding.{four_of}
+use Rattle.vx_buses.specs.Serving.{IsAsked, outward}
+use Rattle.vx_buses.proofs.Fours.{swapped-first, swapped-back, each-number}
+
+-- the connection of a bus
+pub conn-at : (conns : List ℕ) (b : ℕ) → b ≤ 3 → slice_index conns b ≡ at b (four_of conns)
+conn-at conns = each-number (λ b. slice_index conns b ≡ at b (four_of conns)) refl refl refl refl
+
+module _ (passes : Four (PassView Group)) (bus : ℕ) (first : Four (PassView Group)) (first_is : first ≡ swapped bus passes) (own : PassView Group) (last : Four (PassView Group))
+    (last_is : last ≡ swapped bus (record { zero_ = own; one = first.one; two = first.two; three = first.three })) where
+  -- the pass that was brought there is the bus's
+  own-first : first.zero_ ≡ at bus passes
+  own-first = ap (λ (f : Four (PassView Group)). f.zero_) first_is ∙ swapped-first bus passes
+
+  -- it went on, and the other three stay as they were
+  one-went : last ≡ put bus own passes
+  one-went =
+      last_is
+      ∙ ap (λ (f : Four (PassView Group)). swapped bus (record { zero_ = own; one = f.one; two = f.two; three = f.three })) first_is
+      ∙ swapped-back bus passes own
+
+  -- a call was answered there, and told
+  pub asked-on-bus : {B : Type 0} (g : Ghosts B) (told : ℕ) (conns : Four ℕ) (conn xid : ℕ) (asked : Call) (dial dial' : DialShown) (given out : List ℕ) → conn ≡ at bus conns
+      → AnswersCall g told first.zero_ conn xid asked dial given own dial' → out ≡ outward asked bus given
+      → OnBus told passes bus (λ placed. IsAsked g (at bus passes).number (at bus conns) xid asked bus placed out) last
+  asked-on-bus g told conns conn xid asked dial dial' given out conn_is answers out_is = record {
+    own = own;
+    is = one-went;
+    placed = answers.placed;
+    makes = subst (λ p. Makes told p answers.placed own) own-first answers.makes;
+    holding = record {
+      calls = answers.rung;
+      given = given;
+      called = subst (λ (p : PassView Group). IsCalled g p.number (at bus conns) xid asked answers.placed answers.rung given) own-first
+          (subst (λ n. IsCalled g first.zero_.number n xid asked answers.placed answers.rung given) conn_is answers.holding);
+      out_is = out_is;
+    };
+  }
+
+  -- a device_abort was told there
+  pub aborted-on-bus : (conns : Four ℕ) (conn xid lid : ℕ) (room : List ℕ) (aborted : Aborted) → conn ≡ at bus conns → turning.Aborts first.zero_ conn lid xid room aborted own
+      → OnBus 0 passes bus (λ placed. IsAborted (at bus conns) xid lid placed [] (take aborted.len room)) last
+  aborted-on-bus conns conn xid lid room aborted conn_is aborts = record {
+    own = own;
+    is = one-went;
+    placed = aborts.placed ∷ [];
+    makes = subst (λ p. Makes 0 p (aborts.placed ∷ []) own) own-first aborts.turns.makes;
+    holding = record {
+      group = aborts.placed;
+      error = aborted.error;
+      groups = refl;
+      events = subst (λ n. aborts.placed.group.events ≡ Abort n lid aborted.error ∷ []) conn_is aborts.events;
+      rung = refl;
+      reply_is = aborts.stands.record_is;
+    };
+  }

@@ -1,0 +1,189 @@
+-- How a session comes on: the messages that it answered, one after the other, as the records that its buses served.
+use Rattle.std.proofs.Common.{◌≡◌, ◌≤◌, ◌==◌, ◌⊎◌, inl, inr, ℕ, Bool, true, false, cond, List, [], ◌∷◌, ◌++◌, Option, None, Some, refl, sym, ap, ◌∙◌, subst, arith}
+use Rattle.std.specs.List.{All}
+use Rattle.std.proofs.lemmas.Bool.{eqb-true, eqb-false}
+use Rattle.std.proofs.lemmas.List.Elements.{All-nil, All-cons}
+use Rattle.std.proofs.lemmas.Option.{same_Some}
+use Rattle.vx_io_traits.specs.Stands.{Goes}
+use Rattle.vx_calls.specs.declared.limits.TheConstants.{RECORD_MAX}
+use Rattle.vx_bus_traits.specs.declared.bus.Bus.{Ghosts}
+use Rattle.vx_gate.specs.PassView.{PassView}
+use Rattle.vx_gates.specs.Four.{Four, at, put}
+use Rattle.vx_history.specs.Groups.{Group}
+use Rattle.vx_record.specs.Records.{Split, records}
+use Rattle.vx_exchange.specs.Meaning.{meaning, Junk}
+use Rattle.vx_stream.specs.Shown.{LinkShown, LinkGoes}
+use Rattle.vx_stream.specs.Answered.{Answered, AnswersAll, replies}
+use Rattle.vx_stream.specs.Stopping.{EndsSo, IsLeft, StreamAnswered}
+use Rattle.vx_stream.specs.declared.ends.End.{End}
+use Rattle.vx_stream.specs.declared.ends.End.TheVariants as end
+use Rattle.vx_session.specs.Placing.{Placed, Makes}
+use Rattle.vx_session.specs.ProvedLaws.{makes-none, makes-goes}
+use Rattle.vx_buses.specs.Serving.{Item, Serves, State, MessageDoes, answered, placed_on, numbers}
+use Rattle.vx_buses.proofs.Fours.{at-put, at-put-other, numbers-put}
+
+-- what the pass of a bus made where one bus's pass made some groups, and then each bus's made more
+makes-at : (told told' b k : ℕ) (p : Four (PassView Group)) (own r : PassView Group) (ps qs : List Placed) → b ≤ 3 → k ≤ 3 → told ≤ told' → Makes told (at k p) ps own
+    → Makes told' (at b (put k own p)) qs r → Makes told' (at b p) (cond (k == b) ps [] ++ qs) r
+makes-at told told' b k p own r ps qs hb hk later first rest = by (k == b) refl where
+  by : (c : Bool) → (k == b) ≡ c → Makes told' (at b p) (cond c ps [] ++ qs) r
+  by true is =
+      let e : k ≡ b = eqb-true k b is in
+      let there : at b (put k own p) ≡ own = subst (λ n. at n (put k own p) ≡ own) e (at-put k own p) in
+      subst (λ n. Makes told' (at n p) (ps ++ qs) r) e (makes-goes told told' (at k p) own r ps qs later first (subst (λ x. Makes told' x qs r) there rest))
+  by false is = subst (λ x. Makes told' x qs r) (at-put-other b k own p hb hk (λ e. eqb-false k b is (sym e))) rest
+
+-- These messages of a session, whose passes were these, were served, one after the other.
+pub record ServesAll {B : Type 0} (g : Ghosts B) (s : State) (passes : Four (PassView Group)) (list : List Answered) (s' : State) : Type 0 where
+  pub items : List Item
+  pub passes' : Four (PassView Group)
+  pub are : answered items ≡ list
+  pub has : s'.passes ≡ Some passes'
+  pub makes : (bus : ℕ) → bus ≤ 3 → Makes s'.told (at bus passes) (placed_on bus items) (at bus passes')
+  pub each : All (Serves g (numbers passes) s.conns s.role) items
+  pub role : s'.role ≡ s.role
+  pub conns : s'.conns ≡ s.conns
+  pub later : s.told ≤ s'.told
+
+-- what a session has in common with what it was, where nothing was served in between
+pub record Stays (s s' : State) : Type 0 where
+  pub role : s'.role ≡ s.role
+  pub conns : s'.conns ≡ s.conns
+  pub passes : s'.passes ≡ s.passes
+  pub later : s.told ≤ s'.told
+
+-- no message was served
+serves-none : {B : Type 0} (g : Ghosts B) (s s' : State) (passes : Four (PassView Group)) → s.passes ≡ Some passes → Stays s s' → ServesAll g s passes [] s'
+serves-none g s s' passes had stays = record {
+  items = [];
+  passes' = passes;
+  are = refl;
+  has = stays.passes ∙ had;
+  makes = λ bus h. makes-none s'.told (at bus passes);
+  each = All-nil (Serves g (numbers passes) s.conns s.role);
+  role = stays.role;
+  conns = stays.conns;
+  later = stays.later;
+}
+
+-- one message was answered, and then more of them
+serves-more : {B : Type 0} (g : Ghosts B) (s mid s' : State) (one : Answered) (more : List Answered) → (does : MessageDoes g s one.message (Some one.reply) mid)
+    → ServesAll g mid (put does.has.bus does.has.own does.has.passes) more s' → ServesAll g s does.has.passes (one ∷ more) s'
+serves-more g s mid s' one more does rest =
+    let first = does.has in
+    let item : Item = record { answered = one; bus = first.bus; placed = first.placed } in
+    let earlier = does.later in
+    let later = rest.later in
+    let same = numbers-put first.bus first.own first.passes first.makes.number in
+    record {
+      items = item ∷ rest.items;
+      passes' = rest.passes';
+      are = ap (λ list. one ∷ list) rest.are;
+      has = rest.has;
+      makes = λ b h.
+          makes-at mid.told s'.told b first.bus first.passes first.own (at b rest.passes') first.placed (placed_on b rest.items) h first.within later first.makes (rest.makes b h);
+      each = All-cons (Serves g (numbers first.passes) s.conns s.role) item rest.items (record { within = first.within; served = first.served })
+          (subst (λ ns. All (Serves g ns s.conns s.role) rest.items) same
+          (subst (λ cs. All (Serves g (numbers (put first.bus first.own first.passes)) cs s.role) rest.items) does.conns
+          (subst (λ r. All (Serves g (numbers (put first.bus first.own first.passes)) mid.conns r) rest.items) does.role rest.each)));
+      role = rest.role ∙ does.role;
+      conns = rest.conns ∙ does.conns;
+      later = omega arith;
+    }
+
+-- ---- the end of its stream
+
+-- what holds of a message without a reply, as another fact of it
+ends-as : (P Q : List ℕ → Type 0) → ((message : List ℕ) → P message → Q message) → (seen : LinkShown) (list : List Answered) (looked : Split) (behind unsent : List ℕ) (seen' : LinkShown)
+    (how : End) → EndsSo P seen list looked behind unsent seen' (Some how) → EndsSo Q seen list looked behind unsent seen' (Some how)
+ends-as P Q so seen list looked behind unsent seen' end.Closed ended = ended
+ends-as P Q so seen list looked behind unsent seen' (end.CutShort bytes) ended = ended
+ends-as P Q so seen list looked behind unsent seen' (end.Junk count) ended = (ended.0, ended.1, ended.2, ended.3, so ended.1 ended.4)
+ends-as P Q so seen list looked behind unsent seen' end.TooLong ended = ended
+ends-as P Q so seen list looked behind unsent seen' end.ReadFault ended = ended
+ends-as P Q so seen list looked behind unsent seen' end.WriteFault ended = ended
+
+-- what answers messages is left as it was behind the last reply, or as a message without a reply left it
+left-so : {S : Type 0} (does : S → List ℕ → S → Type 0) (last s' : S) (seen : LinkShown) (list : List Answered) (looked : Split) (behind unsent : List ℕ) (seen' : LinkShown) (how : End)
+    → EndsSo (λ junk. does last junk s') seen list looked behind unsent seen' (Some how) → IsLeft (Some how) last s' → (s' ≡ last) ⊎ ((junk : List ℕ) × does last junk s')
+left-so does last s' seen list looked behind unsent seen' end.Closed ended left = inl left
+left-so does last s' seen list looked behind unsent seen' (end.CutShort bytes) ended left = inl left
+left-so does last s' seen list looked behind unsent seen' (end.Junk count) ended left = inr (ended.1, ended.4)
+left-so does last s' seen list looked behind unsent seen' end.TooLong ended left = inl left
+left-so does last s' seen list looked behind unsent seen' end.ReadFault ended left = inl left
+left-so does last s' seen list looked behind unsent seen' end.WriteFault ended left = inl left
+
+-- The records of a session's stream were served, up to its end or to where it is no longer read.
+pub record StreamServed {B L : Type 0} (g : Ghosts B) (stands : L → List ℕ → List ℕ → Type 0) (s : State) (passes : Four (PassView Group)) (link : L) (seen : LinkShown) (how : End)
+    (s' : State) (link' : L) (seen' : LinkShown) : Type 0 where
+  pub list : List Answered
+  pub front : List ℕ
+  pub behind : List ℕ
+  pub written : List ℕ
+  pub unsent : List ℕ
+  pub serves : ServesAll g s passes list s'
+  pub bytes : Goes stands link link' written (front ++ behind)
+  pub goes : LinkGoes seen (front ++ behind) seen'
+  pub wrote : replies list ≡ written ++ unsent
+  pub ended : EndsSo (λ message. meaning message s.role ≡ Junk) seen list (records RECORD_MAX front) behind unsent seen' (Some how)
+
+-- what answers messages, as a session's state shows it
+module _ {B S : Type 0} (g : Ghosts B) (does : S → List ℕ → Option (List ℕ) → S → Type 0) (shown : S → State)
+    (one : (s s' : S) (message : List ℕ) (reply : Option (List ℕ)) → does s message reply s' → MessageDoes g (shown s) message reply (shown s')) where
+  -- as it is left, it stays
+  left-stays : (last s' : S) → (s' ≡ last) ⊎ ((junk : List ℕ) × does last junk None s') → Stays (shown last) (shown s')
+  left-stays last s' (inl same) = subst (λ x. Stays (shown last) (shown x)) (sym same) (record { role = refl; conns = refl; passes = refl; later = omega arith })
+  left-stays last s' (inr did) =
+      let junk = one last s' did.0 None did.1 in
+      record { role = junk.role; conns = junk.conns; passes = junk.has.1; later = junk.later }
+
+  -- the messages that it answered were served
+  all-served : (s last s' : S) (passes : Four (PassView Group)) (list : List Answered) → (shown s).passes ≡ Some passes → AnswersAll does s list last → Stays (shown last) (shown s')
+      → ServesAll g (shown s) passes list (shown s')
+  all-served s last s' passes [] had all stays = serves-none g (shown s) (shown s') passes had (subst (λ x. Stays (shown x) (shown s')) all stays)
+  all-served s last s' passes (first ∷ more) had all stays =
+      let did = one s all.0 first.message (Some first.reply) all.1 in
+      subst (λ p. ServesAll g (shown s) p (first ∷ more) (shown s')) (same_Some did.has.passes passes (sym did.has.had ∙ had))
+      (serves-more g (shown s) (shown all.0) (shown s') first more did
+      (all-served all.0 last s' (put did.has.bus did.has.own did.has.passes) more did.has.has all.2 stays))
+
+  -- so the records of its stream were served
+  pub stream-served : {L : Type 0} (stands : L → List ℕ → List ℕ → Type 0) (s s' : S) (passes : Four (PassView Group)) (link link' : L) (seen seen' : LinkShown) (how : End)
+      → (shown s).passes ≡ Some passes → StreamAnswered does stands RECORD_MAX None s link seen (Some how) s' link' seen'
+      → StreamServed g stands (shown s) passes link seen how (shown s') link' seen'
+  stream-served stands s s' passes link link' seen seen' how had did =
+      let last = did.last in
+      let looked = records RECORD_MAX did.front in
+      let left = left-so (λ a junk b. does a junk None b) last s' seen did.answered looked did.behind did.unsent seen' how did.ended did.left in
+      let all = all-served s last s' passes did.answered had did.progress.answers (left-stays last s' left) in
+      record {
+        list = did.answered;
+        front = did.front;
+        behind = did.behind;
+        written = did.written;
+        unsent = did.unsent;
+        serves = all;
+        bytes = did.progress.bytes;
+        goes = did.progress.goes;
+        wrote = did.wrote;
+        ended = ends-as (λ message. does last message None s') (λ message. meaning message (shown s).role ≡ Junk)
+            (λ message d. let junk = one last s' message None d in ap (meaning message) (sym all.role ∙ junk.role) ∙ junk.has.0) seen did.answered looked did.behind did.unsent seen' how did.ended;
+      }
+
+module _ {S A : Type 0} (does : S → List ℕ → Option (List ℕ) → S → Type 0) (of : S → A)
+    (one : (s s' : S) (message : List ℕ) (reply : Option (List ℕ)) → does s message reply s' → of s' ≡ of s) where
+  -- what each message keeps is kept by all of them
+  all-keeps : (s s' : S) (list : List Answered) → AnswersAll does s list s' → of s' ≡ of s
+  all-keeps s s' [] all = ap of all
+  all-keeps s s' (first ∷ more) all = all-keeps all.0 s' more all.2 ∙ one s all.0 first.message (Some first.reply) all.1
+
+  -- and to the end of the stream
+  pub stream-keeps : {L : Type 0} (stands : L → List ℕ → List ℕ → Type 0) (s s' : S) (link link' : L) (seen seen' : LinkShown) (limit : ℕ) (how : End)
+      → StreamAnswered does stands limit None s link seen (Some how) s' link' seen' → of s' ≡ of s
+  stream-keeps stands s s' link link' seen seen' limit how did =
+      by (left-so (λ a junk b. does a junk None b) did.last s' seen did.answered (records limit did.front) did.behind did.unsent seen' how did.ended did.left)
+      ∙ all-keeps s did.last did.answered did.progress.answers
+    where
+      by : (s' ≡ did.last) ⊎ ((junk : List ℕ) × does did.last junk None s') → of s' ≡ of did.last
+      by (inl same) = ap of same
+      by (inr junk) = one did.last s' junk.0 None junk.1

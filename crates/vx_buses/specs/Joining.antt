@@ -1,0 +1,35 @@
+-- How connections to four buses come up, one of each, or none does.
+use Rattle.std.specs.Prelude.{◌≡◌, ℕ, Result, Ok, Err}
+use Rattle.vx_calls.specs.declared.calls.Role.TheVariants as role
+use Rattle.vx_gate.specs.PassView.{PassView}
+use Rattle.vx_gates.specs.Four.{Four, EachOf}
+use Rattle.vx_history.specs.Groups.{Group}
+use Rattle.vx_tables.specs.declared.tables.Connect.{Connect}
+use Rattle.vx_session.specs.Turning.{Joins, Leaves}
+use Rattle.vx_buses.specs.declared.joining.Joined.{Joined}
+
+-- what each bus answered, by the buses' numbers
+abbrev pub joined_shown : Joined → Four (Result ℕ Connect)
+joined_shown j = record { zero_ = j.zero; one = j.one; two = j.two; three = j.three }
+
+-- each bus was asked for a connection
+abbrev pub JoinsAll : Four (PassView Group) → Four (Result ℕ Connect) → Four (PassView Group) → Type 0
+JoinsAll passes joined passes' = EachOf (λ pass answer pass'. Joins pass role.Core answer pass') passes joined passes'
+
+-- all four connections, where all came up, or else why the first that didn't come up was refused
+abbrev pub outcome : Four (Result ℕ Connect) → Result (Four ℕ) Connect
+outcome j = by j.zero_ j.one j.two j.three where
+  by : (Result ℕ Connect) → (Result ℕ Connect) → (Result ℕ Connect) → (Result ℕ Connect) → Result (Four ℕ) Connect
+  by (Err why) b c d = Err why
+  by (Ok x) (Err why) c d = Err why
+  by (Ok x) (Ok y) (Err why) d = Err why
+  by (Ok x) (Ok y) (Ok z) (Err why) = Err why
+  by (Ok x) (Ok y) (Ok z) (Ok w) = Ok (record { zero_ = x; one = y; two = z; three = w })
+
+-- a connection that came up goes again
+abbrev pub Undone : PassView Group → Result ℕ Connect → PassView Group → Type 0
+Undone pass (Ok conn) pass' = Leaves pass conn pass'
+Undone pass (Err why) pass' = pass' ≡ pass
+
+abbrev pub UndoneAll : Four (PassView Group) → Four (Result ℕ Connect) → Four (PassView Group) → Type 0
+UndoneAll passes joined passes' = EachOf Undone passes joined passes'

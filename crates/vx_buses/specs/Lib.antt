@@ -1,0 +1,17 @@
+pub mod Meant
+pub mod Serving
+pub mod Holding
+pub mod Asking
+pub mod Ending
+pub mod Joining
+pub mod Linking
+pub use Rattle.vx_session.specs.Placing
+pub use Rattle.vx_stream.specs.Shown
+pub use Rattle.vx_stream.specs.Stopping
+pub use Rattle.vx_door.specs.Going
+pub use Rattle.vx_gates.specs.Four
+pub use Rattle.vx_gates.specs.Passing
+pub use Rattle.vx_gates.specs.Standing
+pub use Rattle.vx_routes.specs.Numbers
+pub use Rattle.vx_routes.specs.Routing
+pub use Rattle.vx_routes.specs.Given

@@ -1,0 +1,53 @@
+-- What became of a link: a connection to each bus came up and they had their session, or none stayed.
+use Rattle.std.specs.Prelude.{◌≡◌, ℕ, Bool, true, false, List, Result, Ok, Err}
+use Rattle.vx_calls.specs.declared.calls.Role.TheVariants as role
+use Rattle.vx_bus_traits.specs.declared.bus.Bus.{Ghosts}
+use Rattle.vx_gate.specs.PassView.{PassView}
+use Rattle.vx_gates.specs.Four.{Four}
+use Rattle.vx_history.specs.Groups.{Group}
+use Rattle.vx_tables.specs.declared.tables.Connect.{Connect}
+use Rattle.vx_tables.specs.declared.tables.Connect.TheVariants as connect
+use Rattle.vx_stream.specs.Shown.{LinkShown}
+use Rattle.vx_stream.specs.declared.ends.End.{End}
+use Rattle.vx_stream.specs.declared.ends.End.TheVariants as end
+use Rattle.vx_session.specs.declared.links.Linked.{Linked}
+use Rattle.vx_session.specs.declared.links.Linked.TheVariants as linked
+use Rattle.vx_buses.specs.Ending.{SessionDid}
+use Rattle.vx_buses.specs.Joining.{JoinsAll, UndoneAll, outcome}
+
+-- a connection to each bus came up by the first turn of its pass, and they had their session
+pub record HadSession {B L : Type 0} (g : Ghosts B) (stands : L → List ℕ → List ℕ → Type 0) (told : ℕ) (passes : Four (PassView Group)) (link : L) (seen : LinkShown)
+    (how : End) (passes' : Four (PassView Group)) (link' : L) (seen' : LinkShown) : Type 0 where
+  pub joined : Four (Result ℕ Connect)
+  pub up : Four (PassView Group)
+  pub joins : JoinsAll passes joined up
+  pub conns : Four ℕ
+  pub all : outcome joined ≡ Ok conns
+  pub did : SessionDid g stands told role.Core conns up link seen how passes' link' seen'
+
+-- One didn't come up, and the first was refused for this cause: those that did went again, and the link is untouched.
+pub record WasRefused {L : Type 0} (passes : Four (PassView Group)) (link : L) (why : Connect) (passes' : Four (PassView Group)) (link' : L) : Type 0 where
+  pub joined : Four (Result ℕ Connect)
+  pub up : Four (PassView Group)
+  pub joins : JoinsAll passes joined up
+  pub refused : outcome joined ≡ Err why
+  pub undone : UndoneAll up joined passes'
+  pub same : link' ≡ link
+
+abbrev pub LinkDid : {B L : Type 0} → Ghosts B → (L → List ℕ → List ℕ → Type 0) → ℕ → Four (PassView Group) → L → LinkShown → Linked → Four (PassView Group) → L → LinkShown → Type 0
+LinkDid g stands told passes link seen (linked.Ended how) passes' link' seen' = HadSession g stands told passes link seen how passes' link' seen'
+LinkDid g stands told passes link seen linked.Full passes' link' seen' = WasRefused passes link connect.Full passes' link'
+LinkDid g stands told passes link seen linked.NoMemory passes' link' seen' = WasRefused passes link connect.NoMemory passes' link'
+
+-- whether a link ended for a cause of the server's own: its connections were refused, or its stream had junk or a record above the limit
+abbrev pub is_own : Linked → Bool
+is_own linked.Full = true
+is_own linked.NoMemory = true
+is_own (linked.Ended (end.Junk length)) = true
+is_own (linked.Ended end.TooLong) = true
+is_own (linked.Ended _) = false
+
+-- whether all replies were sent
+abbrev pub is_whole : Linked → Bool
+is_whole (linked.Ended end.WriteFault) = false
+is_whole _ = true

@@ -1,0 +1,105 @@
+-- How one record on a connection to four buses is served: the groups that its call adds to one bus's history, and its reply.
+use Rattle.std.specs.Prelude.{◌≡◌, ◌≤◌, ◌==◌, if◌then◌else◌, ℕ, List, [], map, Option, Some, None}
+use Rattle.std.specs.List.{flat_map}
+use Rattle.vx_io_traits.specs.declared.dials.Rang.{Rang}
+use Rattle.vx_calls.specs.declared.calls.Role.{Role}
+use Rattle.vx_calls.specs.Call.{Call}
+use Rattle.vx_calls.specs.Call as call
+use Rattle.vx_record.specs.Fragments.{record_of}
+use Rattle.vx_bus_traits.specs.declared.bus.Bus.{Ghosts}
+use Rattle.vx_gate.specs.PassView.{PassView}
+use Rattle.vx_gates.specs.Four.{Four, at, put}
+use Rattle.vx_history.specs.Groups.{Group}
+use Rattle.vx_routes.specs.Replying.{renumbered}
+use Rattle.vx_stream.specs.Answered.{Answered}
+use Rattle.vx_session.specs.Placing.{Placed, Makes}
+use Rattle.vx_session.specs.Serving.{IsCalled, IsAborted}
+use Rattle.vx_exchange.specs.Meaning as one
+use Rattle.vx_exchange.specs.Meaning.{meaning}
+use Rattle.vx_buses.specs.Meant.{Meant, Junk, Told, Asks, Aborts, meant}
+
+-- the record of a reply as the client is told it: in a create_link's the number of the link is the one over all buses
+abbrev pub outward : Call → ℕ → List ℕ → List ℕ
+outward (call.CreateLink client lock lock_timeout device) bus given = renumbered bus given
+outward asked bus given = given
+
+-- A call was answered by its bus, as its session there answers it, and the client was told the reply.
+pub record IsAsked {B : Type 0} (g : Ghosts B) (number conn xid : ℕ) (asked : Call) (bus : ℕ) (placed : List Placed) (out : List ℕ) : Type 0 where
+  pub calls : List Rang
+  pub given : List ℕ
+  pub called : IsCalled g number conn xid asked placed calls given
+  pub out_is : out ≡ outward asked bus given
+
+-- A message that is answered without a bus adds no group; a call adds its groups to its bus's history; junk isn't served. `numbers` are
+-- those of the passes, and `conns` those of the connections, by their buses.
+abbrev pub IsServed : {B : Type 0} → Ghosts B → (numbers conns : Four ℕ) → Meant → (bus : ℕ) → List Placed → List ℕ → Type 0
+IsServed g numbers conns Junk bus placed out = ⊥
+IsServed g numbers conns (Told message) bus placed out = (placed ≡ []) × (out ≡ record_of message)
+IsServed g numbers conns (Asks b xid there) bus placed out = (bus ≡ b) × IsAsked g (at bus numbers) (at bus conns) xid there bus placed out
+IsServed g numbers conns (Aborts b xid lid) bus placed out = (bus ≡ b) × IsAborted (at bus conns) xid lid placed [] out
+
+-- A record's message and the record of its reply; the bus that it was served by, and the groups that it added to that one's history.
+pub record Item : Type 0 where
+  pub answered : Answered
+  pub bus : ℕ
+  pub placed : List Placed
+
+-- it was served so, by one of the four buses
+pub record Serves {B : Type 0} (g : Ghosts B) (numbers conns : Four ℕ) (r : Role) (item : Item) : Type 0 where
+  pub within : item.bus ≤ 3
+  pub served : IsServed g numbers conns (meant item.answered.message r) item.bus item.placed item.answered.reply
+
+-- the messages of these items with their replies, and the groups that they added to this bus's history
+abbrev pub answered : List Item → List Answered
+answered items = map (λ i. i.answered) items
+
+abbrev pub placed_on : ℕ → List Item → List Placed
+placed_on bus items = flat_map (λ i. if i.bus == bus then i.placed else []) items
+
+-- the numbers of four passes
+abbrev pub numbers : Four (PassView Group) → Four ℕ
+numbers f = record { zero_ = f.zero_.number; one = f.one.number; two = f.two.number; three = f.three.number }
+
+-- ---- a message
+
+-- what a session has between two messages: the connections' role, their numbers, the passes, and the greatest moment that its clock has
+-- told
+pub record State : Type 0 where
+  pub role : Role
+  pub conns : Four ℕ
+  pub passes : Option (Four (PassView Group))
+  pub told : ℕ
+
+-- A message was served by this reply. Its bus's pass went on; the other three stay as they were.
+pub record IsAnswered {B : Type 0} (g : Ghosts B) (s : State) (message reply : List ℕ) (s' : State) : Type 0 where
+  pub passes : Four (PassView Group)
+  pub bus : ℕ
+  pub within : bus ≤ 3
+  pub placed : List Placed
+  pub own : PassView Group
+  pub had : s.passes ≡ Some passes
+  pub has : s'.passes ≡ Some (put bus own passes)
+  pub makes : Makes s'.told (at bus passes) placed own
+  pub served : IsServed g (numbers passes) s.conns (meant message s.role) bus placed reply
+
+-- junk is no call and changes nothing; any other message is served
+abbrev pub HasReply : {B : Type 0} → Ghosts B → State → List ℕ → Option (List ℕ) → State → Type 0
+HasReply g s message None s' = (meaning message s.role ≡ one.Junk) × (s'.passes ≡ s.passes)
+HasReply g s message (Some reply) s' = IsAnswered g s message reply s'
+
+-- what a message on the connections does
+pub record MessageDoes {B : Type 0} (g : Ghosts B) (s : State) (message : List ℕ) (reply : Option (List ℕ)) (s' : State) : Type 0 where
+  pub role : s'.role ≡ s.role
+  pub conns : s'.conns ≡ s.conns
+  pub later : s.told ≤ s'.told
+  pub has : HasReply g s message reply s'
+
+-- a message of this meaning was served by one of the four buses, or by none
+pub record ServesCall {B : Type 0} (g : Ghosts B) (told : ℕ) (passes : Four (PassView Group)) (conns : Four ℕ) (m : Meant) (out : List ℕ) (passes' : Four (PassView Group)) : Type 0 where
+  pub bus : ℕ
+  pub within : bus ≤ 3
+  pub placed : List Placed
+  pub own : PassView Group
+  pub is : passes' ≡ put bus own passes
+  pub makes : Makes told (at bus passes) placed own
+  pub served : IsServed g (numbers passes) conns m bus placed out

@@ -1,0 +1,132 @@
+//! A call, or a device_abort, at the one of four buses that it goes to.
+ghost use Rattle.std.specs.Prelude.{◌≡◌, ◌≤◌, ◌<◌, true, length, take};
+ghost use Rattle.vx_calls.specs.declared.calls.Role.TheVariants as role;
+ghost use Rattle.vx_calls.specs.Call.{call_shown};
+ghost use Rattle.vx_exchange.specs.declared.record.TheConstants.{REPLY_ROOM};
+ghost use Rattle.vx_gates.specs.Four.{at, Each};
+ghost use Rattle.vx_gates.specs.Passing.{passes_shown, IsOf};
+ghost use Rattle.vx_gates.specs.Standing.{gates_shown};
+ghost use Rattle.vx_history.specs.Phases.{Idle};
+ghost use Rattle.vx_rules.specs.Calls.{IsShort};
+ghost use Rattle.vx_rules.specs.One.{may_wait};
+ghost use Rattle.vx_session.specs.Turning.{phase_at};
+ghost use Rattle.vx_session.specs.Serving.{IsAborted};
+ghost use Rattle.vx_buses.specs.Asking.{OnBus};
+ghost use Rattle.vx_buses.specs.Holding.{four_of};
+ghost use Rattle.vx_buses.specs.Serving.{IsAsked, outward};
+ghost use Rattle.std.specs.Prelude.{[]};
+
+use crate::{BusPass, Buses};
+use std::sync::Wait;
+use vx_bus_traits::Bus;
+use vx_calls::CallRef;
+use vx_gates::Passes;
+use vx_io_traits::{Clock, Pause};
+use vx_routes::renumber;
+use vx_session::{Still, abort, answer_call};
+
+/// Changes the record of a reply to a call of a bus to the one that the client is told.
+fn tell_outward(call: &CallRef<'_>, bus: u8, bytes: &mut [u8])
+    requires { bus ≤ 3 }
+    ensures { bytes.new ≡ outward (call_shown call.now) bus bytes.old }
+{
+    match call {
+        CallRef::CreateLink { .. } => renumber(bus, bytes),
+        _ => {}
+    }
+}
+
+/// Has a call answered by its bus, as a session there does. The record of the reply, as the client is told it, stands at the front of
+/// `reply` then, of so many bytes.
+pub(crate) fn ask_bus<R: Wait, B: Bus, C: Clock, P: Pause>(
+    rt: &R,
+    buses: &Buses<B>,
+    passes: BusPass<B>,
+    conns: &[u32; 4],
+    bus: u8,
+    xid: u32,
+    call: &CallRef<'_>,
+    clock: &mut C,
+    pause: &mut P,
+    reply: &mut [u8],
+) -> (BusPass<B>, usize)
+    requires gates { Each IsOf (passes_shown passes) (gates_shown buses.now) }
+    requires bus { bus ≤ 3 }
+    requires phase { phase_at (at bus (passes_shown passes)) (at bus (four_of conns.now)) ≡ Idle role.Core }
+    requires waits { may_wait (call_shown call.now) ≡ true }
+    requires short { IsShort (call_shown call.now) }
+    requires room { REPLY_ROOM ≤ length reply.old }
+    ensures asks { OnBus (C.told clock.new) (passes_shown passes) bus
+        (λ placed. IsAsked B.Bus (at bus (passes_shown passes)).number (at bus (four_of conns.now)) xid (call_shown call.now) bus placed (take result.1 reply.new))
+        (passes_shown result.0) }
+    ensures phase { phase_at (at bus (passes_shown result.0)) (at bus (four_of conns.now)) ≡ Idle role.Core }
+    ensures told { C.told clock.old ≤ C.told clock.new }
+    ensures within { result.1 ≤ length reply.new }
+    ensures len { length reply.new ≡ length reply.old }
+{
+    let Passes {
+        zero: own,
+        one,
+        two,
+        three,
+    } = passes.swapped(bus);
+    let conn = conns[bus as usize];
+    let (own, len) = answer_call(
+        rt,
+        buses.gate(bus),
+        own,
+        conn,
+        xid,
+        call,
+        clock,
+        pause,
+        &mut Still::new(),
+        reply,
+    );
+    tell_outward(call, bus, &mut reply[..len]);
+    let passes = Passes {
+        zero: own,
+        one,
+        two,
+        three,
+    };
+    (passes.swapped(bus), len)
+}
+
+/// Has a device_abort of a link of a bus told there (VXI-11, device_abort). The record of the reply stands at the front of `reply` then,
+/// of so many bytes.
+pub(crate) fn abort_on_bus<R: Wait, B: Bus>(
+    rt: &R,
+    buses: &Buses<B>,
+    passes: BusPass<B>,
+    conns: &[u32; 4],
+    bus: u8,
+    xid: u32,
+    lid: u32,
+    reply: &mut [u8],
+) -> (BusPass<B>, usize)
+    requires gates { Each IsOf (passes_shown passes) (gates_shown buses.now) }
+    requires bus { bus ≤ 3 }
+    requires phase { phase_at (at bus (passes_shown passes)) (at bus (four_of conns.now)) ≡ Idle role.Abort }
+    requires room { REPLY_ROOM ≤ length reply.old }
+    ensures aborts { OnBus 0 (passes_shown passes) bus (λ placed. IsAborted (at bus (four_of conns.now)) xid lid placed [] (take result.1 reply.new)) (passes_shown result.0) }
+    ensures phase { phase_at (at bus (passes_shown result.0)) (at bus (four_of conns.now)) ≡ Idle role.Abort }
+    ensures within { result.1 ≤ length reply.new }
+    ensures len { length reply.new ≡ length reply.old }
+{
+    let Passes {
+        zero: own,
+        one,
+        two,
+        three,
+    } = passes.swapped(bus);
+    let conn = conns[bus as usize];
+    let (own, aborted) = abort(rt, buses.gate(bus), own, conn, xid, lid, reply);
+    let passes = Passes {
+        zero: own,
+        one,
+        two,
+        three,
+    };
+    (passes.swapped(bus), aborted.len)
+}

@@ -1,0 +1,34 @@
+//! The end of the connections of a session to four buses.
+ghost use Rattle.std.specs.Prelude.{◌≡◌};
+ghost use Rattle.vx_calls.specs.declared.calls.Role.{Role};
+ghost use Rattle.vx_gates.specs.Four.{Each};
+ghost use Rattle.vx_gates.specs.Passing.{passes_shown, IsOf};
+ghost use Rattle.vx_gates.specs.Standing.{gates_shown};
+ghost use Rattle.vx_buses.specs.Ending.{LeavesAll};
+ghost use Rattle.vx_buses.specs.Holding.{four_of, AreIdle};
+
+use crate::{BusPass, Buses};
+use std::sync::Wait;
+use vx_bus_traits::Bus;
+use vx_gates::Passes;
+use vx_session::leave;
+
+/// The connection of each bus goes.
+pub(crate) fn leave_all<R: Wait, B: Bus>(
+    rt: &R,
+    buses: &Buses<B>,
+    passes: BusPass<B>,
+    conns: &[u32; 4],
+) -> BusPass<B>
+    requires gates { Each IsOf (passes_shown passes) (gates_shown buses.now) }
+    requires idle { (r : Role) × AreIdle (passes_shown passes) (four_of conns.now) r }
+    ensures { LeavesAll (passes_shown passes) (four_of conns.now) (passes_shown result) }
+{
+    let [zero, one, two, three] = *conns;
+    Passes {
+        zero: leave(rt, &buses.zero, passes.zero, zero),
+        one: leave(rt, &buses.one, passes.one, one),
+        two: leave(rt, &buses.two, passes.two, two),
+        three: leave(rt, &buses.three, passes.three, three),
+    }
+}

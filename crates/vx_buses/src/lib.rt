@@ -1,0 +1,25 @@
+//! Four buses, `gpib0` to `gpib3`, each a gateway behind a gate of its own, so that a turn on one bus never waits for another's gate: the
+//! sessions of connections to all four, and all that the program does that serves links so.
+#![tactic(auto)]
+
+mod answering;
+mod asking;
+mod joining;
+mod leaving;
+mod links;
+mod sessions;
+
+pub use links::many_link;
+pub use sessions::{many_abort, many_session};
+use vx_core::Core;
+use vx_gates::{Gates, GatesRefused, Passes};
+pub use vx_routes::{global, local};
+
+/// Four gateways, each behind a gate of its own.
+pub type Buses<B> = Gates<Core<B>>;
+
+/// A pass of each of four gateways, in the order of their buses.
+pub type BusPass<B> = Passes<Core<B>>;
+
+/// There was no memory for the gates. The four gateways come back, in their order.
+pub type BusesRefused<B> = GatesRefused<Core<B>>;

@@ -1,0 +1,10 @@
+//! Programs over a door that serve so many peers one after another: their words, the line that they print, and their statuses. What
+//! serves a peer is a `Serves` of the program at hand.
+#![tactic(auto)]
+
+mod lines;
+mod serving;
+mod words;
+
+pub use serving::{Status, put_line, serve_peers};
+pub use words::{Ask, ask_of};

@@ -1,0 +1,13 @@
+pub mod Numbers
+pub mod Naming
+pub mod Routing
+pub mod Replying
+pub mod Given
+pub use Rattle.vx_calls.specs.Call
+pub use Rattle.vx_calls.specs.Reply
+pub use Rattle.vx_codec.specs.Answered
+pub use Rattle.vx_record.specs.Fragments
+pub use Rattle.vx_rpc.specs.Wording
+pub use Rattle.vx_rules.specs.Calls
+pub use Rattle.vx_rules.specs.One
+pub use Rattle.vx_rules.specs.Legal
