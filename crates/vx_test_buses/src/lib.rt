@@ -1,0 +1,9 @@
+//! Tests of four buses: the numbers of their links, and sessions over all of them.
+#![tactic(auto)]
+
+#[cfg(test)]
+mod fleets;
+#[cfg(test)]
+mod number_tests;
+#[cfg(test)]
+mod session_tests;

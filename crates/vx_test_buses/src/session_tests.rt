@@ -1,0 +1,66 @@
+//! Links over four buses. The records are those of RFC 5531, sections 9 and 11, and of VXI-11.
+
+use crate::fleets::{are_words, fleet, words};
+use std::alloc::Global;
+use std::sync::Wait;
+use std::test::Fail;
+use vx_buses::many_link;
+use vx_io::{MemClock, MemLink, Pause};
+use vx_session::{End, Linked, Room};
+
+/// Makes no pause.
+#[derive(Drop)]
+struct NoPause {
+    count: u64,
+}
+
+impl Pause for NoPause {
+    fn pause(&mut self) {
+        self.count = self.count.saturating_add(1);
+    }
+}
+
+// create_link of `gpib2,5` and of `GPIB0,5`; device_write of `A` with END on links 3 and 2; destroy_intr_chan; device_read on link 3, and
+// on link 1 with no time
+const GIVES: [u32; 113] = [
+    0x80000040, 1, 0, 2, 0x0607AF, 1, 10, 0, 0, 0, 0, 42, 0, 0, 7, 0x67706962, 0x322C3500,
+    0x80000040, 2, 0, 2, 0x0607AF, 1, 10, 0, 0, 0, 0, 42, 0, 0, 7, 0x47504942, 0x302C3500,
+    0x80000040, 3, 0, 2, 0x0607AF, 1, 11, 0, 0, 0, 0, 3, 10000, 0, 8, 1, 0x41000000, 0x80000040, 4,
+    0, 2, 0x0607AF, 1, 11, 0, 0, 0, 0, 2, 10000, 0, 8, 1, 0x41000000, 0x80000028, 5, 0, 2,
+    0x0607AF, 1, 26, 0, 0, 0, 0, 0x80000040, 6, 0, 2, 0x0607AF, 1, 12, 0, 0, 0, 0, 3, 10, 10000, 0,
+    0, 0, 0x80000040, 7, 0, 2, 0x0607AF, 1, 12, 0, 0, 0, 0, 1, 10, 0, 0, 0, 0,
+];
+
+// links 3 and 1; one byte written; no link 2 yet; no channel; `A` with END; and nothing in the time
+const TOOK: [u32; 69] = [
+    0x80000028, 1, 1, 0, 0, 0, 0, 0, 3, 9011, 262144, 0x80000028, 2, 1, 0, 0, 0, 0, 0, 1, 9011,
+    262144, 0x80000020, 3, 1, 0, 0, 0, 0, 0, 1, 0x80000020, 4, 1, 0, 0, 0, 0, 4, 0, 0x8000001C, 5,
+    1, 0, 0, 0, 0, 6, 0x80000028, 6, 1, 0, 0, 0, 0, 0, 4, 1, 0x41000000, 0x80000024, 7, 1, 0, 0, 0,
+    0, 15, 0, 0,
+];
+
+/// Serves a link by four gateways of its own.
+fn serve<R: Wait>(
+    rt: &R,
+    alloc: Global,
+    link: &mut MemLink,
+    clock: &mut MemClock,
+    room: &mut Room,
+) -> Option<Linked> {
+    let (buses, passes) = fleet(alloc)?;
+    let mut pause = NoPause { count: 0 };
+    let (_passes, how) = many_link(rt, alloc, &buses, passes, link, clock, &mut pause, room);
+    Some(how)
+}
+
+#[test]
+fn calls_go_to_their_buses(rt: HostRuntime) -> Result<(), Fail> {
+    let alloc = rt.alloc();
+    let mut room = Room::new(alloc).map_err(|_| "no memory")?;
+    let mut link = MemLink::new(words(alloc, &GIVES)?, 100, Vec::new(alloc), Vec::new(alloc));
+    let mut clock = MemClock::new(Vec::new(alloc));
+    let how = serve(&rt, alloc, &mut link, &mut clock, &mut room);
+    let came = (how, are_words(link.bytes(), &TOOK));
+    assert_eq!(rt; came, (Some(Linked::Ended(End::Closed)), true));
+    Ok(())
+}
