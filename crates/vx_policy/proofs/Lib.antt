@@ -1,0 +1,4 @@
+mod Cuts
+mod Spelled
+mod Readings
+mod Judged
