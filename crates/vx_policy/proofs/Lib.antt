@@ -2,3 +2,4 @@ mod Cuts
 mod Spelled
 mod Readings
 mod Judged
+mod Behind
