@@ -1,3 +1,4 @@
+pub mod Peering
 pub mod SourceState
 pub mod SinkState
 pub mod LinkState

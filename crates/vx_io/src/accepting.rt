@@ -2,7 +2,7 @@
 
 use libc::net as c;
 use libc::types::pollfd;
-use std::net::{TcpListener, TcpStream};
+use std::net::{SocketAddr, TcpListener, TcpStream};
 
 /// How long a wait pauses where the system is short of something, in milliseconds.
 const PAUSE: i32 = 100;
@@ -53,13 +53,13 @@ fn pause() {
     let _ = c::poll(&mut nothing, PAUSE);
 }
 
-/// The stream of the next connection to a port, or the system's number of the error for which the socket is lost. An error of one
+/// The stream of the next connection to a port and the address of its peer, or the system's number of the error for which the socket is lost. An error of one
 /// peer or of a moment is passed over, however often it comes: like one that finds no peer, such a wait ends when a peer comes that
 /// the system can take, and no bound on its errors would tell more of when that is.
-pub(super) fn accept_retrying(listener: &TcpListener) -> Result<TcpStream, Option<i32>> {
+pub(super) fn accept_from(listener: &TcpListener) -> Result<(TcpStream, SocketAddr), Option<i32>> {
     for _ in 0..u64::MAX {
         match listener.accept() {
-            Ok((stream, _)) => return Ok(stream),
+            Ok(taken) => return Ok(taken),
             Err(error) => match fault_of(error.raw_os_error()) {
                 Fault::Peer => {}
                 Fault::Moment => pause(),
@@ -68,4 +68,10 @@ pub(super) fn accept_retrying(listener: &TcpListener) -> Result<TcpStream, Optio
         }
     }
     Err(None)
+}
+
+/// The stream of the next connection alone.
+pub(super) fn accept_retrying(listener: &TcpListener) -> Result<TcpStream, Option<i32>> {
+    let (stream, _) = accept_from(listener)?;
+    Ok(stream)
 }

@@ -1,14 +1,20 @@
 //! A door over memory, whose peers and faults a test chooses.
 
-ghost use Rattle.std.specs.Prelude.{◌≡◌, ◌≤◌, ◌-◌, ◌++◌, nat_lt, [], ◌∷◌, take, vec_len, IfOk, if◌then◌else◌};
+ghost use Rattle.std.specs.Prelude.{◌≡◌, ◌≤◌, ◌-◌, ◌++◌, nat_lt, [], ◌∷◌, take, replicate, vec_len, IfOk, if◌then◌else◌};
+ghost use Rattle.vx_io.specs.DoorState.{loopback};
+ghost use Rattle.vx_io.specs.Peering.{last_address};
 
 use super::memory::give;
+use super::peered::Peered;
 use std::alloc::Global;
 use std::collections::VecDeque;
 use std::marker::Model;
 use std::mem;
 use vx_door::{Door, Met};
 use vx_io_traits::{DialOut, Link, ReadOut, WriteOut};
+
+/// The address of each peer: 127.0.0.1, its first part in the high byte.
+const LOOPBACK: u32 = 0x7F00_0001;
 
 /// There was no memory for what was to be made.
 #[derive(Clone, Copy, Debug, PartialEq, Eq)]
@@ -374,4 +380,23 @@ impl Door for MemDoor {
     ghost receive_keeps = { receive_keeps_counts };
 
     ghost send_keeps = { send_keeps_counts };
+}
+
+/// The address of the last of so many peers, or 0.
+fn last_address(met: usize) -> u32
+    ensures { result ≡ last_address (replicate met loopback) }
+{
+    if met == 0 { 0 } else { LOOPBACK }
+}
+
+impl Peered for MemDoor {
+    ghost use Rattle.vx_io.specs.Peering.{IsPeer};
+    ghost use Rattle.vx_io.specs.DoorState.{addresses};
+
+    /// 127.0.0.1 for each peer that it met.
+    fn peer(&self) -> u32
+        ensures { IsPeer (addresses self.now) result }
+    {
+        last_address(self.met)
+    }
 }

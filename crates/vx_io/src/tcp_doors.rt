@@ -7,10 +7,11 @@ ghost use Rattle.vx_io_traits.specs.Rung.{OnDialFailed};
 ghost use Rattle.vx_door.specs.Meeting.{is_met, met_after, OnMeetFailed};
 ghost use Rattle.vx_io.specs.SocketState.{TellsNone, KeepsOwnCounts};
 
-use super::accepting::accept_retrying;
+use super::accepting::accept_from;
+use super::peered::Peered;
 use super::sockets::TcpLink;
 use std::marker::Model;
-use std::net::{Ipv4Addr, Net as Sockets, TcpListener, TcpStream};
+use std::net::{Ipv4Addr, Net as Sockets, SocketAddr, TcpListener, TcpStream};
 use std::time::Duration;
 use vx_door::{Door, Met};
 use vx_io_traits::{DialOut, Link, ReadOut, WriteOut};
@@ -24,6 +25,8 @@ pub struct TcpDoor<R> {
     rt: R,
     own: Option<TcpListener>,
     link: Option<TcpLink>,
+    // the address of the peer of that link
+    address: u32,
     met: u64,
     faults: u64,
     receive_faults: u64,
@@ -58,6 +61,7 @@ impl<R: Sockets> TcpDoor<R> {
             rt,
             own: None,
             link: None,
+            address: 0,
             met: 0,
             faults: 0,
             receive_faults: 0,
@@ -134,15 +138,23 @@ impl<R: Sockets<Stream = TcpStream>> Link for TcpDoor<R> {
     }
 }
 
-/// The link of the next connection to a port, whose receives and sends wait for 30 s at most; or none where the wait failed, or
-/// the system refuses such limits.
-fn accept_timed(listener: &TcpListener) -> Option<TcpLink> {
-    let stream = accept_retrying(listener).ok()?;
+/// An IPv4 address as a number, its first part in the high byte; 0 for an address of another kind.
+fn number_of(address: &SocketAddr) -> u32 {
+    match address {
+        SocketAddr::V4(address) => u32::from_be_bytes(address.ip().octets()),
+        SocketAddr::V6(_) => 0,
+    }
+}
+
+/// The link of the next connection to a port, whose receives and sends wait for 30 s at most, and the address of its peer; or none
+/// where the wait failed, or the system refuses such limits.
+fn accept_timed(listener: &TcpListener) -> Option<(TcpLink, u32)> {
+    let (stream, address) = accept_from(listener).ok()?;
     let time = Some(Duration::from_secs(PEER_SECONDS));
     if stream.set_read_timeout(time).is_err() || stream.set_write_timeout(time).is_err() {
         return None;
     }
-    Some(TcpLink::new(stream))
+    Some((TcpLink::new(stream), number_of(&address)))
 }
 
 impl<R: Sockets<Listener = TcpListener, Stream = TcpStream>> Door for TcpDoor<R> {
@@ -192,8 +204,9 @@ impl<R: Sockets<Listener = TcpListener, Stream = TcpStream>> Door for TcpDoor<R>
             None => None,
         };
         match link {
-            Some(link) => {
+            Some((link, address)) => {
                 self.link = Some(link);
+                self.address = address;
                 self.met = self.met.saturating_add(1);
                 Met::Peer
             }
@@ -207,4 +220,11 @@ impl<R: Sockets<Listener = TcpListener, Stream = TcpStream>> Door for TcpDoor<R>
     ghost receive_keeps = { λ old new slice given answer same. same };
 
     ghost send_keeps = { λ old new bytes answer same. same };
+}
+
+impl<R: Sockets<Stream = TcpStream>> Peered for TcpDoor<R> {
+    /// The address that the system told as it took the connection of the present peer.
+    fn peer(&self) -> u32 {
+        self.address
+    }
 }
