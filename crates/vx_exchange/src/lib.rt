@@ -9,4 +9,4 @@ mod record;
 
 pub use opened::{Opened, open};
 pub use polls::{Aborted, DialAnswered, PollEnd, abort, again, come, settle};
-pub use record::{REPLY_ROOM, SRQ_ROOM, put_srq_record};
+pub use record::{REPLY_ROOM, SRQ_ROOM, put_srq_record, put_success_record};
