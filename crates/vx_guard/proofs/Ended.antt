@@ -1,0 +1,193 @@
+-- How a guarded session comes to its end: its stream was answered, and then its connection goes.
+use Rattle.std.proofs.Common.{◌≡◌, ◌≤◌, ◌⊎◌, inl, inr, ℕ, true, false, List, [], ◌∷◌, ◌++◌, Option, None, Some, refl, sym, ap, ◌∙◌, subst, arith}
+use Rattle.std.specs.Io.KnownBytes.{Appends}
+use Rattle.std.proofs.lemmas.Option.{same_Some}
+use Rattle.vx_calls.specs.declared.calls.Role.TheVariants as role
+use Rattle.vx_calls.specs.declared.limits.TheConstants.{RECORD_MAX}
+use Rattle.vx_bus_traits.specs.declared.bus.Bus.{Ghosts}
+use Rattle.vx_gate.specs.PassView.{PassView}
+use Rattle.vx_text.specs.Ends.{End as Ends}
+use Rattle.vx_text.specs.Writing.{StopsIn}
+use Rattle.vx_record.specs.Records.{Split, records}
+use Rattle.vx_history.specs.Groups.{Group}
+use Rattle.vx_history.specs.Laws.{HeadlineOfGroupsLaw, OwnedLaw}
+use Rattle.vx_exchange.specs.Meaning.{meaning, Junk}
+use Rattle.vx_io_traits.specs.Stands.{Goes}
+use Rattle.vx_stream.specs.Shown.{LinkShown, LinkGoes}
+use Rattle.vx_stream.specs.Answered.{Answered, messages, replies}
+use Rattle.vx_stream.specs.Stopping.{EndsSo, IsLeft, StreamAnswered}
+use Rattle.vx_stream.specs.declared.ends.End.{End}
+use Rattle.vx_stream.specs.declared.ends.End.TheVariants as end
+use Rattle.vx_session.specs.Placing.{Makes}
+use Rattle.vx_session.specs.Turning.{Leaves}
+use Rattle.vx_session.specs.Outside.{DialShown}
+use Rattle.vx_session.specs.Progress.{Rings, answered, placed, calls}
+use Rattle.vx_session.specs.ProvedLaws.{makes-goes, makes-later}
+use Rattle.vx_session.proofs.Finishing.{upholds}
+use Rattle.vx_policy.specs.Texts.{deny_line}
+use Rattle.vx_guard.specs.declared.sessions.GuardEnd.{GuardEnd}
+use Rattle.vx_guard.specs.Judged.{Guards, denial, notes}
+use Rattle.vx_guard.specs.Stages.{GuardState, GuardDoes, IsUnasked, NoteFails}
+use Rattle.vx_guard.specs.Wholes.{GuardDid, GuardEndsSo, NoteStops, guard_end, served}
+use Rattle.vx_guard.proofs.Goings.{GuardsAll, all-guarded}
+
+-- why a stream ended behind these messages, and what its end did: nothing; or the note failed in the line of a denial
+abbrev pub WhyEnded : (last s' : GuardState) → LinkShown → List Answered → Split → (behind unsent : List ℕ) → LinkShown → End → Type 0
+WhyEnded last s' seen list looked behind unsent seen' how =
+    ((s'.failed ≡ false) × (s'.note ≡ last.note) × EndsSo (λ message. meaning message role.Core ≡ Junk) seen list looked behind unsent seen' (Some how))
+    ⊎ ((s'.failed ≡ true) × (message : List ℕ) × NoteFails last message s' × (looked.records ≡ messages list ++ message ∷ []) × (unsent ≡ []))
+
+pub record StreamEnds (last s' : GuardState) (seen : LinkShown) (list : List Answered) (looked : Split) (behind unsent : List ℕ) (seen' : LinkShown) (how : End) : Type 0 where
+  pub unasked : IsUnasked last s'
+  pub later : last.session.told ≤ s'.session.told
+  pub why : WhyEnded last s' seen list looked behind unsent seen' how
+
+-- the records of a guarded session's stream were answered, up to its end or to where it is no longer read
+pub record StreamGuarded {B L : Type 0} (g : Ghosts B) (stands : L → List ℕ → List ℕ → Type 0) (s : GuardState) (pass : PassView Group) (link : L) (seen : LinkShown) (how : End)
+    (s' : GuardState) (link' : L) (seen' : LinkShown) : Type 0 where
+  pub last : GuardState
+  pub list : List Answered
+  pub front : List ℕ
+  pub behind : List ℕ
+  pub written : List ℕ
+  pub unsent : List ℕ
+  pub guards : GuardsAll g s pass list last
+  pub bytes : Goes stands link link' written (front ++ behind)
+  pub goes : LinkGoes seen (front ++ behind) seen'
+  pub wrote : replies list ≡ written ++ unsent
+  pub ends : StreamEnds last s' seen list (records RECORD_MAX front) behind unsent seen' how
+
+-- a session that is as it was when its stream ended
+ended-same : (last s' : GuardState) (seen : LinkShown) (list : List Answered) (looked : Split) (behind unsent : List ℕ) (seen' : LinkShown) (how : End) → s' ≡ last → last.failed ≡ false
+    → EndsSo (λ message. meaning message role.Core ≡ Junk) seen list looked behind unsent seen' (Some how) → StreamEnds last s' seen list looked behind unsent seen' how
+ended-same last s' seen list looked behind unsent seen' how same sound ended =
+    subst (λ x. StreamEnds last x seen list looked behind unsent seen' how) (sym same)
+    (record { unasked = record { pass = refl; dial = refl; made = refl }; later = omega arith; why = inl (sound, refl, ended) })
+
+module _ {B S : Type 0} (g : Ghosts B) (does : S → List ℕ → Option (List ℕ) → S → Type 0) (shown : S → GuardState)
+    (one : (s s' : S) (message : List ℕ) (reply : Option (List ℕ)) → does s message reply s' → GuardDoes g (shown s) message reply (shown s'))
+    (core : (s : S) → (shown s).session.role ≡ role.Core) where
+  -- a message without a reply
+  ended-without : (last s' : S) (seen : LinkShown) (list : List Answered) (looked : Split) (behind unsent : List ℕ) (seen' : LinkShown) (count : ℕ) → (shown last).failed ≡ false
+      → EndsSo (λ message. does last message None s') seen list looked behind unsent seen' (Some (end.Junk count))
+      → StreamEnds (shown last) (shown s') seen list looked behind unsent seen' (end.Junk count)
+  ended-without last s' seen list looked behind unsent seen' count sound ended =
+      let did = one last s' ended.1 None ended.4 in
+      record { unasked = did.has.0; later = did.later; why = by did.has.1 }
+    where
+      by : ((meaning ended.1 role.Core ≡ Junk) × ((shown s').note ≡ (shown last).note) × ((shown s').failed ≡ (shown last).failed))
+          ⊎ (NoteFails (shown last) ended.1 (shown s') × ((shown s').failed ≡ true))
+          → WhyEnded (shown last) (shown s') seen list looked behind unsent seen' (end.Junk count)
+      by (inl junk) = inl (junk.2 ∙ sound, junk.1, (ended.0, ended.1, ended.2, ended.3, junk.0))
+      by (inr fails) = inr (fails.1, ended.1, fails.0, ended.2, ended.0)
+
+  stream-ends : (last s' : S) (seen : LinkShown) (list : List Answered) (looked : Split) (behind unsent : List ℕ) (seen' : LinkShown) (how : End) → (shown last).failed ≡ false
+      → EndsSo (λ message. does last message None s') seen list looked behind unsent seen' (Some how) → IsLeft (Some how) last s'
+      → StreamEnds (shown last) (shown s') seen list looked behind unsent seen' how
+  stream-ends last s' seen list looked behind unsent seen' end.Closed sound ended left =
+      ended-same (shown last) (shown s') seen list looked behind unsent seen' end.Closed (ap shown left) sound ended
+  stream-ends last s' seen list looked behind unsent seen' (end.CutShort bytes) sound ended left =
+      ended-same (shown last) (shown s') seen list looked behind unsent seen' (end.CutShort bytes) (ap shown left) sound ended
+  stream-ends last s' seen list looked behind unsent seen' (end.Junk count) sound ended left = ended-without last s' seen list looked behind unsent seen' count sound ended
+  stream-ends last s' seen list looked behind unsent seen' end.TooLong sound ended left =
+      ended-same (shown last) (shown s') seen list looked behind unsent seen' end.TooLong (ap shown left) sound ended
+  stream-ends last s' seen list looked behind unsent seen' end.ReadFault sound ended left =
+      ended-same (shown last) (shown s') seen list looked behind unsent seen' end.ReadFault (ap shown left) sound ended
+  stream-ends last s' seen list looked behind unsent seen' end.WriteFault sound ended left =
+      ended-same (shown last) (shown s') seen list looked behind unsent seen' end.WriteFault (ap shown left) sound ended
+
+  pub stream-guarded : {L : Type 0} (stands : L → List ℕ → List ℕ → Type 0) (s s' : S) (pass : PassView Group) (link link' : L) (seen seen' : LinkShown) (limit : ℕ) (how : End)
+      → (shown s).session.pass ≡ Some pass → (shown s).failed ≡ false → limit ≡ RECORD_MAX → StreamAnswered does stands limit None s link seen (Some how) s' link' seen'
+      → StreamGuarded g stands (shown s) pass link seen how (shown s') link' seen'
+  stream-guarded stands s s' pass link link' seen seen' limit how had sound limit_is did =
+      let all = all-guarded g does shown one core s did.last pass did.answered had did.progress.answers in
+      record {
+        last = shown did.last;
+        list = did.answered;
+        front = did.front;
+        behind = did.behind;
+        written = did.written;
+        unsent = did.unsent;
+        guards = all;
+        bytes = did.progress.bytes;
+        goes = did.progress.goes;
+        wrote = did.wrote;
+        ends = subst (λ n. StreamEnds (shown did.last) (shown s') seen did.answered (records n did.front) did.behind did.unsent seen' how) limit_is
+            (stream-ends did.last s' seen did.answered (records limit did.front) did.behind did.unsent seen' how (all.failed ∙ sound) did.ended did.left);
+      }
+
+-- how the session ended, by whether its note failed
+ends-guarded : {B : Type 0} (g : Ghosts B) (s last s' : GuardState) (pass : PassView Group) (list : List Answered) (all : GuardsAll g s pass list last) (seen : LinkShown) (looked : Split)
+    (behind unsent : List ℕ) (seen' : LinkShown) (how : End) → WhyEnded last s' seen list looked behind unsent seen' how
+    → GuardEndsSo s.rules s.peer s.session.conn last.made seen list (notes s.session.conn all.items) looked behind unsent seen' s.note s'.note (guard_end s'.failed how)
+ends-guarded g s last s' pass list all seen looked behind unsent seen' how (inl why) =
+    let lines = notes s.session.conn all.items in
+    subst (λ f. GuardEndsSo s.rules s.peer s.session.conn last.made seen list lines looked behind unsent seen' s.note s'.note (guard_end f how)) (sym why.0)
+    (why.2, subst (λ n. Appends s.note.bytes n.bytes lines) (sym why.1) all.noted, subst (λ n. s.note.faults ≤ n.faults) (sym why.1) all.counted)
+ends-guarded g s last s' pass list all seen looked behind unsent seen' how (inr why) =
+    let lines = notes s.session.conn all.items in
+    let fails = why.2 in
+    let stops : NoteStops s.rules s.peer s.session.conn last.made list lines looked unsent s.note s'.note =
+    record {
+      message = why.1;
+      rule = fails.rule;
+      looked_at = why.3;
+      denied = subst (λ p. denial s.rules p last.made (meaning why.1 role.Core) ≡ Some fails.rule) all.peer
+          (subst (λ r. denial r last.peer last.made (meaning why.1 role.Core) ≡ Some fails.rule) all.rules fails.denied);
+      whole = why.4;
+      between = last.note;
+      written = all.noted;
+      stops = subst (λ c. StopsIn last.note s'.note (deny_line c fails.rule)) all.conn fails.stops;
+    } in
+    subst (λ f. GuardEndsSo s.rules s.peer s.session.conn last.made seen list lines looked behind unsent seen' s.note s'.note (guard_end f how)) (sym why.0) stops
+
+-- its clock doesn't go back
+pub guarded-later : {B L : Type 0} (g : Ghosts B) (stands : L → List ℕ → List ℕ → Type 0) (s s' : GuardState) (pass : PassView Group) (link link' : L) (seen seen' : LinkShown) (how : End)
+    → StreamGuarded g stands s pass link seen how s' link' seen' → s.session.told ≤ s'.session.told
+guarded-later g stands s s' pass link link' seen seen' how did =
+    let first = did.guards.later in
+    let second = did.ends.later in
+    omega arith
+
+-- behind its stream the session has the pass, of the same gate
+pub guarded-pass : {B L : Type 0} (g : Ghosts B) (stands : L → List ℕ → List ℕ → Type 0) (s s' : GuardState) (pass : PassView Group) (link link' : L) (seen seen' : LinkShown) (how : End)
+    → StreamGuarded g stands s pass link seen how s' link' seen' → (pass' : PassView Group) × (s'.session.pass ≡ Some pass') × (pass'.gate ≡ pass.gate)
+guarded-pass g stands s s' pass link link' seen seen' how did = (did.guards.pass', did.ends.unasked.pass ∙ did.guards.has, did.guards.makes.gate)
+
+-- the messages of a stream were judged and answered, and then the connection went; the session began without a link that it knew
+pub guard-did : {B L : Type 0} (g : Ghosts B) (stands : L → List ℕ → List ℕ → Type 0) → HeadlineOfGroupsLaw → OwnedLaw → (s s' : GuardState) (pass mid pass' : PassView Group)
+    (link link' : L) (seen seen' : LinkShown) (how : End) (end' : GuardEnd) (told : ℕ) (dial : DialShown) (note : Ends) → StreamGuarded g stands s pass link seen how s' link' seen' → s.made ≡ []
+    → s'.session.pass ≡ Some mid → s'.session.told ≡ told → s'.session.dial ≡ dial → s'.note ≡ note → end' ≡ guard_end s'.failed how → Leaves mid s.session.conn pass'
+    → GuardDid g stands told s.rules s.peer s.session.conn pass link seen s.session.dial s.note end' pass' link' seen' dial note
+guard-did g stands headline owned s s' pass mid pass' link link' seen seen' how end' told dial note did fresh has told_is dial_is note_is end_is leaves =
+    let last = leaves.placed in
+    let all = did.guards in
+    let ends = did.ends in
+    let judged = placed (served all.items) in
+    let later = ends.later in
+    let same : all.pass' ≡ mid = same_Some all.pass' mid (sym all.has ∙ sym ends.unasked.pass ∙ has) in
+    let within : did.last.session.told ≤ told = subst (λ n. did.last.session.told ≤ n) told_is later in
+    let lines = notes s.session.conn all.items in
+    record {
+      items = all.items;
+      made = did.last.made;
+      last = last;
+      front = did.front;
+      behind = did.behind;
+      written = did.written;
+      unsent = did.unsent;
+      each = subst (λ m. Guards g pass.number s.session.conn s.rules s.peer m all.items did.last.made) fresh all.each;
+      makes = makes-goes told told pass mid pass' judged (last ∷ []) (omega arith)
+          (subst (λ p. Makes told pass judged p) same (makes-later did.last.session.told told pass all.pass' judged within all.makes))
+          (makes-later 0 told mid pass' (last ∷ []) (omega arith) leaves.turns.makes);
+      down = leaves.events;
+      bytes = did.bytes;
+      goes = did.goes;
+      wrote = ap replies all.are ∙ did.wrote;
+      ended = subst (λ e. GuardEndsSo s.rules s.peer s.session.conn did.last.made seen (answered (served all.items)) lines (records RECORD_MAX did.front) did.behind did.unsent seen' s.note note e) (sym end_is)
+          (subst (λ n. GuardEndsSo s.rules s.peer s.session.conn did.last.made seen (answered (served all.items)) lines (records RECORD_MAX did.front) did.behind did.unsent seen' s.note n (guard_end s'.failed how)) note_is
+          (subst (λ list. GuardEndsSo s.rules s.peer s.session.conn did.last.made seen list lines (records RECORD_MAX did.front) did.behind did.unsent seen' s.note s'.note (guard_end s'.failed how)) (sym all.are)
+          (ends-guarded g s did.last s' pass did.list all seen (records RECORD_MAX did.front) did.behind did.unsent seen' how ends.why)));
+      rings = subst (λ d. Rings s.session.dial judged (calls (served all.items)) d) (sym ends.unasked.dial ∙ dial_is) all.rings;
+      upholds = upholds headline owned pass' leaves.turns.history;
+    }

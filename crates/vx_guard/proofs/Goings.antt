@@ -1,0 +1,162 @@
+-- How a guarded session comes on: the messages that it answered, one after the other, each by what the rules say of it.
+use Rattle.std.proofs.Common.{◌≡◌, ◌≤◌, ℕ, List, [], ◌∷◌, Option, None, Some, refl, sym, ap, ◌∙◌, subst, arith}
+use Rattle.std.specs.Io.KnownBytes.{Appends}
+use Rattle.std.proofs.KnownBytes.{Appends-nil, Appends-trans}
+use Rattle.std.proofs.lemmas.Option.{same_Some}
+use Rattle.vx_calls.specs.declared.calls.Role.TheVariants as role
+use Rattle.vx_bus_traits.specs.declared.bus.Bus.{Ghosts}
+use Rattle.vx_gate.specs.PassView.{PassView}
+use Rattle.vx_history.specs.Groups.{Group}
+use Rattle.vx_exchange.specs.Meaning.{Meaning, meaning}
+use Rattle.vx_exchange.specs.Meaning as meant
+use Rattle.vx_stream.specs.Answered.{Answered, AnswersAll}
+use Rattle.vx_session.specs.Placing.{Makes}
+use Rattle.vx_session.specs.Progress.{Rings, ServesRecord, answered, placed, calls}
+use Rattle.vx_session.specs.ProvedLaws.{makes-none, makes-goes}
+use Rattle.vx_session.proofs.Progressing.{rings-none, rings-goes}
+use Rattle.vx_policy.specs.declared.made.MadeLink.{MadeLink}
+use Rattle.vx_guard.specs.Judged.{Judged, IsDenied, IsGuarded, Guards, note_of, notes}
+use Rattle.vx_guard.specs.Stages.{GuardState, GuardDoes, HasReply, IsDenial, denial_at}
+use Rattle.vx_guard.specs.Wholes.{served}
+
+-- one message of a session, whose pass was this one, was answered so
+record Step {B : Type 0} (g : Ghosts B) (s : GuardState) (pass : PassView Group) (one : Answered) (mid : GuardState) : Type 0 where
+  item : Judged
+  pass' : PassView Group
+  is : item.served.answered ≡ one
+  has : mid.session.pass ≡ Some pass'
+  makes : Makes mid.session.told pass item.served.placed pass'
+  denial : item.denial ≡ denial_at s one.message
+  guarded : IsGuarded g pass.number s.session.conn s.made (meaning one.message role.Core) item.denial item.served mid.made
+  rings : Rings s.session.dial item.served.placed item.served.calls mid.session.dial
+  noted : Appends s.note.bytes mid.note.bytes (note_of s.session.conn item.denial)
+  counted : s.note.faults ≤ mid.note.faults
+
+-- a reply that says that its call is denied
+denied-so : (m : Meaning) (made made' : List MadeLink) (one : Answered) → IsDenial m one.reply → made' ≡ made
+    → IsDenied made m (record { answered = one; placed = []; calls = [] }) made'
+denied-so meant.Junk made made' one h same = absurd h
+denied-so (meant.Answered text) made made' one h same = absurd h
+denied-so (meant.Asks xid call) made made' one h same = (refl, refl, h, same)
+denied-so (meant.Aborts xid lid) made made' one h same = absurd h
+
+step : {B : Type 0} (g : Ghosts B) (s mid : GuardState) (pass : PassView Group) (one : Answered) → s.session.pass ≡ Some pass → s.session.role ≡ role.Core
+    → (d : Option ℕ) → denial_at s one.message ≡ d → HasReply g s one.message one.reply mid d → Step g s pass one mid
+step g s mid pass one had core None is has =
+    let answers = has.0 in
+    let serves = subst (λ r. ServesRecord g mid.session.told r pass s.session.conn one.message s.session.dial one.reply answers.pass' mid.session.dial) core
+    (subst (λ p. ServesRecord g mid.session.told s.session.role p s.session.conn one.message s.session.dial one.reply answers.pass' mid.session.dial)
+    (same_Some answers.pass pass (sym answers.had ∙ had)) answers.serves) in
+    record {
+      item = record { served = record { answered = one; placed = serves.placed; calls = serves.rung }; denial = None };
+      pass' = answers.pass';
+      is = refl;
+      has = answers.has;
+      makes = serves.makes;
+      denial = sym is;
+      guarded = (serves.holding, has.1);
+      rings = serves.rings;
+      noted = subst (λ n. Appends s.note.bytes n.bytes []) (sym has.2) (Appends-nil s.note.bytes);
+      counted = subst (λ n. s.note.faults ≤ n.faults) (sym has.2) (omega arith);
+    }
+step g s mid pass one had core (Some rule) is has =
+    let same = has.0 in
+    record {
+      item = record { served = record { answered = one; placed = []; calls = [] }; denial = Some rule };
+      pass' = pass;
+      is = refl;
+      has = same.pass ∙ had;
+      makes = makes-none mid.session.told pass;
+      denial = sym is;
+      guarded = denied-so (meaning one.message role.Core) s.made mid.made one has.1 same.made;
+      rings = subst (λ d. Rings s.session.dial [] [] d) (sym same.dial) (rings-none s.session.dial);
+      noted = has.2;
+      counted = has.3;
+    }
+
+-- These messages of a session, whose pass was this one, were answered, one after the other.
+pub record GuardsAll {B : Type 0} (g : Ghosts B) (s : GuardState) (pass : PassView Group) (list : List Answered) (s' : GuardState) : Type 0 where
+  pub items : List Judged
+  pub pass' : PassView Group
+  pub are : answered (served items) ≡ list
+  pub has : s'.session.pass ≡ Some pass'
+  pub makes : Makes s'.session.told pass (placed (served items)) pass'
+  pub each : Guards g pass.number s.session.conn s.rules s.peer s.made items s'.made
+  pub rings : Rings s.session.dial (placed (served items)) (calls (served items)) s'.session.dial
+  pub noted : Appends s.note.bytes s'.note.bytes (notes s.session.conn items)
+  pub counted : s.note.faults ≤ s'.note.faults
+  pub conn : s'.session.conn ≡ s.session.conn
+  pub rules : s'.rules ≡ s.rules
+  pub peer : s'.peer ≡ s.peer
+  pub failed : s'.failed ≡ s.failed
+  pub later : s.session.told ≤ s'.session.told
+
+-- no message was answered
+guards-none : {B : Type 0} (g : Ghosts B) (s : GuardState) (pass : PassView Group) → s.session.pass ≡ Some pass → GuardsAll g s pass [] s
+guards-none g s pass had = record {
+  items = [];
+  pass' = pass;
+  are = refl;
+  has = had;
+  makes = makes-none s.session.told pass;
+  each = refl;
+  rings = rings-none s.session.dial;
+  noted = Appends-nil s.note.bytes;
+  counted = omega arith;
+  conn = refl;
+  rules = refl;
+  peer = refl;
+  failed = refl;
+  later = omega arith;
+}
+
+-- one was answered, and then more of them
+guards-more : {B : Type 0} (g : Ghosts B) (s mid s' : GuardState) (pass : PassView Group) (one : Answered) (more : List Answered) → GuardDoes g s one.message (Some one.reply) mid
+    → (first : Step g s pass one mid) → GuardsAll g mid first.pass' more s' → GuardsAll g s pass (one ∷ more) s'
+guards-more g s mid s' pass one more does first rest =
+    let earlier = does.later in
+    let later = rest.later in
+    let before = first.counted in
+    let after = rest.counted in
+    let item = first.item in
+    let message : item.served.answered.message ≡ one.message = ap (λ (a : Answered). a.message) first.is in
+    let each : Guards g pass.number s.session.conn s.rules s.peer mid.made rest.items s'.made =
+    subst (λ n. Guards g n s.session.conn s.rules s.peer mid.made rest.items s'.made) first.makes.number
+    (subst (λ c. Guards g first.pass'.number c s.rules s.peer mid.made rest.items s'.made) does.conn
+    (subst (λ r. Guards g first.pass'.number mid.session.conn r s.peer mid.made rest.items s'.made) does.rules
+    (subst (λ p. Guards g first.pass'.number mid.session.conn mid.rules p mid.made rest.items s'.made) does.peer rest.each))) in
+    record {
+      items = item ∷ rest.items;
+      pass' = rest.pass';
+      are = ap (λ (a : Answered). a ∷ answered (served rest.items)) first.is ∙ ap (λ (list : List Answered). one ∷ list) rest.are;
+      has = rest.has;
+      makes = makes-goes mid.session.told s'.session.told pass first.pass' rest.pass' item.served.placed (placed (served rest.items)) later first.makes rest.makes;
+      each = (
+        first.denial ∙ ap (denial_at s) (sym message),
+        mid.made,
+        subst (λ m. IsGuarded g pass.number s.session.conn s.made (meaning m role.Core) item.denial item.served mid.made) (sym message) first.guarded,
+        each,
+      );
+      rings = rings-goes s.session.dial mid.session.dial s'.session.dial item.served.placed (placed (served rest.items)) item.served.calls (calls (served rest.items)) first.rings rest.rings;
+      noted = Appends-trans s.note.bytes mid.note.bytes s'.note.bytes (note_of s.session.conn item.denial) (notes s.session.conn rest.items) first.noted
+          (subst (λ c. Appends mid.note.bytes s'.note.bytes (notes c rest.items)) does.conn rest.noted);
+      counted = omega arith;
+      conn = rest.conn ∙ does.conn;
+      rules = rest.rules ∙ does.rules;
+      peer = rest.peer ∙ does.peer;
+      failed = rest.failed ∙ does.has.1;
+      later = omega arith;
+    }
+
+-- what answers messages, as a guarded session's state shows it
+module _ {B S : Type 0} (g : Ghosts B) (does : S → List ℕ → Option (List ℕ) → S → Type 0) (shown : S → GuardState)
+    (one : (s s' : S) (message : List ℕ) (reply : Option (List ℕ)) → does s message reply s' → GuardDoes g (shown s) message reply (shown s'))
+    (core : (s : S) → (shown s).session.role ≡ role.Core) where
+  -- the messages that it answered were judged, each by the rules
+  pub all-guarded : (s last : S) (pass : PassView Group) (list : List Answered) → (shown s).session.pass ≡ Some pass → AnswersAll does s list last
+      → GuardsAll g (shown s) pass list (shown last)
+  all-guarded s last pass [] had all = subst (λ x. GuardsAll g (shown s) pass [] (shown x)) (sym all) (guards-none g (shown s) pass had)
+  all-guarded s last pass (first ∷ more) had all =
+      let did = one s all.0 first.message (Some first.reply) all.1 in
+      let taken = step g (shown s) (shown all.0) pass first had (core s) (denial_at (shown s) first.message) refl did.has.0 in
+      guards-more g (shown s) (shown all.0) (shown last) pass first more did taken (all-guarded all.0 last taken.pass' more taken.has all.2)

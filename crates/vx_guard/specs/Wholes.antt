@@ -1,0 +1,85 @@
+-- What a whole guarded session did.
+use Rattle.std.specs.Prelude.{◌≡◌, ◌≤◌, ℕ, Bool, true, false, List, [], ◌∷◌, ◌++◌, map, Some}
+use Rattle.std.specs.Io.KnownBytes.{Appends}
+use Rattle.vx_io_traits.specs.Stands.{Goes}
+use Rattle.vx_calls.specs.declared.calls.Role.TheVariants as role
+use Rattle.vx_calls.specs.declared.limits.TheConstants.{RECORD_MAX}
+use Rattle.vx_bus_traits.specs.declared.bus.Bus.{Ghosts}
+use Rattle.vx_gate.specs.PassView.{PassView}
+use Rattle.vx_text.specs.Ends.{End}
+use Rattle.vx_text.specs.Writing.{StopsIn}
+use Rattle.vx_record.specs.Records.{Split, records}
+use Rattle.vx_exchange.specs.Meaning.{meaning, Junk}
+use Rattle.vx_history.specs.Event.{Down}
+use Rattle.vx_history.specs.Groups.{Group}
+use Rattle.vx_stream.specs.Answered.{Answered, messages, replies}
+use Rattle.vx_stream.specs.Shown.{LinkShown, LinkGoes}
+use Rattle.vx_stream.specs.Stopping.{EndsSo}
+use Rattle.vx_stream.specs.declared.ends.End as stream
+use Rattle.vx_session.specs.Placing.{Placed, Makes}
+use Rattle.vx_session.specs.Outside.{DialShown}
+use Rattle.vx_session.specs.Serving.{Item}
+use Rattle.vx_session.specs.Progress.{Rings, answered, placed, calls}
+use Rattle.vx_session.specs.Ending.{Upholds}
+use Rattle.vx_policy.specs.declared.made.MadeLink.{MadeLink}
+use Rattle.vx_policy.specs.declared.rules.Rule.{Rule}
+use Rattle.vx_policy.specs.Texts.{deny_line}
+use Rattle.vx_guard.specs.declared.sessions.GuardEnd.{GuardEnd}
+use Rattle.vx_guard.specs.declared.sessions.GuardEnd.TheVariants as guard
+use Rattle.vx_guard.specs.Judged.{Judged, Guards, denial, notes}
+
+-- the messages that were judged, as those that were served
+abbrev pub served : List Judged → List Item
+served items = map (λ j. j.served) items
+
+-- the last message that was looked at is a call that a rule denied, and the note failed in its line: it has no reply, and the lines
+-- before it stand whole
+pub record NoteStops (rules : List Rule) (peer conn : ℕ) (made : List MadeLink) (list : List Answered) (lines : List ℕ) (looked : Split) (unsent : List ℕ) (note note' : End) : Type 0 where
+  pub message : List ℕ
+  pub rule : ℕ
+  pub looked_at : looked.records ≡ messages list ++ message ∷ []
+  pub denied : denial rules peer made (meaning message role.Core) ≡ Some rule
+  pub whole : unsent ≡ []
+  pub between : End
+  pub written : Appends note.bytes between.bytes lines
+  pub stops : StopsIn between note' (deny_line conn rule)
+
+-- why it ended: as each session does, with the lines of all denials written; or the note failed
+abbrev pub GuardEndsSo : List Rule → (peer conn : ℕ) → List MadeLink → (seen : LinkShown) → List Answered → (lines : List ℕ) → Split → (behind unsent : List ℕ) → (seen' : LinkShown) → (note note' : End)
+    → GuardEnd → Type 0
+GuardEndsSo rules peer conn made seen list lines looked behind unsent seen' note note' (guard.Ended how) =
+    EndsSo (λ message. meaning message role.Core ≡ Junk) seen list looked behind unsent seen' (Some how) × Appends note.bytes note'.bytes lines
+    × (note.faults ≤ note'.faults)
+GuardEndsSo rules peer conn made seen list lines looked behind unsent seen' note note' guard.NoteFault =
+    NoteStops rules peer conn made list lines looked unsent note note'
+
+-- A guarded session on a core connection, of the peer at this address: the messages that it judged, in their order, and the links that
+-- it knows at its end; the bytes `front` that it looked at, and those that it received behind them; the replies, of which the link took
+-- `written`; and the end of the connection, its last group.
+pub record GuardDid {B L : Type 0} (g : Ghosts B) (stands : L → List ℕ → List ℕ → Type 0) (told : ℕ) (rules : List Rule) (peer conn : ℕ) (pass : PassView Group) (link : L) (seen : LinkShown)
+    (dial : DialShown) (note : End) (how : GuardEnd) (pass' : PassView Group) (link' : L) (seen' : LinkShown) (dial' : DialShown) (note' : End) : Type 0 where
+  pub items : List Judged
+  pub made : List MadeLink
+  pub last : Placed
+  pub front : List ℕ
+  pub behind : List ℕ
+  pub written : List ℕ
+  pub unsent : List ℕ
+  -- each message by what the rules say of it: a call has its coming in these groups exactly where none of them denies it
+  pub each : Guards g pass.number conn rules peer [] items made
+  -- the groups that the pass added: those of the messages, in order, and the end of the connection
+  pub makes : Makes told pass (placed (served items) ++ last ∷ []) pass'
+  pub down : last.group.events ≡ Down conn ∷ []
+  -- the bytes that came and went
+  pub bytes : Goes stands link link' written (front ++ behind)
+  pub goes : LinkGoes seen (front ++ behind) seen'
+  pub wrote : replies (answered (served items)) ≡ written ++ unsent
+  pub ended : GuardEndsSo rules peer conn made seen (answered (served items)) (notes conn items) (records RECORD_MAX front) behind unsent seen' note note' how
+  -- the dial's calls
+  pub rings : Rings dial (placed (served items)) (calls (served items)) dial'
+  pub upholds : Upholds pass'
+
+-- how a session ended whose stream ended so, where its note failed or not
+abbrev pub guard_end : Bool → stream.End → GuardEnd
+guard_end true how = guard.NoteFault
+guard_end false how = guard.Ended how

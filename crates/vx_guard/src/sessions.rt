@@ -1,0 +1,177 @@
+//! The guarded session of one core connection.
+ghost use Rattle.std.specs.Prelude.{◌≡◌, ◌≤◌, ℕ};
+ghost use Rattle.vx_door.specs.Going.{Went};
+ghost use Rattle.vx_calls.specs.declared.calls.Role.TheVariants as role;
+ghost use Rattle.vx_history.specs.Phases.{Idle};
+ghost use Rattle.vx_session.specs.Turning.{phase_at};
+ghost use Rattle.vx_session.specs.Outside.{dial_shown};
+ghost use Rattle.vx_stream.specs.Shown.{link_shown};
+ghost use Rattle.vx_io.specs.Peering.{IsPeer};
+ghost use Rattle.vx_guard.specs.Wholes.{GuardDid, guard_end};
+
+use crate::guarding::Guarding;
+use std::alloc::Global;
+use std::marker::Model;
+use std::sync::Wait;
+use vx_bus_traits::Bus;
+use vx_calls::RECORD_MAX;
+use vx_core::Core;
+use vx_exchange::REPLY_ROOM;
+use vx_gate::{Pass, Turns};
+use vx_history::{headline_law, owned_law};
+use vx_io::Peered;
+use vx_io_traits::{Clock, Dial, Pause, Sink};
+use vx_policy::{Made, Policy};
+use vx_record::RecordBuf;
+use vx_session::leave;
+use vx_stream::{End, answer_stream};
+
+/// There was no memory for the room.
+#[derive(Clone, Copy, Debug, PartialEq, Eq)]
+pub struct NoMemory;
+
+/// How a guarded session ended.
+#[derive(Clone, Copy, Debug, PartialEq, Eq)]
+pub enum GuardEnd {
+    /// As each session may end.
+    Ended(End),
+    /// The note failed in the line of a denial; the denied call has no reply.
+    NoteFault,
+}
+
+/// How many bytes are received at once, at most.
+const PIECE: usize = 4096;
+
+/// The room of one guarded session at a time, which may be used again by the next: for the record that comes in, a piece of the
+/// stream, a reply, and the links that the session made. A session takes no memory besides.
+#[derive(Drop)]
+pub struct GuardRoom {
+    incoming: RecordBuf,
+    piece: Vec<u8>,
+    reply: Vec<u8>,
+    made: Made,
+}
+
+impl Model for GuardRoom {
+    ghost use Rattle.std.specs.Prelude.{◌≡◌, ⊤, length};
+    ghost use Rattle.vx_calls.specs.declared.limits.TheConstants.{RECORD_MAX};
+    ghost use Rattle.vx_exchange.specs.declared.record.TheConstants.{REPLY_ROOM};
+    ghost use Rattle.vx_guard.specs.declared.sessions.TheConstants.{PIECE};
+
+    // nothing of it matters to who uses it
+    ghost Value = { ⊤ };
+
+    ghost view = { λ _. tt };
+
+    ghost invariant = { λ r. (r.incoming.limit ≡ RECORD_MAX) × (length r.piece.items ≡ PIECE) × (length r.reply.items ≡ REPLY_ROOM) };
+}
+
+impl GuardRoom {
+    /// Makes the room of a session.
+    pub fn new(alloc: Global) -> Result<GuardRoom, NoMemory> {
+        let Ok(incoming) = RecordBuf::new(alloc, RECORD_MAX) else {
+            return Err(NoMemory);
+        };
+        let Ok(piece) = vec![in alloc; 0; PIECE] else {
+            return Err(NoMemory);
+        };
+        let Ok(reply) = vec![in alloc; 0; REPLY_ROOM] else {
+            return Err(NoMemory);
+        };
+        let Ok(made) = Made::new(alloc) else {
+            return Err(NoMemory);
+        };
+        Ok(GuardRoom {
+            incoming,
+            piece,
+            reply,
+            made,
+        })
+    }
+}
+
+/// How a session ended whose stream ended so, where its note failed or not.
+fn guard_end(failed: bool, end: End) -> GuardEnd
+    ensures { result ≡ guard_end failed end }
+{
+    if failed {
+        GuardEnd::NoteFault
+    } else {
+        GuardEnd::Ended(end)
+    }
+}
+
+/// The session of a core connection that is guarded by a policy. It does what `core_session` does, save that each readable call
+/// but the null procedure is judged as its record is taken, by the address of the peer that the link tells as the session
+/// begins. A call that is denied doesn't reach the core: the line `deny CONN RULE` goes to the note, and then its reply has the
+/// error `NotAccessible` (3), and all else is zero or empty.
+pub fn guarded_session<
+    R: Wait,
+    B: Bus,
+    T: Turns<Core<B>>,
+    L: Peered,
+    C: Clock,
+    P: Pause,
+    D: Dial,
+    K: Sink,
+>(
+    rt: &R,
+    turns: &T,
+    pass: Pass<Core<B>>,
+    conn: u32,
+    policy: &Policy,
+    link: &mut L,
+    clock: &mut C,
+    pause: &mut P,
+    dial: &mut D,
+    room: &mut GuardRoom,
+    note: &mut K,
+) -> (Pass<Core<B>>, GuardEnd)
+    requires gate { pass.gate ≡ T.gate turns.now }
+    requires phase { phase_at pass conn ≡ Idle role.Core }
+    ensures did { (peer : ℕ) × IsPeer (L.peers link.old) peer × GuardDid B.Bus L.stands (C.told clock.new) policy.now peer conn pass link.old
+        (link_shown L.left L.peers L.receive_faults L.send_faults link.old) (dial_shown D.calls D.faults dial.old)
+        (record { bytes = K.taken note.old; faults = K.faults note.old }) result.1 result.0 link.new
+        (link_shown L.left L.peers L.receive_faults L.send_faults link.new) (dial_shown D.calls D.faults dial.new)
+        (record { bytes = K.taken note.new; faults = K.faults note.new }) }
+    ensures told { C.told clock.old ≤ C.told clock.new }
+    ensures went { Went L.receives L.sends link.old link.new }
+{
+    headline_law();
+    owned_law();
+    let GuardRoom {
+        incoming,
+        piece,
+        reply,
+        made,
+    } = room;
+    incoming.restart();
+    made.clear();
+    let peer = link.peer();
+    let mut held = Some(pass);
+    let server = Guarding {
+        rt,
+        turns,
+        held: &mut held,
+        conn,
+        policy,
+        peer,
+        made,
+        clock,
+        pause,
+        dial,
+        note,
+        failed: false,
+    };
+    let (Guarding { failed, .. }, end) = answer_stream(
+        rt,
+        server,
+        link,
+        incoming,
+        piece.as_mut_slice(),
+        reply.as_mut_slice(),
+    );
+    let how = guard_end(failed, end);
+    let Some(pass) = held else { unreachable!() };
+    (leave(rt, turns, pass, conn), how)
+}
