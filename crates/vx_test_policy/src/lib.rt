@@ -1,0 +1,7 @@
+//! Tests of written access rules.
+#![tactic(auto)]
+
+#[cfg(test)]
+mod rule_tests;
+#[cfg(test)]
+mod session_tests;

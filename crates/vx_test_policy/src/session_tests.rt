@@ -1,0 +1,209 @@
+//! Sessions that are guarded by rules, each by a gateway of its own. The records are those of RFC 5531, sections 9 and 11, and of VXI-11.
+ghost use Rattle.std.specs.Prelude.{◌≡◌, IfSome};
+ghost use Rattle.vx_gate.specs.Gates.{gate_of};
+
+use std::alloc::{AllocError, Global};
+use std::sync::Wait;
+use std::test::Fail;
+use vx_bus::MemBus;
+use vx_calls::Role;
+use vx_core::Core;
+use vx_gate::{Gate, Pass};
+use vx_group::first_law;
+use vx_guard::{GuardEnd, GuardRoom, guarded_session};
+use vx_io::{Door, MemClock, MemDial, MemDoor, MemSink, Met, Pause};
+use vx_policy::Policy;
+use vx_session::{End, join};
+
+/// The port of the abort channel.
+const PORT: u16 = 9011;
+
+/// Makes no pause.
+#[derive(Drop)]
+struct Pauses {
+    count: u64,
+}
+
+impl Pause for Pauses {
+    fn pause(&mut self) {
+        self.count = self.count.saturating_add(1);
+    }
+}
+
+/// Rules, what a peer of 127.0.0.1 sends, which writes to the note fail, how its session ends, what it is sent, and the note.
+#[derive(Clone, Copy)]
+struct Row {
+    name: &'static str,
+    rules: &'static [u8],
+    gives: &'static [u32],
+    note_fails: &'static [u64],
+    how: GuardEnd,
+    took: &'static [u32],
+    note: &'static [u8],
+}
+
+const RULES: &[u8] = b"deny * write 5\nallow 127.0.0.0/8 * *";
+
+/// A create_link: xid 1, client 42, no lock, the device `gpib0,5`; and a device_write: xid 2, link 1, the byte `A` with END.
+const CREATE_AND_WRITE: [u32; 34] = [
+    0x80000040, 1, 0, 2, 0x0607AF, 1, 10, 0, 0, 0, 0, 42, 0, 0, 7, 0x67706962, 0x302C3500,
+    0x80000040, 2, 0, 2, 0x0607AF, 1, 11, 0, 0, 0, 0, 1, 10000, 0, 8, 1, 0x41000000,
+];
+
+/// The reply to the create_link: error 0, link 1, the abort port, and at most 262,144 bytes a write.
+const CREATED: [u32; 11] = [0x80000028, 1, 1, 0, 0, 0, 0, 0, 1, 9011, 262144];
+
+const PLAIN: Row = Row {
+    name: "a write that a rule denies",
+    rules: RULES,
+    gives: &CREATE_AND_WRITE,
+    note_fails: &[],
+    how: GuardEnd::Ended(End::Closed),
+    took: &[
+        0x80000028, 1, 1, 0, 0, 0, 0, 0, 1, 9011, 262144, 0x80000020, 2, 1, 0, 0, 0, 0, 3, 0,
+    ],
+    note: b"deny 1 1\n",
+};
+
+static ROWS: [Row; 6] = [
+    PLAIN,
+    Row {
+        name: "a note whose first write fails",
+        note_fails: &[1],
+        how: GuardEnd::NoteFault,
+        took: &CREATED,
+        note: b"",
+        ..PLAIN
+    },
+    Row {
+        name: "a write that a rule allows",
+        rules: b"allow 127.0.0.1/32 * *",
+        took: &[
+            0x80000028, 1, 1, 0, 0, 0, 0, 0, 1, 9011, 262144, 0x80000020, 2, 1, 0, 0, 0, 0, 0, 1,
+        ],
+        note: b"",
+        ..PLAIN
+    },
+    Row {
+        name: "a create_link that no rule allows, and a link that isn't known",
+        rules: b"allow 127.0.0.0/8 * 6\nallow 10.0.0.0/8 * *",
+        took: &[
+            0x80000028, 1, 1, 0, 0, 0, 0, 3, 0, 0, 0, 0x80000020, 2, 1, 0, 0, 0, 0, 3, 0,
+        ],
+        note: b"deny 1 0\ndeny 1 0\n",
+        ..PLAIN
+    },
+    // a destroyed link is no longer known: only a rule for all targets matches
+    Row {
+        name: "a destroy_link twice",
+        rules: b"allow * * 5",
+        gives: &[
+            0x80000040, 1, 0, 2, 0x0607AF, 1, 10, 0, 0, 0, 0, 42, 0, 0, 7, 0x67706962, 0x302C3500,
+            0x8000002C, 3, 0, 2, 0x0607AF, 1, 23, 0, 0, 0, 0, 1, 0x8000002C, 4, 0, 2, 0x0607AF, 1,
+            23, 0, 0, 0, 0, 1,
+        ],
+        took: &[
+            0x80000028, 1, 1, 0, 0, 0, 0, 0, 1, 9011, 262144, 0x8000001C, 3, 1, 0, 0, 0, 0, 0,
+            0x8000001C, 4, 1, 0, 0, 0, 0, 3,
+        ],
+        note: b"deny 1 0\n",
+        ..PLAIN
+    },
+    // the null procedure isn't judged
+    Row {
+        name: "a null call without a rule",
+        rules: b"",
+        gives: &[0x80000028, 7, 0, 2, 0x0607AF, 1, 0, 0, 0, 0, 0],
+        took: &[0x80000018, 7, 1, 0, 0, 0, 0],
+        note: b"",
+        ..PLAIN
+    },
+];
+
+/// Numbers as words.
+fn words(alloc: Global, numbers: &[u32]) -> Result<Vec<u8>, AllocError> {
+    let mut bytes = Vec::new(alloc);
+    for number in numbers {
+        bytes.extend_from_slice(&number.to_be_bytes())?;
+    }
+    Ok(bytes)
+}
+
+/// Whether bytes are these numbers as words.
+fn are_words(bytes: &[u8], numbers: &[u32]) -> bool {
+    let (words, rest) = bytes.as_chunks::<4>();
+    let mut same = words.len() == numbers.len() && rest.is_empty();
+    for (word, number) in words.iter().zip(numbers) {
+        same = u32::from_be_bytes(*word) == *number && same;
+    }
+    same
+}
+
+type Gateway = Gate<Core<MemBus>>;
+
+/// A gate round a gateway with nothing in it, and its pass.
+fn gateway(alloc: Global) -> Option<(Gateway, Pass<Core<MemBus>>)>
+    ensures gate { IfSome result (λ r. r.1.gate ≡ gate_of r.0) }
+{
+    first_law();
+    let Ok(bus) = MemBus::new(alloc, Vec::new(alloc), Vec::new(alloc), Vec::new(alloc)) else {
+        return None;
+    };
+    let Ok(core) = Core::start(alloc, bus, PORT) else {
+        return None;
+    };
+    match Gate::start(alloc, core) {
+        Ok(started) => Some(started),
+        Err(_) => None,
+    }
+}
+
+/// A door that met a peer which gives these words.
+fn met(alloc: Global, gives: &[u32]) -> Option<MemDoor> {
+    let mut peers = Vec::new(alloc);
+    peers.push(words(alloc, gives).ok()?).ok()?;
+    let mut door = MemDoor::new(alloc, peers, Vec::new(alloc)).ok()?;
+    match door.next() {
+        Met::Peer => Some(door),
+        _ => None,
+    }
+}
+
+/// Has the session of a row, and answers whether it went as the row says.
+fn went<R: Wait>(rt: &R, alloc: Global, row: &Row) -> Option<bool> {
+    let (gate, pass) = gateway(alloc)?;
+    if row.rules.len() > 1_048_576 {
+        return None;
+    }
+    let policy = Policy::from_text(alloc, row.rules).ok()?;
+    let mut door = met(alloc, row.gives)?;
+    let mut clock = MemClock::new(Vec::new(alloc));
+    let mut dial = MemDial::new(Vec::new(alloc), Vec::new(alloc));
+    let mut room = GuardRoom::new(alloc).ok()?;
+    let mut note = MemSink::new(Vec::new(alloc), row.note_fails.to_vec(alloc).ok()?);
+    let (pass, joined) = join(rt, alloc, &gate, pass, Role::Core);
+    let conn = joined.ok()?;
+    let (_, how) = guarded_session(
+        rt,
+        &gate,
+        pass,
+        conn,
+        &policy,
+        &mut door,
+        &mut clock,
+        &mut Pauses { count: 0 },
+        &mut dial,
+        &mut room,
+        &mut note,
+    );
+    let took = door.sent(0)?;
+    Some(how == row.how && are_words(took, row.took) && note.bytes() == row.note)
+}
+
+#[test]
+fn sessions(rt: HostRuntime) -> Result<(), Fail> {
+    for row in ROWS {
+        assert!(rt; went(&rt, rt.alloc(), &row) == Some(true), "{}", row.name);
+    }
+    Ok(())
+}
