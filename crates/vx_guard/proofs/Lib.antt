@@ -1,3 +1,4 @@
 mod Goings
 mod Ended
 mod Served
+mod Refused

@@ -2,6 +2,7 @@ pub mod Judged
 pub mod Noting
 pub mod Stages
 pub mod Wholes
+pub mod Linking
 pub use Rattle.vx_door.specs.Going
 pub use Rattle.vx_io.specs.Peering
 pub use Rattle.vx_io_traits.specs.Faults

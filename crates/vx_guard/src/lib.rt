@@ -4,6 +4,8 @@
 
 mod denying;
 mod guarding;
+mod links;
 mod sessions;
 
+pub use links::{Guarded, guarded_link};
 pub use sessions::{GuardEnd, GuardRoom, NoMemory, guarded_session};
