@@ -1,6 +1,6 @@
 #!/usr/bin/env bash
-# Tests each built player whose path is an argument: it plays the scripts of examples/, which must print what stands beside
-# them, and is started with words, inputs and outputs that no row of a crate can have. What differs, and at last
+# Tests each built player whose path is an argument: it plays the scripts of examples/, and what it lifts them to, which must print
+# what stands beside them, and is started with words, inputs and outputs that no row of a crate can have. What differs, and at last
 # 'N passed, M failed', goes to standard error; the status is 1 where something differs.
 set -u
 cd "$(dirname "$0")/.." || exit 1
@@ -54,6 +54,14 @@ for player in "$@"; do
         play "$script" 0 "${script%.vxs}.out" run < "$script"
     done
 
+    # the same scripts in version 2, as the player lifts them
+    for trace in examples/*.trace; do
+        play "$trace" 0 "$trace" run < <("$player" lift < "${trace%.trace}.vxs")
+    done
+    play 'a word behind lift' 1 <(line "$usage") lift x < examples/session.vxs
+    play 'a script of version 2 to lift' 3 <(printf 'vxscript 2\nfault line 1 form\n') lift < <("$player" lift < examples/session.vxs)
+    play_full 'no room for a lift' lift < examples/session.vxs
+
     # words that are no command
     play 'no word' 1 <(line "$usage") < examples/session.vxs
     play 'another word' 1 <(line "$usage") play < examples/session.vxs
@@ -86,6 +94,8 @@ for player in "$@"; do
     play 'the longest script' 0 <(line 'done') run < <(repeated '\n' 67108864)
     play 'a script that is too long' 6 <(line 'fault long') run < <(repeated '\n' 67108865)
     play 'the longest line' 0 <(line 'done') run < <(repeated '#' 1048576)
+    play 'the longest line of version 2' 0 <(printf 'vxtrace 2\ndone\n') run < <(line 'vxscript 2'; repeated '#' 1048600)
+    play 'a line of version 2 that is too long' 3 <(printf 'vxtrace 2\nfault line 2 form\n') run < <(line 'vxscript 2'; repeated '#' 1048601)
     play 'a line that is too long' 3 <(line 'fault line 1 form') run < <(repeated '#' 1048577)
 done
 line "$passed passed, $failed failed" >&2
