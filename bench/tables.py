@@ -1,12 +1,13 @@
 #!/usr/bin/env python3
-"""Measures how long steps of a play take with full tables, and a long run from a number, and prints one table in Markdown.
+"""Measures how long steps of a play take with full tables, scripts of 64 MiB in both versions, and a long run from a number, and
+prints one table in Markdown.
 
     tables.py [OPTIONS] NAME=PROGRAM ..
 
 Each NAME is a column, and PROGRAM a `vxplay`. The steps are taken with 64 core connections and 1,024 links, of which the last is
 made in the first row, while 63 calls wait, or 64 in the row of polls. A figure is what a play with the steps takes more than
 one without them. All programs of a row are measured in turn, run by run, so that what else the machine does meets all alike.
-A program that knows no run from a number has no figure in the last row.
+A program that knows no run from a number, or no version 2, has no figure in those rows.
 """
 import argparse
 import os
@@ -21,7 +22,7 @@ CONNECTIONS = 64  # the most of the core channel
 LINKS_EACH = 16
 FREE = CONNECTIONS  # the connection whose steps are measured
 CORE = 0x0607AF
-CREATE_LINK, LOCK, UNLOCK, DESTROY_LINK, CREATE_INTR = 10, 18, 19, 23, 25
+CREATE_LINK, WRITE, LOCK, UNLOCK, DESTROY_LINK, CREATE_INTR = 10, 11, 18, 19, 23, 25
 WAITLOCK = 1
 FOREVER = 2**32 - 1  # milliseconds
 
@@ -102,6 +103,21 @@ def play(program, script):
     return took
 
 
+def long_script():
+    """A script of nearly 64 MiB: writes of 64 KiB to one instrument, each with the polls of its slices. Lifted it is no longer than
+    a script may be."""
+    data = bytes(range(256)) * 256
+    write = call(1, WRITE, struct.pack(">5I", 1, FOREVER, 0, 8, len(data)) + data)
+    return ["plug 5 echo\n", "up 1 core\n", create(1, 5)] + [write + "poll 1\n" * 256] * 500
+
+
+def lifted(program, script, path):
+    """Writes what a script is lifted to, and answers its path; none where the program knows no lift."""
+    with open(script, "rb") as source, open(path, "wb") as told:
+        status = subprocess.run([program, "lift"], stdin=source, stdout=told).returncode
+    return None if status else path
+
+
 def step_time(program, scripts, steps):
     """The microseconds of a step."""
     short, long = scripts
@@ -117,11 +133,12 @@ def most_memory(pid):
         return 0
 
 
-def drawn(program, draws):
-    """The seconds of a run from a number, to a hundredth, and the most memory that it had, in MiB; none where the program knows no
-    such run."""
+def watched(program, words, script=os.devnull):
+    """The seconds of a program with these words, to a hundredth, and the most memory that it had, in MiB; none where it knows no
+    such words."""
     began, memory = time.monotonic(), 0
-    player = subprocess.Popen([program, "gen", "7", str(draws)], stdin=subprocess.DEVNULL, stdout=subprocess.DEVNULL)
+    with open(script, "rb") as source:
+        player = subprocess.Popen([program, *words], stdin=source, stdout=subprocess.DEVNULL)
     while player.poll() is None:
         memory = max(memory, most_memory(player.pid))
         time.sleep(0.01)
@@ -151,6 +168,14 @@ def row(what, cells):
     print("| " + " | ".join([what] + cells) + " |", flush=True)
 
 
+def seconds(asked, players, what, figure):
+    """Two rows: the seconds of each program, and the most memory that it had."""
+    found = measured(figure, players, asked.runs)
+    told = lambda runs, part, form: "" if None in runs else spread([run[part] for run in runs], form)
+    row(f"{what}, seconds", [told(found[name], 0, ".2f") for name in players])
+    row("its memory, MiB", [told(found[name], 1, ".1f") for name in players])
+
+
 def written(folder, name, lines):
     path = os.path.join(folder, name)
     with open(path, "w") as script:
@@ -170,11 +195,14 @@ def main():
             scripts = written(folder, "short", front), written(folder, "long", front + steps)
             found = measured(lambda program: step_time(program, scripts, asked.steps), players, asked.runs)
             row(f"{what}, microseconds", [spread(found[name], ".2f") for name in players])
+        first = written(folder, "first", long_script())
+        second = lambda program: lifted(program, first, os.path.join(folder, "second"))
+        seconds(asked, players, "a script of 64 MiB", lambda program: watched(program, ["run"], first))
+        seconds(asked, players, "the same in version 2", lambda program: (path := second(program)) and watched(program, ["run"], path))
+        seconds(asked, players, "its lift", lambda program: watched(program, ["lift"], first))
     if asked.draws:
-        found = measured(lambda program: drawn(program, asked.draws), players, asked.runs)
-        told = lambda runs, part, form: "" if None in runs else spread([run[part] for run in runs], form)
-        row(f"a run of {asked.draws:,} draws, seconds", [told(found[name], 0, ".1f") for name in players])
-        row("its memory, MiB", [told(found[name], 1, ".1f") for name in players])
+        gen = ["gen", "7", str(asked.draws)]
+        seconds(asked, players, f"a run of {asked.draws:,} draws", lambda program: watched(program, gen))
 
 
 if __name__ == "__main__":
