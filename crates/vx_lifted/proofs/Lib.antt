@@ -1,0 +1,6 @@
+mod Spreading
+mod Timing
+mod Moving
+mod Running
+mod Following
+mod Lifts
