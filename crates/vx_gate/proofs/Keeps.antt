@@ -73,6 +73,7 @@ module _ {K G : Type 0} (stands : K → List G → Type 0) (may_add : List G →
             mine = ap (λ j. made_by j f.log) is ∙ k.own live;
             lawful = f.lawful;
             stood = got.2;
+            alone = λ all. sym (rules.sees_all stands may_add _ _ _ _ _ f id me.0 at (ap (weight me.0.parts) mine ∙ all));
           }),
           λ other. (let same : t ≡ u = cc in absurd (other (hit ∙ same))),
         ),

@@ -138,4 +138,5 @@ module _ {K G A R : Type 0} (stands : K → List G → Type 0) (may_add : List G
         gate = ap (gate_at s4.table_id) (ap (λ (m : Me K (View G)). m.0.stage) rests) ∙ (same4.0 ∙ same3.0 ∙ same2.0 ∙ same1.0) ∙ sym (ap (gate_at s0.table_id) idle);
         number = id4;
         parts = ap (λ (m : Me K (View G)). m.0.parts) rests ∙ ap (λ (m : Me K (View G)). m.0.parts) ran.me ∙ took.parts ∙ ap (λ (m : Me K (View G)). m.0.parts) drew;
+        alone = λ all. took.alone (ap (λ (m : Me K (View G)). m.0.parts) drew ∙ all) ∙ ap (λ (m : Me K (View G)). m.0.seen) drew;
       }

@@ -394,20 +394,27 @@ module _ {K G : Type 0} (stands : K → List G → Type 0) (may_add : List G →
           out = λ e. f.out (omega arith);
         }
 
+    -- where a view has all parts, no other goes on
+    others_end : weight v.parts v.stage ≡ 4294967296 → (j : ℕ) (u : View G) → j ≢ id → get_elem? views j ≡ some u → ¬ Live u.stage
+    others_end mine j u ne e = weightless u.parts u.stage (f.each_view j u e).part (omega (arith, sum_two parts_of views id j v u ne at e, f.parts))
+
+    -- and that one has seen all of the history
+    pub sees_all : weight v.parts v.stage ≡ 4294967296 → v.seen ≡ f.log
+    sees_all mine =
+        let o = f.whole in
+        dite (ℕ_discrete o.0 id)
+        (λ is. ap (λ (y : View G). y.seen) (some-injective v o.1 (sym at ∙ ap (get_elem? views) (sym is) ∙ o.2)) ∙ o.4)
+        (λ ne. absurd (others_end mine o.0 o.1 ne o.2 o.3))
+
     -- who has all parts is the only one that goes on: the value is at home, and stands for what that view has seen
     pub closes : v.stage ≡ Idle → v.parts ≡ 4294967296 → (kept : K) × (get_elem? homes 0 ≡ some (some kept)) × stands kept (groups v.seen) × Lawful may_add v.seen
     closes idle all =
         let mine : weight v.parts v.stage ≡ 4294967296 = ap (weight v.parts) idle ∙ all in
-        let ended : (j : ℕ) (u : View G) → j ≢ id → get_elem? views j ≡ some u → ¬ Live u.stage =
-        λ j u ne e. weightless u.parts u.stage (f.each_view j u e).part (omega (arith, sum_two parts_of views id j v u ne at e, f.parts)) in
         let z : holding v.stage ≡ 0 = ap holding idle in
         let none_turns : sum_by holds_turn views ≡ 0 = sum_none holds_turn views (λ j u e. dite (ℕ_discrete j id)
         (λ is. ap (λ (y : View G). holding y.stage) (some-injective u v (sym e ∙ ap (get_elem? views) is ∙ at)) ∙ z)
-        (λ ne. ended_holds u.stage (ended j u ne e))) in
-        let o = f.whole in
-        let seen : v.seen ≡ f.log = dite (ℕ_discrete o.0 id)
-        (λ is. ap (λ (y : View G). y.seen) (some-injective v o.1 (sym at ∙ ap (get_elem? views) (sym is) ∙ o.2)) ∙ o.4)
-        (λ ne. absurd (ended o.0 o.1 ne o.2 o.3)) in
+        (λ ne. ended_holds u.stage (others_end mine j u ne e))) in
+        let seen : v.seen ≡ f.log = sees_all mine in
         let h = f.home none_turns in
         (h.0, h.1, subst (λ (l : List (Logged G)). stands h.0 (groups l)) (sym seen) h.2, subst (Lawful may_add) (sym seen) f.lawful)
 

@@ -14,3 +14,7 @@ pub record PassView (G : Type 0) : Type 0 where
   pub parts : ℕ
   pub seen : List (Logged G)
   pub own : List G
+
+-- all parts of the right to close a gate: who has them all is the only one who takes turns there
+abbrev pub all_parts : ℕ
+all_parts = 4294967296

@@ -7,6 +7,7 @@ use Rattle.vx_gate.specs.declared.views.View.{View}
 use Rattle.vx_gate.specs.declared.views.Stage.{Stage}
 use Rattle.vx_gate.specs.declared.views.Stage.TheVariants.{Idle, Drawn, Turn, Counted, Spent}
 use Rattle.vx_gate.specs.History.{made, groups, made_by, Lawful}
+use Rattle.vx_gate.specs.PassView.{all_parts}
 
 module _ {G : Type 0} where
   -- the view at another stage
@@ -58,6 +59,8 @@ module _ {K G : Type 0} where
     pub mine : made_by number m'.0.seen ≡ m.0.own
     pub lawful : Lawful may_add m'.0.seen
     pub stood : stands kept (groups m'.0.seen)
+    -- who has all parts had seen it before
+    pub alone : m.0.parts ≡ all_parts → m'.0.seen ≡ m.0.seen
 
   abbrev pub looked : (K → List G → Type 0) → (List G → G → Type 0) → ℕ → Step K → Me K (View G) → ℕ → Me K (View G) → Type 0
   looked stands may_add number st m found m' = (t : ℕ) → m.0.stage ≡ Drawn t → (found ≡ t → Took stands may_add number t m m') × (found ≢ t → m' ≡ m)

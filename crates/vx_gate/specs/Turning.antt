@@ -3,7 +3,7 @@ use Rattle.std.specs.Prelude.{◌≡◌, List, [], ◌∷◌, ◌++◌}
 use mathlib.Core.List.{IsPrefix}
 use Rattle.vx_gate.specs.declared.views.Logged.{Logged}
 use Rattle.vx_gate.specs.History.{made, groups, made_by, Lawful}
-use Rattle.vx_gate.specs.PassView.{PassView}
+use Rattle.vx_gate.specs.PassView.{PassView, all_parts}
 
 -- The history, at some moment, as far as the pass knows it: it begins with what the pass has seen, where all of the pass's own groups stand, and it is lawful
 pub record Fits {G : Type 0} (may_add : List G → G → Type 0) (pass : PassView G) (log : List (Logged G)) : Type 0 where
@@ -41,3 +41,5 @@ module _ {K G A R : Type 0} (stands : K → List G → Type 0) (may_add : List G
     pub gate : pass'.gate ≡ pass.gate
     pub number : pass'.number ≡ pass.number
     pub parts : pass'.parts ≡ pass.parts
+    -- a pass with all parts is the only one: no group of another joined the history since its last turn
+    pub alone : pass.parts ≡ all_parts → log ≡ pass.seen

@@ -1,10 +1,10 @@
 -- What a turn made: one group, behind the history that it found, at moments that were told.
-use Rattle.std.proofs.Common.{◌≡◌, ◌≤◌, ◌<◌, ◌⊎◌, inl, inr, ℕ, max, List, [], Some, refl, sym, ap, ◌∙◌, subst, arith}
+use Rattle.std.proofs.Common.{◌≡◌, ◌≤◌, ◌<◌, ◌⊎◌, inl, inr, ℕ, max, List, [], ◌∷◌, ◌++◌, Some, refl, sym, ap, ◌∙◌, subst, arith}
 use Rattle.std.specs.List.{All}
 use Rattle.std.proofs.lemmas.Bool.{cases_lt}
 use Rattle.std.proofs.lemmas.List.Elements.{All-nil, All-cons, All-weaker}
 use Rattle.vx_gate.specs.declared.views.Logged.{Logged}
-use Rattle.vx_gate.specs.History.{groups}
+use Rattle.vx_gate.specs.History.{made, groups}
 use Rattle.vx_gate.specs.PassView.{PassView}
 use Rattle.vx_gate.specs.Turning.{Turned}
 use Rattle.vx_flow.specs.Event.{Event}
@@ -61,7 +61,7 @@ module _ {B A R : Type 0} {does : A → CoreState B → R → A → CoreState B 
       → (t : Turned (λ (core : CoreState B) (log : List Group). StandsFor core.fine log) MayAdd does adds pass act answer act' pass')
       → IsTimely told (record { before = t.log; group = adds act t.before answer act' t.after })
       → Turns told pass (record { before = t.log; group = adds act t.before answer act' t.after }) pass'
-  turns told {act = act} {answer = answer} {act' = act'} t timely_is =
+  turns told {pass = pass} {act = act} {answer = answer} {act' = act'} t timely_is =
       let p : Placed = record { before = t.log; group = adds act t.before answer act' t.after } in
       record {
         makes = record {
@@ -71,6 +71,7 @@ module _ {B A R : Type 0} {does : A → CoreState B → R → A → CoreState B 
           chain = (t.fits.begins, t.fits.mine ∙ sym t.fits.within, t.seen);
           own = t.own;
           timely = All-cons (IsTimely told) p [] timely_is (All-nil (IsTimely told));
+          alone = λ all. t.seen ∙ ap (λ l. l ++ made pass.number p.group ∷ []) (t.alone all);
         };
         history = record { state = t.after.fine; stands = t.stands_now; lawful = t.lawful };
       }

@@ -4,7 +4,7 @@ use Rattle.std.specs.List.{All}
 use mathlib.Core.List.{IsPrefix}
 use Rattle.vx_gate.specs.declared.views.Logged.{Logged}
 use Rattle.vx_gate.specs.History.{made, groups, made_by, Lawful}
-use Rattle.vx_gate.specs.PassView.{PassView}
+use Rattle.vx_gate.specs.PassView.{PassView, all_parts}
 use Rattle.vx_flow.specs.FineState.{FineState}
 use Rattle.vx_history.specs.Groups.{Group, last_moment, now_of, StandsFor}
 use Rattle.vx_history.specs.Owning.{MayAdd}
@@ -33,6 +33,10 @@ pub record IsTimely (told : ℕ) (p : Placed) : Type 0 where
   pub moment : IsTold (last_moment (groups p.before)) told p.group.moment
   pub events : All (λ e. (now : ℕ) → now_of e ≡ Some now → IsTold (last_moment (groups p.before)) told now) p.group.events
 
+-- the groups in a history, as a pass of this number made them
+abbrev pub logged : ℕ → List Placed → List (Logged Group)
+logged number placed = map (λ p. made number p.group) placed
+
 -- A pass made these groups, one after the other, at moments that a clock has told, up to this one.
 pub record Makes (told : ℕ) (pass : PassView Group) (placed : List Placed) (pass' : PassView Group) : Type 0 where
   pub gate : pass'.gate ≡ pass.gate
@@ -41,6 +45,8 @@ pub record Makes (told : ℕ) (pass : PassView Group) (placed : List Placed) (pa
   pub chain : Chain pass.number pass.seen placed pass'.seen
   pub own : pass'.own ≡ pass.own ++ map (λ p. p.group) placed
   pub timely : All (IsTimely told) placed
+  -- where it has all parts it is the only one, and no group of another stands among them
+  pub alone : pass.parts ≡ all_parts → pass'.seen ≡ pass.seen ++ logged pass.number placed
 
 -- What a pass has seen is a beginning of a gateway's history: a state stands for it, and each of its groups is one that its
 -- pass could add.

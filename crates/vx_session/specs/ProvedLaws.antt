@@ -11,7 +11,7 @@ use Rattle.vx_calls.specs.Reply.{Reply}
 use Rattle.vx_488.specs.declared.transfers.Transfer.{Transfer}
 use Rattle.vx_bus_traits.specs.declared.bus.Bus.{Ghosts}
 use Rattle.vx_gate.specs.declared.views.Logged.{Logged}
-use Rattle.vx_gate.specs.History.{groups}
+use Rattle.vx_gate.specs.History.{made, groups}
 use Rattle.vx_gate.specs.PassView.{PassView}
 use Rattle.vx_flow.specs.Event.{Event, Answer, Begin, Move, Dial}
 use Rattle.vx_flow.specs.FineState.{FineState}
@@ -21,7 +21,7 @@ use Rattle.vx_history.specs.Owning.{owner_of}
 use Rattle.vx_history.specs.Phases.{Phase, Idle, Asked, phase_along}
 use Rattle.vx_history.specs.ProvedLaws.{phase-append}
 use Rattle.vx_session.specs.Acting.{poll_events}
-use Rattle.vx_session.specs.Placing.{Placed, Chain, IsTold, IsTimely, Makes, behind}
+use Rattle.vx_session.specs.Placing.{Placed, Chain, IsTold, IsTimely, Makes, behind, logged}
 use Rattle.vx_session.specs.Parts.{IsPolled, IsAt, dialed_of, phase_behind}
 
 -- ---- polls
@@ -163,6 +163,7 @@ makes-none told pass = record {
   chain = refl;
   own = sym (append-nil pass.own);
   timely = All-nil (IsTimely told);
+  alone = λ _. sym (append-nil pass.seen);
 }
 
 -- groups, and then more of them
@@ -176,6 +177,8 @@ makes-goes told told' p q r ps qs later before after =
       chain = chain-goes p.number p.seen q.seen r.seen ps qs before.chain (subst (λ n. Chain n q.seen qs r.seen) before.number after.chain);
       own = after.own ∙ ap (λ o. o ++ map of qs) before.own ∙ append_assoc p.own (map of ps) (map of qs) ∙ ap (λ l. p.own ++ l) (sym (map-append of ps qs));
       timely = All-append (IsTimely told') ps qs (all-later told told' ps later before.timely) after.timely;
+      alone = λ all. after.alone (before.parts ∙ all) ∙ ap (λ n. q.seen ++ logged n qs) before.number ∙ ap (λ s. s ++ logged p.number qs) (before.alone all)
+          ∙ append_assoc p.seen (logged p.number ps) (logged p.number qs) ∙ ap (λ l. p.seen ++ l) (sym (map-append (λ (k : Placed). made p.number k.group) ps qs));
     }
 
 -- a clock that has told more
@@ -187,4 +190,5 @@ makes-later told told' p q ps later makes = record {
   chain = makes.chain;
   own = makes.own;
   timely = all-later told told' ps later makes.timely;
+  alone = makes.alone;
 }
