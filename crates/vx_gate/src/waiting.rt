@@ -23,6 +23,10 @@ const COMPARED: u64 = 1 << 32;
 // Looks of a pass outside the line before it sleeps there, some 100 microseconds: in less the line is mostly empty for a moment.
 const LOOKS_OUTSIDE: u32 = 3_000;
 
+// Looks behind each sleep there, some 10 microseconds: beside somebody who takes turn after turn a single one would mostly find that
+// one in line, and in these there is a moment between two turns.
+const LOOKS_BEHIND_SLEEP: u32 = 300;
+
 // Sleeps of a pass outside the line. After them it draws a ticket, however long the line is: so it waits for others no more.
 const SLEEPS_OUTSIDE: u32 = 50;
 
@@ -42,19 +46,30 @@ fn in_line<K: Kept>(room: &Room<K>, served: u64) -> u64
     room.peek(TICKET).wrapping_sub(served)
 }
 
+// Whether nobody is in line at one of so many looks.
+fn is_free<K: Kept>(room: &Room<K>, looks: u32) -> bool
+    requires { IsTable room.now.table_id }
+{
+    for _ in 0..looks {
+        if in_line(room, room.peek(SERVING)) == 0 {
+            return true;
+        }
+        hint::spin_loop();
+    }
+    false
+}
+
 // Waits outside until nobody is in line, or for as long as a pass waits there.
 pub(crate) fn stay_outside<K: Kept, R: Wait>(rt: &R, room: &Room<K>)
     requires { IsTable room.now.table_id }
 {
-    for looks in 0..LOOKS_OUTSIDE + SLEEPS_OUTSIDE {
-        if in_line(room, room.peek(SERVING)) == 0 {
+    let mut looks = LOOKS_OUTSIDE;
+    for _ in 0..SLEEPS_OUTSIDE {
+        if is_free(room, looks) {
             return;
         }
-        if looks < LOOKS_OUTSIDE {
-            hint::spin_loop();
-        } else {
-            room.park_timeout(rt, OUTSIDE, CLOSED, Duration::from_millis(LONGEST_SLEEP));
-        }
+        room.park_timeout(rt, OUTSIDE, CLOSED, Duration::from_millis(LONGEST_SLEEP));
+        looks = LOOKS_BEHIND_SLEEP;
     }
 }
 
