@@ -1,0 +1,82 @@
+-- How many connections live behind a history, and that there is room where few do.
+use Rattle.std.proofs.Common.{◌≡◌, ◌<◌, ◌≤◌, ◌+◌, ℕ, Bool, true, false, cond, List, [], ◌∷◌, length, count_by, Option, Some, None, refl, sym, ap, ◌∙◌, subst, arith}
+use Rattle.std.specs.Prelude.{nat_lt, nat_le}
+use Rattle.std.proofs.lemmas.Bool.{and_from, false≢true, lt-ltb, le-leb}
+use Rattle.std.proofs.lemmas.Option.{none-some, same_Some}
+use Rattle.std.proofs.lemmas.List.{length-map}
+use Rattle.std.proofs.lemmas.List.Elements.{All-nil}
+use Rattle.std.proofs.lemmas.List.Sums.{count_by-le-length}
+use Rattle.vx_calls.specs.declared.calls.Role.{Role}
+use Rattle.vx_calls.specs.declared.limits.TheConstants.{ROLE_MAX, CONNECTION_LAST}
+use Rattle.vx_gate.specs.History.{groups}
+use Rattle.vx_rules.specs.Lists.{along}
+use Rattle.vx_rules.specs.ListLaws.{along-none}
+use Rattle.vx_rules.specs.State.{Connection, Tables, same_role, count_of, has_room}
+use Rattle.vx_flow.specs.Event.{Event, Up, Down, Arrive, Answer, Abort, Sample, Take, Begin, Move, Dial}
+use Rattle.vx_flow.specs.FineState.{FineState, first_fine}
+use Rattle.vx_flow.specs.Fine.{fine}
+use Rattle.vx_flow.specs.ProvedLaws.{fine-does, fine-frame}
+use Rattle.vx_history.specs.Groups.{Group, events_of, StandsFor}
+use Rattle.vx_rooms.specs.Counting.{ups, downs, IsCounted}
+use Rattle.vx_rooms.specs.Laws.{CountsLaw, FewLaw, RoomLaw, NeverFullLaw}
+use Rattle.vx_rooms.specs.ProvedLaws.{ups-front, downs-front}
+use Rattle.vx_rooms.proofs.Numbers.{number_of, Counts, Lives, counts-after}
+
+-- a connection that goes lives
+fine-lives : (e : Event) (f g : FineState) → fine f e ≡ Some g → Lives f.state.tables e
+fine-lives (Down conn) f g h = (fine-does f g (Down conn) h).step.lives
+fine-lives _ f g h = tt
+
+-- behind an event that is allowed
+fine-counts : (e : Event) (f g : FineState) (up down : ℕ) → fine f e ≡ Some g → Counts f.state.tables up down
+    → Counts g.state.tables (up + ups (e ∷ [])) (down + downs (e ∷ []))
+fine-counts e f g up down h c = counts-after e f.state.tables g.state.tables up down (fine-frame f g e h).tables (fine-lives e f g h) c
+
+-- and behind a list of them
+along-counts : (es : List Event) (f g : FineState) (up down : ℕ) → along fine (Some f) es ≡ Some g → Counts f.state.tables up down
+    → Counts g.state.tables (up + ups es) (down + downs es)
+along-counts [] f g up down h c = subst (λ (x : FineState). Counts x.state.tables up down) (same_Some f g h) c
+along-counts (e ∷ es) f g up down h c = by (fine f e) refl h (along-counts es) where
+  front : Counts g.state.tables (up + ups (e ∷ []) + ups es) (down + downs (e ∷ []) + downs es) → Counts g.state.tables (up + ups (e ∷ es)) (down + downs (e ∷ es))
+  front there =
+      subst (λ n. Counts g.state.tables n (down + downs (e ∷ es))) (let more = ups-front e es in omega (arith, more))
+      (subst (λ n. Counts g.state.tables (up + ups (e ∷ []) + ups es) n) (let more = downs-front e es in omega (arith, more)) there)
+
+  by : (o : Option FineState) → fine f e ≡ o → along fine o es ≡ Some g
+      → ((f g : FineState) (up down : ℕ) → along fine (Some f) es ≡ Some g → Counts f.state.tables up down → Counts g.state.tables (up + ups es) (down + downs es))
+      → Counts g.state.tables (up + ups (e ∷ es)) (down + downs (e ∷ es))
+  by None is h rest = absurd (none-some g (sym (along-none fine es) ∙ h))
+  by (Some mid) is h rest = front (rest mid g (up + ups (e ∷ [])) (down + downs (e ∷ [])) h (fine-counts e f mid up down is c))
+
+-- a gateway as it starts has none
+first-counts : (port : ℕ) → Counts (first_fine port).state.tables 0 0
+first-counts port = record { rise = λ i j d before h. absurd (omega arith); below = All-nil (λ n. n < 1); live = refl; next = refl }
+
+-- behind each history
+pub counts-hold : CountsLaw
+counts-hold log f stands =
+    let events = events_of log in
+    let counts = along-counts events (first_fine f.state.tables.abort_port) stands.last 0 0 stands.allowed (first-counts f.state.tables.abort_port) in
+    let same = ap (λ (x : FineState). x.state.tables) stands.same in
+    let tables : Counts f.state.tables (ups events) (downs events) = subst (λ (x : Tables). Counts x (ups events) (downs events)) (sym same) counts in
+    let long = length-map f.state.tables.connections number_of in
+    record { live = omega (arith, long, tables.live); next = tables.next }
+
+-- ---- room
+
+-- fewer than 64 live, so fewer than 64 of a role
+room-at : (t : Tables) (r : Role) → length t.connections < ROLE_MAX → t.next_connection ≤ CONNECTION_LAST → has_room t r ≡ true
+room-at t r few low =
+    let count = count_by-le-length (λ (c : Connection). same_role c.role r) t.connections in
+    and_from (nat_lt (count_of t r) ROLE_MAX) (nat_le t.next_connection CONNECTION_LAST) (lt-ltb (count_of t r) ROLE_MAX (omega (arith, count, few)))
+    (le-leb t.next_connection CONNECTION_LAST low)
+
+pub few-holds : FewLaw
+few-holds log f r stands few low =
+    let is = counts-hold log f stands in room-at f.state.tables r (omega (arith, is.live, few)) (omega (arith, is.next, low))
+
+pub room-holds : RoomLaw
+room-holds log f r stands even low = few-holds log f r stands (omega (arith, even)) low
+
+pub never-full : NeverFullLaw
+never-full seen r even low none = false≢true (sym none.full ∙ room-holds (groups seen) none.state r none.stands even low)
