@@ -1,10 +1,10 @@
 -- How many connections come up and go down by the events of a history.
-use Rattle.std.specs.Prelude.{◌≡◌, ◌≤◌, ◌+◌, ℕ, Bool, true, false, List, length, map, count_by}
+use Rattle.std.specs.Prelude.{◌≡◌, ◌≤◌, ◌+◌, ℕ, Bool, true, false, List, length, count_by}
 use Rattle.vx_flow.specs.Event.{Event, Up, Down}
 use Rattle.vx_flow.specs.FineState.{FineState}
-use Rattle.vx_gate.specs.PassView.{PassView}
+use Rattle.vx_gate.specs.History.{groups}
+use Rattle.vx_gate.specs.PassView.{PassView, all_parts}
 use Rattle.vx_history.specs.Groups.{Group, events_of}
-use Rattle.vx_session.specs.Placing.{Placed}
 
 -- whether a connection comes up by the event
 abbrev pub comes_up : Event → Bool
@@ -24,10 +24,6 @@ ups events = count_by comes_up events
 abbrev pub downs : List Event → ℕ
 downs events = count_by goes_down events
 
--- the events of these groups
-abbrev pub events_by : List Placed → List Event
-events_by placed = events_of (map (λ p. p.group) placed)
-
 -- By these events as many connections came up as live in the state or went down; and each that came up took the next number, from 1
 -- on.
 pub record IsCounted (f : FineState) (events : List Event) : Type 0 where
@@ -39,7 +35,21 @@ pub record IsSteady (events : List Event) : Type 0 where
   pub no_up : ups events ≡ 0
   pub no_down : downs events ≡ 0
 
--- Among the groups that the pass made by then as many connections came up as went down, and at most one.
+-- The pass is the only one of its gate, and each group of the history so far is one of its own.
+pub record IsAlone (pass : PassView Group) : Type 0 where
+  pub parts : pass.parts ≡ all_parts
+  pub own : groups pass.seen ≡ pass.own
+
+-- Among the groups that the pass made by then as many connections came up as went down, and at most one. Where it was the only one of
+-- its gate it still is.
 pub record ComesAndGoes (pass pass' : PassView Group) : Type 0 where
   pub even : ups (events_of pass'.own) + downs (events_of pass.own) ≡ downs (events_of pass'.own) + ups (events_of pass.own)
   pub most : ups (events_of pass'.own) ≤ ups (events_of pass.own) + 1
+  pub alone : IsAlone pass → IsAlone pass'
+
+-- The pass is the only one of its gate, and each connection of which it tells that it came up went down again; there were at most so
+-- many.
+pub record IsClear (count : ℕ) (pass : PassView Group) : Type 0 where
+  pub alone : IsAlone pass
+  pub even : ups (events_of pass.own) ≡ downs (events_of pass.own)
+  pub most : ups (events_of pass.own) ≤ count

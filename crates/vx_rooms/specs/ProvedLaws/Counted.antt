@@ -8,7 +8,6 @@ use Rattle.std.proofs.lemmas.List.Elements.{All-nil}
 use Rattle.std.proofs.lemmas.List.Sums.{count_by-le-length}
 use Rattle.vx_calls.specs.declared.calls.Role.{Role}
 use Rattle.vx_calls.specs.declared.limits.TheConstants.{ROLE_MAX, CONNECTION_LAST}
-use Rattle.vx_gate.specs.History.{groups}
 use Rattle.vx_rules.specs.Lists.{along}
 use Rattle.vx_rules.specs.ListLaws.{along-none}
 use Rattle.vx_rules.specs.State.{Connection, Tables, same_role, count_of, has_room}
@@ -18,9 +17,9 @@ use Rattle.vx_flow.specs.Fine.{fine}
 use Rattle.vx_flow.specs.ProvedLaws.{fine-does, fine-frame}
 use Rattle.vx_history.specs.Groups.{Group, events_of, StandsFor}
 use Rattle.vx_rooms.specs.Counting.{ups, downs, IsCounted}
-use Rattle.vx_rooms.specs.Laws.{CountsLaw, FewLaw, RoomLaw, NeverFullLaw}
-use Rattle.vx_rooms.specs.ProvedLaws.{ups-front, downs-front}
-use Rattle.vx_rooms.proofs.Numbers.{number_of, Counts, Lives, counts-after}
+use Rattle.vx_rooms.specs.Laws.{CountsLaw, FewLaw, RoomLaw}
+use Rattle.vx_rooms.specs.ProvedLaws.Events.{ups-front, downs-front}
+use Rattle.vx_rooms.specs.ProvedLaws.Numbers.{number_of, Counts, Lives, counts-same, counts-after}
 
 -- a connection that goes lives
 fine-lives : (e : Event) (f g : FineState) → fine f e ≡ Some g → Lives f.state.tables e
@@ -35,7 +34,8 @@ fine-counts e f g up down h c = counts-after e f.state.tables g.state.tables up 
 -- and behind a list of them
 along-counts : (es : List Event) (f g : FineState) (up down : ℕ) → along fine (Some f) es ≡ Some g → Counts f.state.tables up down
     → Counts g.state.tables (up + ups es) (down + downs es)
-along-counts [] f g up down h c = subst (λ (x : FineState). Counts x.state.tables up down) (same_Some f g h) c
+along-counts [] f g up down h c =
+    subst (λ (x : FineState). Counts x.state.tables (up + 0) (down + 0)) (same_Some f g h) (counts-same f.state.tables f.state.tables up down refl refl c)
 along-counts (e ∷ es) f g up down h c = by (fine f e) refl h (along-counts es) where
   front : Counts g.state.tables (up + ups (e ∷ []) + ups es) (down + downs (e ∷ []) + downs es) → Counts g.state.tables (up + ups (e ∷ es)) (down + downs (e ∷ es))
   front there =
@@ -58,9 +58,9 @@ counts-hold log f stands =
     let events = events_of log in
     let counts = along-counts events (first_fine f.state.tables.abort_port) stands.last 0 0 stands.allowed (first-counts f.state.tables.abort_port) in
     let same = ap (λ (x : FineState). x.state.tables) stands.same in
-    let tables : Counts f.state.tables (ups events) (downs events) = subst (λ (x : Tables). Counts x (ups events) (downs events)) (sym same) counts in
+    let tables : Counts f.state.tables (0 + ups events) (0 + downs events) = subst (λ (x : Tables). Counts x (0 + ups events) (0 + downs events)) (sym same) counts in
     let long = length-map f.state.tables.connections number_of in
-    record { live = omega (arith, long, tables.live); next = tables.next }
+    record { live = omega (arith, long, tables.live); next = omega (arith, tables.next) }
 
 -- ---- room
 
@@ -77,6 +77,3 @@ few-holds log f r stands few low =
 
 pub room-holds : RoomLaw
 room-holds log f r stands even low = few-holds log f r stands (omega (arith, even)) low
-
-pub never-full : NeverFullLaw
-never-full seen r even low none = false≢true (sym none.full ∙ room-holds (groups seen) none.state r none.stands even low)

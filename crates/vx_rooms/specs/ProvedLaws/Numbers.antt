@@ -1,5 +1,5 @@
 -- The numbers of the connections that live, and how many they are behind each event.
-use Rattle.std.proofs.Common.{◌≡◌, ◌≢◌, ◌<◌, ◌≤◌, ◌+◌, ◌==◌, not, ℕ, Bool, true, false, cond, List, [], ◌∷◌, ◌++◌, map, length, count_by, Option, Some, None, is_some, refl, sym, ap, ◌∙◌, subst, arith}
+use Rattle.std.proofs.Common.{◌≡◌, ◌≢◌, ◌<◌, ◌≤◌, ◌+◌, ◌==◌, ◌||◌, not, ℕ, Bool, true, false, cond, List, [], ◌∷◌, ◌++◌, map, length, count_by, Option, Some, None, is_some, refl, sym, ap, ◌∙◌, subst, arith}
 use Rattle.std.specs.Prelude.{IsSome}
 use Rattle.std.specs.List.{All, AllPairs, filter, find, list_any}
 use Rattle.std.proofs.lemmas.Bool.{ne_eqb, eqb-true, cond-true, cond-false}
@@ -37,9 +37,10 @@ count-front p n ns = sum_by-cons (λ m. cond (p m) 1 0) n ns
 none-greater : (n : ℕ) (ns : List ℕ) → All (λ m. n < m) ns → count_by (λ m. m == n) ns ≡ 0
 none-greater n [] all = refl
 none-greater n (m ∷ ns) all =
-    let greater = All-head (λ k. n < k) m ns all in
+    let greater : n < m = All-head (λ k. n < k) m ns all in
     let rest = none-greater n ns (All-tail (λ k. n < k) m ns all) in
-    count-front (λ k. k == n) m ns ∙ ap (λ b. cond b 1 0 + count_by (λ k. k == n) ns) (ne_eqb m n (λ e. absurd (omega arith))) ∙ rest
+    let front = count-front (λ k. k == n) m ns ∙ ap (λ b. cond b 1 0 + count_by (λ k. k == n) ns) (ne_eqb m n (λ e. absurd (omega arith))) in
+    omega (arith, front, rest)
 
 -- a number that is among those that rise is so once
 once : (n : ℕ) (ns : List ℕ) → AllPairs (λ a b. a < b) ns → list_any (λ m. m == n) ns ≡ true → count_by (λ m. m == n) ns ≡ 1
@@ -47,7 +48,7 @@ once n [] rise has = cc
 once n (m ∷ ns) rise has =
     count-front (λ k. k == n) m ns ∙ by (m == n) refl has (once n ns (pairs_tail (λ a b. a < b) m ns rise))
   where
-    by : (b : Bool) → (m == n) ≡ b → cond b true (list_any (λ k. k == n) ns) ≡ true → (list_any (λ k. k == n) ns ≡ true → count_by (λ k. k == n) ns ≡ 1)
+    by : (b : Bool) → (m == n) ≡ b → (b || list_any (λ k. k == n) ns) ≡ true → (list_any (λ k. k == n) ns ≡ true → count_by (λ k. k == n) ns ≡ 1)
         → cond b 1 0 + count_by (λ k. k == n) ns ≡ 1
     by true is has rest =
         let none = none-greater n ns (subst (λ k. All (λ j. k < j) ns) (eqb-true m n is) (pairs_head (λ a b. a < b) m ns rise)) in omega (arith, none)
@@ -101,55 +102,51 @@ pub record Counts (t : Tables) (up down : ℕ) : Type 0 where
   pub next : t.next_connection ≡ up + 1
 
 -- it stays so where the numbers stay
-counts-same : (t u : Tables) (up down : ℕ) → numbers u.connections ≡ numbers t.connections → u.next_connection ≡ t.next_connection → Counts t up down → Counts u up down
+pub counts-same : (t u : Tables) (up down : ℕ) → numbers u.connections ≡ numbers t.connections → u.next_connection ≡ t.next_connection → Counts t up down
+    → Counts u (up + 0) (down + 0)
 counts-same t u up down same next c = record {
   rise = subst (AllPairs (λ a b. a < b)) (sym same) c.rise;
   below = subst (λ m. All (λ n. n < m) (numbers u.connections)) (sym next) (subst (All (λ n. n < t.next_connection)) (sym same) c.below);
-  live = ap (λ ns. length ns + down) same ∙ c.live;
-  next = next ∙ c.next;
+  live = let long = ap length same in omega (arith, long, c.live);
+  next = omega (arith, next, c.next);
 }
 
 -- a connection that comes up is one more
-counts-up : (t u : Tables) (r : Role) (up down : ℕ) → u ≡ with_connection t r → Counts t up down → Counts u (up + 1) down
-counts-up t u r up down is c = subst (λ (x : Tables). Counts x (up + 1) down) (sym is) here where
-  one : Connection
-  one = record { number = t.next_connection; role = r; pending = None }
+with-one : (t : Tables) (r : Role) (up down : ℕ) → Counts t up down → Counts (with_connection t r) (up + 1) (down + 0)
+with-one t r up down c =
+    let are : numbers (with_connection t r).connections ≡ numbers t.connections ++ t.next_connection ∷ [] =
+    map_push number_of t.connections (record { number = t.next_connection; role = r; pending = None }) in
+    let long = ap length are ∙ length-append (numbers t.connections) (t.next_connection ∷ []) in
+    record {
+      rise = subst (AllPairs (λ a b. a < b)) (sym are) (all_pairs_push (λ a b. a < b) (numbers t.connections) t.next_connection c.rise (λ k d h. c.below k d h));
+      below = subst (All (λ n. n < t.next_connection + 1)) (sym are)
+          (All-push (λ n. n < t.next_connection + 1) (numbers t.connections) t.next_connection
+          (All-weaker (λ n. n < t.next_connection) (λ n. n < t.next_connection + 1) (λ n h. omega (arith, h)) (numbers t.connections) c.below) (omega arith));
+      live = omega (arith, long, c.live);
+      next = omega (arith, c.next);
+    }
 
-  are : numbers (t.connections ++ one ∷ []) ≡ numbers t.connections ++ t.next_connection ∷ []
-  are = map_push number_of t.connections one
-
-  here : Counts (with_connection t r) (up + 1) down
-  here = record {
-    rise = subst (AllPairs (λ a b. a < b)) (sym are) (all_pairs_push (λ a b. a < b) (numbers t.connections) t.next_connection c.rise (λ k d h. c.below k d h));
-    below = subst (All (λ n. n < t.next_connection + 1)) (sym are)
-        (All-push (λ n. n < t.next_connection + 1) (numbers t.connections) t.next_connection
-        (All-weaker (λ n. n < t.next_connection) (λ n. n < t.next_connection + 1) (λ n h. omega (arith, h)) (numbers t.connections) c.below) (omega arith));
-    live = let long = ap length are ∙ length-append (numbers t.connections) (t.next_connection ∷ []) in omega (arith, long, c.live);
-    next = omega (arith, c.next);
-  }
+counts-up : (t u : Tables) (r : Role) (up down : ℕ) → u ≡ with_connection t r → Counts t up down → Counts u (up + 1) (down + 0)
+counts-up t u r up down is c = subst (λ (x : Tables). Counts x (up + 1) (down + 0)) (sym is) (with-one t r up down c)
 
 -- one that goes is one fewer
-counts-down : (t u : Tables) (conn up down : ℕ) → u ≡ without_connection t conn → IsSome (connection_at t conn) → Counts t up down → Counts u up (down + 1)
-counts-down t u conn up down is lives c = subst (λ (x : Tables). Counts x up (down + 1)) (sym is) here where
-  keeps : ℕ → Bool
-  keeps n = not (n == conn)
+without-one : (t : Tables) (conn up down : ℕ) → IsSome (connection_at t conn) → Counts t up down → Counts (without_connection t conn) (up + 0) (down + 1)
+without-one t conn up down lives c =
+    let are : numbers (without_connection t conn).connections ≡ filter (λ n. not (n == conn)) (numbers t.connections) =
+    filter-map number_of (λ n. not (n == conn)) t.connections in
+    let among : list_any (λ n. n == conn) (numbers t.connections) ≡ true =
+    sym (list_any-map number_of (λ n. n == conn) t.connections) ∙ sym (is_some-find (λ (d : Connection). d.number == conn) t.connections) ∙ lives in
+    let fewer = one-fewer conn (numbers t.connections) c.rise among in
+    let long = ap length are in
+    record {
+      rise = subst (AllPairs (λ a b. a < b)) (sym are) (AllPairs-filter (λ a b. a < b) (λ n. not (n == conn)) (numbers t.connections) c.rise);
+      below = subst (All (λ n. n < t.next_connection)) (sym are) (All-filter (λ n. not (n == conn)) (λ n. n < t.next_connection) (numbers t.connections) c.below);
+      live = omega (arith, long, fewer, c.live);
+      next = omega (arith, c.next);
+    }
 
-  are : numbers (filter (λ d. not (d.number == conn)) t.connections) ≡ filter keeps (numbers t.connections)
-  are = filter-map number_of keeps t.connections
-
-  among : list_any (λ n. n == conn) (numbers t.connections) ≡ true
-  among = sym (list_any-map number_of (λ n. n == conn) t.connections) ∙ sym (is_some-find (λ d. d.number == conn) t.connections) ∙ lives
-
-  here : Counts (without_connection t conn) up (down + 1)
-  here = record {
-    rise = subst (AllPairs (λ a b. a < b)) (sym are) (AllPairs-filter (λ a b. a < b) keeps (numbers t.connections) c.rise);
-    below = subst (All (λ n. n < t.next_connection)) (sym are) (All-filter keeps (λ n. n < t.next_connection) (numbers t.connections) c.below);
-    live =
-        let fewer = one-fewer conn (numbers t.connections) c.rise among in
-        let long = ap length are in
-        omega (arith, long, fewer, c.live);
-    next = c.next;
-  }
+counts-down : (t u : Tables) (conn up down : ℕ) → u ≡ without_connection t conn → IsSome (connection_at t conn) → Counts t up down → Counts u (up + 0) (down + 1)
+counts-down t u conn up down is lives c = subst (λ (x : Tables). Counts x (up + 0) (down + 1)) (sym is) (without-one t conn up down lives c)
 
 -- the connection whose end an event tells lives
 abbrev pub Lives : Tables → Event → Type 0
