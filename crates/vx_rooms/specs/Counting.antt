@@ -1,10 +1,11 @@
 -- How many connections come up and go down by the events of a history.
-use Rattle.std.specs.Prelude.{◌≡◌, ◌≤◌, ◌+◌, ℕ, Bool, true, false, List, length, count_by}
+use Rattle.std.specs.Prelude.{◌≡◌, ◌≤◌, ◌+◌, ℕ, Bool, true, false, List, map, length, count_by}
 use Rattle.vx_flow.specs.Event.{Event, Up, Down}
 use Rattle.vx_flow.specs.FineState.{FineState}
 use Rattle.vx_gate.specs.History.{groups}
 use Rattle.vx_gate.specs.PassView.{PassView, all_parts}
 use Rattle.vx_history.specs.Groups.{Group, events_of}
+use Rattle.vx_session.specs.Placing.{Placed}
 
 -- whether a connection comes up by the event
 abbrev pub comes_up : Event → Bool
@@ -23,6 +24,10 @@ ups events = count_by comes_up events
 -- how many go down by them
 abbrev pub downs : List Event → ℕ
 downs events = count_by goes_down events
+
+-- the events of these groups
+abbrev pub events_by : List Placed → List Event
+events_by placed = events_of (map (λ p. p.group) placed)
 
 -- By these events as many connections came up as live in the state or went down; and each that came up took the next number, from 1
 -- on.

@@ -3,7 +3,15 @@
 pub mod Events
 pub mod Numbers
 pub mod Counted
+pub mod Sessions
+pub mod Clear
 -- lists of events, one after another; and where no connection comes up or goes down
 pub use Rattle.vx_rooms.specs.ProvedLaws.Events.{ups-append, downs-append, ups-front, downs-front, events_of-append, IsNeither, front-steady, all-steady, append-steady}
 -- how many connections live behind a history, and where there is room for one more
 pub use Rattle.vx_rooms.specs.ProvedLaws.Counted.{counts-hold, few-holds, room-holds}
+-- groups of a pass; a call, a device_abort, a message and the messages of a session have no connection come up or go down
+pub use Rattle.vx_rooms.specs.ProvedLaws.Sessions.{events_by-append, none-steady, more-steady, called-steady, aborted-steady, served-steady, items-steady, makes-ups, makes-downs, makes-alone}
+-- connects and ends, and a whole link: its connection came up and went, or none came up
+pub use Rattle.vx_rooms.specs.ProvedLaws.Sessions.{joined-holds, refused-holds, left-holds, ends-made, came-and-went, none-came, came-undone, link-counts}
+-- one link after another: where each connection went down again none is refused for want of room
+pub use Rattle.vx_rooms.specs.ProvedLaws.Clear.{clear-first, clear-on, never-full}

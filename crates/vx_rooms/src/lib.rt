@@ -3,4 +3,4 @@
 
 mod laws;
 
-pub use laws::room_law;
+pub use laws::{room_law, turns_law};
