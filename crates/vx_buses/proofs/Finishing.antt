@@ -26,7 +26,7 @@ use Rattle.vx_buses.proofs.Fours.{each-number}
 use Rattle.vx_buses.proofs.Progressing.{StreamServed}
 
 -- of a history that a pass has seen, all holds that is claimed
-upholds : HeadlineOfGroupsLaw → OwnedLaw → (pass : PassView Group) → IsHistory pass.seen → Upholds pass
+pub upholds : HeadlineOfGroupsLaw → OwnedLaw → (pass : PassView Group) → IsHistory pass.seen → Upholds pass
 upholds headline owned pass h = record {
   history = h;
   headline = headline (groups pass.seen) h.state h.stands;
@@ -34,7 +34,7 @@ upholds headline owned pass h = record {
 }
 
 -- no number is given twice over four histories of which that holds
-gives-once : OnceLaw → (f : Four (PassView Group)) → Upholds f.zero_ → Upholds f.one → Upholds f.two → Upholds f.three → GivesOnce f
+pub gives-once : OnceLaw → (f : Four (PassView Group)) → Upholds f.zero_ → Upholds f.one → Upholds f.two → Upholds f.three → GivesOnce f
 gives-once once f zeroth first second third =
     once zeroth.history.state.state.tables.abort_port first.history.state.state.tables.abort_port second.history.state.state.tables.abort_port third.history.state.state.tables.abort_port
     (history_of f.zero_) (history_of f.one) (history_of f.two) (history_of f.three) _ _ _ _

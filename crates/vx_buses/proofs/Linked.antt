@@ -1,18 +1,24 @@
 -- A link's connections: what their passes keep, and how they are refused.
-use Rattle.std.proofs.Common.{◌≡◌, ◌≤◌, ℕ, List, Result, Err, refl, sym, ◌∙◌, subst, arith}
+use Rattle.std.proofs.Common.{◌≡◌, ◌≤◌, ℕ, List, Result, Ok, Err, refl, sym, ◌∙◌, subst, arith}
 use Rattle.vx_bus_traits.specs.declared.bus.Bus.{Ghosts}
 use Rattle.vx_gate.specs.PassView.{PassView, GateId}
 use Rattle.vx_gates.specs.Four.{Four, at, Each}
 use Rattle.vx_gates.specs.Passing.{IsOf}
 use Rattle.vx_history.specs.Groups.{Group}
+use Rattle.vx_history.specs.Laws.{HeadlineOfGroupsLaw, OwnedLaw}
+use Rattle.vx_routes.specs.Given.{OnceLaw}
 use Rattle.vx_tables.specs.declared.tables.Connect.{Connect}
 use Rattle.vx_tables.specs.declared.tables.Connect.TheVariants as connect
 use Rattle.vx_stream.specs.Shown.{LinkShown}
 use Rattle.vx_session.specs.Linking.{refused_as}
-use Rattle.vx_session.specs.Placing.{Placed, Makes}
+use Rattle.vx_session.specs.Placing.{Placed, Makes, IsHistory}
+use Rattle.vx_session.specs.Ending.{Upholds}
 use Rattle.vx_session.specs.declared.links.Linked.{Linked}
-use Rattle.vx_buses.specs.Joining.{JoinsAll, UndoneAll, outcome}
+use Rattle.vx_buses.specs.Ending.{GivesOnce}
+use Rattle.vx_buses.specs.Joining.{JoinsAll, Undone, UndoneAll, outcome}
 use Rattle.vx_buses.specs.Linking.{LinkDid}
+use Rattle.vx_buses.proofs.Finishing.{upholds, gives-once}
+use Rattle.vx_buses.proofs.Fours.{each-number}
 
 -- passes that made groups are of the gates that they were of
 pub gates-kept : (told : ℕ) (p p' : Four (PassView Group)) (gates : Four GateId) (made : ℕ → List Placed) → ((bus : ℕ) → bus ≤ 3 → Makes told (at bus p) (made bus) (at bus p'))
@@ -24,12 +30,33 @@ gates-kept told p p' gates made makes each = record {
   three = (makes 3 (omega arith)).gate ∙ each.three;
 }
 
+-- a history that a pass has seen behind its connection's end, or behind its refusal
+undone-history : (up pass' : PassView Group) (answer : Result ℕ Connect) → IsHistory up.seen → Undone up answer pass' → IsHistory pass'.seen
+undone-history up pass' (Ok conn) h leaves = leaves.turns.history
+undone-history up pass' (Err why) h same = subst (λ (p : PassView Group). IsHistory p.seen) (sym same) h
+
+-- so all holds that is claimed of the histories of four
+undone-uphold : HeadlineOfGroupsLaw → OwnedLaw → (passes up passes' : Four (PassView Group)) (joined : Four (Result ℕ Connect)) → JoinsAll passes joined up → UndoneAll up joined passes'
+    → (bus : ℕ) → bus ≤ 3 → Upholds (at bus passes')
+undone-uphold headline owned passes up passes' joined joins undone =
+    each-number (λ b. Upholds (at b passes'))
+    (upholds headline owned passes'.zero_ (undone-history up.zero_ passes'.zero_ joined.zero_ joins.zero_.turns.history undone.zero_))
+    (upholds headline owned passes'.one (undone-history up.one passes'.one joined.one joins.one.turns.history undone.one))
+    (upholds headline owned passes'.two (undone-history up.two passes'.two joined.two joins.two.turns.history undone.two))
+    (upholds headline owned passes'.three (undone-history up.three passes'.three joined.three joins.three.turns.history undone.three))
+
 -- the connections were refused, and their link is told so
-pub link-refused : {B L : Type 0} (g : Ghosts B) (stands : L → List ℕ → List ℕ → Type 0) (told : ℕ) (passes up passes' : Four (PassView Group)) (link : L) (seen : LinkShown)
-    (joined : Four (Result ℕ Connect)) (why : Connect) (how : Linked) → how ≡ refused_as why → JoinsAll passes joined up → outcome joined ≡ Err why → UndoneAll up joined passes'
+pub link-refused : {B L : Type 0} (g : Ghosts B) (stands : L → List ℕ → List ℕ → Type 0) → HeadlineOfGroupsLaw → OwnedLaw → OnceLaw → (told : ℕ) (passes up passes' : Four (PassView Group)) (link : L)
+    (seen : LinkShown) (joined : Four (Result ℕ Connect)) (why : Connect) (how : Linked) → how ≡ refused_as why → JoinsAll passes joined up → outcome joined ≡ Err why → UndoneAll up joined passes'
     → LinkDid g stands told passes link seen how passes' link seen
-link-refused g stands told passes up passes' link seen joined why how how_is joins is undone =
+link-refused g stands headline owned law told passes up passes' link seen joined why how how_is joins is undone =
     subst (λ h. LinkDid g stands told passes link seen h passes' link seen) (sym how_is) (by why is) where
+      all : (bus : ℕ) → bus ≤ 3 → Upholds (at bus passes')
+      all = undone-uphold headline owned passes up passes' joined joins undone
+
+      once : GivesOnce passes'
+      once = gives-once law passes' (all 0 (omega arith)) (all 1 (omega arith)) (all 2 (omega arith)) (all 3 (omega arith))
+
       by : (c : Connect) → outcome joined ≡ Err c → LinkDid g stands told passes link seen (refused_as c) passes' link seen
-      by connect.Full refused = record { joined = joined; up = up; joins = joins; refused = refused; undone = undone; same = refl }
-      by connect.NoMemory refused = record { joined = joined; up = up; joins = joins; refused = refused; undone = undone; same = refl }
+      by connect.Full refused = record { joined = joined; up = up; joins = joins; refused = refused; undone = undone; same = refl; upholds = all; once = once }
+      by connect.NoMemory refused = record { joined = joined; up = up; joins = joins; refused = refused; undone = undone; same = refl; upholds = all; once = once }

@@ -5,6 +5,9 @@ pub mod Asking
 pub mod Ending
 pub mod Joining
 pub mod Linking
+pub mod Hosting
+pub mod Starting
+pub mod Outcome
 pub use Rattle.vx_session.specs.Placing
 pub use Rattle.vx_stream.specs.Shown
 pub use Rattle.vx_stream.specs.Stopping

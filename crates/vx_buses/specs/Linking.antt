@@ -1,9 +1,9 @@
 -- What became of a link: a connection to each bus came up and they had their session, or none stayed.
-use Rattle.std.specs.Prelude.{◌≡◌, ℕ, Bool, true, false, List, Result, Ok, Err}
+use Rattle.std.specs.Prelude.{◌≡◌, ◌≤◌, ℕ, Bool, true, false, List, Result, Ok, Err}
 use Rattle.vx_calls.specs.declared.calls.Role.TheVariants as role
 use Rattle.vx_bus_traits.specs.declared.bus.Bus.{Ghosts}
 use Rattle.vx_gate.specs.PassView.{PassView}
-use Rattle.vx_gates.specs.Four.{Four}
+use Rattle.vx_gates.specs.Four.{Four, at}
 use Rattle.vx_history.specs.Groups.{Group}
 use Rattle.vx_tables.specs.declared.tables.Connect.{Connect}
 use Rattle.vx_tables.specs.declared.tables.Connect.TheVariants as connect
@@ -12,7 +12,8 @@ use Rattle.vx_stream.specs.declared.ends.End.{End}
 use Rattle.vx_stream.specs.declared.ends.End.TheVariants as end
 use Rattle.vx_session.specs.declared.links.Linked.{Linked}
 use Rattle.vx_session.specs.declared.links.Linked.TheVariants as linked
-use Rattle.vx_buses.specs.Ending.{SessionDid}
+use Rattle.vx_session.specs.Ending.{Upholds}
+use Rattle.vx_buses.specs.Ending.{SessionDid, GivesOnce}
 use Rattle.vx_buses.specs.Joining.{JoinsAll, UndoneAll, outcome}
 
 -- a connection to each bus came up by the first turn of its pass, and they had their session
@@ -25,7 +26,8 @@ pub record HadSession {B L : Type 0} (g : Ghosts B) (stands : L → List ℕ →
   pub all : outcome joined ≡ Ok conns
   pub did : SessionDid g stands told role.Core conns up link seen how passes' link' seen'
 
--- One didn't come up, and the first was refused for this cause: those that did went again, and the link is untouched.
+-- One didn't come up, and the first was refused for this cause: those that did went again, the link is untouched, and all that is
+-- claimed of the histories that the passes have seen holds too.
 pub record WasRefused {L : Type 0} (passes : Four (PassView Group)) (link : L) (why : Connect) (passes' : Four (PassView Group)) (link' : L) : Type 0 where
   pub joined : Four (Result ℕ Connect)
   pub up : Four (PassView Group)
@@ -33,6 +35,8 @@ pub record WasRefused {L : Type 0} (passes : Four (PassView Group)) (link : L) (
   pub refused : outcome joined ≡ Err why
   pub undone : UndoneAll up joined passes'
   pub same : link' ≡ link
+  pub upholds : (bus : ℕ) → bus ≤ 3 → Upholds (at bus passes')
+  pub once : GivesOnce passes'
 
 abbrev pub LinkDid : {B L : Type 0} → Ghosts B → (L → List ℕ → List ℕ → Type 0) → ℕ → Four (PassView Group) → L → LinkShown → Linked → Four (PassView Group) → L → LinkShown → Type 0
 LinkDid g stands told passes link seen (linked.Ended how) passes' link' seen' = HadSession g stands told passes link seen how passes' link' seen'

@@ -4,12 +4,16 @@
 
 mod answering;
 mod asking;
+mod hosting;
 mod joining;
 mod leaving;
 mod links;
+mod run;
 mod sessions;
+mod starting;
 
 pub use links::many_link;
+pub use run::buses_run;
 pub use sessions::{many_abort, many_session};
 use vx_core::Core;
 use vx_gates::{Gates, GatesRefused, Passes};

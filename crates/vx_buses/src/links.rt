@@ -15,7 +15,9 @@ use std::alloc::Global;
 use std::sync::Wait;
 use vx_bus_traits::Bus;
 use vx_core::Connect;
+use vx_history::{headline_law, owned_law};
 use vx_io_traits::{Clock, Link, Pause};
+use vx_routes::given_once_law;
 use vx_session::{Linked, Room};
 
 /// Why connections didn't come up, as their link is told.
@@ -47,6 +49,9 @@ pub fn many_link<R: Wait, B: Bus, L: Link, C: Clock, P: Pause>(
     ensures gates { Each IsOf (passes_shown result.0) (gates_shown buses.now) }
     ensures told { C.told clock.old ≤ C.told clock.new }
 {
+    headline_law();
+    owned_law();
+    given_once_law();
     let (passes, joined) = join_all(rt, alloc, buses, passes);
     match outcome(&joined) {
         Err(why) => (undo_all(rt, buses, passes, &joined), refused(why)),

@@ -1,0 +1,35 @@
+-- The four gateways of the program as they start.
+use Rattle.std.specs.Prelude.{◌≡◌, ℕ, List, [], ◌∷◌, ◌++◌, None}
+use Rattle.vx_488.specs.declared.transfers.Addr.{Addr}
+use Rattle.vx_flow.specs.FineState.{first_fine}
+use Rattle.vx_inst.specs.Behavior.{Behavior}
+use Rattle.vx_rack.specs.declared.Spare.{Spare}
+use Rattle.vx_sim.specs.Occupants.{Seated, Boxed, handed_in}
+use Rattle.vx_sim.specs.SimState.{SimState, first_state}
+use Rattle.vx_sim.specs.Attaching.{IsAttached}
+use Rattle.vx_core.specs.CoreState.{CoreState}
+
+-- primary address 5, without a secondary
+abbrev pub place : Addr
+place = record { p = 5; s = None }
+
+-- a gateway with nothing in it, whose abort channel is at port 9011, over a bus that nobody has asked yet, on which this instrument
+-- stands at primary address 5
+pub record IsFurnished (inst : Seated) (core : CoreState SimState) : Type 0 where
+  pub fine : core.fine ≡ first_fine 9011
+  pub bus : IsAttached place (Boxed inst) first_state core.bus
+
+-- one for each of these instruments, in their order
+abbrev pub AreFurnished : List Seated → List (CoreState SimState) → Type 0
+AreFurnished [] [] = Unit {0}
+AreFurnished [] (core ∷ cores) = ⊥
+AreFurnished (inst ∷ insts) [] = ⊥
+AreFurnished (inst ∷ insts) (core ∷ cores) = IsFurnished inst core × AreFurnished insts cores
+
+-- the first instrument of a rack was taken, and a gateway over it stands behind the others
+pub record AddsCore {I : Type 0} (behaves : I → Behavior) (nature : I → List ℕ) (rack : List (Spare I)) (cores : List (CoreState SimState)) (rack' : List (Spare I)) (cores' : List (CoreState SimState)) : Type 0 where
+  pub spare : Spare I
+  pub core : CoreState SimState
+  pub rack_is : rack ≡ spare ∷ rack'
+  pub cores_are : cores' ≡ cores ++ core ∷ []
+  pub furnished : IsFurnished (handed_in behaves nature spare.inst) core

@@ -1,0 +1,68 @@
+//! Four gateways as what serves the links of a door.
+ghost use Rattle.std.specs.Prelude.{◌≡◌, option_map, Some};
+ghost use Rattle.vx_gates.specs.Passing.{passes_shown};
+ghost use Rattle.vx_gates.specs.Standing.{gates_shown};
+ghost use Rattle.vx_buses.specs.Hosting.{IsReady};
+
+use crate::links::many_link;
+use crate::{BusPass, Buses};
+use std::alloc::Global;
+use std::sync::Wait;
+use vx_bus_traits::Bus;
+use vx_door::{Door, Serves};
+use vx_io_traits::{Clock, Pause};
+use vx_session::{Linked, Room};
+
+/// Four gateways, and what a session to them wants. The passes are out of their place while a link is served, and at no other time.
+#[derive(Drop)]
+pub(crate) struct Host<'a, R, B: Bus, C, P> {
+    pub rt: &'a R,
+    pub alloc: Global,
+    pub buses: Buses<B>,
+    pub held: Option<BusPass<B>>,
+    pub clock: C,
+    pub pause: P,
+    pub room: Room,
+}
+
+impl<'a, R: Wait, N: Door, B: Bus, C: Clock, P: Pause> Serves<N> for Host<'a, R, B, C, P> {
+    ghost use Rattle.std.specs.Prelude.{◌≡◌, ◌≤◌, ◌⊎◌, true, option_map};
+    ghost use Rattle.vx_io_traits.specs.Faults.{Rose};
+    ghost use Rattle.vx_door.specs.Serving.{is_cut};
+    ghost use Rattle.vx_gates.specs.Passing.{passes_shown};
+    ghost use Rattle.vx_gates.specs.Standing.{gates_shown};
+    ghost use Rattle.vx_stream.specs.Shown.{link_shown};
+    ghost use Rattle.vx_buses.specs.Hosting.{IsReady, PeerDid, passes_of};
+    ghost use Rattle.vx_buses.specs.Linking.{is_own, is_whole};
+
+    type End = Linked;
+
+    ghost can = { λ s. IsReady (option_map passes_shown s.held) (gates_shown s.buses) };
+
+    ghost did = { λ s door how s' door'. PeerDid B.Bus N.stands N.receives N.sends (link_shown N.left N.peers N.receive_faults N.send_faults)
+        (record { passes = passes_of (option_map passes_shown s.held); told = C.told s.clock }) door how
+        (record { passes = passes_of (option_map passes_shown s'.held); told = C.told s'.clock }) door' };
+
+    ghost is_own = { is_own };
+
+    ghost is_whole = { is_whole };
+
+    /// Has a connection to each bus come up, and has them serve the link's records, to their end.
+    fn serve(&mut self, door: &mut N) -> Linked {
+        let Some(passes) = self.held.take() else {
+            unreachable!()
+        };
+        let (passes, how) = many_link(
+            self.rt,
+            self.alloc,
+            &self.buses,
+            passes,
+            door,
+            &mut self.clock,
+            &mut self.pause,
+            &mut self.room,
+        );
+        self.held = Some(passes);
+        how
+    }
+}

@@ -1,0 +1,160 @@
+//! All that the program `vxbuses` does: the words, the port, the links that come there, the lines that are printed, and the status.
+ghost use Rattle.std.specs.Prelude.{◌≡◌, length, map, string_bytes};
+ghost use Rattle.vx_door.specs.Shown.{door_shown};
+ghost use Rattle.vx_gates.specs.Four.{Each};
+ghost use Rattle.vx_gates.specs.Passing.{passes_shown, IsFirst};
+ghost use Rattle.vx_gates.specs.Standing.{gates_shown};
+ghost use Rattle.vx_stream.specs.Shown.{link_shown};
+ghost use Rattle.vx_buses.specs.Outcome.{Hosts, IsAskRun, IsRun, EndsRun};
+
+use crate::hosting::Host;
+use crate::starting::start_buses;
+use crate::{BusPass, Buses};
+use std::alloc::Global;
+use std::sync::Wait;
+use vx_bus_traits::Bus;
+use vx_door::Door;
+use vx_inst::Instrument;
+use vx_io_traits::Sink;
+use vx_peers::{Ask, Status, ask_of, put_line, serve_peers};
+use vx_rack::Spare;
+use vx_session::{Room, Tools};
+use vx_sim::SimBus;
+
+/// Serves what is asked for by four gateways that nobody has asked yet.
+fn serve_ask<R: Wait, B: Bus + Drop, N: Door, X: Tools, K: Sink>(
+    rt: &R,
+    alloc: Global,
+    ask: &Ask,
+    buses: Buses<B>,
+    passes: BusPass<B>,
+    room: Room,
+    net: &mut N,
+    tools: &mut X,
+    sink: &mut K,
+) -> Status
+    requires first { Each IsFirst (passes_shown passes) (gates_shown buses) }
+    ensures { Hosts B.Bus (record {
+      stands = N.stands;
+      receives = N.receives;
+      sends = N.sends;
+      tells = N.tells;
+      waits = N.meets;
+      door = door_shown N.met N.ended N.faults N.receive_faults N.send_faults N.left N.peers;
+      link = link_shown N.left N.peers N.receive_faults N.send_faults;
+    }) ask.now net.old net.new
+        (record { bytes = K.taken sink.old; faults = K.faults sink.old })
+        (record { bytes = K.taken sink.new; faults = K.faults sink.new }) result }
+{
+    let mut host = Host {
+        rt,
+        alloc,
+        buses,
+        held: Some(passes),
+        clock: tools.clock(),
+        pause: tools.pause(),
+        room,
+    };
+    serve_peers(ask, &mut host, net, sink)
+}
+
+/// Does what is asked. All memory but that of the links' connections is taken before the port is opened.
+fn run_ask<R: Wait, I: Instrument, N: Door, X: Tools, K: Sink>(
+    rt: &R,
+    alloc: Global,
+    ask: &Ask,
+    net: &mut N,
+    tools: &mut X,
+    sink: &mut K,
+    rack: Vec<Spare<I>>,
+) -> Status
+    requires four { length rack.items ≡ 4 }
+    ensures { IsAskRun ⟦<SimBus<I> as Bus>⟧ (record {
+      stands = N.stands;
+      receives = N.receives;
+      sends = N.sends;
+      tells = N.tells;
+      waits = N.meets;
+      door = door_shown N.met N.ended N.faults N.receive_faults N.send_faults N.left N.peers;
+      link = link_shown N.left N.peers N.receive_faults N.send_faults;
+    }) ask.now net.old net.new
+        (record { bytes = K.taken sink.old; faults = K.faults sink.old })
+        (record { bytes = K.taken sink.new; faults = K.faults sink.new }) result }
+{
+    let Ok(room) = Room::new(alloc) else {
+        return Status::NoMemory;
+    };
+    match start_buses(alloc, rack) {
+        Some((buses, passes)) => serve_ask(rt, alloc, ask, buses, passes, room, net, tools, sink),
+        None => Status::NoMemory,
+    }
+}
+
+fn run<R: Wait, I: Instrument, N: Door, X: Tools, K: Sink>(
+    rt: &R,
+    alloc: Global,
+    words: &[String],
+    net: &mut N,
+    tools: &mut X,
+    sink: &mut K,
+    rack: Vec<Spare<I>>,
+) -> Status
+    requires four { length rack.items ≡ 4 }
+    ensures { IsRun ⟦<SimBus<I> as Bus>⟧ (record {
+      stands = N.stands;
+      receives = N.receives;
+      sends = N.sends;
+      tells = N.tells;
+      waits = N.meets;
+      door = door_shown N.met N.ended N.faults N.receive_faults N.send_faults N.left N.peers;
+      link = link_shown N.left N.peers N.receive_faults N.send_faults;
+    }) (map string_bytes words.now) net.old net.new
+        (record { bytes = K.taken sink.old; faults = K.faults sink.old })
+        (record { bytes = K.taken sink.new; faults = K.faults sink.new }) result }
+{
+    match ask_of(words) {
+        Some(ask) => run_ask(rt, alloc, &ask, net, tools, sink, rack),
+        None => put_line(sink, b"usage: vxbuses PORT N\n", Status::Usage),
+    }
+}
+
+/// All that the program `vxbuses` does: it serves links to four buses, `gpib0` to `gpib3`, one link after another, and answers the exit
+/// status.
+///
+/// The words are `PORT N`, with a port 1 to 65,535 and N 1 to 1,000,000, in decimal digits without a leading zero. Each bus is a
+/// simulated one with the instrument of its place in the rack at primary address 5, and is a gateway behind a gate of its own; their
+/// histories begin with nothing. Each link that comes to the port has a connection to each bus, and their session ([`many_link`]). A
+/// link for whose connections there is no memory gets nothing, and counts as served. At the end `served N` is printed with the number of
+/// links: those asked for, or fewer where no more come.
+///
+/// - 0: the line was printed.
+/// - 1, `usage: vxbuses PORT N`: the words have another form. Nothing is opened.
+/// - 3, nothing printed: the port couldn't be opened, or a wait for a link failed.
+/// - 5, nothing printed and nothing opened: there was no memory.
+/// - 6: the sink failed; a front of what was due was written.
+///
+/// A fault of a link ends that link alone.
+pub fn buses_run<R: Wait, I: Instrument, N: Door, X: Tools, K: Sink>(
+    rt: &R,
+    alloc: Global,
+    words: &[String],
+    net: &mut N,
+    tools: &mut X,
+    sink: &mut K,
+    rack: Vec<Spare<I>>,
+) -> u8
+    requires four { length rack.items ≡ 4 }
+    ensures { EndsRun ⟦<SimBus<I> as Bus>⟧ (record {
+      stands = N.stands;
+      receives = N.receives;
+      sends = N.sends;
+      tells = N.tells;
+      waits = N.meets;
+      door = door_shown N.met N.ended N.faults N.receive_faults N.send_faults N.left N.peers;
+      link = link_shown N.left N.peers N.receive_faults N.send_faults;
+    }) (map string_bytes words.now) net.old net.new
+        (record { bytes = K.taken sink.old; faults = K.faults sink.old })
+        (record { bytes = K.taken sink.new; faults = K.faults sink.new }) result }
+{
+    run(rt, alloc, words, net, tools, sink, rack).number()
+}

@@ -1,0 +1,78 @@
+//! The gateways of the program as they start: each over a simulated bus with one instrument.
+ghost use Rattle.std.specs.Prelude.{◌≡◌, ◌<◌, ◌++◌, ◌∷◌, [], length, map, IfSome, OnSome};
+ghost use Rattle.vx_gates.specs.Four.{Each};
+ghost use Rattle.vx_gates.specs.Passing.{passes_shown, IsFirst};
+ghost use Rattle.vx_gates.specs.Standing.{gates_shown};
+ghost use Rattle.vx_sim.specs.Occupants.{handed_in};
+ghost use Rattle.vx_buses.specs.Starting.{IsFurnished, AreFurnished, AddsCore};
+
+use crate::{BusPass, Buses};
+use std::alloc::Global;
+use vx_488::Addr;
+use vx_core::Core;
+use vx_group::first_law;
+use vx_inst::Instrument;
+use vx_rack::Spare;
+use vx_sim::SimBus;
+
+/// The TCP port of the abort channels, which a create_link tells.
+const ABORT_PORT: u16 = 9011;
+
+/// The primary address at which the instrument of each bus stands.
+const PLACE: u8 = 5;
+
+/// A gateway with nothing in it, over a bus with this instrument.
+fn core_of<I: Instrument>(alloc: Global, inst: I) -> Option<Core<SimBus<I>>>
+    ensures { IfSome result (λ core. IsFurnished (handed_in (λ i. I.behaves i) (λ i. I.nature i) inst) core) }
+{
+    let Ok(mut bus) = SimBus::new(alloc) else {
+        return None;
+    };
+    let place = Addr { p: PLACE, s: None };
+    match bus.attach_box(place, inst) {
+        Ok(()) => Core::start(alloc, bus, ABORT_PORT).ok(),
+        Err(_) => None,
+    }
+}
+
+/// Adds a gateway over a bus with the first instrument of the rack, which is taken from there.
+fn add_core<I: Instrument>(
+    alloc: Global,
+    cores: &mut Vec<Core<SimBus<I>>>,
+    rack: &mut Vec<Spare<I>>,
+) -> Option<()>
+    requires { 0 < length rack.old.items }
+    ensures { IfSome result (λ _. AddsCore (λ i. I.behaves i) (λ i. I.nature i) rack.old.items cores.old.items rack.new.items cores.new.items) }
+{
+    let spare = rack.remove(0);
+    let core = core_of(alloc, spare.inst)?;
+    cores.push(core).ok()
+}
+
+/// A gateway for each of four instruments, in their order.
+fn cores_of<I: Instrument>(alloc: Global, rack: Vec<Spare<I>>) -> Option<Vec<Core<SimBus<I>>>>
+    requires { length rack.items ≡ 4 }
+    ensures { IfSome result (λ cores. AreFurnished (map (λ s. handed_in (λ i. I.behaves i) (λ i. I.nature i) s.inst) rack.items) cores.items) }
+{
+    let mut rack = rack;
+    let mut cores = Vec::new(alloc);
+    add_core(alloc, &mut cores, &mut rack)?;
+    add_core(alloc, &mut cores, &mut rack)?;
+    add_core(alloc, &mut cores, &mut rack)?;
+    add_core(alloc, &mut cores, &mut rack)?;
+    Some(cores)
+}
+
+/// Four gateways behind gates of their own, bus 0 to 3, each over a bus with the instrument of its place in the rack at primary address
+/// 5, and the first passes.
+pub(crate) fn start_buses<I: Instrument>(
+    alloc: Global,
+    rack: Vec<Spare<I>>,
+) -> Option<(Buses<SimBus<I>>, BusPass<SimBus<I>>)>
+    requires { length rack.items ≡ 4 }
+    ensures { IfSome result (λ r. Each IsFirst (passes_shown r.1) (gates_shown r.0)) }
+{
+    first_law();
+    let cores = cores_of(alloc, rack)?;
+    Buses::start(alloc, cores).ok()
+}
