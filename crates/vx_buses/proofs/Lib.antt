@@ -4,3 +4,6 @@ pub mod Answered
 pub mod Progressing
 pub mod Finishing
 pub mod Linked
+pub mod Hosted
+pub mod Furnished
+pub mod Ran

@@ -11,6 +11,7 @@ use vx_488::Addr;
 use vx_buses::{BusPass, Buses};
 use vx_core::Core;
 use vx_group::first_law;
+use vx_io::Pause;
 use vx_rack::Echo;
 use vx_sim::SimBus;
 
@@ -63,6 +64,18 @@ pub(crate) fn fleet(alloc: Global) -> Option<(Buses<Bench>, BusPass<Bench>)>
     ensures { IfSome result (λ r. Each IsOf (passes_shown r.1) (gates_shown r.0)) }
 {
     Buses::start(alloc, cores_of(alloc)?).ok()
+}
+
+/// Makes no pause.
+#[derive(Drop)]
+pub(crate) struct NoPause {
+    pub(crate) count: u64,
+}
+
+impl Pause for NoPause {
+    fn pause(&mut self) {
+        self.count = self.count.saturating_add(1);
+    }
 }
 
 /// Numbers as words of records.

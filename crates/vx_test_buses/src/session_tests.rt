@@ -1,24 +1,12 @@
 //! Links over four buses. The records are those of RFC 5531, sections 9 and 11, and of VXI-11.
 
-use crate::fleets::{are_words, fleet, words};
+use crate::fleets::{NoPause, are_words, fleet, words};
 use std::alloc::Global;
 use std::sync::Wait;
 use std::test::Fail;
 use vx_buses::many_link;
-use vx_io::{MemClock, MemLink, Pause};
+use vx_io::{MemClock, MemLink};
 use vx_session::{End, Linked, Room};
-
-/// Makes no pause.
-#[derive(Drop)]
-struct NoPause {
-    count: u64,
-}
-
-impl Pause for NoPause {
-    fn pause(&mut self) {
-        self.count = self.count.saturating_add(1);
-    }
-}
 
 // create_link of `gpib2,5` and of `GPIB0,5`; device_write of `A` with END on links 3 and 2; destroy_intr_chan; device_read on link 3, and
 // on link 1 with no time

@@ -1,0 +1,308 @@
+//! What the program of four buses does, over a door in memory. The records are those of RFC 5531, sections 9 and 11, and of VXI-11.
+ghost use Rattle.std.specs.Prelude.{◌≡◌, ◌+◌, length, IfSome};
+
+use crate::fleets::{NoPause, are_words, words};
+use arrayvec::ArrayString;
+use std::alloc::{AllocError, Global};
+use std::sync::Wait;
+use std::test::Fail;
+use vx_buses::buses_run;
+use vx_io::{MemClock, MemDoor, MemLink, MemSink, MemStreams};
+use vx_rack::{Echo, Spare};
+use vx_session::{Still, Tools};
+
+/// Clocks that tell moment 0, and no pauses.
+#[derive(Drop)]
+struct Kit {
+    alloc: Global,
+}
+
+impl Tools for Kit {
+    type C = MemClock;
+
+    type P = NoPause;
+
+    type D = Still;
+
+    type S = MemStreams<MemLink>;
+
+    fn clock(&mut self) -> MemClock {
+        MemClock::new(Vec::new(self.alloc))
+    }
+
+    fn pause(&mut self) -> NoPause {
+        NoPause { count: 0 }
+    }
+
+    fn dial(&mut self) -> Still {
+        Still::new()
+    }
+
+    fn streams(&mut self) -> MemStreams<MemLink> {
+        MemStreams::new(Vec::new(self.alloc))
+    }
+}
+
+// create_link of `gpib2,5` and of `GPIB0,5`; device_write of `A` with END on links 3 and 2; destroy_intr_chan
+const FIRST: [u32; 79] = [
+    0x80000040, 1, 0, 2, 0x607AF, 1, 10, 0, 0, 0, 0, 42, 0, 0, 7, 0x67706962, 0x322C3500,
+    0x80000040, 2, 0, 2, 0x607AF, 1, 10, 0, 0, 0, 0, 42, 0, 0, 7, 0x47504942, 0x302C3500,
+    0x80000040, 3, 0, 2, 0x607AF, 1, 11, 0, 0, 0, 0, 3, 10000, 0, 8, 1, 0x41000000, 0x80000040, 4,
+    0, 2, 0x607AF, 1, 11, 0, 0, 0, 0, 2, 10000, 0, 8, 1, 0x41000000, 0x80000028, 5, 0, 2, 0x607AF,
+    1, 26, 0, 0, 0, 0,
+];
+
+// links 3 and 1; one byte written; no link 2 yet; no channel
+const FIRST_TOOK: [u32; 48] = [
+    0x80000028, 1, 1, 0, 0, 0, 0, 0, 3, 9011, 262144, 0x80000028, 2, 1, 0, 0, 0, 0, 0, 1, 9011,
+    262144, 0x80000020, 3, 1, 0, 0, 0, 0, 0, 1, 0x80000020, 4, 1, 0, 0, 0, 0, 4, 0, 0x8000001C, 5,
+    1, 0, 0, 0, 0, 6,
+];
+
+// create_link on each bus; device_read on each of the four, bus 2 last; device_write of `B`, `C` and `D` on buses 1, 3 and 0; and again
+// device_read on each
+const SECOND: [u32; 255] = [
+    0x80000040, 11, 0, 2, 0x607AF, 1, 10, 0, 0, 0, 0, 42, 0, 0, 7, 0x67706962, 0x302C3500,
+    0x80000040, 12, 0, 2, 0x607AF, 1, 10, 0, 0, 0, 0, 42, 0, 0, 7, 0x67706962, 0x312C3500,
+    0x80000040, 13, 0, 2, 0x607AF, 1, 10, 0, 0, 0, 0, 42, 0, 0, 7, 0x67706962, 0x322C3500,
+    0x80000040, 14, 0, 2, 0x607AF, 1, 10, 0, 0, 0, 0, 42, 0, 0, 7, 0x67706962, 0x332C3500,
+    0x80000040, 15, 0, 2, 0x607AF, 1, 12, 0, 0, 0, 0, 5, 10, 0, 0, 0, 0, 0x80000040, 16, 0, 2,
+    0x607AF, 1, 12, 0, 0, 0, 0, 2, 10, 0, 0, 0, 0, 0x80000040, 17, 0, 2, 0x607AF, 1, 12, 0, 0, 0,
+    0, 4, 10, 0, 0, 0, 0, 0x80000040, 18, 0, 2, 0x607AF, 1, 12, 0, 0, 0, 0, 7, 10, 10000, 0, 0, 0,
+    0x80000040, 19, 0, 2, 0x607AF, 1, 11, 0, 0, 0, 0, 2, 10000, 0, 8, 1, 0x42000000, 0x80000040,
+    20, 0, 2, 0x607AF, 1, 11, 0, 0, 0, 0, 4, 10000, 0, 8, 1, 0x43000000, 0x80000040, 21, 0, 2,
+    0x607AF, 1, 11, 0, 0, 0, 0, 5, 10000, 0, 8, 1, 0x44000000, 0x80000040, 22, 0, 2, 0x607AF, 1,
+    12, 0, 0, 0, 0, 7, 10, 0, 0, 0, 0, 0x80000040, 23, 0, 2, 0x607AF, 1, 12, 0, 0, 0, 0, 2, 10,
+    10000, 0, 0, 0, 0x80000040, 24, 0, 2, 0x607AF, 1, 12, 0, 0, 0, 0, 4, 10, 10000, 0, 0, 0,
+    0x80000040, 25, 0, 2, 0x607AF, 1, 12, 0, 0, 0, 0, 5, 10, 10000, 0, 0, 0,
+];
+
+// links 5, 2, 7 and 4; nothing heard on buses 0, 1 and 3, and `A` on bus 2; three bytes written; nothing more heard on bus 2, and on each
+// other bus what was written there
+const SECOND_TOOK: [u32; 155] = [
+    0x80000028, 11, 1, 0, 0, 0, 0, 0, 5, 9011, 262144, 0x80000028, 12, 1, 0, 0, 0, 0, 0, 2, 9011,
+    262144, 0x80000028, 13, 1, 0, 0, 0, 0, 0, 7, 9011, 262144, 0x80000028, 14, 1, 0, 0, 0, 0, 0,
+    4, 9011, 262144, 0x80000024, 15, 1, 0, 0, 0, 0, 15, 0, 0, 0x80000024, 16, 1, 0, 0, 0, 0, 15,
+    0, 0, 0x80000024, 17, 1, 0, 0, 0, 0, 15, 0, 0, 0x80000028, 18, 1, 0, 0, 0, 0, 0, 4, 1,
+    0x41000000, 0x80000020, 19, 1, 0, 0, 0, 0, 0, 1, 0x80000020, 20, 1, 0, 0, 0, 0, 0, 1,
+    0x80000020, 21, 1, 0, 0, 0, 0, 0, 1, 0x80000024, 22, 1, 0, 0, 0, 0, 15, 0, 0, 0x80000028, 23,
+    1, 0, 0, 0, 0, 0, 4, 1, 0x42000000, 0x80000028, 24, 1, 0, 0, 0, 0, 0, 4, 1, 0x43000000,
+    0x80000028, 25, 1, 0, 0, 0, 0, 0, 4, 1, 0x44000000,
+];
+
+// The words; what each peer gives; the numbers of the door's calls and of the sink's that fail; the status, what is printed, and what
+// each peer that was met is sent.
+#[derive(Clone, Copy)]
+struct Row {
+    words: &'static [&'static str],
+    gives: &'static [&'static [u32]],
+    door_fails: &'static [u64],
+    sink_fails: &'static [u64],
+    status: u8,
+    text: &'static str,
+    took: &'static [&'static [u32]],
+}
+
+const USAGE: &str = "usage: vxbuses PORT N\n";
+
+const ROW: Row = Row {
+    words: &["9010", "1"],
+    gives: &[&FIRST],
+    door_fails: &[],
+    sink_fails: &[],
+    status: 0,
+    text: "served 1\n",
+    took: &[&FIRST_TOOK],
+};
+
+static ROWS: [Row; 10] = [
+    ROW,
+    // what the first peer wrote on bus 2 is read there alone by the second, behind it
+    Row {
+        words: &["9010", "2"],
+        gives: &[&FIRST, &SECOND],
+        text: "served 2\n",
+        took: &[&FIRST_TOOK, &SECOND_TOOK],
+        ..ROW
+    },
+    // no more are served than are asked for
+    Row {
+        words: &["1", "1"],
+        gives: &[&FIRST, &SECOND],
+        ..ROW
+    },
+    // the door has fewer
+    Row {
+        words: &["65535", "1000000"],
+        gives: &[&FIRST, &SECOND],
+        text: "served 2\n",
+        took: &[&FIRST_TOOK, &SECOND_TOOK],
+        ..ROW
+    },
+    Row {
+        gives: &[],
+        text: "served 0\n",
+        took: &[],
+        ..ROW
+    },
+    // the port can't be opened; the next peer can't be met
+    Row {
+        door_fails: &[1],
+        status: 3,
+        text: "",
+        took: &[],
+        ..ROW
+    },
+    Row {
+        door_fails: &[2],
+        status: 3,
+        text: "",
+        took: &[],
+        ..ROW
+    },
+    // a fault of a peer's link ends that link alone
+    Row {
+        words: &["9010", "2"],
+        gives: &[&SECOND, &FIRST],
+        door_fails: &[3],
+        text: "served 2\n",
+        took: &[&[], &FIRST_TOOK],
+        ..ROW
+    },
+    Row {
+        sink_fails: &[1],
+        status: 6,
+        text: "",
+        ..ROW
+    },
+    Row {
+        words: &["9010"],
+        sink_fails: &[1],
+        status: 6,
+        text: "",
+        took: &[],
+        ..ROW
+    },
+];
+
+// Words of another form.
+static OTHER_WORDS: [&[&str]; 10] = [
+    &[],
+    &["9010"],
+    &["9010", "1", "1"],
+    &["0", "1"],
+    &["65536", "1"],
+    &["9010", "0"],
+    &["9010", "1000001"],
+    &["09010", "1"],
+    &["9010", "+1"],
+    &["--help", "1"],
+];
+
+fn words_of(alloc: Global, words: &[&str]) -> Result<Vec<String>, AllocError> {
+    let mut all = Vec::new(alloc);
+    for word in words {
+        all.push(String::from_str(alloc, word)?)?;
+    }
+    Ok(all)
+}
+
+/// Adds an echo to the rack.
+fn add(alloc: Global, rack: &mut Vec<Spare<Echo>>) -> Option<()>
+    ensures { IfSome result (λ _. length rack.new.items ≡ length rack.old.items + 1) }
+{
+    let inst = Echo::new(alloc).ok()?;
+    let name = ArrayString::new();
+    rack.push(Spare { name, inst }).ok()
+}
+
+/// An echo for each bus.
+fn rack_of(alloc: Global) -> Option<Vec<Spare<Echo>>>
+    ensures { IfSome result (λ rack. length rack.items ≡ 4) }
+{
+    let mut rack = Vec::new(alloc);
+    add(alloc, &mut rack)?;
+    add(alloc, &mut rack)?;
+    add(alloc, &mut rack)?;
+    add(alloc, &mut rack)?;
+    Some(rack)
+}
+
+/// The door of a row.
+fn door_of(alloc: Global, row: &Row) -> Result<MemDoor, Fail> {
+    let mut peers = Vec::new(alloc);
+    for gives in row.gives {
+        peers.push(words(alloc, gives)?)?;
+    }
+    let fails = row.door_fails.to_vec(alloc)?;
+    Ok(MemDoor::new(alloc, peers, fails).map_err(|_| "no memory")?)
+}
+
+/// Whether the peers that the door met were sent these words, each its own, and no other was met.
+fn were_sent(door: &MemDoor, took: &[&[u32]]) -> bool {
+    let mut same = door.sent(took.len()).is_none();
+    for (place, numbers) in took.iter().enumerate() {
+        let sent = door.sent(place).unwrap_or(&[0]);
+        same = are_words(sent, numbers) && same;
+    }
+    same
+}
+
+/// Whether a row comes out as it is written.
+fn comes_out<R: Wait>(rt: &R, alloc: Global, row: &Row) -> Result<bool, Fail> {
+    let mut door = door_of(alloc, row)?;
+    let mut sink = MemSink::new(Vec::new(alloc), row.sink_fails.to_vec(alloc)?);
+    let words = words_of(alloc, row.words)?;
+    let rack = rack_of(alloc).ok_or("no memory")?;
+    let mut kit = Kit { alloc };
+    let status = buses_run(
+        rt, alloc, &words, &mut door, &mut kit, &mut sink, rack,
+    );
+    let as_written = status == row.status && sink.bytes() == row.text.as_bytes();
+    Ok(as_written && were_sent(&door, row.took))
+}
+
+/// The place of the first row that doesn't.
+fn first_other<R: Wait>(rt: &R, alloc: Global, rows: &[Row]) -> Result<Option<usize>, Fail> {
+    for (place, row) in rows.iter().enumerate() {
+        if !comes_out(rt, alloc, row)? {
+            return Ok(Some(place));
+        }
+    }
+    Ok(None)
+}
+
+#[test]
+fn each_run_comes_out(rt: HostRuntime) -> Result<(), Fail> {
+    let wrong = first_other(&rt, rt.alloc(), &ROWS)?;
+    assert_eq!(rt; wrong, None);
+    Ok(())
+}
+
+/// The place of the first of these words that aren't answered with the usage line alone.
+fn first_taken<R: Wait>(
+    rt: &R,
+    alloc: Global,
+    words: &[&'static [&'static str]],
+) -> Result<Option<usize>, Fail> {
+    for (place, words) in words.iter().enumerate() {
+        let row = Row {
+            words,
+            status: 1,
+            text: USAGE,
+            took: &[],
+            ..ROW
+        };
+        if !comes_out(rt, alloc, &row)? {
+            return Ok(Some(place));
+        }
+    }
+    Ok(None)
+}
+
+#[test]
+fn words_of_another_form(rt: HostRuntime) -> Result<(), Fail> {
+    let wrong = first_taken(&rt, rt.alloc(), &OTHER_WORDS)?;
+    assert_eq!(rt; wrong, None);
+    Ok(())
+}
