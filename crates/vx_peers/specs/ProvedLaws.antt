@@ -1,5 +1,5 @@
 -- Laws of what serves the peers of a door, proved: where what serving a peer does to the server tells so much of it, a run tells it.
-use Rattle.std.proofs.Common.{◌≡◌, ◌⊎◌, inl, inr, ◌+◌, ℕ, Bool, cond, List, [], ◌∷◌, map, length, refl, sym, ap, ◌∙◌, subst}
+use Rattle.std.proofs.Common.{◌≡◌, ◌⊎◌, inl, inr, ◌+◌, ℕ, Bool, cond, List, [], ◌∷◌, map, fold, length, refl, sym, ap, ◌∙◌, subst}
 use Rattle.std.proofs.lemmas.List.{length-map}
 use Rattle.vx_io_traits.specs.declared.dials.DialOut.{DialOut}
 use Rattle.vx_text.specs.Ends.{End}
@@ -11,6 +11,11 @@ use Rattle.vx_peers.specs.declared.serving.Status.{Status}
 use Rattle.vx_peers.specs.declared.serving.Status.TheVariants as status
 use Rattle.vx_peers.specs.Outcome.{Shows, Opens, IsOpenServed, OpensAndServes, IsServed}
 
+-- a sum over what each becomes
+sum_map : {X Y : Type 0} (to : X → Y) (f : Y → ℕ) (sum : ℕ) (xs : List X) → fold (λ s y. s + f y) sum (map to xs) ≡ fold (λ s x. s + f (to x)) sum xs
+sum_map to f sum [] = refl
+sum_map to f sum (x ∷ xs) = sum_map to f (sum + f (to x)) xs
+
 module _ {N S T E : Type 0} (n : Shows N S E) (view : S → T) (tells : T → N → E → T → N → Type 0)
     (so : (s s' : S) (d d' : N) (how : E) → n.did s d how s' d' → tells (view s) d how (view s') d') where
   -- the same door, with what is told of its server
@@ -18,7 +23,7 @@ module _ {N S T E : Type 0} (n : Shows N S E) (view : S → T) (tells : T → N 
   told = record { stands = n.stands; tells = n.tells; waits = n.waits; door = n.door; did = tells; own = n.own; whole = n.whole }
 
   -- what is told of a peer
-  told_meeting : Meeting S N E → Meeting T N E
+  abbrev told_meeting : Meeting S N E → Meeting T N E
   told_meeting m = record { met = m.met; how = m.how; server = view m.server; door = m.door }
 
   -- each peer was met and served
@@ -29,8 +34,7 @@ module _ {N S T E : Type 0} (n : Shows N S E) (view : S → T) (tells : T → N 
 
   -- as many were cut short
   told_cuts : (ms : List (Meeting S N E)) → cuts n.own n.whole n.door (map told_meeting ms) ≡ cuts n.own n.whole n.door ms
-  told_cuts [] = refl
-  told_cuts (m ∷ ms) = ap (λ k. cond (is_cut (n.own m.how) (n.whole m.how) (n.door m.met).left (n.door m.door).left) 1 0 + k) (told_cuts ms)
+  told_cuts ms = sum_map told_meeting (λ m. cond (is_cut (n.own m.how) (n.whole m.how) (n.door m.met).left (n.door m.door).left) 1 0) 0 ms
 
   -- so many peers were served
   pub told_peers : (server : S) (door : N) (limit : ℕ) (how : DoorEnd) (number : ℕ) (server' : S) (door' : N)
