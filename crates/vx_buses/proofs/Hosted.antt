@@ -7,7 +7,7 @@ use Rattle.vx_io_traits.specs.Faults.{Rose}
 use Rattle.vx_door.specs.Serving.{is_cut, is_spent}
 use Rattle.vx_door.specs.ProvedLaws.{spent_at_end}
 use Rattle.vx_bus_traits.specs.declared.bus.Bus.{Ghosts}
-use Rattle.vx_gate.specs.PassView.{PassView, GateId}
+use Rattle.vx_gate.specs.PassView.{PassView, GateId, all_parts}
 use Rattle.vx_gates.specs.Four.{Four, at, Each, EachOf}
 use Rattle.vx_gates.specs.Passing.{IsOf, IsFirst}
 use Rattle.vx_history.specs.Groups.{Group}
@@ -55,7 +55,7 @@ module _ {B L : Type 0} (g : Ghosts B) (stands : L → List ℕ → List ℕ →
 
   -- so what holds between two links holds behind one
   pub ready-on : (seen seen' : LinkShown) (how : Linked) (gates : Four GateId) → LinkDid g stands told passes link seen how passes' link' seen'
-      → Each (λ (pass : PassView Group) (gate : GateId). pass.parts ≡ 4294967296) passes gates → Each IsOf passes' gates → IsReady (Some passes') gates
+      → Each (λ (pass : PassView Group) (gate : GateId). pass.parts ≡ all_parts) passes gates → Each IsOf passes' gates → IsReady (Some passes') gates
   ready-on seen seen' how gates d parts of =
       let kept = link-parts seen seen' how d in
       record {

@@ -5,7 +5,7 @@ use Rattle.vx_io_traits.specs.declared.WriteOut.{WriteOut}
 use Rattle.vx_door.specs.Going.{Went}
 use Rattle.vx_bus_traits.specs.declared.bus.Bus.{Ghosts}
 use Rattle.vx_gate.specs.Seats.{nowhere}
-use Rattle.vx_gate.specs.PassView.{PassView, GateId}
+use Rattle.vx_gate.specs.PassView.{PassView, GateId, all_parts}
 use Rattle.vx_gates.specs.Four.{Four, Each}
 use Rattle.vx_gates.specs.Passing.{IsOf, IsFirst}
 use Rattle.vx_history.specs.Groups.{Group}
@@ -35,7 +35,7 @@ pub record IsReady (held : Option (Four (PassView Group))) (gates : Four GateId)
   pub passes : Four (PassView Group)
   pub has : held ≡ Some passes
   pub of : Each IsOf passes gates
-  pub parts : Each (λ pass gate. pass.parts ≡ 4294967296) passes gates
+  pub parts : Each (λ pass gate. pass.parts ≡ all_parts) passes gates
 
 -- It begins with the first pass of each of four gates, which has all 4,294,967,296 parts, has seen nothing and made nothing: so each
 -- bus's history begins with nothing, and all of it is made by these passes.

@@ -1,5 +1,5 @@
 //! Four gateways, each over a bus with an echo at address 5.
-ghost use Rattle.std.specs.Prelude.{◌≡◌, ◌+◌, [], IfSome, length};
+ghost use Rattle.std.specs.Prelude.{◌≡◌, ◌≤◌, ◌+◌, [], IfSome, length};
 ghost use Rattle.std.specs.List.{All};
 ghost use Rattle.vx_gates.specs.Four.{Each};
 ghost use Rattle.vx_gates.specs.Passing.{passes_shown, IsOf};
@@ -61,7 +61,8 @@ fn cores_of(alloc: Global) -> Option<Vec<Core<Bench>>>
 
 /// Each behind a gate of its own, and their passes.
 pub(crate) fn fleet(alloc: Global) -> Option<(Buses<Bench>, BusPass<Bench>)>
-    ensures { IfSome result (λ r. Each IsOf (passes_shown r.1) (gates_shown r.0)) }
+    ensures gates { IfSome result (λ r. Each IsOf (passes_shown r.1) (gates_shown r.0)) }
+    ensures parts { IfSome result (λ r. Each (λ pass gate. 2 ≤ pass.parts) (passes_shown r.1) (gates_shown r.0)) }
 {
     Buses::start(alloc, cores_of(alloc)?).ok()
 }

@@ -2,6 +2,8 @@
 #![tactic(auto)]
 
 #[cfg(test)]
+mod crossed_tests;
+#[cfg(test)]
 mod fleets;
 #[cfg(test)]
 mod number_tests;

@@ -81,13 +81,13 @@ const SECOND: [u32; 255] = [
 // other bus what was written there
 const SECOND_TOOK: [u32; 155] = [
     0x80000028, 11, 1, 0, 0, 0, 0, 0, 5, 9011, 262144, 0x80000028, 12, 1, 0, 0, 0, 0, 0, 2, 9011,
-    262144, 0x80000028, 13, 1, 0, 0, 0, 0, 0, 7, 9011, 262144, 0x80000028, 14, 1, 0, 0, 0, 0, 0,
-    4, 9011, 262144, 0x80000024, 15, 1, 0, 0, 0, 0, 15, 0, 0, 0x80000024, 16, 1, 0, 0, 0, 0, 15,
-    0, 0, 0x80000024, 17, 1, 0, 0, 0, 0, 15, 0, 0, 0x80000028, 18, 1, 0, 0, 0, 0, 0, 4, 1,
-    0x41000000, 0x80000020, 19, 1, 0, 0, 0, 0, 0, 1, 0x80000020, 20, 1, 0, 0, 0, 0, 0, 1,
-    0x80000020, 21, 1, 0, 0, 0, 0, 0, 1, 0x80000024, 22, 1, 0, 0, 0, 0, 15, 0, 0, 0x80000028, 23,
-    1, 0, 0, 0, 0, 0, 4, 1, 0x42000000, 0x80000028, 24, 1, 0, 0, 0, 0, 0, 4, 1, 0x43000000,
-    0x80000028, 25, 1, 0, 0, 0, 0, 0, 4, 1, 0x44000000,
+    262144, 0x80000028, 13, 1, 0, 0, 0, 0, 0, 7, 9011, 262144, 0x80000028, 14, 1, 0, 0, 0, 0, 0, 4,
+    9011, 262144, 0x80000024, 15, 1, 0, 0, 0, 0, 15, 0, 0, 0x80000024, 16, 1, 0, 0, 0, 0, 15, 0, 0,
+    0x80000024, 17, 1, 0, 0, 0, 0, 15, 0, 0, 0x80000028, 18, 1, 0, 0, 0, 0, 0, 4, 1, 0x41000000,
+    0x80000020, 19, 1, 0, 0, 0, 0, 0, 1, 0x80000020, 20, 1, 0, 0, 0, 0, 0, 1, 0x80000020, 21, 1, 0,
+    0, 0, 0, 0, 1, 0x80000024, 22, 1, 0, 0, 0, 0, 15, 0, 0, 0x80000028, 23, 1, 0, 0, 0, 0, 0, 4, 1,
+    0x42000000, 0x80000028, 24, 1, 0, 0, 0, 0, 0, 4, 1, 0x43000000, 0x80000028, 25, 1, 0, 0, 0, 0,
+    0, 4, 1, 0x44000000,
 ];
 
 // The words; what each peer gives; the numbers of the door's calls and of the sink's that fail; the status, what is printed, and what
@@ -255,9 +255,7 @@ fn comes_out<R: Wait>(rt: &R, alloc: Global, row: &Row) -> Result<bool, Fail> {
     let words = words_of(alloc, row.words)?;
     let rack = rack_of(alloc).ok_or("no memory")?;
     let mut kit = Kit { alloc };
-    let status = buses_run(
-        rt, alloc, &words, &mut door, &mut kit, &mut sink, rack,
-    );
+    let status = buses_run(rt, alloc, &words, &mut door, &mut kit, &mut sink, rack);
     let as_written = status == row.status && sink.bytes() == row.text.as_bytes();
     Ok(as_written && were_sent(&door, row.took))
 }
