@@ -1,7 +1,7 @@
 -- How many connections live behind a history, and that there is room where few do.
-use Rattle.std.proofs.Common.{◌≡◌, ◌<◌, ◌≤◌, ◌+◌, ℕ, Bool, true, false, cond, List, [], ◌∷◌, length, count_by, Option, Some, None, refl, sym, ap, ◌∙◌, subst, arith}
+use Rattle.std.proofs.Common.{◌≡◌, ◌<◌, ◌≤◌, ◌+◌, ℕ, true, List, [], ◌∷◌, length, Option, Some, None, refl, sym, ap, ◌∙◌, subst, arith}
 use Rattle.std.specs.Prelude.{nat_lt, nat_le}
-use Rattle.std.proofs.lemmas.Bool.{and_from, false≢true, lt-ltb, le-leb}
+use Rattle.std.proofs.lemmas.Bool.{and_from, lt-ltb, le-leb}
 use Rattle.std.proofs.lemmas.Option.{none-some, same_Some}
 use Rattle.std.proofs.lemmas.List.{length-map}
 use Rattle.std.proofs.lemmas.List.Elements.{All-nil}
@@ -11,12 +11,12 @@ use Rattle.vx_calls.specs.declared.limits.TheConstants.{ROLE_MAX, CONNECTION_LAS
 use Rattle.vx_rules.specs.Lists.{along}
 use Rattle.vx_rules.specs.ListLaws.{along-none}
 use Rattle.vx_rules.specs.State.{Connection, Tables, same_role, count_of, has_room}
-use Rattle.vx_flow.specs.Event.{Event, Up, Down, Arrive, Answer, Abort, Sample, Take, Begin, Move, Dial}
+use Rattle.vx_flow.specs.Event.{Event, Down}
 use Rattle.vx_flow.specs.FineState.{FineState, first_fine}
 use Rattle.vx_flow.specs.Fine.{fine}
 use Rattle.vx_flow.specs.ProvedLaws.{fine-does, fine-frame}
-use Rattle.vx_history.specs.Groups.{Group, events_of, StandsFor}
-use Rattle.vx_rooms.specs.Counting.{ups, downs, IsCounted}
+use Rattle.vx_history.specs.Groups.{events_of}
+use Rattle.vx_rooms.specs.Counting.{ups, downs}
 use Rattle.vx_rooms.specs.Laws.{CountsLaw, FewLaw, RoomLaw}
 use Rattle.vx_rooms.specs.ProvedLaws.Events.{ups-front, downs-front}
 use Rattle.vx_rooms.specs.ProvedLaws.Numbers.{number_of, Counts, Lives, counts-same, counts-after}
