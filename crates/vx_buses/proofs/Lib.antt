@@ -7,3 +7,4 @@ pub mod Linked
 pub mod Hosted
 pub mod Furnished
 pub mod Ran
+pub mod Rooms

@@ -2,3 +2,4 @@ mod Goings
 mod Ended
 mod Served
 mod Refused
+mod Rooms

@@ -1,0 +1,137 @@
+-- What a link adds to how many connections each bus's pass has had come up and go down.
+use Rattle.std.proofs.Common.{◌≡◌, ◌≤◌, ◌<◌, ◌==◌, ℕ, zero, suc, Bool, true, false, cond, List, [], ◌∷◌, Result, Ok, Err, sym, ap, ◌∙◌, subst, arith}
+use Rattle.std.specs.List.{All}
+use Rattle.std.proofs.lemmas.List.Concat.{flat_map-cons}
+use Rattle.std.proofs.lemmas.List.Elements.{All-head, All-tail}
+use Rattle.vx_calls.specs.declared.calls.Role.{Role}
+use Rattle.vx_calls.specs.declared.limits.TheConstants.{CONNECTION_LAST}
+use Rattle.vx_calls.specs.declared.calls.Role.TheVariants as role
+use Rattle.vx_bus_traits.specs.declared.bus.Bus.{Ghosts}
+use Rattle.vx_gate.specs.PassView.{PassView}
+use Rattle.vx_gates.specs.Four.{Four, at, Each, EachOf}
+use Rattle.vx_history.specs.Groups.{Group}
+use Rattle.vx_tables.specs.declared.tables.Connect.{Connect}
+use Rattle.vx_tables.specs.declared.tables.Connect.TheVariants as connect
+use Rattle.vx_stream.specs.Shown.{LinkShown}
+use Rattle.vx_stream.specs.declared.ends.End.{End}
+use Rattle.vx_session.specs.Placing.{Placed}
+use Rattle.vx_session.specs.Turning.{Joins}
+use Rattle.vx_session.specs.declared.links.Linked.{Linked}
+use Rattle.vx_session.specs.declared.links.Linked.TheVariants as linked
+use Rattle.vx_rooms.specs.Counting.{events_by, IsSteady, ComesAndGoes, IsClear}
+use Rattle.vx_rooms.specs.ProvedLaws.{events_by-append, append-steady, none-steady, called-steady, aborted-steady, came-and-went, none-came, came-undone, never-full}
+use Rattle.vx_buses.specs.Meant.{Meant, Junk, Told, Asks, Aborts, meant}
+use Rattle.vx_buses.specs.Serving.{Item, Serves, IsServed, placed_on, numbers}
+use Rattle.vx_buses.specs.Joining.{Undone, outcome}
+use Rattle.vx_buses.specs.Linking.{HadSession, WasRefused, LinkDid}
+
+-- ---- the messages of a session
+
+-- no connection comes up or goes by a message that was served
+served-steady : {B : Type 0} (g : Ghosts B) (ns conns : Four ℕ) (m : Meant) (bus : ℕ) (ps : List Placed) (out : List ℕ) → IsServed g ns conns m bus ps out → IsSteady (events_by ps)
+served-steady g ns conns Junk bus ps out is = absurd is
+served-steady g ns conns (Told message) bus ps out is = subst (λ qs. IsSteady (events_by qs)) (sym is.0) none-steady
+served-steady g ns conns (Asks b xid there) bus ps out is = called-steady g (at bus ns) (at bus conns) xid there ps is.1.calls is.1.given is.1.called
+served-steady g ns conns (Aborts b xid lid) bus ps out is = aborted-steady (at bus conns) xid lid ps [] out is.1
+
+-- nor by those of a session that one bus served
+pub items-steady : {B : Type 0} (g : Ghosts B) (ns conns : Four ℕ) (r : Role) (bus : ℕ) (items : List Item) → All (Serves g ns conns r) items → IsSteady (events_by (placed_on bus items))
+items-steady g ns conns r bus [] all = none-steady
+items-steady g ns conns r bus (i ∷ items) all =
+    let one = All-head (Serves g ns conns r) i items all in
+    let first = served-steady g ns conns (meant i.answered.message r) i.bus i.placed i.answered.reply one.served in
+    subst IsSteady (sym (ap events_by (flat_map-cons (λ (k : Item). cond (k.bus == bus) k.placed []) i items) ∙ events_by-append (cond (i.bus == bus) i.placed []) (placed_on bus items)))
+    (append-steady (events_by (cond (i.bus == bus) i.placed [])) (events_by (placed_on bus items)) (chosen (i.bus == bus) first)
+    (items-steady g ns conns r bus items (All-tail (Serves g ns conns r) i items all)))
+  where
+    chosen : (b : Bool) → IsSteady (events_by i.placed) → IsSteady (events_by (cond b i.placed []))
+    chosen true first = first
+    chosen false first = none-steady
+
+-- ---- connects
+
+-- what holds of all four holds of each
+each-at : {A B C : Type 0} (P : A → B → C → Type 0) (f : Four A) (h : Four B) (k : Four C) → EachOf P f h k → (bus : ℕ) → P (at bus f) (at bus h) (at bus k)
+each-at P f h k each zero = each.zero_
+each-at P f h k each (suc zero) = each.one
+each-at P f h k each (suc (suc zero)) = each.two
+each-at P f h k each (suc (suc (suc n))) = each.three
+
+-- answers that are one carry the same
+same-all : (a b : Four ℕ) → ◌≡◌ {A = Result (Four ℕ) Connect} (Ok a) (Ok b) → a ≡ b
+same-all a b h = cc
+
+same-why : (a b : Connect) → ◌≡◌ {A = Result (Four ℕ) Connect} (Err a) (Err b) → a ≡ b
+same-why a b h = cc
+
+-- where all four came up each did
+all-up : (a b c d : Result ℕ Connect) (conns : Four ℕ) → outcome (record { zero_ = a; one = b; two = c; three = d }) ≡ Ok conns
+    → Each (λ o n. ◌≡◌ {A = Result ℕ Connect} o (Ok n)) (record { zero_ = a; one = b; two = c; three = d }) conns
+all-up (Ok x) (Ok y) (Ok z) (Ok w) conns h =
+    let same = same-all (record { zero_ = x; one = y; two = z; three = w }) conns h in
+    record { zero_ = ap (λ f. Ok f.zero_) same; one = ap (λ f. Ok f.one) same; two = ap (λ f. Ok f.two) same; three = ap (λ f. Ok f.three) same }
+all-up _ _ _ _ conns h = absurd (cc)
+
+each-up : (joined : Four (Result ℕ Connect)) (conns : Four ℕ) → outcome joined ≡ Ok conns → (bus : ℕ) → at bus joined ≡ Ok (at bus conns)
+each-up joined conns h = by (all-up joined.zero_ joined.one joined.two joined.three conns h) where
+  by : Each (λ o n. ◌≡◌ {A = Result ℕ Connect} o (Ok n)) joined conns → (bus : ℕ) → at bus joined ≡ Ok (at bus conns)
+  by each zero = each.zero_
+  by each (suc zero) = each.one
+  by each (suc (suc zero)) = each.two
+  by each (suc (suc (suc n))) = each.three
+
+-- a bus that refused a connection for this cause
+pub record HasRefused (joined : Four (Result ℕ Connect)) (why : Connect) : Type 0 where
+  pub bus : ℕ
+  pub within : bus ≤ 3
+  pub answer : at bus joined ≡ Err why
+
+-- where one didn't come up a bus refused it for the cause that is told
+who-refused : (a b c d : Result ℕ Connect) (why : Connect) → outcome (record { zero_ = a; one = b; two = c; three = d }) ≡ Err why
+    → HasRefused (record { zero_ = a; one = b; two = c; three = d }) why
+who-refused (Err first) b c d why h = record { bus = 0; within = omega arith; answer = ap Err (same-why first why h) }
+who-refused (Ok x) (Err first) c d why h = record { bus = 1; within = omega arith; answer = ap Err (same-why first why h) }
+who-refused (Ok x) (Ok y) (Err first) d why h = record { bus = 2; within = omega arith; answer = ap Err (same-why first why h) }
+who-refused (Ok x) (Ok y) (Ok z) (Err first) why h = record { bus = 3; within = omega arith; answer = ap Err (same-why first why h) }
+who-refused (Ok x) (Ok y) (Ok z) (Ok w) why h = absurd (cc)
+
+-- ---- a link
+
+-- a connection of each bus came up, had its session, and went
+had-counts : {B L : Type 0} (g : Ghosts B) (stands : L → List ℕ → List ℕ → Type 0) (told : ℕ) (passes : Four (PassView Group)) (link : L) (seen : LinkShown) (how : End)
+    (passes' : Four (PassView Group)) (link' : L) (seen' : LinkShown) → HadSession g stands told passes link seen how passes' link' seen'
+    → (bus : ℕ) → bus ≤ 3 → ComesAndGoes (at bus passes) (at bus passes')
+had-counts g stands told passes link seen how passes' link' seen' had bus within =
+    let did = had.did in
+    let joins = subst (λ o. Joins (at bus passes) role.Core o (at bus had.up)) (each-up had.joined had.conns had.all bus)
+    (each-at (λ pass answer pass'. Joins pass role.Core answer pass') passes had.joined had.up had.joins bus) in
+    came-and-went told (at bus had.conns) role.Core (at bus passes) (at bus had.up) (at bus passes') (placed_on bus did.items) (at bus did.lasts) joins (did.makes bus within)
+    (items-steady g (numbers had.up) had.conns role.Core bus did.items did.each) (did.down bus within)
+
+-- one didn't come up, and those that did went again
+refused-counts : {L : Type 0} (passes : Four (PassView Group)) (link : L) (why : Connect) (passes' : Four (PassView Group)) (link' : L) → WasRefused passes link why passes' link'
+    → (bus : ℕ) → ComesAndGoes (at bus passes) (at bus passes')
+refused-counts passes link why passes' link' was bus =
+    by (at bus was.joined) (each-at (λ pass answer pass'. Joins pass role.Core answer pass') passes was.joined was.up was.joins bus) (each-at Undone was.up was.joined passes' was.undone bus)
+  where
+    by : (o : Result ℕ Connect) → Joins (at bus passes) role.Core o (at bus was.up) → Undone (at bus was.up) o (at bus passes') → ComesAndGoes (at bus passes) (at bus passes')
+    by (Ok conn) joins leaves = came-undone conn role.Core (at bus passes) (at bus was.up) (at bus passes') joins leaves
+    by (Err why) joins same = subst (ComesAndGoes (at bus passes)) (sym same) (none-came role.Core why (at bus passes) (at bus was.up) joins)
+
+-- Whatever became of a link: among the groups that each bus's pass made as many connections came up as went down, and at most one.
+pub link-counts : {B L : Type 0} (g : Ghosts B) (stands : L → List ℕ → List ℕ → Type 0) (told : ℕ) (passes : Four (PassView Group)) (link : L) (seen : LinkShown) (how : Linked)
+    (passes' : Four (PassView Group)) (link' : L) (seen' : LinkShown) → LinkDid g stands told passes link seen how passes' link' seen'
+    → (bus : ℕ) → bus ≤ 3 → ComesAndGoes (at bus passes) (at bus passes')
+link-counts g stands told passes link seen (linked.Ended how) passes' link' seen' did bus within = had-counts g stands told passes link seen how passes' link' seen' did bus within
+link-counts g stands told passes link seen linked.Full passes' link' seen' did bus within = refused-counts passes link connect.Full passes' link' did bus
+link-counts g stands told passes link seen linked.NoMemory passes' link' seen' did bus within = refused-counts passes link connect.NoMemory passes' link' did bus
+
+-- Where the pass of each bus is clear behind so many links, the next one isn't refused for want of room.
+pub link-never-full : {B L : Type 0} (g : Ghosts B) (stands : L → List ℕ → List ℕ → Type 0) (told count : ℕ) (passes : Four (PassView Group)) (link : L) (seen : LinkShown)
+    (passes' : Four (PassView Group)) (link' : L) (seen' : LinkShown) → ((bus : ℕ) → bus ≤ 3 → IsClear count (at bus passes)) → count < CONNECTION_LAST
+    → LinkDid g stands told passes link seen linked.Full passes' link' seen' → ⊥
+link-never-full g stands told count passes link seen passes' link' seen' clear low was =
+    let who = who-refused was.joined.zero_ was.joined.one was.joined.two was.joined.three connect.Full was.refused in
+    never-full count (at who.bus passes) (at who.bus was.up) role.Core (clear who.bus who.within) low
+    (subst (λ o. Joins (at who.bus passes) role.Core o (at who.bus was.up)) who.answer
+    (each-at (λ pass answer pass'. Joins pass role.Core answer pass') passes was.joined was.up was.joins who.bus))
