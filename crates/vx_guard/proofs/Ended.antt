@@ -137,6 +137,7 @@ ends-guarded g s last s' pass list all seen looked behind unsent seen' how (inr 
       whole = why.4;
       between = last.note;
       written = all.noted;
+      counted = all.counted;
       stops = subst (λ c. StopsIn last.note s'.note (deny_line c fails.rule)) all.conn fails.stops;
     } in
     subst (λ f. GuardEndsSo s.rules s.peer s.session.conn last.made seen list lines looked behind unsent seen' s.note s'.note (guard_end f how)) (sym why.0) stops

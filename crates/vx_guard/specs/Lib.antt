@@ -3,6 +3,9 @@ pub mod Noting
 pub mod Stages
 pub mod Wholes
 pub mod Linking
+pub mod Benches
+pub mod Peers
+pub mod Outcome
 pub use Rattle.vx_door.specs.Going
 pub use Rattle.vx_io.specs.Peering
 pub use Rattle.vx_io_traits.specs.Faults

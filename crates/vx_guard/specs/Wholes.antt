@@ -42,6 +42,7 @@ pub record NoteStops (rules : List Rule) (peer conn : ℕ) (made : List MadeLink
   pub whole : unsent ≡ []
   pub between : End
   pub written : Appends note.bytes between.bytes lines
+  pub counted : note.faults ≤ between.faults
   pub stops : StopsIn between note' (deny_line conn rule)
 
 -- why it ended: as each session does, with the lines of all denials written; or the note failed

@@ -1,0 +1,90 @@
+-- What serving one peer of a door comes to.
+use Rattle.std.proofs.Common.{◌≡◌, ◌≤◌, ◌⊎◌, inl, inr, ℕ, Bool, true, false, List, ◌++◌, Option, None, Some, refl, sym, ap, ◌∙◌, subst, arith}
+use Rattle.std.specs.Prelude.{not, IfSome}
+use Rattle.std.specs.Io.KnownBytes.{Consumes, IsAtEnd}
+use Rattle.std.proofs.lemmas.Bool.{false≢true}
+use Rattle.vx_io_traits.specs.Faults.{Rose}
+use Rattle.vx_io_traits.specs.ProvedLaws.{rose_earlier}
+use Rattle.vx_door.specs.Serving.{is_cut, is_spent}
+use Rattle.vx_door.specs.ProvedLaws.{spent_at_end}
+use Rattle.vx_bus_traits.specs.declared.bus.Bus.{Ghosts}
+use Rattle.vx_gate.specs.PassView.{PassView, GateId}
+use Rattle.vx_text.specs.Ends.{End}
+use Rattle.vx_history.specs.Groups.{Group}
+use Rattle.vx_stream.specs.Shown.{LinkShown}
+use Rattle.vx_stream.specs.declared.ends.End.TheVariants as stream
+use Rattle.vx_session.specs.Outside.{DialShown}
+use Rattle.vx_policy.specs.declared.rules.Rule.{Rule}
+use Rattle.vx_guard.specs.declared.sessions.GuardEnd.TheVariants as guard
+use Rattle.vx_guard.specs.declared.links.Guarded.{Guarded}
+use Rattle.vx_guard.specs.declared.links.Guarded.TheVariants as guarded
+use Rattle.vx_guard.specs.Linking.{GuardLinkDid}
+use Rattle.vx_guard.specs.Peers.{CanServe, Notes, is_note_fault, is_own, is_whole}
+
+-- a peer that told its end where it told what it had left has nothing left
+ended-spent : (first now : Option (List ℕ)) (bytes : List ℕ) → Consumes first now bytes → IfSome first (λ all. IsAtEnd now) → is_spent first now ≡ true
+ended-spent None now bytes gave at_end = refl
+ended-spent (Some all) now bytes gave at_end = spent_at_end (Some all) now bytes gave at_end
+
+module _ {B L : Type 0} (g : Ghosts B) (stands : L → List ℕ → List ℕ → Type 0) (shown : L → LinkShown) where
+  -- a peer that was cut short was so by a fault of its link
+  pub link-cut : (told : ℕ) (rules : List Rule) (pass : PassView Group) (link : L) (dial : DialShown) (note : End) (how : Guarded) (pass' : PassView Group) (link' : L) (dial' : DialShown) (note' : End)
+      → GuardLinkDid g stands told rules pass link (shown link) dial note how pass' link' (shown link') dial' note'
+      → is_cut (is_own how) (is_whole how) (shown link).left (shown link').left ≡ true
+      → Rose (shown link).receive_faults (shown link').receive_faults ⊎ Rose (shown link).send_faults (shown link').send_faults
+  link-cut told rules pass link dial note (guarded.Ended (guard.Ended stream.Closed)) pass' link' dial' note' d cut =
+      absurd (false≢true (sym (ap not (ended-spent (shown link).left (shown link').left (d.did.front ++ d.did.behind) d.did.goes.left d.did.ended.0.5)) ∙ cut))
+  link-cut told rules pass link dial note (guarded.Ended (guard.Ended (stream.CutShort n))) pass' link' dial' note' d cut =
+      absurd (false≢true (sym (ap not (ended-spent (shown link).left (shown link').left (d.did.front ++ d.did.behind) d.did.goes.left d.did.ended.0.6)) ∙ cut))
+  link-cut told rules pass link dial note (guarded.Ended (guard.Ended (stream.Junk n))) pass' link' dial' note' d cut = absurd (false≢true cut)
+  link-cut told rules pass link dial note (guarded.Ended (guard.Ended stream.TooLong)) pass' link' dial' note' d cut = absurd (false≢true cut)
+  link-cut told rules pass link dial note (guarded.Ended (guard.Ended stream.ReadFault)) pass' link' dial' note' d cut = inl d.did.ended.0.4
+  link-cut told rules pass link dial note (guarded.Ended (guard.Ended stream.WriteFault)) pass' link' dial' note' d cut = inr d.did.ended.0.1.rose
+  link-cut told rules pass link dial note (guarded.Ended guard.NoteFault) pass' link' dial' note' d cut = absurd (false≢true cut)
+  link-cut told rules pass link dial note guarded.Full pass' link' dial' note' d cut = absurd (false≢true cut)
+  link-cut told rules pass link dial note guarded.NoMemory pass' link' dial' note' d cut = absurd (false≢true cut)
+
+  -- a link that is as it was has its counts
+  as-it-was : (link link' : L) → link' ≡ link → ((shown link).receive_faults ≤ (shown link').receive_faults) × ((shown link).send_faults ≤ (shown link').send_faults)
+  as-it-was link link' same =
+      subst (λ l. ((shown link).receive_faults ≤ (shown l).receive_faults) × ((shown link).send_faults ≤ (shown l).send_faults)) (sym same) (omega arith, omega arith)
+
+  -- the counts of a link don't fall
+  pub link-counts : (told : ℕ) (rules : List Rule) (pass : PassView Group) (link : L) (dial : DialShown) (note : End) (how : Guarded) (pass' : PassView Group) (link' : L) (dial' : DialShown) (note' : End)
+      → GuardLinkDid g stands told rules pass link (shown link) dial note how pass' link' (shown link') dial' note'
+      → ((shown link).receive_faults ≤ (shown link').receive_faults) × ((shown link).send_faults ≤ (shown link').send_faults)
+  link-counts told rules pass link dial note (guarded.Ended how) pass' link' dial' note' d = (d.did.goes.receives, d.did.goes.sends)
+  link-counts told rules pass link dial note guarded.Full pass' link' dial' note' d = as-it-was link link' d.1
+  link-counts told rules pass link dial note guarded.NoMemory pass' link' dial' note' d = as-it-was link link' d.1
+
+  -- the count of the note's faults rises where it failed, and doesn't fall
+  pub link-notes : (told : ℕ) (rules : List Rule) (pass : PassView Group) (link : L) (dial : DialShown) (note : End) (how : Guarded) (pass' : PassView Group) (link' : L) (dial' : DialShown) (note' : End)
+      → GuardLinkDid g stands told rules pass link (shown link) dial note how pass' link' (shown link') dial' note'
+      → Notes (is_note_fault how) note.faults note'.faults
+  link-notes told rules pass link dial note (guarded.Ended (guard.Ended how)) pass' link' dial' note' d = d.did.ended.2
+  link-notes told rules pass link dial note (guarded.Ended guard.NoteFault) pass' link' dial' note' d =
+      rose_earlier note.faults d.did.ended.between.faults note'.faults d.did.ended.counted d.did.ended.stops.rose
+  link-notes told rules pass link dial note guarded.Full pass' link' dial' note' d = subst (λ e. note.faults ≤ e.faults) (sym d.3) (omega arith)
+  link-notes told rules pass link dial note guarded.NoMemory pass' link' dial' note' d = subst (λ e. note.faults ≤ e.faults) (sym d.3) (omega arith)
+
+  -- the pass is of the same gate, with the same number and as many parts
+  pub link-pass : (told : ℕ) (rules : List Rule) (pass : PassView Group) (link : L) (dial : DialShown) (note : End) (how : Guarded) (pass' : PassView Group) (link' : L) (dial' : DialShown) (note' : End)
+      → GuardLinkDid g stands told rules pass link (shown link) dial note how pass' link' (shown link') dial' note'
+      → (pass'.gate ≡ pass.gate) × (pass'.number ≡ pass.number) × (pass'.parts ≡ pass.parts)
+  link-pass told rules pass link dial note (guarded.Ended how) pass' link' dial' note' d =
+      let up = d.joins.turns.makes in
+      let did = d.did.makes in
+      (did.gate ∙ up.gate, did.number ∙ up.number, did.parts ∙ up.parts)
+  link-pass told rules pass link dial note guarded.Full pass' link' dial' note' d =
+      let made = d.0.turns.makes in
+      (made.gate, made.number, made.parts)
+  link-pass told rules pass link dial note guarded.NoMemory pass' link' dial' note' d =
+      let made = d.0.turns.makes in
+      (made.gate, made.number, made.parts)
+
+  -- so a guard can serve another
+  pub link-can : (gate : GateId) (told : ℕ) (rules : List Rule) (pass : PassView Group) (link : L) (dial : DialShown) (note : End) (how : Guarded) (pass' : PassView Group) (link' : L) (dial' : DialShown) (note' : End)
+      → CanServe gate pass → GuardLinkDid g stands told rules pass link (shown link) dial note how pass' link' (shown link') dial' note' → CanServe gate pass'
+  link-can gate told rules pass link dial note how pass' link' dial' note' can d =
+      let kept = link-pass told rules pass link dial note how pass' link' dial' note' d in
+      record { gate_is = kept.0 ∙ can.gate_is; number = kept.1 ∙ can.number; parts = kept.2 ∙ can.parts }

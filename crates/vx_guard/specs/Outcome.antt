@@ -1,0 +1,156 @@
+-- How a run of a guard ends: for each status, what was read, who was served, what was written, and why.
+use Rattle.std.specs.Prelude.{◌≡◌, ◌≤◌, ◌+◌, ◌⊎◌, ℕ, Bool, true, false, List, [], Ok}
+use Rattle.std.specs.Io.KnownBytes.{Appends}
+use Rattle.vx_io_traits.specs.Faults.{Rose}
+use Rattle.vx_io_traits.specs.declared.dials.DialOut.TheVariants.{Up, Failed}
+use Rattle.vx_text.specs.Ends.{End}
+use Rattle.vx_text.specs.Reading.{GivesAll, GivesTooMuch, GivesUpTo}
+use Rattle.vx_text.specs.Writing.{StopsIn}
+use Rattle.vx_text.specs.TextLines.{lines}
+use Rattle.vx_door.specs.Running.{KeepsOwn}
+use Rattle.vx_door.specs.declared.serving.DoorEnd.TheVariants as door
+use Rattle.vx_policy.specs.declared.rules.Rule.{Rule}
+use Rattle.vx_policy.specs.declared.policy.TheConstants.{TEXT_MAX}
+use Rattle.vx_policy.specs.declared.policy.PolicyErr.{PolicyErr}
+use Rattle.vx_policy.specs.declared.policy.PolicyErr.TheVariants as err
+use Rattle.vx_policy.specs.Reading.{IsRead, IsBad, IsTooMany}
+use Rattle.vx_policy.specs.Texts.{usage_line, form_line, many_line, long_line}
+use Rattle.vx_peers.specs.declared.words.Ask.{Ask}
+use Rattle.vx_peers.specs.declared.serving.Status.{Status as DoorStatus}
+use Rattle.vx_peers.specs.declared.serving.Status.TheVariants as peers
+use Rattle.vx_peers.specs.Outcome.{Asks, AsksNothing, IsOpenServed, Opens}
+use Rattle.vx_guard.specs.declared.status.Status.{Status}
+use Rattle.vx_guard.specs.declared.status.Status.TheVariants as status
+use Rattle.vx_guard.specs.Peers.{GuardHas, GuardShows, GuardsPeer, GuardsPeers, serving}
+
+-- the number of a status
+abbrev pub status_number : Status → ℕ
+status_number status.Served = 0
+status_number status.Usage = 1
+status_number status.PolicyFault = 2
+status_number status.NetFailed = 3
+status_number status.NoMemory = 5
+status_number status.SinkFailed = 6
+status_number status.SourceFailed = 7
+
+-- the rules' source and the sink, before and after
+pub record Ends : Type 0 where
+  pub source : End
+  pub source_after : End
+  pub sink : End
+  pub sink_after : End
+
+-- a guard that begins: its pass is the first of its gate, has all parts, has seen nothing and made nothing, so its history has no group;
+-- and its note is the sink
+pub record Begins (s : GuardHas) (sink : End) : Type 0 where
+  pub number : s.pass.number ≡ 0
+  pub parts : s.pass.parts ≡ 4294967296
+  pub seen : s.pass.seen ≡ []
+  pub own : s.pass.own ≡ []
+  pub note : s.note ≡ sink
+  pub sound : s.failed ≡ false
+
+-- the source gave a text that says these rules
+pub record GivesRules (source source' : End) (rules : List Rule) : Type 0 where
+  pub text : List ℕ
+  pub given : GivesAll TEXT_MAX source source' text
+  pub read : IsRead text (Ok rules)
+
+-- The source gave no policy, as this line tells: it gave more than a policy may have; or, of a whole text, the first line of another form
+-- than a rule is the one of this number; or none is, and there are more rules than a policy may have.
+abbrev pub IsRefused : End → End → List ℕ → Type 0
+IsRefused source source' line =
+    ((line ≡ long_line) × (text : List ℕ) × GivesTooMuch TEXT_MAX source source' text)
+    ⊎ ((text : List ℕ) × GivesAll TEXT_MAX source source' text
+    × (((number : ℕ) × (line ≡ form_line number) × IsBad (lines text) number) ⊎ ((line ≡ many_line) × IsTooMany (lines text))))
+
+-- a line was written by a run that ends so, or the sink failed in it
+abbrev pub PutsLine : Status → List ℕ → End → End → Status → Type 0
+PutsLine how line before after result =
+    ((result ≡ how) × Appends before.bytes after.bytes line) ⊎ ((result ≡ status.SinkFailed) × StopsIn before after line)
+
+-- how it is told why a text is no policy
+abbrev pub IsTold : PolicyErr → End → End → Status → Type 0
+IsTold (err.Form line) before after result = PutsLine status.PolicyFault (form_line line) before after result
+IsTold err.TooMany before after result = PutsLine status.PolicyFault many_line before after result
+IsTold err.NoMemory before after result = (result ≡ status.NoMemory) × (after ≡ before)
+
+-- how a run ends that has no rules
+abbrev pub IsUnruled : Ends → Status → Type 0
+IsUnruled ends status.PolicyFault = (line : List ℕ) × IsRefused ends.source ends.source_after line × Appends ends.sink.bytes ends.sink_after.bytes line
+IsUnruled ends status.SinkFailed = (line : List ℕ) × IsRefused ends.source ends.source_after line × StopsIn ends.sink ends.sink_after line
+IsUnruled ends status.SourceFailed =
+    Rose ends.source.faults ends.source_after.faults × GivesUpTo (TEXT_MAX + 1) ends.source ends.source_after × (ends.sink_after ≡ ends.sink)
+IsUnruled ends status.NoMemory = GivesUpTo (TEXT_MAX + 1) ends.source ends.source_after × (ends.sink_after ≡ ends.sink)
+IsUnruled ends _ = ⊥
+
+module _ {B N : Type 0} (n : GuardShows B N) (rules : List Rule) where
+  -- Peers were met and served, each with its note behind the one before, and no note failed. What was written behind the last note is as
+  -- with each program over a door that serves so many.
+  pub record Serves (ask : Ask) (first : GuardHas) (opened : N) (last : GuardHas) (new : N) (after : End) (how : DoorStatus) : Type 0 where
+    pub served : IsOpenServed (serving n rules) ask first opened last new last.note after how
+    pub noted : last.failed ≡ false
+
+  -- The note failed in the session of the last peer. No further one was met, and nothing was written behind.
+  pub record StopsNote (ask : Ask) (first : GuardHas) (opened : N) (last : GuardHas) (new : N) (after : End) : Type 0 where
+    pub number : ℕ
+    pub within : number ≤ ask.number
+    pub serves : GuardsPeers n rules first opened number door.Served number last new
+    pub failed : last.failed ≡ true
+    pub same : after ≡ last.note
+
+  -- how the work at a port that was opened ends
+  abbrev pub IsWorked : Ask → GuardHas → N → GuardHas → N → End → Status → Type 0
+  IsWorked ask first opened last new after status.Served = Serves ask first opened last new after peers.Served
+  IsWorked ask first opened last new after status.NetFailed =
+      Rose (n.door opened).faults (n.door new).faults × Serves ask first opened last new after peers.NetFailed
+  IsWorked ask first opened last new after status.SinkFailed =
+      Rose first.note.faults after.faults × (Serves ask first opened last new after peers.SinkFailed ⊎ StopsNote ask first opened last new after)
+  IsWorked ask first opened last new after _ = ⊥
+
+  -- The work ended that began with a history without a group.
+  pub record Works (ask : Ask) (opened new : N) (before after : End) (how : Status) : Type 0 where
+    pub first : GuardHas
+    pub begins : Begins first before
+    pub last : GuardHas
+    pub worked : IsWorked ask first opened last new after how
+    -- serving leaves the door's own counts as they are: they tell how many peers it met, and why no more
+    pub keeps : KeepsOwn n.door (GuardsPeer n rules)
+
+  -- the port was opened, and the work there ended so
+  pub record OpensAndWorks (ask : Ask) (old new : N) (before after : End) (how : Status) : Type 0 where
+    pub opened : N
+    pub opens : Opens (serving n rules) old Up opened
+    pub works : Works ask opened new before after how
+
+  -- how the work at a port ends: that couldn't be opened, and nothing was served or written; or the work there ended
+  abbrev pub IsPortRun : Ask → N → N → End → End → Status → Type 0
+  IsPortRun ask old new before after status.NetFailed =
+      (Opens (serving n rules) old Failed new × (after ≡ before)) ⊎ OpensAndWorks ask old new before after status.NetFailed
+  IsPortRun ask old new before after how = OpensAndWorks ask old new before after how
+
+  -- how what is asked ends by these rules: there was no memory, and nothing was opened or written; or the work at the port ended
+  abbrev pub IsRuledRun : Ask → N → N → End → End → Status → Type 0
+  IsRuledRun ask old new before after status.NoMemory = (new ≡ old) × (after ≡ before)
+  IsRuledRun ask old new before after how = IsPortRun ask old new before after how
+
+-- the source gave rules, and the run by them ended so
+pub record RunsRules {B N : Type 0} (n : GuardShows B N) (ask : Ask) (old new : N) (ends : Ends) (how : Status) : Type 0 where
+  pub rules : List Rule
+  pub gives : GivesRules ends.source ends.source_after rules
+  pub runs : IsRuledRun n rules ask old new ends.sink ends.sink_after how
+
+-- how what is asked ends: there are no rules, and nothing was opened; or the run by those that the source gave ended
+abbrev pub IsAskRun : {B N : Type 0} → GuardShows B N → Ask → N → N → Ends → Status → Type 0
+IsAskRun n ask old new ends how = (IsUnruled ends how × (new ≡ old)) ⊎ RunsRules n ask old new ends how
+
+-- How a run ends: the words ask nothing, which is told, and the source is unread; or what they ask is done.
+abbrev pub IsRun : {B N : Type 0} → GuardShows B N → List (List ℕ) → N → N → Ends → Status → Type 0
+IsRun n words old new ends how =
+    (AsksNothing words × (new ≡ old) × (ends.source_after ≡ ends.source)
+    × PutsLine status.Usage usage_line ends.sink ends.sink_after how)
+    ⊎ ((ask : Ask) × Asks words ask × IsAskRun n ask old new ends how)
+
+-- it ends with the number of its status
+abbrev pub EndsRun : {B N : Type 0} → GuardShows B N → List (List ℕ) → N → N → Ends → ℕ → Type 0
+EndsRun n words old new ends number = (how : Status) × (number ≡ status_number how) × IsRun n words old new ends how

@@ -1,0 +1,133 @@
+-- What a guard does with the peers of a door, one after another.
+use Rattle.std.specs.Prelude.{◌≡◌, ◌≤◌, ◌||◌, ℕ, Bool, true, false, List}
+use Rattle.vx_io_traits.specs.Faults.{Rose}
+use Rattle.vx_io_traits.specs.declared.ReadOut.{ReadOut}
+use Rattle.vx_io_traits.specs.declared.WriteOut.{WriteOut}
+use Rattle.vx_door.specs.Going.{Went}
+use Rattle.vx_door.specs.Shown.{DoorShown, MeetsPeer, MeetsNone}
+use Rattle.vx_door.specs.Running.{ServesPeers}
+use Rattle.vx_door.specs.Serving.{ServesOne, ServesNone}
+use Rattle.vx_door.specs.declared.doors.Met.{Met}
+use Rattle.vx_door.specs.declared.doors.Met.TheVariants as met
+use Rattle.vx_door.specs.declared.serving.DoorEnd.{DoorEnd}
+use Rattle.vx_door.specs.declared.serving.DoorEnd.TheVariants as door
+use Rattle.vx_bus_traits.specs.declared.bus.Bus.{Ghosts}
+use Rattle.vx_gate.specs.PassView.{PassView, GateId}
+use Rattle.vx_text.specs.Ends.{End}
+use Rattle.vx_history.specs.Groups.{Group}
+use Rattle.vx_stream.specs.Shown.{LinkShown}
+use Rattle.vx_stream.specs.declared.ends.End.TheVariants as stream
+use Rattle.vx_session.specs.Outside.{DialShown}
+use Rattle.vx_policy.specs.declared.rules.Rule.{Rule}
+use Rattle.vx_peers.specs.Outcome.{Shows}
+use Rattle.vx_guard.specs.declared.sessions.GuardEnd.TheVariants as guard
+use Rattle.vx_guard.specs.declared.links.Guarded.{Guarded}
+use Rattle.vx_guard.specs.declared.links.Guarded.TheVariants as guarded
+use Rattle.vx_guard.specs.declared.serving.Next.{Next}
+use Rattle.vx_guard.specs.declared.serving.Next.TheVariants as next
+use Rattle.vx_guard.specs.declared.serving.Stop.{Stop}
+use Rattle.vx_guard.specs.declared.serving.Stop.TheVariants as stop
+use Rattle.vx_guard.specs.Linking.{GuardLinkDid}
+
+-- what a guard has between two peers: its pass, the greatest moment that its clock has told, its dial, what its note took, and whether
+-- that failed
+pub record GuardHas : Type 0 where
+  pub pass : PassView Group
+  pub told : ℕ
+  pub dial : DialShown
+  pub note : End
+  pub failed : Bool
+
+-- what holds of the pass of a guard between two peers: it is of this gate, the first one there, and has all parts, so it is alone
+pub record CanServe (gate : GateId) (pass : PassView Group) : Type 0 where
+  pub gate_is : pass.gate ≡ gate
+  pub number : pass.number ≡ 0
+  pub parts : pass.parts ≡ 4294967296
+
+-- what a bus and a door are to what is said of them
+pub record GuardShows (B N : Type 0) : Type 1 where
+  pub bus : Ghosts B
+  pub stands : N → List ℕ → List ℕ → Type 0
+  pub receives : N → List ℕ → ReadOut → List ℕ → N → Type 0
+  pub sends : N → List ℕ → WriteOut → N → Type 0
+  pub tells : Bool
+  pub waits : N → Met → N → Type 0
+  pub door : N → DoorShown
+  pub link : N → LinkShown
+
+-- the note failed in the line of a denial
+abbrev pub is_note_fault : Guarded → Bool
+is_note_fault (guarded.Ended guard.NoteFault) = true
+is_note_fault _ = false
+
+-- it ended for a cause of the guard's own, for which bytes of the peer may be left: junk, a record that is too long, a note that failed,
+-- or no connection
+abbrev pub is_own : Guarded → Bool
+is_own (guarded.Ended (guard.Ended (stream.Junk count))) = true
+is_own (guarded.Ended (guard.Ended stream.TooLong)) = true
+is_own (guarded.Ended (guard.Ended _)) = false
+is_own (guarded.Ended guard.NoteFault) = true
+is_own guarded.Full = true
+is_own guarded.NoMemory = true
+
+-- whether all replies were sent
+abbrev pub is_whole : Guarded → Bool
+is_whole (guarded.Ended (guard.Ended stream.WriteFault)) = false
+is_whole _ = true
+
+-- A peer was served by these rules: it had its guarded session, or none came up. It is judged by the address that the door's list of its
+-- peers ends with. The door went by receives and sends alone, and the guard knows whether the note failed.
+pub record GuardsPeer {B N : Type 0} (n : GuardShows B N) (rules : List Rule) (s : GuardHas) (door : N) (how : Guarded) (s' : GuardHas) (door' : N) : Type 0 where
+  pub did : GuardLinkDid n.bus n.stands s'.told rules s.pass door (n.link door) s.dial s.note how s'.pass door' (n.link door') s'.dial s'.note
+  pub later : s.told ≤ s'.told
+  pub went : Went n.receives n.sends door door'
+  pub failed : s'.failed ≡ (s.failed || is_note_fault how)
+
+-- how a guard by these rules is seen as what serves the peers of a door
+abbrev pub serving : {B N : Type 0} → GuardShows B N → List Rule → Shows N GuardHas Guarded
+serving n rules = record {
+  stands = n.stands;
+  tells = n.tells;
+  waits = n.waits;
+  door = n.door;
+  did = GuardsPeer n rules;
+  own = is_own;
+  whole = is_whole;
+}
+
+-- so many peers were met and served by these rules, each before the next, and at most `limit`
+abbrev pub GuardsPeers : {B N : Type 0} → GuardShows B N → List Rule → GuardHas → N → (limit : ℕ) → DoorEnd → (number : ℕ) → GuardHas → N → Type 0
+GuardsPeers n rules s door limit how number s' door' =
+    ServesPeers n.stands n.tells n.waits n.door (GuardsPeer n rules) is_own is_whole s door limit how number s' door'
+
+-- what a wait of a door came to
+abbrev pub MeetsSo : {N : Type 0} → (N → List ℕ → List ℕ → Type 0) → Bool → (N → Met → N → Type 0) → (N → DoorShown) → N → Met → N → Type 0
+MeetsSo stands tells waits shown old met.Peer new = MeetsPeer stands tells waits shown old new
+MeetsSo stands tells waits shown old met.Ended new = MeetsNone stands waits shown met.Ended old new × Rose (shown old).ended (shown new).ended
+MeetsSo stands tells waits shown old met.Failed new = MeetsNone stands waits shown met.Failed old new × Rose (shown old).faults (shown new).faults
+
+-- the count of the note's faults rose where the note failed, and didn't fall
+abbrev pub Notes : Bool → (before after : ℕ) → Type 0
+Notes true before after = Rose before after
+Notes false before after = before ≤ after
+
+-- What a wait for the next peer came to, of a guard whose note didn't fail: one was met and served, or none came, and it has what it had.
+-- `after` is what it has then, by whether the note failed.
+abbrev pub IsNext : {B N : Type 0} → GuardShows B N → List Rule → GuardHas → N → Next → (after : Bool → GuardHas) → N → Type 0
+IsNext n rules s door (next.Peer failed) after door' =
+    ServesOne n.stands n.tells n.waits n.door (GuardsPeer n rules) is_own is_whole s door (after failed) door'
+    × Notes failed s.note.faults (after failed).note.faults
+IsNext n rules s door next.Ended after door' = ServesNone n.stands n.waits n.door s door met.Ended (after false) door'
+IsNext n rules s door next.Failed after door' = ServesNone n.stands n.waits n.door s door met.Failed (after false) door'
+
+-- whether no more are served since the note failed
+abbrev pub is_note_stop : Stop → Bool
+is_note_stop stop.Note = true
+is_note_stop (stop.Door how) = false
+
+-- Why no more were served of at most so many: as with each door; or the note failed in the session of the last.
+abbrev pub StopsPeers : {B N : Type 0} → GuardShows B N → List Rule → GuardHas → N → (limit : ℕ) → Stop → (number : ℕ) → GuardHas → N → Type 0
+StopsPeers n rules s door limit (stop.Door how) number s' door' =
+    GuardsPeers n rules s door limit how number s' door' × (s.note.faults ≤ s'.note.faults)
+StopsPeers n rules s door limit stop.Note number s' door' =
+    GuardsPeers n rules s door number door.Served number s' door' × (number ≤ limit) × Rose s.note.faults s'.note.faults

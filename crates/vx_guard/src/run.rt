@@ -1,0 +1,282 @@
+//! All that the program `vxguard` does: the words, the rules, the port, the links that come there, the lines that are printed, and the
+//! status.
+ghost use Rattle.std.specs.Prelude.{◌≡◌, [], map, string_bytes, vec_len};
+ghost use Rattle.vx_door.specs.Shown.{door_shown};
+ghost use Rattle.vx_gate.specs.Gates.{gate_of};
+ghost use Rattle.vx_stream.specs.Shown.{link_shown};
+ghost use Rattle.vx_guard.specs.Benches.{sim};
+ghost use Rattle.vx_guard.specs.Outcome.{Works, IsPortRun, IsRuledRun, IsAskRun, IsRun, EndsRun};
+ghost use Rattle.vx_guard.specs.Peers.{CanServe};
+
+use crate::reading::{put_line, rules_of};
+use crate::serving::{Kit, Stop, serve_links};
+use crate::sessions::GuardRoom;
+use crate::starting::start;
+use crate::status::Status;
+use std::alloc::Global;
+use std::sync::Wait;
+use vx_bus_traits::Bus;
+use vx_core::Core;
+use vx_door::{Door, DoorEnd};
+use vx_gate::{Pass, Turns};
+use vx_inst::Instrument;
+use vx_io::Peered;
+use vx_io_traits::{Clock, Dial, DialOut, Pause, Sink, Source};
+use vx_peers::{Ask, ask_of};
+use vx_policy::{LINE_ROOM, Policy, served_line};
+use vx_rack::Spare;
+use vx_session::Tools;
+
+/// Serves the links that come to the port that was opened, and prints how many there were.
+fn serve_open<
+    R: Wait,
+    B: Bus,
+    T: Turns<Core<B>>,
+    N: Door + Peered,
+    C: Clock + Drop,
+    P: Pause + Drop,
+    D: Dial + Drop,
+    K: Sink,
+>(
+    rt: &R,
+    alloc: Global,
+    turns: &T,
+    pass: Pass<Core<B>>,
+    policy: &Policy,
+    ask: &Ask,
+    net: &mut N,
+    kit: &mut Kit<C, P, D>,
+    sink: &mut K,
+) -> Status
+    requires can { CanServe (T.gate turns.now) pass }
+    requires fresh { (pass.seen ≡ []) × (pass.own ≡ []) }
+    ensures { Works (record {
+        bus = B.Bus;
+        stands = N.stands;
+        receives = N.receives;
+        sends = N.sends;
+        tells = N.tells;
+        waits = N.meets;
+        door = door_shown N.met N.ended N.faults N.receive_faults N.send_faults N.left N.peers;
+        link = link_shown N.left N.peers N.receive_faults N.send_faults;
+      }) policy.now ask.now net.old net.new
+        (record { bytes = K.taken sink.old; faults = K.faults sink.old })
+        (record { bytes = K.taken sink.new; faults = K.faults sink.new }) result }
+{
+    match serve_links(rt, alloc, turns, pass, policy, ask.number, net, kit, sink) {
+        (_, Stop::Note, _) => Status::SinkFailed,
+        (_, Stop::Door(DoorEnd::Failed), _) => Status::NetFailed,
+        (_, Stop::Door(DoorEnd::Served | DoorEnd::Ended), number) => {
+            let mut out = [0u8; LINE_ROOM];
+            put_line(sink, served_line(number, &mut out), Status::Served)
+        }
+    }
+}
+
+/// Opens the port, and serves the links that come there.
+fn run_gate<
+    R: Wait,
+    B: Bus,
+    T: Turns<Core<B>>,
+    N: Door + Peered,
+    C: Clock + Drop,
+    P: Pause + Drop,
+    D: Dial + Drop,
+    K: Sink,
+>(
+    rt: &R,
+    alloc: Global,
+    turns: &T,
+    pass: Pass<Core<B>>,
+    policy: &Policy,
+    ask: &Ask,
+    net: &mut N,
+    kit: &mut Kit<C, P, D>,
+    sink: &mut K,
+) -> Status
+    requires can { CanServe (T.gate turns.now) pass }
+    requires fresh { (pass.seen ≡ []) × (pass.own ≡ []) }
+    ensures { IsPortRun (record {
+        bus = B.Bus;
+        stands = N.stands;
+        receives = N.receives;
+        sends = N.sends;
+        tells = N.tells;
+        waits = N.meets;
+        door = door_shown N.met N.ended N.faults N.receive_faults N.send_faults N.left N.peers;
+        link = link_shown N.left N.peers N.receive_faults N.send_faults;
+      }) policy.now ask.now net.old net.new
+        (record { bytes = K.taken sink.old; faults = K.faults sink.old })
+        (record { bytes = K.taken sink.new; faults = K.faults sink.new }) result }
+{
+    match net.open(ask.port) {
+        DialOut::Failed => Status::NetFailed,
+        DialOut::Up => serve_open(rt, alloc, turns, pass, policy, ask, net, kit, sink),
+    }
+}
+
+/// What a guard uses for one link after another, of these tools; none where there was no memory for its room.
+fn kit_of<X: Tools>(alloc: Global, tools: &mut X) -> Option<Kit<X::C, X::P, X::D>> {
+    let Ok(room) = GuardRoom::new(alloc) else {
+        return None;
+    };
+    Some(Kit {
+        clock: tools.clock(),
+        pause: tools.pause(),
+        dial: tools.dial(),
+        room,
+    })
+}
+
+/// Does what is asked by these rules. All memory but that for a connection is taken before the port is opened.
+fn run_ruled<R: Wait, N: Door + Peered, X: Tools, K: Sink, I: Instrument>(
+    rt: &R,
+    alloc: Global,
+    ask: &Ask,
+    policy: &Policy,
+    net: &mut N,
+    tools: &mut X,
+    sink: &mut K,
+    rack: Vec<Spare<I>>,
+) -> Status
+    requires rack { vec_len rack ≡ 1 }
+    ensures { IsRuledRun (record {
+        bus = sim;
+        stands = N.stands;
+        receives = N.receives;
+        sends = N.sends;
+        tells = N.tells;
+        waits = N.meets;
+        door = door_shown N.met N.ended N.faults N.receive_faults N.send_faults N.left N.peers;
+        link = link_shown N.left N.peers N.receive_faults N.send_faults;
+      }) policy.now ask.now net.old net.new
+        (record { bytes = K.taken sink.old; faults = K.faults sink.old })
+        (record { bytes = K.taken sink.new; faults = K.faults sink.new }) result }
+{
+    let Some(mut kit) = kit_of(alloc, tools) else {
+        return Status::NoMemory;
+    };
+    match start(alloc, rack) {
+        Some((gate, pass)) => run_gate(rt, alloc, &gate, pass, policy, ask, net, &mut kit, sink),
+        None => Status::NoMemory,
+    }
+}
+
+/// Reads the rules, and does what is asked by them.
+fn run_ask<R: Wait, N: Door + Peered, X: Tools, S: Source, K: Sink, I: Instrument>(
+    rt: &R,
+    alloc: Global,
+    ask: &Ask,
+    rules: &mut S,
+    net: &mut N,
+    tools: &mut X,
+    sink: &mut K,
+    rack: Vec<Spare<I>>,
+) -> Status
+    requires rack { vec_len rack ≡ 1 }
+    ensures { IsAskRun (record {
+        bus = sim;
+        stands = N.stands;
+        receives = N.receives;
+        sends = N.sends;
+        tells = N.tells;
+        waits = N.meets;
+        door = door_shown N.met N.ended N.faults N.receive_faults N.send_faults N.left N.peers;
+        link = link_shown N.left N.peers N.receive_faults N.send_faults;
+      }) ask.now net.old net.new
+      (record {
+        source = record { bytes = S.left rules.old; faults = S.faults rules.old };
+        source_after = record { bytes = S.left rules.new; faults = S.faults rules.new };
+        sink = record { bytes = K.taken sink.old; faults = K.faults sink.old };
+        sink_after = record { bytes = K.taken sink.new; faults = K.faults sink.new };
+      }) result }
+{
+    match rules_of(alloc, rules, sink) {
+        Ok(policy) => run_ruled(rt, alloc, ask, &policy, net, tools, sink, rack),
+        Err(how) => how,
+    }
+}
+
+fn run<R: Wait, N: Door + Peered, X: Tools, S: Source, K: Sink, I: Instrument>(
+    rt: &R,
+    alloc: Global,
+    words: &[String],
+    rules: &mut S,
+    net: &mut N,
+    tools: &mut X,
+    sink: &mut K,
+    rack: Vec<Spare<I>>,
+) -> Status
+    requires rack { vec_len rack ≡ 1 }
+    ensures { IsRun (record {
+        bus = sim;
+        stands = N.stands;
+        receives = N.receives;
+        sends = N.sends;
+        tells = N.tells;
+        waits = N.meets;
+        door = door_shown N.met N.ended N.faults N.receive_faults N.send_faults N.left N.peers;
+        link = link_shown N.left N.peers N.receive_faults N.send_faults;
+      }) (map string_bytes words.now) net.old net.new
+      (record {
+        source = record { bytes = S.left rules.old; faults = S.faults rules.old };
+        source_after = record { bytes = S.left rules.new; faults = S.faults rules.new };
+        sink = record { bytes = K.taken sink.old; faults = K.faults sink.old };
+        sink_after = record { bytes = K.taken sink.new; faults = K.faults sink.new };
+      }) result }
+{
+    match ask_of(words) {
+        Some(ask) => run_ask(rt, alloc, &ask, rules, net, tools, sink, rack),
+        None => put_line(sink, b"usage: vxguard PORT N\n", Status::Usage),
+    }
+}
+
+/// All that the program `vxguard` does: it serves VXI-11 core links by written rules, and answers the exit status.
+///
+/// The words are `PORT N`, with a port 1 to 65,535 and N 1 to 1,000,000, in decimal digits without a leading zero. The rules are read
+/// from their source to its end ([`Policy::from_text`] says their form). The gateway has one instrument, the one spare of the rack, at
+/// primary address 5, and tells 9011 as the port of its abort channel. N links are served at PORT one after another, each by a session
+/// that is guarded by the rules ([`guarded_session`](crate::guarded_session)); the line of each denial goes to the sink. At the end the
+/// sink gets `served N`, with the number of links that were served: those asked for, or fewer where no more come. A link for whose
+/// connection there is no memory gets nothing and counts.
+///
+/// - 0: the lines of all denials, and the last line, were written.
+/// - 1, `usage: vxguard PORT N`: the words have another form. The rules aren't read.
+/// - 2: the policy was refused, and nothing is opened. `fault long`: it has more than 1,048,576 bytes. `fault line N form`: line N is
+///   the first of another form than a rule. `fault many`: none is, and there are more than 256 rules.
+/// - 3: the port couldn't be opened, or a wait for a link failed.
+/// - 5, nothing printed and nothing opened: there was no memory.
+/// - 6: the sink failed. Where that was in the line of a denial, no further link is served.
+/// - 7, nothing printed and nothing opened: the source of the rules failed.
+///
+/// A fault of a link ends its session alone.
+pub fn guard_run<R: Wait, N: Door + Peered, X: Tools, S: Source, K: Sink, I: Instrument>(
+    rt: &R,
+    alloc: Global,
+    words: &[String],
+    rules: &mut S,
+    net: &mut N,
+    tools: &mut X,
+    sink: &mut K,
+    rack: Vec<Spare<I>>,
+) -> u8
+    requires rack { vec_len rack ≡ 1 }
+    ensures { EndsRun (record {
+        bus = sim;
+        stands = N.stands;
+        receives = N.receives;
+        sends = N.sends;
+        tells = N.tells;
+        waits = N.meets;
+        door = door_shown N.met N.ended N.faults N.receive_faults N.send_faults N.left N.peers;
+        link = link_shown N.left N.peers N.receive_faults N.send_faults;
+      }) (map string_bytes words.now) net.old net.new
+      (record {
+        source = record { bytes = S.left rules.old; faults = S.faults rules.old };
+        source_after = record { bytes = S.left rules.new; faults = S.faults rules.new };
+        sink = record { bytes = K.taken sink.old; faults = K.faults sink.old };
+        sink_after = record { bytes = K.taken sink.new; faults = K.faults sink.new };
+      }) result }
+{
+    run(rt, alloc, words, rules, net, tools, sink, rack).number()
+}
