@@ -3,4 +3,4 @@ mod Ended
 mod Served
 mod Refused
 mod Rooms
-pub mod Met
+mod OnePeer

@@ -51,15 +51,15 @@ fn serve_open<
     requires can { CanServe (T.gate turns.now) pass }
     requires fresh { (pass.seen ≡ []) × (pass.own ≡ []) }
     ensures { Works (record {
-        bus = B.Bus;
-        stands = N.stands;
-        receives = N.receives;
-        sends = N.sends;
-        tells = N.tells;
-        waits = N.meets;
-        door = door_shown N.met N.ended N.faults N.receive_faults N.send_faults N.left N.peers;
-        link = link_shown N.left N.peers N.receive_faults N.send_faults;
-      }) policy.now ask.now net.old net.new
+      bus = B.Bus;
+      stands = N.stands;
+      receives = N.receives;
+      sends = N.sends;
+      tells = N.tells;
+      waits = N.meets;
+      door = door_shown N.met N.ended N.faults N.receive_faults N.send_faults N.left N.peers;
+      link = link_shown N.left N.peers N.receive_faults N.send_faults;
+    }) policy.now ask.now net.old net.new
         (record { bytes = K.taken sink.old; faults = K.faults sink.old })
         (record { bytes = K.taken sink.new; faults = K.faults sink.new }) result }
 {
@@ -97,15 +97,15 @@ fn run_gate<
     requires can { CanServe (T.gate turns.now) pass }
     requires fresh { (pass.seen ≡ []) × (pass.own ≡ []) }
     ensures { IsPortRun (record {
-        bus = B.Bus;
-        stands = N.stands;
-        receives = N.receives;
-        sends = N.sends;
-        tells = N.tells;
-        waits = N.meets;
-        door = door_shown N.met N.ended N.faults N.receive_faults N.send_faults N.left N.peers;
-        link = link_shown N.left N.peers N.receive_faults N.send_faults;
-      }) policy.now ask.now net.old net.new
+      bus = B.Bus;
+      stands = N.stands;
+      receives = N.receives;
+      sends = N.sends;
+      tells = N.tells;
+      waits = N.meets;
+      door = door_shown N.met N.ended N.faults N.receive_faults N.send_faults N.left N.peers;
+      link = link_shown N.left N.peers N.receive_faults N.send_faults;
+    }) policy.now ask.now net.old net.new
         (record { bytes = K.taken sink.old; faults = K.faults sink.old })
         (record { bytes = K.taken sink.new; faults = K.faults sink.new }) result }
 {
@@ -141,15 +141,15 @@ fn run_ruled<R: Wait, N: Door + Peered, X: Tools, K: Sink, I: Instrument>(
 ) -> Status
     requires rack { vec_len rack ≡ 1 }
     ensures { IsRuledRun (record {
-        bus = sim;
-        stands = N.stands;
-        receives = N.receives;
-        sends = N.sends;
-        tells = N.tells;
-        waits = N.meets;
-        door = door_shown N.met N.ended N.faults N.receive_faults N.send_faults N.left N.peers;
-        link = link_shown N.left N.peers N.receive_faults N.send_faults;
-      }) policy.now ask.now net.old net.new
+      bus = sim;
+      stands = N.stands;
+      receives = N.receives;
+      sends = N.sends;
+      tells = N.tells;
+      waits = N.meets;
+      door = door_shown N.met N.ended N.faults N.receive_faults N.send_faults N.left N.peers;
+      link = link_shown N.left N.peers N.receive_faults N.send_faults;
+    }) policy.now ask.now net.old net.new
         (record { bytes = K.taken sink.old; faults = K.faults sink.old })
         (record { bytes = K.taken sink.new; faults = K.faults sink.new }) result }
 {
@@ -175,21 +175,21 @@ fn run_ask<R: Wait, N: Door + Peered, X: Tools, S: Source, K: Sink, I: Instrumen
 ) -> Status
     requires rack { vec_len rack ≡ 1 }
     ensures { IsAskRun (record {
-        bus = sim;
-        stands = N.stands;
-        receives = N.receives;
-        sends = N.sends;
-        tells = N.tells;
-        waits = N.meets;
-        door = door_shown N.met N.ended N.faults N.receive_faults N.send_faults N.left N.peers;
-        link = link_shown N.left N.peers N.receive_faults N.send_faults;
-      }) ask.now net.old net.new
-      (record {
-        source = record { bytes = S.left rules.old; faults = S.faults rules.old };
-        source_after = record { bytes = S.left rules.new; faults = S.faults rules.new };
-        sink = record { bytes = K.taken sink.old; faults = K.faults sink.old };
-        sink_after = record { bytes = K.taken sink.new; faults = K.faults sink.new };
-      }) result }
+      bus = sim;
+      stands = N.stands;
+      receives = N.receives;
+      sends = N.sends;
+      tells = N.tells;
+      waits = N.meets;
+      door = door_shown N.met N.ended N.faults N.receive_faults N.send_faults N.left N.peers;
+      link = link_shown N.left N.peers N.receive_faults N.send_faults;
+    }) ask.now net.old net.new
+        (record {
+          source = record { bytes = S.left rules.old; faults = S.faults rules.old };
+          source_after = record { bytes = S.left rules.new; faults = S.faults rules.new };
+          sink = record { bytes = K.taken sink.old; faults = K.faults sink.old };
+          sink_after = record { bytes = K.taken sink.new; faults = K.faults sink.new };
+        }) result }
 {
     match rules_of(alloc, rules, sink) {
         Ok(policy) => run_ruled(rt, alloc, ask, &policy, net, tools, sink, rack),
@@ -209,21 +209,21 @@ fn run<R: Wait, N: Door + Peered, X: Tools, S: Source, K: Sink, I: Instrument>(
 ) -> Status
     requires rack { vec_len rack ≡ 1 }
     ensures { IsRun (record {
-        bus = sim;
-        stands = N.stands;
-        receives = N.receives;
-        sends = N.sends;
-        tells = N.tells;
-        waits = N.meets;
-        door = door_shown N.met N.ended N.faults N.receive_faults N.send_faults N.left N.peers;
-        link = link_shown N.left N.peers N.receive_faults N.send_faults;
-      }) (map string_bytes words.now) net.old net.new
-      (record {
-        source = record { bytes = S.left rules.old; faults = S.faults rules.old };
-        source_after = record { bytes = S.left rules.new; faults = S.faults rules.new };
-        sink = record { bytes = K.taken sink.old; faults = K.faults sink.old };
-        sink_after = record { bytes = K.taken sink.new; faults = K.faults sink.new };
-      }) result }
+      bus = sim;
+      stands = N.stands;
+      receives = N.receives;
+      sends = N.sends;
+      tells = N.tells;
+      waits = N.meets;
+      door = door_shown N.met N.ended N.faults N.receive_faults N.send_faults N.left N.peers;
+      link = link_shown N.left N.peers N.receive_faults N.send_faults;
+    }) (map string_bytes words.now) net.old net.new
+        (record {
+          source = record { bytes = S.left rules.old; faults = S.faults rules.old };
+          source_after = record { bytes = S.left rules.new; faults = S.faults rules.new };
+          sink = record { bytes = K.taken sink.old; faults = K.faults sink.old };
+          sink_after = record { bytes = K.taken sink.new; faults = K.faults sink.new };
+        }) result }
 {
     match ask_of(words) {
         Some(ask) => run_ask(rt, alloc, &ask, rules, net, tools, sink, rack),
@@ -262,21 +262,21 @@ pub fn guard_run<R: Wait, N: Door + Peered, X: Tools, S: Source, K: Sink, I: Ins
 ) -> u8
     requires rack { vec_len rack ≡ 1 }
     ensures { EndsRun (record {
-        bus = sim;
-        stands = N.stands;
-        receives = N.receives;
-        sends = N.sends;
-        tells = N.tells;
-        waits = N.meets;
-        door = door_shown N.met N.ended N.faults N.receive_faults N.send_faults N.left N.peers;
-        link = link_shown N.left N.peers N.receive_faults N.send_faults;
-      }) (map string_bytes words.now) net.old net.new
-      (record {
-        source = record { bytes = S.left rules.old; faults = S.faults rules.old };
-        source_after = record { bytes = S.left rules.new; faults = S.faults rules.new };
-        sink = record { bytes = K.taken sink.old; faults = K.faults sink.old };
-        sink_after = record { bytes = K.taken sink.new; faults = K.faults sink.new };
-      }) result }
+      bus = sim;
+      stands = N.stands;
+      receives = N.receives;
+      sends = N.sends;
+      tells = N.tells;
+      waits = N.meets;
+      door = door_shown N.met N.ended N.faults N.receive_faults N.send_faults N.left N.peers;
+      link = link_shown N.left N.peers N.receive_faults N.send_faults;
+    }) (map string_bytes words.now) net.old net.new
+        (record {
+          source = record { bytes = S.left rules.old; faults = S.faults rules.old };
+          source_after = record { bytes = S.left rules.new; faults = S.faults rules.new };
+          sink = record { bytes = K.taken sink.old; faults = K.faults sink.old };
+          sink_after = record { bytes = K.taken sink.new; faults = K.faults sink.new };
+        }) result }
 {
     run(rt, alloc, words, rules, net, tools, sink, rack).number()
 }

@@ -93,15 +93,15 @@ fn serve_next<
     ensures can { CanServe (T.gate turns.now) result.0 }
     ensures next { IsNext
         (record {
-        bus = B.Bus;
-        stands = N.stands;
-        receives = N.receives;
-        sends = N.sends;
-        tells = N.tells;
-        waits = N.meets;
-        door = door_shown N.met N.ended N.faults N.receive_faults N.send_faults N.left N.peers;
-        link = link_shown N.left N.peers N.receive_faults N.send_faults;
-      }) policy.now
+          bus = B.Bus;
+          stands = N.stands;
+          receives = N.receives;
+          sends = N.sends;
+          tells = N.tells;
+          waits = N.meets;
+          door = door_shown N.met N.ended N.faults N.receive_faults N.send_faults N.left N.peers;
+          link = link_shown N.left N.peers N.receive_faults N.send_faults;
+        }) policy.now
         (record { pass = pass; told = C.told kit.old.clock; dial = dial_shown D.calls D.faults kit.old.dial; note = record { bytes = K.taken note.old; faults = K.faults note.old }; failed = false }) net.old result.1
         (λ failed. record { pass = result.0; told = C.told kit.new.clock; dial = dial_shown D.calls D.faults kit.new.dial; note = record { bytes = K.taken note.new; faults = K.faults note.new }; failed = failed }) net.new }
 {
@@ -150,15 +150,15 @@ pub(crate) fn serve_links<
     ensures can { CanServe (T.gate turns.now) result.0 }
     ensures stops { StopsPeers
         (record {
-        bus = B.Bus;
-        stands = N.stands;
-        receives = N.receives;
-        sends = N.sends;
-        tells = N.tells;
-        waits = N.meets;
-        door = door_shown N.met N.ended N.faults N.receive_faults N.send_faults N.left N.peers;
-        link = link_shown N.left N.peers N.receive_faults N.send_faults;
-      }) policy.now
+          bus = B.Bus;
+          stands = N.stands;
+          receives = N.receives;
+          sends = N.sends;
+          tells = N.tells;
+          waits = N.meets;
+          door = door_shown N.met N.ended N.faults N.receive_faults N.send_faults N.left N.peers;
+          link = link_shown N.left N.peers N.receive_faults N.send_faults;
+        }) policy.now
         (record { pass = pass; told = C.told kit.old.clock; dial = dial_shown D.calls D.faults kit.old.dial; note = record { bytes = K.taken note.old; faults = K.faults note.old }; failed = false }) net.old limit result.1 result.2
         (record { pass = result.0; told = C.told kit.new.clock; dial = dial_shown D.calls D.faults kit.new.dial; note = record { bytes = K.taken note.new; faults = K.faults note.new }; failed = is_note_stop result.1 }) net.new }
 {

@@ -4,4 +4,8 @@
 #[cfg(test)]
 mod rule_tests;
 #[cfg(test)]
+mod run_tests;
+#[cfg(test)]
 mod session_tests;
+#[cfg(test)]
+mod words;

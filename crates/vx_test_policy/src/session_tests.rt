@@ -2,7 +2,8 @@
 ghost use Rattle.std.specs.Prelude.{◌≡◌, IfSome};
 ghost use Rattle.vx_gate.specs.Gates.{gate_of};
 
-use std::alloc::{AllocError, Global};
+use crate::words::{are_words, words};
+use std::alloc::Global;
 use std::sync::Wait;
 use std::test::Fail;
 use vx_bus::MemBus;
@@ -119,25 +120,6 @@ static ROWS: [Row; 6] = [
         ..PLAIN
     },
 ];
-
-/// Numbers as words.
-fn words(alloc: Global, numbers: &[u32]) -> Result<Vec<u8>, AllocError> {
-    let mut bytes = Vec::new(alloc);
-    for number in numbers {
-        bytes.extend_from_slice(&number.to_be_bytes())?;
-    }
-    Ok(bytes)
-}
-
-/// Whether bytes are these numbers as words.
-fn are_words(bytes: &[u8], numbers: &[u32]) -> bool {
-    let (words, rest) = bytes.as_chunks::<4>();
-    let mut same = words.len() == numbers.len() && rest.is_empty();
-    for (word, number) in words.iter().zip(numbers) {
-        same = u32::from_be_bytes(*word) == *number && same;
-    }
-    same
-}
 
 type Gateway = Gate<Core<MemBus>>;
 

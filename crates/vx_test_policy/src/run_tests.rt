@@ -1,0 +1,409 @@
+//! What the guard's program does, over a door in memory, each of whose peers is 127.0.0.1.
+ghost use Rattle.std.specs.Prelude.{◌≡◌, IfSome, vec_len};
+
+use crate::words::{are_words, words};
+use arrayvec::ArrayString;
+use std::alloc::{AllocError, Global};
+use std::sync::Wait;
+use std::test::Fail;
+use vx_guard::guard_run;
+use vx_io::{MemClock, MemDial, MemDoor, MemLink, MemSink, MemSource, MemStreams, Pause};
+use vx_rack::{Echo, Spare};
+use vx_session::Tools;
+
+/// Makes no pause.
+#[derive(Drop)]
+struct NoPause;
+
+impl Pause for NoPause {
+    fn pause(&mut self) {}
+}
+
+/// A clock that stays at 0, and dials that stand.
+#[derive(Drop)]
+struct MemTools {
+    alloc: Global,
+}
+
+impl Tools for MemTools {
+    type C = MemClock;
+
+    type P = NoPause;
+
+    type D = MemDial;
+
+    type S = MemStreams<MemLink>;
+
+    fn clock(&mut self) -> MemClock {
+        MemClock::new(Vec::new(self.alloc))
+    }
+
+    fn pause(&mut self) -> NoPause {
+        NoPause
+    }
+
+    fn dial(&mut self) -> MemDial {
+        MemDial::new(Vec::new(self.alloc), Vec::new(self.alloc))
+    }
+
+    fn streams(&mut self) -> MemStreams<MemLink> {
+        MemStreams::new(Vec::new(self.alloc))
+    }
+}
+
+/// The words; the rules, so many times, and so many `#` behind them; how many peers there are, each of which gives the same; which
+/// reads of the rules fail, which calls of the door, and which writes to the sink; the status, what is printed, how many peers were
+/// met, and what the first of them is sent.
+#[derive(Clone, Copy)]
+struct Row {
+    name: &'static str,
+    words: &'static [&'static str],
+    rules: &'static [u8],
+    times: usize,
+    pad: usize,
+    peers: usize,
+    gives: &'static [u32],
+    source_fails: &'static [u64],
+    door_fails: &'static [u64],
+    sink_fails: &'static [u64],
+    status: u8,
+    text: &'static [u8],
+    met: usize,
+    took: &'static [u32],
+}
+
+/// A create_link: xid 1, client 42, no lock, the device `gpib0,5`; and a device_write: xid 2, link 1, the byte `A` with END.
+const CREATE_AND_WRITE: [u32; 34] = [
+    0x80000040, 1, 0, 2, 0x0607AF, 1, 10, 0, 0, 0, 0, 42, 0, 0, 7, 0x67706962, 0x302C3500,
+    0x80000040, 2, 0, 2, 0x0607AF, 1, 11, 0, 0, 0, 0, 1, 10000, 0, 8, 1, 0x41000000,
+];
+
+/// The replies: error 0, link 1, the abort port, and at most 262,144 bytes a write; and error 3.
+const DENIED: [u32; 20] = [
+    0x80000028, 1, 1, 0, 0, 0, 0, 0, 1, 9011, 262144, 0x80000020, 2, 1, 0, 0, 0, 0, 3, 0,
+];
+
+/// The replies where both are allowed: the second has error 0, and one byte was written.
+const WRITTEN: [u32; 20] = [
+    0x80000028, 1, 1, 0, 0, 0, 0, 0, 1, 9011, 262144, 0x80000020, 2, 1, 0, 0, 0, 0, 0, 1,
+];
+
+const USAGE: &[u8] = b"usage: vxguard PORT N\n";
+
+const ROW: Row = Row {
+    name: "a write that a rule denies",
+    words: &["111", "1"],
+    rules: b"deny * write 5\nallow 127.0.0.0/8 * *\n",
+    times: 1,
+    pad: 0,
+    peers: 1,
+    gives: &CREATE_AND_WRITE,
+    source_fails: &[],
+    door_fails: &[],
+    sink_fails: &[],
+    status: 0,
+    text: b"deny 1 1\nserved 1\n",
+    met: 1,
+    took: &DENIED,
+};
+
+/// No peer is met.
+const EARLY: Row = Row {
+    met: 0,
+    took: &[],
+    ..ROW
+};
+
+static ROWS: [Row; 27] = [
+    ROW,
+    // behind the denied write a read of link 1, of at most one byte and without a wait for it, ends with error 15: the device, which
+    // gives back what it is sent, has nothing to give
+    Row {
+        name: "a device that heard nothing",
+        gives: &[
+            0x80000040, 1, 0, 2, 0x0607AF, 1, 10, 0, 0, 0, 0, 42, 0, 0, 7, 0x67706962, 0x302C3500,
+            0x80000040, 2, 0, 2, 0x0607AF, 1, 11, 0, 0, 0, 0, 1, 10000, 0, 8, 1, 0x41000000,
+            0x80000040, 3, 0, 2, 0x0607AF, 1, 12, 0, 0, 0, 0, 1, 1, 0, 0, 0, 0,
+        ],
+        took: &[
+            0x80000028, 1, 1, 0, 0, 0, 0, 0, 1, 9011, 262144, 0x80000020, 2, 1, 0, 0, 0, 0, 3, 0,
+            0x80000024, 3, 1, 0, 0, 0, 0, 15, 0, 0,
+        ],
+        ..ROW
+    },
+    Row {
+        name: "a write that a rule allows",
+        rules: b"allow 127.0.0.1/32 * *",
+        text: b"served 1\n",
+        took: &WRITTEN,
+        ..ROW
+    },
+    // of three; the second makes link 2, so link 1 isn't its own: only a rule for all targets matches, and the core knows no such link
+    Row {
+        name: "two peers",
+        words: &["65535", "2"],
+        peers: 3,
+        text: b"deny 1 1\nserved 2\n",
+        met: 2,
+        ..ROW
+    },
+    Row {
+        name: "fewer peers than are asked for",
+        words: &["1", "1000000"],
+        ..ROW
+    },
+    Row {
+        name: "no peer",
+        peers: 0,
+        text: b"served 0\n",
+        ..EARLY
+    },
+    Row {
+        name: "no rule, and so no call",
+        rules: b"",
+        text: b"deny 1 0\ndeny 1 0\nserved 1\n",
+        took: &[
+            0x80000028, 1, 1, 0, 0, 0, 0, 3, 0, 0, 0, 0x80000020, 2, 1, 0, 0, 0, 0, 3, 0,
+        ],
+        ..ROW
+    },
+    Row {
+        name: "a note whose first write fails: the denied call has no reply, and no further peer is met",
+        words: &["111", "2"],
+        peers: 2,
+        sink_fails: &[1],
+        status: 6,
+        text: b"",
+        took: &[0x80000028, 1, 1, 0, 0, 0, 0, 0, 1, 9011, 262144],
+        ..ROW
+    },
+    Row {
+        name: "a note whose second write fails, in the session of the second peer",
+        words: &["111", "3"],
+        rules: b"deny * create *\nallow * * *",
+        peers: 3,
+        sink_fails: &[2],
+        status: 6,
+        text: b"deny 1 1\n",
+        met: 2,
+        took: &[
+            0x80000028, 1, 1, 0, 0, 0, 0, 3, 0, 0, 0, 0x80000020, 2, 1, 0, 0, 0, 0, 4, 0,
+        ],
+        ..ROW
+    },
+    Row {
+        name: "the last line isn't taken",
+        sink_fails: &[2],
+        status: 6,
+        text: b"deny 1 1\n",
+        ..ROW
+    },
+    Row {
+        name: "the port can't be opened",
+        door_fails: &[1],
+        status: 3,
+        text: b"",
+        ..EARLY
+    },
+    Row {
+        name: "the first peer can't be met",
+        door_fails: &[2],
+        status: 3,
+        text: b"",
+        ..EARLY
+    },
+    Row {
+        name: "a receive that fails ends its session alone",
+        door_fails: &[3],
+        text: b"served 1\n",
+        took: &[],
+        ..ROW
+    },
+    Row {
+        name: "a target that there is not",
+        rules: b"allow * * 31",
+        status: 2,
+        text: b"fault line 1 form\n",
+        ..EARLY
+    },
+    Row {
+        name: "the first line of another form, where skipped ones count",
+        rules: b"# all may read\n\nallow * read *\nallow *\nother\n",
+        status: 2,
+        text: b"fault line 4 form\n",
+        ..EARLY
+    },
+    Row {
+        name: "257 rules",
+        rules: b"allow * * *\n",
+        times: 257,
+        status: 2,
+        text: b"fault many\n",
+        ..EARLY
+    },
+    Row {
+        name: "256 rules, in as many bytes as there may be",
+        rules: b"allow * * *\n",
+        times: 256,
+        pad: 1_045_504,
+        text: b"served 1\n",
+        took: &WRITTEN,
+        ..ROW
+    },
+    Row {
+        name: "one byte more",
+        rules: b"allow * * *\n",
+        times: 256,
+        pad: 1_045_505,
+        status: 2,
+        text: b"fault long\n",
+        ..EARLY
+    },
+    Row {
+        name: "a policy's fault that isn't taken",
+        rules: b"allow * * 31",
+        sink_fails: &[1],
+        status: 6,
+        text: b"",
+        ..EARLY
+    },
+    Row {
+        name: "a source that fails",
+        source_fails: &[1],
+        status: 7,
+        text: b"",
+        ..EARLY
+    },
+    Row {
+        name: "a source that fails behind the rules",
+        source_fails: &[2],
+        status: 7,
+        text: b"",
+        ..EARLY
+    },
+    Row {
+        name: "no words",
+        words: &[],
+        source_fails: &[1],
+        status: 1,
+        text: USAGE,
+        ..EARLY
+    },
+    Row {
+        name: "one word",
+        words: &["111"],
+        status: 1,
+        text: USAGE,
+        ..EARLY
+    },
+    Row {
+        name: "a port above the greatest",
+        words: &["65536", "1"],
+        status: 1,
+        text: USAGE,
+        ..EARLY
+    },
+    Row {
+        name: "a leading zero",
+        words: &["0111", "1"],
+        status: 1,
+        text: USAGE,
+        ..EARLY
+    },
+    Row {
+        name: "too many links",
+        words: &["111", "1000001"],
+        status: 1,
+        text: USAGE,
+        ..EARLY
+    },
+    Row {
+        name: "a usage line that isn't taken",
+        words: &["111", "1", "1"],
+        sink_fails: &[1],
+        status: 6,
+        text: b"",
+        ..EARLY
+    },
+];
+
+fn words_of(alloc: Global, words: &[&str]) -> Result<Vec<String>, AllocError> {
+    let mut all = Vec::new(alloc);
+    for word in words {
+        all.push(String::from_str(alloc, word)?)?;
+    }
+    Ok(all)
+}
+
+/// The text of the rules of a row.
+fn text_of(alloc: Global, row: &Row) -> Result<Vec<u8>, AllocError> {
+    let mut text = Vec::new(alloc);
+    for _ in 0..row.times {
+        text.extend_from_slice(row.rules)?;
+    }
+    for _ in 0..row.pad {
+        text.push(b'#')?;
+    }
+    Ok(text)
+}
+
+/// The door of a row.
+fn door_of(alloc: Global, row: &Row) -> Option<MemDoor> {
+    let mut peers = Vec::new(alloc);
+    for _ in 0..row.peers {
+        peers.push(words(alloc, row.gives).ok()?).ok()?;
+    }
+    MemDoor::new(alloc, peers, row.door_fails.to_vec(alloc).ok()?).ok()
+}
+
+/// One instrument, which gives back what it is sent.
+fn rack_of(alloc: Global) -> Option<Vec<Spare<Echo>>>
+    ensures { IfSome result (λ rack. vec_len rack ≡ 1) }
+{
+    let Ok(inst) = Echo::new(alloc) else {
+        return None;
+    };
+    let mut rack = Vec::new(alloc);
+    let name = ArrayString::new();
+    match rack.push(Spare { name, inst }) {
+        Ok(()) => Some(rack),
+        Err(_) => None,
+    }
+}
+
+/// Whether a door met so many peers, and sent this to the first.
+fn met_so(door: &MemDoor, row: &Row) -> bool {
+    let first = door.sent(0).unwrap_or(&[]);
+    let last = row.met == 0 || door.sent(row.met - 1).is_some();
+    last && door.sent(row.met).is_none() && are_words(first, row.took)
+}
+
+/// Runs a row, and answers whether it went as the row says.
+fn went<R: Wait>(rt: &R, alloc: Global, row: &Row) -> Option<bool> {
+    let words = words_of(alloc, row.words).ok()?;
+    let text = text_of(alloc, row).ok()?;
+    let mut rules = MemSource::new(text, 1_000_000, row.source_fails.to_vec(alloc).ok()?);
+    let mut sink = MemSink::new(Vec::new(alloc), row.sink_fails.to_vec(alloc).ok()?);
+    let mut door = door_of(alloc, row)?;
+    let mut tools = MemTools { alloc };
+    let rack = rack_of(alloc)?;
+    let status = guard_run(
+        rt,
+        alloc,
+        words.as_slice(),
+        &mut rules,
+        &mut door,
+        &mut tools,
+        &mut sink,
+        rack,
+    );
+    Some(status == row.status && sink.bytes() == row.text && met_so(&door, row))
+}
+
+#[test]
+fn runs(rt: HostRuntime) -> Result<(), Fail> {
+    for row in ROWS {
+        assert!(rt; went(&rt, rt.alloc(), &row) == Some(true), "{}", row.name);
+    }
+    Ok(())
+}
