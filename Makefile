@@ -12,6 +12,7 @@ SERVER = crates/vxgate/out/vxgate
 CLIENT = crates/vxcall/out/vxcall
 MAPPER = crates/vxmap/out/vxmap
 BUSES = crates/vxbuses/out/vxbuses
+GUARD = crates/vxguard/out/vxguard
 RATE = crates/vx_gate_rate/out/vx_gate_rate
 LOOP = crates/vx_loop_once/out/vx_loop_once
 
@@ -20,7 +21,7 @@ LOOP = crates/vx_loop_once/out/vx_loop_once
 OTHERS =
 PLAYERS =
 
-.PHONY: try play serve install player server client mapper buses rate loop test bench tables memory
+.PHONY: try play serve install player server client mapper buses guard rate loop test bench tables memory
 
 # the same script without a proof
 try:
@@ -36,9 +37,9 @@ serve: server
 	$(SERVER) $(OPTIONS) < $(BENCH)
 
 # PREFIX=$HOME/.local puts them where no other user is concerned.
-install: player server client mapper buses
+install: player server client mapper buses guard
 	install -d $(DESTDIR)$(PREFIX)/bin
-	install -m 755 $(PLAYER) $(SERVER) $(CLIENT) $(MAPPER) $(BUSES) $(DESTDIR)$(PREFIX)/bin
+	install -m 755 $(PLAYER) $(SERVER) $(CLIENT) $(MAPPER) $(BUSES) $(GUARD) $(DESTDIR)$(PREFIX)/bin
 
 # Each of these proves and builds a program and all below it; where nothing changed, it only runs the program once. The lines
 # of rt itself go to standard error.
@@ -48,7 +49,7 @@ player:
 server:
 	cd crates/vxgate && rt run -- --version < /dev/null > /dev/null
 
-# without words the client, the port mapper and the server of four buses end with status 1, so that one was made shows that it was proved
+# without words the client, the port mapper, the server of four buses and the guard end with status 1, so that one was made shows that it was proved
 client:
 	cd crates/vxcall && rm -f out/vxcall && { rt run < /dev/null > /dev/null || test -x out/vxcall; }
 
@@ -57,6 +58,9 @@ mapper:
 
 buses:
 	cd crates/vxbuses && rm -f out/vxbuses && { rt run < /dev/null > /dev/null || test -x out/vxbuses; }
+
+guard:
+	cd crates/vxguard && rm -f out/vxguard && { rt run < /dev/null > /dev/null || test -x out/vxguard; }
 
 # a program that takes turns at a gate on some threads
 rate:

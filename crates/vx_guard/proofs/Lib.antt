@@ -4,3 +4,6 @@ mod Served
 mod Refused
 mod Rooms
 mod OnePeer
+mod Told
+mod Runs
+mod Rounds

@@ -5,7 +5,9 @@ use Rattle.std.specs.Io.KnownBytes.{Consumes, IsAtEnd}
 use Rattle.std.proofs.lemmas.Bool.{false≢true}
 use Rattle.vx_io_traits.specs.Faults.{Rose}
 use Rattle.vx_io_traits.specs.ProvedLaws.{rose_earlier}
-use Rattle.vx_door.specs.Serving.{is_cut, is_spent}
+use Rattle.vx_door.specs.Serving.{is_cut, is_spent, RoseEither}
+use Rattle.vx_door.specs.Shown.{MeetsPeer}
+use Rattle.vx_door.specs.Going.{Went}
 use Rattle.vx_door.specs.ProvedLaws.{spent_at_end}
 use Rattle.vx_bus_traits.specs.declared.bus.Bus.{Ghosts}
 use Rattle.vx_gate.specs.PassView.{PassView, GateId}
@@ -19,7 +21,8 @@ use Rattle.vx_guard.specs.declared.sessions.GuardEnd.TheVariants as guard
 use Rattle.vx_guard.specs.declared.links.Guarded.{Guarded}
 use Rattle.vx_guard.specs.declared.links.Guarded.TheVariants as guarded
 use Rattle.vx_guard.specs.Linking.{GuardLinkDid}
-use Rattle.vx_guard.specs.Peers.{CanServe, Notes, is_note_fault, is_own, is_whole}
+use Rattle.vx_guard.specs.declared.serving.Next.TheVariants as next
+use Rattle.vx_guard.specs.Peers.{CanServe, GuardShows, IsNext, Notes, is_note_fault, is_own, is_whole}
 
 -- a peer that told its end where it told what it had left has nothing left
 ended-spent : (first now : Option (List ℕ)) (bytes : List ℕ) → Consumes first now bytes → IfSome first (λ all. IsAtEnd now) → is_spent first now ≡ true
@@ -88,3 +91,37 @@ module _ {B L : Type 0} (g : Ghosts B) (stands : L → List ℕ → List ℕ →
   link-can gate told rules pass link dial note how pass' link' dial' note' can d =
       let kept = link-pass told rules pass link dial note how pass' link' dial' note' d in
       record { gate_is = kept.0 ∙ can.gate_is; number = kept.1 ∙ can.number; parts = kept.2 ∙ can.parts }
+
+-- what a door shows of its link is what its link shows
+abbrev pub ShowsLink : {B N : Type 0} → GuardShows B N → Type 0
+ShowsLink {B} {N} n = (d : N) → ((n.door d).receive_faults ≡ (n.link d).receive_faults) × ((n.door d).send_faults ≡ (n.link d).send_faults) × ((n.door d).left ≡ (n.link d).left)
+
+module _ {B N : Type 0} (n : GuardShows B N) (shows : ShowsLink n) (rules : List Rule) (pass : PassView Group) (told : ℕ) (dial : DialShown) (note : End)
+    (pass' : PassView Group) (told' : ℕ) (dial' : DialShown) (note' : End) (met at' : N) (how : Guarded)
+    (did : GuardLinkDid n.bus n.stands told' rules pass met (n.link met) dial note how pass' at' (n.link at') dial' note') where
+  -- the count of the door's receives or of its sends that failed rose, as that of its link did
+  rose-either : Rose (n.link met).receive_faults (n.link at').receive_faults ⊎ Rose (n.link met).send_faults (n.link at').send_faults → RoseEither (n.door met) (n.door at')
+  rose-either (inl rose) = inl (subst (λ a. Rose a (n.door at').receive_faults) (sym (shows met).0) (subst (λ b. Rose (n.link met).receive_faults b) (sym (shows at').0) rose))
+  rose-either (inr rose) = inr (subst (λ a. Rose a (n.door at').send_faults) (sym (shows met).1) (subst (λ b. Rose (n.link met).send_faults b) (sym (shows at').1) rose))
+
+  -- a peer was met and served
+  pub next-peer : (at : N) (failed : Bool) → failed ≡ is_note_fault how → MeetsPeer n.stands n.tells n.waits n.door at met → told ≤ told' → Went n.receives n.sends met at'
+      → IsNext n rules (record { pass = pass; told = told; dial = dial; note = note; failed = false }) at (next.Peer failed)
+          (λ f. record { pass = pass'; told = told'; dial = dial'; note = note'; failed = f }) at'
+  next-peer at failed failed_is meets later went =
+      let counts = link-counts n.bus n.stands n.link told' rules pass met dial note how pass' at' dial' note' did in
+      let before = shows met in
+      let behind = shows at' in (
+        record {
+          met = met;
+          how = how;
+          meets = meets;
+          serves = record { did = did; later = later; went = went; failed = failed_is };
+          receives = omega (arith, before.0, behind.0, counts.0);
+          sends = omega (arith, before.1, behind.1, counts.1);
+          cut = λ cut. rose-either (link-cut n.bus n.stands n.link told' rules pass met dial note how pass' at' dial' note' did
+              (subst (λ l. is_cut (is_own how) (is_whole how) l (n.link at').left ≡ true) before.2
+              (subst (λ l. is_cut (is_own how) (is_whole how) (n.door met).left l ≡ true) behind.2 cut)));
+        },
+        subst (λ f. Notes f note.faults note'.faults) (sym failed_is) (link-notes n.bus n.stands n.link told' rules pass met dial note how pass' at' dial' note' did),
+      )

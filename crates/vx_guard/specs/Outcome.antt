@@ -14,11 +14,13 @@ use Rattle.vx_policy.specs.declared.policy.TheConstants.{TEXT_MAX}
 use Rattle.vx_policy.specs.declared.policy.PolicyErr.{PolicyErr}
 use Rattle.vx_policy.specs.declared.policy.PolicyErr.TheVariants as err
 use Rattle.vx_policy.specs.Reading.{IsRead, IsBad, IsTooMany}
-use Rattle.vx_policy.specs.Texts.{usage_line, form_line, many_line, long_line}
+use Rattle.vx_policy.specs.Texts.{usage_line, served_line, form_line, many_line, long_line}
 use Rattle.vx_peers.specs.declared.words.Ask.{Ask}
 use Rattle.vx_peers.specs.declared.serving.Status.{Status as DoorStatus}
 use Rattle.vx_peers.specs.declared.serving.Status.TheVariants as peers
 use Rattle.vx_peers.specs.Outcome.{Asks, AsksNothing, IsOpenServed, Opens}
+use Rattle.vx_guard.specs.declared.serving.Stop.{Stop}
+use Rattle.vx_guard.specs.declared.serving.Stop.TheVariants as stop
 use Rattle.vx_guard.specs.declared.status.Status.{Status}
 use Rattle.vx_guard.specs.declared.status.Status.TheVariants as status
 use Rattle.vx_guard.specs.Peers.{GuardHas, GuardShows, GuardsPeer, GuardsPeers, serving}
@@ -68,6 +70,13 @@ IsRefused source source' line =
 abbrev pub PutsLine : Status → List ℕ → End → End → Status → Type 0
 PutsLine how line before after result =
     ((result ≡ how) × Appends before.bytes after.bytes line) ⊎ ((result ≡ status.SinkFailed) × StopsIn before after line)
+
+-- how it is told what a run came to that served so many: nothing is told where the note or the door failed
+abbrev pub IsEnd : Stop → ℕ → End → End → Status → Type 0
+IsEnd stop.Note number before after result = (result ≡ status.SinkFailed) × (after ≡ before)
+IsEnd (stop.Door door.Failed) number before after result = (result ≡ status.NetFailed) × (after ≡ before)
+IsEnd (stop.Door door.Served) number before after result = PutsLine status.Served (served_line number) before after result
+IsEnd (stop.Door door.Ended) number before after result = PutsLine status.Served (served_line number) before after result
 
 -- how it is told why a text is no policy
 abbrev pub IsTold : PolicyErr → End → End → Status → Type 0

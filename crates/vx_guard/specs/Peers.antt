@@ -127,7 +127,7 @@ is_note_stop (stop.Door how) = false
 
 -- Why no more were served of at most so many: as with each door; or the note failed in the session of the last.
 abbrev pub StopsPeers : {B N : Type 0} → GuardShows B N → List Rule → GuardHas → N → (limit : ℕ) → Stop → (number : ℕ) → GuardHas → N → Type 0
-StopsPeers n rules s door limit (stop.Door how) number s' door' =
-    GuardsPeers n rules s door limit how number s' door' × (s.note.faults ≤ s'.note.faults)
-StopsPeers n rules s door limit stop.Note number s' door' =
-    GuardsPeers n rules s door number door.Served number s' door' × (number ≤ limit) × Rose s.note.faults s'.note.faults
+StopsPeers n rules s at limit (stop.Door how) number s' at' =
+    GuardsPeers n rules s at limit how number s' at' × (s.note.faults ≤ s'.note.faults)
+StopsPeers n rules s at limit stop.Note number s' at' =
+    GuardsPeers n rules s at number door.Served number s' at' × (number ≤ limit) × Rose s.note.faults s'.note.faults

@@ -36,6 +36,7 @@ fn refuse<K: Sink>(sink: &mut K, why: PolicyErr) -> Status
 }
 
 /// Reads the rules from their source, to its end, or tells why there are none.
+#[tactic(auto, using(crate::proofs::Told::text_told, crate::proofs::Told::long_told))]
 pub(crate) fn rules_of<S: Source, K: Sink>(
     alloc: Global,
     rules: &mut S,

@@ -5,7 +5,7 @@ ghost use Rattle.vx_door.specs.Shown.{door_shown};
 ghost use Rattle.vx_gate.specs.Gates.{gate_of};
 ghost use Rattle.vx_stream.specs.Shown.{link_shown};
 ghost use Rattle.vx_guard.specs.Benches.{sim};
-ghost use Rattle.vx_guard.specs.Outcome.{Works, IsPortRun, IsRuledRun, IsAskRun, IsRun, EndsRun};
+ghost use Rattle.vx_guard.specs.Outcome.{IsEnd, Works, IsPortRun, IsRuledRun, IsAskRun, IsRun, EndsRun};
 ghost use Rattle.vx_guard.specs.Peers.{CanServe};
 
 use crate::reading::{put_line, rules_of};
@@ -26,6 +26,21 @@ use vx_peers::{Ask, ask_of};
 use vx_policy::{LINE_ROOM, Policy, served_line};
 use vx_rack::Spare;
 use vx_session::Tools;
+
+/// Tells how many links were served, where neither the door nor the note failed.
+fn tell<K: Sink>(sink: &mut K, stop: Stop, number: u32) -> Status
+    ensures { IsEnd stop number (record { bytes = K.taken sink.old; faults = K.faults sink.old })
+        (record { bytes = K.taken sink.new; faults = K.faults sink.new }) result }
+{
+    match stop {
+        Stop::Note => Status::SinkFailed,
+        Stop::Door(DoorEnd::Failed) => Status::NetFailed,
+        Stop::Door(DoorEnd::Served | DoorEnd::Ended) => {
+            let mut out = [0u8; LINE_ROOM];
+            put_line(sink, served_line(number, &mut out), Status::Served)
+        }
+    }
+}
 
 /// Serves the links that come to the port that was opened, and prints how many there were.
 fn serve_open<
@@ -63,17 +78,13 @@ fn serve_open<
         (record { bytes = K.taken sink.old; faults = K.faults sink.old })
         (record { bytes = K.taken sink.new; faults = K.faults sink.new }) result }
 {
-    match serve_links(rt, alloc, turns, pass, policy, ask.number, net, kit, sink) {
-        (_, Stop::Note, _) => Status::SinkFailed,
-        (_, Stop::Door(DoorEnd::Failed), _) => Status::NetFailed,
-        (_, Stop::Door(DoorEnd::Served | DoorEnd::Ended), number) => {
-            let mut out = [0u8; LINE_ROOM];
-            put_line(sink, served_line(number, &mut out), Status::Served)
-        }
-    }
+    let (_, stop, number) =
+        serve_links(rt, alloc, turns, pass, policy, ask.number, net, kit, sink);
+    tell(sink, stop, number)
 }
 
 /// Opens the port, and serves the links that come there.
+#[tactic(auto, using(crate::proofs::Runs::port_opened))]
 fn run_gate<
     R: Wait,
     B: Bus,
@@ -129,6 +140,7 @@ fn kit_of<X: Tools>(alloc: Global, tools: &mut X) -> Option<Kit<X::C, X::P, X::D
 }
 
 /// Does what is asked by these rules. All memory but that for a connection is taken before the port is opened.
+#[tactic(auto, using(crate::proofs::Runs::ruled_run))]
 fn run_ruled<R: Wait, N: Door + Peered, X: Tools, K: Sink, I: Instrument>(
     rt: &R,
     alloc: Global,

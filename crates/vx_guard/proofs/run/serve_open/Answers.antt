@@ -1,0 +1,30 @@
+use Rattle.std.proofs.Common.{refl}
+use Rattle.vx_door.specs.ProvedLaws.{went_keeps}
+use Rattle.vx_door.specs.Shown.{door_shown}
+use Rattle.vx_stream.specs.Shown.{link_shown}
+use Rattle.vx_guard.specs.Peers.{GuardShows}
+use Rattle.vx_guard.proofs.Runs.{open-ended}
+use Rattle.vx_guard.proofs.run.serve_open.Given as given
+use Rattle.vx_guard.proofs.run.serve_open.Goals as goal
+
+-- what the bus and the door are to what is said of them
+abbrev shows : (g : given.Over) → GuardShows g.row.B.Denot g.row.N.Denot
+shows g = record {
+  bus = g.B.Bus;
+  stands = g.N.Link.stands;
+  receives = g.N.Link.receives;
+  sends = g.N.Link.sends;
+  tells = g.N.Door.tells;
+  waits = g.N.Door.meets;
+  door = door_shown g.N.Door.met g.N.Door.ended g.N.Door.faults g.N.Link.receive_faults g.N.Link.send_faults g.N.Link.left g.N.Link.peers;
+  link = link_shown g.N.Link.left g.N.Link.peers g.N.Link.receive_faults g.N.Link.send_faults;
+}
+
+pub returns : goal.returns
+returns g c =
+    let can = c.requires.can in
+    let fresh = c.requires.fresh in
+    open-ended (shows g) c.args.policy.now c.args.ask.now _ c.args.net.now _ c.serve_links-stop.new.net _ _
+    (record { number = can.number; parts = can.parts; seen = fresh.0; own = fresh.1; note = refl; sound = refl })
+    (λ s t d e how did. went_keeps g.N.Link.receives g.N.Link.sends g.N.Door.met g.N.Door.ended g.N.Door.faults g.met.N.Door.receive_keeps g.met.N.Door.send_keeps d e did.went)
+    c.serve_links-stop.result.2 c.serve_links-stop.result.1 c.serve_links-stop.ensures.stops refl c.tell.result c.tell.ensures

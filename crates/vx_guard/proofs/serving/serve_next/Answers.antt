@@ -1,0 +1,36 @@
+use Rattle.std.proofs.Common.{◌≡◌, refl}
+use Rattle.vx_door.specs.Shown.{door_shown}
+use Rattle.vx_stream.specs.Shown.{link_shown}
+use Rattle.vx_session.specs.Outside.{dial_shown}
+use Rattle.vx_text.specs.Ends.{End}
+use Rattle.vx_guard.specs.Peers.{GuardShows}
+use Rattle.vx_guard.proofs.OnePeer.{link-can, next-peer}
+use Rattle.vx_guard.proofs.serving.serve_next.Given as given
+use Rattle.vx_guard.proofs.serving.serve_next.Goals as goal
+
+-- what the bus and the door are to what is said of them
+abbrev shows : (g : given.Over) → GuardShows g.row.B.Denot g.row.N.Denot
+shows g = record {
+  bus = g.B.Bus;
+  stands = g.N.Link.stands;
+  receives = g.N.Link.receives;
+  sends = g.N.Link.sends;
+  tells = g.N.Door.tells;
+  waits = g.N.Door.meets;
+  door = door_shown g.N.Door.met g.N.Door.ended g.N.Door.faults g.N.Link.receive_faults g.N.Link.send_faults g.N.Link.left g.N.Link.peers;
+  link = link_shown g.N.Link.left g.N.Link.peers g.N.Link.receive_faults g.N.Link.send_faults;
+}
+
+-- what a note took, and its count of faults
+abbrev noted : (g : given.Over) → g.row.K.Denot → End
+noted g k = record { bytes = g.K.Sink.taken k; faults = g.K.Sink.faults k }
+
+pub returns-in-Peer-clause-can : goal.returns-in-Peer-clause-can
+returns-in-Peer-clause-can g c =
+    link-can g.B.Bus g.N.Link.stands (shows g).link (g.T.Turns.gate c.args.turns.now) _ _ c.args.pass _ _ _ _ c.guarded_link-pass.result.0 _ _ _
+    c.requires.can c.guarded_link-pass.ensures.did
+
+pub returns-in-Peer-clause-next : goal.returns-in-Peer-clause-next
+returns-in-Peer-clause-next g c =
+    next-peer (shows g) (λ d. (refl, refl, refl)) c.args.policy.now c.args.pass _ _ _ c.guarded_link-pass.result.0 _ _ _ c.meet.new.net c.guarded_link-pass.new.link c.guarded_link-pass.result.1
+    c.guarded_link-pass.ensures.did c.args.net.now c.failed_note-failed.result c.failed_note-failed.ensures c.in-Peer.ensures c.guarded_link-pass.ensures.told c.guarded_link-pass.ensures.went
