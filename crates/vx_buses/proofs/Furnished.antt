@@ -1,8 +1,10 @@
 -- The gateways of the program as they start, one for each instrument of the rack.
-use Rattle.std.proofs.Common.{◌≡◌, ◌<◌, ℕ, List, [], ◌∷◌, ◌++◌, map, length, None, refl, sym, ap, ◌∙◌, subst, arith}
+use Rattle.std.proofs.Common.{◌≡◌, ◌<◌, ℕ, suc, List, [], ◌∷◌, ◌++◌, map, length, Option, Result, Ok, Err, refl, sym, ap, ◌∙◌, subst, arith}
 use Rattle.std.specs.List.{All}
-use Rattle.std.specs.Prelude.{remove, slice_index_or}
+use Rattle.std.specs.Prelude.{remove, slice_index_or, is_ok, IfSome, if◌then◌else◌}
+use Rattle.std.specs.Result.{result_ok}
 use Rattle.std.proofs.lemmas.List.{length-map}
+use Rattle.std.proofs.lemmas.List.Elements.{All-nil, All-cons}
 use Rattle.vx_488.specs.declared.transfers.Addr.{Addr}
 use Rattle.vx_bus_traits.specs.Means.{first_means}
 use Rattle.vx_flow.specs.FineState.{first_fine}
@@ -34,6 +36,16 @@ module _ {I : Type 0} (behaves : I → Behavior) (nature : I → List ℕ) where
   abbrev pub seat : Spare I → Seated
   seat s = handed_in behaves nature s.inst
 
+  -- one more gateway, where there was room for it
+  pub core-added : {U E : Type 0} (rack rest : List (Spare I)) (cores cores' : List (CoreState SimState)) (spare : Spare I) (core : CoreState SimState) (pushed : Result U E) (ok : Option U)
+      → rack ≡ spare ∷ rest → IsFurnished (seat spare) core → cores' ≡ (if is_ok pushed then cores ++ core ∷ [] else cores) → ok ≡ result_ok pushed
+      → IfSome ok (λ _. AddsCore behaves nature rack cores rest cores')
+  core-added rack rest cores cores' spare core (Ok u) ok rack_is furnished items ok_is =
+      subst (λ o. IfSome o (λ _. AddsCore behaves nature rack cores rest cores')) (sym ok_is)
+      (record { spare = spare; core = core; rack_is = rack_is; cores_are = items; furnished = furnished })
+  core-added rack rest cores cores' spare core (Err e) ok rack_is furnished items ok_is =
+      subst (λ o. IfSome o (λ _. AddsCore behaves nature rack cores rest cores')) (sym ok_is) tt
+
   -- four gateways, one after the other
   pub all-furnished : (r0 r1 r2 r3 r4 : List (Spare I)) (c0 c1 c2 c3 c4 : List (CoreState SimState)) → length r0 ≡ 4 → c0 ≡ [] → AddsCore behaves nature r0 c0 r1 c1
       → AddsCore behaves nature r1 c1 r2 c2 → AddsCore behaves nature r2 c2 r3 c3 → AddsCore behaves nature r3 c3 r4 c4 → AreFurnished (map seat r0) c4
@@ -47,14 +59,14 @@ module _ {I : Type 0} (behaves : I → Behavior) (nature : I → List ℕ) where
       let cores = d.cores_are ∙ ap (λ cs. cs ++ d.core ∷ []) three in
       subst (λ r. AreFurnished (map seat r) c4) (sym whole)
       (subst (λ cs. AreFurnished (seat a.spare ∷ seat b.spare ∷ seat c.spare ∷ seat d.spare ∷ []) cs) (sym cores)
-      (a.furnished, b.furnished, c.furnished, d.furnished, tt))
+      (a.furnished, (b.furnished, (c.furnished, (d.furnished, tt)))))
 
 -- as many gateways as instruments
 furnished-length : (insts : List Seated) (cores : List (CoreState SimState)) → AreFurnished insts cores → length cores ≡ length insts
 furnished-length [] [] all = refl
 furnished-length [] (core ∷ cores) all = absurd all
 furnished-length (inst ∷ insts) [] all = absurd all
-furnished-length (inst ∷ insts) (core ∷ cores) all = ap (λ n. 1 + n) (furnished-length insts cores all.1)
+furnished-length (inst ∷ insts) (core ∷ cores) all = ap suc (furnished-length insts cores all.1)
 
 pub furnished-four : {A : Type 0} (f : A → Seated) (rack : List A) (cores : List (CoreState SimState)) → length rack ≡ 4 → AreFurnished (map f rack) cores → length cores ≡ 4
 furnished-four f rack cores four all = furnished-length (map f rack) cores all ∙ length-map rack f ∙ four
@@ -62,7 +74,8 @@ furnished-four f rack cores four all = furnished-length (map f rack) cores all �
 -- each stands for the history without a group
 pub furnished-stand : (insts : List Seated) (cores : List (CoreState SimState)) → ((port : ℕ) → StandsFor (first_fine port) []) → AreFurnished insts cores
     → All (λ (core : CoreState SimState). StandsFor core.fine []) cores
-furnished-stand [] [] law all = tt
+furnished-stand [] [] law all = All-nil _
 furnished-stand [] (core ∷ cores) law all = absurd all
 furnished-stand (inst ∷ insts) [] law all = absurd all
-furnished-stand (inst ∷ insts) (core ∷ cores) law all = (subst (λ f. StandsFor f []) (sym all.0.fine) (law 9011), furnished-stand insts cores law all.1)
+furnished-stand (inst ∷ insts) (core ∷ cores) law all =
+    All-cons (λ (core : CoreState SimState). StandsFor core.fine []) core cores (subst (λ f. StandsFor f []) (sym all.0.fine) (law 9011)) (furnished-stand insts cores law all.1)

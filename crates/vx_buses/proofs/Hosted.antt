@@ -13,11 +13,9 @@ use Rattle.vx_gates.specs.Passing.{IsOf, IsFirst}
 use Rattle.vx_history.specs.Groups.{Group}
 use Rattle.vx_tables.specs.declared.tables.Connect.{Connect}
 use Rattle.vx_stream.specs.Shown.{LinkShown}
-use Rattle.vx_stream.specs.declared.ends.End.{End}
 use Rattle.vx_stream.specs.declared.ends.End.TheVariants as stream
 use Rattle.vx_session.specs.declared.links.Linked.{Linked}
 use Rattle.vx_session.specs.declared.links.Linked.TheVariants as linked
-use Rattle.vx_buses.specs.Ending.{SessionDid}
 use Rattle.vx_buses.specs.Joining.{JoinsAll, Undone}
 use Rattle.vx_buses.specs.Linking.{LinkDid, WasRefused, is_own, is_whole}
 use Rattle.vx_buses.specs.Hosting.{IsReady}

@@ -1,5 +1,4 @@
 -- How a run comes to its end: the work at the port is what was asked.
-use Rattle.std.proofs.Common.{ℕ, List, ◌≡◌, refl}
 use Rattle.vx_text.specs.Ends.{End}
 use Rattle.vx_bus_traits.specs.declared.bus.Bus.{Ghosts}
 use Rattle.vx_peers.specs.declared.words.Ask.{Ask}

@@ -1,10 +1,8 @@
 -- How a run of the program of four buses ends: for each status, what was opened and served, what was printed, and why.
-use Rattle.std.specs.Prelude.{◌≡◌, ◌≢◌, ◌⊎◌, ℕ, Bool, List, codes}
-use Rattle.std.specs.Io.KnownBytes.{Appends}
+use Rattle.std.specs.Prelude.{◌≡◌, ◌⊎◌, ℕ, Bool, List, codes}
 use Rattle.vx_io_traits.specs.declared.ReadOut.{ReadOut}
 use Rattle.vx_io_traits.specs.declared.WriteOut.{WriteOut}
 use Rattle.vx_text.specs.Ends.{End}
-use Rattle.vx_text.specs.Writing.{StopsIn}
 use Rattle.vx_door.specs.Shown.{DoorShown}
 use Rattle.vx_door.specs.Running.{KeepsOwn}
 use Rattle.vx_door.specs.declared.doors.Met.{Met}

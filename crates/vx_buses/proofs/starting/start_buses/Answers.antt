@@ -1,0 +1,14 @@
+use Rattle.std.proofs.Common.{map, rules}
+use Rattle.vx_buses.specs.Starting.{AreFurnished}
+use Rattle.vx_buses.proofs.Furnished.{seat, furnished-four, furnished-stand}
+use Rattle.vx_buses.proofs.starting.start_buses.Goals as goal
+
+pub start-requires-clause-four : goal.start-requires-clause-four
+start-requires-clause-four g c =
+    let all : AreFurnished (map (seat (λ i. g.I.Instrument.behaves i) (λ i. g.I.Instrument.nature i)) c.args.rack.items) c.in_ok-cores.cores.items = search rules in
+    furnished-four (seat (λ i. g.I.Instrument.behaves i) (λ i. g.I.Instrument.nature i)) c.args.rack.items c.in_ok-cores.cores.items c.requires all
+
+pub start-requires-clause-stand : goal.start-requires-clause-stand
+start-requires-clause-stand g c =
+    let all : AreFurnished (map (seat (λ i. g.I.Instrument.behaves i) (λ i. g.I.Instrument.nature i)) c.args.rack.items) c.in_ok-cores.cores.items = search rules in
+    furnished-stand (map (seat (λ i. g.I.Instrument.behaves i) (λ i. g.I.Instrument.nature i)) c.args.rack.items) c.in_ok-cores.cores.items c.first_law.ensures all
