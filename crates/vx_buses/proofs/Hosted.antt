@@ -1,5 +1,5 @@
 -- Serving a link of a door: what the passes keep, what the link's counts do, and why its peer is cut short.
-use Rattle.std.proofs.Common.{◌≡◌, ◌≤◌, ◌⊎◌, inl, inr, ℕ, zero, suc, true, List, ◌++◌, Option, None, Some, Result, Ok, Err, refl, sym, ap, ◌∙◌, subst, arith}
+use Rattle.std.proofs.Common.{◌≡◌, ◌≢◌, ◌≤◌, ◌<◌, ◌+◌, ◌⊎◌, inl, inr, ℕ, true, List, ◌++◌, Option, None, Some, refl, sym, ap, ◌∙◌, subst, arith}
 use Rattle.std.specs.Prelude.{not, IfSome}
 use Rattle.std.specs.Io.KnownBytes.{Consumes, IsAtEnd}
 use Rattle.std.proofs.lemmas.Bool.{false≢true}
@@ -7,66 +7,41 @@ use Rattle.vx_io_traits.specs.Faults.{Rose}
 use Rattle.vx_door.specs.Serving.{is_cut, is_spent}
 use Rattle.vx_door.specs.ProvedLaws.{spent_at_end}
 use Rattle.vx_bus_traits.specs.declared.bus.Bus.{Ghosts}
-use Rattle.vx_gate.specs.PassView.{PassView, GateId, all_parts}
-use Rattle.vx_gates.specs.Four.{Four, at, Each, EachOf}
+use Rattle.vx_calls.specs.declared.limits.TheConstants.{CONNECTION_LAST}
+use Rattle.vx_gate.specs.PassView.{PassView, GateId}
+use Rattle.vx_gates.specs.Four.{Four, at, Each}
 use Rattle.vx_gates.specs.Passing.{IsOf, IsFirst}
 use Rattle.vx_history.specs.Groups.{Group}
-use Rattle.vx_tables.specs.declared.tables.Connect.{Connect}
+use Rattle.vx_rooms.specs.Counting.{IsClear}
+use Rattle.vx_rooms.specs.ProvedLaws.{clear-first, clear-on}
 use Rattle.vx_stream.specs.Shown.{LinkShown}
 use Rattle.vx_stream.specs.declared.ends.End.TheVariants as stream
 use Rattle.vx_session.specs.declared.links.Linked.{Linked}
 use Rattle.vx_session.specs.declared.links.Linked.TheVariants as linked
-use Rattle.vx_buses.specs.Joining.{JoinsAll, Undone}
-use Rattle.vx_buses.specs.Linking.{LinkDid, WasRefused, is_own, is_whole}
+use Rattle.vx_buses.specs.Linking.{LinkDid, is_own, is_whole}
 use Rattle.vx_buses.specs.Hosting.{IsReady}
+use Rattle.vx_buses.proofs.Fours.{each-number}
+use Rattle.vx_buses.proofs.Rooms.{link-counts, link-never-full}
 
--- ---- parts
-
--- a fact of each of four, beside two others
-each-of-at : {A B C : Type 0} (P : A → B → C → Type 0) (b : ℕ) (f : Four A) (g : Four B) (h : Four C) → EachOf P f g h → P (at b f) (at b g) (at b h)
-each-of-at P zero f g h each = each.zero_
-each-of-at P (suc zero) f g h each = each.one
-each-of-at P (suc (suc zero)) f g h each = each.two
-each-of-at P (suc (suc (suc n))) f g h each = each.three
-
--- a pass whose connection came up, or didn't, has the parts that it had
-joined-parts : (b : ℕ) (passes up : Four (PassView Group)) (joined : Four (Result ℕ Connect)) → JoinsAll passes joined up → (at b up).parts ≡ (at b passes).parts
-joined-parts b passes up joined joins = (each-of-at _ b passes joined up joins).turns.makes.parts
-
--- and so has one whose connection went again
-undone-parts : (up pass' : PassView Group) (answer : Result ℕ Connect) → Undone up answer pass' → pass'.parts ≡ up.parts
-undone-parts up pass' (Ok conn) leaves = leaves.turns.makes.parts
-undone-parts up pass' (Err why) same = ap (λ (p : PassView Group). p.parts) same
-
--- and one whose link was refused
-refused-parts : {L : Type 0} (b : ℕ) (passes : Four (PassView Group)) (link : L) (why : Connect) (passes' : Four (PassView Group)) (link' : L) → WasRefused passes link why passes' link'
-    → (at b passes').parts ≡ (at b passes).parts
-refused-parts b passes link why passes' link' d =
-    undone-parts (at b d.up) (at b passes') (at b d.joined) (each-of-at Undone b d.up d.joined passes' d.undone) ∙ joined-parts b passes d.up d.joined d.joins
+-- ---- a link
 
 module _ {B L : Type 0} (g : Ghosts B) (stands : L → List ℕ → List ℕ → Type 0) (told : ℕ) (passes : Four (PassView Group)) (link : L) (passes' : Four (PassView Group)) (link' : L) where
-  -- each pass has the parts that it had
-  link-parts : (seen seen' : LinkShown) (how : Linked) → LinkDid g stands told passes link seen how passes' link' seen' → (b : ℕ) → b ≤ 3 → (at b passes').parts ≡ (at b passes).parts
-  link-parts seen seen' (linked.Ended how) d b h = (d.did.makes b h).parts ∙ joined-parts b passes d.up d.joined d.joins
-  link-parts seen seen' linked.Full d b h = refused-parts b passes link _ passes' link' d
-  link-parts seen seen' linked.NoMemory d b h = refused-parts b passes link _ passes' link' d
+  -- what holds between two links holds behind one, with one more served
+  pub ready-on : (count : ℕ) (seen seen' : LinkShown) (how : Linked) (gates : Four GateId) → LinkDid g stands told passes link seen how passes' link' seen'
+      → ((bus : ℕ) → bus ≤ 3 → IsClear count (at bus passes)) → Each IsOf passes' gates → IsReady (count + 1) (Some passes') gates
+  ready-on count seen seen' how gates d clear of = record {
+    passes = passes';
+    has = refl;
+    of = of;
+    clear = λ bus within. clear-on count (at bus passes) (at bus passes') (clear bus within) (link-counts g stands told passes link seen how passes' link' seen' d bus within);
+  }
 
-  -- so what holds between two links holds behind one
-  pub ready-on : (seen seen' : LinkShown) (how : Linked) (gates : Four GateId) → LinkDid g stands told passes link seen how passes' link' seen'
-      → Each (λ (pass : PassView Group) (gate : GateId). pass.parts ≡ all_parts) passes gates → Each IsOf passes' gates → IsReady (Some passes') gates
-  ready-on seen seen' how gates d parts of =
-      let kept = link-parts seen seen' how d in
-      record {
-        passes = passes';
-        has = refl;
-        of = of;
-        parts = record {
-          zero_ = kept 0 (omega arith) ∙ parts.zero_;
-          one = kept 1 (omega arith) ∙ parts.one;
-          two = kept 2 (omega arith) ∙ parts.two;
-          three = kept 3 (omega arith) ∙ parts.three;
-        };
-      }
+  -- no connection was refused for want of room
+  pub has-room : (count : ℕ) (seen seen' : LinkShown) (how : Linked) → ((bus : ℕ) → bus ≤ 3 → IsClear count (at bus passes)) → count < CONNECTION_LAST
+      → LinkDid g stands told passes link seen how passes' link' seen' → how ≢ linked.Full
+  has-room count seen seen' linked.Full clear low d is = link-never-full g stands told count passes link seen passes' link' seen' clear low d
+  has-room count seen seen' (linked.Ended how) clear low d is = cc
+  has-room count seen seen' linked.NoMemory clear low d is = cc
 
   -- the link's counts of faults don't fall
   pub link-faults : (shown : L → LinkShown) (how : Linked) → LinkDid g stands told passes link (shown link) how passes' link' (shown link')
@@ -102,11 +77,16 @@ module _ {B L : Type 0} (g : Ghosts B) (stands : L → List ℕ → List ℕ →
 
 -- ---- the beginning
 
+-- a first pass is clear
+first-clear : (pass : PassView Group) (gate : GateId) → IsFirst pass gate → IsClear 0 pass
+first-clear pass gate first = clear-first pass first.parts first.seen first.own
+
 -- first passes are ready
-pub first-ready : (passes : Four (PassView Group)) (gates : Four GateId) → Each IsFirst passes gates → IsReady (Some passes) gates
+pub first-ready : (passes : Four (PassView Group)) (gates : Four GateId) → Each IsFirst passes gates → IsReady 0 (Some passes) gates
 first-ready passes gates first = record {
   passes = passes;
   has = refl;
   of = record { zero_ = first.zero_.gate_is; one = first.one.gate_is; two = first.two.gate_is; three = first.three.gate_is };
-  parts = record { zero_ = first.zero_.parts; one = first.one.parts; two = first.two.parts; three = first.three.parts };
+  clear = each-number (λ bus. IsClear 0 (at bus passes)) (first-clear passes.zero_ gates.zero_ first.zero_) (first-clear passes.one gates.one first.one)
+      (first-clear passes.two gates.two first.two) (first-clear passes.three gates.three first.three);
 }

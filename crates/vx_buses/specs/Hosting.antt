@@ -1,16 +1,18 @@
 -- What serves the links of a door over four buses, and what serving one does.
-use Rattle.std.specs.Prelude.{◌≡◌, ◌≤◌, ℕ, List, [], Option, Some, None}
+use Rattle.std.specs.Prelude.{◌≡◌, ◌≢◌, ◌≤◌, ℕ, List, [], Option, Some, None}
 use Rattle.vx_io_traits.specs.declared.ReadOut.{ReadOut}
 use Rattle.vx_io_traits.specs.declared.WriteOut.{WriteOut}
 use Rattle.vx_door.specs.Going.{Went}
 use Rattle.vx_bus_traits.specs.declared.bus.Bus.{Ghosts}
 use Rattle.vx_gate.specs.Seats.{nowhere}
-use Rattle.vx_gate.specs.PassView.{PassView, GateId, all_parts}
-use Rattle.vx_gates.specs.Four.{Four, Each}
+use Rattle.vx_gate.specs.PassView.{PassView, GateId}
+use Rattle.vx_gates.specs.Four.{Four, at, Each}
 use Rattle.vx_gates.specs.Passing.{IsOf, IsFirst}
 use Rattle.vx_history.specs.Groups.{Group}
 use Rattle.vx_stream.specs.Shown.{LinkShown}
 use Rattle.vx_session.specs.declared.links.Linked.{Linked}
+use Rattle.vx_session.specs.declared.links.Linked.TheVariants as linked
+use Rattle.vx_rooms.specs.Counting.{IsClear}
 use Rattle.vx_buses.specs.Linking.{LinkDid}
 
 -- what it has between two links: its passes of four gates, and the greatest moment that its clock has told
@@ -30,12 +32,12 @@ abbrev pub passes_of : Option (Four (PassView Group)) → Four (PassView Group)
 passes_of None = no_passes
 passes_of (Some passes) = passes
 
--- Its passes are in their place; each is of its gate and the only one there, as it has all parts of it.
-pub record IsReady (held : Option (Four (PassView Group))) (gates : Four GateId) : Type 0 where
+-- Its passes are in their place, each of its gate. Each is the only one there, and each of its connections went again, so many at most.
+pub record IsReady (count : ℕ) (held : Option (Four (PassView Group))) (gates : Four GateId) : Type 0 where
   pub passes : Four (PassView Group)
   pub has : held ≡ Some passes
   pub of : Each IsOf passes gates
-  pub parts : Each (λ pass gate. pass.parts ≡ all_parts) passes gates
+  pub clear : (bus : ℕ) → bus ≤ 3 → IsClear count (at bus passes)
 
 -- It begins with the first pass of each of four gates, which has all 4,294,967,296 parts, has seen nothing and made nothing: so each
 -- bus's history begins with nothing, and all of it is made by these passes.
@@ -43,9 +45,11 @@ pub record Begins (server : Hosting) : Type 0 where
   pub gates : Four GateId
   pub first : Each IsFirst server.passes gates
 
--- A link was served, by receives and sends of the door alone. `receives` and `sends` are what one of them does.
+-- A link was served, by receives and sends of the door alone, and none of its connections was refused for want of room. `receives` and
+-- `sends` are what one of them does.
 pub record PeerDid {B N : Type 0} (g : Ghosts B) (stands : N → List ℕ → List ℕ → Type 0) (receives : N → List ℕ → ReadOut → List ℕ → N → Type 0) (sends : N → List ℕ → WriteOut → N → Type 0)
     (shown : N → LinkShown) (server : Hosting) (door : N) (how : Linked) (server' : Hosting) (door' : N) : Type 0 where
   pub did : LinkDid g stands server'.told server.passes door (shown door) how server'.passes door' (shown door')
   pub went : Went receives sends door door'
   pub later : server.told ≤ server'.told
+  pub room : how ≢ linked.Full

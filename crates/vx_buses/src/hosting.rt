@@ -1,5 +1,6 @@
 //! Four gateways as what serves the links of a door.
-ghost use Rattle.std.specs.Prelude.{◌≡◌, option_map, Some};
+ghost use Rattle.std.specs.Prelude.{◌≡◌, ◌+◌, ◌<◌, option_map, Some};
+ghost use Rattle.vx_calls.specs.declared.limits.TheConstants.{CONNECTION_LAST};
 ghost use Rattle.vx_gates.specs.Passing.{passes_shown};
 ghost use Rattle.vx_gates.specs.Standing.{gates_shown};
 ghost use Rattle.vx_buses.specs.Hosting.{IsReady};
@@ -9,6 +10,7 @@ use crate::{BusPass, Buses};
 use std::alloc::Global;
 use std::sync::Wait;
 use vx_bus_traits::Bus;
+use vx_calls::CONNECTION_LAST;
 use vx_door::{Door, Serves};
 use vx_io_traits::{Clock, Pause};
 use vx_session::{Linked, Room};
@@ -23,6 +25,21 @@ pub(crate) struct Host<'a, R, B: Bus, C, P> {
     pub clock: C,
     pub pause: P,
     pub room: Room,
+    /// How many links were served.
+    pub served: u32,
+}
+
+/// One more than so many links. From 2,147,483,647 on it never returns; a run serves at most 1,000,000.
+fn one_more<R: Wait>(rt: &R, served: u32) -> u32
+    ensures below { served < CONNECTION_LAST }
+    ensures more { result ≡ served + 1 }
+{
+    for _ in rt.forever() {
+        if served < CONNECTION_LAST {
+            return served + 1;
+        }
+    }
+    unreachable!()
 }
 
 impl<'a, R: Wait, N: Door, B: Bus, C: Clock, P: Pause> Serves<N> for Host<'a, R, B, C, P> {
@@ -37,7 +54,7 @@ impl<'a, R: Wait, N: Door, B: Bus, C: Clock, P: Pause> Serves<N> for Host<'a, R,
 
     type End = Linked;
 
-    ghost can = { λ s. IsReady (option_map passes_shown s.held) (gates_shown s.buses) };
+    ghost can = { λ s. IsReady s.served (option_map passes_shown s.held) (gates_shown s.buses) };
 
     ghost did = { λ s door how s' door'. PeerDid B.Bus N.stands N.receives N.sends (link_shown N.left N.peers N.receive_faults N.send_faults)
         (record { passes = passes_of (option_map passes_shown s.held); told = C.told s.clock }) door how
@@ -49,6 +66,7 @@ impl<'a, R: Wait, N: Door, B: Bus, C: Clock, P: Pause> Serves<N> for Host<'a, R,
 
     /// Has a connection to each bus come up, and has them serve the link's records, to their end.
     fn serve(&mut self, door: &mut N) -> Linked {
+        self.served = one_more(self.rt, self.served);
         let Some(passes) = self.held.take() else {
             unreachable!()
         };

@@ -54,6 +54,7 @@ fn serve_ask<R: Wait, B: Bus + Drop, N: Door, X: Tools, K: Sink>(
         clock: tools.clock(),
         pause: tools.pause(),
         room,
+        served: 0,
     };
     serve_peers(ask, &mut host, net, sink)
 }

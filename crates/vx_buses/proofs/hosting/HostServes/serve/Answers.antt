@@ -1,18 +1,38 @@
-use Rattle.std.proofs.Common.{◌≡◌, Some, sym, ap, ◌∙◌, subst, rules}
+use Rattle.std.proofs.Common.{◌≡◌, Some, ℕ, ◌≤◌, sym, ap, ◌∙◌, subst, rules}
 use Rattle.std.specs.Prelude.{option_map}
 use Rattle.std.proofs.lemmas.Option.{same_Some}
-use Rattle.vx_gate.specs.PassView.{PassView, GateId, all_parts}
-use Rattle.vx_gates.specs.Four.{Each}
+use Rattle.vx_gate.specs.PassView.{PassView}
+use Rattle.vx_gates.specs.Four.{Four, at}
 use Rattle.vx_gates.specs.Passing.{passes_shown}
 use Rattle.vx_gates.specs.Standing.{gates_shown}
 use Rattle.vx_history.specs.Groups.{Group}
-use Rattle.vx_buses.proofs.Hosted.{ready-on}
+use Rattle.vx_rooms.specs.Counting.{IsClear}
+use Rattle.vx_buses.proofs.Hosted.{ready-on, has-room}
+use Rattle.vx_buses.specs.Hosting.{IsReady}
+use Rattle.vx_buses.proofs.hosting.HostServes.serve.Given as given
 use Rattle.vx_buses.proofs.hosting.HostServes.serve.Goals as goal
+
+-- each of the connections of these passes went again, so many at most
+abbrev clear-at : (g : given.Over) (passes : Four (PassView Group)) (count : ℕ) → Type 0
+clear-at g passes count = (bus : ℕ) → bus ≤ 3 → IsClear count (at bus passes)
 
 pub returns-clause-can : goal.returns-clause-can
 returns-clause-can g c =
     let taken : c.args.self.now.held ≡ Some c.in-Some.passes = search rules in
     let same = same_Some c.requires.can.passes (passes_shown c.in-Some.passes) (sym c.requires.can.has ∙ ap (option_map passes_shown) taken) in
-    ready-on g.B.Bus g.N.Link.stands _ (passes_shown c.in-Some.passes) _ (passes_shown c.many_link-passes.result.0) _ _ _ c.many_link-passes.result.1 (gates_shown c.args.self.now.buses)
-    c.many_link-passes.ensures.did (subst (λ p. Each (λ (pass : PassView Group) (gate : GateId). pass.parts ≡ all_parts) p (gates_shown c.args.self.now.buses)) same c.requires.can.parts)
-    c.many_link-passes.ensures.gates
+    subst (λ (n : ℕ). IsReady n (Some (passes_shown c.many_link-passes.result.0)) (gates_shown c.args.self.now.buses)) (sym c.one_more-self.ensures.more)
+    (ready-on g.B.Bus g.N.Link.stands _ (passes_shown c.in-Some.passes) _ (passes_shown c.many_link-passes.result.0) _ c.args.self.now.served _ _ c.many_link-passes.result.1 (gates_shown c.args.self.now.buses)
+    c.many_link-passes.ensures.did (subst (λ (p : Four (PassView Group)). clear-at g p c.args.self.now.served) same c.requires.can.clear)
+    c.many_link-passes.ensures.gates)
+
+pub returns-clause-did : goal.returns-clause-did
+returns-clause-did g c =
+    let taken : c.args.self.now.held ≡ Some c.in-Some.passes = search rules in
+    let same = same_Some c.requires.can.passes (passes_shown c.in-Some.passes) (sym c.requires.can.has ∙ ap (option_map passes_shown) taken) in
+    record {
+      did = search rules;
+      went = search rules;
+      later = search rules;
+      room = has-room g.B.Bus g.N.Link.stands _ (passes_shown c.in-Some.passes) _ (passes_shown c.many_link-passes.result.0) _ c.args.self.now.served _ _ c.many_link-passes.result.1
+          (subst (λ (p : Four (PassView Group)). clear-at g p c.args.self.now.served) same c.requires.can.clear) c.one_more-self.ensures.below c.many_link-passes.ensures.did;
+    }
