@@ -44,22 +44,6 @@ fn words_of<R: Env + AllocGlobal>(rt: &R) -> io::Result<Vec<String>> {
     Ok(env::args(rt)?.skip(1).collect(rt.alloc())?)
 }
 
-/// Serves what the words ask for, and answers the status.
-fn serve(rt: &HostRuntime, words: &[String]) -> u8 {
-    let Some(rack) = rack_of(rt.alloc()) else {
-        return NO_MEMORY;
-    };
-    buses_run(
-        rt,
-        rt.alloc(),
-        words,
-        &mut TcpDoor::new(rt),
-        &mut HostTools::new(*rt),
-        &mut StdSink::new(rt.stdout()),
-        rack,
-    )
-}
-
 /// Ends with the status of the run. Words of which one isn't UTF-8 have no form, so they then count as none.
 fn main(rt: HostRuntime) -> ExitCode {
     let words = match words_of(&rt) {
@@ -67,5 +51,17 @@ fn main(rt: HostRuntime) -> ExitCode {
         Err(error) if error.kind() == ErrorKind::InvalidData => Vec::new(rt.alloc()),
         Err(_) => return ExitCode::from(NO_MEMORY),
     };
-    ExitCode::from(serve(&rt, words.as_slice()))
+    let Some(rack) = rack_of(rt.alloc()) else {
+        return ExitCode::from(NO_MEMORY);
+    };
+    let status = buses_run(
+        &rt,
+        rt.alloc(),
+        words.as_slice(),
+        &mut TcpDoor::new(&rt),
+        &mut HostTools::new(rt),
+        &mut StdSink::new(rt.stdout()),
+        rack,
+    );
+    ExitCode::from(status)
 }
