@@ -107,7 +107,7 @@ module _ {B N : Type 0} (n : GuardShows B N) (shows : ShowsLink n) (rules : List
   -- a peer was met and served
   pub next-peer : (at : N) (failed : Bool) → failed ≡ is_note_fault how → MeetsPeer n.stands n.tells n.waits n.door at met → told ≤ told' → Went n.receives n.sends met at'
       → IsNext n rules (record { pass = pass; told = told; dial = dial; note = note; failed = false }) at (next.Peer failed)
-          (λ f. record { pass = pass'; told = told'; dial = dial'; note = note'; failed = f }) at'
+      (λ f. record { pass = pass'; told = told'; dial = dial'; note = note'; failed = f }) at'
   next-peer at failed failed_is meets later went =
       let counts = link-counts n.bus n.stands n.link told' rules pass met dial note how pass' at' dial' note' did in
       let before = shows met in

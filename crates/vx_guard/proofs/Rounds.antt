@@ -1,6 +1,5 @@
 -- How the loop of a guard over the peers of a door goes on.
-use Rattle.std.proofs.Common.{◌≡◌, ◌≤◌, ◌<◌, ◌+◌, ℕ, Bool, true, false, List, sym, subst, arith, le_trans}
-use Rattle.vx_io_traits.specs.Faults.{Rose}
+use Rattle.std.proofs.Common.{◌≤◌, ◌<◌, ◌+◌, ℕ, Bool, true, false, List, sym, subst, arith, le_trans}
 use Rattle.vx_io_traits.specs.ProvedLaws.{rose_earlier}
 use Rattle.vx_door.specs.declared.serving.DoorEnd.TheVariants as door
 use Rattle.vx_door.proofs.Goings.{SoFar, so-none, so-more, so-served, so-ended, so-failed}

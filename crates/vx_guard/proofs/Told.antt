@@ -1,14 +1,11 @@
 -- How a run ends that has no rules.
-use Rattle.std.proofs.Common.{◌≡◌, ◌≤◌, ◌+◌, ◌⊎◌, inl, inr, ℕ, List, Err, length, refl, sym, subst, arith}
-use Rattle.std.specs.Io.KnownBytes.{Appends}
+use Rattle.std.proofs.Common.{◌+◌, inl, inr, ℕ, List, Err, refl, sym, subst, arith}
 use Rattle.vx_text.specs.Ends.{End}
 use Rattle.vx_text.specs.Reading.{GivesAll, GivesTooMuch, GivesUpTo}
-use Rattle.vx_text.specs.Writing.{StopsIn}
-use Rattle.vx_text.specs.TextLines.{lines}
 use Rattle.vx_policy.specs.declared.policy.TheConstants.{TEXT_MAX}
 use Rattle.vx_policy.specs.declared.policy.PolicyErr.{PolicyErr}
 use Rattle.vx_policy.specs.declared.policy.PolicyErr.TheVariants as err
-use Rattle.vx_policy.specs.Reading.{IsRead, IsBad, IsTooMany}
+use Rattle.vx_policy.specs.Reading.{IsRead}
 use Rattle.vx_policy.specs.Texts.{form_line, many_line, long_line}
 use Rattle.vx_guard.specs.declared.status.Status.{Status}
 use Rattle.vx_guard.specs.declared.status.Status.TheVariants as status

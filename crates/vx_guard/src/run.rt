@@ -2,7 +2,6 @@
 //! status.
 ghost use Rattle.std.specs.Prelude.{◌≡◌, [], map, string_bytes, vec_len};
 ghost use Rattle.vx_door.specs.Shown.{door_shown};
-ghost use Rattle.vx_gate.specs.Gates.{gate_of};
 ghost use Rattle.vx_stream.specs.Shown.{link_shown};
 ghost use Rattle.vx_guard.specs.Benches.{sim};
 ghost use Rattle.vx_guard.specs.Outcome.{IsEnd, Works, IsPortRun, IsRuledRun, IsAskRun, IsRun, EndsRun};
@@ -78,8 +77,7 @@ fn serve_open<
         (record { bytes = K.taken sink.old; faults = K.faults sink.old })
         (record { bytes = K.taken sink.new; faults = K.faults sink.new }) result }
 {
-    let (_, stop, number) =
-        serve_links(rt, alloc, turns, pass, policy, ask.number, net, kit, sink);
+    let (_, stop, number) = serve_links(rt, alloc, turns, pass, policy, ask.number, net, kit, sink);
     tell(sink, stop, number)
 }
 

@@ -1,5 +1,5 @@
 //! The gateway of a guard, behind its gate.
-ghost use Rattle.std.specs.Prelude.{◌≡◌, [], ◌∷◌, None, IfSome, length, vec_len};
+ghost use Rattle.std.specs.Prelude.{◌≡◌, [], IfSome, vec_len};
 ghost use Rattle.vx_bus_traits.specs.Means.{first_means};
 ghost use Rattle.vx_gate.specs.Gates.{gate_of};
 ghost use Rattle.vx_guard.specs.Peers.{CanServe};

@@ -1,8 +1,6 @@
-use Rattle.std.proofs.Common.{◌≡◌, refl}
+use Rattle.std.proofs.Common.{refl}
 use Rattle.vx_door.specs.Shown.{door_shown}
 use Rattle.vx_stream.specs.Shown.{link_shown}
-use Rattle.vx_session.specs.Outside.{dial_shown}
-use Rattle.vx_text.specs.Ends.{End}
 use Rattle.vx_guard.specs.Peers.{GuardShows}
 use Rattle.vx_guard.proofs.OnePeer.{link-can, next-peer}
 use Rattle.vx_guard.proofs.serving.serve_next.Given as given
@@ -20,10 +18,6 @@ shows g = record {
   door = door_shown g.N.Door.met g.N.Door.ended g.N.Door.faults g.N.Link.receive_faults g.N.Link.send_faults g.N.Link.left g.N.Link.peers;
   link = link_shown g.N.Link.left g.N.Link.peers g.N.Link.receive_faults g.N.Link.send_faults;
 }
-
--- what a note took, and its count of faults
-abbrev noted : (g : given.Over) → g.row.K.Denot → End
-noted g k = record { bytes = g.K.Sink.taken k; faults = g.K.Sink.faults k }
 
 pub returns-in-Peer-clause-can : goal.returns-in-Peer-clause-can
 returns-in-Peer-clause-can g c =
