@@ -220,13 +220,12 @@ fn serve_aborter<R: Wait>(
     requires { Each IsOf (passes_shown passes) (gates_shown buses.now) }
     ensures { Each IsOf (passes_shown result.0) (gates_shown buses.now) }
 {
-    match join_aborts(rt, alloc, buses, passes) {
-        (passes, Some(conns)) => {
-            let (passes, end) = many_abort(rt, buses, passes, conns, link, room);
-            (passes, Some(end))
-        }
-        (passes, None) => (passes, None),
-    }
+    let (passes, joined) = join_aborts(rt, alloc, buses, passes);
+    let Some(conns) = joined else {
+        return (passes, None);
+    };
+    let (passes, end) = many_abort(rt, buses, passes, conns, link, room);
+    (passes, Some(end))
 }
 
 /// Runs both sides at once, each in a thread.
@@ -247,11 +246,11 @@ fn run_both<R: Threads + Wait + Sync>(
         rt,
         move ||
             requires { Each IsOf (passes_shown one) (gates_shown buses.now) }
-            ensures { Each IsOf (passes_shown result.0) (gates_shown buses.now) }
+            ensures { Each IsOf (passes_shown result.0) (gates_shown buses.entry.now) }
         { run_reader(rt, alloc, buses, one, paused, first_room) },
         move ||
             requires { Each IsOf (passes_shown two) (gates_shown buses.now) }
-            ensures { Each IsOf (passes_shown result.0) (gates_shown buses.now) }
+            ensures { Each IsOf (passes_shown result.0) (gates_shown buses.entry.now) }
         { run_aborter(rt, alloc, buses, two, paused, second_room) },
     );
     let _ = buses.meet(one, two);
