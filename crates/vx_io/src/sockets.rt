@@ -12,6 +12,7 @@ ghost use Rattle.vx_io.specs.Looking.{OnGot};
 use super::accepting::accept_retrying;
 use super::keeping::bear_with;
 use super::patience::{LOOKS, Patience};
+use super::peered::{Peered, number_of};
 use super::places::{Crowd, Place};
 use super::standard::{read_retrying, write_retrying};
 use super::timeouts::Timeouts;
@@ -179,6 +180,16 @@ impl Link for TcpLink {
                 self.send_faults = self.send_faults.saturating_add(1);
                 WriteOut::Failed
             }
+        }
+    }
+}
+
+impl Peered for TcpLink {
+    /// The address that the system tells of the stream's other end.
+    fn peer(&self) -> u32 {
+        match self.stream.peer_addr() {
+            Ok(address) => number_of(&address),
+            Err(_) => 0,
         }
     }
 }

@@ -8,10 +8,10 @@ ghost use Rattle.vx_door.specs.Meeting.{is_met, met_after, OnMeetFailed};
 ghost use Rattle.vx_io.specs.SocketState.{TellsNone, KeepsOwnCounts};
 
 use super::accepting::accept_from;
-use super::peered::Peered;
+use super::peered::{Peered, number_of};
 use super::sockets::TcpLink;
 use std::marker::Model;
-use std::net::{Ipv4Addr, Net as Sockets, SocketAddr, TcpListener, TcpStream};
+use std::net::{Ipv4Addr, Net as Sockets, TcpListener, TcpStream};
 use std::time::Duration;
 use vx_door::{Door, Met};
 use vx_io_traits::{DialOut, Link, ReadOut, WriteOut};
@@ -135,14 +135,6 @@ impl<R: Sockets<Stream = TcpStream>> Link for TcpDoor<R> {
                 WriteOut::Failed
             }
         }
-    }
-}
-
-/// An IPv4 address as a number, its first part in the high byte; 0 for an address of another kind.
-fn number_of(address: &SocketAddr) -> u32 {
-    match address {
-        SocketAddr::V4(address) => u32::from_be_bytes(address.ip().octets()),
-        SocketAddr::V6(_) => 0,
     }
 }
 
