@@ -1,5 +1,5 @@
 -- What serving one peer of a door comes to.
-use Rattle.std.proofs.Common.{◌≡◌, ◌≤◌, ◌⊎◌, inl, inr, ℕ, Bool, true, false, List, ◌++◌, Option, None, Some, refl, sym, ap, ◌∙◌, subst, arith}
+use Rattle.std.proofs.Common.{◌≡◌, ◌≢◌, ◌≤◌, ◌<◌, ◌+◌, ◌⊎◌, inl, inr, ℕ, Bool, true, false, List, [], ◌++◌, Option, None, Some, refl, sym, ap, ◌∙◌, subst, arith}
 use Rattle.std.specs.Prelude.{not, IfSome}
 use Rattle.std.specs.Io.KnownBytes.{Consumes, IsAtEnd}
 use Rattle.std.proofs.lemmas.Bool.{false≢true}
@@ -9,6 +9,7 @@ use Rattle.vx_door.specs.Serving.{is_cut, is_spent, RoseEither}
 use Rattle.vx_door.specs.Shown.{MeetsPeer}
 use Rattle.vx_door.specs.Going.{Went}
 use Rattle.vx_door.specs.ProvedLaws.{spent_at_end}
+use Rattle.vx_calls.specs.declared.limits.TheConstants.{CONNECTION_LAST}
 use Rattle.vx_bus_traits.specs.declared.bus.Bus.{Ghosts}
 use Rattle.vx_gate.specs.PassView.{PassView, GateId}
 use Rattle.vx_text.specs.Ends.{End}
@@ -22,7 +23,10 @@ use Rattle.vx_guard.specs.declared.links.Guarded.{Guarded}
 use Rattle.vx_guard.specs.declared.links.Guarded.TheVariants as guarded
 use Rattle.vx_guard.specs.Linking.{GuardLinkDid}
 use Rattle.vx_guard.specs.declared.serving.Next.TheVariants as next
-use Rattle.vx_guard.specs.Peers.{CanServe, GuardShows, IsNext, Notes, is_note_fault, is_own, is_whole}
+use Rattle.vx_rooms.specs.Counting.{IsClear}
+use Rattle.vx_rooms.specs.ProvedLaws.{clear-first, clear-on}
+use Rattle.vx_guard.proofs.Rooms as rooms
+use Rattle.vx_guard.specs.Peers.{CanServe, IsReady, GuardShows, IsNext, Notes, is_note_fault, is_own, is_whole}
 
 -- a peer that told its end where it told what it had left has nothing left
 ended-spent : (first now : Option (List ℕ)) (bytes : List ℕ) → Consumes first now bytes → IfSome first (λ all. IsAtEnd now) → is_spent first now ≡ true
@@ -92,6 +96,33 @@ module _ {B L : Type 0} (g : Ghosts B) (stands : L → List ℕ → List ℕ →
       let kept = link-pass told rules pass link dial note how pass' link' dial' note' d in
       record { gate_is = kept.0 ∙ can.gate_is; number = kept.1 ∙ can.number; parts = kept.2 ∙ can.parts }
 
+  -- and behind one more than so many peers each of its connections went again
+  pub link-ready : (gate : GateId) (count told : ℕ) (rules : List Rule) (pass : PassView Group) (link : L) (dial : DialShown) (note : End) (how : Guarded) (pass' : PassView Group) (link' : L) (dial' : DialShown) (note' : End)
+      → IsReady gate count pass → GuardLinkDid g stands told rules pass link (shown link) dial note how pass' link' (shown link') dial' note' → IsReady gate (count + 1) pass'
+  link-ready gate count told rules pass link dial note how pass' link' dial' note' ready d = record {
+    can = link-can gate told rules pass link dial note how pass' link' dial' note' ready.can d;
+    clear = clear-on count pass pass' ready.clear (rooms.link-counts g stands told rules pass link (shown link) dial note how pass' link' (shown link') dial' note' d);
+  }
+
+  -- its connection wasn't refused for want of room
+  pub link-room : (count told : ℕ) (rules : List Rule) (pass : PassView Group) (link : L) (dial : DialShown) (note : End) (how : Guarded) (pass' : PassView Group) (link' : L) (dial' : DialShown) (note' : End)
+      → IsClear count pass → count < CONNECTION_LAST → GuardLinkDid g stands told rules pass link (shown link) dial note how pass' link' (shown link') dial' note' → how ≢ guarded.Full
+  link-room count told rules pass link dial note guarded.Full pass' link' dial' note' clear low d is =
+      rooms.link-never-full g stands told count rules pass link (shown link) dial note pass' link' (shown link') dial' note' clear low d
+  link-room count told rules pass link dial note (guarded.Ended how) pass' link' dial' note' clear low d is = cc
+  link-room count told rules pass link dial note guarded.NoMemory pass' link' dial' note' clear low d is = cc
+
+-- a guard that served nobody since is ready too
+pub ready-still : (gate : GateId) (count : ℕ) (pass : PassView Group) → IsReady gate count pass → IsReady gate (count + 1) pass
+ready-still gate count pass ready = record {
+  can = ready.can;
+  clear = record { alone = ready.clear.alone; even = ready.clear.even; most = omega (arith, ready.clear.most) };
+}
+
+-- one that begins is ready
+pub ready-first : (gate : GateId) (pass : PassView Group) → CanServe gate pass → pass.seen ≡ [] → pass.own ≡ [] → IsReady gate 0 pass
+ready-first gate pass can seen own = record { can = can; clear = clear-first pass can.parts seen own }
+
 -- what a door shows of its link is what its link shows
 abbrev pub ShowsLink : {B N : Type 0} → GuardShows B N → Type 0
 ShowsLink {B} {N} n = (d : N) → ((n.door d).receive_faults ≡ (n.link d).receive_faults) × ((n.door d).send_faults ≡ (n.link d).send_faults) × ((n.door d).left ≡ (n.link d).left)
@@ -105,10 +136,10 @@ module _ {B N : Type 0} (n : GuardShows B N) (shows : ShowsLink n) (rules : List
   rose-either (inr rose) = inr (subst (λ a. Rose a (n.door at').send_faults) (sym (shows met).1) (subst (λ b. Rose (n.link met).send_faults b) (sym (shows at').1) rose))
 
   -- a peer was met and served
-  pub next-peer : (at : N) (failed : Bool) → failed ≡ is_note_fault how → MeetsPeer n.stands n.tells n.waits n.door at met → told ≤ told' → Went n.receives n.sends met at'
+  pub next-peer : (at : N) (failed : Bool) → how ≢ guarded.Full → failed ≡ is_note_fault how → MeetsPeer n.stands n.tells n.waits n.door at met → told ≤ told' → Went n.receives n.sends met at'
       → IsNext n rules (record { pass = pass; told = told; dial = dial; note = note; failed = false }) at (next.Peer failed)
       (λ f. record { pass = pass'; told = told'; dial = dial'; note = note'; failed = f }) at'
-  next-peer at failed failed_is meets later went =
+  next-peer at failed room failed_is meets later went =
       let counts = link-counts n.bus n.stands n.link told' rules pass met dial note how pass' at' dial' note' did in
       let before = shows met in
       let behind = shows at' in (
@@ -116,7 +147,7 @@ module _ {B N : Type 0} (n : GuardShows B N) (shows : ShowsLink n) (rules : List
           met = met;
           how = how;
           meets = meets;
-          serves = record { did = did; later = later; went = went; failed = failed_is };
+          serves = record { did = did; later = later; went = went; failed = failed_is; room = room };
           receives = omega (arith, before.0, behind.0, counts.0);
           sends = omega (arith, before.1, behind.1, counts.1);
           cut = λ cut. rose-either (link-cut n.bus n.stands n.link told' rules pass met dial note how pass' at' dial' note' did

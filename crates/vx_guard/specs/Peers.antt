@@ -1,5 +1,5 @@
 -- What a guard does with the peers of a door, one after another.
-use Rattle.std.specs.Prelude.{◌≡◌, ◌≤◌, ◌||◌, ℕ, Bool, true, false, List}
+use Rattle.std.specs.Prelude.{◌≡◌, ◌≢◌, ◌≤◌, ◌||◌, ℕ, Bool, true, false, List}
 use Rattle.vx_io_traits.specs.Faults.{Rose}
 use Rattle.vx_io_traits.specs.declared.ReadOut.{ReadOut}
 use Rattle.vx_io_traits.specs.declared.WriteOut.{WriteOut}
@@ -18,6 +18,7 @@ use Rattle.vx_history.specs.Groups.{Group}
 use Rattle.vx_stream.specs.Shown.{LinkShown}
 use Rattle.vx_stream.specs.declared.ends.End.TheVariants as stream
 use Rattle.vx_session.specs.Outside.{DialShown}
+use Rattle.vx_rooms.specs.Counting.{IsClear}
 use Rattle.vx_policy.specs.declared.rules.Rule.{Rule}
 use Rattle.vx_peers.specs.Outcome.{Shows}
 use Rattle.vx_guard.specs.declared.sessions.GuardEnd.TheVariants as guard
@@ -43,6 +44,11 @@ pub record CanServe (gate : GateId) (pass : PassView Group) : Type 0 where
   pub gate_is : pass.gate ≡ gate
   pub number : pass.number ≡ 0
   pub parts : pass.parts ≡ 4294967296
+
+-- and behind so many peers: each of its connections went again, so many at most
+pub record IsReady (gate : GateId) (count : ℕ) (pass : PassView Group) : Type 0 where
+  pub can : CanServe gate pass
+  pub clear : IsClear count pass
 
 -- what a bus and a door are to what is said of them
 pub record GuardShows (B N : Type 0) : Type 1 where
@@ -75,13 +81,15 @@ abbrev pub is_whole : Guarded → Bool
 is_whole (guarded.Ended (guard.Ended stream.WriteFault)) = false
 is_whole _ = true
 
--- A peer was served by these rules: it had its guarded session, or none came up. It is judged by the address that the door's list of its
--- peers ends with. The door went by receives and sends alone, and the guard knows whether the note failed.
+-- A peer was served by these rules: it had its guarded session, or none came up, as there was no memory. It is judged by the address
+-- that the door's list of its peers ends with. The door went by receives and sends alone, and the guard knows whether the note failed.
 pub record GuardsPeer {B N : Type 0} (n : GuardShows B N) (rules : List Rule) (s : GuardHas) (door : N) (how : Guarded) (s' : GuardHas) (door' : N) : Type 0 where
   pub did : GuardLinkDid n.bus n.stands s'.told rules s.pass door (n.link door) s.dial s.note how s'.pass door' (n.link door') s'.dial s'.note
   pub later : s.told ≤ s'.told
   pub went : Went n.receives n.sends door door'
   pub failed : s'.failed ≡ (s.failed || is_note_fault how)
+  -- its connection wasn't refused for want of room
+  pub room : how ≢ guarded.Full
 
 -- how a guard by these rules is seen as what serves the peers of a door
 abbrev pub serving : {B N : Type 0} → GuardShows B N → List Rule → Shows N GuardHas Guarded

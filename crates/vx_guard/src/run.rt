@@ -2,6 +2,7 @@
 //! status.
 ghost use Rattle.std.specs.Prelude.{◌≡◌, [], map, string_bytes, vec_len};
 ghost use Rattle.vx_door.specs.Shown.{door_shown};
+ghost use Rattle.vx_peers.specs.Asked.{IsInRange};
 ghost use Rattle.vx_stream.specs.Shown.{link_shown};
 ghost use Rattle.vx_guard.specs.Benches.{sim};
 ghost use Rattle.vx_guard.specs.Outcome.{IsEnd, Works, IsPortRun, IsRuledRun, IsAskRun, IsRun, EndsRun};
@@ -62,6 +63,7 @@ fn serve_open<
     kit: &mut Kit<C, P, D>,
     sink: &mut K,
 ) -> Status
+    requires range { IsInRange ask.now }
     requires can { CanServe (T.gate turns.now) pass }
     requires fresh { (pass.seen ≡ []) × (pass.own ≡ []) }
     ensures { Works (record {
@@ -103,6 +105,7 @@ fn run_gate<
     kit: &mut Kit<C, P, D>,
     sink: &mut K,
 ) -> Status
+    requires range { IsInRange ask.now }
     requires can { CanServe (T.gate turns.now) pass }
     requires fresh { (pass.seen ≡ []) × (pass.own ≡ []) }
     ensures { IsPortRun (record {
@@ -149,6 +152,7 @@ fn run_ruled<R: Wait, N: Door + Peered, X: Tools, K: Sink, I: Instrument>(
     sink: &mut K,
     rack: Vec<Spare<I>>,
 ) -> Status
+    requires range { IsInRange ask.now }
     requires rack { vec_len rack ≡ 1 }
     ensures { IsRuledRun (record {
       bus = sim;
@@ -183,6 +187,7 @@ fn run_ask<R: Wait, N: Door + Peered, X: Tools, S: Source, K: Sink, I: Instrumen
     sink: &mut K,
     rack: Vec<Spare<I>>,
 ) -> Status
+    requires range { IsInRange ask.now }
     requires rack { vec_len rack ≡ 1 }
     ensures { IsAskRun (record {
       bus = sim;

@@ -1,9 +1,10 @@
 //! The peers of a door, each served by the rules of a policy.
-ghost use Rattle.std.specs.Prelude.{◌≡◌, false};
+ghost use Rattle.std.specs.Prelude.{◌≡◌, ◌+◌, ◌<◌, ◌≤◌, false};
+ghost use Rattle.vx_calls.specs.declared.limits.TheConstants.{CONNECTION_LAST};
 ghost use Rattle.vx_door.specs.Shown.{door_shown};
 ghost use Rattle.vx_stream.specs.Shown.{link_shown};
 ghost use Rattle.vx_session.specs.Outside.{dial_shown};
-ghost use Rattle.vx_guard.specs.Peers.{CanServe, IsNext, MeetsSo, StopsPeers, is_note_fault, is_note_stop};
+ghost use Rattle.vx_guard.specs.Peers.{IsNext, IsReady, MeetsSo, StopsPeers, is_note_fault, is_note_stop};
 
 use crate::links::{Guarded, guarded_link};
 use crate::sessions::{GuardEnd, GuardRoom};
@@ -69,7 +70,7 @@ fn meet<N: Door + Peered>(net: &mut N) -> Met
     }
 }
 
-/// Waits for the next peer, and serves it where one comes.
+/// Waits for the next peer, behind so many, and serves it where one comes.
 fn serve_next<
     R: Wait,
     B: Bus,
@@ -84,13 +85,15 @@ fn serve_next<
     alloc: Global,
     turns: &T,
     pass: Pass<Core<B>>,
+    number: u32,
     policy: &Policy,
     net: &mut N,
     kit: &mut Kit<C, P, D>,
     note: &mut K,
 ) -> (Pass<Core<B>>, Next)
-    requires can { CanServe (T.gate turns.now) pass }
-    ensures can { CanServe (T.gate turns.now) result.0 }
+    requires ready { IsReady (T.gate turns.now) number pass }
+    requires few { number < CONNECTION_LAST }
+    ensures ready { IsReady (T.gate turns.now) (number + 1) result.0 }
     ensures next { IsNext
         (record {
           bus = B.Bus;
@@ -146,9 +149,9 @@ pub(crate) fn serve_links<
     kit: &mut Kit<C, P, D>,
     note: &mut K,
 ) -> (Pass<Core<B>>, Stop, u32)
-    requires can { CanServe (T.gate turns.now) pass }
-    ensures can { CanServe (T.gate turns.now) result.0 }
-    ensures stops { StopsPeers
+    requires ready { IsReady (T.gate turns.now) 0 pass }
+    requires few { limit ≤ CONNECTION_LAST }
+    ensures { StopsPeers
         (record {
           bus = B.Bus;
           stands = N.stands;
@@ -165,7 +168,7 @@ pub(crate) fn serve_links<
     let mut pass = pass;
     let mut number = 0;
     while number < limit {
-        let (after, next) = serve_next(rt, alloc, turns, pass, policy, net, kit, note);
+        let (after, next) = serve_next(rt, alloc, turns, pass, number, policy, net, kit, note);
         pass = after;
         match next {
             Next::Peer { failed } => {

@@ -1,8 +1,9 @@
-use Rattle.std.proofs.Common.{refl}
+use Rattle.std.proofs.Common.{refl, arith}
 use Rattle.vx_door.specs.ProvedLaws.{went_keeps}
 use Rattle.vx_door.specs.Shown.{door_shown}
 use Rattle.vx_stream.specs.Shown.{link_shown}
 use Rattle.vx_guard.specs.Peers.{GuardShows}
+use Rattle.vx_guard.proofs.OnePeer.{ready-first}
 use Rattle.vx_guard.proofs.Runs.{open-ended}
 use Rattle.vx_guard.proofs.run.serve_open.Given as given
 use Rattle.vx_guard.proofs.run.serve_open.Goals as goal
@@ -27,4 +28,10 @@ returns g c =
     open-ended (shows g) c.args.policy.now c.args.ask.now _ c.args.net.now _ c.serve_links-stop.new.net _ _
     (record { number = can.number; parts = can.parts; seen = fresh.0; own = fresh.1; note = refl; sound = refl })
     (λ s t d e how did. went_keeps g.N.Link.receives g.N.Link.sends g.N.Door.met g.N.Door.ended g.N.Door.faults g.met.N.Door.receive_keeps g.met.N.Door.send_keeps d e did.went)
-    c.serve_links-stop.result.2 c.serve_links-stop.result.1 c.serve_links-stop.ensures.stops refl c.tell.result c.tell.ensures
+    c.serve_links-stop.result.2 c.serve_links-stop.result.1 c.serve_links-stop.ensures refl c.tell.result c.tell.ensures
+
+pub serve_links-stop-requires-clause-ready : goal.serve_links-stop-requires-clause-ready
+serve_links-stop-requires-clause-ready g c = ready-first (g.T.Turns.gate c.args.turns.now) c.args.pass c.requires.can c.requires.fresh.0 c.requires.fresh.1
+
+pub serve_links-stop-requires-clause-few : goal.serve_links-stop-requires-clause-few
+serve_links-stop-requires-clause-few g c = omega (arith, c.requires.range.number.1)

@@ -20,8 +20,8 @@ behind g pass kit note failed = record {
   failed = failed;
 }
 
-pub returns-then-failed-clause-stops : goal.returns-then-failed-clause-stops
-returns-then-failed-clause-stops g c =
+pub returns-then-failed : goal.returns-then-failed
+returns-then-failed g c =
     let s = has g c.loop-number.pass c.loop-number.kit c.loop-number.note in
     let after = behind g c.serve_next-after.result.0 c.serve_next-after.new.kit c.serve_next-after.new.note in
     round-noted (shows g) c.args.policy.now (has g c.args.pass c.args.kit.now c.args.note.now) c.args.net.now c.args.limit c.loop-number.number s c.loop-number.net after c.serve_next-after.new.net
@@ -32,7 +32,7 @@ pub loop-number-preserved : goal.loop-number-preserved
 loop-number-preserved g c =
     let s = has g c.loop-number.pass c.loop-number.kit c.loop-number.note in
     let after = behind g c.serve_next-after.result.0 c.serve_next-after.new.kit c.serve_next-after.new.note in (
-      c.serve_next-after.ensures.can,
+      c.serve_next-after.ensures.ready,
       omega (arith, c.loop-number-test.true),
       round-more (shows g) c.args.policy.now (has g c.args.pass c.args.kit.now c.args.note.now) c.args.net.now c.args.limit c.loop-number.number s c.loop-number.net after c.serve_next-after.new.net
           c.loop-number.invariant.2

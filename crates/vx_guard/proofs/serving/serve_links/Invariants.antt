@@ -5,7 +5,7 @@ use Rattle.vx_session.specs.Outside.{dial_shown}
 use Rattle.vx_gate.specs.PassView.{PassView}
 use Rattle.vx_history.specs.Groups.{Group}
 use Rattle.vx_guard.specs.declared.serving.Kit.{Kit}
-use Rattle.vx_guard.specs.Peers.{CanServe, GuardHas, GuardShows}
+use Rattle.vx_guard.specs.Peers.{IsReady, GuardHas, GuardShows}
 use Rattle.vx_guard.proofs.Rounds.{Round}
 use Rattle.vx_guard.proofs.serving.serve_links.Given as goal
 
@@ -34,7 +34,7 @@ has g pass kit note = record {
 
 abbrev pub invariant-loop-number : goal.invariant-loop-number
 invariant-loop-number g l =
-    CanServe (g.T.Turns.gate l.turns) l.pass
+    IsReady (g.T.Turns.gate l.turns) l.number l.pass
     × (l.number ≤ l.limit)
     × Round (shows g) l.policy (has g l.initial.pass l.initial.kit l.initial.note) l.initial.net l.number (has g l.pass l.kit l.note) l.net
 

@@ -2,7 +2,7 @@ use Rattle.std.proofs.Common.{refl}
 use Rattle.vx_door.specs.Shown.{door_shown}
 use Rattle.vx_stream.specs.Shown.{link_shown}
 use Rattle.vx_guard.specs.Peers.{GuardShows}
-use Rattle.vx_guard.proofs.OnePeer.{link-can, next-peer}
+use Rattle.vx_guard.proofs.OnePeer.{link-ready, link-room, ready-still, next-peer}
 use Rattle.vx_guard.proofs.serving.serve_next.Given as given
 use Rattle.vx_guard.proofs.serving.serve_next.Goals as goal
 
@@ -19,12 +19,20 @@ shows g = record {
   link = link_shown g.N.Link.left g.N.Link.peers g.N.Link.receive_faults g.N.Link.send_faults;
 }
 
-pub returns-in-Peer-clause-can : goal.returns-in-Peer-clause-can
-returns-in-Peer-clause-can g c =
-    link-can g.B.Bus g.N.Link.stands (shows g).link (g.T.Turns.gate c.args.turns.now) _ _ c.args.pass _ _ _ _ c.guarded_link-pass.result.0 _ _ _
-    c.requires.can c.guarded_link-pass.ensures.did
+pub returns-in-Peer-clause-ready : goal.returns-in-Peer-clause-ready
+returns-in-Peer-clause-ready g c =
+    link-ready g.B.Bus g.N.Link.stands (shows g).link (g.T.Turns.gate c.args.turns.now) c.args.number _ _ c.args.pass _ _ _ _ c.guarded_link-pass.result.0 _ _ _
+    c.requires.ready c.guarded_link-pass.ensures.did
+
+pub returns-in-Ended-clause-ready : goal.returns-in-Ended-clause-ready
+returns-in-Ended-clause-ready g c = ready-still (g.T.Turns.gate c.args.turns.now) c.args.number c.args.pass c.requires.ready
+
+pub returns-in-Failed-clause-ready : goal.returns-in-Failed-clause-ready
+returns-in-Failed-clause-ready g c = ready-still (g.T.Turns.gate c.args.turns.now) c.args.number c.args.pass c.requires.ready
 
 pub returns-in-Peer-clause-next : goal.returns-in-Peer-clause-next
 returns-in-Peer-clause-next g c =
     next-peer (shows g) (λ d. (refl, refl, refl)) c.args.policy.now c.args.pass _ _ _ c.guarded_link-pass.result.0 _ _ _ c.meet.new.net c.guarded_link-pass.new.link c.guarded_link-pass.result.1
-    c.guarded_link-pass.ensures.did c.args.net.now c.failed_note-failed.result c.failed_note-failed.ensures c.in-Peer.ensures c.guarded_link-pass.ensures.told c.guarded_link-pass.ensures.went
+    c.guarded_link-pass.ensures.did c.args.net.now c.failed_note-failed.result
+    (link-room g.B.Bus g.N.Link.stands (shows g).link c.args.number _ _ c.args.pass _ _ _ c.guarded_link-pass.result.1 c.guarded_link-pass.result.0 _ _ _ c.requires.ready.clear c.requires.few
+    c.guarded_link-pass.ensures.did) c.failed_note-failed.ensures c.in-Peer.ensures c.guarded_link-pass.ensures.told c.guarded_link-pass.ensures.went
