@@ -14,14 +14,15 @@ MAPPER = crates/vxmap/out/vxmap
 BUSES = crates/vxbuses/out/vxbuses
 GUARD = crates/vxguard/out/vxguard
 RATE = crates/vx_gate_rate/out/vx_gate_rate
+BUSES_RATE = crates/vx_buses_rate/out/vx_buses_rate
 LOOP = crates/vx_loop_once/out/vx_loop_once
 
-# what `make bench` measures beside this server and this gate, as 'NAME=PROGRAM .. --gate NAME=PROGRAM', and beside this player, as
-# 'NAME=PROGRAM ..'
+# what `make bench` measures beside this server, this gate and these buses, as 'NAME=PROGRAM .. --gate NAME=PROGRAM --buses
+# NAME=PROGRAM', and beside this player, as 'NAME=PROGRAM ..'
 OTHERS =
 PLAYERS =
 
-.PHONY: try play serve install player server client mapper buses guard rate loop test bench tables memory
+.PHONY: try play serve install player server client mapper buses guard rate buses-rate loop test bench tables memory
 
 # the same script without a proof
 try:
@@ -66,14 +67,18 @@ guard:
 rate:
 	cd crates/vx_gate_rate && rt run -- 1 1 < /dev/null > /dev/null
 
+# a program that serves one link or two at once by four buses; without words it ends with status 1
+buses-rate:
+	cd crates/vx_buses_rate && rm -f out/vx_buses_rate && { rt run < /dev/null > /dev/null || test -x out/vx_buses_rate; }
+
 # a program with a client and a gateway in it
 loop:
 	cd crates/vx_loop_once && rt run < /dev/null > /dev/null
 
 # It takes some ten minutes, and wants a C compiler as cc and a machine that does nothing else. bench/bench.py and bench/tables.py
 # say what they print, and with which words the first takes less.
-bench: server rate tables
-	python3 bench/bench.py $(OTHERS) this=$(SERVER) --gate this=$(RATE)
+bench: server rate buses-rate tables
+	python3 bench/bench.py $(OTHERS) this=$(SERVER) --gate this=$(RATE) --buses this=$(BUSES_RATE)
 
 # steps with full tables, and a long run from a number
 tables: player

@@ -5,7 +5,8 @@
 
 Each NAME is a column. PROGRAM is a `vxgate`, or a command with `{core}` and `{abort}` for its ports that starts another server,
 which has echoes at the addresses 5 to 8, or `:PORT` for such a server that runs on this host already. `--gate NAME=PROGRAM` adds
-a `vx_gate_rate` to the column. All programs of a row are measured in turn, run by run, so that what else the machine does meets
+a `vx_gate_rate` to the column, and `--buses NAME=PROGRAM` a `vx_buses_rate`, whose rows have one bus busy, and two at once by a
+connection each. All programs of a row are measured in turn, run by run, so that what else the machine does meets
 all of them alike. Half of the rows are measured alone, and half beside as many busy threads as the machine has processors.
 `--within MINUTES` makes the runs as long as fits into so many.
 
@@ -25,6 +26,7 @@ import time
 HERE = os.path.dirname(os.path.realpath(__file__))
 BENCH = "".join(f"plug {address} echo\n" for address in range(5, 9))
 WORKERS = 64  # the most that a vxgate has
+BUSY_BUSES = (1, 2)  # at once
 PATIENCE = 60  # seconds that a run may take beyond its own
 BUSY = "while True: pass"
 GATE_COST = 1.6  # a run at a gate, with the turns before it that tell how many it is to take, beside one of a server
@@ -37,6 +39,7 @@ def words():
     pair = lambda text: tuple(text.split("=", 1)) if "=" in text else parser.error(f"no NAME=PROGRAM: {text}")
     parser.add_argument("servers", nargs="*", type=pair, metavar="NAME=PROGRAM")
     parser.add_argument("--gate", action="append", default=[], type=pair, metavar="NAME=PROGRAM")
+    parser.add_argument("--buses", action="append", default=[], type=pair, metavar="NAME=PROGRAM")
     parser.add_argument("--connections", type=numbers, default=[1, 2, 4, 16, 64], help="how many at once (1,2,4,16,64)")
     parser.add_argument("--writers", type=numbers, default=[1, 2], help="how many beside one connection (1,2)")
     parser.add_argument("--threads", type=numbers, default=[1, 2, 4, 16], help="how many at a gate (1,2,4,16)")
@@ -54,6 +57,7 @@ def words():
 def fitting(asked):
     """The seconds of a run with which all of them take so many minutes."""
     rows = (len(asked.connections) + len(asked.writers)) * len(asked.servers) + GATE_COST * len(asked.threads) * len(asked.gate)
+    rows += len(BUSY_BUSES) * len(asked.buses)
     return MARGIN * 60 * asked.within / (len(asked.halves) * asked.runs * rows) if rows else 0
 
 
@@ -92,10 +96,23 @@ def start_server(program, started):
     sys.exit(f"bench: {program} doesn't listen")
 
 
-def queries(load, port, connections, seconds, writers=0):
+def queries(load, port, connections, seconds, writers=0, buses=0):
     """Queries a second, and the time of one at the 99th of a hundred, in milliseconds."""
-    said = dict(word.split("=") for word in run(load, str(port), str(connections), str(seconds), str(writers)).split())
+    said = run(load, *map(str, (port, connections, seconds, writers, buses)))
+    said = dict(word.split("=") for word in said.split())
     return int(said["queries"]) / float(said["seconds"]), float(said["last"]) / 1000
+
+
+def on_buses(load, program, number, seconds):
+    """What connections to so many buses, one to each, ask of a server that serves just these."""
+    port = free_port()
+    with subprocess.Popen([program, str(port), str(number)], stdin=subprocess.DEVNULL, stdout=subprocess.PIPE) as server:
+        if server.stdout.readline() != b"ready\n":
+            sys.exit(f"bench: {program} doesn't listen")
+        found = queries(load, port, number, seconds, buses=number)
+        if server.wait(PATIENCE):
+            sys.exit(f"bench: {program}: status {server.returncode}")
+    return found
 
 
 def timed_turns(program, threads, turns):
@@ -162,6 +179,11 @@ def half(asked, load, names, how):
         for number in asked.threads if gates else []:
             figure = lambda program: turns(program, number, asked.seconds)
             row(f"{counted(number, 'thread')} at the gate, {where}", measured(figure, gates, asked.runs), names)
+        buses = dict(asked.buses)
+        for number in BUSY_BUSES if buses else []:
+            figure = lambda program: on_buses(load, program, number, asked.seconds)
+            what = "1 bus busy" if number == 1 else f"{number} buses busy at once"
+            row(f"{what}, {where}", measured(figure, buses, asked.runs), names)
     finally:
         for process in started:
             process.kill()
@@ -170,7 +192,7 @@ def half(asked, load, names, how):
 
 def main():
     asked = words()
-    names = list(dict(asked.servers + asked.gate))
+    names = list(dict(asked.servers + asked.gate + asked.buses))
     if not names:
         sys.exit("bench: name a program, as NAME=PROGRAM")
     print(f"{asked.runs} runs of {asked.seconds:g} seconds, {os.cpu_count()} processors: the median, and the worst and best run; queries a second, or turns.\n")

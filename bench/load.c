@@ -1,6 +1,6 @@
 /* Makes queries of a VXI-11 server on this host, each a device_write of a short text and a device_read of it.
  *
- *     load PORT CONNECTIONS SECONDS [WRITERS]
+ *     load PORT CONNECTIONS SECONDS [WRITERS [BUSES]]
  *
  * Each connection has a thread and a link of its own, to one of the devices gpib0,5 to gpib0,8, which are echoes. All start
  * together. It prints `queries=N seconds=S median=U last=V`: how many were made, in which time, and in how many microseconds half
@@ -8,6 +8,8 @@
  *
  * WRITERS are so many connections more, on the devices behind those of the others, and each makes a device_write of 65,536 bytes
  * after the other. These aren't counted.
+ *
+ * With BUSES, 1 to 4, the connections go round so many buses in place of the devices of one, each to the device at 5 of its bus.
  */
 #include <arpa/inet.h>
 #include <netinet/tcp.h>
@@ -21,7 +23,7 @@
 #include <unistd.h>
 
 enum { CORE = 0x0607AF, CREATE_LINK = 10, DEVICE_WRITE = 11, DEVICE_READ = 12 };
-enum { FIRST_ADDRESS = 5, DEVICES = 4, MOST_WORDS = 32, WAIT_MS = 10000, END = 8, BY_END = 4, READ_BYTES = 1024, LONG_WORDS = 16384 };
+enum { FIRST_ADDRESS = 5, DEVICES = 4, MOST_WORDS = 32, WAIT_MS = 10000, END = 8, BY_END = 4, READ_BYTES = 1024, LONG_WORDS = 16384, MOST_BUSES = 4 };
 static const uint32_t LAST_FRAGMENT = 0x80000000u;
 static const char TEXT[8] = "*IDN?\n"; /* six bytes, and two of padding */
 
@@ -33,7 +35,7 @@ struct connection {
     const char *fault;
 };
 
-static int port;
+static int port, buses;
 static double seconds, end;
 static pthread_barrier_t ready, start;
 
@@ -92,8 +94,9 @@ static int open_link(struct connection *c) {
     if (c->socket < 0 || connect(c->socket, (void *)&to, sizeof to)) return fail(c, "not connected");
     setsockopt(c->socket, IPPROTO_TCP, TCP_NODELAY, &one, sizeof one);
     setsockopt(c->socket, SOL_SOCKET, SO_RCVTIMEO, &wait, sizeof wait);
-    /* gpib0,A: seven bytes, and one of padding */
-    uint32_t device[] = { 0x67706962, 0x302C3000 | (FIRST_ADDRESS + c->number % DEVICES) << 8 };
+    /* gpibB,A: seven bytes, and one of padding */
+    uint32_t bus = buses ? c->number % buses : 0, address = FIRST_ADDRESS + (buses ? 0 : c->number % DEVICES);
+    uint32_t device[] = { 0x67706962, 0x302C3000 | bus << 24 | address << 8 };
     uint32_t words[] = { c->number, 0, 0, 7, device[0], device[1] }, results[4];
     if (!call(c, CREATE_LINK, words, 6, results, 4)) return 0;
     c->link = results[1];
@@ -149,8 +152,10 @@ static int by_size(const void *a, const void *b) {
 }
 
 int main(int count, char **words) {
-    int asking = count == 4 || count == 5 ? atoi(words[2]) : 0, connections = asking + (count == 5 ? atoi(words[4]) : 0);
-    if (asking < 1 || connections < asking) return fprintf(stderr, "usage: load PORT CONNECTIONS SECONDS [WRITERS]\n"), 2;
+    int asking = count >= 4 && count <= 6 ? atoi(words[2]) : 0, connections = asking + (count >= 5 ? atoi(words[4]) : 0);
+    buses = count == 6 ? atoi(words[5]) : 0;
+    if (asking < 1 || connections < asking || buses < 0 || buses > MOST_BUSES)
+        return fprintf(stderr, "usage: load PORT CONNECTIONS SECONDS [WRITERS [BUSES]]\n"), 2;
     port = atoi(words[1]), seconds = atof(words[3]);
     struct connection *all = calloc(connections, sizeof *all);
     pthread_t *threads = calloc(connections, sizeof *threads);

@@ -15,6 +15,7 @@ mod starting;
 pub use links::many_link;
 pub use run::buses_run;
 pub use sessions::{many_abort, many_session};
+pub use starting::start_buses;
 use vx_core::Core;
 use vx_gates::{Gates, GatesRefused, Passes};
 pub use vx_routes::{global, local};

@@ -64,8 +64,8 @@ fn cores_of<I: Instrument>(alloc: Global, rack: Vec<Spare<I>>) -> Option<Vec<Cor
 }
 
 /// Four gateways behind gates of their own, bus 0 to 3, each over a bus with the instrument of its place in the rack at primary address
-/// 5, and the first passes.
-pub(crate) fn start_buses<I: Instrument>(
+/// 5, and the first passes; none where there is no memory.
+pub fn start_buses<I: Instrument>(
     alloc: Global,
     rack: Vec<Spare<I>>,
 ) -> Option<(Buses<SimBus<I>>, BusPass<SimBus<I>>)>

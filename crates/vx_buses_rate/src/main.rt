@@ -1,0 +1,108 @@
+//! `vx_buses_rate PORT LINKS`: serves so many links that come to PORT, one or two, both at once, by four simulated buses with an echo at
+//! address 5 each. It prints `ready` once the port is open, and ends with the links. How many queries they make meanwhile is for a
+//! benchmark to measure.
+#![tactic(auto)]
+
+mod racks;
+mod serving;
+
+ghost use Rattle.vx_gates.specs.Four.{Each};
+ghost use Rattle.vx_gates.specs.Passing.{passes_shown, IsFirst};
+ghost use Rattle.vx_gates.specs.Standing.{gates_shown};
+
+use crate::racks::rack_of;
+use crate::serving::{Bench, Comer, serve, serve_both};
+use std::alloc::Global;
+use std::env::{self, Env};
+use std::process::ExitCode;
+use std::rt::Clock as SystemClock;
+use std::sync::Wait;
+use std::thread::Threads;
+use vx_buses::{BusPass, Buses, start_buses};
+use vx_io::{Accepted, Bound, Listen, Net, TcpNet, TcpPort};
+use vx_session::Room;
+
+/// The exit status where the words aren't a port and a number of links.
+const USAGE: u8 = 1;
+
+/// The exit status where the port can't be had.
+const NO_PORT: u8 = 3;
+
+/// The exit status where there is no memory, no link came, or one ended otherwise than by its own end.
+const FAILED: u8 = 5;
+
+/// How many links are served.
+#[derive(Clone, Copy, Debug)]
+enum Links {
+    One,
+    Two,
+}
+
+/// The port, and how many links.
+fn asked_of<R: Env + AllocGlobal>(rt: &R) -> Option<(u16, Links)> {
+    let words: Vec<String> = env::args(rt).ok()?.skip(1).collect(rt.alloc()).ok()?;
+    let [port, links] = words.as_slice() else {
+        return None;
+    };
+    let links = match links.as_str() {
+        "1" => Links::One,
+        "2" => Links::Two,
+        _ => return None,
+    };
+    Some((port.parse().ok()?, links))
+}
+
+/// The next link, and a room for its session.
+fn next_comer(alloc: Global, port: &mut TcpPort) -> Option<Comer> {
+    let room = Room::new(alloc).ok()?;
+    match port.accept() {
+        Accepted::Peer(link) => Some(Comer { link, room }),
+        Accepted::Ended | Accepted::Failed => None,
+    }
+}
+
+/// Serves the links that come, and answers whether each was served to its end; none where one didn't come.
+fn serve_links<R: Threads + SystemClock + Wait + Copy + Sync>(
+    rt: &R,
+    alloc: Global,
+    buses: &Buses<Bench>,
+    passes: BusPass<Bench>,
+    port: &mut TcpPort,
+    links: Links,
+) -> Option<bool>
+    requires { Each IsFirst (passes_shown passes) (gates_shown buses.now) }
+{
+    let comer = next_comer(alloc, port)?;
+    match links {
+        Links::One => {
+            let (_, well) = serve(rt, alloc, buses, passes, comer);
+            Some(well)
+        }
+        Links::Two => {
+            let other = next_comer(alloc, port)?;
+            Some(serve_both(rt, alloc, buses, passes, (comer, other)))
+        }
+    }
+}
+
+fn main(rt: HostRuntime) -> ExitCode {
+    let Some((port, links)) = asked_of(&rt) else {
+        return ExitCode::from(USAGE);
+    };
+    let Bound::Port(mut port) = TcpNet::new(&rt).bind(port) else {
+        return ExitCode::from(NO_PORT);
+    };
+    let Some(rack) = rack_of(rt.alloc()) else {
+        return ExitCode::from(FAILED);
+    };
+    let Some((buses, passes)) = start_buses(rt.alloc(), rack) else {
+        return ExitCode::from(FAILED);
+    };
+    if println!(rt; "ready").is_err() {
+        return ExitCode::from(FAILED);
+    }
+    match serve_links(&rt, rt.alloc(), &buses, passes, &mut port, links) {
+        Some(true) => ExitCode::SUCCESS,
+        _ => ExitCode::from(FAILED),
+    }
+}
