@@ -1,0 +1,143 @@
+-- What a trace was found to be, and how a check ends that tells it.
+use Rattle.std.proofs.Common.{◌≡◌, ◌≢◌, ℕ, suc, ◌+◌, ◌==◌, true, false, cond, List, [], ◌∷◌, length, map, ◌⊎◌, inl, inr, refl, sym, ap, ◌∙◌, subst, arith}
+use Rattle.std.proofs.lemmas.Bool.{eqb-true}
+use Rattle.std.proofs.KnownBytes.{Consumes-nil}
+use Rattle.vx_text.specs.Reading.{GivesAll, GivesTooMuch, GivesUpTo}
+use Rattle.vx_text.specs.TextLines.{lines}
+use Rattle.vx_check.specs.declared.limits.TheConstants.{TRACE_MAX}
+use Rattle.vx_check.specs.declared.cause.Cause.{Cause}
+use Rattle.vx_check.specs.declared.cause.Cause.TheVariants as cause
+use Rattle.vx_check.specs.declared.run.Status.{Status}
+use Rattle.vx_check.specs.declared.run.Status.TheVariants as status
+use Rattle.vx_check.specs.declared.run.Verdict.{Verdict}
+use Rattle.vx_check.specs.declared.run.Verdict.TheVariants as verdict
+use Rattle.vx_check.specs.CheckState.{beginning}
+use Rattle.vx_check.specs.History.{Through, Stops, Walks, Lawful, Faulty, Tells}
+use Rattle.vx_check.specs.Laws.{LawfulLaw}
+use Rattle.vx_check.specs.Outcome.{Ends, IsUnread, ReadsLegal, ReadsSpoiled, ReadsFront, Spoils, ReadsTooMuch, IsOutcome, legal_line, spoiled_line, long_line, usage_line}
+use Rattle.vx_check.specs.Telling.{IsJudged, IsFrontJudged, IsTold, PutsLine, verdict_of}
+use Rattle.vx_check.specs.declared.walk.Far.{Far}
+use Rattle.vx_check.specs.declared.walk.Far.TheVariants as far
+use Rattle.vx_check.specs.Walking.{EndsWalk, GoesThrough}
+
+-- ---- whole traces
+
+-- all lines were taken, and the trace is at its end
+pub judged-legal : LawfulLaw → (bytes : List ℕ) (texts : List (List ℕ)) (next : ℕ) → texts ≡ lines bytes → GoesThrough texts next true → IsJudged bytes verdict.Legal
+judged-legal law bytes texts next same through =
+    let all : GoesThrough (lines bytes) next true = subst (λ ts. GoesThrough ts next true) same through in
+    let tells : Tells bytes (Lawful all.events) = record {
+      far = Through all.events all.after;
+      walks = all.walks;
+      told_is = ap (λ b. cond b (Lawful all.events) (Faulty (length (lines bytes) + 1) cause.Place)) all.over_is;
+    } in
+    (all.events, tells, law bytes all.events tells)
+
+-- all lines were taken, and it isn't
+pub judged-open : (bytes : List ℕ) (texts : List (List ℕ)) (next : ℕ) → texts ≡ lines bytes → GoesThrough texts next false → Tells bytes (Faulty next cause.Place)
+judged-open bytes texts next same through =
+    let all : GoesThrough (lines bytes) next false = subst (λ ts. GoesThrough ts next false) same through in
+    record {
+      far = Through all.events all.after;
+      walks = all.walks;
+      told_is = ap (λ n. Faulty n cause.Place) all.next_is
+          ∙ ap (λ b. cond b (Lawful all.events) (Faulty (length (lines bytes) + 1) cause.Place)) all.over_is;
+    }
+
+-- a line has a cause against it
+pub judged-stops : (bytes : List ℕ) (texts : List (List ℕ)) (line : ℕ) (why : Cause) → texts ≡ lines bytes → Walks 1 beginning texts (Stops line why) → Tells bytes (Faulty line why)
+judged-stops bytes texts line why same walks = record { far = Stops line why; walks = subst (λ ts. Walks 1 beginning ts (Stops line why)) same walks; told_is = refl }
+
+-- ---- how a check ends
+
+-- the line of a legal trace
+told-legal : (words : List (List ℕ)) (ends : Ends) (result : Status) → ReadsLegal words ends → PutsLine status.Legal legal_line ends.sink ends.sink_after result → IsOutcome words ends result
+told-legal words ends result reads (inl (is, wrote)) = subst (IsOutcome words ends) (sym is) (reads, wrote)
+told-legal words ends result reads (inr (is, stops)) = subst (IsOutcome words ends) (sym is) (inl (reads, stops))
+
+-- that of one that isn't
+told-spoiled : (words : List (List ℕ)) (ends : Ends) (line : ℕ) (why : Cause) (result : Status) → Spoils words ends line why
+    → PutsLine status.Spoiled (spoiled_line line why) ends.sink ends.sink_after result → IsOutcome words ends result
+told-spoiled words ends line why result spoils (inl (is, wrote)) = subst (IsOutcome words ends) (sym is) (line, why, spoils, wrote)
+told-spoiled words ends line why result spoils (inr (is, stops)) = subst (IsOutcome words ends) (sym is) (inr (inr (inl (line, why, spoils, stops))))
+
+told-long : (words : List (List ℕ)) (ends : Ends) (result : Status) → ReadsTooMuch words ends → PutsLine status.TooLong long_line ends.sink ends.sink_after result → IsOutcome words ends result
+told-long words ends result reads (inl (is, wrote)) = subst (IsOutcome words ends) (sym is) (reads, wrote)
+told-long words ends result reads (inr (is, stops)) = subst (IsOutcome words ends) (sym is) (inr (inr (inr (reads, stops))))
+
+pub told-usage : (words : List (List ℕ)) (ends : Ends) (result : Status) → IsUnread words ends → PutsLine status.Usage usage_line ends.sink ends.sink_after result → IsOutcome words ends result
+told-usage words ends result unread (inl (is, wrote)) = subst (IsOutcome words ends) (sym is) (unread, wrote)
+told-usage words ends result unread (inr (is, stops)) = subst (IsOutcome words ends) (sym is) (inr (inl (unread, stops)))
+
+-- memory ran out behind the reading
+told-lost : (words : List (List ℕ)) (ends : Ends) (result : Status) → words ≡ [] → GivesUpTo (TRACE_MAX + 1) ends.source ends.source_after
+    → (result ≡ status.NoMemory) × (ends.sink_after ≡ ends.sink) → IsOutcome words ends result
+told-lost words ends result none read told = subst (IsOutcome words ends) (sym told.0) (record { no_words = none; read = read; unwritten = told.1 })
+
+all-read : (ends : Ends) (bytes : List ℕ) → GivesAll TRACE_MAX ends.source ends.source_after bytes → GivesUpTo (TRACE_MAX + 1) ends.source ends.source_after
+all-read ends bytes read = record { bytes = bytes; given = read.given; within = (let low = read.within in omega arith) }
+
+much-read : (ends : Ends) (bytes : List ℕ) → GivesTooMuch TRACE_MAX ends.source ends.source_after bytes → GivesUpTo (TRACE_MAX + 1) ends.source ends.source_after
+much-read ends bytes read = record { bytes = bytes; given = read.given; within = read.within }
+
+-- a whole trace
+pub whole-ended : (words : List (List ℕ)) (ends : Ends) (bytes : List ℕ) (found : Verdict) (result : Status) → words ≡ []
+    → GivesAll TRACE_MAX ends.source ends.source_after bytes → IsJudged bytes found → IsTold found ends.sink ends.sink_after result → IsOutcome words ends result
+whole-ended words ends bytes verdict.Legal result none read (events, tells, legal) told =
+    told-legal words ends result (record { no_words = none; bytes = bytes; read = read; events = events; tells = tells; legal = legal }) told
+whole-ended words ends bytes (verdict.Spoiled line why) result none read tells told =
+    told-spoiled words ends line why result (record { no_words = none; reads = inl (record { bytes = bytes; read = read; tells = tells }) }) told
+whole-ended words ends bytes verdict.TooLong result none read judged told = absurd judged
+whole-ended words ends bytes verdict.NoMemory result none read judged told = told-lost words ends result none (all-read ends bytes read) told
+
+-- the front of a longer one
+pub front-ended : (words : List (List ℕ)) (ends : Ends) (bytes : List ℕ) (found : Verdict) (result : Status) → words ≡ []
+    → GivesTooMuch TRACE_MAX ends.source ends.source_after bytes → IsFrontJudged bytes found → IsTold found ends.sink ends.sink_after result → IsOutcome words ends result
+front-ended words ends bytes verdict.Legal result none read judged told = absurd judged
+front-ended words ends bytes (verdict.Spoiled line why) result none read begins told =
+    told-spoiled words ends line why result (record { no_words = none; reads = inr (record { bytes = bytes; read = read; begins = begins }) }) told
+front-ended words ends bytes verdict.TooLong result none read (events, after, begins) told =
+    told-long words ends result (record { no_words = none; bytes = bytes; read = read; events = events; after = after; begins = begins }) told
+front-ended words ends bytes verdict.NoMemory result none read judged told = told-lost words ends result none (much-read ends bytes read) told
+
+-- ---- words
+
+pub no-words : {X : Type 0} (f : X → List ℕ) (xs : List X) → (length xs == 0) ≡ true → map f xs ≡ []
+no-words f [] is = refl
+no-words f (x ∷ xs) is = let none : suc (length xs) ≡ 0 = eqb-true (suc (length xs)) 0 is in absurd (omega arith)
+
+pub some-words : {X : Type 0} (f : X → List ℕ) (xs : List X) → (length xs == 0) ≡ false → map f xs ≢ []
+some-words f [] is same = cc
+some-words f (x ∷ xs) is same = cc
+
+-- ---- what was read, whatever comes of it
+
+unread : (ends : Ends) → ends.source_after ≡ ends.source → GivesUpTo (TRACE_MAX + 1) ends.source ends.source_after
+unread ends same =
+    subst (GivesUpTo (TRACE_MAX + 1) ends.source) (sym same) (record { bytes = []; given = Consumes-nil ends.source.bytes; within = omega arith })
+
+spoils-read : (words : List (List ℕ)) (ends : Ends) (line : ℕ) (why : Cause) → Spoils words ends line why → GivesUpTo (TRACE_MAX + 1) ends.source ends.source_after
+spoils-read words ends line why spoils = by-reads spoils.reads
+  where
+    by-reads : ReadsSpoiled ends line why ⊎ ReadsFront ends line why → GivesUpTo (TRACE_MAX + 1) ends.source ends.source_after
+    by-reads (inl reads) = all-read ends reads.bytes reads.read
+    by-reads (inr reads) = much-read ends reads.bytes reads.read
+
+pub outcome-read : (words : List (List ℕ)) (ends : Ends) (how : Status) → IsOutcome words ends how → GivesUpTo (TRACE_MAX + 1) ends.source ends.source_after
+outcome-read words ends status.Legal (reads, wrote) = all-read ends reads.bytes reads.read
+outcome-read words ends status.Usage (not_read, wrote) = unread ends not_read.unread
+outcome-read words ends status.SourceFailed (reads, rose) = reads.read
+outcome-read words ends status.Spoiled (line, why, spoils, wrote) = spoils-read words ends line why spoils
+outcome-read words ends status.SinkFailed (inl (reads, stops)) = all-read ends reads.bytes reads.read
+outcome-read words ends status.SinkFailed (inr (inl (not_read, stops))) = unread ends not_read.unread
+outcome-read words ends status.SinkFailed (inr (inr (inl (line, why, spoils, stops)))) = spoils-read words ends line why spoils
+outcome-read words ends status.SinkFailed (inr (inr (inr (reads, stops)))) = much-read ends reads.bytes reads.read
+outcome-read words ends status.NoMemory reads = reads.read
+outcome-read words ends status.TooLong (reads, wrote) = much-read ends reads.bytes reads.read
+
+-- what becomes of a walk along all lines
+pub judged-by : LawfulLaw → (bytes : List ℕ) (texts : List (List ℕ)) (walked : Far) → texts ≡ lines bytes → EndsWalk texts walked → IsJudged bytes (verdict_of walked)
+judged-by law bytes texts (far.Through next true) same ends = judged-legal law bytes texts next same ends
+judged-by law bytes texts (far.Through next false) same ends = judged-open bytes texts next same ends
+judged-by law bytes texts (far.Stops line why) same ends = judged-stops bytes texts line why same ends
+judged-by law bytes texts far.NoMemory same ends = tt

@@ -1,0 +1,10 @@
+use Rattle.vx_check.proofs.FormedRuns.{formed-ends}
+use Rattle.vx_check.proofs.Judged.{outcome-read}
+use Rattle.vx_check.proofs.run.check_run.Goals as goal
+
+-- where the trace of a formed run is given, how a check ends leaves no other status
+pub returns-clause-formed : goal.returns-clause-formed
+returns-clause-formed g c = formed-ends c.formed_runs.ensures.tells c.one_history.ensures.whole _ _ _ (c.check.result, c.number.ensures, c.check.ensures.outcome)
+
+pub returns-clause-read : goal.returns-clause-read
+returns-clause-read g c = outcome-read _ _ c.check.result c.check.ensures.outcome

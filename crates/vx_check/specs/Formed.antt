@@ -1,0 +1,63 @@
+-- What the traces of formed runs tell.
+use Rattle.std.specs.Prelude.{◌≡◌, ◌≤◌, ◌<◌, ◌^◌, ℕ, Bool, true, false, List, [], ◌++◌, length, filter, Some, ◌⊎◌}
+use Rattle.std.specs.List.{All}
+use Rattle.vx_io_traits.specs.Faults.{Rose}
+use Rattle.vx_script.specs.declared.Version.TheVariants as version
+use Rattle.vx_trace.specs.Output.{Done}
+use Rattle.vx_trace.specs.Text.{HasRanges, line_text}
+use Rattle.vx_rules.specs.Legal.{IsLegal}
+use Rattle.vx_flow.specs.Event.{Event}
+use Rattle.vx_flow.specs.Event as event
+use Rattle.vx_flow.specs.Gather.{gather}
+use Rattle.vx_run.specs.Item.{Item, events}
+use Rattle.vx_run.specs.RunText.{item_lines2, text}
+use Rattle.vx_run.specs.Forming.{IsFormed}
+use Rattle.vx_check.specs.declared.limits.TheConstants.{TRACE_MAX}
+use Rattle.vx_check.specs.CheckState.{abort_port}
+use Rattle.vx_check.specs.History.{Lawful, Tells}
+use Rattle.vx_check.specs.Outcome.{Ends}
+
+-- an item can be printed: its moment fits 64 bits, and the numbers and bytes of its lines are such as lines hold
+pub record IsPrintable (item : Item) : Type 0 where
+  pub moment : item.moment < 2 ^ 64
+  pub lines : All HasRanges (item_lines2 item)
+
+-- the bytes of the trace of a run
+abbrev pub run_trace : List Item → List ℕ
+run_trace items = text version.Two items ++ line_text Done
+
+-- an event that a trace tells: any but that a dial is asked for, which is no entry of the gateway of one thread
+abbrev pub is_told : Event → Bool
+is_told (event.Dial conn now) = false
+is_told _ = true
+
+-- the events of a run that its trace tells
+abbrev pub told_events : List Item → List Event
+told_events items = filter is_told (events items)
+
+-- the trace of a formed run tells its events
+abbrev pub FormedLaw : Type 0
+FormedLaw = (items : List Item) → IsFormed abort_port items → All IsPrintable items → Tells (run_trace items) (Lawful (told_events items))
+
+-- those events gather to the same history of one thread as all events of the run
+abbrev pub ToldLaw : Type 0
+ToldLaw = (items : List Item) → gather (told_events items) ≡ gather (events items)
+
+-- so all events of a formed run gather to a legal history
+abbrev pub FormedLegalLaw : Type 0
+FormedLegalLaw = (items : List Item) → IsFormed abort_port items → All IsPrintable items → IsLegal abort_port (gather (events items))
+
+-- there are no words; the source has exactly the trace of a formed run to give, which isn't too long; and neither count of faults rose
+pub record GivesRun (words : List (List ℕ)) (ends : Ends) : Type 0 where
+  pub no_words : words ≡ []
+  pub items : List Item
+  pub formed : IsFormed abort_port items
+  pub printable : All IsPrintable items
+  pub few : length (run_trace items) ≤ TRACE_MAX
+  pub given : ends.source.bytes ≡ Some (run_trace items)
+  pub read_well : Rose ends.source.faults ends.source_after.faults → ⊥
+  pub written_well : Rose ends.sink.faults ends.sink_after.faults → ⊥
+
+-- where the trace of a formed run is given, it is legal, or memory ran out
+abbrev pub EndsFormed : List (List ℕ) → Ends → ℕ → Type 0
+EndsFormed words ends number = GivesRun words ends → (number ≡ 0) ⊎ (number ≡ 5)

@@ -1,0 +1,51 @@
+-- What a trace was found to be, and how that is told.
+use Rattle.std.specs.Prelude.{◌≡◌, ℕ, true, false, ⊤, List, take, ◌⊎◌}
+use Rattle.std.specs.Io.KnownBytes.{Appends}
+use Rattle.vx_text.specs.Ends.{End}
+use Rattle.vx_text.specs.Writing.{StopsIn}
+use Rattle.vx_rules.specs.Legal.{IsLegal}
+use Rattle.vx_flow.specs.Event.{Event}
+use Rattle.vx_flow.specs.Gather.{gather}
+use Rattle.vx_check.specs.declared.limits.TheConstants.{TRACE_MAX}
+use Rattle.vx_check.specs.declared.cause.Cause.TheVariants as cause
+use Rattle.vx_check.specs.declared.walk.Far.{Far}
+use Rattle.vx_check.specs.declared.walk.Far.TheVariants as far
+use Rattle.vx_check.specs.declared.run.Status.{Status}
+use Rattle.vx_check.specs.declared.run.Status.TheVariants as status
+use Rattle.vx_check.specs.declared.run.Verdict.{Verdict}
+use Rattle.vx_check.specs.declared.run.Verdict.TheVariants as verdict
+use Rattle.vx_check.specs.CheckState.{CheckState, abort_port}
+use Rattle.vx_check.specs.History.{Lawful, Faulty, Through, Stops, Tells, Begins}
+use Rattle.vx_check.specs.Outcome.{legal_line, spoiled_line, long_line}
+
+-- what the walk along all lines of a trace finds
+abbrev pub verdict_of : Far → Verdict
+verdict_of (far.Through next true) = verdict.Legal
+verdict_of (far.Through next false) = verdict.Spoiled next cause.Place
+verdict_of (far.Stops line why) = verdict.Spoiled line why
+verdict_of far.NoMemory = verdict.NoMemory
+
+-- what a whole trace was found to be
+abbrev pub IsJudged : List ℕ → Verdict → Type 0
+IsJudged bytes verdict.Legal = (events : List Event) × Tells bytes (Lawful events) × IsLegal abort_port (gather events)
+IsJudged bytes (verdict.Spoiled line why) = Tells bytes (Faulty line why)
+IsJudged bytes verdict.TooLong = ⊥
+IsJudged bytes verdict.NoMemory = ⊤
+
+-- what the front of a longer trace was found to be
+abbrev pub IsFrontJudged : List ℕ → Verdict → Type 0
+IsFrontJudged bytes verdict.Legal = ⊥
+IsFrontJudged bytes (verdict.Spoiled line why) = Begins (take TRACE_MAX bytes) (Stops line why)
+IsFrontJudged bytes verdict.TooLong = (events : List Event) × (after : CheckState) × Begins (take TRACE_MAX bytes) (Through events after)
+IsFrontJudged bytes verdict.NoMemory = ⊤
+
+-- a line was written by a check that ends so, or the sink failed in it
+abbrev pub PutsLine : Status → List ℕ → End → End → Status → Type 0
+PutsLine how line before after result = ((result ≡ how) × Appends before.bytes after.bytes line) ⊎ ((result ≡ status.SinkFailed) × StopsIn before after line)
+
+-- what a trace was found to be was told
+abbrev pub IsTold : Verdict → End → End → Status → Type 0
+IsTold verdict.Legal before after result = PutsLine status.Legal legal_line before after result
+IsTold (verdict.Spoiled line why) before after result = PutsLine status.Spoiled (spoiled_line line why) before after result
+IsTold verdict.TooLong before after result = PutsLine status.TooLong long_line before after result
+IsTold verdict.NoMemory before after result = (result ≡ status.NoMemory) × (after ≡ before)

@@ -1,0 +1,40 @@
+//! Why a line of a trace isn't taken.
+ghost use Rattle.std.specs.Prelude.{◌≡◌};
+ghost use Rattle.vx_check.specs.Outcome.{cause_name};
+
+/// What is against a line of a trace. Where several causes are, the one that stands first here counts.
+#[derive(Clone, Copy, Debug, PartialEq, Eq)]
+pub enum Cause {
+    /// Version 2 has no such line.
+    Form,
+    /// Its moment is below that of an earlier line.
+    Moment,
+    /// It can't stand at its place.
+    Place,
+    /// Its bytes aren't the record that they have to be.
+    Reply,
+    /// The gateway of one thread doesn't do so.
+    Entry,
+}
+
+impl Cause {
+    /// The name that is printed.
+    pub(crate) fn word(self) -> &'static [u8]
+        ensures { result.now ≡ cause_name self }
+    {
+        match self {
+            Cause::Form => b"form",
+            Cause::Moment => b"moment",
+            Cause::Place => b"place",
+            Cause::Reply => b"reply",
+            Cause::Entry => b"entry",
+        }
+    }
+}
+
+/// Why a line isn't taken, or can't be looked at.
+#[derive(Clone, Copy, Debug, PartialEq, Eq)]
+pub(crate) enum Stop {
+    Spoiled(Cause),
+    NoMemory,
+}

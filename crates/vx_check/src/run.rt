@@ -1,0 +1,239 @@
+//! A whole check: the words, the trace, its lines, the line that is printed, and the status.
+ghost use Rattle.std.specs.Prelude.{◌≡◌, ℕ, List, ◌+◌, ◌<◌, ◌^◌, ◌≤◌, ◌++◌, length, map, take, string_bytes};
+ghost use Rattle.vx_text.specs.Reading.{GivesUpTo};
+ghost use Rattle.vx_text.specs.TextLines.{lines};
+ghost use Rattle.vx_check.specs.Shown.{whole_lines};
+ghost use Rattle.vx_check.specs.declared.limits.TheConstants.{TRACE_MAX};
+ghost use Rattle.vx_check.specs.Formed.{EndsFormed};
+ghost use Rattle.vx_check.specs.Outcome.{EndsSo, IsOutcome, status_number, spoiled_line};
+ghost use Rattle.vx_check.specs.Telling.{PutsLine, IsJudged, IsFrontJudged, IsTold, verdict_of};
+
+use crate::cause::Cause;
+use crate::formed::formed_runs;
+use crate::laws::{lawful_histories, one_history};
+use crate::limits::TRACE_MAX;
+use crate::trace::{Trace, read_trace};
+use crate::walk::{Far, end_lines, walk};
+use itoa::Buffer;
+use std::alloc::Global;
+use vx_io_traits::{Sink, Source};
+use vx_text::put_all;
+
+/// How a check ended, as the program's exit status tells it.
+#[derive(Clone, Copy, Debug, PartialEq, Eq)]
+pub(crate) enum Status {
+    /// 0: the trace's history is legal.
+    Legal,
+    /// 1: there are words.
+    Usage,
+    /// 2: the source failed.
+    SourceFailed,
+    /// 3: a line has a cause against it.
+    Spoiled,
+    /// 4: the sink failed.
+    SinkFailed,
+    /// 5: memory ran out.
+    NoMemory,
+    /// 6: the trace is too long.
+    TooLong,
+}
+
+impl Status {
+    /// The exit status.
+    fn number(self) -> u8
+        ensures { result ≡ status_number self }
+    {
+        match self {
+            Status::Legal => 0,
+            Status::Usage => 1,
+            Status::SourceFailed => 2,
+            Status::Spoiled => 3,
+            Status::SinkFailed => 4,
+            Status::NoMemory => 5,
+            Status::TooLong => 6,
+        }
+    }
+}
+
+/// What a trace is.
+#[derive(Clone, Copy, Debug)]
+pub(crate) enum Verdict {
+    Legal,
+    Spoiled { line: u64, cause: Cause },
+    TooLong,
+    NoMemory,
+}
+
+/// Room for the line that names a line, in bytes: `line`, a number of 20 digits, a cause of 6 letters, two spaces and LF.
+const LINE_ROOM: usize = 33;
+
+/// Writes a piece behind the first `at` bytes of `text`, and answers where it ends.
+fn put_piece(piece: &[u8], at: usize, text: &mut [u8]) -> usize
+    requires { at + length piece.now ≤ length text.old }
+    ensures text { take result text.new ≡ take at text.old ++ piece.now }
+    ensures end { result ≡ at + length piece.now }
+    ensures len { length text.new ≡ length text.old }
+{
+    let end = at + piece.len();
+    text[at..end].copy_from_slice(piece);
+    end
+}
+
+/// The line that names a line and its cause, at the front of the room.
+fn spoiled_line(line: u64, cause: Cause, room: &mut [u8; LINE_ROOM]) -> &[u8]
+    ensures { result.now ≡ spoiled_line line cause }
+{
+    let mut buffer = Buffer::new();
+    let end = put_piece(b"line ", 0, room);
+    let end = put_piece(buffer.format(line).as_bytes(), end, room);
+    let end = put_piece(b" ", end, room);
+    let end = put_piece(cause.word(), end, room);
+    let end = put_piece(b"\n", end, room);
+    &room[..end]
+}
+
+/// Writes the line of a check that ends so.
+fn put_line<K: Sink>(sink: &mut K, line: &[u8], how: Status) -> Status
+    ensures { PutsLine how line.now
+        (record { bytes = K.taken sink.old; faults = K.faults sink.old })
+        (record { bytes = K.taken sink.new; faults = K.faults sink.new }) result }
+{
+    match put_all(sink, line) {
+        Ok(()) => how,
+        Err(_) => Status::SinkFailed,
+    }
+}
+
+/// What the walk along all lines of a trace finds.
+fn verdict_of(far: Far) -> Verdict
+    ensures { result ≡ verdict_of far }
+{
+    match far {
+        Far::Through { over: true, .. } => Verdict::Legal,
+        Far::Through { next, over: false } => Verdict::Spoiled {
+            line: next,
+            cause: Cause::Place,
+        },
+        Far::Stops { line, cause } => Verdict::Spoiled { line, cause },
+        Far::NoMemory => Verdict::NoMemory,
+    }
+}
+
+/// What a whole trace is.
+fn judge_whole(alloc: Global, mut trace: Vec<u8>) -> Verdict
+    requires { length trace.items ≤ TRACE_MAX }
+    ensures { IsJudged trace.items result }
+{
+    match end_lines(&mut trace) {
+        Ok(()) => judge_ended(alloc, &trace),
+        Err(_) => Verdict::NoMemory,
+    }
+}
+
+/// What a whole trace is, whose lines are ended.
+fn judge_ended(alloc: Global, text: &[u8]) -> Verdict
+    requires { length text.now < 2 ^ 31 }
+    ensures { (bytes : List ℕ) → whole_lines text.now ≡ lines bytes → IsJudged bytes result }
+{
+    lawful_histories();
+    verdict_of(walk(alloc, text))
+}
+
+/// What a trace is of which one byte more was read than it may have.
+fn judge_front(alloc: Global, trace: &[u8]) -> Verdict
+    requires { TRACE_MAX ≤ length trace.now }
+    ensures { IsFrontJudged trace.now result }
+{
+    match walk(alloc, &trace[..TRACE_MAX]) {
+        Far::Through { .. } => Verdict::TooLong,
+        Far::Stops { line, cause } => Verdict::Spoiled { line, cause },
+        Far::NoMemory => Verdict::NoMemory,
+    }
+}
+
+/// Prints what a trace is.
+fn tell<K: Sink>(sink: &mut K, verdict: Verdict) -> Status
+    ensures { IsTold verdict
+        (record { bytes = K.taken sink.old; faults = K.faults sink.old })
+        (record { bytes = K.taken sink.new; faults = K.faults sink.new }) result }
+{
+    match verdict {
+        Verdict::Legal => put_line(sink, b"legal\n", Status::Legal),
+        Verdict::Spoiled { line, cause } => {
+            let mut room = [0; LINE_ROOM];
+            put_line(sink, spoiled_line(line, cause, &mut room), Status::Spoiled)
+        }
+        Verdict::TooLong => put_line(sink, b"long\n", Status::TooLong),
+        Verdict::NoMemory => Status::NoMemory,
+    }
+}
+
+/// Checks the trace that the source gives, where there are no words.
+fn check<S: Source, K: Sink>(
+    alloc: Global,
+    words: &[String],
+    source: &mut S,
+    sink: &mut K,
+) -> Status
+    ensures outcome { IsOutcome (map string_bytes words.now) (record {
+      source = record { bytes = S.left source.old; faults = S.faults source.old };
+      source_after = record { bytes = S.left source.new; faults = S.faults source.new };
+      sink = record { bytes = K.taken sink.old; faults = K.faults sink.old };
+      sink_after = record { bytes = K.taken sink.new; faults = K.faults sink.new };
+    }) result }
+{
+    if !words.is_empty() {
+        return put_line(sink, b"usage: vxcheck\n", Status::Usage);
+    }
+    match read_trace(alloc, source) {
+        Trace::Whole(trace) => tell(sink, judge_whole(alloc, trace)),
+        Trace::Longer(trace) => tell(sink, judge_front(alloc, &trace)),
+        Trace::Failed => Status::SourceFailed,
+        Trace::NoMemory => Status::NoMemory,
+    }
+}
+
+/// All that the program `vxcheck` does, without words: it reads a trace of version 2 to its end, says whether the history that the
+/// trace tells is one of the gateway of one thread, and answers the exit status.
+///
+/// - 0, `legal`: each line tells what can happen at its place, the first is `vxtrace 2` and the last is `done`; the events of the lines
+///   gather to a legal history.
+/// - 1, `usage: vxcheck`: there are words; the source isn't read.
+/// - 2, nothing printed: the source failed.
+/// - 3, `line N CAUSE`: this line, counted from 1, is the first that has a cause against it: `form`, version 2 has no such line;
+///   `moment`, its moment is below that of an earlier line; `place`, it can't stand there; `reply`, its bytes aren't the record that
+///   they have to be; `entry`, the gateway of one thread doesn't do so. Where `done` is missing, the line behind the last is named.
+/// - 4: the sink failed; a front of what was due was written.
+/// - 5, nothing printed: memory ran out.
+/// - 6, `long`: more than 1,073,741,824 bytes came before such a line ended.
+pub fn check_run<S: Source, K: Sink>(
+    alloc: Global,
+    words: &[String],
+    source: &mut S,
+    sink: &mut K,
+) -> u8
+    ensures outcome { EndsSo (map string_bytes words.now) (record {
+      source = record { bytes = S.left source.old; faults = S.faults source.old };
+      source_after = record { bytes = S.left source.new; faults = S.faults source.new };
+      sink = record { bytes = K.taken sink.old; faults = K.faults sink.old };
+      sink_after = record { bytes = K.taken sink.new; faults = K.faults sink.new };
+    }) result }
+
+    // Whatever comes of it, no more than 1,073,741,825 bytes are read.
+    ensures read { GivesUpTo (TRACE_MAX + 1)
+        (record { bytes = S.left source.old; faults = S.faults source.old })
+        (record { bytes = S.left source.new; faults = S.faults source.new }) }
+
+    // Where there are no words, the source gives the trace of a formed run, which isn't too long, and neither count of faults rose, the
+    // status is 0 or 5.
+    ensures formed { EndsFormed (map string_bytes words.now) (record {
+      source = record { bytes = S.left source.old; faults = S.faults source.old };
+      source_after = record { bytes = S.left source.new; faults = S.faults source.new };
+      sink = record { bytes = K.taken sink.old; faults = K.faults sink.old };
+      sink_after = record { bytes = K.taken sink.new; faults = K.faults sink.new };
+    }) result }
+{
+    formed_runs();
+    one_history();
+    check(alloc, words, source, sink).number()
+}
