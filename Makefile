@@ -9,6 +9,7 @@ PREFIX = /usr/local
 
 PLAYER = crates/vxplay/out/vxplay
 SERVER = crates/vxgate/out/vxgate
+CHECKER = crates/vxcheck/out/vxcheck
 CLIENT = crates/vxcall/out/vxcall
 MAPPER = crates/vxmap/out/vxmap
 BUSES = crates/vxbuses/out/vxbuses
@@ -18,11 +19,11 @@ BUSES_RATE = crates/vx_buses_rate/out/vx_buses_rate
 LOOP = crates/vx_loop_once/out/vx_loop_once
 
 # what `make bench` measures beside this server, this gate and these buses, as 'NAME=PROGRAM .. --gate NAME=PROGRAM --buses
-# NAME=PROGRAM', and beside this player, as 'NAME=PROGRAM ..'
+# NAME=PROGRAM', and beside this player, as 'NAME=PROGRAM ..', with '--check NAME=PROGRAM ..' behind them for checkers
 OTHERS =
 PLAYERS =
 
-.PHONY: try play serve install player server client mapper buses guard rate buses-rate loop test bench tables memory
+.PHONY: try play serve install player checker server client mapper buses guard rate buses-rate loop test bench tables memory
 
 # the same script without a proof
 try:
@@ -38,14 +39,17 @@ serve: server
 	$(SERVER) $(OPTIONS) < $(BENCH)
 
 # PREFIX=$HOME/.local puts them where no other user is concerned.
-install: player server client mapper buses guard
+install: player checker server client mapper buses guard
 	install -d $(DESTDIR)$(PREFIX)/bin
-	install -m 755 $(PLAYER) $(SERVER) $(CLIENT) $(MAPPER) $(BUSES) $(GUARD) $(DESTDIR)$(PREFIX)/bin
+	install -m 755 $(PLAYER) $(CHECKER) $(SERVER) $(CLIENT) $(MAPPER) $(BUSES) $(GUARD) $(DESTDIR)$(PREFIX)/bin
 
 # Each of these proves and builds a program and all below it; where nothing changed, it only runs the program once. The lines
 # of rt itself go to standard error.
 player:
 	cd crates/vxplay && rt run -- run < /dev/null > /dev/null
+
+checker:
+	cd crates/vxcheck && rt run < stdin > /dev/null
 
 server:
 	cd crates/vxgate && rt run -- --version < /dev/null > /dev/null
@@ -80,9 +84,9 @@ loop:
 bench: server rate buses-rate tables
 	python3 bench/bench.py $(OTHERS) this=$(SERVER) --gate this=$(RATE) --buses this=$(BUSES_RATE)
 
-# steps with full tables, and a long run from a number
-tables: player
-	python3 bench/tables.py $(PLAYERS) this=$(PLAYER)
+# steps with full tables, long scripts, a long run from a number, and a long trace
+tables: player checker
+	python3 bench/tables.py this=$(PLAYER) $(PLAYERS) --check this=$(CHECKER)
 
 # It runs each of four programs once for each allocation that it makes, in some ten seconds, and wants a C compiler as cc.
 memory: player server client loop
