@@ -1,0 +1,5 @@
+//! Tests of the checker of traces.
+#![tactic(auto)]
+
+#[cfg(test)]
+mod check_tests;
