@@ -1,13 +1,14 @@
 #!/usr/bin/env python3
-"""Measures how long steps of a play take with full tables, scripts of 64 MiB in both versions, and a long run from a number, and
-prints one table in Markdown.
+"""Measures how long steps of a play take with full tables, scripts of 64 MiB in both versions, a long run from a number, and the
+check of a trace of 64 MiB, and prints one table in Markdown.
 
-    tables.py [OPTIONS] NAME=PROGRAM ..
+    tables.py [OPTIONS] NAME=PROGRAM .. [--check NAME=PROGRAM ..]
 
 Each NAME is a column, and PROGRAM a `vxplay`. The steps are taken with 64 core connections and 1,024 links, of which the last is
 made in the first row, while 63 calls wait, or 64 in the row of polls. A figure is what a play with the steps takes more than
 one without them. All programs of a row are measured in turn, run by run, so that what else the machine does meets all alike.
-A program that knows no run from a number, or no version 2, has no figure in those rows.
+A program that knows no run from a number, or no version 2, has no figure in those rows. `--check` adds a `vxcheck` to the column;
+the trace that it is given is one of the first player.
 """
 import argparse
 import os
@@ -31,6 +32,7 @@ def words():
     parser = argparse.ArgumentParser(description=__doc__.split("\n")[0])
     pair = lambda text: tuple(text.split("=", 1)) if "=" in text else parser.error(f"no NAME=PROGRAM: {text}")
     parser.add_argument("players", nargs="+", type=pair, metavar="NAME=PROGRAM")
+    parser.add_argument("--check", action="append", default=[], type=pair, metavar="NAME=PROGRAM")
     parser.add_argument("--runs", type=int, default=5, help="of each figure (5)")
     parser.add_argument("--steps", type=int, default=20000, help="of each kind in a play (20000)")
     parser.add_argument("--draws", type=int, default=1000000, help="of the run from a number, 0 for none (1000000)")
@@ -65,6 +67,7 @@ def filled():
     return lines
 
 
+TRACED_WRITES = 200  # of 64 KiB each, whose trace has some 64 MiB
 LAST = CONNECTIONS * LINKS_EACH  # the number of the last link
 
 
@@ -103,12 +106,12 @@ def play(program, script):
     return took
 
 
-def long_script():
-    """A script of nearly 64 MiB: writes of 64 KiB to one instrument, each with the polls of its slices. Lifted it is no longer than
-    a script may be."""
+def long_script(writes=500):
+    """A script of writes of 64 KiB to one instrument, each with the polls of its slices. With 500 it has nearly 64 MiB, and lifted
+    it is no longer than a script may be."""
     data = bytes(range(256)) * 256
     write = call(1, WRITE, struct.pack(">5I", 1, FOREVER, 0, 8, len(data)) + data)
-    return ["plug 5 echo\n", "up 1 core\n", create(1, 5)] + [write + "poll 1\n" * 256] * 500
+    return ["plug 5 echo\n", "up 1 core\n", create(1, 5)] + [write + "poll 1\n" * 256] * writes
 
 
 def lifted(program, script, path):
@@ -116,6 +119,18 @@ def lifted(program, script, path):
     with open(script, "rb") as source, open(path, "wb") as told:
         status = subprocess.run([program, "lift"], stdin=source, stdout=told).returncode
     return None if status else path
+
+
+def long_trace(program, folder):
+    """The path of a trace of some 64 MiB that a player prints; none where the program knows no version 2."""
+    script = written(folder, "script", long_script(TRACED_WRITES))
+    path = lifted(program, script, os.path.join(folder, "lifted"))
+    if path is None:
+        return None
+    trace = os.path.join(folder, "trace")
+    with open(path, "rb") as source, open(trace, "wb") as told:
+        subprocess.run([program, "run"], stdin=source, stdout=told, check=True)
+    return trace
 
 
 def step_time(program, scripts, steps):
@@ -176,6 +191,15 @@ def seconds(asked, players, what, figure):
     row("its memory, MiB", [told(found[name], 1, ".1f") for name in players])
 
 
+def checked(asked, names, trace):
+    """Two rows: the seconds that each checker takes for a trace, and the most memory that it had."""
+    checkers = dict(asked.check)
+    found = measured(lambda program: watched(program, [], trace), checkers, asked.runs)
+    told = lambda name, part, form: spread([run[part] for run in found[name]], form) if name in found else ""
+    row(f"the check of a trace of {os.path.getsize(trace) >> 20} MiB, seconds", [told(name, 0, ".2f") for name in names])
+    row("its memory, MiB", [told(name, 1, ".1f") for name in names])
+
+
 def written(folder, name, lines):
     path = os.path.join(folder, name)
     with open(path, "w") as script:
@@ -203,6 +227,10 @@ def main():
     if asked.draws:
         gen = ["gen", "7", str(asked.draws)]
         seconds(asked, players, f"a run of {asked.draws:,} draws", lambda program: watched(program, gen))
+    if asked.check:
+        with tempfile.TemporaryDirectory() as folder:
+            trace = long_trace(next(iter(players.values())), folder)
+            checked(asked, list(players), trace)
 
 
 if __name__ == "__main__":
