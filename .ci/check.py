@@ -1,16 +1,23 @@
 #!/usr/bin/env python3
 """Gives the checker `vxcheck`, the second word, the traces that the player `vxplay`, the first word, prints of the scripts of
-`examples/` and of `crates/vx_rows/data/`, in version 2 or lifted to it. It must find each of them legal, and none of them where the
-error of one reply is another. What differs, and at last 'N passed, M failed', goes to standard error; the status is 1 where
-something differs.
+`examples/` and of `crates/vx_rows/data/`, in version 2 or lifted to it, and of a hundred that are drawn here. It must find each of
+them legal, and none of them where the error of one reply is another. What differs, and at last 'N passed, M failed', goes to standard
+error; the status is 1 where something differs.
+
+Whole messages are composed from their words, by RFC 5531 and VXI-11.
 """
 import glob
 import os
+import random
+import re
+import struct
 import subprocess
 import sys
 
 PATIENCE = 60  # seconds
 HEAD = b"vxscript 2\n"
+DRAWN, STEPS = 100, 60
+CORE, ABORT, CREATE_LINK = (0x0607AF, 1), (0x0607B0, 1), 10
 LINK_UNKNOWN = 4  # no call is answered so whose answer is another
 # a reply's record begins with its mark, xid, 1, 0, two words of a verifier, and 0 (RFC 5531, section 9); then comes the error
 ERROR_AT = slice(56, 64)
@@ -18,15 +25,98 @@ ACCEPTED = slice(16, 56)
 WELL = b"00000001" + b"00000000" * 4
 
 
+# ---- drawn scripts
+
+
+def words(*numbers):
+    return struct.pack(f">{len(numbers)}I", *numbers)
+
+
+def opaque(data):
+    return words(len(data)) + data + bytes(-len(data) % 4)
+
+
+def record(xid, program, procedure, arguments):
+    message = words(xid, 0, 2, *program, procedure, 0, 0, 0, 0) + arguments
+    return words(1 << 31 | len(message)) + message
+
+
+def drawn_call(draw, conn, xid):
+    """A call on a core connection, as a record. Links are mostly its own first one, and times mostly short."""
+    link, flags = draw.choice([conn] * 8 + [1, 9]), draw.choice([0, 0, 1, 8, 9, 0x80])
+    wait, lock_wait = draw.choice([0, 5, 50, 1000]), draw.choice([0, 5, 50])
+    device = draw.choice([b"gpib0,5", b"gpib0,5", b"gpib0,6", b"gpib0,7", b"gpib0", b"gpib0,31", b"inst0"])
+    data = bytes(draw.randrange(256) for _ in range(draw.choice([0, 1, 3, 12, 300])))
+    generic = words(link, flags, lock_wait, wait)
+    command, size = draw.choice([(0x20000, 1), (0x20001, 2), (0x20002, 2), (0x20003, 2), (0x2000A, 4), (0x20010, 0), (0x20099, 0)])
+    value = draw.randrange(9).to_bytes(size, "big") if size else b""
+    procedure, arguments = draw.choice([
+        (0, b""),
+        (CREATE_LINK, words(0, draw.randrange(2), lock_wait) + opaque(device)),
+        (11, words(link, wait, lock_wait, flags) + opaque(data)),
+        (11, words(link, wait, lock_wait, 8) + opaque(b"*IDN?\n")),
+        (12, words(link, draw.choice([0, 1, 100]), wait, lock_wait, flags, draw.randrange(256))),
+        (draw.randrange(13, 18), generic),
+        (18, words(link, flags, lock_wait)),
+        (19, words(link)),
+        (20, words(link, draw.randrange(2)) + opaque(data[:40])),
+        (22, words(link, flags, wait, lock_wait, command, 1, size) + opaque(value)),
+        (23, words(link)),
+        (25, words(0x7F000001, 9012, 0x0607B1, 1, draw.choice([0, 0, 0, 1]))),
+        (26, b""),
+        (99, b""),
+    ])
+    return record(xid, CORE, procedure, arguments)
+
+
+def drawn_step(draw, number):
+    """A step of a script over three core connections and one of the abort channel."""
+    conn = draw.randrange(1, 4)
+    call = lambda: drawn_call(draw, conn, number).hex().upper()
+    abort = lambda: record(number, ABORT, 1, words(draw.randrange(1, 4))).hex().upper()
+    return draw.choice([
+        lambda: f"in {conn} {call()}",
+        lambda: f"in {conn} {call()}",
+        lambda: f"in {conn} {call()}",
+        lambda: f"poll {conn}",
+        lambda: f"poll {conn}",
+        lambda: f"in 4 {abort()}",
+        lambda: f"dial {conn} {draw.choice(['ok', 'fail'])}",
+        lambda: f"take {conn}",
+        lambda: "sample",
+        lambda: f"at {number * draw.choice([1, 3])}",
+        lambda: f"set 7 {draw.choice(['00', '40', '50'])}",
+        lambda: draw.choice([f"fail {draw.randrange(1, 20)}", "down 3", "pull 6", "set 5 40"]),
+    ])()
+
+
+def drawn_script(player, seed):
+    """A script of drawn steps, without those that are refused behind the others."""
+    draw = random.Random(seed)
+    lines = ["plug 5 echo", "plug 6 slow", "plug 7 asker"] + [f"up {conn} core" for conn in (1, 2, 3)] + ["up 4 abort"]
+    for conn in (1, 2, 3):
+        link = record(0, CORE, CREATE_LINK, words(0, 0, 0) + opaque(draw.choice([b"gpib0,5", b"gpib0,6", b"gpib0,7", b"gpib0"])))
+        lines.append(f"in {conn} {link.hex().upper()}")
+    lines += [drawn_step(draw, number) for number in range(1, STEPS)]
+    while True:
+        text = "".join(line + "\n" for line in lines).encode()
+        status, told = run(player, ["run"], text)
+        refused = re.search(rb"^fault line (\d+) \w+\n\Z", told, re.M)
+        if status != 3 or not refused:
+            return text
+        del lines[int(refused[1]) - 1]
+
+
+# ---- traces
+
+
 def run(program, words, given):
     done = subprocess.run([program, *words], input=given, capture_output=True, timeout=PATIENCE)
     return done.returncode, done.stdout
 
 
-def trace_of(player, script):
+def trace_of(player, text):
     """The trace of a script in version 2 that is played to its end, or none."""
-    with open(script, "rb") as source:
-        text = source.read()
     if not text.startswith(HEAD):
         status, text = run(player, ["lift"], text)
         if status:
@@ -37,13 +127,13 @@ def trace_of(player, script):
 
 def spoiled(line):
     """The line of a reply with another error, or none where it has no error."""
-    front, _, record = line.rpartition(b" ")
-    words = front.split(b" ")
-    if len(words) != 3 or words[1] != b"out" or record[ACCEPTED] != WELL or len(record) < ERROR_AT.stop:
+    front, _, reply = line.rpartition(b" ")
+    parts = front.split(b" ")
+    if len(parts) != 3 or parts[1] != b"out" or reply[ACCEPTED] != WELL or len(reply) < ERROR_AT.stop:
         return None
-    error = int(record[ERROR_AT], 16)
+    error = int(reply[ERROR_AT], 16)
     other = 0 if error == LINK_UNKNOWN else LINK_UNKNOWN
-    return front + b" " + record[: ERROR_AT.start] + b"%08X" % other + record[ERROR_AT.stop :]
+    return front + b" " + reply[: ERROR_AT.start] + b"%08X" % other + reply[ERROR_AT.stop :]
 
 
 def spoiled_traces(trace):
@@ -54,30 +144,38 @@ def spoiled_traces(trace):
         yield b"\n".join(lines[:place] + [other] + lines[place + 1 :])
 
 
+def scripts(player):
+    """The name and the text of each script."""
+    for path in sorted(glob.glob("examples/*.vxs") + glob.glob("crates/vx_rows/data/*.vxs")):
+        with open(path, "rb") as script:
+            yield path, script.read()
+    for seed in range(DRAWN):
+        yield f"the script drawn from {seed}", drawn_script(player, seed)
+
+
 def main():
     if len(sys.argv) != 3:
         sys.exit(__doc__)
     player, checker = sys.argv[1:]
-    passed = failed = told = changed = 0
-    scripts = sorted(glob.glob("examples/*.vxs") + glob.glob("crates/vx_rows/data/*.vxs"))
-    for script in scripts:
-        trace = trace_of(player, script)
+    passed = failed = changed = 0
+    for name, text in scripts(player):
+        trace = trace_of(player, text)
         if trace is None:
             continue
-        told += 1
         found = run(checker, [], trace)
-        wrong = [] if found == (0, b"legal\n") else [f"{script}: {found} of its trace"]
+        wrong = [] if found == (0, b"legal\n") else [f"{name}: {found} of its trace"]
         for other in spoiled_traces(trace):
             changed += 1
             status, line = run(checker, [], other)
             if status != 3 or not line.startswith(b"line "):
-                wrong.append(f"{script}: {(status, line)} of its trace with another error")
+                wrong.append(f"{name}: {(status, line)} of its trace with another error")
         for text in wrong:
             print(text, file=sys.stderr)
         passed, failed = (passed, failed + 1) if wrong else (passed + 1, failed)
-    if not told or not changed:
-        sys.exit("no script was played to its end")
-    print(f"{told} traces, and {changed} with another error: {passed} passed, {failed} failed", file=sys.stderr)
+    if passed + failed < DRAWN:
+        failed += 1
+        print(f"{passed + failed} scripts were played to their ends", file=sys.stderr)
+    print(f"{changed} traces with another error; {passed} passed, {failed} failed", file=sys.stderr)
     sys.exit(failed > 0)
 
 
