@@ -67,7 +67,7 @@ def filled():
     return lines
 
 
-TRACED_WRITES = 200  # of 64 KiB each, whose trace has some 64 MiB
+TRACED_WRITES = 169  # of 64 KiB each, whose trace has some 64 MiB
 LAST = CONNECTIONS * LINKS_EACH  # the number of the last link
 
 
