@@ -140,6 +140,7 @@ impl Body {
     }
 
     /// Ends the message, which is its own reply.
+    #[inline(never)]
     fn echo(&mut self)
         ensures echoed { self.new ≡ echoed self.old }
         ensures sound { IsSound self.new }

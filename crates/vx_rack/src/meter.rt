@@ -38,6 +38,7 @@ impl Meter {
     }
 
     /// Ends the message that it took, which has its reply where it asks for a reading.
+    #[inline(never)]
     fn finish(&mut self)
         ensures finished { self.new ≡ finished self.old }
         ensures sound { IsSound self.new.seen }

@@ -259,7 +259,7 @@ module _ {X : Type 0} (R : X → X → Type 0) (p : X → Bool) (stays : (x : X)
 
 -- ---- the talker
 
-position-is : {X : Type 0} (p : X → Bool) (xs : List X) (i : ℕ) → position p xs ≡ Some i → (position_or_len p xs ≡ i) × (i < length xs)
+pub position-is : {X : Type 0} (p : X → Bool) (xs : List X) (i : ℕ) → position p xs ≡ Some i → (position_or_len p xs ≡ i) × (i < length xs)
 position-is p xs i h = by (nat_lt (position_or_len p xs) (length xs)) refl h
   where
     by : (b : Bool) → nat_lt (position_or_len p xs) (length xs) ≡ b → cond b (Some (position_or_len p xs)) None ≡ Some i → (position_or_len p xs ≡ i) × (i < length xs)
@@ -269,7 +269,7 @@ position-is p xs i h = by (nat_lt (position_or_len p xs) (length xs)) refl h
         (same, omega (arith, same, less))
     by false l h = cc
 
-quiet : (w : Wire) (ps : List Placed) → list_any (talks w) ps ≡ false → list_any (answers_get w) ps ≡ false
+pub quiet : (w : Wire) (ps : List Placed) → list_any (talks w) ps ≡ false → list_any (answers_get w) ps ≡ false
 quiet w [] h = refl
 quiet w (p ∷ ps) h =
     let parts = or_parts (talks w p) (list_any (talks w) ps) h in

@@ -4,3 +4,5 @@ pub mod Hears
 pub mod Known
 pub mod Finding
 pub mod Stepping
+pub mod Runs
+pub mod Giving

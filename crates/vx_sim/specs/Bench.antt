@@ -12,9 +12,10 @@ use Rattle.vx_488.specs.Command.{command_of}
 use Rattle.vx_488.specs.Heard.{Byte}
 use Rattle.vx_488.specs.Listening.{has_address}
 use Rattle.vx_488.specs.Wire.{is_talking}
+use Rattle.vx_bus_traits.specs.Steps.{Step, Path}
 use Rattle.vx_inst.specs.Laws.{takes_byte, gives_byte}
 use Rattle.vx_sim.specs.declared.signals.Signal.TheVariants as signal
-use Rattle.vx_sim.specs.Occupants.{Occupant, Placed, seen, TakesByte, Receives, GivesByte, GivesStatus}
+use Rattle.vx_sim.specs.Occupants.{Occupant, Placed, seen, TakesByte, TakesPuts, Receives, GivesBy, GivesByte, GivesStatus}
 
 -- whom a transfer reaches: the listeners, the talker, the instrument at an address, every instrument
 abbrev pub listens : Wire → Placed → Bool
@@ -79,6 +80,14 @@ some_refuses w bench = list_any (refuses w) bench
 -- nobody hears a byte that is put, or some listener can't take it
 abbrev pub holds_put : Wire → List Placed → Bool
 holds_put w bench = not (list_any (listens w) bench) || some_refuses w bench
+
+-- an instrument at its place takes the bytes of these puts
+abbrev pub PlaceTakes : List Transfer → Placed → Placed → Type 0
+PlaceTakes puts p q = (q.at ≡ p.at) × TakesPuts puts p.occupant q.occupant
+
+-- and gives bytes by these steps
+abbrev pub PlaceGives : List Step → Placed → Placed → Type 0
+PlaceGives steps p q = (q.at ≡ p.at) × Path GivesBy p.occupant steps q.occupant
 
 -- it can answer a get where it is the talker: in serial poll mode it always can
 abbrev pub can_answer : Wire → Placed → Bool

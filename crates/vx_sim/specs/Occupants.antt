@@ -1,13 +1,17 @@
 -- What stands at a place of the bench, and how it changes.
-use Rattle.std.specs.Prelude.{◌≡◌, ℕ, Bool, false, List, [], ◌∷◌, ◌++◌}
+use Rattle.std.specs.Prelude.{◌≡◌, ℕ, Bool, true, false, List, [], ◌∷◌, ◌++◌}
 use Rattle.vx_488.specs.Heard.{Byte}
 use Rattle.vx_inst.specs.View.{View}
 use Rattle.vx_inst.specs.declared.done.Done.{Done}
 use Rattle.vx_inst.specs.declared.done.Done.TheVariants.{Took, Gave, Polled, Cleared, Triggered, ToLocal, StatusSet, Told}
 use Rattle.vx_inst.specs.Behavior.{Behavior}
-use Rattle.vx_inst.specs.Laws.{IsSound, Takes, Gives, status_byte, IsPolled, IsCleared, IsTriggered, IsTold, with_status}
+use Rattle.vx_inst.specs.Laws.{takes_byte, gives_byte, IsSound, Takes, Gives, status_byte, IsPolled, IsCleared, IsTriggered, IsTold, with_status}
 use Rattle.vx_table.specs.Table.{TableState, table_rule}
 use Rattle.vx_488.specs.declared.transfers.Addr.{Addr}
+use Rattle.vx_488.specs.declared.transfers.Transfer.{Transfer}
+use Rattle.vx_488.specs.declared.transfers.Transfer.TheVariants.{Put, Got}
+use Rattle.vx_bus_traits.specs.declared.asks.Ask.TheVariants as ask
+use Rattle.vx_bus_traits.specs.Steps.{Step, Went, Held}
 use Rattle.vx_sim.specs.declared.signals.Signal.{Signal}
 use Rattle.vx_sim.specs.declared.signals.Signal.TheVariants as signal
 
@@ -57,6 +61,12 @@ Becomes done Law (Boxed s) (Table u) = ⊥
 abbrev pub TakesByte : ℕ → Bool → Occupant → Occupant → Type 0
 TakesByte b end old new = Becomes (Took b end) (λ v w. Takes v b end w) old new
 
+-- it takes the bytes of these puts, one after the other, each when it can take one
+abbrev pub TakesPuts : List Transfer → Occupant → Occupant → Type 0
+TakesPuts [] old new = new ≡ old
+TakesPuts (Put b end ∷ puts) old new = (takes_byte (seen old) ≡ true) × ((next : Occupant) × TakesByte b end old next × TakesPuts puts next new)
+TakesPuts (_ ∷ puts) old new = ⊥
+
 -- how each signal changes it
 abbrev pub Receives : Signal → Occupant → Occupant → Type 0
 Receives signal.Clear old new = Becomes Cleared IsCleared old new
@@ -68,6 +78,12 @@ Receives (signal.Status b) old new = Becomes (StatusSet b) (λ v w. w ≡ with_s
 -- It gives the front of what it has to give.
 abbrev pub GivesByte : Byte → Occupant → Occupant → Type 0
 GivesByte byte old new = Gives (seen old) byte (seen new) × Becomes Gave (λ v w. Gives v byte w) old new
+
+-- It gives a byte for each get that goes, and has none where a get is held.
+abbrev pub GivesBy : Occupant → Step → Occupant → Type 0
+GivesBy old (Went (Got b end)) new = (gives_byte (seen old) ≡ true) × GivesByte (record { value = b; end = end }) old new
+GivesBy old (Held ask.Get) new = (gives_byte (seen old) ≡ false) × (new ≡ old)
+GivesBy old _ new = ⊥
 
 -- It gives its status byte, without END.
 abbrev pub GivesStatus : Byte → Occupant → Occupant → Type 0

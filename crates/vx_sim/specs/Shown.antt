@@ -7,6 +7,8 @@ use Rattle.vx_488.specs.Heard.{Byte}
 use Rattle.vx_sim.specs.declared.places.Stand.{Stand}
 use Rattle.vx_sim.specs.declared.places.Stand.TheVariants as stand
 use Rattle.vx_sim.specs.declared.places.Place.{Place}
+use Rattle.vx_sim.specs.declared.signals.Way.{Way}
+use Rattle.vx_sim.specs.declared.signals.Way.TheVariants as way
 use Rattle.vx_sim.specs.declared.signals.Whom.{Whom}
 use Rattle.vx_sim.specs.declared.signals.Whom.TheVariants as whom
 use Rattle.vx_sim.specs.declared.signals.Question.{Question}
@@ -60,3 +62,8 @@ abbrev pub is_byte : Transfer → Bool
 is_byte (Put b end) = true
 is_byte (Got b end) = true
 is_byte _ = false
+
+-- a data byte that goes this way, as a transfer
+abbrev pub moved : Way → ℕ → Bool → Transfer
+moved way.Put = Put
+moved way.Got = Got

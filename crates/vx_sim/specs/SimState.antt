@@ -1,7 +1,8 @@
 -- A bus with instruments on it, and how it changes by each step.
-use Rattle.std.specs.Prelude.{◌≡◌, ℕ, ◌+◌, ◌-◌, ◌==◌, nat_lt, max, Bool, true, false, if◌then◌else◌, List, [], ◌∷◌, ◌++◌, Option, None, Some}
+use Rattle.std.specs.Prelude.{◌≡◌, ℕ, ◌+◌, ◌-◌, ◌==◌, nat_lt, max, Bool, true, false, if◌then◌else◌, List, [], ◌∷◌, ◌++◌, length, Option, None, Some}
 use Rattle.vx_bus_traits.specs.Faults.{one_more}
 use Rattle.vx_488.specs.Wire.{step}
+use Rattle.vx_488.specs.declared.transfers.Transfer.{Transfer}
 use Rattle.vx_bus_traits.specs.declared.asks.Ask.{Ask}
 use Rattle.vx_bus_traits.specs.declared.asks.Ask.TheVariants as ask
 use Rattle.vx_bus_traits.specs.Means.{Means}
@@ -57,6 +58,15 @@ means_after m (Held asked) = record m { asks = m.asks + 1; holds = one_more m.ho
 means_after m (Failed asked) = record m { asks = m.asks + 1; faults = one_more m.faults; refused = Some asked }
 means_after m (Told now) = m
 means_after m Cut = record m { moves = []; asks = 0 }
+
+-- the bus after these transfers of data bytes, with the instruments as they are then
+abbrev pub after_bytes : List Transfer → SimState → SimState
+after_bytes moves s = record s { means = record s.means { moves = s.means.moves ++ moves; asks = s.means.asks + length moves } }
+
+-- what the bus means after these steps
+abbrev pub means_past : Means → List Step → Means
+means_past m [] = m
+means_past m (s ∷ steps) = means_past (means_after m s) steps
 
 abbrev pub failing_after : Option ℕ → Step → Option ℕ
 failing_after failing (Told now) = failing

@@ -1,11 +1,13 @@
 //! The bench: the instruments on a bus, each at its address.
 
-ghost use Rattle.std.specs.Prelude.{◌≡◌, ◌≤◌, ◌<◌, ◌+◌, ℕ, true, false, not, List, [], ◌∷◌, ◌++◌, length, map, filter, position, find, IfOk, IfSome, vec_len, vec_capacity};
+ghost use Rattle.std.specs.Prelude.{◌≡◌, ◌≤◌, ◌<◌, ◌+◌, ℕ, true, false, not, List, [], ◌∷◌, ◌++◌, length, take, drop, map, filter, position, find, IfOk, IfSome, vec_len, vec_capacity};
 ghost use Rattle.std.specs.List.{list_any, insert};
 ghost use Rattle.vx_sim.specs.declared.TheConstants.{PLACES_MAX};
+ghost use Rattle.vx_488.specs.declared.transfers.Transfer.TheVariants.{Put};
 ghost use Rattle.vx_488.specs.Address.{is_bus_address};
+ghost use Rattle.vx_bus_traits.specs.Bursts.{ended, gets_steps, StopsAt};
 ghost use Rattle.vx_sim.specs.Occupants.{TakesByte, Receives};
-ghost use Rattle.vx_sim.specs.Bench.{listens, talks, some_refuses, holds_put, holds_get, stands_at, PlaceWhere, BenchWhere, BenchAfterCommand, BenchAfterRemote, TalkerGives};
+ghost use Rattle.vx_sim.specs.Bench.{listens, talks, some_refuses, holds_put, holds_get, stands_at, PlaceWhere, PlaceTakes, PlaceGives, BenchWhere, BenchAfterCommand, BenchAfterRemote, TalkerGives};
 ghost use Rattle.vx_sim.specs.Attaching.{clashes, holder, AreApart, IsInOrder, AreKnown};
 ghost use Rattle.vx_sim.specs.Finding.{indices, is_at, waits, ChangesAt};
 ghost use Rattle.vx_sim.specs.Shown.{occupant_of, placed_of, bench_of, is_meant, is_so, AtPlace, TalkerGave};
@@ -17,6 +19,7 @@ use arrayvec::ArrayVec;
 use std::alloc::Global;
 use std::marker::Model;
 use vx_488::{Addr, Command, Wire};
+use vx_bus_traits::{ManyGot, Stop};
 use vx_inst::Instrument;
 
 /// Indices of instruments on a bench.
@@ -127,6 +130,16 @@ impl<I: Instrument> Bench<I> {
         put_each(&mut self.places, wire, hearers, b, end);
     }
 
+    /// The instrument at this index takes bytes, one after the other, until it can't take one or there is none left, with END on
+    /// the last of all or not. Answers how many it took.
+    pub(crate) fn put_run(&mut self, index: usize, bytes: &[u8], end: bool) -> usize
+        requires { index < length self.old }
+        ensures takes { AtPlace index (PlaceTakes (take result (ended Put end bytes.now))) self.old self.new }
+        ensures within { result ≤ length bytes.now }
+    {
+        take_many_at(&mut self.places, index, bytes, end)
+    }
+
     /// The instruments that are meant are told what they answer nothing to.
     pub(crate) fn tell(&mut self, wire: &Wire, whom: Whom, signal: Signal)
         ensures { BenchWhere (is_meant wire.now whom) (Receives signal) self.old self.new }
@@ -172,6 +185,20 @@ impl<I: Instrument> Bench<I> {
             Some(index) => !self.places[index].can_answer(wire),
             None => true,
         }
+    }
+
+    /// The instrument at this index gives bytes, one after the other, into a room: until one has END, or is the stop byte, or
+    /// fills the room, or until it has none to give. It never answers that one failed.
+    pub(crate) fn give_run(&mut self, index: usize, room: &mut [u8], stop: Option<u8>) -> ManyGot
+        requires { index < length self.old }
+        ensures apart { AreApart self.old }
+        ensures gives { AtPlace index (PlaceGives (gets_steps (take result.got room.new) result.stop)) self.old self.new }
+        ensures stops { StopsAt stop (length room.old) (take result.got room.new) result.stop }
+        ensures within { result.got ≤ length room.old }
+        ensures rest { drop result.got room.new ≡ drop result.got room.old }
+        ensures goes { result.stop ≡ Stop.Failed → ⊥ }
+    {
+        give_many_at(&mut self.places, index, room, stop)
     }
 
     /// The talker gives a byte: in serial poll mode its status byte, without END.
@@ -283,6 +310,21 @@ fn take_at<I: Instrument>(places: &mut [Place<I>], index: usize, wire: &Wire, b:
     places[index].take(wire, b, end);
 }
 
+/// The instrument at this index takes bytes, one after the other, until it can't take one or there is none left.
+fn take_many_at<I: Instrument>(
+    places: &mut [Place<I>],
+    index: usize,
+    bytes: &[u8],
+    end: bool,
+) -> usize
+    requires { index < length places.old }
+    ensures takes { AtPlace index (PlaceTakes (take result (ended Put end bytes.now))) (bench_of places.old) (bench_of places.new) }
+    ensures within { result ≤ length bytes.now }
+{
+    let place = &mut places[index];
+    place.take_many(bytes, end)
+}
+
 /// Those that are meant are told what they answer nothing to.
 fn tell_all<I: Instrument>(places: &mut [Place<I>], wire: &Wire, whom: Whom, signal: Signal)
     ensures { BenchWhere (is_meant wire.now whom) (Receives signal) (bench_of places.old) (bench_of places.new) }
@@ -302,6 +344,24 @@ fn give_at<I: Instrument>(places: &mut [Place<I>], index: usize, wire: &Wire) ->
 {
     let place = &mut places[index];
     place.give(wire)
+}
+
+/// The instrument at this index gives bytes, one after the other, until the run ends.
+fn give_many_at<I: Instrument>(
+    places: &mut [Place<I>],
+    index: usize,
+    room: &mut [u8],
+    stop: Option<u8>,
+) -> ManyGot
+    requires { index < length places.old }
+    ensures gives { AtPlace index (PlaceGives (gets_steps (take result.got room.new) result.stop)) (bench_of places.old) (bench_of places.new) }
+    ensures stops { StopsAt stop (length room.old) (take result.got room.new) result.stop }
+    ensures within { result.got ≤ length room.old }
+    ensures rest { drop result.got room.new ≡ drop result.got room.old }
+    ensures goes { result.stop ≡ Stop.Failed → ⊥ }
+{
+    let place = &mut places[index];
+    place.give_many(room, stop)
 }
 
 /// The instrument at this address is dropped.

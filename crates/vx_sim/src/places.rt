@@ -1,9 +1,12 @@
 //! An instrument at its place.
 
-ghost use Rattle.std.specs.Prelude.{◌≡◌, true, false};
+ghost use Rattle.std.specs.Prelude.{◌≡◌, ◌≤◌, true, false, length, take, drop};
+ghost use Rattle.vx_488.specs.declared.transfers.Transfer.TheVariants.{Put};
+ghost use Rattle.vx_bus_traits.specs.Bursts.{ended, gets_steps, StopsAt};
+ghost use Rattle.vx_bus_traits.specs.Steps.{Path};
 ghost use Rattle.vx_inst.specs.Laws.{takes_byte, gives_byte};
-ghost use Rattle.vx_sim.specs.Occupants.{Table, Boxed, seen, TakesByte, Receives, GivesByte, GivesStatus};
-ghost use Rattle.vx_sim.specs.Bench.{listens, talks, refuses, can_answer, answers_get, PlaceWhere, TalkerGives};
+ghost use Rattle.vx_sim.specs.Occupants.{Table, Boxed, seen, TakesByte, TakesPuts, Receives, GivesByte, GivesStatus, GivesBy};
+ghost use Rattle.vx_sim.specs.Bench.{listens, talks, refuses, can_answer, answers_get, PlaceWhere, PlaceTakes, PlaceGives, TalkerGives};
 ghost use Rattle.vx_sim.specs.Attaching.{IsKnownOccupant};
 ghost use Rattle.vx_sim.specs.Shown.{occupant_of, placed_of, is_meant, is_so};
 ghost use Rattle.vx_sim.specs.Finding.{waits};
@@ -11,6 +14,7 @@ ghost use Rattle.vx_sim.specs.Finding.{waits};
 use crate::seat::Seat;
 use crate::signals::{Question, Signal, Whom};
 use vx_488::{Addr, Wire};
+use vx_bus_traits::{ManyGot, Stop};
 use vx_inst::Instrument;
 use vx_table::TableInst;
 
@@ -66,6 +70,7 @@ impl<I: Instrument> Stand<I> {
         }
     }
 
+    #[inline(always)]
     fn take(&mut self, b: u8, end: bool)
         requires { takes_byte (seen (occupant_of self.old)) ≡ true }
         ensures { TakesByte b end (occupant_of self.old) (occupant_of self.new) }
@@ -76,7 +81,22 @@ impl<I: Instrument> Stand<I> {
         }
     }
 
+    /// Takes bytes, one after the other, until it can't take one or there is none left, with END on the last of all or not.
+    /// Answers how many it took.
+    fn take_many(&mut self, bytes: &[u8], end: bool) -> usize
+        ensures takes { TakesPuts (take result (ended Put end bytes.now)) (occupant_of self.old) (occupant_of self.new) }
+        ensures within { result ≤ length bytes.now }
+    {
+        let mut taken = 0;
+        while taken < bytes.len() && self.can_take() {
+            self.take(bytes[taken], end && taken + 1 == bytes.len());
+            taken += 1;
+        }
+        taken
+    }
+
     /// Gives the next byte, and whether END stands on it.
+    #[inline(always)]
     fn give(&mut self) -> (u8, bool)
         requires { gives_byte (seen (occupant_of self.old)) ≡ true }
         ensures { GivesByte (record { value = result.0; end = result.1 }) (occupant_of self.old) (occupant_of self.new) }
@@ -84,6 +104,45 @@ impl<I: Instrument> Stand<I> {
         match self {
             Stand::Table(table) => table.give(),
             Stand::Boxed(seat) => seat.give(),
+        }
+    }
+
+    /// Gives bytes, one after the other, into a room: until one has END, or is the stop byte, or fills the room, or until it has
+    /// none to give. It never answers that one failed.
+    fn give_many(&mut self, room: &mut [u8], stop: Option<u8>) -> ManyGot
+        ensures gives { Path GivesBy (occupant_of self.old) (gets_steps (take result.got room.new) result.stop) (occupant_of self.new) }
+        ensures stops { StopsAt stop (length room.old) (take result.got room.new) result.stop }
+        ensures within { result.got ≤ length room.old }
+        ensures rest { drop result.got room.new ≡ drop result.got room.old }
+        ensures goes { result.stop ≡ Stop.Failed → ⊥ }
+    {
+        let mut got = 0;
+        while got < room.len() {
+            if !self.can_give() {
+                return ManyGot {
+                    got,
+                    stop: Stop::Held,
+                };
+            }
+            let (b, end) = self.give();
+            room[got] = b;
+            got += 1;
+            if end {
+                return ManyGot {
+                    got,
+                    stop: Stop::End,
+                };
+            }
+            if stop == Some(b) {
+                return ManyGot {
+                    got,
+                    stop: Stop::Char,
+                };
+            }
+        }
+        ManyGot {
+            got,
+            stop: Stop::Full,
         }
     }
 
@@ -191,6 +250,27 @@ impl<I: Instrument> Place<I> {
         ensures { PlaceWhere (listens wire.now) (TakesByte b end) (placed_of self.old) (placed_of self.new) }
     {
         self.stand.take(b, end);
+    }
+
+    /// Takes bytes, one after the other, until it can't take one or there is none left, with END on the last of all or not.
+    /// Answers how many it took.
+    pub(crate) fn take_many(&mut self, bytes: &[u8], end: bool) -> usize
+        ensures takes { PlaceTakes (take result (ended Put end bytes.now)) (placed_of self.old) (placed_of self.new) }
+        ensures within { result ≤ length bytes.now }
+    {
+        self.stand.take_many(bytes, end)
+    }
+
+    /// Gives bytes, one after the other, into a room: until one has END, or is the stop byte, or fills the room, or until it has
+    /// none to give. It never answers that one failed.
+    pub(crate) fn give_many(&mut self, room: &mut [u8], stop: Option<u8>) -> ManyGot
+        ensures gives { PlaceGives (gets_steps (take result.got room.new) result.stop) (placed_of self.old) (placed_of self.new) }
+        ensures stops { StopsAt stop (length room.old) (take result.got room.new) result.stop }
+        ensures within { result.got ≤ length room.old }
+        ensures rest { drop result.got room.new ≡ drop result.got room.old }
+        ensures goes { result.stop ≡ Stop.Failed → ⊥ }
+    {
+        self.stand.give_many(room, stop)
     }
 
     /// Is told what it answers nothing to, where it is meant.

@@ -1,4 +1,7 @@
-use vx_488::Addr;
+ghost use Rattle.std.specs.Prelude.{◌≡◌};
+ghost use Rattle.vx_sim.specs.Shown.{moved};
+
+use vx_488::{Addr, Transfer};
 
 /// What an instrument is told, and answers nothing to.
 #[derive(Clone, Copy, Debug, PartialEq, Eq)]
@@ -36,4 +39,25 @@ pub(crate) enum Question {
     Asks,
     /// Whether it stands at this address.
     Stands(Addr),
+}
+
+/// Which way data bytes go.
+#[derive(Clone, Copy)]
+pub(crate) enum Way {
+    /// From the gateway to the listeners.
+    Put,
+    /// From the talker to the gateway.
+    Got,
+}
+
+impl Way {
+    /// A data byte that went so, as a transfer.
+    pub(crate) fn transfer(self, b: u8, end: bool) -> Transfer
+        ensures { result ≡ moved self b end }
+    {
+        match self {
+            Way::Put => Transfer::Put { b, end },
+            Way::Got => Transfer::Got { b, end },
+        }
+    }
 }

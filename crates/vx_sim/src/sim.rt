@@ -1,9 +1,9 @@
 //! The simulated bus.
 
-ghost use Rattle.std.specs.Prelude.{◌≡◌, ◌<◌, ◌≤◌, ◌+◌, ◌∷◌, ◌++◌, ◌↔◌, [], length, filter, position, None, Some, true, IfOk, MatchResult, is_ok};
+ghost use Rattle.std.specs.Prelude.{◌≡◌, ◌<◌, ◌≤◌, ◌+◌, ◌∷◌, ◌++◌, ◌↔◌, [], length, take, drop, filter, position, None, Some, true, false, IfOk, MatchResult, is_ok, vec_len, vec_capacity};
 ghost use Rattle.std.specs.List.{list_any, list_all};
 ghost use Rattle.vx_488.specs.declared.transfers.TheConstants.{ADDRESS_MAX};
-ghost use Rattle.vx_488.specs.declared.transfers.Transfer.TheVariants.{Cmd, Put, Ren, Ifc, Own};
+ghost use Rattle.vx_488.specs.declared.transfers.Transfer.TheVariants.{Cmd, Put, Got, Ren, Ifc, Own};
 ghost use Rattle.vx_488.specs.declared.wire.Wire.{Wire};
 ghost use Rattle.vx_488.specs.Address.{is_bus_address};
 ghost use Rattle.vx_bus_traits.specs.Steps.{Went, Held, Failed, Told, Cut, move_step, get_step, line_transfer, IsStepped};
@@ -12,16 +12,17 @@ ghost use Rattle.vx_sim.specs.declared.TheConstants.{PLACES_MAX};
 ghost use Rattle.vx_sim.specs.Bench.{stands_at, listens, talks, some_asks, some_refuses};
 ghost use Rattle.vx_sim.specs.Finding.{indices};
 ghost use Rattle.vx_bus_traits.specs.Walks.{Walk};
-ghost use Rattle.vx_bus_traits.specs.Bursts.{puts_steps};
-ghost use Rattle.vx_sim.specs.SimState.{first_state, is_next, nearer, means_after, Through};
+ghost use Rattle.vx_bus_traits.specs.Bursts.{ended, puts_steps, gets_steps, StopsAt};
+ghost use Rattle.vx_bus_traits.specs.ProvedLaws.Puts.{PutsSoFar};
+ghost use Rattle.vx_sim.specs.SimState.{first_state, is_next, nearer, means_after, means_past, after_bytes, Through};
 ghost use Rattle.vx_sim.specs.Attaching.{AreApart, AreKnown, refusal, taken_or_full, IsAttached, without_place, IsSet};
-ghost use Rattle.vx_sim.specs.Shown.{occupant_of, reaches_nobody, is_byte};
+ghost use Rattle.vx_sim.specs.Shown.{occupant_of, reaches_nobody, is_byte, moved};
 
 use crate::attach::{Absent, Attach, Refused};
 use crate::bench::Bench;
 use crate::places::Stand;
 use crate::seat::Seat;
-use crate::signals::{Question, Signal, Whom};
+use crate::signals::{Question, Signal, Way, Whom};
 use crate::{NoMemory, PLACES_MAX};
 use std::alloc::Global;
 use std::marker::Model;
@@ -242,7 +243,7 @@ impl<I: Instrument> SimBus<I> {
         ensures within { result.moved ≤ length bytes.now }
         ensures last { (result.last ≡ Move.Went) ↔ (result.moved ≡ length bytes.now) }
     {
-        let mut moved = 0;
+        let mut moved = self.put_front(hearers, bytes, end);
         while moved < bytes.len() {
             match self.put_to(hearers, bytes[moved], end && moved + 1 == bytes.len()) {
                 Move::Went => moved += 1,
@@ -260,6 +261,44 @@ impl<I: Instrument> SimBus<I> {
             moved,
             last: Move::Went,
         }
+    }
+
+    /// Sends the first of these data bytes where no call is told to fail and there is one listener, until it can't take one:
+    /// nothing is looked up anew for each. Answers how many went.
+    fn put_front(&mut self, hearers: &[u8], bytes: &[u8], end: bool) -> usize
+        requires room { self.old.means.asks + length bytes.now ≤ ASK_MAX }
+        requires hearers { hearers.now ≡ indices (listens self.old.means.wire) 0 self.old.bench }
+        ensures puts { PutsSoFar (λ s. s.means) Through bytes.now end result self.old self.new }
+        ensures hearers { hearers.now ≡ indices (listens self.new.means.wire) 0 self.new.bench }
+    {
+        if hearers.len() == 1 && self.failing.is_none() {
+            self.put_run(hearers[0], bytes, end)
+        } else {
+            0
+        }
+    }
+
+    /// Sends data bytes to the only listener, until it can't take one. Answers how many went.
+    fn put_run(&mut self, hearer: u8, bytes: &[u8], end: bool) -> usize
+        requires room { self.old.means.asks + length bytes.now ≤ ASK_MAX }
+        requires hearer { indices (listens self.old.means.wire) 0 self.old.bench ≡ hearer ∷ [] }
+        requires ordered { self.old.failing ≡ None }
+        ensures puts { PutsSoFar (λ s. s.means) Through bytes.now end result self.old self.new }
+        ensures hearer { indices (listens self.new.means.wire) 0 self.new.bench ≡ hearer ∷ [] }
+    {
+        let taken = self.bench.put_run(usize::from(hearer), bytes, end);
+        self.carried_all(Way::Put, bytes, end, taken);
+        taken
+    }
+
+    /// So many of these data bytes were transferred, with END on the last of all or not.
+    fn carried_all(&mut self, way: Way, bytes: &[u8], end: bool, taken: usize)
+        requires room { self.old.means.asks + taken ≤ ASK_MAX }
+        requires within { taken ≤ length bytes.now }
+        ensures { self.new ≡ after_bytes (take taken (ended (moved way) end bytes.now)) self.old }
+    {
+        note(&mut self.moves, way, bytes, end, taken);
+        self.asks += taken as u32;
     }
 
     /// Takes a byte from this one, which is the talker, unless this is the call that is told to fail: in serial poll mode its
@@ -281,6 +320,90 @@ impl<I: Instrument> SimBus<I> {
         let (b, end) = self.bench.give(&self.wire, speaker);
         self.carried(Transfer::Got { b, end });
         GetOut::Byte { b, end }
+    }
+
+    /// Takes bytes from this one, which is the talker, one by one, until one ends the burst or doesn't go.
+    fn get_each(&mut self, speaker: Option<usize>, room: &mut [u8], stop: Option<u8>) -> ManyGot
+        requires asks { self.old.means.asks + length room.old ≤ ASK_MAX }
+        requires speaker { speaker ≡ position (talks self.old.means.wire) self.old.bench }
+        ensures walk { Walk (λ s. s.means) Through self.old (gets_steps (take result.got room.new) result.stop) self.new }
+        ensures stops { StopsAt stop (length room.old) (take result.got room.new) result.stop }
+        ensures within { result.got ≤ length room.old }
+        ensures rest { drop result.got room.new ≡ drop result.got room.old }
+    {
+        let mut got = 0;
+        while got < room.len() {
+            match self.get_from(speaker) {
+                GetOut::Held => {
+                    return ManyGot {
+                        got,
+                        stop: Stop::Held,
+                    };
+                }
+                GetOut::Failed => {
+                    return ManyGot {
+                        got,
+                        stop: Stop::Failed,
+                    };
+                }
+                GetOut::Byte { b, end } => {
+                    room[got] = b;
+                    got += 1;
+                    if end {
+                        return ManyGot {
+                            got,
+                            stop: Stop::End,
+                        };
+                    }
+                    if stop == Some(b) {
+                        return ManyGot {
+                            got,
+                            stop: Stop::Char,
+                        };
+                    }
+                }
+            }
+        }
+        ManyGot {
+            got,
+            stop: Stop::Full,
+        }
+    }
+
+    /// Takes bytes from this one, which is the talker, as a run, where no call is told to fail and no status byte is asked for.
+    fn get_run(&mut self, speaker: usize, room: &mut [u8], stop: Option<u8>) -> ManyGot
+        requires asks { self.old.means.asks + length room.old ≤ ASK_MAX }
+        requires speaker { position (talks self.old.means.wire) self.old.bench ≡ Some speaker }
+        requires plain { self.old.means.wire.polling ≡ false }
+        requires ordered { self.old.failing ≡ None }
+        ensures walk { Walk (λ s. s.means) Through self.old (gets_steps (take result.got room.new) result.stop) self.new }
+        ensures stops { StopsAt stop (length room.old) (take result.got room.new) result.stop }
+        ensures within { result.got ≤ length room.old }
+        ensures rest { drop result.got room.new ≡ drop result.got room.old }
+    {
+        let many = self.bench.give_run(speaker, room, stop);
+        self.carried_gets(&room[..many.got], many.stop);
+        many
+    }
+
+    /// These data bytes came, and then a burst stopped so.
+    fn carried_gets(&mut self, bytes: &[u8], stop: Stop)
+        requires room { self.old.means.asks + length bytes.now ≤ ASK_MAX }
+        requires held { stop ≡ Stop.Held → self.old.means.asks + length bytes.now < ASK_MAX }
+        requires ordered { self.old.failing ≡ None }
+        requires went { stop ≡ Stop.Failed → ⊥ }
+        ensures { self.new ≡ record self.old { means = means_past self.old.means (gets_steps bytes.now stop) } }
+    {
+        match stop {
+            Stop::End => self.carried_all(Way::Got, bytes, true, bytes.len()),
+            Stop::Held => {
+                self.carried_all(Way::Got, bytes, false, bytes.len());
+                self.held(Ask::Get);
+            }
+            Stop::Full | Stop::Char | Stop::Failed => {
+                self.carried_all(Way::Got, bytes, false, bytes.len());
+            }
+        }
     }
 
     /// Switches remote enable, unless this is the call that is told to fail.
@@ -372,6 +495,21 @@ impl<I: Instrument> SimBus<I> {
     }
 }
 
+/// Notes so many of these data bytes as transfers, with END on the last of all or not.
+fn note(moves: &mut Vec<Transfer>, way: Way, bytes: &[u8], end: bool, taken: usize)
+    requires within { taken ≤ length bytes.now }
+    requires room { vec_len moves.old + taken ≤ vec_capacity moves.old }
+    ensures noted { moves.new.items ≡ moves.old.items ++ take taken (ended (moved way) end bytes.now) }
+    ensures len { vec_len moves.new ≡ vec_len moves.old + taken }
+    ensures room { vec_capacity moves.new ≡ vec_capacity moves.old }
+{
+    let mut noted = 0;
+    while noted < taken {
+        moves.push_reserved(way.transfer(bytes[noted], end && noted + 1 == bytes.len()));
+        noted += 1;
+    }
+}
+
 /// The order after one more moving call: it is nearer by one, or done.
 fn nearer(failing: Option<u32>) -> Option<u32>
     ensures { result ≡ nearer failing }
@@ -457,43 +595,12 @@ impl<I: Instrument> Bus for SimBus<I> {
         ensures rest { drop result.got room.new ≡ drop result.got room.old }
     {
         let speaker = self.bench.speaker(&self.wire);
-        let mut got = 0;
-        while got < room.len() {
-            match self.get_from(speaker) {
-                GetOut::Held => {
-                    return ManyGot {
-                        got,
-                        stop: Stop::Held,
-                    };
-                }
-                GetOut::Failed => {
-                    return ManyGot {
-                        got,
-                        stop: Stop::Failed,
-                    };
-                }
-                GetOut::Byte { b, end } => {
-                    room[got] = b;
-                    got += 1;
-                    if end {
-                        return ManyGot {
-                            got,
-                            stop: Stop::End,
-                        };
-                    }
-                    if stop == Some(b) {
-                        return ManyGot {
-                            got,
-                            stop: Stop::Char,
-                        };
-                    }
-                }
+        if self.failing.is_none() && !self.wire.polling {
+            if let Some(index) = speaker {
+                return self.get_run(index, room, stop);
             }
         }
-        ManyGot {
-            got,
-            stop: Stop::Full,
-        }
+        self.get_each(speaker, room, stop)
     }
 
     /// Switches a line on or off, unless this is the call that is told to fail. REN that goes off sends every instrument

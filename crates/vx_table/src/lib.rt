@@ -112,6 +112,7 @@ impl TableInst {
     }
 
     /// Ends the message that it took: the first rule for it acts, or waits.
+    #[inline(never)]
     fn finish(&mut self)
         ensures finished { self.new ≡ finished self.old }
         ensures over { self.new.seen.inbox ≡ [] }

@@ -356,8 +356,9 @@ fn bursts_reach_the_listeners(rt: HostRuntime) -> Result<(), Fail> {
     play(&rt, rt.alloc(), &BURSTS_REACH_THE_LISTENERS)
 }
 
-// A burst to a slow instrument and a fast one is held at its second byte, and goes on a moment later.
-static A_BURST_WAITS_FOR_THE_SLOWEST: [Step; 9] = [
+// A burst to a slow instrument and a fast one is held at its second byte, and goes on a moment later. So is one to the slow
+// instrument alone.
+static A_BURST_WAITS_FOR_THE_SLOWEST: [Step; 15] = [
     Step::AttachSlow(FIVE, None),
     Step::Attach(SIX, None),
     Step::Sent(&[0x3F, 0x40, 0x25, 0x26]),
@@ -379,6 +380,24 @@ static A_BURST_WAITS_FOR_THE_SLOWEST: [Step; 9] = [
     ),
     Step::Sent(&[0x3F, 0x20, 0x46]),
     Step::Gets(8, None, Stop::End, b"AB"),
+    Step::Sent(&[0x3F, 0x40, 0x25]),
+    Step::Told(2),
+    Step::Puts(
+        b"CD",
+        Many {
+            moved: 1,
+            last: Move::Held,
+        },
+    ),
+    Step::Moves(&[Transfer::Put { b: 67, end: false }]),
+    Step::Told(3),
+    Step::Puts(
+        b"D",
+        Many {
+            moved: 1,
+            last: Move::Went,
+        },
+    ),
 ];
 
 #[test]

@@ -7,7 +7,7 @@ use Rattle.vx_bus_traits.specs.Walks.{StepsTo}
 use Rattle.vx_bus_traits.specs.ProvedLaws.Gets.{gets-held, gets-failed, gets-end, gets-char, gets-next, char-is}
 use Rattle.vx_sim.specs.SimState.{SimState, Through}
 use Rattle.vx_sim.proofs.Stepping.{steps-to}
-use Rattle.vx_sim.proofs.sim.SimBusBus.get_many.Goals as goal
+use Rattle.vx_sim.proofs.sim.SimBus.get_each.Goals as goal
 
 pub returns-in-Held-clause-walk : goal.returns-in-Held-clause-walk
 returns-in-Held-clause-walk g c =

@@ -3,7 +3,7 @@ use Rattle.std.specs.Prelude.{position}
 use Rattle.vx_bus_traits.specs.ProvedLaws.Gets.{GetsSoFar}
 use Rattle.vx_sim.specs.Bench.{talks}
 use Rattle.vx_sim.specs.SimState.{Through}
-use Rattle.vx_sim.proofs.sim.SimBusBus.get_many.Given as goal
+use Rattle.vx_sim.proofs.sim.SimBus.get_each.Given as goal
 
 abbrev pub invariant-loop-got : goal.invariant-loop-got
 invariant-loop-got g l =
