@@ -82,7 +82,7 @@ loop:
 # It takes some ten minutes, and wants a C compiler as cc and a machine that does nothing else. bench/bench.py and bench/tables.py
 # say what they print, and with which words the first takes less.
 bench: server rate buses-rate tables
-	python3 bench/bench.py $(OTHERS) this=$(SERVER) --gate this=$(RATE) --buses this=$(BUSES_RATE)
+	python3 bench/bench.py --long $(OTHERS) this=$(SERVER) --gate this=$(RATE) --buses this=$(BUSES_RATE)
 
 # steps with full tables, long scripts, a long run from a number, and a long trace
 tables: player checker

@@ -12,6 +12,8 @@ all of them alike. Half of the rows are measured alone, and half beside as many 
 
 A query is a device_write of six bytes and the device_read of them, over the loopback; the load is `load.c`, which `cc` compiles.
 A writer makes device_writes of 65,536 bytes one after the other, on a device of its own, while one connection makes queries.
+`--long` has rows of one connection whose queries are of 65,536 bytes, with 4 and with 31 instruments on the bus; these tell
+bytes, and not queries: in MB a second, to and fro.
 """
 import argparse
 import os
@@ -25,6 +27,9 @@ import time
 
 HERE = os.path.dirname(os.path.realpath(__file__))
 BENCH = "".join(f"plug {address} echo\n" for address in range(5, 9))
+OTHERS = [str(address) for address in (*range(1, 5), *range(9, 30))] + ["30,1", "30,2"]
+FULL_BENCH = BENCH + "".join(f'inst {address} {{"rules":[]}}\n' for address in OTHERS)
+LONG = 65536  # bytes of a long query
 WORKERS = 64  # the most that a vxgate has
 BUSY_BUSES = (1, 2)  # at once
 PATIENCE = 60  # seconds that a run may take beyond its own
@@ -42,6 +47,7 @@ def words():
     parser.add_argument("--buses", action="append", default=[], type=pair, metavar="NAME=PROGRAM")
     parser.add_argument("--connections", type=numbers, default=[1, 2, 4, 16, 64], help="how many at once (1,2,4,16,64)")
     parser.add_argument("--writers", type=numbers, default=[1, 2], help="how many beside one connection (1,2)")
+    parser.add_argument("--long", action="store_true", help="queries of 65,536 bytes, too")
     parser.add_argument("--threads", type=numbers, default=[1, 2, 4, 16], help="how many at a gate (1,2,4,16)")
     parser.add_argument("--runs", type=int, default=5, help="of each figure (5)")
     parser.add_argument("--seconds", type=float, default=2.0, help="a run (2)")
@@ -57,7 +63,7 @@ def words():
 def fitting(asked):
     """The seconds of a run with which all of them take so many minutes."""
     rows = (len(asked.connections) + len(asked.writers)) * len(asked.servers) + GATE_COST * len(asked.threads) * len(asked.gate)
-    rows += len(BUSY_BUSES) * len(asked.buses)
+    rows += len(BUSY_BUSES) * len(asked.buses) + (2 * len(asked.servers) if asked.long else 0)
     return MARGIN * 60 * asked.within / (len(asked.halves) * asked.runs * rows) if rows else 0
 
 
@@ -74,8 +80,8 @@ def free_port():
         return probe.getsockname()[1]
 
 
-def start_server(program, started):
-    """The port of the server, which is started unless it runs already."""
+def start_server(program, started, bench=BENCH):
+    """The port of the server, which is started with these instruments unless it runs already."""
     if program.startswith(":"):
         return int(program[1:])
     core, abort = free_port(), free_port()
@@ -85,7 +91,7 @@ def start_server(program, started):
     command = [word.format(core=core, abort=abort) for word in command]
     server = subprocess.Popen(command, stdin=subprocess.PIPE, stdout=subprocess.DEVNULL)
     started.append(server)
-    server.stdin.write(BENCH.encode())
+    server.stdin.write(bench.encode())
     server.stdin.close()
     until = time.monotonic() + PATIENCE
     while time.monotonic() < until and server.poll() is None:
@@ -96,11 +102,17 @@ def start_server(program, started):
     sys.exit(f"bench: {program} doesn't listen")
 
 
-def queries(load, port, connections, seconds, writers=0, buses=0):
+def queries(load, port, connections, seconds, writers=0, buses=0, length=6):
     """Queries a second, and the time of one at the 99th of a hundred, in milliseconds."""
-    said = run(load, *map(str, (port, connections, seconds, writers, buses)))
+    said = run(load, *map(str, (port, connections, seconds, writers, buses, length)))
     said = dict(word.split("=") for word in said.split())
     return int(said["queries"]) / float(said["seconds"]), float(said["last"]) / 1000
+
+
+def megabytes(load, port, seconds):
+    """What one connection moves by long queries, in MB a second, and the time of one at the 99th of a hundred."""
+    rate, time = queries(load, port, 1, seconds, length=LONG)
+    return 2 * LONG * rate / 1e6, time
 
 
 def on_buses(load, program, number, seconds):
@@ -175,6 +187,10 @@ def half(asked, load, names, how):
         for number in asked.writers if ports else []:
             figure = lambda port: queries(load, port, 1, asked.seconds, number)
             row(f"1 connection beside {counted(number, 'writer')}, {where}", measured(figure, ports, asked.runs), names)
+        for bench in (BENCH, FULL_BENCH) if asked.long and ports else []:
+            these = {name: start_server(program, started, bench) for name, program in asked.servers}
+            figure = lambda port: megabytes(load, port, asked.seconds)
+            row(f"MB a second, {bench.count(chr(10))} instruments, {where}", measured(figure, these, asked.runs), names)
         gates = dict(asked.gate)
         for number in asked.threads if gates else []:
             figure = lambda program: turns(program, number, asked.seconds)

@@ -1,6 +1,6 @@
 /* Makes queries of a VXI-11 server on this host, each a device_write of a short text and a device_read of it.
  *
- *     load PORT CONNECTIONS SECONDS [WRITERS [BUSES]]
+ *     load PORT CONNECTIONS SECONDS [WRITERS [BUSES [BYTES]]]
  *
  * Each connection has a thread and a link of its own, to one of the devices gpib0,5 to gpib0,8, which are echoes. All start
  * together. It prints `queries=N seconds=S median=U last=V`: how many were made, in which time, and in how many microseconds half
@@ -10,6 +10,8 @@
  * after the other. These aren't counted.
  *
  * With BUSES, 1 to 4, the connections go round so many buses in place of the devices of one, each to the device at 5 of its bus.
+ *
+ * BYTES, 1 to 65,536, is how long the text of a query is; else it is six bytes.
  */
 #include <arpa/inet.h>
 #include <netinet/tcp.h>
@@ -23,9 +25,9 @@
 #include <unistd.h>
 
 enum { CORE = 0x0607AF, CREATE_LINK = 10, DEVICE_WRITE = 11, DEVICE_READ = 12 };
-enum { FIRST_ADDRESS = 5, DEVICES = 4, MOST_WORDS = 32, WAIT_MS = 10000, END = 8, BY_END = 4, READ_BYTES = 1024, LONG_WORDS = 16384, MOST_BUSES = 4 };
+enum { FIRST_ADDRESS = 5, DEVICES = 4, WAIT_MS = 10000, END = 8, BY_END = 4, READ_BYTES = 65536, LONG_WORDS = 16384, MOST_BUSES = 4 };
 static const uint32_t LAST_FRAGMENT = 0x80000000u;
-static const char TEXT[8] = "*IDN?\n"; /* six bytes, and two of padding */
+static const char TEXT[8] = "*IDN?\n"; /* six bytes */
 
 struct connection {
     int number, socket, writes;
@@ -35,7 +37,7 @@ struct connection {
     const char *fault;
 };
 
-static int port, buses;
+static int port, buses, length = 6; /* of a text */
 static double seconds, end;
 static pthread_barrier_t ready, start;
 
@@ -68,17 +70,29 @@ static int receive_all(int from, void *bytes, size_t n) {
     return 1;
 }
 
+/* Receives a record of so many bytes, in any fragments. */
+static int receive_record(struct connection *c, void *bytes, size_t length) {
+    uint32_t head;
+    size_t at = 0, n;
+    do {
+        if (!receive_all(c->socket, &head, 4)) return fail(c, "no reply came");
+        n = ntohl(head) & ~LAST_FRAGMENT;
+        if (at + n > length) return fail(c, "a reply is too long");
+        if (!receive_all(c->socket, (char *)bytes + at, n)) return fail(c, "a reply was cut short");
+        at += n;
+    } while (!(ntohl(head) & LAST_FRAGMENT));
+    return at == length || fail(c, "a reply is too short");
+}
+
 /* Makes a call with these words behind its header, and leaves the words of its results in `results`, which are `count`. */
 static int call(struct connection *c, uint32_t procedure, const uint32_t *words, int n, uint32_t *results, int count) {
     const uint32_t header[11] = { LAST_FRAGMENT | 4 * (10 + n), ++c->xid, 0, 2, CORE, 1, procedure };
-    uint32_t out[11 + n], in[MOST_WORDS];
+    uint32_t out[11 + n], in[6 + count];
     memcpy(out, header, sizeof header);
     memcpy(out + 11, words, 4 * n);
     for (int i = 0; i < 11 + n; i++) out[i] = htonl(out[i]);
     if (!send_all(c->socket, out, 4 * (11 + n))) return fail(c, "a call wasn't taken");
-    if (!receive_all(c->socket, in, 4)) return fail(c, "no reply came");
-    if (ntohl(in[0]) != (LAST_FRAGMENT | 4 * (6 + count))) return fail(c, "a reply of another length");
-    if (!receive_all(c->socket, in, 4 * (6 + count))) return fail(c, "a reply was cut short");
+    if (!receive_record(c, in, 4 * (6 + count))) return 0;
     for (int i = 0; i < 6 + count; i++) in[i] = ntohl(in[i]);
     uint32_t want[] = { c->xid, 1, 0, 0, 0, 0 };
     if (memcmp(in, want, sizeof want)) return fail(c, "a reply with another header");
@@ -104,13 +118,17 @@ static int open_link(struct connection *c) {
 }
 
 static int query(struct connection *c, const uint32_t *text) {
-    uint32_t write[] = { c->link, WAIT_MS, WAIT_MS, END, 6, text[0], text[1] };
+    int words = (length + 3) / 4;
+    uint32_t write[5 + LONG_WORDS] = { c->link, WAIT_MS, WAIT_MS, END, length };
     uint32_t read[] = { c->link, READ_BYTES, WAIT_MS, WAIT_MS, 0, 0 };
-    uint32_t wrote[] = { 0, 6 }, echoed[] = { 0, BY_END, 6, text[0], text[1] }, results[5];
-    if (!call(c, DEVICE_WRITE, write, 7, results, 2)) return 0;
+    uint32_t wrote[] = { 0, length }, echoed[3 + LONG_WORDS] = { 0, BY_END, length }, results[3 + LONG_WORDS];
+    memcpy(write + 5, text, 4 * words);
+    memcpy(echoed + 3, text, 4 * words);
+    if (!call(c, DEVICE_WRITE, write, 5 + words, results, 2)) return 0;
     if (memcmp(results, wrote, sizeof wrote)) return fail(c, "a write was answered otherwise");
-    if (!call(c, DEVICE_READ, read, 6, results, 5)) return 0;
-    return !memcmp(results, echoed, sizeof echoed) || fail(c, "a read was answered otherwise");
+    if (!call(c, DEVICE_READ, read, 6, results, 3 + words)) return 0;
+    results[1] &= BY_END; /* a text that fills the read may end it by its length as well */
+    return !memcmp(results, echoed, 4 * (3 + words)) || fail(c, "a read was answered otherwise");
 }
 
 static int write_long(struct connection *c) {
@@ -132,9 +150,11 @@ static int keep(struct connection *c, double time) {
 
 static void *work(void *of) {
     struct connection *c = of;
-    uint32_t text[2];
-    memcpy(text, TEXT, sizeof text);
-    for (int i = 0; i < 2; i++) text[i] = ntohl(text[i]);
+    char bytes[4 * LONG_WORDS] = { 0 };
+    uint32_t text[LONG_WORDS];
+    for (int i = 0; i < length; i++) bytes[i] = TEXT[i % 6];
+    memcpy(text, bytes, sizeof text);
+    for (int i = 0; i < LONG_WORDS; i++) text[i] = ntohl(text[i]);
     int goes = open_link(c);
     pthread_barrier_wait(&ready);
     pthread_barrier_wait(&start);
@@ -152,10 +172,11 @@ static int by_size(const void *a, const void *b) {
 }
 
 int main(int count, char **words) {
-    int asking = count >= 4 && count <= 6 ? atoi(words[2]) : 0, connections = asking + (count >= 5 ? atoi(words[4]) : 0);
-    buses = count == 6 ? atoi(words[5]) : 0;
-    if (asking < 1 || connections < asking || buses < 0 || buses > MOST_BUSES)
-        return fprintf(stderr, "usage: load PORT CONNECTIONS SECONDS [WRITERS [BUSES]]\n"), 2;
+    int asking = count >= 4 && count <= 7 ? atoi(words[2]) : 0, connections = asking + (count >= 5 ? atoi(words[4]) : 0);
+    buses = count >= 6 ? atoi(words[5]) : 0;
+    length = count == 7 ? atoi(words[6]) : length;
+    if (asking < 1 || connections < asking || buses < 0 || buses > MOST_BUSES || length < 1 || length > 4 * LONG_WORDS)
+        return fprintf(stderr, "usage: load PORT CONNECTIONS SECONDS [WRITERS [BUSES [BYTES]]]\n"), 2;
     port = atoi(words[1]), seconds = atof(words[3]);
     struct connection *all = calloc(connections, sizeof *all);
     pthread_t *threads = calloc(connections, sizeof *threads);
