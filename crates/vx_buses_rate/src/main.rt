@@ -6,6 +6,7 @@
 mod racks;
 mod serving;
 
+ghost use Rattle.std.specs.Prelude.{IfSome};
 ghost use Rattle.vx_gates.specs.Four.{Each};
 ghost use Rattle.vx_gates.specs.Passing.{passes_shown, IsFirst};
 ghost use Rattle.vx_gates.specs.Standing.{gates_shown};
@@ -61,27 +62,70 @@ fn next_comer(alloc: Global, port: &mut TcpPort) -> Option<Comer> {
     }
 }
 
-/// Serves the links that come, and answers whether each was served to its end; none where one didn't come.
-fn serve_links<R: Threads + SystemClock + Wait + Copy + Sync>(
+/// The links that are served.
+#[derive(Drop)]
+enum Comers {
+    One(Comer),
+    Two(Comer, Comer),
+}
+
+/// The links that come, so many.
+fn comers_at(alloc: Global, port: &mut TcpPort, links: Links) -> Option<Comers> {
+    let first = next_comer(alloc, port)?;
+    match links {
+        Links::One => Some(Comers::One(first)),
+        Links::Two => next_comer(alloc, port).map(|second| Comers::Two(first, second)),
+    }
+}
+
+/// Four buses with an echo each, and the first pass to each.
+fn fleet(alloc: Global) -> Option<(Buses<Bench>, BusPass<Bench>)>
+    ensures { IfSome result (λ r. Each IsFirst (passes_shown r.1) (gates_shown r.0)) }
+{
+    start_buses(alloc, rack_of(alloc)?)
+}
+
+/// Serves links by buses that no other link knows, and answers whether each was served to its end.
+fn serve_on<R: Threads + SystemClock + Wait + Copy + Sync>(
     rt: &R,
     alloc: Global,
     buses: &Buses<Bench>,
     passes: BusPass<Bench>,
-    port: &mut TcpPort,
-    links: Links,
-) -> Option<bool>
+    comers: Comers,
+) -> bool
     requires { Each IsFirst (passes_shown passes) (gates_shown buses.now) }
 {
-    let comer = next_comer(alloc, port)?;
-    match links {
-        Links::One => {
+    match comers {
+        Comers::One(comer) => {
             let (_, well) = serve(rt, alloc, buses, passes, comer);
-            Some(well)
+            well
         }
-        Links::Two => {
-            let other = next_comer(alloc, port)?;
-            Some(serve_both(rt, alloc, buses, passes, (comer, other)))
-        }
+        Comers::Two(one, other) => serve_both(rt, alloc, buses, passes, (one, other)),
+    }
+}
+
+/// Serves links, and answers whether each was served to its end.
+fn serve_links<R: Threads + SystemClock + Wait + Copy + Sync>(
+    rt: &R,
+    alloc: Global,
+    comers: Comers,
+) -> bool {
+    match fleet(alloc) {
+        Some((buses, passes)) => serve_on(rt, alloc, &buses, passes, comers),
+        None => false,
+    }
+}
+
+/// Serves the links that come, and answers whether all came, and each was served to its end.
+fn run<R: Threads + SystemClock + Wait + Copy + Sync>(
+    rt: &R,
+    alloc: Global,
+    port: &mut TcpPort,
+    links: Links,
+) -> bool {
+    match comers_at(alloc, port, links) {
+        Some(comers) => serve_links(rt, alloc, comers),
+        None => false,
     }
 }
 
@@ -92,17 +136,9 @@ fn main(rt: HostRuntime) -> ExitCode {
     let Bound::Port(mut port) = TcpNet::new(&rt).bind(port) else {
         return ExitCode::from(NO_PORT);
     };
-    let Some(rack) = rack_of(rt.alloc()) else {
-        return ExitCode::from(FAILED);
-    };
-    let Some((buses, passes)) = start_buses(rt.alloc(), rack) else {
-        return ExitCode::from(FAILED);
-    };
-    if println!(rt; "ready").is_err() {
-        return ExitCode::from(FAILED);
-    }
-    match serve_links(&rt, rt.alloc(), &buses, passes, &mut port, links) {
-        Some(true) => ExitCode::SUCCESS,
-        _ => ExitCode::from(FAILED),
+    if println!(rt; "ready").is_ok() && run(&rt, rt.alloc(), &mut port, links) {
+        ExitCode::SUCCESS
+    } else {
+        ExitCode::from(FAILED)
     }
 }

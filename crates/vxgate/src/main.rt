@@ -38,14 +38,20 @@ fn add(rack: &mut Vec<Spare<AnyModel>>, name: &str, inst: AnyModel) -> Result<()
     Ok(())
 }
 
+/// Adds a spare instrument of each model.
+fn add_each(alloc: Global, rack: &mut Vec<Spare<AnyModel>>) -> Result<(), Unmade> {
+    add(rack, "echo", AnyModel::Echo(Echo::new(alloc)?))?;
+    add(rack, "meter", AnyModel::Meter(Meter::new(alloc)?))?;
+    add(rack, "slow", AnyModel::Slow(Slow::new(alloc)?))?;
+    add(rack, "asker", AnyModel::Asker(Asker::new(alloc)?))?;
+    Ok(())
+}
+
 /// Four spare instruments of each model.
 fn rack_of(alloc: Global) -> Result<Vec<Spare<AnyModel>>, Unmade> {
     let mut rack = Vec::new(alloc);
     for _ in 0..SPARES {
-        add(&mut rack, "echo", AnyModel::Echo(Echo::new(alloc)?))?;
-        add(&mut rack, "meter", AnyModel::Meter(Meter::new(alloc)?))?;
-        add(&mut rack, "slow", AnyModel::Slow(Slow::new(alloc)?))?;
-        add(&mut rack, "asker", AnyModel::Asker(Asker::new(alloc)?))?;
+        add_each(alloc, &mut rack)?;
     }
     Ok(rack)
 }
@@ -139,8 +145,8 @@ fn watch_of(alloc: Global, words: &[String]) -> Result<Watch, Unmade> {
 struct Made {
     words: Vec<String>,
     watch: Watch,
-    rack: Vec<Spare<AnyModel>>,
     channels: Channels,
+    rack: Vec<Spare<AnyModel>>,
 }
 
 /// Makes it; the words are read first.
@@ -148,13 +154,12 @@ fn make(rt: &HostRuntime) -> Result<Made, Unmade> {
     let alloc = rt.alloc();
     let words = words_of(rt)?;
     let watch = watch_of(alloc, words.as_slice())?;
-    let rack = rack_of(alloc)?;
     let channels = channels_of(alloc)?;
     Ok(Made {
         words,
         watch,
-        rack,
         channels,
+        rack: rack_of(alloc)?,
     })
 }
 
