@@ -6,8 +6,8 @@ use vx_codec::asked_is_spelled;
 use vx_rpc::calls_are_spelled;
 use vx_trace::one_end2;
 
-/// The trace of a formed run tells its events, which gather to a legal history. A run is formed where each step makes in the gateway what a step may make, with any
-/// levels, holds and faults of the bus.
+/// The trace of a formed run tells its events, which gather to a legal history. A run is formed where each step makes in the
+/// gateway what a step may make, with any levels, holds and faults of the bus.
 pub fn formed_runs()
     ensures tells { FormedLaw }
     ensures told { ToldLaw }
