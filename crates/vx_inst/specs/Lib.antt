@@ -4,4 +4,6 @@ pub mod Marks
 pub mod Reply
 pub mod Shared
 pub mod Behavior
+pub mod Runs
+pub mod ProvedLaws
 pub use Rattle.vx_488.specs.Heard

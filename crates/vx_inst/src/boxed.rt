@@ -1,6 +1,7 @@
 //! An instrument in a box, whatever its kind.
 
 use super::Instrument;
+use vx_bus_traits::ManyGot;
 
 /// A boxed instrument that may cross threads is an instrument: each call goes to the one in the box, and it is seen as that
 /// one is seen.
@@ -17,12 +18,20 @@ impl Instrument for Box<dyn Instrument + Send> {
         (**self).take(b, end);
     }
 
+    fn take_many(&mut self, bytes: &[u8], end: bool) -> usize {
+        (**self).take_many(bytes, end)
+    }
+
     fn can_give(&self) -> bool {
         (**self).can_give()
     }
 
     fn give(&mut self) -> (u8, bool) {
         (**self).give()
+    }
+
+    fn give_many(&mut self, room: &mut [u8], stop: Option<u8>) -> ManyGot {
+        (**self).give_many(room, stop)
     }
 
     fn poll(&mut self) -> u8 {

@@ -6,13 +6,18 @@ mod body;
 mod boxed;
 mod done;
 
-ghost use Rattle.std.specs.Prelude.{◌≡◌, ℕ, true, List, []};
+ghost use Rattle.std.specs.Prelude.{◌≡◌, ◌<◌, ◌≤◌, ℕ, true, false, List, [], length, take, drop};
+ghost use Rattle.vx_488.specs.declared.transfers.Transfer.TheVariants.{Put};
+ghost use Rattle.vx_bus_traits.specs.Bursts.{ended, gets_steps, StopsAt};
+ghost use Rattle.vx_bus_traits.specs.Steps.{Path};
 ghost use Rattle.vx_inst.specs.declared.done.Done.TheVariants.{Took, Gave, Polled, Cleared, Triggered, ToLocal, StatusSet, Told};
 ghost use Rattle.vx_inst.specs.Behavior.{Behavior, seen, after};
 ghost use Rattle.vx_inst.specs.Laws.{takes_byte, gives_byte, IsSound, Takes, Gives, status_byte, IsPolled, IsCleared, IsTriggered, IsTold, with_status};
+ghost use Rattle.vx_inst.specs.Runs.{TakesRun, GivesNext};
 
 pub use body::Body;
 pub use done::Done;
+use vx_bus_traits::{ManyGot, Stop};
 
 /// The most bytes that an instrument keeps of a message, and the most that it has to give.
 pub const INST_MAX: usize = 262144;
@@ -44,6 +49,24 @@ pub trait Instrument: Drop {
         ensures does { behaves self.new ≡ after (Took b end) (behaves self.old) }
         ensures sound { IsSound (seen (behaves self.new)) };
 
+    /// Takes bytes, one after the other, until it can't take one or there is none left, with END on the last of all or not.
+    /// Answers how many it took.
+    fn take_many(&mut self, bytes: &[u8], end: bool) -> usize
+        ensures takes { TakesRun (take result (ended Put end bytes.now)) (behaves self.old) (behaves self.new) }
+        ensures within { result ≤ length bytes.now }
+        ensures stops { result < length bytes.now → takes_byte (seen (behaves self.new)) ≡ false }
+    {
+        let mut taken = 0;
+        while taken < bytes.len() {
+            if !self.can_take() {
+                return taken;
+            }
+            self.take(bytes[taken], end && taken + 1 == bytes.len());
+            taken += 1;
+        }
+        taken
+    }
+
     /// Whether it can give a byte: it is ready, and has one.
     fn can_give(&self) -> bool
         ensures can { result ≡ gives_byte (seen (behaves self.now)) }
@@ -55,6 +78,45 @@ pub trait Instrument: Drop {
         ensures gives { Gives (seen (behaves self.old)) (record { value = result.0; end = result.1 }) (seen (behaves self.new)) }
         ensures does { behaves self.new ≡ after Gave (behaves self.old) }
         ensures sound { IsSound (seen (behaves self.new)) };
+
+    /// Gives bytes, one after the other, into a room: until one has END, or is the stop byte, or fills the room, or until it has
+    /// none to give. Of these it tells the first; that one failed it never tells.
+    fn give_many(&mut self, room: &mut [u8], stop: Option<u8>) -> ManyGot
+        ensures gives { Path GivesNext (behaves self.old) (gets_steps (take result.got room.new) result.stop) (behaves self.new) }
+        ensures stops { StopsAt stop (length room.old) (take result.got room.new) result.stop }
+        ensures within { result.got ≤ length room.old }
+        ensures rest { drop result.got room.new ≡ drop result.got room.old }
+        ensures goes { result.stop ≡ Stop.Failed → ⊥ }
+    {
+        let mut got = 0;
+        while got < room.len() {
+            if !self.can_give() {
+                return ManyGot {
+                    got,
+                    stop: Stop::Held,
+                };
+            }
+            let (b, end) = self.give();
+            room[got] = b;
+            got += 1;
+            if end {
+                return ManyGot {
+                    got,
+                    stop: Stop::End,
+                };
+            }
+            if stop == Some(b) {
+                return ManyGot {
+                    got,
+                    stop: Stop::Char,
+                };
+            }
+        }
+        ManyGot {
+            got,
+            stop: Stop::Full,
+        }
+    }
 
     /// Gives its status byte for a serial poll, with bit 6 where it asks for service, which ends its asking
     /// (IEEE 488.1, 2.7).

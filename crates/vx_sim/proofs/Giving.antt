@@ -12,10 +12,10 @@ use Rattle.vx_bus_traits.specs.Bursts.{ended, gets_steps, refused_get, is_end}
 use Rattle.vx_bus_traits.specs.declared.bursts.Stop.{Stop}
 use Rattle.vx_bus_traits.specs.declared.bursts.Stop.TheVariants as stop
 use Rattle.vx_bus_traits.specs.Means.{Means}
-use Rattle.vx_bus_traits.specs.Steps.{Step, Went, Held, Failed, Told, Cut, Path}
-use Rattle.vx_bus_traits.specs.Walks.{StepsTo, Walk}
+use Rattle.vx_bus_traits.specs.Steps.{Step, Went, Held, Path}
+use Rattle.vx_bus_traits.specs.Walks.{Walk}
 use Rattle.vx_sim.specs.Attaching.{AreApart}
-use Rattle.vx_sim.specs.Occupants.{Occupant, Placed, seen, GivesBy}
+use Rattle.vx_sim.specs.Occupants.{Placed, seen, GivesBy}
 use Rattle.vx_sim.specs.Bench.{talks, answers_get, can_answer, holds_get, BenchWhere, PlaceGives, TalkerGives}
 use Rattle.vx_sim.specs.Shown.{AtPlace, TalkerGave}
 use Rattle.vx_sim.specs.SimState.{SimState, is_next, nearer, means_after, means_past, after_bytes, Through}
@@ -23,25 +23,6 @@ use Rattle.vx_sim.proofs.Apart.{talker_gave, no_other, apart-changed}
 use Rattle.vx_sim.proofs.Finding.{position-is, quiet}
 use Rattle.vx_sim.proofs.Runs.{same-place, nowhere-at, front-all}
 use Rattle.vx_sim.proofs.Stepping.{steps-to}
-
--- ---- an instrument, as a bus on which nothing but its gets goes
-
-abbrev pub Giving : Occupant × Means → Step → Occupant × Means → Type 0
-Giving p s q = GivesBy p.0 s q.0
-
-abbrev pub meaning : Occupant × Means → Means
-meaning p = p.1
-
-pub gives-steps : (old new : Occupant) (m : Means) (s : Step) → GivesBy old s new → StepsTo meaning Giving (old, m) s (new, means_after m s)
-gives-steps old new m (Went t) h = (refl, h)
-gives-steps old new m (Held asked) h = (refl, h)
-gives-steps old new m (Failed asked) h = (refl, h)
-gives-steps old new m (Told now) h = (refl, h)
-gives-steps old new m Cut h = (refl, h)
-
-pub gives-path : (steps : List Step) (p q : Occupant × Means) → Walk meaning Giving p steps q → Path GivesBy p.0 steps q.0
-gives-path [] p q h = ap (λ (r : Occupant × Means). r.0) h
-gives-path (s ∷ steps) p q h = (h.0.0, h.1.1, gives-path steps h.0 q h.2)
 
 -- ---- a bench of which it is the talker
 

@@ -5,4 +5,5 @@ pub mod Known
 pub mod Finding
 pub mod Stepping
 pub mod Runs
+pub mod Seats
 pub mod Giving

@@ -1,19 +1,20 @@
 -- Puts one after the other that one listener takes.
-use Rattle.std.proofs.Common.{◌≡◌, ℕ, zero, suc, ◌+◌, ◌<◌, ◌≤◌, Bool, true, false, not, cond, ◌&&◌, ◌||◌, List, [], ◌∷◌, ◌++◌, map, length, take, drop, get_or, ◌==◌, Vec, None, refl, sym, ap, ◌∙◌, subst, arith, append_assoc}
+use Rattle.std.proofs.Common.{◌≡◌, ℕ, zero, suc, ◌+◌, ◌<◌, ◌≤◌, Bool, true, false, not, cond, ◌&&◌, ◌||◌, List, [], ◌∷◌, ◌++◌, map, length, take, get_or, ◌==◌, Vec, None, refl, sym, ap, ◌∙◌, subst, arith, append_assoc}
 use Rattle.std.specs.List.{list_any}
 use Rattle.std.specs.Vec.{with_items}
 use Rattle.std.proofs.lemmas.Bool.{or_parts}
 use Rattle.std.proofs.Math.Seq.{take-length}
-use Rattle.std.proofs.lemmas.List.{append-nil, length-take-le, with_items_is}
+use Rattle.std.proofs.lemmas.List.{append-nil, with_items_is}
 use Rattle.vx_488.specs.declared.transfers.Addr.{Addr}
 use Rattle.vx_488.specs.declared.transfers.Transfer.{Transfer}
 use Rattle.vx_488.specs.declared.transfers.Transfer.TheVariants.{Put}
 use Rattle.vx_488.specs.declared.wire.Wire.{Wire}
 use Rattle.vx_inst.specs.Laws.{takes_byte}
+use Rattle.vx_inst.specs.ProvedLaws.Runs.{front-next, front-long}
 use Rattle.vx_bus_traits.specs.Steps.{Went}
 use Rattle.vx_bus_traits.specs.Walks.{Walk}
 use Rattle.vx_bus_traits.specs.Bursts.{ended}
-use Rattle.vx_bus_traits.specs.ProvedLaws.Puts.{PutsSoFar, ended-at, take-next, length-ended}
+use Rattle.vx_bus_traits.specs.ProvedLaws.Puts.{PutsSoFar, length-ended}
 use Rattle.vx_sim.specs.Occupants.{Occupant, Placed, seen, TakesByte, TakesPuts}
 use Rattle.vx_sim.specs.Bench.{listens, everyone, some_refuses, holds_put, OccupantWhere, BenchWhere, PlaceTakes}
 use Rattle.vx_sim.specs.Finding.{indices}
@@ -31,17 +32,6 @@ takes-more [] b end old mid new far can takes =
     subst (λ (o : Occupant). TakesPuts (Put b end ∷ []) o new) far (can, (new, takes, refl))
 takes-more (Put c e ∷ puts) b end old mid new far can takes = (far.0, (far.1.0, far.1.1, takes-more puts b end far.1.0 mid new far.1.2 can takes))
 takes-more (_ ∷ puts) b end old mid new far can takes = absurd far
-
--- one more of these bytes, with END where it is the last of all and END is asked for
-front-next : (made : ℕ → Bool → Transfer) (end : Bool) (bytes : List ℕ) (n d : ℕ) (last : Bool) → n < length bytes → last ≡ (end && (n + 1 == length bytes))
-    → take (n + 1) (ended made end bytes) ≡ take n (ended made end bytes) ++ made (get_or bytes n d) last ∷ []
-front-next made end bytes n d last more is =
-    take-next (ended made end bytes) n (made (get_or bytes n d) last) (drop (n + 1) (ended made end bytes))
-    (ended-at made end bytes n d more ∙ ap (λ e. made (get_or bytes n d) e ∷ drop (n + 1) (ended made end bytes)) (sym is))
-
--- so many of them are so many transfers
-pub front-long : (made : ℕ → Bool → Transfer) (end : Bool) (bytes : List ℕ) (n : ℕ) → n ≤ length bytes → length (take n (ended made end bytes)) ≡ n
-front-long made end bytes n h = length-take-le n (ended made end bytes) (omega (arith, length-ended made end bytes, h))
 
 pub takes-next : (end : Bool) (bytes : List ℕ) (n d : ℕ) (last : Bool) (old mid new : Occupant) → n < length bytes → last ≡ (end && (n + 1 == length bytes))
     → TakesPuts (take n (ended Put end bytes)) old mid → takes_byte (seen mid) ≡ true → TakesByte (get_or bytes n d) last mid new

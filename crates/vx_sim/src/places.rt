@@ -70,7 +70,6 @@ impl<I: Instrument> Stand<I> {
         }
     }
 
-    #[inline(always)]
     fn take(&mut self, b: u8, end: bool)
         requires { takes_byte (seen (occupant_of self.old)) ≡ true }
         ensures { TakesByte b end (occupant_of self.old) (occupant_of self.new) }
@@ -87,16 +86,13 @@ impl<I: Instrument> Stand<I> {
         ensures takes { TakesPuts (take result (ended Put end bytes.now)) (occupant_of self.old) (occupant_of self.new) }
         ensures within { result ≤ length bytes.now }
     {
-        let mut taken = 0;
-        while taken < bytes.len() && self.can_take() {
-            self.take(bytes[taken], end && taken + 1 == bytes.len());
-            taken += 1;
+        match self {
+            Stand::Table(table) => take_run(table, bytes, end),
+            Stand::Boxed(seat) => seat.take_many(bytes, end),
         }
-        taken
     }
 
     /// Gives the next byte, and whether END stands on it.
-    #[inline(always)]
     fn give(&mut self) -> (u8, bool)
         requires { gives_byte (seen (occupant_of self.old)) ≡ true }
         ensures { GivesByte (record { value = result.0; end = result.1 }) (occupant_of self.old) (occupant_of self.new) }
@@ -116,33 +112,9 @@ impl<I: Instrument> Stand<I> {
         ensures rest { drop result.got room.new ≡ drop result.got room.old }
         ensures goes { result.stop ≡ Stop.Failed → ⊥ }
     {
-        let mut got = 0;
-        while got < room.len() {
-            if !self.can_give() {
-                return ManyGot {
-                    got,
-                    stop: Stop::Held,
-                };
-            }
-            let (b, end) = self.give();
-            room[got] = b;
-            got += 1;
-            if end {
-                return ManyGot {
-                    got,
-                    stop: Stop::End,
-                };
-            }
-            if stop == Some(b) {
-                return ManyGot {
-                    got,
-                    stop: Stop::Char,
-                };
-            }
-        }
-        ManyGot {
-            got,
-            stop: Stop::Full,
+        match self {
+            Stand::Table(table) => give_run(table, room, stop),
+            Stand::Boxed(seat) => seat.give_many(room, stop),
         }
     }
 
@@ -164,6 +136,57 @@ impl<I: Instrument> Stand<I> {
             Stand::Table(table) => tell_table(table, signal),
             Stand::Boxed(seat) => tell_seat(seat, signal),
         }
+    }
+}
+
+/// The table takes bytes, one after the other, until it can't take one or there is none left.
+fn take_run(table: &mut TableInst, bytes: &[u8], end: bool) -> usize
+    ensures takes { TakesPuts (take result (ended Put end bytes.now)) (Table table.old) (Table table.new) }
+    ensures within { result ≤ length bytes.now }
+{
+    let mut taken = 0;
+    while taken < bytes.len() && table.can_take() {
+        table.take(bytes[taken], end && taken + 1 == bytes.len());
+        taken += 1;
+    }
+    taken
+}
+
+/// The table gives bytes, one after the other, until the run ends.
+fn give_run(table: &mut TableInst, room: &mut [u8], stop: Option<u8>) -> ManyGot
+    ensures gives { Path GivesBy (Table table.old) (gets_steps (take result.got room.new) result.stop) (Table table.new) }
+    ensures stops { StopsAt stop (length room.old) (take result.got room.new) result.stop }
+    ensures within { result.got ≤ length room.old }
+    ensures rest { drop result.got room.new ≡ drop result.got room.old }
+    ensures goes { result.stop ≡ Stop.Failed → ⊥ }
+{
+    let mut got = 0;
+    while got < room.len() {
+        if !table.can_give() {
+            return ManyGot {
+                got,
+                stop: Stop::Held,
+            };
+        }
+        let (b, end) = table.give();
+        room[got] = b;
+        got += 1;
+        if end {
+            return ManyGot {
+                got,
+                stop: Stop::End,
+            };
+        }
+        if stop == Some(b) {
+            return ManyGot {
+                got,
+                stop: Stop::Char,
+            };
+        }
+    }
+    ManyGot {
+        got,
+        stop: Stop::Full,
     }
 }
 

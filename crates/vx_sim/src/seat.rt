@@ -1,12 +1,18 @@
 //! An instrument that is no table, at its place.
 
-ghost use Rattle.std.specs.Prelude.{◌≡◌, true};
+ghost use Rattle.std.specs.Prelude.{◌≡◌, ◌≤◌, ◌++◌, true, length, take, drop};
+ghost use Rattle.vx_488.specs.declared.transfers.Transfer.TheVariants.{Put};
+ghost use Rattle.vx_bus_traits.specs.Bursts.{ended, gets_steps, StopsAt};
+ghost use Rattle.vx_bus_traits.specs.Steps.{Path};
 ghost use Rattle.vx_inst.specs.declared.done.Done.TheVariants.{Took, Gave, Polled, Cleared, Triggered, ToLocal, StatusSet, Told};
 ghost use Rattle.vx_inst.specs.Laws.{takes_byte, gives_byte, Takes, Gives, status_byte, IsPolled, IsCleared, IsTriggered, IsTold, with_status};
-ghost use Rattle.vx_sim.specs.Occupants.{handed_in, HasCall, IsKnown};
+ghost use Rattle.vx_inst.specs.Runs.{takings, gave};
+ghost use Rattle.vx_sim.specs.Histories.{calls_of};
+ghost use Rattle.vx_sim.specs.Occupants.{Boxed, handed_in, HasCall, IsKnown, TakesPuts, GivesBy};
 
 use http_server::Log;
 use std::marker::Model;
+use vx_bus_traits::{ManyGot, Stop};
 use vx_inst::{Done, Instrument};
 
 /// An instrument with the calls that it had on the bench. These are noted for proofs alone: they take no memory.
@@ -70,6 +76,17 @@ impl<I: Instrument> Seat<I> {
         self.calls = self.calls.and(&Done::Took { b, end }, &());
     }
 
+    /// Takes bytes, one after the other, until it can't take one or there is none left, with END on the last of all or not.
+    /// Answers how many it took.
+    pub(crate) fn take_many(&mut self, bytes: &[u8], end: bool) -> usize
+        ensures takes { TakesPuts (take result (ended Put end bytes.now)) (Boxed self.old) (Boxed self.new) }
+        ensures within { result ≤ length bytes.now }
+    {
+        let taken = self.inst.take_many(bytes, end);
+        note_takings(&mut self.calls, bytes, end, taken);
+        taken
+    }
+
     pub(crate) fn can_give(&self) -> bool
         ensures { result ≡ gives_byte self.now.shown }
     {
@@ -84,6 +101,20 @@ impl<I: Instrument> Seat<I> {
         let given = self.inst.give();
         self.calls = self.calls.and(&Done::Gave, &());
         given
+    }
+
+    /// Gives bytes, one after the other, into a room: until one has END, or is the stop byte, or fills the room, or until it has
+    /// none to give. It never answers that one failed.
+    pub(crate) fn give_many(&mut self, room: &mut [u8], stop: Option<u8>) -> ManyGot
+        ensures gives { Path GivesBy (Boxed self.old) (gets_steps (take result.got room.new) result.stop) (Boxed self.new) }
+        ensures stops { StopsAt stop (length room.old) (take result.got room.new) result.stop }
+        ensures within { result.got ≤ length room.old }
+        ensures rest { drop result.got room.new ≡ drop result.got room.old }
+        ensures goes { result.stop ≡ Stop.Failed → ⊥ }
+    {
+        let many = self.inst.give_many(room, stop);
+        note_givings(&mut self.calls, many.got);
+        many
     }
 
     /// Gives its status byte.
@@ -136,5 +167,31 @@ impl<I: Instrument> Seat<I> {
     {
         self.inst.moment(now);
         self.calls = self.calls.and(&Done::Told(now), &());
+    }
+}
+
+/// Notes that so many of these bytes were taken, with END on the last of all or not.
+fn note_takings(calls: &mut Log<Done, ()>, bytes: &[u8], end: bool, taken: usize)
+    requires { taken ≤ length bytes.now }
+    ensures { calls_of calls.new.items ≡ calls_of calls.old.items ++ takings (take taken (ended Put end bytes.now)) }
+{
+    let mut noted = 0;
+    while noted < taken {
+        let last = end && noted + 1 == bytes.len();
+        let call = Done::Took {
+            b: bytes[noted],
+            end: last,
+        };
+        *calls = calls.and(&call, &());
+        noted += 1;
+    }
+}
+
+/// Notes that so many bytes were given.
+fn note_givings(calls: &mut Log<Done, ()>, given: usize)
+    ensures { calls_of calls.new.items ≡ calls_of calls.old.items ++ gave given }
+{
+    for _ in 0..given {
+        *calls = calls.and(&Done::Gave, &());
     }
 }

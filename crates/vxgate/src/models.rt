@@ -1,4 +1,5 @@
 //! The instruments that this program plugs in.
+use vx_bus_traits::ManyGot;
 use vx_inst::Instrument;
 use vx_rack::{Asker, Echo, Meter, Slow};
 
@@ -37,6 +38,15 @@ impl Instrument for AnyModel {
         }
     }
 
+    fn take_many(&mut self, bytes: &[u8], end: bool) -> usize {
+        match self {
+            AnyModel::Echo(inst) => inst.take_many(bytes, end),
+            AnyModel::Meter(inst) => inst.take_many(bytes, end),
+            AnyModel::Slow(inst) => inst.take_many(bytes, end),
+            AnyModel::Asker(inst) => inst.take_many(bytes, end),
+        }
+    }
+
     fn can_give(&self) -> bool {
         match self {
             AnyModel::Echo(inst) => inst.can_give(),
@@ -52,6 +62,15 @@ impl Instrument for AnyModel {
             AnyModel::Meter(inst) => inst.give(),
             AnyModel::Slow(inst) => inst.give(),
             AnyModel::Asker(inst) => inst.give(),
+        }
+    }
+
+    fn give_many(&mut self, room: &mut [u8], stop: Option<u8>) -> ManyGot {
+        match self {
+            AnyModel::Echo(inst) => inst.give_many(room, stop),
+            AnyModel::Meter(inst) => inst.give_many(room, stop),
+            AnyModel::Slow(inst) => inst.give_many(room, stop),
+            AnyModel::Asker(inst) => inst.give_many(room, stop),
         }
     }
 
