@@ -1,13 +1,15 @@
 //! Instruments in boxes and of any kind, and what one is made of.
 
-ghost use Rattle.std.specs.Prelude.{◌≡◌, true, []};
+ghost use Rattle.std.specs.Prelude.{◌≡◌, ◌≤◌, true, []};
 ghost use Rattle.vx_inst.specs.declared.done.Done.TheVariants.{Took};
 ghost use Rattle.vx_inst.specs.Behavior.{after};
 ghost use Rattle.vx_inst.specs.Laws.{takes_byte, Takes, status_byte, IsPolled, IsSound, IsStatus};
 
 use crate::rows::compare;
 use std::test::Fail;
+use vx_bus::{ManyGot, Stop};
 use vx_inst::*;
+use vx_rack::Echo;
 
 /// An instrument that keeps a byte until END comes, and has one byte to give from the beginning.
 #[derive(Drop)]
@@ -287,6 +289,76 @@ fn boxed_for_any(rt: HostRuntime) -> Result<(), Fail> {
             ([Some((10, true)), None], [true, true, false, true]),
             [65, 1, 0xFF],
         ),
+    );
+    Ok(())
+}
+
+/// Gets a run of bytes into a room of so many, with this stop byte.
+fn get_run<I: Instrument>(inst: &mut I, size: usize, stop: Option<u8>) -> (ManyGot, [u8; 4])
+    requires { size ≤ 4 }
+{
+    let mut room = [0; 4];
+    let many = inst.give_many(&mut room[..size], stop);
+    (many, room)
+}
+
+/// Hands over two runs of three and two bytes, and gets what comes: up to the stop byte, to END, to the room's end, to END on the
+/// stop byte, and none.
+fn run_through<I: Instrument>(inst: &mut I) -> ([usize; 2], [(ManyGot, [u8; 4]); 5]) {
+    let taken = [inst.take_many(b"ABC", true), inst.take_many(b"DE", true)];
+    let got = [
+        get_run(inst, 4, Some(b'B')),
+        get_run(inst, 4, None),
+        get_run(inst, 1, None),
+        get_run(inst, 4, Some(b'E')),
+        get_run(inst, 4, None),
+    ];
+    (taken, got)
+}
+
+/// So many bytes came, and why no more did.
+fn came(got: usize, stop: Stop) -> ManyGot {
+    ManyGot { got, stop }
+}
+
+// A run goes as single bytes would, and tells the first reason to stop.
+#[test]
+fn runs(rt: HostRuntime) -> Result<(), Fail> {
+    let mut echo = Echo::new(rt.alloc())?;
+    compare(
+        &rt,
+        0,
+        &run_through(&mut echo),
+        &(
+            [3, 2],
+            [
+                (came(2, Stop::Char), *b"AB\0\0"),
+                (came(1, Stop::End), *b"C\0\0\0"),
+                (came(1, Stop::Full), *b"D\0\0\0"),
+                (came(1, Stop::End), *b"E\0\0\0"),
+                (came(0, Stop::Held), [0; 4]),
+            ],
+        ),
+    );
+    Ok(())
+}
+
+/// Hands over a run of two bytes, and another, and gets one into a room of four.
+fn run_boxed(inst: &mut Box<dyn Instrument + Send>) -> ([usize; 2], (ManyGot, [u8; 4])) {
+    let given = get_run(inst, 4, None);
+    let taken = [inst.take_many(b"AB", false), inst.take_many(b"C", true)];
+    (taken, given)
+}
+
+// So does one of an instrument in a box, which takes the bytes that it can.
+#[test]
+fn boxed_runs(rt: HostRuntime) -> Result<(), Fail> {
+    let mut inst: Box<dyn Instrument + Send> = Box::new(rt.alloc(), make_latch(0))?;
+    compare(
+        &rt,
+        0,
+        &run_boxed(&mut inst),
+        &([1, 0], (came(1, Stop::End), *b"\n\0\0\0")),
     );
     Ok(())
 }
