@@ -3,7 +3,7 @@ ghost use Rattle.std.specs.Prelude.{◌≡◌};
 ghost use Rattle.vx_488.specs.Command.{command_of, command_of_code, addressed_or_universal};
 
 /// What a command byte means (IEEE 488.1, 2.13 and its table of multiline interface messages).
-#[derive(Clone, Copy, Debug, PartialEq, Eq)]
+#[derive(Clone, Copy, PartialEq, Eq)]
 pub enum Command {
     /// GTL, 01: the listeners go to local control.
     GoToLocal,

@@ -10,7 +10,7 @@ const ADDRESSES: usize = 992;
 
 /// The addresses that listen. A contract sees the list of them, without repeats, in order of primary and then secondary
 /// address, the one without a secondary first.
-#[derive(Clone, Copy, Debug)]
+#[derive(Clone, Copy)]
 pub struct Listeners {
     // one flag an address, in that order
     flags: [bool; ADDRESSES],

@@ -2,14 +2,14 @@
 pub const ADDRESS_MAX: u8 = 30;
 
 /// An address on the bus: a primary and perhaps a secondary one, each 0 to 30 (IEEE 488.1, 2.6).
-#[derive(Clone, Copy, Debug, PartialEq, Eq)]
+#[derive(Clone, Copy, PartialEq, Eq)]
 pub struct Addr {
     pub p: u8,
     pub s: Option<u8>,
 }
 
 /// A line of the bus that a controller sets.
-#[derive(Clone, Copy, Debug, PartialEq, Eq)]
+#[derive(Clone, Copy, PartialEq, Eq)]
 pub enum Line {
     /// Remote enable.
     Ren,
@@ -18,7 +18,7 @@ pub enum Line {
 }
 
 /// What went over the bus in one step.
-#[derive(Clone, Copy, Debug, PartialEq, Eq)]
+#[derive(Clone, Copy, PartialEq, Eq)]
 pub enum Transfer {
     /// A command byte: a byte that the controller sends with ATN on. It means its low seven bits (IEEE 488.1, 2.13).
     Cmd(u8),

@@ -8,7 +8,7 @@ use crate::listeners::Listeners;
 use crate::transfers::{Addr, Transfer};
 
 /// Which primary address a secondary one would belong to.
-#[derive(Clone, Copy, Debug, PartialEq, Eq)]
+#[derive(Clone, Copy, PartialEq, Eq)]
 pub enum Pending {
     Nothing,
     /// To the talker at this primary address.
@@ -18,7 +18,7 @@ pub enum Pending {
 }
 
 /// What the transfers so far mean for the bus (IEEE 488.1, 2.5 to 2.13).
-#[derive(Clone, Copy, Debug)]
+#[derive(Clone, Copy)]
 pub struct Wire {
     pub talker: Option<Addr>,
     pub listeners: Listeners,

@@ -1,7 +1,7 @@
 use vx_script::Cause;
 
 /// Why a step isn't taken.
-#[derive(Clone, Copy, Debug)]
+#[derive(Clone, Copy)]
 pub enum Stop {
     Refused(Cause),
     NoMemory,

@@ -4,7 +4,7 @@ use vx_488::Transfer;
 pub const ASK_MAX: u32 = 65552;
 
 /// What an ask that sends something answers.
-#[derive(Clone, Copy, Debug, PartialEq, Eq)]
+#[derive(Clone, Copy, PartialEq, Eq)]
 pub enum Move {
     /// The transfer was made.
     Went,
@@ -15,7 +15,7 @@ pub enum Move {
 }
 
 /// What a get answers.
-#[derive(Clone, Copy, Debug, PartialEq, Eq)]
+#[derive(Clone, Copy, PartialEq, Eq)]
 pub enum GetOut {
     /// The talker gave this byte, and whether END stood on it.
     Byte { b: u8, end: bool },
@@ -26,7 +26,7 @@ pub enum GetOut {
 }
 
 /// What a bus is asked to transfer.
-#[derive(Clone, Copy, Debug, PartialEq, Eq)]
+#[derive(Clone, Copy, PartialEq, Eq)]
 pub enum Ask {
     /// To send this command byte.
     Cmd(u8),

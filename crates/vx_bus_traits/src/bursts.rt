@@ -1,7 +1,7 @@
 use crate::asks::Move;
 
 /// What a burst of puts came to.
-#[derive(Clone, Copy, Debug, PartialEq, Eq)]
+#[derive(Clone, Copy, PartialEq, Eq)]
 pub struct Many {
     /// How many of its bytes went.
     pub moved: usize,
@@ -10,7 +10,7 @@ pub struct Many {
 }
 
 /// Why a burst of gets stopped.
-#[derive(Clone, Copy, Debug, PartialEq, Eq)]
+#[derive(Clone, Copy, PartialEq, Eq)]
 pub enum Stop {
     /// Its room is full.
     Full,
@@ -25,7 +25,7 @@ pub enum Stop {
 }
 
 /// What a burst of gets came to.
-#[derive(Clone, Copy, Debug, PartialEq, Eq)]
+#[derive(Clone, Copy, PartialEq, Eq)]
 pub struct ManyGot {
     /// How many bytes came.
     pub got: usize,

@@ -21,7 +21,7 @@ use vx_gates::Passes;
 use vx_session::{join, leave};
 
 /// What each bus answered that was asked for a connection.
-#[derive(Clone, Copy, Debug)]
+#[derive(Clone, Copy)]
 pub(crate) struct Joined {
     pub(crate) zero: Result<u32, Connect>,
     pub(crate) one: Result<u32, Connect>,

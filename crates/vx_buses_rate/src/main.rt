@@ -33,7 +33,7 @@ const NO_PORT: u8 = 3;
 const FAILED: u8 = 5;
 
 /// How many links are served.
-#[derive(Clone, Copy, Debug)]
+#[derive(Clone, Copy)]
 enum Links {
     One,
     Two,

@@ -1,7 +1,7 @@
 use arrayvec::ArrayVec;
 
 /// Which of the gateway's two server channels a connection speaks (VXI-11, core and abort channel).
-#[derive(Clone, Copy, Debug, PartialEq, Eq)]
+#[derive(Clone, Copy, PartialEq, Eq)]
 pub enum Role {
     /// The core channel, program 0x0607AF: links and all that is done through them.
     Core,
@@ -10,14 +10,14 @@ pub enum Role {
 }
 
 /// The handle that a device_enable_srq leaves with a link and each of its interrupts gives back: 0 to 40 bytes.
-#[derive(Debug, Drop)]
+#[derive(Drop)]
 pub struct Handle {
     pub bytes: ArrayVec<u8, 40>,
 }
 
 /// The arguments that device_readstb, device_trigger, device_clear, device_remote and device_local share
 /// (VXI-11, Device_GenericParms). The timeouts are in milliseconds.
-#[derive(Clone, Copy, Debug, PartialEq, Eq)]
+#[derive(Clone, Copy, PartialEq, Eq)]
 pub struct Generic {
     pub lid: u32,
     pub flags: u32,
@@ -26,7 +26,7 @@ pub struct Generic {
 }
 
 /// A procedure of the core or the abort channel (VXI-11, programs DEVICE_CORE and DEVICE_ASYNC).
-#[derive(Clone, Copy, Debug, PartialEq, Eq)]
+#[derive(Clone, Copy, PartialEq, Eq)]
 pub enum Proc {
     /// Procedure 0 of each program: no arguments, no results.
     Null,
@@ -50,7 +50,7 @@ pub enum Proc {
 
 /// A call as its arguments say it. Timeouts are in milliseconds; byte strings are slices of the record that the
 /// call came in.
-#[derive(Debug, Drop)]
+#[derive(Drop)]
 pub enum CallRef<'a> {
     Null,
     CreateLink {

@@ -3,7 +3,7 @@ use crate::codes::ErrorCode;
 
 /// The results of a call. Where the error isn't `Ok`, the other results are those of a call that did nothing, but
 /// for the bytes that a write had put and a read had got.
-#[derive(Clone, Copy, Debug)]
+#[derive(Clone, Copy)]
 pub enum ReplyRef<'a> {
     Null,
     CreateLink {
@@ -36,7 +36,7 @@ pub enum ReplyRef<'a> {
 
 /// One device_intr_srq that goes out on an interrupt channel: its xid, the program and version that the channel was
 /// made with, and the link's handle.
-#[derive(Debug, Drop)]
+#[derive(Drop)]
 pub struct Interrupt {
     pub xid: u32,
     pub prog: u32,
@@ -45,7 +45,7 @@ pub struct Interrupt {
 }
 
 /// What a take from an interrupt channel gives: the front of its outbox, nothing, or that the channel is gone.
-#[derive(Debug, Drop)]
+#[derive(Drop)]
 pub enum Taken {
     Srq(Interrupt),
     Empty,

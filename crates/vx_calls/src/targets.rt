@@ -11,7 +11,7 @@ const ADDRESS_MAX: u8 = 30;
 
 /// What a link is to: the interface itself, or a device at a primary and perhaps a secondary address, each 0 to 30
 /// (IEEE 488.1, 2.6).
-#[derive(Clone, Copy, Debug, PartialEq, Eq)]
+#[derive(Clone, Copy, PartialEq, Eq)]
 pub enum Target {
     Interface,
     Device { p: u8, s: Option<u8> },

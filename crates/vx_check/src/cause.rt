@@ -3,7 +3,7 @@ ghost use Rattle.std.specs.Prelude.{◌≡◌};
 ghost use Rattle.vx_check.specs.Outcome.{cause_name};
 
 /// What is against a line of a trace. Where several causes are, the one that stands first here counts.
-#[derive(Clone, Copy, Debug, PartialEq, Eq)]
+#[derive(Clone, Copy, PartialEq, Eq)]
 pub enum Cause {
     /// Version 2 has no such line.
     Form,
@@ -33,7 +33,7 @@ impl Cause {
 }
 
 /// Why a line isn't taken, or can't be looked at.
-#[derive(Clone, Copy, Debug, PartialEq, Eq)]
+#[derive(Clone, Copy, PartialEq, Eq)]
 pub(crate) enum Stop {
     Spoiled(Cause),
     NoMemory,

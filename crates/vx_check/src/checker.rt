@@ -43,14 +43,14 @@ use vx_trace::Line;
 const ABORT_PORT: u16 = 9011;
 
 /// The turn under way: the connection whose call it is of, and when it began, in milliseconds.
-#[derive(Clone, Copy, Debug)]
+#[derive(Clone, Copy)]
 pub(crate) struct Begun {
     pub(crate) conn: u32,
     pub(crate) at: u64,
 }
 
 /// What a line asks of the line behind it.
-#[derive(Clone, Copy, Debug)]
+#[derive(Clone, Copy)]
 pub(crate) enum Next {
     /// It is the head of the trace.
     Head,

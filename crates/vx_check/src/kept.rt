@@ -9,7 +9,7 @@ use vx_calls::CallRef;
 use vx_model::NoMemory;
 
 /// The xid of the last call that came on a connection, and whether the answer to it tells a level.
-#[derive(Clone, Copy, Debug)]
+#[derive(Clone, Copy)]
 pub(crate) struct Kept {
     pub(crate) conn: u32,
     pub(crate) xid: u32,

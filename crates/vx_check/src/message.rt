@@ -14,7 +14,7 @@ use vx_record::mark;
 use vx_rpc::{RpcRefusal, Sorted, put_refusal, put_reply, sort_call};
 
 /// What a message on a connection means to the gateway.
-#[derive(Debug, Drop)]
+#[derive(Drop)]
 pub(crate) enum Message<'a> {
     /// It is no call.
     Junk,

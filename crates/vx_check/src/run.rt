@@ -20,7 +20,7 @@ use vx_io_traits::{Sink, Source};
 use vx_text::put_all;
 
 /// How a check ended, as the program's exit status tells it.
-#[derive(Clone, Copy, Debug, PartialEq, Eq)]
+#[derive(Clone, Copy, PartialEq, Eq)]
 pub(crate) enum Status {
     /// 0: the trace's history is legal.
     Legal,
@@ -56,7 +56,7 @@ impl Status {
 }
 
 /// What a trace is.
-#[derive(Clone, Copy, Debug)]
+#[derive(Clone, Copy)]
 pub(crate) enum Verdict {
     Legal,
     Spoiled { line: u64, cause: Cause },

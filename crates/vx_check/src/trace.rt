@@ -23,7 +23,7 @@ pub(crate) enum Trace {
 }
 
 /// What one read of the source brought.
-#[derive(Clone, Copy, Debug)]
+#[derive(Clone, Copy)]
 pub(crate) enum Piece {
     More,
     End,

@@ -15,7 +15,7 @@ use vx_text::zeros;
 use vx_trace::read_line2;
 
 /// How far the lines of a trace are taken.
-#[derive(Clone, Copy, Debug)]
+#[derive(Clone, Copy)]
 pub(crate) enum Far {
     /// All of them, and the line behind has this number; `over` where the trace is then at its end.
     Through { next: u64, over: bool },

@@ -25,7 +25,7 @@ pub enum ClientErr {
 }
 
 /// The flags and the timeouts, in milliseconds, that most calls send.
-#[derive(Clone, Copy, Debug, PartialEq, Eq)]
+#[derive(Clone, Copy, PartialEq, Eq)]
 pub struct CallOpts {
     /// 0x01 waitlock, 0x08 end, 0x80 termchrset (VXI-11, Device_Flags).
     pub flags: u32,
@@ -36,7 +36,7 @@ pub struct CallOpts {
 }
 
 /// A link that was made (VXI-11, Create_LinkResp).
-#[derive(Clone, Copy, Debug, PartialEq, Eq)]
+#[derive(Clone, Copy, PartialEq, Eq)]
 pub struct LinkMade {
     /// Its number, which the other calls name.
     pub lid: u32,
@@ -47,7 +47,7 @@ pub struct LinkMade {
 }
 
 /// How a read ended.
-#[derive(Clone, Copy, Debug, PartialEq, Eq)]
+#[derive(Clone, Copy, PartialEq, Eq)]
 pub struct ReadEnd {
     /// How many bytes were read.
     pub len: usize,

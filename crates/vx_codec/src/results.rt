@@ -11,7 +11,7 @@ use vx_xdr::{Full, Reader};
 
 /// The results of a call as its client reads them. An error is the number that stands in the reply, whether or not
 /// it is one of VXI-11's (Device_ErrorCode).
-#[derive(Clone, Copy, Debug, PartialEq, Eq)]
+#[derive(Clone, Copy, PartialEq, Eq)]
 pub enum Results<'a> {
     Null,
     CreateLink {

@@ -7,7 +7,7 @@ use vx_calls::{ErrorCode, ReplyRef};
 use vx_flow::{Ran, Why};
 
 /// How a poll ended.
-#[derive(Clone, Copy, Debug)]
+#[derive(Clone, Copy)]
 pub enum Ended {
     /// With a reply; the level is what a bus status was told.
     Answered { ran: Ran, level: bool, given: Given },
@@ -38,7 +38,7 @@ impl Ended {
 }
 
 /// What became of a create_intr_chan whose dial was made.
-#[derive(Clone, Copy, Debug, PartialEq, Eq)]
+#[derive(Clone, Copy, PartialEq, Eq)]
 pub struct Settled {
     /// `Ok` where the dial came up, and `NoChannel` where it didn't.
     pub error: ErrorCode,
@@ -47,7 +47,7 @@ pub struct Settled {
 }
 
 /// A reply. A read's bytes, and those of a device_docmd, are so many at the front of the room.
-#[derive(Clone, Copy, Debug)]
+#[derive(Clone, Copy)]
 pub enum Given {
     Null,
     CreateLink {

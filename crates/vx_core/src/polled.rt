@@ -2,7 +2,7 @@ use vx_calls::ReplyRef;
 use vx_flow::Why;
 
 /// What a poll gives.
-#[derive(Clone, Copy, Debug)]
+#[derive(Clone, Copy)]
 pub enum Polled<'a> {
     /// The call's reply, which the core lends until its next call.
     Answer(ReplyRef<'a>),

@@ -10,7 +10,7 @@ use vx_bus_traits::{Bus, GetOut, Move};
 use vx_plan::Next;
 
 /// What an ask came to.
-#[derive(Clone, Copy, Debug, PartialEq, Eq)]
+#[derive(Clone, Copy, PartialEq, Eq)]
 pub enum Asked {
     /// The bus made this transfer.
     Moved(Transfer),

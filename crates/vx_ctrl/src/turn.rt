@@ -30,7 +30,7 @@ use vx_plan::{
 };
 
 /// Why a turn stopped for now.
-#[derive(Clone, Copy, Debug, PartialEq, Eq)]
+#[derive(Clone, Copy, PartialEq, Eq)]
 pub enum Went {
     /// The job is done.
     Finished,
@@ -52,7 +52,7 @@ enum Advance {
 }
 
 /// A turn on the bus: a job, how far it has come, and the moment at which it began.
-#[derive(Clone, Copy, Debug)]
+#[derive(Clone, Copy)]
 pub struct Turn {
     task: Task,
     place: Place,

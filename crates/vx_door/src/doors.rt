@@ -13,7 +13,7 @@ ghost use Rattle.vx_door.specs.declared.doors.Met.{Met};
 use vx_io_traits::{DialOut, Link};
 
 /// What a wait for the next peer answers.
-#[derive(Clone, Copy, Debug, PartialEq, Eq)]
+#[derive(Clone, Copy, PartialEq, Eq)]
 pub enum Met {
     /// The door met another peer, and is its link from now on.
     Peer,

@@ -11,7 +11,7 @@ use vx_text::{SinkFailed, put_all};
 const LOG_ROOM: usize = 160;
 
 /// Which port a connection came to.
-#[derive(Clone, Copy, Debug, PartialEq, Eq)]
+#[derive(Clone, Copy, PartialEq, Eq)]
 pub enum Channel {
     /// That of the core channel.
     Core,
@@ -20,7 +20,7 @@ pub enum Channel {
 }
 
 /// Why a connection that was served ended.
-#[derive(Clone, Copy, Debug, PartialEq, Eq)]
+#[derive(Clone, Copy, PartialEq, Eq)]
 pub enum Reason {
     /// Its peer closed it behind a whole record, or before the first.
     Closed,
@@ -37,7 +37,7 @@ pub enum Reason {
 }
 
 /// What is told of a connection.
-#[derive(Clone, Copy, Debug, PartialEq, Eq)]
+#[derive(Clone, Copy, PartialEq, Eq)]
 pub enum News {
     /// It came.
     Came,

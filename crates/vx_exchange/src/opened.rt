@@ -14,7 +14,7 @@ use vx_codec::read_args;
 use vx_rpc::{RpcRefusal, Sorted, sort_call};
 
 /// What a message on a connection is.
-#[derive(Debug, Drop)]
+#[derive(Drop)]
 pub enum Opened<'a> {
     /// No call.
     Junk,

@@ -17,7 +17,7 @@ use vx_calls::{CallRef, ErrorCode, ReplyRef};
 use vx_core::{Core, Polled, Why};
 
 /// How a poll of a call ended.
-#[derive(Clone, Copy, Debug)]
+#[derive(Clone, Copy)]
 pub enum PollEnd {
     /// The call was answered, by a reply of this error (`Ok` where it has none); the record of its reply, of so many bytes,
     /// stands at the front of the room.
@@ -29,7 +29,7 @@ pub enum PollEnd {
 }
 
 /// The answer of a create_intr_chan whose dial was made.
-#[derive(Clone, Copy, Debug)]
+#[derive(Clone, Copy)]
 pub struct DialAnswered {
     /// `Ok` where the dial came up, and `NoChannel` where it didn't.
     pub error: ErrorCode,
@@ -40,7 +40,7 @@ pub struct DialAnswered {
 }
 
 /// The answer of a device_abort.
-#[derive(Clone, Copy, Debug)]
+#[derive(Clone, Copy)]
 pub struct Aborted {
     /// `Ok`, or `InvalidLink` where no link of the number lives.
     pub error: ErrorCode,

@@ -1,7 +1,7 @@
 //! How far a poll of a call goes: why it may end without an answer, and how far it went on with its call's turn.
 
 /// How far a poll went on with its call's turn.
-#[derive(Clone, Copy, Debug)]
+#[derive(Clone, Copy)]
 pub enum Ran {
     /// Not at all.
     Still,
@@ -16,7 +16,7 @@ pub enum Ran {
 }
 
 /// Why a call isn't answered yet.
-#[derive(Clone, Copy, Debug, PartialEq, Eq)]
+#[derive(Clone, Copy, PartialEq, Eq)]
 pub enum Why {
     /// The link of this number holds a lock on a conflicting target.
     Locked { by: u32 },

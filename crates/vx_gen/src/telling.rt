@@ -6,7 +6,7 @@ use crate::words::Ask;
 use itoa::Buffer;
 
 /// What is counted of a run.
-#[derive(Clone, Copy, Debug, Default, PartialEq, Eq)]
+#[derive(Clone, Copy, Default, PartialEq, Eq)]
 pub struct Counts {
     /// The calls that were answered.
     pub answers: u64,

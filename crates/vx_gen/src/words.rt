@@ -6,7 +6,7 @@ ghost use Rattle.vx_gen.specs.Asked.{IsInRange, spelled};
 use itoa::Buffer;
 
 /// The number that a run is made from, 0 to 2147483647, and how many steps are drawn, 1 to 1,000,000.
-#[derive(Clone, Copy, Debug, PartialEq, Eq)]
+#[derive(Clone, Copy, PartialEq, Eq)]
 pub struct Ask {
     pub seed: u32,
     pub steps: u32,

@@ -19,7 +19,7 @@ use vx_policy::Policy;
 use vx_session::join;
 
 /// How a guarded link's work ended.
-#[derive(Clone, Copy, Debug, PartialEq, Eq)]
+#[derive(Clone, Copy, PartialEq, Eq)]
 pub enum Guarded {
     /// Its connection had a guarded session, which ended so.
     Ended(GuardEnd),

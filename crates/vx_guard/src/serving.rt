@@ -28,7 +28,7 @@ pub(crate) struct Kit<C: Clock + Drop, P: Pause + Drop, D: Dial + Drop> {
 }
 
 /// Why no more peers are served.
-#[derive(Clone, Copy, Debug, PartialEq, Eq)]
+#[derive(Clone, Copy, PartialEq, Eq)]
 pub(crate) enum Stop {
     /// As many were served as were to be, or the door met no more.
     Door(DoorEnd),
@@ -37,7 +37,7 @@ pub(crate) enum Stop {
 }
 
 /// What a wait for the next peer came to.
-#[derive(Clone, Copy, Debug, PartialEq, Eq)]
+#[derive(Clone, Copy, PartialEq, Eq)]
 enum Next {
     /// A peer was served; the note failed, or it didn't.
     Peer { failed: bool },

@@ -31,7 +31,7 @@ use vx_stream::{End, answer_stream};
 pub struct NoMemory;
 
 /// How a guarded session ended.
-#[derive(Clone, Copy, Debug, PartialEq, Eq)]
+#[derive(Clone, Copy, PartialEq, Eq)]
 pub enum GuardEnd {
     /// As each session may end.
     Ended(End),

@@ -3,7 +3,7 @@ ghost use Rattle.std.specs.Prelude.{◌≡◌};
 ghost use Rattle.vx_guard.specs.Outcome.{status_number};
 
 /// How a run ended, as the program's exit status tells it.
-#[derive(Clone, Copy, Debug, PartialEq, Eq)]
+#[derive(Clone, Copy, PartialEq, Eq)]
 pub(crate) enum Status {
     /// 0: as many links were served as were asked for, or no more come.
     Served,

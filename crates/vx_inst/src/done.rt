@@ -1,5 +1,5 @@
 /// A call that may change an instrument.
-#[derive(Clone, Copy, Debug, PartialEq, Eq)]
+#[derive(Clone, Copy, PartialEq, Eq)]
 pub enum Done {
     /// It took a byte, with END or without.
     Took { b: u8, end: bool },

@@ -25,7 +25,7 @@ const EHOSTDOWN: i32 = 112;
 const EHOSTUNREACH: i32 = 113;
 
 /// What an error of a wait was of.
-#[derive(Clone, Copy, Debug, PartialEq, Eq)]
+#[derive(Clone, Copy, PartialEq, Eq)]
 enum Fault {
     /// Of one peer, whose connection is gone.
     Peer,

@@ -9,7 +9,7 @@ const BLIND_MAX: u32 = 64;
 
 /// When a receive looks for bytes before it sleeps. A sleep costs a wake-up, which a look that finds bytes saves; so it goes on
 /// looking while that pays, and looks ever more seldom while it doesn't.
-#[derive(Clone, Copy, Debug)]
+#[derive(Clone, Copy)]
 pub(super) struct Patience {
     // how many receives are still to sleep at once
     blind: u32,

@@ -75,7 +75,7 @@ impl TcpLink {
 }
 
 /// What looks at a stream met that didn't sleep.
-#[derive(Clone, Copy, Debug, PartialEq, Eq)]
+#[derive(Clone, Copy, PartialEq, Eq)]
 enum Seen {
     /// A read gave so many bytes, 0 at the end.
     Got(usize),

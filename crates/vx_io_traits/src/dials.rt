@@ -8,7 +8,7 @@ ghost use Rattle.vx_io_traits.specs.declared.dials.Rang.{Rang};
 use std::sync::Wait;
 
 /// What a dial, or another call that opens a way out, answers.
-#[derive(Clone, Copy, Debug, PartialEq, Eq)]
+#[derive(Clone, Copy, PartialEq, Eq)]
 pub enum DialOut {
     /// The stream stands.
     Up,
@@ -17,7 +17,7 @@ pub enum DialOut {
 }
 
 /// A call of a dial, as a dial that tells its calls tells it.
-#[derive(Clone, Copy, Debug, PartialEq, Eq)]
+#[derive(Clone, Copy, PartialEq, Eq)]
 pub enum Rang {
     /// It dialed this IPv4 address and port, and whether the stream stood.
     Dialed { host: u32, port: u16, up: bool },

@@ -29,7 +29,7 @@ pub use reaches::Reach;
 pub use streams::Streams;
 
 /// What a read answers.
-#[derive(Clone, Copy, Debug, PartialEq, Eq)]
+#[derive(Clone, Copy, PartialEq, Eq)]
 pub enum ReadOut {
     /// So many bytes, at least one, stand at the front of the slice.
     Got(usize),
@@ -40,7 +40,7 @@ pub enum ReadOut {
 }
 
 /// What a write answers.
-#[derive(Clone, Copy, Debug, PartialEq, Eq)]
+#[derive(Clone, Copy, PartialEq, Eq)]
 pub enum WriteOut {
     /// So many bytes, at least one, of the front of the slice were taken.
     Took(usize),

@@ -8,7 +8,7 @@ use super::links::Link;
 use std::sync::Wait;
 
 /// What a wait for a link answers.
-#[derive(Debug, Drop)]
+#[derive(Drop)]
 pub enum Accepted<L> {
     /// A peer's link.
     Peer(L),
@@ -19,7 +19,7 @@ pub enum Accepted<L> {
 }
 
 /// What a port's opening answers.
-#[derive(Debug, Drop)]
+#[derive(Drop)]
 pub enum Bound<P> {
     /// The port, which takes links from now on.
     Port(P),
@@ -28,7 +28,7 @@ pub enum Bound<P> {
 }
 
 /// What the start of a work answers.
-#[derive(Clone, Copy, Debug, PartialEq, Eq)]
+#[derive(Clone, Copy, PartialEq, Eq)]
 pub enum Started {
     /// The work runs, or will.
     Up,
@@ -37,7 +37,7 @@ pub enum Started {
 }
 
 /// What a wait for a stream that was handed over answers.
-#[derive(Debug, Drop)]
+#[derive(Drop)]
 pub enum Handed<L> {
     /// The stream of the channel `chan` of the connection `conn`.
     Stream { conn: u32, chan: u32, link: L },

@@ -16,7 +16,7 @@ const MOMENT_ROOM: usize = 22;
 pub const TEXT_ROOM: usize = LINE_MAX + MOMENT_ROOM;
 
 /// What a line is to a lift.
-#[derive(Clone, Copy, Debug)]
+#[derive(Clone, Copy)]
 pub enum Said {
     /// A line to skip.
     Nothing,
@@ -29,7 +29,7 @@ pub enum Said {
 }
 
 /// How the lift of a line ended.
-#[derive(Clone, Copy, Debug)]
+#[derive(Clone, Copy)]
 pub enum LineEnd {
     /// Its text was written, where it has one; this is the greatest moment so far, in milliseconds.
     Lifted { moment: u64 },

@@ -9,7 +9,7 @@ use vx_script::LINE_MAX;
 use vx_text::{first_line, put_all, zeros};
 
 /// How a lift ended.
-#[derive(Clone, Copy, Debug, PartialEq, Eq)]
+#[derive(Clone, Copy, PartialEq, Eq)]
 pub enum Lifting {
     /// The whole script was lifted.
     Whole,
@@ -20,7 +20,7 @@ pub enum Lifting {
 }
 
 /// How a lift ended that makes its own room.
-#[derive(Clone, Copy, Debug, PartialEq, Eq)]
+#[derive(Clone, Copy, PartialEq, Eq)]
 pub enum LiftEnd {
     /// The whole script was lifted.
     Whole,

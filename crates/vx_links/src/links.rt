@@ -18,7 +18,7 @@ pub struct NoMemory;
 pub struct Full;
 
 /// A link that lives: its number, the connection that made it, and what it is to.
-#[derive(Clone, Copy, Debug, PartialEq, Eq)]
+#[derive(Clone, Copy, PartialEq, Eq)]
 pub struct LinkRow {
     pub lid: u32,
     pub conn: u32,
@@ -29,7 +29,7 @@ pub struct LinkRow {
 /// number that comes next.
 ///
 /// `new` makes the room of all rows; no other call takes memory.
-#[derive(Debug, Drop)]
+#[derive(Drop)]
 pub struct Links {
     rows: Vec<LinkRow>,
     next: u32,

@@ -16,7 +16,7 @@ use vx_calls::{LINK_MAX, Target};
 pub struct NoMemory;
 
 /// A lock: the link that holds it, and what it is on.
-#[derive(Clone, Copy, Debug)]
+#[derive(Clone, Copy)]
 struct LockRow {
     lid: u32,
     target: Target,
@@ -32,7 +32,7 @@ const INTERFACE: usize = 0;
 ///
 /// No two locks conflict, so each place has at most one holder, and a call to a device looks at its own place and at the
 /// interface's. `new` makes the room of all locks, as many as links may live; no other call takes memory.
-#[derive(Debug, Drop)]
+#[derive(Drop)]
 pub struct Locks {
     /// In order of grant.
     rows: Vec<LockRow>,

@@ -2,7 +2,7 @@ use vx_488::Transfer;
 use vx_calls::{CallRef, ErrorCode, ReplyRef, Role, Taken};
 
 /// What happens to the gateway of one thread. Moments are in milliseconds.
-#[derive(Debug, Drop)]
+#[derive(Drop)]
 pub enum EntryRef<'a> {
     /// A connection of this role comes up and gets this number.
     Up {

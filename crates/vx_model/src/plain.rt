@@ -29,7 +29,7 @@ use vx_tables::{Connect, NoMemory, Tables, may_wait};
 
 /// The gateway of one thread. A contract sees it as its `State`: the tables, the bus and the greatest moment handed in so
 /// far, in milliseconds.
-#[derive(Debug, Drop)]
+#[derive(Drop)]
 pub struct Plain {
     alloc: Global,
     tables: Tables,

@@ -6,7 +6,7 @@ ghost use Rattle.vx_peers.specs.Asked.{spelled, IsInRange};
 use itoa::Buffer;
 
 /// What is asked.
-#[derive(Clone, Copy, Debug, PartialEq, Eq)]
+#[derive(Clone, Copy, PartialEq, Eq)]
 pub struct Ask {
     /// The port to serve at, 1 to 65,535.
     pub port: u16,

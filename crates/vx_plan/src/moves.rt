@@ -37,7 +37,7 @@ pub const UNT: u8 = 0x5F;
 const MSA: u8 = 0x60;
 
 /// Where a step of a job stands against the command bytes that it begins with.
-#[derive(Clone, Copy, Debug, PartialEq, Eq)]
+#[derive(Clone, Copy, PartialEq, Eq)]
 pub enum Step {
     /// At this one of them.
     Command(u8),

@@ -21,7 +21,7 @@ use vx_calls::{Target, WRITE_MAX};
 pub const TURN_MAX: u32 = WRITE_MAX + 5;
 
 /// A job on the bus.
-#[derive(Clone, Copy, Debug, PartialEq, Eq)]
+#[derive(Clone, Copy, PartialEq, Eq)]
 pub enum Task {
     /// To send `len` data bytes, with END on the last one or not.
     Write {
@@ -76,7 +76,7 @@ pub enum Task {
 }
 
 /// How far a turn has come in its job.
-#[derive(Clone, Copy, Debug, PartialEq, Eq)]
+#[derive(Clone, Copy, PartialEq, Eq)]
 pub struct Place {
     /// Serial poll mode was on when the turn began.
     pub polling: bool,
@@ -91,7 +91,7 @@ pub struct Place {
 }
 
 /// What a job wants next.
-#[derive(Clone, Copy, Debug, PartialEq, Eq)]
+#[derive(Clone, Copy, PartialEq, Eq)]
 pub enum Next {
     /// This command byte.
     Command(u8),

@@ -20,7 +20,7 @@ use vx_inst::Instrument;
 use vx_script::Step;
 
 /// A step that wasn't taken: its number, counted from 1, and why.
-#[derive(Clone, Copy, Debug)]
+#[derive(Clone, Copy)]
 pub struct Halt {
     pub number: u64,
     pub stop: Stop,

@@ -7,7 +7,7 @@ use std::marker::Model;
 use vx_calls::RECORD_MAX;
 
 /// The message of a record, without marks.
-#[derive(Debug, Drop)]
+#[derive(Drop)]
 pub struct Message {
     bytes: Vec<u8>,
 }

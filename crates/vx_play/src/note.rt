@@ -7,7 +7,7 @@ use vx_core::Why;
 use vx_exchange::PollEnd;
 
 /// How a connection ended.
-#[derive(Clone, Copy, Debug, PartialEq, Eq)]
+#[derive(Clone, Copy, PartialEq, Eq)]
 pub enum Gone {
     /// By a `down` line.
     Down,
@@ -18,7 +18,7 @@ pub enum Gone {
 }
 
 /// What a step gave the gateway, which version 2 of the output tells. The message of a record is the last that the player keeps.
-#[derive(Clone, Copy, Debug)]
+#[derive(Clone, Copy)]
 pub enum Intake {
     Nothing,
     /// A connection came up.
@@ -32,7 +32,7 @@ pub enum Intake {
 }
 
 /// What there is to tell of a step that was taken. A record is so many bytes at the front of the player's room.
-#[derive(Clone, Copy, Debug)]
+#[derive(Clone, Copy)]
 pub enum Note {
     Nothing,
     /// The record of a reply.
@@ -53,7 +53,7 @@ pub enum Note {
 
 /// What a step made: what it gave the gateway, the connection whose call was polled, where one was, what there is to tell, and the error of the answer,
 /// `Ok` included, where the step answered a call that the gateway kept.
-#[derive(Clone, Copy, Debug)]
+#[derive(Clone, Copy)]
 pub struct Made {
     pub intake: Intake,
     pub polled: Option<u32>,

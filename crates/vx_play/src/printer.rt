@@ -36,7 +36,7 @@ const NOTE_ROOM: usize = STAMP_ROOM + 16 + 2 * REPLY_ROOM;
 const TEXT_ROOM: usize = HEAD_ROOM + MOVES_ROOM + NOTE_ROOM;
 
 /// Prints lines into room that is made once. In version 2 a line of a step has the step's moment in front, in version 1 none.
-#[derive(Debug, Drop)]
+#[derive(Drop)]
 pub struct Printer {
     room: Vec<u8>,
     ghost wide: { vec_len room ≡ TEXT_ROOM },

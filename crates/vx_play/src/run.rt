@@ -55,7 +55,7 @@ pub const SCRIPT_MAX: usize = 67_108_864;
 const FAULT_ROOM: usize = 39;
 
 /// How a play ended, as the program's exit status tells it.
-#[derive(Clone, Copy, Debug, PartialEq, Eq)]
+#[derive(Clone, Copy, PartialEq, Eq)]
 pub enum Status {
     /// 0: the script was played to its end.
     Done,
@@ -91,7 +91,7 @@ impl Status {
 }
 
 /// How the lines of a script ended.
-#[derive(Clone, Copy, Debug)]
+#[derive(Clone, Copy)]
 pub enum Ending {
     Whole,
     Fault { line: u64, cause: Cause },
@@ -100,7 +100,7 @@ pub enum Ending {
 }
 
 /// How a line ended.
-#[derive(Clone, Copy, Debug)]
+#[derive(Clone, Copy)]
 pub enum LineEnd {
     Played,
     Refused(Cause),
@@ -558,7 +558,7 @@ fn make_run<I: Instrument, K: Sink>(
 }
 
 /// What words ask for that read the source.
-#[derive(Clone, Copy, Debug, PartialEq, Eq)]
+#[derive(Clone, Copy, PartialEq, Eq)]
 pub enum Order {
     /// A script is played.
     Play,

@@ -17,7 +17,7 @@ use vx_inst::Instrument;
 use vx_sim::SimBus;
 
 /// What became of a message that isn't junk.
-#[derive(Clone, Copy, Debug)]
+#[derive(Clone, Copy)]
 pub struct Served {
     pub made: Made,
     /// The xid of the last call that its connection kept, from then on.

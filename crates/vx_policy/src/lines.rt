@@ -9,7 +9,7 @@ use crate::rules::Rule;
 use crate::words::{allow_of, cut, peers_of, place_of, proc_of};
 
 /// What a line is.
-#[derive(Clone, Copy, Debug)]
+#[derive(Clone, Copy)]
 pub(crate) enum Line {
     /// One that says nothing.
     Skipped,

@@ -24,14 +24,14 @@ const NO_OWN: u8 = 31;
 const HEAD: usize = 28;
 
 /// A link that was made, and what it is to.
-#[derive(Clone, Copy, Debug, PartialEq, Eq)]
+#[derive(Clone, Copy, PartialEq, Eq)]
 pub struct MadeLink {
     pub lid: u32,
     pub target: Target,
 }
 
 /// The links that a session made and didn't destroy, in order of making. It has room for as many as may live at once.
-#[derive(Debug, Drop)]
+#[derive(Drop)]
 pub struct Made {
     links: Vec<MadeLink>,
 }

@@ -34,14 +34,14 @@ pub enum PolicyErr {
 
 /// What a policy says of a call: whether it may reach the core, and the number of the rule that says so. Rules are counted from
 /// 1, without the lines that are skipped; 0 is for a call that no rule matches.
-#[derive(Clone, Copy, Debug, PartialEq, Eq)]
+#[derive(Clone, Copy, PartialEq, Eq)]
 pub struct Verdict {
     pub allow: bool,
     pub rule: u32,
 }
 
 /// Written rules, at most [`RULES_MAX`].
-#[derive(Debug, Drop)]
+#[derive(Drop)]
 pub struct Policy {
     rules: Vec<Rule>,
 }

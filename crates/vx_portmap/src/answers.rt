@@ -10,7 +10,7 @@ use vx_rpc::{CallRead, read_call};
 use vx_xdr::{Reader, XdrErr};
 
 /// What is answered to a message.
-#[derive(Clone, Copy, Debug, PartialEq, Eq)]
+#[derive(Clone, Copy, PartialEq, Eq)]
 pub enum MapAnswer {
     /// A reply of so many bytes.
     Reply(usize),

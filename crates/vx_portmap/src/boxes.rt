@@ -8,7 +8,7 @@ ghost use Rattle.vx_portmap.specs.Boxes.{Takes, Adds, NoneLeft, read_by, ended_a
 use vx_io_traits::DialOut;
 
 /// What a take answers.
-#[derive(Clone, Copy, Debug, PartialEq, Eq)]
+#[derive(Clone, Copy, PartialEq, Eq)]
 pub enum Packet {
     /// So many bytes of a packet, and maybe none, stand at the front of the slice.
     Got(usize),
@@ -19,7 +19,7 @@ pub enum Packet {
 }
 
 /// What a give answers.
-#[derive(Clone, Copy, Debug, PartialEq, Eq)]
+#[derive(Clone, Copy, PartialEq, Eq)]
 pub enum Given {
     /// The packet went.
     Sent,

@@ -9,7 +9,7 @@ use crate::limits::MESSAGE_MAX;
 use crate::table::Ports;
 
 /// How the work over packets ended.
-#[derive(Clone, Copy, Debug, PartialEq, Eq)]
+#[derive(Clone, Copy, PartialEq, Eq)]
 pub enum PacketEnd {
     /// As many packets were taken as were asked for.
     Served,

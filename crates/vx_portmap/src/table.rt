@@ -10,7 +10,7 @@ use arrayvec::ArrayVec;
 use std::marker::Model;
 
 /// A version of a program, the protocol over which it is called, and the port where it is (RFC 1833, section 3.1).
-#[derive(Clone, Copy, Debug, Default, PartialEq, Eq)]
+#[derive(Clone, Copy, Default, PartialEq, Eq)]
 pub struct Mapping {
     pub prog: u32,
     pub vers: u32,
@@ -28,7 +28,7 @@ pub enum AddErr {
 }
 
 /// The mappings of a port mapper, at most [`PORTS_MAX`], in order of adding. It takes no memory.
-#[derive(Debug, Drop)]
+#[derive(Drop)]
 pub struct Ports {
     mappings: ArrayVec<Mapping, PORTS_MAX>,
 }

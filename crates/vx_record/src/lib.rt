@@ -20,7 +20,7 @@ pub use laws::{cut_law, end_law, feed_law, mark_law, pieces_law, records_law};
 pub struct NoMemory;
 
 /// What the last byte that a buffer took brought.
-#[derive(Clone, Copy, Debug, PartialEq, Eq)]
+#[derive(Clone, Copy, PartialEq, Eq)]
 pub enum Feed {
     /// The record isn't whole yet.
     More,
@@ -31,7 +31,7 @@ pub enum Feed {
 }
 
 /// How many bytes of a piece a buffer took, and its state then.
-#[derive(Clone, Copy, Debug, PartialEq, Eq)]
+#[derive(Clone, Copy, PartialEq, Eq)]
 pub struct Fed {
     /// How many bytes of the front of the piece were taken.
     pub took: usize,

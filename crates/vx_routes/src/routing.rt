@@ -12,7 +12,7 @@ use crate::numbers::local;
 use vx_calls::{CallRef, DEVICE_MAX, ErrorCode};
 
 /// Where a call of a core connection goes.
-#[derive(Debug, Drop)]
+#[derive(Drop)]
 pub enum Destination<'a> {
     /// To no bus: it is answered by this error.
     Refused { error: ErrorCode },

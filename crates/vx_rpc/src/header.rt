@@ -7,7 +7,7 @@ ghost use Rattle.vx_rpc.specs.CallMeaning.{call_shown, call_meaning, call_of, Ca
 use vx_xdr::{Reader, XdrErr};
 
 /// What a message is as a call, whatever its program.
-#[derive(Clone, Copy, Debug, PartialEq, Eq)]
+#[derive(Clone, Copy, PartialEq, Eq)]
 pub enum CallRead<'a> {
     /// A call of RPC version 2. `args` is the end of the message, unread.
     Call {
@@ -62,7 +62,7 @@ fn call_behind<'a>(xid: u32, body: &'a [u8]) -> CallRead<'a>
 const AUTH_MAX: u32 = 400;
 
 /// A call's program, version and procedure, and how many bytes stand before its arguments.
-#[derive(Clone, Copy, Debug)]
+#[derive(Clone, Copy)]
 pub(crate) struct CallHeader {
     pub(crate) program: u32,
     pub(crate) version: u32,

@@ -9,7 +9,7 @@ use crate::refusal::RpcRefusal;
 use vx_xdr::Reader;
 
 /// What a reply says.
-#[derive(Clone, Copy, Debug, PartialEq, Eq)]
+#[derive(Clone, Copy, PartialEq, Eq)]
 pub enum ReplyRead<'a> {
     /// The call was executed. `results` is the end of the message, unread.
     Success { xid: u32, results: &'a [u8] },

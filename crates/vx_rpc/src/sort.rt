@@ -8,7 +8,7 @@ use crate::refusal::RpcRefusal;
 use vx_calls::{Proc, Role};
 
 /// What becomes of a message on a channel.
-#[derive(Clone, Copy, Debug, PartialEq, Eq)]
+#[derive(Clone, Copy, PartialEq, Eq)]
 pub enum Sorted<'a> {
     /// A call of a procedure that the channel has. `args` is the end of the message, unread.
     Call {

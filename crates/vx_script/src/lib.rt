@@ -32,7 +32,7 @@ pub const ADDRESS_LAST: u8 = 30;
 pub const NAME_MAX: usize = 16;
 
 /// The version of a script.
-#[derive(Clone, Copy, Debug, PartialEq, Eq)]
+#[derive(Clone, Copy, PartialEq, Eq)]
 pub enum Version {
     /// Each line that isn't skipped is a step; `at` is one of them.
     One,
@@ -110,7 +110,7 @@ impl Cause {
 
 /// A step of a script. A connection's number is 1 to 2147483647; `p` and `s` are the primary address and perhaps the
 /// secondary one, each 0 to 30.
-#[derive(Clone, Copy, Debug, PartialEq, Eq)]
+#[derive(Clone, Copy, PartialEq, Eq)]
 pub enum Step<'a> {
     /// A connection of this role comes up, under this number.
     Up {

@@ -19,7 +19,7 @@ use vx_io_traits::{Clock, Dial, Link, Pause};
 use vx_stream::End;
 
 /// How a link's work ended.
-#[derive(Clone, Copy, Debug, PartialEq, Eq)]
+#[derive(Clone, Copy, PartialEq, Eq)]
 pub enum Linked {
     /// Its connection had a session, which ended so.
     Ended(End),

@@ -1,7 +1,7 @@
 use vx_488::Addr;
 
 /// Why an instrument isn't attached.
-#[derive(Clone, Copy, Debug, PartialEq, Eq)]
+#[derive(Clone, Copy, PartialEq, Eq)]
 pub enum Attach {
     /// The gateway itself is at this primary address.
     OwnAddress,

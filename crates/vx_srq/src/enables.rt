@@ -7,7 +7,7 @@ use arrayvec::ArrayVec;
 use vx_calls::Handle;
 
 /// What a link's device_enable_srq left: the connection that the link belongs to, whether it is enabled, and its handle.
-#[derive(Debug, Drop)]
+#[derive(Drop)]
 pub(crate) struct EnableRow {
     pub(crate) lid: u32,
     pub(crate) conn: u32,

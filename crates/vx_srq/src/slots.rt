@@ -12,7 +12,7 @@ use vx_calls::{Handle, Interrupt, Taken};
 use vx_rules::OUTBOX_MAX;
 
 /// A connection's interrupt channel: its number, the program and version that its calls have, and the xid of the next.
-#[derive(Clone, Copy, Debug)]
+#[derive(Clone, Copy)]
 pub(crate) struct ChannelRow {
     pub(crate) chan: u32,
     pub(crate) prog: u32,
@@ -21,7 +21,7 @@ pub(crate) struct ChannelRow {
 }
 
 /// A connection, its channel where it has one, and the room of its outbox. Without a channel nothing reads the outbox.
-#[derive(Debug, Drop)]
+#[derive(Drop)]
 pub(crate) struct SlotRow {
     pub(crate) conn: u32,
     pub(crate) channel: Option<ChannelRow>,

@@ -25,7 +25,7 @@ pub struct NoMemory;
 pub struct NoNumber;
 
 /// An interrupt channel: its number, and the program and version that its calls have.
-#[derive(Clone, Copy, Debug, PartialEq, Eq)]
+#[derive(Clone, Copy, PartialEq, Eq)]
 pub struct Channel {
     pub chan: u32,
     pub prog: u32,
@@ -36,7 +36,7 @@ pub struct Channel {
 /// connections and of enables, the number of the next channel, and the level at the last sample.
 ///
 /// `new` makes the room of all enables, and `add` that of a connection's outbox; no other call takes memory.
-#[derive(Debug, Drop)]
+#[derive(Drop)]
 pub struct Srq {
     slots: Vec<SlotRow>,
     enables: Vec<EnableRow>,

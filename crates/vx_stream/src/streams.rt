@@ -15,7 +15,7 @@ use vx_io_traits::{Link, ReadOut};
 use vx_record::{RecordBuf, pieces_law};
 
 /// Why no further piece is received, or how many bytes came in one.
-#[derive(Clone, Copy, Debug)]
+#[derive(Clone, Copy)]
 enum Next {
     Came { count: usize },
     Ends(End),

@@ -42,7 +42,7 @@ use vx_srq::Srq;
 pub struct NoMemory;
 
 /// Why a connection isn't taken.
-#[derive(Clone, Copy, Debug, PartialEq, Eq)]
+#[derive(Clone, Copy, PartialEq, Eq)]
 pub enum Connect {
     /// 64 connections of the role live, or number 2^31 - 1 was given out.
     Full,
@@ -52,7 +52,7 @@ pub enum Connect {
 /// The tables of a gateway. A contract sees them as the plain lists of a state's tables.
 ///
 /// `new` and `connect` make all room; of the other calls `arrive_any` alone takes memory.
-#[derive(Debug, Drop)]
+#[derive(Drop)]
 pub struct Tables {
     rows: Vec<Row>,
     next: u32,

@@ -21,7 +21,7 @@ pub enum Input {
 }
 
 /// What one read of the source brought.
-#[derive(Clone, Copy, Debug)]
+#[derive(Clone, Copy)]
 pub enum Piece {
     More,
     End,

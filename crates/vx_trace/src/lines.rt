@@ -10,7 +10,7 @@ use vx_calls::Role;
 pub struct Full;
 
 /// A line of output. `conn` is the number of the connection that it is about. The last six are lines of version 2 alone.
-#[derive(Clone, Copy, Debug, PartialEq, Eq)]
+#[derive(Clone, Copy, PartialEq, Eq)]
 pub enum Line<'a> {
     /// `bus C T T T`: these transfers, at least one, went over the bus.
     Bus { conn: u32, moves: &'a [Transfer] },

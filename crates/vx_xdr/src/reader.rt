@@ -8,7 +8,7 @@ use byteorder::{BigEndian, ByteOrder};
 use std::marker::Model;
 
 /// Reads values from the front of a slice. A clause sees the bytes that are left.
-#[derive(Debug, Drop)]
+#[derive(Drop)]
 pub struct Reader<'a> {
     bytes: &'a [u8],
 }

@@ -8,7 +8,7 @@ use byteorder::{BigEndian, ByteOrder};
 use std::marker::Model;
 
 /// A place in a slice, at which each call writes a value. A clause sees the place, in bytes from the slice's start.
-#[derive(Debug, Drop)]
+#[derive(Drop)]
 pub struct Writer {
     at: usize,
 }

@@ -28,7 +28,7 @@ use vx_tables::{Admission, NoMemory, has_passed};
 
 /// What comes to an answer from outside: the moment at which the call's turn began and the transfers that it made, whether
 /// the bus failed, how a dial went, and the level that a bus status tells.
-#[derive(Clone, Copy, Debug)]
+#[derive(Clone, Copy)]
 pub(crate) struct Told<'a> {
     pub(crate) begun: u64,
     pub(crate) moves: &'a [Transfer],

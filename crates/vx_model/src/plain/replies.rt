@@ -251,7 +251,7 @@ fn two_bytes(big: bool, n: u16) -> [u8; 2]
 
 /// What is known of a job that was done: its bytes, their order, the bus before it, its transfers, what they got, and the
 /// level that the bus gave.
-#[derive(Clone, Copy, Debug)]
+#[derive(Clone, Copy)]
 pub(crate) struct Done<'a> {
     pub(crate) bytes: &'a [u8],
     pub(crate) big: bool,

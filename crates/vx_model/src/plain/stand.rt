@@ -15,7 +15,7 @@ use vx_488::{Transfer, Wire};
 use vx_plan::{Next, Place, Task, first_place, next_move, place_goes_on, small_place};
 
 /// A list does all of a job, or a part of it, or leaves it.
-#[derive(Clone, Copy, Debug, PartialEq, Eq)]
+#[derive(Clone, Copy, PartialEq, Eq)]
 pub(crate) enum Stand {
     Whole,
     Part,

@@ -18,7 +18,7 @@ use vx_calls::{CONNECTION_LAST, ErrorCode, Target, WRITE_MAX, target_of};
 use vx_links::LinkRow;
 
 /// The link that a call is about: it names none, or one that isn't a live link of its connection, or this one.
-#[derive(Clone, Copy, Debug)]
+#[derive(Clone, Copy)]
 pub(crate) enum Named {
     Nothing,
     Dead,

@@ -10,7 +10,7 @@ use arrayvec::ArrayVec;
 use vx_calls::{CallRef, Generic, Handle, Proc};
 
 /// A call that has come, as words. Its bytes and its handle stand beside it in the row of its connection.
-#[derive(Clone, Copy, Debug)]
+#[derive(Clone, Copy)]
 pub(crate) enum Kept {
     CreateLink {
         client: i32,

@@ -32,7 +32,7 @@ use vx_plan::Task;
 const NOBODY: u8 = ADDRESS_MAX + 1;
 
 /// What keeps a call off its target.
-#[derive(Clone, Copy, Debug, PartialEq, Eq)]
+#[derive(Clone, Copy, PartialEq, Eq)]
 pub enum Bar {
     /// The lock of this other link.
     HeldBy { link: u32 },
@@ -41,7 +41,7 @@ pub enum Bar {
 }
 
 /// The first lines refuse a call, let it wait for what keeps it off, or let it pass.
-#[derive(Clone, Copy, Debug, PartialEq, Eq)]
+#[derive(Clone, Copy, PartialEq, Eq)]
 pub enum Admission {
     Refused(ErrorCode),
     Waiting(Bar),
@@ -49,7 +49,7 @@ pub enum Admission {
 }
 
 /// What a call is under locks with: a link, 0 for one that isn't made yet, and what it is to.
-#[derive(Clone, Copy, Debug, PartialEq, Eq)]
+#[derive(Clone, Copy, PartialEq, Eq)]
 pub struct Request {
     pub link: u32,
     pub target: Target,

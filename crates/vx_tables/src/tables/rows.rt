@@ -15,7 +15,7 @@ use vx_calls::{Handle, Proc, Role};
 
 /// A call that has come and has no answer yet, the moment at which it came, in milliseconds, and whether a device_abort
 /// has marked it.
-#[derive(Clone, Copy, Debug)]
+#[derive(Clone, Copy)]
 pub(crate) struct Asked {
     pub(crate) call: Kept,
     pub(crate) arrival: u64,
@@ -23,7 +23,7 @@ pub(crate) struct Asked {
 }
 
 /// A connection that lives.
-#[derive(Debug, Drop)]
+#[derive(Drop)]
 pub(crate) struct Row {
     pub(crate) number: u32,
     pub(crate) role: Role,

@@ -5,7 +5,7 @@ use std::alloc::{AllocError, Global};
 use vx_calls::RECORD_MAX;
 
 /// The bytes of a pending call, its device text or its data, with room for those of a record.
-#[derive(Debug, Drop)]
+#[derive(Drop)]
 pub(crate) struct Text {
     pub(crate) bytes: Vec<u8>,
     ghost roomy: { RECORD_MAX ≤ vec_capacity bytes },
