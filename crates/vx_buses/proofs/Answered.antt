@@ -12,8 +12,8 @@ use Rattle.vx_exchange.specs.Opening.{Stands}
 use Rattle.vx_gate.specs.PassView.{PassView, GateId}
 use Rattle.vx_gates.specs.Four.{Four, at, Each}
 use Rattle.vx_gates.specs.Passing.{IsOf}
-use Rattle.vx_history.specs.Groups.{Group}
-use Rattle.vx_history.specs.Phases.{Idle}
+use Rattle.vx_group.specs.Groups.{Group}
+use Rattle.vx_group.specs.Phases.{Idle}
 use Rattle.vx_routes.specs.Replying.{success_record}
 use Rattle.vx_routes.specs.Routing.{Way, Refused, Goes, route_of, place_of}
 use Rattle.vx_session.specs.Placing.{Placed}

@@ -5,8 +5,8 @@ use Rattle.vx_bus_traits.specs.declared.bus.Bus.{Ghosts}
 use Rattle.vx_exchange.specs.declared.polls.Aborted.{Aborted}
 use Rattle.vx_gate.specs.PassView.{PassView}
 use Rattle.vx_gates.specs.Four.{Four, at, put, swapped}
-use Rattle.vx_history.specs.Event.{Abort}
-use Rattle.vx_history.specs.Groups.{Group}
+use Rattle.vx_group.specs.Event.{Abort}
+use Rattle.vx_group.specs.Groups.{Group}
 use Rattle.vx_session.specs.Outside.{DialShown}
 use Rattle.vx_session.specs.Placing.{Makes}
 use Rattle.vx_session.specs.Progress.{AnswersCall}

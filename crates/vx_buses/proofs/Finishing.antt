@@ -8,9 +8,9 @@ use Rattle.vx_gate.specs.PassView.{PassView}
 use Rattle.vx_gates.specs.Four.{Four, at}
 use Rattle.vx_record.specs.Records.{records}
 use Rattle.vx_exchange.specs.Meaning.{meaning, Junk}
-use Rattle.vx_history.specs.Event.{Down}
-use Rattle.vx_history.specs.Groups.{Group}
-use Rattle.vx_history.specs.Laws.{HeadlineOfGroupsLaw, OwnedLaw}
+use Rattle.vx_group.specs.Event.{Down}
+use Rattle.vx_group.specs.Groups.{Group}
+use Rattle.vx_group.specs.Laws.{HeadlineOfGroupsLaw, OwnedLaw}
 use Rattle.vx_routes.specs.Given.{LinksLaw, OnceLaw}
 use Rattle.vx_stream.specs.Answered.{replies}
 use Rattle.vx_stream.specs.Shown.{LinkShown}

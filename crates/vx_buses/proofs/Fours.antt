@@ -2,7 +2,7 @@
 use Rattle.std.proofs.Common.{◌≡◌, ◌≢◌, ◌≤◌, ℕ, zero, suc, refl, ap, arith}
 use Rattle.vx_gates.specs.Four.{Four, at, put, swapped, Each}
 use Rattle.vx_gate.specs.PassView.{PassView}
-use Rattle.vx_history.specs.Groups.{Group}
+use Rattle.vx_group.specs.Groups.{Group}
 use Rattle.vx_buses.specs.Serving.{numbers}
 
 module _ {A : Type 0} where

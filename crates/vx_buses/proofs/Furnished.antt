@@ -8,7 +8,7 @@ use Rattle.std.proofs.lemmas.List.Elements.{All-nil, All-cons}
 use Rattle.vx_488.specs.declared.transfers.Addr.{Addr}
 use Rattle.vx_bus_traits.specs.Means.{first_means}
 use Rattle.vx_flow.specs.FineState.{first_fine}
-use Rattle.vx_history.specs.Groups.{StandsFor}
+use Rattle.vx_group.specs.Groups.{StandsFor}
 use Rattle.vx_inst.specs.Behavior.{Behavior}
 use Rattle.vx_rack.specs.declared.Spare.{Spare}
 use Rattle.vx_sim.specs.Occupants.{Occupant, Seated, handed_in}

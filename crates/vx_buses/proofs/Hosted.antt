@@ -11,7 +11,7 @@ use Rattle.vx_calls.specs.declared.limits.TheConstants.{CONNECTION_LAST}
 use Rattle.vx_gate.specs.PassView.{PassView, GateId}
 use Rattle.vx_gates.specs.Four.{Four, at, Each}
 use Rattle.vx_gates.specs.Passing.{IsOf, IsFirst}
-use Rattle.vx_history.specs.Groups.{Group}
+use Rattle.vx_group.specs.Groups.{Group}
 use Rattle.vx_rooms.specs.Counting.{IsClear}
 use Rattle.vx_rooms.specs.ProvedLaws.{clear-first, clear-on}
 use Rattle.vx_stream.specs.Shown.{LinkShown}

@@ -4,8 +4,8 @@ use Rattle.vx_bus_traits.specs.declared.bus.Bus.{Ghosts}
 use Rattle.vx_gate.specs.PassView.{PassView, GateId}
 use Rattle.vx_gates.specs.Four.{Four, at, Each}
 use Rattle.vx_gates.specs.Passing.{IsOf}
-use Rattle.vx_history.specs.Groups.{Group}
-use Rattle.vx_history.specs.Laws.{HeadlineOfGroupsLaw, OwnedLaw}
+use Rattle.vx_group.specs.Groups.{Group}
+use Rattle.vx_group.specs.Laws.{HeadlineOfGroupsLaw, OwnedLaw}
 use Rattle.vx_routes.specs.Given.{OnceLaw}
 use Rattle.vx_tables.specs.declared.tables.Connect.{Connect}
 use Rattle.vx_tables.specs.declared.tables.Connect.TheVariants as connect

@@ -10,8 +10,8 @@ use Rattle.vx_gate.specs.PassView.{PassView}
 use Rattle.vx_gates.specs.Four.{Four, at, EachOf}
 use Rattle.vx_record.specs.Records.{records}
 use Rattle.vx_exchange.specs.Meaning.{meaning, Junk}
-use Rattle.vx_history.specs.Event.{Down}
-use Rattle.vx_history.specs.Groups.{Group, events_of}
+use Rattle.vx_group.specs.Event.{Down}
+use Rattle.vx_group.specs.Groups.{Group, events_of}
 use Rattle.vx_flow.specs.Gather.{gather}
 use Rattle.vx_rules.specs.Numbers.{links_given}
 use Rattle.vx_rules.specs.Entry.{Entry}

@@ -4,8 +4,8 @@ use Rattle.vx_calls.specs.declared.calls.Role.{Role}
 use Rattle.vx_gate.specs.PassView.{PassView, GateId}
 use Rattle.vx_gates.specs.Four.{Four, Each}
 use Rattle.vx_gates.specs.Passing.{IsOf}
-use Rattle.vx_history.specs.Groups.{Group}
-use Rattle.vx_history.specs.Phases.{Idle}
+use Rattle.vx_group.specs.Groups.{Group}
+use Rattle.vx_group.specs.Phases.{Idle}
 use Rattle.vx_session.specs.Turning.{phase_at}
 
 -- the four numbers of a list

@@ -3,7 +3,7 @@ use Rattle.std.specs.Prelude.{◌≡◌, ℕ, Result, Ok, Err}
 use Rattle.vx_calls.specs.declared.calls.Role.TheVariants as role
 use Rattle.vx_gate.specs.PassView.{PassView}
 use Rattle.vx_gates.specs.Four.{Four, EachOf}
-use Rattle.vx_history.specs.Groups.{Group}
+use Rattle.vx_group.specs.Groups.{Group}
 use Rattle.vx_tables.specs.declared.tables.Connect.{Connect}
 use Rattle.vx_session.specs.Turning.{Joins, Leaves}
 use Rattle.vx_buses.specs.declared.joining.Joined.{Joined}

@@ -9,7 +9,7 @@ use Rattle.vx_record.specs.Fragments.{record_of}
 use Rattle.vx_bus_traits.specs.declared.bus.Bus.{Ghosts}
 use Rattle.vx_gate.specs.PassView.{PassView}
 use Rattle.vx_gates.specs.Four.{Four, at, put}
-use Rattle.vx_history.specs.Groups.{Group}
+use Rattle.vx_group.specs.Groups.{Group}
 use Rattle.vx_routes.specs.Replying.{renumbered}
 use Rattle.vx_stream.specs.Answered.{Answered}
 use Rattle.vx_session.specs.Placing.{Placed, Makes}

@@ -8,7 +8,7 @@ ghost use Rattle.vx_gate.specs.PassView.{PassView};
 ghost use Rattle.vx_gates.specs.Four.{Four};
 ghost use Rattle.vx_gates.specs.Passing.{passes_shown};
 ghost use Rattle.vx_gates.specs.Standing.{gates_shown};
-ghost use Rattle.vx_history.specs.Groups.{Group};
+ghost use Rattle.vx_group.specs.Groups.{Group};
 ghost use Rattle.vx_rules.specs.Calls.{IsShort};
 ghost use Rattle.vx_rules.specs.One.{may_wait};
 ghost use Rattle.std.specs.Prelude.{true};

@@ -6,7 +6,7 @@ ghost use Rattle.vx_exchange.specs.declared.record.TheConstants.{REPLY_ROOM};
 ghost use Rattle.vx_gates.specs.Four.{at, Each};
 ghost use Rattle.vx_gates.specs.Passing.{passes_shown, IsOf};
 ghost use Rattle.vx_gates.specs.Standing.{gates_shown};
-ghost use Rattle.vx_history.specs.Phases.{Idle};
+ghost use Rattle.vx_group.specs.Phases.{Idle};
 ghost use Rattle.vx_rules.specs.Calls.{IsShort};
 ghost use Rattle.vx_rules.specs.One.{may_wait};
 ghost use Rattle.vx_session.specs.Turning.{phase_at};

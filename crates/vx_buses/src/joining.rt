@@ -5,7 +5,7 @@ ghost use Rattle.vx_gate.specs.Gates.{gate_of};
 ghost use Rattle.vx_gates.specs.Four.{Each};
 ghost use Rattle.vx_gates.specs.Passing.{passes_shown, IsOf};
 ghost use Rattle.vx_gates.specs.Standing.{gates_shown};
-ghost use Rattle.vx_history.specs.Phases.{Idle};
+ghost use Rattle.vx_group.specs.Phases.{Idle};
 ghost use Rattle.vx_session.specs.Turning.{phase_at};
 ghost use Rattle.vx_buses.specs.Holding.{four_of};
 ghost use Rattle.vx_buses.specs.Joining.{JoinsAll, Undone, UndoneAll, joined_shown, outcome};

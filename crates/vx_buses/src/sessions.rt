@@ -14,7 +14,7 @@ use crate::{BusPass, Buses};
 use std::sync::Wait;
 use vx_bus_traits::Bus;
 use vx_calls::Role;
-use vx_history::{headline_law, owned_law};
+use vx_group::{headline_law, owned_law};
 use vx_io_traits::{Clock, Link, Pause};
 use vx_routes::given_once_law;
 use vx_session::{Room, Still};

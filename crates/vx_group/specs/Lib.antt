@@ -1,9 +1,15 @@
 pub mod Groups
 pub mod Phases
 pub mod Owning
+pub mod Laws
+pub mod ProvedLaws
 pub use Rattle.vx_calls.specs.Call
+pub use Rattle.vx_rules.specs.Lists
+pub use Rattle.vx_gate.specs.History
 pub use Rattle.vx_flow.specs.Event
+pub use Rattle.vx_flow.specs.Fine
 pub use Rattle.vx_flow.specs.FineState
-pub use Rattle.vx_flow.specs.Laws
+pub use Rattle.vx_flow.specs.Headline
 pub use Rattle.vx_flow.specs.Poll
+pub use Rattle.vx_flow.specs.Sound
 pub use Rattle.vx_flow.specs.State

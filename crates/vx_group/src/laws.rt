@@ -1,9 +1,35 @@
-//! What holds of the definitions here, as a contract of a function that does nothing: a caller that cites the law calls it.
+//! Laws of the definitions here and of the histories that turns at a gate make of groups of events. These functions do nothing:
+//! their contracts are what they are for, and a caller that cites a law calls its function.
 ghost use Rattle.std.specs.Prelude.{ℕ, []};
 ghost use Rattle.vx_flow.specs.FineState.{first_fine};
 ghost use Rattle.vx_group.specs.Groups.{StandsFor};
+ghost use Rattle.vx_group.specs.Laws.{StandsOnLaw, PhaseLaw, OwnedLaw, HeadlineOfGroupsLaw, SoundLaw};
 
 /// A gateway as it starts, whatever the port of its abort channel, stands for the history without a group.
 pub fn first_law()
     ensures { (abort_port : ℕ) → StandsFor (first_fine abort_port) [] }
+{}
+
+/// A state that stands for a history goes on with it: behind events that are allowed it stands for the history and the group
+/// of these events.
+pub fn stands_law()
+    ensures { StandsOnLaw }
+{}
+
+/// What the groups that a pass made tell of a connection (that it is up, in which role, with which call, and whether a dial
+/// was asked for) is so in every state that stands for the history.
+pub fn phase_law()
+    ensures { PhaseLaw }
+{}
+
+/// The calls of a connection and their answers are made by one pass alone: by the one that has it come up.
+pub fn owned_law()
+    ensures { OwnedLaw }
+{}
+
+/// The headline of running threads: of every history for which a state stands, all holds that is claimed of interleaved
+/// events; and of the state, what holds between events.
+pub fn headline_law()
+    ensures headline { HeadlineOfGroupsLaw }
+    ensures sound { SoundLaw }
 {}

@@ -1,12 +1,12 @@
 //! The groups of events that turns at a gate add to the history of a gateway: for which histories a state stands, what a
-//! list of events tells of a connection, and which group a pass may add.
+//! list of events tells of a connection, which group a pass may add, and the laws of the histories that such groups make.
 //!
 //! A group is plain data of contracts; no value of it is made when a program runs.
 #![tactic(auto)]
 
 mod laws;
 
-pub use laws::first_law;
+pub use laws::{first_law, headline_law, owned_law, phase_law, stands_law};
 use std::marker::Model;
 
 /// The type of a group of events.

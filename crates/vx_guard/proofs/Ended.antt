@@ -9,8 +9,8 @@ use Rattle.vx_gate.specs.PassView.{PassView}
 use Rattle.vx_text.specs.Ends.{End as Ends}
 use Rattle.vx_text.specs.Writing.{StopsIn}
 use Rattle.vx_record.specs.Records.{Split, records}
-use Rattle.vx_history.specs.Groups.{Group}
-use Rattle.vx_history.specs.Laws.{HeadlineOfGroupsLaw, OwnedLaw}
+use Rattle.vx_group.specs.Groups.{Group}
+use Rattle.vx_group.specs.Laws.{HeadlineOfGroupsLaw, OwnedLaw}
 use Rattle.vx_exchange.specs.Meaning.{meaning, Junk}
 use Rattle.vx_io_traits.specs.Stands.{Goes}
 use Rattle.vx_stream.specs.Shown.{LinkShown, LinkGoes}

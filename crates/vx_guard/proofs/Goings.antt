@@ -6,7 +6,7 @@ use Rattle.std.proofs.lemmas.Option.{same_Some}
 use Rattle.vx_calls.specs.declared.calls.Role.TheVariants as role
 use Rattle.vx_bus_traits.specs.declared.bus.Bus.{Ghosts}
 use Rattle.vx_gate.specs.PassView.{PassView}
-use Rattle.vx_history.specs.Groups.{Group}
+use Rattle.vx_group.specs.Groups.{Group}
 use Rattle.vx_exchange.specs.Meaning.{Meaning, meaning}
 use Rattle.vx_exchange.specs.Meaning as meant
 use Rattle.vx_stream.specs.Answered.{Answered, AnswersAll}

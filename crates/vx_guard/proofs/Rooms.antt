@@ -8,7 +8,7 @@ use Rattle.vx_gate.specs.PassView.{PassView}
 use Rattle.vx_text.specs.Ends.{End}
 use Rattle.vx_tables.specs.declared.tables.Connect.TheVariants as connect
 use Rattle.vx_exchange.specs.Meaning.{Meaning, Asks, meaning}
-use Rattle.vx_history.specs.Groups.{Group}
+use Rattle.vx_group.specs.Groups.{Group}
 use Rattle.vx_stream.specs.Shown.{LinkShown}
 use Rattle.vx_session.specs.Outside.{DialShown}
 use Rattle.vx_session.specs.Serving.{Item}

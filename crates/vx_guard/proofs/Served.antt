@@ -9,7 +9,7 @@ use Rattle.vx_calls.specs.Call.{Call}
 use Rattle.vx_bus_traits.specs.declared.bus.Bus.{Ghosts}
 use Rattle.vx_gate.specs.PassView.{PassView}
 use Rattle.vx_text.specs.Ends.{End}
-use Rattle.vx_history.specs.Groups.{Group}
+use Rattle.vx_group.specs.Groups.{Group}
 use Rattle.vx_rules.specs.Calls.{proc_of}
 use Rattle.vx_exchange.specs.Meaning.{Meaning, Junk, Answered, Asks, meaning}
 use Rattle.vx_session.specs.Outside.{DialShown}

@@ -20,8 +20,8 @@ pub use Rattle.vx_calls.specs.Reply
 pub use Rattle.vx_bus_traits.specs.Means
 pub use Rattle.vx_rules.specs.Calls
 pub use Rattle.vx_rules.specs.Effects
-pub use Rattle.vx_history.specs.Groups
-pub use Rattle.vx_history.specs.Phases
+pub use Rattle.vx_group.specs.Groups
+pub use Rattle.vx_group.specs.Phases
 pub use Rattle.vx_record.specs.Records
 pub use Rattle.vx_text.specs.Ends
 pub use Rattle.vx_text.specs.Writing

@@ -14,7 +14,7 @@ use Rattle.vx_door.specs.declared.serving.DoorEnd.TheVariants as door
 use Rattle.vx_bus_traits.specs.declared.bus.Bus.{Ghosts}
 use Rattle.vx_gate.specs.PassView.{PassView, GateId}
 use Rattle.vx_text.specs.Ends.{End}
-use Rattle.vx_history.specs.Groups.{Group}
+use Rattle.vx_group.specs.Groups.{Group}
 use Rattle.vx_stream.specs.Shown.{LinkShown}
 use Rattle.vx_stream.specs.declared.ends.End.TheVariants as stream
 use Rattle.vx_session.specs.Outside.{DialShown}

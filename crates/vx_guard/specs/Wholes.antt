@@ -10,8 +10,8 @@ use Rattle.vx_text.specs.Ends.{End}
 use Rattle.vx_text.specs.Writing.{StopsIn}
 use Rattle.vx_record.specs.Records.{Split, records}
 use Rattle.vx_exchange.specs.Meaning.{meaning, Junk}
-use Rattle.vx_history.specs.Event.{Down}
-use Rattle.vx_history.specs.Groups.{Group}
+use Rattle.vx_group.specs.Event.{Down}
+use Rattle.vx_group.specs.Groups.{Group}
 use Rattle.vx_stream.specs.Answered.{Answered, messages, replies}
 use Rattle.vx_stream.specs.Shown.{LinkShown, LinkGoes}
 use Rattle.vx_stream.specs.Stopping.{EndsSo}

@@ -12,7 +12,7 @@ use vx_bus_traits::Bus;
 use vx_calls::Role;
 use vx_core::{Connect, Core};
 use vx_gate::{Pass, Turns};
-use vx_history::{headline_law, owned_law};
+use vx_group::{headline_law, owned_law};
 use vx_io::Peered;
 use vx_io_traits::{Clock, Dial, Pause, Sink};
 use vx_policy::Policy;

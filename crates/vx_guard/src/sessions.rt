@@ -2,7 +2,7 @@
 ghost use Rattle.std.specs.Prelude.{◌≡◌, ◌≤◌, ℕ};
 ghost use Rattle.vx_door.specs.Going.{Went};
 ghost use Rattle.vx_calls.specs.declared.calls.Role.TheVariants as role;
-ghost use Rattle.vx_history.specs.Phases.{Idle};
+ghost use Rattle.vx_group.specs.Phases.{Idle};
 ghost use Rattle.vx_session.specs.Turning.{phase_at};
 ghost use Rattle.vx_session.specs.Outside.{dial_shown};
 ghost use Rattle.vx_stream.specs.Shown.{link_shown};
@@ -18,7 +18,7 @@ use vx_calls::RECORD_MAX;
 use vx_core::Core;
 use vx_exchange::REPLY_ROOM;
 use vx_gate::{Pass, Turns};
-use vx_history::{headline_law, owned_law};
+use vx_group::{headline_law, owned_law};
 use vx_io::Peered;
 use vx_io_traits::{Clock, Dial, Pause, Sink};
 use vx_policy::{Made, Policy};

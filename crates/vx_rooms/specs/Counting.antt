@@ -4,7 +4,7 @@ use Rattle.vx_flow.specs.Event.{Event, Up, Down}
 use Rattle.vx_flow.specs.FineState.{FineState}
 use Rattle.vx_gate.specs.History.{groups}
 use Rattle.vx_gate.specs.PassView.{PassView, all_parts}
-use Rattle.vx_history.specs.Groups.{Group, events_of}
+use Rattle.vx_group.specs.Groups.{Group, events_of}
 use Rattle.vx_session.specs.Placing.{Placed}
 
 -- whether a connection comes up by the event

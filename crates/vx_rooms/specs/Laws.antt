@@ -4,7 +4,7 @@ use Rattle.vx_calls.specs.declared.calls.Role.{Role}
 use Rattle.vx_calls.specs.declared.limits.TheConstants.{ROLE_MAX, CONNECTION_LAST}
 use Rattle.vx_rules.specs.State.{has_room}
 use Rattle.vx_flow.specs.FineState.{FineState}
-use Rattle.vx_history.specs.Groups.{Group, events_of, StandsFor}
+use Rattle.vx_group.specs.Groups.{Group, events_of, StandsFor}
 use Rattle.vx_rooms.specs.Counting.{ups, downs, IsCounted}
 
 -- Behind each history for which a state stands, as many connections live as came up and didn't go down, and the next one gets the

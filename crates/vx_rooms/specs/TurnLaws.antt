@@ -5,7 +5,7 @@ use Rattle.vx_calls.specs.declared.limits.TheConstants.{CONNECTION_LAST}
 use Rattle.vx_gate.specs.PassView.{PassView, all_parts}
 use Rattle.vx_tables.specs.declared.tables.Connect.{Connect}
 use Rattle.vx_tables.specs.declared.tables.Connect.TheVariants as connect
-use Rattle.vx_history.specs.Groups.{Group, events_of}
+use Rattle.vx_group.specs.Groups.{Group, events_of}
 use Rattle.vx_session.specs.Turning.{Joins, Leaves}
 use Rattle.vx_rooms.specs.Counting.{ups, downs, ComesAndGoes, IsClear}
 

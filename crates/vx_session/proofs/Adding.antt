@@ -17,8 +17,8 @@ use Rattle.vx_flow.specs.FineState.{FineState}
 use Rattle.vx_flow.specs.Fine.{fine}
 use Rattle.vx_flow.specs.Poll.{Ending, Polls, at_moment, run_events, end_events}
 use Rattle.vx_core.specs.CoreState.{CoreState}
-use Rattle.vx_history.specs.Groups.{Group, StandsFor}
-use Rattle.vx_history.specs.Laws.{group_after, StandsOnLaw}
+use Rattle.vx_group.specs.Groups.{Group, StandsFor}
+use Rattle.vx_group.specs.Laws.{group_after, StandsOnLaw}
 use Rattle.vx_exchange.specs.declared.polls.PollEnd.{PollEnd}
 use Rattle.vx_exchange.specs.Doing.{Polled, Came}
 use Rattle.vx_session.specs.Acting.{last_ending, poll_events, come_events, come_to, connect_events, take_events}

@@ -15,12 +15,12 @@ use Rattle.vx_calls.specs.declared.codes.ErrorCode.{ErrorCode}
 use Rattle.vx_calls.specs.Call.{Call}
 use Rattle.vx_bus_traits.specs.declared.bus.Bus.{Ghosts}
 use Rattle.vx_gate.specs.PassView.{PassView}
-use Rattle.vx_history.specs.Event.{Event}
-use Rattle.vx_history.specs.FineState.{FineState}
-use Rattle.vx_history.specs.Poll as poll
-use Rattle.vx_history.specs.Poll.{Ending, Waited, Dialed}
-use Rattle.vx_history.specs.Groups.{Group}
-use Rattle.vx_history.specs.Phases.{Idle, Asked}
+use Rattle.vx_group.specs.Event.{Event}
+use Rattle.vx_group.specs.FineState.{FineState}
+use Rattle.vx_group.specs.Poll as poll
+use Rattle.vx_group.specs.Poll.{Ending, Waited, Dialed}
+use Rattle.vx_group.specs.Groups.{Group}
+use Rattle.vx_group.specs.Phases.{Idle, Asked}
 use Rattle.vx_exchange.specs.declared.polls.PollEnd.{PollEnd}
 use Rattle.vx_exchange.specs.declared.polls.PollEnd.TheVariants as said
 use Rattle.vx_exchange.specs.declared.polls.DialAnswered.{DialAnswered}

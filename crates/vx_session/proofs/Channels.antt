@@ -15,7 +15,7 @@ use Rattle.vx_flow.specs.Fine.{outside, fine}
 use Rattle.vx_flow.specs.Gather.{gather}
 use Rattle.vx_flow.specs.Does.{AnsweredBy, ByAbort, ByNoLink, ByCheck, ByBar, ByDialUp, ByDialDown, ByEffect, ByNoRole, ByFault, ByWhole, ByTimeout}
 use Rattle.vx_flow.specs.ProvedLaws.{gather_law-holds, fine-does}
-use Rattle.vx_history.specs.Groups.{Group, events_of, StandsFor}
+use Rattle.vx_group.specs.Groups.{Group, events_of, StandsFor}
 
 -- ---- what an answer does that settles a dial
 

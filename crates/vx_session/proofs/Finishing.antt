@@ -8,8 +8,8 @@ use Rattle.vx_bus_traits.specs.declared.bus.Bus.{Ghosts}
 use Rattle.vx_gate.specs.History.{groups}
 use Rattle.vx_gate.specs.PassView.{PassView}
 use Rattle.vx_exchange.specs.Meaning.{meaning, Junk}
-use Rattle.vx_history.specs.Laws.{HeadlineOfGroupsLaw, OwnedLaw}
-use Rattle.vx_history.specs.Groups.{Group}
+use Rattle.vx_group.specs.Laws.{HeadlineOfGroupsLaw, OwnedLaw}
+use Rattle.vx_group.specs.Groups.{Group}
 use Rattle.vx_tables.specs.declared.tables.Connect.{Connect}
 use Rattle.vx_tables.specs.declared.tables.Connect.TheVariants as connect
 use Rattle.vx_stream.specs.Shown.{LinkShown}

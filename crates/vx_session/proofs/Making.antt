@@ -10,9 +10,9 @@ use Rattle.vx_gate.specs.Turning.{Turned}
 use Rattle.vx_flow.specs.Event.{Event}
 use Rattle.vx_flow.specs.FineState.{FineState}
 use Rattle.vx_core.specs.CoreState.{CoreState}
-use Rattle.vx_history.specs.Groups.{Group, last_moment, now_of, StandsFor}
-use Rattle.vx_history.specs.Owning.{MayAdd}
-use Rattle.vx_history.specs.Laws.{group_after}
+use Rattle.vx_group.specs.Groups.{Group, last_moment, now_of, StandsFor}
+use Rattle.vx_group.specs.Owning.{MayAdd}
+use Rattle.vx_group.specs.Laws.{group_after}
 use Rattle.vx_session.specs.Placing.{Placed, IsTold, IsTimely}
 use Rattle.vx_session.specs.Turning.{Turns}
 use Rattle.vx_session.specs.Parts.{IsAt, moment_at}

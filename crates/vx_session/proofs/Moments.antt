@@ -14,7 +14,7 @@ use Rattle.vx_flow.specs.Fine.{fine}
 use Rattle.vx_flow.specs.Poll.{Ending}
 use Rattle.vx_flow.specs.Frames as frames
 use Rattle.vx_flow.specs.ProvedLaws.{fine-frame}
-use Rattle.vx_history.specs.Groups.{now_of}
+use Rattle.vx_group.specs.Groups.{now_of}
 use Rattle.vx_session.specs.Acting.{poll_events}
 use Rattle.vx_session.specs.Parts.{IsAt}
 use Rattle.vx_session.specs.ProvedLaws.{has-moment, has-none, poll-at}

@@ -14,8 +14,8 @@ use Rattle.vx_tables.specs.declared.tables.Connect.TheVariants as connect
 use Rattle.vx_flow.specs.Event.{Up, Take}
 use Rattle.vx_flow.specs.FineState.{FineState}
 use Rattle.vx_core.specs.CoreState.{CoreState}
-use Rattle.vx_history.specs.Groups.{Group, StandsFor}
-use Rattle.vx_history.specs.Laws.{group_after}
+use Rattle.vx_group.specs.Groups.{Group, StandsFor}
+use Rattle.vx_group.specs.Laws.{group_after}
 use Rattle.vx_session.specs.Placing.{IsTimely}
 use Rattle.vx_session.specs.Acting.{Connects, TakeAt, TakeDid, connect_events, take_events}
 use Rattle.vx_session.specs.Turning.{phase_at, IsChannel, HasCome, TakesFrom}

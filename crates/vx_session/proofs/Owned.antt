@@ -18,11 +18,11 @@ use Rattle.vx_rules.specs.ProvedLaws.{role-lives, role-connection}
 use Rattle.vx_flow.specs.Event.{Event, Down, Arrive, Answer, Abort, Begin, Move, Dial}
 use Rattle.vx_flow.specs.FineState.{FineState}
 use Rattle.vx_flow.specs.Poll.{Ending}
-use Rattle.vx_history.specs.Groups.{Group, events_of, StandsFor}
-use Rattle.vx_history.specs.Phases.{Phase, Absent, Idle, Asked, dialing, phase_after, phase_by, is_up, HasPhase}
-use Rattle.vx_history.specs.Owning.{may_make, may_make_all, MayAdd}
-use Rattle.vx_history.specs.Laws.{PhaseLaw}
-use Rattle.vx_history.specs.ProvedLaws.{phase-append}
+use Rattle.vx_group.specs.Groups.{Group, events_of, StandsFor}
+use Rattle.vx_group.specs.Phases.{Phase, Absent, Idle, Asked, dialing, phase_after, phase_by, is_up, HasPhase}
+use Rattle.vx_group.specs.Owning.{may_make, may_make_all, MayAdd}
+use Rattle.vx_group.specs.Laws.{PhaseLaw}
+use Rattle.vx_group.specs.ProvedLaws.{phase-append}
 use Rattle.vx_session.specs.Acting.{poll_events, come_events, come_to}
 use Rattle.vx_session.specs.Turning.{phase_at}
 use Rattle.vx_session.specs.ProvedLaws.{poll-all}

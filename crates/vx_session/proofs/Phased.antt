@@ -7,9 +7,9 @@ use Rattle.vx_488.specs.declared.transfers.Transfer.{Transfer}
 use Rattle.vx_flow.specs.Event.{Up, Arrive}
 use Rattle.vx_flow.specs.FineState.{FineState}
 use Rattle.vx_flow.specs.Poll.{Ending}
-use Rattle.vx_history.specs.Groups.{Group, events_of}
-use Rattle.vx_history.specs.Phases.{Phase, Absent, Idle, Asked, phase_after, phase_along, phase_by}
-use Rattle.vx_history.specs.ProvedLaws.{events-more, phase-append}
+use Rattle.vx_group.specs.Groups.{Group, events_of}
+use Rattle.vx_group.specs.Phases.{Phase, Absent, Idle, Asked, phase_after, phase_along, phase_by}
+use Rattle.vx_group.specs.ProvedLaws.{events-more, phase-append}
 use Rattle.vx_session.specs.Acting.{poll_events}
 use Rattle.vx_session.specs.Parts.{phase_behind}
 use Rattle.vx_session.specs.ProvedLaws.{chosen-own, poll-phase}

@@ -16,10 +16,10 @@ use Rattle.vx_core.specs.CoreState.{CoreState}
 use Rattle.vx_exchange.specs.declared.polls.PollEnd.{PollEnd}
 use Rattle.vx_exchange.specs.Doing.{Polled, Came}
 use Rattle.vx_exchange.specs.ProvedLaws.{polled-moment, came-pending, came-ends}
-use Rattle.vx_history.specs.Groups.{Group, StandsFor}
-use Rattle.vx_history.specs.Phases.{Asked, phase_along}
-use Rattle.vx_history.specs.Owning.{MayAdd}
-use Rattle.vx_history.specs.Laws.{group_after, PhaseLaw}
+use Rattle.vx_group.specs.Groups.{Group, StandsFor}
+use Rattle.vx_group.specs.Phases.{Asked, phase_along}
+use Rattle.vx_group.specs.Owning.{MayAdd}
+use Rattle.vx_group.specs.Laws.{group_after, PhaseLaw}
 use Rattle.vx_session.specs.Placing.{Placed, IsTimely}
 use Rattle.vx_session.specs.Parts.{IsPolled, PollsAt, ComesAt, DialsFor}
 use Rattle.vx_session.specs.Acting.{last_ending, poll_events, come_events, come_to}

@@ -12,7 +12,7 @@ use Rattle.vx_io_traits.specs.Stands.{Goes}
 use Rattle.vx_calls.specs.declared.limits.TheConstants.{RECORD_MAX}
 use Rattle.vx_bus_traits.specs.declared.bus.Bus.{Ghosts}
 use Rattle.vx_gate.specs.PassView.{PassView}
-use Rattle.vx_history.specs.Groups.{Group, events_of}
+use Rattle.vx_group.specs.Groups.{Group, events_of}
 use Rattle.vx_stream.specs.Shown.{LinkShown, LinkGoes}
 use Rattle.vx_record.specs.Records.{Split, records}
 use Rattle.vx_exchange.specs.Meaning.{meaning, Junk}

@@ -8,7 +8,7 @@ use Rattle.vx_record.specs.Fragments.{record_of}
 use Rattle.vx_exchange.specs.Meaning.{Meaning, Answered, Asks, Aborts, meaning}
 use Rattle.vx_exchange.specs.Opening.{Stands}
 use Rattle.vx_exchange.specs.declared.polls.Aborted.{Aborted}
-use Rattle.vx_history.specs.Groups.{Group}
+use Rattle.vx_group.specs.Groups.{Group}
 use Rattle.vx_session.specs.Turning as turning
 use Rattle.vx_session.specs.ProvedLaws.{makes-none, makes-later}
 use Rattle.vx_session.specs.Outside.{DialShown, is_failed_dial}

@@ -9,10 +9,10 @@ use Rattle.vx_gate.specs.History.{groups}
 use Rattle.vx_gate.specs.PassView.{PassView}
 use Rattle.vx_record.specs.Records.{records}
 use Rattle.vx_exchange.specs.Meaning.{meaning, Junk}
-use Rattle.vx_history.specs.Event.{Down}
-use Rattle.vx_history.specs.Headline.{Headline}
-use Rattle.vx_history.specs.Groups.{Group, events_of}
-use Rattle.vx_history.specs.Owning.{Owned}
+use Rattle.vx_group.specs.Event.{Down}
+use Rattle.vx_group.specs.Headline.{Headline}
+use Rattle.vx_group.specs.Groups.{Group, events_of}
+use Rattle.vx_group.specs.Owning.{Owned}
 use Rattle.vx_stream.specs.Answered.{replies}
 use Rattle.vx_stream.specs.Stopping.{EndsSo}
 use Rattle.vx_stream.specs.declared.ends.End.{End}

@@ -1,7 +1,7 @@
 -- What a session can know of its dial.
 use Rattle.std.specs.Prelude.{◌≤◌, ◌+◌, ◌-◌, ◌^◌, ℕ, min, Bool, true, false, List, Option, Some, None}
 use Rattle.vx_io_traits.specs.declared.dials.Rang.{Rang}
-use Rattle.vx_history.specs.Event.{Event, Answer}
+use Rattle.vx_group.specs.Event.{Event, Answer}
 
 -- a dial: its calls, where it tells them, and its count of faults
 pub record DialShown : Type 0 where

@@ -14,8 +14,8 @@ use Rattle.vx_flow.specs.FineState.{FineState}
 use Rattle.vx_flow.specs.Fine.{fine}
 use Rattle.vx_flow.specs.Poll.{Ending, Answered, Waited, Dialed}
 use Rattle.vx_core.specs.Polling.{PollsOver}
-use Rattle.vx_history.specs.Groups.{last_moment, now_of, StandsFor}
-use Rattle.vx_history.specs.Phases.{Phase, Idle, Asked}
+use Rattle.vx_group.specs.Groups.{last_moment, now_of, StandsFor}
+use Rattle.vx_group.specs.Phases.{Phase, Idle, Asked}
 use Rattle.vx_session.specs.Placing.{Placed}
 use Rattle.vx_session.specs.Acting.{poll_events}
 

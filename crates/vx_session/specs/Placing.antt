@@ -6,8 +6,8 @@ use Rattle.vx_gate.specs.declared.views.Logged.{Logged}
 use Rattle.vx_gate.specs.History.{made, groups, made_by, Lawful}
 use Rattle.vx_gate.specs.PassView.{PassView, all_parts}
 use Rattle.vx_flow.specs.FineState.{FineState}
-use Rattle.vx_history.specs.Groups.{Group, last_moment, now_of, StandsFor}
-use Rattle.vx_history.specs.Owning.{MayAdd}
+use Rattle.vx_group.specs.Groups.{Group, last_moment, now_of, StandsFor}
+use Rattle.vx_group.specs.Owning.{MayAdd}
 
 -- a group, and the history before it
 pub record Placed : Type 0 where

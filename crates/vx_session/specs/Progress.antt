@@ -7,8 +7,8 @@ use Rattle.vx_calls.specs.declared.calls.Role.{Role}
 use Rattle.vx_calls.specs.Call.{Call}
 use Rattle.vx_bus_traits.specs.declared.bus.Bus.{Ghosts}
 use Rattle.vx_gate.specs.PassView.{PassView}
-use Rattle.vx_history.specs.Groups.{Group, events_of}
-use Rattle.vx_history.specs.Poll.{Dialed}
+use Rattle.vx_group.specs.Groups.{Group, events_of}
+use Rattle.vx_group.specs.Poll.{Dialed}
 use Rattle.vx_exchange.specs.Meaning.{meaning, Junk}
 use Rattle.vx_stream.specs.Answered.{Answered}
 use Rattle.vx_session.specs.Placing.{Placed, Makes}

@@ -16,10 +16,10 @@ use Rattle.vx_gate.specs.PassView.{PassView}
 use Rattle.vx_flow.specs.Event.{Event, Answer, Begin, Move, Dial}
 use Rattle.vx_flow.specs.FineState.{FineState}
 use Rattle.vx_flow.specs.Poll.{Ending, Answered, Waited, Dialed, is_broken, begins, begun_events, moved_events, run_events, end_events}
-use Rattle.vx_history.specs.Groups.{Group, last_moment, now_of}
-use Rattle.vx_history.specs.Owning.{owner_of}
-use Rattle.vx_history.specs.Phases.{Phase, Idle, Asked, phase_along}
-use Rattle.vx_history.specs.ProvedLaws.{phase-append}
+use Rattle.vx_group.specs.Groups.{Group, last_moment, now_of}
+use Rattle.vx_group.specs.Owning.{owner_of}
+use Rattle.vx_group.specs.Phases.{Phase, Idle, Asked, phase_along}
+use Rattle.vx_group.specs.ProvedLaws.{phase-append}
 use Rattle.vx_session.specs.Acting.{poll_events}
 use Rattle.vx_session.specs.Placing.{Placed, Chain, IsTold, IsTimely, Makes, behind, logged}
 use Rattle.vx_session.specs.Parts.{IsPolled, IsAt, dialed_of, phase_behind}

@@ -12,9 +12,9 @@ use Rattle.vx_bus_traits.specs.declared.bus.Bus.{Ghosts}
 use Rattle.vx_exchange.specs.Meaning as meant
 use Rattle.vx_exchange.specs.Meaning.{Meaning, Junk, Asks, Aborts, meaning, reply_record}
 use Rattle.vx_stream.specs.Answered.{Answered}
-use Rattle.vx_history.specs.Event.{Abort}
-use Rattle.vx_history.specs.Poll as poll
-use Rattle.vx_history.specs.Poll.{Ending, Waited, Dialed}
+use Rattle.vx_group.specs.Event.{Abort}
+use Rattle.vx_group.specs.Poll as poll
+use Rattle.vx_group.specs.Poll.{Ending, Waited, Dialed}
 use Rattle.vx_session.specs.Placing.{Placed, behind}
 use Rattle.vx_session.specs.Parts.{PollsAt, ComesAt, moment_at, DialsFor, settled_events}
 use Rattle.vx_session.specs.Turning.{IsChannel}

@@ -24,8 +24,8 @@ use Rattle.vx_tables.specs.declared.tables.Connect.TheVariants as connect
 use Rattle.vx_flow.specs.Event.{Event, Down, Abort, Sample, Take}
 use Rattle.vx_flow.specs.FineState.{FineState}
 use Rattle.vx_flow.specs.Poll.{Ending}
-use Rattle.vx_history.specs.Groups.{Group, events_of, StandsFor}
-use Rattle.vx_history.specs.Phases.{Phase, Idle, phase_by}
+use Rattle.vx_group.specs.Groups.{Group, events_of, StandsFor}
+use Rattle.vx_group.specs.Phases.{Phase, Idle, phase_by}
 use Rattle.vx_session.specs.Placing.{Placed, Makes, IsHistory, behind}
 use Rattle.vx_session.specs.Parts.{PollsAt, ComesAt, moment_at, DialsFor, phase_behind, settled_events}
 use Rattle.vx_session.specs.Acting.{connect_events}

@@ -13,8 +13,8 @@ ghost use Rattle.vx_flow.specs.Event.{Down, Abort, Sample};
 ghost use Rattle.vx_flow.specs.Fine.{fine};
 ghost use Rattle.vx_exchange.specs.declared.record.TheConstants.{REPLY_ROOM};
 ghost use Rattle.vx_exchange.specs.Doing.{Polled, Came, Settles, Aborts};
-ghost use Rattle.vx_history.specs.Groups.{Group};
-ghost use Rattle.vx_history.specs.Laws.{group_after};
+ghost use Rattle.vx_group.specs.Groups.{Group};
+ghost use Rattle.vx_group.specs.Laws.{group_after};
 ghost use Rattle.vx_session.specs.Acting.{Connects, poll_events, come_events, last_ending, connect_events, take_events, TakeDid};
 ghost use Rattle.vx_session.specs.Parts.{settled_events};
 
@@ -24,7 +24,7 @@ use vx_calls::{CallRef, Role, Taken};
 use vx_core::{Connect, Core};
 use vx_exchange::{Aborted, DialAnswered, PollEnd, abort, again, come, settle};
 use vx_gate::Act;
-use vx_history::stands_law;
+use vx_group::stands_law;
 
 /// A call that comes on a connection, and its first poll.
 #[derive(Drop)]

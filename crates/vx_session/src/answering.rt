@@ -3,8 +3,8 @@ ghost use Rattle.std.specs.Prelude.{◌≡◌, ◌≤◌, length, take, Option, 
 ghost use Rattle.vx_calls.specs.declared.limits.TheConstants.{RECORD_MAX};
 ghost use Rattle.vx_exchange.specs.declared.record.TheConstants.{REPLY_ROOM};
 ghost use Rattle.vx_gate.specs.PassView.{PassView};
-ghost use Rattle.vx_history.specs.Groups.{Group};
-ghost use Rattle.vx_history.specs.Phases.{Idle, Asked};
+ghost use Rattle.vx_group.specs.Groups.{Group};
+ghost use Rattle.vx_group.specs.Phases.{Idle, Asked};
 ghost use Rattle.vx_session.specs.Turning.{phase_at};
 ghost use Rattle.vx_session.specs.Outside.{dial_shown};
 ghost use Rattle.vx_session.specs.Progress.{MessageDoes, AnswersCall, AnswersDial};

@@ -2,7 +2,7 @@
 ghost use Rattle.std.specs.Prelude.{◌≡◌, ◌≤◌, None, Some};
 ghost use Rattle.vx_calls.specs.declared.limits.TheConstants.{RECORD_MAX};
 ghost use Rattle.vx_calls.specs.declared.calls.Role.TheVariants as role;
-ghost use Rattle.vx_history.specs.Phases.{Idle};
+ghost use Rattle.vx_group.specs.Phases.{Idle};
 ghost use Rattle.vx_session.specs.Turning.{phase_at};
 ghost use Rattle.vx_door.specs.Going.{Went};
 ghost use Rattle.vx_exchange.specs.declared.record.TheConstants.{REPLY_ROOM};
@@ -22,7 +22,7 @@ use vx_calls::{RECORD_MAX, Role};
 use vx_core::Core;
 use vx_exchange::REPLY_ROOM;
 use vx_gate::{Pass, Turns};
-use vx_history::{headline_law, owned_law};
+use vx_group::{headline_law, owned_law};
 use vx_io_traits::{Clock, Dial, Link, Pause};
 use vx_record::RecordBuf;
 use vx_stream::{Answers, End, answer_stream};

@@ -6,7 +6,7 @@ ghost use Rattle.vx_srq.specs.Shown.{given_shown};
 ghost use Rattle.vx_rules.specs.One.{may_wait};
 ghost use Rattle.vx_rules.specs.Calls.{IsShort};
 ghost use Rattle.vx_exchange.specs.declared.record.TheConstants.{REPLY_ROOM};
-ghost use Rattle.vx_history.specs.Phases.{Idle, Asked, is_up};
+ghost use Rattle.vx_group.specs.Phases.{Idle, Asked, is_up};
 ghost use Rattle.vx_session.specs.Turning.{phase_at, Comes, PollsAgain, Settles, Aborts, Leaves, Joins, Samples, TakesTurn};
 
 use crate::acts::{AbortLink, Again, Come, ConnectAs, Leave, SampleAt, Settle, TakeFrom};
@@ -17,7 +17,7 @@ use vx_calls::{CallRef, Role, Taken};
 use vx_core::{Connect, Core};
 use vx_exchange::{Aborted, DialAnswered, PollEnd};
 use vx_gate::{Pass, Turns};
-use vx_history::phase_law;
+use vx_group::phase_law;
 
 /// A call comes on an idle core connection of the pass, and is polled, both in one turn. The record of its reply, where it is
 /// answered, stands at the front of `reply` then. Like each turn here it waits for its place at the gate.

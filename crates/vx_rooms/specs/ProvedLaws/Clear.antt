@@ -4,7 +4,7 @@ use mathlib.Core.List.{IsPrefix}
 use Rattle.std.proofs.lemmas.Bool.{false≢true}
 use Rattle.vx_gate.specs.History.{made, groups}
 use Rattle.vx_gate.specs.PassView.{PassView, all_parts}
-use Rattle.vx_history.specs.Groups.{Group, events_of, StandsFor}
+use Rattle.vx_group.specs.Groups.{Group, events_of, StandsFor}
 use Rattle.vx_session.specs.Placing.{Placed, Makes}
 use Rattle.vx_rooms.specs.Counting.{ups, downs}
 use Rattle.vx_rooms.specs.TurnLaws.{ClearFirstLaw, ClearLaw, NeverFullLaw}

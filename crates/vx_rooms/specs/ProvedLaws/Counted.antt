@@ -15,7 +15,7 @@ use Rattle.vx_flow.specs.Event.{Event, Down}
 use Rattle.vx_flow.specs.FineState.{FineState, first_fine}
 use Rattle.vx_flow.specs.Fine.{fine}
 use Rattle.vx_flow.specs.ProvedLaws.{fine-does, fine-frame}
-use Rattle.vx_history.specs.Groups.{events_of}
+use Rattle.vx_group.specs.Groups.{events_of}
 use Rattle.vx_rooms.specs.Counting.{ups, downs}
 use Rattle.vx_rooms.specs.Laws.{CountsLaw, FewLaw, RoomLaw}
 use Rattle.vx_rooms.specs.ProvedLaws.Events.{ups-front, downs-front}

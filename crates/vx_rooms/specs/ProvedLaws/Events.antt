@@ -5,7 +5,7 @@ use Rattle.std.proofs.lemmas.List.Concat.{flat_map-append}
 use Rattle.std.proofs.lemmas.List.Elements.{All-head, All-tail}
 use Rattle.std.proofs.lemmas.List.Sums.{sum_by-append}
 use Rattle.vx_flow.specs.Event.{Event}
-use Rattle.vx_history.specs.Groups.{Group, events_of}
+use Rattle.vx_group.specs.Groups.{Group, events_of}
 use Rattle.vx_rooms.specs.Counting.{comes_up, goes_down, ups, downs, IsSteady}
 
 -- ---- lists of events

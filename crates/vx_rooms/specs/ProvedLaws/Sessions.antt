@@ -19,7 +19,7 @@ use Rattle.vx_flow.specs.Event.{Event, Up, Down, Arrive}
 use Rattle.vx_flow.specs.FineState.{FineState}
 use Rattle.vx_flow.specs.Poll as poll
 use Rattle.vx_flow.specs.Poll.{Ending, Waited, Dialed}
-use Rattle.vx_history.specs.Groups.{Group, events_of}
+use Rattle.vx_group.specs.Groups.{Group, events_of}
 use Rattle.vx_stream.specs.Shown.{LinkShown}
 use Rattle.vx_session.specs.Outside.{DialShown}
 use Rattle.vx_session.specs.Placing.{Placed, Makes, logged}

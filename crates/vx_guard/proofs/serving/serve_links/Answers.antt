@@ -3,7 +3,7 @@ use Rattle.vx_session.specs.Outside.{dial_shown}
 use Rattle.vx_guard.specs.declared.serving.Kit.{Kit}
 use Rattle.vx_guard.specs.declared.serving.Next.TheVariants as next
 use Rattle.vx_gate.specs.PassView.{PassView}
-use Rattle.vx_history.specs.Groups.{Group}
+use Rattle.vx_group.specs.Groups.{Group}
 use Rattle.vx_guard.specs.Peers.{GuardHas, IsNext}
 use Rattle.vx_guard.proofs.Rounds.{round-more, round-noted}
 use Rattle.vx_guard.proofs.serving.serve_links.Given as given

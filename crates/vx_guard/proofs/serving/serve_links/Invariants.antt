@@ -3,7 +3,7 @@ use Rattle.vx_door.specs.Shown.{door_shown}
 use Rattle.vx_stream.specs.Shown.{link_shown}
 use Rattle.vx_session.specs.Outside.{dial_shown}
 use Rattle.vx_gate.specs.PassView.{PassView}
-use Rattle.vx_history.specs.Groups.{Group}
+use Rattle.vx_group.specs.Groups.{Group}
 use Rattle.vx_guard.specs.declared.serving.Kit.{Kit}
 use Rattle.vx_guard.specs.Peers.{IsReady, GuardHas, GuardShows}
 use Rattle.vx_guard.proofs.Rounds.{Round}

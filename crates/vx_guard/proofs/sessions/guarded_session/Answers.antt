@@ -1,7 +1,7 @@
 use Rattle.std.proofs.Common.{◌≡◌, ◌≤◌, Some, None, true, refl, sym, ap, ◌∙◌, subst, rules}
 use Rattle.std.proofs.lemmas.Option.{none-some, same_Some}
 use Rattle.vx_calls.specs.declared.calls.Role.TheVariants as role
-use Rattle.vx_history.specs.Phases.{is_up}
+use Rattle.vx_group.specs.Phases.{is_up}
 use Rattle.vx_session.specs.Turning.{phase_at}
 use Rattle.vx_session.specs.Outside.{dial_shown}
 use Rattle.vx_session.proofs.Progressing.{stream-keeps}

@@ -1,6 +1,6 @@
 use Rattle.std.proofs.Common.{◌≡◌, ◌≤◌, Some, None, true, refl, sym, ap, ◌∙◌, subst, rules}
 use Rattle.std.proofs.lemmas.Option.{none-some, same_Some}
-use Rattle.vx_history.specs.Phases.{is_up}
+use Rattle.vx_group.specs.Phases.{is_up}
 use Rattle.vx_session.specs.Turning.{phase_at}
 use Rattle.vx_session.specs.Outside.{dial_shown}
 use Rattle.vx_session.specs.Progress.{SessionState}

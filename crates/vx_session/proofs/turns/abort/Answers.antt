@@ -1,8 +1,8 @@
 use Rattle.std.proofs.Common.{[], ◌∷◌, refl, ap, ◌∙◌, subst, rules}
 use Rattle.vx_calls.specs.declared.calls.Role.TheVariants as role
 use Rattle.vx_flow.specs.Event.{Abort}
-use Rattle.vx_history.specs.Phases.{Idle, is_up}
-use Rattle.vx_history.specs.Laws.{group_after}
+use Rattle.vx_group.specs.Phases.{Idle, is_up}
+use Rattle.vx_group.specs.Laws.{group_after}
 use Rattle.vx_session.specs.Turning.{Aborts}
 use Rattle.vx_session.proofs.Moments.{fine-moment, one-without}
 use Rattle.vx_session.proofs.Phased.{phase-more}

@@ -1,7 +1,7 @@
 use Rattle.std.proofs.Common.{max, ap, subst, rules}
 use Rattle.vx_calls.specs.declared.calls.Role.TheVariants as role
 use Rattle.vx_calls.specs.Call.{call_shown}
-use Rattle.vx_history.specs.Phases.{Idle, is_up}
+use Rattle.vx_group.specs.Phases.{Idle, is_up}
 use Rattle.vx_session.specs.Acting.{last_ending}
 use Rattle.vx_session.specs.Turning.{Comes}
 use Rattle.vx_session.proofs.Making.{turns}

@@ -1,4 +1,4 @@
-use Rattle.vx_history.specs.Laws.{group_after}
+use Rattle.vx_group.specs.Laws.{group_after}
 use Rattle.std.proofs.Common.{refl}
 use Rattle.vx_session.specs.Acting.{connect_events}
 use Rattle.vx_session.proofs.Making.{turns}

@@ -1,6 +1,6 @@
 use Rattle.std.proofs.Common.{[], ◌∷◌, refl}
 use Rattle.vx_flow.specs.Event.{Down}
-use Rattle.vx_history.specs.Laws.{group_after}
+use Rattle.vx_group.specs.Laws.{group_after}
 use Rattle.vx_session.specs.Turning.{phase_at}
 use Rattle.vx_session.proofs.Moments.{fine-moment, one-without}
 use Rattle.vx_session.proofs.Making.{timely-still, turns}

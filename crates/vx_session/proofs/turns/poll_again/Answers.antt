@@ -1,5 +1,5 @@
 use Rattle.std.proofs.Common.{max, ap, subst, rules}
-use Rattle.vx_history.specs.Phases.{Asked, is_up}
+use Rattle.vx_group.specs.Phases.{Asked, is_up}
 use Rattle.vx_session.specs.Acting.{last_ending}
 use Rattle.vx_session.specs.Turning.{PollsAgain}
 use Rattle.vx_session.proofs.Making.{turns}

@@ -2,7 +2,7 @@ use Rattle.std.proofs.Common.{max, [], ◌∷◌, refl, ap, subst}
 use Rattle.vx_bus_traits.specs.Steps.{Told, Cut}
 use Rattle.vx_bus_traits.specs.Walks.{Walk}
 use Rattle.vx_flow.specs.Event.{Sample}
-use Rattle.vx_history.specs.Laws.{group_after}
+use Rattle.vx_group.specs.Laws.{group_after}
 use Rattle.vx_session.proofs.Moments.{fine-moment, one-moment}
 use Rattle.vx_session.proofs.Making.{now-is, timely-now, turns}
 use Rattle.vx_session.proofs.turns.sample.Goals as goal

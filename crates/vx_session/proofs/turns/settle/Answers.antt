@@ -3,9 +3,9 @@ use Rattle.vx_calls.specs.Reply as reply
 use Rattle.vx_gate.specs.History.{groups}
 use Rattle.vx_flow.specs.Event.{Answer}
 use Rattle.vx_flow.specs.Fine.{fine}
-use Rattle.vx_history.specs.Groups.{StandsFor}
-use Rattle.vx_history.specs.Phases.{Asked, is_up}
-use Rattle.vx_history.specs.Laws.{group_after}
+use Rattle.vx_group.specs.Groups.{StandsFor}
+use Rattle.vx_group.specs.Phases.{Asked, is_up}
+use Rattle.vx_group.specs.Laws.{group_after}
 use Rattle.vx_session.specs.Placing.{behind}
 use Rattle.vx_session.specs.Parts.{settled_events}
 use Rattle.vx_session.specs.Turning.{phase_at, Settles}

@@ -1,6 +1,6 @@
 use Rattle.vx_srq.specs.Shown.{given_shown}
 use Rattle.vx_rules.specs.State.{connection_at}
-use Rattle.vx_history.specs.Laws.{group_after}
+use Rattle.vx_group.specs.Laws.{group_after}
 use Rattle.vx_session.specs.Acting.{take_events}
 use Rattle.vx_session.proofs.Making.{turns}
 use Rattle.vx_session.proofs.Outcomes.{takes-timely, takes-from}

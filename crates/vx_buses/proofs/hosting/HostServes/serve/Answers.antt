@@ -5,7 +5,7 @@ use Rattle.vx_gate.specs.PassView.{PassView}
 use Rattle.vx_gates.specs.Four.{Four, at}
 use Rattle.vx_gates.specs.Passing.{passes_shown}
 use Rattle.vx_gates.specs.Standing.{gates_shown}
-use Rattle.vx_history.specs.Groups.{Group}
+use Rattle.vx_group.specs.Groups.{Group}
 use Rattle.vx_rooms.specs.Counting.{IsClear}
 use Rattle.vx_buses.proofs.Hosted.{ready-on, has-room}
 use Rattle.vx_buses.specs.Hosting.{IsReady}

@@ -12,11 +12,11 @@ use Rattle.vx_flow.specs.Fine.{fine}
 use Rattle.vx_flow.specs.ProvedLaws.{fine-does}
 use Rattle.vx_group.specs.Phases.{Phase, Absent, Idle, Asked, phase_after, phase_by, is_up, HasPhase}
 use Rattle.vx_group.specs.Owning.{owner_of, may_make}
-use Rattle.vx_history.proofs.Onward.{fine-onward}
-use Rattle.vx_history.proofs.Plainly.{Plainly, fine-plainly}
-use Rattle.vx_history.proofs.Rows.{changes, fine-keeps}
-use Rattle.vx_history.specs.ProvedLaws.{phase-append}
-use Rattle.vx_history.proofs.Phasing.{phase-other, keeps-phase, changes-or, made-phase}
+use Rattle.vx_group.proofs.Onward.{fine-onward}
+use Rattle.vx_group.proofs.Plainly.{Plainly, fine-plainly}
+use Rattle.vx_group.proofs.Rows.{changes, fine-keeps}
+use Rattle.vx_group.specs.ProvedLaws.{phase-append}
+use Rattle.vx_group.proofs.Phasing.{phase-other, keeps-phase, changes-or, made-phase}
 
 -- the events of each pass, by its number
 abbrev pub Own : Type 0

@@ -11,9 +11,9 @@ use Rattle.vx_flow.specs.Sound.{IsSound}
 use Rattle.vx_flow.specs.Laws.{fine_along}
 use Rattle.vx_flow.specs.ProvedLaws.{fine-gathers, later-sound, earlier_law-holds, headline_law-holds}
 use Rattle.vx_group.specs.Groups.{Group, events_of, moment_behind, IsBy, MomentsRise}
-use Rattle.vx_history.specs.Laws.{group_after, StandsOnLaw, HeadlineOfGroupsLaw, SoundLaw}
-use Rattle.vx_history.specs.ProvedLaws.{events-more}
-use Rattle.vx_history.proofs.Onward.{along-onward}
+use Rattle.vx_group.specs.Laws.{group_after, StandsOnLaw, HeadlineOfGroupsLaw, SoundLaw}
+use Rattle.vx_group.specs.ProvedLaws.{events-more}
+use Rattle.vx_group.proofs.Onward.{along-onward}
 
 -- one group more keeps its moment
 moment-more : (log : List Group) (from : ℕ) (x : Group) → moment_behind from (log ++ x ∷ []) ≡ x.moment

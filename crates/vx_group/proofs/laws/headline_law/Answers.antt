@@ -1,5 +1,5 @@
-use Rattle.vx_history.proofs.Standing.{headline-holds, sound-holds}
-use Rattle.vx_history.proofs.laws.headline_law.Goals as goal
+use Rattle.vx_group.proofs.Standing.{headline-holds, sound-holds}
+use Rattle.vx_group.proofs.laws.headline_law.Goals as goal
 
 pub returns-clause-headline : goal.returns-clause-headline
 returns-clause-headline c = headline-holds

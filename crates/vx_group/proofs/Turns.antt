@@ -12,9 +12,9 @@ use Rattle.vx_flow.specs.FineState.{FineState, first_fine}
 use Rattle.vx_flow.specs.Fine.{fine}
 use Rattle.vx_group.specs.Groups.{Group, events_of, StandsFor}
 use Rattle.vx_group.specs.Owning.{may_make, may_make_all, MayAdd}
-use Rattle.vx_history.specs.ProvedLaws.{events-more}
-use Rattle.vx_history.proofs.Plainly.{first-plainly}
-use Rattle.vx_history.proofs.Knowing.{Own, Known, OneMore, known-more}
+use Rattle.vx_group.specs.ProvedLaws.{events-more}
+use Rattle.vx_group.proofs.Plainly.{first-plainly}
+use Rattle.vx_group.proofs.Knowing.{Own, Known, OneMore, known-more}
 
 -- ---- the events of a group
 

@@ -8,9 +8,9 @@ use Rattle.vx_gate.specs.History.{groups}
 use Rattle.vx_flow.specs.Event.{Event, Up}
 use Rattle.vx_group.specs.Groups.{Group, events_of}
 use Rattle.vx_group.specs.Phases.{HasPhase, phase_by}
-use Rattle.vx_history.specs.Laws.{PhaseLaw, OwnedLaw}
-use Rattle.vx_history.proofs.Phasing.{later-phase}
-use Rattle.vx_history.proofs.Turns.{own_of, history-known}
+use Rattle.vx_group.specs.Laws.{PhaseLaw, OwnedLaw}
+use Rattle.vx_group.proofs.Phasing.{later-phase}
+use Rattle.vx_group.proofs.Turns.{own_of, history-known}
 
 -- the state has each connection as the groups of a pass tell
 pub phases-hold : PhaseLaw

@@ -20,9 +20,9 @@ use Rattle.vx_flow.specs.Does.{ComesUp, Comes, IsAnswered, Dials, Step}
 use Rattle.vx_flow.specs.ProvedLaws.{fine-does, line-leaves}
 use Rattle.vx_group.specs.Phases.{Phase, Absent, Idle, Asked, dialing, phase_after, phase_by, is_up, IsAsked, HasPhase}
 use Rattle.vx_group.specs.Owning.{may_make}
-use Rattle.vx_history.specs.ProvedLaws.{phase-append}
-use Rattle.vx_history.proofs.Plainly.{Plainly, none-below, undialed-below}
-use Rattle.vx_history.proofs.Rows.{role-new, is_dialed, dialed-gone, dialed-more, changes, Keeps, fine-keeps}
+use Rattle.vx_group.specs.ProvedLaws.{phase-append}
+use Rattle.vx_group.proofs.Plainly.{Plainly, none-below, undialed-below}
+use Rattle.vx_group.proofs.Rows.{role-new, is_dialed, dialed-gone, dialed-more, changes, Keeps, fine-keeps}
 
 -- ---- phases
 

@@ -15,7 +15,7 @@ use Rattle.vx_flow.specs.FineState.{FineState}
 use Rattle.vx_flow.specs.Fine.{without_dial, fine}
 use Rattle.vx_flow.specs.Frames.{dialed_after, lives_by, calls_by, mark_by}
 use Rattle.vx_flow.specs.ProvedLaws.{fine-frame, mark-call, another}
-use Rattle.vx_history.proofs.Plainly.{Below, none-below}
+use Rattle.vx_group.proofs.Plainly.{Below, none-below}
 
 -- ---- roles
 
