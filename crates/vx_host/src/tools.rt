@@ -11,9 +11,9 @@ use std::net::{Ipv4Addr, Net as Sockets, SocketAddr, TcpStream};
 use std::rt::Clock as SystemClock;
 use std::sync::Wait;
 use std::time::Duration;
-use vx_ending::Logs;
 use vx_io::{Dial, DialOut, Handed, StdClock, StdPause, Streams, TcpLink};
 use vx_session::Tools;
+use vx_startup::Logs;
 
 /// How long a dial waits for its peer to come up, and a send for it to take what it is sent, in milliseconds.
 const PEER_WAITS: u64 = 5_000;

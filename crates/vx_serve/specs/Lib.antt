@@ -4,8 +4,8 @@ pub use Rattle.vx_io_traits.specs.Faults
 pub use Rattle.vx_sim.specs.Means
 pub use Rattle.vx_sim.specs.SimState
 pub use Rattle.vx_gate.specs.Gates
-pub use Rattle.vx_words.specs.Meant
-pub use Rattle.vx_ending.specs.Outcome
-pub use Rattle.vx_ending.specs.Running
-pub use Rattle.vx_ending.specs.Spares
+pub use Rattle.vx_startup.specs.Meant
+pub use Rattle.vx_startup.specs.Outcome
+pub use Rattle.vx_startup.specs.Running
+pub use Rattle.vx_startup.specs.Spares
 pub use Rattle.vx_sim.specs.Occupants

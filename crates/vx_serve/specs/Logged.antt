@@ -4,10 +4,10 @@ use Rattle.vx_stream.specs.declared.ends.End.{End}
 use Rattle.vx_stream.specs.declared.ends.End.TheVariants as end
 use Rattle.vx_session.specs.declared.links.Linked.{Linked}
 use Rattle.vx_session.specs.declared.links.Linked.TheVariants as linked
-use Rattle.vx_ending.specs.declared.logging.News.{News}
-use Rattle.vx_ending.specs.declared.logging.News.TheVariants as news
-use Rattle.vx_ending.specs.declared.logging.Reason.{Reason}
-use Rattle.vx_ending.specs.declared.logging.Reason.TheVariants as why
+use Rattle.vx_startup.specs.declared.logging.News.{News}
+use Rattle.vx_startup.specs.declared.logging.News.TheVariants as news
+use Rattle.vx_startup.specs.declared.logging.Reason.{Reason}
+use Rattle.vx_startup.specs.declared.logging.Reason.TheVariants as why
 
 -- why a session ended
 abbrev pub reason_of : End → Reason

@@ -2,7 +2,7 @@
 ghost use Rattle.std.specs.Prelude.{◌≡◌, ◌≤◌, ◌^◌, ◌<◌, true, MatchOption, min};
 ghost use Rattle.vx_io_traits.specs.Faults.{Rose};
 ghost use Rattle.vx_gate.specs.Gates.{gate_of};
-ghost use Rattle.vx_ending.specs.Running.{TookLinks, net_shown};
+ghost use Rattle.vx_startup.specs.Running.{TookLinks, net_shown};
 
 use crate::workers::{CoreKit, Peer, Shared, serve_core};
 use crossbeam_channel::Sender;
@@ -10,12 +10,12 @@ use std::alloc::Global;
 use std::mem;
 use std::sync::{Condvar, Mutex, Wait};
 use vx_core::Core;
-use vx_ending::{Channel, News, next_link, tell};
 use vx_gate::Pass;
 use vx_inst::Instrument;
 use vx_io_traits::{Accepted, Clock, Dial, Link, Net, Pause, Sink};
 use vx_session::Tally;
 use vx_sim::SimBus;
+use vx_startup::{Channel, News, next_link, tell};
 use vx_stream::Visitor;
 
 /// Tells that a core link came, and hands it to the workers. It waits where 64 links wait for one, and serves a link that comes

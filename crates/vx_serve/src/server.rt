@@ -2,11 +2,11 @@
 ghost use Rattle.std.specs.Prelude.{◌≡◌, map, string_bytes, true};
 ghost use Rattle.vx_sim.specs.Means.{first_means};
 ghost use Rattle.vx_gate.specs.Gates.{gate_of};
-ghost use Rattle.vx_words.specs.Meant.{IsInRange};
-ghost use Rattle.vx_ending.specs.Spares.{spare_shown};
+ghost use Rattle.vx_startup.specs.Meant.{IsInRange};
+ghost use Rattle.vx_startup.specs.Spares.{spare_shown};
 ghost use Rattle.vx_sim.specs.Occupants.{handed_in};
-ghost use Rattle.vx_ending.specs.Running.{EndsRun, LinksEnd, LinksServed, net_shown};
-ghost use Rattle.vx_ending.specs.Outcome.{Ends, EndsSo};
+ghost use Rattle.vx_startup.specs.Running.{EndsRun, LinksEnd, LinksServed, net_shown};
+ghost use Rattle.vx_startup.specs.Outcome.{Ends, EndsSo};
 
 use crate::accepting::{accept_links, wait_for};
 use crate::starting::{Acceptor, Unstarted, start_all, start_gateway};
@@ -16,15 +16,14 @@ use std::alloc::Global;
 use std::sync::Wait;
 use std::sync::atomic::Ordering;
 use vx_core::Core;
-use vx_ending::{Logs, Status, announce, open_ports, prepare, tell_served};
 use vx_gate::Pass;
 use vx_inst::Instrument;
 use vx_io_traits::{Clock, Dial, Net, Pause, Sink, Source, Spawner, Streams};
 use vx_rack::Spare;
 use vx_session::{Tally, Tools};
 use vx_sim::SimBus;
+use vx_startup::{Logs, Options, Status, announce, open_ports, prepare, tell_served};
 use vx_stream::Visitor;
-use vx_words::Options;
 
 /// How a run of the server ended, and the links that it served.
 #[derive(Drop)]

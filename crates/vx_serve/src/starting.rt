@@ -5,7 +5,7 @@ ghost use Rattle.vx_io_traits.specs.Faults.{Rose};
 ghost use Rattle.vx_gate.specs.Gates.{gate_of};
 ghost use Rattle.vx_sim.specs.SimState.{SimState};
 ghost use Rattle.vx_sim.specs.Means.{first_means};
-ghost use Rattle.vx_words.specs.Meant.{IsInRange};
+ghost use Rattle.vx_startup.specs.Meant.{IsInRange};
 ghost use Rattle.vx_serve.specs.declared.starting.Unstarted.TheVariants.{NoMemory};
 ghost use Rattle.vx_serve.specs.Starting.{OnUnstarted};
 
@@ -15,15 +15,14 @@ use std::alloc::{AllocError, Global};
 use std::sync::atomic::AtomicU64;
 use std::sync::{Arc, Condvar, Mutex};
 use vx_core::Core;
-use vx_ending::Logs;
 use vx_gate::Gate;
 use vx_group::first_law;
 use vx_inst::Instrument;
 use vx_io_traits::{Clock, Dial, Net, Pause, Sink, Spawner, Started, Streams};
 use vx_session::{Room, Tally, Tools};
 use vx_sim::SimBus;
+use vx_startup::{Logs, Options};
 use vx_stream::Visitor;
-use vx_words::Options;
 
 /// Why the workers of a server aren't all started.
 #[derive(Clone, Copy, Debug, PartialEq, Eq)]

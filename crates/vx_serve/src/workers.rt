@@ -9,12 +9,12 @@ use std::alloc::{AllocError, Global};
 use std::sync::atomic::{AtomicU64, Ordering};
 use std::sync::{Arc, Condvar, Mutex, Wait};
 use vx_core::Core;
-use vx_ending::{Channel, Logs, News, Reason, tell};
 use vx_gate::{Gate, Pass};
 use vx_inst::Instrument;
 use vx_io_traits::{Accepted, Clock, Dial, Handed, Link, Listen, Net, Pause, Sink, Streams, Work};
 use vx_session::{End, Linked, Room, Tally, Tools, abort_link, core_link, pump, sample_turn};
 use vx_sim::SimBus;
+use vx_startup::{Channel, Logs, News, Reason, tell};
 use vx_stream::Visitor;
 
 /// What the workers of one server share: the gate round its gateway, and the count of the core links that came to their end.

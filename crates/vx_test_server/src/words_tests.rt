@@ -2,7 +2,7 @@
 
 use std::alloc::{AllocError, Global};
 use std::test::Fail;
-use vx_words::{Asked, Options, read_words};
+use vx_startup::{Asked, Options, read_words};
 
 /// What words ask for that stand between the spaces of a line.
 fn asked(alloc: Global, line: &str) -> Result<Asked, AllocError> {

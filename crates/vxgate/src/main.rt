@@ -15,7 +15,7 @@ use vx_host::{Dialed, HostNet, TcpTools, ThreadSpawner, start_threads};
 use vx_io::{Started, StdSink, StdSource, Timeouts};
 use vx_rack::{Asker, Echo, Meter, NoMemory, Slow, Spare};
 use vx_serve::{Serve, serve_run};
-use vx_words::{Asked, read_words};
+use vx_startup::{Asked, read_words};
 
 /// The exit status where there is no memory for the words, the spare instruments, or what starts the workers.
 const NO_MEMORY: u8 = 5;

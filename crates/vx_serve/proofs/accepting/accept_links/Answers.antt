@@ -1,5 +1,5 @@
 use Rattle.std.proofs.Common.{◌∙◌}
-use Rattle.vx_ending.specs.Running.{net_shown}
+use Rattle.vx_startup.specs.Running.{net_shown}
 use Rattle.vx_serve.proofs.accepting.accept_links.Goals as goal
 
 pub loop-preserved : goal.loop-preserved

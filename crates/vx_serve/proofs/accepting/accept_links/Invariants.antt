@@ -1,7 +1,7 @@
 use Rattle.std.proofs.Common.{◌≡◌, true}
 use Rattle.vx_gate.specs.Gates.{gate_of}
-use Rattle.vx_ending.specs.Running.{net_shown}
-use Rattle.vx_ending.specs.Taking.{TookSoFar}
+use Rattle.vx_startup.specs.Running.{net_shown}
+use Rattle.vx_startup.specs.Taking.{TookSoFar}
 use Rattle.vx_serve.proofs.accepting.accept_links.Given as goal
 
 -- the net goes on from where it was, and as many links came as are counted

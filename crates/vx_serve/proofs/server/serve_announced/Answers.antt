@@ -1,5 +1,5 @@
 use Rattle.std.proofs.Common.{subst, sym}
-use Rattle.vx_ending.specs.Running.{LinksServed, net_shown}
+use Rattle.vx_startup.specs.Running.{LinksServed, net_shown}
 use Rattle.vx_serve.proofs.server.serve_announced.Goals as goal
 
 pub returns : goal.returns

@@ -1,5 +1,5 @@
-use Rattle.vx_ending.specs.Running.{net_shown}
-use Rattle.vx_ending.proofs.Written.{started}
+use Rattle.vx_startup.specs.Running.{net_shown}
+use Rattle.vx_startup.proofs.Written.{started}
 use Rattle.vx_serve.proofs.server.serve_bus.Goals as goal
 
 pub returns-in-Ok-start_all : goal.returns-in-Ok-start_all

@@ -1,5 +1,5 @@
-use Rattle.vx_ending.specs.Running.{net_shown}
-use Rattle.vx_ending.proofs.Written.{announced}
+use Rattle.vx_startup.specs.Running.{net_shown}
+use Rattle.vx_startup.proofs.Written.{announced}
 use Rattle.vx_serve.proofs.server.serve_links.Goals as goal
 
 pub returns-in-Ok : goal.returns-in-Ok

@@ -1,10 +1,10 @@
 use Rattle.std.proofs.Common.{map, string_bytes, subst, sym}
-use Rattle.vx_ending.specs.Ends.{End}
-use Rattle.vx_ending.specs.Spares.{spare_shown}
+use Rattle.vx_startup.specs.Ends.{End}
+use Rattle.vx_startup.specs.Spares.{spare_shown}
 use Rattle.vx_sim.specs.Occupants.{handed_in}
-use Rattle.vx_ending.specs.Outcome.{Ends, Outside}
-use Rattle.vx_ending.specs.Running.{EndsRun, net_shown}
-use Rattle.vx_ending.proofs.Written.{ready}
+use Rattle.vx_startup.specs.Outcome.{Ends, Outside}
+use Rattle.vx_startup.specs.Running.{EndsRun, net_shown}
+use Rattle.vx_startup.proofs.Written.{ready}
 use Rattle.vx_serve.proofs.server.serve_words.Goals as goal
 
 pub returns-in-Ok : goal.returns-in-Ok
