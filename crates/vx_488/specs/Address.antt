@@ -1,3 +1,4 @@
+-- To be believed.
 -- Addresses on the bus: which are one, and their order.
 use Rattle.std.specs.Prelude.{ℕ, ◌+◌, ◌*◌, ◌/◌, ◌%◌, Bool, true, false, ◌&&◌, ◌==◌, nat_le, zero, suc, Option, Some, None}
 use Rattle.vx_488.specs.declared.transfers.TheConstants.{ADDRESS_MAX}

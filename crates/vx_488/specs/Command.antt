@@ -1,3 +1,4 @@
+-- To be believed.
 -- What a command byte means (IEEE 488.1, 2.13 and its table of multiline interface messages).
 use Rattle.std.specs.Prelude.{ℕ, ◌-◌, ◌%◌, ◌==◌, nat_lt, if◌then◌else◌}
 use Rattle.vx_488.specs.declared.commands.Command.{Command}

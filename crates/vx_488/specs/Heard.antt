@@ -1,3 +1,4 @@
+-- To be believed.
 -- Whom transfers reach, and what is heard (IEEE 488.1, 2.5 to 2.11).
 use Rattle.std.specs.Prelude.{ℕ, Bool, if◌then◌else◌, List, [], ◌∷◌, ◌++◌, map}
 use Rattle.std.specs.Option.{option_to_list}

@@ -1,3 +1,4 @@
+-- To be believed.
 -- A set of addresses as a list without repeats, in order of primary and then secondary address, none first.
 use Rattle.std.specs.Prelude.{◌≡◌, ℕ, ◌+◌, ◌≤◌, ⊤, Bool, true, false, not, nat_lt, zero, suc, if◌then◌else◌, List, [], ◌∷◌, filter}
 use Rattle.std.specs.List.{list_any}

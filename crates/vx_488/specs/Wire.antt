@@ -1,3 +1,4 @@
+-- To be believed.
 -- What transfers mean for the bus: the fold of a table over a list (IEEE 488.1, 2.5 to 2.13).
 use Rattle.std.specs.Prelude.{ℕ, Bool, true, false, ◌==◌, if◌then◌else◌, List, [], ◌∷◌, Option, Some, None}
 use Rattle.vx_488.specs.declared.transfers.Addr.{Addr}

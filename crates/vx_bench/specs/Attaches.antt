@@ -1,3 +1,4 @@
+-- To be believed.
 -- The instrument of a line, attached.
 use Rattle.std.specs.Prelude.{List, Option, Some, None, Result, Ok}
 use Rattle.vx_488.specs.declared.transfers.Addr.{Addr}

@@ -1,3 +1,4 @@
+-- To be believed.
 -- Spare instruments.
 use Rattle.std.specs.Prelude.{ℕ, ◌+◌, List, ◌++◌, take, drop, find, position, Option, Some, None}
 use Rattle.std.specs.Str.{bytes_eq}

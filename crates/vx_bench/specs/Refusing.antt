@@ -1,3 +1,4 @@
+-- To be believed.
 -- Why the instrument of a line isn't attached.
 use Rattle.std.specs.Prelude.{ℕ, if◌then◌else◌, List, Option, Some, None, Result, Ok, Err}
 use Rattle.std.specs.Str.{is_utf8}

@@ -1,3 +1,4 @@
+-- To be believed.
 -- A script: its numbered steps, and the first line that is outside the grammar.
 use Rattle.std.specs.Prelude.{ℕ, ◌+◌, List, [], ◌∷◌, ◌++◌, map, drop, Option, Some, None}
 use Rattle.vx_text.specs.TextLines.{lines}

@@ -1,3 +1,4 @@
+-- To be believed.
 -- A bench set up: its instruments attached one after the other, up to the first line that is refused.
 use Rattle.std.specs.Prelude.{◌≡◌, ℕ, List, [], ◌∷◌, ◌++◌, Option, Some, None, Result, Ok, Err, ◌⊎◌}
 use Rattle.vx_script.specs.declared.Cause.{Cause}

@@ -1,3 +1,4 @@
+-- To be believed.
 -- The spare instruments as a line that names one sees them.
 use Rattle.vx_rack.specs.declared.Spare.{Spare}
 use Rattle.vx_sim.specs.Occupants.{Seated}

@@ -1,3 +1,4 @@
+-- To be believed.
 -- What a bus means to whoever asks it.
 use Rattle.std.specs.Prelude.{ℕ, List, [], Option, None}
 use Rattle.vx_488.specs.declared.transfers.Transfer.{Transfer}

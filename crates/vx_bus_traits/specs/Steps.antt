@@ -1,3 +1,4 @@
+-- To be believed.
 -- The steps of a bus, and what each changes of its meaning.
 use Rattle.std.specs.Prelude.{◌≡◌, ℕ, ◌+◌, Bool, List, [], ◌∷◌, ◌++◌, Some}
 use Rattle.vx_io_traits.specs.Faults.{one_more}

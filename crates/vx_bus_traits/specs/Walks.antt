@@ -1,3 +1,4 @@
+-- To be believed.
 -- A bus that goes through steps, each with what it changes of its meaning.
 use Rattle.std.specs.Prelude.{List}
 use Rattle.vx_bus_traits.specs.Means.{Means}

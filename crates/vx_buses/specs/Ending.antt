@@ -1,3 +1,4 @@
+-- To be believed.
 -- What a whole session of connections to four buses did.
 use Rattle.std.specs.Prelude.{◌≡◌, ◌≢◌, ◌≤◌, ℕ, List, [], ◌∷◌, ◌++◌, Some}
 use Rattle.std.specs.List.{All, AllPairs}

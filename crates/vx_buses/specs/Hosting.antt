@@ -1,3 +1,4 @@
+-- To be believed.
 -- What serves the links of a door over four buses, and what serving one does.
 use Rattle.std.specs.Prelude.{◌≡◌, ◌≢◌, ◌≤◌, ℕ, List, [], Option, Some, None}
 use Rattle.vx_io_traits.specs.declared.ReadOut.{ReadOut}

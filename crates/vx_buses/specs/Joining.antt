@@ -1,3 +1,4 @@
+-- To be believed.
 -- How connections to four buses come up, one of each, or none does.
 use Rattle.std.specs.Prelude.{◌≡◌, ℕ, Result, Ok, Err}
 use Rattle.vx_calls.specs.declared.calls.Role.TheVariants as role

@@ -1,3 +1,4 @@
+-- To be believed.
 -- What became of a link: a connection to each bus came up and they had their session, or none stayed.
 use Rattle.std.specs.Prelude.{◌≡◌, ◌≤◌, ℕ, Bool, true, false, List, Result, Ok, Err}
 use Rattle.vx_calls.specs.declared.calls.Role.TheVariants as role

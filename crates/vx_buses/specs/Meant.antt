@@ -1,3 +1,4 @@
+-- To be believed.
 -- What a message on a connection to four buses means.
 use Rattle.std.specs.Prelude.{ℕ, List, ◌++◌}
 use Rattle.vx_calls.specs.declared.calls.Role.{Role}

@@ -1,3 +1,4 @@
+-- To be believed.
 -- How a run of the program of four buses ends: for each status, what was opened and served, what was printed, and why.
 use Rattle.std.specs.Prelude.{◌≡◌, ◌⊎◌, ℕ, Bool, List, codes}
 use Rattle.vx_io_traits.specs.declared.ReadOut.{ReadOut}

@@ -1,3 +1,4 @@
+-- To be believed.
 -- How one record on a connection to four buses is served: the groups that its call adds to one bus's history, and its reply.
 use Rattle.std.specs.Prelude.{◌≡◌, ◌≤◌, ◌==◌, if◌then◌else◌, ℕ, List, [], map, Option, Some, None}
 use Rattle.std.specs.List.{flat_map}

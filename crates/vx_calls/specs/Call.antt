@@ -1,3 +1,4 @@
+-- To be believed.
 -- A call as plain data: what a `CallRef` shows.
 use Rattle.std.specs.Prelude.{ℕ, ℤ, Bool, List, []}
 use Rattle.vx_calls.specs.declared.calls.Generic.{Generic}

@@ -1,3 +1,4 @@
+-- To be believed.
 -- The numbers of the error codes, and a test whether two of them are one.
 use Rattle.std.specs.Prelude.{ℕ, Bool, ◌==◌}
 use Rattle.vx_calls.specs.declared.codes.ErrorCode.{ErrorCode}

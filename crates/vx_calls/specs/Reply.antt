@@ -1,3 +1,4 @@
+-- To be believed.
 -- A reply as plain data: what a `ReplyRef` shows, and a test whether two are one.
 use Rattle.std.specs.Prelude.{◌≡◌, ℕ, Bool, true, false, ◌&&◌, ◌==◌, List}
 use Rattle.std.specs.Str.{bytes_eq}

@@ -1,3 +1,4 @@
+-- To be believed.
 -- The device text of a create_link, what it names, and when two targets conflict.
 use Rattle.std.specs.Prelude.{◌≢◌, ◌≤◌, ⊤, ℕ, ◌+◌, ◌-◌, ◌*◌, Bool, true, false, not, ◌&&◌, ◌||◌, ◌==◌, nat_le, if◌then◌else◌, List, [], ◌∷◌, fold, Option, Some, None, Result, Ok, Err}
 use Rattle.std.specs.List.{list_all, slice_split}

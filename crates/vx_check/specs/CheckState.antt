@@ -1,3 +1,4 @@
+-- To be believed.
 -- What is known of a trace behind some of its lines.
 use Rattle.std.specs.Prelude.{ℕ, Bool, false, not, ◌&&◌, ◌||◌, ◌==◌, List, [], ◌∷◌, ◌++◌, length, find, filter, Option, None}
 use Rattle.std.specs.Option.{option_map_or}

@@ -1,3 +1,4 @@
+-- To be believed.
 -- What the traces of formed runs tell.
 use Rattle.std.specs.Prelude.{◌≡◌, ◌≤◌, ◌<◌, ◌^◌, ℕ, Bool, true, false, List, [], ◌++◌, length, filter, Some, ◌⊎◌}
 use Rattle.std.specs.List.{All}

@@ -1,3 +1,4 @@
+-- To be believed.
 -- The history that a trace tells.
 use Rattle.std.specs.Prelude.{◌≡◌, ℕ, ◌+◌, Bool, true, false, if◌then◌else◌, List, [], ◌∷◌, ◌++◌, length, Option}
 use Rattle.vx_text.specs.TextLines.{lines}

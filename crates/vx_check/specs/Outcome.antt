@@ -1,3 +1,4 @@
+-- To be believed.
 -- How a check ends: for each status, what was read, what was written, and why.
 use Rattle.std.specs.Prelude.{◌≡◌, ◌≢◌, ℕ, ◌+◌, List, [], ◌++◌, take, codes, decimal, ◌⊎◌}
 use Rattle.std.specs.Io.KnownBytes.{Appends}

@@ -1,3 +1,4 @@
+-- To be believed.
 -- The replies and the interrupt calls that records of a trace spell.
 use Rattle.std.specs.Prelude.{ℕ, ◌==◌, if◌then◌else◌, List, [], ◌∷◌, drop, find, Option, Some, None, option_and_then, option_map}
 use Rattle.std.specs.Str.{bytes_eq}

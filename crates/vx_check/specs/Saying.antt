@@ -1,3 +1,4 @@
+-- To be believed.
 -- What a line says at its place in a trace: an event or none, and what it asks of the line behind it.
 use Rattle.std.specs.Prelude.{ℕ, Bool, false, not, ◌&&◌, ◌||◌, ◌==◌, if◌then◌else◌, List, Option, Some, None, is_some, is_none}
 use Rattle.std.specs.List.{list_any}

@@ -1,3 +1,4 @@
+-- To be believed.
 -- The lines of a trace: what each text between two LF shows.
 use Rattle.std.specs.Prelude.{◌≡◌, ℕ, ◌^◌, ◌<◌, false, List, [], ◌∷◌, ◌++◌, Option, Some, None, codes, ◌==◌, if◌then◌else◌}
 use Rattle.vx_trace.specs.Output.{Output}

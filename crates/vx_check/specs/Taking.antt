@@ -1,3 +1,4 @@
+-- To be believed.
 -- A line is taken behind the lines before it, or has a cause against it.
 use Rattle.std.specs.Prelude.{Bool, ◌&&◌, if◌then◌else◌, nat_lt, List, [], ◌∷◌, Option, Some, None}
 use Rattle.vx_trace.specs.Text.{is_timed}

@@ -1,3 +1,4 @@
+-- To be believed.
 -- What the words of a user ask.
 use Rattle.std.specs.Prelude.{ℕ, Bool, false, ◌&&◌, ◌==◌, nat_lt, nat_le, not, if◌then◌else◌, List, [], ◌∷◌, ◌++◌, length, codes, Option, Some, None, option_and_then, option_map}
 use Rattle.std.specs.List.{list_all}

@@ -1,3 +1,4 @@
+-- To be believed.
 -- The calls of a client as data: what it fills in by itself.
 use Rattle.std.specs.Prelude.{◌≡◌, ℕ, pos, Bool, true, List, Result, Ok, Err}
 use Rattle.vx_calls.specs.declared.calls.Generic.{Generic}

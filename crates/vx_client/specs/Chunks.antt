@@ -1,3 +1,4 @@
+-- To be believed.
 -- A write in pieces.
 use Rattle.std.specs.Prelude.{◌≡◌, ℕ, zero, suc, nat_lt, if◌then◌else◌, List, [], ◌∷◌, length, take, drop, Option, Result, Ok, Err, bit_and}
 use Rattle.vx_calls.specs.Call.{Call}

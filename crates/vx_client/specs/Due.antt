@@ -1,3 +1,4 @@
+-- To be believed.
 -- What is printed for what a command came to.
 use Rattle.std.specs.Prelude.{ℕ, List, [], ◌∷◌, ◌++◌, codes, decimal, Result, Ok, Err}
 use Rattle.hex.specs.Hex.{encode_upper}

@@ -1,3 +1,4 @@
+-- To be believed.
 -- What a client does for what is asked: it makes a link, does the command over it, and destroys it.
 use Rattle.std.specs.Prelude.{◌≡◌, ℕ, ◌≤◌, min, false, List, length, take, Option, Result, Ok, Err}
 use Rattle.vx_calls.specs.declared.limits.TheConstants.{PIECE_MAX}

@@ -1,3 +1,4 @@
+-- To be believed.
 -- What the record of a reply says of the call that it answers.
 use Rattle.std.specs.Prelude.{ℕ, Bool, true, false, not, ◌&&◌, ◌||◌, ◌==◌, nat_le, if◌then◌else◌, List, [], length, Option, None, Some, Result, Ok, Err}
 use Rattle.vx_calls.specs.Call.{Call}

@@ -1,3 +1,4 @@
+-- To be believed.
 -- What a client sends: the record of a call.
 use Rattle.std.specs.Prelude.{ℕ, ◌≤◌, List, ◌++◌, length}
 use Rattle.vx_calls.specs.declared.limits.TheConstants.{DEVICE_MAX, DOCMD_MAX, HANDLE_MAX, PIECE_MAX}

@@ -1,3 +1,4 @@
+-- To be believed.
 -- How a call of a user ends: for each status, what was sent and received, what was printed, and why.
 use Rattle.std.specs.Prelude.{◌≡◌, ℕ, false, List, [], Option, Some, None, Result, Ok, Err, ◌⊎◌}
 use Rattle.std.specs.Io.KnownBytes.{Appends, Keeps}

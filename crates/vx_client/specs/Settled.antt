@@ -1,3 +1,4 @@
+-- To be believed.
 -- What calls return of the results of a reply.
 use Rattle.std.specs.Prelude.{ℕ, List, ◌++◌, drop}
 use Rattle.vx_codec.specs.Answered.{Outcome}

@@ -1,3 +1,4 @@
+-- To be believed.
 -- What contracts see of a client.
 use Rattle.std.specs.Prelude.{ℕ, ◌+◌, ◌%◌, ◌^◌, Bool, List}
 

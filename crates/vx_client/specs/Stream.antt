@@ -1,3 +1,4 @@
+-- To be believed.
 -- The record of a reply at the front of what a client receives.
 use Rattle.std.specs.Prelude.{◌≡◌, ℕ, ◌-◌, ◌<◌, ◌≤◌, true, false, List, [], ◌∷◌, ◌++◌, length, take}
 use Rattle.vx_calls.specs.declared.limits.TheConstants.{REPLY_MAX}

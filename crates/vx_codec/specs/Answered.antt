@@ -1,3 +1,4 @@
+-- To be believed.
 -- The results of each procedure (VXI-11, the structures named below): their fields, their bytes and what they say.
 use Rattle.std.specs.Prelude.{◌≡◌, ◌<◌, ◌^◌, ℕ, List, [], ◌∷◌, ◌++◌, length, Option, option_map}
 use Rattle.vx_xdr.specs.Spelling.{word, opaque}

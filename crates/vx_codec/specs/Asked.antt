@@ -1,3 +1,4 @@
+-- To be believed.
 -- The arguments of each procedure (VXI-11, the structures named after the procedures): their fields, their bytes and
 -- the call.
 use Rattle.std.specs.Prelude.{◌≡◌, Bool, true, false, ◌<◌, ◌≤◌, ◌^◌, ℕ, List, [], ◌∷◌, ◌++◌, length, Option, option_map}

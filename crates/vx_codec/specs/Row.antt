@@ -1,3 +1,4 @@
+-- To be believed.
 -- Rows of fields: the arguments or the results of a procedure, one field behind the other (RFC 4506, section 4.14).
 use Rattle.std.specs.Prelude.{◌≡◌, ℕ, ◌%◌, ◌<◌, List, [], ◌∷◌, ◌++◌, Option, Some, None, option_map}
 use Rattle.std.specs.Option.{option_and_then}

@@ -1,3 +1,4 @@
+-- To be believed.
 -- A core as its callers see it.
 use Rattle.std.specs.Prelude.{Bool, Option}
 use Rattle.std.specs.Option.{option_map}

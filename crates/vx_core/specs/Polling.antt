@@ -1,3 +1,4 @@
+-- To be believed.
 -- What a poll leaves: the events that it made, and the steps of the bus.
 use Rattle.std.specs.Prelude.{◌≡◌, ◌≤◌, ℕ, Bool, false, max, List, [], ◌∷◌, ◌++◌, map, Option, Some, None, option_and_then}
 use Rattle.vx_calls.specs.declared.limits.TheConstants.{READ_MAX}

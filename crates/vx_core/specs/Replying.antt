@@ -1,3 +1,4 @@
+-- To be believed.
 -- The replies of turns, and the level that a bus status is told.
 use Rattle.std.specs.Prelude.{◌≡◌, ℕ, Bool, false, ◌==◌, if◌then◌else◌, List, [], Option, Some, None}
 use Rattle.vx_488.specs.declared.transfers.Transfer.{Transfer}

@@ -1,3 +1,4 @@
+-- To be believed.
 -- What a turn does when it goes on.
 use Rattle.std.specs.Prelude.{◌≡◌, ◌≤◌, ◌<◌, ℕ, List, [], ◌∷◌, ◌++◌, map, length, take, Option, Some}
 use Rattle.vx_calls.specs.declared.limits.TheConstants.{SLICE_MAX}

@@ -1,3 +1,4 @@
+-- To be believed.
 -- What calls of its link alone do to a door.
 use Rattle.std.specs.Prelude.{ℕ, List}
 use Rattle.vx_io_traits.specs.declared.ReadOut.{ReadOut}

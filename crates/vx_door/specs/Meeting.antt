@@ -1,3 +1,4 @@
+-- To be believed.
 -- Facts and counts by the answer of a door's wait for the next peer. Where the answer is another, each fact holds.
 use Rattle.std.specs.Prelude.{◌≡◌, ℕ, ⊤, Bool, true, false, List, [], ◌∷◌, Option, is_some}
 use Rattle.std.specs.Io.KnownBytes.{Appends, Keeps}

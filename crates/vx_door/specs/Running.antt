@@ -1,3 +1,4 @@
+-- To be believed.
 -- What the loop over the peers of a door did.
 use Rattle.std.specs.Prelude.{◌≡◌, ◌≤◌, ◌+◌, ◌-◌, ◌^◌, ℕ, min, Bool, List, length}
 use Rattle.vx_io_traits.specs.Faults.{Rose}

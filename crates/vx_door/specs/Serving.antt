@@ -1,3 +1,4 @@
+-- To be believed.
 -- What serving the peers of a door one after another does.
 use Rattle.std.specs.Prelude.{◌≡◌, ◌≤◌, ◌<◌, ◌+◌, ◌-◌, ◌^◌, ◌⊎◌, ◌&&◌, ◌||◌, not, ℕ, ⊤, Bool, true, false, List, [], ◌∷◌, count_by, Option, None, Some}
 use Rattle.vx_io_traits.specs.Faults.{Rose}

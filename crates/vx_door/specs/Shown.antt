@@ -1,3 +1,4 @@
+-- To be believed.
 -- What a program can know of its door.
 use Rattle.std.specs.Prelude.{◌≡◌, ℕ, ◌≤◌, Bool, true, List, [], ◌∷◌, Option, is_some}
 use Rattle.std.specs.Io.KnownBytes.{Appends, Keeps}

@@ -1,3 +1,4 @@
+-- To be believed.
 -- What the calls of an exchange do to a core, and what they say of it.
 use Rattle.std.specs.Prelude.{◌≡◌, ◌≤◌, ℕ, Bool, false, List, [], ◌∷◌, length, Some, None, option_map, if◌then◌else◌}
 use Rattle.vx_calls.specs.declared.limits.TheConstants.{SLICE_MAX}

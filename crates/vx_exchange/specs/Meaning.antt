@@ -1,3 +1,4 @@
+-- To be believed.
 -- What a message on a connection means to the gateway.
 use Rattle.std.specs.Prelude.{ℕ, List, ◌++◌, Option, Some, None}
 use Rattle.vx_calls.specs.declared.calls.Role.{Role}

@@ -1,3 +1,4 @@
+-- To be believed.
 -- What each event does: when it is allowed, and the state behind it; of an answer, by which line of the order of answers it is given.
 use Rattle.std.specs.Prelude.{◌≡◌, ◌≢◌, ◌≤◌, ℕ, Bool, true, false, ◌==◌, List, [], ◌∷◌, ◌++◌, Option, Some, None, IsSome}
 use Rattle.std.specs.List.{list_any}

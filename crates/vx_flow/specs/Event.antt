@@ -1,3 +1,4 @@
+-- To be believed.
 -- What happens in the gateway that serves many connections at once: a call's turn on the bus may be under way while the calls
 -- of others come and are answered.
 use Rattle.std.specs.Prelude.{ℕ, Bool, List, Option}

@@ -1,3 +1,4 @@
+-- To be believed.
 -- Which event is allowed between interleaved ones, and the state after it: the order of answers line by line, with turns.
 use Rattle.std.specs.Prelude.{ℕ, Bool, true, false, not, ◌&&◌, ◌||◌, ◌==◌, nat_le, if◌then◌else◌, List, [], ◌∷◌, ◌++◌, filter, Option, Some, None, is_some, is_none, option_and_then}
 use Rattle.std.specs.Option.{option_map}

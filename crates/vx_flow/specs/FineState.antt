@@ -1,3 +1,4 @@
+-- To be believed.
 -- The state between interleaved events.
 use Rattle.std.specs.Prelude.{ℕ, ◌==◌, if◌then◌else◌, List, [], ◌++◌, Option, Some, None}
 use Rattle.vx_488.specs.declared.transfers.Transfer.{Transfer}

@@ -1,3 +1,4 @@
+-- To be believed.
 -- Interleaved events, gathered to entries of one thread: each answer, and each end of a connection, with all that its turn did.
 use Rattle.std.specs.Prelude.{List, [], ◌∷◌, ◌++◌, Option, None}
 use Rattle.vx_rules.specs.Entry as entry

@@ -1,3 +1,4 @@
+-- To be believed.
 -- All that is claimed of a list of interleaved events that are allowed, in one record.
 use Rattle.std.specs.Prelude.{◌≡◌, ◌≢◌, ◌≤◌, ℕ, Bool, true, false, List, [], ◌∷◌, ◌++◌, if◌then◌else◌, Option, Some}
 use Rattle.std.specs.List.{All, flat_map}

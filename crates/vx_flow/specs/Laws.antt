@@ -1,3 +1,4 @@
+-- To be believed.
 -- Laws of interleaved events.
 use Rattle.std.specs.Prelude.{◌≡◌, ◌≢◌, ◌≤◌, ℕ, Bool, true, false, List, [], ◌∷◌, ◌++◌, if◌then◌else◌, ◌&&◌, ◌==◌, ◌+◌, ◌%◌, ◌^◌, Option, Some, None, option_and_then}
 use Rattle.std.specs.List.{All, flat_map}

@@ -1,3 +1,4 @@
+-- To be believed.
 -- A poll of a call that has no answer yet: which events it makes, and when it may end without an answer.
 use Rattle.std.specs.Prelude.{◌≡◌, ◌≤◌, ◌<◌, ℕ, Bool, true, false, ◌&&◌, if◌then◌else◌, List, [], ◌∷◌, ◌++◌, length, Some, None, is_none, is_some}
 use Rattle.vx_calls.specs.declared.limits.TheConstants.{SLICE_MAX}

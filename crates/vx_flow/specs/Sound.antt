@@ -1,3 +1,4 @@
+-- To be believed.
 -- What holds between interleaved events, of the turn under way and of the calls that have come.
 use Rattle.std.specs.Prelude.{◌≡◌, ◌≢◌, ◌≤◌, ℕ, true, false, Option, Some, None}
 use Rattle.vx_calls.specs.Call.{Call}

@@ -1,3 +1,4 @@
+-- To be believed.
 -- The ways in which a poll ends, each with the state that it leads to.
 use Rattle.std.specs.Prelude.{◌≡◌, ◌≤◌, ◌<◌, ℕ, Bool, true, false, ◌||◌, List, [], ◌∷◌, ◌++◌, length, Option, Some, None, ◌⊎◌}
 use Rattle.vx_calls.specs.declared.limits.TheConstants.{SLICE_MAX}

@@ -1,3 +1,4 @@
+-- To be believed.
 -- The history of a gate: the groups that its turns added, in order, each with the number of the pass that made it.
 use Rattle.std.specs.Prelude.{◌≡◌, ℕ, List, ◌∷◌, ◌++◌, map, filter, ◌==◌}
 use Rattle.vx_gate.specs.declared.views.Logged.{Logged}

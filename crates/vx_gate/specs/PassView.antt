@@ -1,3 +1,4 @@
+-- To be believed.
 -- What a contract sees of a pass.
 use Rattle.std.specs.Prelude.{ℕ, List}
 use Rattle.atomic_table.specs.Seated.{TableId}

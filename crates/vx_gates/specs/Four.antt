@@ -1,3 +1,4 @@
+-- To be believed.
 -- Four of a kind, by their numbers 0 to 3.
 use Rattle.std.specs.Prelude.{ℕ, zero, suc}
 

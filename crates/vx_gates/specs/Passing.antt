@@ -1,3 +1,4 @@
+-- To be believed.
 -- The passes of four gates, as a contract sees them.
 use Rattle.std.specs.Prelude.{◌≡◌, ◌≢◌, ◌⊎◌, ◌+◌, ◌-◌, []}
 use mathlib.Core.List.{IsPrefix}

@@ -1,3 +1,4 @@
+-- To be believed.
 -- What the words of a user ask of the generator.
 use Rattle.std.specs.Prelude.{ℕ, ◌≤◌, List, [], ◌∷◌, codes, decimal}
 use Rattle.vx_gen.specs.declared.words.Ask.{Ask}

@@ -1,3 +1,4 @@
+-- To be believed.
 -- The draws of a run, by linear congruence modulo 2^31, and what each chooses.
 use Rattle.std.specs.Prelude.{ℕ, ◌+◌, ◌*◌, ◌/◌, ◌%◌, ◌^◌, zero, suc}
 

@@ -1,3 +1,4 @@
+-- To be believed.
 -- The steps of a run that a number makes: those of its head, and those that are drawn.
 use Rattle.vx_record.specs.Fragments.{record_of}
 use Rattle.std.specs.Prelude.{ℕ, ◌==◌, Bool, true, false, if◌then◌else◌, List, [], ◌∷◌, ◌++◌, codes, None, pos}

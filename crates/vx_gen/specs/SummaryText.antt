@@ -1,3 +1,4 @@
+-- To be believed.
 -- The text that tells the counts of a run.
 use Rattle.std.specs.Prelude.{List, ◌++◌, ℕ, codes, decimal}
 use Rattle.vx_gen.specs.declared.words.Ask.{Ask}

@@ -1,3 +1,4 @@
+-- To be believed.
 -- What one turn at the gate adds to the history of a gateway, and for which histories a state stands.
 use Rattle.std.specs.Prelude.{◌≡◌, ◌≤◌, ℕ, List, [], ◌∷◌, Option, Some, None}
 use Rattle.std.specs.List.{All, flat_map}

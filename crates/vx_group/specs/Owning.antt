@@ -1,3 +1,4 @@
+-- To be believed.
 -- Which group a pass may add: its connections are its own.
 use Rattle.std.specs.Prelude.{◌≡◌, ℕ, Bool, true, List, [], ◌∷◌, ◌++◌, Option, Some, None, ◌&&◌}
 use Rattle.std.specs.List.{Contains}

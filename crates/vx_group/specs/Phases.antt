@@ -1,3 +1,4 @@
+-- To be believed.
 -- What a list of events tells of one connection.
 use Rattle.std.specs.Prelude.{◌≡◌, ℕ, Bool, true, false, ◌==◌, if◌then◌else◌, List, [], ◌∷◌, Some, None}
 use Rattle.std.specs.List.{list_any}

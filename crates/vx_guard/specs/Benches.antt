@@ -1,3 +1,4 @@
+-- To be believed.
 -- What stands on the bus of a guard.
 use Rattle.std.specs.Prelude.{◌≡◌, List, [], ◌∷◌, None}
 use Rattle.vx_bus_traits.specs.declared.bus.Bus.{Ghosts}

@@ -1,3 +1,4 @@
+-- To be believed.
 -- What the rules say of the messages of a session.
 use Rattle.std.specs.Prelude.{◌≡◌, ℕ, if◌then◌else◌, List, [], ◌∷◌, Option, Some, None}
 use Rattle.std.specs.List.{flat_map}

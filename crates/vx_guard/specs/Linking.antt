@@ -1,3 +1,4 @@
+-- To be believed.
 -- What a guard did with a link: a connection came up and had its guarded session, or none came up.
 use Rattle.std.specs.Prelude.{◌≡◌, ℕ, List, Ok, Err}
 use Rattle.vx_calls.specs.declared.calls.Role.TheVariants as role

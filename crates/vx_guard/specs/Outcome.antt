@@ -1,3 +1,4 @@
+-- To be believed.
 -- How a run of a guard ends: for each status, what was read, who was served, what was written, and why.
 use Rattle.std.specs.Prelude.{◌≡◌, ◌≤◌, ◌+◌, ◌⊎◌, ℕ, true, false, List, [], Ok}
 use Rattle.std.specs.Io.KnownBytes.{Appends}

@@ -1,3 +1,4 @@
+-- To be believed.
 -- What a guard does with the peers of a door, one after another.
 use Rattle.std.specs.Prelude.{◌≡◌, ◌≢◌, ◌≤◌, ◌||◌, ℕ, Bool, true, false, List}
 use Rattle.vx_io_traits.specs.Faults.{Rose}

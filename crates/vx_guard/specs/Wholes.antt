@@ -1,3 +1,4 @@
+-- To be believed.
 -- What a whole guarded session did.
 use Rattle.std.specs.Prelude.{◌≡◌, ◌≤◌, ℕ, Bool, true, false, List, [], ◌∷◌, ◌++◌, map, Some}
 use Rattle.std.specs.Io.KnownBytes.{Appends}

@@ -1,3 +1,4 @@
+-- To be believed.
 -- How an instrument behaves: how it is seen from the bus after each list of calls.
 use Rattle.std.specs.Prelude.{ℕ, Bool, List, [], ◌∷◌, fold}
 use Rattle.vx_inst.specs.declared.done.Done.{Done}

@@ -1,3 +1,4 @@
+-- To be believed.
 -- What every instrument keeps: its laws, call by call (IEEE 488.1, 2.5 to 2.11).
 use Rattle.std.specs.Prelude.{◌≡◌, ◌<◌, ◌≤◌, ℕ, ◌+◌, ◌*◌, ◌/◌, ◌%◌, Bool, true, false, ◌&&◌, ◌==◌, nat_lt, if◌then◌else◌, List, [], ◌∷◌, ◌++◌, length}
 use Rattle.vx_488.specs.Heard.{Byte}

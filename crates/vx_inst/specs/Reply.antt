@@ -1,3 +1,4 @@
+-- To be believed.
 -- A reply: the bytes that an instrument has to give for a message or a trigger.
 use Rattle.std.specs.Prelude.{ℕ, ◌+◌, true, false, nat_le, if◌then◌else◌, List, [], ◌∷◌, ◌++◌, length}
 use Rattle.vx_488.specs.Heard.{Byte}

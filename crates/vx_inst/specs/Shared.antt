@@ -1,3 +1,4 @@
+-- To be believed.
 -- What instruments of every kind do alike.
 use Rattle.std.specs.Prelude.{ℕ, true, false, Bool, List, [], ◌∷◌, ◌++◌, drop}
 use Rattle.vx_inst.specs.View.{View}

@@ -1,3 +1,4 @@
+-- To be believed.
 -- How an instrument is seen from the bus.
 use Rattle.std.specs.Prelude.{ℕ, Bool, List}
 use Rattle.vx_488.specs.Heard.{Byte}

@@ -1,3 +1,4 @@
+-- To be believed.
 -- The address of a link's peer.
 use Rattle.std.specs.Prelude.{◌≡◌, ℕ, ⊤, List, [], ◌∷◌, Option, None, Some}
 

@@ -1,3 +1,4 @@
+-- To be believed.
 -- Counts of calls and of faults, each a `u64` that stays at its greatest value.
 use Rattle.std.specs.Prelude.{ℕ, ◌+◌, ◌-◌, ◌^◌, ◌≤◌, ◌==◌, min, Bool, List}
 use Rattle.std.specs.List.{list_any}

@@ -1,3 +1,4 @@
+-- To be believed.
 -- What a reach answers, where it tells the one host and port at which it answers `Up`.
 use Rattle.std.specs.Prelude.{◌≡◌, ℕ, ⊤, List, Option, None, Some}
 use Rattle.vx_io_traits.specs.declared.dials.DialOut.{DialOut}

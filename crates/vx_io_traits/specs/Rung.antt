@@ -1,3 +1,4 @@
+-- To be believed.
 -- The calls of a dial, where it tells them.
 use Rattle.std.specs.Prelude.{◌≡◌, ℕ, ⊤, Bool, true, false, List, ◌++◌, Option, None, Some}
 use Rattle.vx_io_traits.specs.declared.dials.Rang.{Rang}

@@ -1,3 +1,4 @@
+-- To be believed.
 -- What calls of a link do to the bytes that it stands for: `stands l taken given` says that the link stands for these bytes
 -- taken and these bytes given, each from its beginning on.
 use Rattle.std.specs.Prelude.{ℕ, List, [], ◌++◌}

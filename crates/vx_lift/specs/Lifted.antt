@@ -1,3 +1,4 @@
+-- To be believed.
 -- A script of version 1 as one of version 2.
 use Rattle.std.specs.Prelude.{ℕ, ◌+◌, max, List, [], ◌∷◌, ◌++◌, Option, Some, None, codes, decimal}
 use Rattle.vx_text.specs.TextLines.{lines}

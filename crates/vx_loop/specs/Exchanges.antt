@@ -1,3 +1,4 @@
+-- To be believed.
 -- What is exchanged over a link to a gateway: records that come, each with what it makes in the gateway and its reply.
 use Rattle.std.specs.Prelude.{◌≡◌, ◌≢◌, ◌≤◌, ℕ, ◌+◌, ◌-◌, Bool, true, false, ◌==◌, List, [], ◌∷◌, ◌++◌, length, take, Option, Some, None}
 use Rattle.std.specs.List.{list_all, flat_map}

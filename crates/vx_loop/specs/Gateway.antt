@@ -1,3 +1,4 @@
+-- To be believed.
 -- The gateway of a link: its state between interleaved events, and its simulated bus.
 use Rattle.std.specs.Prelude.{◌≡◌, ℕ, zero, suc, ◌+◌, List, [], ◌∷◌, Some}
 use Rattle.std.specs.List.{flat_map}

@@ -1,3 +1,4 @@
+-- To be believed.
 -- What the instruments hear of a write over a link to a gateway.
 use Rattle.std.specs.Prelude.{◌≡◌, ◌≢◌, ℕ, true, false, List, [], Some}
 use Rattle.std.specs.List.{flat_map}

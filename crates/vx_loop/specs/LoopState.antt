@@ -1,3 +1,4 @@
+-- To be believed.
 -- What contracts see of a link to connection 1 of a gateway.
 use Rattle.std.specs.Prelude.{◌≡◌, ℕ, Bool, List, [], ◌∷◌, Option, None}
 use Rattle.vx_bus_traits.specs.Steps.{Cut}

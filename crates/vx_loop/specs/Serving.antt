@@ -1,3 +1,4 @@
+-- To be believed.
 -- What serving a record, and polling its call again, leave of a gateway and of what is given.
 use Rattle.std.specs.Prelude.{◌≡◌, ◌≤◌, ℕ, Bool, true, is_some, List, [], ◌∷◌, ◌++◌, length, Option, Some, None, ◌⊎◌}
 use Rattle.std.specs.List.{list_all}

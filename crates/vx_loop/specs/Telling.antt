@@ -1,3 +1,4 @@
+-- To be believed.
 -- What a link to a gateway tells of its calls, and what a write over it comes to where it ends by them.
 use Rattle.std.specs.Prelude.{◌≡◌, ℕ, true, false, List, [], take, Some, IfSome, Result, Err}
 use Rattle.vx_io_traits.specs.declared.ReadOut.{ReadOut}

@@ -1,3 +1,4 @@
+-- To be believed.
 -- What the words of a user ask.
 use Rattle.std.specs.Prelude.{◌≤◌, ℕ, List, [], ◌∷◌, decimal}
 use Rattle.vx_peers.specs.declared.words.Ask.{Ask}

@@ -1,3 +1,4 @@
+-- To be believed.
 -- What is printed.
 use Rattle.std.specs.Prelude.{ℕ, List, ◌++◌, codes, decimal}
 

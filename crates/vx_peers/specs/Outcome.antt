@@ -1,3 +1,4 @@
+-- To be believed.
 -- How a run over a door ends: for each status, who was served, what was printed, and why.
 use Rattle.std.specs.Prelude.{◌≡◌, ◌≢◌, ◌≤◌, ◌⊎◌, ℕ, Bool, List}
 use Rattle.std.specs.Io.KnownBytes.{Appends}

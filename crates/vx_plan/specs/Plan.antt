@@ -1,3 +1,4 @@
+-- To be believed.
 -- A plan: which lists of transfers do a job, and where a list stands in one.
 use Rattle.std.specs.Prelude.{ℕ, ◌-◌, Bool, false, ◌||◌, ◌==◌, if◌then◌else◌, List, [], ◌∷◌, Option, Some, None, option_and_then}
 use Rattle.vx_488.specs.declared.transfers.Transfer.{Transfer}

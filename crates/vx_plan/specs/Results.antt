@@ -1,3 +1,4 @@
+-- To be believed.
 -- The replies that a list of transfers gives: where it is whole, and where it isn't.
 use Rattle.std.specs.Prelude.{ℕ, ◌+◌, ◌/◌, ◌%◌, Bool, true, false, ◌==◌, if◌then◌else◌, List, [], ◌∷◌, map, length, count_by, Option, Some, None}
 use Rattle.std.specs.List.{filter_map}

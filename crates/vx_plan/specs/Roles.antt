@@ -1,3 +1,4 @@
+-- To be believed.
 -- The role that the gateway needs for a job.
 use Rattle.std.specs.Prelude.{Bool, true, ◌&&◌}
 use Rattle.vx_calls.specs.declared.targets.Target.{Target}

@@ -1,3 +1,4 @@
+-- To be believed.
 -- The plan of each job on the bus (IEEE 488.1, 2.13; VXI-11.2, device_docmd).
 use Rattle.std.specs.Prelude.{◌≡◌, ℕ, ◌+◌, Bool, true, false, ◌==◌, ◌≤◌, min, ⊤, length, if◌then◌else◌, List, [], ◌∷◌, ◌++◌, map, Option, Some, None}
 use Rattle.vx_calls.specs.declared.limits.TheConstants.{DOCMD_MAX, READ_MAX, WRITE_MAX}

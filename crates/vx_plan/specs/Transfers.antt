@@ -1,3 +1,4 @@
+-- To be believed.
 -- Lists of transfers: when two transfers are one, and the bytes that were got.
 use Rattle.std.specs.Prelude.{ℕ, Bool, true, false, not, ◌&&◌, ◌==◌, if◌then◌else◌, Option, Some, None}
 use Rattle.vx_488.specs.declared.transfers.Transfer.{Transfer}

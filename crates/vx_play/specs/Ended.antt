@@ -1,3 +1,4 @@
+-- To be believed.
 -- How the play of a script ends: at its end, at its first fault, or where the sink fails or memory runs out.
 use Rattle.std.specs.Prelude.{◌≡◌, ℕ, ◌+◌, ◌≤◌, List, ◌∷◌, ◌++◌, Option, Some, None, ◌⊎◌}
 use Rattle.std.specs.Io.KnownBytes.{Appends}

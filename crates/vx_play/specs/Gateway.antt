@@ -1,3 +1,4 @@
+-- To be believed.
 -- The gateway of a play: its state between interleaved events, and its bus with the instruments on it.
 use Rattle.std.specs.Prelude.{◌≡◌, ℕ, List, Some}
 use Rattle.vx_bus_traits.specs.Steps.{Step}

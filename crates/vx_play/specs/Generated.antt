@@ -1,3 +1,4 @@
+-- To be believed.
 -- A run that a number makes: its steps, each by its place and by where the play then stands, what is counted of it, and how it ends.
 use Rattle.std.specs.Prelude.{◌≡◌, ℕ, ◌+◌, ◌*◌, Bool, true, false, is_some, List, [], ◌∷◌, ◌++◌, length, count_by, Some, None, ◌⊎◌}
 use Rattle.std.specs.List.{flat_map, slice_get}

@@ -1,3 +1,4 @@
+-- To be believed.
 -- What the instruments hear of a write.
 use Rattle.std.specs.Prelude.{◌≡◌, ℕ, Bool, true, false, List, [], ◌∷◌}
 use Rattle.std.specs.List.{AllZip}

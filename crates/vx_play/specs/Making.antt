@@ -1,3 +1,4 @@
+-- To be believed.
 -- What each step of a play makes: the events in the gateway, the steps of its bus, and the line that there is to tell.
 use Rattle.std.specs.Prelude.{◌≡◌, ℕ, Bool, true, false, List, [], ◌∷◌, ◌++◌, Option, Some, None}
 use Rattle.vx_calls.specs.declared.calls.Role.{Role}

@@ -1,3 +1,4 @@
+-- To be believed.
 -- How the program ends, that plays a source or makes a run: for each status, what was read, what was written, and why.
 use Rattle.std.specs.Prelude.{◌≡◌, ◌≢◌, ℕ, ◌+◌, if◌then◌else◌, List, [], ◌∷◌, ◌++◌, Option, Some, None, IsSome, codes, ◌⊎◌}
 use Rattle.std.specs.Str.{bytes_eq}

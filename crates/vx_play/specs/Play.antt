@@ -1,3 +1,4 @@
+-- To be believed.
 -- A play: its items, one for each step, and how it ends.
 use Rattle.std.specs.Prelude.{◌≡◌, ℕ, List, [], ◌∷◌, ◌++◌, position, Option, Some, None, ◌⊎◌}
 use Rattle.std.specs.Str.{bytes_eq}

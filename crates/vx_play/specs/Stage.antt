@@ -1,3 +1,4 @@
+-- To be believed.
 -- Where a play stands, and which step is refused there.
 use Rattle.std.specs.Prelude.{ℕ, not, ◌==◌, if◌then◌else◌, List, [], Option, Some, None, is_none, is_some}
 use Rattle.std.specs.List.{list_any}

@@ -1,3 +1,4 @@
+-- To be believed.
 -- A player that stands at a stage of a play, and what a step leaves of it.
 use Rattle.std.specs.Prelude.{◌≡◌, ◌≤◌, ◌<◌, ℕ, Bool, true, List, [], ◌∷◌, ◌++◌, length, take, Option, Some, None, IfSome, IsSome}
 use Rattle.std.specs.List.{flat_map}

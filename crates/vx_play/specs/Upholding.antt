@@ -1,3 +1,4 @@
+-- To be believed.
 -- What holds of the events and the lines of a play.
 use Rattle.std.specs.Prelude.{◌≡◌, List}
 use Rattle.std.specs.List.{flat_map}

@@ -1,3 +1,4 @@
+-- To be believed.
 -- The grammar of a policy: how each rule is spelled.
 use Rattle.std.specs.Prelude.{◌≡◌, ◌≤◌, ◌⊎◌, ℕ, ⊤, Bool, true, false, ◌==◌, List, [], ◌∷◌, ◌++◌, codes, decimal, Option, None, Some}
 use Rattle.vx_calls.specs.declared.calls.Proc.{Proc}

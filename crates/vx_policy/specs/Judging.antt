@@ -1,3 +1,4 @@
+-- To be believed.
 -- What the rules of a policy say of a call.
 use Rattle.std.specs.Prelude.{ℕ, ◌+◌, ◌-◌, ◌*◌, ◌/◌, ◌^◌, Bool, true, false, ◌&&◌, ◌==◌, if◌then◌else◌, List, [], ◌∷◌, Option, None, Some}
 use Rattle.vx_calls.specs.declared.calls.Proc.{Proc}

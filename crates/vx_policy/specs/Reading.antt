@@ -1,3 +1,4 @@
+-- To be believed.
 -- What reading the text of a policy answers.
 use Rattle.std.specs.Prelude.{◌≡◌, ◌≤◌, ◌<◌, ◌+◌, ℕ, ⊤, true, List, [], ◌∷◌, ◌++◌, length, Result, Ok, Err}
 use Rattle.vx_text.specs.TextLines.{lines}

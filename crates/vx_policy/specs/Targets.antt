@@ -1,3 +1,4 @@
+-- To be believed.
 -- What a call of a session is to.
 use Rattle.std.specs.Prelude.{ℕ, ◌==◌, Bool, false, not, nat_lt, if◌then◌else◌, List, [], ◌∷◌, ◌++◌, length, drop, filter, find, Option, None, Some, option_map, option_and_then}
 use Rattle.std.specs.Result.{result_ok}

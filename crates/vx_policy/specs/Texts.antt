@@ -1,3 +1,4 @@
+-- To be believed.
 -- The lines that a guard prints.
 use Rattle.std.specs.Prelude.{ℕ, List, ◌++◌, codes, decimal}
 

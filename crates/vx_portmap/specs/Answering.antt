@@ -1,3 +1,4 @@
+-- To be believed.
 -- What a port mapper of version 2 answers, by its table and the message alone (RFC 1833, section 3; RFC 5531, section 9).
 use Rattle.std.specs.Prelude.{ℕ, Bool, not, ◌==◌, List, [], ◌∷◌, ◌++◌, length, take, Option, None, Some, Result, Ok, Err, if◌then◌else◌}
 use Rattle.std.specs.List.{flat_map}

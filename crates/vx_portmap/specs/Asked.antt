@@ -1,3 +1,4 @@
+-- To be believed.
 -- What the words of a user ask of the port mapper.
 use Rattle.std.specs.Prelude.{ℕ, ◌≤◌, List, [], ◌∷◌, codes, decimal}
 use Rattle.vx_portmap.specs.declared.words.Kind.{Kind}

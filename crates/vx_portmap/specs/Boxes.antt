@@ -1,3 +1,4 @@
+-- To be believed.
 -- What calls of a box of packets answer, and what they do to its packets, where it tells these.
 use Rattle.std.specs.Prelude.{◌≡◌, ℕ, ⊤, List, [], ◌∷◌, ◌++◌, map, take, Option, None, Some}
 use Rattle.vx_io_traits.specs.Faults.{one_more}

@@ -1,3 +1,4 @@
+-- To be believed.
 -- The port mapper as what serves the peers of a door.
 use Rattle.std.specs.Prelude.{◌≡◌, ℕ, Bool, true, false, List}
 use Rattle.vx_io_traits.specs.declared.ReadOut.{ReadOut}

@@ -1,3 +1,4 @@
+-- To be believed.
 -- What went through a box of packets.
 use Rattle.std.specs.Prelude.{ℕ, List, map}
 

@@ -1,3 +1,4 @@
+-- To be believed.
 -- How a run of the port mapper ends: for each status, what was opened and served, what was printed, and why.
 use Rattle.std.specs.Prelude.{◌≡◌, ◌≢◌, ◌≤◌, ◌⊎◌, ℕ, Bool, List, [], ◌∷◌, ◌++◌}
 use Rattle.std.specs.Io.KnownBytes.{Appends}

@@ -1,3 +1,4 @@
+-- To be believed.
 -- What becomes of a box of packets whose packets are answered.
 use Rattle.std.specs.Prelude.{◌≡◌, ◌≤◌, ◌<◌, ℕ, ⊤, List, [], ◌∷◌, ◌++◌, length, Option, Some, None}
 use Rattle.std.specs.List.{flat_map}

@@ -1,3 +1,4 @@
+-- To be believed.
 -- The replies to several messages.
 use Rattle.std.specs.Prelude.{ℕ, List}
 use Rattle.std.specs.List.{filter_map}

@@ -1,3 +1,4 @@
+-- To be believed.
 -- What becomes of a stream of records whose messages are answered.
 use Rattle.std.specs.Prelude.{◌≡◌, ℕ, List, Option, None, Some, option_map}
 use Rattle.vx_record.specs.Fragments.{record_of}

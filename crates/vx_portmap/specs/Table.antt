@@ -1,3 +1,4 @@
+-- To be believed.
 -- The table of mappings: which have one place, and the port that is found there (RFC 1833, section 3).
 use Rattle.std.specs.Prelude.{ℕ, Bool, ◌&&◌, ◌==◌, nat_le, List, length, find, Option, None, Some, if◌then◌else◌}
 use Rattle.std.specs.List.{list_any}

@@ -1,3 +1,4 @@
+-- To be believed.
 -- A record that comes in piece by piece: what a buffer keeps of it, and what each byte of the stream changes.
 use Rattle.std.specs.Prelude.{ℕ, ◌+◌, ◌-◌, ◌^◌, ◌==◌, min, suc, Bool, false, ◌&&◌, nat_lt, List, [], ◌∷◌, ◌++◌, length, if◌then◌else◌}
 use Rattle.vx_record.specs.Fragments.{fragment_length, is_last}

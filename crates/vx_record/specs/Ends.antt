@@ -1,3 +1,4 @@
+-- To be believed.
 -- Where a stream stands that a buffer was fed piece by piece: at the end that its split has (RFC 5531, section 11).
 use Rattle.std.specs.Prelude.{◌≡◌, ℕ, ◌-◌, ◌<◌, Bool, true, false, List, [], ◌∷◌, ◌++◌, length, take}
 use Rattle.vx_record.specs.Buffer.{BufState, fresh, fed, taken}

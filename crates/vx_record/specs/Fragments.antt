@@ -1,3 +1,4 @@
+-- To be believed.
 -- The header of a fragment: a word whose top bit marks the last fragment of a record and whose low 31 bits are the
 -- fragment's length (RFC 5531, section 11).
 use Rattle.std.specs.Prelude.{ℕ, ◌+◌, ◌%◌, ◌^◌, ◌++◌, Bool, List, length, nat_le}

@@ -1,3 +1,4 @@
+-- To be believed.
 -- The records of a whole stream: a record is the concatenation of its fragments, of which the last is marked (RFC 5531,
 -- section 11).
 use Rattle.std.specs.Prelude.{ℕ, ◌+◌, zero, suc, Bool, true, false, nat_lt, List, [], ◌∷◌, ◌++◌, length, take, drop, if◌then◌else◌}

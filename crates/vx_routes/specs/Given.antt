@@ -1,3 +1,4 @@
+-- To be believed.
 -- The numbers of links that the histories of four buses give, as clients know them, and that none is given twice.
 use Rattle.std.specs.Prelude.{◌≡◌, ◌≢◌, ◌≤◌, ℕ, List, ◌++◌, map, Some}
 use Rattle.std.specs.List.{All, AllPairs}

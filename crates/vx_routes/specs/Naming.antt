@@ -1,3 +1,4 @@
+-- To be believed.
 -- The buses that device texts name.
 use Rattle.std.specs.Prelude.{◌≤◌, ℕ, ◌-◌, ◌&&◌, ◌==◌, nat_le, if◌then◌else◌, List, [], ◌∷◌, ◌++◌, length, take, drop, codes, Option, Some, None}
 use Rattle.std.specs.List.{position}

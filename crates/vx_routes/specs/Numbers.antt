@@ -1,3 +1,4 @@
+-- To be believed.
 -- The numbers of links over several buses.
 use Rattle.std.specs.Prelude.{ℕ, ◌+◌, ◌-◌, ◌*◌, ◌/◌, ◌%◌, ◌==◌, if◌then◌else◌, Option, Some, None}
 

@@ -1,3 +1,4 @@
+-- To be believed.
 -- The records of replies to calls on several buses.
 use Rattle.std.specs.Prelude.{◌≤◌, ℕ, ◌&&◌, nat_le, if◌then◌else◌, List, ◌++◌, length, take, drop}
 use Rattle.byteorder.specs.Endian.{big_number}

@@ -1,3 +1,4 @@
+-- To be believed.
 -- Which bus a call goes to, and as which call there.
 use Rattle.std.specs.Prelude.{◌≡◌, ◌≤◌, ℕ, true, List, ◌++◌, drop, codes, Option, Some, None, unwrap_or}
 use Rattle.vx_calls.specs.declared.calls.Generic.{Generic}

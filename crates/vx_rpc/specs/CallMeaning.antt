@@ -1,3 +1,4 @@
+-- To be believed.
 -- What a message is as a call, whatever its program (RFC 5531, section 9).
 use Rattle.std.specs.Prelude.{ℕ, ◌≤◌, ◌≡◌, not, ◌||◌, ◌==◌, nat_lt, if◌then◌else◌, List, length, drop, Result, Ok, Err}
 use Rattle.vx_xdr.specs.declared.fault.XdrErr.{XdrErr}

@@ -1,3 +1,4 @@
+-- To be believed.
 -- What stands in front of a call's arguments and of a reply's results (RFC 5531, section 9).
 use Rattle.std.specs.Prelude.{ℕ, ◌*◌, List, drop, Result, Ok}
 use Rattle.byteorder.specs.Endian.{big_number}

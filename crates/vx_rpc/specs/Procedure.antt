@@ -1,3 +1,4 @@
+-- To be believed.
 -- The programs and procedures of the two channels that the gateway serves (VXI-11, programs DEVICE_CORE and DEVICE_ASYNC).
 use Rattle.std.specs.Prelude.{ℕ, Bool, true, false, ◌==◌, if◌then◌else◌, List, [], ◌∷◌, Option, None, Some}
 use Rattle.vx_calls.specs.declared.calls.Role.{Role}

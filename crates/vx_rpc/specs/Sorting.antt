@@ -1,3 +1,4 @@
+-- To be believed.
 -- What becomes of a message on a channel (RFC 5531, section 9).
 use Rattle.std.specs.Prelude.{IsTrue, ℕ, ◌≤◌, ◌≡◌, Bool, true, false, not, ◌||◌, ◌==◌, nat_lt, if◌then◌else◌, List, length, drop, Option, None, Some, Result, Ok, Err}
 use Rattle.vx_calls.specs.declared.calls.Role.{Role}

@@ -1,3 +1,4 @@
+-- To be believed.
 -- The words of calls and replies as they are written (RFC 5531, section 9).
 use Rattle.std.specs.Prelude.{ℕ, List, [], ◌∷◌}
 use Rattle.std.specs.List.{flat_map}

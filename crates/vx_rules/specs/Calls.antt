@@ -1,3 +1,4 @@
+-- To be believed.
 -- What a call asks for: its link, its flags and timeouts, and of which kind it is.
 use Rattle.std.specs.Prelude.{ℕ, ◌-◌, ◌/◌, ◌%◌, ◌≤◌, Bool, true, false, ◌==◌, nat_le, List, [], length, Option, Some, None}
 use Rattle.vx_calls.specs.declared.limits.TheConstants.{RECORD_MAX}

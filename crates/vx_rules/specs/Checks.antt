@@ -1,3 +1,4 @@
+-- To be believed.
 -- What a call is refused for by its own checks, in their order.
 use Rattle.std.specs.Prelude.{ℕ, ◌+◌, Bool, true, false, not, ◌&&◌, ◌||◌, ◌==◌, nat_lt, nat_le, if◌then◌else◌, List, length, count_by, Option, Some, None, is_some, Result, Ok, Err}
 use Rattle.vx_calls.specs.declared.limits.TheConstants.{WRITE_MAX, CONNECTION_LAST}

@@ -1,3 +1,4 @@
+-- To be believed.
 -- The answer of a call: all lines of the order of answers, but for those on turns of other connections.
 use Rattle.std.specs.Prelude.{ℕ, Bool, true, false, not, ◌&&◌, ◌||◌, ◌==◌, nat_le, if◌then◌else◌, List, [], ◌∷◌, Option, Some, None, is_none, is_some}
 use Rattle.std.specs.Option.{option_map}

@@ -1,3 +1,4 @@
+-- To be believed.
 -- Where a create_intr_chan dials to.
 use Rattle.std.specs.Prelude.{ℕ}
 use Rattle.vx_calls.specs.Call.{Call}

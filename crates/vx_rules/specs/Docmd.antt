@@ -1,3 +1,4 @@
+-- To be believed.
 -- The commands of device_docmd (after VXI-11.2): their numbers, the input of each, and the job that each is.
 use Rattle.std.specs.Prelude.{ℕ, ◌+◌, ◌*◌, Bool, true, not, ◌&&◌, ◌==◌, nat_le, if◌then◌else◌, List, [], ◌∷◌, length, Option, Some, None}
 use Rattle.vx_488.specs.declared.transfers.TheConstants.{ADDRESS_MAX}

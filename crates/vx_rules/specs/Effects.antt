@@ -1,3 +1,4 @@
+-- To be believed.
 -- The jobs of bus calls, and the effects of the calls that need no bus.
 use Rattle.std.specs.Prelude.{ℕ, Bool, if◌then◌else◌, List, [], length, Option, Some, None, Result, Ok, Err}
 use Rattle.std.specs.Option.{option_map}

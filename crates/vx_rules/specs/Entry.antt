@@ -1,3 +1,4 @@
+-- To be believed.
 -- What happens to the gateway of one thread, one entry after the other.
 use Rattle.std.specs.Prelude.{ℕ, Bool, List, Option}
 use Rattle.vx_calls.specs.declared.calls.Role.{Role}

@@ -1,3 +1,4 @@
+-- To be believed.
 -- Histories of the gateway of one thread, and the rises of the SRQ line in them.
 use Rattle.std.specs.Prelude.{ℕ, Bool, true, false, ◌&&◌, ◌==◌, if◌then◌else◌, List, [], ◌∷◌, ◌++◌, map, filter, Option, Some, None, IsSome}
 use Rattle.std.specs.Option.{option_map_or}

@@ -1,3 +1,4 @@
+-- To be believed.
 -- The first lines of the order of answers: an abort, a link that isn't there, the call's own checks, and locks.
 use Rattle.std.specs.Prelude.{ℕ, Bool, true, false, not, ◌&&◌, ◌||◌, ◌==◌, ◌+◌, if◌then◌else◌, List, [], ◌∷◌, filter, Option, Some, None, is_none, option_and_then, Result, Ok, Err}
 use Rattle.std.specs.Option.{option_map, option_map_or}

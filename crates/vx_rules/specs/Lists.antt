@@ -1,3 +1,4 @@
+-- To be believed.
 -- A list changed at the first place that passes a test, and a walk along a list of events.
 use Rattle.std.specs.Prelude.{Bool, if◌then◌else◌, List, [], ◌∷◌, Option, option_and_then}
 

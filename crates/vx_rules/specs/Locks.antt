@@ -1,3 +1,4 @@
+-- To be believed.
 -- The locks that are held, as a plain list, and what each call makes of it.
 use Rattle.std.specs.Prelude.{◌≢◌, ℕ, Bool, not, ◌&&◌, ◌==◌, List, [], ◌∷◌, ◌++◌, find, filter, Option}
 use Rattle.std.specs.Bool.{IsFalse}

@@ -1,3 +1,4 @@
+-- To be believed.
 -- The numbers that a history gives to links, connections and interrupt channels, and that none is given twice.
 use Rattle.std.specs.Prelude.{◌≡◌, ◌<◌, ◌≤◌, ◌+◌, ℕ, Bool, true, if◌then◌else◌, List, [], ◌∷◌, ◌++◌, Option, Some, None}
 use Rattle.std.specs.Option.{option_map_or}

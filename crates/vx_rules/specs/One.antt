@@ -1,3 +1,4 @@
+-- To be believed.
 -- The gateway of one thread: which entry is allowed in a state, and the state after it.
 use Rattle.std.specs.Prelude.{ℕ, Bool, true, false, ◌&&◌, ◌==◌, nat_le, if◌then◌else◌, List, map, Option, Some, None, is_some, option_and_then}
 use Rattle.std.specs.Option.{option_map}

@@ -1,3 +1,4 @@
+-- To be believed.
 -- What holds of the tables of every gateway.
 use Rattle.std.specs.Prelude.{◌≡◌, ◌≢◌, ◌≤◌, ℕ, Bool, true, ◌&&◌, ◌==◌, List, is_some}
 use Rattle.std.specs.List.{list_any, All, AllPairs}

@@ -1,3 +1,4 @@
+-- To be believed.
 -- Service requests: interrupt channels with their outboxes, the links that are enabled, and the level of the SRQ line.
 use Rattle.std.specs.Prelude.{ℕ, ◌<◌, ◌≤◌, ◌+◌, ◌%◌, ◌^◌, Bool, false, not, ◌&&◌, ◌==◌, nat_lt, nat_le, if◌then◌else◌, List, [], ◌∷◌, ◌++◌, length, map, find, filter, Option, Some, None, option_and_then}
 use Rattle.std.specs.Option.{option_map, IfSome}

@@ -1,3 +1,4 @@
+-- To be believed.
 -- The state of the gateway of one thread, as plain lists.
 use Rattle.std.specs.Prelude.{ℕ, ◌+◌, Bool, true, false, not, ◌&&◌, ◌==◌, nat_lt, nat_le, if◌then◌else◌, List, [], ◌∷◌, ◌++◌, find, filter, count_by, Option, Some, None, is_none, option_and_then}
 use Rattle.std.specs.List.{list_any, flat_map}

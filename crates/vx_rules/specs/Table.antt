@@ -1,3 +1,4 @@
+-- To be believed.
 -- The links that live, as a plain list, and what each call makes of it.
 use Rattle.std.specs.Prelude.{ℕ, ◌+◌, ◌<◌, ◌≤◌, Bool, false, not, ◌||◌, ◌==◌, nat_lt, nat_le, List, [], ◌∷◌, ◌++◌, length, find, filter, Option}
 use Rattle.std.specs.List.{list_any, All, AllPairs}

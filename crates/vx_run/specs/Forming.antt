@@ -1,3 +1,4 @@
+-- To be believed.
 -- Runs that are formed: each step makes in the gateway what a step may make, whatever hangs on the bus.
 use Rattle.std.specs.Prelude.{◌≡◌, ℕ, not, ◌==◌, if◌then◌else◌, List, [], ◌∷◌, Option, Some, None, is_none, is_some}
 use Rattle.std.specs.List.{list_any}

@@ -1,3 +1,4 @@
+-- To be believed.
 -- What each step of a run makes in the gateway, whatever hangs on the bus: the events, and the line that there is to tell.
 use Rattle.std.specs.Prelude.{◌≡◌, ℕ, Bool, true, false, List, [], ◌∷◌, ◌++◌, Option, Some, None}
 use Rattle.vx_calls.specs.declared.calls.Role.{Role}

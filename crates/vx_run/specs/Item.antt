@@ -1,3 +1,4 @@
+-- To be believed.
 -- One step of a run, and the lines of the output that every version has.
 use Rattle.std.specs.Prelude.{ℕ, List, [], ◌∷◌, ◌++◌, Option, Some, None}
 use Rattle.std.specs.List.{flat_map}

@@ -1,3 +1,4 @@
+-- To be believed.
 -- The line that there is to tell of a step.
 use Rattle.std.specs.Prelude.{ℕ, Bool, true, false}
 use Rattle.vx_calls.specs.Reply.{Reply}

@@ -1,3 +1,4 @@
+-- To be believed.
 -- Where a run stands in the gateway, whatever hangs on the bus.
 use Rattle.std.specs.Prelude.{ℕ, ◌==◌, max, if◌then◌else◌, List, [], ◌++◌, Option, Some, None}
 use Rattle.vx_calls.specs.declared.calls.Role.{Role}

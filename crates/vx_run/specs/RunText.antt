@@ -1,3 +1,4 @@
+-- To be believed.
 -- The text of a run, in both versions of the output.
 use Rattle.std.specs.Prelude.{ℕ, List, [], ◌∷◌, ◌++◌, Option, Some, None}
 use Rattle.std.specs.List.{flat_map}

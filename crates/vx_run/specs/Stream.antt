@@ -1,3 +1,4 @@
+-- To be believed.
 -- What a piece of a connection's stream brings.
 use Rattle.std.specs.Prelude.{ℕ, ◌-◌, Option, Some, None, Bool, true, false, if◌then◌else◌, List, [], ◌∷◌, ◌++◌, length, take}
 use Rattle.vx_calls.specs.declared.limits.TheConstants.{RECORD_MAX}

@@ -1,3 +1,4 @@
+-- To be believed.
 -- The words of the causes.
 use Rattle.std.specs.Prelude.{ℕ, List, codes}
 use Rattle.vx_script.specs.declared.Cause.{Cause}

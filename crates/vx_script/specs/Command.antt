@@ -1,3 +1,4 @@
+-- To be believed.
 -- What a script asks for, as plain data.
 use Rattle.std.specs.Prelude.{ℕ, Bool, List, Option}
 use Rattle.vx_calls.specs.declared.calls.Role.{Role}

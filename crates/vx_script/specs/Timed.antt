@@ -1,3 +1,4 @@
+-- To be believed.
 -- What a line of a script of version 2 says: a moment, a space, and a line of a step of its own.
 use Rattle.std.specs.Prelude.{ℕ, ◌-◌, ◌^◌, Bool, true, false, nat_lt, if◌then◌else◌, List, length, Option, Some, None}
 use Rattle.vx_script.specs.declared.TheConstants.{LINE2_MAX}

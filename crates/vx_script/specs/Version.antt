@@ -1,3 +1,4 @@
+-- To be believed.
 -- The version of a script, by its first line.
 use Rattle.std.specs.Prelude.{List, ℕ, codes, if◌then◌else◌}
 use Rattle.std.specs.Str.{bytes_eq}

@@ -1,3 +1,4 @@
+-- To be believed.
 -- The words of a script's lines: numbers, addresses, bytes and names.
 use Rattle.std.specs.Prelude.{ℕ, ◌+◌, Bool, false, ◌&&◌, ◌==◌, nat_le, not, if◌then◌else◌, List, [], ◌∷◌, length, take, drop, slice_index, codes, Option, Some, None, option_and_then, option_map, position}
 use Rattle.std.specs.List.{list_all}

@@ -1,3 +1,4 @@
+-- To be believed.
 -- What acts on a core do, and the groups that they add.
 use Rattle.std.specs.Prelude.{◌≡◌, ℕ, false, List, [], ◌∷◌, ◌++◌, Option, Some, None, Result, Ok, Err, unwrap_or}
 use Rattle.vx_calls.specs.declared.calls.Role.{Role}

@@ -1,3 +1,4 @@
+-- To be believed.
 -- What a whole session did.
 use Rattle.std.specs.Prelude.{◌≡◌, ℕ, List, [], ◌∷◌, ◌++◌, Some}
 use Rattle.std.specs.List.{All}

@@ -1,3 +1,4 @@
+-- To be believed.
 -- What a link's worker did with it: a connection came up and had its session, or none came up.
 use Rattle.std.specs.Prelude.{◌≡◌, ℕ, List, Ok, Err}
 use Rattle.vx_calls.specs.declared.calls.Role.{Role}

@@ -1,3 +1,4 @@
+-- To be believed.
 -- What a session can know of its dial.
 use Rattle.std.specs.Prelude.{◌≤◌, ◌+◌, ◌-◌, ◌^◌, ℕ, min, Bool, true, false, List, Option, Some, None}
 use Rattle.vx_io_traits.specs.declared.dials.Rang.{Rang}

@@ -1,3 +1,4 @@
+-- To be believed.
 -- The events of a poll, as a group of a history has them.
 use Rattle.std.specs.Prelude.{◌≡◌, ◌≤◌, ℕ, max, Bool, true, false, List, [], ◌∷◌, length, Option, Some, None}
 use Rattle.vx_calls.specs.declared.limits.TheConstants.{SLICE_MAX}

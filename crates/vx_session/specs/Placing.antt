@@ -1,3 +1,4 @@
+-- To be believed.
 -- Groups at their places in the history of a gate, as a pass made them.
 use Rattle.std.specs.Prelude.{◌≡◌, ◌≤◌, ◌⊎◌, ℕ, List, [], ◌∷◌, ◌++◌, map, Some}
 use Rattle.std.specs.List.{All}

@@ -1,3 +1,4 @@
+-- To be believed.
 -- How far a session has come.
 use Rattle.std.specs.Prelude.{◌≡◌, ◌≤◌, ℕ, List, map, count_by, Option, Some, None}
 use Rattle.std.specs.List.{flat_map}

@@ -1,3 +1,4 @@
+-- To be believed.
 -- What a pump of a channel did.
 use Rattle.std.specs.Prelude.{◌≡◌, ◌≢◌, ◌<◌, ℕ, max, List, [], ◌∷◌, ◌++◌, map, length}
 use Rattle.std.specs.List.{All, flat_map}

@@ -1,3 +1,4 @@
+-- To be believed.
 -- How one record on a connection is served: the groups that its call adds to the history, and its reply.
 use Rattle.std.specs.Prelude.{◌≡◌, ℕ, Bool, true, false, List, [], ◌∷◌, if◌then◌else◌, Option, Some, None}
 use Rattle.vx_io_traits.specs.declared.dials.Rang.{Rang}

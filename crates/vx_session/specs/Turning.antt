@@ -1,3 +1,4 @@
+-- To be believed.
 -- What a turn of a connection tells: the group that it adds, and the connection's phase behind it.
 use Rattle.std.specs.Prelude.{◌≡◌, ℕ, Bool, true, false, List, [], ◌∷◌, if◌then◌else◌, Option, Some, None, Result, Ok, Err, option_map}
 use Rattle.vx_calls.specs.declared.calls.Role.{Role}

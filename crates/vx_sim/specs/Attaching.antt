@@ -1,3 +1,4 @@
+-- To be believed.
 -- Which addresses an instrument can be attached at, and what comes of it.
 use Rattle.std.specs.Prelude.{◌≡◌, ℕ, ◌==◌, nat_le, Bool, false, ◌&&◌, ◌||◌, not, is_none, if◌then◌else◌, List, [], ◌∷◌, ◌++◌, length, filter, find, map, Option, None, Some}
 use Rattle.std.specs.List.{list_any}

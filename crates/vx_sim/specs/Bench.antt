@@ -1,3 +1,4 @@
+-- To be believed.
 -- The bench: the instruments on a bus, each at its address, in the order in which they were attached.
 use Rattle.std.specs.Prelude.{◌≡◌, Bool, true, false, not, ◌&&◌, ◌||◌, List}
 use Rattle.std.specs.List.{list_any, AllZip}

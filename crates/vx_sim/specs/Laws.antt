@@ -1,3 +1,4 @@
+-- To be believed.
 -- What an instrument hears is what it takes.
 use Rattle.std.specs.Prelude.{◌≡◌, Bool, true, false, List, [], ◌∷◌}
 use Rattle.std.specs.List.{list_all, AllZip}

@@ -1,3 +1,4 @@
+-- To be believed.
 -- What stands at a place of the bench, and how it changes.
 use Rattle.std.specs.Prelude.{◌≡◌, ℕ, Bool, true, false, List, [], ◌∷◌, ◌++◌}
 use Rattle.vx_488.specs.Heard.{Byte}

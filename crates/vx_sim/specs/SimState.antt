@@ -1,3 +1,4 @@
+-- To be believed.
 -- A bus with instruments on it, and how it changes by each step.
 use Rattle.std.specs.Prelude.{◌≡◌, ℕ, ◌+◌, ◌-◌, ◌==◌, nat_lt, max, Bool, true, false, if◌then◌else◌, List, [], ◌∷◌, ◌++◌, length, Option, None, Some}
 use Rattle.vx_bus_traits.specs.Faults.{one_more}

@@ -1,3 +1,4 @@
+-- To be believed.
 -- The command `vxgate` as `clap` sees it: nine options, each with one number for its value, and a flag.
 use Rattle.std.specs.Prelude.{ℕ, List, [], ◌∷◌, ◌++◌, Some, true, codes}
 use Rattle.clap.specs.Walk.{Rule, Text}

@@ -1,3 +1,4 @@
+-- To be believed.
 -- The lines that a server prints.
 use Rattle.std.specs.Prelude.{ℕ, List, ◌++◌, codes, decimal}
 

@@ -1,3 +1,4 @@
+-- To be believed.
 -- What words mean to the server.
 use Rattle.std.specs.Prelude.{◌≡◌, ◌≤◌, ℕ, ⊤, Bool, false, List, [], ◌∷◌, Option, Some, option_map, codes}
 use Rattle.std.specs.Option.{option_map_or}

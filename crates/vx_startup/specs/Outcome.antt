@@ -1,3 +1,4 @@
+-- To be believed.
 -- How a server ends: by what its words ask, what its bench's source gives, what its lines are, and then by its ports, its workers
 -- and its links, in this order.
 use Rattle.std.specs.Prelude.{◌≡◌, ℕ, List, Result, Ok, Err, ◌⊎◌, string_bytes}

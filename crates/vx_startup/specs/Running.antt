@@ -1,3 +1,4 @@
+-- To be believed.
 -- How a server ends that has its options and its bus, by what its net, its spawner and its sink show before and after.
 use Rattle.std.specs.Prelude.{◌≡◌, ◌≤◌, ◌<◌, ◌-◌, ◌^◌, ℕ, min, List, ◌++◌, ◌⊎◌}
 use Rattle.std.specs.Io.KnownBytes.{Appends}

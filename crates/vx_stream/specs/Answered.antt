@@ -1,3 +1,4 @@
+-- To be believed.
 -- Messages that were answered, one after the other.
 use Rattle.std.specs.Prelude.{◌≡◌, ℕ, List, [], ◌∷◌, map, Option, Some}
 use Rattle.std.specs.List.{flat_map}

@@ -1,3 +1,4 @@
+-- To be believed.
 -- What can be known of a link, and what calls do to that.
 use Rattle.std.specs.Prelude.{◌≡◌, ◌≤◌, ℕ, List, Option}
 use Rattle.std.specs.Io.KnownBytes.{Consumes, Keeps}

@@ -1,3 +1,4 @@
+-- To be believed.
 -- The rules that a JSON value spells, or why it spells none (RFC 8259).
 use Rattle.std.specs.Prelude.{ℕ, ◌+◌, nat_lt, nat_le, if◌then◌else◌, List, [], ◌∷◌, length, codes, Option, Some, None, option_and_then, option_map, Result, Ok, Err}
 use Rattle.serde_json.specs.Data.{Data, Items, no_items, item}

@@ -1,3 +1,4 @@
+-- To be believed.
 -- An instrument whose replies stand in a table: its rules, and what each call makes of it.
 use Rattle.std.specs.Prelude.{ℕ, ◌+◌, Bool, true, false, ◌==◌, nat_le, max, if◌then◌else◌, List, [], ◌∷◌, find, Option, Some, None}
 use Rattle.std.specs.Str.{bytes_eq}

@@ -1,3 +1,4 @@
+-- To be believed.
 -- An end of a stream of bytes.
 use Rattle.std.specs.Prelude.{ℕ, List, Option}
 

@@ -1,3 +1,4 @@
+-- To be believed.
 -- What writing a whole text does to the bytes that a sink tells.
 use Rattle.std.specs.Prelude.{ℕ, ◌≤◌, List, Result, Ok, Err, length, take}
 use Rattle.std.specs.Io.KnownBytes.{Appends}

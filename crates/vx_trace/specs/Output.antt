@@ -1,3 +1,4 @@
+-- To be believed.
 -- An output line as plain data: what a `Line` shows.
 use Rattle.std.specs.Prelude.{ℕ, Bool, List}
 use Rattle.vx_calls.specs.declared.calls.Role.{Role}

@@ -1,3 +1,4 @@
+-- To be believed.
 -- How a value stands as bytes (RFC 4506): each kind in a multiple of four bytes.
 use Rattle.std.specs.Prelude.{◌≡◌, ℕ, ◌-◌, ◌%◌, ◌^◌, ◌<◌, ◌≤◌, ℤ, Bool, List, ◌++◌, length, replicate, slice_index, FitsSigned}
 use Rattle.std.specs.Int.{w32, cast_unsigned, from_bool}
