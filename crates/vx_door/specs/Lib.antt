@@ -1,4 +1,5 @@
 pub mod Meeting
+pub mod Peering
 pub mod Shown
 pub mod Serving
 pub mod Running

@@ -7,7 +7,7 @@ pub mod Benches
 pub mod Peers
 pub mod Outcome
 pub use Rattle.vx_door.specs.Going
-pub use Rattle.vx_io.specs.Peering
+pub use Rattle.vx_door.specs.Peering
 pub use Rattle.vx_io_traits.specs.Faults
 pub use Rattle.vx_io_traits.specs.Stands
 pub use Rattle.vx_exchange.specs.Meaning

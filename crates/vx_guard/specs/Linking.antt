@@ -8,7 +8,7 @@ use Rattle.vx_text.specs.Ends.{End}
 use Rattle.vx_tables.specs.declared.tables.Connect.{Connect}
 use Rattle.vx_tables.specs.declared.tables.Connect.TheVariants as connect
 use Rattle.vx_group.specs.Groups.{Group}
-use Rattle.vx_io.specs.Peering.{IsPeer}
+use Rattle.vx_door.specs.Peering.{IsPeer}
 use Rattle.vx_stream.specs.Shown.{LinkShown}
 use Rattle.vx_session.specs.Turning.{Joins}
 use Rattle.vx_session.specs.Outside.{DialShown}

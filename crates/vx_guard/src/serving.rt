@@ -12,9 +12,8 @@ use std::alloc::Global;
 use std::sync::Wait;
 use vx_bus_traits::Bus;
 use vx_core::Core;
-use vx_door::{Door, DoorEnd, Met};
+use vx_door::{Door, DoorEnd, Met, Peered};
 use vx_gate::{Pass, Turns};
-use vx_io::Peered;
 use vx_io_traits::{Clock, Dial, Pause, Sink};
 use vx_policy::Policy;
 

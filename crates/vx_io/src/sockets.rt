@@ -10,9 +10,9 @@ ghost use Rattle.vx_io.specs.SocketState.{TellsNone};
 ghost use Rattle.vx_io.specs.Looking.{OnGot};
 
 use super::accepting::accept_retrying;
+use super::addresses::number_of;
 use super::keeping::bear_with;
 use super::patience::{LOOKS, Patience};
-use super::peered::{Peered, number_of};
 use super::places::{Crowd, Place};
 use super::standard::{read_retrying, write_retrying};
 use super::timeouts::Timeouts;
@@ -22,6 +22,7 @@ use std::io::{ErrorKind, Read, Write};
 use std::marker::Model;
 use std::net::{Ipv4Addr, Net as Sockets, Shutdown, TcpListener, TcpStream};
 use std::sync::Arc;
+use vx_door::Peered;
 use vx_io_traits::{Accepted, Bound, DialOut, Link, Listen, Net, Reach, ReadOut, WriteOut};
 
 /// A link over a TCP stream of the system.

@@ -8,12 +8,12 @@ ghost use Rattle.vx_door.specs.Meeting.{is_met, met_after, OnMeetFailed};
 ghost use Rattle.vx_io.specs.SocketState.{TellsNone, KeepsOwnCounts};
 
 use super::accepting::accept_from;
-use super::peered::{Peered, number_of};
+use super::addresses::number_of;
 use super::sockets::TcpLink;
 use std::marker::Model;
 use std::net::{Ipv4Addr, Net as Sockets, TcpListener, TcpStream};
 use std::time::Duration;
-use vx_door::{Door, Met};
+use vx_door::{Door, Met, Peered};
 use vx_io_traits::{DialOut, Link, ReadOut, WriteOut};
 
 /// How long a receive or a send waits for the peer, in seconds; one that waits longer fails.

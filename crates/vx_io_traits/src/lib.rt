@@ -1,6 +1,6 @@
 //! What the programs have of the outside world, as traits: bytes that come in and bytes that go out, links both ways and
-//! what makes them, clocks and workers. `vx_io` has one form of each over memory for tests and one over the standard
-//! library for a `main`.
+//! what makes them, clocks and workers. `vx_io` has a form of each over the standard library for a `main`, and `vx_memory`
+//! one over memory for tests.
 //!
 //! A trait that can fail counts its faults in a `u64` that stays at its greatest value, and `Failed` is answered only
 //! where that count rose in the call. Where an implementation can tell its bytes, the contracts say which bytes

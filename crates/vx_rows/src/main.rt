@@ -12,7 +12,7 @@ use std::fs::{self, read_dir};
 use std::io;
 use std::rt::Files;
 use vx_inst::Instrument;
-use vx_io::{MemSink, MemSource};
+use vx_memory::{MemSink, MemSource};
 use vx_play::play_run;
 use vx_rack::{Asker, Echo, NoMemory, Slow, Spare};
 
