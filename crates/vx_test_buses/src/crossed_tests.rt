@@ -16,7 +16,8 @@ use std::thread::{self, Threads};
 use vx_buses::{BusPass, Buses, many_abort, many_link};
 use vx_calls::Role;
 use vx_gates::Passes;
-use vx_io::{Link, MemClock, Pause, ReadOut, WriteOut};
+use vx_io_traits::{Link, Pause, ReadOut, WriteOut};
+use vx_memory::MemClock;
 use vx_session::{End, Linked, Room, join};
 
 /// The most turns that a link waits for its flag.

@@ -11,7 +11,7 @@ use vx_488::Addr;
 use vx_buses::{BusPass, Buses};
 use vx_core::Core;
 use vx_group::first_law;
-use vx_io::Pause;
+use vx_io_traits::Pause;
 use vx_rack::Echo;
 use vx_sim::SimBus;
 

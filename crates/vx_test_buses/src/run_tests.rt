@@ -7,7 +7,7 @@ use std::alloc::{AllocError, Global};
 use std::sync::Wait;
 use std::test::Fail;
 use vx_buses::buses_run;
-use vx_io::{MemClock, MemDoor, MemLink, MemSink, MemStreams};
+use vx_memory::{MemClock, MemDoor, MemLink, MemSink, MemStreams};
 use vx_rack::{Echo, Spare};
 use vx_session::{Still, Tools};
 

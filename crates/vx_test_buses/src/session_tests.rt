@@ -5,7 +5,7 @@ use std::alloc::Global;
 use std::sync::Wait;
 use std::test::Fail;
 use vx_buses::many_link;
-use vx_io::{MemClock, MemLink};
+use vx_memory::{MemClock, MemLink};
 use vx_session::{End, Linked, Room};
 
 // create_link of `gpib2,5` and of `GPIB0,5`; device_write of `A` with END on links 3 and 2; destroy_intr_chan; device_read on link 3, and

@@ -8,6 +8,7 @@ use std::rt::HostRuntime;
 use std::test::Fail;
 use vx_door::{DoorEnd, Serves, serve_door};
 use vx_io::*;
+use vx_memory::*;
 
 /// A call of a door, and its answer. A receive has room for three bytes, and tells what stands in a slice of zeros then.
 #[derive(Clone, Copy, Debug, PartialEq, Eq)]

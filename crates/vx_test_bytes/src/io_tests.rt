@@ -10,6 +10,7 @@ use std::rt::HostRuntime;
 use std::sync::Wait;
 use std::test::Fail;
 use vx_io::*;
+use vx_memory::*;
 
 // Reads of a source of 1, 2, 3, 4, 5 in pieces of 2, whose second and last reads fail: the slice's length, the answer, and
 // what stands in a slice of zeros then.

@@ -2,7 +2,7 @@
 
 use std::alloc::{AllocError, Global};
 use std::test::Fail;
-use vx_io::{MemSink, MemSource};
+use vx_memory::{MemSink, MemSource};
 use vx_text::*;
 
 const DIGITS: &[u8] = b"0123456789";

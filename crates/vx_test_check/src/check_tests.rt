@@ -6,7 +6,7 @@ ghost use Rattle.std.specs.Prelude.{◌<◌};
 use std::alloc::{AllocError, Global};
 use std::test::Fail;
 use vx_check::check_run;
-use vx_io::{MemSink, MemSource};
+use vx_memory::{MemSink, MemSource};
 
 /// A name, a trace, what is printed, and the status.
 type Row = (&'static str, &'static [u8], &'static [u8], u8);

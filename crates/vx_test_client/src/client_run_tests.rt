@@ -4,7 +4,7 @@ use crate::client_tests::{behind, words};
 use std::alloc::{AllocError, Global};
 use std::test::Fail;
 use vx_client::{Client, call_over, call_run, is_call};
-use vx_io::{MemLink, MemReach, MemSink};
+use vx_memory::{MemLink, MemReach, MemSink};
 
 /// A create_link that made link 7, of 65,536 bytes a write, as the reply to the first call.
 const MADE: [u32; 11] = [0x80000028, 1, 1, 0, 0, 0, 0, 0, 7, 9011, 65536];

@@ -5,7 +5,7 @@ use std::alloc::{AllocError, Global};
 use std::test::Fail;
 use vx_calls::Handle;
 use vx_client::{CallOpts, Client, ClientErr, LinkMade, ReadEnd};
-use vx_io::MemLink;
+use vx_memory::MemLink;
 use vx_rpc::RpcRefusal;
 
 /// Numbers as words of a record, its mark in front.

@@ -12,8 +12,9 @@ use vx_488::Addr;
 use vx_calls::{DEVICE_MAX, Handle};
 use vx_client::{CallOpts, Client, ClientErr, LinkMade, ReadEnd, call_run};
 use vx_core::Core;
-use vx_io::{Link, MemReach, MemSink, ReadOut, WriteOut};
+use vx_io_traits::{Link, ReadOut, WriteOut};
 use vx_loop::{LoopLink, through_client};
+use vx_memory::{MemReach, MemSink};
 use vx_rack::Echo;
 use vx_sim::SimBus;
 

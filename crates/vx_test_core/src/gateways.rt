@@ -7,7 +7,7 @@ use vx_bus::MemBus;
 use vx_core::Core;
 use vx_gate::{Gate, Pass};
 use vx_group::first_law;
-use vx_io::{Clock, Pause};
+use vx_io_traits::{Clock, Pause};
 
 /// The port of the abort channel.
 pub(crate) const PORT: u16 = 9011;

@@ -5,7 +5,7 @@ use crate::gateways::{Counting, Pauses, are_words, gateway, words};
 use std::alloc::{AllocError, Global};
 use std::sync::Wait;
 use std::test::Fail;
-use vx_io::{MemDial, MemLink};
+use vx_memory::{MemDial, MemLink};
 use vx_session::{Room, core_link};
 
 /// What came of a link: whether it took the words that it was to take, how often the session asked its clock, which it does once

@@ -22,7 +22,7 @@ use vx_core::Core;
 use vx_exchange::{PollEnd, REPLY_ROOM};
 use vx_gate::{Gate, Pass, Turns};
 use vx_group::first_law;
-use vx_io::{MemClock, MemLink};
+use vx_memory::{MemClock, MemLink};
 use vx_rack::Echo;
 use vx_session::{PumpEnd, come, join, pump, sample_turn, settle};
 use vx_sim::SimBus;

@@ -13,7 +13,8 @@ use vx_bus_traits::Bus;
 use vx_calls::Role;
 use vx_core::Core;
 use vx_gate::{Pass, Turns};
-use vx_io::{Link, MemDial, Pause, ReadOut, WriteOut};
+use vx_io_traits::{Link, Pause, ReadOut, WriteOut};
+use vx_memory::MemDial;
 use vx_session::{End, Room, core_session, join};
 
 /// What the two sessions tell each other, each 1 once it is so.

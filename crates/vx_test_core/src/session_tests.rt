@@ -5,7 +5,8 @@ use crate::gateways::{Pauses, are_words, gateway, words};
 use std::alloc::{AllocError, Global};
 use std::sync::Wait;
 use std::test::Fail;
-use vx_io::{MemClock, MemDial, MemLink, Rang};
+use vx_io_traits::Rang;
+use vx_memory::{MemClock, MemDial, MemLink};
 use vx_session::{End, LinkDone, Linked, Room, Tally, abort_link, core_link};
 
 /// A link, what is outside of its session, and what is to come of it.

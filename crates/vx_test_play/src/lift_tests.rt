@@ -2,8 +2,8 @@
 
 use std::alloc::{AllocError, Global};
 use std::test::Fail;
-use vx_io::MemSink;
 use vx_lift::*;
+use vx_memory::MemSink;
 use vx_script::LINE_MAX;
 
 /// A script, its name in front, how its lift ends, and what is written.

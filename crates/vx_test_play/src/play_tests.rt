@@ -4,7 +4,8 @@
 use arrayvec::ArrayString;
 use std::alloc::{AllocError, Global};
 use std::test::Fail;
-use vx_io::{MemSink, MemSource, ReadOut, Source};
+use vx_io_traits::{ReadOut, Source};
+use vx_memory::{MemSink, MemSource};
 use vx_play::*;
 use vx_rack::{Echo, Spare};
 

@@ -7,7 +7,8 @@ use std::alloc::{AllocError, Global};
 use std::sync::Wait;
 use std::test::Fail;
 use vx_guard::guard_run;
-use vx_io::{MemClock, MemDial, MemDoor, MemLink, MemSink, MemSource, MemStreams, Pause};
+use vx_io_traits::Pause;
+use vx_memory::{MemClock, MemDial, MemDoor, MemLink, MemSink, MemSource, MemStreams};
 use vx_rack::{Echo, Spare};
 use vx_session::Tools;
 

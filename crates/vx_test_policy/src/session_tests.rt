@@ -9,10 +9,12 @@ use std::test::Fail;
 use vx_bus::MemBus;
 use vx_calls::Role;
 use vx_core::Core;
+use vx_door::{Door, Met};
 use vx_gate::{Gate, Pass};
 use vx_group::first_law;
 use vx_guard::{GuardEnd, GuardRoom, guarded_session};
-use vx_io::{Door, MemClock, MemDial, MemDoor, MemSink, Met, Pause};
+use vx_io_traits::Pause;
+use vx_memory::{MemClock, MemDial, MemDoor, MemSink};
 use vx_policy::Policy;
 use vx_session::{End, join};
 

@@ -5,7 +5,7 @@ ghost use Rattle.vx_portmap.specs.Boxes.{Takes, Adds};
 ghost use Rattle.vx_test_portmap.specs.Kept.{kept};
 
 use std::alloc::Global;
-use vx_io::DialOut;
+use vx_io_traits::DialOut;
 use vx_portmap::{Given, Packet, PacketBox, Packets};
 
 /// Packets that are handed out in order, and those that were given. The calls whose numbers, counted from 1 over openings, takes

@@ -4,7 +4,7 @@ use crate::boxes::MemPackets;
 use crate::tables::spelled;
 use std::alloc::{AllocError, Global};
 use std::test::Fail;
-use vx_io::{MemDoor, MemSink};
+use vx_memory::{MemDoor, MemSink};
 use vx_portmap::{MapHost, map_run};
 
 type Host = MapHost<MemDoor, MemPackets>;

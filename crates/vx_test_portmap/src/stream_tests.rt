@@ -5,7 +5,7 @@ ghost use Rattle.std.specs.Prelude.{◌<◌};
 use crate::tables::{both, padded, spelled};
 use std::alloc::{AllocError, Global};
 use std::test::Fail;
-use vx_io::MemLink;
+use vx_memory::MemLink;
 use vx_portmap::*;
 use vx_record::RecordBuf;
 

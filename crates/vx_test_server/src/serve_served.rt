@@ -10,10 +10,10 @@ use std::sync::{Arc, Wait};
 use std::test::Fail;
 use std::thread::{self, Threads};
 use vx_host::{ThreadSpawner, start_threads};
-use vx_io::{
-    Clock, Dial, DialOut, Handed, Link, MemNet, MemSink, MemSource, Pause, ReadOut, Sink, Spawner,
-    Streams, WriteOut,
+use vx_io_traits::{
+    Clock, Dial, DialOut, Handed, Link, Pause, ReadOut, Sink, Spawner, Streams, WriteOut,
 };
+use vx_memory::{MemNet, MemSink, MemSource};
 use vx_rack::{Asker, Spare};
 use vx_serve::{Logs, Serve, serve_run};
 use vx_session::Tools;

@@ -3,7 +3,7 @@ use crate::serve_served::{Ends, Job, Log, Row, Side, ends_so};
 use std::alloc::Global;
 use std::sync::Wait;
 use std::test::Fail;
-use vx_io::{Spawner, Started};
+use vx_io_traits::{Spawner, Started};
 use vx_serve::BENCH_MAX;
 
 /// Drops each work. It refuses the one of this number, counted from 1, where it isn't 0.
