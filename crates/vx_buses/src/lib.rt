@@ -26,5 +26,5 @@ pub type Buses<B> = Gates<Core<B>>;
 /// A pass of each of four gateways, in the order of their buses.
 pub type BusPass<B> = Passes<Core<B>>;
 
-/// There was no memory for the gates. The four gateways come back, in their order.
+/// There was no memory for the gates. Four gateways come back, to whose histories no group was added.
 pub type BusesRefused<B> = GatesRefused<Core<B>>;

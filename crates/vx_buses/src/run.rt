@@ -134,7 +134,7 @@ fn run<R: Wait, I: Instrument, N: Door, X: Tools, K: Sink>(
 /// - 5, nothing printed and nothing opened: there was no memory.
 /// - 6: the sink failed; a front of what was due was written.
 ///
-/// A fault of a link ends that link alone.
+/// A fault of a link ends that link alone. No clause says which instrument stands on which bus, nor that the port is that of the words.
 pub fn buses_run<R: Wait, I: Instrument, N: Door, X: Tools, K: Sink>(
     rt: &R,
     alloc: Global,

@@ -20,7 +20,7 @@ pub struct Gates<K: Kept> {
     pub three: Gate<K>,
 }
 
-/// There was no memory for the gates. The values come back, in their order.
+/// There was no memory for the gates. Four values come back, to whose histories no group was added.
 #[derive(Drop)]
 pub struct GatesRefused<K> {
     pub cores: Vec<K>,
@@ -81,8 +81,8 @@ fn start_two<K: Kept>(
 }
 
 impl<K: Kept> Gates<K> {
-    /// Gates round four values, in their order, each with an empty history, and the first pass of each. Where there is no memory for
-    /// them the values come back, in their order.
+    /// Gates round four values, each with an empty history, and the first pass of each. Where there is no memory for them four values
+    /// come back, to whose histories no group was added. Which value stands where is no clause.
     pub fn start(alloc: Global, cores: Vec<K>) -> Result<(Gates<K>, Passes<K>), GatesRefused<K>>
         requires four { length cores.items ≡ 4 }
         requires stand { All (λ core. K.stands core []) cores.items }

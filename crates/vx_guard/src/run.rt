@@ -263,7 +263,7 @@ fn run<R: Wait, N: Door + Peered, X: Tools, S: Source, K: Sink, I: Instrument>(
 /// - 6: the sink failed. Where that was in the line of a denial, no further link is served.
 /// - 7, nothing printed and nothing opened: the source of the rules failed.
 ///
-/// A fault of a link ends its session alone.
+/// A fault of a link ends its session alone. No clause says what stands on the bus, nor that the port is that of the words.
 pub fn guard_run<R: Wait, N: Door + Peered, X: Tools, S: Source, K: Sink, I: Instrument>(
     rt: &R,
     alloc: Global,

@@ -45,7 +45,7 @@ has_none _ = false
 abbrev pub is_done : List ℕ → Bool
 is_done reply = has_none (answered proc.DestroyLink (drop HEAD reply))
 
--- One more link was made. No more than LINK_MAX live at once, so there are never more to know.
+-- One more link was made. No more than LINK_MAX are known.
 abbrev pub with_made : List MadeLink → MadeLink → List MadeLink
 with_made made m = if nat_lt (length made) LINK_MAX then made ++ m ∷ [] else made
 

@@ -272,7 +272,7 @@ fn run<N: MapNet, K: Sink>(alloc: Global, words: &[String], net: &mut N, sink: &
 /// - 5, nothing printed and nothing opened: there was no memory.
 /// - 6: the sink failed; a front of what was due was written.
 ///
-/// A fault of a peer's stream ends that stream alone.
+/// A fault of a peer's stream ends that stream alone. No clause says that the port is that of the words.
 pub fn map_run<N: MapNet, K: Sink>(alloc: Global, words: &[String], net: &mut N, sink: &mut K) -> u8
     ensures { EndsRun (record {
       stands = N.stands;

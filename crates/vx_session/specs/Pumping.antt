@@ -62,8 +62,8 @@ pub record Pumps {L : Type 0} (stands : L → List ℕ → List ℕ → Type 0) 
   pub wrote : taken_records (earlier ++ last ∷ []) ≡ written ++ unsent
   pub ends : PumpEnds seen earlier last unsent seen' how
 
--- A turn looked at the SRQ line, at the moment that the clock told in it; `before` and `after` are the greatest moments that the
--- clock had told before and behind it.
+-- A turn looked at the SRQ line, at a moment that was told; `before` and `after` are the greatest moments that the clock had told
+-- before and behind it. Where the clock told a later one than before, that was it.
 pub record SamplesNow {B : Type 0} (g : Ghosts B) (before after : ℕ) (pass : PassView Group) (pass' : PassView Group) : Type 0 where
   pub told : ℕ
   pub tells : after ≡ max before told
