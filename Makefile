@@ -14,16 +14,14 @@ CLIENT = crates/vxcall/out/vxcall
 MAPPER = crates/vxmap/out/vxmap
 BUSES = crates/vxbuses/out/vxbuses
 GUARD = crates/vxguard/out/vxguard
-RATE = crates/vx_gate_rate/out/vx_gate_rate
-BUSES_RATE = crates/vx_buses_rate/out/vx_buses_rate
-LOOP = crates/vx_loop_once/out/vx_loop_once
+MEASURE = crates/vx_measure/out/vx_measure
 
-# what `make bench` measures beside this server, this gate and these buses, as 'NAME=PROGRAM .. --gate NAME=PROGRAM --buses
-# NAME=PROGRAM', and beside this player, as 'NAME=PROGRAM ..', with '--check NAME=PROGRAM ..' behind them for checkers
+# what `make bench` measures beside this server, this gate and these buses, as 'NAME=PROGRAM .. --gate NAME=COMMAND --buses
+# NAME=COMMAND', and beside this player, as 'NAME=PROGRAM ..', with '--check NAME=PROGRAM ..' behind them for checkers
 OTHERS =
 PLAYERS =
 
-.PHONY: try play serve install player checker server client mapper buses guard rate buses-rate loop test bench tables memory
+.PHONY: try play serve install player checker server client mapper buses guard measure test bench tables memory
 
 # the same script without a proof
 try:
@@ -67,30 +65,23 @@ buses:
 guard:
 	cd crates/vxguard && rm -f out/vxguard && { rt run < /dev/null > /dev/null || test -x out/vxguard; }
 
-# a program that takes turns at a gate on some threads
-rate:
-	cd crates/vx_gate_rate && rt run -- 1 1 < /dev/null > /dev/null
-
-# a program that serves one link or two at once by four buses; without words it ends with status 1
-buses-rate:
-	cd crates/vx_buses_rate && rm -f out/vx_buses_rate && { rt run < /dev/null > /dev/null || test -x out/vx_buses_rate; }
-
-# a program with a client and a gateway in it
-loop:
-	cd crates/vx_loop_once && rt run < /dev/null > /dev/null
+# a program that takes turns at a gate on some threads, serves one link or two at once by four buses, or has a client and a gateway
+# in it
+measure:
+	cd crates/vx_measure && rt run -- gate 1 1 < /dev/null > /dev/null
 
 # It takes some ten minutes, and wants a C compiler as cc and a machine that does nothing else. bench/bench.py and bench/tables.py
 # say what they print, and with which words the first takes less.
-bench: server rate buses-rate tables
-	python3 bench/bench.py --long $(OTHERS) this=$(SERVER) --gate this=$(RATE) --buses this=$(BUSES_RATE)
+bench: server measure tables
+	python3 bench/bench.py --long $(OTHERS) this=$(SERVER) --gate 'this=$(MEASURE) gate' --buses 'this=$(MEASURE) buses'
 
 # steps with full tables, long scripts, a long run from a number, and a long trace
 tables: player checker
 	python3 bench/tables.py this=$(PLAYER) $(PLAYERS) --check this=$(CHECKER)
 
 # It runs each of four programs once for each allocation that it makes, in some ten seconds, and wants a C compiler as cc.
-memory: player server client loop
-	python3 .ci/memory.py $(PLAYER) $(SERVER) $(CLIENT) $(LOOP)
+memory: player server client measure
+	python3 .ci/memory.py $(PLAYER) $(SERVER) $(CLIENT) $(MEASURE)
 
 test:
 	bash .ci/run

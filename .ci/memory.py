@@ -2,7 +2,7 @@
 """Refuses each allocation of the three programs, and of one that has a client and a gateway in it, in turn, and says in one table
 what came of it.
 
-    memory.py PLAYER SERVER CLIENT LOOP
+    memory.py PLAYER SERVER CLIENT MEASURE
 
 A program runs once for each allocation that it makes, with that one refused: `refuse.c`, which `cc` compiles, is preloaded. The
 player plays `examples/session.vxs`, the client asks `*IDN?` of a server, and the server of `examples/bench.txt`, with a log and a
@@ -79,11 +79,12 @@ def of_player(folder, player):
     return sweep(folder, run)
 
 
-def of_loop(folder, loop):
-    whole = subprocess.run([loop], stdin=subprocess.DEVNULL, capture_output=True, timeout=PATIENCE, check=True).stdout
+def of_loop(folder, measure):
+    words = [measure, "loop"]
+    whole = subprocess.run(words, stdin=subprocess.DEVNULL, capture_output=True, timeout=PATIENCE, check=True).stdout
 
     def run(number):
-        status, output = ended(folder, number, [loop])
+        status, output = ended(folder, number, words)
         return ["ended" if is_lacking(status, output, whole) else "went on"]
 
     count, counts = sweep(folder, run)
@@ -156,21 +157,21 @@ def of_server(folder, server, client):
 def main(words):
     if len(words) != 4:
         sys.exit(__doc__)
-    player, server, client, loop = [os.path.realpath(word) for word in words]
+    player, server, client, measure = [os.path.realpath(word) for word in words]
     with tempfile.TemporaryDirectory() as folder:
         subprocess.run(["cc", "-O2", "-shared", "-fPIC", "-o", f"{folder}/refuse.so", TOP / ".ci/refuse.c", "-ldl"], check=True)
         rows = [
             ("`vxplay` plays `examples/session.vxs`", of_player, (player,)),
             ("`vxcall` asks a server", of_client, (client, server)),
             ("`vxgate` serves clients", of_server, (server, client)),
-            ("`vx_loop_once`, a client over a gateway in the same program", of_loop, (loop,)),
+            ("`vx_measure loop`, a client over a gateway in the same program", of_loop, (measure,)),
         ]
         print("| | allocations | ended for want of memory | went on | of these, a client was refused and the next served |")
         print("|---|---:|---:|---:|---:|")
         failed = 0
-        for name, measure, programs in rows:
+        for name, trial, programs in rows:
             try:
-                count, counts = measure(folder, *programs)
+                count, counts = trial(folder, *programs)
             except Wrong as wrong:
                 failed += 1
                 print(f"{name}: {wrong}", file=sys.stderr)

@@ -4,9 +4,9 @@
     bench.py [OPTIONS] NAME=PROGRAM ..
 
 Each NAME is a column. PROGRAM is a `vxgate`, or a command with `{core}` and `{abort}` for its ports that starts another server,
-which has echoes at the addresses 5 to 8, or `:PORT` for such a server that runs on this host already. `--gate NAME=PROGRAM` adds
-a `vx_gate_rate` to the column, and `--buses NAME=PROGRAM` a `vx_buses_rate`, whose rows have one bus busy, and two at once by a
-connection each. All programs of a row are measured in turn, run by run, so that what else the machine does meets
+which has echoes at the addresses 5 to 8, or `:PORT` for such a server that runs on this host already. `--gate NAME=COMMAND` adds
+to the column what `vx_measure gate` measures, and `--buses NAME=COMMAND` what `vx_measure buses` does, whose rows have one bus busy,
+and two at once by a connection each. All programs of a row are measured in turn, run by run, so that what else the machine does meets
 all of them alike. Half of the rows are measured alone, and half beside as many busy threads as the machine has processors.
 `--within MINUTES` makes the runs as long as fits into so many.
 
@@ -43,8 +43,8 @@ def words():
     numbers = lambda text: [int(word) for word in text.split(",")]
     pair = lambda text: tuple(text.split("=", 1)) if "=" in text else parser.error(f"no NAME=PROGRAM: {text}")
     parser.add_argument("servers", nargs="*", type=pair, metavar="NAME=PROGRAM")
-    parser.add_argument("--gate", action="append", default=[], type=pair, metavar="NAME=PROGRAM")
-    parser.add_argument("--buses", action="append", default=[], type=pair, metavar="NAME=PROGRAM")
+    parser.add_argument("--gate", action="append", default=[], type=pair, metavar="NAME=COMMAND")
+    parser.add_argument("--buses", action="append", default=[], type=pair, metavar="NAME=COMMAND")
     parser.add_argument("--connections", type=numbers, default=[1, 2, 4, 16, 64], help="how many at once (1,2,4,16,64)")
     parser.add_argument("--writers", type=numbers, default=[1, 2], help="how many beside one connection (1,2)")
     parser.add_argument("--long", action="store_true", help="queries of 65,536 bytes, too")
@@ -115,34 +115,34 @@ def megabytes(load, port, seconds):
     return 2 * LONG * rate / 1e6, time
 
 
-def on_buses(load, program, number, seconds):
+def on_buses(load, command, number, seconds):
     """What connections to so many buses, one to each, ask of a server that serves just these."""
     port = free_port()
-    with subprocess.Popen([program, str(port), str(number)], stdin=subprocess.DEVNULL, stdout=subprocess.PIPE) as server:
+    with subprocess.Popen([*shlex.split(command), str(port), str(number)], stdin=subprocess.DEVNULL, stdout=subprocess.PIPE) as server:
         if server.stdout.readline() != b"ready\n":
-            sys.exit(f"bench: {program} doesn't listen")
+            sys.exit(f"bench: {command} doesn't listen")
         found = queries(load, port, number, seconds, buses=number)
         if server.wait(PATIENCE):
-            sys.exit(f"bench: {program}: status {server.returncode}")
+            sys.exit(f"bench: {command}: status {server.returncode}")
     return found
 
 
-def timed_turns(program, threads, turns):
+def timed_turns(command, threads, turns):
     """The seconds that so many turns of each thread take, with the start of the program."""
     began = time.monotonic()
-    said = run(program, str(threads), str(turns))
+    said = run(*shlex.split(command), str(threads), str(turns))
     if int(said) != threads * turns:
-        sys.exit(f"bench: {program} took {said.strip()} turns, and not {threads * turns}")
+        sys.exit(f"bench: {command} took {said.strip()} turns, and not {threads * turns}")
     return time.monotonic() - began
 
 
-def turns(program, threads, seconds):
+def turns(command, threads, seconds):
     """Turns a second, of as many turns as take about so long."""
     each = 100
-    while (took := timed_turns(program, threads, each)) < seconds / 4:
+    while (took := timed_turns(command, threads, each)) < seconds / 4:
         each *= 4
     each = max(1, int(each * seconds / took))
-    return threads * each / timed_turns(program, threads, each), None
+    return threads * each / timed_turns(command, threads, each), None
 
 
 def measured(figure, programs, runs):
@@ -193,11 +193,11 @@ def half(asked, load, names, how):
             row(f"MB a second, {bench.count(chr(10))} instruments, {where}", measured(figure, these, asked.runs), names)
         gates = dict(asked.gate)
         for number in asked.threads if gates else []:
-            figure = lambda program: turns(program, number, asked.seconds)
+            figure = lambda command: turns(command, number, asked.seconds)
             row(f"{counted(number, 'thread')} at the gate, {where}", measured(figure, gates, asked.runs), names)
         buses = dict(asked.buses)
         for number in BUSY_BUSES if buses else []:
-            figure = lambda program: on_buses(load, program, number, asked.seconds)
+            figure = lambda command: on_buses(load, command, number, asked.seconds)
             what = "1 bus busy" if number == 1 else f"{number} buses busy at once"
             row(f"{what}, {where}", measured(figure, buses, asked.runs), names)
     finally:

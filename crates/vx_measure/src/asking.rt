@@ -1,26 +1,16 @@
-//! A client and a gateway in one program: a text is written to an instrument that gives it back, is read again, and what came
-//! back is printed. A link or a client for which there is no memory hands back what it was to stand on, and is made of that once
-//! more. The exit status is 5 where memory runs out otherwise, and 4 where a call fails. `make memory` refuses it each allocation
-//! in turn.
-#![tactic(auto)]
-
+//! A client over a gateway of its own. A link or a client for which there is no memory hands back what it was to stand on, and is made
+//! of that once more.
 ghost use Rattle.std.specs.Prelude.{IfSome};
 ghost use Rattle.vx_loop.specs.LoopState.{IsUnconnected};
 
+use crate::status::Status;
 use std::alloc::Global;
-use std::process::ExitCode;
 use vx_488::Addr;
 use vx_client::{CallOpts, Client, ClientErr};
 use vx_core::Core;
 use vx_loop::{LoopLink, through_client};
 use vx_rack::Echo;
 use vx_sim::SimBus;
-
-/// The exit status where a call fails.
-const FAILED: u8 = 4;
-
-/// The exit status for want of memory.
-const NO_MEMORY: u8 = 5;
 
 const ABORT_PORT: u16 = 9011;
 
@@ -79,13 +69,14 @@ fn made(alloc: Global) -> Option<Client<LoopLink<Echo>>> {
     client(alloc, link)
 }
 
-fn main(rt: HostRuntime) -> ExitCode {
+/// Asks the instrument once, and prints the text where it came back.
+pub(crate) fn ask_once<R: Print + AllocGlobal>(rt: &R) -> Status {
     let Some(mut client) = made(rt.alloc()) else {
-        return ExitCode::from(NO_MEMORY);
+        return Status::Refused;
     };
     let mut into = [0u8; TEXT.len()];
     match ask(&mut client, &mut into) {
-        Ok(true) if println!(rt; "{TEXT}").is_ok() => ExitCode::SUCCESS,
-        _ => ExitCode::from(FAILED),
+        Ok(true) if println!(rt; "{TEXT}").is_ok() => Status::Done,
+        _ => Status::CallFailed,
     }
 }

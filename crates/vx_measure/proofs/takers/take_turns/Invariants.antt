@@ -1,5 +1,5 @@
 use Rattle.std.proofs.Common.{◌≡◌, ◌+◌}
-use Rattle.vx_gate_rate.proofs.takers.take_turns.Given as goal
+use Rattle.vx_measure.proofs.takers.take_turns.Given as goal
 
 -- one part went to each thread
 abbrev pub invariant-loop : goal.invariant-loop

@@ -1,11 +1,4 @@
-//! `vx_buses_rate PORT LINKS`: serves so many links that come to PORT, one or two, both at once, by four simulated buses with an echo at
-//! address 5 each. It prints `ready` once the port is open, and ends with the links. How many queries they make meanwhile is for a
-//! benchmark to measure.
-#![tactic(auto)]
-
-mod racks;
-mod serving;
-
+//! Links that come to a port, and are served by four buses.
 ghost use Rattle.std.specs.Prelude.{IfSome};
 ghost use Rattle.vx_gates.specs.Four.{Each};
 ghost use Rattle.vx_gates.specs.Passing.{passes_shown, IsFirst};
@@ -13,45 +6,15 @@ ghost use Rattle.vx_gates.specs.Standing.{gates_shown};
 
 use crate::racks::rack_of;
 use crate::serving::{Bench, Comer, serve, serve_both};
+use crate::status::Status;
+use crate::words::Links;
 use std::alloc::Global;
-use std::env::{self, Env};
-use std::process::ExitCode;
 use std::rt::Clock as SystemClock;
 use std::sync::Wait;
 use std::thread::Threads;
 use vx_buses::{BusPass, Buses, start_buses};
-use vx_io::{Accepted, Bound, Listen, Net, TcpNet, TcpPort};
+use vx_io::{Accepted, Listen, TcpPort};
 use vx_session::Room;
-
-/// The exit status where the words aren't a port and a number of links.
-const USAGE: u8 = 1;
-
-/// The exit status where the port can't be had.
-const NO_PORT: u8 = 3;
-
-/// The exit status where there is no memory, no link came, or one ended otherwise than by its own end.
-const FAILED: u8 = 5;
-
-/// How many links are served.
-#[derive(Clone, Copy)]
-enum Links {
-    One,
-    Two,
-}
-
-/// The port, and how many links.
-fn asked_of<R: Env + AllocGlobal>(rt: &R) -> Option<(u16, Links)> {
-    let words: Vec<String> = env::args(rt).ok()?.skip(1).collect(rt.alloc()).ok()?;
-    let [port, links] = words.as_slice() else {
-        return None;
-    };
-    let links = match links.as_str() {
-        "1" => Links::One,
-        "2" => Links::Two,
-        _ => return None,
-    };
-    Some((port.parse().ok()?, links))
-}
 
 /// The next link, and a room for its session.
 fn next_comer(alloc: Global, port: &mut TcpPort) -> Option<Comer> {
@@ -129,16 +92,15 @@ fn run<R: Threads + SystemClock + Wait + Copy + Sync>(
     }
 }
 
-fn main(rt: HostRuntime) -> ExitCode {
-    let Some((port, links)) = asked_of(&rt) else {
-        return ExitCode::from(USAGE);
-    };
-    let Bound::Port(mut port) = TcpNet::new(&rt).bind(port) else {
-        return ExitCode::from(NO_PORT);
-    };
-    if println!(rt; "ready").is_ok() && run(&rt, rt.alloc(), &mut port, links) {
-        ExitCode::SUCCESS
+/// Tells that the port is open, and serves the links that come there.
+pub(crate) fn serve_at<R: Threads + SystemClock + Wait + Print + AllocGlobal + Copy + Sync>(
+    rt: &R,
+    mut port: TcpPort,
+    links: Links,
+) -> Status {
+    if println!(rt; "ready").is_ok() && run(rt, rt.alloc(), &mut port, links) {
+        Status::Done
     } else {
-        ExitCode::from(FAILED)
+        Status::Refused
     }
 }

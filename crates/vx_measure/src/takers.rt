@@ -1,12 +1,16 @@
-//! The threads, and what they do to the value.
+//! Threads that take turns at a gate, and what they do to its value.
 ghost use Rattle.std.specs.Prelude.{◌≡◌, ◌+◌, ◌-◌, ◌%◌, ◌^◌, ◌<◌, ◌≤◌, [], sum, IfOk};
 ghost use Rattle.std.specs.Arc.{arc_value};
 ghost use Rattle.vx_gate.specs.Gates.{gate_of};
 
+use crate::status::Status;
 use std::alloc::{AllocError, Global};
 use std::sync::{Arc, Wait};
 use std::thread::{self, JoinHandle, Threads};
 use vx_gate::{Act, Gate, Kept, Pass};
+
+/// The most threads of a run.
+const MOST_THREADS: u32 = 64;
 
 /// The number of turns, which wraps at 2^64.
 #[derive(Drop)]
@@ -91,7 +95,7 @@ fn start(alloc: Global) -> Result<Taker, AllocError>
 }
 
 /// Lets so many threads take so many turns each, and answers how many turns that were.
-pub fn take_turns<R: Threads + Wait + Copy + Send + 'static>(
+fn take_turns<R: Threads + Wait + Copy + Send + 'static>(
     rt: R,
     alloc: Global,
     threads: u32,
@@ -110,4 +114,19 @@ pub fn take_turns<R: Threads + Wait + Copy + Send + 'static>(
         thread.join(&rt);
     }
     Ok(taker.run(&rt, 1))
+}
+
+/// Prints how many turns so many threads took, each so many.
+pub(crate) fn tell_turns<R: Threads + Wait + Print + AllocGlobal + Copy + Send + 'static>(
+    rt: R,
+    threads: u32,
+    turns: u64,
+) -> Status {
+    if threads > MOST_THREADS {
+        return Status::Usage;
+    }
+    match take_turns(rt, rt.alloc(), threads, turns) {
+        Ok(all) if println!(rt; "{all}").is_ok() => Status::Done,
+        _ => Status::Refused,
+    }
 }
