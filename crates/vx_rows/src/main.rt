@@ -1,16 +1,23 @@
-//! Plays the scripts of the folder that it runs in, and tells which of them print otherwise than is written down.
+//! Plays the scripts of the folder that it runs in, judges the traces there, and tells of which of them is printed otherwise than is
+//! written down.
 //!
-//! A file `NAME.vxs` is a script, and a file `NAME.lift` one that is lifted to version 2; a file `NAME.each` holds a script of one line in each of its lines; a file `NAME.args` has
-//! the words of a call without a script, one a line. Beside it the file `NAME.out` has what each of them must print, and behind
-//! that a last line `status N`, with the exit status. For `plug` lines there are two spare instruments of each model that takes
-//! bytes: `echo`, `slow` and `asker`.
+//! A file `NAME.vxs` is a script, and a file `NAME.lift` one that is lifted to version 2; a file `NAME.each` holds a script of one
+//! line in each of its lines; a file `NAME.args` has the words of a call without a script, one a line. Beside it the file `NAME.out`
+//! has what each of them must print, and behind that a last line `status N`, with the exit status. For `plug` lines there are two
+//! spare instruments of each model that takes bytes: `echo`, `slow` and `asker`.
+//!
+//! A file `NAME.trace` is a trace, which is judged twice: read whole, and read in pieces of a few bytes. Beside it the file
+//! `NAME.verdict` has what the check of it must print, and behind that such a last line.
 #![tactic(auto)]
+
+ghost use Rattle.std.specs.Prelude.{◌<◌};
 
 use arrayvec::ArrayString;
 use std::alloc::{AllocError, AllocFailed, Global};
 use std::fs::{self, read_dir};
 use std::io;
 use std::rt::Files;
+use vx_check::check_run;
 use vx_inst::Instrument;
 use vx_memory::{MemSink, MemSource};
 use vx_play::play_run;
@@ -18,6 +25,11 @@ use vx_rack::{Asker, Echo, NoMemory, Slow, Spare};
 
 /// How many spare instruments there are of each model.
 const SPARES: usize = 2;
+
+/// How many bytes of a trace are read at once: as many as there are, and few.
+const READ_WHOLE: usize = 65_536;
+
+const READ_FEW: usize = 7;
 
 /// An instrument of any model.
 type Boxed = Box<dyn Instrument + Send>;
@@ -90,7 +102,7 @@ fn differs(alloc: Global, words: &str, script: &[u8], written: &[u8]) -> Result<
     Ok(!is_written(alloc, sink.bytes(), status, written)?)
 }
 
-/// How many scripts were played, and how many of them print otherwise than is written down.
+/// How many scripts were played and traces judged, and how many of them print otherwise than is written down.
 #[derive(Clone, Copy, Default)]
 struct Tally {
     rows: u64,
@@ -156,6 +168,35 @@ fn play_words<R: Files + Print + AllocGlobal>(
     Ok(())
 }
 
+/// Whether a trace is judged otherwise than is written down, where at most so many bytes are read at once.
+fn is_other(alloc: Global, trace: &[u8], read: usize, written: &[u8]) -> Result<bool, AllocError>
+    requires { 0 < read }
+{
+    let mut source = MemSource::new(trace.to_vec(alloc)?, read, Vec::new(alloc));
+    let mut sink = MemSink::new(Vec::new(alloc), Vec::new(alloc));
+    let status = check_run(alloc, &[], &mut source, &mut sink);
+    Ok(!is_written(alloc, sink.bytes(), status, written)?)
+}
+
+/// Judges the trace of a file.
+fn judge<R: Files + Print + AllocGlobal>(
+    rt: &R,
+    file: &str,
+    name: &str,
+    tally: &mut Tally,
+) -> io::Result<()> {
+    let trace = fs::read(rt, file)?;
+    let written = fs::read(rt, format!(in rt.alloc(); "{name}.verdict")?)?;
+    let whole = is_other(rt.alloc(), &trace, READ_WHOLE, &written)?;
+    let pieces = is_other(rt.alloc(), &trace, READ_FEW, &written)?;
+    tally.count(whole);
+    tally.count(pieces);
+    if whole || pieces {
+        println!(rt; "differs {name}")?;
+    }
+    Ok(())
+}
+
 /// The names of the files in the folder, in order.
 fn files_of<R: Files + AllocGlobal + Clone + Drop>(rt: &R) -> io::Result<Vec<String>> {
     let mut files = Vec::new(rt.alloc());
@@ -177,6 +218,8 @@ fn main(rt: HostRuntime) -> io::Result<()> {
             play_each(&rt, name, &mut tally)?;
         } else if let Some(name) = file.strip_suffix(".args") {
             play_words(&rt, name, &mut tally)?;
+        } else if let Some(name) = file.strip_suffix(".trace") {
+            judge(&rt, file, name, &mut tally)?;
         }
     }
     let Tally { rows, differ } = tally;

@@ -1,6 +1,8 @@
-//! Tests of the player, its script, its lines and its lift.
+//! Tests of the player, its script, its lines and its lift, and of the checker of traces.
 #![tactic(auto)]
 
+#[cfg(test)]
+mod check_tests;
 #[cfg(test)]
 mod lift_tests;
 #[cfg(test)]

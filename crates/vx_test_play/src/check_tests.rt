@@ -1,0 +1,57 @@
+//! Checks of traces whose words, source or sink fail. What is found of worked traces are rows of the program `vx_rows`.
+
+use std::alloc::{AllocError, Global};
+use std::test::Fail;
+use vx_check::check_run;
+use vx_memory::{MemSink, MemSource};
+
+/// A trace that is legal.
+const LEGAL: &[u8] = b"vxtrace 2\ndone\n";
+
+/// How many words there are, a trace, the reads and the writes that fail, the status, and what is printed.
+type Row = (
+    usize,
+    &'static [u8],
+    &'static [u64],
+    &'static [u64],
+    u8,
+    &'static [u8],
+);
+
+static ROWS: [Row; 6] = [
+    (0, LEGAL, &[1], &[], 2, b""),
+    (0, LEGAL, &[3], &[], 2, b""),
+    (0, LEGAL, &[], &[1], 4, b""),
+    (0, b"done\n", &[], &[1], 4, b""),
+    // where there are words the trace isn't read
+    (1, LEGAL, &[], &[], 1, b"usage: vxcheck\n"),
+    (1, LEGAL, &[1], &[1], 4, b""),
+];
+
+/// So many empty words.
+fn words_of(alloc: Global, count: usize) -> Result<Vec<String>, AllocError> {
+    let mut words = Vec::new(alloc);
+    for _ in 0..count {
+        words.push(String::new(alloc))?;
+    }
+    Ok(words)
+}
+
+/// Whether the check of a row's trace, of which four bytes are read at once, ends as it says.
+fn ends_so(alloc: Global, row: &Row) -> Result<bool, AllocError> {
+    let (count, trace, read_fails, write_fails, status, printed) = *row;
+    let words = words_of(alloc, count)?;
+    let mut source = MemSource::new(trace.to_vec(alloc)?, 4, read_fails.to_vec(alloc)?);
+    let mut sink = MemSink::new(Vec::new(alloc), write_fails.to_vec(alloc)?);
+    let ended = check_run(alloc, &words, &mut source, &mut sink);
+    Ok(ended == status && sink.bytes() == printed)
+}
+
+#[test]
+fn failures_have_statuses(rt: HostRuntime) -> Result<(), Fail> {
+    for (place, row) in ROWS.iter().enumerate() {
+        let is_so = ends_so(rt.alloc(), row)?;
+        assert!(rt; is_so, "row {place}");
+    }
+    Ok(())
+}
