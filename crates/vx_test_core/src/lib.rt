@@ -1,18 +1,34 @@
-//! Tests of the shared gateway, its turns and its sessions.
+//! Tests of the shared gateway, its turns and its sessions, of sessions over four buses, and of those that written rules guard.
 #![tactic(auto)]
 
 #[cfg(test)]
+mod buses_crossed_tests;
+#[cfg(test)]
+mod buses_number_tests;
+#[cfg(test)]
+mod buses_run_tests;
+#[cfg(test)]
+mod buses_session_tests;
+#[cfg(test)]
+mod buses_tools;
+#[cfg(test)]
 mod core_tests;
+#[cfg(test)]
+mod crossed_session_tests;
 #[cfg(test)]
 mod exchange_tests;
 #[cfg(test)]
-mod gateways;
+mod gateway_tools;
+#[cfg(test)]
+mod guard_run_tests;
+#[cfg(test)]
+mod guard_session_tests;
 #[cfg(test)]
 mod pause_tests;
 #[cfg(test)]
-mod pump_tests;
+mod policy_tests;
 #[cfg(test)]
-mod session_crossed;
+mod pump_tests;
 #[cfg(test)]
 mod session_tests;
 #[cfg(test)]

@@ -10,7 +10,7 @@ ghost use Rattle.vx_gate.specs.Gates.{gate_of};
 ghost use Rattle.vx_group.specs.Phases.{Idle};
 ghost use Rattle.vx_session.specs.Turning.{phase_at};
 
-use crate::gateways::{PORT, Pauses, are_words};
+use crate::gateway_tools::{PORT, Pauses, are_words};
 use arrayvec::ArrayVec;
 use std::alloc::{AllocError, Global};
 use std::sync::Wait;

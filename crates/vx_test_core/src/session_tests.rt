@@ -1,7 +1,7 @@
 //! Links that are served, each by a gateway of its own. The records are those of RFC 5531, sections 9 and 11, and of VXI-11.
 ghost use Rattle.std.specs.Prelude.{◌≡◌};
 
-use crate::gateways::{Pauses, are_words, gateway, words};
+use crate::gateway_tools::{Pauses, are_words, gateway, words};
 use std::alloc::{AllocError, Global};
 use std::sync::Wait;
 use std::test::Fail;

@@ -4,7 +4,7 @@ ghost use Rattle.vx_calls.specs.Call.{call_shown};
 ghost use Rattle.vx_rules.specs.One.{may_wait};
 ghost use Rattle.vx_rules.specs.Calls.{IsShort};
 
-use crate::gateways::PORT;
+use crate::gateway_tools::PORT;
 use std::alloc::Global;
 use std::test::Fail;
 use vx_488::Addr;

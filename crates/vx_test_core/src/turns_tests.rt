@@ -2,7 +2,7 @@
 ghost use Rattle.std.specs.Prelude.{◌≡◌, ◌≤◌, length};
 ghost use Rattle.vx_exchange.specs.declared.record.TheConstants.{REPLY_ROOM};
 
-use crate::gateways::gateway;
+use crate::gateway_tools::gateway;
 use std::alloc::Global;
 use std::sync::Wait;
 use std::test::Fail;

@@ -1,5 +1,5 @@
 //! Servers whose workers never run: the causes of each status, and what is written.
-use crate::serve_served::{Ends, Job, Log, Row, Side, ends_so};
+use crate::served_tests::{Ends, Job, Log, Row, Side, ends_so};
 use std::alloc::Global;
 use std::sync::Wait;
 use std::test::Fail;

@@ -1,5 +1,5 @@
 use Rattle.std.proofs.Common.{◌∙◌, arith}
-use Rattle.vx_test_buses.proofs.crossed_tests.serve_aborter.Goals as goal
+use Rattle.vx_test_core.proofs.buses_crossed_tests.serve_aborter.Goals as goal
 
 pub returns : goal.returns
 returns g c =

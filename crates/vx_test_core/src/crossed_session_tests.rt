@@ -2,7 +2,7 @@ ghost use Rattle.std.specs.Prelude.{◌≡◌, ◌+◌, None};
 ghost use Rattle.vx_gate.specs.Gates.{gate_of};
 ghost use Rattle.std.specs.Thread.{IsSync};
 
-use crate::gateways::{Counting, Gateway, gateway};
+use crate::gateway_tools::{Counting, Gateway, gateway};
 use std::alloc::Global;
 use std::sync::Wait;
 use std::sync::atomic::{AtomicU64, Ordering};

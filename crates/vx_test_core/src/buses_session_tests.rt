@@ -1,6 +1,6 @@
 //! Links over four buses. The records are those of RFC 5531, sections 9 and 11, and of VXI-11.
 
-use crate::fleets::{NoPause, are_words, fleet, words};
+use crate::buses_tools::{NoPause, are_words, fleet, words};
 use std::alloc::Global;
 use std::sync::Wait;
 use std::test::Fail;

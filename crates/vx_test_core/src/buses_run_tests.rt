@@ -1,7 +1,7 @@
 //! What the program of four buses does, over a door in memory. The records are those of RFC 5531, sections 9 and 11, and of VXI-11.
 ghost use Rattle.std.specs.Prelude.{◌≡◌, ◌+◌, length, IfSome};
 
-use crate::fleets::{NoPause, are_words, words};
+use crate::buses_tools::{NoPause, are_words, words};
 use arrayvec::ArrayString;
 use std::alloc::{AllocError, Global};
 use std::sync::Wait;

@@ -7,7 +7,7 @@ ghost use Rattle.vx_gates.specs.Passing.{passes_shown, IsOf};
 ghost use Rattle.vx_gates.specs.Standing.{gates_shown};
 ghost use Rattle.vx_buses.specs.Holding.{four_of, Holds};
 
-use crate::fleets::{Bench, are_words, fleet};
+use crate::buses_tools::{Bench, are_words, fleet};
 use std::alloc::Global;
 use std::sync::Wait;
 use std::sync::atomic::{AtomicU64, Ordering};
