@@ -7,7 +7,8 @@ ghost use Rattle.vx_gates.specs.Passing.{passes_shown, IsOf};
 ghost use Rattle.vx_gates.specs.Standing.{gates_shown};
 ghost use Rattle.vx_buses.specs.Holding.{four_of, Holds};
 
-use crate::buses_tools::{Bench, are_words, fleet};
+use crate::buses_tools::{Bench, fleet};
+use crate::record_tools::are_words;
 use std::alloc::Global;
 use std::sync::Wait;
 use std::sync::atomic::{AtomicU64, Ordering};
@@ -17,8 +18,7 @@ use vx_buses::{BusPass, Buses, many_abort, many_link};
 use vx_calls::Role;
 use vx_gates::Passes;
 use vx_io_traits::{Link, Pause, ReadOut, WriteOut};
-use vx_memory::MemClock;
-use vx_session::{End, Linked, Room, join};
+use vx_session::{End, Linked, Room, Still, join};
 
 /// The most turns that a link waits for its flag.
 const TURNS: u64 = 1_000_000;
@@ -177,7 +177,7 @@ fn run_reader<R: Wait>(
 {
     let mut room = room;
     let mut link = link_of(alloc, Role::Core, paused);
-    let mut clock = MemClock::new(Vec::new(alloc));
+    let mut clock = Still::new();
     let mut pause = Pausing { paused, count: 0 };
     let (passes, how) = many_link(
         rt, alloc, buses, passes, &mut link, &mut clock, &mut pause, &mut room,

@@ -1,47 +1,15 @@
 //! What the program of four buses does, over a door in memory. The records are those of RFC 5531, sections 9 and 11, and of VXI-11.
 ghost use Rattle.std.specs.Prelude.{◌≡◌, ◌+◌, length, IfSome};
 
-use crate::buses_tools::{NoPause, are_words, words};
+use crate::record_tools::{are_words, words};
+use crate::run_tools::{StillTools, words_of};
 use arrayvec::ArrayString;
-use std::alloc::{AllocError, Global};
+use std::alloc::Global;
 use std::sync::Wait;
 use std::test::Fail;
 use vx_buses::buses_run;
-use vx_memory::{MemClock, MemDoor, MemLink, MemSink, MemStreams};
+use vx_memory::{MemDoor, MemSink};
 use vx_rack::{Echo, Spare};
-use vx_session::{Still, Tools};
-
-/// Clocks that tell moment 0, and no pauses.
-#[derive(Drop)]
-struct Kit {
-    alloc: Global,
-}
-
-impl Tools for Kit {
-    type C = MemClock;
-
-    type P = NoPause;
-
-    type D = Still;
-
-    type S = MemStreams<MemLink>;
-
-    fn clock(&mut self) -> MemClock {
-        MemClock::new(Vec::new(self.alloc))
-    }
-
-    fn pause(&mut self) -> NoPause {
-        NoPause { count: 0 }
-    }
-
-    fn dial(&mut self) -> Still {
-        Still::new()
-    }
-
-    fn streams(&mut self) -> MemStreams<MemLink> {
-        MemStreams::new(Vec::new(self.alloc))
-    }
-}
 
 // create_link of `gpib2,5` and of `GPIB0,5`; device_write of `A` with END on links 3 and 2; destroy_intr_chan
 const FIRST: [u32; 79] = [
@@ -199,14 +167,6 @@ static OTHER_WORDS: [&[&str]; 10] = [
     &["--help", "1"],
 ];
 
-fn words_of(alloc: Global, words: &[&str]) -> Result<Vec<String>, AllocError> {
-    let mut all = Vec::new(alloc);
-    for word in words {
-        all.push(String::from_str(alloc, word)?)?;
-    }
-    Ok(all)
-}
-
 /// Adds an echo to the rack.
 fn add(alloc: Global, rack: &mut Vec<Spare<Echo>>) -> Option<()>
     ensures { IfSome result (λ _. length rack.new.items ≡ length rack.old.items + 1) }
@@ -232,7 +192,7 @@ fn rack_of(alloc: Global) -> Option<Vec<Spare<Echo>>>
 fn door_of(alloc: Global, row: &Row) -> Result<MemDoor, Fail> {
     let mut peers = Vec::new(alloc);
     for gives in row.gives {
-        peers.push(words(alloc, gives)?)?;
+        peers.push(words(alloc, gives, &[])?)?;
     }
     let fails = row.door_fails.to_vec(alloc)?;
     Ok(MemDoor::new(alloc, peers, fails).map_err(|_| "no memory")?)
@@ -250,12 +210,12 @@ fn were_sent(door: &MemDoor, took: &[&[u32]]) -> bool {
 
 /// Whether a row comes out as it is written.
 fn comes_out<R: Wait>(rt: &R, alloc: Global, row: &Row) -> Result<bool, Fail> {
-    let mut door = door_of(alloc, row)?;
-    let mut sink = MemSink::new(Vec::new(alloc), row.sink_fails.to_vec(alloc)?);
     let words = words_of(alloc, row.words)?;
+    let mut sink = MemSink::new(Vec::new(alloc), row.sink_fails.to_vec(alloc)?);
+    let mut door = door_of(alloc, row)?;
     let rack = rack_of(alloc).ok_or("no memory")?;
-    let mut kit = Kit { alloc };
-    let status = buses_run(rt, alloc, &words, &mut door, &mut kit, &mut sink, rack);
+    let mut tools = StillTools { alloc };
+    let status = buses_run(rt, alloc, &words, &mut door, &mut tools, &mut sink, rack);
     let as_written = status == row.status && sink.bytes() == row.text.as_bytes();
     Ok(as_written && were_sent(&door, row.took))
 }

@@ -1,12 +1,13 @@
 //! Links over four buses. The records are those of RFC 5531, sections 9 and 11, and of VXI-11.
 
-use crate::buses_tools::{NoPause, are_words, fleet, words};
+use crate::buses_tools::fleet;
+use crate::record_tools::{are_words, words};
 use std::alloc::Global;
 use std::sync::Wait;
 use std::test::Fail;
 use vx_buses::many_link;
-use vx_memory::{MemClock, MemLink};
-use vx_session::{End, Linked, Room};
+use vx_memory::MemLink;
+use vx_session::{End, Linked, Room, Still};
 
 // create_link of `gpib2,5` and of `GPIB0,5`; device_write of `A` with END on links 3 and 2; destroy_intr_chan; device_read on link 3, and
 // on link 1 with no time
@@ -28,16 +29,13 @@ const TOOK: [u32; 69] = [
 ];
 
 /// Serves a link by four gateways of its own.
-fn serve<R: Wait>(
-    rt: &R,
-    alloc: Global,
-    link: &mut MemLink,
-    clock: &mut MemClock,
-    room: &mut Room,
-) -> Option<Linked> {
+fn serve<R: Wait>(rt: &R, alloc: Global, link: &mut MemLink, room: &mut Room) -> Option<Linked> {
     let (buses, passes) = fleet(alloc)?;
-    let mut pause = NoPause { count: 0 };
-    let (_passes, how) = many_link(rt, alloc, &buses, passes, link, clock, &mut pause, room);
+    let mut clock = Still::new();
+    let mut pause = Still::new();
+    let (_passes, how) = many_link(
+        rt, alloc, &buses, passes, link, &mut clock, &mut pause, room,
+    );
     Some(how)
 }
 
@@ -45,10 +43,10 @@ fn serve<R: Wait>(
 fn calls_go_to_their_buses(rt: HostRuntime) -> Result<(), Fail> {
     let alloc = rt.alloc();
     let mut room = Room::new(alloc).map_err(|_| "no memory")?;
-    let mut link = MemLink::new(words(alloc, &GIVES)?, 100, Vec::new(alloc), Vec::new(alloc));
-    let mut clock = MemClock::new(Vec::new(alloc));
-    let how = serve(&rt, alloc, &mut link, &mut clock, &mut room);
-    let came = (how, are_words(link.bytes(), &TOOK));
-    assert_eq!(rt; came, (Some(Linked::Ended(End::Closed)), true));
+    let gives = words(alloc, &GIVES, &[])?;
+    let mut link = MemLink::new(gives, 100, Vec::new(alloc), Vec::new(alloc));
+    let how = serve(&rt, alloc, &mut link, &mut room);
+    let is_told = are_words(link.bytes(), &TOOK);
+    assert!(rt; how == Some(Linked::Ended(End::Closed)) && is_told);
     Ok(())
 }

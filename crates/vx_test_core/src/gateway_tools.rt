@@ -1,13 +1,17 @@
-//! What the tests of turns, sessions and pumps share.
-ghost use Rattle.std.specs.Prelude.{◌≡◌, IfSome};
+//! Gateways, and what is outside of their sessions.
+ghost use Rattle.std.specs.Prelude.{◌≡◌, [], IfSome};
 ghost use Rattle.vx_gate.specs.Gates.{gate_of};
+ghost use Rattle.vx_group.specs.Groups.{StandsFor};
 
-use std::alloc::{AllocError, Global};
+use std::alloc::Global;
+use vx_488::Addr;
 use vx_bus::MemBus;
 use vx_core::Core;
 use vx_gate::{Gate, Pass};
 use vx_group::first_law;
 use vx_io_traits::{Clock, Pause};
+use vx_rack::Echo;
+use vx_sim::SimBus;
 
 /// The port of the abort channel.
 pub(crate) const PORT: u16 = 9011;
@@ -37,24 +41,35 @@ pub(crate) fn gateway(alloc: Global, holds: &[u64]) -> Option<(Gateway, Turn)>
     }
 }
 
-/// Numbers as words of a record, and bytes behind them.
-pub(crate) fn words(alloc: Global, numbers: &[u32], rest: &[u8]) -> Result<Vec<u8>, AllocError> {
-    let mut bytes = Vec::new(alloc);
-    for number in numbers {
-        bytes.extend_from_slice(&number.to_be_bytes())?;
+/// An instrument that gives back what it is sent stands at 5, with this status byte.
+fn hang(bus: &mut SimBus<Echo>, echo: Echo, status: u8) -> bool
+    ensures { bus.new.means ≡ bus.old.means }
+{
+    let at = Addr { p: 5, s: None };
+    match bus.attach_box(at, echo) {
+        Err(_) => false,
+        Ok(()) => match bus.set_status(at, status) {
+            Err(_) => false,
+            Ok(()) => true,
+        },
     }
-    bytes.extend_from_slice(rest)?;
-    Ok(bytes)
 }
 
-/// Whether bytes are these numbers as words of a record.
-pub(crate) fn are_words(bytes: &[u8], numbers: &[u32]) -> bool {
-    let (words, rest) = bytes.as_chunks::<4>();
-    let mut same = words.len() == numbers.len() && rest.is_empty();
-    for (word, number) in words.iter().zip(numbers) {
-        same = u32::from_be_bytes(*word) == *number && same;
+/// A gateway with nothing in it, over a bus with such an instrument, which asks for service where its status byte has the bit 0x40.
+pub(crate) fn echo_core(alloc: Global, status: u8) -> Option<Core<SimBus<Echo>>>
+    ensures { IfSome result (λ core. StandsFor core.fine []) }
+{
+    first_law();
+    let Ok(echo) = Echo::new(alloc) else {
+        return None;
+    };
+    let Ok(mut bus) = SimBus::new(alloc) else {
+        return None;
+    };
+    if !hang(&mut bus, echo, status) {
+        return None;
     }
-    same
+    Core::start(alloc, bus, PORT).ok()
 }
 
 /// Counts its pauses.

@@ -1,56 +1,15 @@
 //! What the guard's program does, over a door in memory, each of whose peers is 127.0.0.1.
 ghost use Rattle.std.specs.Prelude.{◌≡◌, IfSome, vec_len};
 
-use crate::words::{are_words, words};
+use crate::record_tools::{are_words, words};
+use crate::run_tools::{StillTools, words_of};
 use arrayvec::ArrayString;
 use std::alloc::{AllocError, Global};
 use std::sync::Wait;
 use std::test::Fail;
 use vx_guard::guard_run;
-use vx_io_traits::Pause;
-use vx_memory::{MemClock, MemDial, MemDoor, MemLink, MemSink, MemSource, MemStreams};
+use vx_memory::{MemDoor, MemSink, MemSource};
 use vx_rack::{Echo, Spare};
-use vx_session::Tools;
-
-/// Makes no pause.
-#[derive(Drop)]
-struct NoPause;
-
-impl Pause for NoPause {
-    fn pause(&mut self) {}
-}
-
-/// A clock that stays at 0, and dials that stand.
-#[derive(Drop)]
-struct MemTools {
-    alloc: Global,
-}
-
-impl Tools for MemTools {
-    type C = MemClock;
-
-    type P = NoPause;
-
-    type D = MemDial;
-
-    type S = MemStreams<MemLink>;
-
-    fn clock(&mut self) -> MemClock {
-        MemClock::new(Vec::new(self.alloc))
-    }
-
-    fn pause(&mut self) -> NoPause {
-        NoPause
-    }
-
-    fn dial(&mut self) -> MemDial {
-        MemDial::new(Vec::new(self.alloc), Vec::new(self.alloc))
-    }
-
-    fn streams(&mut self) -> MemStreams<MemLink> {
-        MemStreams::new(Vec::new(self.alloc))
-    }
-}
 
 /// The words; the rules, so many times, and so many `#` behind them; how many peers there are, each of which gives the same; which
 /// reads of the rules fail, which calls of the door, and which writes to the sink; the status, what is printed, how many peers were
@@ -328,14 +287,6 @@ static ROWS: [Row; 27] = [
     },
 ];
 
-fn words_of(alloc: Global, words: &[&str]) -> Result<Vec<String>, AllocError> {
-    let mut all = Vec::new(alloc);
-    for word in words {
-        all.push(String::from_str(alloc, word)?)?;
-    }
-    Ok(all)
-}
-
 /// The text of the rules of a row.
 fn text_of(alloc: Global, row: &Row) -> Result<Vec<u8>, AllocError> {
     let mut text = Vec::new(alloc);
@@ -352,7 +303,7 @@ fn text_of(alloc: Global, row: &Row) -> Result<Vec<u8>, AllocError> {
 fn door_of(alloc: Global, row: &Row) -> Option<MemDoor> {
     let mut peers = Vec::new(alloc);
     for _ in 0..row.peers {
-        peers.push(words(alloc, row.gives).ok()?).ok()?;
+        peers.push(words(alloc, row.gives, &[]).ok()?).ok()?;
     }
     MemDoor::new(alloc, peers, row.door_fails.to_vec(alloc).ok()?).ok()
 }
@@ -386,17 +337,10 @@ fn went<R: Wait>(rt: &R, alloc: Global, row: &Row) -> Option<bool> {
     let mut rules = MemSource::new(text, 1_000_000, row.source_fails.to_vec(alloc).ok()?);
     let mut sink = MemSink::new(Vec::new(alloc), row.sink_fails.to_vec(alloc).ok()?);
     let mut door = door_of(alloc, row)?;
-    let mut tools = MemTools { alloc };
     let rack = rack_of(alloc)?;
+    let mut tools = StillTools { alloc };
     let status = guard_run(
-        rt,
-        alloc,
-        words.as_slice(),
-        &mut rules,
-        &mut door,
-        &mut tools,
-        &mut sink,
-        rack,
+        rt, alloc, &words, &mut rules, &mut door, &mut tools, &mut sink, rack,
     );
     Some(status == row.status && sink.bytes() == row.text && met_so(&door, row))
 }

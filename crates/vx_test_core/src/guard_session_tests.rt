@@ -1,37 +1,16 @@
 //! Sessions that are guarded by rules, each by a gateway of its own. The records are those of RFC 5531, sections 9 and 11, and of VXI-11.
-ghost use Rattle.std.specs.Prelude.{◌≡◌, IfSome};
-ghost use Rattle.vx_gate.specs.Gates.{gate_of};
 
-use crate::words::{are_words, words};
+use crate::gateway_tools::gateway;
+use crate::record_tools::{are_words, words};
 use std::alloc::Global;
 use std::sync::Wait;
 use std::test::Fail;
-use vx_bus::MemBus;
 use vx_calls::Role;
-use vx_core::Core;
 use vx_door::{Door, Met};
-use vx_gate::{Gate, Pass};
-use vx_group::first_law;
 use vx_guard::{GuardEnd, GuardRoom, guarded_session};
-use vx_io_traits::Pause;
-use vx_memory::{MemClock, MemDial, MemDoor, MemSink};
+use vx_memory::{MemDoor, MemSink};
 use vx_policy::Policy;
-use vx_session::{End, join};
-
-/// The port of the abort channel.
-const PORT: u16 = 9011;
-
-/// Makes no pause.
-#[derive(Drop)]
-struct Pauses {
-    count: u64,
-}
-
-impl Pause for Pauses {
-    fn pause(&mut self) {
-        self.count = self.count.saturating_add(1);
-    }
-}
+use vx_session::{End, Still, join};
 
 /// Rules, what a peer of 127.0.0.1 sends, which writes to the note fail, how its session ends, what it is sent, and the note.
 #[derive(Clone, Copy)]
@@ -123,29 +102,10 @@ static ROWS: [Row; 6] = [
     },
 ];
 
-type Gateway = Gate<Core<MemBus>>;
-
-/// A gate round a gateway with nothing in it, and its pass.
-fn gateway(alloc: Global) -> Option<(Gateway, Pass<Core<MemBus>>)>
-    ensures gate { IfSome result (λ r. r.1.gate ≡ gate_of r.0) }
-{
-    first_law();
-    let Ok(bus) = MemBus::new(alloc, Vec::new(alloc), Vec::new(alloc), Vec::new(alloc)) else {
-        return None;
-    };
-    let Ok(core) = Core::start(alloc, bus, PORT) else {
-        return None;
-    };
-    match Gate::start(alloc, core) {
-        Ok(started) => Some(started),
-        Err(_) => None,
-    }
-}
-
 /// A door that met a peer which gives these words.
 fn met(alloc: Global, gives: &[u32]) -> Option<MemDoor> {
     let mut peers = Vec::new(alloc);
-    peers.push(words(alloc, gives).ok()?).ok()?;
+    peers.push(words(alloc, gives, &[]).ok()?).ok()?;
     let mut door = MemDoor::new(alloc, peers, Vec::new(alloc)).ok()?;
     match door.next() {
         Met::Peer => Some(door),
@@ -153,35 +113,46 @@ fn met(alloc: Global, gives: &[u32]) -> Option<MemDoor> {
     }
 }
 
-/// Has the session of a row, and answers whether it went as the row says.
-fn went<R: Wait>(rt: &R, alloc: Global, row: &Row) -> Option<bool> {
-    let (gate, pass) = gateway(alloc)?;
-    if row.rules.len() > 1_048_576 {
+/// The policy of a row's rules.
+fn policy_of(alloc: Global, rules: &[u8]) -> Option<Policy> {
+    if rules.len() > 1_048_576 {
         return None;
     }
-    let policy = Policy::from_text(alloc, row.rules).ok()?;
-    let mut door = met(alloc, row.gives)?;
-    let mut clock = MemClock::new(Vec::new(alloc));
-    let mut dial = MemDial::new(Vec::new(alloc), Vec::new(alloc));
-    let mut room = GuardRoom::new(alloc).ok()?;
-    let mut note = MemSink::new(Vec::new(alloc), row.note_fails.to_vec(alloc).ok()?);
+    Policy::from_text(alloc, rules).ok()
+}
+
+/// Has the session of a peer at a gateway of its own, and answers how it ended.
+fn serve<R: Wait>(
+    rt: &R,
+    alloc: Global,
+    policy: &Policy,
+    door: &mut MemDoor,
+    room: &mut GuardRoom,
+    note: &mut MemSink,
+) -> Option<GuardEnd> {
+    let (gate, pass) = gateway(alloc, &[])?;
     let (pass, joined) = join(rt, alloc, &gate, pass, Role::Core);
-    let conn = joined.ok()?;
-    let (_, how) = guarded_session(
-        rt,
-        &gate,
-        pass,
-        conn,
-        &policy,
-        &mut door,
-        &mut clock,
-        &mut Pauses { count: 0 },
-        &mut dial,
-        &mut room,
-        &mut note,
+    let Ok(conn) = joined else {
+        return None;
+    };
+    let mut clock = Still::new();
+    let mut pause = Still::new();
+    let mut dial = Still::new();
+    let (_pass, how) = guarded_session(
+        rt, &gate, pass, conn, policy, door, &mut clock, &mut pause, &mut dial, room, note,
     );
-    let took = door.sent(0)?;
-    Some(how == row.how && are_words(took, row.took) && note.bytes() == row.note)
+    Some(how)
+}
+
+/// Has the session of a row, and answers whether it went as the row says.
+fn went<R: Wait>(rt: &R, alloc: Global, row: &Row) -> Option<bool> {
+    let policy = policy_of(alloc, row.rules)?;
+    let mut note = MemSink::new(Vec::new(alloc), row.note_fails.to_vec(alloc).ok()?);
+    let mut room = GuardRoom::new(alloc).ok()?;
+    let mut door = met(alloc, row.gives)?;
+    let how = serve(rt, alloc, &policy, &mut door, &mut room, &mut note);
+    let took = door.sent(0).unwrap_or(&[0]);
+    Some(how == Some(row.how) && are_words(took, row.took) && note.bytes() == row.note)
 }
 
 #[test]

@@ -30,6 +30,10 @@ mod policy_tests;
 #[cfg(test)]
 mod pump_tests;
 #[cfg(test)]
+mod record_tools;
+#[cfg(test)]
+mod run_tools;
+#[cfg(test)]
 mod session_tests;
 #[cfg(test)]
 mod slice_tests;

@@ -1,7 +1,8 @@
 //! How often a session pauses: at each poll behind which its call waits for a lock or the bus, at none behind which the call's
 //! slice of 256 transfers is full, and once behind a call of more than a slice. The records are those of RFC 5531, sections 9 and
 //! 11, and of VXI-11.
-use crate::gateway_tools::{Counting, Pauses, are_words, gateway, words};
+use crate::gateway_tools::{Counting, Pauses, gateway};
+use crate::record_tools::{are_words, words};
 use std::alloc::{AllocError, Global};
 use std::sync::Wait;
 use std::test::Fail;

@@ -200,7 +200,7 @@ fn calls(rt: HostRuntime) -> Result<(), Fail> {
         let verdict = judged(rt.alloc(), text, peer, proc, at);
         assert!(rt;
             verdict == Some(Verdict { allow, rule }),
-            "{text:?} {verdict:?}"
+            "{text:?} {peer:x}"
         );
     }
     Ok(())

@@ -10,18 +10,17 @@ ghost use Rattle.vx_gate.specs.Gates.{gate_of};
 ghost use Rattle.vx_group.specs.Phases.{Idle};
 ghost use Rattle.vx_session.specs.Turning.{phase_at};
 
-use crate::gateway_tools::{PORT, Pauses, are_words};
+use crate::gateway_tools::{Pauses, echo_core};
+use crate::record_tools::are_words;
 use arrayvec::ArrayVec;
 use std::alloc::{AllocError, Global};
 use std::sync::Wait;
 use std::test::Fail;
-use vx_488::Addr;
 use vx_bus_traits::Bus;
 use vx_calls::{CallRef, Handle, Role};
 use vx_core::Core;
 use vx_exchange::{PollEnd, REPLY_ROOM};
 use vx_gate::{Gate, Pass, Turns};
-use vx_group::first_law;
 use vx_memory::{MemClock, MemLink};
 use vx_rack::Echo;
 use vx_session::{PumpEnd, come, join, pump, sample_turn, settle};
@@ -29,37 +28,11 @@ use vx_sim::SimBus;
 
 type Asking = Core<SimBus<Echo>>;
 
-/// An instrument stands at 5, and asks for service.
-fn hang(bus: &mut SimBus<Echo>, echo: Echo) -> bool
-    ensures { bus.new.means ≡ bus.old.means }
-{
-    let at = Addr { p: 5, s: None };
-    match bus.attach_box(at, echo) {
-        Err(_) => false,
-        Ok(()) => match bus.set_status(at, 0x40) {
-            Err(_) => false,
-            Ok(()) => true,
-        },
-    }
-}
-
 /// A gate round a gateway whose bus has an instrument that asks for service, and its pass.
-fn gateway(alloc: Global) -> Option<(Gate<Asking>, Pass<Asking>)>
+fn asking(alloc: Global) -> Option<(Gate<Asking>, Pass<Asking>)>
     ensures { IfSome result (λ r. r.1.gate ≡ gate_of r.0) }
 {
-    first_law();
-    let Ok(echo) = Echo::new(alloc) else {
-        return None;
-    };
-    let Ok(mut bus) = SimBus::new(alloc) else {
-        return None;
-    };
-    if !hang(&mut bus, echo) {
-        return None;
-    }
-    let Ok(core) = Core::start(alloc, bus, PORT) else {
-        return None;
-    };
+    let core = echo_core(alloc, 0x40)?;
     match Gate::start(alloc, core) {
         Ok(started) => Some(started),
         Err(_) => None,
@@ -209,7 +182,7 @@ fn run_pump<R: Wait>(
 ) -> Option<PumpEnd>
     requires room { REPLY_ROOM ≤ length reply.old }
 {
-    let (gate, pass) = gateway(alloc)?;
+    let (gate, pass) = asking(alloc)?;
     pump_enabled(rt, alloc, &gate, pass, chan, link, reply)
 }
 

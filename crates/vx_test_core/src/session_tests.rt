@@ -1,7 +1,8 @@
 //! Links that are served, each by a gateway of its own. The records are those of RFC 5531, sections 9 and 11, and of VXI-11.
 ghost use Rattle.std.specs.Prelude.{◌≡◌};
 
-use crate::gateway_tools::{Pauses, are_words, gateway, words};
+use crate::gateway_tools::{Pauses, gateway};
+use crate::record_tools::{are_words, words};
 use std::alloc::{AllocError, Global};
 use std::sync::Wait;
 use std::test::Fail;
@@ -348,7 +349,7 @@ fn aborts_a_link_that_is_not_there(rt: HostRuntime) -> Result<(), Fail> {
     let mut room = Room::new(alloc).map_err(|_| "no memory")?;
     let mut link = link_of(alloc, &gives, &[], 4096, &[])?;
     let how = serve_abort(&rt, alloc, &mut link, &mut room);
-    let came = (how, are_words(link.bytes(), &took));
-    assert_eq!(rt; came, (Some(Linked::Ended(End::Closed)), true));
+    let is_told = are_words(link.bytes(), &took);
+    assert!(rt; how == Some(Linked::Ended(End::Closed)) && is_told);
     Ok(())
 }

@@ -4,15 +4,12 @@ ghost use Rattle.vx_calls.specs.Call.{call_shown};
 ghost use Rattle.vx_rules.specs.One.{may_wait};
 ghost use Rattle.vx_rules.specs.Calls.{IsShort};
 
-use crate::gateway_tools::PORT;
+use crate::gateway_tools::{PORT, echo_core};
 use std::alloc::Global;
 use std::test::Fail;
-use vx_488::Addr;
 use vx_bus::MemBus;
 use vx_calls::{CallRef, Role};
 use vx_core::Core;
-use vx_rack::Echo;
-use vx_sim::SimBus;
 
 /// Polls the call of connection 1, and tells whether that began its turn; none where it has no call.
 fn polled(core: &mut Core<MemBus>) -> Option<bool> {
@@ -87,36 +84,16 @@ fn polls_that_begin(rt: HostRuntime) -> Result<(), Fail> {
     Ok(())
 }
 
-/// An instrument stands at 5, with this status byte.
-fn hang(bus: &mut SimBus<Echo>, echo: Echo, status: u8) -> bool
-    ensures { bus.new.means ≡ bus.old.means }
-{
-    let at = Addr { p: 5, s: None };
-    match bus.attach_box(at, echo) {
-        Err(_) => false,
-        Ok(()) => match bus.set_status(at, status) {
-            Err(_) => false,
-            Ok(()) => true,
-        },
-    }
-}
-
 /// The level of SRQ that is told before a sample and behind it, where an instrument has this status byte.
-fn levels(alloc: Global, status: u8) -> Result<[bool; 2], Fail> {
-    let echo = Echo::new(alloc)?;
-    let mut bus = SimBus::new(alloc)?;
-    if !hang(&mut bus, echo, status) {
-        return Err("not attached".into());
-    }
-    let mut core = Core::start(alloc, bus, PORT).map_err(|_| "no memory")?;
+fn levels(alloc: Global, status: u8) -> Option<[bool; 2]> {
+    let mut core = echo_core(alloc, status)?;
     let before = core.level();
     core.sample(0);
-    Ok([before, core.level()])
+    Some([before, core.level()])
 }
 
 #[test]
-fn sampled_levels(rt: HostRuntime) -> Result<(), Fail> {
-    let told = [levels(rt.alloc(), 0x40)?, levels(rt.alloc(), 0)?];
-    assert_eq!(rt; told, [[false, true], [false, false]]);
-    Ok(())
+fn sampled_levels(rt: HostRuntime) {
+    let told = [levels(rt.alloc(), 0x40), levels(rt.alloc(), 0)];
+    assert_eq!(rt; told, [Some([false, true]), Some([false, false])]);
 }
