@@ -11,66 +11,45 @@ import subprocess
 import sys
 import time
 
-CORE, ABORT = 9010, 9011
-PATIENCE = 60  # seconds
+import rpc
+from rpc import record, words
+from serving import PATIENCE, Program
+
+MAPPER = 100000
+CORE, ABORT = 9010, 9011  # the ports that it tells
 SILENCE = 30  # seconds after which a peer that says nothing is left
-MAPPINGS = (1, 0x0607AF, 1, 6, CORE, 1, 0x0607B0, 1, 6, ABORT, 0)
+MAPPINGS = (1, rpc.CORE, 1, 6, CORE, 1, rpc.ABORT, 1, 6, ABORT, 0)
 
 
-def words(*numbers):
-    return struct.pack(f">{len(numbers)}I", *numbers)
-
-
-def call(procedure, *arguments, xid=9, program=100000, version=2, rpc=2):
-    return words(xid, 0, rpc, program, version, procedure, 0, 0, 0, 0, *arguments)
+def call(procedure, *arguments, xid=9, program=MAPPER, version=2, rpc_version=2):
+    return rpc.call(xid, program, procedure, *arguments, version=version, rpc=rpc_version)
 
 
 def done(*results, xid=9):
-    return words(xid, 1, 0, 0, 0, 0, *results)
+    return rpc.reply(xid, *results)
 
 
-def refused(*numbers, xid=9):
-    return words(xid, 1, 0, 0, 0, *numbers)
+def refused(status, *numbers):
+    return rpc.reply(9, *numbers, status=status)
 
 
-def record(message):
-    return words(0x80000000 | len(message)) + message
+class Mapper(Program):
+    """A mapper that serves so many."""
 
+    first_line = "mapping {}\n"
 
-def free_port(kind):
-    with socket.socket(type=kind) as one:
-        one.bind(("127.0.0.1", 0))
-        return one.getsockname()[1]
-
-
-class Mapper:
-    """A mapper that serves so many, in a `with` block."""
-
-    def __init__(self, program, word, number):
+    def __init__(self, program, word, number, tells=(CORE, ABORT), ports=None):
+        super().__init__(lambda port: [program, word, *map(str, (port, *tells, number))], ports=ports)
         self.kind = socket.SOCK_STREAM if word == "stream" else socket.SOCK_DGRAM
-        self.port = free_port(self.kind)
-        self.words = [program, word, str(self.port), str(CORE), str(ABORT), str(number)]
-
-    def __enter__(self):
-        self.process = subprocess.Popen(self.words, stdout=subprocess.PIPE)
-        wanted = f"mapping {self.port}\n".encode()
-        assert self.process.stdout.readline() == wanted, "the port isn't open"
-        return self
-
-    def __exit__(self, *_):
-        self.process.kill()
-        self.process.wait()
-        self.process.stdout.close()
 
     def peer(self):
         peer = socket.socket(type=self.kind)
         peer.settimeout(PATIENCE)
-        peer.connect(("127.0.0.1", self.port))
+        peer.connect(("127.0.0.1", *self.ports))
         return peer
 
-    def ended(self, number):
-        assert self.process.wait(PATIENCE) == 0, "another status"
-        assert self.process.stdout.read() == f"served {number}\n".encode(), "another number"
+    def expect_served(self, number):
+        self.expect_end(f"served {number}\n")
 
 
 def read_all(peer):
@@ -89,22 +68,22 @@ def asked(mapper, stream):
         return read_all(peer)
 
 
-GETPORT = call(3, 0x0607AF, 1, 6, 0)
+GETPORT = call(3, rpc.CORE, 1, 6, 0)
 
 # messages and their replies, or none
 ANSWERS = [
     (GETPORT, done(CORE)),
-    (call(3, 0x0607B0, 1, 6, 7), done(ABORT)),
-    (call(3, 0x0607AF, 1, 17, 0), done(0)),
-    (call(3, 0x0607AF, 2, 6, 0), done(0)),
+    (call(3, rpc.ABORT, 1, 6, 7), done(ABORT)),
+    (call(3, rpc.CORE, 1, 17, 0), done(0)),
+    (call(3, rpc.CORE, 2, 6, 0), done(0)),
     (call(0), done()),
     (call(4), done(*MAPPINGS)),
     (call(1, 1, 2, 3, 4), refused(3)),
-    (call(2, 0x0607AF, 1, 6, 0), refused(3)),
+    (call(2, rpc.CORE, 1, 6, 0), refused(3)),
     (call(5, 1, 2, 3, 4), refused(3)),
     (call(0, version=3), refused(2, 2, 2)),
     (call(0, program=100003), refused(1)),
-    (call(0, rpc=3), words(9, 1, 1, 0, 2, 2)),
+    (call(0, rpc_version=3), words(9, 1, 1, 0, 2, 2)),
     (call(3, 1, 2), refused(4)),
     (call(4, 0), refused(4)),
 ]
@@ -115,7 +94,7 @@ def on_one_stream(program):
         stream = b"".join(record(message) for message, _ in ANSWERS)
         wanted = b"".join(record(reply) for _, reply in ANSWERS)
         assert asked(mapper, stream) == wanted, "another answer"
-        mapper.ended(1)
+        mapper.expect_served(1)
 
 
 def byte_by_byte(program):
@@ -132,7 +111,7 @@ def by_packets(program):
         for message, reply in ANSWERS:
             peer.send(message)
             assert peer.recv(65536) == reply, "another answer"
-        mapper.ended(len(ANSWERS))
+        mapper.expect_served(len(ANSWERS))
 
 
 def two_senders(program):
@@ -149,7 +128,7 @@ def packets_without_an_answer(program):
         # of the long one the first 1,024 bytes are read, which are a call with arguments too many
         assert peer.recv(65536) == refused(4), "another answer to a long packet"
         assert peer.recv(65536) == done(CORE), "another answer"
-        mapper.ended(5)
+        mapper.expect_served(5)
 
 
 def hostile_streams(program):
@@ -158,7 +137,7 @@ def hostile_streams(program):
         for stream in streams:
             assert asked(mapper, stream) == b"", "junk is answered"
         assert asked(mapper, record(GETPORT)) == record(done(CORE)), "the next peer isn't served"
-        mapper.ended(len(streams) + 1)
+        mapper.expect_served(len(streams) + 1)
 
 
 def sixteen_mebibytes(program):
@@ -173,7 +152,7 @@ def sixteen_mebibytes(program):
             except OSError:
                 pass  # the mapper closed the stream behind 16 MiB
         assert asked(mapper, record(GETPORT)) == record(done(CORE)), "the next peer isn't served"
-        mapper.ended(2)
+        mapper.expect_served(2)
 
 
 def a_peer_that_vanishes(program):
@@ -188,12 +167,12 @@ def a_silent_peer(program):
     with Mapper(program, "stream", 2) as mapper, mapper.peer():
         start = time.monotonic()
         assert asked(mapper, record(GETPORT)) == record(done(CORE)), "the next peer isn't served"
-        assert SILENCE - 5 < time.monotonic() - start < SILENCE + 15, "after another time"
+        assert SILENCE - 5 < time.monotonic() - start < SILENCE + 30, "after another time"
 
 
 def a_taken_port(program):
     with Mapper(program, "stream", 1) as mapper:
-        done = subprocess.run(mapper.words, capture_output=True, timeout=PATIENCE)
+        done = subprocess.run(mapper.words(*mapper.ports), capture_output=True, timeout=PATIENCE)
         assert (done.returncode, done.stdout) == (3, b""), "a taken port is served"
     done = subprocess.run([program, "packets", "1", "2", "3"], capture_output=True, timeout=PATIENCE)
     assert (done.returncode, done.stdout) == (1, b"usage: vxmap KIND PORT CORE ABORT N\n"), "other words are taken"
