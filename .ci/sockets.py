@@ -16,7 +16,6 @@ words by RFC 5531 (headers), RFC 4506 (values) and VXI-11 1.0 (arguments and res
 """
 import ctypes
 import os
-import random
 import re
 import resource
 import select
@@ -24,6 +23,7 @@ import shlex
 import shutil
 import signal
 import socket
+import statistics
 import struct
 import subprocess
 import sys
@@ -31,20 +31,22 @@ import tempfile
 import threading
 import time
 from concurrent.futures import ThreadPoolExecutor
-from contextlib import ExitStack, contextmanager
+from contextlib import ExitStack, contextmanager, suppress
+
+import rpc
+from rpc import ABORT, CORE, CREATE_LINK, END, INTERRUPT, LAST, READ, WRITE
+from serving import PATIENCE, REFUSED, Program, Taken, at_free_ports, bound, free_ports, port_of, sockets_at
 
 HOST = "127.0.0.1"
-PATIENCE = 20  # seconds in which whatever is waited for has to come
-CASE_SECONDS = 300
-BUILD_SECONDS = 900
+CASE_SECONDS = 900
+BUILD_SECONDS = 1800
 
-# programs and procedures of VXI-11 1.0, and procedure numbers
-CORE, ABORT, INTERRUPT = 0x0607AF, 0x0607B0, 0x0607B1
-CREATE_LINK, WRITE, READ, READSTB, LOCK, UNLOCK, ENABLE_SRQ = 10, 11, 12, 13, 18, 19, 20
+# further procedures of VXI-11 1.0
+READSTB, LOCK, UNLOCK, ENABLE_SRQ = 13, 18, 19, 20
 DESTROY_LINK, CREATE_INTR_CHAN, DESTROY_INTR_CHAN = 23, 25, 26
 DEVICE_ABORT, INTR_SRQ = 1, 30
 
-WAITLOCK, END = 0x01, 0x08  # flags of a call
+WAITLOCK = 0x01  # a flag of a call
 BY_COUNT, BY_END = 1, 4  # reasons of a read
 LINK_MAX, WRITE_MAX, READ_MAX, RECORD_MAX = 1024, 262144, 65536, 263168  # links, and bytes of a write, of a read, of a record
 
@@ -65,27 +67,12 @@ started = []  # the processes that this test started
 # Records
 
 
-def xdr(value):
-    """A word, or an opaque: its length, its bytes, and zero bytes up to a multiple of 4."""
-    if isinstance(value, int):
-        return struct.pack(">I", value)
-    return struct.pack(">I", len(value)) + value + bytes(-len(value) % 4)
-
-
-def record(*values):
-    """One last fragment."""
-    body = b"".join(map(xdr, values))
-    return xdr(0x80000000 | len(body)) + body
-
-
 def call(xid, procedure, *arguments, program=CORE):
-    """A call with RPC version 2, program version 1, and no credentials."""
-    return record(xid, 0, 2, program, 1, procedure, 0, 0, 0, 0, *arguments)
+    return rpc.record(rpc.call(xid, program, procedure, *arguments))
 
 
 def reply(xid, *results):
-    """A reply that is accepted and a success, with no verifier."""
-    return record(xid, 1, 0, 0, 0, 0, *results)
+    return rpc.record(rpc.reply(xid, *results))
 
 
 def create(xid, device, lock=0, lock_timeout=0):
@@ -115,22 +102,6 @@ def start(words, **how):
     process = subprocess.Popen(words, **how)
     started.append(process)
     return process
-
-
-def two_free_ports():
-    """Two ports that nobody has on any address, below those that the system gives to clients."""
-    probes = []
-    while len(probes) < 2:
-        probe = socket.socket()
-        try:
-            probe.bind(("", random.randrange(20000, 30000)))
-            probes.append(probe)
-        except OSError:
-            probe.close()
-    found = [probe.getsockname()[1] for probe in probes]
-    for probe in probes:
-        probe.close()
-    return found
 
 
 def stream_of(text):
@@ -164,59 +135,62 @@ def memory_is_refused():
     return child.returncode != 0
 
 
-class Server:
+class Server(Program):
     """A server on two free ports, which lives in a `with` block."""
 
-    def __init__(self, *options, bench=BENCH, ports=None, env=None, keeps_errors=False):
-        self.core, self.abort = ports or two_free_ports()
-        words = [*programs["server"], "--core", str(self.core), "--abort", str(self.abort), *options]
-        self.errors = tempfile.TemporaryFile() if keeps_errors else None
-        with stream_of(bench) as source:
-            self.process = start(words, stdin=source, stdout=subprocess.PIPE, stderr=self.errors, env=env)
+    count, first_line = 2, "listening {} {}\n"
 
-    def __enter__(self):
-        line = self.process.stdout.readline().decode()
-        assert line == f"listening {self.core} {self.abort}\n", f"it printed {line!r}"
-        return self
+    def __init__(self, *options, bench=BENCH, ports=None, env=None, keeps_errors=False):
+        words = lambda core, abort: [*programs["server"], "--core", str(core), "--abort", str(abort), *options]
+        super().__init__(words, bench.encode(), ports, env=env)
+        self.keeps_errors, self.errors = keeps_errors, None
+
+    def start(self, core, abort):
+        self.core, self.abort = core, abort
+        if self.keeps_errors:
+            self.errors = self.how["stderr"] = tempfile.TemporaryFile()
+        process = super().start(core, abort)
+        started.append(process)
+        return process
 
     def __exit__(self, *_):
-        self.process.kill()
-        self.process.wait()
-        self.process.stdout.close()
+        super().__exit__()
         if self.errors:
             self.errors.close()
+
+    def told(self):
+        """The lines that it has on standard error by now, and a last piece."""
+        return os.pread(self.errors.fileno(), 1 << 20, 0).decode().split("\n")
+
+    def expect_log(self, *due):
+        """It comes to have these lines on standard error, and no others."""
+        until = time.monotonic() + PATIENCE
+        while len(self.told()) <= len(due) and time.monotonic() < until:
+            time.sleep(0.02)
+        assert self.told() == [*due, ""], f"{self.told()} was told, due is {due}"
 
     def expect_told(self, pattern, due):
         """It comes to have so many lines of this kind on standard error."""
         until, found = time.monotonic() + PATIENCE, None
         while found != due and time.monotonic() < until:
             time.sleep(0.05)
-            lines = os.pread(self.errors.fileno(), 1 << 20, 0).decode().split("\n")
+            lines = self.told()
             found = sum(bool(re.fullmatch(pattern, line)) for line in lines)
         assert found == due, f"{found} lines are {pattern!r}, {due} are due, of {lines[-5:]}"
-
-    def end(self):
-        """What it printed, from here on, and its status."""
-        text, _ = self.process.communicate(timeout=PATIENCE)
-        return text.decode(), self.process.returncode
 
     def descriptors(self):
         return len(os.listdir(f"/proc/{self.process.pid}/fd"))
 
-    def expect_descriptors(self, due):
-        """It comes to have so many open."""
+    def expect_descriptors(self, *due):
+        """It comes to have so many open, or one of these numbers."""
         until = time.monotonic() + PATIENCE
-        while self.descriptors() != due and time.monotonic() < until:
+        while (found := self.descriptors()) not in due and time.monotonic() < until:
             time.sleep(0.05)
-        assert self.descriptors() == due, f"{self.descriptors()} descriptors are open, {due} are due"
+        assert found in due, f"{found} descriptors are open, {' or '.join(map(str, due))} are due"
 
     def lose_socket(self, port):
         """Its socket that listens at this port takes no connection any more, as if the system had lost it."""
-        with open("/proc/net/tcp") as file:
-            rows = [line.split() for line in file][1:]
-        listening = {f"socket:[{row[9]}]" for row in rows if row[3] == "0A" and int(row[1].split(":")[1], 16) == port}
-        folder = f"/proc/{self.process.pid}/fd"
-        theirs = [int(number) for number in os.listdir(folder) if os.readlink(f"{folder}/{number}") in listening]
+        theirs = sockets_at(self.process.pid, port)
         assert len(theirs) == 1, f"{len(theirs)} sockets of the server listen at {port}"
         whose = os.pidfd_open(self.process.pid)
         own = ctypes.CDLL(None, use_errno=True).syscall(PIDFD_GETFD, whose, theirs[0], 0)
@@ -270,11 +244,11 @@ class Peer:
             data += piece
         return data
 
-    def expect(self, due):
-        """The next record is this one."""
+    def expect(self, *due):
+        """The next record is this one, or one of these."""
         mark = self.take(4)
-        got = mark + self.take(struct.unpack(">I", mark)[0] & 0x7FFFFFFF)
-        assert got == due, f"got {got.hex(' ', 4)}, due is {due.hex(' ', 4)}"
+        got = mark + self.take(struct.unpack(">I", mark)[0] & ~LAST)
+        assert got in due, f"got {got.hex(' ', 4)}, due is {' or '.join(one.hex(' ', 4) for one in due)}"
 
     def ask(self, asked, due):
         self.send(asked)
@@ -456,22 +430,29 @@ def two_that_lock_without_end_take_turns():
     with Server() as server, Peer(server.core) as one, Peer(server.core) as two:
         one.ask(create(1, b"gpib0,5"), created(1, 1, server))
         two.ask(create(1, b"gpib0,5"), created(1, 2, server))
-        together = threading.Barrier(2)
-        until = time.monotonic() + 2
+        grants, over = {1: 0, 2: 0}, threading.Event()
 
-        def grants(link, peer):
-            together.wait()
-            count = 0
-            while time.monotonic() < until:
-                xid = 2 * count + 2
+        def take_turns(link, peer):
+            while not over.is_set():
+                xid = 2 * grants[link] + 2
                 peer.ask(lock(xid, link, WAITLOCK, 60000), reply(xid, 0))
                 peer.ask(call(xid + 1, UNLOCK, link), reply(xid + 1, 0))
-                count += 1
-            return count
+                grants[link] += 1
+
+        def are_alike():
+            fewer, more = sorted(grants.values())
+            return fewer > 20 and 2 * fewer > more
 
         with ThreadPoolExecutor(2) as pool:
-            counts = [turns.result() for turns in [pool.submit(grants, 1, one), pool.submit(grants, 2, two)]]
-        assert min(counts) > 20 and 2 * min(counts) > max(counts), f"the grants are {counts}"
+            turns = [pool.submit(take_turns, 1, one), pool.submit(take_turns, 2, two)]
+            until, alike = time.monotonic() + PATIENCE, False
+            while not alike and time.monotonic() < until:
+                time.sleep(2)
+                alike = are_alike()
+            over.set()
+            for turn in turns:
+                turn.result()
+        assert alike, f"the grants are {grants}"
 
 
 def a_read_is_aborted():
@@ -481,21 +462,21 @@ def a_read_is_aborted():
         peer.send(read(2, 1, io_timeout=60000))
         assert not peer.hears(0.3), "a silent device was read"
         # only a call that has come is aborted, and the two streams aren't in step
-        for xid in range(1, 11):
+        for xid in range(PATIENCE):
             other.ask(call(xid, DEVICE_ABORT, 1, program=ABORT), reply(xid, 0))
             if peer.hears(1):
                 break
         peer.expect(reply(2, 23, 0, b""))
-        other.ask(call(99, DEVICE_ABORT, 2, program=ABORT), reply(99, 4))
+        other.ask(call(999, DEVICE_ABORT, 2, program=ABORT), reply(999, 4))
         peer.ask(create(3, b"gpib0,7"), created(3, 2, server))
 
 
 def a_service_request():
     """The handle of a link comes to the port that its client named, and the channel is closed when it is destroyed."""
-    with Server() as server, Peer(server.core) as peer, socket.create_server((HOST, 0)) as listener:
+    with Server() as server, Peer(server.core) as peer, bound() as listener:
         listener.settimeout(PATIENCE)
-        port = listener.getsockname()[1]
-        channel = (0x7F000001, port, INTERRUPT, 1, 0)
+        listener.listen()
+        channel = (0x7F000001, port_of(listener), INTERRUPT, 1, 0)
         peer.ask(create(1, b"gpib0,9"), created(1, 1, server))
         peer.ask(call(2, CREATE_INTR_CHAN, *channel), reply(2, 0))
         peer.ask(call(3, CREATE_INTR_CHAN, *channel), reply(3, 29))
@@ -503,11 +484,15 @@ def a_service_request():
         with Peer(stream=listener.accept()[0]) as interrupts:
             peer.ask(write(5, 1, b"go"), reply(5, 0, 2))
             interrupts.expect(call(1, INTR_SRQ, b"bench-3", program=INTERRUPT))
-            # its status byte is 16, and bit 6 is set once: by the first poll that it answers
-            peer.ask(call(6, READSTB, 1, 0, 0, 10000), reply(6, 0, 80))
-            peer.ask(call(7, READSTB, 1, 0, 0, 10000), reply(7, 0, 16))
-            time.sleep(0.5)  # the server has to see the line low before it rises again
-            peer.ask(write(8, 1, b"go"), reply(8, 0, 2))
+            # the server has to see the line low before it rises again; where it didn't, the line is let down for longer
+            for seconds in (0.5, 1, 2, 4, 8):
+                # its status byte is 16, and bit 6 is set once: by the first poll that it answers
+                peer.ask(call(6, READSTB, 1, 0, 0, 10000), reply(6, 0, 80))
+                peer.ask(call(7, READSTB, 1, 0, 0, 10000), reply(7, 0, 16))
+                time.sleep(seconds)
+                peer.ask(write(8, 1, b"go"), reply(8, 0, 2))
+                if interrupts.hears(10):
+                    break
             interrupts.expect(call(2, INTR_SRQ, b"bench-3", program=INTERRUPT))
             peer.ask(call(9, DESTROY_INTR_CHAN), reply(9, 0))
             interrupts.expect_end()
@@ -516,9 +501,8 @@ def a_service_request():
 
 def a_channel_that_nobody_takes():
     """A dial that fails is answered with error 6."""
-    with Server() as server, Peer(server.core) as peer:
-        nobody = two_free_ports()[0]
-        peer.ask(call(1, CREATE_INTR_CHAN, 0x7F000001, nobody, INTERRUPT, 1, 0), reply(1, 6))
+    with Server() as server, Peer(server.core) as peer, bound() as nobody:
+        peer.ask(call(1, CREATE_INTR_CHAN, 0x7F000001, port_of(nobody), INTERRUPT, 1, 0), reply(1, 6))
 
 
 def a_reset_frees_a_lock():
@@ -545,7 +529,12 @@ def an_abort_ends_the_call_of_one_that_is_gone():
         peer.reset()
         other.send(lock(2, 2, WAITLOCK, 60000))
         assert not other.hears(0.5), "a lock was given that a pending call keeps"
-        aborts.ask(call(1, DEVICE_ABORT, 1, program=ABORT), reply(1, 0))
+        # only a call that has come is aborted; behind its end the link is gone
+        for xid in range(PATIENCE):
+            aborts.send(call(xid, DEVICE_ABORT, 1, program=ABORT))
+            aborts.expect(reply(xid, 0), reply(xid, 4))
+            if other.hears(1):
+                break
         other.expect(reply(2, 0))
         other.ask(write(3, 2, b"mine"), reply(3, 0, 4))
 
@@ -554,7 +543,8 @@ def junk_closes():
     """A record that is no call, and one above 263,168 bytes, end their connection and no other."""
     with Server() as server, Peer(server.core) as other:
         other.ask(create(1, b"gpib0,5"), created(1, 1, server))
-        for junk in (record(1, 0), reply(1), record(1, 0, 2, CORE, 1, 0, 0, 401), xdr(0x80000000 | RECORD_MAX + 1)):
+        calls = [rpc.words(1, 0), rpc.words(1, 0, 2, CORE, 1, 0, 0, 401)]
+        for junk in (*map(rpc.record, calls), reply(1), rpc.words(LAST | RECORD_MAX + 1)):
             with Peer(server.core) as peer:
                 peer.ask(call(7, 0), reply(7))
                 peer.send(junk)
@@ -573,7 +563,7 @@ def a_record_in_any_pieces():
         peer.expect(reply(3, 0, 4))
         body = read(4, 2)[4:]
         parts = [body[at : at + 10] for at in range(0, len(body), 10)]
-        peer.send(b"".join(xdr(len(part)) + part for part in parts) + xdr(0x80000000))
+        peer.send(b"".join(rpc.words(len(part)) + part for part in parts) + rpc.words(LAST))
         peer.expect(reply(4, 0, BY_END, b"both"))
 
 
@@ -717,8 +707,11 @@ def one_that_never_reads_is_cut_off():
             other.ask(lock(2, 1), reply(2, 11))
             peer.floods()
             other.ask(lock(3, 1), reply(3, 11))
-            other.stream.settimeout(110)
-            other.ask(lock(4, 1, WAITLOCK, 100000), reply(4, 0))
+            other.send(lock(4, 1, WAITLOCK, 100000))
+            while not other.hears(10):  # the server was slow to take more, and wasn't stopped
+                with suppress(ConnectionError):
+                    peer.floods()
+            other.expect(reply(4, 0))
 
 
 def a_slow_reader_is_served():
@@ -734,12 +727,12 @@ def a_slow_reader_is_served():
 
 
 def an_idle_connection_ends():
-    """One that says nothing for two seconds, and one that stops within a record, are gone with their locks; one whose call takes
+    """One that says nothing for five seconds, and one that stops within a record, are gone with their locks; one whose call takes
     longer, and one that asks again in time, stay."""
-    with Server("--idle", "2") as server, ExitStack() as peers:
+    with Server("--idle", "5") as server, ExitStack() as peers:
         reader, idle, stopped, other = [peers.enter_context(Peer(server.core)) for _ in range(4)]
         reader.ask(create(1, b"gpib0,7"), created(1, 1, server))
-        reader.send(read(2, 1, io_timeout=10000))
+        reader.send(read(2, 1, io_timeout=30000))
         idle.ask(create(1, b"gpib0,5", lock=1), created(1, 2, server))
         stopped.ask(create(1, b"gpib0,9", lock=1), created(1, 3, server))
         stopped.send(call(2, 0)[:20])
@@ -747,11 +740,12 @@ def an_idle_connection_ends():
         other.ask(create(2, b"gpib0,9"), created(2, 5, server))
         other.ask(lock(3, 4), reply(3, 11))
         other.ask(lock(4, 5), reply(4, 11))
-        for xid in range(5, 15):
+        until = time.monotonic() + PATIENCE
+        while not (idle.has_ended() and stopped.has_ended()) and time.monotonic() < until:
             time.sleep(0.5)
-            other.ask(call(xid, 0), reply(xid))
-        other.ask(lock(15, 4), reply(15, 0))
-        other.ask(lock(16, 5), reply(16, 0))
+            other.ask(call(5, 0), reply(5))
+        other.ask(lock(6, 4, WAITLOCK, 60000), reply(6, 0))
+        other.ask(lock(7, 5, WAITLOCK, 60000), reply(7, 0))
         idle.expect_end()
         stopped.expect_end()
         reader.expect(reply(2, 15, 0, b""))
@@ -773,7 +767,7 @@ def idle_abort_connections_make_way():
             late = peers.enter_context(Peer(server.abort))
             began = time.monotonic()
             late.ask(call(2, DEVICE_ABORT, 1, program=ABORT), reply(2, 0))
-            assert time.monotonic() - began < 10, "a device_abort waited long for a place"
+            assert time.monotonic() - began < 30, "a device_abort waited long for a place"
             idle.append(late)
             time.sleep(2.5)
             ended = sum(peer.has_ended() for peer in idle)
@@ -808,9 +802,9 @@ def without_descriptors_it_waits():
             with ExitStack() as peers:
                 for _ in range(40):
                     peers.enter_context(Peer(port))
-                time.sleep(1)
                 # the wait at the other port may have one for what comes next
-                assert server.descriptors() in (before + 7, before + 8), "it has descriptors left"
+                server.expect_descriptors(before + 7, before + 8)
+                time.sleep(1)
                 assert server.process.poll() is None, "it ended for want of a descriptor"
             with Peer(port) as peer:
                 peer.ask(call(1, 0, program=program), reply(1))
@@ -841,7 +835,7 @@ def a_host_that_is_gone_is_found_out():
         began = time.monotonic()
         other.ask(lock(3, 1, WAITLOCK, 60000), reply(3, 0))
         other.ask(lock(4, 2, WAITLOCK, 60000), reply(4, 0))
-        assert time.monotonic() - began < 15, "hosts that are gone were found out late"
+        assert time.monotonic() - began < 30, "hosts that are gone were found out late"
         server.expect_descriptors(before + 1)
         time.sleep(3)
         other.ask(call(5, DESTROY_LINK, 1), reply(5, 0))
@@ -863,7 +857,7 @@ def a_silent_host_is_found_out_by_keepalive_alone():
             other.ask(create(1, b"gpib0,5"), created(1, 2, server))
             time.sleep(0.5)  # in which the reply is acknowledged
             hosts.pull_the_cable()
-            other.ask(lock(2, 2, WAITLOCK, 15000), reply(2, result))
+            other.ask(lock(2, 2, WAITLOCK, 20000), reply(2, result))
 
 
 def a_lost_socket_is_told():
@@ -881,7 +875,7 @@ def a_lost_socket_is_told():
         server.lose_socket(server.core)
         server.expect_told(f"vxgate: the core port is lost: {lost}", 1)
         server.expect_told("vxgate: .*", 2)
-        assert server.end() == ("", 3)
+        server.expect_end("", REFUSED)
 
 
 def a_slow_instrument():
@@ -898,46 +892,66 @@ def a_limit_ends_it():
         for number in range(3):
             with Peer(server.core) as peer:
                 peer.ask(create(1, b"gpib0,5"), created(1, number + 1, server))
-        assert server.end() == ("served 3\n", 0)
+        server.expect_end("served 3\n")
 
 
 def a_port_serves_again_at_once():
     """A server on the ports of one that has just ended, while their old connections linger."""
-    with Server() as first, Peer(first.core) as peer:
-        peer.ask(call(1, 0), reply(1))
-        first.process.kill()
-        first.process.wait()
-        with Server(ports=(first.core, first.abort)) as second, Peer(second.core) as peer:
+
+    def serve_twice(*ports):
+        with Server(ports=ports) as first, Peer(first.core) as peer:
             peer.ask(call(1, 0), reply(1))
+            first.process.kill()
+            first.process.wait()
+            with Server(ports=ports) as second, Peer(second.core) as peer:
+                peer.ask(call(1, 0), reply(1))
+
+    at_free_ports(serve_twice, 2)
+
+
+def refused(*options, bench=BENCH, ports=None):
+    """What a server prints that doesn't come up, and its status."""
+    process = Server(*options, bench=bench).start(*ports or free_ports(2))
+    text, _ = process.communicate(timeout=PATIENCE)
+    return text.decode(), process.returncode
 
 
 def refused_starts():
     """Words, benches and ports that it refuses: what it prints, and its status."""
-    core, abort = two_free_ports()
-    assert Server("--workers", "65").end() == ("usage: vxgate OPTIONS\n", 1)
-    assert Server(bench="at 1\n").end() == ("fault line 1 form\n", 2)
-    assert Server(bench="# a bench\nplug 5 echo\nplug 5 meter\n").end() == ("fault line 3 taken\n", 2)
-    with socket.create_server(("", core)):
-        assert Server(ports=(core, abort)).end() == ("", 3)
-        assert Server(ports=(abort, core)).end() == ("", 3)
+    assert refused("--workers", "65") == ("usage: vxgate OPTIONS\n", 1)
+    assert refused(bench="at 1\n") == ("fault line 1 form\n", 2)
+    assert refused(bench="# a bench\nplug 5 echo\nplug 5 meter\n") == ("fault line 3 taken\n", 2)
+    with bound() as taken:
+        taken.listen()
+        port, other = port_of(taken), *free_ports(1)
+        assert refused(ports=(port, other)) == ("", REFUSED)
+        assert refused(ports=(other, port)) == ("", REFUSED)
 
 
 def small_replies_come_at_once():
     """Queries one after another, then with both calls in one send: a reply that waits until the last one is acknowledged
-    comes 40 ms late."""
+    comes 40 ms late each time. A busy machine may hold one up, but not most."""
     with Server() as server, Peer(server.core) as peer:
         peer.ask(create(1, b"gpib0,5"), created(1, 1, server))
-        began = time.monotonic()
-        for _ in range(200):
+
+        def one_by_one():
             peer.ask(write(2, 1, b"ping??"), reply(2, 0, 6))
             peer.ask(read(3, 1), reply(3, 0, BY_END, b"ping??"))
-        between = time.monotonic()
-        for _ in range(200):
+
+        def in_one_send():
             peer.ask(write(4, 1, b"ping??") + read(5, 1), reply(4, 0, 6))
             peer.expect(reply(5, 0, BY_END, b"ping??"))
-        ended = time.monotonic()
-        assert between - began < 200 * 0.040, f"200 queries took {between - began:.1f} s"
-        assert ended - between < 200 * 0.040, f"200 queries in one send each took {ended - between:.1f} s"
+
+        for query in (one_by_one, in_one_send):
+            seconds = statistics.median(timed(query) for _ in range(200))
+            assert seconds < 0.040, f"most queries {query.__name__} take more than {seconds:.3f} s"
+
+
+def timed(action):
+    """How many seconds it takes."""
+    began = time.monotonic()
+    action()
+    return time.monotonic() - began
 
 
 def the_client():
@@ -967,7 +981,8 @@ def the_client():
     with Server() as server:
         for device, command, text, status in rows:
             expect_client(server.core, device, command, text, status)
-    expect_client(server.core, "gpib0,5", ["stb"], "unreachable\n", 2)
+    with bound() as nobody:
+        expect_client(port_of(nobody), "gpib0,5", ["stb"], "unreachable\n", 2)
 
 
 def expect_client(port, device, command, text, status):
@@ -1000,17 +1015,12 @@ def the_session_of_the_readme():
     (serving,), asking = windows_of_the_readme()
     words, lines = serving
     options, bench = words[1 : words.index("<")], os.path.join(os.path.dirname(__file__), "..", words[-1])
-    core, abort = two_free_ports()
-    words = [*programs["server"], "--core", str(core), "--abort", str(abort), *options]
-    with open(bench) as source:
-        server = start(words, stdin=source, stdout=subprocess.PIPE, stderr=subprocess.PIPE)
-    assert server.stdout.readline().decode() == f"listening {core} {abort}\n"
-    for words, printed in asking:
-        expect_client(core, words[3], words[4:], "".join(line + "\n" for line in printed), 0)
-    text, log = server.communicate(timeout=PATIENCE)
-    assert [lines[0], lines[-1] + "\n"] == ["listening 9010 9011", text.decode()], text
-    got = log.decode().split("\n")[:-1]
-    assert sorted(got) == sorted(lines[1:-1]), f"the log is {got}"
+    with open(bench) as source, Server(*options, bench=source.read(), keeps_errors=True) as server:
+        for words, printed in asking:
+            expect_client(server.core, words[3], words[4:], "".join(line + "\n" for line in printed), 0)
+        server.expect_end(lines[-1] + "\n")
+        got = server.told()[:-1]
+        assert lines[0] == "listening 9010 9011" and sorted(got) == sorted(lines[1:-1]), f"the log is {got}"
 
 
 def the_abort_of_the_readme():
@@ -1020,7 +1030,7 @@ def the_abort_of_the_readme():
     with Server() as server, Peer(server.core) as peer:
         peer.ask(create(1, b"gpib0,5"), created(1, 1, server))
         peer.send(read(2, 1, io_timeout=60000))
-        for _ in range(10):
+        for _ in range(PATIENCE):
             subprocess.run(["bash", "-c", line.replace("/9011", f"/{server.abort}")], check=True, timeout=PATIENCE)
             if peer.hears(1):
                 break
@@ -1029,40 +1039,36 @@ def the_abort_of_the_readme():
 
 def a_log_of_ends():
     """Junk, a record that is too long, a stream cut within a record, a reset, and an abort connection, each with its reason."""
-    core, abort = two_free_ports()
-    words = [*programs["server"], "--core", str(core), "--abort", str(abort), "--log", "--workers", "1"]
-    server = start(words, stdin=subprocess.DEVNULL, stdout=subprocess.PIPE, stderr=subprocess.PIPE)
-    server.stdout.readline()
-
-    def logs(line):
-        got = server.stderr.readline().decode()
-        assert got == line + "\n", f"{got!r} was told, due is {line!r}"
-
     ends = [
-        (record(1, 0), "a record is no call, 1 calls"),
-        (xdr(0x80000000 | RECORD_MAX + 1), "a record is too long, 1 calls"),
-        (xdr(0x80000044), "closed by its peer within a record, 1 calls"),
+        (rpc.record(rpc.words(1, 0)), "a record is no call, 1 calls"),
+        (rpc.words(LAST | RECORD_MAX + 1), "a record is too long, 1 calls"),
+        (rpc.words(LAST | 68), "closed by its peer within a record, 1 calls"),
         (b"", "closed by its peer, 1 calls"),
     ]
-    for number, (data, end) in enumerate(ends, 1):
-        with Peer(core) as peer:
-            logs(f"core {number} came")
-            peer.ask(call(1, 0), reply(1))
-            peer.send(data)
-            peer.stream.shutdown(socket.SHUT_WR)
-            logs(f"core {number} ended: {end}")
-    peer = Peer(core)
-    logs("core 5 came")
-    peer.ask(call(1, 0), reply(1))
-    peer.reset()
-    logs("core 5 ended: receiving failed, 1 calls")
-    with Peer(abort) as peer:
-        logs("abort 1 came")
-        for xid in range(3):
-            peer.ask(call(xid, DEVICE_ABORT, 1, program=ABORT), reply(xid, 4))
-    logs("abort 1 ended: closed by its peer, 3 calls")
-    server.kill()
-    server.communicate()
+    with Server("--log", "--workers", "1", bench="", keeps_errors=True) as server:
+        log = []
+
+        def logs(line):
+            log.append(line)
+            server.expect_log(*log)
+
+        for number, (data, end) in enumerate(ends, 1):
+            with Peer(server.core) as peer:
+                logs(f"core {number} came")
+                peer.ask(call(1, 0), reply(1))
+                peer.send(data)
+                peer.stream.shutdown(socket.SHUT_WR)
+                logs(f"core {number} ended: {end}")
+        peer = Peer(server.core)
+        logs("core 5 came")
+        peer.ask(call(1, 0), reply(1))
+        peer.reset()
+        logs("core 5 ended: receiving failed, 1 calls")
+        with Peer(server.abort) as peer:
+            logs("abort 1 came")
+            for xid in range(3):
+                peer.ask(call(xid, DEVICE_ABORT, 1, program=ABORT), reply(xid, 4))
+        logs("abort 1 ended: closed by its peer, 3 calls")
 
 
 CASES = [
@@ -1239,7 +1245,10 @@ def built(name, words, bench, is_up, folder):
         while not is_up():
             if maker.poll() is not None:
                 said.seek(0)
-                sys.exit(f"rt try made no {name}:\n{said.read().decode(errors='replace')}")
+                text = said.read().decode(errors="replace")
+                if f"ended status={REFUSED}" in text:
+                    raise Taken(text)
+                sys.exit(f"rt try made no {name}:\n{text}")
             time.sleep(0.1)
         number, found = running(words)
         front, program = found[: -len(words) - 1], found[-len(words) - 1]
@@ -1251,12 +1260,16 @@ def built(name, words, bench, is_up, folder):
 
 def build(folder):
     """Builds both programs. The server is up when its port takes connections, the client when it has made one."""
-    core, abort = two_free_ports()
-    words = ["--core", str(core), "--abort", str(abort)]
-    with socket.socket() as probe:
-        programs["server"] = built("vxgate", words, "", lambda: not probe.connect_ex((HOST, core)), folder)
-    with socket.create_server((HOST, 0)) as listener:
-        words = [HOST, str(listener.getsockname()[1]), "gpib0,5", "stb"]
+
+    def build_server(core, abort):
+        words = ["--core", str(core), "--abort", str(abort)]
+        with socket.socket() as probe:
+            return built("vxgate", words, "", lambda: not probe.connect_ex((HOST, core)), folder)
+
+    programs["server"] = at_free_ports(build_server, 2)
+    with bound() as listener:
+        listener.listen()
+        words = [HOST, str(port_of(listener)), "gpib0,5", "stb"]
         called = lambda: bool(select.select([listener], [], [], 0)[0])
         programs["client"] = built("vxcall", words, "", called, folder)
 
