@@ -3,21 +3,27 @@
 
     clients.py MAPPER SERVER
 
-`rpcinfo` asks the mapper over TCP and over UDP, lxi-tools and pyvisa-py find the server of `examples/bench.txt` through it. lxi-tools
-asks for the device `inst0`, which this server doesn't have, so of it no more is looked for than that it asked the mapper. A client
-that isn't installed is passed over with a word. What goes wrong, and at last 'N passed, M failed, L left out', goes to standard
-error; the status is 1 where something went wrong.
+`rpcinfo` calls the mapper over TCP and over UDP, lists its table, and has it say where the server is, which it then calls; lxi-tools and
+pyvisa-py find the server of `examples/bench.txt` through it. lxi-tools asks for the device `inst0`, which this server doesn't have, so
+of it no more is looked for than that it asked the mapper. With Debian these are the packages `rpcbind`, `lxi-tools`, `python3-pyvisa`
+and `python3-pyvisa-py`. A client that isn't installed is passed over with a word. What goes wrong, and at last 'N passed, M failed, L
+left out', goes to standard error; the status is 1 where something went wrong.
+
+`rpcinfo -p`, and `rpcinfo -t` and `-u` with the mapper's own number, aren't tried: they first ask a mapper where the mapper is, and
+this one's table has the two programs of the server alone.
 """
-import importlib.util
 import pathlib
 import shutil
 import subprocess
 import sys
 
+from mapper import MAPPER, Mapper
+from rpc import ABORT, CORE
+from serving import PATIENCE, Program, Taken
+
 BENCH = pathlib.Path(__file__).resolve().parent.parent / "examples/bench.txt"
 HOST, PORT = "127.0.0.1", 111
-CORE, ABORT = 9010, 9011
-PATIENCE = 30  # seconds
+PYTHONS = (sys.executable, "/usr/bin/python3")  # that of this test, and the system's
 IDENTITY = "ACME,TABLE,1,1.0"  # what the instrument at 5 of that bench says of itself
 
 
@@ -25,36 +31,27 @@ class LeftOut(Exception):
     """A case that can't be tried here."""
 
 
-class Running:
-    """A program in a `with` block, once it has printed its first line."""
+class WellKnown(Mapper):
+    """A mapper at the port where clients look for one, which tells these ports."""
 
-    def __init__(self, words, first, source=None):
-        self.words, self.first, self.source = words, first, source
+    def __init__(self, program, word, number, tells):
+        super().__init__(program, word, number, tells, (PORT,))
 
     def __enter__(self):
-        stdin = open(self.source, "rb") if self.source else subprocess.DEVNULL
-        self.process = subprocess.Popen(self.words, stdin=stdin, stdout=subprocess.PIPE, stderr=subprocess.DEVNULL)
-        line = self.process.stdout.readline().decode()
-        if line != self.first:
-            self.__exit__()
-            raise LeftOut(f"{pathlib.Path(self.words[0]).name} can't have its port here")
-        return self
-
-    def __exit__(self, *_):
-        self.process.kill()
-        self.process.wait()
-        self.process.stdout.close()
-
-    def served(self, number):
-        return self.process.wait(PATIENCE) == 0 and self.process.stdout.read() == f"served {number}\n".encode()
+        try:
+            return super().__enter__()
+        except Taken:
+            raise LeftOut(f"port {PORT} can't be had here")
 
 
-def mapping(mapper, kind, number):
-    return Running([mapper, kind, str(PORT), str(CORE), str(ABORT), str(number)], f"mapping {PORT}\n")
+class Server(Program):
+    """The server of the example's bench."""
 
+    count, first_line = 2, "listening {} {}\n"
 
-def serving(server):
-    return Running([server, "--core", str(CORE), "--abort", str(ABORT)], f"listening {CORE} {ABORT}\n", BENCH)
+    def __init__(self, program):
+        words = lambda core, abort: [program, "--core", str(core), "--abort", str(abort)]
+        super().__init__(words, BENCH.read_bytes(), stderr=subprocess.DEVNULL)
 
 
 def installed(program):
@@ -64,44 +61,71 @@ def installed(program):
     return found
 
 
-def by_rpcinfo(mapper, kind, flag):
+def python_with(*modules):
+    """A Python that has these modules."""
+    for python in PYTHONS:
+        words = [python, "-c", f"import {', '.join(modules)}"]
+        if shutil.which(python) and subprocess.run(words, capture_output=True, timeout=PATIENCE).returncode == 0:
+            return python
+    raise LeftOut(f"{' or '.join(modules)} isn't installed")
+
+
+def said_by(*words):
+    """What a client that ends well has on standard output."""
+    done = subprocess.run(words, capture_output=True, timeout=PATIENCE)
+    assert done.returncode == 0, done.stdout + done.stderr
+    return done.stdout.decode()
+
+
+def rpcinfo_calls_the_mapper(mapper, server):
+    """Over TCP and over UDP, each at a port of its own."""
     rpcinfo = installed("rpcinfo")
-    with mapping(mapper, kind, 1000):
-        done = subprocess.run([rpcinfo, flag, HOST, "100000", "2"], capture_output=True, timeout=PATIENCE)
-        assert done.returncode == 0 and b"ready" in done.stdout, done.stdout + done.stderr
+    for word, transport in (("stream", "tcp"), ("packets", "udp")):
+        with Mapper(mapper, word, 1) as mapped:
+            port, = mapped.ports
+            address = f"{HOST}.{port >> 8}.{port & 255}"
+            said = said_by(rpcinfo, "-a", address, "-T", transport, str(MAPPER), "2")
+            assert said == f"program {MAPPER} version 2 ready and waiting\n", said
+            mapped.expect_served(1)
 
 
-def rpcinfo_over_tcp(mapper, server):
-    by_rpcinfo(mapper, "stream", "-t")
+def rpcinfo_lists_the_table(mapper, server):
+    rpcinfo = installed("rpcinfo")
+    with WellKnown(mapper, "stream", 1000, (9010, 9011)):
+        rows = [line.split()[:3] for line in said_by(rpcinfo, "-s", HOST).splitlines()[1:]]
+        assert rows == [[str(program), "1", "tcp"] for program in (CORE, ABORT)], rows
 
 
-def rpcinfo_over_udp(mapper, server):
-    by_rpcinfo(mapper, "packets", "-u")
+def rpcinfo_finds_the_server(mapper, server):
+    """It asks over TCP in the versions 4 and 3, which the mapper hasn't, and then over UDP in version 2."""
+    rpcinfo = installed("rpcinfo")
+    with Server(server) as served, WellKnown(mapper, "stream", 1000, served.ports), WellKnown(mapper, "packets", 1000, served.ports):
+        for program in (CORE, ABORT):
+            said = said_by(rpcinfo, "-t", HOST, str(program), "1")
+            assert said == f"program {program} version 1 ready and waiting\n", said
 
 
 def lxi_tools(mapper, server):
     lxi = installed("lxi")
-    with serving(server), mapping(mapper, "stream", 1) as mapped:
+    with Server(server) as served, WellKnown(mapper, "stream", 1, served.ports) as mapped:
         subprocess.run([lxi, "scpi", "--address", HOST, "*IDN?"], capture_output=True, timeout=PATIENCE)
-        assert mapped.served(1), "it didn't ask the mapper"
+        mapped.expect_served(1)
 
 
 def pyvisa(mapper, server):
-    for module in ("pyvisa", "pyvisa_py"):
-        if importlib.util.find_spec(module) is None:
-            raise LeftOut(f"{module} isn't installed")
+    python = python_with("pyvisa", "pyvisa_py")
     asks = f"""
 import pyvisa
-device = pyvisa.ResourceManager("@py").open_resource("TCPIP::{HOST}::gpib0,5::INSTR")
+device = pyvisa.ResourceManager("@py").open_resource("TCPIP::{HOST}::gpib0,5::INSTR", open_timeout=60000)
+device.timeout = 60000
 device.write_termination = device.read_termination = chr(10)
 print(device.query("*IDN?"))
 """
-    with serving(server), mapping(mapper, "stream", 1000):
-        done = subprocess.run([sys.executable, "-c", asks], capture_output=True, timeout=PATIENCE)
-        assert done.stdout.decode().strip() == IDENTITY, done.stdout + done.stderr
+    with Server(server) as served, WellKnown(mapper, "stream", 1000, served.ports):
+        assert said_by(python, "-c", asks).strip() == IDENTITY
 
 
-CASES = [rpcinfo_over_tcp, rpcinfo_over_udp, lxi_tools, pyvisa]
+CASES = [rpcinfo_calls_the_mapper, rpcinfo_lists_the_table, rpcinfo_finds_the_server, lxi_tools, pyvisa]
 
 
 def main(programs):
