@@ -1,0 +1,127 @@
+#!/usr/bin/env python3
+"""Tests the server of four buses `vxbuses`, whose path is the one word, over sockets of this host.
+
+Each bus has an echo at address 5. Results are composed here from their words, by RFC 4506 and VXI-11. Each case takes its own port.
+What goes wrong, and at last 'N passed, M failed', goes to standard error; the status is 1 where something went wrong.
+"""
+import concurrent.futures
+import subprocess
+import sys
+
+from rpc import CREATE_LINK, END, READ, WRITE, Client, spelled
+from serving import PATIENCE, Program, free_ports
+
+ABORT_PORT, WRITE_MAX = 9011, 262144  # what a create_link tells
+READSTB, DESTROY_LINK, CREATE_INTR_CHAN = 13, 23, 25
+NOT_ACCESSIBLE, NO_LINK, NOT_SUPPORTED, LOCKED = 3, 4, 8, 11  # errors
+BY_END = 4  # the reason of a read that ends with END
+BUSES = range(4)
+
+
+class Buses(Program):
+    """A server of so many links."""
+
+    def __init__(self, program, number):
+        super().__init__(lambda port: [program, str(port), str(number)])
+
+    def client(self):
+        return Client(*self.ports, patience=PATIENCE)
+
+
+def expect(client, procedure, arguments, *due):
+    """The results of this call are these, to the byte."""
+    results = client.results(procedure, *arguments)
+    assert results == spelled(*due), f"procedure {procedure} of {arguments}: the results are {results.hex(' ', 4)}"
+
+
+def make_link(client, device, number, lock=0):
+    expect(client, CREATE_LINK, (1, lock, 0, device), 0, number, ABORT_PORT, WRITE_MAX)
+
+
+def write(client, link, data):
+    expect(client, WRITE, (link, 10000, 0, END, data), 0, len(data))
+
+
+def read(client, link, data):
+    expect(client, READ, (link, 1024, 10000, 0, 0, 0), 0, BY_END, data)
+
+
+def a_query_on_each_bus(program):
+    """What is written on a bus is read there, though all four have been written on by then."""
+    with Buses(program, 1) as buses:
+        with buses.client() as client:
+            for bus in BUSES:
+                make_link(client, b"gpib%d,5" % bus, bus + 1)
+            for bus in BUSES:
+                write(client, bus + 1, b"*IDN? of bus %d" % bus)
+            for bus in reversed(BUSES):
+                read(client, bus + 1, b"*IDN? of bus %d" % bus)
+        buses.expect_end("served 1\n")
+
+
+def links_of_two_clients(program):
+    """A bus counts its links on. The lock of a client that has gone is free, and so is each bus."""
+    with Buses(program, 2) as buses:
+        with buses.client() as client:
+            make_link(client, b"gpib2,5", 3, lock=1)
+            make_link(client, b"GPIB2,5", 7)
+            expect(client, WRITE, (7, 10000, 0, END, b"A"), LOCKED, 0)
+            make_link(client, b"gpib3,5", 4)
+            write(client, 4, b"B")
+        with buses.client() as client:
+            make_link(client, b"gpib2,5", 11, lock=1)
+            make_link(client, b"gpib3,5", 8)
+            write(client, 11, b"C")
+            read(client, 8, b"B")
+            read(client, 11, b"C")
+            expect(client, READSTB, (4, 0, 0, 10000), NO_LINK, 0)
+            expect(client, DESTROY_LINK, (8,), 0)
+        buses.expect_end("served 2\n")
+
+
+def calls_of_no_bus(program):
+    """A fifth bus, a link that nobody made, and an interrupt channel, which no bus has."""
+    with Buses(program, 1) as buses:
+        with buses.client() as client:
+            expect(client, 0, ())
+            expect(client, CREATE_LINK, (1, 0, 0, b"gpib4,5"), NOT_ACCESSIBLE, 0, 0, 0)
+            expect(client, WRITE, (1, 10000, 0, END, b"A"), NO_LINK, 0)
+            expect(client, CREATE_INTR_CHAN, (0x7F000001, 9012, 0x0607B1, 1, 0), NOT_SUPPORTED)
+        buses.expect_end("served 1\n")
+
+
+def no_run(program):
+    def ended(*words):
+        done = subprocess.run([program, *words], capture_output=True, timeout=PATIENCE)
+        return done.returncode, done.stdout
+
+    usage, port = (1, b"usage: vxbuses PORT N\n"), str(*free_ports(1))
+    assert ended() == ended(port) == ended(port, "0") == ended("0", "1") == ended(port, "1", "1") == usage, "other words are taken"
+    with Buses(program, 1) as buses:
+        assert ended(str(*buses.ports), "1") == (3, b""), "a taken port is served"
+
+
+CASES = [a_query_on_each_bus, links_of_two_clients, calls_of_no_bus, no_run]
+
+
+def passes(case, program):
+    try:
+        case(program)
+        return True
+    except (AssertionError, OSError, subprocess.SubprocessError) as wrong:
+        print(f"{case.__name__}: {wrong!r}", file=sys.stderr)
+        return False
+
+
+def main(programs):
+    if len(programs) != 1:
+        sys.exit("usage: buses.py BUSES")
+    with concurrent.futures.ThreadPoolExecutor(len(CASES)) as pool:
+        outcomes = list(pool.map(lambda case: passes(case, programs[0]), CASES))
+    passed = outcomes.count(True)
+    print(f"{passed} passed, {len(outcomes) - passed} failed", file=sys.stderr)
+    return 0 if passed == len(outcomes) else 1
+
+
+if __name__ == "__main__":
+    sys.exit(main(sys.argv[1:]))
