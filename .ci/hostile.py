@@ -13,9 +13,9 @@ import struct
 import subprocess
 import sys
 
+from rpc import ABORT, CORE, LAST, opaque, record, words
+
 RECORD_MAX = 263168
-LAST = 0x80000000
-CORE, ABORT = 0x0607AF, 0x0607B0
 DEAD = 7  # a link that nobody made
 SEED = 488
 
@@ -66,12 +66,8 @@ ARGUMENTS = {
 EMPTY = {10: 3, 11: 1, 12: 2, 13: 1, 22: 1}
 
 
-def words(*numbers):
-    return struct.pack(f">{len(numbers)}I", *numbers)
-
-
 def reply(*numbers):
-    return words(LAST + 4 * len(numbers), *numbers)
+    return record(words(*numbers))
 
 
 def answer(program, message):
@@ -110,10 +106,6 @@ def answer(program, message):
     return reply(xid, 1, 0, 0, 0, 0, error, *[0] * EMPTY.get(procedure, 0))
 
 
-def opaque(data):
-    return words(len(data)) + data + bytes(-len(data) % 4)
-
-
 def call(program, procedure, arguments, xid=9, version=1, rpc=2, credential=b"", verifier=b""):
     return words(xid, 0, rpc, program, version, procedure, 1) + opaque(credential) + words(0) + opaque(verifier) + arguments
 
@@ -122,17 +114,13 @@ def write(length, xid=9):
     return call(CORE, 11, words(DEAD, 10000, 0, 8) + opaque(bytes(i % 251 for i in range(length))), xid)
 
 
-def whole(message):
-    return [words(LAST + len(message)) + message]
-
-
 def in_fragments(message, lengths):
     """A record whose fragments have these lengths, and a last one the rest."""
     pieces = []
     for length in lengths:
         pieces.append(words(length) + message[:length])
         message = message[length:]
-    return pieces + whole(message)
+    return [*pieces, record(message)]
 
 
 class Stream:
@@ -145,7 +133,7 @@ class Stream:
 
     def add(self, message, fragments=None):
         assert not self.ended
-        self.records.append(b"".join(fragments or whole(message)))
+        self.records.append(b"".join(fragments or [record(message)]))
         told = answer(self.program, message)
         self.ended = told is None
         self.printed.append("gone {} junk" if told is None else "out {} " + told.hex().upper())
@@ -171,8 +159,8 @@ def lengths():
     for more in range(1, 6):
         yield Stream(f"a write with {more} bytes behind it").add(message + bytes(more))
     for short in range(9):
-        record = write(RECORD_MAX - 60 - short)
-        yield Stream(f"a record of {len(record)} bytes").add(record[: RECORD_MAX - short])
+        message = write(RECORD_MAX - 60 - short)
+        yield Stream(f"a record of {len(message)} bytes").add(message[: RECORD_MAX - short])
     for over in (1, 2, 3, 4, 1000, LAST - 1 - RECORD_MAX):
         yield Stream(f"a header of {RECORD_MAX + over} bytes").add(write(4)).too_long([words(LAST + RECORD_MAX + over)])
         yield Stream(f"the same, which isn't the last of its record, {over}").too_long([words(RECORD_MAX + over)])
@@ -193,7 +181,7 @@ def fragments():
     for begun in range(1, 4):
         yield Stream(f"{begun} bytes of a header").cut_off(words(LAST + 40)[:begun])
         yield Stream(f"a call, then {begun} bytes of a header").add(write(1)).cut_off(words(LAST + 40)[:begun])
-    yield Stream("a record that lacks its last byte").cut_off(whole(write(100))[0][:-1])
+    yield Stream("a record that lacks its last byte").cut_off(record(write(100))[:-1])
     yield Stream("4,000 fragments of no bytes, and no last one").cut_off(words(0) * 4000)
 
 
@@ -260,11 +248,11 @@ def byte_by_byte(stream):
 
 def at_random(stream):
     chance = random.Random(len(stream.name))
-    for record in stream.records:
-        while record:
-            count = chance.choice((1, 2, 3, 4, 5, 50, 4096, len(record)))
-            yield record[:count]
-            record = record[count:]
+    for rest in stream.records:
+        while rest:
+            count = chance.choice((1, 2, 3, 4, 5, 50, 4096, len(rest)))
+            yield rest[:count]
+            rest = rest[count:]
 
 
 def script_of(streams, cut):

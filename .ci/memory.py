@@ -13,15 +13,15 @@ ends with status 1 where something else came of one.
 """
 import os
 import pathlib
-import socket
 import subprocess
 import sys
 import tempfile
 
+from serving import PATIENCE, Program
+
 TOP = pathlib.Path(__file__).resolve().parent.parent
 NO_MEMORY = 5  # the status of each program for want of memory
 NO_THREAD = 4  # that of the server where a thread can't be had, which takes memory too
-PATIENCE = 60  # seconds
 
 
 class Wrong(Exception):
@@ -93,31 +93,22 @@ def of_loop(folder, measure):
     return count, counts
 
 
-def two_free_ports():
-    with socket.socket() as one, socket.socket() as other:
-        one.bind(("127.0.0.1", 0))
-        other.bind(("127.0.0.1", 0))
-        return one.getsockname()[1], other.getsockname()[1]
+class Server(Program):
+    """A server of the example's bench with an allocation refused; `status` where it didn't come up."""
 
-
-class Server:
-    """A server of the example's bench with an allocation refused, in a `with` block; `status` where it didn't come up."""
+    count = 2
 
     def __init__(self, folder, server, number):
-        self.port, abort = two_free_ports()
-        self.words = [server, "--core", str(self.port), "--abort", str(abort), "--log", "--idle", "600"]
-        self.env = environment(folder, number)
+        words = lambda core, abort: [server, "--core", str(core), "--abort", str(abort), "--log", "--idle", "600"]
+        bench = (TOP / "examples/bench.txt").read_bytes()
+        super().__init__(words, bench, stderr=subprocess.DEVNULL, env=environment(folder, number))
 
-    def __enter__(self):
-        with open(TOP / "examples/bench.txt", "rb") as bench:
-            self.process = subprocess.Popen(self.words, stdin=bench, stdout=subprocess.PIPE, stderr=subprocess.DEVNULL, env=self.env)
-        self.status = None if self.process.stdout.readline().startswith(b"listening") else self.process.wait(PATIENCE)
-        return self
-
-    def __exit__(self, *_):
-        self.process.kill()
-        self.process.wait()
-        self.process.stdout.close()
+    def expect_up(self):
+        self.status = None
+        if not self.process.stdout.readline().startswith(b"listening"):
+            self.status = self.process.wait(PATIENCE)
+            if self.status not in (NO_MEMORY, NO_THREAD):
+                raise self.refusal()
 
 
 def query(client, port):
@@ -126,10 +117,11 @@ def query(client, port):
 
 def of_client(folder, client, server):
     with Server(folder, server, 0) as served:
-        whole = subprocess.run(query(client, served.port), capture_output=True, timeout=PATIENCE, check=True).stdout
+        port, _ = served.ports
+        whole = subprocess.run(query(client, port), capture_output=True, timeout=PATIENCE, check=True).stdout
 
         def run(number):
-            status, output = ended(folder, number, query(client, served.port))
+            status, output = ended(folder, number, query(client, port))
             return ["ended" if is_lacking(status, output, whole) else "went on"]
 
         return sweep(folder, run)
@@ -139,10 +131,8 @@ def of_server(folder, server, client):
     def run(number):
         with Server(folder, server, number) as served:
             if served.status is not None:
-                if served.status not in (NO_MEMORY, NO_THREAD):
-                    raise Wrong(f"status {served.status} at the start")
                 return ["ended"]
-            ask = query(client, served.port)
+            ask = query(client, served.ports[0])
             answers = [subprocess.run(ask, capture_output=True, timeout=PATIENCE).returncode for _ in range(3)]
             refused = len(answers) - answers.count(0)
             if refused and subprocess.run(ask, capture_output=True, timeout=PATIENCE).returncode:
@@ -172,7 +162,7 @@ def main(words):
         for name, trial, programs in rows:
             try:
                 count, counts = trial(folder, *programs)
-            except Wrong as wrong:
+            except (Wrong, AssertionError) as wrong:
                 failed += 1
                 print(f"{name}: {wrong}", file=sys.stderr)
                 continue
