@@ -1,15 +1,16 @@
 #!/usr/bin/env bash
-# Builds the instrument of the README, without a proof, into a copy of the player, and plays the README's script with it: what
+# Builds the instrument of docs/SCRIPT.md, without a proof, into a copy of the player, and plays the script there with it: what
 # is printed has to be what stands there. The four blocks of its section are the instrument, the line that adds it to the spare
 # instruments, the script, and what that prints. What differs goes to standard error; the status is 1 then.
 set -u
 cd "$(dirname "$0")/.." || exit 1
+page=docs/SCRIPT.md
 section='## An instrument of your own'
 folder=$(mktemp -d) || exit 1
 trap 'rm -rf "$folder"' EXIT
 
 fail() {
-    printf 'the instrument of the README: %s\n' "$1" >&2
+    printf 'the instrument of %s: %s\n' "$page" "$1" >&2
     exit 1
 }
 
@@ -20,10 +21,10 @@ block() {
         !inside { next }
         /^```/ { open = !open; if (open) count++; next }
         open && count == wanted
-    ' README.md
+    ' "$page"
 }
 
-blocks=$(awk -v section="$section" '/^## / { inside = $0 == section } inside && /^```/' README.md | wc -l)
+blocks=$(awk -v section="$section" '/^## / { inside = $0 == section } inside && /^```/' "$page" | wc -l)
 [ "$blocks" -eq 8 ] || fail "its section has $blocks fences, and not those of four blocks"
 for n in 1 2 3 4; do
     block "$n" > "$folder/$n"
@@ -46,6 +47,6 @@ awk -v line="$folder/2" '
 status=$?
 if [ "$status" -ne 0 ] || ! diff "$folder/4" "$folder/printed" >&2; then
     cat "$folder/said" >&2
-    fail "its script ends with status $status, or prints what the README doesn't say"
+    fail "its script ends with status $status, or prints what the page doesn't say"
 fi
-printf 'the instrument of the README: played\n' >&2
+printf 'the instrument of %s: played\n' "$page" >&2
