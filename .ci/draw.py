@@ -5,10 +5,11 @@ trace has.
     draw.py
 
 Each call, reply and wait of a trace has to stand in its picture once, in order, between the columns of its connection and of the
-gateway, with the procedure, the error or the cause that the line has, which is read here from its words again; and so have the
-turns on the bus and its transfers. All of a picture lies in its frame, and no text on another. Inputs that are no trace have a
-message and status 1. And docs/trace.svg is the picture of the trace that docs/SCRIPT.md says. What differs, and at last 'N passed,
-M failed', goes to standard error; the status is 1 where something differs.
+gateway, with the procedure, the error or the cause that the line has, which is read here from its words again; and so have the turns
+on the bus and its transfers. All of a picture lies in its frame, and no text on another. A trace that is refused at a line is drawn
+up to it, with the cause, whatever stands behind. Inputs that are no trace have a message and status 1. And docs/trace.svg, which
+README.md shows, is the picture of the trace that it and docs/SCRIPT.md say. What differs, and at last 'N passed, M failed', goes to
+standard error; the status is 1 where something differs.
 """
 import pathlib
 import re
@@ -73,9 +74,9 @@ class Wrong(Exception):
     """What a picture lacks."""
 
 
-def drawn(trace):
+def drawn(trace, *verdict):
     trace = trace if isinstance(trace, bytes) else trace.encode()
-    return subprocess.run([sys.executable, str(DRAW)], input=trace, capture_output=True, timeout=60)
+    return subprocess.run([sys.executable, str(DRAW), *verdict], input=trace, capture_output=True, timeout=60)
 
 
 def call(procedure, arguments, program="000607AF"):
@@ -198,12 +199,25 @@ def check_line(picture, number, kind, conn, patterns, above):
     return float(line.get("y1"))
 
 
-def check_trace(trace):
-    done = drawn(trace)
+def picture_of(trace, *verdict):
+    done = drawn(trace, *verdict)
     if done.returncode or done.stderr:
         raise Wrong(f"status {done.returncode}, {done.stderr.decode()}")
-    picture, asked, y = Picture(done.stdout), {}, 0
-    for number, line in enumerate(trace.split("\n")[1:-2], 2):
+    return Picture(done.stdout)
+
+
+def check_trace(trace):
+    picture = picture_of(trace)
+    check_lines(picture, trace.split("\n")[1:-2])
+    check_addresses(picture, trace)
+    picture.check_frame()
+    picture.check_texts()
+
+
+def check_lines(picture, lines):
+    """Each of these lines, which stand behind the first one of a trace, has its row."""
+    asked, y = {}, 0
+    for number, line in enumerate(lines, 2):
         _, kind, *rest = line.split(" ", 3)
         conn, rest = rest[0], rest[1] if len(rest) > 1 else ""
         if kind == "call":
@@ -213,9 +227,33 @@ def check_trace(trace):
             y = check_line(picture, number, kind, conn, looked_for(kind, rest, asked.get(conn)), y)
         elif not any(text.text for group in picture.of(number) for text in group.findall(SVG + "text")):
             raise Wrong(f"line {number}, {kind}: it has no row")
-    check_addresses(picture, trace)
-    picture.check_frame()
-    picture.check_texts()
+
+
+def check_refused(trace):
+    """Refused at any of its lines, with junk from there on, it is drawn up to that line; so it is where its last line is missing."""
+    lines = trace.split("\n")[:-1]
+    for number in range(1, len(lines) + 1):
+        is_cut, front = number == len(lines), "".join(line + "\n" for line in lines[: number - 1])
+        verdict = f"line {number} {'place' if is_cut else 'form'}"
+        picture = picture_of(front.encode() + (b"" if is_cut else b"junk \xff\n" * (len(lines) - number)), *verdict.split())
+        check_lines(picture, lines[1 : number - 1])
+        if any(picture.of(later) for later in range(number, len(lines) + 1)):
+            raise Wrong(f"{verdict}: what stands behind it is drawn")
+        last, = [g for g in picture.groups if g.get("class") == "last"]
+        if [text.text for text in last.iter(SVG + "text")] != [verdict]:
+            raise Wrong(f"{verdict}: the picture doesn't say so")
+        picture.check_frame()
+
+
+def check_verdicts():
+    """`legal` changes nothing, and other words have a message."""
+    trace = (TOP / f"examples/{SHOWN}.trace").read_bytes()
+    if drawn(trace, "legal").stdout != drawn(trace).stdout:
+        raise Wrong("another picture of a legal trace")
+    for words in (["long"], ["line", "8"], ["line", "0", "form"], ["line", "8", "none"], ["line", "1000", "form"]):
+        done = drawn(trace, *words)
+        if done.returncode != 1 or done.stdout or not re.fullmatch(rb"draw: [^\n]+\n", done.stderr):
+            raise Wrong(f"{words}: status {done.returncode}, {done.stderr[:80]}")
 
 
 def check_addresses(picture, trace):
@@ -234,6 +272,10 @@ def check_no_trace(name):
 
 
 def check_shown():
+    for page, picture in (("README.md", "](docs/trace.svg)"), ("docs/SCRIPT.md", "](trace.svg)")):
+        text = (TOP / page).read_text()
+        if picture not in text or f"examples/{SHOWN}.trace" not in text:
+            raise Wrong(f"{page} doesn't show it, or says another trace")
     if (TOP / "docs/trace.svg").read_bytes() != drawn((TOP / f"examples/{SHOWN}.trace").read_bytes()).stdout:
         raise Wrong(f"it isn't the picture of examples/{SHOWN}.trace: make it anew")
 
@@ -242,6 +284,8 @@ def main():
     traces = sorted((TOP / "examples").glob("*.trace"))
     cases = [(path.name, lambda path=path: check_trace(path.read_text())) for path in traces]
     cases.append(("a trace of all", lambda: check_trace(trace_of_all())))
+    shown = (TOP / f"examples/{SHOWN}.trace").read_text()
+    cases += [("a trace that is refused", lambda: check_refused(shown)), ("verdicts", check_verdicts)]
     cases += [(name, lambda name=name: check_no_trace(name)) for name in NO_TRACES]
     cases.append(("docs/trace.svg", check_shown))
     failed = 0

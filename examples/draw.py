@@ -2,11 +2,13 @@
 """Draws a trace of version 2 as a sequence diagram.
 
     draw.py < TRACE > PICTURE.svg
+    draw.py line N CAUSE < TRACE > PICTURE.svg
 
-The trace is what `vxplay run` prints of a script of version 2; `docs/SCRIPT.md` has its lines. There is a column for each connection,
-for the gateway, for the bus, and for each address that the bus is told; moments go downwards. Calls and replies are named as VXI-11
-does, and the transfers of a poll are summed up: which bytes went to whom. Where the pointer rests on a row, a viewer of SVG shows the
-line of the trace. An input that is no such trace has a message on standard error, and status 1.
+With the words that `vxcheck` prints of a trace that it refuses, the trace is drawn up to that line, with the cause; its word `legal`
+changes nothing. The trace is what `vxplay run` prints of a script of version 2; `docs/SCRIPT.md` has its lines. There is a column
+for each connection, for the gateway, for the bus, and for each address that the bus is told; moments go downwards. Calls and replies
+are named as VXI-11 does, and the transfers of a poll are summed up: which bytes went to whom. Where the pointer rests on a row, a
+viewer of SVG shows the line of the trace. An input that is no such trace has a message on standard error, and status 1.
 """
 import re
 import struct
@@ -61,6 +63,7 @@ FORMS = {
     "gone": f"{CONN} (down|junk|long)",
 }
 LAST = re.compile(r"done|fault line [1-9][0-9]* [a-z]+")
+REFUSED = re.compile(r"line ([1-9][0-9]*) (form|moment|place|reply|entry)")  # what vxcheck prints
 
 
 class Line:
@@ -78,6 +81,16 @@ class Line:
         parts = list(found.groups())
         self.conn = None if self.kind == "srq" else int(parts.pop(0))
         self.rest = parts[0] if parts else ""
+
+
+def read_refused(text, number, cause):
+    """The lines of a trace in front of a line that is refused, and what stands below them."""
+    lines = text.split("\n")
+    if number > len(lines):
+        raise Fault(f"it has no line {number}")
+    found = [Line(place, line) for place, line in enumerate(lines[1 : number - 1], 2)]
+    check_order(found)
+    return found, f"line {number} {cause}"
 
 
 def read_trace(text):
@@ -712,10 +725,14 @@ def words(parent, x, y, text, colour, anchor, size=SIZE, weight=None):
     ET.SubElement(parent, "text", place).text = text
 
 
-def main():
+def main(verdict):
+    refused = REFUSED.fullmatch(" ".join(verdict))
+    if verdict and verdict != ["legal"] and not refused:
+        return "draw: the words are no verdict of vxcheck"
     try:
-        text = sys.stdin.buffer.read().decode("ascii")
-        lines, last = read_trace(text)
+        # what stands behind a refused line may be anything
+        text = sys.stdin.buffer.read().decode("ascii", "replace" if refused else "strict")
+        lines, last = read_refused(text, int(refused[1]), refused[2]) if refused else read_trace(text)
         made = Rows()
         for line in lines:
             made.add(line)
@@ -730,4 +747,4 @@ def main():
 
 
 if __name__ == "__main__":
-    sys.exit(main())
+    sys.exit(main(sys.argv[1:]))
