@@ -26,7 +26,7 @@ PLAYERS =
 # the same script without a proof
 try:
 	@echo "nothing is proved here: make play proves what it plays" >&2
-	cd crates/vxplay && rt try -- run < ../../$(SCRIPT)
+	@cd crates/vxplay && rt try -- run < ../../$(SCRIPT)
 
 # SCRIPT=examples/refusals.vxs plays another script.
 play: player
