@@ -19,7 +19,6 @@ import os
 import re
 import resource
 import select
-import shlex
 import shutil
 import signal
 import socket
@@ -370,7 +369,7 @@ def at_a_host():
 
 
 def a_link_by_its_bytes():
-    """The bytes as they stand in the README, but for the port."""
+    """The bytes as they stand in docs/PROTOCOL.md, but for the port."""
     with Server() as server, Peer(server.core) as peer:
         asked = "80000040000000010000000000000002000607AF000000010000000A000000000000000000000000000000000000002A"
         peer.send(bytes.fromhex(asked + "00000000000000000000000767706962302C3500"))
@@ -993,50 +992,6 @@ def expect_client(port, device, command, text, status):
     assert got == (text, status), f"{device} {' '.join(command)}: it ended with {got}"
 
 
-def windows_of_the_readme():
-    """The session of the README: of each window, its commands and what they print."""
-    with open(os.path.join(os.path.dirname(__file__), "..", "README.md")) as file:
-        text = file.read().split("**A session.**", 1)[1]
-    blocks = text.split("```")[1:4:2]
-    windows = []
-    for block in blocks:
-        commands = []
-        for line in block.strip().split("\n"):
-            if line.startswith("$ "):
-                commands.append((shlex.split(line[2:]), []))
-            else:
-                commands[-1][1].append(line)
-        windows.append(commands)
-    return windows
-
-
-def the_session_of_the_readme():
-    """Each command prints what stands there. Two lines of the log that two threads write come in either order."""
-    (serving,), asking = windows_of_the_readme()
-    words, lines = serving
-    options, bench = words[1 : words.index("<")], os.path.join(os.path.dirname(__file__), "..", words[-1])
-    with open(bench) as source, Server(*options, bench=source.read(), keeps_errors=True) as server:
-        for words, printed in asking:
-            expect_client(server.core, words[3], words[4:], "".join(line + "\n" for line in printed), 0)
-        server.expect_end(lines[-1] + "\n")
-        got = server.told()[:-1]
-        assert lines[0] == "listening 9010 9011" and sorted(got) == sorted(lines[1:-1]), f"the log is {got}"
-
-
-def the_abort_of_the_readme():
-    """The words of bash that stand there end a read of link 1, which would take a minute."""
-    with open(os.path.join(os.path.dirname(__file__), "..", "README.md")) as file:
-        line = next(line for line in file if line.startswith("printf ") and "/dev/tcp/" in line)
-    with Server() as server, Peer(server.core) as peer:
-        peer.ask(create(1, b"gpib0,5"), created(1, 1, server))
-        peer.send(read(2, 1, io_timeout=60000))
-        for _ in range(PATIENCE):
-            subprocess.run(["bash", "-c", line.replace("/9011", f"/{server.abort}")], check=True, timeout=PATIENCE)
-            if peer.hears(1):
-                break
-        peer.expect(reply(2, 23, 0, b""))
-
-
 def a_log_of_ends():
     """Junk, a record that is too long, a stream cut within a record, a reset, and an abort connection, each with its reason."""
     ends = [
@@ -1103,8 +1058,6 @@ CASES = [
     refused_starts,
     small_replies_come_at_once,
     the_client,
-    the_session_of_the_readme,
-    the_abort_of_the_readme,
     a_log_of_ends,
 ]
 
