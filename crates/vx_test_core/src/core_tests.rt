@@ -756,20 +756,12 @@ static PLAYS: [Play<'static>; 8] = [
     },
 ];
 
-/// The name of the first play that comes otherwise, and which of its rows does.
-fn first_wrong(alloc: Global, plays: &[Play<'_>]) -> Result<Option<(&'static str, usize)>, Fail> {
-    for play in plays {
-        if let Some(at) = go_wrong(alloc, play)? {
-            return Ok(Some((play.name, at)));
-        }
-    }
-    Ok(None)
-}
-
 #[test]
 fn plays(rt: HostRuntime) -> Result<(), Fail> {
-    let wrong = first_wrong(rt.alloc(), &PLAYS)?;
-    assert_eq!(rt; wrong, None);
+    for play in &PLAYS {
+        let wrong = go_wrong(rt.alloc(), play)?;
+        assert!(rt; wrong.is_none(), "{} {wrong:?}", play.name);
+    }
     Ok(())
 }
 
@@ -821,19 +813,11 @@ fn made(error: ErrorCode) -> Came {
     }
 }
 
-/// The place of the first device text that comes otherwise.
-fn first_other(alloc: Global, rows: &[(&'static [u8], ErrorCode)]) -> Result<Option<usize>, Fail> {
-    for (place, (device, error)) in rows.iter().enumerate() {
-        if device_text(alloc, device, made(*error))?.is_some() {
-            return Ok(Some(place));
-        }
-    }
-    Ok(None)
-}
-
 #[test]
 fn device_texts(rt: HostRuntime) -> Result<(), Fail> {
-    let wrong = first_other(rt.alloc(), &DEVICE_TEXTS)?;
-    assert_eq!(rt; wrong, None);
+    for (device, error) in DEVICE_TEXTS {
+        let wrong = device_text(rt.alloc(), device, made(error))?;
+        assert!(rt; wrong.is_none(), "{device:?}");
+    }
     Ok(())
 }

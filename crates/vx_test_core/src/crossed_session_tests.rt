@@ -61,7 +61,7 @@ const UNLOCK: [u8; 48] =
     *b"\x80\0\0\x2c\0\0\0\x03\0\0\0\0\0\0\0\x02\0\x06\x07\xaf\0\0\0\x01\0\0\0\x13\0\0\0\0\0\0\0\0\0\0\0\0\0\0\0\0\0\0\0\x02";
 
 /// Which of the two sessions.
-#[derive(Clone, Copy, Debug, PartialEq, Eq)]
+#[derive(Clone, Copy)]
 enum Side {
     First,
     Second,

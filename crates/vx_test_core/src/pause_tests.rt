@@ -125,23 +125,20 @@ fn written(alloc: Global, lens: &[u32]) -> Result<Vec<u32>, AllocError> {
     Ok(took)
 }
 
-/// The name of the first row of which something else comes, beside the one poll of create_link.
-fn first_wrong<R: Wait>(rt: &R, alloc: Global, rows: &[Row]) -> Result<Option<&'static str>, Fail> {
-    for row in rows {
-        let gives = writes(alloc, row.lens)?;
-        let took = written(alloc, row.lens)?;
-        let came = serve(rt, alloc, row.holds, gives, &took)?;
-        if came != (true, row.polls.saturating_add(1), row.pauses) {
-            return Ok(Some(row.name));
-        }
-    }
-    Ok(None)
+/// What comes of a row, beside the one poll of create_link.
+fn serve_row<R: Wait>(rt: &R, alloc: Global, row: &Row) -> Result<Came, Fail> {
+    let gives = writes(alloc, row.lens)?;
+    let took = written(alloc, row.lens)?;
+    serve(rt, alloc, row.holds, gives, &took)
 }
 
 #[test]
 fn no_pause_at_a_slice(rt: HostRuntime) -> Result<(), Fail> {
-    let wrong = first_wrong(&rt, rt.alloc(), &ROWS)?;
-    assert_eq!(rt; wrong, None);
+    for row in &ROWS {
+        let came = serve_row(&rt, rt.alloc(), row)?;
+        let wanted = (true, row.polls.saturating_add(1), row.pauses);
+        assert!(rt; came == wanted, "{}", row.name);
+    }
     Ok(())
 }
 

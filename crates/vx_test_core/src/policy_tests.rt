@@ -6,7 +6,7 @@ use vx_calls::{Proc, Target};
 use vx_policy::{Policy, PolicyErr, Verdict};
 
 /// What a text is.
-#[derive(Clone, Copy, Debug, PartialEq, Eq)]
+#[derive(Clone, Copy, PartialEq, Eq)]
 enum Known {
     Policy,
     Form(u32),

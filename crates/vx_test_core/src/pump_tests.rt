@@ -214,23 +214,11 @@ static ROWS: [(u32, u64, PumpEnd, &[u32]); 4] = [
     (0, 9, PumpEnd::ChannelGone, &[]),
 ];
 
-/// The place of the first row whose pump ends otherwise.
-fn first_wrong<R: Wait>(
-    rt: &R,
-    alloc: Global,
-    rows: &[(u32, u64, PumpEnd, &[u32])],
-) -> Result<Option<usize>, AllocError> {
-    for (place, (chan, fails, end, took)) in rows.iter().enumerate() {
-        if pumped(rt, alloc, *chan, *fails, took)? != (Some(*end), true) {
-            return Ok(Some(place));
-        }
-    }
-    Ok(None)
-}
-
 #[test]
 fn a_pump_writes_interrupts(rt: HostRuntime) -> Result<(), Fail> {
-    let wrong = first_wrong(&rt, rt.alloc(), &ROWS)?;
-    assert_eq!(rt; wrong, None);
+    for (chan, fails, end, took) in ROWS {
+        let came = pumped(&rt, rt.alloc(), chan, fails, took)?;
+        assert!(rt; came == (Some(end), true), "channel {chan}, call {fails}");
+    }
     Ok(())
 }

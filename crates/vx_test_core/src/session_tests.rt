@@ -311,20 +311,12 @@ fn serve_row<R: Wait>(rt: &R, alloc: Global, row: &Row) -> Result<Came, Fail> {
     Ok(seen(done, &outside.dial, row.took, row.rang))
 }
 
-/// The name of the first row of whose link something else comes.
-fn first_wrong<R: Wait>(rt: &R, alloc: Global, rows: &[Row]) -> Result<Option<&'static str>, Fail> {
-    for row in rows {
-        if serve_row(rt, alloc, row)? != (row.how, [0, 1], true, true) {
-            return Ok(Some(row.name));
-        }
-    }
-    Ok(None)
-}
-
 #[test]
 fn links_are_served(rt: HostRuntime) -> Result<(), Fail> {
-    let wrong = first_wrong(&rt, rt.alloc(), &ROWS)?;
-    assert_eq!(rt; wrong, None);
+    for row in &ROWS {
+        let came = serve_row(&rt, rt.alloc(), row)?;
+        assert!(rt; came == (row.how, [0, 1], true, true), "{}", row.name);
+    }
     Ok(())
 }
 

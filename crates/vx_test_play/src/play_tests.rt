@@ -9,18 +9,7 @@ use vx_memory::{MemSink, MemSource};
 use vx_play::*;
 use vx_rack::{Echo, Spare};
 
-/// Words that are no command.
-static NO_COMMANDS: [&[&str]; 6] = [
-    &[],
-    &["play"],
-    &["run", "x"],
-    &["RUN"],
-    &[""],
-    &["--version"],
-];
-
-/// Sinks in front of which those words stand: the write that fails, if one does, the status, and what is printed.
-static SINKS: [(&[u64], u8, &[u8]); 2] = [(&[], 1, b"usage: vxplay COMMAND\n"), (&[1], 4, b"")];
+const USAGE: &[u8] = b"usage: vxplay COMMAND\n";
 
 /// A text, so many times.
 type Piece = (&'static str, usize);
@@ -274,97 +263,83 @@ fn play(
     Ok(play_run(alloc, &owned, source, sink, rack))
 }
 
-/// Whether these words, which play no script, end so with these spares, and leave the source unread: its first read, which fails, is
-/// still to come.
-fn ends_unread(
-    alloc: Global,
-    names: &[&str],
-    words: &[&str],
-    write_fails: &[u64],
-    status: u8,
-    text: &[u8],
-) -> Result<bool, AllocError> {
+/// Whether the words of a row, which play no script, end so with these spares, and leave the source unread: its first read, which
+/// fails, is still to come.
+fn ends_unread(alloc: Global, row: &Unread) -> Result<bool, AllocError> {
+    let (names, words, write_fails, status, text) = *row;
     let mut source = MemSource::new(Vec::new(alloc), 1, [1u64].to_vec(alloc)?);
     let mut sink = MemSink::new(Vec::new(alloc), write_fails.to_vec(alloc)?);
     let ended = play(alloc, names, words, &mut source, &mut sink)?;
     Ok(ended == status && sink.bytes() == text && source.read(&mut [0]) == ReadOut::Failed)
 }
 
-/// The place of the first of these sinks in front of which the words end otherwise.
-fn first_other(
-    alloc: Global,
-    words: &[&str],
-    sinks: &[(&[u64], u8, &[u8])],
-) -> Result<Option<usize>, AllocError> {
-    for (place, (write_fails, status, text)) in sinks.iter().enumerate() {
-        if !ends_unread(alloc, &["echo"], words, write_fails, *status, text)? {
-            return Ok(Some(place));
-        }
-    }
-    Ok(None)
-}
+/// Spare instruments, words, the write that fails, if one does, the status, and what is printed.
+type Unread = (
+    &'static [&'static str],
+    &'static [&'static str],
+    &'static [u64],
+    u8,
+    &'static [u8],
+);
 
-/// The places of the first words that end otherwise, and of the sink.
-fn first_command(
-    alloc: Global,
-    lists: &[&[&str]],
-    sinks: &[(&[u64], u8, &[u8])],
-) -> Result<Option<(usize, usize)>, AllocError> {
-    for (place, words) in lists.iter().enumerate() {
-        if let Some(sink) = first_other(alloc, words, sinks)? {
-            return Ok(Some((place, sink)));
-        }
-    }
-    Ok(None)
-}
+/// The words of a run.
+const RUN: &[&str] = &["gen", "1", "4"];
 
-/// How a run ends without `slow` among the spares, in front of a sink that takes all, and of one whose first or second write fails.
-static SHORT_RACK: [(&[u64], u8, &[u8]); 3] = [
-    (&[], 3, b"gen 1 4\nfault line 2 spare\n"),
-    (&[1], 4, b""),
-    (&[2], 4, b"gen 1 4\n"),
-];
-
-#[test]
-fn run_without_a_spare(rt: HostRuntime) -> Result<(), Fail> {
-    let wrong = first_other(rt.alloc(), &["gen", "1", "4"], &SHORT_RACK)?;
-    assert_eq!(rt; wrong, None);
-    Ok(())
-}
-
-/// Spares of which one that the head of a run plugs is missing, and what is printed then.
-static RACKS: [(&[&str], &[u8]); 5] = [
-    (&[], b"gen 1 4\nfault line 1 spare\n"),
-    (&["slow", "asker"], b"gen 1 4\nfault line 1 spare\n"),
-    (&["asker", "echo"], b"gen 1 4\nfault line 2 spare\n"),
-    (&["echo", "slow"], b"gen 1 4\nfault line 3 spare\n"),
+static UNREAD: [Unread; 20] = [
+    // words that are no command, in front of a sink that takes all, and of one whose first write fails
+    (&["echo"], &[], &[], 1, USAGE),
+    (&["echo"], &["play"], &[], 1, USAGE),
+    (&["echo"], &["run", "x"], &[], 1, USAGE),
+    (&["echo"], &["RUN"], &[], 1, USAGE),
+    (&["echo"], &[""], &[], 1, USAGE),
+    (&["echo"], &["--version"], &[], 1, USAGE),
+    (&["echo"], &[], &[1], 4, b""),
+    (&["echo"], &["play"], &[1], 4, b""),
+    (&["echo"], &["run", "x"], &[1], 4, b""),
+    (&["echo"], &["RUN"], &[1], 4, b""),
+    (&["echo"], &[""], &[1], 4, b""),
+    (&["echo"], &["--version"], &[1], 4, b""),
+    // a run without a spare that its head plugs: `slow`, where the first or the second write fails too; and each of the three
+    (&["echo"], RUN, &[], 3, b"gen 1 4\nfault line 2 spare\n"),
+    (&["echo"], RUN, &[1], 4, b""),
+    (&["echo"], RUN, &[2], 4, b"gen 1 4\n"),
+    (&[], RUN, &[], 3, b"gen 1 4\nfault line 1 spare\n"),
+    (
+        &["slow", "asker"],
+        RUN,
+        &[],
+        3,
+        b"gen 1 4\nfault line 1 spare\n",
+    ),
+    (
+        &["asker", "echo"],
+        RUN,
+        &[],
+        3,
+        b"gen 1 4\nfault line 2 spare\n",
+    ),
+    (
+        &["echo", "slow"],
+        RUN,
+        &[],
+        3,
+        b"gen 1 4\nfault line 3 spare\n",
+    ),
     (
         &["meter", "slow", "echo", "slow"],
+        RUN,
+        &[],
+        3,
         b"gen 1 4\nfault line 3 spare\n",
     ),
 ];
 
-/// The place of the first rack with which a run ends otherwise.
-fn first_rack(alloc: Global, racks: &[(&[&str], &[u8])]) -> Result<Option<usize>, AllocError> {
-    for (place, (names, text)) in racks.iter().enumerate() {
-        if !ends_unread(alloc, names, &["gen", "1", "4"], &[], 3, text)? {
-            return Ok(Some(place));
-        }
+#[test]
+fn plays_without_a_script(rt: HostRuntime) -> Result<(), Fail> {
+    for (place, row) in UNREAD.iter().enumerate() {
+        let is_so = ends_unread(rt.alloc(), row)?;
+        assert!(rt; is_so, "row {place}");
     }
-    Ok(None)
-}
-
-#[test]
-fn runs_whose_rack_lacks_a_spare(rt: HostRuntime) -> Result<(), Fail> {
-    let wrong = first_rack(rt.alloc(), &RACKS)?;
-    assert_eq!(rt; wrong, None);
-    Ok(())
-}
-
-#[test]
-fn words_that_are_no_command(rt: HostRuntime) -> Result<(), Fail> {
-    let wrong = first_command(rt.alloc(), &NO_COMMANDS, &SINKS)?;
-    assert_eq!(rt; wrong, None);
     Ok(())
 }
 
@@ -409,20 +384,12 @@ fn is_right(alloc: Global, row: &Row) -> Result<bool, AllocError> {
     Ok(status == row.status && is_printed(sink.bytes(), row.printed))
 }
 
-/// The name of the first row whose play ends otherwise.
-fn first_wrong(alloc: Global, rows: &[Row]) -> Result<Option<&'static str>, AllocError> {
-    for row in rows {
-        if !is_right(alloc, row)? {
-            return Ok(Some(row.name));
-        }
-    }
-    Ok(None)
-}
-
 #[test]
 fn plays(rt: HostRuntime) -> Result<(), Fail> {
-    let wrong = first_wrong(rt.alloc(), &ROWS)?;
-    assert_eq!(rt; wrong, None);
+    for row in &ROWS {
+        let is_so = is_right(rt.alloc(), row)?;
+        assert!(rt; is_so, "{}", row.name);
+    }
     Ok(())
 }
 

@@ -233,34 +233,18 @@ fn says(line: &[u8], wanted: &Read) -> bool {
     line.len() <= 64 && read_step(line, &mut room[..line.len()]) == *wanted
 }
 
-/// The first row whose line says something else.
-fn first_wrong(rows: &[(&[u8], Read<'_>)]) -> Option<usize> {
-    for (place, (line, wanted)) in rows.iter().enumerate() {
-        if !says(line, wanted) {
-            return Some(place);
-        }
-    }
-    None
-}
-
 #[test]
 fn lines(rt: HostRuntime) {
-    assert_eq!(rt; first_wrong(&LINES), None);
-}
-
-/// The first row whose cause has another word.
-fn first_other(rows: &[(Cause, &[u8])]) -> Option<usize> {
-    for (place, (cause, word)) in rows.iter().enumerate() {
-        if cause.word() != *word {
-            return Some(place);
-        }
+    for (place, (line, wanted)) in LINES.iter().enumerate() {
+        assert!(rt; says(line, wanted), "line {place}");
     }
-    None
 }
 
 #[test]
 fn words(rt: HostRuntime) {
-    assert_eq!(rt; first_other(&WORDS), None);
+    for (place, (cause, word)) in WORDS.iter().enumerate() {
+        assert!(rt; cause.word() == *word, "cause {place}");
+    }
 }
 
 /// A line that begins so, and goes on with `#` up to so many bytes.
@@ -308,23 +292,12 @@ fn is_long(alloc: Global, front: &[u8], len: usize, is_read: bool) -> Result<boo
     Ok(is_long_line(&line, &mut room, is_read))
 }
 
-/// The place of the first row whose line is read otherwise.
-fn first_misread(
-    alloc: Global,
-    rows: &[(&[u8], usize, bool)],
-) -> Result<Option<usize>, AllocError> {
-    for (place, (front, len, is_read)) in rows.iter().enumerate() {
-        if !is_long(alloc, front, *len, *is_read)? {
-            return Ok(Some(place));
-        }
-    }
-    Ok(None)
-}
-
 #[test]
 fn long_lines(rt: HostRuntime) -> Result<(), Fail> {
-    let wrong = first_misread(rt.alloc(), &LONG_LINES)?;
-    assert_eq!(rt; wrong, None);
+    for (front, len, is_read) in LONG_LINES {
+        let is_so = is_long(rt.alloc(), front, len, is_read)?;
+        assert!(rt; is_so, "{front:?} {len}");
+    }
     Ok(())
 }
 
@@ -417,19 +390,11 @@ fn says_timed(line: &[u8], wanted: &Timed) -> bool {
     line.len() <= 64 && read_step2(line, &mut room[..line.len()]) == *wanted
 }
 
-/// The first row whose line of version 2 says something else.
-fn first_wrong_timed(rows: &[(&[u8], Timed<'_>)]) -> Option<usize> {
-    for (place, (line, wanted)) in rows.iter().enumerate() {
-        if !says_timed(line, wanted) {
-            return Some(place);
-        }
-    }
-    None
-}
-
 #[test]
 fn timed_lines(rt: HostRuntime) {
-    assert_eq!(rt; first_wrong_timed(&TIMED_LINES), None);
+    for (place, (line, wanted)) in TIMED_LINES.iter().enumerate() {
+        assert!(rt; says_timed(line, wanted), "line {place}");
+    }
 }
 
 /// First lines of a script, each with the version that it gives it.
@@ -444,19 +409,11 @@ static FIRST_LINES: [(&[u8], Version); 8] = [
     (b"up 1 core", Version::One),
 ];
 
-/// The first row whose line gives another version.
-fn first_other_version(rows: &[(&[u8], Version)]) -> Option<usize> {
-    for (place, (line, version)) in rows.iter().enumerate() {
-        if version_of(line) != *version {
-            return Some(place);
-        }
-    }
-    None
-}
-
 #[test]
 fn versions(rt: HostRuntime) {
-    assert_eq!(rt; first_other_version(&FIRST_LINES), None);
+    for (place, (line, version)) in FIRST_LINES.iter().enumerate() {
+        assert!(rt; version_of(line) == *version, "line {place}");
+    }
 }
 
 /// What a longer line of version 2 says where it isn't too long.
@@ -505,22 +462,11 @@ fn is_long_timed(
     Ok(is_long_timed_line(&line, &mut room, is_read))
 }
 
-/// The place of the first row whose line of version 2 is read otherwise.
-fn first_misread_timed(
-    alloc: Global,
-    rows: &[(&[u8], usize, bool)],
-) -> Result<Option<usize>, AllocError> {
-    for (place, (front, len, is_read)) in rows.iter().enumerate() {
-        if !is_long_timed(alloc, front, *len, *is_read)? {
-            return Ok(Some(place));
-        }
-    }
-    Ok(None)
-}
-
 #[test]
 fn long_timed_lines(rt: HostRuntime) -> Result<(), Fail> {
-    let wrong = first_misread_timed(rt.alloc(), &LONG_TIMED_LINES)?;
-    assert_eq!(rt; wrong, None);
+    for (front, len, is_read) in LONG_TIMED_LINES {
+        let is_so = is_long_timed(rt.alloc(), front, len, is_read)?;
+        assert!(rt; is_so, "{front:?} {len}");
+    }
     Ok(())
 }

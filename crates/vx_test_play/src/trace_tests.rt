@@ -172,20 +172,12 @@ fn is_text_of(line: Line<'_>, text: &[u8]) -> bool {
     is_written(&line, text) && is_full(&line, text) && is_read(text, Some(line))
 }
 
-/// The first row whose line is another text.
-fn first_wrong(rows: &[(Line<'_>, &[u8])]) -> Option<usize> {
-    for (place, (line, text)) in rows.iter().enumerate() {
-        if !is_text_of(*line, text) {
-            return Some(place);
-        }
-    }
-    None
-}
-
 // Each line is written, and read back.
 #[test]
 fn lines(rt: HostRuntime) {
-    assert_eq!(rt; first_wrong(&LINES), None);
+    for (place, (line, text)) in LINES.iter().enumerate() {
+        assert!(rt; is_text_of(*line, text), "line {place}");
+    }
 }
 
 /// Texts that are no output line of version 1.
@@ -257,19 +249,11 @@ static NO_LINES: [&[u8]; 65] = [
     b"0 wait 2 held\n",
 ];
 
-/// The first text that is a line.
-fn first_read(texts: &[&[u8]]) -> Option<usize> {
-    for (place, text) in texts.iter().enumerate() {
-        if !is_read(text, None) {
-            return Some(place);
-        }
-    }
-    None
-}
-
 #[test]
 fn no_lines(rt: HostRuntime) {
-    assert_eq!(rt; first_read(&NO_LINES), None);
+    for (place, text) in NO_LINES.iter().enumerate() {
+        assert!(rt; is_read(text, None), "text {place}");
+    }
 }
 
 /// One room for all lines of a caller, whatever their numbers: a bus line of at most 8 transfers is written.
@@ -579,38 +563,23 @@ fn is_read2(text: &[u8], line: Option<(u64, Line)>) -> bool {
     len <= 72 && read_line2(text, &mut moves[..len], &mut bytes[..len]) == line
 }
 
-/// The first row whose line is another text at its moment, or whose text another line.
-fn first_wrong2(rows: &[(u64, Line<'_>, &[u8], u64)]) -> Option<usize> {
-    for (place, (moment, line, text, read)) in rows.iter().enumerate() {
-        if !is_written2(*moment, line, text)
-            || !is_full2(*moment, line, text)
-            || !is_read2(text, Some((*read, *line)))
-        {
-            return Some(place);
-        }
-    }
-    None
-}
-
 // Each line of version 2 is written at its moment, and read back with it.
 #[test]
 fn lines2(rt: HostRuntime) {
-    assert_eq!(rt; first_wrong2(&LINES2), None);
-}
-
-/// The first text that is a line of version 2.
-fn first_read2(texts: &[&[u8]]) -> Option<usize> {
-    for (place, text) in texts.iter().enumerate() {
-        if !is_read2(text, None) {
-            return Some(place);
-        }
+    for (place, (moment, line, text, read)) in LINES2.iter().enumerate() {
+        let is_put = is_written2(*moment, line, text) && is_full2(*moment, line, text);
+        assert!(rt;
+            is_put && is_read2(text, Some((*read, *line))),
+            "line {place}"
+        );
     }
-    None
 }
 
 #[test]
 fn no_lines2(rt: HostRuntime) {
-    assert_eq!(rt; first_read2(&NO_LINES2), None);
+    for (place, text) in NO_LINES2.iter().enumerate() {
+        assert!(rt; is_read2(text, None), "text {place}");
+    }
 }
 
 /// A message of at most 17 bytes is written at every moment.

@@ -158,7 +158,7 @@ fn a_dial_hands_its_stream_on(rt: HostRuntime) -> Result<(), Fail> {
     let (port, number) = open_port(&rt)?;
     let answers = dial_twice(&rt, &mut tools.dial(), &mut tools.streams(), port, number);
     let carried = Some((3, 7, WriteOut::Took(2), ReadOut::Got(2)));
-    assert_eq!(rt; answers, (DialOut::Up, carried, DialOut::Failed));
+    assert!(rt; answers == (DialOut::Up, carried, DialOut::Failed));
     Ok(())
 }
 

@@ -303,20 +303,12 @@ fn holds(alloc: Global, row: &Row) -> Result<bool, Fail> {
     Ok(is_answered(&mut client, row))
 }
 
-/// The place of the first row that doesn't hold.
-fn first_wrong(alloc: Global, rows: &[Row]) -> Result<Option<usize>, Fail> {
-    for (place, row) in rows.iter().enumerate() {
-        if !holds(alloc, row)? {
-            return Ok(Some(place));
-        }
-    }
-    Ok(None)
-}
-
 #[test]
 fn calls_are_answered(rt: HostRuntime) -> Result<(), Fail> {
-    let wrong = first_wrong(rt.alloc(), &ROWS)?;
-    assert_eq!(rt; wrong, None);
+    for (place, row) in ROWS.iter().enumerate() {
+        let is_so = holds(rt.alloc(), row)?;
+        assert!(rt; is_so, "row {place}");
+    }
     Ok(())
 }
 
@@ -348,20 +340,12 @@ static LINES: [(&str, u8, &str); 2] = [
     ("h 9010 gpib0,31 query A", 3, "error 21\n"),
 ];
 
-/// The place of the first line that comes otherwise.
-fn first_other(alloc: Global, lines: &[(&str, u8, &str)]) -> Result<Option<usize>, Fail> {
-    for (place, (line, status, text)) in lines.iter().enumerate() {
-        if !line_comes_so(alloc, line, *status, text)? {
-            return Ok(Some(place));
-        }
-    }
-    Ok(None)
-}
-
 #[test]
 fn a_command_is_done(rt: HostRuntime) -> Result<(), Fail> {
-    let wrong = first_other(rt.alloc(), &LINES)?;
-    assert_eq!(rt; wrong, None);
+    for (line, status, text) in LINES {
+        let is_so = line_comes_so(rt.alloc(), line, status, text)?;
+        assert!(rt; is_so, "{line}");
+    }
     Ok(())
 }
 
@@ -438,19 +422,11 @@ fn link_acts(alloc: Global, list: &[Act]) -> Result<bool, Fail> {
     Ok(acts(&mut link, list))
 }
 
-/// The place of the first list that is answered otherwise.
-fn first_unanswered(alloc: Global, lists: &[&[Act]]) -> Result<Option<usize>, Fail> {
-    for (place, list) in lists.iter().enumerate() {
-        if !link_acts(alloc, list)? {
-            return Ok(Some(place));
-        }
-    }
-    Ok(None)
-}
-
 #[test]
 fn records_are_answered(rt: HostRuntime) -> Result<(), Fail> {
-    let wrong = first_unanswered(rt.alloc(), &ACTS)?;
-    assert_eq!(rt; wrong, None);
+    for (place, list) in ACTS.iter().enumerate() {
+        let is_so = link_acts(rt.alloc(), list)?;
+        assert!(rt; is_so, "list {place}");
+    }
     Ok(())
 }

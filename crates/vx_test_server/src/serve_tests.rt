@@ -358,47 +358,20 @@ fn ends_so_idle<R: Wait>(rt: &R, alloc: Global, row: &Row) -> Result<bool, Fail>
     ends_so(rt, alloc, row, &mut spawner)
 }
 
-/// The place of the first row whose server doesn't end as it says.
-fn first_wrong<R: Wait>(rt: &R, alloc: Global, rows: &[Row]) -> Result<Option<usize>, Fail> {
-    for (place, row) in rows.iter().enumerate() {
-        if !ends_so_idle(rt, alloc, row)? {
-            return Ok(Some(place));
+#[test]
+fn servers_end_so(rt: HostRuntime) -> Result<(), Fail> {
+    let tables = [
+        ("words", WORDS.as_slice()),
+        ("bench", &BENCHES),
+        ("fault", &FAULTS),
+        ("first cause", &TWICE),
+        ("links that come back", &LINKS),
+    ];
+    for (name, rows) in tables {
+        for (place, row) in rows.iter().enumerate() {
+            let is_so = ends_so_idle(&rt, rt.alloc(), row)?;
+            assert!(rt; is_so, "{name} {place}");
         }
     }
-    Ok(None)
-}
-
-#[test]
-fn words_are_met(rt: HostRuntime) -> Result<(), Fail> {
-    let wrong = first_wrong(&rt, rt.alloc(), &WORDS)?;
-    assert_eq!(rt; wrong, None);
-    Ok(())
-}
-
-#[test]
-fn benches_are_set_up(rt: HostRuntime) -> Result<(), Fail> {
-    let wrong = first_wrong(&rt, rt.alloc(), &BENCHES)?;
-    assert_eq!(rt; wrong, None);
-    Ok(())
-}
-
-#[test]
-fn faults_are_told(rt: HostRuntime) -> Result<(), Fail> {
-    let wrong = first_wrong(&rt, rt.alloc(), &FAULTS)?;
-    assert_eq!(rt; wrong, None);
-    Ok(())
-}
-
-#[test]
-fn the_first_cause_counts(rt: HostRuntime) -> Result<(), Fail> {
-    let wrong = first_wrong(&rt, rt.alloc(), &TWICE)?;
-    assert_eq!(rt; wrong, None);
-    Ok(())
-}
-
-#[test]
-fn links_that_come_back(rt: HostRuntime) -> Result<(), Fail> {
-    let wrong = first_wrong(&rt, rt.alloc(), &LINKS)?;
-    assert_eq!(rt; wrong, None);
     Ok(())
 }

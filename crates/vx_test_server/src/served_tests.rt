@@ -88,7 +88,7 @@ fn comes(count: &AtomicU64, most: u64) -> bool {
 }
 
 /// Which link.
-#[derive(Clone, Copy, Debug, PartialEq, Eq)]
+#[derive(Clone, Copy)]
 pub(crate) enum Side {
     /// It makes a link and ends its input.
     Short,
@@ -278,7 +278,7 @@ fn each_once(lines: usize) -> u64 {
 }
 
 /// The log that is due. It is a name and not the lines, since a work with a reference in it can't be handed to a thread here.
-#[derive(Clone, Copy, Debug, PartialEq, Eq)]
+#[derive(Clone, Copy)]
 pub(crate) enum Log {
     Nothing,
     OneLink,
@@ -490,7 +490,7 @@ pub(crate) struct Row {
 
 /// How a server ended: its status, what it wrote, and the number of its tally; and how many bytes that were due the core links
 /// took, the abort links, and the peers of interrupt channels.
-#[derive(Clone, Copy, Debug, PartialEq, Eq)]
+#[derive(Clone, Copy)]
 pub(crate) struct Ends {
     pub status: u8,
     pub text: &'static str,
@@ -615,15 +615,13 @@ static INTERRUPTED: Row = Row {
 };
 
 #[test]
-fn a_link_is_served(rt: HostRuntime) -> Result<(), Fail> {
-    let is_so = ends_so_in_threads(rt, rt.alloc(), &SHORT)?;
-    assert!(rt; is_so);
-    Ok(())
-}
-
-#[test]
-fn an_interrupt_and_an_abort(rt: HostRuntime) -> Result<(), Fail> {
-    let is_so = ends_so_in_threads(rt, rt.alloc(), &INTERRUPTED)?;
-    assert!(rt; is_so);
+fn links_are_served_in_threads(rt: HostRuntime) -> Result<(), Fail> {
+    for (name, row) in [
+        ("a link", &SHORT),
+        ("an interrupt and an abort", &INTERRUPTED),
+    ] {
+        let is_so = ends_so_in_threads(rt, rt.alloc(), row)?;
+        assert!(rt; is_so, "{name}");
+    }
     Ok(())
 }
