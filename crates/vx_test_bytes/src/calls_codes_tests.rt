@@ -20,17 +20,9 @@ static NUMBERS: [(ErrorCode, u32); 15] = [
     (ErrorCode::ChannelUp, 29),
 ];
 
-/// The first row whose error has another number.
-fn first_wrong(rows: &[(ErrorCode, u32)]) -> Option<usize> {
-    for (place, (code, want)) in rows.iter().enumerate() {
-        if code.number() != *want {
-            return Some(place);
-        }
-    }
-    None
-}
-
 #[test]
 fn numbers(rt: HostRuntime) {
-    assert_eq!(rt; first_wrong(&NUMBERS), None);
+    for (code, number) in &NUMBERS {
+        assert!(rt; code.number() == *number, "the number {number}");
+    }
 }

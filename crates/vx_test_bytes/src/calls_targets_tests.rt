@@ -43,19 +43,11 @@ static TEXTS: [(&str, u8, Result<Target, ErrorCode>); 23] = [
     ("inst0,5,x", 0, SYNTAX),
 ];
 
-/// The first row whose text names another target.
-fn first_wrong(rows: &[(&str, u8, Result<Target, ErrorCode>)]) -> Option<usize> {
-    for (place, (text, own, want)) in rows.iter().enumerate() {
-        if target_of(text.as_bytes(), *own) != *want {
-            return Some(place);
-        }
-    }
-    None
-}
-
 #[test]
 fn device_texts(rt: HostRuntime) {
-    assert_eq!(rt; first_wrong(&TEXTS), None);
+    for (row, (text, own, named)) in TEXTS.iter().enumerate() {
+        assert!(rt; target_of(text.as_bytes(), *own) == *named, "in row {row}");
+    }
 }
 
 // A primary address of 255 digits: this one, zeros, and a 7.
@@ -70,7 +62,8 @@ fn long_number(first: u8) -> Result<Target, ErrorCode> {
 #[test]
 fn long_numbers(rt: HostRuntime) {
     let seven = Ok(Target::Device { p: 7, s: None });
-    assert_eq!(rt; [long_number(b'0'), long_number(b'9')], [seven, ADDRESS]);
+    let named = [long_number(b'0'), long_number(b'9')];
+    assert!(rt; named == [seven, ADDRESS]);
 }
 
 static CONFLICTS: [(Target, Target, bool); 6] = [
@@ -82,17 +75,9 @@ static CONFLICTS: [(Target, Target, bool); 6] = [
     (FIVE, SIX_TWO, false),
 ];
 
-/// The first row whose targets don't keep one another off as it says.
-fn first_other(rows: &[(Target, Target, bool)]) -> Option<usize> {
-    for (place, (a, b, want)) in rows.iter().enumerate() {
-        if conflicts(a, b) != *want {
-            return Some(place);
-        }
-    }
-    None
-}
-
 #[test]
 fn targets_conflict(rt: HostRuntime) {
-    assert_eq!(rt; first_other(&CONFLICTS), None);
+    for (row, (a, b, want)) in CONFLICTS.iter().enumerate() {
+        assert!(rt; conflicts(a, b) == *want, "in row {row}");
+    }
 }

@@ -9,7 +9,7 @@ ghost use Rattle.vx_codec.specs.Answered.{IsPuttableReply};
 use arrayvec::ArrayVec;
 use std::alloc::{AllocError, Global};
 use std::test::Fail;
-use vx_calls::{CallRef, ErrorCode, Handle, Proc, ReplyRef};
+use vx_calls::{CallRef, ErrorCode, Generic, Handle, Proc, ReplyRef};
 use vx_codec::*;
 use vx_xdr::Full;
 
@@ -21,116 +21,217 @@ fn bytes_of(alloc: Global, words: &[u32]) -> Result<Vec<u8>, AllocError> {
     Ok(bytes)
 }
 
+/// What a call is: its procedure; its link, flags, io timeout and lock timeout; its other numbers, in the order of the standard;
+/// and its bytes. What it hasn't is 0, or no bytes.
+type Shown<'a> = (Proc, [u32; 4], [u32; 5], &'a [u8]);
+
 // Arguments put together by hand from the structures of VXI-11's appendix C, and the call that they are.
-static CALLS: [(Proc, &[u32], &str); 17] = [
-    (Proc::Null, &[], "Null"),
+static CALLS: [(&[u32], Shown<'static>); 17] = [
+    (&[], (Proc::Null, [0; 4], [0; 5], b"")),
     (
-        Proc::CreateLink,
         &[0x2A, 0, 0, 7, 0x6770_6962, 0x302C_3500],
-        "CreateLink { client: 42, lock: false, lock_timeout: 0, device: [103, 112, 105, 98, 48, 44, 53] }",
+        (Proc::CreateLink, [0; 4], [42, 0, 0, 0, 0], b"gpib0,5"),
     ),
     (
-        Proc::Write,
         &[1, 10000, 2000, 8, 6, 0x2A49_444E, 0x3F0A_0000],
-        "Write { lid: 1, io_timeout: 10000, lock_timeout: 2000, flags: 8, bytes: [42, 73, 68, 78, 63, 10] }",
+        (Proc::Write, [1, 8, 10000, 2000], [0; 5], b"*IDN?\n"),
     ),
     (
-        Proc::Read,
         &[1, 1024, 10000, 2000, 128, 10],
-        "Read { lid: 1, request: 1024, io_timeout: 10000, lock_timeout: 2000, flags: 128, term: 10 }",
+        (Proc::Read, [1, 128, 10000, 2000], [1024, 10, 0, 0, 0], b""),
     ),
+    (&[1, 2, 3, 4], (Proc::ReadStb, [1, 2, 4, 3], [0; 5], b"")),
+    (&[5, 6, 7, 8], (Proc::Trigger, [5, 6, 8, 7], [0; 5], b"")),
     (
-        Proc::ReadStb,
-        &[1, 2, 3, 4],
-        "ReadStb(Generic { lid: 1, flags: 2, lock_timeout: 3, io_timeout: 4 })",
-    ),
-    (
-        Proc::Trigger,
-        &[5, 6, 7, 8],
-        "Trigger(Generic { lid: 5, flags: 6, lock_timeout: 7, io_timeout: 8 })",
-    ),
-    (
-        Proc::Clear,
         &[9, 10, 11, 12],
-        "Clear(Generic { lid: 9, flags: 10, lock_timeout: 11, io_timeout: 12 })",
+        (Proc::Clear, [9, 10, 12, 11], [0; 5], b""),
     ),
     (
-        Proc::Remote,
         &[13, 14, 15, 16],
-        "Remote(Generic { lid: 13, flags: 14, lock_timeout: 15, io_timeout: 16 })",
+        (Proc::Remote, [13, 14, 16, 15], [0; 5], b""),
     ),
     (
-        Proc::Local,
         &[17, 18, 19, 20],
-        "Local(Generic { lid: 17, flags: 18, lock_timeout: 19, io_timeout: 20 })",
+        (Proc::Local, [17, 18, 20, 19], [0; 5], b""),
     ),
+    (&[1, 1, 5000], (Proc::Lock, [1, 1, 0, 5000], [0; 5], b"")),
+    (&[2], (Proc::Unlock, [2, 0, 0, 0], [0; 5], b"")),
     (
-        Proc::Lock,
-        &[1, 1, 5000],
-        "Lock { lid: 1, flags: 1, lock_timeout: 5000 }",
-    ),
-    (Proc::Unlock, &[2], "Unlock { lid: 2 }"),
-    (
-        Proc::EnableSrq,
         &[1, 1, 3, 0x0102_0300],
-        "EnableSrq { lid: 1, enable: true, handle: Handle { bytes: [1, 2, 3] } }",
+        (
+            Proc::EnableSrq,
+            [1, 0, 0, 0],
+            [1, 0, 0, 0, 0],
+            b"\x01\x02\x03",
+        ),
     ),
     (
-        Proc::Docmd,
         &[2, 0, 10000, 2000, 0x2_0000, 1, 1, 1, 0x4000_0000],
-        "Docmd { lid: 2, flags: 0, io_timeout: 10000, lock_timeout: 2000, cmd: 131072, big: true, size: 1, bytes: [64] }",
+        (
+            Proc::Docmd,
+            [2, 0, 10000, 2000],
+            [0x2_0000, 1, 1, 0, 0],
+            b"\x40",
+        ),
     ),
-    (Proc::DestroyLink, &[3], "DestroyLink { lid: 3 }"),
+    (&[3], (Proc::DestroyLink, [3, 0, 0, 0], [0; 5], b"")),
     (
-        Proc::CreateIntr,
         &[0x7F00_0001, 1024, 0x0006_07B1, 1, 0],
-        "CreateIntr { host: 2130706433, port: 1024, prog: 395185, vers: 1, family: 0 }",
+        (
+            Proc::CreateIntr,
+            [0; 4],
+            [0x7F00_0001, 1024, 0x0006_07B1, 1, 0],
+            b"",
+        ),
     ),
-    (Proc::DestroyIntr, &[], "DestroyIntr"),
-    (Proc::DeviceAbort, &[4], "DeviceAbort { lid: 4 }"),
+    (&[], (Proc::DestroyIntr, [0; 4], [0; 5], b"")),
+    (&[4], (Proc::DeviceAbort, [4, 0, 0, 0], [0; 5], b"")),
 ];
 
-/// Whether the call is written as these bytes, and whether it has no room in none.
-fn written(call: &CallRef<'_>, args: &[u8]) -> (bool, bool)
+/// A call of a procedure that has a link, flags and both timeouts alone.
+fn generic(proc: Proc, g: &Generic) -> Shown<'static> {
+    let Generic {
+        lid,
+        flags,
+        lock_timeout,
+        io_timeout,
+    } = *g;
+    (proc, [lid, flags, io_timeout, lock_timeout], [0; 5], b"")
+}
+
+/// A call of a procedure that has a link alone.
+fn linked(proc: Proc, lid: u32) -> Shown<'static> {
+    (proc, [lid, 0, 0, 0], [0; 5], b"")
+}
+
+fn shown<'a>(call: &'a CallRef<'a>) -> Shown<'a> {
+    match call {
+        CallRef::Null => (Proc::Null, [0; 4], [0; 5], b""),
+        CallRef::CreateLink {
+            client,
+            lock,
+            lock_timeout,
+            device,
+        } => {
+            (
+                Proc::CreateLink,
+                [0, 0, 0, *lock_timeout],
+                [*client as u32, u32::from(*lock), 0, 0, 0],
+                device,
+            )
+        }
+        CallRef::Write {
+            lid,
+            io_timeout,
+            lock_timeout,
+            flags,
+            bytes,
+        } => {
+            (
+                Proc::Write,
+                [*lid, *flags, *io_timeout, *lock_timeout],
+                [0; 5],
+                bytes,
+            )
+        }
+        CallRef::Read {
+            lid,
+            request,
+            io_timeout,
+            lock_timeout,
+            flags,
+            term,
+        } => {
+            (
+                Proc::Read,
+                [*lid, *flags, *io_timeout, *lock_timeout],
+                [*request, u32::from(*term), 0, 0, 0],
+                b"",
+            )
+        }
+        CallRef::ReadStb(g) => generic(Proc::ReadStb, g),
+        CallRef::Trigger(g) => generic(Proc::Trigger, g),
+        CallRef::Clear(g) => generic(Proc::Clear, g),
+        CallRef::Remote(g) => generic(Proc::Remote, g),
+        CallRef::Local(g) => generic(Proc::Local, g),
+        CallRef::Lock {
+            lid,
+            flags,
+            lock_timeout,
+        } => (Proc::Lock, [*lid, *flags, 0, *lock_timeout], [0; 5], b""),
+        CallRef::Unlock { lid } => linked(Proc::Unlock, *lid),
+        CallRef::EnableSrq {
+            lid,
+            enable,
+            handle,
+        } => {
+            (
+                Proc::EnableSrq,
+                [*lid, 0, 0, 0],
+                [u32::from(*enable), 0, 0, 0, 0],
+                handle.bytes.as_slice(),
+            )
+        }
+        CallRef::Docmd {
+            lid,
+            flags,
+            io_timeout,
+            lock_timeout,
+            cmd,
+            big,
+            size,
+            bytes,
+        } => {
+            (
+                Proc::Docmd,
+                [*lid, *flags, *io_timeout, *lock_timeout],
+                [*cmd, u32::from(*big), *size, 0, 0],
+                bytes,
+            )
+        }
+        CallRef::DestroyLink { lid } => linked(Proc::DestroyLink, *lid),
+        CallRef::CreateIntr {
+            host,
+            port,
+            prog,
+            vers,
+            family,
+        } => {
+            (
+                Proc::CreateIntr,
+                [0; 4],
+                [*host, *port, *prog, *vers, *family],
+                b"",
+            )
+        }
+        CallRef::DestroyIntr => (Proc::DestroyIntr, [0; 4], [0; 5], b""),
+        CallRef::DeviceAbort { lid } => linked(Proc::DeviceAbort, *lid),
+    }
+}
+
+/// Whether the call is written as these bytes, and has room in none only where there are none.
+fn is_written(call: &CallRef<'_>, args: &[u8]) -> bool
     requires { IsPuttable (call_shown call.now) }
 {
     let mut out = [0xff; 64];
     let fits = put_args(call, &mut out) == Ok(args.len());
-    (
-        fits && out.starts_with(args),
-        put_args(call, &mut []).is_err(),
-    )
+    fits && out.starts_with(args) && put_args(call, &mut []).is_ok() == args.is_empty()
 }
 
-/// The call as it is shown, and how it is written.
-fn read(alloc: Global, proc: Proc, args: &[u8]) -> Result<(String, (bool, bool)), Fail> {
-    match read_args(proc, args) {
-        Some(call) => Ok((format!(in alloc; "{call:?}")?, written(&call, args))),
-        None => Err("unreadable".into()),
+/// Whether these bytes are a call's arguments, both ways.
+fn is_call(args: &[u8], want: &Shown<'_>) -> bool {
+    match read_args(want.0, args) {
+        Some(call) => shown(&call) == *want && is_written(&call, args),
+        None => false,
     }
-}
-
-/// Whether these words are a call's arguments, both ways.
-fn is_call(alloc: Global, proc: Proc, words: &[u32], shown: &str) -> Result<bool, Fail> {
-    let args = bytes_of(alloc, words)?;
-    let (text, written) = read(alloc, proc, &args)?;
-    Ok(text.as_str() == shown && written == (true, !words.is_empty()))
-}
-
-/// The place of the first row whose words are another call.
-fn first_wrong(alloc: Global, rows: &[(Proc, &[u32], &str)]) -> Result<Option<usize>, Fail> {
-    for (place, (proc, words, shown)) in rows.iter().enumerate() {
-        if !is_call(alloc, *proc, words, shown)? {
-            return Ok(Some(place));
-        }
-    }
-    Ok(None)
 }
 
 #[test]
 fn each_call_both_ways(rt: HostRuntime) -> Result<(), Fail> {
-    let wrong = first_wrong(rt.alloc(), &CALLS)?;
-    assert_eq!(rt; wrong, None);
+    for (row, (words, want)) in CALLS.iter().enumerate() {
+        let args = bytes_of(rt.alloc(), words)?;
+        assert!(rt; is_call(&args, want), "in row {row}");
+    }
     Ok(())
 }
 
@@ -217,40 +318,28 @@ fn is_puttable(reply: &ReplyRef<'_>) -> bool
     }
 }
 
-/// Whether the reply is written as these bytes.
-fn is_written(reply: &ReplyRef<'_>, bytes: &[u8]) -> bool {
+/// Whether the reply is put as these bytes.
+fn is_put(reply: &ReplyRef<'_>, bytes: &[u8]) -> bool {
     let mut out = [0xff; 32];
     is_puttable(reply) && put_results(reply, &mut out) == Ok(bytes.len()) && out.starts_with(bytes)
 }
 
-/// Whether bytes are a reply's results, both ways.
-fn is_reply(reply: &ReplyRef<'_>, proc: Proc, bytes: &[u8], seen: &Results<'_>) -> bool {
-    is_written(reply, bytes) && read_results(proc, bytes).as_ref() == Some(seen)
-}
-
-/// The first row whose bytes are other results.
-fn first_unlike(rows: &[(ReplyRef<'_>, Proc, &[u8], Results<'_>)]) -> Option<usize> {
-    for (place, (reply, proc, bytes, seen)) in rows.iter().enumerate() {
-        if !is_reply(reply, *proc, bytes, seen) {
-            return Some(place);
-        }
-    }
-    None
-}
-
 #[test]
 fn each_reply_both_ways(rt: HostRuntime) {
-    assert_eq!(rt; first_unlike(&REPLIES), None);
+    for (row, (reply, proc, bytes, seen)) in REPLIES.iter().enumerate() {
+        assert!(rt; is_put(reply, bytes), "written, in row {row}");
+        assert!(rt;
+            read_results(*proc, bytes) == Some(*seen),
+            "read, in row {row}"
+        );
+    }
 }
 
 // What stands above a status byte isn't looked at.
 #[test]
 fn low_bytes(rt: HostRuntime) {
-    let above = b"\0\0\0\0\xff\xff\xff\x41";
-    assert_eq!(rt;
-        read_results(Proc::ReadStb, above),
-        Some(Results::Stb { error: 0, stb: 65 })
-    );
+    let read = read_results(Proc::ReadStb, b"\0\0\0\0\xff\xff\xff\x41");
+    assert!(rt; read == Some(Results::Stb { error: 0, stb: 65 }));
 }
 
 /// What writing a handle of 40 bytes answers, where there is room and where there is a byte too little, and whether it was
@@ -267,7 +356,7 @@ fn handles(rt: HostRuntime) {
     let handle = Handle {
         bytes: ArrayVec::from([7; 40]),
     };
-    assert_eq!(rt; put_handle(&handle), (Ok(44), Err(Full), true));
+    assert!(rt; put_handle(&handle) == (Ok(44), Err(Full), true));
 }
 
 // A handle of 41 bytes, with its padding.
@@ -288,17 +377,9 @@ static NO_CALLS: [(Proc, &[u8]); 7] = [
     (Proc::EnableSrq, LONG_HANDLE),
 ];
 
-/// The first row that spells a call.
-fn first_call(rows: &[(Proc, &[u8])]) -> Option<usize> {
-    for (place, (proc, args)) in rows.iter().enumerate() {
-        if read_args(*proc, args).is_some() {
-            return Some(place);
-        }
-    }
-    None
-}
-
 #[test]
 fn what_spells_no_call(rt: HostRuntime) {
-    assert_eq!(rt; first_call(&NO_CALLS), None);
+    for (row, (proc, args)) in NO_CALLS.iter().enumerate() {
+        assert!(rt; read_args(*proc, args).is_none(), "in row {row}");
+    }
 }

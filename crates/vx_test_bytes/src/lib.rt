@@ -1,4 +1,5 @@
-//! Tests of the crates of bytes: what goes in and out, records, headers, arguments and results.
+//! Tests of the crates of bytes: what goes in and out, texts, records, headers, arguments and results, and the port mapper, which
+//! answers over them.
 #![tactic(auto)]
 
 #[cfg(test)]
@@ -12,14 +13,26 @@ mod door_tests;
 #[cfg(test)]
 mod io_tests;
 #[cfg(test)]
+mod mapper_answer_tests;
+#[cfg(test)]
+mod mapper_packet_tests;
+#[cfg(test)]
+mod mapper_run_tests;
+#[cfg(test)]
+mod mapper_stream_tests;
+#[cfg(test)]
+mod mapper_tools;
+#[cfg(test)]
+mod packet_box_tools;
+#[cfg(test)]
 mod record_tests;
 #[cfg(test)]
 mod rpc_tests;
 #[cfg(test)]
+mod socket_tests;
+#[cfg(test)]
 mod text_lines_tests;
 #[cfg(test)]
 mod text_tests;
-#[cfg(test)]
-mod timeouts_tests;
 #[cfg(test)]
 mod xdr_tests;

@@ -115,10 +115,10 @@ fn first_cut(
     limit: usize,
     stream: &[u8],
     want: (&[u8], Feed, usize),
-    records: &mut Vec<u8>,
 ) -> Result<Option<usize>, Fail> {
+    let mut records = Vec::new(alloc);
     for cut in 0..=stream.len() {
-        let (state, rest) = played(alloc, limit, stream, cut, records)?;
+        let (state, rest) = played(alloc, limit, stream, cut, &mut records)?;
         if (records.as_slice(), state, rest) != want {
             return Ok(Some(cut));
         }
@@ -126,25 +126,12 @@ fn first_cut(
     Ok(None)
 }
 
-/// The place of the first row whose stream comes to something else, and where it is cut then.
-fn first_wrong(
-    alloc: Global,
-    rows: &[(usize, &[u8], (&[u8], Feed, usize))],
-    records: &mut Vec<u8>,
-) -> Result<Option<(usize, usize)>, Fail> {
-    for (place, (limit, stream, want)) in rows.iter().enumerate() {
-        if let Some(cut) = first_cut(alloc, *limit, stream, *want, records)? {
-            return Ok(Some((place, cut)));
-        }
-    }
-    Ok(None)
-}
-
 #[test]
 fn streams_cut_anywhere(rt: HostRuntime) -> Result<(), Fail> {
-    let mut records = Vec::new(rt.alloc());
-    let wrong = first_wrong(rt.alloc(), &STREAMS, &mut records)?;
-    assert_eq!(rt; wrong, None);
+    for (row, (limit, stream, want)) in STREAMS.iter().enumerate() {
+        let wrong = first_cut(rt.alloc(), *limit, stream, *want)?;
+        assert!(rt; wrong.is_none(), "in row {row}, cut at {wrong:?}");
+    }
     Ok(())
 }
 
@@ -160,19 +147,11 @@ fn marked(len: u32) -> Option<[u8; 4]> {
     if len < 1 << 31 { Some(mark(len)) } else { None }
 }
 
-/// The first row whose header is another.
-fn first_unmarked(rows: &[(u32, [u8; 4])]) -> Option<usize> {
-    for (place, (len, header)) in rows.iter().enumerate() {
-        if marked(*len) != Some(*header) {
-            return Some(place);
-        }
-    }
-    None
-}
-
 #[test]
 fn marks(rt: HostRuntime) {
-    assert_eq!(rt; first_unmarked(&MARKS), None);
+    for (len, header) in &MARKS {
+        assert!(rt; marked(*len) == Some(*header), "of {len} bytes");
+    }
 }
 
 /// Feeds a record above the limit of 3 bytes, begins a new stream, and feeds a record at the limit and a byte of the next:
@@ -203,6 +182,7 @@ fn a_new_stream(rt: HostRuntime) -> Result<(), Fail> {
         state: Feed::Whole,
     };
     let mut buf = RecordBuf::new(rt.alloc(), 3).map_err(|_| "no memory")?;
-    assert_eq!(rt; begun_anew(&mut buf), (long, 0, whole, b"bcd".as_slice()));
+    let fed = begun_anew(&mut buf);
+    assert!(rt; fed == (long, 0, whole, b"bcd".as_slice()));
     Ok(())
 }

@@ -128,31 +128,19 @@ static MESSAGES: [(&[u32], Role, Sorted<'static>); 17] = [
     ),
 ];
 
-/// The place of the first row of whose message something else becomes.
-fn first_wrong(
-    alloc: Global,
-    rows: &[(&[u32], Role, Sorted<'_>)],
-) -> Result<Option<usize>, AllocError> {
-    for (place, (words, role, want)) in rows.iter().enumerate() {
-        let bytes = message(alloc, words)?;
-        if sort_call(&bytes, *role) != *want {
-            return Ok(Some(place));
-        }
-    }
-    Ok(None)
-}
-
 #[test]
 fn sorts_messages(rt: HostRuntime) -> Result<(), Fail> {
-    let wrong = first_wrong(rt.alloc(), &MESSAGES)?;
-    assert_eq!(rt; wrong, None);
+    for (row, (words, role, want)) in MESSAGES.iter().enumerate() {
+        let bytes = message(rt.alloc(), words)?;
+        assert!(rt; sort_call(&bytes, *role) == *want, "in row {row}");
+    }
     Ok(())
 }
 
 // A byte less than three words.
 #[test]
 fn junk_of_11_bytes(rt: HostRuntime) {
-    assert_eq!(rt; sort_call(&[0; 11], Role::Core), Sorted::Junk);
+    assert!(rt; sort_call(&[0; 11], Role::Core) == Sorted::Junk);
 }
 
 static CORE: [(u32, Proc); 13] = [
@@ -182,19 +170,11 @@ fn is_number_of(number: u32, proc: Proc) -> bool {
     put_call(9, 0x0607AF, 1, number, &mut room) == Ok(40) && sort_call(&room, Role::Core) == call
 }
 
-/// The first row whose number is of another procedure.
-fn first_other(rows: &[(u32, Proc)]) -> Option<usize> {
-    for (place, (number, proc)) in rows.iter().enumerate() {
-        if !is_number_of(*number, *proc) {
-            return Some(place);
-        }
-    }
-    None
-}
-
 #[test]
 fn numbers_of_the_core_procedures(rt: HostRuntime) {
-    assert_eq!(rt; first_other(&CORE), None);
+    for (number, proc) in &CORE {
+        assert!(rt; is_number_of(*number, *proc), "the number {number}");
+    }
 }
 
 /// A header that is written.
@@ -276,24 +256,15 @@ static HEADERS: [(Header, usize, Result<usize, Full>, &[u32]); 10] = [
     ),
 ];
 
-/// The place of the first row whose header is written otherwise.
-fn first_unlike(
-    alloc: Global,
-    rows: &[(Header, usize, Result<usize, Full>, &[u32])],
-) -> Result<Option<usize>, AllocError> {
-    for (place, (header, room, answer, words)) in rows.iter().enumerate() {
-        let bytes = message(alloc, words)?;
-        if written(*header, *room, &bytes) != (*answer, true) {
-            return Ok(Some(place));
-        }
-    }
-    Ok(None)
-}
-
 #[test]
 fn writes_headers(rt: HostRuntime) -> Result<(), Fail> {
-    let wrong = first_unlike(rt.alloc(), &HEADERS)?;
-    assert_eq!(rt; wrong, None);
+    for (row, (header, room, answer, words)) in HEADERS.iter().enumerate() {
+        let bytes = message(rt.alloc(), words)?;
+        assert!(rt;
+            written(*header, *room, &bytes) == (*answer, true),
+            "in row {row}"
+        );
+    }
     Ok(())
 }
 
@@ -326,24 +297,12 @@ fn refused(refusal: Option<RpcRefusal>) -> ReplyRead<'static> {
     }
 }
 
-/// The place of the first row whose reply is read otherwise.
-fn first_unrefused(
-    alloc: Global,
-    rows: &[(&[u32], Option<RpcRefusal>)],
-) -> Result<Option<usize>, AllocError> {
-    for (place, (words, refusal)) in rows.iter().enumerate() {
-        let bytes = message(alloc, words)?;
-        if read_reply(&bytes) != refused(*refusal) {
-            return Ok(Some(place));
-        }
-    }
-    Ok(None)
-}
-
 #[test]
 fn reads_refusals(rt: HostRuntime) -> Result<(), Fail> {
-    let wrong = first_unrefused(rt.alloc(), &REFUSALS)?;
-    assert_eq!(rt; wrong, None);
+    for (row, (words, refusal)) in REFUSALS.iter().enumerate() {
+        let bytes = message(rt.alloc(), words)?;
+        assert!(rt; read_reply(&bytes) == refused(*refusal), "in row {row}");
+    }
     Ok(())
 }
 
@@ -352,20 +311,12 @@ static SUCCESSES: [(&[u32], &[u8]); 2] = [
     (&[5, 1, 0, 1, 4, 9, 0, 7], &[0, 0, 0, 7]),
 ];
 
-/// The place of the first row whose reply has other results.
-fn first_failure(alloc: Global, rows: &[(&[u32], &[u8])]) -> Result<Option<usize>, AllocError> {
-    for (place, (words, results)) in rows.iter().enumerate() {
-        let bytes = message(alloc, words)?;
-        if read_reply(&bytes) != (ReplyRead::Success { xid: 5, results }) {
-            return Ok(Some(place));
-        }
-    }
-    Ok(None)
-}
-
 #[test]
 fn reads_successes(rt: HostRuntime) -> Result<(), Fail> {
-    let wrong = first_failure(rt.alloc(), &SUCCESSES)?;
-    assert_eq!(rt; wrong, None);
+    for (row, (words, results)) in SUCCESSES.iter().enumerate() {
+        let bytes = message(rt.alloc(), words)?;
+        let success = ReplyRead::Success { xid: 5, results };
+        assert!(rt; read_reply(&bytes) == success, "in row {row}");
+    }
     Ok(())
 }

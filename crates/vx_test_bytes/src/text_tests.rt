@@ -36,73 +36,42 @@ fn name_of(input: &Input, text: &[u8]) -> &'static str {
     }
 }
 
-fn source_of(
-    alloc: Global,
-    text: &[u8],
-    piece: usize,
-    fails: u64,
-) -> Result<MemSource, AllocError> {
+/// The name of what is read of a source of a row.
+fn name_read(alloc: Global, row: &Source) -> Result<&'static str, AllocError> {
+    let (text, piece, fails, most, _) = *row;
     let fails = [fails].to_vec(alloc)?;
     let bytes = text.to_vec(alloc)?;
-    Ok(MemSource::new(bytes, piece.max(1), fails))
-}
-
-fn name_read(alloc: Global, source: &mut MemSource, most: usize, text: &[u8]) -> &'static str {
-    name_of(&read_all(alloc, source, most), text)
-}
-
-/// The place of the first row of whose source something else is read.
-fn first_wrong(alloc: Global, rows: &[Source]) -> Result<Option<usize>, AllocError> {
-    for (place, (text, piece, fails, most, told)) in rows.iter().enumerate() {
-        let mut source = source_of(alloc, text, *piece, *fails)?;
-        if name_read(alloc, &mut source, *most, text) != *told {
-            return Ok(Some(place));
-        }
-    }
-    Ok(None)
+    let mut source = MemSource::new(bytes, piece.max(1), fails);
+    Ok(name_of(&read_all(alloc, &mut source, most), text))
 }
 
 #[test]
 fn whole_sources(rt: HostRuntime) -> Result<(), Fail> {
-    let wrong = first_wrong(rt.alloc(), &SOURCES)?;
-    assert_eq!(rt; wrong, None);
+    for (number, row) in SOURCES.iter().enumerate() {
+        let name = name_read(rt.alloc(), row)?;
+        assert!(rt; name == row.4, "in row {number}: {name}");
+    }
     Ok(())
 }
 
 // The write that fails, whether a text is put, and what the sink has then.
 static SINKS: [(u64, bool, &[u8]); 2] = [(0, true, b"behind text"), (1, false, b"behind ")];
 
-fn sink_of(alloc: Global, fails: u64) -> Result<MemSink, AllocError> {
-    let fails = [fails].to_vec(alloc)?;
-    let room = b"behind ".to_vec(alloc)?;
-    Ok(MemSink::new(room, fails))
-}
-
-fn put(sink: &mut MemSink) -> (bool, &[u8]) {
-    let done = put_all(sink, b"text").is_ok();
-    (done, sink.bytes())
-}
-
 /// Whether a text is put into a sink as a row says.
 fn is_put(alloc: Global, fails: u64, done: bool, text: &[u8]) -> Result<bool, AllocError> {
-    let mut sink = sink_of(alloc, fails)?;
-    Ok(put(&mut sink) == (done, text))
-}
-
-/// The place of the first row whose sink has something else.
-fn first_unlike(alloc: Global, rows: &[(u64, bool, &[u8])]) -> Result<Option<usize>, AllocError> {
-    for (place, (fails, done, text)) in rows.iter().enumerate() {
-        if !is_put(alloc, *fails, *done, text)? {
-            return Ok(Some(place));
-        }
-    }
-    Ok(None)
+    let fails = [fails].to_vec(alloc)?;
+    let room = b"behind ".to_vec(alloc)?;
+    let mut sink = MemSink::new(room, fails);
+    let is_done = put_all(&mut sink, b"text").is_ok();
+    Ok((is_done, sink.bytes()) == (done, text))
 }
 
 #[test]
 fn whole_sinks(rt: HostRuntime) -> Result<(), Fail> {
-    let wrong = first_unlike(rt.alloc(), &SINKS)?;
-    assert_eq!(rt; wrong, None);
+    for (row, (fails, done, text)) in SINKS.iter().enumerate() {
+        let is_put = is_put(rt.alloc(), *fails, *done, text)?;
+        assert!(rt; is_put, "in row {row}");
+    }
     Ok(())
 }
 

@@ -19,45 +19,29 @@ fn put_file(out: &mut [u8]) -> Result<usize, Full> {
     Ok(w.len())
 }
 
-/// What stands in the file before its data.
-#[derive(Clone, Copy, Debug, PartialEq, Eq)]
-struct Found<'a> {
-    name: &'a [u8],
-    kind: u32,
-    texts: [&'a [u8]; 2],
-}
+/// What stands in the file before its data: a name, the kind of the file, and two texts.
+type Head<'a> = (&'a [u8], u32, [&'a [u8]; 2]);
 
-fn read_head<'a>(r: &mut Reader<'a>) -> Result<Found<'a>, XdrErr> {
-    Ok(Found {
-        name: r.opaque(255)?,
-        kind: r.u32()?,
-        texts: [r.opaque(255)?, r.opaque(5)?],
-    })
+fn read_head<'a>(r: &mut Reader<'a>) -> Result<Head<'a>, XdrErr> {
+    Ok((r.opaque(255)?, r.u32()?, [r.opaque(255)?, r.opaque(5)?]))
 }
 
 // The head, a read of too few bytes, a read of enough, and whether that was all.
 #[test]
 fn reads_the_file_of_the_standard(rt: HostRuntime) {
     let mut r = Reader::new(&FILE);
-    let head = Found {
-        name: b"sillyprog",
-        kind: 2,
-        texts: [b"lisp", b"john"],
-    };
-    assert_eq!(rt;
-        (read_head(&mut r), r.opaque(5), r.opaque(6), r.at_end()),
-        (Ok(head), Err(XdrErr::Long), Ok(b"(quit)".as_slice()), true)
-    );
+    let head: Head<'_> = (b"sillyprog", 2, [b"lisp", b"john"]);
+    assert!(rt; read_head(&mut r) == Ok(head), "the head");
+    assert!(rt; r.opaque(5) == Err(XdrErr::Long), "too few bytes");
+    assert!(rt; r.opaque(6) == Ok(b"(quit)".as_slice()), "enough");
+    assert!(rt; r.at_end(), "no more");
 }
 
 #[test]
 fn writes_the_file_of_the_standard(rt: HostRuntime) {
     let mut out = [0xff; 48];
-    let mut short = [0xff; 47];
-    assert_eq!(rt;
-        (put_file(&mut out), put_file(&mut short), out),
-        (Ok(48), Err(Full), FILE)
-    );
+    assert!(rt; put_file(&mut out) == Ok(48) && out == FILE);
+    assert!(rt; put_file(&mut [0xff; 47]) == Err(Full));
 }
 
 static SIGNED: [(i32, [u8; 4]); 3] = [
@@ -74,32 +58,18 @@ fn is_spelled(number: i32, bytes: [u8; 4]) -> bool {
         && Reader::new(&bytes).i32() == Ok(number)
 }
 
-/// The first row whose number is spelled otherwise.
-fn first_wrong(rows: &[(i32, [u8; 4])]) -> Option<usize> {
-    for (place, (number, bytes)) in rows.iter().enumerate() {
-        if !is_spelled(*number, *bytes) {
-            return Some(place);
-        }
-    }
-    None
-}
-
 #[test]
 fn signed_numbers(rt: HostRuntime) {
-    assert_eq!(rt; first_wrong(&SIGNED), None);
+    for (number, bytes) in &SIGNED {
+        assert!(rt; is_spelled(*number, *bytes), "{number}");
+    }
 }
 
 #[test]
 fn bools(rt: HostRuntime) {
     let mut out = [7; 5];
-    assert_eq!(rt;
-        (
-            Writer::new().bool(&mut out, true),
-            out,
-            Reader::new(&out).bool()
-        ),
-        (Ok(()), [0, 0, 0, 1, 7], Ok(true))
-    );
+    assert!(rt; Writer::new().bool(&mut out, true) == Ok(()) && out == [0, 0, 0, 1, 7]);
+    assert!(rt; Reader::new(&out).bool() == Ok(true));
 }
 
 const NO_BOOL: &[u8] = b"\0\0\0\x02";
@@ -128,17 +98,9 @@ fn fault(bytes: &[u8], most: Option<u32>) -> Option<XdrErr> {
     }
 }
 
-/// The first row whose bytes have another fault.
-fn first_other(rows: &[(&[u8], Option<u32>, XdrErr)]) -> Option<usize> {
-    for (place, (bytes, most, want)) in rows.iter().enumerate() {
-        if fault(bytes, *most) != Some(*want) {
-            return Some(place);
-        }
-    }
-    None
-}
-
 #[test]
 fn faults_in_order(rt: HostRuntime) {
-    assert_eq!(rt; first_other(&FAULTS), None);
+    for (row, (bytes, most, want)) in FAULTS.iter().enumerate() {
+        assert!(rt; fault(bytes, *most) == Some(*want), "in row {row}");
+    }
 }

@@ -1,8 +1,12 @@
-//! Tests of the tables of a gateway, and of the gateway of one thread.
+//! Tests of the tables of a gateway, of the gateway of one thread, of interleaved events, and of the gate that threads share.
 #![tactic(auto)]
 
 #[cfg(test)]
 mod arrival_tests;
+#[cfg(test)]
+mod event_lists_tests;
+#[cfg(test)]
+mod gate_tests;
 #[cfg(test)]
 mod links_tests;
 #[cfg(test)]

@@ -1,0 +1,145 @@
+//! What becomes of packets.
+
+use crate::mapper_tools::{both, padded, spelled};
+use crate::packet_box_tools::MemPackets;
+use std::alloc::{AllocError, Global};
+use std::test::Fail;
+use vx_portmap::*;
+
+// Packets, as words; the numbers of the box's calls that fail; the limit; how it ends; and the packets that are given, as words.
+struct Row {
+    packets: &'static [&'static [u32]],
+    fails: &'static [u64],
+    limit: u32,
+    end: PacketEnd,
+    given: &'static [&'static [u32]],
+}
+
+const GETPORT: &[u32] = &[9, 0, 2, 100000, 2, 3, 0, 0, 0, 0, 0x0607AF, 1, 6, 0];
+
+const PORT: &[u32] = &[9, 1, 0, 0, 0, 0, 9010];
+
+const NULL: &[u32] = &[7, 0, 2, 100000, 2, 0, 0, 0, 0, 0];
+
+const DONE: &[u32] = &[7, 1, 0, 0, 0, 0];
+
+const REPLY: &[u32] = &[9, 1, 0, 0, 0, 0];
+
+static ROWS: [Row; 9] = [
+    // One packet, and none.
+    Row {
+        packets: &[GETPORT],
+        fails: &[],
+        limit: 1,
+        end: PacketEnd::Served,
+        given: &[PORT],
+    },
+    Row {
+        packets: &[GETPORT],
+        fails: &[],
+        limit: 0,
+        end: PacketEnd::Served,
+        given: &[],
+    },
+    // More than the limit.
+    Row {
+        packets: &[NULL, GETPORT, NULL],
+        fails: &[],
+        limit: 2,
+        end: PacketEnd::Served,
+        given: &[DONE, PORT],
+    },
+    // A reply, and a packet of no bytes, which have none.
+    Row {
+        packets: &[GETPORT, REPLY, &[], NULL],
+        fails: &[],
+        limit: 4,
+        end: PacketEnd::Served,
+        given: &[PORT, DONE],
+    },
+    // Fewer than the limit.
+    Row {
+        packets: &[GETPORT, NULL],
+        fails: &[],
+        limit: 3,
+        end: PacketEnd::Ended,
+        given: &[PORT, DONE],
+    },
+    // The second take fails, and the first.
+    Row {
+        packets: &[GETPORT, NULL],
+        fails: &[3],
+        limit: 2,
+        end: PacketEnd::ReadFault,
+        given: &[PORT],
+    },
+    Row {
+        packets: &[GETPORT],
+        fails: &[1],
+        limit: 1,
+        end: PacketEnd::ReadFault,
+        given: &[],
+    },
+    // The second give fails, also at the limit.
+    Row {
+        packets: &[GETPORT, NULL, NULL],
+        fails: &[4],
+        limit: 3,
+        end: PacketEnd::WriteFault,
+        given: &[PORT],
+    },
+    Row {
+        packets: &[GETPORT, NULL],
+        fails: &[4],
+        limit: 2,
+        end: PacketEnd::WriteFault,
+        given: &[PORT],
+    },
+];
+
+/// Packets of words, as bytes.
+fn packets_of(alloc: Global, packets: &[&[u32]]) -> Result<Vec<Vec<u8>>, AllocError> {
+    let mut all = Vec::new(alloc);
+    for packet in packets {
+        all.push(spelled(alloc, packet)?)?;
+    }
+    Ok(all)
+}
+
+/// Whether packets are answered as a row says.
+fn is_so(alloc: Global, row: &Row) -> Result<bool, AllocError> {
+    let fails = row.fails.to_vec(alloc)?;
+    let packets = packets_of(alloc, row.packets)?;
+    let wanted = packets_of(alloc, row.given)?;
+    let mut packets = MemPackets::new(alloc, packets, fails);
+    let end = map_packets(&both(), &mut packets, row.limit);
+    let ended = u64::from(row.end == PacketEnd::Ended);
+    Ok(end == row.end && packets.ended() == ended && packets.given() == wanted.as_slice())
+}
+
+#[test]
+fn packets_are_answered_in_order(rt: HostRuntime) -> Result<(), Fail> {
+    for (number, row) in ROWS.iter().enumerate() {
+        let is_so = is_so(rt.alloc(), row)?;
+        assert!(rt; is_so, "in row {number}");
+    }
+    Ok(())
+}
+
+/// Whether a null call with so many zeros behind it is served, and given this answer alone.
+fn is_cut(alloc: Global, zeros: usize, answer: &[u32]) -> Result<bool, AllocError> {
+    let mut packets = Vec::new(alloc);
+    packets.push(padded(alloc, NULL, zeros)?)?;
+    let wanted = packets_of(alloc, &[answer])?;
+    let mut packets = MemPackets::new(alloc, packets, Vec::new(alloc));
+    let end = map_packets(&Ports::new(), &mut packets, 1);
+    Ok(end == PacketEnd::Served && packets.given() == wanted.as_slice())
+}
+
+// A packet above 1,024 bytes is answered as its front.
+#[test]
+fn a_long_packet_is_cut(rt: HostRuntime) -> Result<(), Fail> {
+    let is_cut = is_cut(rt.alloc(), 2000, &[7, 1, 0, 0, 0, 4])?;
+    assert!(rt; is_cut);
+    Ok(())
+}

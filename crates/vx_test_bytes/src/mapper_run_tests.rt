@@ -1,0 +1,256 @@
+//! What the port mapper's program does, over a net in memory.
+
+use crate::mapper_tools::spelled;
+use crate::packet_box_tools::MemPackets;
+use std::alloc::{AllocError, Global};
+use std::test::Fail;
+use vx_memory::{MemDoor, MemSink};
+use vx_portmap::{MapHost, map_run};
+
+type Host = MapHost<MemDoor, MemPackets>;
+
+// The words; messages, as words, each of which is the one record of a stream, and a packet; the numbers of the door's calls, of
+// the box's and of the sink's that fail; the status, what is printed, and what the first peer is sent and the first packet that is
+// given, as words.
+#[derive(Clone, Copy)]
+struct Row {
+    words: &'static [&'static str],
+    messages: &'static [&'static [u32]],
+    door_fails: &'static [u64],
+    box_fails: &'static [u64],
+    sink_fails: &'static [u64],
+    status: u8,
+    text: &'static str,
+    sent: &'static [u32],
+    given: &'static [u32],
+}
+
+const GETPORT: &[u32] = &[9, 0, 2, 100000, 2, 3, 0, 0, 0, 0, 0x0607AF, 1, 6, 0];
+
+const PORT: &[u32] = &[9, 1, 0, 0, 0, 0, 9010];
+
+// the same behind its record's mark
+const MARKED: &[u32] = &[0x8000001C, 9, 1, 0, 0, 0, 0, 9010];
+
+const STREAM: &[&str] = &["stream", "111", "9010", "9011", "1"];
+
+const PACKETS: &[&str] = &["packets", "111", "9010", "9011", "1"];
+
+const USAGE: &str = "usage: vxmap KIND PORT CORE ABORT N\n";
+
+const ROW: Row = Row {
+    words: STREAM,
+    messages: &[GETPORT],
+    door_fails: &[],
+    box_fails: &[],
+    sink_fails: &[],
+    status: 0,
+    text: "mapping 111\nserved 1\n",
+    sent: MARKED,
+    given: &[],
+};
+
+static ROWS: [Row; 14] = [
+    ROW,
+    Row {
+        words: PACKETS,
+        sent: &[],
+        given: PORT,
+        ..ROW
+    },
+    // The door and the box have fewer.
+    Row {
+        words: &["stream", "1", "9010", "9011", "1000000"],
+        text: "mapping 1\nserved 1\n",
+        ..ROW
+    },
+    Row {
+        words: &["packets", "65535", "9010", "9011", "3"],
+        text: "mapping 65535\nserved 1\n",
+        sent: &[],
+        given: PORT,
+        ..ROW
+    },
+    Row {
+        messages: &[],
+        text: "mapping 111\nserved 0\n",
+        sent: &[],
+        ..ROW
+    },
+    // The port can't be opened; the next peer can't be met.
+    Row {
+        door_fails: &[1],
+        status: 3,
+        text: "",
+        sent: &[],
+        ..ROW
+    },
+    Row {
+        door_fails: &[2],
+        status: 3,
+        text: "mapping 111\n",
+        sent: &[],
+        ..ROW
+    },
+    // A fault of the peer's stream ends that stream alone.
+    Row {
+        door_fails: &[3],
+        sent: &[],
+        ..ROW
+    },
+    // The box can't be opened; a take fails; a give fails.
+    Row {
+        words: PACKETS,
+        box_fails: &[1],
+        status: 3,
+        text: "",
+        sent: &[],
+        ..ROW
+    },
+    Row {
+        words: PACKETS,
+        box_fails: &[2],
+        status: 3,
+        text: "mapping 111\n",
+        sent: &[],
+        ..ROW
+    },
+    Row {
+        words: PACKETS,
+        box_fails: &[3],
+        status: 3,
+        text: "mapping 111\n",
+        sent: &[],
+        ..ROW
+    },
+    // The sink fails in its first write, and in its second.
+    Row {
+        sink_fails: &[1],
+        status: 6,
+        text: "",
+        sent: &[],
+        ..ROW
+    },
+    Row {
+        sink_fails: &[2],
+        status: 6,
+        text: "mapping 111\n",
+        ..ROW
+    },
+    Row {
+        words: &["stream", "0", "9010", "9011", "1"],
+        status: 1,
+        text: USAGE,
+        sent: &[],
+        ..ROW
+    },
+];
+
+// Words of another form.
+static OTHER_WORDS: [&[&str]; 12] = [
+    &[],
+    &["stream"],
+    &["stream", "111", "9010", "9011"],
+    &["stream", "111", "9010", "9011", "1", "1"],
+    &["streams", "111", "9010", "9011", "1"],
+    &["Packets", "111", "9010", "9011", "1"],
+    &["stream", "65536", "9010", "9011", "1"],
+    &["stream", "111", "0", "9011", "1"],
+    &["stream", "111", "9010", "65536", "1"],
+    &["stream", "111", "9010", "9011", "0"],
+    &["stream", "111", "9010", "9011", "1000001"],
+    &["stream", "0111", "9010", "9011", "+1"],
+];
+
+fn words_of(alloc: Global, words: &[&str]) -> Result<Vec<String>, AllocError> {
+    let mut all = Vec::new(alloc);
+    for word in words {
+        all.push(String::from_str(alloc, word)?)?;
+    }
+    Ok(all)
+}
+
+/// The mark of a record of so many bytes in one fragment; of one that is too long for that, of none.
+fn mark_of(len: usize) -> [u8; 4] {
+    let len = u32::try_from(len).unwrap_or(0);
+    (0x8000_0000u32 | len).to_be_bytes()
+}
+
+/// A message, with the mark of a record in front of it for a stream.
+fn input(alloc: Global, message: &[u32], is_marked: bool) -> Result<Vec<u8>, AllocError> {
+    let message = spelled(alloc, message)?;
+    let mut bytes = Vec::new(alloc);
+    if is_marked {
+        bytes.extend_from_slice(&mark_of(message.len()))?;
+    }
+    bytes.extend_from_slice(&message)?;
+    Ok(bytes)
+}
+
+/// Each of them.
+fn inputs(alloc: Global, messages: &[&[u32]], is_marked: bool) -> Result<Vec<Vec<u8>>, AllocError> {
+    let mut all = Vec::new(alloc);
+    for message in messages {
+        all.push(input(alloc, message, is_marked)?)?;
+    }
+    Ok(all)
+}
+
+/// The net of a row.
+fn host_of(alloc: Global, row: &Row) -> Result<Host, Fail> {
+    let peers = inputs(alloc, row.messages, true)?;
+    let door = MemDoor::new(alloc, peers, row.door_fails.to_vec(alloc)?).map_err(|_| "no memory")?;
+    let packets = inputs(alloc, row.messages, false)?;
+    Ok(MapHost::new(
+        door,
+        MemPackets::new(alloc, packets, row.box_fails.to_vec(alloc)?),
+    ))
+}
+
+/// Whether the first peer was sent these bytes, and the first packet that was given has those; nothing where there are none.
+fn went_out(host: &Host, sent: &[u8], given: &[u8]) -> bool {
+    let (door, packets) = host.parts();
+    let packet = match packets.given() {
+        [packet, ..] => packet.as_slice(),
+        [] => &[],
+    };
+    door.sent(0).unwrap_or(&[]) == sent && packet == given
+}
+
+/// Whether a row comes out as it is written.
+fn comes_out(alloc: Global, row: &Row) -> Result<bool, Fail> {
+    let sent = spelled(alloc, row.sent)?;
+    let given = spelled(alloc, row.given)?;
+    let words = words_of(alloc, row.words)?;
+    let mut sink = MemSink::new(Vec::new(alloc), row.sink_fails.to_vec(alloc)?);
+    let mut host = host_of(alloc, row)?;
+    let status = map_run(alloc, &words, &mut host, &mut sink);
+    let is_told = status == row.status && sink.bytes() == row.text.as_bytes();
+    Ok(is_told && went_out(&host, &sent, &given))
+}
+
+#[test]
+fn each_run_comes_out(rt: HostRuntime) -> Result<(), Fail> {
+    for (number, row) in ROWS.iter().enumerate() {
+        let comes_out = comes_out(rt.alloc(), row)?;
+        assert!(rt; comes_out, "in row {number}");
+    }
+    Ok(())
+}
+
+// They are answered by the usage line alone.
+#[test]
+fn words_of_another_form(rt: HostRuntime) -> Result<(), Fail> {
+    for (number, words) in OTHER_WORDS.iter().enumerate() {
+        let row = Row {
+            words,
+            status: 1,
+            text: USAGE,
+            sent: &[],
+            ..ROW
+        };
+        let comes_out = comes_out(rt.alloc(), &row)?;
+        assert!(rt; comes_out, "in row {number}");
+    }
+    Ok(())
+}

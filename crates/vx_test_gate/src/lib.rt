@@ -1,5 +1,0 @@
-//! Tests of the gate.
-#![tactic(auto)]
-
-#[cfg(test)]
-mod gate_tests;
