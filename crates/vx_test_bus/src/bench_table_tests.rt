@@ -1,6 +1,6 @@
 //! Texts that spell table instruments, or don't.
 
-use crate::rows::compare;
+use crate::row_tools::compare;
 use std::alloc::Global;
 use vx_bench::*;
 use vx_script::Cause;
@@ -15,7 +15,7 @@ fn cause_of(alloc: Global, text: &[u8]) -> Result<Option<Cause>, NoMemory> {
 }
 
 /// Memory was refused.
-#[derive(Clone, Copy, Debug, PartialEq, Eq)]
+#[derive(Clone, Copy, PartialEq, Eq)]
 struct NoMemory;
 
 // A table gives an instrument, where memory doesn't run out.

@@ -1,6 +1,6 @@
 //! Benches on a bus with nothing on it, with two spare instruments of the name `echo`.
 
-use crate::rows::compare;
+use crate::row_tools::compare;
 use arrayvec::ArrayString;
 use std::alloc::Global;
 use std::fmt::Write;
@@ -70,242 +70,76 @@ const FIVE_SIX: [bool; 3] = [true, true, false];
 
 const FIVE_SEVEN: [bool; 3] = [true, false, true];
 
-static BENCHES: [(&[u8], Ended); 24] = [
-    (b"", (None, 2, NONE)),
-    (b"\n# a bench\n\n#", (None, 2, NONE)),
+/// A bench's text, the line that is refused and why, how many spares are left, and where instruments stand.
+type Bench = (&'static [u8], Option<(u64, Cause)>, usize, [bool; 3]);
+
+static BENCHES: [Bench; 24] = [
+    (b"", None, 2, NONE),
+    (b"\n# a bench\n\n#", None, 2, NONE),
     (
         b"inst 5 {\"rules\":[{\"in\":\"*IDN?\",\"out\":\"ACME,1\\n\"}]}\n# an echo\n\nplug 7,8 echo",
-        (None, 1, FIVE_SEVEN),
+        None,
+        1,
+        FIVE_SEVEN,
     ),
-    (b"plug 6 echo\nplug 5 echo\n", (None, 0, FIVE_SIX)),
+    (b"plug 6 echo\nplug 5 echo\n", None, 0, FIVE_SIX),
     // Steps that are none of a bench, and lines outside the grammar; the skipped ones count.
-    (
-        b"at 1\n",
-        (
-            Some(BenchStop::Refused {
-                line: 1,
-                cause: Cause::Form,
-            }),
-            2,
-            NONE,
-        ),
-    ),
-    (
-        b"up 1 core\n",
-        (
-            Some(BenchStop::Refused {
-                line: 1,
-                cause: Cause::Form,
-            }),
-            2,
-            NONE,
-        ),
-    ),
-    (
-        b"in 1 80\nplug 5 echo\n",
-        (
-            Some(BenchStop::Refused {
-                line: 1,
-                cause: Cause::Form,
-            }),
-            2,
-            NONE,
-        ),
-    ),
-    (
-        b"down 1\n",
-        (
-            Some(BenchStop::Refused {
-                line: 1,
-                cause: Cause::Form,
-            }),
-            2,
-            NONE,
-        ),
-    ),
-    (
-        b"poll 1\n",
-        (
-            Some(BenchStop::Refused {
-                line: 1,
-                cause: Cause::Form,
-            }),
-            2,
-            NONE,
-        ),
-    ),
-    (
-        b"take 1\n",
-        (
-            Some(BenchStop::Refused {
-                line: 1,
-                cause: Cause::Form,
-            }),
-            2,
-            NONE,
-        ),
-    ),
-    (
-        b"dial 1 ok\n",
-        (
-            Some(BenchStop::Refused {
-                line: 1,
-                cause: Cause::Form,
-            }),
-            2,
-            NONE,
-        ),
-    ),
+    (b"at 1\n", Some((1, Cause::Form)), 2, NONE),
+    (b"up 1 core\n", Some((1, Cause::Form)), 2, NONE),
+    (b"in 1 80\nplug 5 echo\n", Some((1, Cause::Form)), 2, NONE),
+    (b"down 1\n", Some((1, Cause::Form)), 2, NONE),
+    (b"poll 1\n", Some((1, Cause::Form)), 2, NONE),
+    (b"take 1\n", Some((1, Cause::Form)), 2, NONE),
+    (b"dial 1 ok\n", Some((1, Cause::Form)), 2, NONE),
     (
         b"\n#\nplug 5 echo\nsample\n",
-        (
-            Some(BenchStop::Refused {
-                line: 4,
-                cause: Cause::Form,
-            }),
-            1,
-            FIVE,
-        ),
+        Some((4, Cause::Form)),
+        1,
+        FIVE,
     ),
-    (
-        b"plug 5 echo\npull 5\n",
-        (
-            Some(BenchStop::Refused {
-                line: 2,
-                cause: Cause::Form,
-            }),
-            1,
-            FIVE,
-        ),
-    ),
-    (
-        b"plug 5 echo\nset 5 41\n",
-        (
-            Some(BenchStop::Refused {
-                line: 2,
-                cause: Cause::Form,
-            }),
-            1,
-            FIVE,
-        ),
-    ),
-    (
-        b"fail 1\n",
-        (
-            Some(BenchStop::Refused {
-                line: 1,
-                cause: Cause::Form,
-            }),
-            2,
-            NONE,
-        ),
-    ),
+    (b"plug 5 echo\npull 5\n", Some((2, Cause::Form)), 1, FIVE),
+    (b"plug 5 echo\nset 5 41\n", Some((2, Cause::Form)), 1, FIVE),
+    (b"fail 1\n", Some((1, Cause::Form)), 2, NONE),
     (
         b"plug 5 echo\n\nplug 31 echo\n",
-        (
-            Some(BenchStop::Refused {
-                line: 3,
-                cause: Cause::Form,
-            }),
-            1,
-            FIVE,
-        ),
+        Some((3, Cause::Form)),
+        1,
+        FIVE,
     ),
-    (
-        b"plug 5 echo\r\n",
-        (
-            Some(BenchStop::Refused {
-                line: 1,
-                cause: Cause::Form,
-            }),
-            2,
-            NONE,
-        ),
-    ),
+    (b"plug 5 echo\r\n", Some((1, Cause::Form)), 2, NONE),
     // Instruments that aren't attached.
-    (
-        b"plug 0 echo\n",
-        (
-            Some(BenchStop::Refused {
-                line: 1,
-                cause: Cause::Own,
-            }),
-            1,
-            NONE,
-        ),
-    ),
+    (b"plug 0 echo\n", Some((1, Cause::Own)), 1, NONE),
     (
         b"plug 5 echo\nplug 5 echo\n",
-        (
-            Some(BenchStop::Refused {
-                line: 2,
-                cause: Cause::Taken,
-            }),
-            0,
-            FIVE,
-        ),
+        Some((2, Cause::Taken)),
+        0,
+        FIVE,
     ),
-    (
-        b"plug 5 nobody\n",
-        (
-            Some(BenchStop::Refused {
-                line: 1,
-                cause: Cause::Spare,
-            }),
-            2,
-            NONE,
-        ),
-    ),
+    (b"plug 5 nobody\n", Some((1, Cause::Spare)), 2, NONE),
     (
         b"plug 5 echo\nplug 6 echo\nplug 7,8 echo\n",
-        (
-            Some(BenchStop::Refused {
-                line: 3,
-                cause: Cause::Spare,
-            }),
-            0,
-            FIVE_SIX,
-        ),
+        Some((3, Cause::Spare)),
+        0,
+        FIVE_SIX,
     ),
-    (
-        b"inst 5 []\n",
-        (
-            Some(BenchStop::Refused {
-                line: 1,
-                cause: Cause::Rule,
-            }),
-            2,
-            NONE,
-        ),
-    ),
-    (
-        b"inst 5 {\n",
-        (
-            Some(BenchStop::Refused {
-                line: 1,
-                cause: Cause::Json,
-            }),
-            2,
-            NONE,
-        ),
-    ),
-    (
-        b"inst 5 \n",
-        (
-            Some(BenchStop::Refused {
-                line: 1,
-                cause: Cause::Json,
-            }),
-            2,
-            NONE,
-        ),
-    ),
+    (b"inst 5 []\n", Some((1, Cause::Rule)), 2, NONE),
+    (b"inst 5 {\n", Some((1, Cause::Json)), 2, NONE),
+    (b"inst 5 \n", Some((1, Cause::Json)), 2, NONE),
 ];
+
+/// The end of a bench of which this line is refused.
+fn stop_of(refused: Option<(u64, Cause)>) -> Option<BenchStop> {
+    match refused {
+        Some((line, cause)) => Some(BenchStop::Refused { line, cause }),
+        None => None,
+    }
+}
 
 #[test]
 fn benches(rt: HostRuntime) -> Result<(), Fail> {
-    for (row, (text, ended)) in BENCHES.iter().enumerate() {
-        compare(&rt, row, &end_of(rt.alloc(), text)?, ended);
+    for (row, (text, refused, left, stand)) in BENCHES.iter().enumerate() {
+        let ended = (stop_of(*refused), *left, *stand);
+        compare(&rt, row, &end_of(rt.alloc(), text)?, &ended);
     }
     Ok(())
 }
@@ -324,28 +158,23 @@ fn full_text(alloc: Global) -> Result<String, Fail> {
 #[test]
 fn full_bench(rt: HostRuntime) -> Result<(), Fail> {
     let text = full_text(rt.alloc())?;
-    let full = BenchStop::Refused {
-        line: 32,
-        cause: Cause::Bench,
-    };
     let ended = end_of(rt.alloc(), text.as_bytes())?;
-    compare(&rt, 0, &ended.0, &Some(full));
+    compare(&rt, 0, &ended.0, &stop_of(Some((32, Cause::Bench))));
     Ok(())
 }
 
-const LONG: BenchStop = BenchStop::Refused {
-    line: 1,
-    cause: Cause::Form,
-};
-
 // A line as long as may be, and one byte longer.
-static LENGTHS: [(usize, Option<BenchStop>); 2] = [(1_048_576, None), (1_048_577, Some(LONG))];
+static LENGTHS: [(usize, Option<(u64, Cause)>); 2] = [
+    (1_048_576, None),
+    (1_048_577, Some((1, Cause::Form))),
+];
 
 #[test]
 fn long_lines(rt: HostRuntime) -> Result<(), Fail> {
-    for (row, (len, stop)) in LENGTHS.iter().enumerate() {
+    for (row, (len, refused)) in LENGTHS.iter().enumerate() {
         let text = vec![in rt.alloc(); b'#'; *len]?;
-        compare(&rt, row, &end_of(rt.alloc(), &text)?.0, stop);
+        let ended = end_of(rt.alloc(), &text)?;
+        compare(&rt, row, &ended.0, &stop_of(*refused));
     }
     Ok(())
 }

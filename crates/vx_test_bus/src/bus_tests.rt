@@ -2,8 +2,8 @@
 
 ghost use Rattle.std.specs.Prelude.{◌≡◌, ◌+◌, ◌≤◌, length, IfOk};
 
-use crate::asks::{Answer, ask};
-use crate::rows::compare;
+use crate::ask_tools::{Answer, ask};
+use crate::row_tools::compare;
 use std::alloc::Global;
 use std::process::Abort;
 use std::test::Fail;

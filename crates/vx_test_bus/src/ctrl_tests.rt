@@ -6,8 +6,8 @@ ghost use Rattle.vx_plan.specs.Tasks.{IsPlainTask, HasBytes};
 ghost use Rattle.vx_bus.specs.Means.{first_means};
 ghost use Rattle.vx_ctrl.specs.Turns.{HasRoom};
 
-use crate::rows::compare;
-use crate::tasks::{has_bytes, has_room};
+use crate::row_tools::compare;
+use crate::task_tools::{has_bytes, has_room};
 use std::alloc::Global;
 use std::process::Abort;
 use std::test::Fail;
@@ -122,50 +122,6 @@ fn go_rows(rt: &impl Abort, alloc: Global, rows: &[Row]) -> Result<(), Fail> {
     Ok(())
 }
 
-// A write, a clear and a remote of a device with a secondary address.
-static TO_A_DEVICE: [Row; 3] = [
-    Row {
-        bench: READY,
-        task: Task::Write {
-            t: DEVICE,
-            len: 2,
-            end: true,
-        },
-        bytes: b"A\n",
-        told: (Went::Finished, 2, 0),
-        moves: &[
-            Cmd(0x3F),
-            Cmd(0x40),
-            Cmd(0x25),
-            Cmd(0x63),
-            Put { b: 65, end: false },
-            Put { b: 10, end: true },
-        ],
-        room: &[],
-    },
-    Row {
-        bench: READY,
-        task: Task::Clear { t: DEVICE },
-        bytes: &[],
-        told: (Went::Finished, 0, 0),
-        moves: &[Cmd(0x3F), Cmd(0x25), Cmd(0x63), Cmd(0x04)],
-        room: &[],
-    },
-    Row {
-        bench: READY,
-        task: Task::Remote { t: DEVICE },
-        bytes: &[],
-        told: (Went::Finished, 0, 0),
-        moves: &[Transfer::Ren(true), Cmd(0x3F), Cmd(0x25), Cmd(0x63)],
-        room: &[],
-    },
-];
-
-#[test]
-fn sends_to_a_device(rt: HostRuntime) -> Result<(), Fail> {
-    go_rows(&rt, rt.alloc(), &TO_A_DEVICE)
-}
-
 static READS: [Row; 4] = [
     Row {
         bench: GIVES,
@@ -234,35 +190,6 @@ fn reads_up_to_a_reason(rt: HostRuntime) -> Result<(), Fail> {
     go_rows(&rt, rt.alloc(), &READS)
 }
 
-static POLLS: [Row; 1] = [Row {
-    bench: Bench {
-        gets: &[(0x50, false)],
-        holds: &[],
-        fails: &[],
-    },
-    task: Task::Stb { t: PRIMARY },
-    bytes: &[],
-    told: (Went::Finished, 1, 0),
-    moves: &[
-        Cmd(0x3F),
-        Cmd(0x20),
-        Cmd(0x18),
-        Cmd(0x45),
-        Got {
-            b: 0x50,
-            end: false,
-        },
-        Cmd(0x19),
-        Cmd(0x5F),
-    ],
-    room: &[0x50],
-}];
-
-#[test]
-fn polls_a_status_byte(rt: HostRuntime) -> Result<(), Fail> {
-    go_rows(&rt, rt.alloc(), &POLLS)
-}
-
 const WRITE: Task = Task::Write {
     t: PRIMARY,
     len: 2,
@@ -275,8 +202,68 @@ const HOLDS: Bench = Bench {
     fails: &[],
 };
 
-// The second call fails; and of another write the fourth, which is the first byte, is held once.
-static STOPS: [Row; 2] = [
+static TURNS: [Row; 6] = [
+    // A write, a clear and a remote of a device with a secondary address.
+    Row {
+        bench: READY,
+        task: Task::Write {
+            t: DEVICE,
+            len: 2,
+            end: true,
+        },
+        bytes: b"A\n",
+        told: (Went::Finished, 2, 0),
+        moves: &[
+            Cmd(0x3F),
+            Cmd(0x40),
+            Cmd(0x25),
+            Cmd(0x63),
+            Put { b: 65, end: false },
+            Put { b: 10, end: true },
+        ],
+        room: &[],
+    },
+    Row {
+        bench: READY,
+        task: Task::Clear { t: DEVICE },
+        bytes: &[],
+        told: (Went::Finished, 0, 0),
+        moves: &[Cmd(0x3F), Cmd(0x25), Cmd(0x63), Cmd(0x04)],
+        room: &[],
+    },
+    Row {
+        bench: READY,
+        task: Task::Remote { t: DEVICE },
+        bytes: &[],
+        told: (Went::Finished, 0, 0),
+        moves: &[Transfer::Ren(true), Cmd(0x3F), Cmd(0x25), Cmd(0x63)],
+        room: &[],
+    },
+    // A serial poll.
+    Row {
+        bench: Bench {
+            gets: &[(0x50, false)],
+            holds: &[],
+            fails: &[],
+        },
+        task: Task::Stb { t: PRIMARY },
+        bytes: &[],
+        told: (Went::Finished, 1, 0),
+        moves: &[
+            Cmd(0x3F),
+            Cmd(0x20),
+            Cmd(0x18),
+            Cmd(0x45),
+            Got {
+                b: 0x50,
+                end: false,
+            },
+            Cmd(0x19),
+            Cmd(0x5F),
+        ],
+        room: &[0x50],
+    },
+    // The second call fails; and of another write the fourth, which is the first byte, is held once.
     Row {
         bench: Bench {
             gets: &[],
@@ -300,8 +287,8 @@ static STOPS: [Row; 2] = [
 ];
 
 #[test]
-fn stops_where_the_bus_does(rt: HostRuntime) -> Result<(), Fail> {
-    go_rows(&rt, rt.alloc(), &STOPS)
+fn turns_go_once(rt: HostRuntime) -> Result<(), Fail> {
+    go_rows(&rt, rt.alloc(), &TURNS)
 }
 
 // The bytes that a turn puts behind a hold.

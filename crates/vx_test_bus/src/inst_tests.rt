@@ -5,7 +5,7 @@ ghost use Rattle.vx_inst.specs.declared.done.Done.TheVariants.{Took};
 ghost use Rattle.vx_inst.specs.Behavior.{after};
 ghost use Rattle.vx_inst.specs.Laws.{takes_byte, Takes, status_byte, IsPolled, IsSound, IsStatus};
 
-use crate::rows::compare;
+use crate::row_tools::compare;
 use std::test::Fail;
 use vx_bus::{ManyGot, Stop};
 use vx_inst::*;

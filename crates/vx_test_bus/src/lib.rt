@@ -2,7 +2,7 @@
 #![tactic(auto)]
 
 #[cfg(test)]
-mod asks;
+mod ask_tools;
 #[cfg(test)]
 mod bench_table_tests;
 #[cfg(test)]
@@ -20,14 +20,14 @@ mod plan_tests;
 #[cfg(test)]
 mod rack_tests;
 #[cfg(test)]
-mod rows;
+mod row_tools;
 #[cfg(test)]
 mod sim_tests;
 #[cfg(test)]
-mod steps;
+mod step_tools;
 #[cfg(test)]
 mod table_tests;
 #[cfg(test)]
-mod tasks;
+mod task_tools;
 #[cfg(test)]
 mod wire_tests;

@@ -5,8 +5,8 @@ ghost use Rattle.vx_calls.specs.declared.limits.TheConstants.{WRITE_MAX};
 ghost use Rattle.vx_plan.specs.Places.{slot_wanted, place_after};
 ghost use Rattle.vx_plan.specs.Laws.{FitsNext};
 
-use crate::rows::compare;
-use crate::tasks::has_bytes;
+use crate::row_tools::compare;
+use crate::task_tools::has_bytes;
 use vx_488::Transfer::{Cmd, Got, Put};
 use vx_488::{ADDRESS_MAX, Transfer, Wire};
 use vx_calls::Target;

@@ -1,6 +1,6 @@
 //! Tables of what is done with the instruments of a rack.
 
-use crate::steps::{Step, take_steps};
+use crate::step_tools::{Step, take_steps};
 use arrayvec::ArrayString;
 use std::test::Fail;
 use vx_inst::{INST_MAX, Instrument};
@@ -36,14 +36,6 @@ static ECHO: [Step; 23] = [
     Step::Replies(b"EF"),
 ];
 
-#[test]
-fn echo(rt: HostRuntime) -> Result<(), Fail> {
-    let echo = Echo::new(rt.alloc())?;
-    let mut inst: Boxed = Box::new(rt.alloc(), echo)?;
-    take_steps(&rt, &mut inst, &ECHO);
-    Ok(())
-}
-
 // Readings are numbered from 1, by message and by trigger.
 static METER: [Step; 20] = [
     Step::Sent(b"READ?"),
@@ -72,7 +64,7 @@ static METER: [Step; 20] = [
 fn meter(rt: HostRuntime) -> Result<(), Fail> {
     let meter = Meter::new(rt.alloc())?;
     let mut inst: Boxed = Box::new(rt.alloc(), meter)?;
-    take_steps(&rt, &mut inst, &METER);
+    take_steps(&rt, "meter", &mut inst, &METER);
     Ok(())
 }
 
@@ -113,7 +105,7 @@ static SLOW: [Step; 29] = [
 fn slow(rt: HostRuntime) -> Result<(), Fail> {
     let slow = Slow::new(rt.alloc())?;
     let mut inst: Boxed = Box::new(rt.alloc(), slow)?;
-    take_steps(&rt, &mut inst, &SLOW);
+    take_steps(&rt, "slow", &mut inst, &SLOW);
     Ok(())
 }
 
@@ -144,11 +136,11 @@ static ASKER: [Step; 19] = [
 fn asker(rt: HostRuntime) -> Result<(), Fail> {
     let asker = Asker::new(rt.alloc())?;
     let mut inst: Boxed = Box::new(rt.alloc(), asker)?;
-    take_steps(&rt, &mut inst, &ASKER);
+    take_steps(&rt, "asker", &mut inst, &ASKER);
     Ok(())
 }
 
-// A reply that has no room is dropped whole, and one that just fits isn't.
+// A reply that has no room is dropped whole, and one that just fits isn't. This goes on behind the steps above.
 static FULL_ECHO: [Step; 11] = [
     Step::Filled(b'x', INST_MAX, false),
     Step::Hears(false),
@@ -164,10 +156,11 @@ static FULL_ECHO: [Step; 11] = [
 ];
 
 #[test]
-fn full_echo(rt: HostRuntime) -> Result<(), Fail> {
+fn echo(rt: HostRuntime) -> Result<(), Fail> {
     let echo = Echo::new(rt.alloc())?;
     let mut inst: Boxed = Box::new(rt.alloc(), echo)?;
-    take_steps(&rt, &mut inst, &FULL_ECHO);
+    take_steps(&rt, "echo", &mut inst, &ECHO);
+    take_steps(&rt, "full echo", &mut inst, &FULL_ECHO);
     Ok(())
 }
 
@@ -192,7 +185,7 @@ const FULL_METER_ENDS: &[(u8, bool)] = &[
 fn full_meter(rt: HostRuntime) -> Result<(), Fail> {
     let meter = Meter::new(rt.alloc())?;
     let mut inst: Boxed = Box::new(rt.alloc(), meter)?;
-    take_steps(&rt, &mut inst, &FULL_METER);
+    take_steps(&rt, "full meter", &mut inst, &FULL_METER);
     Ok(())
 }
 
@@ -205,6 +198,7 @@ fn spare(rt: HostRuntime) -> Result<(), Fail> {
     let mut spare = Spare { name, inst };
     take_steps(
         &rt,
+        "spare",
         &mut spare.inst,
         &[Step::Sent(b"A"), Step::Replies(b"A")],
     );

@@ -3,7 +3,7 @@
 ghost use Rattle.std.specs.Prelude.{◌≡◌, true};
 ghost use Rattle.vx_488.specs.Address.{is_bus_address};
 
-use crate::asks::{Answer, ask};
+use crate::ask_tools::{Answer, ask};
 use serde_json::Value;
 use std::alloc::Global;
 use std::process::Abort;
@@ -260,23 +260,25 @@ fn is_shown(bus: &SimBus<Toy>, step: &Step) -> bool {
     }
 }
 
+/// Does the steps of a play.
 fn take_steps(
     rt: &impl Abort,
     alloc: Global,
+    play: usize,
     bus: &mut SimBus<Toy>,
     steps: &[Step],
 ) -> Result<(), Fail> {
     for (number, step) in steps.iter().enumerate() {
         let is_wanted = take_made(alloc, bus, step)?;
-        assert!(rt; is_wanted, "at step {number}");
+        assert!(rt; is_wanted, "in play {play}, at step {number}");
     }
     Ok(())
 }
 
-/// Does all steps, on a bus with nothing on it.
-fn play(rt: &impl Abort, alloc: Global, steps: &[Step]) -> Result<(), Fail> {
+/// Does them on a bus with nothing on it.
+fn play(rt: &impl Abort, alloc: Global, number: usize, steps: &[Step]) -> Result<(), Fail> {
     let mut bus = SimBus::new(alloc).map_err(|_| "no memory")?;
-    take_steps(rt, alloc, &mut bus, steps)
+    take_steps(rt, alloc, number, &mut bus, steps)
 }
 
 const FIVE: Addr = Addr { p: 5, s: None };
@@ -293,7 +295,7 @@ const NONE: &[Transfer] = &[];
 
 // Two of three instruments listen to a burst, and each gives it back: up to the stop byte, END and the room's end. END is
 // told before the stop byte, and the stop byte before a full room.
-static BURSTS_REACH_THE_LISTENERS: [Step; 23] = [
+const BURSTS_REACH_THE_LISTENERS: &[Step] = &[
     Step::Attach(FIVE, None),
     Step::Attach(SIX_ONE, None),
     Step::Attach(SIX_TWO, None),
@@ -351,14 +353,9 @@ static BURSTS_REACH_THE_LISTENERS: [Step; 23] = [
     Step::Gets(1, Some(68), Stop::Char, b"D"),
 ];
 
-#[test]
-fn bursts_reach_the_listeners(rt: HostRuntime) -> Result<(), Fail> {
-    play(&rt, rt.alloc(), &BURSTS_REACH_THE_LISTENERS)
-}
-
 // A burst to a slow instrument and a fast one is held at its second byte, and goes on a moment later. So is one to the slow
 // instrument alone.
-static A_BURST_WAITS_FOR_THE_SLOWEST: [Step; 15] = [
+const A_BURST_WAITS_FOR_THE_SLOWEST: &[Step] = &[
     Step::AttachSlow(FIVE, None),
     Step::Attach(SIX, None),
     Step::Sent(&[0x3F, 0x40, 0x25, 0x26]),
@@ -400,13 +397,8 @@ static A_BURST_WAITS_FOR_THE_SLOWEST: [Step; 15] = [
     ),
 ];
 
-#[test]
-fn a_burst_waits_for_the_slowest(rt: HostRuntime) -> Result<(), Fail> {
-    play(&rt, rt.alloc(), &A_BURST_WAITS_FOR_THE_SLOWEST)
-}
-
 // Nobody listens at 6, until an instrument is attached there.
-static PUT_IS_HELD_WHERE_NOBODY_LISTENS: [Step; 14] = [
+const PUT_IS_HELD_WHERE_NOBODY_LISTENS: &[Step] = &[
     Step::Attach(FIVE, None),
     Step::Sent(&[0x3F, 0x40, 0x26]),
     Step::Asked(Ask::Put { b: 65, end: true }, Answer::Held),
@@ -423,13 +415,8 @@ static PUT_IS_HELD_WHERE_NOBODY_LISTENS: [Step; 14] = [
     Step::Asked(Ask::Get, Answer::Held),
 ];
 
-#[test]
-fn put_is_held_where_nobody_listens(rt: HostRuntime) -> Result<(), Fail> {
-    play(&rt, rt.alloc(), &PUT_IS_HELD_WHERE_NOBODY_LISTENS)
-}
-
 // A message of two bytes to a slow instrument and back, over moments. The moment 0 isn't later than the first one.
-static SLOW_INSTRUMENT_WAITS_FOR_A_MOMENT: [Step; 20] = [
+const SLOW_INSTRUMENT_WAITS_FOR_A_MOMENT: &[Step] = &[
     Step::AttachSlow(FIVE, None),
     Step::Told(0),
     Step::Sent(&[0x3F, 0x40, 0x25]),
@@ -452,13 +439,8 @@ static SLOW_INSTRUMENT_WAITS_FOR_A_MOMENT: [Step; 20] = [
     Step::Asked(Ask::Get, Answer::Got { b: 66, end: true }),
 ];
 
-#[test]
-fn slow_instrument_waits_for_a_moment(rt: HostRuntime) -> Result<(), Fail> {
-    play(&rt, rt.alloc(), &SLOW_INSTRUMENT_WAITS_FOR_A_MOMENT)
-}
-
 // A byte goes to all listeners or to none of them.
-static SLOW_LISTENER_HOLDS_THE_OTHERS: [Step; 8] = [
+const SLOW_LISTENER_HOLDS_THE_OTHERS: &[Step] = &[
     Step::Attach(SIX, None),
     Step::AttachSlow(FIVE, None),
     Step::Sent(&[0x3F, 0x25, 0x26]),
@@ -469,13 +451,8 @@ static SLOW_LISTENER_HOLDS_THE_OTHERS: [Step; 8] = [
     Step::Asked(Ask::Get, Answer::Held),
 ];
 
-#[test]
-fn slow_listener_holds_the_others(rt: HostRuntime) -> Result<(), Fail> {
-    play(&rt, rt.alloc(), &SLOW_LISTENER_HOLDS_THE_OTHERS)
-}
-
 // The second call fails, and the third goes. A get that would be held fails too. The last order counts.
-static ORDERED_CALL_FAILS: [Step; 16] = [
+const ORDERED_CALL_FAILS: &[Step] = &[
     Step::Fails(2),
     Step::Asked(Ask::Cmd(0x3F), Answer::Went),
     Step::Asked(Ask::Cmd(0x40), Answer::Failed),
@@ -494,13 +471,8 @@ static ORDERED_CALL_FAILS: [Step; 16] = [
     Step::Asked(Ask::Atn(true), Answer::Went),
 ];
 
-#[test]
-fn ordered_call_fails(rt: HostRuntime) -> Result<(), Fail> {
-    play(&rt, rt.alloc(), &ORDERED_CALL_FAILS)
-}
-
 // An instrument asks at END; a serial poll gets its status byte without END, and ends its asking.
-static SERIAL_POLL_OF_ONE_THAT_ASKS: [Step; 13] = [
+const SERIAL_POLL_OF_ONE_THAT_ASKS: &[Step] = &[
     Step::Attach(FIVE, None),
     Step::Sent(&[0x3F, 0x40, 0x25]),
     Step::Srq(false),
@@ -516,13 +488,8 @@ static SERIAL_POLL_OF_ONE_THAT_ASKS: [Step; 13] = [
     Step::Asked(Ask::Get, Answer::Got { b: 65, end: true }),
 ];
 
-#[test]
-fn serial_poll_of_one_that_asks(rt: HostRuntime) -> Result<(), Fail> {
-    play(&rt, rt.alloc(), &SERIAL_POLL_OF_ONE_THAT_ASKS)
-}
-
 // SDC and GET reach the listener alone, DCL both instruments.
-static COMMANDS_REACH_THOSE_ADDRESSED: [Step; 23] = [
+const COMMANDS_REACH_THOSE_ADDRESSED: &[Step] = &[
     Step::Attach(FIVE, None),
     Step::Attach(SIX_ONE, None),
     Step::Sent(&[0x3F, 0x25, 0x26, 0x61]),
@@ -548,13 +515,8 @@ static COMMANDS_REACH_THOSE_ADDRESSED: [Step; 23] = [
     Step::Asked(Ask::Get, Answer::Got { b: 80, end: false }),
 ];
 
-#[test]
-fn commands_reach_those_addressed(rt: HostRuntime) -> Result<(), Fail> {
-    play(&rt, rt.alloc(), &COMMANDS_REACH_THOSE_ADDRESSED)
-}
-
 // The own address comes before one that is taken, and that before a full bench.
-static ATTACH_REFUSES_IN_ORDER: [Step; 12] = [
+const ATTACH_REFUSES_IN_ORDER: &[Step] = &[
     Step::Attach(OWN_THREE, Some(Attach::OwnAddress)),
     Step::Attach(SIX_ONE, None),
     Step::Attach(SIX_TWO, None),
@@ -569,13 +531,8 @@ static ATTACH_REFUSES_IN_ORDER: [Step; 12] = [
     Step::Attach(FIVE, None),
 ];
 
-#[test]
-fn attach_refuses_in_order(rt: HostRuntime) -> Result<(), Fail> {
-    play(&rt, rt.alloc(), &ATTACH_REFUSES_IN_ORDER)
-}
-
 // An instrument that is pulled is gone, and its address is free.
-static PULL_TAKES_IT_AWAY: [Step; 13] = [
+const PULL_TAKES_IT_AWAY: &[Step] = &[
     Step::Attach(SIX_ONE, None),
     Step::Attach(FIVE, None),
     Step::Pull(SIX, Err(Absent)),
@@ -591,15 +548,10 @@ static PULL_TAKES_IT_AWAY: [Step; 13] = [
     Step::Asked(Ask::Put { b: 65, end: true }, Answer::Went),
 ];
 
-#[test]
-fn pull_takes_it_away(rt: HostRuntime) -> Result<(), Fail> {
-    play(&rt, rt.alloc(), &PULL_TAKES_IT_AWAY)
-}
-
 const LATE: &str = r#"{"rules":[{"in":"A","out":"x","delay":5},{"in":"B","stb":65}]}"#;
 
 // A table instrument answers, late where its rule says so. It was told the last moment as it was attached.
-static TABLE_ANSWERS: [Step; 12] = [
+const TABLE_ANSWERS: &[Step] = &[
     Step::Told(10),
     Step::Table(FIVE, LATE, None),
     Step::Sent(&[0x3F, 0x25, 0x45]),
@@ -614,7 +566,24 @@ static TABLE_ANSWERS: [Step; 12] = [
     Step::Table(FIVE, LATE, Some(Attach::Taken { holder: FIVE })),
 ];
 
+static PLAYS: [&[Step]; 11] = [
+    BURSTS_REACH_THE_LISTENERS,
+    A_BURST_WAITS_FOR_THE_SLOWEST,
+    PUT_IS_HELD_WHERE_NOBODY_LISTENS,
+    SLOW_INSTRUMENT_WAITS_FOR_A_MOMENT,
+    SLOW_LISTENER_HOLDS_THE_OTHERS,
+    ORDERED_CALL_FAILS,
+    SERIAL_POLL_OF_ONE_THAT_ASKS,
+    COMMANDS_REACH_THOSE_ADDRESSED,
+    ATTACH_REFUSES_IN_ORDER,
+    PULL_TAKES_IT_AWAY,
+    TABLE_ANSWERS,
+];
+
 #[test]
-fn table_answers(rt: HostRuntime) -> Result<(), Fail> {
-    play(&rt, rt.alloc(), &TABLE_ANSWERS)
+fn plays(rt: HostRuntime) -> Result<(), Fail> {
+    for (number, steps) in PLAYS.iter().enumerate() {
+        play(&rt, rt.alloc(), number, steps)?;
+    }
+    Ok(())
 }

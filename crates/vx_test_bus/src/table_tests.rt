@@ -1,7 +1,7 @@
 //! Tables of texts that spell table instruments or don't, and of what the instruments do.
 
-use crate::rows::compare;
-use crate::steps::{Step, take_steps};
+use crate::row_tools::compare;
+use crate::step_tools::{Step, take_steps};
 use serde_json::Value;
 use std::alloc::Global;
 use std::process::Abort;
@@ -49,20 +49,9 @@ fn refusal_of(
     refusal(alloc, text.as_str())
 }
 
-/// Fails where a text isn't refused for this reason, or is where it has none.
-fn refuse_each(
-    rt: &impl Abort,
-    alloc: Global,
-    rows: &[(&str, Option<TableErr>)],
-) -> Result<(), Fail> {
-    for (text, why) in rows {
-        compare(rt, 0, &(*text, refusal(alloc, text)?), &(*text, *why));
-    }
-    Ok(())
-}
-
-// Each value that isn't a table, or has a bad rule behind good ones.
-static REFUSALS: [(&str, Option<TableErr>); 7] = [
+// Texts of JSON, and why each describes no instrument.
+static TEXTS: [(&str, Option<TableErr>); 27] = [
+    // Each value that isn't a table, or has a bad rule behind good ones.
     (r#"[]"#, Some(TableErr::NotObject)),
     (r#"null"#, Some(TableErr::NotObject)),
     (r#"{}"#, Some(TableErr::NotObject)),
@@ -73,15 +62,7 @@ static REFUSALS: [(&str, Option<TableErr>); 7] = [
         r#"{"rules":[{"in":"a"},[],{}]}"#,
         Some(TableErr::BadRule(2)),
     ),
-];
-
-#[test]
-fn refusals(rt: HostRuntime) -> Result<(), Fail> {
-    refuse_each(&rt, rt.alloc(), &REFUSALS)
-}
-
-// Each table with one rule that isn't of a rule's form. Of equal keys the last counts.
-static BAD_RULES: [(&str, Option<TableErr>); 14] = [
+    // Each table with one rule that isn't of a rule's form. Of equal keys the last counts.
     (r#"{"rules":[null]}"#, Some(TableErr::BadRule(1))),
     (r#"{"rules":[{"in":1}]}"#, Some(TableErr::BadRule(1))),
     (
@@ -132,15 +113,7 @@ static BAD_RULES: [(&str, Option<TableErr>); 14] = [
         r#"{"rules":[{"in":"a","delay":true}]}"#,
         Some(TableErr::BadRule(1)),
     ),
-];
-
-#[test]
-fn bad_rules(rt: HostRuntime) -> Result<(), Fail> {
-    refuse_each(&rt, rt.alloc(), &BAD_RULES)
-}
-
-// Each value that makes an instrument. Of equal keys the last counts, and other keys don't.
-static TABLES: [(&str, Option<TableErr>); 6] = [
+    // Each value that makes an instrument. Of equal keys the last counts, and other keys don't.
     (r#"{"rules":[]}"#, None),
     (r#"{"rules":[{"in":"*IDN?","out":"ACME,1\n"}]}"#, None),
     (
@@ -156,8 +129,11 @@ static TABLES: [(&str, Option<TableErr>); 6] = [
 ];
 
 #[test]
-fn makes(rt: HostRuntime) -> Result<(), Fail> {
-    refuse_each(&rt, rt.alloc(), &TABLES)
+fn texts(rt: HostRuntime) -> Result<(), Fail> {
+    for (row, (text, why)) in TEXTS.iter().enumerate() {
+        compare(&rt, row, &refusal(rt.alloc(), text)?, why);
+    }
+    Ok(())
 }
 
 const FIRST: &str = r#"{"rules":[{"in":"a"}"#;
@@ -193,17 +169,23 @@ fn limits(rt: HostRuntime) -> Result<(), Fail> {
 }
 
 /// Makes an instrument that a text describes, and does these steps with it.
-fn play(rt: &impl Abort, alloc: Global, text: &str, steps: &[Step]) -> Result<(), Fail> {
+fn play(
+    rt: &impl Abort,
+    alloc: Global,
+    name: &str,
+    text: &str,
+    steps: &[Step],
+) -> Result<(), Fail> {
     let mut inst = made(alloc, text)?;
-    take_steps(rt, &mut inst, steps);
+    take_steps(rt, name, &mut inst, steps);
     Ok(())
 }
 
-const IDN: &str =
+const REPLIES_TEXT: &str =
     r#"{"rules":[{"in":"*IDN?","out":"ACME,1\n"},{"in":"*IDN?","out":"no"},{"in":"A\n","out":"B"},{"in":"","out":"C"},{"in":"N"}]}"#;
 
 // The first rule for a message acts. One line feed at the end of a message doesn't count.
-static REPLIES: [Step; 34] = [
+const REPLIES: &[Step] = &[
     Step::Sent(b"*IDN?"),
     Step::Replies(b"ACME,1\n"),
     Step::Mute,
@@ -240,13 +222,10 @@ static REPLIES: [Step; 34] = [
     Step::Polled(0),
 ];
 
-#[test]
-fn replies(rt: HostRuntime) -> Result<(), Fail> {
-    play(&rt, rt.alloc(), IDN, &REPLIES)
-}
+const STATUS_TEXT: &str = r#"{"rules":[{"in":"A","stb":80},{"in":"B"}]}"#;
 
 // A rule sets the status byte; bit 6 asks for service.
-static STATUS: [Step; 11] = [
+const STATUS: &[Step] = &[
     Step::Asks(false),
     Step::Sent(b"A"),
     Step::Asks(true),
@@ -260,14 +239,11 @@ static STATUS: [Step; 11] = [
     Step::Polled(0xBF),
 ];
 
-#[test]
-fn status(rt: HostRuntime) -> Result<(), Fail> {
-    let text = r#"{"rules":[{"in":"A","stb":80},{"in":"B"}]}"#;
-    play(&rt, rt.alloc(), text, &STATUS)
-}
+const DELAY_TEXT: &str =
+    r#"{"rules":[{"in":"A","out":"BC","stb":65,"delay":100},{"in":"D","out":"E"}]}"#;
 
 // A rule with a delay acts when that has passed since the last moment told, and not before.
-static DELAY: [Step; 35] = [
+const DELAY: &[Step] = &[
     Step::Told(50),
     Step::Told(40),
     Step::Sent(b"D"),
@@ -305,14 +281,11 @@ static DELAY: [Step; 35] = [
     Step::Mute,
 ];
 
-#[test]
-fn delay(rt: HostRuntime) -> Result<(), Fail> {
-    let text = r#"{"rules":[{"in":"A","out":"BC","stb":65,"delay":100},{"in":"D","out":"E"}]}"#;
-    play(&rt, rt.alloc(), text, &DELAY)
-}
+const CLEAR_TEXT: &str =
+    r#"{"rules":[{"in":"A","out":"B","stb":1,"delay":100},{"in":"C","out":"D"}]}"#;
 
 // A clear drops what was taken, what there is to give and the rule that waits.
-static CLEAR: [Step; 14] = [
+const CLEAR: &[Step] = &[
     Step::Set(0x42),
     Step::Sent(b"C"),
     Step::Sent(b"A"),
@@ -329,10 +302,20 @@ static CLEAR: [Step; 14] = [
     Step::Replies(b"D"),
 ];
 
+// Names, texts, and steps with the instruments that they describe.
+static PLAYS: [(&str, &str, &[Step]); 4] = [
+    ("replies", REPLIES_TEXT, REPLIES),
+    ("status", STATUS_TEXT, STATUS),
+    ("delay", DELAY_TEXT, DELAY),
+    ("clear", CLEAR_TEXT, CLEAR),
+];
+
 #[test]
-fn clear(rt: HostRuntime) -> Result<(), Fail> {
-    let text = r#"{"rules":[{"in":"A","out":"B","stb":1,"delay":100},{"in":"C","out":"D"}]}"#;
-    play(&rt, rt.alloc(), text, &CLEAR)
+fn plays(rt: HostRuntime) -> Result<(), Fail> {
+    for (name, text, steps) in &PLAYS {
+        play(&rt, rt.alloc(), name, text, steps)?;
+    }
+    Ok(())
 }
 
 // A reply that has no room is dropped whole, and one that just fits isn't; the status byte is set all the same.
@@ -354,5 +337,5 @@ const BEFORE_LONG: &str = r#"{"rules":[{"in":"A","out":"BC","stb":65},{"in":"D",
 #[test]
 fn room(rt: HostRuntime) -> Result<(), Fail> {
     let text = repeated(rt.alloc(), BEFORE_LONG, "x", 65536, END)?;
-    play(&rt, rt.alloc(), text.as_str(), &ROOM)
+    play(&rt, rt.alloc(), "room", text.as_str(), &ROOM)
 }

@@ -1,6 +1,6 @@
 //! Tables of transfers, and of what they mean for the bus.
 
-use crate::rows::compare;
+use crate::row_tools::compare;
 use vx_488::*;
 
 /// The bus after these transfers, from its beginning.

@@ -65,7 +65,7 @@ static LINKED: [Row; 9] = [
 
 /// A lock keeps off who asks to wait; where it is freed the first of them goes first, until its time has passed, or it is
 /// marked.
-static FIRST_COME: [Row; 33] = [
+const FIRST_COME: &[Row] = &[
     Come(0, 1, Lock(1, 0, 0)),
     Served(1),
     Come(0, 2, Lock(2, 1, 500)),
@@ -102,7 +102,7 @@ static FIRST_COME: [Row; 33] = [
 ];
 
 /// A connection that goes leaves the line.
-static GONE: [Row; 5] = [
+const GONE: &[Row] = &[
     Come(0, 2, Lock(2, 1, 500)),
     Come(0, 3, Write(3, 9, 100)),
     Says(3, None, 0, BEHIND_2),
@@ -111,7 +111,7 @@ static GONE: [Row; 5] = [
 ];
 
 /// A call in line for another device keeps nobody off, one for the interface does.
-static OTHER_TARGETS: [Row; 24] = [
+const OTHER_TARGETS: &[Row] = &[
     Come(0, 1, Create(b"gpib0,7", false, 0)),
     Served(1),
     Come(0, 2, Create(b"gpib0,7", false, 0)),
@@ -139,7 +139,7 @@ static OTHER_TARGETS: [Row; 24] = [
 ];
 
 /// A create_link with lock stands in line, whatever the gateway's own address is; one without, or for no target, doesn't.
-static CREATES: [Row; 22] = [
+const CREATES: &[Row] = &[
     Come(0, 2, Create(b"gpib0,5", true, 500)),
     Come(0, 3, Write(3, 9, 100)),
     Says(2, None, 0, PASSED),
@@ -246,22 +246,11 @@ fn first_wrong(alloc: Global, rows: &[Row]) -> Result<Option<usize>, NoMemory> {
     )
 }
 
-#[test]
-fn first_come(rt: HostRuntime) {
-    assert_eq!(rt; first_wrong(rt.alloc(), &FIRST_COME), Ok(None));
-}
+static LINES: [&[Row]; 4] = [FIRST_COME, GONE, OTHER_TARGETS, CREATES];
 
 #[test]
-fn gone(rt: HostRuntime) {
-    assert_eq!(rt; first_wrong(rt.alloc(), &GONE), Ok(None));
-}
-
-#[test]
-fn other_targets(rt: HostRuntime) {
-    assert_eq!(rt; first_wrong(rt.alloc(), &OTHER_TARGETS), Ok(None));
-}
-
-#[test]
-fn creates(rt: HostRuntime) {
-    assert_eq!(rt; first_wrong(rt.alloc(), &CREATES), Ok(None));
+fn calls_in_line(rt: HostRuntime) {
+    for (number, rows) in LINES.iter().enumerate() {
+        assert_eq!(rt; first_wrong(rt.alloc(), rows), Ok(None), "in line {number}");
+    }
 }

@@ -106,7 +106,7 @@ const POLLED: [Transfer; 7] = [
 ];
 
 /// A connection's number is given once, and its calls are told.
-static ONE_CONNECTION: [Case; 9] = [
+const ONE_CONNECTION: &[Case] = &[
     (Up(1, Role::Core), true),
     (Up(1, Role::Core), false),
     (Shows(1, Some(Role::Core), None, None), true),
@@ -122,7 +122,7 @@ static ONE_CONNECTION: [Case; 9] = [
 ];
 
 /// A lock keeps other links off conflicting targets, and no write off another device.
-static CONFLICT: [Case; 27] = [
+const CONFLICT: &[Case] = &[
     (Up(1, Role::Core), true),
     (Up(2, Role::Core), true),
     (Come(1, Create(b"gpib0,5", false)), true),
@@ -160,7 +160,7 @@ const NEXT_TO_LAST: u64 = 18_446_744_073_709_551_614;
 const LAST: u64 = 18_446_744_073_709_551_615;
 
 /// A call that waits for a lock is refused once its time has passed, and not before; no moment goes back.
-static DEADLINE: [Case; 18] = [
+const DEADLINE: &[Case] = &[
     (Up(1, Role::Core), true),
     (Up(2, Role::Core), true),
     (Come(1, Create(b"gpib0,5", false)), true),
@@ -186,7 +186,7 @@ static DEADLINE: [Case; 18] = [
 
 /// A device_abort marks the calls of its link, whether a turn made a part of its job or not, and a link without one isn't
 /// marked.
-static ABORTED_CALLS: [Case; 18] = [
+const ABORTED_CALLS: &[Case] = &[
     (Up(1, Role::Core), true),
     (Up(2, Role::Abort), true),
     (Come(1, Create(b"gpib0,5", false)), true),
@@ -211,7 +211,7 @@ static ABORTED_CALLS: [Case; 18] = [
 ];
 
 /// A call made no transfers while another stood in line before it, unless that one's time has passed by the answer.
-static ABORTED_BEHIND_ANOTHER: [Case; 16] = [
+const ABORTED_BEHIND_ANOTHER: &[Case] = &[
     (Up(1, Role::Core), true),
     (Up(2, Role::Abort), true),
     (Up(3, Role::Core), true),
@@ -240,7 +240,7 @@ static ABORTED_BEHIND_ANOTHER: [Case; 16] = [
 ];
 
 /// A read may end for three reasons at once, and one of no bytes for one; a bus that fails ends a part.
-static READS_AND_FAILURES: [Case; 11] = [
+const READS_AND_FAILURES: &[Case] = &[
     (Up(1, Role::Core), true),
     (Come(1, Create(b"gpib0,5", false)), true),
     (Answer(1, Bare, Linked(1)), true),
@@ -267,7 +267,7 @@ static READS_AND_FAILURES: [Case; 11] = [
 ];
 
 /// Raw commands are under locks; they address the device that the next write on the interface reaches.
-static RAW_COMMANDS: [Case; 15] = [
+const RAW_COMMANDS: &[Case] = &[
     (Up(1, Role::Core), true),
     (Up(2, Role::Core), true),
     (Come(1, Create(b"gpib0", false)), true),
@@ -286,7 +286,7 @@ static RAW_COMMANDS: [Case; 15] = [
 ];
 
 /// After control was passed the gateway hasn't the role for a write, until interface clear.
-static PASS_CONTROL: [Case; 17] = [
+const PASS_CONTROL: &[Case] = &[
     (Up(1, Role::Core), true),
     (Come(1, Create(b"gpib0", false)), true),
     (Answer(1, Bare, Linked(1)), true),
@@ -310,7 +310,7 @@ static PASS_CONTROL: [Case; 17] = [
 ];
 
 /// A channel: its family and port, a dial that fails and one that doesn't, a second channel, and none.
-static CHANNELS: [Case; 17] = [
+const CHANNELS: &[Case] = &[
     (Up(1, Role::Core), true),
     (Come(1, Open(1, 9012)), true),
     (Answer(1, Bare, Gave(ErrorCode::NotSupported)), true),
@@ -331,7 +331,7 @@ static CHANNELS: [Case; 17] = [
 ];
 
 /// At a rise each enabled link of a connection with a channel gives one interrupt; a level that stays gives none.
-static SERVICE_REQUESTS: [Case; 38] = [
+const SERVICE_REQUESTS: &[Case] = &[
     (Up(1, Role::Core), true),
     (Up(2, Role::Core), true),
     (Up(3, Role::Core), true),
@@ -373,7 +373,7 @@ static SERVICE_REQUESTS: [Case; 38] = [
 ];
 
 /// 1,024 links fill the table; the number of one that is destroyed isn't given again.
-static FULL_LINKS: [Case; 9] = [
+const FULL_LINKS: &[Case] = &[
     (Up(1, Role::Core), true),
     (Links(1024), true),
     (Come(1, Create(b"gpib0,5", false)), true),
@@ -387,7 +387,7 @@ static FULL_LINKS: [Case; 9] = [
 
 /// A turn that the bus held for longer than its time ends with a timeout, at its deadline and not before; a connection that
 /// goes down may leave a part of its job, and nothing else.
-static HELD_TURNS: [Case; 10] = [
+const HELD_TURNS: &[Case] = &[
     (Up(1, Role::Core), true),
     (Come(1, Create(b"gpib0,5", false)), true),
     (Answer(1, Bare, Linked(1)), true),
@@ -405,6 +405,32 @@ static HELD_TURNS: [Case; 10] = [
     (Down(1, &HELD), true),
     (Down(1, &[]), false),
 ];
+
+static HISTORIES: [&[Case]; 12] = [
+    ONE_CONNECTION,
+    CONFLICT,
+    DEADLINE,
+    ABORTED_CALLS,
+    ABORTED_BEHIND_ANOTHER,
+    READS_AND_FAILURES,
+    RAW_COMMANDS,
+    PASS_CONTROL,
+    CHANNELS,
+    SERVICE_REQUESTS,
+    FULL_LINKS,
+    HELD_TURNS,
+];
+
+#[test]
+fn histories(rt: HostRuntime) {
+    for (number, cases) in HISTORIES.iter().enumerate() {
+        assert_eq!(rt;
+            first_wrong(rt.alloc(), cases),
+            Ok(None),
+            "in history {number}"
+        );
+    }
+}
 
 /// A call with more bytes than a write or a record takes is kept, and refused.
 static LONG_CALL: [Case; 2] = [
@@ -438,66 +464,6 @@ fn write_on(plain: &mut Plain, bytes: &[u8]) -> Result<(bool, Option<usize>), No
         now: 0,
     })?;
     Ok((made && kept, first_wrong_on(plain, &LONG_CALL)))
-}
-
-#[test]
-fn one_connection(rt: HostRuntime) {
-    assert_eq!(rt; first_wrong(rt.alloc(), &ONE_CONNECTION), Ok(None));
-}
-
-#[test]
-fn conflict(rt: HostRuntime) {
-    assert_eq!(rt; first_wrong(rt.alloc(), &CONFLICT), Ok(None));
-}
-
-#[test]
-fn deadline(rt: HostRuntime) {
-    assert_eq!(rt; first_wrong(rt.alloc(), &DEADLINE), Ok(None));
-}
-
-#[test]
-fn aborted_calls(rt: HostRuntime) {
-    assert_eq!(rt; first_wrong(rt.alloc(), &ABORTED_CALLS), Ok(None));
-}
-
-#[test]
-fn aborted_behind_another(rt: HostRuntime) {
-    assert_eq!(rt; first_wrong(rt.alloc(), &ABORTED_BEHIND_ANOTHER), Ok(None));
-}
-
-#[test]
-fn reads_and_failures(rt: HostRuntime) {
-    assert_eq!(rt; first_wrong(rt.alloc(), &READS_AND_FAILURES), Ok(None));
-}
-
-#[test]
-fn raw_commands(rt: HostRuntime) {
-    assert_eq!(rt; first_wrong(rt.alloc(), &RAW_COMMANDS), Ok(None));
-}
-
-#[test]
-fn pass_control(rt: HostRuntime) {
-    assert_eq!(rt; first_wrong(rt.alloc(), &PASS_CONTROL), Ok(None));
-}
-
-#[test]
-fn channels(rt: HostRuntime) {
-    assert_eq!(rt; first_wrong(rt.alloc(), &CHANNELS), Ok(None));
-}
-
-#[test]
-fn service_requests(rt: HostRuntime) {
-    assert_eq!(rt; first_wrong(rt.alloc(), &SERVICE_REQUESTS), Ok(None));
-}
-
-#[test]
-fn full_links(rt: HostRuntime) {
-    assert_eq!(rt; first_wrong(rt.alloc(), &FULL_LINKS), Ok(None));
-}
-
-#[test]
-fn held_turns(rt: HostRuntime) {
-    assert_eq!(rt; first_wrong(rt.alloc(), &HELD_TURNS), Ok(None));
 }
 
 #[test]

@@ -6,7 +6,7 @@ use vx_488::{ADDRESS_MAX, Line};
 use vx_bus::{ASK_MAX, Ask, Bus, GetOut, Move};
 
 /// What a bus answers to an ask.
-#[derive(Clone, Copy, Debug, PartialEq, Eq)]
+#[derive(Clone, Copy, PartialEq, Eq)]
 pub enum Answer {
     Went,
     Got { b: u8, end: bool },

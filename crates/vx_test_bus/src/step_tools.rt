@@ -152,9 +152,9 @@ fn take_step<I: Instrument>(inst: &mut I, step: Step) -> bool {
     }
 }
 
-/// Does all steps, each of which must be as wanted.
-pub fn take_steps<I: Instrument>(rt: &impl Abort, inst: &mut I, steps: &[Step]) {
+/// Does all steps of a play of this name, each of which must be as wanted.
+pub fn take_steps<I: Instrument>(rt: &impl Abort, play: &str, inst: &mut I, steps: &[Step]) {
     for (number, step) in steps.iter().enumerate() {
-        assert!(rt; take_step(inst, *step), "at step {number}");
+        assert!(rt; take_step(inst, *step), "{play}, at step {number}");
     }
 }
