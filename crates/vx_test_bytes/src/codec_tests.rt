@@ -116,7 +116,7 @@ fn shown<'a>(call: &'a CallRef<'a>) -> Shown<'a> {
             (
                 Proc::CreateLink,
                 [0, 0, 0, *lock_timeout],
-                [*client as u32, u32::from(*lock), 0, 0, 0],
+                [client.cast_unsigned(), u32::from(*lock), 0, 0, 0],
                 device,
             )
         }

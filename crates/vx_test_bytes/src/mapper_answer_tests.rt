@@ -174,7 +174,8 @@ fn a_mapping_is_added_once_and_while_there_is_room(rt: HostRuntime) -> Result<()
     let known = Err(AddErr::Known);
     let wanted = ([known, known, Ok(())], 13, [Err(AddErr::Full), known]);
     assert!(rt; added == wanted);
-    let answer = map_answer(&ports, &dump, &mut [0u8; MESSAGE_MAX]);
+    let mut out = [0u8; MESSAGE_MAX];
+    let answer = map_answer(&ports, &dump, &mut out);
     assert!(rt; answer == MapAnswer::Reply(348));
     Ok(())
 }
