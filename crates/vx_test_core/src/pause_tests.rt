@@ -21,12 +21,12 @@ fn serve<R: Wait>(
     gives: Vec<u8>,
     took: &[u32],
 ) -> Result<Came, Fail> {
+    let mut room = Room::new(alloc).map_err(|_| "no memory")?;
+    let (gate, pass) = gateway(alloc, holds).ok_or("no memory")?;
     let link = MemLink::new(gives, 4096, Vec::new(alloc), Vec::new(alloc));
     let mut clock = Counting { told: 0 };
     let mut pauses = Pauses { count: 0 };
     let mut dial = MemDial::new(Vec::new(alloc), Vec::new(alloc));
-    let mut room = Room::new(alloc).map_err(|_| "no memory")?;
-    let (gate, pass) = gateway(alloc, holds).ok_or("no memory")?;
     let (_pass, done) = core_link(
         rt,
         alloc,
