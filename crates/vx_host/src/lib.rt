@@ -7,8 +7,10 @@ mod logs;
 mod nets;
 mod spawner;
 mod tools;
+mod wiring;
 
 pub use logs::ErrorLog;
 pub use nets::{HostNet, HostPort};
 pub use spawner::{ThreadSpawner, start_threads};
 pub use tools::{Dialed, TcpDial, TcpStreams, TcpTools};
+pub use wiring::{Wiring, wire};

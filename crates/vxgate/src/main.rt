@@ -5,14 +5,12 @@ mod models;
 
 use crate::models::AnyModel;
 use arrayvec::ArrayString;
-use crossbeam_channel::{Receiver, Sender, bounded};
 use std::alloc::{AllocError, Global};
 use std::env::{self, Env};
 use std::io::ErrorKind;
 use std::process::ExitCode;
-use std::thread;
-use vx_host::{Dialed, HostNet, TcpTools, ThreadSpawner, start_threads};
-use vx_io::{Started, StdSink, StdSource, Timeouts};
+use vx_host::{HostNet, TcpTools, wire};
+use vx_io::{StdSink, StdSource, Timeouts};
 use vx_rack::{Asker, Echo, Meter, NoMemory, Slow, Spare};
 use vx_serve::{Serve, serve_run};
 use vx_startup::{Asked, read_words};
@@ -22,9 +20,6 @@ const NO_MEMORY: u8 = 5;
 
 /// How many spare instruments there are of each model.
 const SPARES: usize = 4;
-
-/// How many streams wait for a pump, at most.
-const STREAMS_WAITING: usize = 64;
 
 /// The work of a worker of this program.
 type Job = Serve<HostNet<HostRuntime>, TcpTools<HostRuntime>, AnyModel>;
@@ -54,31 +49,6 @@ fn rack_of(alloc: Global) -> Result<Vec<Spare<AnyModel>>, Unmade> {
         add_each(alloc, &mut rack)?;
     }
     Ok(rack)
-}
-
-/// The channels between the server, the thread that starts its workers, and its pumps.
-#[derive(Drop)]
-struct Channels {
-    jobs: Sender<Job>,
-    queue: Receiver<Job>,
-    answers: Sender<Started>,
-    started: Receiver<Started>,
-    pumps: Sender<Dialed>,
-    dialed: Receiver<Dialed>,
-}
-
-fn channels_of(alloc: Global) -> Result<Channels, AllocError> {
-    let (jobs, queue) = bounded(alloc, 1)?;
-    let (answers, started) = bounded(alloc, 1)?;
-    let (pumps, dialed) = bounded(alloc, STREAMS_WAITING)?;
-    Ok(Channels {
-        jobs,
-        queue,
-        answers,
-        started,
-        pumps,
-        dialed,
-    })
 }
 
 /// There was no memory for the words, the spare instruments, or what starts the workers.
@@ -140,12 +110,11 @@ fn watch_of(alloc: Global, words: &[String]) -> Result<Watch, Unmade> {
     }
 }
 
-/// What there is before the server runs.
+/// What there is before the server is wired to its host.
 #[derive(Drop)]
 struct Made {
     words: Vec<String>,
     watch: Watch,
-    channels: Channels,
     rack: Vec<Spare<AnyModel>>,
 }
 
@@ -154,13 +123,8 @@ fn make(rt: &HostRuntime) -> Result<Made, Unmade> {
     let alloc = rt.alloc();
     let words = words_of(rt)?;
     let watch = watch_of(alloc, words.as_slice())?;
-    let channels = channels_of(alloc)?;
-    Ok(Made {
-        words,
-        watch,
-        channels,
-        rack: rack_of(alloc)?,
-    })
+    let rack = rack_of(alloc)?;
+    Ok(Made { words, watch, rack })
 }
 
 /// Ends with the status of the server.
@@ -172,26 +136,18 @@ fn main(rt: HostRuntime) -> ExitCode {
         words,
         watch: Watch { timeouts, has_log },
         rack,
-        channels,
     } = made;
-    let Channels {
-        jobs,
-        queue,
-        answers,
-        started,
-        pumps,
-        dialed,
-    } = channels;
-    // where the host has no thread for it, its ends of the channels are gone, and the spawner refuses each worker
-    let _ = thread::spawn(&rt, move || start_threads(rt, queue, answers));
+    let Ok(mut wiring) = wire::<HostRuntime, Job>(rt, rt.alloc(), rt.stderr(), has_log) else {
+        return ExitCode::from(NO_MEMORY);
+    };
     let (status, _) = serve_run(
         &rt,
         rt.alloc(),
         words.as_slice(),
         &mut StdSource::new(rt.stdin()),
         &mut HostNet::new(rt, timeouts),
-        &mut ThreadSpawner::new(rt, jobs, started),
-        &mut TcpTools::new(rt, pumps, dialed, rt.stderr(), has_log),
+        &mut wiring.spawner,
+        &mut wiring.tools,
         &mut StdSink::new(rt.stdout()),
         rack,
     );
