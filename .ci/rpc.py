@@ -42,7 +42,7 @@ def record(message):
 class Client:
     """A client of a core channel, which comes from this address, in a `with` block."""
 
-    def __init__(self, port, address="127.0.0.1", patience=120):
+    def __init__(self, port, address="127.0.0.1", patience=300):
         self.xid = 0
         self.peer = socket.socket()
         self.peer.settimeout(patience)

@@ -12,7 +12,7 @@ import tempfile
 import time
 from contextlib import ExitStack, suppress
 
-PATIENCE = 120  # seconds in which whatever is waited for has to come, also on a busy machine
+PATIENCE = 300  # seconds in which whatever is waited for has to come, also on a very busy machine
 TRIES = 20
 PORTS = range(20000, 30000)  # below those that the system gives to clients
 REFUSED = 3  # the status of a program that can't open its port
