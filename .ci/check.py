@@ -17,7 +17,7 @@ import sys
 from rpc import ABORT, CORE, CREATE_LINK, call, record
 
 PATIENCE = 60  # seconds
-HEAD = b"vxscript 2\n"
+HEAD = b"vxscript 2"  # the first line of a script of version 2
 DRAWN, STEPS = 100, 60
 # scripts of crates that must be among them
 ROWS = {"calls_aborted", "lock_waits_for_a_turn", "interrupts_of_a_rise", "connection_gone_in_its_turn"}
@@ -107,7 +107,7 @@ def run(program, words, given):
 
 def trace_of(player, text):
     """The status of a script that is played in version 2, or lifted to it, and its trace."""
-    if not text.startswith(HEAD):
+    if text.split(b"\n", 1)[0] != HEAD:
         status, text = run(player, ["lift"], text)
         if status:
             return status, text
