@@ -5,6 +5,7 @@ Whole messages are composed here from their words, by RFC 1833 and RFC 5531. Eac
 last 'N passed, M failed', goes to standard error; the status is 1 where something went wrong.
 """
 import concurrent.futures
+import select
 import socket
 import struct
 import subprocess
@@ -141,16 +142,18 @@ def hostile_streams(program):
 
 
 def sixteen_mebibytes(program):
+    """Fragments of no bytes, which never make a record, go on until the mapper shows that it has done with the stream."""
+    empty, sent = words(0) * 16384, 0
     with Mapper(program, "stream", 2) as mapper:
         with mapper.peer() as peer:
-            empty = words(0) * 16384  # fragments of no bytes, which never make a record
-            try:
-                for _ in range(512):
-                    peer.sendall(empty)
-                peer.shutdown(socket.SHUT_WR)
-                read_all(peer)
-            except OSError:
-                pass  # the mapper closed the stream behind 16 MiB
+            ends = False
+            while not ends:
+                ends, ready, _ = select.select([peer], [peer], [], PATIENCE)
+                if not ends:
+                    assert ready, "the mapper reads no more, and doesn't end the stream"
+                    sent += peer.send(empty)
+            assert sent >= 16 << 20, f"the stream ends behind {sent} bytes"
+            assert read_all(peer) == b"", "fragments of no bytes are answered"
         assert asked(mapper, record(GETPORT)) == record(done(CORE)), "the next peer isn't served"
         mapper.expect_served(2)
 
