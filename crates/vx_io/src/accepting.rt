@@ -1,8 +1,11 @@
 //! The wait for a connection to a port, which only a lost socket ends without one.
 
+use super::parting::{LATE, Partings, SOON, comes};
 use libc::net as c;
 use libc::types::pollfd;
+use std::alloc::Global;
 use std::net::{SocketAddr, TcpListener, TcpStream};
+use std::sync::Arc;
 
 /// How long a wait pauses where the system is short of something, in milliseconds.
 const PAUSE: i32 = 100;
@@ -53,11 +56,26 @@ fn pause() {
     let _ = c::poll(&mut nothing, PAUSE);
 }
 
-/// The stream of the next connection to a port and the address of its peer, or the system's number of the error for which the socket is lost. An error of one
-/// peer or of a moment is passed over, however often it comes: like one that finds no peer, such a wait ends when a peer comes that
-/// the system can take, and no bound on its errors would tell more of when that is.
-pub(super) fn accept_from(listener: &TcpListener) -> Result<(TcpStream, SocketAddr), Option<i32>> {
+/// Looks at those who are parting, and waits a while for a connection: whether one comes, or the system can't tell.
+fn comes_next(listener: &TcpListener, partings: &Partings) -> bool {
+    let wait = if partings.look() { SOON } else { LATE };
+    comes(listener, wait)
+}
+
+/// The stream of the next connection to a port and the address of its peer, or the system's number of the error for which the socket is
+/// lost. An error of one peer or of a moment is passed over, however often it comes: like one that finds no peer, such a wait ends when
+/// a peer comes that the system can take, and no bound on its errors would tell more of when that is. In between it looks at those who
+/// are parting, where there are such.
+pub(super) fn accept_from(
+    listener: &TcpListener,
+    partings: &Option<Arc<Partings, Global>>,
+) -> Result<(TcpStream, SocketAddr), Option<i32>> {
     for _ in 0..u64::MAX {
+        if let Some(partings) = partings {
+            if !comes_next(listener, partings) {
+                continue;
+            }
+        }
         match listener.accept() {
             Ok(taken) => return Ok(taken),
             Err(error) => match fault_of(error.raw_os_error()) {
@@ -71,7 +89,10 @@ pub(super) fn accept_from(listener: &TcpListener) -> Result<(TcpStream, SocketAd
 }
 
 /// The stream of the next connection alone.
-pub(super) fn accept_retrying(listener: &TcpListener) -> Result<TcpStream, Option<i32>> {
-    let (stream, _) = accept_from(listener)?;
+pub(super) fn accept_retrying(
+    listener: &TcpListener,
+    partings: &Option<Arc<Partings, Global>>,
+) -> Result<TcpStream, Option<i32>> {
+    let (stream, _) = accept_from(listener, partings)?;
     Ok(stream)
 }

@@ -6,6 +6,7 @@ mod accepting;
 mod addresses;
 mod clocks;
 mod keeping;
+mod parting;
 mod patience;
 mod places;
 mod sockets;

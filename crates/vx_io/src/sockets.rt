@@ -12,6 +12,7 @@ ghost use Rattle.vx_io.specs.Looking.{OnGot};
 use super::accepting::accept_retrying;
 use super::addresses::number_of;
 use super::keeping::bear_with;
+use super::parting::{OwnPartings, Partings, Parts, share};
 use super::patience::{LOOKS, Patience};
 use super::places::{Crowd, Place};
 use super::standard::{read_retrying, write_retrying};
@@ -20,17 +21,21 @@ use std::alloc::Global;
 use std::hint::spin_loop;
 use std::io::{ErrorKind, Read, Write};
 use std::marker::Model;
-use std::net::{Ipv4Addr, Net as Sockets, Shutdown, TcpListener, TcpStream};
+use std::net::{Ipv4Addr, Net as Sockets, TcpListener, TcpStream};
 use std::sync::Arc;
 use vx_door::Peered;
 use vx_io_traits::{Accepted, Bound, DialOut, Link, Listen, Net, Reach, ReadOut, WriteOut};
 
-/// A link over a TCP stream of the system.
-#[derive(Drop)]
+/// A link over a TCP stream of the system, which is closed where the link is dropped. Where it came of a door, or of a net that bears
+/// with its peers, and its peer hasn't closed its side yet, the writing side alone is shut then. What comes is dropped for up to a
+/// second, up to 16 MiB, so that the peer loses nothing of what was sent to it.
 pub struct TcpLink {
     stream: TcpStream,
     patience: Patience,
     place: Option<Place>,
+    parts: Parts,
+    // whether the peer's side ended, or a call failed
+    is_over: bool,
     receive_faults: u64,
     send_faults: u64,
 }
@@ -50,11 +55,19 @@ impl TcpLink {
         ensures receive_faults { result.receive_faults ≡ 0 }
         ensures send_faults { result.send_faults ≡ 0 }
     {
-        TcpLink::placed(stream, None)
+        TcpLink::placed(stream, None, Parts::AtOnce)
     }
 
-    /// A link over `stream`, in this place.
-    fn placed(stream: TcpStream, place: Option<Place>) -> TcpLink
+    /// A link over `stream`, with no fault yet. Whoever drops it waits for its peer to part.
+    pub(super) fn waiting(stream: TcpStream) -> TcpLink
+        ensures receive_faults { result.receive_faults ≡ 0 }
+        ensures send_faults { result.send_faults ≡ 0 }
+    {
+        TcpLink::placed(stream, None, Parts::Waiting)
+    }
+
+    /// A link over `stream`, in this place, which parts so from its peer.
+    fn placed(stream: TcpStream, place: Option<Place>, parts: Parts) -> TcpLink
         ensures receive_faults { result.receive_faults ≡ 0 }
         ensures send_faults { result.send_faults ≡ 0 }
     {
@@ -64,14 +77,29 @@ impl TcpLink {
             stream,
             patience: Patience::NEW,
             place,
+            parts,
+            is_over: false,
             receive_faults: 0,
             send_faults: 0,
         }
     }
+}
 
-    /// Tells the peer that the connection is over, as far as the system can; what was sent still comes to it.
-    pub(super) fn close(&self) {
-        let _ = self.stream.shutdown(Shutdown::Both);
+impl Drop for TcpLink {
+    fn drop(self) {
+        let TcpLink {
+            stream,
+            patience: _,
+            place,
+            parts,
+            is_over,
+            receive_faults: _,
+            send_faults: _,
+        } = self;
+        drop(place);
+        if !is_over {
+            parts.part(stream);
+        }
     }
 }
 
@@ -157,9 +185,13 @@ impl Link for TcpLink {
         ensures failed { OnReadFailed result (self.new.receive_faults ≡ one_more self.old.receive_faults) }
     {
         match self.read(into) {
-            Some(0) => ReadOut::End,
+            Some(0) => {
+                self.is_over = true;
+                ReadOut::End
+            }
             Some(count) => ReadOut::Got(count),
             None => {
+                self.is_over = true;
                 self.receive_faults = self.receive_faults.saturating_add(1);
                 ReadOut::Failed
             }
@@ -178,6 +210,7 @@ impl Link for TcpLink {
         match write_now(&mut self.stream, from) {
             Some(count) if count > 0 => WriteOut::Took(count),
             _ => {
+                self.is_over = true;
                 self.send_faults = self.send_faults.saturating_add(1);
                 WriteOut::Failed
             }
@@ -216,6 +249,7 @@ pub struct TcpPort {
     listener: TcpListener,
     timeouts: Timeouts,
     crowd: Option<Arc<Crowd, Global>>,
+    partings: Option<Arc<Partings, Global>>,
     faults: u64,
     lost: Option<i32>,
 }
@@ -234,14 +268,16 @@ impl TcpPort {
     pub fn new(listener: TcpListener) -> TcpPort
         ensures { result ≡ 0 }
     {
-        TcpPort::crowded(listener, Timeouts::NONE, None)
+        TcpPort::crowded(listener, Timeouts::NONE, None, None)
     }
 
-    /// A port over `listener`, with no fault yet, whose links bear with their peers for so long, and are of this crowd.
+    /// A port over `listener`, with no fault yet, whose links bear with their peers for so long, are of this crowd, and part from their
+    /// peers among these.
     fn crowded(
         listener: TcpListener,
         timeouts: Timeouts,
         crowd: Option<Arc<Crowd, Global>>,
+        partings: Option<Arc<Partings, Global>>,
     ) -> TcpPort
         ensures { result ≡ 0 }
     {
@@ -249,6 +285,7 @@ impl TcpPort {
             listener,
             timeouts,
             crowd,
+            partings,
             faults: 0,
             lost: None,
         }
@@ -263,7 +300,7 @@ impl TcpPort {
             0
         };
         bear_with(&stream, &self.timeouts, idle);
-        TcpLink::placed(stream, place)
+        TcpLink::placed(stream, place, Parts::among(share(&self.partings)))
     }
 
     /// The system's number of the error for which the last wait failed, where it told one.
@@ -284,7 +321,7 @@ impl Listen for TcpPort {
         ensures goes_on { GoesOn result }
         ensures failed { OnAcceptFailed result (self.new ≡ one_more self.old) }
     {
-        match accept_retrying(&self.listener) {
+        match accept_retrying(&self.listener, &self.partings) {
             Ok(stream) => Accepted::Peer(self.link_of(stream)),
             Err(number) => {
                 self.lost = number;
@@ -303,6 +340,7 @@ pub struct TcpNet<R> {
     // that of its further ports
     crowd: Option<Arc<Crowd, Global>>,
     own: Option<TcpListener>,
+    partings: OwnPartings,
     faults: u64,
     given: u64,
     lost: Option<i32>,
@@ -324,11 +362,17 @@ impl<R: Sockets> TcpNet<R> {
         ensures faults { result.faults ≡ 0 }
         ensures given { result.given ≡ 0 }
     {
-        TcpNet::crowded(rt, Timeouts::NONE, None)
+        TcpNet::crowded(rt, Timeouts::NONE, None, OwnPartings::NONE)
     }
 
-    /// A net over the runtime `rt`, of which no port is open yet, and whose further ports' links are of this crowd.
-    fn crowded(rt: R, timeouts: Timeouts, crowd: Option<Arc<Crowd, Global>>) -> TcpNet<R>
+    /// A net over the runtime `rt`, of which no port is open yet, whose further ports' links are of this crowd, and whose links part from
+    /// their peers among these.
+    fn crowded(
+        rt: R,
+        timeouts: Timeouts,
+        crowd: Option<Arc<Crowd, Global>>,
+        partings: OwnPartings,
+    ) -> TcpNet<R>
         ensures is_open { result.is_open ≡ false }
         ensures faults { result.faults ≡ 0 }
         ensures given { result.given ≡ 0 }
@@ -338,6 +382,7 @@ impl<R: Sockets> TcpNet<R> {
             timeouts,
             crowd,
             own: None,
+            partings,
             faults: 0,
             given: 0,
             lost: None,
@@ -350,7 +395,7 @@ impl<R: Sockets> TcpNet<R> {
             Some(crowd) => Arc::try_clone(crowd).ok(),
             None => None,
         };
-        TcpPort::crowded(listener, self.timeouts, crowd)
+        TcpPort::crowded(listener, self.timeouts, crowd, self.partings.share())
     }
 
     /// The system's number of the error for which the last wait at its own port failed, where it told one.
@@ -361,7 +406,8 @@ impl<R: Sockets> TcpNet<R> {
 
 impl<R: Sockets + AllocGlobal> TcpNet<R> {
     /// A net over the runtime `rt`, of which no port is open yet, and whose links bear with their peers for so long. Where there is
-    /// no memory for what the links of its further ports share, `abort_idle` isn't in force.
+    /// no memory for what the links of its further ports share, `abort_idle` isn't in force. Where there is none for the places of those
+    /// who are parting, each link is closed where it is dropped.
     pub fn with_timeouts(rt: R, timeouts: Timeouts) -> TcpNet<R>
         ensures is_open { result.is_open ≡ false }
         ensures faults { result.faults ≡ 0 }
@@ -372,7 +418,8 @@ impl<R: Sockets + AllocGlobal> TcpNet<R> {
         if crowd.is_none() {
             timeouts.abort_idle = 0;
         }
-        TcpNet::crowded(rt, timeouts, crowd)
+        let partings = OwnPartings::new(rt.alloc());
+        TcpNet::crowded(rt, timeouts, crowd, partings)
     }
 }
 
@@ -425,14 +472,17 @@ impl<R: Sockets<Listener = TcpListener, Stream = TcpStream>> Net for TcpNet<R> {
         ensures failed { OnAcceptFailed result (self.new.faults ≡ one_more self.old.faults) }
     {
         let stream = match &self.own {
-            Some(listener) if self.given < u64::MAX => accept_retrying(listener),
+            Some(listener) if self.given < u64::MAX => {
+                accept_retrying(listener, self.partings.shared())
+            }
             _ => Err(None),
         };
         match stream {
             Ok(stream) => {
                 self.given += 1;
                 bear_with(&stream, &self.timeouts, self.timeouts.idle);
-                Accepted::Peer(TcpLink::new(stream))
+                let parts = Parts::among(self.partings.share());
+                Accepted::Peer(TcpLink::placed(stream, None, parts))
             }
             Err(number) => {
                 self.lost = number;

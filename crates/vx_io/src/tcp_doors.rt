@@ -24,7 +24,9 @@ const PEER_SECONDS: u64 = 30;
 pub struct TcpDoor<R> {
     rt: R,
     own: Option<TcpListener>,
+    // that of the present peer
     link: Option<TcpLink>,
+    has_met: bool,
     // the address of the peer of that link
     address: u32,
     met: u64,
@@ -34,13 +36,12 @@ pub struct TcpDoor<R> {
 }
 
 impl<R> Model for TcpDoor<R> {
-    ghost use Rattle.std.specs.Prelude.{is_some};
     ghost use Rattle.vx_io.specs.SocketState.{TcpDoorState};
 
     ghost Value = { TcpDoorState };
 
     ghost view = { λ s. record {
-      is_at_peer = is_some s.link;
+      is_at_peer = s.has_met;
       met = s.met;
       faults = s.faults;
       receive_faults = s.receive_faults;
@@ -61,6 +62,7 @@ impl<R: Sockets> TcpDoor<R> {
             rt,
             own: None,
             link: None,
+            has_met: false,
             address: 0,
             met: 0,
             faults: 0,
@@ -99,8 +101,8 @@ impl<R: Sockets<Stream = TcpStream>> Link for TcpDoor<R> {
         ensures failed { OnReadFailed result (self.new.receive_faults ≡ one_more self.old.receive_faults) }
     {
         let given = match &mut self.link {
-            Some(link) => link.receive(into),
-            None => ReadOut::Failed,
+            Some(link) if self.has_met => link.receive(into),
+            _ => ReadOut::Failed,
         };
         match given {
             ReadOut::Got(count) => ReadOut::Got(count),
@@ -125,8 +127,8 @@ impl<R: Sockets<Stream = TcpStream>> Link for TcpDoor<R> {
         ensures failed { OnWriteFailed result (self.new.send_faults ≡ one_more self.old.send_faults) }
     {
         let taken = match &mut self.link {
-            Some(link) => link.send(from),
-            None => WriteOut::Failed,
+            Some(link) if self.has_met => link.send(from),
+            _ => WriteOut::Failed,
         };
         match taken {
             WriteOut::Took(count) => WriteOut::Took(count),
@@ -138,15 +140,22 @@ impl<R: Sockets<Stream = TcpStream>> Link for TcpDoor<R> {
     }
 }
 
-/// The link of the next connection to a port, whose receives and sends wait for 30 s at most, and the address of its peer; or none
-/// where the wait failed, or the system refuses such limits.
-fn accept_timed(listener: &TcpListener) -> Option<(TcpLink, u32)> {
-    let (stream, address) = accept_from(listener).ok()?;
+/// Has the receives and sends of a stream wait for 30 s at most, and tells whether the system does that.
+fn is_timed(stream: &TcpStream) -> bool {
     let time = Some(Duration::from_secs(PEER_SECONDS));
-    if stream.set_read_timeout(time).is_err() || stream.set_write_timeout(time).is_err() {
-        return None;
+    stream.set_read_timeout(time).is_ok() && stream.set_write_timeout(time).is_ok()
+}
+
+/// The link of the next connection to a port whose receives and sends wait for 30 s at most, and the address of its peer; or none where
+/// the wait failed. A connection for which the system refuses such limits is closed.
+fn accept_timed(listener: &TcpListener) -> Option<(TcpLink, u32)> {
+    for _ in 0..u64::MAX {
+        let (stream, address) = accept_from(listener, &None).ok()?;
+        if is_timed(&stream) {
+            return Some((TcpLink::waiting(stream), number_of(&address)));
+        }
     }
-    Some((TcpLink::new(stream), number_of(&address)))
+    None
 }
 
 impl<R: Sockets<Listener = TcpListener, Stream = TcpStream>> Door for TcpDoor<R> {
@@ -177,8 +186,9 @@ impl<R: Sockets<Listener = TcpListener, Stream = TcpStream>> Door for TcpDoor<R>
         }
     }
 
-    /// Closes the connection of the present peer, and waits for the next one to its port. A wait that finds its socket lost counts
-    /// a fault, and so does one while no port is open; an error of one peer or of a moment is waited over.
+    /// Closes the connection of the present peer, and waits for the next one to its port. A peer that hasn't closed its side is waited
+    /// for up to a second first, as a [`TcpLink`] tells. A wait that finds its socket lost counts a fault, and so does one while no port
+    /// is open; an error of one peer or of a moment is waited over.
     fn next(&mut self) -> Met
         ensures counted { self.old.faults ≤ self.new.faults }
         ensures goes_on { result ≢ Met.Ended }
@@ -188,9 +198,7 @@ impl<R: Sockets<Listener = TcpListener, Stream = TcpStream>> Door for TcpDoor<R>
         ensures sends { self.new.send_faults ≡ self.old.send_faults }
         ensures is_at_peer { self.new.is_at_peer ≡ (is_met result || self.old.is_at_peer) }
     {
-        if let Some(link) = &self.link {
-            link.close();
-        }
+        self.link = None;
         let link = match &self.own {
             Some(listener) => accept_timed(listener),
             None => None,
@@ -198,6 +206,7 @@ impl<R: Sockets<Listener = TcpListener, Stream = TcpStream>> Door for TcpDoor<R>
         match link {
             Some((link, address)) => {
                 self.link = Some(link);
+                self.has_met = true;
                 self.address = address;
                 self.met = self.met.saturating_add(1);
                 Met::Peer
