@@ -5,10 +5,14 @@ Each bus has an echo at address 5. Results are composed here from their words, b
 What goes wrong, and at last 'N passed, M failed', goes to standard error; the status is 1 where something went wrong.
 """
 import concurrent.futures
+import socket
+import struct
 import subprocess
 import sys
+import time
 
-from rpc import CREATE_LINK, END, READ, WRITE, Client, spelled
+import rpc
+from rpc import CORE, CREATE_LINK, END, LAST, READ, WRITE, Client, record, spelled
 from serving import PATIENCE, Program, free_ports
 
 ABORT_PORT, WRITE_MAX = 9011, 262144  # what a create_link tells
@@ -16,6 +20,7 @@ READSTB, DESTROY_LINK, CREATE_INTR_CHAN = 13, 23, 25
 NOT_ACCESSIBLE, NO_LINK, NOT_SUPPORTED, LOCKED = 3, 4, 8, 11  # errors
 BY_END = 4  # the reason of a read that ends with END
 BUSES = range(4)
+SILENCE = 30  # seconds after which a client that says nothing is left
 
 
 class Buses(Program):
@@ -90,6 +95,58 @@ def calls_of_no_bus(program):
         buses.expect_end("served 1\n")
 
 
+def a_client_that_vanishes(program):
+    """One that holds locks on two buses is reset within a record: both are the next one's."""
+    with Buses(program, 2) as buses:
+        with buses.client() as client:
+            for bus in (1, 2):
+                make_link(client, b"gpib%d,5" % bus, bus + 1, lock=1)
+            client.peer.setsockopt(socket.SOL_SOCKET, socket.SO_LINGER, struct.pack("ii", 1, 0))
+            client.peer.sendall(rpc.words(LAST | 64, 1))
+        with buses.client() as client:
+            for bus in (1, 2):
+                make_link(client, b"gpib%d,5" % bus, bus + 5, lock=1)
+                write(client, bus + 5, b"A")
+        buses.expect_end("served 2\n")
+
+
+def a_silent_client(program):
+    """One that holds a lock and says nothing is cut off, and the next one is served."""
+    with Buses(program, 2) as buses:
+        with buses.client() as silent, buses.client() as client:
+            make_link(silent, b"gpib3,5", 4, lock=1)
+            began = time.monotonic()
+            make_link(client, b"gpib3,5", 8, lock=1)
+            assert SILENCE - 5 < time.monotonic() - began < SILENCE + 30, "the next client is served after another time"
+            assert silent.peer.recv(1) == b"", "the silent client is still connected"
+        buses.expect_end("served 2\n")
+
+
+def replies_before_an_end(program):
+    """Calls, a record that is no call or is too long, and a megabyte behind it, in one send: each call is answered."""
+    calls = b"".join(record(rpc.call(xid, CORE, 0)) for xid in range(50))
+    replies = b"".join(record(rpc.reply(xid)) for xid in range(50))
+    ends = (record(rpc.words(1, 0)), rpc.words(LAST | 263169))
+    with Buses(program, 40) as buses:
+        for number in range(40):
+            told = rpc.told_to(*buses.ports, calls + ends[number % 2] + bytes(1 << 20))
+            assert told == replies, f"{len(told)} of {len(replies)} bytes came"
+        buses.expect_end("served 40\n")
+
+
+def a_client_that_stays(program):
+    """One whose connection ended by junk, and that doesn't close it, holds up the next one for a second."""
+    with Buses(program, 2) as buses:
+        with buses.client() as client:
+            make_link(client, b"gpib0,5", 1)
+            client.peer.sendall(record(rpc.words(1, 0)))
+            began = time.monotonic()
+            with buses.client() as other:
+                make_link(other, b"gpib0,5", 5)
+            assert time.monotonic() - began < 20, "a client that is gone holds up the next one"
+        buses.expect_end("served 2\n")
+
+
 def no_run(program):
     def ended(*words):
         done = subprocess.run([program, *words], capture_output=True, timeout=PATIENCE)
@@ -101,7 +158,8 @@ def no_run(program):
         assert ended(str(*buses.ports), "1") == (3, b""), "a taken port is served"
 
 
-CASES = [a_query_on_each_bus, links_of_two_clients, calls_of_no_bus, no_run]
+CASES = [a_silent_client, a_query_on_each_bus, links_of_two_clients, calls_of_no_bus, a_client_that_vanishes, replies_before_an_end,
+         a_client_that_stays, no_run]
 
 
 def passes(case, program):

@@ -166,6 +166,39 @@ def a_peer_that_vanishes(program):
         assert asked(mapper, record(GETPORT)) == record(done(CORE)), "the next peer isn't served"
 
 
+def replies_before_an_end(program):
+    """Calls, a record that is no call or is too long, and a megabyte behind it, in one send: each call is answered."""
+    asked, wanted = record(GETPORT) * 50, record(done(CORE)) * 50
+    ends = (record(b"nothing"), words(rpc.LAST | 1025))
+    with Mapper(program, "stream", 40) as mapper:
+        for number in range(40):
+            told = rpc.told_to(*mapper.ports, asked + ends[number % 2] + bytes(1 << 20))
+            assert told == wanted, f"{len(told)} of {len(wanted)} bytes came"
+        mapper.expect_served(40)
+
+
+def datagram(source, port, to, data):
+    """A whole IPv4 datagram with a UDP header, from this address and port. Its checksums are left to the system, or out."""
+    header = struct.pack(">BBHHHBBH4s4s", 0x45, 0, 28 + len(data), 0, 0, 64, socket.IPPROTO_UDP, 0, source, socket.inet_aton("127.0.0.1"))
+    return header + struct.pack(">4H", port, to, 8 + len(data), 0) + data
+
+
+def forged_packets(program):
+    """Packets to whose sources the system sends nothing: port 0, and the addresses of all hosts. The next one is answered still."""
+    sources = (("127.0.0.1", 0), ("255.255.255.255", 9), ("127.255.255.255", 9))
+    try:
+        raw = socket.socket(socket.AF_INET, socket.SOCK_RAW, socket.IPPROTO_RAW)
+    except PermissionError:
+        print("this test may not forge a packet: no mapper was sent one", file=sys.stderr)
+        return
+    with raw, Mapper(program, "packets", len(sources) + 1) as mapper, mapper.peer() as peer:
+        for address, port in sources:
+            raw.sendto(datagram(socket.inet_aton(address), port, *mapper.ports, GETPORT), ("127.0.0.1", 0))
+        peer.send(GETPORT)
+        assert peer.recv(65536) == done(CORE), "another answer"
+        mapper.expect_served(len(sources) + 1)
+
+
 def a_silent_peer(program):
     with Mapper(program, "stream", 2) as mapper, mapper.peer():
         start = time.monotonic()
@@ -182,7 +215,7 @@ def a_taken_port(program):
 
 
 CASES = [a_silent_peer, on_one_stream, byte_by_byte, by_packets, two_senders, packets_without_an_answer, hostile_streams,
-         sixteen_mebibytes, a_peer_that_vanishes, a_taken_port]
+         sixteen_mebibytes, replies_before_an_end, forged_packets, a_peer_that_vanishes, a_taken_port]
 
 
 def passes(case, program):

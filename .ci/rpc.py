@@ -39,6 +39,16 @@ def record(message):
     return words(LAST | len(message)) + message
 
 
+def told_to(port, data):
+    """What a peer is told that sends this at once, and then reads until the other side ends."""
+    with socket.create_connection(("127.0.0.1", port), 300) as peer:
+        peer.sendall(data)
+        parts = []
+        while part := peer.recv(65536):
+            parts.append(part)
+        return b"".join(parts)
+
+
 class Client:
     """A client of a core channel, which comes from this address, in a `with` block."""
 

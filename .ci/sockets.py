@@ -551,6 +551,34 @@ def junk_closes():
         other.ask(call(2, DESTROY_LINK, 1), reply(2, 0))
 
 
+def replies_come_before_an_end():
+    """Null calls, a record that is no call or is too long, and a megabyte behind it, in one send: each call is answered before the
+    stream ends."""
+    calls, replies = b"".join(call(xid, 0) for xid in range(50)), b"".join(reply(xid) for xid in range(50))
+    ends = (rpc.record(rpc.words(1, 0)), rpc.words(LAST | RECORD_MAX + 1))
+    with Server() as server:
+        before = server.descriptors()
+        for number in range(40):
+            told = rpc.told_to(server.core, calls + ends[number % 2] + bytes(1 << 20))
+            assert told == replies, f"{len(told)} of {len(replies)} bytes came"
+        server.expect_descriptors(before)
+
+
+def a_peer_that_stays_holds_no_worker():
+    """Of a hundred peers each sends junk, and none closes its connection. Two workers serve one after another, and within seconds
+    no descriptor is left of them."""
+    with Server("--workers", "2") as server, ExitStack() as peers:
+        before, began = server.descriptors(), time.monotonic()
+        for _ in range(100):
+            peer = peers.enter_context(Peer(server.core))
+            peer.ask(call(1, 0), reply(1))
+            peer.send(rpc.record(rpc.words(1, 0)))
+            peer.expect_end()
+        assert time.monotonic() - began < 30, "peers that have their replies hold up others"
+        server.expect_descriptors(before)
+        server.expect_workers(2)
+
+
 def a_record_in_any_pieces():
     """A byte a send, two records in a send, a record in fragments: each is answered as a whole one is."""
     with Server() as server, Peer(server.core) as peer:
@@ -1037,6 +1065,8 @@ CASES = [
     a_reset_frees_a_lock,
     an_abort_ends_the_call_of_one_that_is_gone,
     junk_closes,
+    replies_come_before_an_end,
+    a_peer_that_stays_holds_no_worker,
     a_record_in_any_pieces,
     the_greatest_write,
     sixty_four_at_once,

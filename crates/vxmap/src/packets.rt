@@ -14,6 +14,13 @@ use vx_portmap::{Given, Packet, PacketBox, Packets};
 /// How often a call that a signal interrupts is made anew.
 const TRIES: u32 = 64;
 
+// errors of a socket that is lost
+const EBADF: i32 = 9;
+
+const EPIPE: i32 = 32;
+
+const ENOTSOCK: i32 = 88;
+
 /// A box of packets over a UDP socket of the system. It never tells that no more packets come.
 #[derive(Drop)]
 pub struct UdpBox<R> {
@@ -65,6 +72,21 @@ fn take_retrying(socket: &UdpSocket, into: &mut [u8]) -> Option<(usize, SocketAd
     None
 }
 
+/// Whether the socket is lost, where the system refused to send for this error. Any other is of the one packet: nobody can be reached at
+/// its address, as at port 0, a rule of this host's forbids it, or the system has no room for it.
+fn is_lost(number: Option<i32>) -> bool {
+    matches!(number, Some(EBADF | EPIPE | ENOTSOCK))
+}
+
+/// Sends a packet, and tells whether it went, be it to the peer or to nobody: a packet may be lost on its way, and this one is lost at
+/// its first step where the system refuses to send it.
+fn send_once(socket: &UdpSocket, from: &[u8], peer: SocketAddr) -> bool {
+    match socket.send_to(from, peer) {
+        Ok(count) => count == from.len(),
+        Err(error) => !is_lost(error.raw_os_error()),
+    }
+}
+
 impl<R> Packets for UdpBox<R> {
     ghost packets_ended = { λ _. 0 };
 
@@ -97,17 +119,19 @@ impl<R> Packets for UdpBox<R> {
         }
     }
 
-    /// Sends a packet to where the last one came from. A send that errs or cuts the packet counts a fault.
+    /// Sends a packet to where the last one came from. One that the system can't send there, as to port 0 or to an address that is everybody's,
+    /// is lost, as any packet may be on its way: it went. A send that finds its socket lost or cuts the packet counts a fault, and so
+    /// does one before the first packet.
     fn give(&mut self, from: &[u8]) -> Given
         ensures counted { self.old.give_faults ≤ self.new.give_faults }
         ensures apart { self.new.take_faults ≡ self.old.take_faults }
         ensures failed { OnGiveFailed result (self.new.give_faults ≡ one_more self.old.give_faults) }
     {
-        let sent = match (&self.socket, &self.last) {
-            (Some(socket), Some(peer)) => socket.send_to(from, *peer).ok(),
-            _ => None,
+        let went = match (&self.socket, &self.last) {
+            (Some(socket), Some(peer)) => send_once(socket, from, *peer),
+            _ => false,
         };
-        if sent == Some(from.len()) {
+        if went {
             return Given::Sent;
         }
         self.give_faults = self.give_faults.saturating_add(1);
