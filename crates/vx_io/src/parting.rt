@@ -9,6 +9,7 @@ use std::alloc::{AllocError, Global};
 use std::io::{ErrorKind, Read};
 use std::net::{Shutdown, TcpStream};
 use std::os::fd::AsRawFd;
+use std::sync::atomic::{AtomicU64, Ordering};
 use std::sync::{Arc, Mutex};
 
 /// How long a peer has to close its side, in milliseconds.
@@ -18,19 +19,19 @@ const PATIENCE: u64 = 1_000;
 const ROOM: usize = 16 << 20;
 
 /// How many bytes are read at once.
-const PIECE: usize = 16_384;
+const PIECE: usize = 4_096;
 
-/// How many reads are made at a look, at most.
+/// How many reads are made at a look at one peer, at most.
 const READS: u32 = 64;
 
 /// How many peers may be parting at once from all ports of a net.
 const PLACES: usize = 64;
 
 /// How long it is to the next look where a peer is parting, in milliseconds.
-pub(super) const SOON: i32 = 10;
+pub(super) const SOON: u16 = 10;
 
 /// How long it is to the next look where none is, in milliseconds.
-pub(super) const LATE: i32 = 100;
+pub(super) const LATE: u16 = 100;
 
 /// The moment that the system's monotonic clock tells, in milliseconds; without a handle for it, since a link has none. The last of all
 /// moments where it tells none, so that nobody is waited for.
@@ -50,13 +51,13 @@ fn moment() -> u64 {
 }
 
 /// Whether something comes at this socket in so many milliseconds, or the system can't tell.
-pub(super) fn comes<S: AsRawFd>(socket: &S, milliseconds: i32) -> bool {
+pub(super) fn comes<S: AsRawFd>(socket: &S, milliseconds: u16) -> bool {
     let mut asked = [pollfd {
         fd: socket.as_raw_fd(),
         events: c::POLLIN,
         revents: 0,
     }];
-    c::poll(&mut asked, milliseconds) != 0
+    c::poll(&mut asked, i32::from(milliseconds)) != 0
 }
 
 /// A stream whose writing side is shut, and of which what comes is dropped. It is closed where this is dropped.
@@ -113,6 +114,8 @@ fn part_waiting(stream: TcpStream) {
 #[derive(Drop)]
 pub(super) struct Partings {
     places: Vec<Mutex<Option<Parting>>>,
+    // the moment of the next look
+    due: AtomicU64,
 }
 
 impl Partings {
@@ -122,7 +125,8 @@ impl Partings {
         for _ in 0..PLACES {
             places.push(Mutex::new(None))?;
         }
-        Ok(Partings { places })
+        let due = AtomicU64::new(0);
+        Ok(Partings { places, due })
     }
 
     /// Begins to part from the peer of a stream. Where no place is free, the stream is closed at once.
@@ -143,8 +147,21 @@ impl Partings {
         }
     }
 
-    /// Looks at each of them once, and tells whether one is still parting.
+    /// Looks at each of them once, where that is due, and tells whether one is still parting. So it costs little to ask, however often
+    /// connections come.
     pub(super) fn look(&self) -> bool {
+        let now = moment();
+        if now < self.due.load(Ordering::SeqCst) {
+            return true;
+        }
+        let is_any = self.look_now();
+        let wait = if is_any { u64::from(SOON) } else { 0 };
+        self.due.store(now.saturating_add(wait), Ordering::SeqCst);
+        is_any
+    }
+
+    /// Looks at each of them once, and tells whether one is still parting.
+    fn look_now(&self) -> bool {
         let mut is_any = false;
         for place in self.places.iter() {
             is_any = goes_on_at(place) || is_any;
@@ -222,7 +239,7 @@ fn see_off(partings: &Partings) {
         if !partings.look() || moment() >= until {
             return;
         }
-        let _ = c::poll(&mut [], SOON);
+        let _ = c::poll(&mut [], i32::from(SOON));
     }
 }
 
