@@ -1,13 +1,10 @@
 -- A formed run: its items one behind the other, its text, and how a check of it ends.
-use Rattle.std.proofs.Common.{◌≡◌, ℕ, ◌<◌, ◌≤◌, ◌^◌, Bool, true, false, cond, ◌⊎◌, inl, inr, List, [], ◌∷◌, ◌++◌, length, filter, flat_map, Option, Some, None, refl, sym, ap, ◌∙◌, subst, arith, append-nil, append_assoc, length-append}
-use Rattle.std.specs.Option.{IfSome}
+use Rattle.std.proofs.Common.{◌≡◌, ℕ, ◌<◌, ◌^◌, Bool, true, false, cond, ◌⊎◌, inl, inr, List, [], ◌∷◌, ◌++◌, filter, flat_map, Option, Some, None, refl, sym, ap, ◌∙◌, subst, arith, append-nil, append_assoc}
 use Rattle.std.specs.List.{All}
-use Rattle.std.specs.Io.KnownBytes.{Consumes}
 use Rattle.std.proofs.lemmas.Option.{none-some, same_Some}
 use Rattle.std.proofs.lemmas.List.Concat.{flat_map-append}
 use Rattle.std.proofs.lemmas.List.Elements.{All-append, All-cons, All-head, All-nil, All-tail, filter-append}
 use Rattle.vx_text.specs.TextLines.{lines}
-use Rattle.vx_text.specs.Reading.{GivesAll, GivesTooMuch}
 use Rattle.vx_calls.specs.declared.calls.Role.{Role}
 use Rattle.vx_488.specs.declared.transfers.Transfer.{Transfer}
 use Rattle.vx_script.specs.Command.{Command, Up, In, Down, At, Poll, Sample, Take, Dial, Inst, Plug, Pull, Set, Fail}
@@ -37,15 +34,14 @@ use Rattle.vx_run.specs.Position.{Position, first_position, xids_after, moment_a
 use Rattle.vx_run.specs.Giving.{Gives, PollGives, MessageGives, RecordGives, PieceGives, ChannelGives, StepGives}
 use Rattle.vx_run.specs.Forming.{Forms, FormsAll}
 use Rattle.vx_check.specs.declared.limits.TheConstants.{TRACE_MAX}
-use Rattle.vx_check.specs.declared.cause.Cause.{Cause}
-use Rattle.vx_check.specs.declared.run.Status.{Status}
-use Rattle.vx_check.specs.declared.run.Status.TheVariants as status
 use Rattle.vx_check.specs.Shown.{Timed}
 use Rattle.vx_check.specs.CheckState.{CheckState, Kept, Free, Nothing, abort_port, beginning}
-use Rattle.vx_check.specs.History.{Lawful, Faulty, Through, Walks, Tells}
+use Rattle.vx_check.specs.History.{Lawful, Through, Walks}
 use Rattle.vx_check.specs.Laws.{ReplyLaw, OneHistoryLaw, LawfulLaw}
-use Rattle.vx_check.specs.Outcome.{Ends, status_number, Spoils, ReadsSpoiled, ReadsFront, IsOutcome, EndsSo}
-use Rattle.vx_check.specs.Formed.{IsPrintable, run_trace, is_told, told_events, FormedLaw, FormedLegalLaw, ToldLaw, GivesRun, EndsFormed}
+use Rattle.vx_check.specs.Outcome.{Ends, EndsSo}
+use Rattle.vx_check.specs.Verdicts.{IsUndisturbed, RanOut, IsAnswered}
+use Rattle.vx_check.proofs.Verdicts.{completes}
+use Rattle.vx_check.specs.Formed.{IsPrintable, run_trace, is_told, told_events, FormedLaw, FormedLegalLaw, ToldLaw, EndsFormed}
 use Rattle.vx_check.proofs.FormedReads.{Each, each-all, Reads, reads-one, reads-append, IsTold, texts_of, HasLines, has-lines, walks-reads}
 use Rattle.vx_check.proofs.FormedStands.{here, timed, IsOwn, StandsFor, Led}
 use Rattle.vx_check.proofs.FormedPolls.{lines_of, told_of, split-front}
@@ -321,48 +317,14 @@ formed-legal law lawful items formed printable =
 
 -- ---- how a check ends
 
--- what a source that has these bytes gave is no more than them
-gave-less : (after : Option (List ℕ)) (all bytes : List ℕ) → Consumes (Some all) after bytes → length bytes ≤ length all
-gave-less None all bytes h = absurd h
-gave-less (Some rest) all bytes h =
-    let whole : length all ≡ length (bytes ++ rest) = ap length h in
-    let both = length-append bytes rest in
-    omega (arith, whole, both)
-
-too-much : (words : List (List ℕ)) (ends : Ends) (r : GivesRun words ends) (bytes : List ℕ) → GivesTooMuch TRACE_MAX ends.source ends.source_after bytes → ⊥
-too-much words ends r bytes h =
-    let less = gave-less ends.source_after.bytes (run_trace r.items) bytes (subst (λ b. Consumes b ends.source_after.bytes bytes) r.given h.given) in
-    let above = h.above in
-    let few = r.few in
-    absurd (omega (arith, less, above, few))
-
-never-spoiled : FormedLaw → OneHistoryLaw → (words : List (List ℕ)) (ends : Ends) (r : GivesRun words ends) (number : ℕ) (why : Cause) → Spoils words ends number why → ⊥
-never-spoiled law one words ends r number why h = by h.reads where
-  given : (bytes : List ℕ) → GivesAll TRACE_MAX ends.source ends.source_after bytes → run_trace r.items ≡ bytes
-  given bytes all = subst (λ (b : Option (List ℕ)). IfSome b (λ whole. whole ≡ bytes)) r.given all.whole
-
-  by : ReadsSpoiled ends number why ⊎ ReadsFront ends number why → ⊥
-  by (inl spoiled) =
-      let same = given spoiled.bytes spoiled.read in
-      let lawful = law r.items r.formed r.printable in
-      let told = one spoiled.bytes (Lawful (told_events r.items)) (Faulty number why) (subst (λ b. Tells b (Lawful (told_events r.items))) same lawful) spoiled.tells in
-      absurd (never told)
-    where
-      never : Lawful (told_events r.items) ≡ Faulty number why → ⊥
-      never e = cc
-  by (inr front) = too-much words ends r front.bytes front.read
-
 -- where the trace of a formed run is given, a check ends with `legal`, or for want of memory
-pub formed-ends : FormedLaw → OneHistoryLaw → (words : List (List ℕ)) (ends : Ends) (number : ℕ) → EndsSo words ends number → EndsFormed words ends number
-formed-ends law one words ends number (how, is, outcome) r = by how is outcome where
-  by : (how : Status) → number ≡ status_number how → IsOutcome words ends how → (number ≡ 0) ⊎ (number ≡ 5)
-  by status.Legal is h = inl is
-  by status.Usage is h = absurd (h.0.some r.no_words)
-  by status.SourceFailed is h = absurd (r.read_well h.1)
-  by status.Spoiled is (number, why, h, wrote) = absurd (never-spoiled law one words ends r number why h)
-  by status.SinkFailed is (inl h) = absurd (r.written_well h.1.rose)
-  by status.SinkFailed is (inr (inl h)) = absurd (r.written_well h.1.rose)
-  by status.SinkFailed is (inr (inr (inl (number, why, h, stops)))) = absurd (r.written_well stops.rose)
-  by status.SinkFailed is (inr (inr (inr h))) = absurd (r.written_well h.1.rose)
-  by status.NoMemory is h = inr is
-  by status.TooLong is h = absurd (too-much words ends r h.0.bytes h.0.read)
+pub formed-ends : FormedLaw → OneHistoryLaw → (words : List (List ℕ)) (ends : Ends) (number : ℕ) → EndsSo TRACE_MAX words ends number → EndsFormed words ends number
+formed-ends law one words ends number so r =
+    by (completes one TRACE_MAX words ends number so (run_trace r.items) (Lawful (told_events r.items)) calm r.few (law r.items r.formed r.printable))
+  where
+    calm : IsUndisturbed words ends (run_trace r.items)
+    calm = record { no_words = r.no_words; told = r.given; source_good = r.read_well; sink_good = r.written_well }
+
+    by : RanOut ends number ⊎ IsAnswered ends number (Lawful (told_events r.items)) → (number ≡ 0) ⊎ (number ≡ 5)
+    by (inl lacking) = inr lacking.0
+    by (inr legal) = inl legal.0

@@ -4,7 +4,6 @@ use Rattle.std.proofs.lemmas.Bool.{eqb-true}
 use Rattle.std.proofs.KnownBytes.{Consumes-nil}
 use Rattle.vx_text.specs.Reading.{GivesAll, GivesTooMuch, GivesUpTo}
 use Rattle.vx_text.specs.TextLines.{lines}
-use Rattle.vx_check.specs.declared.limits.TheConstants.{TRACE_MAX}
 use Rattle.vx_check.specs.declared.cause.Cause.{Cause}
 use Rattle.vx_check.specs.declared.cause.Cause.TheVariants as cause
 use Rattle.vx_check.specs.declared.run.Status.{Status}
@@ -51,54 +50,54 @@ judged-stops bytes texts line why same walks = record { far = Stops line why; wa
 -- ---- how a check ends
 
 -- the line of a legal trace
-told-legal : (words : List (List ℕ)) (ends : Ends) (result : Status) → ReadsLegal words ends → PutsLine status.Legal legal_line ends.sink ends.sink_after result → IsOutcome words ends result
-told-legal words ends result reads (inl (is, wrote)) = subst (IsOutcome words ends) (sym is) (reads, wrote)
-told-legal words ends result reads (inr (is, stops)) = subst (IsOutcome words ends) (sym is) (inl (reads, stops))
+told-legal : (most : ℕ) (words : List (List ℕ)) (ends : Ends) (result : Status) → ReadsLegal most words ends → PutsLine status.Legal legal_line ends.sink ends.sink_after result → IsOutcome most words ends result
+told-legal most words ends result reads (inl (is, wrote)) = subst (IsOutcome most words ends) (sym is) (reads, wrote)
+told-legal most words ends result reads (inr (is, stops)) = subst (IsOutcome most words ends) (sym is) (inl (reads, stops))
 
 -- that of one that isn't
-told-spoiled : (words : List (List ℕ)) (ends : Ends) (line : ℕ) (why : Cause) (result : Status) → Spoils words ends line why
-    → PutsLine status.Spoiled (spoiled_line line why) ends.sink ends.sink_after result → IsOutcome words ends result
-told-spoiled words ends line why result spoils (inl (is, wrote)) = subst (IsOutcome words ends) (sym is) (line, why, spoils, wrote)
-told-spoiled words ends line why result spoils (inr (is, stops)) = subst (IsOutcome words ends) (sym is) (inr (inr (inl (line, why, spoils, stops))))
+told-spoiled : (most : ℕ) (words : List (List ℕ)) (ends : Ends) (line : ℕ) (why : Cause) (result : Status) → Spoils most words ends line why
+    → PutsLine status.Spoiled (spoiled_line line why) ends.sink ends.sink_after result → IsOutcome most words ends result
+told-spoiled most words ends line why result spoils (inl (is, wrote)) = subst (IsOutcome most words ends) (sym is) (line, why, spoils, wrote)
+told-spoiled most words ends line why result spoils (inr (is, stops)) = subst (IsOutcome most words ends) (sym is) (inr (inr (inl (line, why, spoils, stops))))
 
-told-long : (words : List (List ℕ)) (ends : Ends) (result : Status) → ReadsTooMuch words ends → PutsLine status.TooLong long_line ends.sink ends.sink_after result → IsOutcome words ends result
-told-long words ends result reads (inl (is, wrote)) = subst (IsOutcome words ends) (sym is) (reads, wrote)
-told-long words ends result reads (inr (is, stops)) = subst (IsOutcome words ends) (sym is) (inr (inr (inr (reads, stops))))
+told-long : (most : ℕ) (words : List (List ℕ)) (ends : Ends) (result : Status) → ReadsTooMuch most words ends → PutsLine status.TooLong long_line ends.sink ends.sink_after result → IsOutcome most words ends result
+told-long most words ends result reads (inl (is, wrote)) = subst (IsOutcome most words ends) (sym is) (reads, wrote)
+told-long most words ends result reads (inr (is, stops)) = subst (IsOutcome most words ends) (sym is) (inr (inr (inr (reads, stops))))
 
-pub told-usage : (words : List (List ℕ)) (ends : Ends) (result : Status) → IsUnread words ends → PutsLine status.Usage usage_line ends.sink ends.sink_after result → IsOutcome words ends result
-told-usage words ends result unread (inl (is, wrote)) = subst (IsOutcome words ends) (sym is) (unread, wrote)
-told-usage words ends result unread (inr (is, stops)) = subst (IsOutcome words ends) (sym is) (inr (inl (unread, stops)))
+pub told-usage : (most : ℕ) (words : List (List ℕ)) (ends : Ends) (result : Status) → IsUnread words ends → PutsLine status.Usage usage_line ends.sink ends.sink_after result → IsOutcome most words ends result
+told-usage most words ends result unread (inl (is, wrote)) = subst (IsOutcome most words ends) (sym is) (unread, wrote)
+told-usage most words ends result unread (inr (is, stops)) = subst (IsOutcome most words ends) (sym is) (inr (inl (unread, stops)))
 
 -- memory ran out behind the reading
-told-lost : (words : List (List ℕ)) (ends : Ends) (result : Status) → words ≡ [] → GivesUpTo (TRACE_MAX + 1) ends.source ends.source_after
-    → (result ≡ status.NoMemory) × (ends.sink_after ≡ ends.sink) → IsOutcome words ends result
-told-lost words ends result none read told = subst (IsOutcome words ends) (sym told.0) (record { no_words = none; read = read; unwritten = told.1 })
+told-lost : (most : ℕ) (words : List (List ℕ)) (ends : Ends) (result : Status) → words ≡ [] → GivesUpTo (most + 1) ends.source ends.source_after
+    → (result ≡ status.NoMemory) × (ends.sink_after ≡ ends.sink) → IsOutcome most words ends result
+told-lost most words ends result none read told = subst (IsOutcome most words ends) (sym told.0) (record { no_words = none; read = read; unwritten = told.1 })
 
-all-read : (ends : Ends) (bytes : List ℕ) → GivesAll TRACE_MAX ends.source ends.source_after bytes → GivesUpTo (TRACE_MAX + 1) ends.source ends.source_after
-all-read ends bytes read = record { bytes = bytes; given = read.given; within = (let low = read.within in omega arith) }
+all-read : (most : ℕ) (ends : Ends) (bytes : List ℕ) → GivesAll most ends.source ends.source_after bytes → GivesUpTo (most + 1) ends.source ends.source_after
+all-read most ends bytes read = record { bytes = bytes; given = read.given; within = (let low = read.within in omega arith) }
 
-much-read : (ends : Ends) (bytes : List ℕ) → GivesTooMuch TRACE_MAX ends.source ends.source_after bytes → GivesUpTo (TRACE_MAX + 1) ends.source ends.source_after
-much-read ends bytes read = record { bytes = bytes; given = read.given; within = read.within }
+much-read : (most : ℕ) (ends : Ends) (bytes : List ℕ) → GivesTooMuch most ends.source ends.source_after bytes → GivesUpTo (most + 1) ends.source ends.source_after
+much-read most ends bytes read = record { bytes = bytes; given = read.given; within = read.within }
 
 -- a whole trace
-pub whole-ended : (words : List (List ℕ)) (ends : Ends) (bytes : List ℕ) (found : Verdict) (result : Status) → words ≡ []
-    → GivesAll TRACE_MAX ends.source ends.source_after bytes → IsJudged bytes found → IsTold found ends.sink ends.sink_after result → IsOutcome words ends result
-whole-ended words ends bytes verdict.Legal result none read (events, tells, legal) told =
-    told-legal words ends result (record { no_words = none; bytes = bytes; read = read; events = events; tells = tells; legal = legal }) told
-whole-ended words ends bytes (verdict.Spoiled line why) result none read tells told =
-    told-spoiled words ends line why result (record { no_words = none; reads = inl (record { bytes = bytes; read = read; tells = tells }) }) told
-whole-ended words ends bytes verdict.TooLong result none read judged told = absurd judged
-whole-ended words ends bytes verdict.NoMemory result none read judged told = told-lost words ends result none (all-read ends bytes read) told
+pub whole-ended : (most : ℕ) (words : List (List ℕ)) (ends : Ends) (bytes : List ℕ) (found : Verdict) (result : Status) → words ≡ []
+    → GivesAll most ends.source ends.source_after bytes → IsJudged bytes found → IsTold found ends.sink ends.sink_after result → IsOutcome most words ends result
+whole-ended most words ends bytes verdict.Legal result none read (events, tells, legal) told =
+    told-legal most words ends result (record { no_words = none; bytes = bytes; read = read; events = events; tells = tells; legal = legal }) told
+whole-ended most words ends bytes (verdict.Spoiled line why) result none read tells told =
+    told-spoiled most words ends line why result (record { no_words = none; reads = inl (record { bytes = bytes; read = read; tells = tells }) }) told
+whole-ended most words ends bytes verdict.TooLong result none read judged told = absurd judged
+whole-ended most words ends bytes verdict.NoMemory result none read judged told = told-lost most words ends result none (all-read most ends bytes read) told
 
 -- the front of a longer one
-pub front-ended : (words : List (List ℕ)) (ends : Ends) (bytes : List ℕ) (found : Verdict) (result : Status) → words ≡ []
-    → GivesTooMuch TRACE_MAX ends.source ends.source_after bytes → IsFrontJudged bytes found → IsTold found ends.sink ends.sink_after result → IsOutcome words ends result
-front-ended words ends bytes verdict.Legal result none read judged told = absurd judged
-front-ended words ends bytes (verdict.Spoiled line why) result none read begins told =
-    told-spoiled words ends line why result (record { no_words = none; reads = inr (record { bytes = bytes; read = read; begins = begins }) }) told
-front-ended words ends bytes verdict.TooLong result none read (events, after, begins) told =
-    told-long words ends result (record { no_words = none; bytes = bytes; read = read; events = events; after = after; begins = begins }) told
-front-ended words ends bytes verdict.NoMemory result none read judged told = told-lost words ends result none (much-read ends bytes read) told
+pub front-ended : (most : ℕ) (words : List (List ℕ)) (ends : Ends) (bytes : List ℕ) (found : Verdict) (result : Status) → words ≡ []
+    → GivesTooMuch most ends.source ends.source_after bytes → IsFrontJudged most bytes found → IsTold found ends.sink ends.sink_after result → IsOutcome most words ends result
+front-ended most words ends bytes verdict.Legal result none read judged told = absurd judged
+front-ended most words ends bytes (verdict.Spoiled line why) result none read begins told =
+    told-spoiled most words ends line why result (record { no_words = none; reads = inr (record { bytes = bytes; read = read; begins = begins }) }) told
+front-ended most words ends bytes verdict.TooLong result none read (events, after, begins) told =
+    told-long most words ends result (record { no_words = none; bytes = bytes; read = read; events = events; after = after; begins = begins }) told
+front-ended most words ends bytes verdict.NoMemory result none read judged told = told-lost most words ends result none (much-read most ends bytes read) told
 
 -- ---- words
 
@@ -112,28 +111,28 @@ some-words f (x ∷ xs) is same = cc
 
 -- ---- what was read, whatever comes of it
 
-unread : (ends : Ends) → ends.source_after ≡ ends.source → GivesUpTo (TRACE_MAX + 1) ends.source ends.source_after
-unread ends same =
-    subst (GivesUpTo (TRACE_MAX + 1) ends.source) (sym same) (record { bytes = []; given = Consumes-nil ends.source.bytes; within = omega arith })
+unread : (most : ℕ) (ends : Ends) → ends.source_after ≡ ends.source → GivesUpTo (most + 1) ends.source ends.source_after
+unread most ends same =
+    subst (GivesUpTo (most + 1) ends.source) (sym same) (record { bytes = []; given = Consumes-nil ends.source.bytes; within = omega arith })
 
-spoils-read : (words : List (List ℕ)) (ends : Ends) (line : ℕ) (why : Cause) → Spoils words ends line why → GivesUpTo (TRACE_MAX + 1) ends.source ends.source_after
-spoils-read words ends line why spoils = by-reads spoils.reads
+spoils-read : (most : ℕ) (words : List (List ℕ)) (ends : Ends) (line : ℕ) (why : Cause) → Spoils most words ends line why → GivesUpTo (most + 1) ends.source ends.source_after
+spoils-read most words ends line why spoils = by-reads spoils.reads
   where
-    by-reads : ReadsSpoiled ends line why ⊎ ReadsFront ends line why → GivesUpTo (TRACE_MAX + 1) ends.source ends.source_after
-    by-reads (inl reads) = all-read ends reads.bytes reads.read
-    by-reads (inr reads) = much-read ends reads.bytes reads.read
+    by-reads : ReadsSpoiled most ends line why ⊎ ReadsFront most ends line why → GivesUpTo (most + 1) ends.source ends.source_after
+    by-reads (inl reads) = all-read most ends reads.bytes reads.read
+    by-reads (inr reads) = much-read most ends reads.bytes reads.read
 
-pub outcome-read : (words : List (List ℕ)) (ends : Ends) (how : Status) → IsOutcome words ends how → GivesUpTo (TRACE_MAX + 1) ends.source ends.source_after
-outcome-read words ends status.Legal (reads, wrote) = all-read ends reads.bytes reads.read
-outcome-read words ends status.Usage (not_read, wrote) = unread ends not_read.unread
-outcome-read words ends status.SourceFailed (reads, rose) = reads.read
-outcome-read words ends status.Spoiled (line, why, spoils, wrote) = spoils-read words ends line why spoils
-outcome-read words ends status.SinkFailed (inl (reads, stops)) = all-read ends reads.bytes reads.read
-outcome-read words ends status.SinkFailed (inr (inl (not_read, stops))) = unread ends not_read.unread
-outcome-read words ends status.SinkFailed (inr (inr (inl (line, why, spoils, stops)))) = spoils-read words ends line why spoils
-outcome-read words ends status.SinkFailed (inr (inr (inr (reads, stops)))) = much-read ends reads.bytes reads.read
-outcome-read words ends status.NoMemory reads = reads.read
-outcome-read words ends status.TooLong (reads, wrote) = much-read ends reads.bytes reads.read
+pub outcome-read : (most : ℕ) (words : List (List ℕ)) (ends : Ends) (how : Status) → IsOutcome most words ends how → GivesUpTo (most + 1) ends.source ends.source_after
+outcome-read most words ends status.Legal (reads, wrote) = all-read most ends reads.bytes reads.read
+outcome-read most words ends status.Usage (not_read, wrote) = unread most ends not_read.unread
+outcome-read most words ends status.SourceFailed (reads, rose) = reads.read
+outcome-read most words ends status.Spoiled (line, why, spoils, wrote) = spoils-read most words ends line why spoils
+outcome-read most words ends status.SinkFailed (inl (reads, stops)) = all-read most ends reads.bytes reads.read
+outcome-read most words ends status.SinkFailed (inr (inl (not_read, stops))) = unread most ends not_read.unread
+outcome-read most words ends status.SinkFailed (inr (inr (inl (line, why, spoils, stops)))) = spoils-read most words ends line why spoils
+outcome-read most words ends status.SinkFailed (inr (inr (inr (reads, stops)))) = much-read most ends reads.bytes reads.read
+outcome-read most words ends status.NoMemory reads = reads.read
+outcome-read most words ends status.TooLong (reads, wrote) = much-read most ends reads.bytes reads.read
 
 -- what becomes of a walk along all lines
 pub judged-by : LawfulLaw → (bytes : List ℕ) (texts : List (List ℕ)) (walked : Far) → texts ≡ lines bytes → EndsWalk texts walked → IsJudged bytes (verdict_of walked)

@@ -15,4 +15,5 @@ pub mod FormedSteps
 pub mod FormedSrqs
 pub mod FormedRuns
 pub mod Told
+pub mod Verdicts
 pub mod Short

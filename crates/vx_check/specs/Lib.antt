@@ -10,6 +10,7 @@ pub mod Formed
 pub mod Reading
 pub mod Walking
 pub mod Telling
+pub mod Verdicts
 pub mod Messages
 pub mod Stepping
 pub mod Spelling

@@ -13,7 +13,6 @@ use Rattle.vx_check.specs.declared.cause.Cause.{Cause}
 use Rattle.vx_check.specs.declared.cause.Cause.TheVariants as cause
 use Rattle.vx_check.specs.declared.run.Status.{Status}
 use Rattle.vx_check.specs.declared.run.Status.TheVariants as status
-use Rattle.vx_check.specs.declared.limits.TheConstants.{TRACE_MAX}
 use Rattle.vx_check.specs.CheckState.{CheckState, abort_port}
 use Rattle.vx_check.specs.History.{Lawful, Faulty, Through, Stops, Tells, Begins}
 
@@ -49,7 +48,7 @@ long_line = codes "long\n"
 abbrev pub usage_line : List ℕ
 usage_line = codes "usage: vxcheck\n"
 
--- ---- what was read
+-- ---- what was read, where the longest trace has `most` bytes
 
 -- the source and the sink, before and after
 pub record Ends : Type 0 where
@@ -64,44 +63,44 @@ pub record IsUnread (words : List (List ℕ)) (ends : Ends) : Type 0 where
   pub unread : ends.source_after ≡ ends.source
 
 -- the whole source was read, whose bytes tell a history; and that is legal
-pub record ReadsLegal (words : List (List ℕ)) (ends : Ends) : Type 0 where
+pub record ReadsLegal (most : ℕ) (words : List (List ℕ)) (ends : Ends) : Type 0 where
   pub no_words : words ≡ []
   pub bytes : List ℕ
-  pub read : GivesAll TRACE_MAX ends.source ends.source_after bytes
+  pub read : GivesAll most ends.source ends.source_after bytes
   pub events : List Event
   pub tells : Tells bytes (Lawful events)
   pub legal : IsLegal abort_port (gather events)
 
 -- the whole source was read, and this is its first line that has a cause against it
-pub record ReadsSpoiled (ends : Ends) (line : ℕ) (why : Cause) : Type 0 where
+pub record ReadsSpoiled (most : ℕ) (ends : Ends) (line : ℕ) (why : Cause) : Type 0 where
   pub bytes : List ℕ
-  pub read : GivesAll TRACE_MAX ends.source ends.source_after bytes
+  pub read : GivesAll most ends.source ends.source_after bytes
   pub tells : Tells bytes (Faulty line why)
 
 -- one byte more than a trace may have was read, and this is the first line that has a cause against it among those that end, with their
 -- LF, before that byte
-pub record ReadsFront (ends : Ends) (line : ℕ) (why : Cause) : Type 0 where
+pub record ReadsFront (most : ℕ) (ends : Ends) (line : ℕ) (why : Cause) : Type 0 where
   pub bytes : List ℕ
-  pub read : GivesTooMuch TRACE_MAX ends.source ends.source_after bytes
-  pub begins : Begins (take TRACE_MAX bytes) (Stops line why)
+  pub read : GivesTooMuch most ends.source ends.source_after bytes
+  pub begins : Begins (take most bytes) (Stops line why)
 
-pub record Spoils (words : List (List ℕ)) (ends : Ends) (line : ℕ) (why : Cause) : Type 0 where
+pub record Spoils (most : ℕ) (words : List (List ℕ)) (ends : Ends) (line : ℕ) (why : Cause) : Type 0 where
   pub no_words : words ≡ []
-  pub reads : ReadsSpoiled ends line why ⊎ ReadsFront ends line why
+  pub reads : ReadsSpoiled most ends line why ⊎ ReadsFront most ends line why
 
 -- one byte more than a trace may have was read, and none of those lines has a cause against it
-pub record ReadsTooMuch (words : List (List ℕ)) (ends : Ends) : Type 0 where
+pub record ReadsTooMuch (most : ℕ) (words : List (List ℕ)) (ends : Ends) : Type 0 where
   pub no_words : words ≡ []
   pub bytes : List ℕ
-  pub read : GivesTooMuch TRACE_MAX ends.source ends.source_after bytes
+  pub read : GivesTooMuch most ends.source ends.source_after bytes
   pub events : List Event
   pub after : CheckState
-  pub begins : Begins (take TRACE_MAX bytes) (Through events after)
+  pub begins : Begins (take most bytes) (Through events after)
 
 -- no more than one byte above the longest trace was read, and nothing was written
-pub record ReadsAtMost (words : List (List ℕ)) (ends : Ends) : Type 0 where
+pub record ReadsAtMost (most : ℕ) (words : List (List ℕ)) (ends : Ends) : Type 0 where
   pub no_words : words ≡ []
-  pub read : GivesUpTo (TRACE_MAX + 1) ends.source ends.source_after
+  pub read : GivesUpTo (most + 1) ends.source ends.source_after
   pub unwritten : ends.sink_after ≡ ends.sink
 
 -- ---- how a check ends
@@ -112,26 +111,26 @@ Wrote ends line = Appends ends.sink.bytes ends.sink_after.bytes line
 abbrev pub StopsWriting : Ends → List ℕ → Type 0
 StopsWriting ends line = StopsIn ends.sink ends.sink_after line
 
-abbrev pub IsOutcome : List (List ℕ) → Ends → Status → Type 0
+abbrev pub IsOutcome : ℕ → List (List ℕ) → Ends → Status → Type 0
 -- the trace tells a history, which is legal
-IsOutcome words ends status.Legal = ReadsLegal words ends × Wrote ends legal_line
+IsOutcome most words ends status.Legal = ReadsLegal most words ends × Wrote ends legal_line
 -- there are words: the source is as it was, and the usage line was written
-IsOutcome words ends status.Usage = IsUnread words ends × Wrote ends usage_line
+IsOutcome most words ends status.Usage = IsUnread words ends × Wrote ends usage_line
 -- the source failed: nothing was written
-IsOutcome words ends status.SourceFailed = ReadsAtMost words ends × Rose ends.source.faults ends.source_after.faults
+IsOutcome most words ends status.SourceFailed = ReadsAtMost most words ends × Rose ends.source.faults ends.source_after.faults
 -- the trace has a line with a cause against it, the first such, which was named
-IsOutcome words ends status.Spoiled = (line : ℕ) × (why : Cause) × Spoils words ends line why × Wrote ends (spoiled_line line why)
+IsOutcome most words ends status.Spoiled = (line : ℕ) × (why : Cause) × Spoils most words ends line why × Wrote ends (spoiled_line line why)
 -- the sink failed in the line that was due
-IsOutcome words ends status.SinkFailed =
-    (ReadsLegal words ends × StopsWriting ends legal_line)
+IsOutcome most words ends status.SinkFailed =
+    (ReadsLegal most words ends × StopsWriting ends legal_line)
     ⊎ (IsUnread words ends × StopsWriting ends usage_line)
-    ⊎ ((line : ℕ) × (why : Cause) × Spoils words ends line why × StopsWriting ends (spoiled_line line why))
-    ⊎ (ReadsTooMuch words ends × StopsWriting ends long_line)
+    ⊎ ((line : ℕ) × (why : Cause) × Spoils most words ends line why × StopsWriting ends (spoiled_line line why))
+    ⊎ (ReadsTooMuch most words ends × StopsWriting ends long_line)
 -- memory ran out: nothing was written
-IsOutcome words ends status.NoMemory = ReadsAtMost words ends
+IsOutcome most words ends status.NoMemory = ReadsAtMost most words ends
 -- more bytes came than a trace may have before a cause was found
-IsOutcome words ends status.TooLong = ReadsTooMuch words ends × Wrote ends long_line
+IsOutcome most words ends status.TooLong = ReadsTooMuch most words ends × Wrote ends long_line
 
 -- the check ends with the number of its status
-abbrev pub EndsSo : List (List ℕ) → Ends → ℕ → Type 0
-EndsSo words ends number = (how : Status) × (number ≡ status_number how) × IsOutcome words ends how
+abbrev pub EndsSo : ℕ → List (List ℕ) → Ends → ℕ → Type 0
+EndsSo most words ends number = (how : Status) × (number ≡ status_number how) × IsOutcome most words ends how

@@ -6,7 +6,6 @@ use Rattle.vx_text.specs.Writing.{StopsIn}
 use Rattle.vx_rules.specs.Legal.{IsLegal}
 use Rattle.vx_flow.specs.Event.{Event}
 use Rattle.vx_flow.specs.Gather.{gather}
-use Rattle.vx_check.specs.declared.limits.TheConstants.{TRACE_MAX}
 use Rattle.vx_check.specs.declared.cause.Cause.TheVariants as cause
 use Rattle.vx_check.specs.declared.walk.Far.{Far}
 use Rattle.vx_check.specs.declared.walk.Far.TheVariants as far
@@ -33,11 +32,11 @@ IsJudged bytes verdict.TooLong = ⊥
 IsJudged bytes verdict.NoMemory = ⊤
 
 -- what the front of a longer trace was found to be
-abbrev pub IsFrontJudged : List ℕ → Verdict → Type 0
-IsFrontJudged bytes verdict.Legal = ⊥
-IsFrontJudged bytes (verdict.Spoiled line why) = Begins (take TRACE_MAX bytes) (Stops line why)
-IsFrontJudged bytes verdict.TooLong = (events : List Event) × (after : CheckState) × Begins (take TRACE_MAX bytes) (Through events after)
-IsFrontJudged bytes verdict.NoMemory = ⊤
+abbrev pub IsFrontJudged : ℕ → List ℕ → Verdict → Type 0
+IsFrontJudged most bytes verdict.Legal = ⊥
+IsFrontJudged most bytes (verdict.Spoiled line why) = Begins (take most bytes) (Stops line why)
+IsFrontJudged most bytes verdict.TooLong = (events : List Event) × (after : CheckState) × Begins (take most bytes) (Through events after)
+IsFrontJudged most bytes verdict.NoMemory = ⊤
 
 -- a line was written by a check that ends so, or the sink failed in it
 abbrev pub PutsLine : Status → List ℕ → End → End → Status → Type 0

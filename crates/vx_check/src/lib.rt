@@ -18,4 +18,4 @@ pub use cause::Cause;
 pub use formed::formed_runs;
 pub use laws::{lawful_histories, one_history, replies_are_read};
 pub use limits::TRACE_MAX;
-pub use run::check_run;
+pub use run::{check_run, check_up_to};

@@ -6,6 +6,7 @@ ghost use Rattle.vx_check.specs.Shown.{whole_lines};
 ghost use Rattle.vx_check.specs.declared.limits.TheConstants.{TRACE_MAX};
 ghost use Rattle.vx_check.specs.Formed.{EndsFormed};
 ghost use Rattle.vx_check.specs.Outcome.{EndsSo, IsOutcome, status_number, spoiled_line};
+ghost use Rattle.vx_check.specs.Verdicts.{Completes, CompletesLong};
 ghost use Rattle.vx_check.specs.Telling.{PutsLine, IsJudged, IsFrontJudged, IsTold, verdict_of};
 
 use crate::cause::Cause;
@@ -140,11 +141,12 @@ fn judge_ended(alloc: Global, text: &[u8]) -> Verdict
 }
 
 /// What a trace is of which one byte more was read than it may have.
-fn judge_front(alloc: Global, trace: &[u8]) -> Verdict
-    requires { TRACE_MAX ≤ length trace.now }
-    ensures { IsFrontJudged trace.now result }
+fn judge_front(alloc: Global, trace: &[u8], most: usize) -> Verdict
+    requires limit { most ≤ TRACE_MAX }
+    requires above { most ≤ length trace.now }
+    ensures { IsFrontJudged most trace.now result }
 {
-    match walk(alloc, &trace[..TRACE_MAX]) {
+    match walk(alloc, &trace[..most]) {
         Far::Through { .. } => Verdict::TooLong,
         Far::Stops { line, cause } => Verdict::Spoiled { line, cause },
         Far::NoMemory => Verdict::NoMemory,
@@ -168,14 +170,16 @@ fn tell<K: Sink>(sink: &mut K, verdict: Verdict) -> Status
     }
 }
 
-/// Checks the trace that the source gives, where there are no words.
+/// Checks the trace of at most so many bytes that the source gives, where there are no words.
 fn check<S: Source, K: Sink>(
     alloc: Global,
     words: &[String],
     source: &mut S,
     sink: &mut K,
+    most: usize,
 ) -> Status
-    ensures outcome { IsOutcome (map string_bytes words.now) (record {
+    requires { most ≤ TRACE_MAX }
+    ensures outcome { IsOutcome most (map string_bytes words.now) (record {
       source = record { bytes = S.left source.old; faults = S.faults source.old };
       source_after = record { bytes = S.left source.new; faults = S.faults source.new };
       sink = record { bytes = K.taken sink.old; faults = K.faults sink.old };
@@ -185,12 +189,31 @@ fn check<S: Source, K: Sink>(
     if !words.is_empty() {
         return put_line(sink, b"usage: vxcheck\n", Status::Usage);
     }
-    match read_trace(alloc, source) {
+    match read_trace(alloc, source, most) {
         Trace::Whole(trace) => tell(sink, judge_whole(alloc, trace)),
-        Trace::Longer(trace) => tell(sink, judge_front(alloc, &trace)),
+        Trace::Longer(trace) => tell(sink, judge_front(alloc, &trace, most)),
         Trace::Failed => Status::SourceFailed,
         Trace::NoMemory => Status::NoMemory,
     }
+}
+
+/// What `check_run` does, where the longest trace has `most` bytes.
+pub fn check_up_to<S: Source, K: Sink>(
+    alloc: Global,
+    words: &[String],
+    source: &mut S,
+    sink: &mut K,
+    most: usize,
+) -> u8
+    requires { most ≤ TRACE_MAX }
+    ensures outcome { EndsSo most (map string_bytes words.now) (record {
+      source = record { bytes = S.left source.old; faults = S.faults source.old };
+      source_after = record { bytes = S.left source.new; faults = S.faults source.new };
+      sink = record { bytes = K.taken sink.old; faults = K.faults sink.old };
+      sink_after = record { bytes = K.taken sink.new; faults = K.faults sink.new };
+    }) result }
+{
+    check(alloc, words, source, sink, most).number()
 }
 
 /// All that the program `vxcheck` does, without words: it reads a trace of version 2 to its end, says whether the history that the
@@ -212,7 +235,7 @@ pub fn check_run<S: Source, K: Sink>(
     source: &mut S,
     sink: &mut K,
 ) -> u8
-    ensures outcome { EndsSo (map string_bytes words.now) (record {
+    ensures outcome { EndsSo TRACE_MAX (map string_bytes words.now) (record {
       source = record { bytes = S.left source.old; faults = S.faults source.old };
       source_after = record { bytes = S.left source.new; faults = S.faults source.new };
       sink = record { bytes = K.taken sink.old; faults = K.faults sink.old };
@@ -223,6 +246,24 @@ pub fn check_run<S: Source, K: Sink>(
     ensures read { GivesUpTo (TRACE_MAX + 1)
         (record { bytes = S.left source.old; faults = S.faults source.old })
         (record { bytes = S.left source.new; faults = S.faults source.new }) }
+
+    // The other direction: where there are no words, the source tells its bytes and neither count of faults rose, a trace that tells a
+    // legal history is answered with 0, one that tells its first line with a cause with 3 and that line; or it is 5.
+    ensures complete { Completes TRACE_MAX (map string_bytes words.now) (record {
+      source = record { bytes = S.left source.old; faults = S.faults source.old };
+      source_after = record { bytes = S.left source.new; faults = S.faults source.new };
+      sink = record { bytes = K.taken sink.old; faults = K.faults sink.old };
+      sink_after = record { bytes = K.taken sink.new; faults = K.faults sink.new };
+    }) result }
+
+    // The same of a longer one: 3 and the first line with a cause among those that end within its first 1,073,741,824 bytes, else 6;
+    // or it is 5.
+    ensures complete_long { CompletesLong TRACE_MAX (map string_bytes words.now) (record {
+      source = record { bytes = S.left source.old; faults = S.faults source.old };
+      source_after = record { bytes = S.left source.new; faults = S.faults source.new };
+      sink = record { bytes = K.taken sink.old; faults = K.faults sink.old };
+      sink_after = record { bytes = K.taken sink.new; faults = K.faults sink.new };
+    }) result }
 
     // Where there are no words, the source gives the trace of a formed run, which isn't too long, and neither count of faults rose, the
     // status is 0 or 5.
@@ -235,5 +276,5 @@ pub fn check_run<S: Source, K: Sink>(
 {
     formed_runs();
     one_history();
-    check(alloc, words, source, sink).number()
+    check_up_to(alloc, words, source, sink, TRACE_MAX)
 }

@@ -1,8 +1,8 @@
 //! A trace read from its source.
 ghost use Rattle.std.specs.Prelude.{◌≤◌, ◌<◌, length};
 ghost use Rattle.vx_check.specs.Reading.{IsTrace, IsPiece};
+ghost use Rattle.vx_check.specs.declared.limits.TheConstants.{TRACE_MAX};
 
-use crate::limits::TRACE_MAX;
 use std::alloc::Global;
 use vx_io_traits::{ReadOut, Source};
 use vx_text::zeros;
@@ -49,9 +49,10 @@ fn read_piece<S: Source>(source: &mut S, room: &mut [u8], bytes: &mut Vec<u8>) -
     }
 }
 
-/// Reads a trace to its end, or up to one byte more than it may have.
-pub(crate) fn read_trace<S: Source>(alloc: Global, source: &mut S) -> Trace
-    ensures read { IsTrace
+/// Reads a trace to its end, or up to one byte more than `most`.
+pub(crate) fn read_trace<S: Source>(alloc: Global, source: &mut S, most: usize) -> Trace
+    requires { most ≤ TRACE_MAX }
+    ensures read { IsTrace most
         (record { bytes = S.left source.old; faults = S.faults source.old })
         (record { bytes = S.left source.new; faults = S.faults source.new }) result }
     ensures counted { S.faults source.old ≤ S.faults source.new }
@@ -60,8 +61,8 @@ pub(crate) fn read_trace<S: Source>(alloc: Global, source: &mut S) -> Trace
     let Ok(mut piece) = zeros(alloc, PIECE) else {
         return Trace::NoMemory;
     };
-    while bytes.len() <= TRACE_MAX {
-        let room = piece.len().min(TRACE_MAX - bytes.len() + 1);
+    while bytes.len() <= most {
+        let room = piece.len().min(most - bytes.len() + 1);
         match read_piece(source, &mut piece[..room], &mut bytes) {
             Piece::More => {}
             Piece::End => return Trace::Whole(bytes),
