@@ -6,6 +6,9 @@
 //! has what each of them must print, and behind that a last line `status N`, with the exit status. For `plug` lines there are two
 //! spare instruments of each model that takes bytes: `echo`, `slow` and `asker`.
 //!
+//! Where it is written down that a script is played to its end, its trace is judged too, and must be legal. A script of version 1 is
+//! lifted to version 2 for it.
+//!
 //! A file `NAME.trace` is a trace, which is judged twice: read whole, and read in pieces of a few bytes. Beside it the file
 //! `NAME.verdict` has what the check of it must print, and behind that such a last line.
 #![tactic(auto)]
@@ -30,6 +33,12 @@ const SPARES: usize = 2;
 const READ_WHOLE: usize = 65_536;
 
 const READ_FEW: usize = 7;
+
+/// The last lines that are written down of a script that is played to its end.
+const PLAYED: &[u8] = b"done\nstatus 0\n";
+
+/// What is written down of a legal trace.
+const LEGAL: &[u8] = b"legal\nstatus 0\n";
 
 /// An instrument of any model.
 type Boxed = Box<dyn Instrument + Send>;
@@ -102,17 +111,24 @@ fn differs(alloc: Global, words: &str, script: &[u8], written: &[u8]) -> Result<
     Ok(!is_written(alloc, sink.bytes(), status, written)?)
 }
 
-/// How many scripts were played and traces judged, and how many of them print otherwise than is written down.
+/// How many scripts were played and traces judged, and how many of them print otherwise than is written down; and of how many scripts
+/// the trace is legal.
 #[derive(Clone, Copy, Default)]
 struct Tally {
     rows: u64,
     differ: u64,
+    legal: u64,
 }
 
 impl Tally {
     fn count(&mut self, differs: bool) {
         self.rows = self.rows.saturating_add(1);
         self.differ = self.differ.saturating_add(u64::from(differs));
+    }
+
+    fn judge(&mut self, illegal: bool) {
+        self.legal = self.legal.saturating_add(u64::from(!illegal));
+        self.differ = self.differ.saturating_add(u64::from(illegal));
     }
 }
 
@@ -197,6 +213,39 @@ fn judge<R: Files + Print + AllocGlobal>(
     Ok(())
 }
 
+/// Whether the trace of a script isn't legal. A script that can't be lifted to version 2 is played as it stands.
+fn is_illegal(alloc: Global, script: &[u8]) -> Result<bool, AllocError> {
+    let mut lifted = MemSink::new(Vec::new(alloc), Vec::new(alloc));
+    let mut trace = MemSink::new(Vec::new(alloc), Vec::new(alloc));
+    let Ok(status) = play(alloc, &words_of(alloc, "lift")?, script, &mut lifted) else {
+        return Err(AllocError);
+    };
+    let script = if status == 0 { lifted.bytes() } else { script };
+    let Ok(_) = play(alloc, &words_of(alloc, "run")?, script, &mut trace) else {
+        return Err(AllocError);
+    };
+    is_other(alloc, trace.bytes(), READ_WHOLE, LEGAL)
+}
+
+/// Judges the trace of the script of a file, where it is written down that it is played to its end.
+fn judge_play<R: Files + Print + AllocGlobal>(
+    rt: &R,
+    file: &str,
+    name: &str,
+    tally: &mut Tally,
+) -> io::Result<()> {
+    let script = fs::read(rt, file)?;
+    let written = fs::read(rt, format!(in rt.alloc(); "{name}.out")?)?;
+    if written.ends_with(PLAYED) {
+        let illegal = is_illegal(rt.alloc(), &script)?;
+        tally.judge(illegal);
+        if illegal {
+            println!(rt; "illegal {name}")?;
+        }
+    }
+    Ok(())
+}
+
 /// The names of the files in the folder, in order.
 fn files_of<R: Files + AllocGlobal + Clone + Drop>(rt: &R) -> io::Result<Vec<String>> {
     let mut files = Vec::new(rt.alloc());
@@ -212,6 +261,7 @@ fn main(rt: HostRuntime) -> io::Result<()> {
     for file in &files_of(&rt)? {
         if let Some(name) = file.strip_suffix(".vxs") {
             play_whole(&rt, file, name, "run", &mut tally)?;
+            judge_play(&rt, file, name, &mut tally)?;
         } else if let Some(name) = file.strip_suffix(".lift") {
             play_whole(&rt, file, name, "lift", &mut tally)?;
         } else if let Some(name) = file.strip_suffix(".each") {
@@ -222,6 +272,10 @@ fn main(rt: HostRuntime) -> io::Result<()> {
             judge(&rt, file, name, &mut tally)?;
         }
     }
-    let Tally { rows, differ } = tally;
-    println!(rt; "{rows} rows, {differ} differ")
+    let Tally {
+        rows,
+        differ,
+        legal,
+    } = tally;
+    println!(rt; "{rows} rows, {legal} legal, {differ} differ")
 }
