@@ -11,7 +11,8 @@ import struct
 import subprocess
 import sys
 
-from rpc import LAST, TRIGGER, Client, words
+import rpc
+from rpc import CORE, LAST, TRIGGER, Client, record, words
 from serving import PATIENCE, Program, free_ports
 
 NULL = 0
@@ -79,6 +80,17 @@ def a_peer_that_vanishes(program):
         guard.expect_end("served 2\n")
 
 
+def replies_before_an_end(program):
+    """Calls, a record that is no call, and a megabyte behind it, in one send: each call is answered."""
+    calls = b"".join(record(rpc.call(xid, CORE, NULL)) for xid in range(50))
+    replies = b"".join(record(rpc.reply(xid)) for xid in range(50))
+    with Guard(program, "allow * * *\n", 20) as guard:
+        for _ in range(20):
+            told = rpc.told_to(*guard.ports, calls + record(words(1, 0)) + bytes(1 << 20))
+            assert told == replies, f"{len(told)} of {len(replies)} bytes came"
+        guard.expect_end("served 20\n")
+
+
 def ended(program, arguments, rules):
     done = subprocess.run([program, *arguments], input=rules.encode(), capture_output=True, timeout=PATIENCE)
     return done.returncode, done.stdout.decode()
@@ -98,7 +110,7 @@ def no_run(program):
             assert ended(program, guard.words(*guard.ports)[1:], "allow * * *\n") == (3, ""), "a taken port is served"
 
 
-CASES = [one_writes_and_one_reads, the_other_way_round, no_rule, a_peer_that_vanishes, no_run]
+CASES = [one_writes_and_one_reads, the_other_way_round, no_rule, a_peer_that_vanishes, replies_before_an_end, no_run]
 
 
 def passes(case, program):
