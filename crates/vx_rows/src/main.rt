@@ -132,7 +132,7 @@ impl Tally {
     }
 }
 
-/// Plays the one script of a file, or does with it what another word says.
+/// Plays the one script of a file, or does with it what another word says. Where it is played to its end, its trace is judged too.
 fn play_whole<R: Files + Print + AllocGlobal>(
     rt: &R,
     file: &str,
@@ -146,6 +146,13 @@ fn play_whole<R: Files + Print + AllocGlobal>(
     tally.count(differs);
     if differs {
         println!(rt; "differs {name}")?;
+    }
+    if written.ends_with(PLAYED) {
+        let illegal = is_illegal(rt.alloc(), &script)?;
+        tally.judge(illegal);
+        if illegal {
+            println!(rt; "illegal {name}")?;
+        }
     }
     Ok(())
 }
@@ -194,6 +201,20 @@ fn is_other(alloc: Global, trace: &[u8], read: usize, written: &[u8]) -> Result<
     Ok(!is_written(alloc, sink.bytes(), status, written)?)
 }
 
+/// Whether the trace of a script isn't legal. A script that can't be lifted to version 2 is played as it stands.
+fn is_illegal(alloc: Global, script: &[u8]) -> Result<bool, AllocError> {
+    let mut lifted = MemSink::new(Vec::new(alloc), Vec::new(alloc));
+    let mut trace = MemSink::new(Vec::new(alloc), Vec::new(alloc));
+    let Ok(status) = play(alloc, &words_of(alloc, "lift")?, script, &mut lifted) else {
+        return Err(AllocError);
+    };
+    let script = if status == 0 { lifted.bytes() } else { script };
+    let Ok(_) = play(alloc, &words_of(alloc, "run")?, script, &mut trace) else {
+        return Err(AllocError);
+    };
+    is_other(alloc, trace.bytes(), READ_WHOLE, LEGAL)
+}
+
 /// Judges the trace of a file.
 fn judge<R: Files + Print + AllocGlobal>(
     rt: &R,
@@ -213,39 +234,6 @@ fn judge<R: Files + Print + AllocGlobal>(
     Ok(())
 }
 
-/// Whether the trace of a script isn't legal. A script that can't be lifted to version 2 is played as it stands.
-fn is_illegal(alloc: Global, script: &[u8]) -> Result<bool, AllocError> {
-    let mut lifted = MemSink::new(Vec::new(alloc), Vec::new(alloc));
-    let mut trace = MemSink::new(Vec::new(alloc), Vec::new(alloc));
-    let Ok(status) = play(alloc, &words_of(alloc, "lift")?, script, &mut lifted) else {
-        return Err(AllocError);
-    };
-    let script = if status == 0 { lifted.bytes() } else { script };
-    let Ok(_) = play(alloc, &words_of(alloc, "run")?, script, &mut trace) else {
-        return Err(AllocError);
-    };
-    is_other(alloc, trace.bytes(), READ_WHOLE, LEGAL)
-}
-
-/// Judges the trace of the script of a file, where it is written down that it is played to its end.
-fn judge_play<R: Files + Print + AllocGlobal>(
-    rt: &R,
-    file: &str,
-    name: &str,
-    tally: &mut Tally,
-) -> io::Result<()> {
-    let script = fs::read(rt, file)?;
-    let written = fs::read(rt, format!(in rt.alloc(); "{name}.out")?)?;
-    if written.ends_with(PLAYED) {
-        let illegal = is_illegal(rt.alloc(), &script)?;
-        tally.judge(illegal);
-        if illegal {
-            println!(rt; "illegal {name}")?;
-        }
-    }
-    Ok(())
-}
-
 /// The names of the files in the folder, in order.
 fn files_of<R: Files + AllocGlobal + Clone + Drop>(rt: &R) -> io::Result<Vec<String>> {
     let mut files = Vec::new(rt.alloc());
@@ -261,7 +249,6 @@ fn main(rt: HostRuntime) -> io::Result<()> {
     for file in &files_of(&rt)? {
         if let Some(name) = file.strip_suffix(".vxs") {
             play_whole(&rt, file, name, "run", &mut tally)?;
-            judge_play(&rt, file, name, &mut tally)?;
         } else if let Some(name) = file.strip_suffix(".lift") {
             play_whole(&rt, file, name, "lift", &mut tally)?;
         } else if let Some(name) = file.strip_suffix(".each") {
