@@ -195,8 +195,8 @@ def forged_packets(program):
         for address, port in sources:
             raw.sendto(datagram(socket.inet_aton(address), port, *mapper.ports, GETPORT), ("127.0.0.1", 0))
         peer.send(GETPORT)
-        assert peer.recv(65536) == done(CORE), "another answer"
         mapper.expect_served(len(sources) + 1)
+        assert peer.recv(65536) == done(CORE), "another answer"
 
 
 def a_silent_peer(program):
