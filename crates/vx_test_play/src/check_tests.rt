@@ -2,7 +2,7 @@
 
 use std::alloc::{AllocError, Global};
 use std::test::Fail;
-use vx_check::check_run;
+use vx_check::{TRACE_MAX, check_run, check_up_to};
 use vx_memory::{MemSink, MemSource};
 
 /// A trace that is legal.
@@ -28,6 +28,20 @@ static ROWS: [Row; 6] = [
     (1, LEGAL, &[1], &[1], 4, b""),
 ];
 
+/// The longest trace, a trace, the writes that fail, the status, and what is printed.
+type Long = (usize, &'static [u8], &'static [u64], u8, &'static [u8]);
+
+static LONG: [Long; 7] = [
+    (15, LEGAL, &[], 0, b"legal\n"),
+    (14, LEGAL, &[], 6, b"long\n"),
+    (14, LEGAL, &[1], 4, b""),
+    // no line ends within the longest trace
+    (9, b"vxtrace 3\ndone\n", &[], 6, b"long\n"),
+    (10, b"vxtrace 3\ndone\n", &[], 3, b"line 1 form\n"),
+    (14, b"vxtrace 3\ndone\n", &[], 3, b"line 1 form\n"),
+    (0, b"d", &[], 6, b"long\n"),
+];
+
 /// So many empty words.
 fn words_of(alloc: Global, count: usize) -> Result<Vec<String>, AllocError> {
     let mut words = Vec::new(alloc);
@@ -47,10 +61,28 @@ fn ends_so(alloc: Global, row: &Row) -> Result<bool, AllocError> {
     Ok(ended == status && sink.bytes() == printed)
 }
 
+/// Whether the check of a trace of which the longest has so many bytes ends as its row says.
+fn is_long_so(alloc: Global, row: &Long) -> Result<bool, AllocError> {
+    let (most, trace, write_fails, status, printed) = *row;
+    let mut source = MemSource::new(trace.to_vec(alloc)?, 4, Vec::new(alloc));
+    let mut sink = MemSink::new(Vec::new(alloc), write_fails.to_vec(alloc)?);
+    let ended = check_up_to(alloc, &[], &mut source, &mut sink, most.min(TRACE_MAX));
+    Ok(ended == status && sink.bytes() == printed)
+}
+
 #[test]
 fn failures_have_statuses(rt: HostRuntime) -> Result<(), Fail> {
     for (place, row) in ROWS.iter().enumerate() {
         let is_so = ends_so(rt.alloc(), row)?;
+        assert!(rt; is_so, "row {place}");
+    }
+    Ok(())
+}
+
+#[test]
+fn longer_traces_are_judged_by_their_front(rt: HostRuntime) -> Result<(), Fail> {
+    for (place, row) in LONG.iter().enumerate() {
+        let is_so = is_long_so(rt.alloc(), row)?;
         assert!(rt; is_so, "row {place}");
     }
     Ok(())
