@@ -2,8 +2,11 @@
 """Gives the checker `vxcheck`, the second word, the traces that the player `vxplay`, the first word, prints of the scripts of
 `examples/` and of the crates' data, in version 2 or lifted to it, and of a hundred that are drawn here. It must find each of
 them legal, and none of them where the error of one reply is another. A script that isn't played to its end is wrong too, but for
-those of which it is stored that they are refused. What differs, and at last 'N passed, M failed', goes to standard error; the status
-is 1 where something differs.
+those of which it is stored that they are refused. Where memory can't hold a trace the checker must say so. What differs, and at last
+'N passed, M failed', goes to standard error; the status is 1 where something differs.
+
+The traces of the crates' data are judged in the program `vx_rows` too, without a reply of another error; here the two programs hand
+them on.
 
 Whole messages are composed from their words, by RFC 5531 and VXI-11.
 """
@@ -11,6 +14,7 @@ import glob
 import os
 import random
 import re
+import resource
 import subprocess
 import sys
 
@@ -21,6 +25,8 @@ HEAD = b"vxscript 2"  # the first line of a script of version 2
 DRAWN, STEPS = 100, 60
 # scripts of crates that must be among them
 ROWS = {"calls_aborted", "lock_waits_for_a_turn", "interrupts_of_a_rise", "connection_gone_in_its_turn"}
+REFUSED, NO_MEMORY = 3, 5  # statuses of both programs
+LARGE, SPACE = 1 << 26, 1 << 25  # a trace's bytes, and an address space that can't hold them
 LINK_UNKNOWN = 4  # no call is answered so whose answer is another
 # a reply's record begins with its mark, xid, 1, 0, two words of a verifier, and 0 (RFC 5531, section 9); then comes the error
 ERROR_AT = slice(56, 64)
@@ -160,6 +166,15 @@ def faults_of(checker, name, trace):
     return wrong, len(others)
 
 
+def lacks_memory(checker):
+    """What the checker says otherwise than is due, where its memory can't hold the trace."""
+    trace = b"vxtrace 2\n" + b"0 srq 0\n" * (LARGE // 8) + b"done\n"
+    done = subprocess.run([checker], input=trace, capture_output=True, timeout=PATIENCE,
+                          preexec_fn=lambda: resource.setrlimit(resource.RLIMIT_AS, (SPACE, SPACE)))
+    found = (done.returncode, done.stdout)
+    return [] if found == (NO_MEMORY, b"") else [f"{found} of a trace that memory can't hold"]
+
+
 def main():
     if len(sys.argv) != 3:
         sys.exit(__doc__)
@@ -168,7 +183,7 @@ def main():
     missing = set(ROWS)
     for name, text, may_be_refused in scripts(player):
         status, trace = trace_of(player, text)
-        if status and may_be_refused:
+        if status == REFUSED and may_be_refused:
             refused += 1
             continue
         wrong, others = faults_of(checker, name, trace) if status == 0 else ([f"{name}: status {status} of its play"], 0)
@@ -180,6 +195,9 @@ def main():
         else:
             passed += 1
             missing.discard(os.path.basename(name).removesuffix(".vxs"))
+    for line in lacks_memory(checker):
+        failed += 1
+        print(line, file=sys.stderr)
     for row in sorted(missing):
         failed += 1
         print(f"{row}: no such script passed", file=sys.stderr)
