@@ -2,6 +2,9 @@
 #![tactic(auto)]
 
 mod accepting;
+mod access;
+mod planning;
+mod served;
 mod server;
 mod starting;
 mod workers;

@@ -1,22 +1,21 @@
 //! The server: its words, its bench, its ports, its workers, and the links that it takes.
 ghost use Rattle.std.specs.Prelude.{◌≡◌, map, string_bytes, true};
 ghost use Rattle.vx_sim.specs.Means.{first_means};
-ghost use Rattle.vx_gate.specs.Gates.{gate_of};
 ghost use Rattle.vx_startup.specs.Meant.{IsInRange};
 ghost use Rattle.vx_startup.specs.Spares.{spare_shown};
 ghost use Rattle.vx_sim.specs.Occupants.{handed_in};
 ghost use Rattle.vx_startup.specs.Running.{EndsRun, LinksEnd, LinksServed, net_shown};
 ghost use Rattle.vx_startup.specs.Outcome.{Ends, EndsSo};
 
-use crate::accepting::{accept_links, wait_for};
-use crate::starting::{Acceptor, Unstarted, start_all, start_gateway};
-use crate::workers::{CoreKit, Peer, Serve, Shared};
+use crate::accepting::accept_links;
+use crate::access::{Access, GateAccess};
+use crate::planning::Acceptor;
+use crate::starting::{Unstarted, start_all};
+use crate::workers::{CoreKit, Duty, Job, Peer, Serve};
 use crossbeam_channel::Sender;
 use std::alloc::Global;
 use std::sync::Wait;
-use std::sync::atomic::Ordering;
-use vx_core::Core;
-use vx_gate::Pass;
+use vx_bus_traits::Bus;
 use vx_inst::Instrument;
 use vx_io_traits::{Clock, Dial, Net, Pause, Sink, Source, Spawner, Streams};
 use vx_rack::Spare;
@@ -45,13 +44,20 @@ impl Ended {
 }
 
 /// Takes links, waits until each was served, and tells how many there were.
-fn serve_announced<R: Wait, N: Net, I: Instrument, C: Clock, P: Pause, D: Dial, G: Sink, K: Sink>(
+fn serve_announced<
+    R: Wait,
+    N: Net,
+    A: Access + Drop,
+    C: Clock,
+    P: Pause,
+    D: Dial,
+    G: Sink,
+    K: Sink,
+>(
     rt: &R,
-    alloc: Global,
     limit: u32,
     links: &Sender<Visitor<Peer<N>>>,
-    shared: &Shared<I>,
-    pass: Pass<Core<SimBus<I>>>,
+    access: A,
     kit: &mut CoreKit<C, P, D, G>,
     net: &mut N,
     sink: &mut K,
@@ -59,29 +65,25 @@ fn serve_announced<R: Wait, N: Net, I: Instrument, C: Clock, P: Pause, D: Dial, 
 where
     Peer<N>: Drop,
     requires open { N.is_open net.old ≡ true }
-    requires gate { pass.gate ≡ gate_of shared.now.gate }
     ensures { LinksServed limit
         (record { net = net_shown N.faults N.given N.ended net.old; sink = record { bytes = K.taken sink.old; faults = K.faults sink.old } })
         (record { net = net_shown N.faults N.given N.ended net.new; sink = record { bytes = K.taken sink.new; faults = K.faults sink.new } })
         result.tally result.status }
 {
-    let taken = accept_links(rt, alloc, net, limit, links, shared, pass, kit);
-    let Some(number) = taken else {
+    let Some(number) = accept_links(rt, net, limit, links, access, kit) else {
         return Ended::early(Status::NetFailed);
     };
-    let tally = wait_for(rt, &shared.tally, &shared.added, number);
+    let tally = kit.served.wait_for(rt, number);
     let status = tell_served(sink, number);
     Ended { status, tally }
 }
 
 /// Announces the ports, and serves links at them.
-fn serve_links<R: Wait, N: Net, I: Instrument, C: Clock, P: Pause, D: Dial, G: Sink, K: Sink>(
+fn serve_links<R: Wait, N: Net, A: Access + Drop, C: Clock, P: Pause, D: Dial, G: Sink, K: Sink>(
     rt: &R,
-    alloc: Global,
     options: Options,
     links: &Sender<Visitor<Peer<N>>>,
-    shared: &Shared<I>,
-    pass: Pass<Core<SimBus<I>>>,
+    access: A,
     kit: &mut CoreKit<C, P, D, G>,
     net: &mut N,
     sink: &mut K,
@@ -89,24 +91,13 @@ fn serve_links<R: Wait, N: Net, I: Instrument, C: Clock, P: Pause, D: Dial, G: S
 where
     Peer<N>: Drop,
     requires open { N.is_open net.old ≡ true }
-    requires gate { pass.gate ≡ gate_of shared.now.gate }
     ensures { LinksEnd options
         (record { net = net_shown N.faults N.given N.ended net.old; sink = record { bytes = K.taken sink.old; faults = K.faults sink.old } })
         (record { net = net_shown N.faults N.given N.ended net.new; sink = record { bytes = K.taken sink.new; faults = K.faults sink.new } })
         result.tally result.status }
 {
     match announce(sink, options.core, options.abort) {
-        Ok(()) => serve_announced(
-            rt,
-            alloc,
-            options.limit,
-            links,
-            shared,
-            pass,
-            kit,
-            net,
-            sink,
-        ),
+        Ok(()) => serve_announced(rt, options.limit, links, access, kit, net, sink),
         Err(_) => Ended::early(Status::SinkFailed),
     }
 }
@@ -115,7 +106,7 @@ where
 fn serve_accepting<
     R: Wait,
     N: Net,
-    I: Instrument,
+    A: Access + Drop,
     C: Clock + Drop,
     P: Pause + Drop,
     D: Dial + Drop,
@@ -123,9 +114,9 @@ fn serve_accepting<
     K: Sink,
 >(
     rt: &R,
-    alloc: Global,
     options: Options,
-    acceptor: Acceptor<Peer<N>, I, C, P, D, G>,
+    acceptor: Acceptor<Peer<N>, C, P, D, G>,
+    access: A,
     net: &mut N,
     sink: &mut K,
 ) -> Ended
@@ -137,20 +128,92 @@ where
         (record { net = net_shown N.faults N.given N.ended net.new; sink = record { bytes = K.taken sink.new; faults = K.faults sink.new } })
         result.tally result.status }
 {
-    let Acceptor {
-        links,
-        access,
-        mut kit,
-    } = acceptor;
-    let (shared, pass) = access.into_parts();
-    let ended = serve_links(
-        rt, alloc, options, &links, &shared, pass, &mut kit, net, sink,
-    );
-    shared.over.store(1, Ordering::SeqCst);
+    let Acceptor { links, mut kit } = acceptor;
+    let ended = serve_links(rt, options, &links, access, &mut kit, net, sink);
+    kit.served.end();
     ended
 }
 
-/// Opens the ports, starts the workers, and serves links over the bus.
+/// Starts the workers, each by a part of the access, and serves links at the ports, which are open.
+fn serve_open<
+    R: Wait,
+    N: Net,
+    X: Tools + Logs,
+    A: Access + Drop,
+    J: Job<A, Duty<N, X>>,
+    W: Spawner<J>,
+    K: Sink,
+>(
+    rt: &R,
+    alloc: Global,
+    options: Options,
+    port: N::Port,
+    access: A,
+    net: &mut N,
+    spawner: &mut W,
+    tools: &mut X,
+    sink: &mut K,
+) -> Ended
+where
+    N::Port: Drop,
+    Peer<N>: Drop,
+    <X::S as Streams>::Peer: Drop,
+    requires range { IsInRange options }
+    requires open { N.is_open net.old ≡ true }
+    requires parts { A.parts access ≡ 4294967296 }
+    ensures { EndsRun options
+        (record { net = net_shown N.faults N.given N.ended net.old; sink = record { bytes = K.taken sink.old; faults = K.faults sink.old } }) (W.faults spawner.old)
+        (record { net = net_shown N.faults N.given N.ended net.new; sink = record { bytes = K.taken sink.new; faults = K.faults sink.new } }) (W.faults spawner.new)
+        result.tally result.status }
+{
+    match start_all::<N, X, A, J, W>(alloc, spawner, tools, access, options, port) {
+        Ok((acceptor, access)) => serve_accepting(rt, options, acceptor, access, net, sink),
+        Err(Unstarted::Refused) => Ended::early(Status::WorkerRefused),
+        Err(Unstarted::NoMemory) => Ended::early(Status::NoMemory),
+    }
+}
+
+/// Starts the gateway over the bus behind its gate, and serves links at the ports, which are open.
+fn serve_gate<
+    R: Wait,
+    N: Net,
+    X: Tools + Logs,
+    B: Bus + Drop,
+    J: Job<GateAccess<B>, Duty<N, X>>,
+    W: Spawner<J>,
+    K: Sink,
+>(
+    rt: &R,
+    alloc: Global,
+    options: Options,
+    port: N::Port,
+    bus: B,
+    net: &mut N,
+    spawner: &mut W,
+    tools: &mut X,
+    sink: &mut K,
+) -> Ended
+where
+    N::Port: Drop,
+    Peer<N>: Drop,
+    <X::S as Streams>::Peer: Drop,
+    requires range { IsInRange options }
+    requires open { N.is_open net.old ≡ true }
+    requires fresh { B.means bus ≡ first_means }
+    ensures { EndsRun options
+        (record { net = net_shown N.faults N.given N.ended net.old; sink = record { bytes = K.taken sink.old; faults = K.faults sink.old } }) (W.faults spawner.old)
+        (record { net = net_shown N.faults N.given N.ended net.new; sink = record { bytes = K.taken sink.new; faults = K.faults sink.new } }) (W.faults spawner.new)
+        result.tally result.status }
+{
+    match GateAccess::start(alloc, bus, options.abort) {
+        Ok(access) => serve_open::<R, N, X, GateAccess<B>, J, W, K>(
+            rt, alloc, options, port, access, net, spawner, tools, sink,
+        ),
+        Err(_) => Ended::early(Status::NoMemory),
+    }
+}
+
+/// Opens the ports, and serves links over the bus.
 fn serve_bus<R: Wait, N: Net, W: Spawner<Serve<N, X, I>>, X: Tools + Logs, K: Sink, I: Instrument>(
     rt: &R,
     alloc: Global,
@@ -172,16 +235,11 @@ where
         (record { net = net_shown N.faults N.given N.ended net.new; sink = record { bytes = K.taken sink.new; faults = K.faults sink.new } }) (W.faults spawner.new)
         result.tally result.status }
 {
-    let Some(port) = open_ports(net, options.core, options.abort) else {
-        return Ended::early(Status::NetFailed);
-    };
-    let Ok(access) = start_gateway(alloc, bus, options.abort) else {
-        return Ended::early(Status::NoMemory);
-    };
-    match start_all::<N, W, X, I>(alloc, spawner, tools, access, options, port) {
-        Ok(acceptor) => serve_accepting(rt, alloc, options, acceptor, net, sink),
-        Err(Unstarted::Refused) => Ended::early(Status::WorkerRefused),
-        Err(Unstarted::NoMemory) => Ended::early(Status::NoMemory),
+    match open_ports(net, options.core, options.abort) {
+        Some(port) => serve_gate::<R, N, X, SimBus<I>, Serve<N, X, I>, W, K>(
+            rt, alloc, options, port, bus, net, spawner, tools, sink,
+        ),
+        None => Ended::early(Status::NetFailed),
     }
 }
 

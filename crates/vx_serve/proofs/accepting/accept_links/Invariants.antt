@@ -1,5 +1,4 @@
 use Rattle.std.proofs.Common.{◌≡◌, true}
-use Rattle.vx_gate.specs.Gates.{gate_of}
 use Rattle.vx_startup.specs.Running.{net_shown}
 use Rattle.vx_startup.specs.Taking.{TookSoFar}
 use Rattle.vx_serve.proofs.accepting.accept_links.Given as goal
@@ -7,6 +6,5 @@ use Rattle.vx_serve.proofs.accepting.accept_links.Given as goal
 -- the net goes on from where it was, and as many links came as are counted
 abbrev pub invariant-loop : goal.invariant-loop
 invariant-loop g l =
-    (l.pass.gate ≡ gate_of l.shared.gate)
-    × (g.N.Net.is_open l.net ≡ true)
+    (g.N.Net.is_open l.net ≡ true)
     × TookSoFar l.limit (net_shown g.N.Net.faults g.N.Net.given g.N.Net.ended l.initial.net) (net_shown g.N.Net.faults g.N.Net.given g.N.Net.ended l.net) l.number

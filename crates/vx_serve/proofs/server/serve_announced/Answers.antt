@@ -5,7 +5,7 @@ use Rattle.vx_serve.proofs.server.serve_announced.Goals as goal
 pub returns : goal.returns
 returns g c =
     let before = net_shown g.N.Net.faults g.N.Net.given g.N.Net.ended c.args.net.now in
-    let after = net_shown g.N.Net.faults g.N.Net.given g.N.Net.ended c.accept_links-taken.new.net in
+    let after = net_shown g.N.Net.faults g.N.Net.given g.N.Net.ended c.accept_links.new.net in
     subst
     (λ tally. LinksServed c.args.limit
     (record { net = before; sink = record { bytes = g.K.Sink.taken c.args.sink.now; faults = g.K.Sink.faults c.args.sink.now } })
