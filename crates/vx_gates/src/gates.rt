@@ -1,5 +1,5 @@
 //! Four gates, and the turns at them.
-ghost use Rattle.std.specs.Prelude.{◌≡◌, ◌≢◌, ◌⊎◌, ◌≤◌, ◌<◌, ◌+◌, ◌-◌, ◌++◌, ◌∷◌, ℕ, [], length, IfOk, IfErr, IfSome, vec_len, vec_capacity, Some, None};
+ghost use Rattle.std.specs.Prelude.{◌≡◌, ◌≢◌, ◌⊎◌, ◌≤◌, ◌<◌, ◌+◌, ◌-◌, ◌++◌, ◌∷◌, ℕ, [], length, take, IfOk, IfErr, IfSome, vec_len, vec_capacity, Some, None};
 ghost use Rattle.std.specs.List.{All};
 ghost use Rattle.vx_gate.specs.Gates.{gate_of};
 ghost use Rattle.vx_gate.specs.Turning.{MayTurn, Turned};
@@ -34,6 +34,7 @@ fn start_last<K: Kept>(alloc: Global, cores: &mut Vec<K>) -> Option<(Gate<K>, Pa
     ensures capacity { vec_capacity cores.new ≡ vec_capacity cores.old }
     ensures started { IfSome result (λ r. IsFirst r.1 (gate_of r.0) × (length cores.new.items + 1 ≡ length cores.old.items)) }
     ensures refused { result ≡ None → cores.new.items ≡ cores.old.items }
+    ensures first { 2 ≤ length cores.old.items → take 1 cores.new.items ≡ take 1 cores.old.items }
 {
     let value = cores.pop().unwrap();
     match Gate::start(alloc, value) {
@@ -52,6 +53,7 @@ fn end_first<K: Kept>(cores: &mut Vec<K>, gate: Gate<K>, pass: Pass<K>)
     requires stand { All (λ core. K.stands core []) cores.old.items }
     ensures stand { All (λ core. K.stands core []) cores.new.items }
     ensures len { length cores.new.items ≡ length cores.old.items + 1 }
+    ensures first { 1 ≤ length cores.old.items → take 1 cores.new.items ≡ take 1 cores.old.items }
     ensures capacity { vec_capacity cores.new ≡ vec_capacity cores.old }
 {
     let (value, _) = gate.close(pass);
@@ -69,6 +71,8 @@ fn start_two<K: Kept>(
     ensures capacity { vec_capacity cores.new ≡ vec_capacity cores.old }
     ensures started { IfSome result (λ r. IsFirst r.0.1 (gate_of r.0.0) × IsFirst r.1.1 (gate_of r.1.0) × (length cores.new.items + 2 ≡ length cores.old.items)) }
     ensures refused { result ≡ None → length cores.new.items ≡ length cores.old.items }
+    ensures first { 3 ≤ length cores.old.items → take 1 cores.new.items ≡ take 1 cores.old.items }
+    ensures first_of_two { result ≡ None → take 1 cores.new.items ≡ take 1 cores.old.items }
 {
     let (gate, pass) = start_last(alloc, cores)?;
     match start_last(alloc, cores) {
@@ -82,12 +86,14 @@ fn start_two<K: Kept>(
 
 impl<K: Kept> Gates<K> {
     /// Gates round four values, each with an empty history, and the first pass of each. Where there is no memory for them four values
-    /// come back, to whose histories no group was added. Which value stands where is no clause.
+    /// come back, to whose histories no group was added, and the first is the one that was the first. Which value stands behind which
+    /// gate is no clause: a gate tells nothing of the value that it was started over.
     pub fn start(alloc: Global, cores: Vec<K>) -> Result<(Gates<K>, Passes<K>), GatesRefused<K>>
         requires four { length cores.items ≡ 4 }
         requires stand { All (λ core. K.stands core []) cores.items }
         ensures started { IfOk result (λ r. Each IsFirst (passes_shown r.1) (gates_shown r.0)) }
         ensures refused { IfErr result (λ r. (length r.cores.items ≡ 4) × All (λ core. K.stands core []) r.cores.items) }
+        ensures first { IfErr result (λ r. take 1 r.cores.items ≡ take 1 cores.items) }
     {
         let mut cores = cores;
         let Some(((two, pass_two), (three, pass_three))) = start_two(alloc, &mut cores) else {
