@@ -3,7 +3,6 @@ pub mod Noting
 pub mod Stages
 pub mod Wholes
 pub mod Linking
-pub mod Benches
 pub mod Peers
 pub mod Outcome
 pub use Rattle.vx_door.specs.Going
@@ -18,6 +17,7 @@ pub use Rattle.vx_stream.specs.Stopping
 pub use Rattle.vx_calls.specs.Call
 pub use Rattle.vx_calls.specs.Reply
 pub use Rattle.vx_bus_traits.specs.Means
+pub use Rattle.vx_lone.specs.Lone
 pub use Rattle.vx_rules.specs.Calls
 pub use Rattle.vx_rules.specs.Effects
 pub use Rattle.vx_group.specs.Groups

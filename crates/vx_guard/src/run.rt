@@ -4,7 +4,7 @@ ghost use Rattle.std.specs.Prelude.{◌≡◌, [], map, string_bytes, vec_len};
 ghost use Rattle.vx_door.specs.Shown.{door_shown};
 ghost use Rattle.vx_peers.specs.Asked.{IsInRange};
 ghost use Rattle.vx_stream.specs.Shown.{link_shown};
-ghost use Rattle.vx_guard.specs.Benches.{sim};
+ghost use Rattle.vx_lone.specs.Lone.{handed, lone};
 ghost use Rattle.vx_guard.specs.Outcome.{IsEnd, Works, IsPortRun, IsRuledRun, IsAskRun, IsRun, EndsRun};
 ghost use Rattle.vx_guard.specs.Peers.{CanServe};
 
@@ -14,6 +14,7 @@ use crate::sessions::GuardRoom;
 use crate::starting::start;
 use crate::status::Status;
 use std::alloc::Global;
+use std::marker::Brand;
 use std::sync::Wait;
 use vx_bus_traits::Bus;
 use vx_core::Core;
@@ -21,6 +22,7 @@ use vx_door::{Door, DoorEnd, Peered};
 use vx_gate::{Pass, Turns};
 use vx_inst::Instrument;
 use vx_io_traits::{Clock, Dial, DialOut, Pause, Sink, Source};
+use vx_lone::Racked;
 use vx_peers::{Ask, ask_of};
 use vx_policy::{LINE_ROOM, Policy, served_line};
 use vx_rack::Spare;
@@ -139,9 +141,9 @@ fn kit_of<X: Tools>(alloc: Global, tools: &mut X) -> Option<Kit<X::C, X::P, X::D
     })
 }
 
-/// Does what is asked by these rules. All memory but that for a connection is taken before the port is opened.
+/// Does what is asked by these rules. All memory but that for a connection is taken before the port is opened. `M` names the rack.
 #[tactic(auto, using(crate::proofs::Runs::ruled_run))]
-fn run_ruled<R: Wait, N: Door + Peered, X: Tools, K: Sink, I: Instrument>(
+fn run_racked<R: Wait, N: Door + Peered, X: Tools, K: Sink, I: Instrument, M: Racked>(
     rt: &R,
     alloc: Global,
     ask: &Ask,
@@ -153,8 +155,9 @@ fn run_ruled<R: Wait, N: Door + Peered, X: Tools, K: Sink, I: Instrument>(
 ) -> Status
     requires range { IsInRange ask.now }
     requires rack { vec_len rack ≡ 1 }
+    requires racked { M.rack ≡ handed (λ i. I.behaves i) (λ i. I.nature i) rack.items }
     ensures { IsRuledRun (record {
-      bus = sim;
+      bus = lone M.rack;
       stands = N.stands;
       receives = N.receives;
       sends = N.sends;
@@ -169,10 +172,39 @@ fn run_ruled<R: Wait, N: Door + Peered, X: Tools, K: Sink, I: Instrument>(
     let Some(mut kit) = kit_of(alloc, tools) else {
         return Status::NoMemory;
     };
-    match start(alloc, rack) {
+    match start::<I, M>(alloc, rack) {
         Some((gate, pass)) => run_gate(rt, alloc, &gate, pass, policy, ask, net, &mut kit, sink),
         None => Status::NoMemory,
     }
+}
+
+/// Does what is asked by these rules, over a bus with the spare of the rack.
+fn run_ruled<R: Wait, N: Door + Peered, X: Tools, K: Sink, I: Instrument>(
+    rt: &R,
+    alloc: Global,
+    ask: &Ask,
+    policy: &Policy,
+    net: &mut N,
+    tools: &mut X,
+    sink: &mut K,
+    rack: Vec<Spare<I>>,
+) -> Status
+    requires range { IsInRange ask.now }
+    requires rack { vec_len rack ≡ 1 }
+    ensures { IsRuledRun (record {
+      bus = lone (handed (λ i. I.behaves i) (λ i. I.nature i) rack.items);
+      stands = N.stands;
+      receives = N.receives;
+      sends = N.sends;
+      tells = N.tells;
+      waits = N.meets;
+      door = door_shown N.met N.ended N.faults N.receive_faults N.send_faults N.left N.peers;
+      link = link_shown N.left N.peers N.receive_faults N.send_faults;
+    }) policy.now ask.now net.old net.new
+        (record { bytes = K.taken sink.old; faults = K.faults sink.old })
+        (record { bytes = K.taken sink.new; faults = K.faults sink.new }) result }
+{
+    run_racked::<R, N, X, K, I, Brand>(rt, alloc, ask, policy, net, tools, sink, rack)
 }
 
 /// Reads the rules, and does what is asked by them.
@@ -189,7 +221,7 @@ fn run_ask<R: Wait, N: Door + Peered, X: Tools, S: Source, K: Sink, I: Instrumen
     requires range { IsInRange ask.now }
     requires rack { vec_len rack ≡ 1 }
     ensures { IsAskRun (record {
-      bus = sim;
+      bus = lone (handed (λ i. I.behaves i) (λ i. I.nature i) rack.items);
       stands = N.stands;
       receives = N.receives;
       sends = N.sends;
@@ -223,7 +255,7 @@ fn run<R: Wait, N: Door + Peered, X: Tools, S: Source, K: Sink, I: Instrument>(
 ) -> Status
     requires rack { vec_len rack ≡ 1 }
     ensures { IsRun (record {
-      bus = sim;
+      bus = lone (handed (λ i. I.behaves i) (λ i. I.nature i) rack.items);
       stands = N.stands;
       receives = N.receives;
       sends = N.sends;
@@ -263,7 +295,8 @@ fn run<R: Wait, N: Door + Peered, X: Tools, S: Source, K: Sink, I: Instrument>(
 /// - 6: the sink failed. Where that was in the line of a denial, no further link is served.
 /// - 7, nothing printed and nothing opened: the source of the rules failed.
 ///
-/// A fault of a link ends its session alone. No clause says what stands on the bus, nor that the port is that of the words.
+/// A fault of a link ends its session alone. That the spare stands on the bus at that address, and nothing else, is part of what is said of
+/// each poll ([`LoneBus`](vx_lone::LoneBus)). No clause says that the port is that of the words, nor which port of an abort channel is told.
 pub fn guard_run<R: Wait, N: Door + Peered, X: Tools, S: Source, K: Sink, I: Instrument>(
     rt: &R,
     alloc: Global,
@@ -276,7 +309,7 @@ pub fn guard_run<R: Wait, N: Door + Peered, X: Tools, S: Source, K: Sink, I: Ins
 ) -> u8
     requires rack { vec_len rack ≡ 1 }
     ensures { EndsRun (record {
-      bus = sim;
+      bus = lone (handed (λ i. I.behaves i) (λ i. I.nature i) rack.items);
       stands = N.stands;
       receives = N.receives;
       sends = N.sends;

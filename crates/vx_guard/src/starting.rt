@@ -3,49 +3,40 @@ ghost use Rattle.std.specs.Prelude.{◌≡◌, [], IfSome, vec_len};
 ghost use Rattle.vx_bus_traits.specs.Means.{first_means};
 ghost use Rattle.vx_gate.specs.Gates.{gate_of};
 ghost use Rattle.vx_guard.specs.Peers.{CanServe};
-ghost use Rattle.vx_guard.specs.Benches.{StandsAlone};
+ghost use Rattle.vx_lone.specs.Lone.{handed};
 
 use std::alloc::Global;
-use vx_488::Addr;
 use vx_core::Core;
 use vx_gate::{Gate, Pass};
 use vx_group::first_law;
 use vx_inst::Instrument;
+use vx_lone::{LoneBus, Racked};
 use vx_rack::Spare;
-use vx_sim::SimBus;
 
 /// The port of the abort channel, which create_link tells.
 const ABORT_PORT: u16 = 9011;
 
-/// The address of the one instrument.
-const PLACE: Addr = Addr { p: 5, s: None };
-
 /// A bus with the one spare of the rack at primary address 5, and nothing else.
-fn bus_of<I: Instrument>(alloc: Global, rack: Vec<Spare<I>>) -> Option<SimBus<I>>
+fn bus_of<I: Instrument, M: Racked>(alloc: Global, rack: Vec<Spare<I>>) -> Option<LoneBus<I, M>>
     requires rack { vec_len rack ≡ 1 }
+    requires racked { M.rack ≡ handed (λ i. I.behaves i) (λ i. I.nature i) rack.items }
     ensures fresh { IfSome result (λ bus. bus.means ≡ first_means) }
-    ensures bench { IfSome result (λ bus. StandsAlone bus.bench) }
 {
     let mut rack = rack;
     let Some(Spare { inst, .. }) = rack.pop() else {
         unreachable!()
     };
-    let Ok(mut bus) = SimBus::new(alloc) else {
-        return None;
-    };
-    match bus.attach_box(PLACE, inst) {
-        Ok(()) => Some(bus),
-        Err(_) => None,
-    }
+    LoneBus::new(alloc, inst).ok()
 }
 
 /// A gateway over a bus with the one spare of the rack at primary address 5, on which nobody asked anything yet, behind a gate; and the
 /// gate's first pass.
-pub(crate) fn start<I: Instrument>(
+pub(crate) fn start<I: Instrument, M: Racked>(
     alloc: Global,
     rack: Vec<Spare<I>>,
-) -> Option<(Gate<Core<SimBus<I>>>, Pass<Core<SimBus<I>>>)>
+) -> Option<(Gate<Core<LoneBus<I, M>>>, Pass<Core<LoneBus<I, M>>>)>
     requires rack { vec_len rack ≡ 1 }
+    requires racked { M.rack ≡ handed (λ i. I.behaves i) (λ i. I.nature i) rack.items }
     ensures can { IfSome result (λ r. CanServe (gate_of r.0) r.1) }
     ensures fresh { IfSome result (λ r. (r.1.seen ≡ []) × (r.1.own ≡ [])) }
 {
