@@ -6,5 +6,6 @@ pub mod Finishing
 pub mod Linked
 pub mod Hosted
 pub mod Furnished
+pub mod Lones
 pub mod Ran
 pub mod Rooms

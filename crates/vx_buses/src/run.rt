@@ -1,6 +1,7 @@
 //! All that the program `vxbuses` does: the words, the port, the links that come there, the lines that are printed, and the status.
 ghost use Rattle.std.specs.Prelude.{◌≡◌, length, map, string_bytes};
 ghost use Rattle.vx_door.specs.Shown.{door_shown};
+ghost use Rattle.vx_lone.specs.Lone.{handed, lone};
 ghost use Rattle.vx_gates.specs.Four.{Each};
 ghost use Rattle.vx_gates.specs.Passing.{passes_shown, IsFirst};
 ghost use Rattle.vx_gates.specs.Standing.{gates_shown};
@@ -8,18 +9,19 @@ ghost use Rattle.vx_stream.specs.Shown.{link_shown};
 ghost use Rattle.vx_buses.specs.Outcome.{Hosts, IsAskRun, IsRun, EndsRun};
 
 use crate::hosting::Host;
-use crate::starting::start_buses;
+use crate::starting::start_racked;
 use crate::{BusPass, Buses};
 use std::alloc::Global;
+use std::marker::Brand;
 use std::sync::Wait;
 use vx_bus_traits::Bus;
 use vx_door::Door;
 use vx_inst::Instrument;
 use vx_io_traits::Sink;
+use vx_lone::Racked;
 use vx_peers::{Ask, Status, ask_of, put_line, serve_peers};
 use vx_rack::Spare;
 use vx_session::{Room, Tools};
-use vx_sim::SimBus;
 
 /// Serves what is asked for by four gateways that nobody has asked yet.
 fn serve_ask<R: Wait, B: Bus + Drop, N: Door, X: Tools, K: Sink>(
@@ -59,8 +61,8 @@ fn serve_ask<R: Wait, B: Bus + Drop, N: Door, X: Tools, K: Sink>(
     serve_peers(ask, &mut host, net, sink)
 }
 
-/// Does what is asked. All memory but that of the links' connections is taken before the port is opened.
-fn run_ask<R: Wait, I: Instrument, N: Door, X: Tools, K: Sink>(
+/// Does what is asked. All memory but that of the links' connections is taken before the port is opened. `M` names the rack.
+fn run_racked<R: Wait, I: Instrument, N: Door, X: Tools, K: Sink, M: Racked>(
     rt: &R,
     alloc: Global,
     ask: &Ask,
@@ -70,7 +72,8 @@ fn run_ask<R: Wait, I: Instrument, N: Door, X: Tools, K: Sink>(
     rack: Vec<Spare<I>>,
 ) -> Status
     requires four { length rack.items ≡ 4 }
-    ensures { IsAskRun ⟦<SimBus<I> as Bus>⟧ (record {
+    requires racked { M.rack ≡ handed (λ i. I.behaves i) (λ i. I.nature i) rack.items }
+    ensures { IsAskRun (lone M.rack) (record {
       stands = N.stands;
       receives = N.receives;
       sends = N.sends;
@@ -85,10 +88,36 @@ fn run_ask<R: Wait, I: Instrument, N: Door, X: Tools, K: Sink>(
     let Ok(room) = Room::new(alloc) else {
         return Status::NoMemory;
     };
-    match start_buses(alloc, rack) {
+    match start_racked::<I, M>(alloc, rack) {
         Some((buses, passes)) => serve_ask(rt, alloc, ask, buses, passes, room, net, tools, sink),
         None => Status::NoMemory,
     }
+}
+
+/// Does what is asked, over buses with the spares of the rack.
+fn run_ask<R: Wait, I: Instrument, N: Door, X: Tools, K: Sink>(
+    rt: &R,
+    alloc: Global,
+    ask: &Ask,
+    net: &mut N,
+    tools: &mut X,
+    sink: &mut K,
+    rack: Vec<Spare<I>>,
+) -> Status
+    requires four { length rack.items ≡ 4 }
+    ensures { IsAskRun (lone (handed (λ i. I.behaves i) (λ i. I.nature i) rack.items)) (record {
+      stands = N.stands;
+      receives = N.receives;
+      sends = N.sends;
+      tells = N.tells;
+      waits = N.meets;
+      door = door_shown N.met N.ended N.faults N.receive_faults N.send_faults N.left N.peers;
+      link = link_shown N.left N.peers N.receive_faults N.send_faults;
+    }) ask.now net.old net.new
+        (record { bytes = K.taken sink.old; faults = K.faults sink.old })
+        (record { bytes = K.taken sink.new; faults = K.faults sink.new }) result }
+{
+    run_racked::<R, I, N, X, K, Brand>(rt, alloc, ask, net, tools, sink, rack)
 }
 
 fn run<R: Wait, I: Instrument, N: Door, X: Tools, K: Sink>(
@@ -101,7 +130,7 @@ fn run<R: Wait, I: Instrument, N: Door, X: Tools, K: Sink>(
     rack: Vec<Spare<I>>,
 ) -> Status
     requires four { length rack.items ≡ 4 }
-    ensures { IsRun ⟦<SimBus<I> as Bus>⟧ (record {
+    ensures { IsRun (lone (handed (λ i. I.behaves i) (λ i. I.nature i) rack.items)) (record {
       stands = N.stands;
       receives = N.receives;
       sends = N.sends;
@@ -134,7 +163,8 @@ fn run<R: Wait, I: Instrument, N: Door, X: Tools, K: Sink>(
 /// - 5, nothing printed and nothing opened: there was no memory.
 /// - 6: the sink failed; a front of what was due was written.
 ///
-/// A fault of a link ends that link alone. No clause says which instrument stands on which bus, nor that the port is that of the words.
+/// A fault of a link ends that link alone. That each bus has one instrument of the rack at that address, and nothing else, is part of what
+/// is said of each poll ([`LoneBus`](vx_lone::LoneBus)). No clause says which of the four it is, nor that the port is that of the words.
 pub fn buses_run<R: Wait, I: Instrument, N: Door, X: Tools, K: Sink>(
     rt: &R,
     alloc: Global,
@@ -145,7 +175,7 @@ pub fn buses_run<R: Wait, I: Instrument, N: Door, X: Tools, K: Sink>(
     rack: Vec<Spare<I>>,
 ) -> u8
     requires four { length rack.items ≡ 4 }
-    ensures { EndsRun ⟦<SimBus<I> as Bus>⟧ (record {
+    ensures { EndsRun (lone (handed (λ i. I.behaves i) (λ i. I.nature i) rack.items)) (record {
       stands = N.stands;
       receives = N.receives;
       sends = N.sends;

@@ -1,8 +1,11 @@
 //! The gateways of the program as they start: each over a simulated bus with one instrument.
-ghost use Rattle.std.specs.Prelude.{◌≡◌, ◌<◌, ◌++◌, ◌∷◌, [], length, map, IfSome, OnSome};
+ghost use Rattle.std.specs.Prelude.{◌≡◌, ◌<◌, ◌+◌, ◌++◌, ◌∷◌, [], length, map, IfSome, OnSome};
+ghost use Rattle.std.specs.List.{All};
 ghost use Rattle.vx_gates.specs.Four.{Each};
 ghost use Rattle.vx_gates.specs.Passing.{passes_shown, IsFirst};
 ghost use Rattle.vx_gates.specs.Standing.{gates_shown};
+ghost use Rattle.vx_group.specs.Groups.{StandsFor};
+ghost use Rattle.vx_lone.specs.Lone.{handed, IsOneOf};
 ghost use Rattle.vx_sim.specs.Occupants.{handed_in};
 ghost use Rattle.vx_buses.specs.Starting.{IsFurnished, AreFurnished, AddsCore};
 
@@ -12,6 +15,7 @@ use vx_488::Addr;
 use vx_core::Core;
 use vx_group::first_law;
 use vx_inst::Instrument;
+use vx_lone::{LoneBus, Racked};
 use vx_rack::Spare;
 use vx_sim::SimBus;
 
@@ -64,7 +68,7 @@ fn cores_of<I: Instrument>(alloc: Global, rack: Vec<Spare<I>>) -> Option<Vec<Cor
 }
 
 /// Four gateways behind gates of their own, bus 0 to 3, each over a bus with the instrument of its place in the rack at primary address
-/// 5, and the first passes; none where there is no memory.
+/// 5, and the first passes; none where there is no memory. What stands on a bus is no clause.
 pub fn start_buses<I: Instrument>(
     alloc: Global,
     rack: Vec<Spare<I>>,
@@ -74,5 +78,67 @@ pub fn start_buses<I: Instrument>(
 {
     first_law();
     let cores = cores_of(alloc, rack)?;
+    Buses::start(alloc, cores).ok()
+}
+
+/// A gateway with nothing in it, over a bus with this instrument of the rack and nothing else.
+fn lone_core<I: Instrument, M: Racked>(alloc: Global, inst: I) -> Option<Core<LoneBus<I, M>>>
+    requires { IsOneOf M.rack (handed_in (λ i. I.behaves i) (λ i. I.nature i) inst) }
+    ensures { IfSome result (λ core. StandsFor core.fine []) }
+{
+    first_law();
+    let bus = LoneBus::new(alloc, inst).ok()?;
+    Core::start(alloc, bus, ABORT_PORT).ok()
+}
+
+/// Adds a gateway over such a bus, with the first of what is left of the rack, which is taken from there.
+fn add_lone<I: Instrument, M: Racked>(
+    alloc: Global,
+    cores: &mut Vec<Core<LoneBus<I, M>>>,
+    left: &mut Vec<Spare<I>>,
+) -> Option<()>
+    requires some { 0 < length left.old.items }
+    requires racked { All (IsOneOf M.rack) (handed (λ i. I.behaves i) (λ i. I.nature i) left.old.items) }
+    requires stand { All (λ core. StandsFor core.fine []) cores.old.items }
+    ensures taken { length left.old.items ≡ length left.new.items + 1 }
+    ensures racked { All (IsOneOf M.rack) (handed (λ i. I.behaves i) (λ i. I.nature i) left.new.items) }
+    ensures stand { All (λ core. StandsFor core.fine []) cores.new.items }
+    ensures one { IfSome result (λ _. length cores.new.items ≡ length cores.old.items + 1) }
+{
+    let spare = left.remove(0);
+    let core = lone_core(alloc, spare.inst)?;
+    cores.push(core).ok()
+}
+
+/// A gateway over such a bus for each of four instruments, in their order.
+fn lone_cores<I: Instrument, M: Racked>(
+    alloc: Global,
+    rack: Vec<Spare<I>>,
+) -> Option<Vec<Core<LoneBus<I, M>>>>
+    requires four { length rack.items ≡ 4 }
+    requires racked { M.rack ≡ handed (λ i. I.behaves i) (λ i. I.nature i) rack.items }
+    ensures four { IfSome result (λ cores. length cores.items ≡ 4) }
+    ensures stand { IfSome result (λ cores. All (λ core. StandsFor core.fine []) cores.items) }
+{
+    let mut left = rack;
+    let mut cores = Vec::new(alloc);
+    add_lone(alloc, &mut cores, &mut left)?;
+    add_lone(alloc, &mut cores, &mut left)?;
+    add_lone(alloc, &mut cores, &mut left)?;
+    add_lone(alloc, &mut cores, &mut left)?;
+    Some(cores)
+}
+
+/// Four gateways behind gates of their own, each over a bus with an instrument of the rack at primary address 5 and nothing else, and the
+/// first passes; none where there is no memory. They are started in the order of the rack.
+pub(crate) fn start_racked<I: Instrument, M: Racked>(
+    alloc: Global,
+    rack: Vec<Spare<I>>,
+) -> Option<(Buses<LoneBus<I, M>>, BusPass<LoneBus<I, M>>)>
+    requires four { length rack.items ≡ 4 }
+    requires racked { M.rack ≡ handed (λ i. I.behaves i) (λ i. I.nature i) rack.items }
+    ensures { IfSome result (λ r. Each IsFirst (passes_shown r.1) (gates_shown r.0)) }
+{
+    let cores = lone_cores::<I, M>(alloc, rack)?;
     Buses::start(alloc, cores).ok()
 }
