@@ -8,6 +8,7 @@ use std::alloc::Global;
 use std::sync::Wait;
 use std::test::Fail;
 use vx_buses::buses_run;
+use vx_inst::Instrument;
 use vx_memory::{MemDoor, MemSink};
 use vx_rack::{Echo, Spare};
 
@@ -58,6 +59,25 @@ const SECOND_TOOK: [u32; 155] = [
     0, 4, 1, 0x44000000,
 ];
 
+// create_link on buses 3, 1, 0 and 2; device_readstb on each, in the order of the buses
+const THIRD: [u32; 128] = [
+    0x80000040, 31, 0, 2, 0x607AF, 1, 10, 0, 0, 0, 0, 42, 0, 0, 7, 0x67706962, 0x332C3500,
+    0x80000040, 32, 0, 2, 0x607AF, 1, 10, 0, 0, 0, 0, 42, 0, 0, 7, 0x67706962, 0x312C3500,
+    0x80000040, 33, 0, 2, 0x607AF, 1, 10, 0, 0, 0, 0, 42, 0, 0, 7, 0x67706962, 0x302C3500,
+    0x80000040, 34, 0, 2, 0x607AF, 1, 10, 0, 0, 0, 0, 42, 0, 0, 7, 0x67706962, 0x322C3500,
+    0x80000038, 35, 0, 2, 0x607AF, 1, 13, 0, 0, 0, 0, 1, 0, 0, 10000, 0x80000038, 36, 0, 2,
+    0x607AF, 1, 13, 0, 0, 0, 0, 2, 0, 0, 10000, 0x80000038, 37, 0, 2, 0x607AF, 1, 13, 0, 0, 0, 0,
+    3, 0, 0, 10000, 0x80000038, 38, 0, 2, 0x607AF, 1, 13, 0, 0, 0, 0, 4, 0, 0, 10000,
+];
+
+// links 4, 2, 1 and 3; and the status byte of the instrument of each bus, which is the one of its place in the rack
+const THIRD_TOOK: [u32; 80] = [
+    0x80000028, 31, 1, 0, 0, 0, 0, 0, 4, 9011, 262144, 0x80000028, 32, 1, 0, 0, 0, 0, 0, 2, 9011,
+    262144, 0x80000028, 33, 1, 0, 0, 0, 0, 0, 1, 9011, 262144, 0x80000028, 34, 1, 0, 0, 0, 0, 0, 3,
+    9011, 262144, 0x80000020, 35, 1, 0, 0, 0, 0, 0, 10, 0x80000020, 36, 1, 0, 0, 0, 0, 0, 11,
+    0x80000020, 37, 1, 0, 0, 0, 0, 0, 12, 0x80000020, 38, 1, 0, 0, 0, 0, 0, 13,
+];
+
 // The words; what each peer gives; the numbers of the door's calls and of the sink's that fail; the status, what is printed, and what
 // each peer that was met is sent.
 #[derive(Clone, Copy)]
@@ -83,7 +103,7 @@ const ROW: Row = Row {
     took: &[&FIRST_TOOK],
 };
 
-static ROWS: [Row; 10] = [
+static ROWS: [Row; 11] = [
     ROW,
     // what the first peer wrote on bus 2 is read there alone by the second, behind it
     Row {
@@ -91,6 +111,12 @@ static ROWS: [Row; 10] = [
         gives: &[&FIRST, &SECOND],
         text: "served 2\n",
         took: &[&FIRST_TOOK, &SECOND_TOOK],
+        ..ROW
+    },
+    // each bus has the instrument of its place in the rack
+    Row {
+        gives: &[&THIRD],
+        took: &[&THIRD_TOOK],
         ..ROW
     },
     // no more are served than are asked for
@@ -167,24 +193,25 @@ static OTHER_WORDS: [&[&str]; 10] = [
     &["--help", "1"],
 ];
 
-/// Adds an echo to the rack.
-fn add(alloc: Global, rack: &mut Vec<Spare<Echo>>) -> Option<()>
+/// Adds an echo with this status byte to the rack.
+fn add(alloc: Global, rack: &mut Vec<Spare<Echo>>, status: u8) -> Option<()>
     ensures { IfSome result (λ _. length rack.new.items ≡ length rack.old.items + 1) }
 {
-    let inst = Echo::new(alloc).ok()?;
+    let mut inst = Echo::new(alloc).ok()?;
+    inst.set_status(status);
     let name = ArrayString::new();
     rack.push(Spare { name, inst }).ok()
 }
 
-/// An echo for each bus.
+/// An echo for each bus, each with a status byte of its own.
 fn rack_of(alloc: Global) -> Option<Vec<Spare<Echo>>>
     ensures { IfSome result (λ rack. length rack.items ≡ 4) }
 {
     let mut rack = Vec::new(alloc);
-    add(alloc, &mut rack)?;
-    add(alloc, &mut rack)?;
-    add(alloc, &mut rack)?;
-    add(alloc, &mut rack)?;
+    add(alloc, &mut rack, 10)?;
+    add(alloc, &mut rack, 11)?;
+    add(alloc, &mut rack, 12)?;
+    add(alloc, &mut rack, 13)?;
     Some(rack)
 }
 

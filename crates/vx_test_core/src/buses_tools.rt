@@ -1,4 +1,4 @@
-//! Four gateways, each over a bus with an echo at address 5.
+//! Four gateways, each over a bus with an echo at address 5, which has a status byte of its own.
 ghost use Rattle.std.specs.Prelude.{◌≡◌, ◌≤◌, ◌+◌, [], IfSome, length};
 ghost use Rattle.std.specs.List.{All};
 ghost use Rattle.vx_gates.specs.Four.{Each};
@@ -15,13 +15,13 @@ use vx_sim::SimBus;
 
 pub(crate) type Bench = SimBus<Echo>;
 
-/// Adds one of them.
-fn add(alloc: Global, cores: &mut Vec<Core<Bench>>) -> Option<()>
+/// Adds one of them, whose echo has this status byte.
+fn add(alloc: Global, cores: &mut Vec<Core<Bench>>, status: u8) -> Option<()>
     requires { All (λ core. StandsFor core.fine []) cores.old.items }
     ensures stand { All (λ core. StandsFor core.fine []) cores.new.items }
     ensures one { IfSome result (λ _. length cores.new.items ≡ length cores.old.items + 1) }
 {
-    let core = echo_core(alloc, 0)?;
+    let core = echo_core(alloc, status)?;
     cores.push(core).ok()
 }
 
@@ -30,10 +30,10 @@ fn cores_of(alloc: Global) -> Option<Vec<Core<Bench>>>
     ensures { IfSome result (λ cores. (length cores.items ≡ 4) × All (λ core. StandsFor core.fine []) cores.items) }
 {
     let mut cores = Vec::new(alloc);
-    add(alloc, &mut cores)?;
-    add(alloc, &mut cores)?;
-    add(alloc, &mut cores)?;
-    add(alloc, &mut cores)?;
+    add(alloc, &mut cores, 10)?;
+    add(alloc, &mut cores, 11)?;
+    add(alloc, &mut cores, 12)?;
+    add(alloc, &mut cores, 13)?;
     Some(cores)
 }
 
