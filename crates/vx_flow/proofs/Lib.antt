@@ -1,3 +1,2 @@
 pub mod Example
 pub mod TwoRises
-pub mod TurnFree

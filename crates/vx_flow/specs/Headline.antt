@@ -12,16 +12,17 @@ use Rattle.vx_488.specs.Listening.{has_address}
 use Rattle.vx_488.specs.Heard.{reached, heard}
 use Rattle.vx_rules.specs.Table.{Link}
 use Rattle.vx_rules.specs.SrqState.{Channel, LinksRise, channel_at, handles_of, queued_on}
-use Rattle.vx_rules.specs.State.{State, first, pending_at, link_of}
+use Rattle.vx_rules.specs.State.{Pending, State, first, pending_at, link_of}
 use Rattle.vx_rules.specs.Calls.{sets_end}
+use Rattle.vx_rules.specs.Checks.{OnLink, named_link}
 use Rattle.vx_rules.specs.Entry.{Entry, Answer, Sample}
 use Rattle.vx_rules.specs.One.{one}
 use Rattle.vx_rules.specs.Legal.{legal_state, queued_along}
 use Rattle.vx_rules.specs.Sound.{IsOwned}
 use Rattle.vx_flow.specs.Event.{Event, Move}
-use Rattle.vx_flow.specs.FineState.{FineState, before_turn}
+use Rattle.vx_flow.specs.FineState.{Turn, FineState, before_turn}
 use Rattle.vx_flow.specs.Gather.{gather}
-use Rattle.vx_flow.specs.Laws.{fine_along, AreFree, link_called, ReachesFreely, marked_bytes, srqs_of, sent}
+use Rattle.vx_flow.specs.Laws.{fine_along, AreFree, link_called, ReachesFreely, IsTurnFree, marked_bytes, srqs_of, sent}
 
 -- Every event is allowed at its place, and they gather to a history of the gateway of one thread. Its state is theirs before
 -- the turn under way, at their moment or an earlier one.
@@ -88,8 +89,24 @@ EnablesInOrder abort_port history = (front behind : List Entry) (s : State)
     → history ≡ front ++ behind → legal_state abort_port front ≡ Some s
     → LinksRise s.tables.srq_state.enables × All (IsOwned s.tables) s.tables.srq_state.enables
 
+-- The call of the turn under way has no answer yet and is on a live link, which the turn has free: no lock of another link keeps it
+-- off its target, and, where it holds no lock, no call that came before is a waiter on a conflicting target.
+pub record HasFreeLink (f : FineState) (u : Turn) : Type 0 where
+  pub asked : Pending
+  pub link : Link
+  pub call_at : pending_at f.state.tables u.connection ≡ Some asked
+  pub on_link : named_link f.state.tables u.connection asked.call ≡ OnLink link
+  pub is_free : IsTurnFree f u link
+
+-- So it is at each front of the events at which a turn is under way, from its beginning on: no turn is against another link's lock, and
+-- none passes an earlier waiter over.
+abbrev pub TurnsFree : ℕ → List Event → Type 0
+TurnsFree abort_port h = (front behind : List Event) (f : FineState) (u : Turn)
+    → h ≡ front ++ behind → fine_along abort_port front ≡ Some f → f.turn ≡ Some u → HasFreeLink f u
+
 pub record Headline (abort_port : ℕ) (h : List Event) : Type 0 where
   pub gathered : IsGathered abort_port h
+  pub turns_free : TurnsFree abort_port h
   pub moves_free : MovesFreely abort_port h
   pub entries_free : EntriesFree abort_port (gather h)
   pub heard : WritesHeard abort_port (gather h)

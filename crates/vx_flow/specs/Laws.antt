@@ -13,9 +13,10 @@ use Rattle.vx_488.specs.declared.transfers.Transfer.{Transfer}
 use Rattle.vx_488.specs.Listening.{has_address}
 use Rattle.vx_488.specs.Heard.{Byte, reached, heard}
 use Rattle.vx_rules.specs.Table.{Link}
-use Rattle.vx_rules.specs.Locks.{Lock, holder_of}
+use Rattle.vx_rules.specs.Locks.{Lock, holds, holder_of}
 use Rattle.vx_rules.specs.SrqState.{Channel, Srq, Front, channel_at, handles_of, queued_on}
 use Rattle.vx_rules.specs.Lists.{along}
+use Rattle.vx_rules.specs.Lines.{ahead}
 use Rattle.vx_rules.specs.State.{Pending, State, first, pending_at, link_of}
 use Rattle.vx_rules.specs.Calls.{link_named, sets_end}
 use Rattle.vx_rules.specs.Checks.{OnLink, named_link}
@@ -140,11 +141,15 @@ CallStaysLaw = (f g : FineState) (e : Event) (u : Turn) (p : Pending) → IsSoun
     × (job_of g.state.tables u.connection p ≡ job_of f.state.tables u.connection p)
 
 -- What holds of the turn under way from its beginning on, where it has made no transfer yet too. Of the link of its call: no lock
--- of another link keeps it off its target. Of all live links: what each is to can be reached from the address that the gateway
--- had as the turn began, so that none is to a device at that address. Where the turn's list isn't whole the gateway has this
--- address still, and so they can be reached from the address that it has now.
+-- of another link keeps it off its target. No earlier waiter is passed over: where that link holds no lock, no call that came before
+-- the turn's stands in line for what conflicts with its target, at the present moment or at any other from the beginning on. Of all
+-- live links: what each is to can be reached from the address that the gateway had as the turn began, so that none is to a device at
+-- that address. Where the turn's list isn't whole the gateway has this address still, and so they can be reached from the address
+-- that it has now.
 pub record IsTurnFree (f : FineState) (u : Turn) (l : Link) : Type 0 where
   pub unlocked : holder_of f.state.tables.locks l.number l.target ≡ None
+  pub began : u.begun ≤ f.state.moment
+  pub first : holds f.state.tables.locks l.number ≡ false → (at : ℕ) → u.begun ≤ at → ahead f.state.tables None at u.connection l.target ≡ []
   pub reachable : IsReachable f.before.own l.target
   pub all_reachable : All (λ k. IsReachable f.before.own k.target) f.state.tables.links.links
   pub steady : is_whole (turn_stand f u u.moves) ≡ false → f.state.wire.own ≡ f.before.own

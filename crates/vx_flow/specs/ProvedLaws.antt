@@ -23,6 +23,7 @@ pub mod ByLines
 pub mod Stepping
 pub mod Framing
 pub mod Later
+pub mod TurnFree
 pub mod Headline
 -- exactly the events that are allowed do what `Does` says: `fine-does` and `does-fine` are its two ways
 pub use Rattle.vx_flow.specs.ProvedLaws.Stepping.{does_law-holds, fine-does, does-fine}

@@ -48,12 +48,14 @@ pub fn interrupt_law()
 {}
 
 /// All that is claimed of interleaved events, of every list of them that are allowed, each at its place. They gather to a
-/// history of the gateway of one thread. No move of a turn, and no answer or end of a connection in that history, reaches an
-/// address that another link's lock keeps. Of each write that is answered without an error the bytes are heard by the device
-/// to which the link is and by nobody else, or by each listener where it is to the interface. Each rise of SRQ closes exactly
-/// the interrupt channels whose outbox would have more than 1,024 entries. At each front of the history, a channel that lives
-/// there has had and has in its outbox exactly the handles that rises queued, in order, whether it lives at the end or not; and
-/// the enables that rises go by stand in order of their links' numbers, each of a live link of its connection.
+/// history of the gateway of one thread. While a turn is under way no other link's lock keeps its call's link off its target, and
+/// no earlier waiter is passed over: where that link holds no lock, no call that came before is a waiter on a conflicting target. No
+/// move of a turn, and no answer or end of a connection in that history, reaches an address that another link's lock keeps. Of
+/// each write that is answered without an error the bytes are heard by the device to which the link is and by nobody else, or by
+/// each listener where it is to the interface. Each rise of SRQ closes exactly the interrupt channels whose outbox would have more
+/// than 1,024 entries. At each front of the history, a channel that lives there has had and has in its outbox exactly the handles
+/// that rises queued, in order, whether it lives at the end or not; and the enables that rises go by stand in order of their
+/// links' numbers, each of a live link of its connection.
 pub fn headline_law()
     ensures { HeadlineLaw }
 {}
@@ -68,8 +70,9 @@ pub fn sound_law()
 {}
 
 /// What holds of the turn under way from its beginning on, where it has made no transfer yet too: no lock of another link keeps
-/// its call's link off its target, and no live link is to a device at the address (0 to 30) that the gateway had as the turn
-/// began. Where the turn's list isn't whole the gateway has this address still.
+/// its call's link off its target; no earlier waiter is passed over, which is that, where the link holds no lock, no call that
+/// came before the turn's stands in line for what conflicts with its target; and no live link is to a device at the address (0 to
+/// 30) that the gateway had as the turn began. Where the turn's list isn't whole the gateway has this address still.
 pub fn turn_free_law()
     ensures { TurnFreeLaw }
 {}

@@ -1,5 +1,5 @@
 -- All that is claimed of a list of interleaved events that are allowed, from the laws of each part.
-use Rattle.std.proofs.Common.{◌≡◌, ℕ, List, ◌∷◌, ◌++◌, Option, Some, None, refl, sym, ap, ◌∙◌}
+use Rattle.std.proofs.Common.{◌≡◌, ℕ, List, ◌∷◌, ◌++◌, Option, Some, None, refl, sym, ap, ◌∙◌, subst}
 use Rattle.std.proofs.lemmas.Option.{none-some}
 use Rattle.vx_rules.specs.Lists.{along}
 use Rattle.vx_rules.specs.State.{State, first}
@@ -13,10 +13,12 @@ use Rattle.vx_flow.specs.FineState.{FineState, first_fine}
 use Rattle.vx_flow.specs.Fine.{fine}
 use Rattle.vx_flow.specs.Gather.{gather}
 use Rattle.vx_flow.specs.Laws.{fine_along}
-use Rattle.vx_flow.specs.Headline.{MovesFreely, EntriesFree, WritesHeard, WritesHeardOnInterface, OverflowCloses, IsQueued, EnablesInOrder, HeadlineLaw}
+use Rattle.vx_flow.specs.Headline.{TurnsFree, MovesFreely, EntriesFree, WritesHeard, WritesHeardOnInterface, OverflowCloses, IsQueued, EnablesInOrder, HeadlineLaw}
 use Rattle.vx_rules.specs.ListLaws.{along-none, along-append}
 use Rattle.vx_rules.specs.ProvedLaws.Histories.{enables_law-holds}
-use Rattle.vx_flow.specs.ProvedLaws.Gathering.{gather_law-holds}
+use Rattle.vx_flow.specs.Sound.{Stands, TurnStands}
+use Rattle.vx_flow.specs.ProvedLaws.Gathering.{gather_law-holds, fine-gathers}
+use Rattle.vx_flow.specs.ProvedLaws.TurnFree.{turn_free_law-holds}
 use Rattle.vx_flow.specs.ProvedLaws.Hearing.{device-holds, interface-holds}
 use Rattle.vx_flow.specs.ProvedLaws.Freely.{entries-hold, moves-hold}
 use Rattle.vx_flow.specs.ProvedLaws.Interrupts.{closed_law-holds}
@@ -32,6 +34,19 @@ allowed-there {S = S} step start list front behind e s last h is at =
     by : (o : Option S) → step s e ≡ o → along step o behind ≡ Some last → (next : S) × (step s e ≡ Some next)
     by None led rest = absurd (none-some last (sym (along-none step behind) ∙ rest))
     by (Some next) led rest = (next, led)
+
+-- the call and the link of the turn under way are those of what holds between events
+turns-free : (abort_port : ℕ) (h : List Event) → TurnsFree abort_port h
+turns-free abort_port h front behind f u split at turn =
+    let stands : Stands f.state.tables f.before f.state.wire f.state.moment u =
+    subst (TurnStands f.state.tables f.before f.state.wire f.state.moment) turn (fine-gathers abort_port front f at).sound.turn_stands in
+    record {
+      asked = stands.asked;
+      link = stands.link;
+      call_at = stands.call_at;
+      on_link = stands.on_link;
+      is_free = turn_free_law-holds abort_port front f u stands.asked stands.link at turn stands.call_at stands.on_link;
+    }
 
 moves-free : (abort_port : ℕ) (h : List Event) (g : FineState) → fine_along abort_port h ≡ Some g → MovesFreely abort_port h
 moves-free abort_port h g is front behind conn moves f split at =
@@ -67,6 +82,7 @@ headline_law-holds abort_port h f is =
     let made = gather_law-holds abort_port h f is in
     record {
       gathered = record { last = f; moment = made.0; allowed = is; legal = made.1; earlier = made.2 };
+      turns_free = turns-free abort_port h;
       moves_free = moves-free abort_port h f is;
       entries_free = entries-free abort_port (gather h) _ made.1;
       heard = writes-heard abort_port (gather h) _ made.1;

@@ -1,4 +1,4 @@
-use Rattle.vx_flow.proofs.TurnFree.{turn_free_law-holds}
+use Rattle.vx_flow.specs.ProvedLaws.TurnFree.{turn_free_law-holds}
 use Rattle.vx_flow.proofs.laws.turn_free_law.Goals as goal
 
 pub returns : goal.returns

@@ -1,5 +1,5 @@
--- Of the turn under way: from its beginning on no other link's lock keeps its call's link off its target, and the gateway could
--- reach the devices of all live links as it began, and can still where the turn's list isn't whole.
+-- Of the turn under way: from its beginning on no other link's lock keeps its call's link off its target, no earlier waiter is passed
+-- over, and the gateway could reach the devices of all live links as it began, and can still where the turn's list isn't whole.
 use Rattle.std.proofs.Common.{◌≡◌, ◌==◌, ℕ, Bool, true, false, cond, ◌⊎◌, inl, inr, List, [], ◌∷◌, ◌++◌, Option, Some, None, refl, sym, ap, ◌∙◌, subst, arith}
 use Rattle.std.specs.Prelude.{is_none, nat_le, ◌&&◌}
 use Rattle.std.specs.List.{All}
@@ -12,12 +12,12 @@ use Rattle.vx_488.specs.declared.transfers.Transfer.{Transfer}
 use Rattle.vx_488.specs.declared.wire.Wire.{Wire}
 use Rattle.vx_488.specs.Wire.{wire_after}
 use Rattle.vx_rules.specs.Table.{Link}
-use Rattle.vx_rules.specs.Locks.{holder_of}
+use Rattle.vx_rules.specs.Locks.{holds, holder_of}
 use Rattle.vx_rules.specs.Lists.{along}
 use Rattle.vx_rules.specs.Calls.{is_bus_call}
 use Rattle.vx_rules.specs.State.{Pending, Tables, State, pending_at}
 use Rattle.vx_rules.specs.Checks.{OnLink, named_link}
-use Rattle.vx_rules.specs.Lines.{Passed, later_lines, first_lines}
+use Rattle.vx_rules.specs.Lines.{Passed, ahead, first_of, first_ahead, later_lines, first_lines}
 use Rattle.vx_rules.specs.Decide.{has_job_role}
 use Rattle.vx_rules.specs.ProvedLaws.{no-job}
 use Rattle.vx_flow.specs.Event.{Event, Up, Down, Arrive, Answer, Abort, Sample, Take, Begin, Move, Dial}
@@ -25,7 +25,7 @@ use Rattle.vx_flow.specs.FineState.{Turn, FineState, first_fine, before_turn, tu
 use Rattle.vx_flow.specs.Fine.{job_of, is_passed, may_begin, may_move, comes_in_turn, turn_stand, is_whole, fine_after, fine_step, fine}
 use Rattle.vx_flow.specs.Gather.{gather}
 use Rattle.vx_flow.specs.Laws.{TurnFreeLaw}
-use Rattle.vx_flow.specs.Sound.{Stands, TurnStands, IsSound}
+use Rattle.vx_flow.specs.Sound.{Stands, TurnStands, IsSound, request_on}
 use Rattle.vx_rules.specs.ListLaws.{along-none}
 use Rattle.vx_flow.specs.ProvedLaws.ByLines.{passed-is, passed-parts}
 use Rattle.vx_flow.specs.ProvedLaws.Jobs.{own-stays}
@@ -159,6 +159,25 @@ along-free (e ∷ es) f g sound free h = by (fine f e) refl h (along-free es) wh
   by None is h rest = absurd (none-some g (sym (along-none fine es) ∙ h))
   by (Some mid) is h rest = rest mid g (stays_sound-law f mid e sound is) (stays_free f mid e sound is free) h
 
+-- a line without a first one is empty
+none-first : (ns : List ℕ) → first_of ns ≡ None → ns ≡ []
+none-first [] h = refl
+none-first (n ∷ ns) h = absurd (none-some n (sym h))
+
+-- the turn's call is on one link alone
+link-same : (t : Tables) (before now : Wire) (m : ℕ) (u : Turn) (s : Stands t before now m u) (p : Pending) (l : Link)
+    → pending_at t u.connection ≡ Some p → named_link t u.connection p.call ≡ OnLink l → s.link ≡ l
+link-same t before now m u s p l at on =
+    let call : s.asked.call ≡ p.call = ap (λ (x : Pending). x.call) (same_Some s.asked p (sym s.call_at ∙ at)) in
+    let about : OnLink s.link ≡ OnLink l = sym s.on_link ∙ ap (named_link t u.connection) call ∙ on in
+    cc
+
+-- a call of a link without a lock that is first has no other before it
+nobody-ahead : (t : Tables) (at conn : ℕ) (l : Link) → holds t.locks l.number ≡ false → first_ahead t None at conn (request_on l) ≡ None
+    → ahead t None at conn l.target ≡ []
+nobody-ahead t at conn l unheld h =
+    none-first (ahead t None at conn l.target) (subst (λ b. cond b None (first_of (ahead t None at conn l.target)) ≡ None) unheld h)
+
 -- where the turn's list isn't whole the gateway has the address that it had as the turn began
 own-steady : (f : FineState) (u : Turn) → Stands f.state.tables f.before f.state.wire f.state.moment u → is_whole (turn_stand f u u.moves) ≡ false
     → f.state.wire.own ≡ f.before.own
@@ -177,6 +196,10 @@ turn_free_law-holds abort_port h f u p l is turn at on =
     let stands : Stands t f.before f.state.wire f.state.moment u = subst (TurnStands t f.before f.state.wire f.state.moment) turn gathered.sound.turn_stands in
     record {
       unlocked = along-free h (first_fine abort_port) f (first-sound abort_port) (none-free (first_fine abort_port).state.tables) is u p l turn at on;
+      began = stands.began;
+      first = λ unheld moment late. nobody-ahead t moment u.connection l unheld
+          (subst (λ (k : Link). first_ahead t None moment u.connection (request_on k) ≡ None) (link-same t f.before f.state.wire f.state.moment u stands p l at on)
+          (stands.first moment late));
       reachable = reachable;
       all_reachable = plain.reachable;
       steady = own-steady f u stands;
