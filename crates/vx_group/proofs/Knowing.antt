@@ -11,12 +11,14 @@ use Rattle.vx_flow.specs.FineState.{FineState}
 use Rattle.vx_flow.specs.Fine.{fine}
 use Rattle.vx_flow.specs.ProvedLaws.{fine-does}
 use Rattle.vx_group.specs.Phases.{Phase, Absent, Idle, Asked, phase_after, phase_by, is_up, HasPhase}
+use Rattle.vx_group.specs.MadeLinks.{numbers_by, HasLinks}
 use Rattle.vx_group.specs.Owning.{owner_of, may_make}
 use Rattle.vx_group.proofs.Onward.{fine-onward}
 use Rattle.vx_group.proofs.Plainly.{Plainly, fine-plainly}
 use Rattle.vx_group.proofs.Rows.{changes, fine-keeps}
 use Rattle.vx_group.specs.ProvedLaws.{phase-append}
 use Rattle.vx_group.proofs.Phasing.{phase-other, keeps-phase, changes-or, made-phase}
+use Rattle.vx_group.proofs.Linking.{AreFree, links-keep, links-free, keeps-links, made-links}
 
 -- the events of each pass, by its number
 abbrev pub Own : Type 0
@@ -26,11 +28,13 @@ Own = ℕ → List Event
 abbrev pub HasRaised : List Event → ℕ → Type 0
 HasRaised es conn = (r : Role) × Contains es (Up conn r)
 
--- What is known: each connection is as the events of each pass tell; one that a pass had come up has a number that was given, and
+-- What is known: each connection, with its links, is as the events of each pass tell; one whose number isn't given has no link; one that a pass had come up has a number that was given, and
 -- no other pass had it come up; and one that is up by a pass's events, or of which a pass made an event, that pass had come up.
 pub record Known (own : Own) (f : FineState) : Type 0 where
   pub plain : Plainly f
   pub phases : (n conn : ℕ) → HasPhase f conn (phase_by conn (own n))
+  pub links : (n conn : ℕ) → HasLinks f conn (phase_by conn (own n)) (numbers_by conn (own n))
+  pub free : AreFree f
   pub given : (n conn : ℕ) (r : Role) → Contains (own n) (Up conn r) → conn < f.state.tables.next_connection
   pub once : (n m conn : ℕ) (r q : Role) → Contains (own n) (Up conn r) → Contains (own m) (Up conn q) → n ≡ m
   pub raised : (n conn : ℕ) → is_up (phase_by conn (own n)) ≡ true → HasRaised (own n) conn
@@ -198,11 +202,28 @@ module _ (own new : Own) (n : ℕ) (e : Event) (f g : FineState) (more : OneMore
         (made-phase e (own n) f g conn may known.plain (known.phases n conn) h)
     by (inr ne) = subst (λ es. HasPhase g conn (phase_by conn es)) (sym (more.there k ne)) (other-phase k conn ne)
 
+  -- so it is of its links
+  other-links : (k conn : ℕ) → k ≢ n → HasLinks g conn (phase_by conn (own k)) (numbers_by conn (own k))
+  other-links k conn ne = by (changes-or e conn) where
+    by : (changes e ≡ Some conn) ⊎ (changes e ≡ Some conn → ⊥) → HasLinks g conn (phase_by conn (own k)) (numbers_by conn (own k))
+    by (inr other) = keeps-links f g conn (phase_by conn (own k)) (numbers_by conn (own k)) (links-keep e f g conn other h) (known.links k conn)
+    by (inl is) = λ up. absurd (not-another k conn ne (changes-owner e conn is) up)
+
+  more-links : (k conn : ℕ) → HasLinks g conn (phase_by conn (new k)) (numbers_by conn (new k))
+  more-links k conn = by (cases_eq k n) where
+    by : (k ≡ n) ⊎ (k ≡ n → ⊥) → HasLinks g conn (phase_by conn (new k)) (numbers_by conn (new k))
+    by (inl is) =
+        subst (λ es. HasLinks g conn (phase_by conn es) (numbers_by conn es)) (sym (ap new is ∙ more.here))
+        (made-links e (own n) f g conn may known.free (known.phases n conn) (known.links n conn) h)
+    by (inr ne) = subst (λ es. HasLinks g conn (phase_by conn es) (numbers_by conn es)) (sym (more.there k ne)) (other-links k conn ne)
+
   -- all of it is known behind one event more, which the pass may make
   pub known-more : Known new g
   known-more = record {
     plain = fine-plainly e f g known.plain h;
     phases = more-phases;
+    links = more-links;
+    free = links-free e f g known.plain known.free h;
     given = more-given;
     once = more-once;
     raised = more-raised;

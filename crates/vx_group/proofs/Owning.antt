@@ -1,14 +1,21 @@
 -- What a pass's own groups tell of a connection is so, and the events of a connection are made by one pass alone.
-use Rattle.std.proofs.Common.{◌≡◌, ◌<◌, ◌==◌, ◌++◌, ◌⊎◌, inl, inr, ℕ, suc, zero, Bool, true, false, cond, List, [], ◌∷◌, length, get_or, refl, sym, ap, ◌∙◌, subst, arith}
+use Rattle.std.proofs.Common.{◌≡◌, ◌<◌, ◌≤◌, ◌==◌, not, Some, ◌++◌, ◌⊎◌, inl, inr, ℕ, suc, zero, Bool, true, false, cond, List, [], ◌∷◌, length, get_or, refl, sym, ap, ◌∙◌, subst, arith}
 use Rattle.std.specs.List.{Contains, filter}
+use Rattle.std.proofs.lemmas.List.{length-map}
+use Rattle.std.proofs.lemmas.List.Filters.{length-filter_both}
 use Rattle.std.proofs.lemmas.Bool.{cases_eq, eq-eqb, ne_eqb, cond-true, cond-false}
-use Rattle.std.proofs.lemmas.List.Elements.{Contains-append_left, Contains-append_right, Contains-append_cases}
+use Rattle.std.proofs.lemmas.List.Elements.{All-map, All-filter, All-weaker, Contains-append_left, Contains-append_right, Contains-append_cases}
 use Rattle.vx_gate.specs.declared.views.Logged.{Logged}
 use Rattle.vx_gate.specs.History.{groups}
+use Rattle.vx_calls.specs.declared.limits.TheConstants.{LINK_LAST}
+use Rattle.vx_rules.specs.Table.{Link}
 use Rattle.vx_flow.specs.Event.{Event, Up}
+use Rattle.vx_flow.specs.FineState.{FineState}
 use Rattle.vx_group.specs.Groups.{Group, events_of}
 use Rattle.vx_group.specs.Phases.{HasPhase, phase_by}
-use Rattle.vx_group.specs.Laws.{PhaseLaw, OwnedLaw}
+use Rattle.vx_group.specs.MadeLinks.{numbers_of}
+use Rattle.vx_group.specs.Laws.{PhaseLaw, LinksLaw, FewLinksLaw, OwnedLaw}
+use Rattle.vx_group.proofs.Standing.{sound-holds}
 use Rattle.vx_group.proofs.Phasing.{later-phase}
 use Rattle.vx_group.proofs.Turns.{own_of, history-known}
 
@@ -18,6 +25,26 @@ phases-hold log f number conn law stands =
     let phase = phase_by conn (own_of log number) in
     subst (λ s. HasPhase s conn phase) (sym stands.same)
     (later-phase phase stands.last f.state.moment conn ((history-known log f law stands).phases number conn))
+
+-- and the links that it has as they tell
+pub links-hold : LinksLaw
+links-hold log f number conn law stands up =
+    (history-known log f law stands).links number conn up ∙ ap (λ (s : FineState). Some (numbers_of s.state.tables conn)) (sym stands.same)
+
+-- they are among the live links, of which there are at most 1,024
+pub few_links-hold : FewLinksLaw
+few_links-hold log f conn stands =
+    let numbered = (sound-holds log f stands).tables.numbered in
+    let links = f.state.tables.links.links in
+    let mine = filter (λ (l : Link). l.connection == conn) links in
+    let both = length-filter_both (λ (l : Link). l.connection == conn) (λ l. not (l.connection == conn)) (λ l. refl) links in
+    let long = length-map mine (λ (l : Link). l.number) in (
+      omega (arith, both, long, numbered.few),
+      All-map (λ n. n ≤ LINK_LAST) (λ (l : Link). l.number) mine
+          (All-filter (λ (l : Link). l.connection == conn) (λ (l : Link). l.number ≤ LINK_LAST) links
+          (All-weaker (λ (l : Link). (0 < l.number) × (l.number < f.state.tables.links.next)) (λ (l : Link). l.number ≤ LINK_LAST)
+          (λ l h. let low = h.1 in omega (arith, low, numbered.last)) links numbered.given)),
+    )
 
 -- ---- where an event stands
 

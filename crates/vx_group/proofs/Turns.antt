@@ -109,6 +109,8 @@ first-known : (port : ℕ) → Known (own_of []) (first_fine port)
 first-known port = record {
   plain = first-plainly port;
   phases = λ n conn. tt;
+  links = λ n conn up. cc;
+  free = λ conn low. refl;
   given = λ n conn r none. absurd (omega (arith, none.1));
   once = λ n m conn r q none also. absurd (omega (arith, none.1));
   raised = λ n conn up. cc;

@@ -1,5 +1,7 @@
 -- Laws of the histories that turns at a gate make.
-use Rattle.std.specs.Prelude.{◌≡◌, ◌≤◌, ℕ, List, [], ◌∷◌, ◌++◌, Some}
+use Rattle.std.specs.Prelude.{◌≡◌, ◌≤◌, ℕ, List, [], ◌∷◌, ◌++◌, length, Some}
+use Rattle.std.specs.List.{All}
+use Rattle.vx_calls.specs.declared.limits.TheConstants.{LINK_MAX, LINK_LAST}
 use Rattle.vx_gate.specs.declared.views.Logged.{Logged}
 use Rattle.vx_gate.specs.History.{groups, made_by, Lawful}
 use Rattle.vx_rules.specs.Lists.{along}
@@ -11,6 +13,7 @@ use Rattle.vx_flow.specs.Sound.{IsSound}
 use Rattle.vx_flow.specs.Headline.{Headline}
 use Rattle.vx_group.specs.Groups.{Group, events_of, StandsFor}
 use Rattle.vx_group.specs.Phases.{HasPhase, phase_by}
+use Rattle.vx_group.specs.MadeLinks.{numbers_of, numbers_by, HasLinks}
 use Rattle.vx_group.specs.Owning.{MayAdd, Owned}
 
 -- the group of these events, after which the gateway is at this moment
@@ -27,6 +30,17 @@ StandsOnLaw = (f g : FineState) (log : List Group) (events : List Event) (moment
 abbrev pub PhaseLaw : Type 0
 PhaseLaw = (log : List (Logged Group)) (f : FineState) (number conn : ℕ) → Lawful MayAdd log → StandsFor f (groups log)
     → HasPhase f conn (phase_by conn (events_of (made_by number log)))
+
+-- The links that a pass's own groups have a connection make and not destroy are exactly those that every state has of it which stands
+-- for the history.
+abbrev pub LinksLaw : Type 0
+LinksLaw = (log : List (Logged Group)) (f : FineState) (number conn : ℕ) → Lawful MayAdd log → StandsFor f (groups log)
+    → HasLinks f conn (phase_by conn (events_of (made_by number log))) (numbers_by conn (events_of (made_by number log)))
+
+-- They are at most 1,024, and no number is greater than 2^30 - 1.
+abbrev pub FewLinksLaw : Type 0
+FewLinksLaw = (log : List Group) (f : FineState) (conn : ℕ) → StandsFor f log
+    → (length (numbers_of f.state.tables conn) ≤ LINK_MAX) × All (λ n. n ≤ LINK_LAST) (numbers_of f.state.tables conn)
 
 -- Each event of a connection stands in a group of the one pass that has it come up.
 abbrev pub OwnedLaw : Type 0

@@ -1,5 +1,6 @@
 pub mod Groups
 pub mod Phases
+pub mod MadeLinks
 pub mod Owning
 pub mod Laws
 pub mod ProvedLaws

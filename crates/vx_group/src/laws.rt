@@ -3,7 +3,7 @@
 ghost use Rattle.std.specs.Prelude.{ℕ, []};
 ghost use Rattle.vx_flow.specs.FineState.{first_fine};
 ghost use Rattle.vx_group.specs.Groups.{StandsFor};
-ghost use Rattle.vx_group.specs.Laws.{StandsOnLaw, PhaseLaw, OwnedLaw, HeadlineOfGroupsLaw, SoundLaw};
+ghost use Rattle.vx_group.specs.Laws.{StandsOnLaw, PhaseLaw, LinksLaw, FewLinksLaw, OwnedLaw, HeadlineOfGroupsLaw, SoundLaw};
 
 /// A gateway as it starts, whatever the port of its abort channel, stands for the history without a group.
 pub fn first_law()
@@ -20,6 +20,13 @@ pub fn stands_law()
 /// was asked for) is so in every state that stands for the history.
 pub fn phase_law()
     ensures { PhaseLaw }
+{}
+
+/// The links that a connection made and didn't destroy, as the groups tell that its pass made, are exactly those that every state has
+/// of it which stands for the history: at most 1,024, each with a number up to 2^30 - 1.
+pub fn links_law()
+    ensures links { LinksLaw }
+    ensures few { FewLinksLaw }
 {}
 
 /// The calls of a connection and their answers are made by one pass alone: by the one that has it come up.

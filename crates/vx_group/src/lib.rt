@@ -6,7 +6,7 @@
 
 mod laws;
 
-pub use laws::{first_law, headline_law, owned_law, phase_law, stands_law};
+pub use laws::{first_law, headline_law, links_law, owned_law, phase_law, stands_law};
 use std::marker::Model;
 
 /// The type of a group of events.
