@@ -1,5 +1,6 @@
 pub mod Sends
 pub mod Moving
+pub mod Called
 pub mod Progressing
 pub mod Wholes
 pub mod Runs

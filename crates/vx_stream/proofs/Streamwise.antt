@@ -11,15 +11,17 @@ use Rattle.vx_record.specs.Runs.{Stream, beginning, run, behind, is_too_long, Pi
 use Rattle.vx_record.specs.declared.Feed.TheVariants as feed
 use Rattle.vx_record.specs.ProvedLaws.{came-on, shown}
 use Rattle.vx_stream.specs.Shown.{LinkShown, Gave, Ended}
-use Rattle.vx_stream.specs.ProvedLaws.{link-goes, goes-ended, at-end}
+use Rattle.vx_stream.specs.ProvedLaws.{link-goes, goes-ended, at-end, took-none}
 use Rattle.vx_stream.specs.Answered.{Answered, Progress, messages, replies}
+use Rattle.vx_stream.specs.Calling.{Receives, Sends, Receive, call_gave, OwesNone, InTurn, OnlyTook}
 use Rattle.vx_stream.specs.Stopping.{EndsSo, IsLeft, IsWithin, StreamAnswered, input_end}
-use Rattle.vx_stream.specs.Pieces.{PieceEnds, AnswersPiece, PieceAnswered, NoPiece, AnswersNext}
+use Rattle.vx_stream.specs.Pieces.{PieceEnds, AnswersPiece, Received, PieceAnswered, NoPiece, AnswersNext}
 use Rattle.vx_stream.specs.declared.ends.End.{End}
 use Rattle.vx_stream.specs.declared.ends.End.TheVariants as end
 use Rattle.vx_stream.specs.declared.streams.Next.{Next}
 use Rattle.vx_stream.specs.declared.streams.Next.TheVariants as next
 use Rattle.vx_stream.proofs.Progressing.{progress-none, progress-then, messages-append, wrote-then, stops-behind}
+use Rattle.vx_stream.proofs.Called.{turn-none, turn-then}
 use Rattle.vx_stream.proofs.Runs.{at}
 
 -- ---- how a stream ends
@@ -84,7 +86,7 @@ piece-ends IsJunk sa sb sc xs ys looked after unsent t buffer end.WriteFault lat
 
 -- ---- a stream so far
 
-module _ {S L : Type 0} (does : S → List ℕ → Option (List ℕ) → S → Type 0) (stands : L → List ℕ → List ℕ → Type 0) (limit : ℕ) (most : Option ℕ) (server : S) (a : L) (sa : LinkShown) where
+module _ {S L : Type 0} (does : S → List ℕ → Option (List ℕ) → S → Type 0) (stands : L → List ℕ → List ℕ → Type 0) (receives : Receives L) (sends : Sends L) (limit at_once : ℕ) (most : Option ℕ) (server : S) (a : L) (sa : LinkShown) where
   -- The records of the stream so far were answered, the buffer has what came behind the last of them, and so many bytes more may
   -- be received, where there is a limit.
   pub record Streamed (left : ℕ) (server' : S) (b : L) (sb : LinkShown) (buffer : BufState) : Type 0 where
@@ -93,6 +95,7 @@ module _ {S L : Type 0} (does : S → List ℕ → Option (List ℕ) → S → T
     pub written : List ℕ
     pub progress : Progress does stands server a sa answered received written server' b sb
     pub wrote : replies answered ≡ written
+    pub calls : InTurn receives sends limit answered a received written b
     pub came : run (beginning limit) received ≡ at (messages answered) buffer
     pub more : buffer.state ≡ feed.More
     pub rest : IsRest most received left
@@ -105,6 +108,7 @@ module _ {S L : Type 0} (does : S → List ℕ → Option (List ℕ) → S → T
     written = [];
     progress = progress-none does stands server a sa;
     wrote = refl;
+    calls = turn-none receives sends limit a;
     came = ap (at []) (sym new);
     more = ap (λ (k : BufState). k.state) new;
     rest = rest;
@@ -123,15 +127,46 @@ module _ {S L : Type 0} (does : S → List ℕ → Option (List ℕ) → S → T
       subst (λ all. Progress does stands server a sa (xs ++ ys) all (written ++ written') server' d sd) (append-nil (received ++ piece))
       (progress-then does stands server mid server' a c d sa sc sd xs ys (received ++ piece) [] written written' came after)
 
+  -- behind the stream so far nothing is owed
+  owes-none : PiecesLaw → (left : ℕ) (mid : S) (b : L) (sb : LinkShown) (buffer : BufState) → (so_far : Streamed left mid b sb buffer) → OwesNone limit so_far.answered so_far.calls.calls
+  owes-none pieces left mid b sb buffer so_far =
+      let shows = shown pieces limit so_far.received in
+      record {
+        earlier = so_far.answered;
+        later = [];
+        cut = sym (append-nil so_far.answered);
+        came = ap (λ l. (records limit l).records) so_far.calls.gave ∙ sym shows.records ∙ ap (λ (u : Stream). u.records) so_far.came;
+        short = ap (λ l. (records limit l).too_long) so_far.calls.gave ∙ sym shows.too_long ∙ ap (λ (u : Stream). is_too_long u.buffer.state) so_far.came ∙ ap is_too_long so_far.more;
+        replied = so_far.calls.took ∙ sym so_far.wrote;
+      }
+
+  -- then a receive gave a piece, and the link took the replies to more messages
+  turn-on : PiecesLaw → (left : ℕ) (mid : S) (b c d : L) (sb : LinkShown) (buffer : BufState) (ys : List Answered) (piece written' : List ℕ) → (so_far : Streamed left mid b sb buffer)
+      → Received receives b piece c → OnlyTook receives sends c written' d
+      → InTurn receives sends limit (so_far.answered ++ ys) a (so_far.received ++ piece) (so_far.written ++ written') d
+  turn-on pieces left mid b c d sb buffer ys piece written' so_far came took =
+      subst (λ l. InTurn receives sends limit (so_far.answered ++ ys) a (so_far.received ++ l) (so_far.written ++ written') d) came.gave
+      (turn-then receives sends limit a b c d so_far.answered ys so_far.received so_far.written written' came.slice came.filled came.answer so_far.calls
+      (owes-none pieces left mid b sb buffer so_far) came.called took)
+
+  -- or it gave none
+  turn-last : PiecesLaw → (left : ℕ) (mid : S) (b c : L) (sb : LinkShown) (buffer : BufState) → (so_far : Streamed left mid b sb buffer) → Received receives b [] c
+      → InTurn receives sends limit so_far.answered a so_far.received so_far.written c
+  turn-last pieces left mid b c sb buffer so_far came =
+      subst (λ l. InTurn receives sends limit l a so_far.received so_far.written c) (append-nil so_far.answered)
+      (subst (λ l. InTurn receives sends limit (so_far.answered ++ []) a l so_far.written c) (append-nil so_far.received)
+      (subst (λ l. InTurn receives sends limit (so_far.answered ++ []) a (so_far.received ++ []) l c) (append-nil so_far.written)
+      (turn-on pieces left mid b c c sb buffer [] [] [] so_far came (took-none receives sends c))))
+
   -- a piece whose messages were all answered
-  pub streamed-on : (left left' room : ℕ) (mid server' : S) (b d : L) (sb sd : LinkShown) (buffer buffer' : BufState) (said : Next) (count : ℕ) → Streamed left mid b sb buffer
-      → AnswersNext does stands room mid b sb buffer said server' d sd buffer' → said ≡ next.Came count
+  pub streamed-on : PiecesLaw → (left left' room : ℕ) (mid server' : S) (b d : L) (sb sd : LinkShown) (buffer buffer' : BufState) (said : Next) (count : ℕ) → Streamed left mid b sb buffer
+      → AnswersNext does stands receives sends room mid b sb buffer said server' d sd buffer' → said ≡ next.Came count
       → ((received piece : List ℕ) → length piece ≡ count → length piece ≤ room → IsRest most received left → IsRest most (received ++ piece) left')
       → Streamed left' server' d sd buffer'
-  streamed-on left left' room mid server' b d sb sd buffer buffer' said count so_far goes is rest =
-      let came = subst (λ o. AnswersNext does stands room mid b sb buffer o server' d sd buffer') is goes in
+  streamed-on pieces left left' room mid server' b d sb sd buffer buffer' said count so_far goes is rest =
+      let came = subst (λ o. AnswersNext does stands receives sends room mid b sb buffer o server' d sd buffer') is goes in
       let piece : List ℕ = came.0.piece in
-      let one : AnswersPiece does stands mid came.0.mid came.0.mid_seen buffer piece None server' d sd buffer' = came.0.answers in
+      let one : AnswersPiece does stands receives sends mid came.0.mid came.0.mid_seen buffer piece None server' d sd buffer' = came.0.answers in
       let xs = so_far.answered in
       let ys = one.answered in
       let front : piece ≡ one.front = one.cut ∙ ap (λ l. one.front ++ l) one.ends.0 ∙ append-nil one.front in
@@ -144,6 +179,7 @@ module _ {S L : Type 0} (does : S → List ℕ → Option (List ℕ) → S → T
         progress = piece-goes mid server' b came.0.mid d sb came.0.mid_seen sd xs ys so_far.received piece so_far.written one.written so_far.progress came.0.gave progress;
         wrote = wrote-then xs ys so_far.written one.written one.unsent so_far.wrote one.wrote
             ∙ ap (λ l. (so_far.written ++ one.written) ++ l) one.ends.1 ∙ append-nil (so_far.written ++ one.written);
+        calls = turn-on pieces left mid b came.0.mid d sb buffer ys piece one.written so_far came.0.received one.calls;
         came = ap (λ l. run (beginning limit) (so_far.received ++ l)) front
             ∙ came-on (beginning limit) (messages xs) buffer so_far.received one.front so_far.came
             ∙ ap (behind (messages xs)) one.ends.2
@@ -153,11 +189,11 @@ module _ {S L : Type 0} (does : S → List ℕ → Option (List ℕ) → S → T
       }
 
   -- a piece in which the stream ends
-  in-piece : PiecesLaw → (left room : ℕ) (mid server' : S) (b d : L) (sb sd : LinkShown) (buffer buffer' : BufState) (how : End) → room ≤ left → Streamed left mid b sb buffer
-      → PieceAnswered does stands room mid b sb buffer (Some how) server' d sd buffer' → StreamAnswered does stands limit most server a sa (Some how) server' d sd
-  in-piece pieces left room mid server' b d sb sd buffer buffer' how fits so_far came =
+  in-piece : PiecesLaw → (left room : ℕ) (mid server' : S) (b d : L) (sb sd : LinkShown) (buffer buffer' : BufState) (how : End) → room ≤ left → room ≤ at_once → Streamed left mid b sb buffer
+      → PieceAnswered does stands receives sends room mid b sb buffer (Some how) server' d sd buffer' → StreamAnswered does stands receives sends limit at_once most server a sa (Some how) server' d sd
+  in-piece pieces left room mid server' b d sb sd buffer buffer' how fits within so_far came =
       let piece : List ℕ = came.piece in
-      let one : AnswersPiece does stands mid came.mid came.mid_seen buffer piece (Some how) server' d sd buffer' = came.answers in
+      let one : AnswersPiece does stands receives sends mid came.mid came.mid_seen buffer piece (Some how) server' d sd buffer' = came.answers in
       let IsJunk : List ℕ → Type 0 = λ junk. does one.last junk None server' in
       let xs = so_far.answered in
       let ys = one.answered in
@@ -166,8 +202,9 @@ module _ {S L : Type 0} (does : S → List ℕ → Option (List ℕ) → S → T
       let all : front ++ one.behind ≡ so_far.received ++ piece = append_assoc so_far.received one.front one.behind ∙ ap (λ l. so_far.received ++ l) (sym one.cut) in
       let ran : run (beginning limit) front ≡ behind (messages xs) t = came-on (beginning limit) (messages xs) buffer so_far.received one.front so_far.came in
       let shows = shown pieces limit front in
-      let sends : sa.send_faults ≤ came.mid_seen.send_faults = (let x = so_far.progress.goes.sends in let y = came.gave.goes.sends in omega arith) in
+      let later : sa.send_faults ≤ came.mid_seen.send_faults = (let x = so_far.progress.goes.sends in let y = came.gave.goes.sends in omega arith) in
       let len : length piece ≤ left = (let x = came.fits in omega arith) in
+      let near : length one.behind < length piece = one.near came.some in
       record {
         answered = xs ++ ys;
         last = one.last;
@@ -178,20 +215,24 @@ module _ {S L : Type 0} (does : S → List ℕ → Option (List ℕ) → S → T
         progress = subst (λ bytes. Progress does stands server a sa (xs ++ ys) bytes (so_far.written ++ one.written) one.last d sd) (sym all)
             (piece-goes mid one.last b came.mid d sb came.mid_seen sd xs ys so_far.received piece so_far.written one.written so_far.progress came.gave one.progress);
         wrote = wrote-then xs ys so_far.written one.written one.unsent so_far.wrote one.wrote;
+        near = (let x = came.fits in omega arith);
+        in_turn = subst (λ bytes. InTurn receives sends limit (xs ++ ys) a bytes (so_far.written ++ one.written) d) (sym all)
+            (turn-on pieces left mid b came.mid d sb buffer ys piece one.written so_far came.received one.calls);
         within = subst (IsWithin most (Some how)) (sym all)
             (piece-within IsJunk most so_far.received piece left came.mid_seen sd ys one.behind one.unsent t buffer' how so_far.rest len one.ends);
-        ended = piece-ends IsJunk sa came.mid_seen sd xs ys (records limit front) one.behind one.unsent t buffer' how sends
+        ended = piece-ends IsJunk sa came.mid_seen sd xs ys (records limit front) one.behind one.unsent t buffer' how later
             (sym shows.records ∙ ap (λ (u : Stream). u.records) ran) (sym shows.too_long ∙ ap (λ (u : Stream). is_too_long u.buffer.state) ran) one.ends;
         left = one.left;
       }
 
   -- the stream so far, as far as its last byte, and how it ends there
   so-far-done : PiecesLaw → (left : ℕ) (mid : S) (b c : L) (sb sc : LinkShown) (buffer : BufState) (how : Option End) → (so_far : Streamed left mid b sb buffer)
-      → Progress does stands server a sa so_far.answered so_far.received so_far.written mid c sc → IsWithin most how so_far.received → IsLeft how mid mid
+      → Progress does stands server a sa so_far.answered so_far.received so_far.written mid c sc
+      → InTurn receives sends limit so_far.answered a so_far.received so_far.written c → 0 < at_once → IsWithin most how so_far.received → IsLeft how mid mid
       → ((looked : Split) → looked.records ≡ messages so_far.answered → looked.too_long ≡ false → buffer.rest ≡ min (length looked.rest) (2 ^ 62)
       → EndsSo (λ junk. does mid junk None mid) sa so_far.answered looked [] [] sc how)
-      → StreamAnswered does stands limit most server a sa how mid c sc
-  so-far-done pieces left mid b c sb sc buffer how so_far progress within stays ends =
+      → StreamAnswered does stands receives sends limit at_once most server a sa how mid c sc
+  so-far-done pieces left mid b c sb sc buffer how so_far progress turn room within stays ends =
       let shows = shown pieces limit so_far.received in
       let came = so_far.came in
       let long : (records limit so_far.received).too_long ≡ false =
@@ -205,6 +246,8 @@ module _ {S L : Type 0} (does : S → List ℕ → Option (List ℕ) → S → T
         unsent = [];
         progress = subst (λ bytes. Progress does stands server a sa so_far.answered bytes so_far.written mid c sc) (sym (append-nil so_far.received)) progress;
         wrote = so_far.wrote ∙ sym (append-nil so_far.written);
+        near = room;
+        in_turn = subst (λ bytes. InTurn receives sends limit so_far.answered a bytes so_far.written c) (sym (append-nil so_far.received)) turn;
         within = subst (IsWithin most how) (sym (append-nil so_far.received)) within;
         ended = ends (records limit so_far.received) (sym shows.records ∙ ap (λ (u : Stream). u.records) came) long
             (ap (λ (u : Stream). u.buffer.rest) (sym came) ∙ shows.rest long);
@@ -221,37 +264,39 @@ module _ {S L : Type 0} (does : S → List ℕ → Option (List ℕ) → S → T
   }
 
   -- no piece came behind the stream so far
-  no-piece : PiecesLaw → (left : ℕ) (mid : S) (b c : L) (sb sc : LinkShown) (buffer : BufState) (how : End) → 0 < left → Streamed left mid b sb buffer
-      → Ended stands b c sb sc → ((how ≡ end.ReadFault) × Rose sb.receive_faults sc.receive_faults) ⊎ ((how ≡ input_end buffer.rest) × IsAtEnd sb.left)
-      → StreamAnswered does stands limit most server a sa (Some how) mid c sc
-  no-piece pieces left mid b c sb sc buffer how some so_far ended (inl failed) =
-      subst (λ e. StreamAnswered does stands limit most server a sa (Some e) mid c sc) (sym failed.0)
+  no-piece : PiecesLaw → (left : ℕ) (mid : S) (b c : L) (sb sc : LinkShown) (buffer : BufState) (how : End) → 0 < left → 0 < at_once → Streamed left mid b sb buffer
+      → Ended stands b c sb sc → Received receives b [] c → ((how ≡ end.ReadFault) × Rose sb.receive_faults sc.receive_faults) ⊎ ((how ≡ input_end buffer.rest) × IsAtEnd sb.left)
+      → StreamAnswered does stands receives sends limit at_once most server a sa (Some how) mid c sc
+  no-piece pieces left mid b c sb sc buffer how some room so_far ended came (inl failed) =
+      subst (λ e. StreamAnswered does stands receives sends limit at_once most server a sa (Some e) mid c sc) (sym failed.0)
       (so-far-done pieces left mid b c sb sc buffer (Some end.ReadFault) so_far
       (then-ended mid b c sb sc so_far.answered so_far.received so_far.written so_far.progress ended)
+      (turn-last pieces left mid b c sb buffer so_far came) room
       (fault-within most so_far.received left some so_far.rest) refl
       (λ looked recs long n. (recs, long, refl, refl, rose_earlier sa.receive_faults sb.receive_faults sc.receive_faults so_far.progress.goes.receives failed.1)))
-  no-piece pieces left mid b c sb sc buffer how some so_far ended (inr over) =
+  no-piece pieces left mid b c sb sc buffer how some room so_far ended came (inr over) =
       let last : IfSome sa.left (λ all. IsAtEnd sc.left) = at-end sa.left sb.left sc.left so_far.received so_far.progress.goes.left over.1 ended.left in
-      subst (λ e. StreamAnswered does stands limit most server a sa (Some e) mid c sc) (sym over.0)
+      subst (λ e. StreamAnswered does stands receives sends limit at_once most server a sa (Some e) mid c sc) (sym over.0)
       (so-far-done pieces left mid b c sb sc buffer (Some (input_end buffer.rest)) so_far
       (then-ended mid b c sb sc so_far.answered so_far.received so_far.written so_far.progress ended)
+      (turn-last pieces left mid b c sb buffer so_far came) room
       (input-within most so_far.received left buffer.rest some so_far.rest) (input-left mid buffer.rest)
       (λ looked recs long n. input-ends (λ junk. does mid junk None mid) sa so_far.answered looked sc buffer.rest recs long n last))
 
   -- the stream ends in the next piece, or there is none
   pub streamed-stops : PiecesLaw → (left room : ℕ) (mid server' : S) (b d : L) (sb sd : LinkShown) (buffer buffer' : BufState) (said : Next) (how : End) → 0 < left
-      → room ≤ left → Streamed left mid b sb buffer → AnswersNext does stands room mid b sb buffer said server' d sd buffer' → said ≡ next.Ends how
-      → StreamAnswered does stands limit most server a sa (Some how) server' d sd
-  streamed-stops pieces left room mid server' b d sb sd buffer buffer' said how some fits so_far goes is =
-      by (subst (λ o. AnswersNext does stands room mid b sb buffer o server' d sd buffer') is goes) where
-        by : PieceAnswered does stands room mid b sb buffer (Some how) server' d sd buffer' ⊎ NoPiece stands mid b sb buffer how server' d sd
-            → StreamAnswered does stands limit most server a sa (Some how) server' d sd
-        by (inl came) = in-piece pieces left room mid server' b d sb sd buffer buffer' how fits so_far came
-        by (inr last) = subst (λ s. StreamAnswered does stands limit most server a sa (Some how) s d sd) (sym last.same)
-            (no-piece pieces left mid b d sb sd buffer how some so_far last.ended last.why)
+      → room ≤ left → room ≤ at_once → 0 < at_once → Streamed left mid b sb buffer → AnswersNext does stands receives sends room mid b sb buffer said server' d sd buffer' → said ≡ next.Ends how
+      → StreamAnswered does stands receives sends limit at_once most server a sa (Some how) server' d sd
+  streamed-stops pieces left room mid server' b d sb sd buffer buffer' said how some fits within there so_far goes is =
+      by (subst (λ o. AnswersNext does stands receives sends room mid b sb buffer o server' d sd buffer') is goes) where
+        by : PieceAnswered does stands receives sends room mid b sb buffer (Some how) server' d sd buffer' ⊎ NoPiece stands receives mid b sb buffer how server' d sd
+            → StreamAnswered does stands receives sends limit at_once most server a sa (Some how) server' d sd
+        by (inl came) = in-piece pieces left room mid server' b d sb sd buffer buffer' how fits within so_far came
+        by (inr last) = subst (λ s. StreamAnswered does stands receives sends limit at_once most server a sa (Some how) s d sd) (sym last.same)
+            (no-piece pieces left mid b d sb sd buffer how some there so_far last.ended last.received last.why)
 
   -- as many bytes came as may be received
   pub streamed-spent : PiecesLaw → (left : ℕ) (mid : S) (b : L) (sb : LinkShown) (buffer : BufState) → (so_far : Streamed left mid b sb buffer)
-      → IsWithin most None so_far.received → StreamAnswered does stands limit most server a sa None mid b sb
-  streamed-spent pieces left mid b sb buffer so_far within =
-      so-far-done pieces left mid b b sb sb buffer None so_far so_far.progress within refl (λ looked recs long n. (recs, long, refl, refl))
+      → 0 < at_once → IsWithin most None so_far.received → StreamAnswered does stands receives sends limit at_once most server a sa None mid b sb
+  streamed-spent pieces left mid b sb buffer so_far room within =
+      so-far-done pieces left mid b b sb sb buffer None so_far so_far.progress so_far.calls room within refl (λ looked recs long n. (recs, long, refl, refl))

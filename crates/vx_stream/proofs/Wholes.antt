@@ -2,14 +2,16 @@
 use Rattle.std.proofs.Common.{◌≡◌, ℕ, Bool, true, false, List, [], ◌∷◌, Option, None, Some, length, take, refl, sym, ap, ◌∙◌, subst, append-nil}
 use Rattle.std.specs.Prelude.{option_map}
 use Rattle.vx_stream.specs.Shown.{LinkShown}
+use Rattle.vx_stream.specs.Calling.{Receives, Sends}
 use Rattle.vx_stream.specs.Sending.{SendsAll, IsSent}
 use Rattle.vx_stream.specs.Answered.{Answered, Progress}
 use Rattle.vx_stream.specs.Stopping.{StopsReply}
 use Rattle.vx_stream.specs.Pieces.{AnswersWhole}
 use Rattle.vx_stream.specs.declared.ends.End.TheVariants as end
 use Rattle.vx_stream.proofs.Progressing.{progress-none}
+use Rattle.vx_stream.specs.ProvedLaws.{took-none}
 
-module _ {S L : Type 0} (does : S → List ℕ → Option (List ℕ) → S → Type 0) (stands : L → List ℕ → List ℕ → Type 0) (server server' : S) (a : L) (sa : LinkShown)
+module _ {S L : Type 0} (does : S → List ℕ → Option (List ℕ) → S → Type 0) (stands : L → List ℕ → List ℕ → Type 0) (receives : Receives L) (sends : Sends L) (server server' : S) (a : L) (sa : LinkShown)
     (message kept room : List ℕ) (answer : Option ℕ) (same : message ≡ kept) (did : does server message (option_map (λ n. take n room) answer) server') where
   -- what an answer tells of the record that was whole
   pub did-kept : (said : Option ℕ) → answer ≡ said → does server kept (option_map (λ n. take n room) said) server'
@@ -17,7 +19,7 @@ module _ {S L : Type 0} (does : S → List ℕ → Option (List ℕ) → S → T
       (subst (λ o. does server message (option_map (λ n. take n room) o) server') is did)
 
   -- a message was answered, and the link took a front of its reply
-  one-answered : (b : L) (sb : LinkShown) (len : ℕ) (all : Bool) → answer ≡ Some len → (sends : SendsAll stands a sa (take len room) all b sb)
+  one-answered : (b : L) (sb : LinkShown) (len : ℕ) (all : Bool) → answer ≡ Some len → (sends : SendsAll stands receives sends a sa (take len room) all b sb)
       → Progress does stands server a sa (record { message = kept; reply = take len room } ∷ []) [] sends.sent server' b sb
   one-answered b sb len all is sends = record {
     answers = (server', did-kept (Some len) is, refl);
@@ -26,8 +28,8 @@ module _ {S L : Type 0} (does : S → List ℕ → Option (List ℕ) → S → T
   }
 
   -- all of the reply went
-  pub whole-sent : (b : L) (sb : LinkShown) (len : ℕ) (all : Bool) → answer ≡ Some len → all ≡ true → SendsAll stands a sa (take len room) all b sb
-      → AnswersWhole does stands server a sa kept None server' b sb
+  pub whole-sent : (b : L) (sb : LinkShown) (len : ℕ) (all : Bool) → answer ≡ Some len → all ≡ true → SendsAll stands receives sends a sa (take len room) all b sb
+      → AnswersWhole does stands receives sends server a sa kept None server' b sb
   whole-sent b sb len all is went sends = record {
     answered = record { message = kept; reply = take len room } ∷ [];
     last = server';
@@ -35,13 +37,14 @@ module _ {S L : Type 0} (does : S → List ℕ → Option (List ℕ) → S → T
     unsent = sends.unsent;
     progress = one-answered b sb len all is sends;
     wrote = append-nil (take len room) ∙ sends.cut;
+    calls = sends.calls;
     ends = (refl, subst (IsSent sa sends.unsent sb) went sends.is_sent);
     left = refl;
   }
 
   -- the reply stopped in its middle
-  pub whole-stops : (b : L) (sb : LinkShown) (len : ℕ) (all : Bool) → answer ≡ Some len → all ≡ false → SendsAll stands a sa (take len room) all b sb
-      → AnswersWhole does stands server a sa kept (Some end.WriteFault) server' b sb
+  pub whole-stops : (b : L) (sb : LinkShown) (len : ℕ) (all : Bool) → answer ≡ Some len → all ≡ false → SendsAll stands receives sends a sa (take len room) all b sb
+      → AnswersWhole does stands receives sends server a sa kept (Some end.WriteFault) server' b sb
   whole-stops b sb len all is stopped sends =
       let one : Answered = record { message = kept; reply = take len room } in
       let left : IsSent sa sends.unsent sb false = subst (IsSent sa sends.unsent sb) stopped sends.is_sent in
@@ -61,12 +64,13 @@ module _ {S L : Type 0} (does : S → List ℕ → Option (List ℕ) → S → T
         unsent = sends.unsent;
         progress = one-answered b sb len all is sends;
         wrote = append-nil (take len room) ∙ sends.cut;
+        calls = sends.calls;
         ends = (refl, stops);
         left = refl;
       }
 
   -- the message has no reply
-  pub whole-junk : answer ≡ None → AnswersWhole does stands server a sa kept (Some (end.Junk (length message))) server' a sa
+  pub whole-junk : answer ≡ None → AnswersWhole does stands receives sends server a sa kept (Some (end.Junk (length message))) server' a sa
   whole-junk is = record {
     answered = [];
     last = server;
@@ -74,6 +78,7 @@ module _ {S L : Type 0} (does : S → List ℕ → Option (List ℕ) → S → T
     unsent = [];
     progress = progress-none does stands server a sa;
     wrote = refl;
+    calls = took-none receives sends a;
     ends = (refl, refl, ap length (sym same), did-kept None is);
     left = tt;
   }

@@ -1,6 +1,7 @@
 pub mod Shown
 pub mod Sending
 pub mod Answered
+pub mod Calling
 pub mod Pieces
 pub mod Stopping
 pub mod Visiting

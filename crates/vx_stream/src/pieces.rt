@@ -23,7 +23,7 @@ fn answer_whole<S: Answers, L: Link>(
     requires whole { incoming.old.state ≡ feed.Whole }
     requires limit { incoming.old.limit ≤ S.longest }
     requires room { S.room ≤ length reply.old }
-    ensures answers { AnswersWhole S.does L.stands server link.old (link_shown L.left L.peers L.receive_faults L.send_faults link.old)
+    ensures answers { AnswersWhole S.does L.stands L.receives L.sends server link.old (link_shown L.left L.peers L.receive_faults L.send_faults link.old)
         incoming.old.kept result.1 result.0 link.new (link_shown L.left L.peers L.receive_faults L.send_faults link.new) }
     ensures went { Went L.receives L.sends link.old link.new }
     ensures can { S.can result.0 }
@@ -53,7 +53,7 @@ pub(crate) fn answer_piece<S: Answers, L: Link>(
     requires more { incoming.old.state ≡ feed.More }
     requires limit { incoming.old.limit ≤ S.longest }
     requires room { S.room ≤ length reply.old }
-    ensures answers { AnswersPiece S.does L.stands server link.old (link_shown L.left L.peers L.receive_faults L.send_faults link.old)
+    ensures answers { AnswersPiece S.does L.stands L.receives L.sends server link.old (link_shown L.left L.peers L.receive_faults L.send_faults link.old)
         incoming.old piece.now result.1 result.0 link.new (link_shown L.left L.peers L.receive_faults L.send_faults link.new) incoming.new }
     ensures went { Went L.receives L.sends link.old link.new }
     ensures can { S.can result.0 }

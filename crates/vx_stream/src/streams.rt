@@ -34,7 +34,7 @@ fn answer_next<S: Answers, L: Link>(
     requires limit { incoming.old.limit ≤ S.longest }
     requires piece { 0 < length piece.old }
     requires room { S.room ≤ length reply.old }
-    ensures answers { AnswersNext S.does L.stands (length piece.old) server link.old (link_shown L.left L.peers L.receive_faults L.send_faults link.old)
+    ensures answers { AnswersNext S.does L.stands L.receives L.sends (length piece.old) server link.old (link_shown L.left L.peers L.receive_faults L.send_faults link.old)
         incoming.old result.1 result.0 link.new (link_shown L.left L.peers L.receive_faults L.send_faults link.new) incoming.new }
     ensures went { Went L.receives L.sends link.old link.new }
     ensures can { S.can result.0 }
@@ -70,7 +70,7 @@ pub fn answer_stream<R: Wait, S: Answers, L: Link>(
     requires limit { incoming.old.limit ≤ S.longest }
     requires piece { 0 < length piece.old }
     requires room { S.room ≤ length reply.old }
-    ensures answers { StreamAnswered S.does L.stands incoming.old.limit None server link.old (link_shown L.left L.peers L.receive_faults L.send_faults link.old)
+    ensures answers { StreamAnswered S.does L.stands L.receives L.sends incoming.old.limit (length piece.old) None server link.old (link_shown L.left L.peers L.receive_faults L.send_faults link.old)
         (Some result.1) result.0 link.new (link_shown L.left L.peers L.receive_faults L.send_faults link.new) }
     ensures went { Went L.receives L.sends link.old link.new }
     ensures can { S.can result.0 }
@@ -104,7 +104,7 @@ pub fn answer_up_to<S: Answers, L: Link>(
     requires limit { incoming.old.limit ≤ S.longest }
     requires piece { 0 < length piece.old }
     requires room { S.room ≤ length reply.old }
-    ensures answers { StreamAnswered S.does L.stands incoming.old.limit (Some most) server link.old (link_shown L.left L.peers L.receive_faults L.send_faults link.old)
+    ensures answers { StreamAnswered S.does L.stands L.receives L.sends incoming.old.limit (length piece.old) (Some most) server link.old (link_shown L.left L.peers L.receive_faults L.send_faults link.old)
         result.1 result.0 link.new (link_shown L.left L.peers L.receive_faults L.send_faults link.new) }
     ensures went { Went L.receives L.sends link.old link.new }
     ensures can { S.can result.0 }

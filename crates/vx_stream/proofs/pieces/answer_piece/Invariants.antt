@@ -6,7 +6,7 @@ use Rattle.vx_stream.proofs.pieces.answer_piece.Given as goal
 
 abbrev pub invariant-loop-at : goal.invariant-loop-at
 invariant-loop-at g l = record {
-  so_far : PieceSoFar g.S.Answers.does g.L.Link.stands l.initial.server l.initial.link
+  so_far : PieceSoFar g.S.Answers.does g.L.Link.stands g.L.Link.receives g.L.Link.sends l.initial.server l.initial.link
       (link_shown g.L.Link.left g.L.Link.peers g.L.Link.receive_faults g.L.Link.send_faults l.initial.link) l.initial.incoming l.piece l.at l.server l.link
       (link_shown g.L.Link.left g.L.Link.peers g.L.Link.receive_faults g.L.Link.send_faults l.link) l.incoming;
   went : Went g.L.Link.receives g.L.Link.sends l.initial.link l.link;

@@ -6,7 +6,7 @@ use Rattle.vx_stream.proofs.sending.send_all.Given as goal
 
 abbrev pub invariant-loop-sent : goal.invariant-loop-sent
 invariant-loop-sent g l =
-    SentSoFar g.L.Link.stands l.initial.link l.link
+    SentSoFar g.L.Link.stands g.L.Link.receives g.L.Link.sends l.initial.link l.link
     (link_shown g.L.Link.left g.L.Link.peers g.L.Link.receive_faults g.L.Link.send_faults l.initial.link)
     (link_shown g.L.Link.left g.L.Link.peers g.L.Link.receive_faults g.L.Link.send_faults l.link) l.bytes l.sent
     × Went g.L.Link.receives g.L.Link.sends l.initial.link l.link

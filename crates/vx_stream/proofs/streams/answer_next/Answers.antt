@@ -17,6 +17,7 @@ returns-in-Failed-clause-answers g c = inr
         receives = c.in-Failed.ensures.counted;
         sends = c.in-Failed.ensures.apart;
       };
+      received = record { slice = _; answer = _; filled = _; called = c.in-Failed.ensures.receives; gave = refl };
       why = inl (refl, c.in-Failed.ensures.failed.0);
       same = refl;
     })
@@ -31,6 +32,7 @@ returns-in-End-clause-answers g c = inr
         receives = c.in-End.ensures.counted;
         sends = c.in-End.ensures.apart;
       };
+      received = record { slice = _; answer = _; filled = _; called = c.in-End.ensures.receives; gave = refl };
       why = inr (c.end_of_input.ensures ∙ ap input_end c.rest.ensures.rest, c.in-End.ensures.end.0);
       same = refl;
     })
@@ -53,7 +55,8 @@ returns-in-None-clause-answers g c =
             sends = omega (arith, c.in-Got.ensures.apart);
           };
         };
-        answers = subst (λ o. AnswersPiece g.S.Answers.does g.L.Link.stands c.args.server c.receive.new.self
+        received = record { slice = _; answer = _; filled = _; called = c.in-Got.ensures.receives; gave = refl };
+        answers = subst (λ o. AnswersPiece g.S.Answers.does g.L.Link.stands g.L.Link.receives g.L.Link.sends c.args.server c.receive.new.self
             (link_shown g.L.Link.left g.L.Link.peers g.L.Link.receive_faults g.L.Link.send_faults c.receive.new.self) c.args.incoming.now (take c.in-Got.count c.receive.new.into)
             o c.answer_piece-server.result.0 c.answer_piece-server.new.link
             (link_shown g.L.Link.left g.L.Link.peers g.L.Link.receive_faults g.L.Link.send_faults c.answer_piece-server.new.link) c.answer_piece-server.new.incoming)

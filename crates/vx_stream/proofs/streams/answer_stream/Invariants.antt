@@ -6,7 +6,7 @@ use Rattle.vx_stream.proofs.streams.answer_stream.Given as goal
 
 abbrev pub invariant-loop : goal.invariant-loop
 invariant-loop g l = record {
-  so_far : Streamed g.S.Answers.does g.L.Link.stands l.initial.incoming.limit None l.initial.server l.initial.link
+  so_far : Streamed g.S.Answers.does g.L.Link.stands g.L.Link.receives g.L.Link.sends l.initial.incoming.limit (length l.initial.piece) None l.initial.server l.initial.link
       (link_shown g.L.Link.left g.L.Link.peers g.L.Link.receive_faults g.L.Link.send_faults l.initial.link) (length l.piece) l.server l.link
       (link_shown g.L.Link.left g.L.Link.peers g.L.Link.receive_faults g.L.Link.send_faults l.link) l.incoming;
   went : Went g.L.Link.receives g.L.Link.sends l.initial.link l.link;
