@@ -1,6 +1,7 @@
 pub mod Meeting
 pub mod Peering
 pub mod Shown
+pub mod Opening
 pub mod Serving
 pub mod Running
 pub mod Going

@@ -7,6 +7,7 @@ ghost use Rattle.vx_io_traits.specs.Rung.{OnDialFailed};
 ghost use Rattle.vx_io_traits.specs.Stands.{Stays};
 ghost use Rattle.vx_io_traits.specs.declared.ReadOut.{ReadOut};
 ghost use Rattle.vx_io_traits.specs.declared.WriteOut.{WriteOut};
+ghost use Rattle.vx_io_traits.specs.declared.dials.DialOut.{DialOut};
 ghost use Rattle.vx_door.specs.Meeting.{IfMet, UnlessMet, OnMeetFailed, is_met, met_after, ended_after, MeetsAt, IsFresh, KeepsCounts};
 ghost use Rattle.vx_door.specs.declared.doors.Met.{Met};
 
@@ -37,6 +38,9 @@ pub trait Door: Link {
     // Whether it tells, of each peer that it meets, the bytes that it gave and took and those that it has left.
     ghost tells: { Bool } = { false };
 
+    // What one opening does, where the door tells it: the door before, the port, the answer, and the door after.
+    ghost opens: { Self → ℕ → DialOut → Self → Type 0 } = { λ _ _ _ _. ⊤ };
+
     // What one wait does, where the door tells it: the door before, the answer, and the door after.
     ghost meets: { Self → Met → Self → Type 0 } = { λ _ _ _. ⊤ };
 
@@ -51,7 +55,8 @@ pub trait Door: Link {
         ensures ready { Self.is_ready self.new ≡ Self.is_ready self.old }
         ensures peers { Keeps (Self.peers self.old) (Self.peers self.new) }
         ensures left { Keeps (Self.left self.old) (Self.left self.new) }
-        ensures stays { Stays Self.stands self.old self.new };
+        ensures stays { Stays Self.stands self.old self.new }
+        ensures opens { opens self.old port result self.new };
 
     /// Waits for the next peer, and is its link from then on: nothing was taken from it and nothing given yet. Where none comes
     /// it stays the link that it is.
