@@ -47,6 +47,8 @@ pub record DoorState : Type 0 where
   pub send_faults : ℕ
   -- how often it told that no more peers come
   pub ended : ℕ
+  -- the port that it was opened at last
+  pub port : Option ℕ
 
 -- whether it met a peer
 abbrev pub is_at_peer : DoorState → Bool
@@ -103,13 +105,13 @@ abbrev pub after_send : DoorState → List ℕ → WriteOut → DoorState
 after_send s bytes (Took n) = record s { present = got (take n bytes) s.present; calls = one_more s.calls }
 after_send s bytes WriteFailed = record s { calls = one_more s.calls; send_faults = one_more s.send_faults }
 
--- what an opening answers, and the door after that answer
+-- what an opening answers, and the door after that answer: it keeps the port
 abbrev pub open_answer : DoorState → DialOut
 open_answer s = if fails_next s.fails s.calls then Unopened else Up
 
-abbrev pub after_open : DoorState → DialOut → DoorState
-after_open s Up = record s { calls = one_more s.calls }
-after_open s Unopened = record s { calls = one_more s.calls; faults = one_more s.faults }
+abbrev pub after_open : DoorState → ℕ → DialOut → DoorState
+after_open s port Up = record s { calls = one_more s.calls; port = Some port }
+after_open s port Unopened = record s { calls = one_more s.calls; faults = one_more s.faults }
 
 -- what a wait answers where the call isn't one that fails: the next peer, if one is to come
 abbrev pub next_peer : List (List ℕ) → Met
@@ -140,6 +142,10 @@ IsReceive old slice answer given new =
 -- a send: its answer, and the door after it
 abbrev pub IsSend : DoorState → List ℕ → WriteOut → DoorState → Type 0
 IsSend old bytes answer new = IsSendAnswer old (length bytes) answer × (new ≡ after_send old bytes answer)
+
+-- an opening: its answer, and the door after it
+abbrev pub IsOpen : DoorState → ℕ → DialOut → DoorState → Type 0
+IsOpen old port answer new = (answer ≡ open_answer old) × (new ≡ after_open old port answer)
 
 -- a wait: its answer, and the door after it
 abbrev pub IsNext : DoorState → Met → DoorState → Type 0

@@ -83,7 +83,8 @@ impl MemPeer {
     }
 }
 
-/// A door that meets the peers of a list, each of which gives its bytes, and keeps what each was sent; chosen calls fail.
+/// A door that meets the peers of a list, each of which gives its bytes, and keeps what each was sent and the port that it was opened at
+/// last; chosen calls fail.
 #[derive(Drop)]
 pub struct MemDoor {
     coming: VecDeque<Vec<u8>>,
@@ -97,6 +98,7 @@ pub struct MemDoor {
     receive_faults: u64,
     send_faults: u64,
     ended: u64,
+    port: Option<u16>,
 }
 
 impl Model for MemDoor {
@@ -117,6 +119,7 @@ impl Model for MemDoor {
       receive_faults = s.receive_faults;
       send_faults = s.send_faults;
       ended = s.ended;
+      port = s.port;
     } };
 
     ghost invariant = { λ s. s.met + deque_len s.coming ≤ vec_len s.past };
@@ -147,7 +150,7 @@ fn keep(past: &mut Vec<MemPeer>, met: usize, peer: MemPeer)
 }
 
 impl MemDoor {
-    ghost use Rattle.std.specs.Prelude.{◌≡◌, ◌<◌, [], map, length, get_or, IfOk, MatchOption};
+    ghost use Rattle.std.specs.Prelude.{◌≡◌, ◌<◌, [], map, length, get_or, None, IfOk, MatchOption};
     ghost use Rattle.vx_io_traits.specs.Faults.{fails_next, one_more};
     ghost use Rattle.vx_memory.specs.DoorState.{peer_of, met_peers};
 
@@ -164,6 +167,7 @@ impl MemDoor {
         ensures receive_faults { IfOk result (λ door. door.receive_faults ≡ 0) }
         ensures send_faults { IfOk result (λ door. door.send_faults ≡ 0) }
         ensures ended { IfOk result (λ door. door.ended ≡ 0) }
+        ensures port { IfOk result (λ door. door.port ≡ None) }
     {
         match places(alloc, peers.len()) {
             Ok(past) => Ok(MemDoor {
@@ -177,6 +181,7 @@ impl MemDoor {
                 receive_faults: 0,
                 send_faults: 0,
                 ended: 0,
+                port: None,
             }),
             Err(NoMemory) => Err(NoMemory),
         }
@@ -194,6 +199,13 @@ impl MemDoor {
             return Some(self.present.sent());
         }
         Some(self.past[peer].sent())
+    }
+
+    /// The port that it was opened at last, or none where it wasn't.
+    pub fn port(&self) -> Option<u16>
+        ensures { result ≡ self.now.port }
+    {
+        self.port
     }
 
     /// Counts a call, and tells whether it is one that fails.
@@ -300,7 +312,7 @@ impl Door for MemDoor {
     ghost use Rattle.vx_io_traits.specs.Rung.{OnDialFailed};
     ghost use Rattle.vx_io_traits.specs.Stands.{Stays};
     ghost use Rattle.vx_door.specs.Meeting.{IfMet, UnlessMet, OnMeetFailed, is_met, met_after, ended_after, MeetsAt, IsFresh};
-    ghost use Rattle.vx_memory.specs.DoorState.{StandsForPeer, is_at_peer, peer_left, addresses, open_answer, after_open, IsNext, next_answer, after_next};
+    ghost use Rattle.vx_memory.specs.DoorState.{StandsForPeer, is_at_peer, peer_left, addresses, open_answer, after_open, IsOpen, IsNext, next_answer, after_next};
     ghost use Rattle.vx_memory.specs.ProvedLaws.{receive_keeps_counts, send_keeps_counts};
 
     ghost met = { λ s. s.met };
@@ -311,13 +323,15 @@ impl Door for MemDoor {
 
     ghost tells = { true };
 
+    ghost opens = { IsOpen };
+
     ghost meets = { IsNext };
 
-    /// Answers `Up`, unless the call is one that fails.
-    fn open(&mut self, _port: u16) -> DialOut
+    /// Answers `Up` and keeps the port, unless the call is one that fails.
+    fn open(&mut self, port: u16) -> DialOut
         // What it answers, and what the door is afterwards.
         ensures answer { result ≡ open_answer self.old }
-        ensures after { self.new ≡ after_open self.old result }
+        ensures after { self.new ≡ after_open self.old port result }
 
         // What every door says.
         ensures counted { self.old.faults ≤ self.new.faults }
@@ -335,6 +349,7 @@ impl Door for MemDoor {
             self.faults = self.faults.saturating_add(1);
             return DialOut::Failed;
         }
+        self.port = Some(port);
         DialOut::Up
     }
 
