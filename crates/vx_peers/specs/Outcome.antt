@@ -1,15 +1,12 @@
 -- To be believed.
 -- How a run over a door ends: for each status, who was served, what was printed, and why.
-use Rattle.std.specs.Prelude.{◌≡◌, ◌≢◌, ◌≤◌, ◌⊎◌, ℕ, Bool, List}
+use Rattle.std.specs.Prelude.{◌≡◌, ◌≢◌, ◌⊎◌, ℕ, Bool, List}
 use Rattle.std.specs.Io.KnownBytes.{Appends}
-use Rattle.vx_io_traits.specs.Faults.{Rose}
-use Rattle.vx_io_traits.specs.Stands.{Stays}
-use Rattle.vx_io_traits.specs.Rung.{OnDialFailed}
-use Rattle.vx_io_traits.specs.declared.dials.DialOut.{DialOut}
 use Rattle.vx_io_traits.specs.declared.dials.DialOut.TheVariants.{Up, Failed}
 use Rattle.vx_text.specs.Ends.{End}
 use Rattle.vx_text.specs.Writing.{StopsIn}
 use Rattle.vx_door.specs.Shown.{DoorShown}
+use Rattle.vx_door.specs.Opening.{Opening, Opens}
 use Rattle.vx_door.specs.Running.{ServesPeers}
 use Rattle.vx_door.specs.declared.doors.Met.{Met}
 use Rattle.vx_door.specs.declared.serving.DoorEnd.{DoorEnd}
@@ -53,16 +50,6 @@ PutsLine how line before after result =
     ((result ≡ how) × Appends before.bytes after.bytes line) ⊎ ((result ≡ status.SinkFailed) × StopsIn before after line)
 
 module _ {N S E : Type 0} (n : Shows N S E) where
-  -- opening the door leaves its link and its peers as they are
-  pub record Opens (old : N) (answer : DialOut) (new : N) : Type 0 where
-    pub counted : (n.door old).faults ≤ (n.door new).faults
-    pub failed : OnDialFailed answer (Rose (n.door old).faults (n.door new).faults)
-    pub met : (n.door new).met ≡ (n.door old).met
-    pub ended : (n.door new).ended ≡ (n.door old).ended
-    pub receives : (n.door new).receive_faults ≡ (n.door old).receive_faults
-    pub sends : (n.door new).send_faults ≡ (n.door old).send_faults
-    pub stays : Stays n.stands old new
-
   -- so many peers were met and served, until it ended so
   abbrev pub Serves : Ask → DoorEnd → ℕ → S → N → S → N → Type 0
   Serves ask ended number server old server' new = ServesPeers n.stands n.tells n.waits n.door n.did n.own n.whole server old ask.number ended number server' new
@@ -95,14 +82,14 @@ module _ {N S E : Type 0} (n : Shows N S E) where
   IsOpenServed ask server old server' new before after status.SinkFailed = StopsLine ask server old server' new before after
   IsOpenServed ask server old server' new before after _ = ⊥
 
-  -- the port was opened, and the work there ended so
-  pub record OpensAndServes (ask : Ask) (server : S) (old : N) (server' : S) (new : N) (before after : End) (how : Status) : Type 0 where
+  -- the port that is asked for was opened, once and no other, and the work there ended so
+  pub record OpensAndServes (o : Opening N) (ask : Ask) (server : S) (old : N) (server' : S) (new : N) (before after : End) (how : Status) : Type 0 where
     pub opened : N
-    pub opens : Opens old Up opened
+    pub opens : Opens o n.stands n.door ask.port old Up opened
     pub serves : IsOpenServed ask server opened server' new before after how
 
   -- how the work at a port ends: that couldn't be opened, and nothing was served or written; or the work there ended
-  abbrev pub IsServed : Ask → S → N → S → N → End → End → Status → Type 0
-  IsServed ask server old server' new before after status.NetFailed =
-      (Opens old Failed new × (server' ≡ server) × (after ≡ before)) ⊎ OpensAndServes ask server old server' new before after status.NetFailed
-  IsServed ask server old server' new before after how = OpensAndServes ask server old server' new before after how
+  abbrev pub IsServed : Opening N → Ask → S → N → S → N → End → End → Status → Type 0
+  IsServed o ask server old server' new before after status.NetFailed =
+      (Opens o n.stands n.door ask.port old Failed new × (server' ≡ server) × (after ≡ before)) ⊎ OpensAndServes o ask server old server' new before after status.NetFailed
+  IsServed o ask server old server' new before after how = OpensAndServes o ask server old server' new before after how

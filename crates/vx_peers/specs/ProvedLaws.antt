@@ -1,15 +1,15 @@
 -- Laws of what serves the peers of a door, proved: where what serving a peer does to the server tells so much of it, a run tells it.
 use Rattle.std.proofs.Common.{◌≡◌, ◌⊎◌, inl, inr, ◌+◌, ℕ, Bool, cond, List, [], ◌∷◌, map, fold, length, refl, sym, ap, ◌∙◌, subst}
 use Rattle.std.proofs.lemmas.List.{length-map}
-use Rattle.vx_io_traits.specs.declared.dials.DialOut.{DialOut}
 use Rattle.vx_text.specs.Ends.{End}
 use Rattle.vx_door.specs.Serving.{Meeting, Meetings, cuts, is_cut, RoseTogether}
+use Rattle.vx_door.specs.Opening.{Opening}
 use Rattle.vx_door.specs.Running.{ServesPeers}
 use Rattle.vx_door.specs.declared.serving.DoorEnd.{DoorEnd}
 use Rattle.vx_peers.specs.declared.words.Ask.{Ask}
 use Rattle.vx_peers.specs.declared.serving.Status.{Status}
 use Rattle.vx_peers.specs.declared.serving.Status.TheVariants as status
-use Rattle.vx_peers.specs.Outcome.{Shows, Opens, IsOpenServed, OpensAndServes, IsServed}
+use Rattle.vx_peers.specs.Outcome.{Shows, IsOpenServed, OpensAndServes, IsServed}
 
 -- a sum over what each becomes
 sum_map : {X Y : Type 0} (to : X → Y) (f : Y → ℕ) (sum : ℕ) (xs : List X) → fold (λ s y. s + f y) sum (map to xs) ≡ fold (λ s x. s + f (to x)) sum xs
@@ -75,32 +75,20 @@ module _ {N S T E : Type 0} (n : Shows N S E) (view : S → T) (tells : T → N 
   told_open ask server old server' new before after status.Usage did = did
   told_open ask server old server' new before after status.NoMemory did = did
 
-  -- the port was opened, or couldn't be
-  told_opens : (old : N) (answer : DialOut) (new : N) → Opens n old answer new → Opens told old answer new
-  told_opens old answer new opens = record {
-    counted = opens.counted;
-    failed = opens.failed;
-    met = opens.met;
-    ended = opens.ended;
-    receives = opens.receives;
-    sends = opens.sends;
-    stays = opens.stays;
-  }
-
-  told_work : (ask : Ask) (server : S) (old : N) (server' : S) (new : N) (before after : End) (how : Status) → OpensAndServes n ask server old server' new before after how
-      → OpensAndServes told ask (view server) old (view server') new before after how
-  told_work ask server old server' new before after how did = record {
+  told_work : (o : Opening N) (ask : Ask) (server : S) (old : N) (server' : S) (new : N) (before after : End) (how : Status) → OpensAndServes n o ask server old server' new before after how
+      → OpensAndServes told o ask (view server) old (view server') new before after how
+  told_work o ask server old server' new before after how did = record {
     opened = did.opened;
-    opens = told_opens old _ did.opened did.opens;
+    opens = did.opens;
     serves = told_open ask server did.opened server' new before after how did.serves;
   }
 
   -- a run over a door
-  pub told_served : (ask : Ask) (server : S) (old : N) (server' : S) (new : N) (before after : End) (how : Status) → IsServed n ask server old server' new before after how
-      → IsServed told ask (view server) old (view server') new before after how
-  told_served ask server old server' new before after status.NetFailed (inl not) = inl (told_opens old _ new not.0, ap view not.1, not.2)
-  told_served ask server old server' new before after status.NetFailed (inr did) = inr (told_work ask server old server' new before after status.NetFailed did)
-  told_served ask server old server' new before after status.Served did = told_work ask server old server' new before after status.Served did
-  told_served ask server old server' new before after status.SinkFailed did = told_work ask server old server' new before after status.SinkFailed did
-  told_served ask server old server' new before after status.Usage did = told_work ask server old server' new before after status.Usage did
-  told_served ask server old server' new before after status.NoMemory did = told_work ask server old server' new before after status.NoMemory did
+  pub told_served : (o : Opening N) (ask : Ask) (server : S) (old : N) (server' : S) (new : N) (before after : End) (how : Status) → IsServed n o ask server old server' new before after how
+      → IsServed told o ask (view server) old (view server') new before after how
+  told_served o ask server old server' new before after status.NetFailed (inl not) = inl (not.0, ap view not.1, not.2)
+  told_served o ask server old server' new before after status.NetFailed (inr did) = inr (told_work o ask server old server' new before after status.NetFailed did)
+  told_served o ask server old server' new before after status.Served did = told_work o ask server old server' new before after status.Served did
+  told_served o ask server old server' new before after status.SinkFailed did = told_work o ask server old server' new before after status.SinkFailed did
+  told_served o ask server old server' new before after status.Usage did = told_work o ask server old server' new before after status.Usage did
+  told_served o ask server old server' new before after status.NoMemory did = told_work o ask server old server' new before after status.NoMemory did

@@ -81,7 +81,7 @@ fn serve_open<N: Door, S: Serves<N>, K: Sink>(
     }
 }
 
-/// Opens the port that is asked for, serves as many peers as are asked for there, or fewer where no more come, and prints `served N`
+/// Opens the port that is asked for and no other, serves as many peers as are asked for there, or fewer where no more come, and prints `served N`
 /// with their number. Where the port can't be opened nothing is served or printed; where the door fails nothing is printed.
 pub fn serve_peers<N: Door, S: Serves<N>, K: Sink>(
     ask: &Ask,
@@ -98,7 +98,7 @@ pub fn serve_peers<N: Door, S: Serves<N>, K: Sink>(
       did = S.did;
       own = S.is_own;
       whole = S.is_whole;
-    }) ask.now server.old net.old server.new net.new
+    }) (record { opens = N.opens; ready = N.is_ready }) ask.now server.old net.old server.new net.new
         (record { bytes = K.taken sink.old; faults = K.faults sink.old })
         (record { bytes = K.taken sink.new; faults = K.faults sink.new }) result }
 {
