@@ -13,6 +13,7 @@ pub mod Due
 pub mod Outcome
 pub use Rattle.vx_door.specs.Going
 pub use Rattle.vx_stream.specs.Shown
+pub use Rattle.vx_door.specs.Opening
 pub use Rattle.vx_door.specs.Serving
 pub use Rattle.vx_door.specs.Running
 pub use Rattle.vx_text.specs.Writing

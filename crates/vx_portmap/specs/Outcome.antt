@@ -3,7 +3,6 @@
 use Rattle.std.specs.Prelude.{◌≡◌, ◌≢◌, ◌≤◌, ◌⊎◌, ℕ, Bool, List, [], ◌∷◌, ◌++◌}
 use Rattle.std.specs.Io.KnownBytes.{Appends}
 use Rattle.vx_io_traits.specs.Faults.{Rose}
-use Rattle.vx_io_traits.specs.Stands.{Stays}
 use Rattle.vx_io_traits.specs.Rung.{OnDialFailed}
 use Rattle.vx_io_traits.specs.declared.dials.DialOut.{DialOut}
 use Rattle.vx_io_traits.specs.declared.dials.DialOut.TheVariants.{Up, Failed}
@@ -12,6 +11,7 @@ use Rattle.vx_io_traits.specs.declared.WriteOut.{WriteOut}
 use Rattle.vx_text.specs.Ends.{End}
 use Rattle.vx_text.specs.Writing.{StopsIn}
 use Rattle.vx_door.specs.Shown.{DoorShown}
+use Rattle.vx_door.specs.Opening.{Opening, Opens as OpensDoor}
 use Rattle.vx_door.specs.Running.{ServesPeers, RoseOver}
 use Rattle.vx_door.specs.declared.doors.Met.{Met}
 use Rattle.vx_door.specs.declared.serving.DoorEnd.{DoorEnd}
@@ -40,7 +40,7 @@ status_number status.NetFailed = 3
 status_number status.NoMemory = 5
 status_number status.SinkFailed = 6
 
--- what a net is to what is said of it: its door's link, its door, its box of packets
+-- what a net is to what is said of it: its door's link, its door, its box of packets, and what opening either does
 pub record Shows (N : Type 0) : Type 1 where
   pub stands : N → List ℕ → List ℕ → Type 0
   pub receives : N → List ℕ → ReadOut → List ℕ → N → Type 0
@@ -51,6 +51,8 @@ pub record Shows (N : Type 0) : Type 1 where
   pub link : N → LinkShown
   pub box : N → BoxShown
   pub box_faults : N → ℕ
+  pub opening : Opening N
+  pub opens_box : N → ℕ → DialOut → N → Type 0
 
 -- the programs of the core and of the abort channel, version 1 over TCP, at the ports that are asked for (VXI-11, programs
 -- DEVICE_CORE and DEVICE_ASYNC)
@@ -69,24 +71,19 @@ pub record Asks (words : List (List ℕ)) (ask : Ask) : Type 0 where
 abbrev pub AsksNothing : List (List ℕ) → Type 0
 AsksNothing words = (ask : Ask) → IsInRange ask → words ≢ spelled ask
 
--- opening the door leaves its link and its peers as they are
-pub record OpensDoor {N : Type 0} (n : Shows N) (old : N) (answer : DialOut) (new : N) : Type 0 where
-  pub counted : (n.door old).faults ≤ (n.door new).faults
-  pub failed : OnDialFailed answer (Rose (n.door old).faults (n.door new).faults)
-  pub met : (n.door new).met ≡ (n.door old).met
-  pub ended : (n.door new).ended ≡ (n.door old).ended
-  pub receives : (n.door new).receive_faults ≡ (n.door old).receive_faults
-  pub sends : (n.door new).send_faults ≡ (n.door old).send_faults
-  pub stays : Stays n.stands old new
-
-pub record OpensBox {N : Type 0} (n : Shows N) (old : N) (answer : DialOut) (new : N) : Type 0 where
+-- The box was opened once, at this port and no other, or couldn't be. It took no packet and gave none.
+pub record OpensBox {N : Type 0} (n : Shows N) (port : ℕ) (old : N) (answer : DialOut) (new : N) : Type 0 where
+  pub opened : n.opens_box old port answer new
   pub counted : n.box_faults old ≤ n.box_faults new
   pub failed : OnDialFailed answer (Rose (n.box_faults old) (n.box_faults new))
+  pub ended : (n.box new).ended ≡ (n.box old).ended
+  pub takes : (n.box new).take_faults ≡ (n.box old).take_faults
+  pub gives : (n.box new).give_faults ≡ (n.box old).give_faults
 
--- the port was opened for streams or for packets, or couldn't be
-abbrev pub Opens : {N : Type 0} → Shows N → Kind → N → DialOut → N → Type 0
-Opens n kind.Stream old answer new = OpensDoor n old answer new
-Opens n kind.Packets old answer new = OpensBox n old answer new
+-- this port was opened for streams or for packets, or couldn't be
+abbrev pub Opens : {N : Type 0} → Shows N → Kind → ℕ → N → DialOut → N → Type 0
+Opens n kind.Stream port old answer new = OpensDoor n.opening n.stands n.door port old answer new
+Opens n kind.Packets port old answer new = OpensBox n port old answer new
 
 -- how the work over a door ended, and over a box
 abbrev pub door_end : DoorEnd → WorkEnd
@@ -156,10 +153,10 @@ IsServed n ask old new before after status.NetFailed = Fails n ask old new befor
 IsServed n ask old new before after status.SinkFailed = StopsFirst ask old new before after ⊎ StopsSecond n ask old new before after
 IsServed n ask old new before after _ = ⊥
 
--- the port was opened, and the work there ended so
+-- the port that is asked for was opened, once and no other, and the work there ended so
 pub record Serves {N : Type 0} (n : Shows N) (ask : Ask) (old new : N) (before after : End) (how : Status) : Type 0 where
   pub opened : N
-  pub opens : Opens n ask.kind old Up opened
+  pub opens : Opens n ask.kind ask.port old Up opened
   pub serves : IsServed n ask opened new before after how
 
 -- How what is asked ends: there was no memory, and nothing was opened or written; or the port couldn't be opened, and nothing was
@@ -167,7 +164,7 @@ pub record Serves {N : Type 0} (n : Shows N) (ask : Ask) (old new : N) (before a
 abbrev pub IsAskRun : {N : Type 0} → Shows N → Ask → N → N → End → End → Status → Type 0
 IsAskRun n ask old new before after status.NoMemory = (new ≡ old) × (after ≡ before)
 IsAskRun n ask old new before after status.NetFailed =
-    (Opens n ask.kind old Failed new × (after ≡ before)) ⊎ Serves n ask old new before after status.NetFailed
+    (Opens n ask.kind ask.port old Failed new × (after ≡ before)) ⊎ Serves n ask old new before after status.NetFailed
 IsAskRun n ask old new before after how = Serves n ask old new before after how
 
 -- How a run ends: the words ask nothing, which is told; or what they ask is done.

@@ -1,7 +1,8 @@
 //! What packets come from and go to.
-ghost use Rattle.std.specs.Prelude.{◌≡◌, ℕ, ◌<◌, ◌≤◌, List, [], Option, None, length};
+ghost use Rattle.std.specs.Prelude.{◌≡◌, ℕ, ⊤, ◌<◌, ◌≤◌, List, [], Option, None, length};
 ghost use Rattle.vx_io_traits.specs.Faults.{Rose};
 ghost use Rattle.vx_io_traits.specs.Rung.{OnDialFailed};
+ghost use Rattle.vx_io_traits.specs.declared.dials.DialOut.{DialOut};
 ghost use Rattle.vx_portmap.specs.Moves.{Moved, all_taken, all_given};
 ghost use Rattle.vx_portmap.specs.Boxes.{Takes, Adds, NoneLeft, read_by, ended_after, IfPacket, OnLast, OnTakeFailed, given_by, OnGiveFailed};
 
@@ -74,8 +75,16 @@ pub trait PacketBox: Packets {
     // How many openings failed: a `u64` that stays at its greatest value.
     ghost open_faults: { Self → ℕ };
 
-    /// Opens the port at which packets come.
+    // What one opening does, where the box tells it: the box before, the port, the answer, and the box after. One that tells its
+    // packets tells here that they are still those that it had.
+    ghost opens: { Self → ℕ → DialOut → Self → Type 0 } = { λ _ _ _ _. ⊤ };
+
+    /// Opens the port at which packets come. It takes none and gives none.
     fn open(&mut self, port: u16) -> DialOut
         ensures counted { open_faults self.old ≤ open_faults self.new }
-        ensures failed { OnDialFailed result (Rose (open_faults self.old) (open_faults self.new)) };
+        ensures failed { OnDialFailed result (Rose (open_faults self.old) (open_faults self.new)) }
+        ensures ended { Self.packets_ended self.new ≡ Self.packets_ended self.old }
+        ensures takes { Self.take_faults self.new ≡ Self.take_faults self.old }
+        ensures gives { Self.give_faults self.new ≡ Self.give_faults self.old }
+        ensures opens { opens self.old port result self.new };
 }

@@ -68,6 +68,8 @@ impl<D: Link, B> Link for MapHost<D, B> {
 }
 
 impl<D: Door, B> Door for MapHost<D, B> {
+    ghost use Rattle.std.specs.Prelude.{◌≡◌};
+
     ghost met = { λ h. D.met h.door };
 
     ghost ended = { λ h. D.ended h.door };
@@ -75,6 +77,9 @@ impl<D: Door, B> Door for MapHost<D, B> {
     ghost faults = { λ h. D.faults h.door };
 
     ghost tells = { D.tells };
+
+    // the box stays as it is
+    ghost opens = { λ old port answer new. D.opens old.door port answer new.door × (new.packets ≡ old.packets) };
 
     ghost meets = { λ old answer new. D.meets old.door answer new.door };
 
@@ -114,7 +119,12 @@ impl<D, B: Packets> Packets for MapHost<D, B> {
 }
 
 impl<D: Door, B: PacketBox> MapNet for MapHost<D, B> {
+    ghost use Rattle.std.specs.Prelude.{◌≡◌};
+
     ghost box_faults = { λ h. B.open_faults h.packets };
+
+    // the door stays as it is
+    ghost opens_box = { λ old port answer new. B.opens old.packets port answer new.packets × (new.door ≡ old.door) };
 
     fn packets(&mut self, port: u16) -> DialOut {
         self.packets.open(port)

@@ -103,7 +103,9 @@ fn open<N: MapNet>(ask: &Ask, net: &mut N) -> DialOut
       link = link_shown N.left N.peers N.receive_faults N.send_faults;
       box = box_shown N.packets_left N.packets_given N.packets_moved N.packets_ended N.take_faults N.give_faults;
       box_faults = N.box_faults;
-    }) ask.now.kind net.old result net.new }
+      opening = record { opens = N.opens; ready = N.is_ready };
+      opens_box = N.opens_box;
+    }) ask.now.kind ask.now.port net.old result net.new }
 {
     match ask.kind {
         Kind::Stream => net.open(ask.port),
@@ -142,6 +144,8 @@ fn work<N: MapNet>(ask: &Ask, ports: Ports, incoming: RecordBuf, net: &mut N) ->
       link = link_shown N.left N.peers N.receive_faults N.send_faults;
       box = box_shown N.packets_left N.packets_given N.packets_moved N.packets_ended N.take_faults N.give_faults;
       box_faults = N.box_faults;
+      opening = record { opens = N.opens; ready = N.is_ready };
+      opens_box = N.opens_box;
     }) ask.now.kind ports ask.now.number net.old result.0 result.1 net.new }
 {
     match ask.kind {
@@ -189,6 +193,8 @@ fn serve<N: MapNet, K: Sink>(
       link = link_shown N.left N.peers N.receive_faults N.send_faults;
       box = box_shown N.packets_left N.packets_given N.packets_moved N.packets_ended N.take_faults N.give_faults;
       box_faults = N.box_faults;
+      opening = record { opens = N.opens; ready = N.is_ready };
+      opens_box = N.opens_box;
     }) ask.now net.old net.new
         (record { bytes = K.taken sink.old; faults = K.faults sink.old })
         (record { bytes = K.taken sink.new; faults = K.faults sink.new }) result }
@@ -219,6 +225,8 @@ fn run_ask<N: MapNet, K: Sink>(alloc: Global, ask: &Ask, net: &mut N, sink: &mut
       link = link_shown N.left N.peers N.receive_faults N.send_faults;
       box = box_shown N.packets_left N.packets_given N.packets_moved N.packets_ended N.take_faults N.give_faults;
       box_faults = N.box_faults;
+      opening = record { opens = N.opens; ready = N.is_ready };
+      opens_box = N.opens_box;
     }) ask.now net.old net.new
         (record { bytes = K.taken sink.old; faults = K.faults sink.old })
         (record { bytes = K.taken sink.new; faults = K.faults sink.new }) result }
@@ -243,6 +251,8 @@ fn run<N: MapNet, K: Sink>(alloc: Global, words: &[String], net: &mut N, sink: &
       link = link_shown N.left N.peers N.receive_faults N.send_faults;
       box = box_shown N.packets_left N.packets_given N.packets_moved N.packets_ended N.take_faults N.give_faults;
       box_faults = N.box_faults;
+      opening = record { opens = N.opens; ready = N.is_ready };
+      opens_box = N.opens_box;
     }) (map string_bytes words.now) net.old net.new
         (record { bytes = K.taken sink.old; faults = K.faults sink.old })
         (record { bytes = K.taken sink.new; faults = K.faults sink.new }) result }
@@ -272,7 +282,8 @@ fn run<N: MapNet, K: Sink>(alloc: Global, words: &[String], net: &mut N, sink: &
 /// - 5, nothing printed and nothing opened: there was no memory.
 /// - 6: the sink failed; a front of what was due was written.
 ///
-/// A fault of a peer's stream ends that stream alone. No clause says that the port is that of the words.
+/// A fault of a peer's stream ends that stream alone. One port is opened, once: that of the words, as a net tells it that tells its
+/// openings.
 pub fn map_run<N: MapNet, K: Sink>(alloc: Global, words: &[String], net: &mut N, sink: &mut K) -> u8
     ensures { EndsRun (record {
       stands = N.stands;
@@ -284,6 +295,8 @@ pub fn map_run<N: MapNet, K: Sink>(alloc: Global, words: &[String], net: &mut N,
       link = link_shown N.left N.peers N.receive_faults N.send_faults;
       box = box_shown N.packets_left N.packets_given N.packets_moved N.packets_ended N.take_faults N.give_faults;
       box_faults = N.box_faults;
+      opening = record { opens = N.opens; ready = N.is_ready };
+      opens_box = N.opens_box;
     }) (map string_bytes words.now) net.old net.new
         (record { bytes = K.taken sink.old; faults = K.faults sink.old })
         (record { bytes = K.taken sink.new; faults = K.faults sink.new }) result }

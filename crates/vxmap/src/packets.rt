@@ -146,6 +146,8 @@ impl<R: Sockets> PacketBox for UdpBox<R> {
     fn open(&mut self, port: u16) -> DialOut
         ensures counted { self.old.open_faults ≤ self.new.open_faults }
         ensures failed { OnDialFailed result (self.new.open_faults ≡ one_more self.old.open_faults) }
+        ensures takes { self.new.take_faults ≡ self.old.take_faults }
+        ensures gives { self.new.give_faults ≡ self.old.give_faults }
     {
         match UdpSocket::bind(&self.rt, (Ipv4Addr::UNSPECIFIED, port)) {
             Ok(socket) => {

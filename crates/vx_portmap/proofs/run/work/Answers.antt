@@ -20,6 +20,8 @@ returns-in-Stream g c =
       link = link_shown g.N.Link.left g.N.Link.peers g.N.Link.receive_faults g.N.Link.send_faults;
       box = box_shown g.N.Packets.packets_left g.N.Packets.packets_given g.N.Packets.packets_moved g.N.Packets.packets_ended g.N.Packets.take_faults g.N.Packets.give_faults;
       box_faults = g.N.MapNet.box_faults;
+      opening = record { opens = g.N.Door.opens; ready = g.N.Link.is_ready };
+      opens_box = g.N.MapNet.opens_box;
     } in
     let serves = subst (λ s. ServesPeers n.stands n.tells n.waits n.door (StreamMapped n.stands n.receives n.sends n.link) is_own is_whole s c.args.net.now c.args.ask.now.number c.serve_door-end.result.0 c.serve_door-end.result.1 c.serve_door-end.new.server c.serve_door-end.new.door) c.new-mapper.ensures c.serve_door-end.ensures.served in
     subst (λ k. Works n k c.args.ports c.args.ask.now.number c.args.net.now c.end_of_door.result c.serve_door-end.result.1 c.serve_door-end.new.door) (sym c.in-Stream.is)
