@@ -3,6 +3,7 @@ use Rattle.std.proofs.Common.{◌≡◌, ◌≢◌, inl, inr, ℕ, true, false, 
 use Rattle.vx_io_traits.specs.Faults.{Rose}
 use Rattle.vx_io_traits.specs.ProvedLaws.{rose_earlier}
 use Rattle.vx_io_traits.specs.declared.dials.DialOut.TheVariants.{Up}
+use Rattle.vx_door.specs.Opening.{Opening, Opens}
 use Rattle.vx_door.specs.Running.{KeepsOwn}
 use Rattle.vx_door.specs.declared.serving.DoorEnd.{DoorEnd}
 use Rattle.vx_door.specs.declared.serving.DoorEnd.TheVariants as door
@@ -10,12 +11,11 @@ use Rattle.vx_text.specs.Ends.{End}
 use Rattle.vx_policy.specs.declared.rules.Rule.{Rule}
 use Rattle.vx_policy.specs.Texts.{served_line}
 use Rattle.vx_peers.specs.declared.words.Ask.{Ask}
-use Rattle.vx_peers.specs.Outcome.{Opens}
 use Rattle.vx_guard.specs.declared.status.Status.{Status}
 use Rattle.vx_guard.specs.declared.status.Status.TheVariants as status
 use Rattle.vx_guard.specs.declared.serving.Stop.{Stop}
 use Rattle.vx_guard.specs.declared.serving.Stop.TheVariants as stop
-use Rattle.vx_guard.specs.Peers.{GuardHas, GuardShows, GuardsPeer, StopsPeers, is_note_stop, serving}
+use Rattle.vx_guard.specs.Peers.{GuardHas, GuardShows, GuardsPeer, StopsPeers, is_note_stop}
 use Rattle.vx_guard.specs.Outcome.{Begins, Works, IsEnd, IsPortRun, IsRuledRun, PutsLine}
 
 module _ {B N : Type 0} (n : GuardShows B N) (rules : List Rule) (ask : Ask) (first : GuardHas) (opened : N) (last : GuardHas) (new : N) (before after : End)
@@ -74,9 +74,9 @@ module _ {B N : Type 0} (n : GuardShows B N) (rules : List Rule) (ask : Ask) (fi
   open-ended (stop.Door door.Served) stops failed how told = open-told door.Served (λ e. absurd cc) stops failed how told
   open-ended (stop.Door door.Ended) stops failed how told = open-told door.Ended (λ e. absurd cc) stops failed how told
 
-module _ {B N : Type 0} (n : GuardShows B N) (rules : List Rule) (ask : Ask) (old new : N) (before after : End) where
+module _ {B N : Type 0} (n : GuardShows B N) (rules : List Rule) (o : Opening N) (ask : Ask) (old new : N) (before after : End) where
   -- the port was opened, and the work there ended
-  pub port_opened : (opened : N) → Opens (serving n rules) old Up opened → (how : Status) → Works n rules ask opened new before after how → IsPortRun n rules ask old new before after how
+  pub port_opened : (opened : N) → Opens o n.stands n.door ask.port old Up opened → (how : Status) → Works n rules ask opened new before after how → IsPortRun n rules o ask old new before after how
   port_opened opened opens status.Served works = record { opened = opened; opens = opens; works = works }
   port_opened opened opens status.Usage works = record { opened = opened; opens = opens; works = works }
   port_opened opened opens status.PolicyFault works = record { opened = opened; opens = opens; works = works }
@@ -86,7 +86,7 @@ module _ {B N : Type 0} (n : GuardShows B N) (rules : List Rule) (ask : Ask) (ol
   port_opened opened opens status.SourceFailed works = record { opened = opened; opens = opens; works = works }
 
   -- there was memory
-  pub ruled_run : (how : Status) → IsPortRun n rules ask old new before after how → IsRuledRun n rules ask old new before after how
+  pub ruled_run : (how : Status) → IsPortRun n rules o ask old new before after how → IsRuledRun n rules o ask old new before after how
   ruled_run status.Served run = run
   ruled_run status.Usage run = run
   ruled_run status.PolicyFault run = run

@@ -6,6 +6,7 @@ pub mod Linking
 pub mod Peers
 pub mod Outcome
 pub use Rattle.vx_door.specs.Going
+pub use Rattle.vx_door.specs.Opening
 pub use Rattle.vx_door.specs.Peering
 pub use Rattle.vx_io_traits.specs.Faults
 pub use Rattle.vx_io_traits.specs.Stands

@@ -8,6 +8,7 @@ use Rattle.vx_text.specs.Ends.{End}
 use Rattle.vx_text.specs.Reading.{GivesAll, GivesTooMuch, GivesUpTo}
 use Rattle.vx_text.specs.Writing.{StopsIn}
 use Rattle.vx_text.specs.TextLines.{lines}
+use Rattle.vx_door.specs.Opening.{Opening, Opens}
 use Rattle.vx_door.specs.Running.{KeepsOwn}
 use Rattle.vx_door.specs.declared.serving.DoorEnd.TheVariants as door
 use Rattle.vx_policy.specs.declared.rules.Rule.{Rule}
@@ -19,7 +20,7 @@ use Rattle.vx_policy.specs.Texts.{usage_line, served_line, form_line, many_line,
 use Rattle.vx_peers.specs.declared.words.Ask.{Ask}
 use Rattle.vx_peers.specs.declared.serving.Status.{Status as DoorStatus}
 use Rattle.vx_peers.specs.declared.serving.Status.TheVariants as peers
-use Rattle.vx_peers.specs.Outcome.{Asks, AsksNothing, IsOpenServed, Opens}
+use Rattle.vx_peers.specs.Outcome.{Asks, AsksNothing, IsOpenServed}
 use Rattle.vx_guard.specs.declared.serving.Stop.{Stop}
 use Rattle.vx_guard.specs.declared.serving.Stop.TheVariants as stop
 use Rattle.vx_guard.specs.declared.status.Status.{Status}
@@ -127,40 +128,40 @@ module _ {B N : Type 0} (n : GuardShows B N) (rules : List Rule) where
     -- serving leaves the door's own counts as they are: they tell how many peers it met, and why no more
     pub keeps : KeepsOwn n.door (GuardsPeer n rules)
 
-  -- the port was opened, and the work there ended so
-  pub record OpensAndWorks (ask : Ask) (old new : N) (before after : End) (how : Status) : Type 0 where
+  -- the port that is asked for was opened, once and no other, and the work there ended so
+  pub record OpensAndWorks (o : Opening N) (ask : Ask) (old new : N) (before after : End) (how : Status) : Type 0 where
     pub opened : N
-    pub opens : Opens (serving n rules) old Up opened
+    pub opens : Opens o n.stands n.door ask.port old Up opened
     pub works : Works ask opened new before after how
 
   -- how the work at a port ends: that couldn't be opened, and nothing was served or written; or the work there ended
-  abbrev pub IsPortRun : Ask → N → N → End → End → Status → Type 0
-  IsPortRun ask old new before after status.NetFailed =
-      (Opens (serving n rules) old Failed new × (after ≡ before)) ⊎ OpensAndWorks ask old new before after status.NetFailed
-  IsPortRun ask old new before after how = OpensAndWorks ask old new before after how
+  abbrev pub IsPortRun : Opening N → Ask → N → N → End → End → Status → Type 0
+  IsPortRun o ask old new before after status.NetFailed =
+      (Opens o n.stands n.door ask.port old Failed new × (after ≡ before)) ⊎ OpensAndWorks o ask old new before after status.NetFailed
+  IsPortRun o ask old new before after how = OpensAndWorks o ask old new before after how
 
   -- how what is asked ends by these rules: there was no memory, and nothing was opened or written; or the work at the port ended
-  abbrev pub IsRuledRun : Ask → N → N → End → End → Status → Type 0
-  IsRuledRun ask old new before after status.NoMemory = (new ≡ old) × (after ≡ before)
-  IsRuledRun ask old new before after how = IsPortRun ask old new before after how
+  abbrev pub IsRuledRun : Opening N → Ask → N → N → End → End → Status → Type 0
+  IsRuledRun o ask old new before after status.NoMemory = (new ≡ old) × (after ≡ before)
+  IsRuledRun o ask old new before after how = IsPortRun o ask old new before after how
 
 -- the source gave rules, and the run by them ended so
-pub record RunsRules {B N : Type 0} (n : GuardShows B N) (ask : Ask) (old new : N) (ends : Ends) (how : Status) : Type 0 where
+pub record RunsRules {B N : Type 0} (n : GuardShows B N) (o : Opening N) (ask : Ask) (old new : N) (ends : Ends) (how : Status) : Type 0 where
   pub rules : List Rule
   pub gives : GivesRules ends.source ends.source_after rules
-  pub runs : IsRuledRun n rules ask old new ends.sink ends.sink_after how
+  pub runs : IsRuledRun n rules o ask old new ends.sink ends.sink_after how
 
 -- how what is asked ends: there are no rules, and nothing was opened; or the run by those that the source gave ended
-abbrev pub IsAskRun : {B N : Type 0} → GuardShows B N → Ask → N → N → Ends → Status → Type 0
-IsAskRun n ask old new ends how = (IsUnruled ends how × (new ≡ old)) ⊎ RunsRules n ask old new ends how
+abbrev pub IsAskRun : {B N : Type 0} → GuardShows B N → Opening N → Ask → N → N → Ends → Status → Type 0
+IsAskRun n o ask old new ends how = (IsUnruled ends how × (new ≡ old)) ⊎ RunsRules n o ask old new ends how
 
 -- How a run ends: the words ask nothing, which is told, and the source is unread; or what they ask is done.
-abbrev pub IsRun : {B N : Type 0} → GuardShows B N → List (List ℕ) → N → N → Ends → Status → Type 0
-IsRun n words old new ends how =
+abbrev pub IsRun : {B N : Type 0} → GuardShows B N → Opening N → List (List ℕ) → N → N → Ends → Status → Type 0
+IsRun n o words old new ends how =
     (AsksNothing words × (new ≡ old) × (ends.source_after ≡ ends.source)
     × PutsLine status.Usage usage_line ends.sink ends.sink_after how)
-    ⊎ ((ask : Ask) × Asks words ask × IsAskRun n ask old new ends how)
+    ⊎ ((ask : Ask) × Asks words ask × IsAskRun n o ask old new ends how)
 
 -- it ends with the number of its status
-abbrev pub EndsRun : {B N : Type 0} → GuardShows B N → List (List ℕ) → N → N → Ends → ℕ → Type 0
-EndsRun n words old new ends number = (how : Status) × (number ≡ status_number how) × IsRun n words old new ends how
+abbrev pub EndsRun : {B N : Type 0} → GuardShows B N → Opening N → List (List ℕ) → N → N → Ends → ℕ → Type 0
+EndsRun n o words old new ends number = (how : Status) × (number ≡ status_number how) × IsRun n o words old new ends how

@@ -118,7 +118,7 @@ fn run_gate<
       waits = N.meets;
       door = door_shown N.met N.ended N.faults N.receive_faults N.send_faults N.left N.peers;
       link = link_shown N.left N.peers N.receive_faults N.send_faults;
-    }) policy.now ask.now net.old net.new
+    }) policy.now (record { opens = N.opens; ready = N.is_ready }) ask.now net.old net.new
         (record { bytes = K.taken sink.old; faults = K.faults sink.old })
         (record { bytes = K.taken sink.new; faults = K.faults sink.new }) result }
 {
@@ -165,7 +165,7 @@ fn run_racked<R: Wait, N: Door + Peered, X: Tools, K: Sink, I: Instrument, M: Ra
       waits = N.meets;
       door = door_shown N.met N.ended N.faults N.receive_faults N.send_faults N.left N.peers;
       link = link_shown N.left N.peers N.receive_faults N.send_faults;
-    }) policy.now ask.now net.old net.new
+    }) policy.now (record { opens = N.opens; ready = N.is_ready }) ask.now net.old net.new
         (record { bytes = K.taken sink.old; faults = K.faults sink.old })
         (record { bytes = K.taken sink.new; faults = K.faults sink.new }) result }
 {
@@ -200,7 +200,7 @@ fn run_ruled<R: Wait, N: Door + Peered, X: Tools, K: Sink, I: Instrument>(
       waits = N.meets;
       door = door_shown N.met N.ended N.faults N.receive_faults N.send_faults N.left N.peers;
       link = link_shown N.left N.peers N.receive_faults N.send_faults;
-    }) policy.now ask.now net.old net.new
+    }) policy.now (record { opens = N.opens; ready = N.is_ready }) ask.now net.old net.new
         (record { bytes = K.taken sink.old; faults = K.faults sink.old })
         (record { bytes = K.taken sink.new; faults = K.faults sink.new }) result }
 {
@@ -229,7 +229,7 @@ fn run_ask<R: Wait, N: Door + Peered, X: Tools, S: Source, K: Sink, I: Instrumen
       waits = N.meets;
       door = door_shown N.met N.ended N.faults N.receive_faults N.send_faults N.left N.peers;
       link = link_shown N.left N.peers N.receive_faults N.send_faults;
-    }) ask.now net.old net.new
+    }) (record { opens = N.opens; ready = N.is_ready }) ask.now net.old net.new
         (record {
           source = record { bytes = S.left rules.old; faults = S.faults rules.old };
           source_after = record { bytes = S.left rules.new; faults = S.faults rules.new };
@@ -263,7 +263,7 @@ fn run<R: Wait, N: Door + Peered, X: Tools, S: Source, K: Sink, I: Instrument>(
       waits = N.meets;
       door = door_shown N.met N.ended N.faults N.receive_faults N.send_faults N.left N.peers;
       link = link_shown N.left N.peers N.receive_faults N.send_faults;
-    }) (map string_bytes words.now) net.old net.new
+    }) (record { opens = N.opens; ready = N.is_ready }) (map string_bytes words.now) net.old net.new
         (record {
           source = record { bytes = S.left rules.old; faults = S.faults rules.old };
           source_after = record { bytes = S.left rules.new; faults = S.faults rules.new };
@@ -295,8 +295,9 @@ fn run<R: Wait, N: Door + Peered, X: Tools, S: Source, K: Sink, I: Instrument>(
 /// - 6: the sink failed. Where that was in the line of a denial, no further link is served.
 /// - 7, nothing printed and nothing opened: the source of the rules failed.
 ///
-/// A fault of a link ends its session alone. That the spare stands on the bus at that address, and nothing else, is part of what is said of
-/// each poll ([`LoneBus`](vx_lone::LoneBus)). No clause says that the port is that of the words, nor which port of an abort channel is told.
+/// A fault of a link ends its session alone. One port is opened, once: that of the words, as a door tells it that tells its openings. That
+/// the spare stands on the bus at that address, and nothing else, is part of what is said of each poll ([`LoneBus`](vx_lone::LoneBus)). No
+/// clause says which port of an abort channel is told.
 pub fn guard_run<R: Wait, N: Door + Peered, X: Tools, S: Source, K: Sink, I: Instrument>(
     rt: &R,
     alloc: Global,
@@ -317,7 +318,7 @@ pub fn guard_run<R: Wait, N: Door + Peered, X: Tools, S: Source, K: Sink, I: Ins
       waits = N.meets;
       door = door_shown N.met N.ended N.faults N.receive_faults N.send_faults N.left N.peers;
       link = link_shown N.left N.peers N.receive_faults N.send_faults;
-    }) (map string_bytes words.now) net.old net.new
+    }) (record { opens = N.opens; ready = N.is_ready }) (map string_bytes words.now) net.old net.new
         (record {
           source = record { bytes = S.left rules.old; faults = S.faults rules.old };
           source_after = record { bytes = S.left rules.new; faults = S.faults rules.new };
