@@ -12,6 +12,7 @@ pub use Rattle.vx_session.specs.Placing
 pub use Rattle.vx_stream.specs.Shown
 pub use Rattle.vx_stream.specs.Stopping
 pub use Rattle.vx_door.specs.Going
+pub use Rattle.vx_door.specs.Opening
 pub use Rattle.vx_lone.specs.Lone
 pub use Rattle.vx_gates.specs.Four
 pub use Rattle.vx_gates.specs.Passing

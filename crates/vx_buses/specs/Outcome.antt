@@ -5,6 +5,7 @@ use Rattle.vx_io_traits.specs.declared.ReadOut.{ReadOut}
 use Rattle.vx_io_traits.specs.declared.WriteOut.{WriteOut}
 use Rattle.vx_text.specs.Ends.{End}
 use Rattle.vx_door.specs.Shown.{DoorShown}
+use Rattle.vx_door.specs.Opening.{Opening}
 use Rattle.vx_door.specs.Running.{KeepsOwn}
 use Rattle.vx_door.specs.declared.doors.Met.{Met}
 use Rattle.vx_peers.specs.declared.words.Ask.{Ask}
@@ -31,6 +32,7 @@ pub record Shows (N : Type 0) : Type 1 where
   pub waits : N → Met → N → Type 0
   pub door : N → DoorShown
   pub link : N → LinkShown
+  pub opening : Opening N
 
 module _ {B N : Type 0} (g : Ghosts B) (n : Shows N) where
   -- serving a link of the door
@@ -41,13 +43,13 @@ module _ {B N : Type 0} (g : Ghosts B) (n : Shows N) where
   abbrev pub hosted : peers.Shows N Hosting Linked
   hosted = record { stands = n.stands; tells = n.tells; waits = n.waits; door = n.door; did = Does; own = is_own; whole = is_whole }
 
-  -- The work at the port, by four gates that begin with nothing. As serving a link leaves the door's own counts, those tell how many
+  -- The work at the port that is asked for, by four gates that begin with nothing. As serving a link leaves the door's own counts, those tell how many
   -- it met over the whole run.
   pub record Hosts (ask : Ask) (old new : N) (before after : End) (how : Status) : Type 0 where
     pub server : Hosting
     pub begins : Begins server
     pub server' : Hosting
-    pub served : IsServed hosted ask server old server' new before after how
+    pub served : IsServed hosted n.opening ask server old server' new before after how
     pub keeps : KeepsOwn n.door Does
 
   -- How what is asked ends: there was no memory, and nothing was opened or written; or the work at the port ended.

@@ -44,6 +44,7 @@ fn serve_ask<R: Wait, B: Bus + Drop, N: Door, X: Tools, K: Sink>(
       waits = N.meets;
       door = door_shown N.met N.ended N.faults N.receive_faults N.send_faults N.left N.peers;
       link = link_shown N.left N.peers N.receive_faults N.send_faults;
+      opening = record { opens = N.opens; ready = N.is_ready };
     }) ask.now net.old net.new
         (record { bytes = K.taken sink.old; faults = K.faults sink.old })
         (record { bytes = K.taken sink.new; faults = K.faults sink.new }) result }
@@ -81,6 +82,7 @@ fn run_racked<R: Wait, I: Instrument, N: Door, X: Tools, K: Sink, M: Racked>(
       waits = N.meets;
       door = door_shown N.met N.ended N.faults N.receive_faults N.send_faults N.left N.peers;
       link = link_shown N.left N.peers N.receive_faults N.send_faults;
+      opening = record { opens = N.opens; ready = N.is_ready };
     }) ask.now net.old net.new
         (record { bytes = K.taken sink.old; faults = K.faults sink.old })
         (record { bytes = K.taken sink.new; faults = K.faults sink.new }) result }
@@ -113,6 +115,7 @@ fn run_ask<R: Wait, I: Instrument, N: Door, X: Tools, K: Sink>(
       waits = N.meets;
       door = door_shown N.met N.ended N.faults N.receive_faults N.send_faults N.left N.peers;
       link = link_shown N.left N.peers N.receive_faults N.send_faults;
+      opening = record { opens = N.opens; ready = N.is_ready };
     }) ask.now net.old net.new
         (record { bytes = K.taken sink.old; faults = K.faults sink.old })
         (record { bytes = K.taken sink.new; faults = K.faults sink.new }) result }
@@ -138,6 +141,7 @@ fn run<R: Wait, I: Instrument, N: Door, X: Tools, K: Sink>(
       waits = N.meets;
       door = door_shown N.met N.ended N.faults N.receive_faults N.send_faults N.left N.peers;
       link = link_shown N.left N.peers N.receive_faults N.send_faults;
+      opening = record { opens = N.opens; ready = N.is_ready };
     }) (map string_bytes words.now) net.old net.new
         (record { bytes = K.taken sink.old; faults = K.faults sink.old })
         (record { bytes = K.taken sink.new; faults = K.faults sink.new }) result }
@@ -163,8 +167,9 @@ fn run<R: Wait, I: Instrument, N: Door, X: Tools, K: Sink>(
 /// - 5, nothing printed and nothing opened: there was no memory.
 /// - 6: the sink failed; a front of what was due was written.
 ///
-/// A fault of a link ends that link alone. That each bus has one instrument of the rack at that address, and nothing else, is part of what
-/// is said of each poll ([`LoneBus`](vx_lone::LoneBus)). No clause says which of the four it is, nor that the port is that of the words.
+/// A fault of a link ends that link alone. One port is opened, once: that of the words, as a door tells it that tells its openings. That
+/// each bus has one instrument of the rack at that address, and nothing else, is part of what is said of each poll
+/// ([`LoneBus`](vx_lone::LoneBus)). No clause says which of the four it is.
 pub fn buses_run<R: Wait, I: Instrument, N: Door, X: Tools, K: Sink>(
     rt: &R,
     alloc: Global,
@@ -183,6 +188,7 @@ pub fn buses_run<R: Wait, I: Instrument, N: Door, X: Tools, K: Sink>(
       waits = N.meets;
       door = door_shown N.met N.ended N.faults N.receive_faults N.send_faults N.left N.peers;
       link = link_shown N.left N.peers N.receive_faults N.send_faults;
+      opening = record { opens = N.opens; ready = N.is_ready };
     }) (map string_bytes words.now) net.old net.new
         (record { bytes = K.taken sink.old; faults = K.faults sink.old })
         (record { bytes = K.taken sink.new; faults = K.faults sink.new }) result }

@@ -28,6 +28,7 @@ shows g = record {
   waits = g.N.Door.meets;
   door = door_shown g.N.Door.met g.N.Door.ended g.N.Door.faults g.N.Link.receive_faults g.N.Link.send_faults g.N.Link.left g.N.Link.peers;
   link = link_shown g.N.Link.left g.N.Link.peers g.N.Link.receive_faults g.N.Link.send_faults;
+  opening = record { opens = g.N.Door.opens; ready = g.N.Link.is_ready };
 }
 
 -- the door with its server, of which all is known
@@ -47,7 +48,7 @@ returns g c = record {
   server = record { passes = passes_shown c.args.passes; told = g.X.C.Clock.told c.clock.result };
   begins = record { gates = gates_shown c.args.buses; first = c.requires.first };
   server' = view g c.serve_peers.new.server;
-  served = told_served (known g) (view g) (Does g.B.Bus (shows g)) (λ s s' d d' how did. did) c.args.ask.now _ c.args.net.now c.serve_peers.new.server c.serve_peers.new.net _ _
+  served = told_served (known g) (view g) (Does g.B.Bus (shows g)) (λ s s' d d' how did. did) (shows g).opening c.args.ask.now _ c.args.net.now c.serve_peers.new.server c.serve_peers.new.net _ _
       c.serve_peers.result c.serve_peers.ensures;
   keeps = λ s t d e how did. went_keeps g.N.Link.receives g.N.Link.sends g.N.Door.met g.N.Door.ended g.N.Door.faults g.met.N.Door.receive_keeps g.met.N.Door.send_keeps d e did.went;
 }
