@@ -6,13 +6,16 @@ use std::alloc::{AllocError, Global};
 use std::test::Fail;
 use vx_portmap::*;
 
-// Packets, as words; the numbers of the box's calls that fail; the limit; how it ends; and the packets that are given, as words.
+// What goes through a box: whether it is given to it, or taken from it, and the packet, as words.
+type Move = (bool, &'static [u32]);
+
+// Packets, as words; the numbers of the box's calls that fail; the limit; how it ends; and what goes through the box.
 struct Row {
     packets: &'static [&'static [u32]],
     fails: &'static [u64],
     limit: u32,
     end: PacketEnd,
-    given: &'static [&'static [u32]],
+    moved: &'static [Move],
 }
 
 const GETPORT: &[u32] = &[9, 0, 2, 100000, 2, 3, 0, 0, 0, 0, 0x0607AF, 1, 6, 0];
@@ -32,22 +35,22 @@ static ROWS: [Row; 9] = [
         fails: &[],
         limit: 1,
         end: PacketEnd::Served,
-        given: &[PORT],
+        moved: &[(false, GETPORT), (true, PORT)],
     },
     Row {
         packets: &[GETPORT],
         fails: &[],
         limit: 0,
         end: PacketEnd::Served,
-        given: &[],
+        moved: &[],
     },
-    // More than the limit.
+    // More than the limit. Each reply goes before the next packet is taken.
     Row {
         packets: &[NULL, GETPORT, NULL],
         fails: &[],
         limit: 2,
         end: PacketEnd::Served,
-        given: &[DONE, PORT],
+        moved: &[(false, NULL), (true, DONE), (false, GETPORT), (true, PORT)],
     },
     // A reply, and a packet of no bytes, which have none.
     Row {
@@ -55,7 +58,14 @@ static ROWS: [Row; 9] = [
         fails: &[],
         limit: 4,
         end: PacketEnd::Served,
-        given: &[PORT, DONE],
+        moved: &[
+            (false, GETPORT),
+            (true, PORT),
+            (false, REPLY),
+            (false, &[]),
+            (false, NULL),
+            (true, DONE),
+        ],
     },
     // Fewer than the limit.
     Row {
@@ -63,7 +73,7 @@ static ROWS: [Row; 9] = [
         fails: &[],
         limit: 3,
         end: PacketEnd::Ended,
-        given: &[PORT, DONE],
+        moved: &[(false, GETPORT), (true, PORT), (false, NULL), (true, DONE)],
     },
     // The second take fails, and the first.
     Row {
@@ -71,14 +81,14 @@ static ROWS: [Row; 9] = [
         fails: &[3],
         limit: 2,
         end: PacketEnd::ReadFault,
-        given: &[PORT],
+        moved: &[(false, GETPORT), (true, PORT)],
     },
     Row {
         packets: &[GETPORT],
         fails: &[1],
         limit: 1,
         end: PacketEnd::ReadFault,
-        given: &[],
+        moved: &[],
     },
     // The second give fails, also at the limit.
     Row {
@@ -86,16 +96,25 @@ static ROWS: [Row; 9] = [
         fails: &[4],
         limit: 3,
         end: PacketEnd::WriteFault,
-        given: &[PORT],
+        moved: &[(false, GETPORT), (true, PORT), (false, NULL)],
     },
     Row {
         packets: &[GETPORT, NULL],
         fails: &[4],
         limit: 2,
         end: PacketEnd::WriteFault,
-        given: &[PORT],
+        moved: &[(false, GETPORT), (true, PORT), (false, NULL)],
     },
 ];
+
+/// What is to go through a box, as bytes.
+fn moves_of(alloc: Global, moves: &[Move]) -> Result<Vec<(bool, Vec<u8>)>, AllocError> {
+    let mut all = Vec::new(alloc);
+    for (is_given, packet) in moves {
+        all.push((*is_given, spelled(alloc, packet)?))?;
+    }
+    Ok(all)
+}
 
 /// Packets of words, as bytes.
 fn packets_of(alloc: Global, packets: &[&[u32]]) -> Result<Vec<Vec<u8>>, AllocError> {
@@ -110,11 +129,11 @@ fn packets_of(alloc: Global, packets: &[&[u32]]) -> Result<Vec<Vec<u8>>, AllocEr
 fn is_so(alloc: Global, row: &Row) -> Result<bool, AllocError> {
     let fails = row.fails.to_vec(alloc)?;
     let packets = packets_of(alloc, row.packets)?;
-    let wanted = packets_of(alloc, row.given)?;
+    let wanted = moves_of(alloc, row.moved)?;
     let mut packets = MemPackets::new(alloc, packets, fails);
     let end = map_packets(&both(), &mut packets, row.limit);
     let ended = u64::from(row.end == PacketEnd::Ended);
-    Ok(end == row.end && packets.ended() == ended && packets.given() == wanted.as_slice())
+    Ok(end == row.end && packets.ended() == ended && packets.moved_so(&wanted))
 }
 
 #[test]
@@ -126,14 +145,16 @@ fn packets_are_answered_in_order(rt: HostRuntime) -> Result<(), Fail> {
     Ok(())
 }
 
-/// Whether a null call with so many zeros behind it is served, and given this answer alone.
+/// Whether of a null call with so many zeros behind it 1,024 bytes are read, and it is given this answer alone.
 fn is_cut(alloc: Global, zeros: usize, answer: &[u32]) -> Result<bool, AllocError> {
     let mut packets = Vec::new(alloc);
     packets.push(padded(alloc, NULL, zeros)?)?;
-    let wanted = packets_of(alloc, &[answer])?;
+    let mut wanted = Vec::new(alloc);
+    wanted.push((false, padded(alloc, NULL, 984)?))?;
+    wanted.push((true, spelled(alloc, answer)?))?;
     let mut packets = MemPackets::new(alloc, packets, Vec::new(alloc));
     let end = map_packets(&Ports::new(), &mut packets, 1);
-    Ok(end == PacketEnd::Served && packets.given() == wanted.as_slice())
+    Ok(end == PacketEnd::Served && packets.moved_so(&wanted))
 }
 
 // A packet above 1,024 bytes is answered as its front.

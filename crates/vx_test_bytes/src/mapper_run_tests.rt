@@ -11,7 +11,7 @@ type Host = MapHost<MemDoor, MemPackets>;
 
 // The words; messages, as words, each of which is the one record of a stream, and a packet; the numbers of the door's calls, of
 // the box's and of the sink's that fail; the status, what is printed, and what the first peer is sent and the first packet that is
-// given, as words.
+// given, as words; and the ports that the door and the box are opened at.
 #[derive(Clone, Copy)]
 struct Row {
     words: &'static [&'static str],
@@ -23,6 +23,7 @@ struct Row {
     text: &'static str,
     sent: &'static [u32],
     given: &'static [u32],
+    ports: (Option<u16>, Option<u16>),
 }
 
 const GETPORT: &[u32] = &[9, 0, 2, 100000, 2, 3, 0, 0, 0, 0, 0x0607AF, 1, 6, 0];
@@ -48,6 +49,15 @@ const ROW: Row = Row {
     text: "mapping 111\nserved 1\n",
     sent: MARKED,
     given: &[],
+    ports: (Some(111), None),
+};
+
+/// The port isn't opened.
+const CLOSED: Row = Row {
+    text: "",
+    sent: &[],
+    ports: (None, None),
+    ..ROW
 };
 
 static ROWS: [Row; 14] = [
@@ -56,12 +66,14 @@ static ROWS: [Row; 14] = [
         words: PACKETS,
         sent: &[],
         given: PORT,
+        ports: (None, Some(111)),
         ..ROW
     },
     // The door and the box have fewer.
     Row {
         words: &["stream", "1", "9010", "9011", "1000000"],
         text: "mapping 1\nserved 1\n",
+        ports: (Some(1), None),
         ..ROW
     },
     Row {
@@ -69,6 +81,7 @@ static ROWS: [Row; 14] = [
         text: "mapping 65535\nserved 1\n",
         sent: &[],
         given: PORT,
+        ports: (None, Some(65535)),
         ..ROW
     },
     Row {
@@ -81,9 +94,7 @@ static ROWS: [Row; 14] = [
     Row {
         door_fails: &[1],
         status: 3,
-        text: "",
-        sent: &[],
-        ..ROW
+        ..CLOSED
     },
     Row {
         door_fails: &[2],
@@ -103,9 +114,7 @@ static ROWS: [Row; 14] = [
         words: PACKETS,
         box_fails: &[1],
         status: 3,
-        text: "",
-        sent: &[],
-        ..ROW
+        ..CLOSED
     },
     Row {
         words: PACKETS,
@@ -113,6 +122,7 @@ static ROWS: [Row; 14] = [
         status: 3,
         text: "mapping 111\n",
         sent: &[],
+        ports: (None, Some(111)),
         ..ROW
     },
     Row {
@@ -121,6 +131,7 @@ static ROWS: [Row; 14] = [
         status: 3,
         text: "mapping 111\n",
         sent: &[],
+        ports: (None, Some(111)),
         ..ROW
     },
     // The sink fails in its first write, and in its second.
@@ -141,8 +152,7 @@ static ROWS: [Row; 14] = [
         words: &["stream", "0", "9010", "9011", "1"],
         status: 1,
         text: USAGE,
-        sent: &[],
-        ..ROW
+        ..CLOSED
     },
 ];
 
@@ -210,11 +220,13 @@ fn host_of(alloc: Global, row: &Row) -> Result<Host, Fail> {
 /// Whether the first peer was sent these bytes, and the first packet that was given has those; nothing where there are none.
 fn went_out(host: &Host, sent: &[u8], given: &[u8]) -> bool {
     let (door, packets) = host.parts();
-    let packet = match packets.given() {
-        [packet, ..] => packet.as_slice(),
-        [] => &[],
-    };
-    door.sent(0).unwrap_or(&[]) == sent && packet == given
+    door.sent(0).unwrap_or(&[]) == sent && packets.first_given() == given
+}
+
+/// Whether the door and the box were opened at these ports.
+fn were_opened(host: &Host, ports: (Option<u16>, Option<u16>)) -> bool {
+    let (door, packets) = host.parts();
+    door.port() == ports.0 && packets.port() == ports.1
 }
 
 /// Whether a row comes out as it is written.
@@ -226,7 +238,7 @@ fn comes_out(alloc: Global, row: &Row) -> Result<bool, Fail> {
     let mut host = host_of(alloc, row)?;
     let status = map_run(alloc, &words, &mut host, &mut sink);
     let is_told = status == row.status && sink.bytes() == row.text.as_bytes();
-    Ok(is_told && went_out(&host, &sent, &given))
+    Ok(is_told && went_out(&host, &sent, &given) && were_opened(&host, row.ports))
 }
 
 #[test]
@@ -246,8 +258,7 @@ fn words_of_another_form(rt: HostRuntime) -> Result<(), Fail> {
             words,
             status: 1,
             text: USAGE,
-            sent: &[],
-            ..ROW
+            ..CLOSED
         };
         let comes_out = comes_out(rt.alloc(), &row)?;
         assert!(rt; comes_out, "in row {number}");

@@ -1,21 +1,32 @@
 //! A box of packets over memory.
 
-ghost use Rattle.std.specs.Prelude.{◌≡◌, ◌≤◌, ◌<◌, ◌+◌, Some, [], ◌∷◌, length, take, drop, map};
+ghost use Rattle.std.specs.Prelude.{◌≡◌, ◌≤◌, ◌<◌, ◌+◌, Some, [], ◌∷◌, length, take, drop, map, if◌then◌else◌};
+ghost use Rattle.vx_io_traits.specs.Faults.{one_more};
+ghost use Rattle.vx_io_traits.specs.Rung.{is_up};
 ghost use Rattle.vx_portmap.specs.Boxes.{Takes, Adds};
-ghost use Rattle.vx_test_bytes.specs.Kept.{kept};
+ghost use Rattle.vx_test_bytes.specs.Kept.{kept, moved_of, given_among};
 
 use std::alloc::Global;
 use vx_io_traits::DialOut;
 use vx_portmap::{Given, Packet, PacketBox, Packets};
 
-/// Packets that are handed out in order, and those that were given. The calls whose numbers, counted from 1 over openings, takes
-/// and gives together, stand in `fails` fail, and so does a give for which there is no memory.
+/// A packet that was given, or one that was taken, as it was read.
+#[derive(Drop)]
+struct MemMoved {
+    is_given: bool,
+    packet: Vec<u8>,
+}
+
+/// Packets that are handed out in order, and all that went through, both ways. It keeps the port that it was opened at last. The calls
+/// whose numbers, counted from 1 over openings, takes and gives together, stand in `fails` fail, and so does a take and a give for which
+/// there is no memory.
 #[derive(Drop)]
 pub(crate) struct MemPackets {
     alloc: Global,
     packets: Vec<Vec<u8>>,
     at: usize,
-    given: Vec<Vec<u8>>,
+    moved: Vec<MemMoved>,
+    port: Option<u16>,
     fails: Vec<u64>,
     calls: u64,
     ended: u64,
@@ -50,7 +61,8 @@ impl MemPackets {
             alloc,
             packets,
             at: 0,
-            given: Vec::new(alloc),
+            moved: Vec::new(alloc),
+            port: None,
             fails,
             calls: 0,
             ended: 0,
@@ -60,9 +72,28 @@ impl MemPackets {
         }
     }
 
-    /// The packets that it was given.
-    pub(crate) fn given(&self) -> &[Vec<u8>] {
-        self.given.as_slice()
+    /// Whether this went through it and nothing else, in this order: packets, and whether each was given to it or taken.
+    pub(crate) fn moved_so(&self, wanted: &[(bool, Vec<u8>)]) -> bool {
+        let mut same = self.moved.len() == wanted.len();
+        for (moved, (is_given, packet)) in self.moved.iter().zip(wanted.iter()) {
+            same = same && moved.is_given == *is_given && moved.packet == *packet;
+        }
+        same
+    }
+
+    /// The first packet that it was given, or nothing.
+    pub(crate) fn first_given(&self) -> &[u8] {
+        for moved in &self.moved {
+            if moved.is_given {
+                return moved.packet.as_slice();
+            }
+        }
+        &[]
+    }
+
+    /// The port that it was opened at last, or none.
+    pub(crate) fn port(&self) -> Option<u16> {
+        self.port
     }
 
     /// How often it told that no more packets come.
@@ -74,36 +105,56 @@ impl MemPackets {
     fn fails_now(&mut self) -> bool
         ensures packets { self.new.packets ≡ self.old.packets }
         ensures at { self.new.at ≡ self.old.at }
-        ensures given { self.new.given ≡ self.old.given }
+        ensures moved { self.new.moved ≡ self.old.moved }
+        ensures port { self.new.port ≡ self.old.port }
         ensures ended { self.new.ended ≡ self.old.ended }
         ensures take_faults { self.new.take_faults ≡ self.old.take_faults }
         ensures give_faults { self.new.give_faults ≡ self.old.give_faults }
         ensures open_faults { self.new.open_faults ≡ self.old.open_faults }
+        ensures calls { self.new.calls ≡ one_more self.old.calls }
     {
         self.calls = self.calls.saturating_add(1);
         self.fails.contains(&self.calls)
     }
 
-    /// Keeps a packet, where there is memory for it.
-    fn keep(&mut self, packet: &[u8]) -> bool
+    /// Keeps a packet that was given or taken, where there is memory for it.
+    fn put(&mut self, is_given: bool, packet: &[u8]) -> bool
         ensures packets { self.new.packets ≡ self.old.packets }
         ensures at { self.new.at ≡ self.old.at }
-        ensures given { Adds (Some (map (λ p. p.items) self.old.given.items)) (Some (map (λ p. p.items) self.new.given.items)) (kept result packet.now) }
+        ensures moved { Adds (Some (map (λ m. moved_of m.is_given m.packet.items) self.old.moved.items))
+            (Some (map (λ m. moved_of m.is_given m.packet.items) self.new.moved.items)) (kept result (moved_of is_given packet.now)) }
         ensures ended { self.new.ended ≡ self.old.ended }
         ensures take_faults { self.new.take_faults ≡ self.old.take_faults }
         ensures give_faults { self.new.give_faults ≡ self.old.give_faults }
     {
         match packet.to_vec(self.alloc) {
-            Ok(packet) => self.given.push(packet).is_ok(),
+            Ok(packet) => self.moved.push(MemMoved { is_given, packet }).is_ok(),
             Err(_) => false,
         }
+    }
+
+    /// The same. What it was given is behind what it was given before.
+    fn keep(&mut self, is_given: bool, packet: &[u8]) -> bool
+        ensures packets { self.new.packets ≡ self.old.packets }
+        ensures at { self.new.at ≡ self.old.at }
+        ensures moved { Adds (Some (map (λ m. moved_of m.is_given m.packet.items) self.old.moved.items))
+            (Some (map (λ m. moved_of m.is_given m.packet.items) self.new.moved.items)) (kept result (moved_of is_given packet.now)) }
+        ensures given { Adds (Some (given_among (map (λ m. moved_of m.is_given m.packet.items) self.old.moved.items)))
+            (Some (given_among (map (λ m. moved_of m.is_given m.packet.items) self.new.moved.items))) (given_among (kept result (moved_of is_given packet.now))) }
+        ensures ended { self.new.ended ≡ self.old.ended }
+        ensures take_faults { self.new.take_faults ≡ self.old.take_faults }
+        ensures give_faults { self.new.give_faults ≡ self.old.give_faults }
+    {
+        self.put(is_given, packet)
     }
 }
 
 impl Packets for MemPackets {
     ghost packets_left = { λ b. Some (drop b.at (map (λ p. p.items) b.packets.items)) };
 
-    ghost packets_given = { λ b. Some (map (λ p. p.items) b.given.items) };
+    ghost packets_given = { λ b. Some (given_among (map (λ m. moved_of m.is_given m.packet.items) b.moved.items)) };
+
+    ghost packets_moved = { λ b. Some (map (λ m. moved_of m.is_given m.packet.items) b.moved.items) };
 
     ghost packets_ended = { λ b. b.ended };
 
@@ -121,12 +172,16 @@ impl Packets for MemPackets {
             return Packet::Ended;
         }
         let len = copy_at(&self.packets, self.at, into);
+        if !self.keep(false, &into[..len]) {
+            self.take_faults = self.take_faults.saturating_add(1);
+            return Packet::Failed;
+        }
         self.at += 1;
         Packet::Got(len)
     }
 
     fn give(&mut self, from: &[u8]) -> Given {
-        if !self.fails_now() && self.keep(from) {
+        if !self.fails_now() && self.keep(true, from) {
             return Given::Sent;
         }
         self.give_faults = self.give_faults.saturating_add(1);
@@ -137,11 +192,16 @@ impl Packets for MemPackets {
 impl PacketBox for MemPackets {
     ghost open_faults = { λ b. b.open_faults };
 
-    fn open(&mut self, _port: u16) -> DialOut {
+    // one call, which keeps the port where it was opened; its packets are those that it had
+    ghost opens = { λ old port answer new. (new.port ≡ (if is_up answer then Some port else old.port)) × (new.calls ≡ one_more old.calls)
+        × (new.packets ≡ old.packets) × (new.at ≡ old.at) × (new.moved ≡ old.moved) };
+
+    fn open(&mut self, port: u16) -> DialOut {
         if self.fails_now() {
             self.open_faults = self.open_faults.saturating_add(1);
             return DialOut::Failed;
         }
+        self.port = Some(port);
         DialOut::Up
     }
 }
