@@ -79,7 +79,7 @@ const THIRD_TOOK: [u32; 80] = [
 ];
 
 // The words; what each peer gives; the numbers of the door's calls and of the sink's that fail; the status, what is printed, and what
-// each peer that was met is sent.
+// each peer that was met is sent; and the port that is opened.
 #[derive(Clone, Copy)]
 struct Row {
     words: &'static [&'static str],
@@ -89,6 +89,7 @@ struct Row {
     status: u8,
     text: &'static str,
     took: &'static [&'static [u32]],
+    port: Option<u16>,
 }
 
 const USAGE: &str = "usage: vxbuses PORT N\n";
@@ -101,6 +102,7 @@ const ROW: Row = Row {
     status: 0,
     text: "served 1\n",
     took: &[&FIRST_TOOK],
+    port: Some(9010),
 };
 
 static ROWS: [Row; 11] = [
@@ -123,6 +125,7 @@ static ROWS: [Row; 11] = [
     Row {
         words: &["1", "1"],
         gives: &[&FIRST, &SECOND],
+        port: Some(1),
         ..ROW
     },
     // the door has fewer
@@ -131,6 +134,7 @@ static ROWS: [Row; 11] = [
         gives: &[&FIRST, &SECOND],
         text: "served 2\n",
         took: &[&FIRST_TOOK, &SECOND_TOOK],
+        port: Some(65535),
         ..ROW
     },
     Row {
@@ -145,6 +149,7 @@ static ROWS: [Row; 11] = [
         status: 3,
         text: "",
         took: &[],
+        port: None,
         ..ROW
     },
     Row {
@@ -175,6 +180,7 @@ static ROWS: [Row; 11] = [
         status: 6,
         text: "",
         took: &[],
+        port: None,
         ..ROW
     },
 ];
@@ -244,7 +250,7 @@ fn comes_out<R: Wait>(rt: &R, alloc: Global, row: &Row) -> Result<bool, Fail> {
     let mut tools = StillTools { alloc };
     let status = buses_run(rt, alloc, &words, &mut door, &mut tools, &mut sink, rack);
     let as_written = status == row.status && sink.bytes() == row.text.as_bytes();
-    Ok(as_written && were_sent(&door, row.took))
+    Ok(as_written && were_sent(&door, row.took) && door.port() == row.port)
 }
 
 #[test]
@@ -264,6 +270,7 @@ fn words_of_another_form(rt: HostRuntime) -> Result<(), Fail> {
             status: 1,
             text: USAGE,
             took: &[],
+            port: None,
             ..ROW
         };
         let is_so = comes_out(&rt, rt.alloc(), &row)?;

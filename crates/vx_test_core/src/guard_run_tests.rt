@@ -12,7 +12,7 @@ use vx_rack::{Echo, Spare};
 
 /// The words; the rules, so many times, and so many `#` behind them; how many peers there are, each of which gives the same; which
 /// reads of the rules fail, which calls of the door, and which writes to the sink; the status, what is printed, how many peers were
-/// met, and what the first of them is sent.
+/// met, and what the first of them is sent; and the port that is opened.
 #[derive(Clone, Copy)]
 struct Row {
     name: &'static str,
@@ -29,6 +29,7 @@ struct Row {
     text: &'static [u8],
     met: usize,
     took: &'static [u32],
+    port: Option<u16>,
 }
 
 /// A create_link: xid 1, client 42, no lock, the device `gpib0,5`; and a device_write: xid 2, link 1, the byte `A` with END.
@@ -64,6 +65,7 @@ const ROW: Row = Row {
     text: b"deny 1 1\nserved 1\n",
     met: 1,
     took: &DENIED,
+    port: Some(111),
 };
 
 /// No peer is met.
@@ -71,6 +73,12 @@ const EARLY: Row = Row {
     met: 0,
     took: &[],
     ..ROW
+};
+
+/// The port isn't opened.
+const CLOSED: Row = Row {
+    port: None,
+    ..EARLY
 };
 
 static ROWS: [Row; 27] = [
@@ -104,11 +112,13 @@ static ROWS: [Row; 27] = [
         peers: 3,
         text: b"deny 1 1\nserved 2\n",
         met: 2,
+        port: Some(65535),
         ..ROW
     },
     Row {
         name: "fewer peers than are asked for",
         words: &["1", "1000000"],
+        port: Some(1),
         ..ROW
     },
     Row {
@@ -162,7 +172,7 @@ static ROWS: [Row; 27] = [
         door_fails: &[1],
         status: 3,
         text: b"",
-        ..EARLY
+        ..CLOSED
     },
     Row {
         name: "the first peer can't be met",
@@ -183,14 +193,14 @@ static ROWS: [Row; 27] = [
         rules: b"allow * * 31",
         status: 2,
         text: b"fault line 1 form\n",
-        ..EARLY
+        ..CLOSED
     },
     Row {
         name: "the first line of another form, where skipped ones count",
         rules: b"# all may read\n\nallow * read *\nallow *\nother\n",
         status: 2,
         text: b"fault line 4 form\n",
-        ..EARLY
+        ..CLOSED
     },
     Row {
         name: "257 rules",
@@ -198,7 +208,7 @@ static ROWS: [Row; 27] = [
         times: 257,
         status: 2,
         text: b"fault many\n",
-        ..EARLY
+        ..CLOSED
     },
     Row {
         name: "256 rules, in as many bytes as there may be",
@@ -216,7 +226,7 @@ static ROWS: [Row; 27] = [
         pad: 1_045_505,
         status: 2,
         text: b"fault long\n",
-        ..EARLY
+        ..CLOSED
     },
     Row {
         name: "a policy's fault that isn't taken",
@@ -224,21 +234,21 @@ static ROWS: [Row; 27] = [
         sink_fails: &[1],
         status: 6,
         text: b"",
-        ..EARLY
+        ..CLOSED
     },
     Row {
         name: "a source that fails",
         source_fails: &[1],
         status: 7,
         text: b"",
-        ..EARLY
+        ..CLOSED
     },
     Row {
         name: "a source that fails behind the rules",
         source_fails: &[2],
         status: 7,
         text: b"",
-        ..EARLY
+        ..CLOSED
     },
     Row {
         name: "no words",
@@ -246,35 +256,35 @@ static ROWS: [Row; 27] = [
         source_fails: &[1],
         status: 1,
         text: USAGE,
-        ..EARLY
+        ..CLOSED
     },
     Row {
         name: "one word",
         words: &["111"],
         status: 1,
         text: USAGE,
-        ..EARLY
+        ..CLOSED
     },
     Row {
         name: "a port above the greatest",
         words: &["65536", "1"],
         status: 1,
         text: USAGE,
-        ..EARLY
+        ..CLOSED
     },
     Row {
         name: "a leading zero",
         words: &["0111", "1"],
         status: 1,
         text: USAGE,
-        ..EARLY
+        ..CLOSED
     },
     Row {
         name: "too many links",
         words: &["111", "1000001"],
         status: 1,
         text: USAGE,
-        ..EARLY
+        ..CLOSED
     },
     Row {
         name: "a usage line that isn't taken",
@@ -282,7 +292,7 @@ static ROWS: [Row; 27] = [
         sink_fails: &[1],
         status: 6,
         text: b"",
-        ..EARLY
+        ..CLOSED
     },
 ];
 
@@ -341,7 +351,8 @@ fn went<R: Wait>(rt: &R, alloc: Global, row: &Row) -> Option<bool> {
     let status = guard_run(
         rt, alloc, &words, &mut rules, &mut door, &mut tools, &mut sink, rack,
     );
-    Some(status == row.status && sink.bytes() == row.text && met_so(&door, row))
+    let as_written = status == row.status && sink.bytes() == row.text;
+    Some(as_written && met_so(&door, row) && door.port() == row.port)
 }
 
 #[test]
