@@ -48,8 +48,9 @@ module _ {K G : Type 0} (stands : K → List G → Type 0) (may_add : List G →
       )
 
   -- the ticket that was found to be served is the seat's, or it isn't
-  pub look_keeps : (n id number t : ℕ) (me : Me K (View G)) → number ≡ id → me.0.stage ≡ Drawn t → me.1 ≡ [] → Allows R n id me 16 (λ x. x) (looked stands may_add number (step n 16 0 0 none) me)
-  look_keeps n id number t me is mine empty s r wide at fits =
+  pub look_keeps : (told : K → List G → Type 0) (n id number t : ℕ) (me : Me K (View G)) → ((kept : K) (log : List G) → stands kept log → told kept log) → number ≡ id → me.0.stage ≡ Drawn t → me.1 ≡ []
+      → Allows R n id me 16 (λ x. x) (looked told may_add number (step n 16 0 0 none) me)
+  look_keeps told n id number t me tells is mine empty s r wide at fits =
       let x : ℕ = get_or s.words 16 0 in
       let f = r.fair in
       let k = f.each_view id me.0 at in
@@ -72,7 +73,7 @@ module _ {K G : Type 0} (stands : K → List G → Type 0) (may_add : List G →
             begins = k.seen;
             mine = ap (λ j. made_by j f.log) is ∙ k.own live;
             lawful = f.lawful;
-            stood = got.2;
+            stood = tells got.0 _ got.2;
             alone = λ all. sym (rules.sees_all stands may_add _ _ _ _ _ f id me.0 at (ap (weight me.0.parts) mine ∙ all));
           }),
           λ other. (let same : t ≡ u = cc in absurd (other (hit ∙ same))),

@@ -6,8 +6,9 @@ pub trait Kept {
     /// What one turn adds to the history. No value of it is made.
     type Group;
 
-    // The value stands for this list of groups, which are those of the whole history, in order.
-    ghost stands: { Self → List Self.Group → Type 0 };
+    // The first value, which the gate was started over, became the second by this list of groups, which are those of the whole
+    // history, in order.
+    ghost stands: { Self → Self → List Self.Group → Type 0 };
 
     // A pass whose own groups are this list may add this group.
     ghost may_add: { List Self.Group → Self.Group → Type 0 };
@@ -27,9 +28,9 @@ pub trait Act<K: Kept> {
     // The group that such a run adds.
     ghost adds: { Self → K → Self.Answer → Self → K → K.Group };
 
-    /// Runs the act. Whatever list of groups the value stood for, it then stands for that list and the group.
+    /// Runs the act. Whatever first value and list of groups led to the value, the same and the group then lead to what it is.
     fn run(&mut self, kept: &mut K) -> Self::Answer
         requires { asks self.old kept.old }
         ensures does { does self.old kept.old result self.new kept.new }
-        ensures stands { (log : List K.Group) → K.stands kept.old log → K.stands kept.new (log ++ adds self.old kept.old result self.new kept.new ∷ []) };
+        ensures stands { (first : K) (log : List K.Group) → K.stands first kept.old log → K.stands first kept.new (log ++ adds self.old kept.old result self.new kept.new ∷ []) };
 }

@@ -14,11 +14,12 @@ use crate::waiting;
 use atomic_table::{Refused, Table};
 use std::alloc::{AllocFailed, Global};
 use std::marker::Brand;
+use std::snapshot::Snapshot;
 use std::sync::Wait;
 
 /// A gate round a `K`. It takes its memory at the start, and each other call takes none.
 pub struct Gate<K: Kept> {
-    table: Table<K, View<<K as Kept>::Group>, (), OneHistory, Global>,
+    table: Table<K, View<<K as Kept>::Group>, Snapshot<K>, OneHistory, Global>,
     ghost sized: { (table.shared.table_id.words ≡ 64) × (table.shared.table_id.slots ≡ 1) },
 }
 
@@ -33,29 +34,35 @@ pub trait Turns<K: Kept> {
     // Which gate it is.
     ghost gate: { Self → GateId };
 
+    // The value that it was started over, as it was then.
+    ghost first: { Self → K };
+
     /// Runs the act on the value, in the pass's turn, and adds the group of the run to the history.
     fn turn<R: Wait, A: Act<K>>(&self, rt: &R, pass: Pass<K>, act: &mut A) -> (Pass<K>, A::Answer)
         requires gate { pass.gate ≡ gate self.now }
-        requires act { MayTurn K.stands K.may_add A.asks A.does A.adds pass act.old }
-        ensures { Turned K.stands K.may_add A.does A.adds pass act.old result.1 act.new result.0 };
+        requires act { MayTurn (K.stands (first self.now)) K.may_add A.asks A.does A.adds pass act.old }
+        ensures { Turned (K.stands (first self.now)) K.may_add A.does A.adds pass act.old result.1 act.new result.0 };
 }
 
 impl<K: Kept> Gate<K> {
-    ghost use Rattle.vx_gate.specs.Gates.{gate_of};
+    ghost use Rattle.vx_gate.specs.Gates.{gate_of, first_of};
 
-    /// A gate round the value, with an empty history, and its first pass, which has all 4,294,967,296 parts.
+    /// A gate round the value, which is the first of its history, with no group in that, and its first pass, which has all
+    /// 4,294,967,296 parts.
     pub fn start(alloc: Global, value: K) -> Result<(Gate<K>, Pass<K>), GateRefused<K>>
-        requires { K.stands value [] }
+        requires { K.stands value value [] }
+        ensures first { IfOk result (λ r. first_of r.0 ≡ value) }
         ensures gate { IfOk result (λ r. r.1.gate ≡ gate_of r.0) }
         ensures pass { IfOk result (λ r. (r.1.number ≡ 0) × (r.1.parts ≡ 4294967296) × (r.1.seen ≡ []) × (r.1.own ≡ [])) }
         ensures refused { IfErr result (λ r. r.value ≡ value) }
     {
+        let first = Snapshot::of(&value);
         let mut slots = Vec::new(alloc);
         if let Err(AllocFailed { value }) = slots.push(value) {
             slots.destroy_empty();
             return Err(GateRefused { value });
         }
-        match Table::new(alloc, &[0; WORDS], slots, &()) {
+        match Table::new(alloc, &[0; WORDS], slots, &first) {
             Ok((table, seat)) => Ok((Gate { table }, PassOf::of(seat))),
             Err(Refused { slots }) => Err(GateRefused { value: only(slots) }),
         }
@@ -105,8 +112,8 @@ impl<K: Kept> Gate<K> {
         act: &mut A,
     ) -> (Pass<K>, A::Answer)
         requires gate { pass.gate ≡ gate_of self.now }
-        requires act { MayTurn K.stands K.may_add A.asks A.does A.adds pass act.old }
-        ensures { Turned K.stands K.may_add A.does A.adds pass act.old result.1 act.new result.0 }
+        requires act { MayTurn (K.stands (first_of self.now)) K.may_add A.asks A.does A.adds pass act.old }
+        ensures { Turned (K.stands (first_of self.now)) K.may_add A.does A.adds pass act.old result.1 act.new result.0 }
     {
         let room = &self.table.shared;
         let mut place = pass.into_seat();
@@ -123,7 +130,7 @@ impl<K: Kept> Gate<K> {
     pub fn close(self, pass: Pass<K>) -> (K, Pass<K>)
         requires gate { pass.gate ≡ gate_of self }
         requires parts { pass.parts ≡ 4294967296 }
-        ensures stands { K.stands result.0 (groups result.1.seen) }
+        ensures stands { K.stands (first_of self) result.0 (groups result.1.seen) }
         ensures lawful { Lawful K.may_add result.1.seen }
         ensures same { (result.1.number ≡ pass.number) × (result.1.parts ≡ pass.parts) × (result.1.seen ≡ pass.seen) × (result.1.own ≡ pass.own) }
     {
@@ -138,14 +145,16 @@ impl<K: Kept> Gate<K> {
 }
 
 impl<K: Kept> Turns<K> for Gate<K> {
-    ghost use Rattle.vx_gate.specs.Gates.{gate_of};
+    ghost use Rattle.vx_gate.specs.Gates.{gate_of, first_of};
 
     ghost gate = { gate_of };
 
+    ghost first = { first_of };
+
     fn turn<R: Wait, A: Act<K>>(&self, rt: &R, pass: Pass<K>, act: &mut A) -> (Pass<K>, A::Answer)
         requires gate { pass.gate ≡ gate_of self.now }
-        requires act { MayTurn K.stands K.may_add A.asks A.does A.adds pass act.old }
-        ensures { Turned K.stands K.may_add A.does A.adds pass act.old result.1 act.new result.0 }
+        requires act { MayTurn (K.stands (first_of self.now)) K.may_add A.asks A.does A.adds pass act.old }
+        ensures { Turned (K.stands (first_of self.now)) K.may_add A.does A.adds pass act.old result.1 act.new result.0 }
     {
         Gate::turn(self, rt, pass, act)
     }

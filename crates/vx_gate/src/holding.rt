@@ -1,5 +1,5 @@
 //! The steps of one turn, on the table's seat.
-ghost use Rattle.std.specs.Prelude.{◌≡◌, ◌≢◌, ℕ, ◌^◌, ◌<◌, ◌≤◌, [], ◌∷◌};
+ghost use Rattle.std.specs.Prelude.{◌≡◌, ◌≢◌, ℕ, ◌^◌, ◌<◌, ◌≤◌, List, [], ◌∷◌};
 ghost use Rattle.atomic_table.specs.Seated.{TableId};
 ghost use Rattle.vx_gate.specs.declared.views.Stage.TheVariants.{Idle, Drawn, Turn, Counted, Spent};
 ghost use Rattle.vx_gate.specs.History.{made, groups};
@@ -8,7 +8,7 @@ ghost use Rattle.vx_gate.specs.Turning.{MayRun};
 ghost use Rattle.vx_gate.specs.Places.{IsTable, IsSame, Ran};
 
 use crate::acts::{Act, Kept};
-use crate::plays::{Count, Draw, Learn, Leave, Look, Marks, OneHistory, Part, Serve};
+use crate::plays::{Count, Draw, Learn, Leave, Look, Marks, OneHistory, Part, Serve, Standing};
 use crate::views::View;
 use crate::waiting;
 use atomic_table::{Seat, Shared};
@@ -16,7 +16,7 @@ use std::marker::Brand;
 use std::snapshot::Snapshot;
 use std::sync::Wait;
 
-pub(crate) type Room<K> = Shared<K, View<<K as Kept>::Group>, (), OneHistory>;
+pub(crate) type Room<K> = Shared<K, View<<K as Kept>::Group>, Snapshot<K>, OneHistory>;
 
 pub(crate) type Place<K> = Seat<K, View<<K as Kept>::Group>>;
 
@@ -46,13 +46,18 @@ pub(crate) fn draw<K: Kept>(room: &Room<K>, place: &mut Place<K>) -> u64
 }
 
 // The ticket that is served. Where it is this one, the slot is taken with the look.
-fn look<K: Kept, B: Marks<K::Group>>(room: &Room<K>, place: &mut Place<K>, ticket: u64) -> u64
+fn look<K: Kept, B: Marks<K::Group> + Standing<K, K::Group>>(
+    room: &Room<K>,
+    place: &mut Place<K>,
+    ticket: u64,
+) -> u64
     requires table { IsTable room.now.table_id × (place.old.table_id ≡ room.now.table_id) }
     requires number { B.number ≡ place.old.id }
+    requires stands { (kept : K) (log : List K.Group) → K.stands room.now.key.value kept log → B.stands kept log }
     requires drawn { (place.old.me.0.stage ≡ Drawn ticket) × (place.old.me.1 ≡ []) }
     ensures same { IsSame place.old place.new }
     ensures early { result ≡ ticket → ticket < 2 ^ 62 }
-    ensures took { result ≡ ticket → Took K.stands K.may_add place.old.id ticket place.old.me place.new.me }
+    ensures took { result ≡ ticket → Took B.stands K.may_add place.old.id ticket place.old.me place.new.me }
     ensures waits { result ≢ ticket → place.new.me ≡ place.old.me }
 {
     if ticket >= LAST {
@@ -62,7 +67,7 @@ fn look<K: Kept, B: Marks<K::Group>>(room: &Room<K>, place: &mut Place<K>, ticke
 }
 
 // Waits until the ticket is served, and takes the slot.
-pub(crate) fn take<K: Kept, B: Marks<K::Group>, R: Wait>(
+pub(crate) fn take<K: Kept, B: Marks<K::Group> + Standing<K, K::Group>, R: Wait>(
     rt: &R,
     room: &Room<K>,
     place: &mut Place<K>,
@@ -70,10 +75,11 @@ pub(crate) fn take<K: Kept, B: Marks<K::Group>, R: Wait>(
 )
     requires table { IsTable room.now.table_id × (place.old.table_id ≡ room.now.table_id) }
     requires number { B.number ≡ place.old.id }
+    requires stands { (kept : K) (log : List K.Group) → K.stands room.now.key.value kept log → B.stands kept log }
     requires drawn { (place.old.me.0.stage ≡ Drawn ticket) × (place.old.me.1 ≡ []) }
     ensures same { IsSame place.old place.new }
     ensures early { ticket < 2 ^ 62 }
-    ensures took { Took K.stands K.may_add place.old.id ticket place.old.me place.new.me }
+    ensures took { Took B.stands K.may_add place.old.id ticket place.old.me place.new.me }
 {
     let mut looks = 0;
     for _ in rt.forever() {
@@ -116,9 +122,9 @@ pub(crate) fn run_and_count<K: Kept, A: Act<K>>(
 ) -> A::Answer
     requires table { IsTable room.now.table_id × (place.old.table_id ≡ room.now.table_id) }
     requires turn { place.old.me.0.stage ≡ Turn ticket }
-    requires slot { (kept : K) × (place.old.me.1 ≡ (0, kept) ∷ []) × K.stands kept (groups place.old.me.0.seen) × MayRun K.may_add A.asks A.does A.adds place.old.me.0.own act.old kept }
+    requires slot { (kept : K) × (place.old.me.1 ≡ (0, kept) ∷ []) × K.stands room.now.key.value kept (groups place.old.me.0.seen) × MayRun K.may_add A.asks A.does A.adds place.old.me.0.own act.old kept }
     ensures same { IsSame place.old place.new }
-    ensures ran { Ran K.stands A.does A.adds place.old.id ticket place.old.me act.old result act.new place.new.me }
+    ensures ran { Ran (K.stands room.now.key.value) A.does A.adds place.old.id ticket place.old.me act.old result act.new place.new.me }
 {
     let act_before = Snapshot::of(&*act);
     let kept = place.slot_mut(room, 0);
@@ -140,7 +146,7 @@ pub(crate) fn run_and_count<K: Kept, A: Act<K>>(
 pub(crate) fn serve<K: Kept>(room: &Room<K>, place: &mut Place<K>, ticket: u64)
     requires table { IsTable room.now.table_id × (place.old.table_id ≡ room.now.table_id) }
     requires counted { (place.old.me.0.stage ≡ Counted ticket) × (ticket < 2 ^ 62) }
-    requires stands { (kept : K) × (place.old.me.1 ≡ (0, kept) ∷ []) × K.stands kept (groups place.old.me.0.seen) }
+    requires stands { (kept : K) × (place.old.me.1 ≡ (0, kept) ∷ []) × K.stands room.now.key.value kept (groups place.old.me.0.seen) }
     ensures same { IsSame place.old place.new }
     ensures idle { place.new.me ≡ (at_stage Idle place.old.me.0, []) }
 {

@@ -1,5 +1,5 @@
 //! The rule of the gate's table, and what each kind of step tells. These types are for the proofs alone.
-ghost use Rattle.std.specs.Prelude.{ℕ, ◌+◌};
+ghost use Rattle.std.specs.Prelude.{ℕ, ◌+◌, List};
 ghost use Rattle.vx_gate.specs.declared.views.Stage.TheVariants.{Spent};
 ghost use Rattle.vx_gate.specs.Rule.{Ruled};
 ghost use Rattle.vx_gate.specs.Steps.{first_view, fresh, parted, met, spent, at_stage, drew, looked, added, served, Learned};
@@ -8,11 +8,12 @@ use crate::acts::Kept;
 use crate::views::View;
 use atomic_table::{Join, Play, Split, TableRule};
 use std::marker::{Brand, PhantomData};
+use std::snapshot::Snapshot;
 
 pub struct OneHistory;
 
-impl<K: Kept> TableRule<K, View<K::Group>, ()> for OneHistory {
-    ghost holds = { λ _. Ruled K.stands K.may_add };
+impl<K: Kept> TableRule<K, View<K::Group>, Snapshot<K>> for OneHistory {
+    ghost holds = { λ first. Ruled (K.stands first.value) K.may_add };
 
     ghost first = { λ _. first_view };
 }
@@ -30,6 +31,15 @@ impl<G> Marks<G> for Brand {
     ghost adds = { λ _. Unit {0} };
 }
 
+// What the gate's value stands for. A call at `Brand` picks it from its arguments.
+pub(crate) trait Standing<K, G> {
+    ghost stands: { K → List G → Type 0 };
+}
+
+impl<K, G> Standing<K, G> for Brand {
+    ghost stands = { λ _ _. Unit {0} };
+}
+
 pub(crate) struct Draw;
 
 impl<K, G> Play<K, View<G>> for Draw {
@@ -40,8 +50,8 @@ pub(crate) struct Look<B> {
     marker: PhantomData<B>,
 }
 
-impl<K: Kept, B: Marks<K::Group>> Play<K, View<K::Group>> for Look<B> {
-    ghost then = { looked K.stands K.may_add B.number };
+impl<K: Kept, B: Marks<K::Group> + Standing<K, K::Group>> Play<K, View<K::Group>> for Look<B> {
+    ghost then = { looked B.stands K.may_add B.number };
 }
 
 pub(crate) struct Count<B> {

@@ -8,7 +8,7 @@ pub returns : goal.returns
 returns g c =
     let shown = c.into_seat-place.ensures.shown in
     let is = c.into_seat-place.ensures.is_pass in
-    let s = g.K.Kept.stands in
+    let s = g.K.Kept.stands c.args.self.now.table.shared.key.value in
     let m = g.K.Kept.may_add in
     let a = g.A.Act in
     subst (λ (t : PassView g.row.K-Group.Denot × PassView g.row.K-Group.Denot). Turned s m a.does a.adds t.0 c.args.act.now c.run_and_count-answer.result c.run_and_count-answer.new.act t.1)
