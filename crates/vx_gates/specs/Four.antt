@@ -1,6 +1,6 @@
 -- To be believed.
 -- Four of a kind, by their numbers 0 to 3.
-use Rattle.std.specs.Prelude.{ℕ, zero, suc}
+use Rattle.std.specs.Prelude.{ℕ, zero, suc, List, [], ◌∷◌}
 
 pub record Four (A : Type 0) : Type 0 where
   pub zero_ : A
@@ -43,3 +43,7 @@ pub record EachOf {A B C : Type 0} (P : A → B → C → Type 0) (f : Four A) (
   pub one : P f.one g.one h.one
   pub two : P f.two g.two h.two
   pub three : P f.three g.three h.three
+
+-- all four, in the order of their numbers
+abbrev pub listed : {A : Type 0} → Four A → List A
+listed f = f.zero_ ∷ f.one ∷ f.two ∷ f.three ∷ []

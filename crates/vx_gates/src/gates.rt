@@ -1,11 +1,11 @@
 //! Four gates, and the turns at them.
 ghost use Rattle.std.specs.Prelude.{◌≡◌, ◌≢◌, ◌⊎◌, ◌≤◌, ◌<◌, ◌+◌, ◌-◌, ◌++◌, ◌∷◌, ℕ, [], length, take, IfOk, IfErr, IfSome, vec_len, vec_capacity, Some, None};
 ghost use Rattle.std.specs.List.{All};
-ghost use Rattle.vx_gate.specs.Gates.{gate_of};
+ghost use Rattle.vx_gate.specs.Gates.{gate_of, first_of};
 ghost use Rattle.vx_gate.specs.Turning.{MayTurn, Turned};
-ghost use Rattle.vx_gates.specs.Four.{at, put, Each, EachOf};
+ghost use Rattle.vx_gates.specs.Four.{at, put, listed, Each, EachOf};
 ghost use Rattle.vx_gates.specs.Passing.{passes_shown, IsOf, IsFirst, Parts, IsParted, InOrder, IsMet};
-ghost use Rattle.vx_gates.specs.Standing.{gates_shown};
+ghost use Rattle.vx_gates.specs.Standing.{gates_shown, firsts_shown, ComeBack};
 
 use crate::passes::Passes;
 use std::alloc::Global;
@@ -29,12 +29,11 @@ pub struct GatesRefused<K> {
 /// Starts a gate round the last of the values. Where there is no memory for it, the value stays the last.
 fn start_last<K: Kept>(alloc: Global, cores: &mut Vec<K>) -> Option<(Gate<K>, Pass<K>)>
     requires some { 0 < length cores.old.items }
-    requires stand { All (λ core. K.stands core []) cores.old.items }
-    ensures stand { All (λ core. K.stands core []) cores.new.items }
+    requires stand { All (λ core. K.stands core core []) cores.old.items }
+    ensures stand { All (λ core. K.stands core core []) cores.new.items }
     ensures capacity { vec_capacity cores.new ≡ vec_capacity cores.old }
-    ensures started { IfSome result (λ r. IsFirst r.1 (gate_of r.0) × (length cores.new.items + 1 ≡ length cores.old.items)) }
+    ensures started { IfSome result (λ r. IsFirst r.1 (gate_of r.0) × (cores.old.items ≡ cores.new.items ++ first_of r.0 ∷ []) × (length cores.new.items + 1 ≡ length cores.old.items)) }
     ensures refused { result ≡ None → cores.new.items ≡ cores.old.items }
-    ensures first { 2 ≤ length cores.old.items → take 1 cores.new.items ≡ take 1 cores.old.items }
 {
     let value = cores.pop().unwrap();
     match Gate::start(alloc, value) {
@@ -50,10 +49,8 @@ fn start_last<K: Kept>(alloc: Global, cores: &mut Vec<K>) -> Option<(Gate<K>, Pa
 fn end_first<K: Kept>(cores: &mut Vec<K>, gate: Gate<K>, pass: Pass<K>)
     requires first { IsFirst pass (gate_of gate) }
     requires room { vec_len cores.old < vec_capacity cores.old }
-    requires stand { All (λ core. K.stands core []) cores.old.items }
-    ensures stand { All (λ core. K.stands core []) cores.new.items }
     ensures len { length cores.new.items ≡ length cores.old.items + 1 }
-    ensures first { 1 ≤ length cores.old.items → take 1 cores.new.items ≡ take 1 cores.old.items }
+    ensures back { (now : K) × (cores.new.items ≡ cores.old.items ++ now ∷ []) × K.stands (first_of gate) now [] }
     ensures capacity { vec_capacity cores.new ≡ vec_capacity cores.old }
 {
     let (value, _) = gate.close(pass);
@@ -66,13 +63,12 @@ fn start_two<K: Kept>(
     cores: &mut Vec<K>,
 ) -> Option<((Gate<K>, Pass<K>), (Gate<K>, Pass<K>))>
     requires some { 2 ≤ length cores.old.items }
-    requires stand { All (λ core. K.stands core []) cores.old.items }
-    ensures stand { All (λ core. K.stands core []) cores.new.items }
+    requires stand { All (λ core. K.stands core core []) cores.old.items }
     ensures capacity { vec_capacity cores.new ≡ vec_capacity cores.old }
-    ensures started { IfSome result (λ r. IsFirst r.0.1 (gate_of r.0.0) × IsFirst r.1.1 (gate_of r.1.0) × (length cores.new.items + 2 ≡ length cores.old.items)) }
-    ensures refused { result ≡ None → length cores.new.items ≡ length cores.old.items }
-    ensures first { 3 ≤ length cores.old.items → take 1 cores.new.items ≡ take 1 cores.old.items }
-    ensures first_of_two { result ≡ None → take 1 cores.new.items ≡ take 1 cores.old.items }
+    ensures started { IfSome result (λ r. IsFirst r.0.1 (gate_of r.0.0) × IsFirst r.1.1 (gate_of r.1.0) × All (λ core. K.stands core core []) cores.new.items
+        × (cores.old.items ≡ cores.new.items ++ first_of r.0.0 ∷ first_of r.1.0 ∷ []) × (length cores.new.items + 2 ≡ length cores.old.items)) }
+    ensures refused { result ≡ None → ComeBack K.stands cores.old.items cores.new.items }
+    ensures len { result ≡ None → length cores.new.items ≡ length cores.old.items }
 {
     let (gate, pass) = start_last(alloc, cores)?;
     match start_last(alloc, cores) {
@@ -85,15 +81,14 @@ fn start_two<K: Kept>(
 }
 
 impl<K: Kept> Gates<K> {
-    /// Gates round four values, each with an empty history, and the first pass of each. Where there is no memory for them four values
-    /// come back, to whose histories no group was added, and the first is the one that was the first. Which value stands behind which
-    /// gate is no clause: a gate tells nothing of the value that it was started over.
+    /// Gates round four values, in their order, each the first of a history with no group in it, and the first pass of each. Where
+    /// there is no memory for them the values come back in their order, and no group was added to the history of any.
     pub fn start(alloc: Global, cores: Vec<K>) -> Result<(Gates<K>, Passes<K>), GatesRefused<K>>
         requires four { length cores.items ≡ 4 }
-        requires stand { All (λ core. K.stands core []) cores.items }
+        requires stand { All (λ core. K.stands core core []) cores.items }
         ensures started { IfOk result (λ r. Each IsFirst (passes_shown r.1) (gates_shown r.0)) }
-        ensures refused { IfErr result (λ r. (length r.cores.items ≡ 4) × All (λ core. K.stands core []) r.cores.items) }
-        ensures first { IfErr result (λ r. take 1 r.cores.items ≡ take 1 cores.items) }
+        ensures order { IfOk result (λ r. cores.items ≡ listed (firsts_shown r.0)) }
+        ensures refused { IfErr result (λ r. ComeBack K.stands cores.items r.cores.items) }
     {
         let mut cores = cores;
         let Some(((two, pass_two), (three, pass_three))) = start_two(alloc, &mut cores) else {
@@ -127,7 +122,8 @@ impl<K: Kept> Gates<K> {
     /// The gate of this number, 0 to 3.
     pub fn gate(&self, number: u8) -> &Gate<K>
         requires { number ≤ 3 }
-        ensures { gate_of result.now ≡ at number (gates_shown self.now) }
+        ensures gate { gate_of result.now ≡ at number (gates_shown self.now) }
+        ensures first { first_of result.now ≡ at number (firsts_shown self.now) }
     {
         match number {
             0 => &self.zero,
@@ -200,8 +196,8 @@ impl<K: Kept> Gates<K> {
     ) -> (Passes<K>, A::Answer)
         requires gates { Each IsOf (passes_shown passes) (gates_shown self.now) }
         requires number { number ≤ 3 }
-        requires act { MayTurn K.stands K.may_add A.asks A.does A.adds (at number (passes_shown passes)) act.old }
-        ensures turned { Turned K.stands K.may_add A.does A.adds (at number (passes_shown passes)) act.old result.1 act.new (at number (passes_shown result.0)) }
+        requires act { MayTurn (K.stands (at number (firsts_shown self.now))) K.may_add A.asks A.does A.adds (at number (passes_shown passes)) act.old }
+        ensures turned { Turned (K.stands (at number (firsts_shown self.now))) K.may_add A.does A.adds (at number (passes_shown passes)) act.old result.1 act.new (at number (passes_shown result.0)) }
         ensures others { passes_shown result.0 ≡ put number (at number (passes_shown result.0)) (passes_shown passes) }
         ensures gates { Each IsOf (passes_shown result.0) (gates_shown self.now) }
     {
