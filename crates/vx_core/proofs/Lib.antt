@@ -12,3 +12,4 @@ pub mod Ordering
 pub mod Hearing
 pub mod Lent
 pub mod Began
+pub mod Standing

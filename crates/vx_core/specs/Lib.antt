@@ -9,6 +9,8 @@ pub mod CoreState
 pub mod Polling
 pub mod ProvedLaws
 pub mod Lending
+pub mod Standing
+pub mod Laws
 pub use Rattle.vx_calls.specs.Call
 pub use Rattle.vx_calls.specs.Reply
 pub use Rattle.vx_488.specs.Wire

@@ -5,12 +5,12 @@ use vx_gate::Kept;
 use vx_group::EventGroup;
 
 impl<B: Bus> Kept for Core<B> {
-    ghost use Rattle.vx_group.specs.Groups.{StandsFor};
     ghost use Rattle.vx_group.specs.Owning.{MayAdd};
+    ghost use Rattle.vx_core.specs.Standing.{Became};
 
     type Group = EventGroup;
 
-    ghost stands = { λ core log. StandsFor core.fine log };
+    ghost stands = { Became B.means B.through };
 
     ghost may_add = { MayAdd };
 }

@@ -5,6 +5,7 @@
 mod ended;
 mod kept;
 mod kernel;
+mod laws;
 mod moves;
 mod order;
 mod polled;
@@ -13,6 +14,7 @@ mod running;
 mod shared;
 
 pub use ended::Settled;
+pub use laws::became_law;
 pub use polled::Polled;
 pub use shared::{Core, StartRefused};
 pub use vx_flow::{Ran, Why};

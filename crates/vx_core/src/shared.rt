@@ -31,6 +31,7 @@ use std::marker::Model;
 use vx_488::Transfer;
 use vx_bus_traits::{Bus, Tweak};
 use vx_calls::{CallRef, ErrorCode, Role, Taken};
+use vx_group::first_law;
 use vx_tables::{Connect, Tables};
 
 /// Memory ran out as the core was to start; the bus comes back.
@@ -62,6 +63,7 @@ impl<B: Bus> Model for Core<B> {
 
 impl<B: Bus> Core<B> {
     ghost use Rattle.vx_core.specs.Lending.{PollFits, PollRests};
+    ghost use Rattle.vx_core.specs.Standing.{Became};
 
     /// A gateway with nothing in it, on this bus, whose abort channel is at this TCP port (the port that create_link tells).
     pub fn start(alloc: Global, bus: B, abort_port: u16) -> Result<Core<B>, StartRefused<B>>
@@ -71,8 +73,10 @@ impl<B: Bus> Core<B> {
         ensures fine { IfOk result (λ core. core.fine ≡ first_fine abort_port) }
         ensures bus { IfOk result (λ core. core.bus ≡ bus) }
         ensures began { IfOk result (λ core. core.began ≡ false) }
+        ensures became { IfOk result (λ core. Became B.means B.through core core []) }
         ensures err { IfErr result (λ refused. refused.bus ≡ bus) }
     {
+        first_law();
         let Ok(rooms) = Rooms::new(alloc) else {
             return Err(StartRefused { bus });
         };

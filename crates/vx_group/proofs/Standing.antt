@@ -37,8 +37,8 @@ allowed-more port log x last g before behind =
 
 -- a state goes on to stand for one group more
 pub stands_on-holds : StandsOnLaw
-stands_on-holds f g log events moment stands goes late =
-    let x = group_after f events moment in
+stands_on-holds f g log events steps moment stands goes late =
+    let x = group_after f events steps moment in
     let port = f.state.tables.abort_port in
     let on = along-onward events f g goes in
     let from_last : along fine (Some (at_moment stands.last f.state.moment)) events ≡ Some g = ap (λ s. along fine (Some s) events) (sym stands.same) ∙ goes in

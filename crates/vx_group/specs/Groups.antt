@@ -2,21 +2,28 @@
 -- What one turn at the gate adds to the history of a gateway, and for which histories a state stands.
 use Rattle.std.specs.Prelude.{◌≡◌, ◌≤◌, ℕ, List, [], ◌∷◌, Option, Some, None}
 use Rattle.std.specs.List.{All, flat_map}
+use Rattle.vx_bus_traits.specs.Steps.{Step}
 use Rattle.vx_flow.specs.Event.{Event, Up, Down, Arrive, Answer, Abort, Sample, Take, Begin, Move, Dial}
 use Rattle.vx_flow.specs.FineState.{FineState}
 use Rattle.vx_flow.specs.Poll.{at_moment}
 use Rattle.vx_flow.specs.Laws.{fine_along}
 
--- A group: the events of one turn, in order, of which there may be none; the gateway's greatest moment after it, in
--- milliseconds; and the port of the gateway's abort channel, which is the same in all groups of a history.
+-- A group: the events of one turn, in order, of which there may be none; the steps that it had the bus make, in order; the
+-- gateway's greatest moment after it, in milliseconds; and the port of the gateway's abort channel, which is the same in all
+-- groups of a history.
 pub record Group : Type 0 where
   pub events : List Event
+  pub steps : List Step
   pub moment : ℕ
   pub abort_port : ℕ
 
 -- the events of a history, one group after the other
 abbrev pub events_of : List Group → List Event
 events_of groups = flat_map (λ g. g.events) groups
+
+-- the steps of the bus along a history, one group after the other
+abbrev pub steps_of : List Group → List Step
+steps_of groups = flat_map (λ g. g.steps) groups
 
 -- the moment that the last of the groups keeps, or this one where there is none
 abbrev pub moment_behind : ℕ → List Group → ℕ

@@ -4,6 +4,7 @@ use Rattle.std.specs.List.{All}
 use Rattle.vx_calls.specs.declared.limits.TheConstants.{LINK_MAX, LINK_LAST}
 use Rattle.vx_gate.specs.declared.views.Logged.{Logged}
 use Rattle.vx_gate.specs.History.{groups, made_by, Lawful}
+use Rattle.vx_bus_traits.specs.Steps.{Step}
 use Rattle.vx_rules.specs.Lists.{along}
 use Rattle.vx_flow.specs.Event.{Event}
 use Rattle.vx_flow.specs.FineState.{FineState}
@@ -16,15 +17,15 @@ use Rattle.vx_group.specs.Phases.{HasPhase, phase_by}
 use Rattle.vx_group.specs.MadeLinks.{numbers_of, numbers_by, HasLinks}
 use Rattle.vx_group.specs.Owning.{MayAdd, Owned}
 
--- the group of these events, after which the gateway is at this moment
-abbrev pub group_after : FineState → List Event → ℕ → Group
-group_after f events moment = record { events = events; moment = moment; abort_port = f.state.tables.abort_port }
+-- the group of these events and steps of the bus, after which the gateway is at this moment
+abbrev pub group_after : FineState → List Event → List Step → ℕ → Group
+group_after f events steps moment = record { events = events; steps = steps; moment = moment; abort_port = f.state.tables.abort_port }
 
 -- A state that stands for a history goes on: events that are allowed lead to a state that stands, at their moment or a later
--- one, for the history and their group.
+-- one, for the history and their group, whatever steps of the bus that has.
 abbrev pub StandsOnLaw : Type 0
-StandsOnLaw = (f g : FineState) (log : List Group) (events : List Event) (moment : ℕ) → StandsFor f log → along fine (Some f) events ≡ Some g
-    → g.state.moment ≤ moment → StandsFor (at_moment g moment) (log ++ group_after f events moment ∷ [])
+StandsOnLaw = (f g : FineState) (log : List Group) (events : List Event) (steps : List Step) (moment : ℕ) → StandsFor f log → along fine (Some f) events ≡ Some g
+    → g.state.moment ≤ moment → StandsFor (at_moment g moment) (log ++ group_after f events steps moment ∷ [])
 
 -- What a pass's own groups tell of a connection is so in every state that stands for the history.
 abbrev pub PhaseLaw : Type 0

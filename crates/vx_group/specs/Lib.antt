@@ -5,6 +5,7 @@ pub mod Owning
 pub mod Laws
 pub mod ProvedLaws
 pub use Rattle.vx_calls.specs.Call
+pub use Rattle.vx_bus_traits.specs.Steps
 pub use Rattle.vx_rules.specs.Lists
 pub use Rattle.vx_gate.specs.History
 pub use Rattle.vx_flow.specs.Event

@@ -22,5 +22,5 @@ impl Model for EventGroup {
 
     ghost Value = { Group };
 
-    ghost view = { λ _. record { events = []; moment = 0; abort_port = 0 } };
+    ghost view = { λ _. record { events = []; steps = []; moment = 0; abort_port = 0 } };
 }
