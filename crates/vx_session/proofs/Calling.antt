@@ -13,7 +13,10 @@ use Rattle.vx_io_traits.specs.declared.dials.Rang.TheVariants as rang
 use Rattle.vx_calls.specs.declared.calls.Role.TheVariants as role
 use Rattle.vx_calls.specs.declared.codes.ErrorCode.{ErrorCode}
 use Rattle.vx_calls.specs.Call.{Call}
+use Rattle.vx_bus_traits.specs.Steps.{Step}
 use Rattle.vx_bus_traits.specs.declared.bus.Bus.{Ghosts}
+use Rattle.vx_core.specs.CoreState.{CoreState}
+use Rattle.vx_session.specs.Origin.{Origin}
 use Rattle.vx_gate.specs.PassView.{PassView}
 use Rattle.vx_group.specs.Event.{Event}
 use Rattle.vx_group.specs.FineState.{FineState}
@@ -92,9 +95,9 @@ settled-failed p conn now up error before after events counted failed =
       by true h = omega arith
       by false h = h
 
-module _ {B : Type 0} (g : Ghosts B) (told now : ℕ) (pass pass' : PassView Group) (conn xid : ℕ) (call : Call) (host port : ℕ) (room : List ℕ) where
+module _ {B : Type 0} (g : Origin B) (told now : ℕ) (pass pass' : PassView Group) (conn xid : ℕ) (call : Call) (host port : ℕ) (room : List ℕ) where
   -- Its call was answered behind a dial: these are the calls of the dial, with those that handed a stream on.
-  settled-so : (up : Bool) (answered : DialAnswered) (chan : Option ℕ) (old new : DialShown) → now ≤ told → Settles now pass conn xid up room answered pass' → answered.chan ≡ chan
+  settled-so : (up : Bool) (answered : DialAnswered) (chan : Option ℕ) (old new : DialShown) → now ≤ told → Settles g now pass conn xid up room answered pass' → answered.chan ≡ chan
       → AddsCalls old.calls new.calls (rings conn host port up chan) → old.faults ≤ new.faults → IfDown up (Rose old.faults new.faults)
       → AnswersDial g told pass conn xid call host port old (take answered.len room) pass' new
   settled-so up answered chan old new later settles is calls counted failed = record {
@@ -111,6 +114,7 @@ module _ {B : Type 0} (g : Ghosts B) (told now : ℕ) (pass pass' : PassView Gro
       error = answered.error;
       chan = answered.chan;
       events = settles.events;
+      steps = settles.steps;
       error_is = settles.error_is;
       chan_is = settles.chan_is;
       rung = ap (rings conn host port up) (sym is);
@@ -120,7 +124,7 @@ module _ {B : Type 0} (g : Ghosts B) (told now : ℕ) (pass pass' : PassView Gro
 
   -- where it made a channel, the dial came up, and a stream that stands was handed on
   pub dial-answered : (up : Bool) (answered : DialAnswered) (n : ℕ) (old mid new : DialShown) → now ≤ told → Dials old mid host port up
-      → Settles now pass conn xid up room answered pass' → answered.chan ≡ Some n → AddsCalls mid.calls new.calls (handed conn n ∷ []) → new.faults ≡ mid.faults
+      → Settles g now pass conn xid up room answered pass' → answered.chan ≡ Some n → AddsCalls mid.calls new.calls (handed conn n ∷ []) → new.faults ≡ mid.faults
       → AnswersDial g told pass conn xid call host port old (take answered.len room) pass' new
   dial-answered true answered n old mid new later dials settles is hands kept =
       settled-so true answered (Some n) old new later settles is
@@ -130,7 +134,7 @@ module _ {B : Type 0} (g : Ghosts B) (told now : ℕ) (pass pass' : PassView Gro
 
   -- where it made none, the dial failed
   pub dial-failed : (up : Bool) (answered : DialAnswered) (old new : DialShown) → now ≤ told → Dials old new host port up
-      → Settles now pass conn xid up room answered pass' → answered.chan ≡ None → AnswersDial g told pass conn xid call host port old (take answered.len room) pass' new
+      → Settles g now pass conn xid up room answered pass' → answered.chan ≡ None → AnswersDial g told pass conn xid call host port old (take answered.len room) pass' new
   dial-failed true answered old new later dials settles is = absurd (no-channel answered.chan is settles.chan_is) where
     no-channel : (chan : Option ℕ) → chan ≡ None → IsChannel (behind pass.number settles.placed) conn true chan → ⊥
     no-channel None none is_channel = is_channel
@@ -140,12 +144,12 @@ module _ {B : Type 0} (g : Ghosts B) (told now : ℕ) (pass pass' : PassView Gro
 -- ---- the polls of a call
 
 -- a poll settles no dial, whatever it did
-poll-quiet : {B : Type 0} (g : Ghosts B) (f : FineState) (conn now : ℕ) (ending : Ending) (events : List Event) → IsPolled g f conn now ending events
+poll-quiet : {B : Type 0} (g : Ghosts B) (before : CoreState B) (conn now : ℕ) (ending : Ending) (events : List Event) (steps : List Step) → IsPolled g before conn now ending events steps
     → count_by is_failed_dial events ≡ 0
-poll-quiet g f conn now ending events polled =
-    none-failed events (ispolled-all (λ e. is_failed_dial e ≡ false) g f conn now ending events polled refl (λ made. refl) (λ failed level told. refl) refl)
+poll-quiet g before conn now ending events steps polled =
+    none-failed events (ispolled-all (λ e. is_failed_dial e ≡ false) g before conn now ending events steps polled refl (λ made. refl) (λ failed level told. refl) refl)
 
-module _ {B : Type 0} (g : Ghosts B) (told : ℕ) (pass pass' : PassView Group) (conn xid : ℕ) (call : Call) where
+module _ {B : Type 0} (g : Origin B) (told : ℕ) (pass pass' : PassView Group) (conn xid : ℕ) (call : Call) where
   -- The call came and was polled, the last time with this end, as its turn says it: with the groups so far, and those with which
   -- it goes on from there, it is called. None of the groups has an answer behind a dial.
   pub record Polled (room : List ℕ) (end : PollEnd) : Type 0 where
@@ -175,7 +179,7 @@ module _ {B : Type 0} (g : Ghosts B) (told : ℕ) (pass pass' : PassView Group) 
       goes_on = goes_on;
     };
     quiet = failed-one comes.placed ∙ ap (count_by is_failed_dial) comes.comes.events
-        ∙ poll-quiet g comes.comes.come conn (moment_at comes.placed now) comes.ending comes.comes.part comes.comes.polled;
+        ∙ poll-quiet g.bus comes.comes.come conn (moment_at comes.placed now) comes.ending comes.comes.part comes.comes.asked comes.comes.polled;
     says = comes.says;
     phase = comes.phase;
   }
@@ -232,7 +236,7 @@ module _ {B : Type 0} (g : Ghosts B) (told : ℕ) (pass pass' : PassView Group) 
 front-none : (all front rest : ℕ) → all ≡ front + rest → front ≡ 0 → rest ≡ all
 front-none all front rest sum none_before = omega arith
 
-module _ {B : Type 0} (g : Ghosts B) (told told' : ℕ) (pass pass' pass'' : PassView Group) (conn xid : ℕ) (call : Call) (room : List ℕ) (end : PollEnd) where
+module _ {B : Type 0} (g : Origin B) (told told' : ℕ) (pass pass' pass'' : PassView Group) (conn xid : ℕ) (call : Call) (room : List ℕ) (end : PollEnd) where
   -- a call without an answer goes on by one more poll
   goes-by-poll : (last next : Ending) (why : _) (p : Placed) (rest : List Placed) (rung : List Rang) (out : List ℕ) → Says xid room (said.NotYet why) last → IsPoll g conn call p next
       → GoesOn g pass.number conn xid call next rest rung out → GoesOn g pass.number conn xid call last (p ∷ rest) rung out
@@ -255,7 +259,7 @@ module _ {B : Type 0} (g : Ghosts B) (told told' : ℕ) (pass pass' pass'' : Pas
             (polled.called (p ∷ rest) rung out
             (goes-by-poll polled.last again.ending why p rest rung out says (record { told = now; polls = again.polls; dials = again.dials }) goes_on));
         quiet = both-none (failed_dials (polled.groups ++ p ∷ [])) (failed_dials polled.groups) (failed_dials (p ∷ [])) (failed_dials-append polled.groups (p ∷ [])) polled.quiet
-            (failed-one p ∙ poll-quiet g again.polls.state conn (moment_at p now) again.ending p.group.events again.polls.polled);
+            (failed-one p ∙ poll-quiet g.bus again.polls.core conn (moment_at p now) again.ending p.group.events p.group.steps again.polls.polled);
         says = again.says;
         phase = again.phase;
       }
@@ -291,7 +295,7 @@ module _ {B : Type 0} (g : Ghosts B) (told told' : ℕ) (pass pass' pass'' : Pas
       }
 
 -- The polls of a call so far, while the clock went on and nothing was dialed.
-pub record Polling {B C D : Type 0} (g : Ghosts B) (told : C → ℕ) (clock clock' : C) (dial dial' : D) (pass : PassView Group) (conn xid : ℕ) (call : Call) (room : List ℕ) (end : PollEnd)
+pub record Polling {B C D : Type 0} (g : Origin B) (told : C → ℕ) (clock clock' : C) (dial dial' : D) (pass : PassView Group) (conn xid : ℕ) (call : Call) (room : List ℕ) (end : PollEnd)
     (pass' : PassView Group) : Type 0 where
   pub polled : Polled g (told clock') pass pass' conn xid call room end
   pub later : told clock ≤ told clock'

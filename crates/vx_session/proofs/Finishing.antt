@@ -4,12 +4,13 @@ use Rattle.std.proofs.lemmas.Option.{same_Some}
 use Rattle.vx_calls.specs.declared.calls.Role.{Role}
 use Rattle.vx_calls.specs.declared.limits.TheConstants.{RECORD_MAX}
 use Rattle.vx_record.specs.Records.{records}
-use Rattle.vx_bus_traits.specs.declared.bus.Bus.{Ghosts}
+use Rattle.vx_session.specs.Origin.{Origin}
 use Rattle.vx_gate.specs.History.{groups}
 use Rattle.vx_gate.specs.PassView.{PassView}
 use Rattle.vx_exchange.specs.Meaning.{meaning, Junk}
 use Rattle.vx_group.specs.Laws.{HeadlineOfGroupsLaw, OwnedLaw}
-use Rattle.vx_group.specs.Groups.{Group}
+use Rattle.vx_group.specs.Headline.{Headline}
+use Rattle.vx_group.specs.Groups.{Group, events_of}
 use Rattle.vx_tables.specs.declared.tables.Connect.{Connect}
 use Rattle.vx_tables.specs.declared.tables.Connect.TheVariants as connect
 use Rattle.vx_stream.specs.Shown.{LinkShown}
@@ -27,17 +28,17 @@ use Rattle.vx_session.specs.ProvedLaws.{makes-goes, makes-later}
 use Rattle.vx_session.proofs.Progressing.{StreamServed}
 
 -- of a history that a pass has seen, all holds that is claimed
-pub upholds : HeadlineOfGroupsLaw → OwnedLaw → (pass : PassView Group) → IsHistory pass.seen → Upholds pass
-upholds headline owned pass h = record {
+pub upholds : {B : Type 0} (g : Origin B) → HeadlineOfGroupsLaw → OwnedLaw → (pass : PassView Group) → IsHistory g pass.seen → Upholds g pass
+upholds g headline owned pass h = record {
   history = h;
-  headline = headline (groups pass.seen) h.state h.stands;
-  owned = owned pass.seen h.state h.lawful h.stands;
+  headline = subst (λ port. Headline port (events_of (groups pass.seen))) h.became.port (headline (groups pass.seen) h.core.fine h.became.state);
+  owned = owned pass.seen h.core.fine h.lawful h.became.state;
 }
 
 -- the records of a stream were served, and then the connection went
-pub session-did : {B L : Type 0} (g : Ghosts B) (stands : L → List ℕ → List ℕ → Type 0) → HeadlineOfGroupsLaw → OwnedLaw → (s s' : SessionState) (pass mid pass' : PassView Group)
+pub session-did : {B L : Type 0} (g : Origin B) (stands : L → List ℕ → List ℕ → Type 0) → HeadlineOfGroupsLaw → OwnedLaw → (s s' : SessionState) (pass mid pass' : PassView Group)
     (link link' : L) (seen seen' : LinkShown) (how : End) (told : ℕ) (dial : DialShown) → StreamServed g stands s pass link seen how s' link' seen' → s'.pass ≡ Some mid
-    → s'.told ≡ told → s'.dial ≡ dial → Leaves mid s.conn pass' → SessionDid g stands told s.role s.conn pass link seen s.dial how pass' link' seen' dial
+    → s'.told ≡ told → s'.dial ≡ dial → Leaves g mid s.conn pass' → SessionDid g stands told s.role s.conn pass link seen s.dial how pass' link' seen' dial
 session-did g stands headline owned s s' pass mid pass' link link' seen seen' how told dial did has told_is dial_is leaves =
     let last = leaves.placed in
     let all = did.serves in
@@ -54,20 +55,21 @@ session-did g stands headline owned s s' pass mid pass' link link' seen seen' ho
           (makes-later 0 told mid pass' (last ∷ []) (omega arith) leaves.turns.makes);
       each = all.each;
       down = leaves.events;
+      cut = leaves.steps;
       bytes = did.bytes;
       goes = did.goes;
       wrote = ap replies all.are ∙ did.wrote;
       ended = subst (λ list. EndsSo (λ message. meaning message s.role ≡ Junk) seen list (records RECORD_MAX did.front) did.behind did.unsent seen' (Some how)) (sym all.are) did.ended;
       rings = subst (λ d. Rings s.dial (placed all.items) (calls all.items) d) dial_is all.rings;
-      upholds = upholds headline owned pass' leaves.turns.history;
+      upholds = upholds g headline owned pass' leaves.turns.history;
     }
 
 -- a connection was refused, and its link is told so
-pub link-refused : {B L : Type 0} (g : Ghosts B) (stands : L → List ℕ → List ℕ → Type 0) → HeadlineOfGroupsLaw → OwnedLaw → (told : ℕ) (r : Role) (pass pass' : PassView Group)
-    (link : L) (seen : LinkShown) (dial : DialShown) (answer : Result ℕ Connect) (why : Connect) (how : Linked) → answer ≡ Err why → how ≡ refused_as why → Joins pass r answer pass'
+pub link-refused : {B L : Type 0} (g : Origin B) (stands : L → List ℕ → List ℕ → Type 0) → HeadlineOfGroupsLaw → OwnedLaw → (told : ℕ) (r : Role) (pass pass' : PassView Group)
+    (link : L) (seen : LinkShown) (dial : DialShown) (answer : Result ℕ Connect) (why : Connect) (how : Linked) → answer ≡ Err why → how ≡ refused_as why → Joins g pass r answer pass'
     → LinkDid g stands told r pass link seen dial how pass' link seen dial
 link-refused g stands headline owned told r pass pass' link seen dial answer why how is how_is joins =
-    subst (λ h. LinkDid g stands told r pass link seen dial h pass' link seen dial) (sym how_is) (by why (subst (λ a. Joins pass r a pass') is joins)) where
-      by : (c : Connect) → Joins pass r (Err c) pass' → LinkDid g stands told r pass link seen dial (refused_as c) pass' link seen dial
-      by connect.Full refused = (refused, refl, refl, upholds headline owned pass' refused.turns.history)
-      by connect.NoMemory refused = (refused, refl, refl, upholds headline owned pass' refused.turns.history)
+    subst (λ h. LinkDid g stands told r pass link seen dial h pass' link seen dial) (sym how_is) (by why (subst (λ a. Joins g pass r a pass') is joins)) where
+      by : (c : Connect) → Joins g pass r (Err c) pass' → LinkDid g stands told r pass link seen dial (refused_as c) pass' link seen dial
+      by connect.Full refused = (refused, refl, refl, upholds g headline owned pass' refused.turns.history)
+      by connect.NoMemory refused = (refused, refl, refl, upholds g headline owned pass' refused.turns.history)

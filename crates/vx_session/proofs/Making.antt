@@ -9,10 +9,13 @@ use Rattle.vx_gate.specs.PassView.{PassView}
 use Rattle.vx_gate.specs.Turning.{Turned}
 use Rattle.vx_flow.specs.Event.{Event}
 use Rattle.vx_flow.specs.FineState.{FineState}
+use Rattle.vx_bus_traits.specs.Steps.{Step}
 use Rattle.vx_core.specs.CoreState.{CoreState}
+use Rattle.vx_core.specs.Standing.{Became}
 use Rattle.vx_group.specs.Groups.{Group, last_moment, now_of, StandsFor}
 use Rattle.vx_group.specs.Owning.{MayAdd}
 use Rattle.vx_group.specs.Laws.{group_after}
+use Rattle.vx_session.specs.Origin.{Origin}
 use Rattle.vx_session.specs.Placing.{Placed, IsTold, IsTimely}
 use Rattle.vx_session.specs.Turning.{Turns}
 use Rattle.vx_session.specs.Parts.{IsAt, moment_at}
@@ -27,9 +30,9 @@ max-told kept told = by (cases_lt kept told) where
   by (inr ge) = inl (omega arith)
 
 -- a group of events at a moment that is one of the two, after which the gateway is at that moment
-timely : (told now : ℕ) (log : List (Logged Group)) (f g : FineState) (events : List Event) → StandsFor f (groups log) → All (IsAt now) events
-    → g.state.moment ≡ now → IsTold f.state.moment told now → IsTimely told (record { before = log; group = group_after f events g.state.moment })
-timely told now log f g events stands at now_is is_told =
+timely : (told now : ℕ) (log : List (Logged Group)) (f g : FineState) (events : List Event) (steps : List Step) → StandsFor f (groups log) → All (IsAt now) events
+    → g.state.moment ≡ now → IsTold f.state.moment told now → IsTimely told (record { before = log; group = group_after f events steps g.state.moment })
+timely told now log f g events steps stands at now_is is_told =
     let kept = last_moment (groups log) in
     let here : IsTold kept told now = subst (λ k. IsTold k told now) stands.moment is_told in
     record {
@@ -44,24 +47,24 @@ pub now-is : (told : ℕ) (log : List (Logged Group)) (f : FineState) (group : G
 now-is told log f group stands = ap (λ m. max m told) stands.moment
 
 -- one at the greater of the two
-pub timely-now : (told : ℕ) (log : List (Logged Group)) (f g : FineState) (events : List Event) → StandsFor f (groups log) → All (IsAt (max f.state.moment told)) events
-    → g.state.moment ≡ max f.state.moment told → IsTimely told (record { before = log; group = group_after f events g.state.moment })
-timely-now told log f g events stands at now_is = timely told (max f.state.moment told) log f g events stands at now_is (max-told f.state.moment told)
+pub timely-now : (told : ℕ) (log : List (Logged Group)) (f g : FineState) (events : List Event) (steps : List Step) → StandsFor f (groups log) → All (IsAt (max f.state.moment told)) events
+    → g.state.moment ≡ max f.state.moment told → IsTimely told (record { before = log; group = group_after f events steps g.state.moment })
+timely-now told log f g events steps stands at now_is = timely told (max f.state.moment told) log f g events steps stands at now_is (max-told f.state.moment told)
 
 -- and one that leaves the moment that is kept
-pub timely-still : (log : List (Logged Group)) (f g : FineState) (events : List Event) → StandsFor f (groups log) → All (IsAt f.state.moment) events
-    → g.state.moment ≡ f.state.moment → IsTimely 0 (record { before = log; group = group_after f events g.state.moment })
-timely-still log f g events stands at same = timely 0 f.state.moment log f g events stands at same (inl refl)
+pub timely-still : (log : List (Logged Group)) (f g : FineState) (events : List Event) (steps : List Step) → StandsFor f (groups log) → All (IsAt f.state.moment) events
+    → g.state.moment ≡ f.state.moment → IsTimely 0 (record { before = log; group = group_after f events steps g.state.moment })
+timely-still log f g events steps stands at same = timely 0 f.state.moment log f g events steps stands at same (inl refl)
 
 -- ---- the turn
 
 module _ {B A R : Type 0} {does : A → CoreState B → R → A → CoreState B → Type 0} {adds : A → CoreState B → R → A → CoreState B → Group} where
   -- A turn that took an act so added the act's group, behind the history that it found.
-  pub turns : (told : ℕ) {pass : PassView Group} {act : A} {answer : R} {act' : A} {pass' : PassView Group}
-      → (t : Turned (λ (core : CoreState B) (log : List Group). StandsFor core.fine log) MayAdd does adds pass act answer act' pass')
+  pub turns : (g : Origin B) (told : ℕ) {pass : PassView Group} {act : A} {answer : R} {act' : A} {pass' : PassView Group}
+      → (t : Turned (Became g.bus.means g.bus.through g.first) MayAdd does adds pass act answer act' pass')
       → IsTimely told (record { before = t.log; group = adds act t.before answer act' t.after })
-      → Turns told pass (record { before = t.log; group = adds act t.before answer act' t.after }) pass'
-  turns told {pass = pass} {act = act} {answer = answer} {act' = act'} t timely_is =
+      → Turns g told pass (record { before = t.log; group = adds act t.before answer act' t.after }) pass'
+  turns g told {pass = pass} {act = act} {answer = answer} {act' = act'} t timely_is =
       let p : Placed = record { before = t.log; group = adds act t.before answer act' t.after } in
       record {
         makes = record {
@@ -73,5 +76,5 @@ module _ {B A R : Type 0} {does : A → CoreState B → R → A → CoreState B 
           timely = All-cons (IsTimely told) p [] timely_is (All-nil (IsTimely told));
           alone = λ all. t.seen ∙ ap (λ l. l ++ made pass.number p.group ∷ []) (t.alone all);
         };
-        history = record { state = t.after.fine; stands = t.stands_now; lawful = t.lawful };
+        history = record { core = t.after; became = t.stands_now; lawful = t.lawful };
       }

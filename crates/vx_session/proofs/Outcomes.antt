@@ -7,6 +7,7 @@ use Rattle.vx_calls.specs.declared.calls.Role.{Role}
 use Rattle.vx_gate.specs.declared.views.Logged.{Logged}
 use Rattle.vx_gate.specs.History.{groups}
 use Rattle.vx_gate.specs.PassView.{PassView}
+use Rattle.vx_bus_traits.specs.Steps.{Cut}
 use Rattle.vx_rules.specs.SrqState.{Channel, Given, channel_at}
 use Rattle.vx_rules.specs.State.{Connection, connection_at}
 use Rattle.vx_tables.specs.declared.tables.Connect.{Connect}
@@ -17,37 +18,44 @@ use Rattle.vx_core.specs.CoreState.{CoreState}
 use Rattle.vx_group.specs.Groups.{Group, StandsFor}
 use Rattle.vx_group.specs.Laws.{group_after}
 use Rattle.vx_session.specs.Placing.{IsTimely}
-use Rattle.vx_session.specs.Acting.{Connects, TakeAt, TakeDid, connect_events, take_events}
-use Rattle.vx_session.specs.Turning.{phase_at, IsChannel, HasCome, TakesFrom}
+use Rattle.vx_session.specs.Acting.{Connects, TakeAt, TakeDid, connect_events, connect_steps, take_events, take_steps}
+use Rattle.vx_session.specs.Turning.{phase_at, IsChannel, HasCome, TakesFrom, taken_steps}
 use Rattle.vx_session.specs.Parts.{IsAt}
 use Rattle.vx_session.proofs.Moments.{fine-moment, one-without}
 use Rattle.vx_session.proofs.Phased.{phase-more, phase-up}
 use Rattle.vx_session.proofs.Making.{timely-still}
+
+-- ---- the steps of a take
+
+-- the bus made a step in it exactly where there was an event
+pub takes-steps : (o : Option Connection) (conn chan : ℕ) (given : Given) → take_steps o ≡ taken_steps (take_events o conn chan given)
+takes-steps None conn chan given = refl
+takes-steps (Some c) conn chan given = refl
 
 -- ---- a connection that comes up, or doesn't
 
 module _ {B : Type 0} where
   -- no event, and nothing changed
   still : (log : List (Logged Group)) (core core' : CoreState B) → StandsFor core.fine (groups log) → core' ≡ core
-      → IsTimely 0 (record { before = log; group = group_after core.fine [] core'.fine.state.moment })
+      → IsTimely 0 (record { before = log; group = group_after core.fine [] [] core'.fine.state.moment })
   still log core core' stands same =
-      timely-still log core.fine core'.fine [] stands (All-nil (IsAt core.fine.state.moment)) (ap (λ (x : CoreState B). x.fine.state.moment) same)
+      timely-still log core.fine core'.fine [] [] stands (All-nil (IsAt core.fine.state.moment)) (ap (λ (x : CoreState B). x.fine.state.moment) same)
 
   -- a turn in which a connection comes up, or is refused, leaves the moment
   pub joins-timely : (log : List (Logged Group)) (core core' : CoreState B) (r : Role) (answer : Result ℕ Connect) → StandsFor core.fine (groups log) → Connects core r answer core'
-      → IsTimely 0 (record { before = log; group = group_after core.fine (connect_events r answer) core'.fine.state.moment })
+      → IsTimely 0 (record { before = log; group = group_after core.fine (connect_events r answer) (connect_steps answer) core'.fine.state.moment })
   joins-timely log core core' r (Ok conn) stands did =
-      timely-still log core.fine core'.fine (Up conn r ∷ []) stands (one-without (Up conn r) core.fine.state.moment refl) (fine-moment (Up conn r) core.fine core'.fine did)
+      timely-still log core.fine core'.fine (Up conn r ∷ []) (Cut ∷ []) stands (one-without (Up conn r) core.fine.state.moment refl) (fine-moment (Up conn r) core.fine core'.fine did)
   joins-timely log core core' r (Err connect.Full) stands did = still log core core' stands did.1
   joins-timely log core core' r (Err connect.NoMemory) stands did = still log core core' stands did
 
   -- it tells that the connection is up, or that there is no room for it
   pub joins-come : (pass pass' : PassView Group) (log : List (Logged Group)) (core core' : CoreState B) (r : Role) (answer : Result ℕ Connect)
       → StandsFor core.fine (groups log) → Connects core r answer core'
-      → pass'.own ≡ pass.own ++ group_after core.fine (connect_events r answer) core'.fine.state.moment ∷ []
-      → HasCome pass r (record { before = log; group = group_after core.fine (connect_events r answer) core'.fine.state.moment }) answer pass'
+      → pass'.own ≡ pass.own ++ group_after core.fine (connect_events r answer) (connect_steps answer) core'.fine.state.moment ∷ []
+      → HasCome pass r (record { before = log; group = group_after core.fine (connect_events r answer) (connect_steps answer) core'.fine.state.moment }) answer pass'
   joins-come pass pass' log core core' r (Ok conn) stands did own =
-      phase-more pass.own pass'.own (group_after core.fine (Up conn r ∷ []) core'.fine.state.moment) conn own ∙ phase-up conn (phase_at pass conn) r
+      phase-more pass.own pass'.own (group_after core.fine (Up conn r ∷ []) (Cut ∷ []) core'.fine.state.moment) conn own ∙ phase-up conn (phase_at pass conn) r
   joins-come pass pass' log core core' r (Err connect.Full) stands did own = record { state = core.fine; stands = stands; full = did.0 }
   joins-come pass pass' log core core' r (Err connect.NoMemory) stands did own = tt
 
@@ -55,13 +63,13 @@ module _ {B : Type 0} where
 
   -- a turn that takes from a channel leaves the moment
   pub takes-timely : (log : List (Logged Group)) (core core' : CoreState B) (conn chan : ℕ) (given : Given) → StandsFor core.fine (groups log) → TakeDid core conn chan given core'
-      → IsTimely 0 (record { before = log; group = group_after core.fine (take_events (connection_at core.fine.state.tables conn) conn chan given) core'.fine.state.moment })
+      → IsTimely 0 (record { before = log; group = group_after core.fine (take_events (connection_at core.fine.state.tables conn) conn chan given) (take_steps (connection_at core.fine.state.tables conn)) core'.fine.state.moment })
   takes-timely log core core' conn chan given stands = by (connection_at core.fine.state.tables conn) where
     by : (o : Option Connection) → TakeAt o core conn chan given core'
-        → IsTimely 0 (record { before = log; group = group_after core.fine (take_events o conn chan given) core'.fine.state.moment })
+        → IsTimely 0 (record { before = log; group = group_after core.fine (take_events o conn chan given) (take_steps o) core'.fine.state.moment })
     by None did = still log core core' stands did.1
     by (Some c) did =
-        timely-still log core.fine core'.fine (Take conn chan given ∷ []) stands (one-without (Take conn chan given) core.fine.state.moment refl)
+        timely-still log core.fine core'.fine (Take conn chan given ∷ []) (Cut ∷ []) stands (one-without (Take conn chan given) core.fine.state.moment refl)
         (fine-moment (Take conn chan given) core.fine core'.fine did)
 
   -- it tells what it took, or that the connection isn't up

@@ -2,6 +2,7 @@
 use Rattle.std.proofs.Common.{◌≡◌, ◌++◌, ℕ, max, Bool, List, [], ◌∷◌, Some, refl, sym, ap, ◌∙◌, subst}
 use Rattle.std.proofs.lemmas.Option.{same_Some}
 use Rattle.vx_calls.specs.Call.{Call}
+use Rattle.vx_bus_traits.specs.Steps.{Step, Told, Cut}
 use Rattle.vx_bus_traits.specs.declared.bus.Bus.{Ghosts}
 use Rattle.vx_gate.specs.declared.views.Logged.{Logged}
 use Rattle.vx_gate.specs.History.{groups}
@@ -16,17 +17,18 @@ use Rattle.vx_core.specs.CoreState.{CoreState}
 use Rattle.vx_exchange.specs.declared.polls.PollEnd.{PollEnd}
 use Rattle.vx_exchange.specs.Doing.{Polled, Came}
 use Rattle.vx_exchange.specs.ProvedLaws.{polled-moment, came-pending, came-ends}
-use Rattle.vx_group.specs.Groups.{Group, StandsFor}
+use Rattle.vx_group.specs.Groups.{Group}
 use Rattle.vx_group.specs.Phases.{Asked, phase_along}
 use Rattle.vx_group.specs.Owning.{MayAdd}
 use Rattle.vx_group.specs.Laws.{group_after, PhaseLaw}
-use Rattle.vx_session.specs.Placing.{Placed, IsTimely}
+use Rattle.vx_session.specs.Origin.{Origin}
+use Rattle.vx_session.specs.Placing.{Placed, BecameBy, IsTimely}
 use Rattle.vx_session.specs.Parts.{IsPolled, PollsAt, ComesAt, DialsFor}
-use Rattle.vx_session.specs.Acting.{last_ending, poll_events, come_events, come_to}
+use Rattle.vx_session.specs.Acting.{last_ending, poll_events, poll_steps, come_events, come_steps, come_to}
 use Rattle.vx_session.specs.Turning.{phase_at, Turns, Comes, PollsAgain}
 use Rattle.vx_session.specs.ProvedLaws.{poll-at, poll-phase}
 use Rattle.vx_session.proofs.Moments.{come-at}
-use Rattle.vx_session.proofs.Adding.{arrived-at}
+use Rattle.vx_session.proofs.Adding.{arrived-at, poll-made}
 use Rattle.vx_session.proofs.Phased.{phase-more, phase-comes}
 use Rattle.vx_session.proofs.Owned.{own-phase}
 use Rattle.vx_session.proofs.Making.{now-is, timely-now}
@@ -45,37 +47,45 @@ dials-of g core core' conn now xid room end call p did at is =
     let asked : polls.asked ≡ p = same_Some polls.asked p (sym polls.call_at ∙ at) in
     dials-for polls.behind conn now polls.asked call did.ending polls.ends_by (ap (λ (x : Pending). x.call) asked ∙ is)
 
-module _ {B : Type 0} (g : Ghosts B) (told : ℕ) (pass pass' : PassView Group) (log : List (Logged Group)) (core core' : CoreState B) (conn xid : ℕ) (room : List ℕ) (end : PollEnd) where
+module _ {B : Type 0} (o : Origin B) (told : ℕ) (pass pass' : PassView Group) (log : List (Logged Group)) (core core' : CoreState B) (conn xid : ℕ) (room : List ℕ) (end : PollEnd) where
+  -- what the bus names of itself
+  abbrev g : Ghosts B
+  g = o.bus
+
   -- a poll of the core in a turn, at a moment
-  polled-so : (now : ℕ) (before : CoreState B) (events : List Event) (did : Polled g before conn now xid room end core')
-      → events ≡ poll_events before.fine conn now (g.means core'.bus).moves did.ending → IsPolled g before.fine conn now did.ending events
-  polled-so now before events did is =
-      record { bus = before.bus; bus_after = core'.bus; after = core'.fine; over = did.over; few = did.few; are = is }
+  polled-so : (now : ℕ) (before : CoreState B) (events : List Event) (steps : List Step) (did : Polled g before conn now xid room end core')
+      → events ≡ poll_events before.fine conn now (g.means core'.bus).moves did.ending → steps ≡ poll_steps before.fine conn now (g.means core'.bus).moves did.ending
+      → IsPolled g before conn now did.ending events steps
+  polled-so now before events steps did is made =
+      record { after = core'; over = did.over; few = did.few; are = is; made = made ∙ poll-made before.fine core'.fine conn now (g.means core'.bus).moves did.ending did.over.polls }
 
   -- a turn that polls a call again
-  pub polls-again : PhaseLaw → (call : Call) (dialed : Bool) → Fits MayAdd pass log → StandsFor core.fine (groups log)
+  pub polls-again : PhaseLaw → (call : Call) (dialed : Bool) → Fits MayAdd pass log → BecameBy o core log
       → Polled g core conn (max core.fine.state.moment told) xid room end core'
       → let events = poll_events core.fine conn (max core.fine.state.moment told) (g.means core'.bus).moves (last_ending core'.last) in
-      let group = group_after core.fine events core'.fine.state.moment in
+      let steps = poll_steps core.fine conn (max core.fine.state.moment told) (g.means core'.bus).moves (last_ending core'.last) in
+      let group = group_after core.fine events steps core'.fine.state.moment in
       let placed : Placed = record { before = log; group = group } in
-      pass'.own ≡ pass.own ++ group ∷ [] → (IsTimely told placed → Turns told pass placed pass')
-      → phase_at pass conn ≡ Asked call dialed → PollsAgain g told pass conn xid call dialed room end pass'
-  polls-again law call dialed fits stands did own turns phase =
+      pass'.own ≡ pass.own ++ group ∷ [] → (IsTimely told placed → Turns o told pass placed pass')
+      → phase_at pass conn ≡ Asked call dialed → PollsAgain o told pass conn xid call dialed room end pass'
+  polls-again law call dialed fits became did own turns phase =
+      let stands = became.state in
       let f = core.fine in
       let now = max f.state.moment told in
       let moves = (g.means core'.bus).moves in
       let events = poll_events f conn now moves (last_ending core'.last) in
-      let group = group_after f events core'.fine.state.moment in
+      let steps = poll_steps f conn now moves (last_ending core'.last) in
+      let group = group_after f events steps core'.fine.state.moment in
       let placed : Placed = record { before = log; group = group } in
       let ended : events ≡ poll_events f conn now moves did.ending = ap (λ o. poll_events f conn now moves (last_ending o)) did.last in
       let asked = (own-phase law pass log f conn (Asked call dialed) fits stands phase).1 in
       record {
         placed = placed;
-        turns = turns (timely-now told log f core'.fine events stands (poll-at f conn now moves (last_ending core'.last))
+        turns = turns (timely-now told log f core'.fine events steps stands (poll-at f conn now moves (last_ending core'.last))
             (polled-moment g core conn now xid room end core' did));
         ending = did.ending;
-        polls = subst (λ n. PollsAt g placed conn n did.ending events) (now-is told log f group stands)
-            (record { state = f; stands = stands; polled = polled-so now core events did ended; keeps = polled-moment g core conn now xid room end core' did });
+        polls = subst (λ n. PollsAt o placed conn n did.ending events) (now-is told log f group stands)
+            (record { core = core; became = became; polled = polled-so now core events steps did ended (ap (λ e. poll_steps f conn now moves (last_ending e)) did.last); keeps = polled-moment g core conn now xid room end core' did });
         dials = dials-of g core core' conn now xid room end call asked.pending did asked.call_at asked.call_is;
         says = did.says;
         phase = phase-more pass.own pass'.own group conn own
@@ -85,33 +95,50 @@ module _ {B : Type 0} (g : Ghosts B) (told : ℕ) (pass pass' : PassView Group) 
       }
 
   -- a turn in which a call comes, and is polled
-  pub comes : (call : Call) → StandsFor core.fine (groups log)
+  pub comes : (call : Call) → BecameBy o core log
       → Came g core conn call (max core.fine.state.moment told) xid room end core'
       → let events = come_events core.fine conn call (max core.fine.state.moment told) (g.means core'.bus).moves (last_ending core'.last) in
-      let group = group_after core.fine events core'.fine.state.moment in
+      let steps = come_steps core.fine conn call (max core.fine.state.moment told) (g.means core'.bus).moves (last_ending core'.last) in
+      let group = group_after core.fine events steps core'.fine.state.moment in
       let placed : Placed = record { before = log; group = group } in
-      pass'.own ≡ pass.own ++ group ∷ [] → (IsTimely told placed → Turns told pass placed pass')
-      → Comes g told pass conn xid call room end pass'
-  comes call stands did own turns =
+      pass'.own ≡ pass.own ++ group ∷ [] → (IsTimely told placed → Turns o told pass placed pass')
+      → Comes o told pass conn xid call room end pass'
+  comes call became did own turns =
+      let stands = became.state in
       let f = core.fine in
       let now = max f.state.moment told in
       let moves = (g.means core'.bus).moves in
       let polled = did.polled in
       let mid = did.come.fine in
       let part = poll_events mid conn now moves polled.ending in
+      let asked = poll_steps mid conn now moves polled.ending in
       let events = come_events f conn call now moves (last_ending core'.last) in
-      let group = group_after f events core'.fine.state.moment in
+      let steps = come_steps f conn call now moves (last_ending core'.last) in
+      let group = group_after f events steps core'.fine.state.moment in
       let placed : Placed = record { before = log; group = group } in
       let ended : events ≡ Arrive conn call now ∷ part =
       ap (λ o. come_events f conn call now moves (last_ending o)) polled.last
       ∙ ap (λ (x : FineState). Arrive conn call now ∷ poll_events x conn now moves polled.ending) (arrived-at f mid conn now call did.arrives) in
       record {
         placed = placed;
-        turns = turns (timely-now told log f core'.fine events stands (come-at (come_to f conn call now) conn now call moves (last_ending core'.last))
+        turns = turns (timely-now told log f core'.fine events steps stands (come-at (come_to f conn call now) conn now call moves (last_ending core'.last))
             (came-ends g core conn call now xid room end core' did));
         ending = polled.ending;
-        comes = subst (λ n. ComesAt g placed conn call n polled.ending) (now-is told log f group stands)
-            (record { state = f; stands = stands; come = mid; arrives = did.arrives; part = part; polled = polled-so now did.come part polled refl; events = ended; keeps = came-ends g core conn call now xid room end core' did });
+        comes = subst (λ n. ComesAt o placed conn call n polled.ending) (now-is told log f group stands)
+            (record {
+              core = core;
+              became = became;
+              come = did.come;
+              arrives = did.arrives;
+              heard = did.walk;
+              part = part;
+              asked = asked;
+              polled = polled-so now did.come part asked polled refl refl;
+              events = ended;
+              steps = ap (λ e. come_steps f conn call now moves (last_ending e)) polled.last
+                  ∙ ap (λ (x : FineState). Cut ∷ Told now ∷ poll_steps x conn now moves polled.ending) (arrived-at f mid conn now call did.arrives);
+              keeps = came-ends g core conn call now xid room end core' did;
+            });
         dials = dials-of g did.come core' conn now xid room end call (arrived call now) polled (came-pending g core conn call now xid room end core' did) refl;
         says = polled.says;
         phase = phase-more pass.own pass'.own group conn own

@@ -11,6 +11,8 @@ use Rattle.vx_io_traits.specs.Rung.{AddsCalls}
 use Rattle.vx_io_traits.specs.Stands.{Goes}
 use Rattle.vx_calls.specs.declared.limits.TheConstants.{RECORD_MAX}
 use Rattle.vx_bus_traits.specs.declared.bus.Bus.{Ghosts}
+use Rattle.vx_core.specs.CoreState.{CoreState}
+use Rattle.vx_session.specs.Origin.{Origin, origin}
 use Rattle.vx_gate.specs.PassView.{PassView}
 use Rattle.vx_group.specs.Groups.{Group, events_of}
 use Rattle.vx_stream.specs.Shown.{LinkShown, LinkGoes}
@@ -65,7 +67,7 @@ rings-goes a b c ps qs xs ys before after = record {
 
 -- These messages of a session, whose pass was this one, were served, one after the other, by the groups of its pass and the calls of
 -- its dial.
-pub record ServesAll {B : Type 0} (g : Ghosts B) (s : SessionState) (pass : PassView Group) (list : List Answered) (s' : SessionState) : Type 0 where
+pub record ServesAll {B : Type 0} (g : Origin B) (s : SessionState) (pass : PassView Group) (list : List Answered) (s' : SessionState) : Type 0 where
   pub items : List Item
   pub pass' : PassView Group
   pub are : answered items ≡ list
@@ -86,7 +88,7 @@ pub record Stays (s s' : SessionState) : Type 0 where
   pub later : s.told ≤ s'.told
 
 -- no message was served
-serves-none : {B : Type 0} (g : Ghosts B) (s s' : SessionState) (pass : PassView Group) → s.pass ≡ Some pass → Stays s s' → ServesAll g s pass [] s'
+serves-none : {B : Type 0} (g : Origin B) (s s' : SessionState) (pass : PassView Group) → s.pass ≡ Some pass → Stays s s' → ServesAll g s pass [] s'
 serves-none g s s' pass had stays = record {
   items = [];
   pass' = pass;
@@ -101,7 +103,7 @@ serves-none g s s' pass had stays = record {
 }
 
 -- one message was answered, and then more of them
-serves-more : {B : Type 0} (g : Ghosts B) (s mid s' : SessionState) (pass : PassView Group) (one : Answered) (more : List Answered) → s.pass ≡ Some pass
+serves-more : {B : Type 0} (g : Origin B) (s mid s' : SessionState) (pass : PassView Group) (one : Answered) (more : List Answered) → s.pass ≡ Some pass
     → (does : MessageDoes g s one.message (Some one.reply) mid) → ServesAll g mid does.has.pass' more s' → ServesAll g s pass (one ∷ more) s'
 serves-more g s mid s' pass one more had does rest =
     let first = subst (λ p. ServesRecord g mid.told s.role p s.conn one.message s.dial one.reply does.has.pass' mid.dial) (same_Some does.has.pass pass (sym does.has.had ∙ had)) does.has.serves in
@@ -147,7 +149,7 @@ left-so does last s' seen list looked behind unsent seen' end.ReadFault ended le
 left-so does last s' seen list looked behind unsent seen' end.WriteFault ended left = inl left
 
 -- The records of a session's stream were served, up to its end or to where it is no longer read.
-pub record StreamServed {B L : Type 0} (g : Ghosts B) (stands : L → List ℕ → List ℕ → Type 0) (s : SessionState) (pass : PassView Group) (link : L) (seen : LinkShown) (how : End)
+pub record StreamServed {B L : Type 0} (g : Origin B) (stands : L → List ℕ → List ℕ → Type 0) (s : SessionState) (pass : PassView Group) (link : L) (seen : LinkShown) (how : End)
     (s' : SessionState) (link' : L) (seen' : LinkShown) : Type 0 where
   pub list : List Answered
   pub front : List ℕ
@@ -161,8 +163,9 @@ pub record StreamServed {B L : Type 0} (g : Ghosts B) (stands : L → List ℕ �
   pub ended : EndsSo (λ message. meaning message s.role ≡ Junk) seen list (records RECORD_MAX front) behind unsent seen' (Some how)
 
 -- what answers messages, as a session's state shows it
-module _ {B S : Type 0} (g : Ghosts B) (does : S → List ℕ → Option (List ℕ) → S → Type 0) (shown : S → SessionState)
-    (one : (s s' : S) (message : List ℕ) (reply : Option (List ℕ)) → does s message reply s' → MessageDoes g (shown s) message reply (shown s')) where
+module _ {B S : Type 0} (bus : Ghosts B) (first : S → CoreState B) (does : S → List ℕ → Option (List ℕ) → S → Type 0) (shown : S → SessionState)
+    (one : (s s' : S) (message : List ℕ) (reply : Option (List ℕ)) → does s message reply s' → MessageDoes (origin bus (first s)) (shown s) message reply (shown s'))
+    (same : (s s' : S) (message : List ℕ) (reply : Option (List ℕ)) → does s message reply s' → first s' ≡ first s) where
   -- as it is left, it stays
   left-stays : (last s' : S) → (s' ≡ last) ⊎ ((junk : List ℕ) × does last junk None s') → Stays (shown last) (shown s')
   left-stays last s' (inl same) = subst (λ x. Stays (shown last) (shown x)) (sym same) (record { role = refl; conn = refl; pass = refl; dial = refl; later = omega arith })
@@ -172,16 +175,18 @@ module _ {B S : Type 0} (g : Ghosts B) (does : S → List ℕ → Option (List �
 
   -- the messages that it answered were served
   all-served : (s last s' : S) (pass : PassView Group) (list : List Answered) → (shown s).pass ≡ Some pass → AnswersAll does s list last → Stays (shown last) (shown s')
-      → ServesAll g (shown s) pass list (shown s')
-  all-served s last s' pass [] had all stays = serves-none g (shown s) (shown s') pass had (subst (λ x. Stays (shown x) (shown s')) all stays)
-  all-served s last s' pass (first ∷ more) had all stays =
-      let did = one s all.0 first.message (Some first.reply) all.1 in
-      serves-more g (shown s) (shown all.0) (shown s') pass first more had did (all-served all.0 last s' did.has.pass' more did.has.has all.2 stays)
+      → ServesAll (origin bus (first s)) (shown s) pass list (shown s')
+  all-served s last s' pass [] had all stays = serves-none (origin bus (first s)) (shown s) (shown s') pass had (subst (λ x. Stays (shown x) (shown s')) all stays)
+  all-served s last s' pass (message ∷ more) had all stays =
+      let did = one s all.0 message.message (Some message.reply) all.1 in
+      serves-more (origin bus (first s)) (shown s) (shown all.0) (shown s') pass message more had did
+      (subst (λ x. ServesAll (origin bus x) (shown all.0) did.has.pass' more (shown s')) (same s all.0 message.message (Some message.reply) all.1)
+      (all-served all.0 last s' did.has.pass' more did.has.has all.2 stays))
 
   -- so the records of its stream were served
   pub stream-served : {L : Type 0} (stands : L → List ℕ → List ℕ → Type 0) (s s' : S) (pass : PassView Group) (link link' : L) (seen seen' : LinkShown) (limit : ℕ) (how : End)
       → (shown s).pass ≡ Some pass → limit ≡ RECORD_MAX → StreamAnswered does stands limit None s link seen (Some how) s' link' seen'
-      → StreamServed g stands (shown s) pass link seen how (shown s') link' seen'
+      → StreamServed (origin bus (first s)) stands (shown s) pass link seen how (shown s') link' seen'
   stream-served stands s s' pass link link' seen seen' limit how had limit_is did =
       let last = did.last in
       let looked = records limit did.front in

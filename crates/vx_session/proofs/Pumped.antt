@@ -11,6 +11,7 @@ use Rattle.vx_exchange.specs.SrqState.{Given, Srq, Front, Empty, Gone}
 use Rattle.vx_exchange.specs.Meaning.{srq_record}
 use Rattle.vx_core.specs.Groups.{Group}
 use Rattle.vx_session.specs.Placing.{Placed, Makes}
+use Rattle.vx_session.specs.Origin.{Origin}
 use Rattle.vx_session.specs.Turning.{TakesTurn}
 use Rattle.vx_stream.specs.Shown.{LinkShown, LinkGoes}
 use Rattle.vx_stream.specs.ProvedLaws.{link-none, link-goes}
@@ -46,7 +47,7 @@ pub record Pumped {L : Type 0} (stands : L → List ℕ → List ℕ → Type 0)
   pub goes : LinkGoes seen [] seen'
   pub wrote : taken_records turns ≡ written
 
-module _ {L : Type 0} (stands : L → List ℕ → List ℕ → Type 0) (pass : PassView Group) (conn chan : ℕ) (link : L) (seen : LinkShown) where
+module _ {B L : Type 0} (g : Origin B) (stands : L → List ℕ → List ℕ → Type 0) (pass : PassView Group) (conn chan : ℕ) (link : L) (seen : LinkShown) where
   -- before its first turn
   pub pumped-none : Pumped stands pass conn chan link seen pass link seen
   pumped-none = record {
@@ -62,14 +63,14 @@ module _ {L : Type 0} (stands : L → List ℕ → List ℕ → Type 0) (pass : 
 
   -- one more turn, whose outbox was empty
   pub pumped-empty : (given : Given) (pass' pass'' : PassView Group) (link' : L) (seen' : LinkShown) → Pumped stands pass conn chan link seen pass' link' seen'
-      → TakesTurn pass' conn chan given pass'' → given ≡ Empty → Pumped stands pass conn chan link seen pass'' link' seen'
+      → TakesTurn g pass' conn chan given pass'' → given ≡ Empty → Pumped stands pass conn chan link seen pass'' link' seen'
   pumped-empty given pass' pass'' link' seen' so_far turn is_empty =
       let t : Taking = record { placed = turn.placed; given = given } in
       record {
         turns = so_far.turns ++ t ∷ [];
         written = so_far.written;
         makes = makes-more pass pass' pass'' so_far.turns t so_far.makes turn.turns.makes;
-        each = All-push (IsTaking conn chan) so_far.turns t so_far.each turn.taken;
+        each = All-push (IsTaking conn chan) so_far.turns t so_far.each (turn.taken, turn.steps);
         lived = All-push (λ u. u.given ≢ Gone) so_far.turns t so_far.lived (λ e. cc);
         bytes = so_far.bytes;
         goes = so_far.goes;
@@ -81,7 +82,7 @@ module _ {L : Type 0} (stands : L → List ℕ → List ℕ → Type 0) (pass : 
 
   -- one more turn, that was given an interrupt, and all of its record was sent
   pub pumped-sent : (given : Given) (srq : Srq) (record_sent : List ℕ) (all : Bool) (pass' pass'' : PassView Group) (link' link'' : L) (seen' seen'' : LinkShown)
-      → Pumped stands pass conn chan link seen pass' link' seen' → TakesTurn pass' conn chan given pass'' → given ≡ Front srq
+      → Pumped stands pass conn chan link seen pass' link' seen' → TakesTurn g pass' conn chan given pass'' → given ≡ Front srq
       → SendsAll stands link' seen' record_sent all link'' seen'' → record_sent ≡ srq_record srq → all ≡ true
       → Pumped stands pass conn chan link seen pass'' link'' seen''
   pumped-sent given srq record_sent all pass' pass'' link' link'' seen' seen'' so_far turn is_front sends is_record is_all =
@@ -91,7 +92,7 @@ module _ {L : Type 0} (stands : L → List ℕ → List ℕ → Type 0) (pass : 
         turns = so_far.turns ++ t ∷ [];
         written = so_far.written ++ sends.sent;
         makes = makes-more pass pass' pass'' so_far.turns t so_far.makes turn.turns.makes;
-        each = All-push (IsTaking conn chan) so_far.turns t so_far.each turn.taken;
+        each = All-push (IsTaking conn chan) so_far.turns t so_far.each (turn.taken, turn.steps);
         lived = All-push (λ u. u.given ≢ Gone) so_far.turns t so_far.lived (λ e. cc);
         bytes = Goes-goes stands link link' link'' so_far.written [] sends.sent [] so_far.bytes sends.took;
         goes = link-goes seen seen' seen'' [] [] so_far.goes sends.goes;
@@ -103,7 +104,7 @@ module _ {L : Type 0} (stands : L → List ℕ → List ℕ → Type 0) (pass : 
 
   -- its last turn found the channel gone
   pub pumped-gone : (given : Given) (pass' pass'' : PassView Group) (link' : L) (seen' : LinkShown) → Pumped stands pass conn chan link seen pass' link' seen'
-      → TakesTurn pass' conn chan given pass'' → given ≡ Gone → Pumps stands pass conn chan link seen end.ChannelGone pass'' link' seen'
+      → TakesTurn g pass' conn chan given pass'' → given ≡ Gone → Pumps g stands pass conn chan link seen end.ChannelGone pass'' link' seen'
   pumped-gone given pass' pass'' link' seen' so_far turn is_gone =
       let t : Taking = record { placed = turn.placed; given = given } in
       record {
@@ -113,7 +114,7 @@ module _ {L : Type 0} (stands : L → List ℕ → List ℕ → Type 0) (pass : 
         unsent = [];
         makes = makes-more pass pass' pass'' so_far.turns t so_far.makes turn.turns.makes;
         history = turn.turns.history;
-        each = All-push (IsTaking conn chan) so_far.turns t so_far.each turn.taken;
+        each = All-push (IsTaking conn chan) so_far.turns t so_far.each (turn.taken, turn.steps);
         lived = so_far.lived;
         bytes = so_far.bytes;
         goes = so_far.goes;
@@ -125,9 +126,9 @@ module _ {L : Type 0} (stands : L → List ℕ → List ℕ → Type 0) (pass : 
 
   -- its last turn was given an interrupt, and a send of the record failed
   pub pumped-fails : (given : Given) (srq : Srq) (record_sent : List ℕ) (all : Bool) (pass' pass'' : PassView Group) (link' link'' : L) (seen' seen'' : LinkShown)
-      → Pumped stands pass conn chan link seen pass' link' seen' → TakesTurn pass' conn chan given pass'' → given ≡ Front srq
+      → Pumped stands pass conn chan link seen pass' link' seen' → TakesTurn g pass' conn chan given pass'' → given ≡ Front srq
       → SendsAll stands link' seen' record_sent all link'' seen'' → record_sent ≡ srq_record srq → all ≡ false
-      → Pumps stands pass conn chan link seen end.WriteFault pass'' link'' seen''
+      → Pumps g stands pass conn chan link seen end.WriteFault pass'' link'' seen''
   pumped-fails given srq record_sent all pass' pass'' link' link'' seen' seen'' so_far turn is_front sends is_record is_cut =
       let t : Taking = record { placed = turn.placed; given = given } in
       let some_left : IsSent seen' sends.unsent seen'' false = subst (λ a. IsSent seen' sends.unsent seen'' a) is_cut sends.is_sent in
@@ -142,7 +143,7 @@ module _ {L : Type 0} (stands : L → List ℕ → List ℕ → Type 0) (pass : 
         unsent = sends.unsent;
         makes = makes-more pass pass' pass'' so_far.turns t so_far.makes turn.turns.makes;
         history = turn.turns.history;
-        each = All-push (IsTaking conn chan) so_far.turns t so_far.each turn.taken;
+        each = All-push (IsTaking conn chan) so_far.turns t so_far.each (turn.taken, turn.steps);
         lived = so_far.lived;
         bytes = Goes-goes stands link link' link'' so_far.written [] sends.sent [] so_far.bytes sends.took;
         goes = link-goes seen seen' seen'' [] [] so_far.goes sends.goes;

@@ -2,7 +2,7 @@
 use Rattle.std.proofs.Common.{◌≡◌, ℕ, List, [], ◌∷◌, take, count_by, refl, sym, ap, ◌∙◌, subst, arith}
 use Rattle.vx_calls.specs.declared.calls.Role.{Role}
 use Rattle.vx_calls.specs.Call.{Call}
-use Rattle.vx_bus_traits.specs.declared.bus.Bus.{Ghosts}
+use Rattle.vx_session.specs.Origin.{Origin}
 use Rattle.vx_gate.specs.PassView.{PassView}
 use Rattle.vx_record.specs.Fragments.{record_of}
 use Rattle.vx_exchange.specs.Meaning.{Meaning, Answered, Asks, Aborts, meaning}
@@ -17,7 +17,7 @@ use Rattle.vx_session.specs.Progress.{AnswersCall, ServesRecord}
 use Rattle.vx_session.proofs.Progressing.{rings-none}
 use Rattle.vx_session.proofs.Calling.{rings-still, failed-one}
 
-module _ {B : Type 0} (g : Ghosts B) (told : ℕ) (r : Role) (pass : PassView Group) (conn : ℕ) (message : List ℕ) (dial : DialShown) where
+module _ {B : Type 0} (g : Origin B) (told : ℕ) (r : Role) (pass : PassView Group) (conn : ℕ) (message : List ℕ) (dial : DialShown) where
   -- a message that says what is answered without the core
   pub answered-does : (text room : List ℕ) (len : ℕ) → meaning message r ≡ Answered text → Stands (record_of text) len room
       → ServesRecord g told r pass conn message dial (take len room) pass dial
@@ -31,7 +31,7 @@ module _ {B : Type 0} (g : Ghosts B) (told : ℕ) (r : Role) (pass : PassView Gr
 
   -- a device_abort, which is told in a turn
   pub aborts-does : (xid lid : ℕ) (room : List ℕ) (aborted : Aborted) (pass' : PassView Group) → meaning message r ≡ Aborts xid lid
-      → turning.Aborts pass conn lid xid room aborted pass' → ServesRecord g told r pass conn message dial (take aborted.len room) pass' dial
+      → turning.Aborts g pass conn lid xid room aborted pass' → ServesRecord g told r pass conn message dial (take aborted.len room) pass' dial
   aborts-does xid lid room aborted pass' is aborts =
       let p = aborts.placed in
       let out = take aborted.len room in
@@ -40,6 +40,7 @@ module _ {B : Type 0} (g : Ghosts B) (told : ℕ) (r : Role) (pass : PassView Gr
         error = aborted.error;
         groups = refl;
         events = aborts.events;
+        steps = aborts.steps;
         rung = refl;
         reply_is = aborts.stands.record_is;
       } in

@@ -5,15 +5,19 @@ use Rattle.vx_calls.specs.declared.calls.Role.{Role}
 use Rattle.vx_calls.specs.Call.{Call}
 use Rattle.vx_488.specs.declared.transfers.Transfer.{Transfer}
 use Rattle.vx_rules.specs.SrqState.{Given, Gone}
-use Rattle.vx_rules.specs.State.{Connection, connection_at, has_room}
+use Rattle.vx_bus_traits.specs.Steps.{Step, Told, Cut}
+use Rattle.vx_rules.specs.Lists.{along}
+use Rattle.vx_rules.specs.State.{Connection, Pending, connection_at, pending_at, has_room}
 use Rattle.vx_tables.specs.declared.tables.Connect.{Connect}
 use Rattle.vx_tables.specs.declared.tables.Connect.TheVariants as connect
 use Rattle.vx_flow.specs.Event.{Event, Up, Arrive, Take}
 use Rattle.vx_flow.specs.FineState.{FineState}
 use Rattle.vx_flow.specs.Fine.{fine}
-use Rattle.vx_flow.specs.Poll.{Ending, Waited, run_events, end_events}
+use Rattle.vx_flow.specs.Poll.{Ending, Waited, run_events, end_events, ran_of}
+use Rattle.vx_flow.specs.declared.progress.Ran.{Ran}
 use Rattle.vx_flow.specs.declared.progress.Why.TheVariants as why
 use Rattle.vx_core.specs.CoreState.{CoreState}
+use Rattle.vx_core.specs.Polling.{asks}
 
 -- how the core's last poll ended
 abbrev pub last_ending : Option Ending → Ending
@@ -37,6 +41,25 @@ abbrev pub connect_events : Role → Result ℕ Connect → List Event
 connect_events r (Ok conn) = Up conn r ∷ []
 connect_events r (Err why) = []
 
+-- the asks of a poll, by the state behind its transfers and the call that was asked
+abbrev pub asks_by : Option FineState → Option Pending → ℕ → List Transfer → Ran → List Step
+asks_by (Some behind) (Some asked) conn moves ran = asks behind conn asked moves ran
+asks_by _ _ conn moves ran = []
+
+-- the steps of the bus in a poll of this state, by the transfers that it made and how it ended
+abbrev pub poll_steps : FineState → ℕ → ℕ → List Transfer → Ending → List Step
+poll_steps f conn now moves ending =
+    Cut ∷ Told now ∷ asks_by (along fine (Some f) (run_events f conn now moves)) (pending_at f.state.tables conn) conn moves (ran_of ending)
+
+-- and those of a call that came and was polled
+abbrev pub come_steps : FineState → ℕ → Call → ℕ → List Transfer → Ending → List Step
+come_steps f conn call now moves ending = Cut ∷ Told now ∷ poll_steps (come_to f conn call now) conn now moves ending
+
+-- the steps of an act that connects
+abbrev pub connect_steps : Result ℕ Connect → List Step
+connect_steps (Ok conn) = Cut ∷ []
+connect_steps (Err why) = []
+
 -- a connection came up with the next number, or was refused, exactly where there is no room for it unless memory ran out
 abbrev pub Connects : {B : Type 0} → CoreState B → Role → Result ℕ Connect → CoreState B → Type 0
 Connects core r (Ok conn) core' = fine core.fine (Up conn r) ≡ Some core'.fine
@@ -47,6 +70,11 @@ Connects core r (Err connect.NoMemory) core' = core' ≡ core
 abbrev pub take_events : Option Connection → ℕ → ℕ → Given → List Event
 take_events None conn chan given = []
 take_events (Some c) conn chan given = Take conn chan given ∷ []
+
+-- and the steps of the bus
+abbrev pub take_steps : Option Connection → List Step
+take_steps None = []
+take_steps (Some c) = Cut ∷ []
 
 abbrev pub TakeAt : {B : Type 0} → Option Connection → CoreState B → ℕ → ℕ → Given → CoreState B → Type 0
 TakeAt None core conn chan given core' = (given ≡ Gone) × (core' ≡ core)

@@ -1,3 +1,4 @@
+pub mod Origin
 pub mod Pumping
 pub mod Placing
 pub mod Parts

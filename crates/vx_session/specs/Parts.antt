@@ -6,51 +6,58 @@ use Rattle.vx_calls.specs.Call.{Call}
 use Rattle.vx_calls.specs.declared.calls.Role.TheVariants as role
 use Rattle.vx_calls.specs.declared.codes.ErrorCode.{ErrorCode}
 use Rattle.vx_calls.specs.Reply as reply
-use Rattle.vx_bus_traits.specs.Steps.{Told, Cut}
+use Rattle.vx_bus_traits.specs.Steps.{Step, Told, Cut}
+use Rattle.vx_bus_traits.specs.Walks.{Walk}
 use Rattle.vx_bus_traits.specs.declared.bus.Bus.{Ghosts}
 use Rattle.vx_gate.specs.History.{groups}
 use Rattle.vx_rules.specs.Dials.{dials_to}
 use Rattle.vx_flow.specs.Event.{Event, Answer, Arrive}
-use Rattle.vx_flow.specs.FineState.{FineState}
 use Rattle.vx_flow.specs.Fine.{fine}
-use Rattle.vx_flow.specs.Poll.{Ending, Answered, Waited, Dialed}
-use Rattle.vx_core.specs.Polling.{PollsOver}
-use Rattle.vx_group.specs.Groups.{last_moment, now_of, StandsFor}
+use Rattle.vx_flow.specs.Poll.{Ending, Answered, Waited, Dialed, ran_of}
+use Rattle.vx_core.specs.CoreState.{CoreState}
+use Rattle.vx_core.specs.Polling.{PollsOver, asks}
+use Rattle.vx_group.specs.Groups.{last_moment, now_of}
 use Rattle.vx_group.specs.Phases.{Phase, Idle, Asked}
-use Rattle.vx_session.specs.Placing.{Placed}
+use Rattle.vx_session.specs.Origin.{Origin}
+use Rattle.vx_session.specs.Placing.{Placed, BecameBy}
 use Rattle.vx_session.specs.Acting.{poll_events}
 
--- A poll of a connection's call at this moment, of this state: over a bus that went through the poll's asks, of which at most
--- the last was held or failed, it ended so, with these events.
-pub record IsPolled {B : Type 0} (g : Ghosts B) (before : FineState) (conn now : ℕ) (ending : Ending) (events : List Event) : Type 0 where
-  pub bus : B
-  pub bus_after : B
-  pub after : FineState
-  pub over : PollsOver g.means g.through g.srq_level g.ndac_level before bus conn now (Cut ∷ Told now ∷ []) ending after bus_after
-  pub few : length (g.means bus_after).moves ≤ SLICE_MAX
-  pub are : events ≡ poll_events before conn now (g.means bus_after).moves ending
+-- A poll of a connection's call at this moment, of this core: its bus went through these steps, and no other: its list was cut, it
+-- was told the moment, and then came the asks of the poll, of which at most the last was held or failed. It ended so, with these
+-- events.
+pub record IsPolled {B : Type 0} (g : Ghosts B) (before : CoreState B) (conn now : ℕ) (ending : Ending) (events : List Event) (steps : List Step) : Type 0 where
+  pub after : CoreState B
+  pub over : PollsOver g.means g.through g.srq_level g.ndac_level before.fine before.bus conn now (Cut ∷ Told now ∷ []) ending after.fine after.bus
+  pub few : length (g.means after.bus).moves ≤ SLICE_MAX
+  pub are : events ≡ poll_events before.fine conn now (g.means after.bus).moves ending
+  pub made : steps ≡ Cut ∷ Told now ∷ asks over.polls.behind conn over.polls.asked (g.means after.bus).moves (ran_of ending)
 
 -- the moment of a turn: the greater of the one that the history before it keeps, and the one that its caller told
 abbrev pub moment_at : Placed → ℕ → ℕ
 moment_at placed told = max (last_moment (groups placed.before)) told
 
--- A call of the connection was polled in a turn at its place in the history: a poll of a state that stands for the history. The
--- group keeps the moment of the poll.
-pub record PollsAt {B : Type 0} (g : Ghosts B) (placed : Placed) (conn now : ℕ) (ending : Ending) (events : List Event) : Type 0 where
-  pub state : FineState
-  pub stands : StandsFor state (groups placed.before)
-  pub polled : IsPolled g state conn now ending events
+-- A call of the connection was polled in a turn at its place in the history: a poll of the core that became what it is by the
+-- history before. The group has these events, the steps of the poll's bus, and its moment.
+pub record PollsAt {B : Type 0} (g : Origin B) (placed : Placed) (conn now : ℕ) (ending : Ending) (events : List Event) : Type 0 where
+  pub core : CoreState B
+  pub became : BecameBy g core placed.before
+  pub polled : IsPolled g.bus core conn now ending events placed.group.steps
   pub keeps : placed.group.moment ≡ now
 
 -- A call came on the connection and was polled, in a turn at its place in the history.
-pub record ComesAt {B : Type 0} (g : Ghosts B) (placed : Placed) (conn : ℕ) (call : Call) (now : ℕ) (ending : Ending) : Type 0 where
-  pub state : FineState
-  pub stands : StandsFor state (groups placed.before)
-  pub come : FineState
-  pub arrives : fine state (Arrive conn call now) ≡ Some come
+pub record ComesAt {B : Type 0} (g : Origin B) (placed : Placed) (conn : ℕ) (call : Call) (now : ℕ) (ending : Ending) : Type 0 where
+  pub core : CoreState B
+  pub became : BecameBy g core placed.before
+  -- as it came, the list of the bus was cut, and the bus was told the moment
+  pub come : CoreState B
+  pub arrives : fine core.fine (Arrive conn call now) ≡ Some come.fine
+  pub heard : Walk g.bus.means g.bus.through core.bus (Cut ∷ Told now ∷ []) come.bus
+  -- then it was polled
   pub part : List Event
-  pub polled : IsPolled g come conn now ending part
+  pub asked : List Step
+  pub polled : IsPolled g.bus come conn now ending part asked
   pub events : placed.group.events ≡ Arrive conn call now ∷ part
+  pub steps : placed.group.steps ≡ Cut ∷ Told now ∷ asked
   pub keeps : placed.group.moment ≡ now
 
 -- an event has this moment, or none

@@ -6,9 +6,11 @@ use mathlib.Core.List.{IsPrefix}
 use Rattle.vx_gate.specs.declared.views.Logged.{Logged}
 use Rattle.vx_gate.specs.History.{made, groups, made_by, Lawful}
 use Rattle.vx_gate.specs.PassView.{PassView, all_parts}
-use Rattle.vx_flow.specs.FineState.{FineState}
-use Rattle.vx_group.specs.Groups.{Group, last_moment, now_of, StandsFor}
+use Rattle.vx_group.specs.Groups.{Group, last_moment, now_of}
 use Rattle.vx_group.specs.Owning.{MayAdd}
+use Rattle.vx_core.specs.CoreState.{CoreState}
+use Rattle.vx_core.specs.Standing.{Became}
+use Rattle.vx_session.specs.Origin.{Origin}
 
 -- a group, and the history before it
 pub record Placed : Type 0 where
@@ -49,9 +51,13 @@ pub record Makes (told : ℕ) (pass : PassView Group) (placed : List Placed) (pa
   -- where it has all parts it is the only one, and no group of another stands among them
   pub alone : pass.parts ≡ all_parts → pass'.seen ≡ pass.seen ++ logged pass.number placed
 
--- What a pass has seen is a beginning of a gateway's history: a state stands for it, and each of its groups is one that its
--- pass could add.
-pub record IsHistory (seen : List (Logged Group)) : Type 0 where
-  pub state : FineState
-  pub stands : StandsFor state (groups seen)
+-- The first core of the gateway became this one by what stands before a place in its history, or by all of that.
+abbrev pub BecameBy : {B : Type 0} → Origin B → CoreState B → List (Logged Group) → Type 0
+BecameBy g core log = Became g.bus.means g.bus.through g.first core (groups log)
+
+-- What a pass has seen is a beginning of a gateway's history: a core, with its one bus, became by it what it is, and each of its
+-- groups is one that its pass could add.
+pub record IsHistory {B : Type 0} (g : Origin B) (seen : List (Logged Group)) : Type 0 where
+  pub core : CoreState B
+  pub became : BecameBy g core seen
   pub lawful : Lawful MayAdd seen

@@ -6,12 +6,12 @@ use Rattle.vx_io_traits.specs.Rung.{AddsCalls}
 use Rattle.vx_io_traits.specs.declared.dials.Rang.{Rang}
 use Rattle.vx_calls.specs.declared.calls.Role.{Role}
 use Rattle.vx_calls.specs.Call.{Call}
-use Rattle.vx_bus_traits.specs.declared.bus.Bus.{Ghosts}
 use Rattle.vx_gate.specs.PassView.{PassView}
 use Rattle.vx_group.specs.Groups.{Group, events_of}
 use Rattle.vx_group.specs.Poll.{Dialed}
 use Rattle.vx_exchange.specs.Meaning.{meaning, Junk}
 use Rattle.vx_stream.specs.Answered.{Answered}
+use Rattle.vx_session.specs.Origin.{Origin}
 use Rattle.vx_session.specs.Placing.{Placed, Makes}
 use Rattle.vx_session.specs.Outside.{DialShown, RoseBy, is_failed_dial}
 use Rattle.vx_session.specs.Serving.{Item, GoesOn, IsCalled, IsServed}
@@ -44,16 +44,16 @@ pub record Uses (told : ℕ) (pass : PassView Group) (dial : DialShown) (holds :
   pub holding : holds placed rung
 
 -- the call of this xid was answered, by the record that stands in the room
-abbrev pub AnswersCall : {B : Type 0} → Ghosts B → (told : ℕ) → PassView Group → (conn xid : ℕ) → Call → DialShown → List ℕ → PassView Group → DialShown → Type 0
+abbrev pub AnswersCall : {B : Type 0} → Origin B → (told : ℕ) → PassView Group → (conn xid : ℕ) → Call → DialShown → List ℕ → PassView Group → DialShown → Type 0
 AnswersCall g told pass conn xid call dial out pass' dial' = Uses told pass dial (λ placed rung. IsCalled g pass.number conn xid call placed rung out) pass' dial'
 
 -- the dial that a call asked for was made, and the call answered, by the record that stands in the room
-abbrev pub AnswersDial : {B : Type 0} → Ghosts B → (told : ℕ) → PassView Group → (conn xid : ℕ) → Call → (host port : ℕ) → DialShown → List ℕ → PassView Group → DialShown → Type 0
+abbrev pub AnswersDial : {B : Type 0} → Origin B → (told : ℕ) → PassView Group → (conn xid : ℕ) → Call → (host port : ℕ) → DialShown → List ℕ → PassView Group → DialShown → Type 0
 AnswersDial g told pass conn xid call host port dial out pass' dial' =
     Uses told pass dial (λ placed rung. GoesOn g pass.number conn xid call (Dialed host port) placed rung out) pass' dial'
 
 -- a record on the connection was served, by the reply that stands in the room
-abbrev pub ServesRecord : {B : Type 0} → Ghosts B → (told : ℕ) → Role → PassView Group → (conn : ℕ) → List ℕ → DialShown → List ℕ → PassView Group → DialShown → Type 0
+abbrev pub ServesRecord : {B : Type 0} → Origin B → (told : ℕ) → Role → PassView Group → (conn : ℕ) → List ℕ → DialShown → List ℕ → PassView Group → DialShown → Type 0
 ServesRecord g told r pass conn message dial out pass' dial' =
     Uses told pass dial (λ placed rung. IsServed g pass.number conn (meaning message r) placed rung out) pass' dial'
 
@@ -67,7 +67,7 @@ pub record SessionState : Type 0 where
   pub dial : DialShown
 
 -- a message was served by this reply, by the pass that the session had, and has
-pub record IsAnswered {B : Type 0} (g : Ghosts B) (s : SessionState) (message reply : List ℕ) (s' : SessionState) : Type 0 where
+pub record IsAnswered {B : Type 0} (g : Origin B) (s : SessionState) (message reply : List ℕ) (s' : SessionState) : Type 0 where
   pub pass : PassView Group
   pub pass' : PassView Group
   pub had : s.pass ≡ Some pass
@@ -75,12 +75,12 @@ pub record IsAnswered {B : Type 0} (g : Ghosts B) (s : SessionState) (message re
   pub serves : ServesRecord g s'.told s.role pass s.conn message s.dial reply pass' s'.dial
 
 -- junk is no call and changes nothing; any other message is served
-abbrev pub HasReply : {B : Type 0} → Ghosts B → SessionState → List ℕ → Option (List ℕ) → SessionState → Type 0
+abbrev pub HasReply : {B : Type 0} → Origin B → SessionState → List ℕ → Option (List ℕ) → SessionState → Type 0
 HasReply g s message None s' = (meaning message s.role ≡ Junk) × (s'.pass ≡ s.pass) × (s'.dial ≡ s.dial)
 HasReply g s message (Some reply) s' = IsAnswered g s message reply s'
 
 -- what a message on the connection does
-pub record MessageDoes {B : Type 0} (g : Ghosts B) (s : SessionState) (message : List ℕ) (reply : Option (List ℕ)) (s' : SessionState) : Type 0 where
+pub record MessageDoes {B : Type 0} (g : Origin B) (s : SessionState) (message : List ℕ) (reply : Option (List ℕ)) (s' : SessionState) : Type 0 where
   pub role : s'.role ≡ s.role
   pub conn : s'.conn ≡ s.conn
   pub later : s.told ≤ s'.told

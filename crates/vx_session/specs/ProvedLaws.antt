@@ -9,7 +9,9 @@ use Rattle.vx_calls.specs.declared.calls.Role.TheVariants as role
 use Rattle.vx_calls.specs.Call.{Call}
 use Rattle.vx_calls.specs.Reply.{Reply}
 use Rattle.vx_488.specs.declared.transfers.Transfer.{Transfer}
+use Rattle.vx_bus_traits.specs.Steps.{Step}
 use Rattle.vx_bus_traits.specs.declared.bus.Bus.{Ghosts}
+use Rattle.vx_core.specs.CoreState.{CoreState}
 use Rattle.vx_gate.specs.declared.views.Logged.{Logged}
 use Rattle.vx_gate.specs.History.{made, groups}
 use Rattle.vx_gate.specs.PassView.{PassView}
@@ -28,9 +30,9 @@ use Rattle.vx_session.specs.Parts.{IsPolled, IsAt, dialed_of, phase_behind}
 
 -- a poll began its call's turn or not, the turn made transfers or not, and then the call was answered, a dial was asked for, or
 -- neither
-pub ispolled-shape : {B : Type 0} (g : Ghosts B) (f : FineState) (conn now : ℕ) (ending : Ending) (events : List Event) → IsPolled g f conn now ending events
+pub ispolled-shape : {B : Type 0} (g : Ghosts B) (before : CoreState B) (conn now : ℕ) (ending : Ending) (events : List Event) (steps : List Step) → IsPolled g before conn now ending events steps
     → (begun : Bool) × (moves : List Transfer) × (events ≡ cond begun (Begin conn now ∷ []) [] ++ moved_events conn moves ++ end_events conn now ending)
-ispolled-shape g f conn now ending events p = (begins f conn now, (g.means p.bus_after).moves, p.are)
+ispolled-shape g before conn now ending events steps p = (begins before.fine conn now, (g.means p.after.bus).moves, p.are)
 
 -- what holds of a beginning, of transfers, of an answer behind no dial and of a dial holds of each event of a poll
 pub poll-all : (P : Event → Type 0) (f : FineState) (conn now : ℕ) (moves : List Transfer) (ending : Ending) → P (Begin conn now) → ((made : List Transfer) → P (Move conn made))
@@ -54,11 +56,11 @@ poll-all P f conn now moves ending begun moved answered dials =
     last (Dialed host port) = All-cons P (Dial conn now) [] dials (All-nil P)
 
 -- so it does of each event of a poll in a turn
-pub ispolled-all : {B : Type 0} (P : Event → Type 0) (g : Ghosts B) (f : FineState) (conn now : ℕ) (ending : Ending) (events : List Event) → IsPolled g f conn now ending events
+pub ispolled-all : {B : Type 0} (P : Event → Type 0) (g : Ghosts B) (before : CoreState B) (conn now : ℕ) (ending : Ending) (events : List Event) (steps : List Step) → IsPolled g before conn now ending events steps
     → P (Begin conn now) → ((made : List Transfer) → P (Move conn made)) → ((failed level : Bool) (told : Reply) → P (Answer conn now failed None level told)) → P (Dial conn now)
     → All P events
-ispolled-all P g f conn now ending events p begun moved answered dials =
-    subst (All P) (sym p.are) (poll-all P f conn now (g.means p.bus_after).moves ending begun moved answered dials)
+ispolled-all P g before conn now ending events steps p begun moved answered dials =
+    subst (All P) (sym p.are) (poll-all P before.fine conn now (g.means p.after.bus).moves ending begun moved answered dials)
 
 -- an event that has this moment is at it
 pub has-moment : (e : Event) (moment : ℕ) → now_of e ≡ Some moment → IsAt moment e
@@ -74,20 +76,20 @@ poll-at f conn now moves ending =
     poll-all (IsAt now) f conn now moves ending (has-moment (Begin conn now) now refl) (λ made. has-none (Move conn made) now refl)
     (λ failed level told. has-moment (Answer conn now failed None level told) now refl) (has-moment (Dial conn now) now refl)
 
-pub ispolled-at : {B : Type 0} (g : Ghosts B) (f : FineState) (conn now : ℕ) (ending : Ending) (events : List Event) → IsPolled g f conn now ending events → All (IsAt now) events
-ispolled-at g f conn now ending events p = subst (All (IsAt now)) (sym p.are) (poll-at f conn now (g.means p.bus_after).moves ending)
+pub ispolled-at : {B : Type 0} (g : Ghosts B) (before : CoreState B) (conn now : ℕ) (ending : Ending) (events : List Event) (steps : List Step) → IsPolled g before conn now ending events steps → All (IsAt now) events
+ispolled-at g before conn now ending events steps p = subst (All (IsAt now)) (sym p.are) (poll-at before.fine conn now (g.means p.after.bus).moves ending)
 
 -- they are the connection's
-pub ispolled-own : {B : Type 0} (g : Ghosts B) (f : FineState) (conn now : ℕ) (ending : Ending) (events : List Event) → IsPolled g f conn now ending events
+pub ispolled-own : {B : Type 0} (g : Ghosts B) (before : CoreState B) (conn now : ℕ) (ending : Ending) (events : List Event) (steps : List Step) → IsPolled g before conn now ending events steps
     → All (λ e. owner_of e ≡ Some conn) events
-ispolled-own g f conn now ending events p =
-    ispolled-all (λ e. owner_of e ≡ Some conn) g f conn now ending events p refl (λ made. refl) (λ failed level told. refl) refl
+ispolled-own g before conn now ending events steps p =
+    ispolled-all (λ e. owner_of e ≡ Some conn) g before conn now ending events steps p refl (λ made. refl) (λ failed level told. refl) refl
 
 -- none of them is an answer behind a dial
-pub ispolled-undialed : {B : Type 0} (g : Ghosts B) (f : FineState) (conn now : ℕ) (ending : Ending) (events : List Event) → IsPolled g f conn now ending events
+pub ispolled-undialed : {B : Type 0} (g : Ghosts B) (before : CoreState B) (conn now : ℕ) (ending : Ending) (events : List Event) (steps : List Step) → IsPolled g before conn now ending events steps
     → All (λ e. dialed_of e ≡ None) events
-ispolled-undialed g f conn now ending events p =
-    ispolled-all (λ e. dialed_of e ≡ None) g f conn now ending events p refl (λ made. refl) (λ failed level told. refl) refl
+ispolled-undialed g before conn now ending events steps p =
+    ispolled-all (λ e. dialed_of e ≡ None) g before conn now ending events steps p refl (λ made. refl) (λ failed level told. refl) refl
 
 -- ---- the phase behind a poll
 
@@ -124,10 +126,10 @@ poll-phase f conn now moves ending call dialed =
     (phase-append conn phase first moved ∙ ap (λ s. phase_along conn s moved) (phase-begun conn now phase (begins f conn now)) ∙ phase-moved conn phase moves)
     ∙ phase-end conn now call dialed ending
 
-pub ispolled-phase : {B : Type 0} (g : Ghosts B) (f : FineState) (conn now : ℕ) (ending : Ending) (events : List Event) (call : Call) (dialed : Bool)
-    → IsPolled g f conn now ending events → phase_along conn (Asked call dialed) events ≡ phase_behind call dialed ending
-ispolled-phase g f conn now ending events call dialed p =
-    ap (phase_along conn (Asked call dialed)) p.are ∙ poll-phase f conn now (g.means p.bus_after).moves ending call dialed
+pub ispolled-phase : {B : Type 0} (g : Ghosts B) (before : CoreState B) (conn now : ℕ) (ending : Ending) (events : List Event) (steps : List Step) (call : Call) (dialed : Bool)
+    → IsPolled g before conn now ending events steps → phase_along conn (Asked call dialed) events ≡ phase_behind call dialed ending
+ispolled-phase g before conn now ending events steps call dialed p =
+    ap (phase_along conn (Asked call dialed)) p.are ∙ poll-phase before.fine conn now (g.means p.after.bus).moves ending call dialed
 
 -- ---- groups of a pass
 

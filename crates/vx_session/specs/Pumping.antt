@@ -4,13 +4,13 @@ use Rattle.std.specs.Prelude.{◌≡◌, ◌≢◌, ◌<◌, ℕ, max, List, [],
 use Rattle.std.specs.List.{All, flat_map}
 use Rattle.vx_io_traits.specs.Faults.{Rose}
 use Rattle.vx_io_traits.specs.Stands.{Goes}
-use Rattle.vx_bus_traits.specs.declared.bus.Bus.{Ghosts}
 use Rattle.vx_gate.specs.PassView.{PassView}
 use Rattle.vx_exchange.specs.SrqState.{Given, Front, Empty, Gone}
 use Rattle.vx_exchange.specs.Meaning.{srq_record}
 use Rattle.vx_core.specs.Groups.{Group}
 use Rattle.vx_session.specs.Placing.{Placed, Makes, IsHistory}
-use Rattle.vx_session.specs.Turning.{Samples, TakesFrom}
+use Rattle.vx_session.specs.Origin.{Origin}
+use Rattle.vx_session.specs.Turning.{Samples, TakesFrom, taken_steps}
 use Rattle.vx_stream.specs.Shown.{LinkShown, LinkGoes}
 use Rattle.vx_session.specs.declared.pumps.PumpEnd.{PumpEnd}
 use Rattle.vx_session.specs.declared.pumps.PumpEnd.TheVariants as end
@@ -20,9 +20,10 @@ pub record Taking : Type 0 where
   pub placed : Placed
   pub given : Given
 
--- the group is a take of this channel that gave this, or has no event where the connection isn't up
+-- the group is a take of this channel that gave this, or has no event where the connection isn't up; the bus's list was cut in it, or
+-- nothing done
 abbrev pub IsTaking : ℕ → ℕ → Taking → Type 0
-IsTaking conn chan t = TakesFrom t.placed.before conn chan t.given t.placed.group.events
+IsTaking conn chan t = TakesFrom t.placed.before conn chan t.given t.placed.group.events × (t.placed.group.steps ≡ taken_steps t.placed.group.events)
 
 -- the record of the interrupt call of a turn that was given one
 abbrev pub given_record : Given → List ℕ
@@ -47,14 +48,14 @@ PumpEnds seen earlier last unsent seen' end.WriteFault =
 
 -- A pump made these turns, one after the other, and wrote the records of the interrupts that it took, in order, each once; the
 -- link took `written` of them. What its pass has seen then is a gateway's history.
-pub record Pumps {L : Type 0} (stands : L → List ℕ → List ℕ → Type 0) (pass : PassView Group) (conn chan : ℕ) (link : L) (seen : LinkShown) (how : PumpEnd)
+pub record Pumps {B L : Type 0} (g : Origin B) (stands : L → List ℕ → List ℕ → Type 0) (pass : PassView Group) (conn chan : ℕ) (link : L) (seen : LinkShown) (how : PumpEnd)
     (pass' : PassView Group) (link' : L) (seen' : LinkShown) : Type 0 where
   pub earlier : List Taking
   pub last : Taking
   pub written : List ℕ
   pub unsent : List ℕ
   pub makes : Makes 0 pass (map (λ t. t.placed) (earlier ++ last ∷ [])) pass'
-  pub history : IsHistory pass'.seen
+  pub history : IsHistory g pass'.seen
   pub each : All (IsTaking conn chan) (earlier ++ last ∷ [])
   pub lived : HaveLived earlier
   pub bytes : Goes stands link link' written []
@@ -64,7 +65,7 @@ pub record Pumps {L : Type 0} (stands : L → List ℕ → List ℕ → Type 0) 
 
 -- A turn looked at the SRQ line, at a moment that was told; `before` and `after` are the greatest moments that the clock had told
 -- before and behind it. Where the clock told a later one than before, that was it.
-pub record SamplesNow {B : Type 0} (g : Ghosts B) (before after : ℕ) (pass : PassView Group) (pass' : PassView Group) : Type 0 where
+pub record SamplesNow {B : Type 0} (g : Origin B) (before after : ℕ) (pass : PassView Group) (pass' : PassView Group) : Type 0 where
   pub told : ℕ
   pub tells : after ≡ max before told
   pub samples : Samples g told pass pass'

@@ -15,16 +15,15 @@ ghost use Rattle.vx_exchange.specs.declared.record.TheConstants.{REPLY_ROOM};
 ghost use Rattle.vx_exchange.specs.Doing.{Polled, Came, Settles, Aborts};
 ghost use Rattle.vx_group.specs.Groups.{Group};
 ghost use Rattle.vx_group.specs.Laws.{group_after};
-ghost use Rattle.vx_session.specs.Acting.{Connects, poll_events, come_events, last_ending, connect_events, take_events, TakeDid};
+ghost use Rattle.vx_session.specs.Acting.{Connects, poll_events, poll_steps, come_events, come_steps, last_ending, connect_events, connect_steps, take_events, take_steps, TakeDid};
 ghost use Rattle.vx_session.specs.Parts.{settled_events};
 
 use std::alloc::Global;
 use vx_bus_traits::Bus;
 use vx_calls::{CallRef, Role, Taken};
-use vx_core::{Connect, Core};
+use vx_core::{Connect, Core, became_law};
 use vx_exchange::{Aborted, DialAnswered, PollEnd, abort, again, come, settle};
 use vx_gate::Act;
-use vx_group::stands_law;
 
 /// A call that comes on a connection, and its first poll.
 #[derive(Drop)]
@@ -46,10 +45,11 @@ impl<'c, 'r, B: Bus> Act<Core<B>> for Come<'c, 'r> {
         × (length act'.reply.now ≡ length act.reply.now) × (act'.reply.ghost_name ≡ act.reply.ghost_name) };
 
     ghost adds = { λ act core answer act' core'. group_after core.fine
-        (come_events core.fine act.conn (call_shown act.call.now) (max core.fine.state.moment act.now) (B.means core'.bus).moves (last_ending core'.last)) core'.fine.state.moment };
+        (come_events core.fine act.conn (call_shown act.call.now) (max core.fine.state.moment act.now) (B.means core'.bus).moves (last_ending core'.last))
+        (come_steps core.fine act.conn (call_shown act.call.now) (max core.fine.state.moment act.now) (B.means core'.bus).moves (last_ending core'.last)) core'.fine.state.moment };
 
     fn run(&mut self, kept: &mut Core<B>) -> PollEnd {
-        stands_law();
+        became_law::<B>();
         come(kept, self.conn, self.xid, self.call, self.now, self.reply)
     }
 }
@@ -72,10 +72,11 @@ impl<'a, B: Bus> Act<Core<B>> for Again<'a> {
         × (length act'.reply.now ≡ length act.reply.now) × (act'.reply.ghost_name ≡ act.reply.ghost_name) };
 
     ghost adds = { λ act core answer act' core'. group_after core.fine
-        (poll_events core.fine act.conn (max core.fine.state.moment act.now) (B.means core'.bus).moves (last_ending core'.last)) core'.fine.state.moment };
+        (poll_events core.fine act.conn (max core.fine.state.moment act.now) (B.means core'.bus).moves (last_ending core'.last))
+        (poll_steps core.fine act.conn (max core.fine.state.moment act.now) (B.means core'.bus).moves (last_ending core'.last)) core'.fine.state.moment };
 
     fn run(&mut self, kept: &mut Core<B>) -> PollEnd {
-        stands_law();
+        became_law::<B>();
         again(kept, self.conn, self.xid, self.now, self.reply)
     }
 }
@@ -99,10 +100,10 @@ impl<'a, B: Bus> Act<Core<B>> for Settle<'a> {
         × (length act'.reply.now ≡ length act.reply.now) × (act'.reply.ghost_name ≡ act.reply.ghost_name) };
 
     ghost adds = { λ act core answer act' core'. group_after core.fine
-        (settled_events act.conn (max core.fine.state.moment act.now) act.up answer.error) core'.fine.state.moment };
+        (settled_events act.conn (max core.fine.state.moment act.now) act.up answer.error) (Cut ∷ Told (max core.fine.state.moment act.now) ∷ []) core'.fine.state.moment };
 
     fn run(&mut self, kept: &mut Core<B>) -> DialAnswered {
-        stands_law();
+        became_law::<B>();
         settle(kept, self.conn, self.xid, self.up, self.now, self.reply)
     }
 }
@@ -124,10 +125,10 @@ impl<'a, B: Bus> Act<Core<B>> for AbortLink<'a> {
     ghost does = { λ act core answer act' core'. Aborts B.Bus core act.conn act.lid act.xid act'.reply.now answer core'
         × (length act'.reply.now ≡ length act.reply.now) × (act'.reply.ghost_name ≡ act.reply.ghost_name) };
 
-    ghost adds = { λ act core answer act' core'. group_after core.fine (Abort act.conn act.lid answer.error ∷ []) core'.fine.state.moment };
+    ghost adds = { λ act core answer act' core'. group_after core.fine (Abort act.conn act.lid answer.error ∷ []) (Cut ∷ []) core'.fine.state.moment };
 
     fn run(&mut self, kept: &mut Core<B>) -> Aborted {
-        stands_law();
+        became_law::<B>();
         abort(kept, self.conn, self.xid, self.lid, self.reply)
     }
 }
@@ -145,10 +146,10 @@ impl<B: Bus> Act<Core<B>> for Leave {
 
     ghost does = { λ act core answer act' core'. fine core.fine (Down act.conn) ≡ Some core'.fine };
 
-    ghost adds = { λ act core answer act' core'. group_after core.fine (Down act.conn ∷ []) core'.fine.state.moment };
+    ghost adds = { λ act core answer act' core'. group_after core.fine (Down act.conn ∷ []) (Cut ∷ []) core'.fine.state.moment };
 
     fn run(&mut self, kept: &mut Core<B>) {
-        stands_law();
+        became_law::<B>();
         kept.disconnect(self.conn);
     }
 }
@@ -167,10 +168,10 @@ impl<B: Bus> Act<Core<B>> for ConnectAs {
 
     ghost does = { λ act core answer act' core'. Connects core act.role answer core' };
 
-    ghost adds = { λ act core answer act' core'. group_after core.fine (connect_events act.role answer) core'.fine.state.moment };
+    ghost adds = { λ act core answer act' core'. group_after core.fine (connect_events act.role answer) (connect_steps answer) core'.fine.state.moment };
 
     fn run(&mut self, kept: &mut Core<B>) -> Result<u32, Connect> {
-        stands_law();
+        became_law::<B>();
         kept.connect(self.alloc, self.role)
     }
 }
@@ -189,10 +190,11 @@ impl<B: Bus> Act<Core<B>> for SampleAt {
     ghost does = { λ act core answer act' core'. (fine core.fine (Sample (max core.fine.state.moment act.now) (B.srq_level core'.bus)) ≡ Some core'.fine)
         × Walk B.means B.through core.bus (Cut ∷ Told (max core.fine.state.moment act.now) ∷ []) core'.bus };
 
-    ghost adds = { λ act core answer act' core'. group_after core.fine (Sample (max core.fine.state.moment act.now) (B.srq_level core'.bus) ∷ []) core'.fine.state.moment };
+    ghost adds = { λ act core answer act' core'. group_after core.fine (Sample (max core.fine.state.moment act.now) (B.srq_level core'.bus) ∷ [])
+        (Cut ∷ Told (max core.fine.state.moment act.now) ∷ []) core'.fine.state.moment };
 
     fn run(&mut self, kept: &mut Core<B>) {
-        stands_law();
+        became_law::<B>();
         kept.sample(self.now);
     }
 }
@@ -212,10 +214,11 @@ impl<B: Bus> Act<Core<B>> for TakeFrom {
     ghost does = { λ act core answer act' core'. TakeDid core act.conn act.chan (given_shown answer) core' };
 
     ghost adds = { λ act core answer act' core'. group_after core.fine
-        (take_events (connection_at core.fine.state.tables act.conn) act.conn act.chan (given_shown answer)) core'.fine.state.moment };
+        (take_events (connection_at core.fine.state.tables act.conn) act.conn act.chan (given_shown answer))
+        (take_steps (connection_at core.fine.state.tables act.conn)) core'.fine.state.moment };
 
     fn run(&mut self, kept: &mut Core<B>) -> Taken {
-        stands_law();
+        became_law::<B>();
         match kept.role(self.conn) {
             None => Taken::Gone,
             Some(_) => kept.take_interrupt(self.conn, self.chan),

@@ -2,6 +2,7 @@
 ghost use Rattle.std.specs.Prelude.{◌≡◌, ◌≤◌};
 ghost use Rattle.vx_session.specs.Pumping.{SamplesNow};
 
+ghost use Rattle.vx_session.specs.Origin.{origin};
 use crate::turns::sample;
 use std::sync::Wait;
 use vx_bus_traits::Bus;
@@ -18,7 +19,7 @@ pub fn sample_turn<R: Wait, B: Bus, T: Turns<Core<B>>, C: Clock>(
     clock: &mut C,
 ) -> Pass<Core<B>>
     requires gate { pass.gate ≡ T.gate turns.now }
-    ensures samples { SamplesNow B.Bus (C.told clock.old) (C.told clock.new) pass result }
+    ensures samples { SamplesNow (origin B.Bus (T.first turns.now)) (C.told clock.old) (C.told clock.new) pass result }
     ensures told { C.told clock.old ≤ C.told clock.new }
 {
     let now = clock.now();

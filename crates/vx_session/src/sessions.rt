@@ -11,6 +11,7 @@ ghost use Rattle.vx_stream.specs.Stopping.{StreamAnswered};
 ghost use Rattle.vx_session.specs.Outside.{dial_shown, no_dial};
 ghost use Rattle.vx_session.specs.Ending.{SessionDid};
 
+ghost use Rattle.vx_session.specs.Origin.{origin};
 use crate::answering::Answering;
 use crate::still::Still;
 use crate::turns::leave;
@@ -124,7 +125,7 @@ fn run_session<R: Wait, B: Bus, T: Turns<Core<B>>, L: Link, C: Clock, P: Pause, 
 ) -> (Pass<Core<B>>, End)
     requires gate { pass.gate ≡ T.gate turns.now }
     requires phase { phase_at pass conn ≡ Idle role }
-    ensures did { SessionDid B.Bus L.stands (C.told clock.new) role conn pass link.old (link_shown L.left L.peers L.receive_faults L.send_faults link.old) (dial_shown D.calls D.faults dial.old)
+    ensures did { SessionDid (origin B.Bus (T.first turns.now)) L.stands (C.told clock.new) role conn pass link.old (link_shown L.left L.peers L.receive_faults L.send_faults link.old) (dial_shown D.calls D.faults dial.old)
         result.1 result.0 link.new (link_shown L.left L.peers L.receive_faults L.send_faults link.new) (dial_shown D.calls D.faults dial.new) }
     ensures told { C.told clock.old ≤ C.told clock.new }
 {
@@ -161,7 +162,7 @@ pub fn core_session<R: Wait, B: Bus, T: Turns<Core<B>>, L: Link, C: Clock, P: Pa
 ) -> (Pass<Core<B>>, End)
     requires gate { pass.gate ≡ T.gate turns.now }
     requires phase { phase_at pass conn ≡ Idle role.Core }
-    ensures did { SessionDid B.Bus L.stands (C.told clock.new) role.Core conn pass link.old (link_shown L.left L.peers L.receive_faults L.send_faults link.old) (dial_shown D.calls D.faults dial.old)
+    ensures did { SessionDid (origin B.Bus (T.first turns.now)) L.stands (C.told clock.new) role.Core conn pass link.old (link_shown L.left L.peers L.receive_faults L.send_faults link.old) (dial_shown D.calls D.faults dial.old)
         result.1 result.0 link.new (link_shown L.left L.peers L.receive_faults L.send_faults link.new) (dial_shown D.calls D.faults dial.new) }
     ensures told { C.told clock.old ≤ C.told clock.new }
 {
@@ -190,7 +191,7 @@ pub fn abort_session<R: Wait, B: Bus, T: Turns<Core<B>>, L: Link>(
 ) -> (Pass<Core<B>>, End)
     requires gate { pass.gate ≡ T.gate turns.now }
     requires phase { phase_at pass conn ≡ Idle role.Abort }
-    ensures did { SessionDid B.Bus L.stands 0 role.Abort conn pass link.old (link_shown L.left L.peers L.receive_faults L.send_faults link.old) no_dial
+    ensures did { SessionDid (origin B.Bus (T.first turns.now)) L.stands 0 role.Abort conn pass link.old (link_shown L.left L.peers L.receive_faults L.send_faults link.old) no_dial
         result.1 result.0 link.new (link_shown L.left L.peers L.receive_faults L.send_faults link.new) no_dial }
 {
     run_session(

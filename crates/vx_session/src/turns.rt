@@ -9,6 +9,7 @@ ghost use Rattle.vx_exchange.specs.declared.record.TheConstants.{REPLY_ROOM};
 ghost use Rattle.vx_group.specs.Phases.{Idle, Asked, is_up};
 ghost use Rattle.vx_session.specs.Turning.{phase_at, Comes, PollsAgain, Settles, Aborts, Leaves, Joins, Samples, TakesTurn};
 
+ghost use Rattle.vx_session.specs.Origin.{origin};
 use crate::acts::{AbortLink, Again, Come, ConnectAs, Leave, SampleAt, Settle, TakeFrom};
 use std::alloc::Global;
 use std::sync::Wait;
@@ -36,7 +37,7 @@ pub fn come<R: Wait, B: Bus, T: Turns<Core<B>>>(
     requires waits { may_wait (call_shown call.now) ≡ true }
     requires short { IsShort (call_shown call.now) }
     requires room { REPLY_ROOM ≤ length reply.old }
-    ensures comes { Comes B.Bus now pass conn xid (call_shown call.now) reply.new result.1 result.0 }
+    ensures comes { Comes (origin B.Bus (T.first turns.now)) now pass conn xid (call_shown call.now) reply.new result.1 result.0 }
     ensures len { length reply.new ≡ length reply.old }
 {
     phase_law();
@@ -63,7 +64,7 @@ pub fn poll_again<R: Wait, B: Bus, T: Turns<Core<B>>>(
     requires gate { pass.gate ≡ T.gate turns.now }
     requires phase { (call : Call) × (dialed : Bool) × (phase_at pass conn ≡ Asked call dialed) }
     requires room { REPLY_ROOM ≤ length reply.old }
-    ensures polls { (call : Call) (dialed : Bool) → phase_at pass conn ≡ Asked call dialed → PollsAgain B.Bus now pass conn xid call dialed reply.new result.1 result.0 }
+    ensures polls { (call : Call) (dialed : Bool) → phase_at pass conn ≡ Asked call dialed → PollsAgain (origin B.Bus (T.first turns.now)) now pass conn xid call dialed reply.new result.1 result.0 }
     ensures len { length reply.new ≡ length reply.old }
 {
     phase_law();
@@ -91,7 +92,7 @@ pub fn settle<R: Wait, B: Bus, T: Turns<Core<B>>>(
     requires gate { pass.gate ≡ T.gate turns.now }
     requires phase { (call : Call) × (phase_at pass conn ≡ Asked call true) }
     requires room { REPLY_ROOM ≤ length reply.old }
-    ensures settles { Settles now pass conn xid up reply.new result.1 result.0 }
+    ensures settles { Settles (origin B.Bus (T.first turns.now)) now pass conn xid up reply.new result.1 result.0 }
     ensures len { length reply.new ≡ length reply.old }
 {
     phase_law();
@@ -119,7 +120,7 @@ pub fn abort<R: Wait, B: Bus, T: Turns<Core<B>>>(
     requires gate { pass.gate ≡ T.gate turns.now }
     requires phase { phase_at pass conn ≡ Idle role.Abort }
     requires room { REPLY_ROOM ≤ length reply.old }
-    ensures aborts { Aborts pass conn lid xid reply.new result.1 result.0 }
+    ensures aborts { Aborts (origin B.Bus (T.first turns.now)) pass conn lid xid reply.new result.1 result.0 }
     ensures len { length reply.new ≡ length reply.old }
 {
     phase_law();
@@ -141,7 +142,7 @@ pub fn leave<R: Wait, B: Bus, T: Turns<Core<B>>>(
 ) -> Pass<Core<B>>
     requires gate { pass.gate ≡ T.gate turns.now }
     requires phase { is_up (phase_at pass conn) ≡ true }
-    ensures { Leaves pass conn result }
+    ensures { Leaves (origin B.Bus (T.first turns.now)) pass conn result }
 {
     phase_law();
     let (pass, ()) = turns.turn(rt, pass, &mut Leave { conn });
@@ -157,7 +158,7 @@ pub fn join<R: Wait, B: Bus, T: Turns<Core<B>>>(
     role: Role,
 ) -> (Pass<Core<B>>, Result<u32, Connect>)
     requires gate { pass.gate ≡ T.gate turns.now }
-    ensures { Joins pass role result.1 result.0 }
+    ensures { Joins (origin B.Bus (T.first turns.now)) pass role result.1 result.0 }
 {
     turns.turn(rt, pass, &mut ConnectAs { alloc, role })
 }
@@ -170,7 +171,7 @@ pub fn sample<R: Wait, B: Bus, T: Turns<Core<B>>>(
     now: u64,
 ) -> Pass<Core<B>>
     requires gate { pass.gate ≡ T.gate turns.now }
-    ensures { Samples B.Bus now pass result }
+    ensures { Samples (origin B.Bus (T.first turns.now)) now pass result }
 {
     let (pass, ()) = turns.turn(rt, pass, &mut SampleAt { now });
     pass
@@ -186,7 +187,7 @@ pub fn take<R: Wait, B: Bus, T: Turns<Core<B>>>(
     chan: u32,
 ) -> (Pass<Core<B>>, Taken)
     requires gate { pass.gate ≡ T.gate turns.now }
-    ensures { TakesTurn pass conn chan (given_shown result.1) result.0 }
+    ensures { TakesTurn (origin B.Bus (T.first turns.now)) pass conn chan (given_shown result.1) result.0 }
 {
     turns.turn(rt, pass, &mut TakeFrom { conn, chan })
 }

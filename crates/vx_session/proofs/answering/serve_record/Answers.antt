@@ -1,4 +1,5 @@
 use Rattle.std.proofs.Common.{refl, arith}
+use Rattle.vx_session.specs.Origin.{origin}
 use Rattle.vx_session.specs.Outside.{dial_shown}
 use Rattle.vx_session.proofs.Recorded.{answered-does, aborts-does}
 use Rattle.vx_session.proofs.answering.serve_record.Goals as goal
@@ -15,7 +16,7 @@ returns-in-Answered-clause-does g c =
         pass' = c.args.pass;
         had = refl;
         has = refl;
-        serves = answered-does g.B.Bus (g.C.Clock.told c.args.clock.now) c.args.role c.args.pass c.args.conn c.args.message.now (dial_shown g.D.Dial.calls g.D.Dial.faults c.args.dial.now)
+        serves = answered-does (origin g.B.Bus (g.T.Turns.first c.args.turns.now)) (g.C.Clock.told c.args.clock.now) c.args.role c.args.pass c.args.conn c.args.message.now (dial_shown g.D.Dial.calls g.D.Dial.faults c.args.dial.now)
             opens.0 c.open.new.reply c.in-Answered.len opens.1 opens.2;
       };
     }
@@ -30,7 +31,7 @@ returns-in-Aborts-clause-does g c = record {
     pass' = c.abort-pass.result.0;
     had = refl;
     has = refl;
-    serves = aborts-does g.B.Bus (g.C.Clock.told c.args.clock.now) c.args.role c.args.pass c.args.conn c.args.message.now (dial_shown g.D.Dial.calls g.D.Dial.faults c.args.dial.now)
+    serves = aborts-does (origin g.B.Bus (g.T.Turns.first c.args.turns.now)) (g.C.Clock.told c.args.clock.now) c.args.role c.args.pass c.args.conn c.args.message.now (dial_shown g.D.Dial.calls g.D.Dial.faults c.args.dial.now)
         c.in-Aborts.xid c.in-Aborts.lid c.abort-pass.new.reply c.abort-pass.result.1 c.abort-pass.result.0 c.in-Aborts.ensures.opens c.abort-pass.ensures.aborts;
   };
 }

@@ -3,6 +3,8 @@ use Rattle.vx_calls.specs.declared.calls.Role.TheVariants as role
 use Rattle.vx_flow.specs.Event.{Abort}
 use Rattle.vx_group.specs.Phases.{Idle, is_up}
 use Rattle.vx_group.specs.Laws.{group_after}
+use Rattle.vx_bus_traits.specs.Steps.{Cut}
+use Rattle.vx_session.specs.Origin.{origin}
 use Rattle.vx_session.specs.Turning.{Aborts}
 use Rattle.vx_session.proofs.Moments.{fine-moment, one-without}
 use Rattle.vx_session.proofs.Phased.{phase-more}
@@ -13,7 +15,7 @@ use Rattle.vx_session.proofs.turns.abort.Goals as goal
 pub turn-requires-clause-act : goal.turn-requires-clause-act
 turn-requires-clause-act g c = λ log kept fits stands. (
   (
-    abort-phase kept.fine c.args.conn (own-phase c.phase_law.ensures c.args.pass log kept.fine c.args.conn (Idle role.Abort) fits stands c.requires.phase),
+    abort-phase kept.fine c.args.conn (own-phase c.phase_law.ensures c.args.pass log kept.fine c.args.conn (Idle role.Abort) fits stands.state c.requires.phase),
     c.requires.room,
   ),
   λ answer act' kept' did. may-abort c.args.pass c.args.conn (ap is_up c.requires.phase) c.args.lid answer.error,
@@ -26,13 +28,14 @@ returns-clause-aborts g c =
     let f = t.before.fine in
     let answer = c.turn.result.1 in
     let event = Abort c.args.conn c.args.lid answer.error in
-    let group = group_after f (event ∷ []) t.after.fine.state.moment in
-    subst (λ room. Aborts c.args.pass c.args.conn c.args.lid c.args.xid room answer c.turn.result.0) (search rules)
+    let group = group_after f (event ∷ []) (Cut ∷ []) t.after.fine.state.moment in
+    subst (λ room. Aborts (origin g.B.Bus (g.T.Turns.first c.args.turns.now)) c.args.pass c.args.conn c.args.lid c.args.xid room answer c.turn.result.0) (search rules)
     (record {
       placed = record { before = t.log; group = group };
-      turns = turns 0 t
-          (timely-still t.log f t.after.fine (event ∷ []) t.stood (one-without event f.state.moment refl) (fine-moment event f t.after.fine did.aborts));
+      turns = turns (origin g.B.Bus (g.T.Turns.first c.args.turns.now)) 0 t
+          (timely-still t.log f t.after.fine (event ∷ []) (Cut ∷ []) t.stood.state (one-without event f.state.moment refl) (fine-moment event f t.after.fine did.aborts));
       events = refl;
+      steps = refl;
       stands = did.stands;
       phase = phase-more c.args.pass.own c.turn.result.0.own group c.args.conn t.own ∙ c.requires.phase;
     })

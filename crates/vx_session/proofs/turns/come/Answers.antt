@@ -2,6 +2,7 @@ use Rattle.std.proofs.Common.{max, ap, subst, rules}
 use Rattle.vx_calls.specs.declared.calls.Role.TheVariants as role
 use Rattle.vx_calls.specs.Call.{call_shown}
 use Rattle.vx_group.specs.Phases.{Idle, is_up}
+use Rattle.vx_session.specs.Origin.{origin}
 use Rattle.vx_session.specs.Acting.{last_ending}
 use Rattle.vx_session.specs.Turning.{Comes}
 use Rattle.vx_session.proofs.Making.{turns}
@@ -12,7 +13,7 @@ use Rattle.vx_session.proofs.turns.come.Goals as goal
 pub turn-requires-clause-act : goal.turn-requires-clause-act
 turn-requires-clause-act g c = λ log kept fits stands. (
   (
-    idle-phase kept.fine c.args.conn (own-phase c.phase_law.ensures c.args.pass log kept.fine c.args.conn (Idle role.Core) fits stands c.requires.phase),
+    idle-phase kept.fine c.args.conn (own-phase c.phase_law.ensures c.args.pass log kept.fine c.args.conn (Idle role.Core) fits stands.state c.requires.phase),
     c.requires.waits,
     c.requires.short,
     c.requires.room,
@@ -26,6 +27,6 @@ pub returns-clause-comes : goal.returns-clause-comes
 returns-clause-comes g c =
     let t = c.turn.ensures in
     let call = call_shown c.args.call.now in
-    subst (λ room. Comes g.B.Bus c.args.now c.args.pass c.args.conn c.args.xid call room c.turn.result.1 c.turn.result.0) (search rules)
-    (comes g.B.Bus c.args.now c.args.pass c.turn.result.0 t.log t.before t.after c.args.conn c.args.xid c.turn.new.act.reply.now c.turn.result.1
-    call t.stood t.did.0 t.own (turns c.args.now t))
+    subst (λ room. Comes (origin g.B.Bus (g.T.Turns.first c.args.turns.now)) c.args.now c.args.pass c.args.conn c.args.xid call room c.turn.result.1 c.turn.result.0) (search rules)
+    (comes (origin g.B.Bus (g.T.Turns.first c.args.turns.now)) c.args.now c.args.pass c.turn.result.0 t.log t.before t.after c.args.conn c.args.xid c.turn.new.act.reply.now c.turn.result.1
+    call t.stood t.did.0 t.own (turns (origin g.B.Bus (g.T.Turns.first c.args.turns.now)) c.args.now t))

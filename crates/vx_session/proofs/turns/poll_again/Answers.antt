@@ -1,5 +1,6 @@
 use Rattle.std.proofs.Common.{max, ap, subst, rules}
 use Rattle.vx_group.specs.Phases.{Asked, is_up}
+use Rattle.vx_session.specs.Origin.{origin}
 use Rattle.vx_session.specs.Acting.{last_ending}
 use Rattle.vx_session.specs.Turning.{PollsAgain}
 use Rattle.vx_session.proofs.Making.{turns}
@@ -11,7 +12,7 @@ pub turn-requires-clause-act : goal.turn-requires-clause-act
 turn-requires-clause-act g c = λ log kept fits stands. (
   (
     asked-phase kept.fine c.args.conn c.requires.phase.0 c.requires.phase.1
-        (own-phase c.phase_law.ensures c.args.pass log kept.fine c.args.conn (Asked c.requires.phase.0 c.requires.phase.1) fits stands c.requires.phase.2),
+        (own-phase c.phase_law.ensures c.args.pass log kept.fine c.args.conn (Asked c.requires.phase.0 c.requires.phase.1) fits stands.state c.requires.phase.2),
     c.requires.room,
   ),
   λ answer act' kept' did.
@@ -22,6 +23,6 @@ turn-requires-clause-act g c = λ log kept fits stands. (
 pub returns-clause-polls : goal.returns-clause-polls
 returns-clause-polls g c = λ call dialed phase.
     let t = c.turn.ensures in
-    subst (λ room. PollsAgain g.B.Bus c.args.now c.args.pass c.args.conn c.args.xid call dialed room c.turn.result.1 c.turn.result.0) (search rules)
-    (polls-again g.B.Bus c.args.now c.args.pass c.turn.result.0 t.log t.before t.after c.args.conn c.args.xid c.turn.new.act.reply.now c.turn.result.1
-    c.phase_law.ensures call dialed t.fits t.stood t.did.0 t.own (turns c.args.now t) phase)
+    subst (λ room. PollsAgain (origin g.B.Bus (g.T.Turns.first c.args.turns.now)) c.args.now c.args.pass c.args.conn c.args.xid call dialed room c.turn.result.1 c.turn.result.0) (search rules)
+    (polls-again (origin g.B.Bus (g.T.Turns.first c.args.turns.now)) c.args.now c.args.pass c.turn.result.0 t.log t.before t.after c.args.conn c.args.xid c.turn.new.act.reply.now c.turn.result.1
+    c.phase_law.ensures call dialed t.fits t.stood t.did.0 t.own (turns (origin g.B.Bus (g.T.Turns.first c.args.turns.now)) c.args.now t) phase)

@@ -6,6 +6,8 @@ use Rattle.vx_flow.specs.Fine.{fine}
 use Rattle.vx_group.specs.Groups.{StandsFor}
 use Rattle.vx_group.specs.Phases.{Asked, is_up}
 use Rattle.vx_group.specs.Laws.{group_after}
+use Rattle.vx_bus_traits.specs.Steps.{Told, Cut}
+use Rattle.vx_session.specs.Origin.{origin}
 use Rattle.vx_session.specs.Placing.{behind}
 use Rattle.vx_session.specs.Parts.{settled_events}
 use Rattle.vx_session.specs.Turning.{phase_at, Settles}
@@ -21,7 +23,7 @@ pub turn-requires-clause-act : goal.turn-requires-clause-act
 turn-requires-clause-act g c = λ log kept fits stands. (
   (
     dialed-phase kept.fine c.args.conn c.requires.phase.0
-        (own-phase c.phase_law.ensures c.args.pass log kept.fine c.args.conn (Asked c.requires.phase.0 true) fits stands c.requires.phase.1),
+        (own-phase c.phase_law.ensures c.args.pass log kept.fine c.args.conn (Asked c.requires.phase.0 true) fits stands.state c.requires.phase.1),
     c.requires.room,
   ),
   λ answer act' kept' did.
@@ -37,17 +39,18 @@ returns-clause-settles g c =
     let now = max f.state.moment c.args.now in
     let answer = c.turn.result.1 in
     let event = Answer conn now false (Some c.args.up) false (reply.Error answer.error) in
-    let group = group_after f (event ∷ []) t.after.fine.state.moment in
-    let stands = subst (λ log. StandsFor t.after.fine (groups log)) t.seen t.stands_now in
-    subst (λ room. Settles c.args.now c.args.pass conn c.args.xid c.args.up room answer c.turn.result.0) (search rules)
+    let group = group_after f (event ∷ []) (Cut ∷ Told now ∷ []) t.after.fine.state.moment in
+    let stands = subst (λ log. StandsFor t.after.fine (groups log)) t.seen t.stands_now.state in
+    subst (λ room. Settles (origin g.B.Bus (g.T.Turns.first c.args.turns.now)) c.args.now c.args.pass conn c.args.xid c.args.up room answer c.turn.result.0) (search rules)
     (record {
       placed = record { before = t.log; group = group };
-      turns = turns c.args.now t
-          (timely-now c.args.now t.log f t.after.fine (event ∷ []) t.stood (one-moment event now refl) (fine-moment event f t.after.fine did.answers));
-      events = ap (λ n. settled_events conn n c.args.up answer.error) (now-is c.args.now t.log f group t.stood);
+      turns = turns (origin g.B.Bus (g.T.Turns.first c.args.turns.now)) c.args.now t
+          (timely-now c.args.now t.log f t.after.fine (event ∷ []) (Cut ∷ Told now ∷ []) t.stood.state (one-moment event now refl) (fine-moment event f t.after.fine did.answers));
+      events = ap (λ n. settled_events conn n c.args.up answer.error) (now-is c.args.now t.log f group t.stood.state);
+      steps = ap (λ n. Cut ∷ Told n ∷ []) (now-is c.args.now t.log f group t.stood.state);
       error_is = did.error_is;
       chan_is = is-channel (behind c.args.pass.number (record { before = t.log; group = group })) t.after.fine conn c.args.up answer.chan stands did.chan_is
-          (λ came. settled-channel f t.after.fine (groups t.log) conn now (reply.Error answer.error) t.stood
+          (λ came. settled-channel f t.after.fine (groups t.log) conn now (reply.Error answer.error) t.stood.state
           (subst (λ up. fine f (Answer conn now false (Some up) false (reply.Error answer.error)) ≡ Some t.after.fine) came did.answers));
       stands = did.stands;
       phase = phase-more c.args.pass.own c.turn.result.0.own group conn t.own ∙ phase-answer conn (phase_at c.args.pass conn);
