@@ -5,6 +5,8 @@ use Rattle.std.proofs.lemmas.Option.{same_Some}
 use Rattle.vx_calls.specs.declared.calls.Role.TheVariants as role
 use Rattle.vx_calls.specs.declared.limits.TheConstants.{RECORD_MAX}
 use Rattle.vx_bus_traits.specs.declared.bus.Bus.{Ghosts}
+use Rattle.vx_core.specs.CoreState.{CoreState}
+use Rattle.vx_session.specs.Origin.{Origin, origin}
 use Rattle.vx_gate.specs.PassView.{PassView}
 use Rattle.vx_text.specs.Ends.{End as Ends}
 use Rattle.vx_text.specs.Writing.{StopsIn}
@@ -43,7 +45,7 @@ pub record StreamEnds (last s' : GuardState) (seen : LinkShown) (list : List Ans
   pub why : WhyEnded last s' seen list looked behind unsent seen' how
 
 -- the records of a guarded session's stream were answered, up to its end or to where it is no longer read
-pub record StreamGuarded {B L : Type 0} (g : Ghosts B) (stands : L → List ℕ → List ℕ → Type 0) (s : GuardState) (pass : PassView Group) (link : L) (seen : LinkShown) (how : End)
+pub record StreamGuarded {B L : Type 0} (g : Origin B) (stands : L → List ℕ → List ℕ → Type 0) (s : GuardState) (pass : PassView Group) (link : L) (seen : LinkShown) (how : End)
     (s' : GuardState) (link' : L) (seen' : LinkShown) : Type 0 where
   pub last : GuardState
   pub list : List Answered
@@ -64,8 +66,9 @@ ended-same last s' seen list looked behind unsent seen' how same sound ended =
     subst (λ x. StreamEnds last x seen list looked behind unsent seen' how) (sym same)
     (record { unasked = record { pass = refl; dial = refl; made = refl }; later = omega arith; why = inl (sound, refl, ended) })
 
-module _ {B S : Type 0} (g : Ghosts B) (does : S → List ℕ → Option (List ℕ) → S → Type 0) (shown : S → GuardState)
-    (one : (s s' : S) (message : List ℕ) (reply : Option (List ℕ)) → does s message reply s' → GuardDoes g (shown s) message reply (shown s'))
+module _ {B S : Type 0} (bus : Ghosts B) (first : S → CoreState B) (does : S → List ℕ → Option (List ℕ) → S → Type 0) (shown : S → GuardState)
+    (one : (s s' : S) (message : List ℕ) (reply : Option (List ℕ)) → does s message reply s' → GuardDoes (origin bus (first s)) (shown s) message reply (shown s'))
+    (same : (s s' : S) (message : List ℕ) (reply : Option (List ℕ)) → does s message reply s' → first s' ≡ first s)
     (core : (s : S) → (shown s).session.role ≡ role.Core) where
   -- a message without a reply
   ended-without : (last s' : S) (seen : LinkShown) (list : List Answered) (looked : Split) (behind unsent : List ℕ) (seen' : LinkShown) (count : ℕ) → (shown last).failed ≡ false
@@ -98,9 +101,9 @@ module _ {B S : Type 0} (g : Ghosts B) (does : S → List ℕ → Option (List �
 
   pub stream-guarded : {L : Type 0} (stands : L → List ℕ → List ℕ → Type 0) (s s' : S) (pass : PassView Group) (link link' : L) (seen seen' : LinkShown) (limit : ℕ) (how : End)
       → (shown s).session.pass ≡ Some pass → (shown s).failed ≡ false → limit ≡ RECORD_MAX → StreamAnswered does stands limit None s link seen (Some how) s' link' seen'
-      → StreamGuarded g stands (shown s) pass link seen how (shown s') link' seen'
+      → StreamGuarded (origin bus (first s)) stands (shown s) pass link seen how (shown s') link' seen'
   stream-guarded stands s s' pass link link' seen seen' limit how had sound limit_is did =
-      let all = all-guarded g does shown one core s did.last pass did.answered had did.progress.answers in
+      let all = all-guarded bus first does shown one same core s did.last pass did.answered had did.progress.answers in
       record {
         last = shown did.last;
         list = did.answered;
@@ -117,7 +120,7 @@ module _ {B S : Type 0} (g : Ghosts B) (does : S → List ℕ → Option (List �
       }
 
 -- how the session ended, by whether its note failed
-ends-guarded : {B : Type 0} (g : Ghosts B) (s last s' : GuardState) (pass : PassView Group) (list : List Answered) (all : GuardsAll g s pass list last) (seen : LinkShown) (looked : Split)
+ends-guarded : {B : Type 0} (g : Origin B) (s last s' : GuardState) (pass : PassView Group) (list : List Answered) (all : GuardsAll g s pass list last) (seen : LinkShown) (looked : Split)
     (behind unsent : List ℕ) (seen' : LinkShown) (how : End) → WhyEnded last s' seen list looked behind unsent seen' how
     → GuardEndsSo s.rules s.peer s.session.conn last.made seen list (notes s.session.conn all.items) looked behind unsent seen' s.note s'.note (guard_end s'.failed how)
 ends-guarded g s last s' pass list all seen looked behind unsent seen' how (inl why) =
@@ -143,7 +146,7 @@ ends-guarded g s last s' pass list all seen looked behind unsent seen' how (inr 
     subst (λ f. GuardEndsSo s.rules s.peer s.session.conn last.made seen list lines looked behind unsent seen' s.note s'.note (guard_end f how)) (sym why.0) stops
 
 -- its clock doesn't go back
-pub guarded-later : {B L : Type 0} (g : Ghosts B) (stands : L → List ℕ → List ℕ → Type 0) (s s' : GuardState) (pass : PassView Group) (link link' : L) (seen seen' : LinkShown) (how : End)
+pub guarded-later : {B L : Type 0} (g : Origin B) (stands : L → List ℕ → List ℕ → Type 0) (s s' : GuardState) (pass : PassView Group) (link link' : L) (seen seen' : LinkShown) (how : End)
     → StreamGuarded g stands s pass link seen how s' link' seen' → s.session.told ≤ s'.session.told
 guarded-later g stands s s' pass link link' seen seen' how did =
     let first = did.guards.later in
@@ -151,14 +154,14 @@ guarded-later g stands s s' pass link link' seen seen' how did =
     omega arith
 
 -- behind its stream the session has the pass, of the same gate
-pub guarded-pass : {B L : Type 0} (g : Ghosts B) (stands : L → List ℕ → List ℕ → Type 0) (s s' : GuardState) (pass : PassView Group) (link link' : L) (seen seen' : LinkShown) (how : End)
+pub guarded-pass : {B L : Type 0} (g : Origin B) (stands : L → List ℕ → List ℕ → Type 0) (s s' : GuardState) (pass : PassView Group) (link link' : L) (seen seen' : LinkShown) (how : End)
     → StreamGuarded g stands s pass link seen how s' link' seen' → (pass' : PassView Group) × (s'.session.pass ≡ Some pass') × (pass'.gate ≡ pass.gate)
 guarded-pass g stands s s' pass link link' seen seen' how did = (did.guards.pass', did.ends.unasked.pass ∙ did.guards.has, did.guards.makes.gate)
 
 -- the messages of a stream were judged and answered, and then the connection went; the session began without a link that it knew
-pub guard-did : {B L : Type 0} (g : Ghosts B) (stands : L → List ℕ → List ℕ → Type 0) → HeadlineOfGroupsLaw → OwnedLaw → (s s' : GuardState) (pass mid pass' : PassView Group)
+pub guard-did : {B L : Type 0} (g : Origin B) (stands : L → List ℕ → List ℕ → Type 0) → HeadlineOfGroupsLaw → OwnedLaw → (s s' : GuardState) (pass mid pass' : PassView Group)
     (link link' : L) (seen seen' : LinkShown) (how : End) (end' : GuardEnd) (told : ℕ) (dial : DialShown) (note : Ends) → StreamGuarded g stands s pass link seen how s' link' seen' → s.made ≡ []
-    → s'.session.pass ≡ Some mid → s'.session.told ≡ told → s'.session.dial ≡ dial → s'.note ≡ note → end' ≡ guard_end s'.failed how → Leaves mid s.session.conn pass'
+    → s'.session.pass ≡ Some mid → s'.session.told ≡ told → s'.session.dial ≡ dial → s'.note ≡ note → end' ≡ guard_end s'.failed how → Leaves g mid s.session.conn pass'
     → GuardDid g stands told s.rules s.peer s.session.conn pass link seen s.session.dial s.note end' pass' link' seen' dial note
 guard-did g stands headline owned s s' pass mid pass' link link' seen seen' how end' told dial note did fresh has told_is dial_is note_is end_is leaves =
     let last = leaves.placed in
@@ -182,6 +185,7 @@ guard-did g stands headline owned s s' pass mid pass' link link' seen seen' how 
           (subst (λ p. Makes told pass judged p) same (makes-later did.last.session.told told pass all.pass' judged within all.makes))
           (makes-later 0 told mid pass' (last ∷ []) (omega arith) leaves.turns.makes);
       down = leaves.events;
+      cut = leaves.steps;
       bytes = did.bytes;
       goes = did.goes;
       wrote = ap replies all.are ∙ did.wrote;
@@ -190,5 +194,5 @@ guard-did g stands headline owned s s' pass mid pass' link link' seen seen' how 
           (subst (λ list. GuardEndsSo s.rules s.peer s.session.conn did.last.made seen list lines (records RECORD_MAX did.front) did.behind did.unsent seen' s.note s'.note (guard_end s'.failed how)) (sym all.are)
           (ends-guarded g s did.last s' pass did.list all seen (records RECORD_MAX did.front) did.behind did.unsent seen' how ends.why)));
       rings = subst (λ d. Rings s.session.dial judged (calls (served all.items)) d) (sym ends.unasked.dial ∙ dial_is) all.rings;
-      upholds = upholds headline owned pass' leaves.turns.history;
+      upholds = upholds g headline owned pass' leaves.turns.history;
     }

@@ -5,6 +5,8 @@ use Rattle.std.proofs.KnownBytes.{Appends-nil, Appends-trans}
 use Rattle.std.proofs.lemmas.Option.{same_Some}
 use Rattle.vx_calls.specs.declared.calls.Role.TheVariants as role
 use Rattle.vx_bus_traits.specs.declared.bus.Bus.{Ghosts}
+use Rattle.vx_core.specs.CoreState.{CoreState}
+use Rattle.vx_session.specs.Origin.{Origin, origin}
 use Rattle.vx_gate.specs.PassView.{PassView}
 use Rattle.vx_group.specs.Groups.{Group}
 use Rattle.vx_exchange.specs.Meaning.{Meaning, meaning}
@@ -20,7 +22,7 @@ use Rattle.vx_guard.specs.Stages.{GuardState, GuardDoes, HasReply, IsDenial, den
 use Rattle.vx_guard.specs.Wholes.{served}
 
 -- one message of a session, whose pass was this one, was answered so
-record Step {B : Type 0} (g : Ghosts B) (s : GuardState) (pass : PassView Group) (one : Answered) (mid : GuardState) : Type 0 where
+record Step {B : Type 0} (g : Origin B) (s : GuardState) (pass : PassView Group) (one : Answered) (mid : GuardState) : Type 0 where
   item : Judged
   pass' : PassView Group
   is : item.served.answered ≡ one
@@ -40,7 +42,7 @@ denied-so (meant.Answered text) made made' one h same = absurd h
 denied-so (meant.Asks xid call) made made' one h same = (refl, refl, h, same)
 denied-so (meant.Aborts xid lid) made made' one h same = absurd h
 
-step : {B : Type 0} (g : Ghosts B) (s mid : GuardState) (pass : PassView Group) (one : Answered) → s.session.pass ≡ Some pass → s.session.role ≡ role.Core
+step : {B : Type 0} (g : Origin B) (s mid : GuardState) (pass : PassView Group) (one : Answered) → s.session.pass ≡ Some pass → s.session.role ≡ role.Core
     → (d : Option ℕ) → denial_at s one.message ≡ d → HasReply g s one.message one.reply mid d → Step g s pass one mid
 step g s mid pass one had core None is has =
     let answers = has.0 in
@@ -75,7 +77,7 @@ step g s mid pass one had core (Some rule) is has =
     }
 
 -- These messages of a session, whose pass was this one, were answered, one after the other.
-pub record GuardsAll {B : Type 0} (g : Ghosts B) (s : GuardState) (pass : PassView Group) (list : List Answered) (s' : GuardState) : Type 0 where
+pub record GuardsAll {B : Type 0} (g : Origin B) (s : GuardState) (pass : PassView Group) (list : List Answered) (s' : GuardState) : Type 0 where
   pub items : List Judged
   pub pass' : PassView Group
   pub are : answered (served items) ≡ list
@@ -92,7 +94,7 @@ pub record GuardsAll {B : Type 0} (g : Ghosts B) (s : GuardState) (pass : PassVi
   pub later : s.session.told ≤ s'.session.told
 
 -- no message was answered
-guards-none : {B : Type 0} (g : Ghosts B) (s : GuardState) (pass : PassView Group) → s.session.pass ≡ Some pass → GuardsAll g s pass [] s
+guards-none : {B : Type 0} (g : Origin B) (s : GuardState) (pass : PassView Group) → s.session.pass ≡ Some pass → GuardsAll g s pass [] s
 guards-none g s pass had = record {
   items = [];
   pass' = pass;
@@ -111,7 +113,7 @@ guards-none g s pass had = record {
 }
 
 -- one was answered, and then more of them
-guards-more : {B : Type 0} (g : Ghosts B) (s mid s' : GuardState) (pass : PassView Group) (one : Answered) (more : List Answered) → GuardDoes g s one.message (Some one.reply) mid
+guards-more : {B : Type 0} (g : Origin B) (s mid s' : GuardState) (pass : PassView Group) (one : Answered) (more : List Answered) → GuardDoes g s one.message (Some one.reply) mid
     → (first : Step g s pass one mid) → GuardsAll g mid first.pass' more s' → GuardsAll g s pass (one ∷ more) s'
 guards-more g s mid s' pass one more does first rest =
     let earlier = does.later in
@@ -149,14 +151,19 @@ guards-more g s mid s' pass one more does first rest =
     }
 
 -- what answers messages, as a guarded session's state shows it
-module _ {B S : Type 0} (g : Ghosts B) (does : S → List ℕ → Option (List ℕ) → S → Type 0) (shown : S → GuardState)
-    (one : (s s' : S) (message : List ℕ) (reply : Option (List ℕ)) → does s message reply s' → GuardDoes g (shown s) message reply (shown s'))
+module _ {B S : Type 0} (bus : Ghosts B) (first : S → CoreState B) (does : S → List ℕ → Option (List ℕ) → S → Type 0) (shown : S → GuardState)
+    (one : (s s' : S) (message : List ℕ) (reply : Option (List ℕ)) → does s message reply s' → GuardDoes (origin bus (first s)) (shown s) message reply (shown s'))
+    (same : (s s' : S) (message : List ℕ) (reply : Option (List ℕ)) → does s message reply s' → first s' ≡ first s)
     (core : (s : S) → (shown s).session.role ≡ role.Core) where
   -- the messages that it answered were judged, each by the rules
   pub all-guarded : (s last : S) (pass : PassView Group) (list : List Answered) → (shown s).session.pass ≡ Some pass → AnswersAll does s list last
-      → GuardsAll g (shown s) pass list (shown last)
-  all-guarded s last pass [] had all = subst (λ x. GuardsAll g (shown s) pass [] (shown x)) (sym all) (guards-none g (shown s) pass had)
-  all-guarded s last pass (first ∷ more) had all =
-      let did = one s all.0 first.message (Some first.reply) all.1 in
-      let taken = step g (shown s) (shown all.0) pass first had (core s) (denial_at (shown s) first.message) refl did.has.0 in
-      guards-more g (shown s) (shown all.0) (shown last) pass first more did taken (all-guarded all.0 last taken.pass' more taken.has all.2)
+      → GuardsAll (origin bus (first s)) (shown s) pass list (shown last)
+  all-guarded s last pass [] had all =
+      subst (λ x. GuardsAll (origin bus (first s)) (shown s) pass [] (shown x)) (sym all) (guards-none (origin bus (first s)) (shown s) pass had)
+  all-guarded s last pass (message ∷ more) had all =
+      let o = origin bus (first s) in
+      let did = one s all.0 message.message (Some message.reply) all.1 in
+      let taken = step o (shown s) (shown all.0) pass message had (core s) (denial_at (shown s) message.message) refl did.has.0 in
+      guards-more o (shown s) (shown all.0) (shown last) pass message more did taken
+      (subst (λ x. GuardsAll (origin bus x) (shown all.0) taken.pass' more (shown last)) (same s all.0 message.message (Some message.reply) all.1)
+      (all-guarded all.0 last taken.pass' more taken.has all.2))

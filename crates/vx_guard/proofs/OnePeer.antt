@@ -10,7 +10,7 @@ use Rattle.vx_door.specs.Shown.{MeetsPeer}
 use Rattle.vx_door.specs.Going.{Went}
 use Rattle.vx_door.specs.ProvedLaws.{spent_at_end}
 use Rattle.vx_calls.specs.declared.limits.TheConstants.{CONNECTION_LAST}
-use Rattle.vx_bus_traits.specs.declared.bus.Bus.{Ghosts}
+use Rattle.vx_session.specs.Origin.{Origin}
 use Rattle.vx_gate.specs.PassView.{PassView, GateId}
 use Rattle.vx_text.specs.Ends.{End}
 use Rattle.vx_group.specs.Groups.{Group}
@@ -33,7 +33,7 @@ ended-spent : (first now : Option (List ℕ)) (bytes : List ℕ) → Consumes fi
 ended-spent None now bytes gave at_end = refl
 ended-spent (Some all) now bytes gave at_end = spent_at_end (Some all) now bytes gave at_end
 
-module _ {B L : Type 0} (g : Ghosts B) (stands : L → List ℕ → List ℕ → Type 0) (shown : L → LinkShown) where
+module _ {B L : Type 0} (g : Origin B) (stands : L → List ℕ → List ℕ → Type 0) (shown : L → LinkShown) where
   -- a peer that was cut short was so by a fault of its link
   pub link-cut : (told : ℕ) (rules : List Rule) (pass : PassView Group) (link : L) (dial : DialShown) (note : End) (how : Guarded) (pass' : PassView Group) (link' : L) (dial' : DialShown) (note' : End)
       → GuardLinkDid g stands told rules pass link (shown link) dial note how pass' link' (shown link') dial' note'

@@ -3,7 +3,7 @@ use Rattle.std.proofs.Common.{◌<◌, ℕ, List, [], ◌∷◌, Option, None, S
 use Rattle.std.proofs.lemmas.List.Concat.{flat_map-cons}
 use Rattle.vx_calls.specs.declared.calls.Role.TheVariants as role
 use Rattle.vx_calls.specs.declared.limits.TheConstants.{CONNECTION_LAST}
-use Rattle.vx_bus_traits.specs.declared.bus.Bus.{Ghosts}
+use Rattle.vx_session.specs.Origin.{Origin}
 use Rattle.vx_gate.specs.PassView.{PassView}
 use Rattle.vx_text.specs.Ends.{End}
 use Rattle.vx_tables.specs.declared.tables.Connect.TheVariants as connect
@@ -29,13 +29,13 @@ denied-steady made made' (Asks xid call) item is = subst (λ ps. IsSteady (event
 denied-steady made made' _ item is = absurd is
 
 -- no connection comes up or goes by a message, whatever the rules say of it
-guarded-steady : {B : Type 0} (g : Ghosts B) (number conn : ℕ) (made made' : List MadeLink) (m : Meaning) (denial : Option ℕ) (item : Item) → IsGuarded g number conn made m denial item made'
+guarded-steady : {B : Type 0} (g : Origin B) (number conn : ℕ) (made made' : List MadeLink) (m : Meaning) (denial : Option ℕ) (item : Item) → IsGuarded g number conn made m denial item made'
     → IsSteady (events_by item.placed)
 guarded-steady g number conn made made' m None item is = served-steady g number conn m item.placed item.calls item.answered.reply is.0
 guarded-steady g number conn made made' m (Some rule) item is = denied-steady made made' m item is
 
 -- nor by those of a session
-items-steady : {B : Type 0} (g : Ghosts B) (number conn : ℕ) (rules : List Rule) (peer : ℕ) (made : List MadeLink) (items : List Judged) (made' : List MadeLink)
+items-steady : {B : Type 0} (g : Origin B) (number conn : ℕ) (rules : List Rule) (peer : ℕ) (made : List MadeLink) (items : List Judged) (made' : List MadeLink)
     → Guards g number conn rules peer made items made' → IsSteady (events_by (placed (served items)))
 items-steady g number conn rules peer made [] made' all = none-steady
 items-steady g number conn rules peer made (j ∷ later) made' all =
@@ -44,7 +44,7 @@ items-steady g number conn rules peer made (j ∷ later) made' all =
     (append-steady (events_by j.served.placed) (events_by (placed (served later))) one (items-steady g number conn rules peer all.1 later made' all.3))
 
 -- Whatever became of a guarded link: among the groups that its pass made as many connections came up as went down, and at most one.
-pub link-counts : {B L : Type 0} (g : Ghosts B) (stands : L → List ℕ → List ℕ → Type 0) (told : ℕ) (rules : List Rule) (pass : PassView Group) (link : L) (seen : LinkShown) (dial : DialShown)
+pub link-counts : {B L : Type 0} (g : Origin B) (stands : L → List ℕ → List ℕ → Type 0) (told : ℕ) (rules : List Rule) (pass : PassView Group) (link : L) (seen : LinkShown) (dial : DialShown)
     (note : End) (how : Guarded) (pass' : PassView Group) (link' : L) (seen' : LinkShown) (dial' : DialShown) (note' : End)
     → GuardLinkDid g stands told rules pass link seen dial note how pass' link' seen' dial' note' → ComesAndGoes pass pass'
 link-counts g stands told rules pass link seen dial note (guarded.Ended how) pass' link' seen' dial' note' had =
@@ -55,7 +55,7 @@ link-counts g stands told rules pass link seen dial note guarded.Full pass' link
 link-counts g stands told rules pass link seen dial note guarded.NoMemory pass' link' seen' dial' note' had = none-came role.Core connect.NoMemory pass pass' had.0
 
 -- Where the pass is clear behind so many links, the next one isn't refused for want of room.
-pub link-never-full : {B L : Type 0} (g : Ghosts B) (stands : L → List ℕ → List ℕ → Type 0) (told count : ℕ) (rules : List Rule) (pass : PassView Group) (link : L) (seen : LinkShown)
+pub link-never-full : {B L : Type 0} (g : Origin B) (stands : L → List ℕ → List ℕ → Type 0) (told count : ℕ) (rules : List Rule) (pass : PassView Group) (link : L) (seen : LinkShown)
     (dial : DialShown) (note : End) (pass' : PassView Group) (link' : L) (seen' : LinkShown) (dial' : DialShown) (note' : End) → IsClear count pass → count < CONNECTION_LAST
     → GuardLinkDid g stands told rules pass link seen dial note guarded.Full pass' link' seen' dial' note' → ⊥
 link-never-full g stands told count rules pass link seen dial note pass' link' seen' dial' note' clear low had = never-full count pass pass' role.Core clear low had.0

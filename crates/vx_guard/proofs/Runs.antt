@@ -8,6 +8,7 @@ use Rattle.vx_door.specs.Running.{KeepsOwn}
 use Rattle.vx_door.specs.declared.serving.DoorEnd.{DoorEnd}
 use Rattle.vx_door.specs.declared.serving.DoorEnd.TheVariants as door
 use Rattle.vx_text.specs.Ends.{End}
+use Rattle.vx_core.specs.CoreState.{CoreState}
 use Rattle.vx_policy.specs.declared.rules.Rule.{Rule}
 use Rattle.vx_policy.specs.Texts.{served_line}
 use Rattle.vx_peers.specs.declared.words.Ask.{Ask}
@@ -16,7 +17,7 @@ use Rattle.vx_guard.specs.declared.status.Status.TheVariants as status
 use Rattle.vx_guard.specs.declared.serving.Stop.{Stop}
 use Rattle.vx_guard.specs.declared.serving.Stop.TheVariants as stop
 use Rattle.vx_guard.specs.Peers.{GuardHas, GuardShows, GuardsPeer, StopsPeers, is_note_stop}
-use Rattle.vx_guard.specs.Outcome.{Begins, Works, IsEnd, IsPortRun, IsRuledRun, PutsLine}
+use Rattle.vx_guard.specs.Outcome.{Begins, Works, IsEnd, IsPortRun, IsNew, IsRuledRun, PutsLine}
 
 module _ {B N : Type 0} (n : GuardShows B N) (rules : List Rule) (ask : Ask) (first : GuardHas) (opened : N) (last : GuardHas) (new : N) (before after : End)
     (begins : Begins first before) (keeps : KeepsOwn n.door (GuardsPeer n rules)) (number : ℕ) where
@@ -85,12 +86,13 @@ module _ {B N : Type 0} (n : GuardShows B N) (rules : List Rule) (o : Opening N)
   port_opened opened opens status.SinkFailed works = record { opened = opened; opens = opens; works = works }
   port_opened opened opens status.SourceFailed works = record { opened = opened; opens = opens; works = works }
 
-  -- there was memory
-  pub ruled_run : (how : Status) → IsPortRun n rules o ask old new before after how → IsRuledRun n rules o ask old new before after how
-  ruled_run status.Served run = run
-  ruled_run status.Usage run = run
-  ruled_run status.PolicyFault run = run
-  ruled_run status.NetFailed run = run
-  ruled_run status.NoMemory run = absurd run.works.worked
-  ruled_run status.SinkFailed run = run
-  ruled_run status.SourceFailed run = run
+-- there was memory
+pub ruled_run : {B N : Type 0} (n : CoreState B → GuardShows B N) (rules : List Rule) (o : Opening N) (ask : Ask) (old new : N) (before after : End) (first : CoreState B) → IsNew first → (how : Status)
+    → IsPortRun (n first) rules o ask old new before after how → IsRuledRun n rules o ask old new before after how
+ruled_run n rules o ask old new before after first is_new status.Served run = (first, is_new, run)
+ruled_run n rules o ask old new before after first is_new status.Usage run = (first, is_new, run)
+ruled_run n rules o ask old new before after first is_new status.PolicyFault run = (first, is_new, run)
+ruled_run n rules o ask old new before after first is_new status.NetFailed run = (first, is_new, run)
+ruled_run n rules o ask old new before after first is_new status.NoMemory run = absurd run.works.worked
+ruled_run n rules o ask old new before after first is_new status.SinkFailed run = (first, is_new, run)
+ruled_run n rules o ask old new before after first is_new status.SourceFailed run = (first, is_new, run)

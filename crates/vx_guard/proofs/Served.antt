@@ -6,7 +6,7 @@ use Rattle.vx_calls.specs.declared.calls.Proc.{Proc}
 use Rattle.vx_calls.specs.declared.calls.Role.TheVariants as role
 use Rattle.vx_calls.specs.declared.targets.Target.{Target}
 use Rattle.vx_calls.specs.Call.{Call}
-use Rattle.vx_bus_traits.specs.declared.bus.Bus.{Ghosts}
+use Rattle.vx_session.specs.Origin.{Origin}
 use Rattle.vx_gate.specs.PassView.{PassView}
 use Rattle.vx_text.specs.Ends.{End}
 use Rattle.vx_group.specs.Groups.{Group}
@@ -37,7 +37,7 @@ judged-so rules peer made m xid call v p t verdict proc to is =
     ap (denial rules peer made) is
     ∙ sym (ap denied_by (verdict ∙ ap (λ (x : Proc). judged rules peer x t) proc ∙ ap (λ (y : Option Target). judged rules peer (proc_of call) y) to))
 
-module _ {B : Type 0} (g : Ghosts B) (conn : ℕ) (rules : List Rule) (peer : ℕ) (made : List MadeLink) (note : End) (failed : Bool) (pass : PassView Group) (dial : DialShown) (told : ℕ)
+module _ {B : Type 0} (g : Origin B) (conn : ℕ) (rules : List Rule) (peer : ℕ) (made : List MadeLink) (note : End) (failed : Bool) (pass : PassView Group) (dial : DialShown) (told : ℕ)
     (message : List ℕ) where
   -- the session before, and as it is then
   abbrev state : PassView Group → ℕ → DialShown → List MadeLink → End → Bool → GuardState

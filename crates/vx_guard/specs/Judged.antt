@@ -5,7 +5,7 @@ use Rattle.std.specs.List.{flat_map}
 use Rattle.vx_calls.specs.declared.codes.ErrorCode.TheVariants as code
 use Rattle.vx_calls.specs.declared.calls.Role.TheVariants as role
 use Rattle.vx_calls.specs.Call.{Call}
-use Rattle.vx_bus_traits.specs.declared.bus.Bus.{Ghosts}
+use Rattle.vx_session.specs.Origin.{Origin}
 use Rattle.vx_rules.specs.Calls.{proc_of}
 use Rattle.vx_rules.specs.Effects.{stopped_reply}
 use Rattle.vx_exchange.specs.Meaning.{Meaning, Asks, meaning, reply_record}
@@ -42,7 +42,7 @@ pub record Judged : Type 0 where
   pub denial : Option ℕ
 
 -- a message that no rule denied was served as each session serves it, and the session knows what it made by it
-abbrev pub IsAllowed : {B : Type 0} → Ghosts B → (number conn : ℕ) → List MadeLink → Meaning → Item → List MadeLink → Type 0
+abbrev pub IsAllowed : {B : Type 0} → Origin B → (number conn : ℕ) → List MadeLink → Meaning → Item → List MadeLink → Type 0
 IsAllowed g number conn made m item made' =
     IsServed g number conn m item.placed item.calls item.answered.reply × (made' ≡ learned made m item.answered.reply)
 
@@ -52,13 +52,13 @@ IsDenied made (Asks xid call) item made' =
     (item.placed ≡ []) × (item.calls ≡ []) × (item.answered.reply ≡ denied_record xid call) × (made' ≡ made)
 IsDenied made _ item made' = ⊥
 
-abbrev pub IsGuarded : {B : Type 0} → Ghosts B → (number conn : ℕ) → List MadeLink → Meaning → Option ℕ → Item → List MadeLink → Type 0
+abbrev pub IsGuarded : {B : Type 0} → Origin B → (number conn : ℕ) → List MadeLink → Meaning → Option ℕ → Item → List MadeLink → Type 0
 IsGuarded g number conn made m None item made' = IsAllowed g number conn made m item made'
 IsGuarded g number conn made m (Some rule) item made' = IsDenied made m item made'
 
 -- The messages of a session on this connection, by the pass of this number, each by what the rules say of it: the session knew the
 -- links `made` before, and knows `made'` then.
-abbrev pub Guards : {B : Type 0} → Ghosts B → (number conn : ℕ) → List Rule → (peer : ℕ) → List MadeLink → List Judged → List MadeLink → Type 0
+abbrev pub Guards : {B : Type 0} → Origin B → (number conn : ℕ) → List Rule → (peer : ℕ) → List MadeLink → List Judged → List MadeLink → Type 0
 Guards g number conn rules peer made [] made' = made' ≡ made
 Guards g number conn rules peer made (j ∷ later) made' =
     (j.denial ≡ denial rules peer made (meaning j.served.answered.message role.Core))

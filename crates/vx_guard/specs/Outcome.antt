@@ -11,6 +11,8 @@ use Rattle.vx_text.specs.TextLines.{lines}
 use Rattle.vx_door.specs.Opening.{Opening, Opens}
 use Rattle.vx_door.specs.Running.{KeepsOwn}
 use Rattle.vx_door.specs.declared.serving.DoorEnd.TheVariants as door
+use Rattle.vx_flow.specs.FineState.{first_fine}
+use Rattle.vx_core.specs.CoreState.{CoreState}
 use Rattle.vx_policy.specs.declared.rules.Rule.{Rule}
 use Rattle.vx_policy.specs.declared.policy.TheConstants.{TEXT_MAX}
 use Rattle.vx_policy.specs.declared.policy.PolicyErr.{PolicyErr}
@@ -140,28 +142,33 @@ module _ {B N : Type 0} (n : GuardShows B N) (rules : List Rule) where
       (Opens o n.stands n.door ask.port old Failed new × (after ≡ before)) ⊎ OpensAndWorks o ask old new before after status.NetFailed
   IsPortRun o ask old new before after how = OpensAndWorks o ask old new before after how
 
-  -- how what is asked ends by these rules: there was no memory, and nothing was opened or written; or the work at the port ended
-  abbrev pub IsRuledRun : Opening N → Ask → N → N → End → End → Status → Type 0
-  IsRuledRun o ask old new before after status.NoMemory = (new ≡ old) × (after ≡ before)
-  IsRuledRun o ask old new before after how = IsPortRun o ask old new before after how
+-- the core that a guard starts with: a gateway with nothing in it, which tells 9011 as the port of its abort channel
+abbrev pub IsNew : {B : Type 0} → CoreState B → Type 0
+IsNew first = first.fine ≡ first_fine 9011
+
+-- how what is asked ends by these rules: there was no memory, and nothing was opened or written; or the work at the port ended, of a
+-- gateway that began as a new one
+abbrev pub IsRuledRun : {B N : Type 0} → (CoreState B → GuardShows B N) → List Rule → Opening N → Ask → N → N → End → End → Status → Type 0
+IsRuledRun n rules o ask old new before after status.NoMemory = (new ≡ old) × (after ≡ before)
+IsRuledRun {B} n rules o ask old new before after how = (first : CoreState B) × IsNew first × IsPortRun (n first) rules o ask old new before after how
 
 -- the source gave rules, and the run by them ended so
-pub record RunsRules {B N : Type 0} (n : GuardShows B N) (o : Opening N) (ask : Ask) (old new : N) (ends : Ends) (how : Status) : Type 0 where
+pub record RunsRules {B N : Type 0} (n : CoreState B → GuardShows B N) (o : Opening N) (ask : Ask) (old new : N) (ends : Ends) (how : Status) : Type 0 where
   pub rules : List Rule
   pub gives : GivesRules ends.source ends.source_after rules
   pub runs : IsRuledRun n rules o ask old new ends.sink ends.sink_after how
 
 -- how what is asked ends: there are no rules, and nothing was opened; or the run by those that the source gave ended
-abbrev pub IsAskRun : {B N : Type 0} → GuardShows B N → Opening N → Ask → N → N → Ends → Status → Type 0
+abbrev pub IsAskRun : {B N : Type 0} → (CoreState B → GuardShows B N) → Opening N → Ask → N → N → Ends → Status → Type 0
 IsAskRun n o ask old new ends how = (IsUnruled ends how × (new ≡ old)) ⊎ RunsRules n o ask old new ends how
 
 -- How a run ends: the words ask nothing, which is told, and the source is unread; or what they ask is done.
-abbrev pub IsRun : {B N : Type 0} → GuardShows B N → Opening N → List (List ℕ) → N → N → Ends → Status → Type 0
+abbrev pub IsRun : {B N : Type 0} → (CoreState B → GuardShows B N) → Opening N → List (List ℕ) → N → N → Ends → Status → Type 0
 IsRun n o words old new ends how =
     (AsksNothing words × (new ≡ old) × (ends.source_after ≡ ends.source)
     × PutsLine status.Usage usage_line ends.sink ends.sink_after how)
     ⊎ ((ask : Ask) × Asks words ask × IsAskRun n o ask old new ends how)
 
 -- it ends with the number of its status
-abbrev pub EndsRun : {B N : Type 0} → GuardShows B N → Opening N → List (List ℕ) → N → N → Ends → ℕ → Type 0
+abbrev pub EndsRun : {B N : Type 0} → (CoreState B → GuardShows B N) → Opening N → List (List ℕ) → N → N → Ends → ℕ → Type 0
 EndsRun n o words old new ends number = (how : Status) × (number ≡ status_number how) × IsRun n o words old new ends how

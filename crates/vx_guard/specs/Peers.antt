@@ -12,7 +12,7 @@ use Rattle.vx_door.specs.declared.doors.Met.{Met}
 use Rattle.vx_door.specs.declared.doors.Met.TheVariants as met
 use Rattle.vx_door.specs.declared.serving.DoorEnd.{DoorEnd}
 use Rattle.vx_door.specs.declared.serving.DoorEnd.TheVariants as door
-use Rattle.vx_bus_traits.specs.declared.bus.Bus.{Ghosts}
+use Rattle.vx_session.specs.Origin.{Origin}
 use Rattle.vx_gate.specs.PassView.{PassView, GateId}
 use Rattle.vx_text.specs.Ends.{End}
 use Rattle.vx_group.specs.Groups.{Group}
@@ -53,7 +53,7 @@ pub record IsReady (gate : GateId) (count : ℕ) (pass : PassView Group) : Type 
 
 -- what a bus and a door are to what is said of them
 pub record GuardShows (B N : Type 0) : Type 1 where
-  pub bus : Ghosts B
+  pub bus : Origin B
   pub stands : N → List ℕ → List ℕ → Type 0
   pub receives : N → List ℕ → ReadOut → List ℕ → N → Type 0
   pub sends : N → List ℕ → WriteOut → N → Type 0

@@ -2,7 +2,7 @@
 use Rattle.std.specs.Prelude.{◌≡◌, ◌≤◌, ◌⊎◌, ℕ, Bool, true, List, Option, Some, None}
 use Rattle.std.specs.Io.KnownBytes.{Appends}
 use Rattle.vx_calls.specs.declared.calls.Role.TheVariants as role
-use Rattle.vx_bus_traits.specs.declared.bus.Bus.{Ghosts}
+use Rattle.vx_session.specs.Origin.{Origin}
 use Rattle.vx_text.specs.Ends.{End}
 use Rattle.vx_text.specs.Writing.{StopsIn}
 use Rattle.vx_exchange.specs.Meaning.{Meaning, Junk, Asks, meaning}
@@ -50,19 +50,19 @@ IsDenial (Asks xid call) reply = reply ≡ denied_record xid call
 IsDenial _ reply = ⊥
 
 -- a message with a reply: it was served as each session serves it, or denied, and the line of that went to the note before
-abbrev pub HasReply : {B : Type 0} → Ghosts B → GuardState → List ℕ → List ℕ → GuardState → Option ℕ → Type 0
+abbrev pub HasReply : {B : Type 0} → Origin B → GuardState → List ℕ → List ℕ → GuardState → Option ℕ → Type 0
 HasReply g s message reply s' None =
     IsAnswered g s.session message reply s'.session × (s'.made ≡ learned s.made (meaning message role.Core) reply) × (s'.note ≡ s.note)
 HasReply g s message reply s' (Some rule) =
     IsUnasked s s' × IsDenial (meaning message role.Core) reply × Appends s.note.bytes s'.note.bytes (deny_line s.session.conn rule)
     × (s.note.faults ≤ s'.note.faults)
 
-abbrev pub Has : {B : Type 0} → Ghosts B → GuardState → List ℕ → Option (List ℕ) → GuardState → Type 0
+abbrev pub Has : {B : Type 0} → Origin B → GuardState → List ℕ → Option (List ℕ) → GuardState → Type 0
 Has g s message None s' = HasNone s message s'
 Has g s message (Some reply) s' = HasReply g s message reply s' (denial_at s message) × (s'.failed ≡ s.failed)
 
 -- what a message on the connection does
-pub record GuardDoes {B : Type 0} (g : Ghosts B) (s : GuardState) (message : List ℕ) (reply : Option (List ℕ)) (s' : GuardState) : Type 0 where
+pub record GuardDoes {B : Type 0} (g : Origin B) (s : GuardState) (message : List ℕ) (reply : Option (List ℕ)) (s' : GuardState) : Type 0 where
   pub role : s'.session.role ≡ s.session.role
   pub conn : s'.session.conn ≡ s.session.conn
   pub rules : s'.rules ≡ s.rules

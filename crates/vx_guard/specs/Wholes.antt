@@ -5,7 +5,8 @@ use Rattle.std.specs.Io.KnownBytes.{Appends}
 use Rattle.vx_io_traits.specs.Stands.{Goes}
 use Rattle.vx_calls.specs.declared.calls.Role.TheVariants as role
 use Rattle.vx_calls.specs.declared.limits.TheConstants.{RECORD_MAX}
-use Rattle.vx_bus_traits.specs.declared.bus.Bus.{Ghosts}
+use Rattle.vx_bus_traits.specs.Steps.{Cut}
+use Rattle.vx_session.specs.Origin.{Origin}
 use Rattle.vx_gate.specs.PassView.{PassView}
 use Rattle.vx_text.specs.Ends.{End}
 use Rattle.vx_text.specs.Writing.{StopsIn}
@@ -58,7 +59,7 @@ GuardEndsSo rules peer conn made seen list lines looked behind unsent seen' note
 -- A guarded session on a core connection, of the peer at this address: the messages that it judged, in their order, and the links that
 -- it knows at its end; the bytes `front` that it looked at, and those that it received behind them; the replies, of which the link took
 -- `written`; and the end of the connection, its last group.
-pub record GuardDid {B L : Type 0} (g : Ghosts B) (stands : L → List ℕ → List ℕ → Type 0) (told : ℕ) (rules : List Rule) (peer conn : ℕ) (pass : PassView Group) (link : L) (seen : LinkShown)
+pub record GuardDid {B L : Type 0} (g : Origin B) (stands : L → List ℕ → List ℕ → Type 0) (told : ℕ) (rules : List Rule) (peer conn : ℕ) (pass : PassView Group) (link : L) (seen : LinkShown)
     (dial : DialShown) (note : End) (how : GuardEnd) (pass' : PassView Group) (link' : L) (seen' : LinkShown) (dial' : DialShown) (note' : End) : Type 0 where
   pub items : List Judged
   pub made : List MadeLink
@@ -72,6 +73,7 @@ pub record GuardDid {B L : Type 0} (g : Ghosts B) (stands : L → List ℕ → L
   -- the groups that the pass added: those of the messages, in order, and the end of the connection
   pub makes : Makes told pass (placed (served items) ++ last ∷ []) pass'
   pub down : last.group.events ≡ Down conn ∷ []
+  pub cut : last.group.steps ≡ Cut ∷ []
   -- the bytes that came and went
   pub bytes : Goes stands link link' written (front ++ behind)
   pub goes : LinkGoes seen (front ++ behind) seen'
@@ -79,7 +81,7 @@ pub record GuardDid {B L : Type 0} (g : Ghosts B) (stands : L → List ℕ → L
   pub ended : GuardEndsSo rules peer conn made seen (answered (served items)) (notes conn items) (records RECORD_MAX front) behind unsent seen' note note' how
   -- the dial's calls
   pub rings : Rings dial (placed (served items)) (calls (served items)) dial'
-  pub upholds : Upholds pass'
+  pub upholds : Upholds g pass'
 
 -- how a session ended whose stream ended so, where its note failed or not
 abbrev pub guard_end : Bool → stream.End → GuardEnd

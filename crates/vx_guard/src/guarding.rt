@@ -1,6 +1,7 @@
 //! The messages of a guarded connection, each judged, and answered by the record of its reply.
 ghost use Rattle.std.specs.Prelude.{◌≡◌, ◌≤◌, ◌||◌, length, take, Some, option_map, IfSome};
 ghost use Rattle.std.specs.Option.{is_none};
+ghost use Rattle.vx_session.specs.Origin.{origin};
 ghost use Rattle.vx_calls.specs.declared.limits.TheConstants.{RECORD_MAX};
 ghost use Rattle.vx_calls.specs.declared.calls.Role.TheVariants as role;
 ghost use Rattle.vx_calls.specs.Call.{call_shown};
@@ -50,7 +51,7 @@ impl<'a, R: Wait, B: Bus, T: Turns<Core<B>>, C: Clock, P: Pause, D: Dial, K: Sin
     // the connection is idle
     ghost can = { λ s. (pass : PassView Group) × (s.held.now ≡ Some pass) × (pass.gate ≡ T.gate s.turns.now) × (phase_at pass s.conn ≡ Idle role.Core) };
 
-    ghost does = { λ s message reply s'. GuardDoes B.Bus
+    ghost does = { λ s message reply s'. GuardDoes (origin B.Bus (T.first s.turns.now))
         (record {
           session = record { role = role.Core; conn = s.conn; pass = s.held.now; told = C.told s.clock.now; dial = dial_shown D.calls D.faults s.dial.now };
           rules = s.policy.now;
@@ -68,7 +69,8 @@ impl<'a, R: Wait, B: Bus, T: Turns<Core<B>>, C: Clock, P: Pause, D: Dial, K: Sin
           failed = s'.failed;
         })
         × (s'.held.ghost_name ≡ s.held.ghost_name) × (s'.made.ghost_name ≡ s.made.ghost_name) × (s'.clock.ghost_name ≡ s.clock.ghost_name)
-        × (s'.dial.ghost_name ≡ s.dial.ghost_name) × (s'.note.ghost_name ≡ s.note.ghost_name) };
+        × (s'.dial.ghost_name ≡ s.dial.ghost_name) × (s'.note.ghost_name ≡ s.note.ghost_name)
+        × (T.first s'.turns.now ≡ T.first s.turns.now) };
 
     ghost longest = { RECORD_MAX };
 
@@ -168,7 +170,7 @@ fn guard_message<R: Wait, B: Bus, T: Turns<Core<B>>, C: Clock, P: Pause, D: Dial
     requires phase { phase_at pass conn ≡ Idle role.Core }
     requires short { length message.now ≤ RECORD_MAX }
     requires room { REPLY_ROOM ≤ length reply.old }
-    ensures does { GuardDoes B.Bus
+    ensures does { GuardDoes (origin B.Bus (T.first turns.now))
         (record {
           session = record { role = role.Core; conn = conn; pass = Some pass; told = C.told clock.old; dial = dial_shown D.calls D.faults dial.old };
           rules = policy.now;

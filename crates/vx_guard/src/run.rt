@@ -4,6 +4,7 @@ ghost use Rattle.std.specs.Prelude.{◌≡◌, [], map, string_bytes, vec_len};
 ghost use Rattle.vx_door.specs.Shown.{door_shown};
 ghost use Rattle.vx_peers.specs.Asked.{IsInRange};
 ghost use Rattle.vx_stream.specs.Shown.{link_shown};
+ghost use Rattle.vx_session.specs.Origin.{origin};
 ghost use Rattle.vx_lone.specs.Lone.{handed, lone};
 ghost use Rattle.vx_guard.specs.Outcome.{IsEnd, Works, IsPortRun, IsRuledRun, IsAskRun, IsRun, EndsRun};
 ghost use Rattle.vx_guard.specs.Peers.{CanServe};
@@ -68,7 +69,7 @@ fn serve_open<
     requires can { CanServe (T.gate turns.now) pass }
     requires fresh { (pass.seen ≡ []) × (pass.own ≡ []) }
     ensures { Works (record {
-      bus = B.Bus;
+      bus = origin B.Bus (T.first turns.now);
       stands = N.stands;
       receives = N.receives;
       sends = N.sends;
@@ -110,7 +111,7 @@ fn run_gate<
     requires can { CanServe (T.gate turns.now) pass }
     requires fresh { (pass.seen ≡ []) × (pass.own ≡ []) }
     ensures { IsPortRun (record {
-      bus = B.Bus;
+      bus = origin B.Bus (T.first turns.now);
       stands = N.stands;
       receives = N.receives;
       sends = N.sends;
@@ -156,8 +157,8 @@ fn run_racked<R: Wait, N: Door + Peered, X: Tools, K: Sink, I: Instrument, M: Ra
     requires range { IsInRange ask.now }
     requires rack { vec_len rack ≡ 1 }
     requires racked { M.rack ≡ handed (λ i. I.behaves i) (λ i. I.nature i) rack.items }
-    ensures { IsRuledRun (record {
-      bus = lone M.rack;
+    ensures { IsRuledRun (λ first. record {
+      bus = origin (lone M.rack) first;
       stands = N.stands;
       receives = N.receives;
       sends = N.sends;
@@ -191,8 +192,8 @@ fn run_ruled<R: Wait, N: Door + Peered, X: Tools, K: Sink, I: Instrument>(
 ) -> Status
     requires range { IsInRange ask.now }
     requires rack { vec_len rack ≡ 1 }
-    ensures { IsRuledRun (record {
-      bus = lone (handed (λ i. I.behaves i) (λ i. I.nature i) rack.items);
+    ensures { IsRuledRun (λ first. record {
+      bus = origin (lone (handed (λ i. I.behaves i) (λ i. I.nature i) rack.items)) first;
       stands = N.stands;
       receives = N.receives;
       sends = N.sends;
@@ -220,8 +221,8 @@ fn run_ask<R: Wait, N: Door + Peered, X: Tools, S: Source, K: Sink, I: Instrumen
 ) -> Status
     requires range { IsInRange ask.now }
     requires rack { vec_len rack ≡ 1 }
-    ensures { IsAskRun (record {
-      bus = lone (handed (λ i. I.behaves i) (λ i. I.nature i) rack.items);
+    ensures { IsAskRun (λ first. record {
+      bus = origin (lone (handed (λ i. I.behaves i) (λ i. I.nature i) rack.items)) first;
       stands = N.stands;
       receives = N.receives;
       sends = N.sends;
@@ -254,8 +255,8 @@ fn run<R: Wait, N: Door + Peered, X: Tools, S: Source, K: Sink, I: Instrument>(
     rack: Vec<Spare<I>>,
 ) -> Status
     requires rack { vec_len rack ≡ 1 }
-    ensures { IsRun (record {
-      bus = lone (handed (λ i. I.behaves i) (λ i. I.nature i) rack.items);
+    ensures { IsRun (λ first. record {
+      bus = origin (lone (handed (λ i. I.behaves i) (λ i. I.nature i) rack.items)) first;
       stands = N.stands;
       receives = N.receives;
       sends = N.sends;
@@ -296,8 +297,8 @@ fn run<R: Wait, N: Door + Peered, X: Tools, S: Source, K: Sink, I: Instrument>(
 /// - 7, nothing printed and nothing opened: the source of the rules failed.
 ///
 /// A fault of a link ends its session alone. One port is opened, once: that of the words, as a door tells it that tells its openings. That
-/// the spare stands on the bus at that address, and nothing else, is part of what is said of each poll ([`LoneBus`](vx_lone::LoneBus)). No
-/// clause says which port of an abort channel is told.
+/// the spare stands on the bus at that address, and nothing else, is part of what is said of each poll ([`LoneBus`](vx_lone::LoneBus)), and
+/// that 9011 is told is part of what is said of the gateway.
 pub fn guard_run<R: Wait, N: Door + Peered, X: Tools, S: Source, K: Sink, I: Instrument>(
     rt: &R,
     alloc: Global,
@@ -309,8 +310,8 @@ pub fn guard_run<R: Wait, N: Door + Peered, X: Tools, S: Source, K: Sink, I: Ins
     rack: Vec<Spare<I>>,
 ) -> u8
     requires rack { vec_len rack ≡ 1 }
-    ensures { EndsRun (record {
-      bus = lone (handed (λ i. I.behaves i) (λ i. I.nature i) rack.items);
+    ensures { EndsRun (λ first. record {
+      bus = origin (lone (handed (λ i. I.behaves i) (λ i. I.nature i) rack.items)) first;
       stands = N.stands;
       receives = N.receives;
       sends = N.sends;

@@ -1,5 +1,6 @@
 //! The peers of a door, each served by the rules of a policy.
 ghost use Rattle.std.specs.Prelude.{◌≡◌, ◌+◌, ◌<◌, ◌≤◌, false};
+ghost use Rattle.vx_session.specs.Origin.{origin};
 ghost use Rattle.vx_calls.specs.declared.limits.TheConstants.{CONNECTION_LAST};
 ghost use Rattle.vx_door.specs.Shown.{door_shown};
 ghost use Rattle.vx_stream.specs.Shown.{link_shown};
@@ -95,7 +96,7 @@ fn serve_next<
     ensures ready { IsReady (T.gate turns.now) (number + 1) result.0 }
     ensures next { IsNext
         (record {
-          bus = B.Bus;
+          bus = origin B.Bus (T.first turns.now);
           stands = N.stands;
           receives = N.receives;
           sends = N.sends;
@@ -152,7 +153,7 @@ pub(crate) fn serve_links<
     requires few { limit ≤ CONNECTION_LAST }
     ensures { StopsPeers
         (record {
-          bus = B.Bus;
+          bus = origin B.Bus (T.first turns.now);
           stands = N.stands;
           receives = N.receives;
           sends = N.sends;

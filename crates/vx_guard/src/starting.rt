@@ -1,14 +1,14 @@
 //! The gateway of a guard, behind its gate.
 ghost use Rattle.std.specs.Prelude.{◌≡◌, [], IfSome, vec_len};
 ghost use Rattle.vx_bus_traits.specs.Means.{first_means};
-ghost use Rattle.vx_gate.specs.Gates.{gate_of};
+ghost use Rattle.vx_gate.specs.Gates.{gate_of, first_of};
 ghost use Rattle.vx_guard.specs.Peers.{CanServe};
+ghost use Rattle.vx_guard.specs.Outcome.{IsNew};
 ghost use Rattle.vx_lone.specs.Lone.{handed};
 
 use std::alloc::Global;
 use vx_core::Core;
 use vx_gate::{Gate, Pass};
-use vx_group::first_law;
 use vx_inst::Instrument;
 use vx_lone::{LoneBus, Racked};
 use vx_rack::Spare;
@@ -39,8 +39,8 @@ pub(crate) fn start<I: Instrument, M: Racked>(
     requires racked { M.rack ≡ handed (λ i. I.behaves i) (λ i. I.nature i) rack.items }
     ensures can { IfSome result (λ r. CanServe (gate_of r.0) r.1) }
     ensures fresh { IfSome result (λ r. (r.1.seen ≡ []) × (r.1.own ≡ [])) }
+    ensures first { IfSome result (λ r. IsNew (first_of r.0)) }
 {
-    first_law();
     let bus = bus_of(alloc, rack)?;
     let Ok(core) = Core::start(alloc, bus, ABORT_PORT) else {
         return None;

@@ -4,15 +4,17 @@ use Rattle.vx_stream.specs.Shown.{link_shown}
 use Rattle.vx_session.specs.Outside.{dial_shown}
 use Rattle.vx_gate.specs.PassView.{PassView}
 use Rattle.vx_group.specs.Groups.{Group}
+use Rattle.vx_core.specs.CoreState.{CoreState}
+use Rattle.vx_session.specs.Origin.{origin}
 use Rattle.vx_guard.specs.declared.serving.Kit.{Kit}
 use Rattle.vx_guard.specs.Peers.{IsReady, GuardHas, GuardShows}
 use Rattle.vx_guard.proofs.Rounds.{Round}
 use Rattle.vx_guard.proofs.serving.serve_links.Given as goal
 
 -- what the bus and the door are to what is said of them
-abbrev pub shows : (g : goal.Over) → GuardShows g.row.B.Denot g.row.N.Denot
-shows g = record {
-  bus = g.B.Bus;
+abbrev pub shows : (g : goal.Over) → CoreState g.row.B.Denot → GuardShows g.row.B.Denot g.row.N.Denot
+shows g first = record {
+  bus = origin g.B.Bus first;
   stands = g.N.Link.stands;
   receives = g.N.Link.receives;
   sends = g.N.Link.sends;
@@ -36,7 +38,7 @@ abbrev pub invariant-loop-number : goal.invariant-loop-number
 invariant-loop-number g l =
     IsReady (g.T.Turns.gate l.turns) l.number l.pass
     × (l.number ≤ l.limit)
-    × Round (shows g) l.policy (has g l.initial.pass l.initial.kit l.initial.note) l.initial.net l.number (has g l.pass l.kit l.note) l.net
+    × Round (shows g (g.T.Turns.first l.turns)) l.policy (has g l.initial.pass l.initial.kit l.initial.note) l.initial.net l.number (has g l.pass l.kit l.note) l.net
 
 abbrev pub decreases-loop-number : goal.decreases-loop-number
 decreases-loop-number g l = l.limit - l.number

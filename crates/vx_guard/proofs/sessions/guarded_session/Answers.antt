@@ -6,6 +6,7 @@ use Rattle.vx_session.specs.Turning.{phase_at}
 use Rattle.vx_session.specs.Outside.{dial_shown}
 use Rattle.vx_session.proofs.Progressing.{stream-keeps}
 use Rattle.vx_text.specs.Ends.{End}
+use Rattle.vx_session.specs.Origin.{origin}
 use Rattle.vx_guard.specs.Stages.{GuardState}
 use Rattle.vx_guard.specs.declared.guarding.Guarding.{Guarding}
 use Rattle.vx_guard.proofs.Ended.{stream-guarded, guard-did, guarded-later, guarded-pass}
@@ -37,8 +38,8 @@ pub leave-requires-clause-gate : goal.leave-requires-clause-gate
 leave-requires-clause-gate g c =
     let name = stream-keeps _ (λ s. s.held.ghost_name) (λ s s' message reply did. did.1) g.L.Link.stands _ _ _ _ _ _ _ _ c.answer_stream-failed.ensures.answers in
     let left = subst (λ held. held ≡ Some c.in-Some.pass) (search (rules, name)) c.in-Some.is in
-    let has = guarded-pass g.B.Bus g.L.Link.stands _ _ c.args.pass _ _ _ _ _
-    (stream-guarded g.B.Bus _ (shown g) (λ s s' message reply did. did.0) (λ s. refl) g.L.Link.stands _ _ c.args.pass _ _ _ _ _ _ refl refl (search rules) c.answer_stream-failed.ensures.answers) in
+    let has = guarded-pass (origin g.B.Bus (g.T.Turns.first c.args.turns.now)) g.L.Link.stands _ _ c.args.pass _ _ _ _ _
+    (stream-guarded g.B.Bus (λ s. g.T.Turns.first s.turns.now) _ (shown g) (λ s s' message reply did. did.0) (λ s s' message reply did. did.6) (λ s. refl) g.L.Link.stands _ _ c.args.pass _ _ _ _ _ _ refl refl (search rules) c.answer_stream-failed.ensures.answers) in
     subst (λ p. p.gate ≡ g.T.Turns.gate c.args.turns.now) (same_Some _ _ (sym has.1 ∙ left)) (has.2 ∙ c.requires.gate)
 
 pub leave-requires-clause-phase : goal.leave-requires-clause-phase
@@ -59,8 +60,8 @@ returns-clause-did g c =
     let note = stream-keeps _ (λ s. s.note.ghost_name) (λ s s' message reply did. did.5) g.L.Link.stands _ _ _ _ _ _ _ _ answers in (
       c.peer-peer.result,
       c.peer-peer.ensures,
-      guard-did g.B.Bus g.L.Link.stands c.headline_law.ensures.headline c.owned_law.ensures _ _ _ c.in-Some.pass _ _ _ _ _ _ _ _ _ _
-          (stream-guarded g.B.Bus _ (shown g) (λ s s' message reply did. did.0) (λ s. refl) g.L.Link.stands _ _ c.args.pass _ _ _ _ _ _ refl refl (search rules) answers)
+      guard-did (origin g.B.Bus (g.T.Turns.first c.args.turns.now)) g.L.Link.stands c.headline_law.ensures.headline c.owned_law.ensures _ _ _ c.in-Some.pass _ _ _ _ _ _ _ _ _ _
+          (stream-guarded g.B.Bus (λ s. g.T.Turns.first s.turns.now) _ (shown g) (λ s s' message reply did. did.0) (λ s s' message reply did. did.6) (λ s. refl) g.L.Link.stands _ _ c.args.pass _ _ _ _ _ _ refl refl (search rules) answers)
           c.clear.ensures
           (subst (λ o. o ≡ Some c.in-Some.pass) (search (rules, held)) c.in-Some.is)
           (ap g.C.Clock.told (search (rules, clock))) (ap (dial_shown g.D.Dial.calls g.D.Dial.faults) (search (rules, dial))) (ap (noted g) (search (rules, note))) c.guard_end-how.ensures c.leave.ensures,
@@ -70,5 +71,5 @@ pub returns-clause-told : goal.returns-clause-told
 returns-clause-told g c =
     let name = stream-keeps _ (λ s. s.clock.ghost_name) (λ s s' message reply did. did.3) g.L.Link.stands _ _ _ _ _ _ _ _ c.answer_stream-failed.ensures.answers in
     subst (λ clock. g.C.Clock.told c.args.clock.now ≤ g.C.Clock.told clock) (search (rules, name))
-    (guarded-later g.B.Bus g.L.Link.stands _ _ c.args.pass _ _ _ _ _
-    (stream-guarded g.B.Bus _ (shown g) (λ s s' message reply did. did.0) (λ s. refl) g.L.Link.stands _ _ c.args.pass _ _ _ _ _ _ refl refl (search rules) c.answer_stream-failed.ensures.answers))
+    (guarded-later (origin g.B.Bus (g.T.Turns.first c.args.turns.now)) g.L.Link.stands _ _ c.args.pass _ _ _ _ _
+    (stream-guarded g.B.Bus (λ s. g.T.Turns.first s.turns.now) _ (shown g) (λ s s' message reply did. did.0) (λ s s' message reply did. did.6) (λ s. refl) g.L.Link.stands _ _ c.args.pass _ _ _ _ _ _ refl refl (search rules) c.answer_stream-failed.ensures.answers))

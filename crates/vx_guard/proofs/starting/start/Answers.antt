@@ -1,6 +1,0 @@
-use Rattle.std.proofs.Common.{[], sym, subst}
-use Rattle.vx_group.specs.Groups.{StandsFor}
-use Rattle.vx_guard.proofs.starting.start.Goals as goal
-
-pub start-requires-2 : goal.start-requires-2
-start-requires-2 g c = subst (λ f. StandsFor f []) (sym c.in-Ok.ensures.fine) (c.first_law.ensures 9011)
