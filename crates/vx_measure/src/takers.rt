@@ -21,7 +21,7 @@ struct Tally {
 impl Kept for Tally {
     type Group = u64;
 
-    ghost stands = { λ kept log. kept.turns ≡ sum log % 2 ^ 64 };
+    ghost stands = { λ _ kept log. kept.turns ≡ sum log % 2 ^ 64 };
 
     ghost may_add = { λ own number. Unit {0} };
 }

@@ -9,7 +9,6 @@ use std::sync::{Arc, Wait};
 use vx_bus_traits::Bus;
 use vx_core::Core;
 use vx_gate::{Gate, Pass};
-use vx_group::first_law;
 use vx_io_traits::{Clock, Dial, Link, Pause};
 use vx_session::{LinkDone, Linked, Room, abort_link, core_link, pump, sample_turn};
 
@@ -67,7 +66,6 @@ impl<B: Bus + Drop> GateAccess<B> {
         requires port { 0 < abort_port }
         ensures parts { IfOk result (λ access. access.pass.parts ≡ 4294967296) }
     {
-        first_law();
         let Ok(core) = Core::start(alloc, bus, abort_port) else {
             return Err(AllocError);
         };

@@ -17,7 +17,7 @@ struct Sum {
 impl Kept for Sum {
     type Group = u64;
 
-    ghost stands = { λ kept log. kept.value ≡ sum log % 2 ^ 64 };
+    ghost stands = { λ _ kept log. kept.value ≡ sum log % 2 ^ 64 };
 
     ghost may_add = { λ own number. Unit {0} };
 }
@@ -127,8 +127,8 @@ fn turn_once<K: Kept, A: Act<K>, R: Wait, T: Turns<K>>(
     act: &mut A,
 ) -> (Pass<K>, A::Answer)
     requires gate { pass.gate ≡ T.gate turns.now }
-    requires act { MayTurn K.stands K.may_add A.asks A.does A.adds pass act.old }
-    ensures { Turned K.stands K.may_add A.does A.adds pass act.old result.1 act.new result.0 }
+    requires act { MayTurn (K.stands (T.first turns.now)) K.may_add A.asks A.does A.adds pass act.old }
+    ensures { Turned (K.stands (T.first turns.now)) K.may_add A.does A.adds pass act.old result.1 act.new result.0 }
 {
     pass.order();
     turns.turn(rt, pass, act)
