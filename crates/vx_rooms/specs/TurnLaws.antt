@@ -6,22 +6,23 @@ use Rattle.vx_gate.specs.PassView.{PassView, all_parts}
 use Rattle.vx_tables.specs.declared.tables.Connect.{Connect}
 use Rattle.vx_tables.specs.declared.tables.Connect.TheVariants as connect
 use Rattle.vx_group.specs.Groups.{Group, events_of}
+use Rattle.vx_session.specs.Origin.{Origin}
 use Rattle.vx_session.specs.Turning.{Joins, Leaves}
 use Rattle.vx_rooms.specs.Counting.{ups, downs, ComesAndGoes, IsClear}
 
 -- A turn that connects adds one that comes up, and none that goes down.
-abbrev pub JoinedLaw : Type 0
-JoinedLaw = (pass pass' : PassView Group) (r : Role) (conn : ℕ) → Joins pass r (Ok conn) pass'
+abbrev pub JoinedLaw : {B : Type 0} → Origin B → Type 0
+JoinedLaw g = (pass pass' : PassView Group) (r : Role) (conn : ℕ) → Joins g pass r (Ok conn) pass'
     → (ups (events_of pass'.own) ≡ ups (events_of pass.own) + 1) × (downs (events_of pass'.own) ≡ downs (events_of pass.own))
 
 -- A turn that is refused a connection adds neither.
-abbrev pub RefusedLaw : Type 0
-RefusedLaw = (pass pass' : PassView Group) (r : Role) (why : Connect) → Joins pass r (Err why) pass'
+abbrev pub RefusedLaw : {B : Type 0} → Origin B → Type 0
+RefusedLaw g = (pass pass' : PassView Group) (r : Role) (why : Connect) → Joins g pass r (Err why) pass'
     → (ups (events_of pass'.own) ≡ ups (events_of pass.own)) × (downs (events_of pass'.own) ≡ downs (events_of pass.own))
 
 -- A turn by which a connection goes adds none that comes up, and one that goes down.
-abbrev pub LeftLaw : Type 0
-LeftLaw = (pass pass' : PassView Group) (conn : ℕ) → Leaves pass conn pass'
+abbrev pub LeftLaw : {B : Type 0} → Origin B → Type 0
+LeftLaw g = (pass pass' : PassView Group) (conn : ℕ) → Leaves g pass conn pass'
     → (ups (events_of pass'.own) ≡ ups (events_of pass.own)) × (downs (events_of pass'.own) ≡ downs (events_of pass.own) + 1)
 
 -- A pass that was made with its gate, and has taken no turn, is clear.
@@ -33,5 +34,5 @@ abbrev pub ClearLaw : Type 0
 ClearLaw = (count : ℕ) (pass pass' : PassView Group) → IsClear count pass → ComesAndGoes pass pass' → IsClear (count + 1) pass'
 
 -- No connect of such a pass is refused because 64 connections of its role live, or no number is left, unless 2^31 - 1 came before.
-abbrev pub NeverFullLaw : Type 0
-NeverFullLaw = (count : ℕ) (pass pass' : PassView Group) (r : Role) → IsClear count pass → count < CONNECTION_LAST → Joins pass r (Err connect.Full) pass' → ⊥
+abbrev pub NeverFullLaw : {B : Type 0} → Origin B → Type 0
+NeverFullLaw g = (count : ℕ) (pass pass' : PassView Group) (r : Role) → IsClear count pass → count < CONNECTION_LAST → Joins g pass r (Err connect.Full) pass' → ⊥

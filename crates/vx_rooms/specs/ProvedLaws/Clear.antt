@@ -5,6 +5,7 @@ use Rattle.std.proofs.lemmas.Bool.{false≢true}
 use Rattle.vx_gate.specs.History.{made, groups}
 use Rattle.vx_gate.specs.PassView.{PassView, all_parts}
 use Rattle.vx_group.specs.Groups.{Group, events_of, StandsFor}
+use Rattle.vx_session.specs.Origin.{Origin}
 use Rattle.vx_session.specs.Placing.{Placed, Makes}
 use Rattle.vx_rooms.specs.Counting.{ups, downs}
 use Rattle.vx_rooms.specs.TurnLaws.{ClearFirstLaw, ClearLaw, NeverFullLaw}
@@ -42,8 +43,8 @@ found-seen told pass pass' p makes all =
     whole-prefix pass.seen p.before makes.chain.0 (omega (arith, long))
 
 -- no connect of it is refused for want of room
-pub never-full : NeverFullLaw
-never-full count pass pass' r clear low joins =
+pub never-full : {B : Type 0} (g : Origin B) → NeverFullLaw g
+never-full g count pass pass' r clear low joins =
     let before = ap groups (found-seen 0 pass pass' joins.placed joins.turns.makes clear.alone.parts) ∙ clear.alone.own in
     let none = joins.come in
     false≢true

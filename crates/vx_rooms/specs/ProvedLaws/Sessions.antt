@@ -7,6 +7,7 @@ use Rattle.std.proofs.lemmas.List.Elements.{All-head, All-tail}
 use Rattle.vx_io_traits.specs.declared.dials.Rang.{Rang}
 use Rattle.vx_calls.specs.declared.calls.Role.{Role}
 use Rattle.vx_calls.specs.Call.{Call}
+use Rattle.vx_bus_traits.specs.Steps.{Step}
 use Rattle.vx_bus_traits.specs.declared.bus.Bus.{Ghosts}
 use Rattle.vx_gate.specs.declared.views.Logged.{Logged}
 use Rattle.vx_gate.specs.History.{groups}
@@ -16,11 +17,12 @@ use Rattle.vx_tables.specs.declared.tables.Connect.TheVariants as connect
 use Rattle.vx_exchange.specs.Meaning as meant
 use Rattle.vx_exchange.specs.Meaning.{Meaning, Junk, Asks, Aborts, meaning}
 use Rattle.vx_flow.specs.Event.{Event, Up, Down, Arrive}
-use Rattle.vx_flow.specs.FineState.{FineState}
 use Rattle.vx_flow.specs.Poll as poll
 use Rattle.vx_flow.specs.Poll.{Ending, Waited, Dialed}
 use Rattle.vx_group.specs.Groups.{Group, events_of}
+use Rattle.vx_core.specs.CoreState.{CoreState}
 use Rattle.vx_stream.specs.Shown.{LinkShown}
+use Rattle.vx_session.specs.Origin.{Origin}
 use Rattle.vx_session.specs.Outside.{DialShown}
 use Rattle.vx_session.specs.Placing.{Placed, Makes, logged}
 use Rattle.vx_session.specs.Parts.{IsPolled, moment_at}
@@ -50,25 +52,25 @@ more-steady p ps one rest = subst IsSteady (sym (events_by-append (p ∷ []) ps)
 -- ---- calls
 
 -- the events of a poll
-polled-neither : {B : Type 0} (g : Ghosts B) (f : FineState) (conn now : ℕ) (ending : Ending) (events : List Event) → IsPolled g f conn now ending events → All IsNeither events
-polled-neither g f conn now ending events p =
-    ispolled-all IsNeither g f conn now ending events p (record { no_up = refl; no_down = refl }) (λ made. record { no_up = refl; no_down = refl })
+polled-neither : {B : Type 0} (g : Ghosts B) (before : CoreState B) (conn now : ℕ) (ending : Ending) (events : List Event) (steps : List Step) → IsPolled g before conn now ending events steps → All IsNeither events
+polled-neither g before conn now ending events steps p =
+    ispolled-all IsNeither g before conn now ending events steps p (record { no_up = refl; no_down = refl }) (λ made. record { no_up = refl; no_down = refl })
     (λ failed level told. record { no_up = refl; no_down = refl }) (record { no_up = refl; no_down = refl })
 
 -- how a call goes on behind a poll
-goes-steady : {B : Type 0} (g : Ghosts B) (number conn xid : ℕ) (call : Call) (ending : Ending) (ps : List Placed) (calls : List Rang) (out : List ℕ)
+goes-steady : {B : Type 0} (g : Origin B) (number conn xid : ℕ) (call : Call) (ending : Ending) (ps : List Placed) (calls : List Rang) (out : List ℕ)
     → GoesOn g number conn xid call ending ps calls out → IsSteady (events_by ps)
 goes-steady g number conn xid call (poll.Answered ran level told) [] calls out goes = none-steady
 goes-steady g number conn xid call (Dialed host port) (p ∷ []) calls out goes =
     more-steady p [] (subst IsSteady (sym goes.events) (record { no_up = refl; no_down = refl })) none-steady
 goes-steady g number conn xid call (Waited why) (p ∷ ps) calls out goes =
     let polled = goes.1 in
-    more-steady p ps (all-steady p.group.events (polled-neither g polled.polls.state conn (moment_at p polled.told) goes.0 p.group.events polled.polls.polled))
+    more-steady p ps (all-steady p.group.events (polled-neither g.bus polled.polls.core conn (moment_at p polled.told) goes.0 p.group.events p.group.steps polled.polls.polled))
     (goes-steady g number conn xid call goes.0 ps calls out goes.2)
 goes-steady g number conn xid call _ _ calls out goes = absurd goes
 
 -- a call of a core connection, from its coming to its answer
-pub called-steady : {B : Type 0} (g : Ghosts B) (number conn xid : ℕ) (call : Call) (ps : List Placed) (calls : List Rang) (out : List ℕ)
+pub called-steady : {B : Type 0} (g : Origin B) (number conn xid : ℕ) (call : Call) (ps : List Placed) (calls : List Rang) (out : List ℕ)
     → IsCalled g number conn xid call ps calls out → IsSteady (events_by ps)
 called-steady g number conn xid call ps calls out is = subst (λ qs. IsSteady (events_by qs)) (sym is.groups) here where
   here : IsSteady (events_by (is.first ∷ is.later))
@@ -76,7 +78,7 @@ called-steady g number conn xid call ps calls out is = subst (λ qs. IsSteady (e
       more-steady is.first is.later
       (subst IsSteady (sym is.comes.events)
       (front-steady (Arrive conn call (moment_at is.first is.told)) is.comes.part (record { no_up = refl; no_down = refl })
-      (all-steady is.comes.part (polled-neither g is.comes.come conn (moment_at is.first is.told) is.begun is.comes.part is.comes.polled))))
+      (all-steady is.comes.part (polled-neither g.bus is.comes.come conn (moment_at is.first is.told) is.begun is.comes.part is.comes.asked is.comes.polled))))
       (goes-steady g number conn xid call is.begun is.later calls out is.goes_on)
 
 -- a device_abort
@@ -86,7 +88,7 @@ aborted-steady conn xid lid ps calls out is =
     (more-steady is.group [] (subst IsSteady (sym is.events) (record { no_up = refl; no_down = refl })) none-steady)
 
 -- a message that was served
-pub served-steady : {B : Type 0} (g : Ghosts B) (number conn : ℕ) (m : Meaning) (ps : List Placed) (calls : List Rang) (out : List ℕ) → IsServed g number conn m ps calls out
+pub served-steady : {B : Type 0} (g : Origin B) (number conn : ℕ) (m : Meaning) (ps : List Placed) (calls : List Rang) (out : List ℕ) → IsServed g number conn m ps calls out
     → IsSteady (events_by ps)
 served-steady g number conn Junk ps calls out is = absurd is
 served-steady g number conn (meant.Answered message) ps calls out is = subst (λ qs. IsSteady (events_by qs)) (sym is.0) none-steady
@@ -94,7 +96,7 @@ served-steady g number conn (Asks xid call) ps calls out is = called-steady g nu
 served-steady g number conn (Aborts xid lid) ps calls out is = aborted-steady conn xid lid ps calls out is
 
 -- the messages of a session on a connection
-pub items-steady : {B : Type 0} (g : Ghosts B) (number conn : ℕ) (r : Role) (items : List Item) → All (Serves g number conn r) items → IsSteady (events_by (placed items))
+pub items-steady : {B : Type 0} (g : Origin B) (number conn : ℕ) (r : Role) (items : List Item) → All (Serves g number conn r) items → IsSteady (events_by (placed items))
 items-steady g number conn r [] all = none-steady
 items-steady g number conn r (i ∷ items) all =
     let one = All-head (Serves g number conn r) i items all in
@@ -131,17 +133,17 @@ one-made told pass pass' p events makes are = (
 )
 
 -- a connection came up by it
-pub joined-holds : JoinedLaw
-joined-holds pass pass' r conn j =
+pub joined-holds : {B : Type 0} (g : Origin B) → JoinedLaw g
+joined-holds g pass pass' r conn j =
     let made = one-made 0 pass pass' j.placed (Up conn r ∷ []) j.turns.makes j.events in (made.0, omega (arith, made.1))
 
 -- or was refused
-pub refused-holds : RefusedLaw
-refused-holds pass pass' r why j = let made = one-made 0 pass pass' j.placed [] j.turns.makes j.events in (omega (arith, made.0), omega (arith, made.1))
+pub refused-holds : {B : Type 0} (g : Origin B) → RefusedLaw g
+refused-holds g pass pass' r why j = let made = one-made 0 pass pass' j.placed [] j.turns.makes j.events in (omega (arith, made.0), omega (arith, made.1))
 
 -- or went
-pub left-holds : LeftLaw
-left-holds pass pass' conn l =
+pub left-holds : {B : Type 0} (g : Origin B) → LeftLaw g
+left-holds g pass pass' conn l =
     let made = one-made 0 pass pass' l.placed (Down conn ∷ []) l.turns.makes l.events in (omega (arith, made.0), made.1)
 
 -- the groups of a history that a pass made are its groups
@@ -172,10 +174,10 @@ ends-made told conn pass pass' ps last makes steady down =
     (omega (arith, up, more_up, steady.no_up), omega (arith, gone, more_down, steady.no_down))
 
 -- A connection came up, and then its groups were made to its end.
-pub came-and-went : (told conn : ℕ) (r : Role) (pass up pass' : PassView Group) (ps : List Placed) (last : Placed) → Joins pass r (Ok conn) up
+pub came-and-went : {B : Type 0} (g : Origin B) (told conn : ℕ) (r : Role) (pass up pass' : PassView Group) (ps : List Placed) (last : Placed) → Joins g pass r (Ok conn) up
     → Makes told up (ps ++ last ∷ []) pass' → IsSteady (events_by ps) → last.group.events ≡ Down conn ∷ [] → ComesAndGoes pass pass'
-came-and-went told conn r pass up pass' ps last joins makes steady down =
-    let first = joined-holds pass up r conn joins in
+came-and-went g told conn r pass up pass' ps last joins makes steady down =
+    let first = joined-holds g pass up r conn joins in
     let rest = ends-made told conn up pass' ps last makes steady down in
     record {
       even = omega (arith, first.0, first.1, rest.0, rest.1);
@@ -184,16 +186,16 @@ came-and-went told conn r pass up pass' ps last joins makes steady down =
     }
 
 -- One was refused.
-pub none-came : (r : Role) (why : Connect) (pass pass' : PassView Group) → Joins pass r (Err why) pass' → ComesAndGoes pass pass'
-none-came r why pass pass' joins =
-    let made = refused-holds pass pass' r why joins in
+pub none-came : {B : Type 0} (g : Origin B) (r : Role) (why : Connect) (pass pass' : PassView Group) → Joins g pass r (Err why) pass' → ComesAndGoes pass pass'
+none-came g r why pass pass' joins =
+    let made = refused-holds g pass pass' r why joins in
     record { even = omega (arith, made.0, made.1); most = omega (arith, made.0); alone = λ alone. makes-alone 0 pass pass' (joins.placed ∷ []) joins.turns.makes alone }
 
 -- One came up, and went again at once.
-pub came-undone : (conn : ℕ) (r : Role) (pass up pass' : PassView Group) → Joins pass r (Ok conn) up → Leaves up conn pass' → ComesAndGoes pass pass'
-came-undone conn r pass up pass' joins leaves =
-    let first = joined-holds pass up r conn joins in
-    let rest = left-holds up pass' conn leaves in
+pub came-undone : {B : Type 0} (g : Origin B) (conn : ℕ) (r : Role) (pass up pass' : PassView Group) → Joins g pass r (Ok conn) up → Leaves g up conn pass' → ComesAndGoes pass pass'
+came-undone g conn r pass up pass' joins leaves =
+    let first = joined-holds g pass up r conn joins in
+    let rest = left-holds g up pass' conn leaves in
     record {
       even = omega (arith, first.0, first.1, rest.0, rest.1);
       most = omega (arith, first.0, rest.0);
@@ -201,10 +203,10 @@ came-undone conn r pass up pass' joins leaves =
     }
 
 -- a link of one bus
-pub link-counts : {B L : Type 0} (g : Ghosts B) (stands : L → List ℕ → List ℕ → Type 0) (told : ℕ) (r : Role) (pass : PassView Group) (link : L) (seen : LinkShown) (dial : DialShown)
+pub link-counts : {B L : Type 0} (g : Origin B) (stands : L → List ℕ → List ℕ → Type 0) (told : ℕ) (r : Role) (pass : PassView Group) (link : L) (seen : LinkShown) (dial : DialShown)
     (how : Linked) (pass' : PassView Group) (link' : L) (seen' : LinkShown) (dial' : DialShown) → LinkDid g stands told r pass link seen dial how pass' link' seen' dial' → ComesAndGoes pass pass'
 link-counts g stands told r pass link seen dial (linked.Ended how) pass' link' seen' dial' had =
     let did = had.did in
-    came-and-went told had.conn r pass had.up pass' (placed did.items) did.last had.joins did.makes (items-steady g had.up.number had.conn r did.items did.each) did.down
-link-counts g stands told r pass link seen dial linked.Full pass' link' seen' dial' had = none-came r connect.Full pass pass' had.0
-link-counts g stands told r pass link seen dial linked.NoMemory pass' link' seen' dial' had = none-came r connect.NoMemory pass pass' had.0
+    came-and-went g told had.conn r pass had.up pass' (placed did.items) did.last had.joins did.makes (items-steady g had.up.number had.conn r did.items did.each) did.down
+link-counts g stands told r pass link seen dial linked.Full pass' link' seen' dial' had = none-came g r connect.Full pass pass' had.0
+link-counts g stands told r pass link seen dial linked.NoMemory pass' link' seen' dial' had = none-came g r connect.NoMemory pass pass' had.0
