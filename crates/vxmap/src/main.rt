@@ -2,6 +2,8 @@
 #![tactic(auto)]
 
 mod packets;
+#[cfg(test)]
+mod packets_tests;
 
 use crate::packets::UdpBox;
 use std::env::{self, Env};
