@@ -14,6 +14,8 @@ mod bus_tests;
 #[cfg(test)]
 mod ctrl_tests;
 #[cfg(test)]
+mod drop_tests;
+#[cfg(test)]
 mod inst_tests;
 #[cfg(test)]
 mod plan_tests;
