@@ -4,7 +4,8 @@ ghost use Rattle.std.specs.Prelude.{◌≡◌, ◌≤◌, ◌<◌, ◌+◌, Some
 ghost use Rattle.vx_io_traits.specs.Faults.{one_more};
 ghost use Rattle.vx_io_traits.specs.Rung.{is_up};
 ghost use Rattle.vx_portmap.specs.Boxes.{Takes, Adds};
-ghost use Rattle.vx_test_bytes.specs.Kept.{kept, moved_of, given_among};
+ghost use Rattle.vx_portmap.specs.Moves.{all_taken, all_given};
+ghost use Rattle.vx_test_bytes.specs.Kept.{kept, kept_move, moved_of, given_among};
 
 use std::alloc::Global;
 use vx_io_traits::DialOut;
@@ -122,7 +123,7 @@ impl MemPackets {
         ensures packets { self.new.packets ≡ self.old.packets }
         ensures at { self.new.at ≡ self.old.at }
         ensures moved { Adds (Some (map (λ m. moved_of m.is_given m.packet.items) self.old.moved.items))
-            (Some (map (λ m. moved_of m.is_given m.packet.items) self.new.moved.items)) (kept result (moved_of is_given packet.now)) }
+            (Some (map (λ m. moved_of m.is_given m.packet.items) self.new.moved.items)) (kept_move result (moved_of is_given packet.now)) }
         ensures ended { self.new.ended ≡ self.old.ended }
         ensures take_faults { self.new.take_faults ≡ self.old.take_faults }
         ensures give_faults { self.new.give_faults ≡ self.old.give_faults }
@@ -133,19 +134,34 @@ impl MemPackets {
         }
     }
 
-    /// The same. What it was given is behind what it was given before.
-    fn keep(&mut self, is_given: bool, packet: &[u8]) -> bool
+    /// Keeps a packet that was taken.
+    fn keep_taken(&mut self, packet: &[u8]) -> bool
         ensures packets { self.new.packets ≡ self.old.packets }
         ensures at { self.new.at ≡ self.old.at }
         ensures moved { Adds (Some (map (λ m. moved_of m.is_given m.packet.items) self.old.moved.items))
-            (Some (map (λ m. moved_of m.is_given m.packet.items) self.new.moved.items)) (kept result (moved_of is_given packet.now)) }
+            (Some (map (λ m. moved_of m.is_given m.packet.items) self.new.moved.items)) (all_taken (kept result packet.now)) }
         ensures given { Adds (Some (given_among (map (λ m. moved_of m.is_given m.packet.items) self.old.moved.items)))
-            (Some (given_among (map (λ m. moved_of m.is_given m.packet.items) self.new.moved.items))) (given_among (kept result (moved_of is_given packet.now))) }
+            (Some (given_among (map (λ m. moved_of m.is_given m.packet.items) self.new.moved.items))) [] }
         ensures ended { self.new.ended ≡ self.old.ended }
         ensures take_faults { self.new.take_faults ≡ self.old.take_faults }
         ensures give_faults { self.new.give_faults ≡ self.old.give_faults }
     {
-        self.put(is_given, packet)
+        self.put(false, packet)
+    }
+
+    /// Keeps a packet that was given.
+    fn keep_given(&mut self, packet: &[u8]) -> bool
+        ensures packets { self.new.packets ≡ self.old.packets }
+        ensures at { self.new.at ≡ self.old.at }
+        ensures moved { Adds (Some (map (λ m. moved_of m.is_given m.packet.items) self.old.moved.items))
+            (Some (map (λ m. moved_of m.is_given m.packet.items) self.new.moved.items)) (all_given (kept result packet.now)) }
+        ensures given { Adds (Some (given_among (map (λ m. moved_of m.is_given m.packet.items) self.old.moved.items)))
+            (Some (given_among (map (λ m. moved_of m.is_given m.packet.items) self.new.moved.items))) (kept result packet.now) }
+        ensures ended { self.new.ended ≡ self.old.ended }
+        ensures take_faults { self.new.take_faults ≡ self.old.take_faults }
+        ensures give_faults { self.new.give_faults ≡ self.old.give_faults }
+    {
+        self.put(true, packet)
     }
 }
 
@@ -172,7 +188,7 @@ impl Packets for MemPackets {
             return Packet::Ended;
         }
         let len = copy_at(&self.packets, self.at, into);
-        if !self.keep(false, &into[..len]) {
+        if !self.keep_taken(&into[..len]) {
             self.take_faults = self.take_faults.saturating_add(1);
             return Packet::Failed;
         }
@@ -181,7 +197,7 @@ impl Packets for MemPackets {
     }
 
     fn give(&mut self, from: &[u8]) -> Given {
-        if !self.fails_now() && self.keep(true, from) {
+        if !self.fails_now() && self.keep_given(from) {
             return Given::Sent;
         }
         self.give_faults = self.give_faults.saturating_add(1);
