@@ -1,5 +1,5 @@
 -- How a session comes to its end: its stream was served, and then its connection goes.
-use Rattle.std.proofs.Common.{◌≡◌, ℕ, List, [], ◌∷◌, Some, Result, Err, refl, sym, ap, ◌∙◌, subst, arith}
+use Rattle.std.proofs.Common.{◌≡◌, ℕ, List, [], ◌∷◌, ◌++◌, Some, Result, Err, refl, sym, ap, ◌∙◌, subst, arith}
 use Rattle.std.proofs.lemmas.Option.{same_Some}
 use Rattle.vx_calls.specs.declared.calls.Role.{Role}
 use Rattle.vx_calls.specs.declared.limits.TheConstants.{RECORD_MAX}
@@ -15,6 +15,7 @@ use Rattle.vx_tables.specs.declared.tables.Connect.{Connect}
 use Rattle.vx_tables.specs.declared.tables.Connect.TheVariants as connect
 use Rattle.vx_stream.specs.Shown.{LinkShown}
 use Rattle.vx_stream.specs.Answered.{replies}
+use Rattle.vx_stream.specs.Calling.{Receives, Sends, InTurn}
 use Rattle.vx_stream.specs.Stopping.{EndsSo}
 use Rattle.vx_stream.specs.declared.ends.End.{End}
 use Rattle.vx_session.specs.Placing.{Makes, IsHistory}
@@ -36,10 +37,10 @@ upholds g headline owned pass h = record {
 }
 
 -- the records of a stream were served, and then the connection went
-pub session-did : {B L : Type 0} (g : Origin B) (stands : L → List ℕ → List ℕ → Type 0) → HeadlineOfGroupsLaw → OwnedLaw → (s s' : SessionState) (pass mid pass' : PassView Group)
-    (link link' : L) (seen seen' : LinkShown) (how : End) (told : ℕ) (dial : DialShown) → StreamServed g stands s pass link seen how s' link' seen' → s'.pass ≡ Some mid
-    → s'.told ≡ told → s'.dial ≡ dial → Leaves g mid s.conn pass' → SessionDid g stands told s.role s.conn pass link seen s.dial how pass' link' seen' dial
-session-did g stands headline owned s s' pass mid pass' link link' seen seen' how told dial did has told_is dial_is leaves =
+pub session-did : {B L : Type 0} (g : Origin B) (stands : L → List ℕ → List ℕ → Type 0) (receives : Receives L) (sends : Sends L) → HeadlineOfGroupsLaw → OwnedLaw → (s s' : SessionState) (pass mid pass' : PassView Group)
+    (link link' : L) (seen seen' : LinkShown) (how : End) (told : ℕ) (dial : DialShown) → StreamServed g stands receives sends s pass link seen how s' link' seen' → s'.pass ≡ Some mid
+    → s'.told ≡ told → s'.dial ≡ dial → Leaves g mid s.conn pass' → SessionDid g stands receives sends told s.role s.conn pass link seen s.dial how pass' link' seen' dial
+session-did g stands receives sends headline owned s s' pass mid pass' link link' seen seen' how told dial did has told_is dial_is leaves =
     let last = leaves.placed in
     let all = did.serves in
     record {
@@ -59,17 +60,19 @@ session-did g stands headline owned s s' pass mid pass' link link' seen seen' ho
       bytes = did.bytes;
       goes = did.goes;
       wrote = ap replies all.are ∙ did.wrote;
+      near = did.near;
+      in_turn = subst (λ list. InTurn receives sends RECORD_MAX list link (did.front ++ did.behind) did.written link') (sym all.are) did.in_turn;
       ended = subst (λ list. EndsSo (λ message. meaning message s.role ≡ Junk) seen list (records RECORD_MAX did.front) did.behind did.unsent seen' (Some how)) (sym all.are) did.ended;
       rings = subst (λ d. Rings s.dial (placed all.items) (calls all.items) d) dial_is all.rings;
       upholds = upholds g headline owned pass' leaves.turns.history;
     }
 
 -- a connection was refused, and its link is told so
-pub link-refused : {B L : Type 0} (g : Origin B) (stands : L → List ℕ → List ℕ → Type 0) → HeadlineOfGroupsLaw → OwnedLaw → (told : ℕ) (r : Role) (pass pass' : PassView Group)
+pub link-refused : {B L : Type 0} (g : Origin B) (stands : L → List ℕ → List ℕ → Type 0) (receives : Receives L) (sends : Sends L) → HeadlineOfGroupsLaw → OwnedLaw → (told : ℕ) (r : Role) (pass pass' : PassView Group)
     (link : L) (seen : LinkShown) (dial : DialShown) (answer : Result ℕ Connect) (why : Connect) (how : Linked) → answer ≡ Err why → how ≡ refused_as why → Joins g pass r answer pass'
-    → LinkDid g stands told r pass link seen dial how pass' link seen dial
-link-refused g stands headline owned told r pass pass' link seen dial answer why how is how_is joins =
-    subst (λ h. LinkDid g stands told r pass link seen dial h pass' link seen dial) (sym how_is) (by why (subst (λ a. Joins g pass r a pass') is joins)) where
-      by : (c : Connect) → Joins g pass r (Err c) pass' → LinkDid g stands told r pass link seen dial (refused_as c) pass' link seen dial
+    → LinkDid g stands receives sends told r pass link seen dial how pass' link seen dial
+link-refused g stands receives sends headline owned told r pass pass' link seen dial answer why how is how_is joins =
+    subst (λ h. LinkDid g stands receives sends told r pass link seen dial h pass' link seen dial) (sym how_is) (by why (subst (λ a. Joins g pass r a pass') is joins)) where
+      by : (c : Connect) → Joins g pass r (Err c) pass' → LinkDid g stands receives sends told r pass link seen dial (refused_as c) pass' link seen dial
       by connect.Full refused = (refused, refl, refl, upholds g headline owned pass' refused.turns.history)
       by connect.NoMemory refused = (refused, refl, refl, upholds g headline owned pass' refused.turns.history)

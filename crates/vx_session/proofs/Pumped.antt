@@ -14,7 +14,8 @@ use Rattle.vx_session.specs.Placing.{Placed, Makes}
 use Rattle.vx_session.specs.Origin.{Origin}
 use Rattle.vx_session.specs.Turning.{TakesTurn}
 use Rattle.vx_stream.specs.Shown.{LinkShown, LinkGoes}
-use Rattle.vx_stream.specs.ProvedLaws.{link-none, link-goes}
+use Rattle.vx_stream.specs.ProvedLaws.{link-none, link-goes, took-none, took-then}
+use Rattle.vx_stream.specs.Calling.{Receives, Sends, OnlyTook}
 use Rattle.vx_stream.specs.Sending.{IsSent, SendsAll}
 use Rattle.vx_session.specs.ProvedLaws.{makes-none, makes-goes}
 use Rattle.vx_session.specs.Pumping.{Taking, IsTaking, given_record, taken_records, HaveLived, Pumps}
@@ -36,7 +37,7 @@ makes-more pass pass' pass'' turns t before turn =
 
 -- So far the pump made these turns, found the channel in each, and the link took the records of the interrupts that they were
 -- given.
-pub record Pumped {L : Type 0} (stands : L → List ℕ → List ℕ → Type 0) (pass : PassView Group) (conn chan : ℕ) (link : L) (seen : LinkShown) (pass' : PassView Group) (link' : L)
+pub record Pumped {L : Type 0} (stands : L → List ℕ → List ℕ → Type 0) (receives : Receives L) (sends : Sends L) (pass : PassView Group) (conn chan : ℕ) (link : L) (seen : LinkShown) (pass' : PassView Group) (link' : L)
     (seen' : LinkShown) : Type 0 where
   pub turns : List Taking
   pub written : List ℕ
@@ -45,11 +46,12 @@ pub record Pumped {L : Type 0} (stands : L → List ℕ → List ℕ → Type 0)
   pub lived : HaveLived turns
   pub bytes : Goes stands link link' written []
   pub goes : LinkGoes seen [] seen'
+  pub calls : OnlyTook receives sends link written link'
   pub wrote : taken_records turns ≡ written
 
-module _ {B L : Type 0} (g : Origin B) (stands : L → List ℕ → List ℕ → Type 0) (pass : PassView Group) (conn chan : ℕ) (link : L) (seen : LinkShown) where
+module _ {B L : Type 0} (g : Origin B) (stands : L → List ℕ → List ℕ → Type 0) (receives : Receives L) (sends : Sends L) (pass : PassView Group) (conn chan : ℕ) (link : L) (seen : LinkShown) where
   -- before its first turn
-  pub pumped-none : Pumped stands pass conn chan link seen pass link seen
+  pub pumped-none : Pumped stands receives sends pass conn chan link seen pass link seen
   pumped-none = record {
     turns = [];
     written = [];
@@ -58,12 +60,13 @@ module _ {B L : Type 0} (g : Origin B) (stands : L → List ℕ → List ℕ →
     lived = All-nil (λ t. t.given ≢ Gone);
     bytes = Goes-none stands link;
     goes = link-none seen;
+    calls = took-none receives sends link;
     wrote = refl;
   }
 
   -- one more turn, whose outbox was empty
-  pub pumped-empty : (given : Given) (pass' pass'' : PassView Group) (link' : L) (seen' : LinkShown) → Pumped stands pass conn chan link seen pass' link' seen'
-      → TakesTurn g pass' conn chan given pass'' → given ≡ Empty → Pumped stands pass conn chan link seen pass'' link' seen'
+  pub pumped-empty : (given : Given) (pass' pass'' : PassView Group) (link' : L) (seen' : LinkShown) → Pumped stands receives sends pass conn chan link seen pass' link' seen'
+      → TakesTurn g pass' conn chan given pass'' → given ≡ Empty → Pumped stands receives sends pass conn chan link seen pass'' link' seen'
   pumped-empty given pass' pass'' link' seen' so_far turn is_empty =
       let t : Taking = record { placed = turn.placed; given = given } in
       record {
@@ -74,6 +77,7 @@ module _ {B L : Type 0} (g : Origin B) (stands : L → List ℕ → List ℕ →
         lived = All-push (λ u. u.given ≢ Gone) so_far.turns t so_far.lived (λ e. cc);
         bytes = so_far.bytes;
         goes = so_far.goes;
+        calls = so_far.calls;
         wrote = records-more so_far.turns t
             ∙ ap (λ xs. taken_records so_far.turns ++ xs) (ap given_record is_empty)
             ∙ append-nil (taken_records so_far.turns)
@@ -82,29 +86,30 @@ module _ {B L : Type 0} (g : Origin B) (stands : L → List ℕ → List ℕ →
 
   -- one more turn, that was given an interrupt, and all of its record was sent
   pub pumped-sent : (given : Given) (srq : Srq) (record_sent : List ℕ) (all : Bool) (pass' pass'' : PassView Group) (link' link'' : L) (seen' seen'' : LinkShown)
-      → Pumped stands pass conn chan link seen pass' link' seen' → TakesTurn g pass' conn chan given pass'' → given ≡ Front srq
-      → SendsAll stands link' seen' record_sent all link'' seen'' → record_sent ≡ srq_record srq → all ≡ true
-      → Pumped stands pass conn chan link seen pass'' link'' seen''
-  pumped-sent given srq record_sent all pass' pass'' link' link'' seen' seen'' so_far turn is_front sends is_record is_all =
+      → Pumped stands receives sends pass conn chan link seen pass' link' seen' → TakesTurn g pass' conn chan given pass'' → given ≡ Front srq
+      → SendsAll stands receives sends link' seen' record_sent all link'' seen'' → record_sent ≡ srq_record srq → all ≡ true
+      → Pumped stands receives sends pass conn chan link seen pass'' link'' seen''
+  pumped-sent given srq record_sent all pass' pass'' link' link'' seen' seen'' so_far turn is_front sent is_record is_all =
       let t : Taking = record { placed = turn.placed; given = given } in
-      let none_left : IsSent seen' sends.unsent seen'' true = subst (λ a. IsSent seen' sends.unsent seen'' a) is_all sends.is_sent in
+      let none_left : IsSent seen' sent.unsent seen'' true = subst (λ a. IsSent seen' sent.unsent seen'' a) is_all sent.is_sent in
       record {
         turns = so_far.turns ++ t ∷ [];
-        written = so_far.written ++ sends.sent;
+        written = so_far.written ++ sent.sent;
         makes = makes-more pass pass' pass'' so_far.turns t so_far.makes turn.turns.makes;
         each = All-push (IsTaking conn chan) so_far.turns t so_far.each (turn.taken, turn.steps);
         lived = All-push (λ u. u.given ≢ Gone) so_far.turns t so_far.lived (λ e. cc);
-        bytes = Goes-goes stands link link' link'' so_far.written [] sends.sent [] so_far.bytes sends.took;
-        goes = link-goes seen seen' seen'' [] [] so_far.goes sends.goes;
+        bytes = Goes-goes stands link link' link'' so_far.written [] sent.sent [] so_far.bytes sent.took;
+        goes = link-goes seen seen' seen'' [] [] so_far.goes sent.goes;
+        calls = took-then receives sends link link' link'' so_far.written sent.sent so_far.calls sent.calls;
         wrote = records-more so_far.turns t
             ∙ ap (λ xs. xs ++ given_record given) so_far.wrote
             ∙ ap (λ xs. so_far.written ++ xs)
-            (ap given_record is_front ∙ sym is_record ∙ sends.cut ∙ ap (λ ys. sends.sent ++ ys) none_left ∙ append-nil sends.sent);
+            (ap given_record is_front ∙ sym is_record ∙ sent.cut ∙ ap (λ ys. sent.sent ++ ys) none_left ∙ append-nil sent.sent);
       }
 
   -- its last turn found the channel gone
-  pub pumped-gone : (given : Given) (pass' pass'' : PassView Group) (link' : L) (seen' : LinkShown) → Pumped stands pass conn chan link seen pass' link' seen'
-      → TakesTurn g pass' conn chan given pass'' → given ≡ Gone → Pumps g stands pass conn chan link seen end.ChannelGone pass'' link' seen'
+  pub pumped-gone : (given : Given) (pass' pass'' : PassView Group) (link' : L) (seen' : LinkShown) → Pumped stands receives sends pass conn chan link seen pass' link' seen'
+      → TakesTurn g pass' conn chan given pass'' → given ≡ Gone → Pumps g stands receives sends pass conn chan link seen end.ChannelGone pass'' link' seen'
   pumped-gone given pass' pass'' link' seen' so_far turn is_gone =
       let t : Taking = record { placed = turn.placed; given = given } in
       record {
@@ -118,6 +123,7 @@ module _ {B L : Type 0} (g : Origin B) (stands : L → List ℕ → List ℕ →
         lived = so_far.lived;
         bytes = so_far.bytes;
         goes = so_far.goes;
+        calls = so_far.calls;
         wrote = records-more so_far.turns t
             ∙ ap (λ xs. xs ++ given_record given) so_far.wrote
             ∙ ap (λ xs. so_far.written ++ xs) (ap given_record is_gone);
@@ -126,30 +132,31 @@ module _ {B L : Type 0} (g : Origin B) (stands : L → List ℕ → List ℕ →
 
   -- its last turn was given an interrupt, and a send of the record failed
   pub pumped-fails : (given : Given) (srq : Srq) (record_sent : List ℕ) (all : Bool) (pass' pass'' : PassView Group) (link' link'' : L) (seen' seen'' : LinkShown)
-      → Pumped stands pass conn chan link seen pass' link' seen' → TakesTurn g pass' conn chan given pass'' → given ≡ Front srq
-      → SendsAll stands link' seen' record_sent all link'' seen'' → record_sent ≡ srq_record srq → all ≡ false
-      → Pumps g stands pass conn chan link seen end.WriteFault pass'' link'' seen''
-  pumped-fails given srq record_sent all pass' pass'' link' link'' seen' seen'' so_far turn is_front sends is_record is_cut =
+      → Pumped stands receives sends pass conn chan link seen pass' link' seen' → TakesTurn g pass' conn chan given pass'' → given ≡ Front srq
+      → SendsAll stands receives sends link' seen' record_sent all link'' seen'' → record_sent ≡ srq_record srq → all ≡ false
+      → Pumps g stands receives sends pass conn chan link seen end.WriteFault pass'' link'' seen''
+  pumped-fails given srq record_sent all pass' pass'' link' link'' seen' seen'' so_far turn is_front sent is_record is_cut =
       let t : Taking = record { placed = turn.placed; given = given } in
-      let some_left : IsSent seen' sends.unsent seen'' false = subst (λ a. IsSent seen' sends.unsent seen'' a) is_cut sends.is_sent in
-      let cut : given_record given ≡ sends.sent ++ sends.unsent = ap given_record is_front ∙ sym is_record ∙ sends.cut in
+      let some_left : IsSent seen' sent.unsent seen'' false = subst (λ a. IsSent seen' sent.unsent seen'' a) is_cut sent.is_sent in
+      let cut : given_record given ≡ sent.sent ++ sent.unsent = ap given_record is_front ∙ sym is_record ∙ sent.cut in
       let earlier : seen.send_faults ≤ seen'.send_faults = so_far.goes.sends in
       let rose : Rose seen'.send_faults seen''.send_faults = some_left.1 in
       let risen : Rose seen.send_faults seen''.send_faults = omega arith in
       record {
         earlier = so_far.turns;
         last = t;
-        written = so_far.written ++ sends.sent;
-        unsent = sends.unsent;
+        written = so_far.written ++ sent.sent;
+        unsent = sent.unsent;
         makes = makes-more pass pass' pass'' so_far.turns t so_far.makes turn.turns.makes;
         history = turn.turns.history;
         each = All-push (IsTaking conn chan) so_far.turns t so_far.each (turn.taken, turn.steps);
         lived = so_far.lived;
-        bytes = Goes-goes stands link link' link'' so_far.written [] sends.sent [] so_far.bytes sends.took;
-        goes = link-goes seen seen' seen'' [] [] so_far.goes sends.goes;
+        bytes = Goes-goes stands link link' link'' so_far.written [] sent.sent [] so_far.bytes sent.took;
+        goes = link-goes seen seen' seen'' [] [] so_far.goes sent.goes;
+        calls = took-then receives sends link link' link'' so_far.written sent.sent so_far.calls sent.calls;
         wrote = records-more so_far.turns t
             ∙ ap (λ xs. xs ++ given_record given) so_far.wrote
             ∙ ap (λ xs. so_far.written ++ xs) cut
-            ∙ sym (append_assoc so_far.written sends.sent sends.unsent);
-        ends = (sends.sent, cut, some_left.0, risen);
+            ∙ sym (append_assoc so_far.written sent.sent sent.unsent);
+        ends = (sent.sent, cut, some_left.0, risen);
       }

@@ -1,6 +1,6 @@
 -- To be believed.
 -- What a whole session did.
-use Rattle.std.specs.Prelude.{◌≡◌, ℕ, List, [], ◌∷◌, ◌++◌, Some}
+use Rattle.std.specs.Prelude.{◌≡◌, ◌<◌, ℕ, List, [], ◌∷◌, ◌++◌, length, Some}
 use Rattle.std.specs.List.{All}
 use Rattle.vx_io_traits.specs.Stands.{Goes}
 use Rattle.vx_calls.specs.declared.calls.Role.{Role}
@@ -15,6 +15,7 @@ use Rattle.vx_group.specs.Headline.{Headline}
 use Rattle.vx_group.specs.Groups.{Group, events_of}
 use Rattle.vx_group.specs.Owning.{Owned}
 use Rattle.vx_stream.specs.Answered.{replies}
+use Rattle.vx_stream.specs.Calling.{Receives, Sends, InTurn}
 use Rattle.vx_stream.specs.Stopping.{EndsSo}
 use Rattle.vx_stream.specs.declared.ends.End.{End}
 use Rattle.vx_session.specs.Origin.{Origin}
@@ -23,6 +24,7 @@ use Rattle.vx_stream.specs.Shown.{LinkShown, LinkGoes}
 use Rattle.vx_session.specs.Outside.{DialShown}
 use Rattle.vx_session.specs.Serving.{Item, Serves}
 use Rattle.vx_session.specs.Progress.{Rings, answered, placed, calls}
+use Rattle.vx_session.specs.declared.sessions.TheConstants.{PIECE}
 
 -- All that is claimed of the history that the pass has seen: the first core became by it another, whose bus is the one that the
 -- first one's bus became by all steps of the history, in order; its events gather to a legal history of one gateway of one thread,
@@ -33,9 +35,9 @@ pub record Upholds {B : Type 0} (g : Origin B) (pass : PassView Group) : Type 0 
   pub owned : Owned pass.seen
 
 -- A session on a connection of this role: the records that it served, in their order; the bytes `front` that it looked at, and
--- those that it received behind them; the replies, of which the link took `written`; and the end of the connection, its last
--- group. What it received and what the link took are each in order; which of the two came first isn't said.
-pub record SessionDid {B L : Type 0} (g : Origin B) (stands : L → List ℕ → List ℕ → Type 0) (told : ℕ) (r : Role) (conn : ℕ) (pass : PassView Group) (link : L) (seen : LinkShown) (dial : DialShown)
+-- those that it received behind them, fewer than it receives at once; the replies, of which the link took `written`; and the end of
+-- the connection, its last group. It received more only where it had written the replies to all records that had come, whole.
+pub record SessionDid {B L : Type 0} (g : Origin B) (stands : L → List ℕ → List ℕ → Type 0) (receives : Receives L) (sends : Sends L) (told : ℕ) (r : Role) (conn : ℕ) (pass : PassView Group) (link : L) (seen : LinkShown) (dial : DialShown)
     (how : End) (pass' : PassView Group) (link' : L) (seen' : LinkShown) (dial' : DialShown) : Type 0 where
   pub items : List Item
   pub last : Placed
@@ -52,6 +54,8 @@ pub record SessionDid {B L : Type 0} (g : Origin B) (stands : L → List ℕ →
   pub bytes : Goes stands link link' written (front ++ behind)
   pub goes : LinkGoes seen (front ++ behind) seen'
   pub wrote : replies (answered items) ≡ written ++ unsent
+  pub near : length behind < PIECE
+  pub in_turn : InTurn receives sends RECORD_MAX (answered items) link (front ++ behind) written link'
   -- why it ended: a message without a reply is junk
   pub ended : EndsSo (λ message. meaning message r ≡ Junk) seen (answered items) (records RECORD_MAX front) behind unsent seen' (Some how)
   -- the dial's calls

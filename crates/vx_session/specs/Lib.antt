@@ -38,6 +38,7 @@ pub use Rattle.vx_core.specs.CoreState
 pub use Rattle.vx_io_traits.specs.Rung
 pub use Rattle.vx_record.specs.Records
 pub use Rattle.vx_stream.specs.Answered
+pub use Rattle.vx_stream.specs.Calling
 pub use Rattle.vx_stream.specs.Stopping
 pub use Rattle.vx_group.specs.Event
 pub use Rattle.vx_group.specs.Headline

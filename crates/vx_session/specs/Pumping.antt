@@ -12,6 +12,7 @@ use Rattle.vx_session.specs.Placing.{Placed, Makes, IsHistory}
 use Rattle.vx_session.specs.Origin.{Origin}
 use Rattle.vx_session.specs.Turning.{Samples, TakesFrom, taken_steps}
 use Rattle.vx_stream.specs.Shown.{LinkShown, LinkGoes}
+use Rattle.vx_stream.specs.Calling.{Receives, Sends, OnlyTook}
 use Rattle.vx_session.specs.declared.pumps.PumpEnd.{PumpEnd}
 use Rattle.vx_session.specs.declared.pumps.PumpEnd.TheVariants as end
 
@@ -47,8 +48,8 @@ PumpEnds seen earlier last unsent seen' end.WriteFault =
     (sent : List ℕ) × (given_record last.given ≡ sent ++ unsent) × (0 < length unsent) × Rose seen.send_faults seen'.send_faults
 
 -- A pump made these turns, one after the other, and wrote the records of the interrupts that it took, in order, each once; the
--- link took `written` of them. What its pass has seen then is a gateway's history.
-pub record Pumps {B L : Type 0} (g : Origin B) (stands : L → List ℕ → List ℕ → Type 0) (pass : PassView Group) (conn chan : ℕ) (link : L) (seen : LinkShown) (how : PumpEnd)
+-- link took `written` of them, and was asked for nothing. What its pass has seen then is a gateway's history.
+pub record Pumps {B L : Type 0} (g : Origin B) (stands : L → List ℕ → List ℕ → Type 0) (receives : Receives L) (sends : Sends L) (pass : PassView Group) (conn chan : ℕ) (link : L) (seen : LinkShown) (how : PumpEnd)
     (pass' : PassView Group) (link' : L) (seen' : LinkShown) : Type 0 where
   pub earlier : List Taking
   pub last : Taking
@@ -60,6 +61,7 @@ pub record Pumps {B L : Type 0} (g : Origin B) (stands : L → List ℕ → List
   pub lived : HaveLived earlier
   pub bytes : Goes stands link link' written []
   pub goes : LinkGoes seen [] seen'
+  pub calls : OnlyTook receives sends link written link'
   pub wrote : taken_records (earlier ++ last ∷ []) ≡ written ++ unsent
   pub ends : PumpEnds seen earlier last unsent seen' how
 

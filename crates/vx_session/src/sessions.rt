@@ -1,5 +1,6 @@
 //! The session of one connection.
 ghost use Rattle.std.specs.Prelude.{◌≡◌, ◌≤◌, None, Some};
+ghost use Rattle.vx_session.specs.Origin.{origin};
 ghost use Rattle.vx_calls.specs.declared.limits.TheConstants.{RECORD_MAX};
 ghost use Rattle.vx_calls.specs.declared.calls.Role.TheVariants as role;
 ghost use Rattle.vx_group.specs.Phases.{Idle};
@@ -9,9 +10,9 @@ ghost use Rattle.vx_exchange.specs.declared.record.TheConstants.{REPLY_ROOM};
 ghost use Rattle.vx_stream.specs.Shown.{link_shown};
 ghost use Rattle.vx_stream.specs.Stopping.{StreamAnswered};
 ghost use Rattle.vx_session.specs.Outside.{dial_shown, no_dial};
+ghost use Rattle.vx_session.specs.declared.sessions.TheConstants.{PIECE};
 ghost use Rattle.vx_session.specs.Ending.{SessionDid};
 
-ghost use Rattle.vx_session.specs.Origin.{origin};
 use crate::answering::Answering;
 use crate::still::Still;
 use crate::turns::leave;
@@ -88,7 +89,7 @@ impl Room {
         requires can { S.can server }
         requires longest { RECORD_MAX ≤ S.longest }
         requires room { S.room ≤ REPLY_ROOM }
-        ensures answers { StreamAnswered S.does L.stands RECORD_MAX None server link.old (link_shown L.left L.peers L.receive_faults L.send_faults link.old)
+        ensures answers { StreamAnswered S.does L.stands L.receives L.sends RECORD_MAX PIECE None server link.old (link_shown L.left L.peers L.receive_faults L.send_faults link.old)
             (Some result.1) result.0 link.new (link_shown L.left L.peers L.receive_faults L.send_faults link.new) }
         ensures went { Went L.receives L.sends link.old link.new }
         ensures can { S.can result.0 }
@@ -125,7 +126,7 @@ fn run_session<R: Wait, B: Bus, T: Turns<Core<B>>, L: Link, C: Clock, P: Pause, 
 ) -> (Pass<Core<B>>, End)
     requires gate { pass.gate ≡ T.gate turns.now }
     requires phase { phase_at pass conn ≡ Idle role }
-    ensures did { SessionDid (origin B.Bus (T.first turns.now)) L.stands (C.told clock.new) role conn pass link.old (link_shown L.left L.peers L.receive_faults L.send_faults link.old) (dial_shown D.calls D.faults dial.old)
+    ensures did { SessionDid (origin B.Bus (T.first turns.now)) L.stands L.receives L.sends (C.told clock.new) role conn pass link.old (link_shown L.left L.peers L.receive_faults L.send_faults link.old) (dial_shown D.calls D.faults dial.old)
         result.1 result.0 link.new (link_shown L.left L.peers L.receive_faults L.send_faults link.new) (dial_shown D.calls D.faults dial.new) }
     ensures told { C.told clock.old ≤ C.told clock.new }
 {
@@ -162,7 +163,7 @@ pub fn core_session<R: Wait, B: Bus, T: Turns<Core<B>>, L: Link, C: Clock, P: Pa
 ) -> (Pass<Core<B>>, End)
     requires gate { pass.gate ≡ T.gate turns.now }
     requires phase { phase_at pass conn ≡ Idle role.Core }
-    ensures did { SessionDid (origin B.Bus (T.first turns.now)) L.stands (C.told clock.new) role.Core conn pass link.old (link_shown L.left L.peers L.receive_faults L.send_faults link.old) (dial_shown D.calls D.faults dial.old)
+    ensures did { SessionDid (origin B.Bus (T.first turns.now)) L.stands L.receives L.sends (C.told clock.new) role.Core conn pass link.old (link_shown L.left L.peers L.receive_faults L.send_faults link.old) (dial_shown D.calls D.faults dial.old)
         result.1 result.0 link.new (link_shown L.left L.peers L.receive_faults L.send_faults link.new) (dial_shown D.calls D.faults dial.new) }
     ensures told { C.told clock.old ≤ C.told clock.new }
 {
@@ -191,7 +192,7 @@ pub fn abort_session<R: Wait, B: Bus, T: Turns<Core<B>>, L: Link>(
 ) -> (Pass<Core<B>>, End)
     requires gate { pass.gate ≡ T.gate turns.now }
     requires phase { phase_at pass conn ≡ Idle role.Abort }
-    ensures did { SessionDid (origin B.Bus (T.first turns.now)) L.stands 0 role.Abort conn pass link.old (link_shown L.left L.peers L.receive_faults L.send_faults link.old) no_dial
+    ensures did { SessionDid (origin B.Bus (T.first turns.now)) L.stands L.receives L.sends 0 role.Abort conn pass link.old (link_shown L.left L.peers L.receive_faults L.send_faults link.old) no_dial
         result.1 result.0 link.new (link_shown L.left L.peers L.receive_faults L.send_faults link.new) no_dial }
 {
     run_session(
