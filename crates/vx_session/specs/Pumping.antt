@@ -65,9 +65,10 @@ pub record Pumps {B L : Type 0} (g : Origin B) (stands : L → List ℕ → List
   pub wrote : taken_records (earlier ++ last ∷ []) ≡ written ++ unsent
   pub ends : PumpEnds seen earlier last unsent seen' how
 
--- A turn looked at the SRQ line, at a moment that was told; `before` and `after` are the greatest moments that the clock had told
--- before and behind it. Where the clock told a later one than before, that was it.
-pub record SamplesNow {B : Type 0} (g : Origin B) (before after : ℕ) (pass : PassView Group) (pass' : PassView Group) : Type 0 where
+-- A turn looked at the SRQ line, at the moment that the clock told in it, by one call. `greatest` is the greatest moment that a clock
+-- has told, and `tells` is what one call of it does.
+pub record SamplesNow {B C : Type 0} (g : Origin B) (greatest : C → ℕ) (tells : C → ℕ → C → Type 0) (clock : C) (pass : PassView Group) (pass' : PassView Group) (clock' : C) : Type 0 where
   pub told : ℕ
-  pub tells : after ≡ max before told
+  pub asked : tells clock told clock'
+  pub rises : greatest clock' ≡ max (greatest clock) told
   pub samples : Samples g told pass pass'
