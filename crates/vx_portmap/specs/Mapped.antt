@@ -15,7 +15,7 @@ use Rattle.vx_portmap.specs.Streaming.{StreamDid}
 pub record StreamMapped {N : Type 0} (stands : N → List ℕ → List ℕ → Type 0) (receives : N → List ℕ → ReadOut → List ℕ → N → Type 0) (sends : N → List ℕ → WriteOut → N → Type 0)
     (shown : N → LinkShown) (ports : List Mapping) (door : N) (how : MapEnd) (ports' : List Mapping) (door' : N) : Type 0 where
   pub table : ports' ≡ ports
-  pub did : StreamDid stands ports door (shown door) how door' (shown door')
+  pub did : StreamDid stands receives sends ports door (shown door) how door' (shown door')
   pub went : Went receives sends door door'
 
 -- whether a stream ended for a cause of the mapper's own: a message without a reply, a record above the limit, or as many bytes as

@@ -72,7 +72,7 @@ fn end_of_stream(end: Option<End>) -> MapEnd
 /// comes. At most [`STREAM_MAX`] bytes are received.
 pub fn map_stream<L: Link>(ports: &Ports, link: &mut L, buf: &mut RecordBuf) -> MapEnd
     requires { buf.old ≡ fresh MESSAGE_MAX }
-    ensures did { StreamDid L.stands ports.now link.old (link_shown L.left L.peers L.receive_faults L.send_faults link.old) result
+    ensures did { StreamDid L.stands L.receives L.sends ports.now link.old (link_shown L.left L.peers L.receive_faults L.send_faults link.old) result
         link.new (link_shown L.left L.peers L.receive_faults L.send_faults link.new) }
     ensures went { Went L.receives L.sends link.old link.new }
     ensures limit { buf.new.limit ≡ MESSAGE_MAX }
