@@ -49,13 +49,13 @@ pub link-counts : {B L : Type 0} (g : Origin B) (stands : L → List ℕ → Lis
     → GuardLinkDid g stands told rules pass link seen dial note how pass' link' seen' dial' note' → ComesAndGoes pass pass'
 link-counts g stands told rules pass link seen dial note (guarded.Ended how) pass' link' seen' dial' note' had =
     let did = had.did in
-    came-and-went told had.conn role.Core pass had.up pass' (placed (served did.items)) did.last had.joins did.makes
+    came-and-went g told had.conn role.Core pass had.up pass' (placed (served did.items)) did.last had.joins did.makes
     (items-steady g had.up.number had.conn rules had.peer [] did.items did.made did.each) did.down
-link-counts g stands told rules pass link seen dial note guarded.Full pass' link' seen' dial' note' had = none-came role.Core connect.Full pass pass' had.0
-link-counts g stands told rules pass link seen dial note guarded.NoMemory pass' link' seen' dial' note' had = none-came role.Core connect.NoMemory pass pass' had.0
+link-counts g stands told rules pass link seen dial note guarded.Full pass' link' seen' dial' note' had = none-came g role.Core connect.Full pass pass' had.0
+link-counts g stands told rules pass link seen dial note guarded.NoMemory pass' link' seen' dial' note' had = none-came g role.Core connect.NoMemory pass pass' had.0
 
 -- Where the pass is clear behind so many links, the next one isn't refused for want of room.
 pub link-never-full : {B L : Type 0} (g : Origin B) (stands : L → List ℕ → List ℕ → Type 0) (told count : ℕ) (rules : List Rule) (pass : PassView Group) (link : L) (seen : LinkShown)
     (dial : DialShown) (note : End) (pass' : PassView Group) (link' : L) (seen' : LinkShown) (dial' : DialShown) (note' : End) → IsClear count pass → count < CONNECTION_LAST
     → GuardLinkDid g stands told rules pass link seen dial note guarded.Full pass' link' seen' dial' note' → ⊥
-link-never-full g stands told count rules pass link seen dial note pass' link' seen' dial' note' clear low had = never-full count pass pass' role.Core clear low had.0
+link-never-full g stands told count rules pass link seen dial note pass' link' seen' dial' note' clear low had = never-full g count pass pass' role.Core clear low had.0

@@ -17,7 +17,7 @@ use Rattle.vx_guard.specs.declared.status.Status.TheVariants as status
 use Rattle.vx_guard.specs.declared.serving.Stop.{Stop}
 use Rattle.vx_guard.specs.declared.serving.Stop.TheVariants as stop
 use Rattle.vx_guard.specs.Peers.{GuardHas, GuardShows, GuardsPeer, StopsPeers, is_note_stop}
-use Rattle.vx_guard.specs.Outcome.{Begins, Works, IsEnd, IsPortRun, IsNew, IsRuledRun, PutsLine}
+use Rattle.vx_guard.specs.Outcome.{Begins, GivesRules, Works, IsEnd, IsPortRun, IsNew, IsRuledRun, IsAskRun, PutsLine}
 
 module _ {B N : Type 0} (n : GuardShows B N) (rules : List Rule) (ask : Ask) (first : GuardHas) (opened : N) (last : GuardHas) (new : N) (before after : End)
     (begins : Begins first before) (keeps : KeepsOwn n.door (GuardsPeer n rules)) (number : ℕ) where
@@ -96,3 +96,10 @@ ruled_run n rules o ask old new before after first is_new status.NetFailed run =
 ruled_run n rules o ask old new before after first is_new status.NoMemory run = absurd run.works.worked
 ruled_run n rules o ask old new before after first is_new status.SinkFailed run = (first, is_new, run)
 ruled_run n rules o ask old new before after first is_new status.SourceFailed run = (first, is_new, run)
+
+-- the source gave rules
+pub ask_run : {B N K : Type 0} (n : CoreState B → GuardShows B N) (rules : List Rule) (o : Opening N) (ask : Ask) (old new : N) (source source' : End) (end : K → End) (first before after : K) (how : Status)
+    → GivesRules source source' rules → before ≡ first → IsRuledRun n rules o ask old new (end before) (end after) how
+    → IsAskRun n o ask old new (record { source = source; source_after = source'; sink = end first; sink_after = end after }) how
+ask_run n rules o ask old new source source' end first before after how gives same run =
+    inr (record { rules = rules; gives = gives; runs = subst (λ k. IsRuledRun n rules o ask old new (end k) (end after) how) same run })

@@ -11,7 +11,7 @@ use Rattle.vx_text.specs.TextLines.{lines}
 use Rattle.vx_door.specs.Opening.{Opening, Opens}
 use Rattle.vx_door.specs.Running.{KeepsOwn}
 use Rattle.vx_door.specs.declared.serving.DoorEnd.TheVariants as door
-use Rattle.vx_flow.specs.FineState.{first_fine}
+use Rattle.vx_core.specs.FineState.{first_fine}
 use Rattle.vx_core.specs.CoreState.{CoreState}
 use Rattle.vx_policy.specs.declared.rules.Rule.{Rule}
 use Rattle.vx_policy.specs.declared.policy.TheConstants.{TEXT_MAX}

@@ -14,7 +14,7 @@ returns-in-Err-clause-did g c =
 pub returns-in-Ok-clause-did : goal.returns-in-Ok-clause-did
 returns-in-Ok-clause-did g c =
     let did = c.guarded_session-pass.ensures.did in
-    record { conn = c.in-Ok.conn; up = c.join-pass.result.0; joins = subst (λ a. Joins c.args.pass role.Core a c.join-pass.result.0) c.in-Ok.is c.join-pass.ensures; peer = did.0; is_peer = did.1; did = did.2 }
+    record { conn = c.in-Ok.conn; up = c.join-pass.result.0; joins = subst (λ a. Joins (origin g.B.Bus (g.T.Turns.first c.args.turns.now)) c.args.pass role.Core a c.join-pass.result.0) c.in-Ok.is c.join-pass.ensures; peer = did.0; is_peer = did.1; did = did.2 }
 
 pub returns-in-Err-clause-went : goal.returns-in-Err-clause-went
 returns-in-Err-clause-went g c = Not_yet c.args.link.now

@@ -5,7 +5,7 @@ use Rattle.vx_guard.specs.declared.serving.Next.TheVariants as next
 use Rattle.vx_gate.specs.PassView.{PassView}
 use Rattle.vx_group.specs.Groups.{Group}
 use Rattle.vx_guard.specs.Peers.{GuardHas, IsNext}
-use Rattle.vx_guard.proofs.Rounds.{round-more, round-noted}
+use Rattle.vx_guard.proofs.Rounds.{round-none, round-more, round-noted}
 use Rattle.vx_guard.proofs.serving.serve_links.Given as given
 use Rattle.vx_guard.proofs.serving.serve_links.Invariants.{has, shows}
 use Rattle.vx_guard.proofs.serving.serve_links.Goals as goal
@@ -19,6 +19,13 @@ behind g pass kit note failed = record {
   note = record { bytes = g.K.Sink.taken note; faults = g.K.Sink.faults note };
   failed = failed;
 }
+
+pub loop-number-init : goal.loop-number-init
+loop-number-init g c = (
+  c.requires.ready,
+  omega arith,
+  round-none (shows g (g.T.Turns.first c.args.turns.now)) c.args.policy.now (has g c.args.pass c.args.kit.now c.args.note.now) c.args.net.now,
+)
 
 pub returns-then-failed : goal.returns-then-failed
 returns-then-failed g c =
