@@ -12,8 +12,8 @@ ghost use Rattle.vx_calls.specs.declared.calls.Role.TheVariants as role;
 ghost use Rattle.vx_calls.specs.Call.{Call, call_shown};
 ghost use Rattle.vx_rules.specs.One.{may_wait};
 ghost use Rattle.vx_rules.specs.Calls.{IsShort};
-
 ghost use Rattle.vx_session.specs.Origin.{origin};
+
 use crate::turns::{abort, come, poll_again, settle};
 use std::sync::Wait;
 use vx_bus_traits::Bus;

@@ -1,8 +1,8 @@
 //! Samples of the SRQ line.
 ghost use Rattle.std.specs.Prelude.{◌≡◌, ◌≤◌};
 ghost use Rattle.vx_session.specs.Pumping.{SamplesNow};
-
 ghost use Rattle.vx_session.specs.Origin.{origin};
+
 use crate::turns::sample;
 use std::sync::Wait;
 use vx_bus_traits::Bus;

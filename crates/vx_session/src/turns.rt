@@ -8,8 +8,8 @@ ghost use Rattle.vx_rules.specs.Calls.{IsShort};
 ghost use Rattle.vx_exchange.specs.declared.record.TheConstants.{REPLY_ROOM};
 ghost use Rattle.vx_group.specs.Phases.{Idle, Asked, is_up};
 ghost use Rattle.vx_session.specs.Turning.{phase_at, Comes, PollsAgain, Settles, Aborts, Leaves, Joins, Samples, TakesTurn};
-
 ghost use Rattle.vx_session.specs.Origin.{origin};
+
 use crate::acts::{AbortLink, Again, Come, ConnectAs, Leave, SampleAt, Settle, TakeFrom};
 use std::alloc::Global;
 use std::sync::Wait;
