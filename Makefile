@@ -79,9 +79,9 @@ bench: server measure tables
 tables: player checker
 	python3 bench/tables.py this=$(PLAYER) $(PLAYERS) --check this=$(CHECKER)
 
-# It runs each of four programs once for each allocation that it makes, in some ten seconds, and wants a C compiler as cc.
-memory: player server client measure
-	python3 .ci/memory.py $(PLAYER) $(SERVER) $(CLIENT) $(MEASURE)
+# It runs each of seven programs once for each allocation that it makes, in some ten seconds, and wants a C compiler as cc.
+memory: player server client measure mapper buses guard
+	python3 .ci/memory.py $(PLAYER) $(SERVER) $(CLIENT) $(MEASURE) $(MAPPER) $(BUSES) $(GUARD)
 
 test:
 	bash .ci/run

@@ -1,23 +1,28 @@
 #!/usr/bin/env python3
-"""Refuses each allocation of the three programs, and of one that has a client and a gateway in it, in turn, and says in one table
-what came of it.
+"""Refuses each allocation of six programs, and of one that has a client and a gateway in it, in turn, and says in one table what came
+of it.
 
-    memory.py PLAYER SERVER CLIENT MEASURE
+    memory.py PLAYER SERVER CLIENT MEASURE MAPPER BUSES GUARD
 
 A program runs once for each allocation that it makes, with that one refused: `refuse.c`, which `cc` compiles, is preloaded. The
 player plays `examples/session.vxs`, the client asks `*IDN?` of a server, and the server of `examples/bench.txt`, with a log and a
 time for idle connections, is asked the same by three clients. The loop asks an instrument of its own, and makes a link or a client once more of what a refused one handed
-back, so that it goes on where one of those is refused. A refused allocation has to end the program with its status for want of memory, with a front of its output
+back, so that it goes on where one of those is refused. The port mapper, by streams and by packets, the server of four buses and the guard are asked
+by two peers, one after the other. With an allocation refused each of these three ends with its status before it has its port, with
+nothing printed, whichever of the four buses or their gates the allocation was for; or it serves both peers; or the two latter close
+one peer's link at once, and serve the other. A refused allocation of any other program has to end the program with its status for want of memory, with a front of its output
 written, or to leave it as it is; at a running server it may end the link of one client, and the others and a next one are served. The script
 ends with status 1 where something else came of one.
 """
 import os
 import pathlib
+import socket
 import subprocess
 import sys
 import tempfile
 
-from serving import PATIENCE, Program
+import rpc
+from serving import PATIENCE, Program, Taken
 
 TOP = pathlib.Path(__file__).resolve().parent.parent
 NO_MEMORY = 5  # the status of each program for want of memory
@@ -144,10 +149,106 @@ def of_server(folder, server, client):
     return sweep(folder, run)
 
 
+class Few(Program):
+    """A program that serves two peers and ends, with an allocation refused; `status` where it ended before it was up."""
+
+    def __init__(self, folder, number, words, source, kind, first_line):
+        super().__init__(words, source, stderr=subprocess.DEVNULL, env=environment(folder, number))
+        self.kind, self.first_line = kind, first_line
+
+    def expect_up(self):
+        self.status = None
+        try:
+            super().expect_up()
+        except Taken:
+            raise
+        except AssertionError:
+            self.status = self.process.poll()
+            if self.status != NO_MEMORY:
+                raise
+
+
+def of_few(folder, words, ask, source=b"", kind=socket.SOCK_STREAM, first_line=None):
+    """Two peers, one after the other, of a program that `words` starts at a port. `ask` tells whether a peer was served."""
+
+    def run(number):
+        with Few(folder, number, words, source, kind, first_line) as served:
+            if served.status is not None:
+                printed = served.process.stdout.read()
+                if printed:
+                    raise Wrong(f"it ended for want of memory, and printed {printed[:80]!r}")
+                return ["ended"]
+            answers = [ask(*served.ports), ask(*served.ports)]
+            if True not in answers:
+                raise Wrong("neither peer is served")
+            served.expect_end("served 2\n")
+            return ["went on"] if all(answers) else ["went on", "client refused"]
+
+    return sweep(folder, run)
+
+
+GETPORT = rpc.call(9, 100000, 3, rpc.CORE, 1, 6, 0, version=2)  # RFC 1833, section 3.2
+CORE_PORT = rpc.reply(9, 9010)
+
+
+def maps_stream(port):
+    """A stream of one call is answered, and closed."""
+    with socket.create_connection(("127.0.0.1", port), PATIENCE) as peer:
+        peer.sendall(rpc.record(GETPORT))
+        peer.shutdown(socket.SHUT_WR)
+        told = b"".join(iter(lambda: peer.recv(65536), b""))
+    if told != rpc.record(CORE_PORT):
+        raise Wrong(f"the port mapper answers {told[:80]!r}")
+    return True
+
+
+def maps_packet(port):
+    """A packet with a call is answered."""
+    with socket.socket(type=socket.SOCK_DGRAM) as peer:
+        peer.settimeout(PATIENCE)
+        peer.connect(("127.0.0.1", port))
+        peer.send(GETPORT)
+        told = peer.recv(65536)
+    if told != CORE_PORT:
+        raise Wrong(f"the port mapper answers {told[:80]!r}")
+    return True
+
+
+def echoes(port):
+    """A client's link is made, and the echo gives back what it is sent; or the client is closed before any answer."""
+    with rpc.Client(port, patience=PATIENCE) as client:
+        try:
+            error, link = client.create("gpib0,5")
+        except (AssertionError, ConnectionError):
+            return False
+        answers = error, client.write(link, b"A"), client.read(link, 1)
+    if answers != (0, (0, 1), (0, b"A")):
+        raise Wrong(f"a client is answered {answers}")
+    return True
+
+
+def of_stream(folder, mapper):
+    return of_few(folder, lambda port: [mapper, "stream", str(port), "9010", "9011", "2"], maps_stream, first_line="mapping {}\n")
+
+
+def of_packets(folder, mapper):
+    words = lambda port: [mapper, "packets", str(port), "9010", "9011", "2"]
+    return of_few(folder, words, maps_packet, kind=socket.SOCK_DGRAM, first_line="mapping {}\n")
+
+
+def of_buses(folder, buses):
+    return of_few(folder, lambda port: [buses, str(port), "2"], echoes)
+
+
+def of_guard(folder, guard):
+    rules = b"deny 10.0.0.0/8 write 5\n" * 20 + b"allow 127.0.0.1/32 * *\n"
+    return of_few(folder, lambda port: [guard, str(port), "2"], echoes, source=rules)
+
+
 def main(words):
-    if len(words) != 4:
+    if len(words) != 7:
         sys.exit(__doc__)
-    player, server, client, measure = [os.path.realpath(word) for word in words]
+    player, server, client, measure, mapper, buses, guard = [os.path.realpath(word) for word in words]
     with tempfile.TemporaryDirectory() as folder:
         subprocess.run(["cc", "-O2", "-shared", "-fPIC", "-o", f"{folder}/refuse.so", TOP / ".ci/refuse.c", "-ldl"], check=True)
         rows = [
@@ -155,6 +256,10 @@ def main(words):
             ("`vxcall` asks a server", of_client, (client, server)),
             ("`vxgate` serves clients", of_server, (server, client)),
             ("`vx_measure loop`, a client over a gateway in the same program", of_loop, (measure,)),
+            ("`vxmap` answers streams", of_stream, (mapper,)),
+            ("`vxmap` answers packets", of_packets, (mapper,)),
+            ("`vxbuses` serves clients", of_buses, (buses,)),
+            ("`vxguard` serves clients", of_guard, (guard,)),
         ]
         print("| | allocations | ended for want of memory | went on | of these, a client was refused and the next served |")
         print("|---|---:|---:|---:|---:|")
