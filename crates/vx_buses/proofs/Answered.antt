@@ -5,7 +5,6 @@ use Rattle.vx_calls.specs.declared.codes.ErrorCode.{ErrorCode}
 use Rattle.vx_calls.specs.Call.{Call}
 use Rattle.vx_calls.specs.Reply as reply
 use Rattle.vx_record.specs.Fragments.{record_of}
-use Rattle.vx_bus_traits.specs.declared.bus.Bus.{Ghosts}
 use Rattle.vx_exchange.specs.Meaning as one
 use Rattle.vx_exchange.specs.Meaning.{Meaning, meaning}
 use Rattle.vx_exchange.specs.Opening.{Stands}
@@ -23,6 +22,7 @@ use Rattle.vx_session.specs.Turning.{phase_at}
 use Rattle.vx_buses.specs.Asking.{OnBus}
 use Rattle.vx_buses.specs.Holding.{AreIdle, Holds}
 use Rattle.vx_buses.specs.Meant.{by_way, by_meaning}
+use Rattle.vx_buses.specs.Origins.{Origins, on}
 use Rattle.vx_buses.specs.Serving.{IsServed, IsAsked, IsAnswered, ServesCall, State, numbers}
 use Rattle.vx_buses.proofs.Fours.{at-put, each-at, each-put}
 
@@ -51,7 +51,7 @@ holds-on told b P passes passes' gates conns r holds went phase =
           (each-put (λ pass conn. phase_at pass conn ≡ Idle r) b own passes conns holds.idle (subst (λ p. phase_at p (at b conns) ≡ Idle r) here phase));
     }
 
-module _ {B : Type 0} (g : Ghosts B) (told : ℕ) (passes : Four (PassView Group)) (conns : Four ℕ) where
+module _ {B : Type 0} (g : Origins B) (told : ℕ) (passes : Four (PassView Group)) (conns : Four ℕ) where
   -- ---- a call
 
   -- a call that is refused is answered without a bus
@@ -69,7 +69,7 @@ module _ {B : Type 0} (g : Ghosts B) (told : ℕ) (passes : Four (PassView Group
 
   -- any other is answered by its bus
   pub asked-served : (xid : ℕ) (asked there : Call) (bus : ℕ) (out : List ℕ) (passes' : Four (PassView Group)) → Goes bus there ≡ route_of asked → bus ≤ 3
-      → OnBus told passes bus (λ placed. IsAsked g (at bus passes).number (at bus conns) xid there bus placed out) passes'
+      → OnBus told passes bus (λ placed. IsAsked (on bus g) (at bus passes).number (at bus conns) xid there bus placed out) passes'
       → ServesCall g told passes conns (by_way xid (route_of asked)) out passes'
   asked-served xid asked there bus out passes' way within went = record {
     bus = bus;
@@ -79,7 +79,7 @@ module _ {B : Type 0} (g : Ghosts B) (told : ℕ) (passes : Four (PassView Group
     is = went.is;
     makes = went.makes;
     served = subst (λ (w : Way). IsServed g (numbers passes) conns (by_way xid w) bus went.placed out) way
-        (refl, subst (λ n. IsAsked g n (at bus conns) xid there bus went.placed out) (at-numbers bus passes) went.holding);
+        (refl, subst (λ n. IsAsked (on bus g) n (at bus conns) xid there bus went.placed out) (at-numbers bus passes) went.holding);
   }
 
   -- ---- a message

@@ -3,10 +3,12 @@ use Rattle.std.proofs.Common.{◌≡◌, ◌≤◌, ℕ, List, [], ◌∷◌, ta
 use Rattle.vx_calls.specs.Call.{Call}
 use Rattle.vx_bus_traits.specs.declared.bus.Bus.{Ghosts}
 use Rattle.vx_exchange.specs.declared.polls.Aborted.{Aborted}
+use Rattle.vx_core.specs.CoreState.{CoreState}
 use Rattle.vx_gate.specs.PassView.{PassView}
 use Rattle.vx_gates.specs.Four.{Four, at, put, swapped}
 use Rattle.vx_group.specs.Event.{Abort}
 use Rattle.vx_group.specs.Groups.{Group}
+use Rattle.vx_session.specs.Origin.{Origin, origin}
 use Rattle.vx_session.specs.Outside.{DialShown}
 use Rattle.vx_session.specs.Placing.{Makes}
 use Rattle.vx_session.specs.Progress.{AnswersCall}
@@ -14,6 +16,7 @@ use Rattle.vx_session.specs.Serving.{IsCalled, IsAborted}
 use Rattle.vx_session.specs.Turning as turning
 use Rattle.vx_buses.specs.Asking.{OnBus}
 use Rattle.vx_buses.specs.Holding.{four_of}
+use Rattle.vx_buses.specs.Origins.{origins, on}
 use Rattle.vx_buses.specs.Serving.{IsAsked, outward}
 use Rattle.vx_buses.proofs.Fours.{swapped-first, swapped-back, each-number}
 
@@ -35,10 +38,10 @@ module _ (passes : Four (PassView Group)) (bus : ℕ) (first : Four (PassView Gr
       ∙ swapped-back bus passes own
 
   -- a call was answered there, and told
-  pub asked-on-bus : {B : Type 0} (g : Ghosts B) (told : ℕ) (conns : Four ℕ) (conn xid : ℕ) (asked : Call) (dial dial' : DialShown) (given out : List ℕ) → conn ≡ at bus conns
-      → AnswersCall g told first.zero_ conn xid asked dial given own dial' → out ≡ outward asked bus given
-      → OnBus told passes bus (λ placed. IsAsked g (at bus passes).number (at bus conns) xid asked bus placed out) last
-  asked-on-bus g told conns conn xid asked dial dial' given out conn_is answers out_is = record {
+  pub asked-on-bus : {B : Type 0} (g : Ghosts B) (firsts : Four (CoreState B)) (core : CoreState B) (told : ℕ) (conns : Four ℕ) (conn xid : ℕ) (asked : Call) (dial dial' : DialShown) (given out : List ℕ) → core ≡ at bus firsts → conn ≡ at bus conns
+      → AnswersCall (origin g core) told first.zero_ conn xid asked dial given own dial' → out ≡ outward asked bus given
+      → OnBus told passes bus (λ placed. IsAsked (on bus (origins g firsts)) (at bus passes).number (at bus conns) xid asked bus placed out) last
+  asked-on-bus g firsts core told conns conn xid asked dial dial' given out core_is conn_is answers out_is = record {
     own = own;
     is = one-went;
     placed = answers.placed;
@@ -46,16 +49,17 @@ module _ (passes : Four (PassView Group)) (bus : ℕ) (first : Four (PassView Gr
     holding = record {
       calls = answers.rung;
       given = given;
-      called = subst (λ (p : PassView Group). IsCalled g p.number (at bus conns) xid asked answers.placed answers.rung given) own-first
-          (subst (λ n. IsCalled g first.zero_.number n xid asked answers.placed answers.rung given) conn_is answers.holding);
+      called = subst (λ (c : CoreState _). IsCalled (origin g c) (at bus passes).number (at bus conns) xid asked answers.placed answers.rung given) core_is
+          (subst (λ (p : PassView Group). IsCalled (origin g core) p.number (at bus conns) xid asked answers.placed answers.rung given) own-first
+          (subst (λ n. IsCalled (origin g core) first.zero_.number n xid asked answers.placed answers.rung given) conn_is answers.holding));
       out_is = out_is;
     };
   }
 
   -- a device_abort was told there
-  pub aborted-on-bus : (conns : Four ℕ) (conn xid lid : ℕ) (room : List ℕ) (aborted : Aborted) → conn ≡ at bus conns → turning.Aborts first.zero_ conn lid xid room aborted own
+  pub aborted-on-bus : {B : Type 0} (g : Origin B) (conns : Four ℕ) (conn xid lid : ℕ) (room : List ℕ) (aborted : Aborted) → conn ≡ at bus conns → turning.Aborts g first.zero_ conn lid xid room aborted own
       → OnBus 0 passes bus (λ placed. IsAborted (at bus conns) xid lid placed [] (take aborted.len room)) last
-  aborted-on-bus conns conn xid lid room aborted conn_is aborts = record {
+  aborted-on-bus g conns conn xid lid room aborted conn_is aborts = record {
     own = own;
     is = one-went;
     placed = aborts.placed ∷ [];
@@ -65,6 +69,7 @@ module _ (passes : Four (PassView Group)) (bus : ℕ) (first : Four (PassView Gr
       error = aborted.error;
       groups = refl;
       events = subst (λ n. aborts.placed.group.events ≡ Abort n lid aborted.error ∷ []) conn_is aborts.events;
+      steps = aborts.steps;
       rung = refl;
       reply_is = aborts.stands.record_is;
     };

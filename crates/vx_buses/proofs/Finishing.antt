@@ -2,54 +2,58 @@
 use Rattle.std.proofs.Common.{◌≡◌, ◌≤◌, ℕ, List, [], ◌∷◌, ◌++◌, Some, sym, ap, ◌∙◌, subst, arith}
 use Rattle.std.proofs.lemmas.Option.{same_Some}
 use Rattle.vx_calls.specs.declared.limits.TheConstants.{RECORD_MAX}
-use Rattle.vx_bus_traits.specs.declared.bus.Bus.{Ghosts}
+use Rattle.vx_bus_traits.specs.Steps.{Cut}
 use Rattle.vx_gate.specs.History.{groups}
 use Rattle.vx_gate.specs.PassView.{PassView}
 use Rattle.vx_gates.specs.Four.{Four, at}
 use Rattle.vx_record.specs.Records.{records}
 use Rattle.vx_exchange.specs.Meaning.{meaning, Junk}
 use Rattle.vx_group.specs.Event.{Down}
-use Rattle.vx_group.specs.Groups.{Group}
+use Rattle.vx_group.specs.Groups.{Group, events_of}
+use Rattle.vx_group.specs.Headline.{Headline}
 use Rattle.vx_group.specs.Laws.{HeadlineOfGroupsLaw, OwnedLaw}
 use Rattle.vx_routes.specs.Given.{LinksLaw, OnceLaw}
 use Rattle.vx_stream.specs.Answered.{replies}
 use Rattle.vx_stream.specs.Shown.{LinkShown}
 use Rattle.vx_stream.specs.Stopping.{EndsSo}
 use Rattle.vx_stream.specs.declared.ends.End.{End}
+use Rattle.vx_session.specs.Origin.{Origin}
 use Rattle.vx_session.specs.Placing.{Placed, Makes, IsHistory}
 use Rattle.vx_session.specs.ProvedLaws.{makes-goes, makes-later}
 use Rattle.vx_session.specs.Turning.{Leaves}
 use Rattle.vx_session.specs.Ending.{Upholds}
+use Rattle.vx_buses.specs.Origins.{Origins, on}
 use Rattle.vx_buses.specs.Serving.{State, placed_on}
 use Rattle.vx_buses.specs.Ending.{LeavesAll, SessionDid, GivesOnce, history_of}
 use Rattle.vx_buses.proofs.Fours.{each-number}
 use Rattle.vx_buses.proofs.Progressing.{StreamServed}
 
 -- of a history that a pass has seen, all holds that is claimed
-pub upholds : HeadlineOfGroupsLaw → OwnedLaw → (pass : PassView Group) → IsHistory pass.seen → Upholds pass
-upholds headline owned pass h = record {
+pub upholds : {B : Type 0} (g : Origin B) → HeadlineOfGroupsLaw → OwnedLaw → (pass : PassView Group) → IsHistory g pass.seen → Upholds g pass
+upholds g headline owned pass h = record {
   history = h;
-  headline = headline (groups pass.seen) h.state h.stands;
-  owned = owned pass.seen h.state h.lawful h.stands;
+  headline = subst (λ port. Headline port (events_of (groups pass.seen))) h.became.port (headline (groups pass.seen) h.core.fine h.became.state);
+  owned = owned pass.seen h.core.fine h.lawful h.became.state;
 }
 
 -- no number is given twice over four histories of which that holds
-pub gives-once : OnceLaw → (f : Four (PassView Group)) → Upholds f.zero_ → Upholds f.one → Upholds f.two → Upholds f.three → GivesOnce f
-gives-once once f zeroth first second third =
-    once zeroth.history.state.state.tables.abort_port first.history.state.state.tables.abort_port second.history.state.state.tables.abort_port third.history.state.state.tables.abort_port
+pub gives-once : {B : Type 0} (g : Origins B) → OnceLaw → (f : Four (PassView Group)) → Upholds (on 0 g) f.zero_ → Upholds (on 1 g) f.one → Upholds (on 2 g) f.two → Upholds (on 3 g) f.three
+    → GivesOnce f
+gives-once g once f zeroth first second third =
+    once g.firsts.zero_.fine.state.tables.abort_port g.firsts.one.fine.state.tables.abort_port g.firsts.two.fine.state.tables.abort_port g.firsts.three.fine.state.tables.abort_port
     (history_of f.zero_) (history_of f.one) (history_of f.two) (history_of f.three) _ _ _ _
     zeroth.headline.gathered.legal first.headline.gathered.legal second.headline.gathered.legal third.headline.gathered.legal
 
 -- the end of a bus's connection, behind what its pass made
-left : (told : ℕ) (before mid after : PassView Group) (conn : ℕ) (ps : List Placed) → Makes told before ps mid → (leaves : Leaves mid conn after)
+left : {B : Type 0} (g : Origin B) (told : ℕ) (before mid after : PassView Group) (conn : ℕ) (ps : List Placed) → Makes told before ps mid → (leaves : Leaves g mid conn after)
     → Makes told before (ps ++ leaves.placed ∷ []) after
-left told before mid after conn ps makes leaves =
+left g told before mid after conn ps makes leaves =
     makes-goes told told before mid after ps (leaves.placed ∷ []) (omega arith) makes (makes-later 0 told mid after (leaves.placed ∷ []) (omega arith) leaves.turns.makes)
 
 -- the records of a stream were served, and then the connections went
-pub session-did : {B L : Type 0} (g : Ghosts B) (stands : L → List ℕ → List ℕ → Type 0) → HeadlineOfGroupsLaw → OwnedLaw → LinksLaw → OnceLaw → (s s' : State)
+pub session-did : {B L : Type 0} (g : Origins B) (stands : L → List ℕ → List ℕ → Type 0) → HeadlineOfGroupsLaw → OwnedLaw → LinksLaw → OnceLaw → (s s' : State)
     (passes mid passes' : Four (PassView Group)) (link link' : L) (seen seen' : LinkShown) (how : End) (told : ℕ) → StreamServed g stands s passes link seen how s' link' seen'
-    → s'.passes ≡ Some mid → s'.told ≡ told → LeavesAll mid s.conns passes'
+    → s'.passes ≡ Some mid → s'.told ≡ told → LeavesAll g mid s.conns passes'
     → SessionDid g stands told s.role s.conns passes link seen how passes' link' seen'
 session-did g stands headline owned links once s s' passes mid passes' link link' seen seen' how told did has told_is leaves =
     let all = did.serves in
@@ -62,10 +66,10 @@ session-did g stands headline owned links once s s' passes mid passes' link link
     let made : (bus : ℕ) → bus ≤ 3 → Makes told (at bus passes) (placed_on bus all.items) (at bus mid) =
     subst at_mid (same_Some all.passes' mid (sym all.has ∙ has))
     (λ bus h. subst (λ n. Makes n (at bus passes) (placed_on bus all.items) (at bus all.passes')) told_is (all.makes bus h)) in
-    let upheld : (bus : ℕ) → bus ≤ 3 → Upholds (at bus passes') =
-    each-number (λ bus. Upholds (at bus passes'))
-    (upholds headline owned passes'.zero_ zeroth.turns.history) (upholds headline owned passes'.one first.turns.history)
-    (upholds headline owned passes'.two second.turns.history) (upholds headline owned passes'.three third.turns.history) in
+    let upheld : (bus : ℕ) → bus ≤ 3 → Upholds (on bus g) (at bus passes') =
+    each-number (λ bus. Upholds (on bus g) (at bus passes'))
+    (upholds (on 0 g) headline owned passes'.zero_ zeroth.turns.history) (upholds (on 1 g) headline owned passes'.one first.turns.history)
+    (upholds (on 2 g) headline owned passes'.two second.turns.history) (upholds (on 3 g) headline owned passes'.three third.turns.history) in
     record {
       items = all.items;
       lasts = lasts;
@@ -74,17 +78,18 @@ session-did g stands headline owned links once s s' passes mid passes' link link
       written = did.written;
       unsent = did.unsent;
       makes = each-number (λ bus. Makes told (at bus passes) (placed_on bus all.items ++ at bus lasts ∷ []) (at bus passes'))
-          (left told passes.zero_ mid.zero_ passes'.zero_ s.conns.zero_ (placed_on 0 all.items) (made 0 (omega arith)) zeroth)
-          (left told passes.one mid.one passes'.one s.conns.one (placed_on 1 all.items) (made 1 (omega arith)) first)
-          (left told passes.two mid.two passes'.two s.conns.two (placed_on 2 all.items) (made 2 (omega arith)) second)
-          (left told passes.three mid.three passes'.three s.conns.three (placed_on 3 all.items) (made 3 (omega arith)) third);
+          (left (on 0 g) told passes.zero_ mid.zero_ passes'.zero_ s.conns.zero_ (placed_on 0 all.items) (made 0 (omega arith)) zeroth)
+          (left (on 1 g) told passes.one mid.one passes'.one s.conns.one (placed_on 1 all.items) (made 1 (omega arith)) first)
+          (left (on 2 g) told passes.two mid.two passes'.two s.conns.two (placed_on 2 all.items) (made 2 (omega arith)) second)
+          (left (on 3 g) told passes.three mid.three passes'.three s.conns.three (placed_on 3 all.items) (made 3 (omega arith)) third);
       each = all.each;
       down = each-number (λ bus. (at bus lasts).group.events ≡ Down (at bus s.conns) ∷ []) zeroth.events first.events second.events third.events;
+      cut = each-number (λ bus. (at bus lasts).group.steps ≡ Cut ∷ []) zeroth.steps first.steps second.steps third.steps;
       bytes = did.bytes;
       goes = did.goes;
       wrote = ap replies all.are ∙ did.wrote;
       ended = subst (λ list. EndsSo (λ message. meaning message s.role ≡ Junk) seen list (records RECORD_MAX did.front) did.behind did.unsent seen' (Some how)) (sym all.are) did.ended;
       upholds = upheld;
-      links = λ bus h. let u = upheld bus h in links u.history.state.state.tables.abort_port (history_of (at bus passes')) _ u.headline.gathered.legal;
-      once = gives-once once passes' (upheld 0 (omega arith)) (upheld 1 (omega arith)) (upheld 2 (omega arith)) (upheld 3 (omega arith));
+      links = λ bus h. let u = upheld bus h in links (at bus g.firsts).fine.state.tables.abort_port (history_of (at bus passes')) _ u.headline.gathered.legal;
+      once = gives-once g once passes' (upheld 0 (omega arith)) (upheld 1 (omega arith)) (upheld 2 (omega arith)) (upheld 3 (omega arith));
     }

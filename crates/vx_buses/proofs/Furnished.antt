@@ -1,12 +1,13 @@
 -- The gateways of the program as they start, one for each instrument of the rack.
 use Rattle.std.proofs.Common.{◌≡◌, ◌<◌, ℕ, suc, List, [], ◌∷◌, ◌++◌, map, length, Option, Result, Ok, Err, refl, sym, ap, ◌∙◌, subst, arith}
 use Rattle.std.specs.List.{All}
-use Rattle.std.specs.Prelude.{remove, slice_index_or, is_ok, IfSome, if◌then◌else◌}
+use Rattle.std.specs.Prelude.{remove, slice_index_or, is_ok, IfOk, IfSome, if◌then◌else◌}
 use Rattle.std.specs.Result.{result_ok}
 use Rattle.std.proofs.lemmas.List.{length-map}
 use Rattle.std.proofs.lemmas.List.Elements.{All-nil, All-cons}
 use Rattle.vx_488.specs.declared.transfers.Addr.{Addr}
-use Rattle.vx_bus_traits.specs.Means.{first_means}
+use Rattle.vx_bus_traits.specs.Means.{Means, first_means}
+use Rattle.vx_bus_traits.specs.Steps.{Step}
 use Rattle.vx_flow.specs.FineState.{first_fine}
 use Rattle.vx_group.specs.Groups.{StandsFor}
 use Rattle.vx_inst.specs.Behavior.{Behavior}
@@ -15,6 +16,7 @@ use Rattle.vx_sim.specs.Occupants.{Occupant, Seated, handed_in}
 use Rattle.vx_sim.specs.SimState.{SimState, first_state}
 use Rattle.vx_sim.specs.Attaching.{IsAttached}
 use Rattle.vx_core.specs.CoreState.{CoreState}
+use Rattle.vx_core.specs.Standing.{Became}
 use Rattle.vx_buses.specs.Starting.{IsFurnished, AreFurnished, AddsCore}
 
 -- a bus with one instrument more means what it meant
@@ -71,11 +73,22 @@ furnished-length (inst ∷ insts) (core ∷ cores) all = ap suc (furnished-lengt
 pub furnished-four : {A : Type 0} (f : A → Seated) (rack : List A) (cores : List (CoreState SimState)) → length rack ≡ 4 → AreFurnished (map f rack) cores → length cores ≡ 4
 furnished-four f rack cores four all = furnished-length (map f rack) cores all ∙ length-map rack f ∙ four
 
--- each stands for the history without a group
-pub furnished-stand : (insts : List Seated) (cores : List (CoreState SimState)) → ((port : ℕ) → StandsFor (first_fine port) []) → AreFurnished insts cores
-    → All (λ (core : CoreState SimState). StandsFor core.fine []) cores
-furnished-stand [] [] law all = All-nil _
-furnished-stand [] (core ∷ cores) law all = absurd all
-furnished-stand (inst ∷ insts) [] law all = absurd all
-furnished-stand (inst ∷ insts) (core ∷ cores) law all =
-    All-cons (λ (core : CoreState SimState). StandsFor core.fine []) core cores (subst (λ f. StandsFor f []) (sym all.0.fine) (law 9011)) (furnished-stand insts cores law all.1)
+-- what holds of a list holds of what was made of its values, in their order
+pub order-kept : {A R E : Type 0} (P : A → Type 0) (values : A) (of : R → A) (r : Result R E) (o : Option R) → IfOk r (λ x. values ≡ of x) → o ≡ result_ok r → P values → IfSome o (λ x. P (of x))
+order-kept P values of (Ok x) o order ok holds = subst (λ p. IfSome p (λ y. P (of y))) (sym ok) (subst P order holds)
+order-kept P values of (Err e) o order ok holds = subst (λ p. IfSome p (λ y. P (of y))) (sym ok) tt
+
+-- a gateway as it starts became what it is by the history without a group
+pub first-became : {B : Type 0} (means : B → Means) (through : B → Step → B → Type 0) (core : CoreState B) (port : ℕ) → ((p : ℕ) → StandsFor (first_fine p) []) → core.fine ≡ first_fine port
+    → Became means through core core []
+first-became means through core port law fine = record { state = subst (λ f. StandsFor f []) (sym fine) (law port); port = refl; bus = refl }
+
+-- so each of those that are furnished
+pub furnished-stand : (means : SimState → Means) (through : SimState → Step → SimState → Type 0) (insts : List Seated) (cores : List (CoreState SimState)) → ((port : ℕ) → StandsFor (first_fine port) [])
+    → AreFurnished insts cores → All (λ (core : CoreState SimState). Became means through core core []) cores
+furnished-stand means through [] [] law all = All-nil _
+furnished-stand means through [] (core ∷ cores) law all = absurd all
+furnished-stand means through (inst ∷ insts) [] law all = absurd all
+furnished-stand means through (inst ∷ insts) (core ∷ cores) law all =
+    All-cons (λ (core : CoreState SimState). Became means through core core []) core cores (first-became means through core 9011 law all.0.fine)
+    (furnished-stand means through insts cores law all.1)

@@ -6,7 +6,6 @@ use Rattle.std.proofs.lemmas.Bool.{false≢true}
 use Rattle.vx_io_traits.specs.Faults.{Rose}
 use Rattle.vx_door.specs.Serving.{is_cut, is_spent}
 use Rattle.vx_door.specs.ProvedLaws.{spent_at_end}
-use Rattle.vx_bus_traits.specs.declared.bus.Bus.{Ghosts}
 use Rattle.vx_calls.specs.declared.limits.TheConstants.{CONNECTION_LAST}
 use Rattle.vx_gate.specs.PassView.{PassView, GateId}
 use Rattle.vx_gates.specs.Four.{Four, at, Each}
@@ -18,6 +17,7 @@ use Rattle.vx_stream.specs.Shown.{LinkShown}
 use Rattle.vx_stream.specs.declared.ends.End.TheVariants as stream
 use Rattle.vx_session.specs.declared.links.Linked.{Linked}
 use Rattle.vx_session.specs.declared.links.Linked.TheVariants as linked
+use Rattle.vx_buses.specs.Origins.{Origins}
 use Rattle.vx_buses.specs.Linking.{LinkDid, is_own, is_whole}
 use Rattle.vx_buses.specs.Hosting.{IsReady}
 use Rattle.vx_buses.proofs.Fours.{each-number}
@@ -25,7 +25,7 @@ use Rattle.vx_buses.proofs.Rooms.{link-counts, link-never-full}
 
 -- ---- a link
 
-module _ {B L : Type 0} (g : Ghosts B) (stands : L → List ℕ → List ℕ → Type 0) (told : ℕ) (passes : Four (PassView Group)) (link : L) (passes' : Four (PassView Group)) (link' : L) where
+module _ {B L : Type 0} (g : Origins B) (stands : L → List ℕ → List ℕ → Type 0) (told : ℕ) (passes : Four (PassView Group)) (link : L) (passes' : Four (PassView Group)) (link' : L) where
   -- what holds between two links holds behind one, with one more served
   pub ready-on : (count : ℕ) (seen seen' : LinkShown) (how : Linked) (gates : Four GateId) → LinkDid g stands told passes link seen how passes' link' seen'
       → ((bus : ℕ) → bus ≤ 3 → IsClear count (at bus passes)) → Each IsOf passes' gates → IsReady (count + 1) (Some passes') gates
@@ -59,7 +59,7 @@ ended-spent : (first now : Option (List ℕ)) (bytes : List ℕ) → Consumes fi
 ended-spent None now bytes gave at_end = refl
 ended-spent (Some all) now bytes gave at_end = spent_at_end (Some all) now bytes gave at_end
 
-module _ {B L : Type 0} (g : Ghosts B) (stands : L → List ℕ → List ℕ → Type 0) (told : ℕ) (passes : Four (PassView Group)) (link : L) (seen : LinkShown) (passes' : Four (PassView Group)) (link' : L)
+module _ {B L : Type 0} (g : Origins B) (stands : L → List ℕ → List ℕ → Type 0) (told : ℕ) (passes : Four (PassView Group)) (link : L) (seen : LinkShown) (passes' : Four (PassView Group)) (link' : L)
     (seen' : LinkShown) where
   -- a peer that was cut short was so by a fault of its link
   pub link-cut : (how : Linked) → LinkDid g stands told passes link seen how passes' link' seen' → is_cut (is_own how) (is_whole how) seen.left seen'.left ≡ true

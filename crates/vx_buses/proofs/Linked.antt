@@ -1,6 +1,5 @@
 -- A link's connections: what their passes keep, and how they are refused.
 use Rattle.std.proofs.Common.{◌≡◌, ◌≤◌, ℕ, List, Result, Ok, Err, refl, sym, ◌∙◌, subst, arith}
-use Rattle.vx_bus_traits.specs.declared.bus.Bus.{Ghosts}
 use Rattle.vx_gate.specs.PassView.{PassView, GateId}
 use Rattle.vx_gates.specs.Four.{Four, at, Each}
 use Rattle.vx_gates.specs.Passing.{IsOf}
@@ -11,9 +10,11 @@ use Rattle.vx_tables.specs.declared.tables.Connect.{Connect}
 use Rattle.vx_tables.specs.declared.tables.Connect.TheVariants as connect
 use Rattle.vx_stream.specs.Shown.{LinkShown}
 use Rattle.vx_session.specs.Linking.{refused_as}
+use Rattle.vx_session.specs.Origin.{Origin}
 use Rattle.vx_session.specs.Placing.{Placed, Makes, IsHistory}
 use Rattle.vx_session.specs.Ending.{Upholds}
 use Rattle.vx_session.specs.declared.links.Linked.{Linked}
+use Rattle.vx_buses.specs.Origins.{Origins, on}
 use Rattle.vx_buses.specs.Ending.{GivesOnce}
 use Rattle.vx_buses.specs.Joining.{JoinsAll, Undone, UndoneAll, outcome}
 use Rattle.vx_buses.specs.Linking.{LinkDid}
@@ -31,31 +32,31 @@ gates-kept told p p' gates made makes each = record {
 }
 
 -- a history that a pass has seen behind its connection's end, or behind its refusal
-undone-history : (up pass' : PassView Group) (answer : Result ℕ Connect) → IsHistory up.seen → Undone up answer pass' → IsHistory pass'.seen
-undone-history up pass' (Ok conn) h leaves = leaves.turns.history
-undone-history up pass' (Err why) h same = subst (λ (p : PassView Group). IsHistory p.seen) (sym same) h
+undone-history : {B : Type 0} (g : Origin B) (up pass' : PassView Group) (answer : Result ℕ Connect) → IsHistory g up.seen → Undone g up answer pass' → IsHistory g pass'.seen
+undone-history g up pass' (Ok conn) h leaves = leaves.turns.history
+undone-history g up pass' (Err why) h same = subst (λ (p : PassView Group). IsHistory g p.seen) (sym same) h
 
 -- so all holds that is claimed of the histories of four
-undone-uphold : HeadlineOfGroupsLaw → OwnedLaw → (passes up passes' : Four (PassView Group)) (joined : Four (Result ℕ Connect)) → JoinsAll passes joined up → UndoneAll up joined passes'
-    → (bus : ℕ) → bus ≤ 3 → Upholds (at bus passes')
-undone-uphold headline owned passes up passes' joined joins undone =
-    each-number (λ b. Upholds (at b passes'))
-    (upholds headline owned passes'.zero_ (undone-history up.zero_ passes'.zero_ joined.zero_ joins.zero_.turns.history undone.zero_))
-    (upholds headline owned passes'.one (undone-history up.one passes'.one joined.one joins.one.turns.history undone.one))
-    (upholds headline owned passes'.two (undone-history up.two passes'.two joined.two joins.two.turns.history undone.two))
-    (upholds headline owned passes'.three (undone-history up.three passes'.three joined.three joins.three.turns.history undone.three))
+undone-uphold : {B : Type 0} (g : Origins B) → HeadlineOfGroupsLaw → OwnedLaw → (passes up passes' : Four (PassView Group)) (joined : Four (Result ℕ Connect)) → JoinsAll g passes joined up → UndoneAll g up joined passes'
+    → (bus : ℕ) → bus ≤ 3 → Upholds (on bus g) (at bus passes')
+undone-uphold g headline owned passes up passes' joined joins undone =
+    each-number (λ b. Upholds (on b g) (at b passes'))
+    (upholds (on 0 g) headline owned passes'.zero_ (undone-history (on 0 g) up.zero_ passes'.zero_ joined.zero_ joins.zero_.turns.history undone.zero_))
+    (upholds (on 1 g) headline owned passes'.one (undone-history (on 1 g) up.one passes'.one joined.one joins.one.turns.history undone.one))
+    (upholds (on 2 g) headline owned passes'.two (undone-history (on 2 g) up.two passes'.two joined.two joins.two.turns.history undone.two))
+    (upholds (on 3 g) headline owned passes'.three (undone-history (on 3 g) up.three passes'.three joined.three joins.three.turns.history undone.three))
 
 -- the connections were refused, and their link is told so
-pub link-refused : {B L : Type 0} (g : Ghosts B) (stands : L → List ℕ → List ℕ → Type 0) → HeadlineOfGroupsLaw → OwnedLaw → OnceLaw → (told : ℕ) (passes up passes' : Four (PassView Group)) (link : L)
-    (seen : LinkShown) (joined : Four (Result ℕ Connect)) (why : Connect) (how : Linked) → how ≡ refused_as why → JoinsAll passes joined up → outcome joined ≡ Err why → UndoneAll up joined passes'
+pub link-refused : {B L : Type 0} (g : Origins B) (stands : L → List ℕ → List ℕ → Type 0) → HeadlineOfGroupsLaw → OwnedLaw → OnceLaw → (told : ℕ) (passes up passes' : Four (PassView Group)) (link : L)
+    (seen : LinkShown) (joined : Four (Result ℕ Connect)) (why : Connect) (how : Linked) → how ≡ refused_as why → JoinsAll g passes joined up → outcome joined ≡ Err why → UndoneAll g up joined passes'
     → LinkDid g stands told passes link seen how passes' link seen
 link-refused g stands headline owned law told passes up passes' link seen joined why how how_is joins is undone =
     subst (λ h. LinkDid g stands told passes link seen h passes' link seen) (sym how_is) (by why is) where
-      all : (bus : ℕ) → bus ≤ 3 → Upholds (at bus passes')
-      all = undone-uphold headline owned passes up passes' joined joins undone
+      all : (bus : ℕ) → bus ≤ 3 → Upholds (on bus g) (at bus passes')
+      all = undone-uphold g headline owned passes up passes' joined joins undone
 
       once : GivesOnce passes'
-      once = gives-once law passes' (all 0 (omega arith)) (all 1 (omega arith)) (all 2 (omega arith)) (all 3 (omega arith))
+      once = gives-once g law passes' (all 0 (omega arith)) (all 1 (omega arith)) (all 2 (omega arith)) (all 3 (omega arith))
 
       by : (c : Connect) → outcome joined ≡ Err c → LinkDid g stands told passes link seen (refused_as c) passes' link seen
       by connect.Full refused = record { joined = joined; up = up; joins = joins; refused = refused; undone = undone; same = refl; upholds = all; once = once }

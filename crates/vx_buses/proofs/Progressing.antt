@@ -7,6 +7,7 @@ use Rattle.std.proofs.lemmas.Option.{same_Some}
 use Rattle.vx_io_traits.specs.Stands.{Goes}
 use Rattle.vx_calls.specs.declared.limits.TheConstants.{RECORD_MAX}
 use Rattle.vx_bus_traits.specs.declared.bus.Bus.{Ghosts}
+use Rattle.vx_core.specs.CoreState.{CoreState}
 use Rattle.vx_gate.specs.PassView.{PassView}
 use Rattle.vx_gates.specs.Four.{Four, at, put}
 use Rattle.vx_group.specs.Groups.{Group}
@@ -19,6 +20,7 @@ use Rattle.vx_stream.specs.declared.ends.End.{End}
 use Rattle.vx_stream.specs.declared.ends.End.TheVariants as end
 use Rattle.vx_session.specs.Placing.{Placed, Makes}
 use Rattle.vx_session.specs.ProvedLaws.{makes-none, makes-goes}
+use Rattle.vx_buses.specs.Origins.{Origins, origins}
 use Rattle.vx_buses.specs.Serving.{Item, Serves, State, MessageDoes, answered, placed_on, numbers}
 use Rattle.vx_buses.proofs.Fours.{at-put, at-put-other, numbers-put}
 
@@ -34,7 +36,7 @@ makes-at told told' b k p own r ps qs hb hk later first rest = by (k == b) refl 
   by false is = subst (λ x. Makes told' x qs r) (at-put-other b k own p hb hk (λ e. eqb-false k b is (sym e))) rest
 
 -- These messages of a session, whose passes were these, were served, one after the other.
-pub record ServesAll {B : Type 0} (g : Ghosts B) (s : State) (passes : Four (PassView Group)) (list : List Answered) (s' : State) : Type 0 where
+pub record ServesAll {B : Type 0} (g : Origins B) (s : State) (passes : Four (PassView Group)) (list : List Answered) (s' : State) : Type 0 where
   pub items : List Item
   pub passes' : Four (PassView Group)
   pub are : answered items ≡ list
@@ -53,7 +55,7 @@ pub record Stays (s s' : State) : Type 0 where
   pub later : s.told ≤ s'.told
 
 -- no message was served
-serves-none : {B : Type 0} (g : Ghosts B) (s s' : State) (passes : Four (PassView Group)) → s.passes ≡ Some passes → Stays s s' → ServesAll g s passes [] s'
+serves-none : {B : Type 0} (g : Origins B) (s s' : State) (passes : Four (PassView Group)) → s.passes ≡ Some passes → Stays s s' → ServesAll g s passes [] s'
 serves-none g s s' passes had stays = record {
   items = [];
   passes' = passes;
@@ -67,7 +69,7 @@ serves-none g s s' passes had stays = record {
 }
 
 -- one message was answered, and then more of them
-serves-more : {B : Type 0} (g : Ghosts B) (s mid s' : State) (one : Answered) (more : List Answered) → (does : MessageDoes g s one.message (Some one.reply) mid)
+serves-more : {B : Type 0} (g : Origins B) (s mid s' : State) (one : Answered) (more : List Answered) → (does : MessageDoes g s one.message (Some one.reply) mid)
     → ServesAll g mid (put does.has.bus does.has.own does.has.passes) more s' → ServesAll g s does.has.passes (one ∷ more) s'
 serves-more g s mid s' one more does rest =
     let first = does.has in
@@ -114,7 +116,7 @@ left-so does last s' seen list looked behind unsent seen' end.ReadFault ended le
 left-so does last s' seen list looked behind unsent seen' end.WriteFault ended left = inl left
 
 -- The records of a session's stream were served, up to its end or to where it is no longer read.
-pub record StreamServed {B L : Type 0} (g : Ghosts B) (stands : L → List ℕ → List ℕ → Type 0) (s : State) (passes : Four (PassView Group)) (link : L) (seen : LinkShown) (how : End)
+pub record StreamServed {B L : Type 0} (g : Origins B) (stands : L → List ℕ → List ℕ → Type 0) (s : State) (passes : Four (PassView Group)) (link : L) (seen : LinkShown) (how : End)
     (s' : State) (link' : L) (seen' : LinkShown) : Type 0 where
   pub list : List Answered
   pub front : List ℕ
@@ -128,8 +130,9 @@ pub record StreamServed {B L : Type 0} (g : Ghosts B) (stands : L → List ℕ �
   pub ended : EndsSo (λ message. meaning message s.role ≡ Junk) seen list (records RECORD_MAX front) behind unsent seen' (Some how)
 
 -- what answers messages, as a session's state shows it
-module _ {B S : Type 0} (g : Ghosts B) (does : S → List ℕ → Option (List ℕ) → S → Type 0) (shown : S → State)
-    (one : (s s' : S) (message : List ℕ) (reply : Option (List ℕ)) → does s message reply s' → MessageDoes g (shown s) message reply (shown s')) where
+module _ {B S : Type 0} (bus : Ghosts B) (firsts : S → Four (CoreState B)) (does : S → List ℕ → Option (List ℕ) → S → Type 0) (shown : S → State)
+    (one : (s s' : S) (message : List ℕ) (reply : Option (List ℕ)) → does s message reply s' → MessageDoes (origins bus (firsts s)) (shown s) message reply (shown s'))
+    (same : (s s' : S) (message : List ℕ) (reply : Option (List ℕ)) → does s message reply s' → firsts s' ≡ firsts s) where
   -- as it is left, it stays
   left-stays : (last s' : S) → (s' ≡ last) ⊎ ((junk : List ℕ) × does last junk None s') → Stays (shown last) (shown s')
   left-stays last s' (inl same) = subst (λ x. Stays (shown last) (shown x)) (sym same) (record { role = refl; conns = refl; passes = refl; later = omega arith })
@@ -139,18 +142,19 @@ module _ {B S : Type 0} (g : Ghosts B) (does : S → List ℕ → Option (List �
 
   -- the messages that it answered were served
   all-served : (s last s' : S) (passes : Four (PassView Group)) (list : List Answered) → (shown s).passes ≡ Some passes → AnswersAll does s list last → Stays (shown last) (shown s')
-      → ServesAll g (shown s) passes list (shown s')
-  all-served s last s' passes [] had all stays = serves-none g (shown s) (shown s') passes had (subst (λ x. Stays (shown x) (shown s')) all stays)
+      → ServesAll (origins bus (firsts s)) (shown s) passes list (shown s')
+  all-served s last s' passes [] had all stays = serves-none (origins bus (firsts s)) (shown s) (shown s') passes had (subst (λ x. Stays (shown x) (shown s')) all stays)
   all-served s last s' passes (first ∷ more) had all stays =
       let did = one s all.0 first.message (Some first.reply) all.1 in
-      subst (λ p. ServesAll g (shown s) p (first ∷ more) (shown s')) (same_Some did.has.passes passes (sym did.has.had ∙ had))
-      (serves-more g (shown s) (shown all.0) (shown s') first more did
-      (all-served all.0 last s' (put did.has.bus did.has.own did.has.passes) more did.has.has all.2 stays))
+      subst (λ p. ServesAll (origins bus (firsts s)) (shown s) p (first ∷ more) (shown s')) (same_Some did.has.passes passes (sym did.has.had ∙ had))
+      (serves-more (origins bus (firsts s)) (shown s) (shown all.0) (shown s') first more did
+      (subst (λ x. ServesAll (origins bus x) (shown all.0) (put did.has.bus did.has.own did.has.passes) more (shown s')) (same s all.0 first.message (Some first.reply) all.1)
+      (all-served all.0 last s' (put did.has.bus did.has.own did.has.passes) more did.has.has all.2 stays)))
 
   -- so the records of its stream were served
   pub stream-served : {L : Type 0} (stands : L → List ℕ → List ℕ → Type 0) (s s' : S) (passes : Four (PassView Group)) (link link' : L) (seen seen' : LinkShown) (how : End)
       → (shown s).passes ≡ Some passes → StreamAnswered does stands RECORD_MAX None s link seen (Some how) s' link' seen'
-      → StreamServed g stands (shown s) passes link seen how (shown s') link' seen'
+      → StreamServed (origins bus (firsts s)) stands (shown s) passes link seen how (shown s') link' seen'
   stream-served stands s s' passes link link' seen seen' how had did =
       let last = did.last in
       let looked = records RECORD_MAX did.front in

@@ -1,16 +1,30 @@
 -- How a run comes to its end: the work at the port is what was asked.
 use Rattle.vx_text.specs.Ends.{End}
+use Rattle.std.proofs.Common.{◌≡◌, sym, subst}
 use Rattle.vx_bus_traits.specs.declared.bus.Bus.{Ghosts}
+use Rattle.vx_core.specs.CoreState.{CoreState}
+use Rattle.vx_gates.specs.Four.{Four}
 use Rattle.vx_peers.specs.declared.words.Ask.{Ask}
 use Rattle.vx_peers.specs.declared.serving.Status.{Status}
 use Rattle.vx_peers.specs.declared.serving.Status.TheVariants as status
 use Rattle.vx_buses.specs.Outcome.{Shows, Hosts, IsAskRun}
 
+-- of the cores that are told to be these holds what holds of these
+begun : {B N : Type 0} (g : Ghosts B) (start : Four (CoreState B) → Type 0) (firsts : Four (CoreState B)) (n : Shows N) (ask : Ask) (old new : N) (before after : End) (how : Status) → start firsts
+    → Hosts g n (λ f. f ≡ firsts) ask old new before after how → Hosts g n start ask old new before after how
+begun g start firsts n ask old new before after how holds hosts = record {
+  server = hosts.server;
+  begins = record { gates = hosts.begins.gates; first = hosts.begins.first; cores = subst start (sym hosts.begins.cores) holds };
+  server' = hosts.server';
+  served = hosts.served;
+  keeps = hosts.keeps;
+}
+
 -- the work at a port doesn't end for want of memory
-pub hosts-run : {B N : Type 0} (g : Ghosts B) (n : Shows N) (ask : Ask) (old new : N) (before after : End) (how : Status) → Hosts g n ask old new before after how
-    → IsAskRun g n ask old new before after how
-hosts-run g n ask old new before after status.NoMemory hosts = absurd hosts.served.serves
-hosts-run g n ask old new before after status.Served hosts = hosts
-hosts-run g n ask old new before after status.Usage hosts = hosts
-hosts-run g n ask old new before after status.NetFailed hosts = hosts
-hosts-run g n ask old new before after status.SinkFailed hosts = hosts
+pub hosts-run : {B N : Type 0} (g : Ghosts B) (start : Four (CoreState B) → Type 0) (firsts : Four (CoreState B)) (n : Shows N) (ask : Ask) (old new : N) (before after : End) (how : Status) → start firsts
+    → Hosts g n (λ f. f ≡ firsts) ask old new before after how → IsAskRun g n start ask old new before after how
+hosts-run g start firsts n ask old new before after status.NoMemory holds hosts = absurd hosts.served.serves
+hosts-run g start firsts n ask old new before after status.Served holds hosts = begun g start firsts n ask old new before after status.Served holds hosts
+hosts-run g start firsts n ask old new before after status.Usage holds hosts = begun g start firsts n ask old new before after status.Usage holds hosts
+hosts-run g start firsts n ask old new before after status.NetFailed holds hosts = begun g start firsts n ask old new before after status.NetFailed holds hosts
+hosts-run g start firsts n ask old new before after status.SinkFailed holds hosts = begun g start firsts n ask old new before after status.SinkFailed holds hosts

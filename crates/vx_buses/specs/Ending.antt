@@ -5,10 +5,10 @@ use Rattle.std.specs.List.{All, AllPairs}
 use Rattle.vx_io_traits.specs.Stands.{Goes}
 use Rattle.vx_calls.specs.declared.calls.Role.{Role}
 use Rattle.vx_calls.specs.declared.limits.TheConstants.{RECORD_MAX}
-use Rattle.vx_bus_traits.specs.declared.bus.Bus.{Ghosts}
+use Rattle.vx_bus_traits.specs.Steps.{Cut}
 use Rattle.vx_gate.specs.History.{groups}
 use Rattle.vx_gate.specs.PassView.{PassView}
-use Rattle.vx_gates.specs.Four.{Four, at, EachOf}
+use Rattle.vx_gates.specs.Four.{Four, at}
 use Rattle.vx_record.specs.Records.{records}
 use Rattle.vx_exchange.specs.Meaning.{meaning, Junk}
 use Rattle.vx_group.specs.Event.{Down}
@@ -24,11 +24,12 @@ use Rattle.vx_stream.specs.declared.ends.End.{End}
 use Rattle.vx_session.specs.Placing.{Placed, Makes}
 use Rattle.vx_session.specs.Turning.{Leaves}
 use Rattle.vx_session.specs.Ending.{Upholds}
+use Rattle.vx_buses.specs.Origins.{Origins, on, OnEach}
 use Rattle.vx_buses.specs.Serving.{Item, Serves, answered, placed_on, numbers}
 
 -- the connection of each bus went
-abbrev pub LeavesAll : Four (PassView Group) → Four ℕ → Four (PassView Group) → Type 0
-LeavesAll passes conns passes' = EachOf Leaves passes conns passes'
+abbrev pub LeavesAll : {B : Type 0} → Origins B → Four (PassView Group) → Four ℕ → Four (PassView Group) → Type 0
+LeavesAll g passes conns passes' = OnEach (λ o pass conn pass'. Leaves o pass conn pass') g passes conns passes'
 
 -- the events of what a pass has seen, as a history of the gateway of one thread
 abbrev pub history_of : PassView Group → List Entry
@@ -41,7 +42,7 @@ GivesOnce passes = AllPairs (λ a b. a ≢ b) (given_by_all (history_of passes.z
 -- A session on connections of this role, one of each bus: the records that it served, in their order; the bytes `front` that it looked
 -- at, and those that it received behind them; the replies, of which the link took `written`; and the end of each connection. What it
 -- received and what the link took are each in order; which of the two came first isn't said.
-pub record SessionDid {B L : Type 0} (g : Ghosts B) (stands : L → List ℕ → List ℕ → Type 0) (told : ℕ) (r : Role) (conns : Four ℕ) (passes : Four (PassView Group)) (link : L)
+pub record SessionDid {B L : Type 0} (g : Origins B) (stands : L → List ℕ → List ℕ → Type 0) (told : ℕ) (r : Role) (conns : Four ℕ) (passes : Four (PassView Group)) (link : L)
     (seen : LinkShown) (how : End) (passes' : Four (PassView Group)) (link' : L) (seen' : LinkShown) : Type 0 where
   pub items : List Item
   pub lasts : Four Placed
@@ -53,14 +54,15 @@ pub record SessionDid {B L : Type 0} (g : Ghosts B) (stands : L → List ℕ →
   pub makes : (bus : ℕ) → bus ≤ 3 → Makes told (at bus passes) (placed_on bus items ++ at bus lasts ∷ []) (at bus passes')
   pub each : All (Serves g (numbers passes) conns r) items
   pub down : (bus : ℕ) → bus ≤ 3 → (at bus lasts).group.events ≡ Down (at bus conns) ∷ []
+  pub cut : (bus : ℕ) → bus ≤ 3 → (at bus lasts).group.steps ≡ Cut ∷ []
   -- the bytes that came and went
   pub bytes : Goes stands link link' written (front ++ behind)
   pub goes : LinkGoes seen (front ++ behind) seen'
   pub wrote : replies (answered items) ≡ written ++ unsent
   -- why it ended: a message without a reply is junk
   pub ended : EndsSo (λ message. meaning message r ≡ Junk) seen (answered items) (records RECORD_MAX front) behind unsent seen' (Some how)
-  -- each bus has a legal history of its own, with its laws
-  pub upholds : (bus : ℕ) → bus ≤ 3 → Upholds (at bus passes')
+  -- each bus has a legal history of its own, over the one bus that its gate was started over, with its laws
+  pub upholds : (bus : ℕ) → bus ≤ 3 → Upholds (on bus g) (at bus passes')
   -- no number of a link is given twice over all four
   pub links : (bus : ℕ) → bus ≤ 3 → All IsLink (links_given (history_of (at bus passes')))
   pub once : GivesOnce passes'

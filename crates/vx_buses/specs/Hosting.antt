@@ -5,6 +5,7 @@ use Rattle.vx_io_traits.specs.declared.ReadOut.{ReadOut}
 use Rattle.vx_io_traits.specs.declared.WriteOut.{WriteOut}
 use Rattle.vx_door.specs.Going.{Went}
 use Rattle.vx_bus_traits.specs.declared.bus.Bus.{Ghosts}
+use Rattle.vx_core.specs.CoreState.{CoreState}
 use Rattle.vx_gate.specs.Seats.{nowhere}
 use Rattle.vx_gate.specs.PassView.{PassView, GateId}
 use Rattle.vx_gates.specs.Four.{Four, at, Each}
@@ -14,11 +15,14 @@ use Rattle.vx_stream.specs.Shown.{LinkShown}
 use Rattle.vx_session.specs.declared.links.Linked.{Linked}
 use Rattle.vx_session.specs.declared.links.Linked.TheVariants as linked
 use Rattle.vx_rooms.specs.Counting.{IsClear}
+use Rattle.vx_buses.specs.Origins.{origins}
 use Rattle.vx_buses.specs.Linking.{LinkDid}
 
--- what it has between two links: its passes of four gates, and the greatest moment that its clock has told
-pub record Hosting : Type 0 where
+-- what it has between two links: its passes of four gates, the cores, each with its bus, that these gates were started over, and the
+-- greatest moment that its clock has told
+pub record Hosting (B : Type 0) : Type 0 where
   pub passes : Four (PassView Group)
+  pub firsts : Four (CoreState B)
   pub told : ℕ
 
 -- passes of no gate
@@ -41,16 +45,19 @@ pub record IsReady (count : ℕ) (held : Option (Four (PassView Group))) (gates 
   pub clear : (bus : ℕ) → bus ≤ 3 → IsClear count (at bus passes)
 
 -- It begins with the first pass of each of four gates, which has all 4,294,967,296 parts, has seen nothing and made nothing: so each
--- bus's history begins with nothing, and all of it is made by these passes.
-pub record Begins (server : Hosting) : Type 0 where
+-- bus's history begins with nothing, and all of it is made by these passes. `start` tells of the cores that the gates were started
+-- over.
+pub record Begins {B : Type 0} (start : Four (CoreState B) → Type 0) (server : Hosting B) : Type 0 where
   pub gates : Four GateId
   pub first : Each IsFirst server.passes gates
+  pub cores : start server.firsts
 
--- A link was served, by receives and sends of the door alone, and none of its connections was refused for want of room. `receives` and
--- `sends` are what one of them does.
+-- A link was served, at the gates that it had, by receives and sends of the door alone, and none of its connections was refused for
+-- want of room. `receives` and `sends` are what one of them does.
 pub record PeerDid {B N : Type 0} (g : Ghosts B) (stands : N → List ℕ → List ℕ → Type 0) (receives : N → List ℕ → ReadOut → List ℕ → N → Type 0) (sends : N → List ℕ → WriteOut → N → Type 0)
-    (shown : N → LinkShown) (server : Hosting) (door : N) (how : Linked) (server' : Hosting) (door' : N) : Type 0 where
-  pub did : LinkDid g stands server'.told server.passes door (shown door) how server'.passes door' (shown door')
+    (shown : N → LinkShown) (server : Hosting B) (door : N) (how : Linked) (server' : Hosting B) (door' : N) : Type 0 where
+  pub did : LinkDid (origins g server.firsts) stands server'.told server.passes door (shown door) how server'.passes door' (shown door')
+  pub same : server'.firsts ≡ server.firsts
   pub went : Went receives sends door door'
   pub later : server.told ≤ server'.told
   pub room : how ≢ linked.Full

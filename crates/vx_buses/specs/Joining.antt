@@ -3,10 +3,12 @@
 use Rattle.std.specs.Prelude.{◌≡◌, ℕ, Result, Ok, Err}
 use Rattle.vx_calls.specs.declared.calls.Role.TheVariants as role
 use Rattle.vx_gate.specs.PassView.{PassView}
-use Rattle.vx_gates.specs.Four.{Four, EachOf}
+use Rattle.vx_gates.specs.Four.{Four}
 use Rattle.vx_group.specs.Groups.{Group}
 use Rattle.vx_tables.specs.declared.tables.Connect.{Connect}
+use Rattle.vx_session.specs.Origin.{Origin}
 use Rattle.vx_session.specs.Turning.{Joins, Leaves}
+use Rattle.vx_buses.specs.Origins.{Origins, OnEach}
 use Rattle.vx_buses.specs.declared.joining.Joined.{Joined}
 
 -- what each bus answered, by the buses' numbers
@@ -14,8 +16,8 @@ abbrev pub joined_shown : Joined → Four (Result ℕ Connect)
 joined_shown j = record { zero_ = j.zero; one = j.one; two = j.two; three = j.three }
 
 -- each bus was asked for a connection
-abbrev pub JoinsAll : Four (PassView Group) → Four (Result ℕ Connect) → Four (PassView Group) → Type 0
-JoinsAll passes joined passes' = EachOf (λ pass answer pass'. Joins pass role.Core answer pass') passes joined passes'
+abbrev pub JoinsAll : {B : Type 0} → Origins B → Four (PassView Group) → Four (Result ℕ Connect) → Four (PassView Group) → Type 0
+JoinsAll g passes joined passes' = OnEach (λ o pass answer pass'. Joins o pass role.Core answer pass') g passes joined passes'
 
 -- all four connections, where all came up, or else why the first that didn't come up was refused
 abbrev pub outcome : Four (Result ℕ Connect) → Result (Four ℕ) Connect
@@ -28,9 +30,9 @@ outcome j = by j.zero_ j.one j.two j.three where
   by (Ok x) (Ok y) (Ok z) (Ok w) = Ok (record { zero_ = x; one = y; two = z; three = w })
 
 -- a connection that came up goes again
-abbrev pub Undone : PassView Group → Result ℕ Connect → PassView Group → Type 0
-Undone pass (Ok conn) pass' = Leaves pass conn pass'
-Undone pass (Err why) pass' = pass' ≡ pass
+abbrev pub Undone : {B : Type 0} → Origin B → PassView Group → Result ℕ Connect → PassView Group → Type 0
+Undone g pass (Ok conn) pass' = Leaves g pass conn pass'
+Undone g pass (Err why) pass' = pass' ≡ pass
 
-abbrev pub UndoneAll : Four (PassView Group) → Four (Result ℕ Connect) → Four (PassView Group) → Type 0
-UndoneAll passes joined passes' = EachOf Undone passes joined passes'
+abbrev pub UndoneAll : {B : Type 0} → Origins B → Four (PassView Group) → Four (Result ℕ Connect) → Four (PassView Group) → Type 0
+UndoneAll g passes joined passes' = OnEach (λ o pass answer pass'. Undone o pass answer pass') g passes joined passes'

@@ -1,3 +1,4 @@
+pub mod Origins
 pub mod Meant
 pub mod Serving
 pub mod Holding

@@ -14,6 +14,8 @@ use Rattle.vx_peers.specs.declared.serving.Status.TheVariants as status
 use Rattle.vx_peers.specs.Outcome as peers
 use Rattle.vx_peers.specs.Outcome.{Asks, AsksNothing, PutsLine, IsServed, status_number}
 use Rattle.vx_bus_traits.specs.declared.bus.Bus.{Ghosts}
+use Rattle.vx_core.specs.CoreState.{CoreState}
+use Rattle.vx_gates.specs.Four.{Four}
 use Rattle.vx_stream.specs.Shown.{LinkShown}
 use Rattle.vx_session.specs.declared.links.Linked.{Linked}
 use Rattle.vx_buses.specs.Linking.{is_own, is_whole}
@@ -36,33 +38,35 @@ pub record Shows (N : Type 0) : Type 1 where
 
 module _ {B N : Type 0} (g : Ghosts B) (n : Shows N) where
   -- serving a link of the door
-  abbrev pub Does : Hosting → N → Linked → Hosting → N → Type 0
+  abbrev pub Does : Hosting B → N → Linked → Hosting B → N → Type 0
   Does = PeerDid g n.stands n.receives n.sends n.link
 
   -- the door with what its server does, as a program over a door has it
-  abbrev pub hosted : peers.Shows N Hosting Linked
+  abbrev pub hosted : peers.Shows N (Hosting B) Linked
   hosted = record { stands = n.stands; tells = n.tells; waits = n.waits; door = n.door; did = Does; own = is_own; whole = is_whole }
 
-  -- The work at the port that is asked for, by four gates that begin with nothing. As serving a link leaves the door's own counts, those tell how many
-  -- it met over the whole run.
-  pub record Hosts (ask : Ask) (old new : N) (before after : End) (how : Status) : Type 0 where
-    pub server : Hosting
-    pub begins : Begins server
-    pub server' : Hosting
-    pub served : IsServed hosted n.opening ask server old server' new before after how
-    pub keeps : KeepsOwn n.door Does
+  -- `start` tells of the cores, each with its bus, that the four gates are started over
+  module _ (start : Four (CoreState B) → Type 0) where
+    -- The work at the port that is asked for, by four gates that begin with nothing. As serving a link leaves the door's own counts, those tell how many
+    -- it met over the whole run.
+    pub record Hosts (ask : Ask) (old new : N) (before after : End) (how : Status) : Type 0 where
+      pub server : Hosting B
+      pub begins : Begins start server
+      pub server' : Hosting B
+      pub served : IsServed hosted n.opening ask server old server' new before after how
+      pub keeps : KeepsOwn n.door Does
 
-  -- How what is asked ends: there was no memory, and nothing was opened or written; or the work at the port ended.
-  abbrev pub IsAskRun : Ask → N → N → End → End → Status → Type 0
-  IsAskRun ask old new before after status.NoMemory = (new ≡ old) × (after ≡ before)
-  IsAskRun ask old new before after how = Hosts ask old new before after how
+    -- How what is asked ends: there was no memory, and nothing was opened or written; or the work at the port ended.
+    abbrev pub IsAskRun : Ask → N → N → End → End → Status → Type 0
+    IsAskRun ask old new before after status.NoMemory = (new ≡ old) × (after ≡ before)
+    IsAskRun ask old new before after how = Hosts ask old new before after how
 
-  -- How a run ends: the words ask nothing, which is told; or what they ask is done.
-  abbrev pub IsRun : List (List ℕ) → N → N → End → End → Status → Type 0
-  IsRun words old new before after how =
-      (AsksNothing words × (new ≡ old) × PutsLine status.Usage usage_line before after how)
-      ⊎ ((ask : Ask) × Asks words ask × IsAskRun ask old new before after how)
+    -- How a run ends: the words ask nothing, which is told; or what they ask is done.
+    abbrev pub IsRun : List (List ℕ) → N → N → End → End → Status → Type 0
+    IsRun words old new before after how =
+        (AsksNothing words × (new ≡ old) × PutsLine status.Usage usage_line before after how)
+        ⊎ ((ask : Ask) × Asks words ask × IsAskRun ask old new before after how)
 
-  -- it ends with the number of its status
-  abbrev pub EndsRun : List (List ℕ) → N → N → End → End → ℕ → Type 0
-  EndsRun words old new before after number = (how : Status) × (number ≡ status_number how) × IsRun words old new before after how
+    -- it ends with the number of its status
+    abbrev pub EndsRun : List (List ℕ) → N → N → End → End → ℕ → Type 0
+    EndsRun words old new before after number = (how : Status) × (number ≡ status_number how) × IsRun words old new before after how

@@ -7,16 +7,17 @@ use Rattle.vx_calls.specs.declared.calls.Role.{Role}
 use Rattle.vx_calls.specs.Call.{Call}
 use Rattle.vx_calls.specs.Call as call
 use Rattle.vx_record.specs.Fragments.{record_of}
-use Rattle.vx_bus_traits.specs.declared.bus.Bus.{Ghosts}
 use Rattle.vx_gate.specs.PassView.{PassView}
 use Rattle.vx_gates.specs.Four.{Four, at, put}
 use Rattle.vx_group.specs.Groups.{Group}
 use Rattle.vx_routes.specs.Replying.{renumbered}
 use Rattle.vx_stream.specs.Answered.{Answered}
+use Rattle.vx_session.specs.Origin.{Origin}
 use Rattle.vx_session.specs.Placing.{Placed, Makes}
 use Rattle.vx_session.specs.Serving.{IsCalled, IsAborted}
 use Rattle.vx_exchange.specs.Meaning as one
 use Rattle.vx_exchange.specs.Meaning.{meaning}
+use Rattle.vx_buses.specs.Origins.{Origins, on}
 use Rattle.vx_buses.specs.Meant.{Meant, Junk, Told, Asks, Aborts, meant}
 
 -- the record of a reply as the client is told it: in a create_link's the number of the link is the one over all buses
@@ -25,7 +26,7 @@ outward (call.CreateLink client lock lock_timeout device) bus given = renumbered
 outward asked bus given = given
 
 -- A call was answered by its bus, as its session there answers it, and the client was told the reply.
-pub record IsAsked {B : Type 0} (g : Ghosts B) (number conn xid : ℕ) (asked : Call) (bus : ℕ) (placed : List Placed) (out : List ℕ) : Type 0 where
+pub record IsAsked {B : Type 0} (g : Origin B) (number conn xid : ℕ) (asked : Call) (bus : ℕ) (placed : List Placed) (out : List ℕ) : Type 0 where
   pub calls : List Rang
   pub given : List ℕ
   pub called : IsCalled g number conn xid asked placed calls given
@@ -33,10 +34,10 @@ pub record IsAsked {B : Type 0} (g : Ghosts B) (number conn xid : ℕ) (asked : 
 
 -- A message that is answered without a bus adds no group; a call adds its groups to its bus's history; junk isn't served. `numbers` are
 -- those of the passes, and `conns` those of the connections, by their buses.
-abbrev pub IsServed : {B : Type 0} → Ghosts B → (numbers conns : Four ℕ) → Meant → (bus : ℕ) → List Placed → List ℕ → Type 0
+abbrev pub IsServed : {B : Type 0} → Origins B → (numbers conns : Four ℕ) → Meant → (bus : ℕ) → List Placed → List ℕ → Type 0
 IsServed g numbers conns Junk bus placed out = ⊥
 IsServed g numbers conns (Told message) bus placed out = (placed ≡ []) × (out ≡ record_of message)
-IsServed g numbers conns (Asks b xid there) bus placed out = (bus ≡ b) × IsAsked g (at bus numbers) (at bus conns) xid there bus placed out
+IsServed g numbers conns (Asks b xid there) bus placed out = (bus ≡ b) × IsAsked (on bus g) (at bus numbers) (at bus conns) xid there bus placed out
 IsServed g numbers conns (Aborts b xid lid) bus placed out = (bus ≡ b) × IsAborted (at bus conns) xid lid placed [] out
 
 -- A record's message and the record of its reply; the bus that it was served by, and the groups that it added to that one's history.
@@ -46,7 +47,7 @@ pub record Item : Type 0 where
   pub placed : List Placed
 
 -- it was served so, by one of the four buses
-pub record Serves {B : Type 0} (g : Ghosts B) (numbers conns : Four ℕ) (r : Role) (item : Item) : Type 0 where
+pub record Serves {B : Type 0} (g : Origins B) (numbers conns : Four ℕ) (r : Role) (item : Item) : Type 0 where
   pub within : item.bus ≤ 3
   pub served : IsServed g numbers conns (meant item.answered.message r) item.bus item.placed item.answered.reply
 
@@ -72,7 +73,7 @@ pub record State : Type 0 where
   pub told : ℕ
 
 -- A message was served by this reply. Its bus's pass went on; the other three stay as they were.
-pub record IsAnswered {B : Type 0} (g : Ghosts B) (s : State) (message reply : List ℕ) (s' : State) : Type 0 where
+pub record IsAnswered {B : Type 0} (g : Origins B) (s : State) (message reply : List ℕ) (s' : State) : Type 0 where
   pub passes : Four (PassView Group)
   pub bus : ℕ
   pub within : bus ≤ 3
@@ -84,19 +85,19 @@ pub record IsAnswered {B : Type 0} (g : Ghosts B) (s : State) (message reply : L
   pub served : IsServed g (numbers passes) s.conns (meant message s.role) bus placed reply
 
 -- junk is no call and changes nothing; any other message is served
-abbrev pub HasReply : {B : Type 0} → Ghosts B → State → List ℕ → Option (List ℕ) → State → Type 0
+abbrev pub HasReply : {B : Type 0} → Origins B → State → List ℕ → Option (List ℕ) → State → Type 0
 HasReply g s message None s' = (meaning message s.role ≡ one.Junk) × (s'.passes ≡ s.passes)
 HasReply g s message (Some reply) s' = IsAnswered g s message reply s'
 
 -- what a message on the connections does
-pub record MessageDoes {B : Type 0} (g : Ghosts B) (s : State) (message : List ℕ) (reply : Option (List ℕ)) (s' : State) : Type 0 where
+pub record MessageDoes {B : Type 0} (g : Origins B) (s : State) (message : List ℕ) (reply : Option (List ℕ)) (s' : State) : Type 0 where
   pub role : s'.role ≡ s.role
   pub conns : s'.conns ≡ s.conns
   pub later : s.told ≤ s'.told
   pub has : HasReply g s message reply s'
 
 -- a message of this meaning was served by one of the four buses, or by none
-pub record ServesCall {B : Type 0} (g : Ghosts B) (told : ℕ) (passes : Four (PassView Group)) (conns : Four ℕ) (m : Meant) (out : List ℕ) (passes' : Four (PassView Group)) : Type 0 where
+pub record ServesCall {B : Type 0} (g : Origins B) (told : ℕ) (passes : Four (PassView Group)) (conns : Four ℕ) (m : Meant) (out : List ℕ) (passes' : Four (PassView Group)) : Type 0 where
   pub bus : ℕ
   pub within : bus ≤ 3
   pub placed : List Placed

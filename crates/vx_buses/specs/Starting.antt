@@ -1,6 +1,9 @@
+-- To be believed.
 -- The four gateways of the program as they start.
 use Rattle.std.specs.Prelude.{◌≡◌, ℕ, List, [], ◌∷◌, ◌++◌, None}
+use Rattle.std.specs.List.{All}
 use Rattle.vx_488.specs.declared.transfers.Addr.{Addr}
+use Rattle.vx_bus_traits.specs.Means.{first_means}
 use Rattle.vx_flow.specs.FineState.{first_fine}
 use Rattle.vx_inst.specs.Behavior.{Behavior}
 use Rattle.vx_rack.specs.declared.Spare.{Spare}
@@ -8,6 +11,7 @@ use Rattle.vx_sim.specs.Occupants.{Seated, Boxed, handed_in}
 use Rattle.vx_sim.specs.SimState.{SimState, first_state}
 use Rattle.vx_sim.specs.Attaching.{IsAttached}
 use Rattle.vx_core.specs.CoreState.{CoreState}
+use Rattle.vx_gates.specs.Four.{Four, listed}
 
 -- primary address 5, without a secondary
 abbrev pub place : Addr
@@ -25,6 +29,15 @@ AreFurnished [] [] = Unit {0}
 AreFurnished [] (core ∷ cores) = ⊥
 AreFurnished (inst ∷ insts) [] = ⊥
 AreFurnished (inst ∷ insts) (core ∷ cores) = IsFurnished inst core × AreFurnished insts cores
+
+-- a gateway with nothing in it, whose abort channel is at port 9011, over a bus that nobody has asked yet
+pub record IsNew (core : CoreState SimState) : Type 0 where
+  pub fine : core.fine ≡ first_fine 9011
+  pub means : core.bus.means ≡ first_means
+
+-- each of four is so
+abbrev pub AreNew : Four (CoreState SimState) → Type 0
+AreNew firsts = All IsNew (listed firsts)
 
 -- the first instrument of a rack was taken, and a gateway over it stands behind the others
 pub record AddsCore {I : Type 0} (behaves : I → Behavior) (nature : I → List ℕ) (rack : List (Spare I)) (cores : List (CoreState SimState)) (rack' : List (Spare I)) (cores' : List (CoreState SimState)) : Type 0 where

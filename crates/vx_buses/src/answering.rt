@@ -7,12 +7,13 @@ ghost use Rattle.vx_exchange.specs.declared.record.TheConstants.{REPLY_ROOM};
 ghost use Rattle.vx_gate.specs.PassView.{PassView};
 ghost use Rattle.vx_gates.specs.Four.{Four};
 ghost use Rattle.vx_gates.specs.Passing.{passes_shown};
-ghost use Rattle.vx_gates.specs.Standing.{gates_shown};
+ghost use Rattle.vx_gates.specs.Standing.{gates_shown, firsts_shown};
 ghost use Rattle.vx_group.specs.Groups.{Group};
 ghost use Rattle.vx_rules.specs.Calls.{IsShort};
 ghost use Rattle.vx_rules.specs.One.{may_wait};
 ghost use Rattle.std.specs.Prelude.{true};
 ghost use Rattle.vx_routes.specs.Routing.{route_of};
+ghost use Rattle.vx_buses.specs.Origins.{origins};
 ghost use Rattle.vx_buses.specs.Holding.{four_of, Holds};
 ghost use Rattle.vx_buses.specs.Meant.{by_way};
 ghost use Rattle.vx_buses.specs.Serving.{MessageDoes, ServesCall};
@@ -44,10 +45,10 @@ impl<'a, R: Wait, B: Bus, C: Clock, P: Pause> Answers for Many<'a, R, B, C, P> {
     // the connections are idle
     ghost can = { λ s. (passes : Four (PassView Group)) × (option_map passes_shown s.held.now ≡ Some passes) × Holds passes (gates_shown s.buses.now) (four_of s.conns) s.role };
 
-    ghost does = { λ s message reply s'. MessageDoes B.Bus
+    ghost does = { λ s message reply s'. MessageDoes (origins B.Bus (firsts_shown s.buses.now))
         (record { role = s.role; conns = four_of s.conns; passes = option_map passes_shown s.held.now; told = C.told s.clock.now }) message reply
         (record { role = s'.role; conns = four_of s'.conns; passes = option_map passes_shown s'.held.now; told = C.told s'.clock.now })
-        × (s'.held.ghost_name ≡ s.held.ghost_name) × (s'.clock.ghost_name ≡ s.clock.ghost_name) };
+        × (s'.held.ghost_name ≡ s.held.ghost_name) × (s'.clock.ghost_name ≡ s.clock.ghost_name) × (firsts_shown s'.buses.now ≡ firsts_shown s.buses.now) };
 
     ghost longest = { RECORD_MAX };
 
@@ -99,7 +100,7 @@ fn serve_record<R: Wait, B: Bus, C: Clock, P: Pause>(
     requires holds { Holds (passes_shown passes) (gates_shown buses.now) (four_of conns.now) role }
     requires short { length message.now ≤ RECORD_MAX }
     requires room { REPLY_ROOM ≤ length reply.old }
-    ensures does { MessageDoes B.Bus (record { role = role; conns = four_of conns.now; passes = Some (passes_shown passes); told = C.told clock.old }) message.now
+    ensures does { MessageDoes (origins B.Bus (firsts_shown buses.now)) (record { role = role; conns = four_of conns.now; passes = Some (passes_shown passes); told = C.told clock.old }) message.now
         (option_map (λ n. take n reply.new) result.1) (record { role = role; conns = four_of conns.now; passes = Some (passes_shown result.0); told = C.told clock.new }) }
     ensures holds { Holds (passes_shown result.0) (gates_shown buses.now) (four_of conns.now) role }
     ensures within { IfSome result.1 (λ n. n ≤ length reply.new) }
@@ -138,7 +139,7 @@ fn serve_call<R: Wait, B: Bus, C: Clock, P: Pause>(
     requires waits { may_wait (call_shown call) ≡ true }
     requires short { IsShort (call_shown call) }
     requires room { REPLY_ROOM ≤ length reply.old }
-    ensures served { ServesCall B.Bus (C.told clock.new) (passes_shown passes) (four_of conns.now) (by_way xid (route_of (call_shown call.entry))) (take result.1 reply.new) (passes_shown result.0) }
+    ensures served { ServesCall (origins B.Bus (firsts_shown buses.now)) (C.told clock.new) (passes_shown passes) (four_of conns.now) (by_way xid (route_of (call_shown call.entry))) (take result.1 reply.new) (passes_shown result.0) }
     ensures holds { Holds (passes_shown result.0) (gates_shown buses.now) (four_of conns.now) role.Core }
     ensures told { C.told clock.old ≤ C.told clock.new }
     ensures within { result.1 ≤ length reply.new }

@@ -5,12 +5,13 @@ ghost use Rattle.vx_calls.specs.Call.{call_shown};
 ghost use Rattle.vx_exchange.specs.declared.record.TheConstants.{REPLY_ROOM};
 ghost use Rattle.vx_gates.specs.Four.{at, Each};
 ghost use Rattle.vx_gates.specs.Passing.{passes_shown, IsOf};
-ghost use Rattle.vx_gates.specs.Standing.{gates_shown};
+ghost use Rattle.vx_gates.specs.Standing.{gates_shown, firsts_shown};
 ghost use Rattle.vx_group.specs.Phases.{Idle};
 ghost use Rattle.vx_rules.specs.Calls.{IsShort};
 ghost use Rattle.vx_rules.specs.One.{may_wait};
 ghost use Rattle.vx_session.specs.Turning.{phase_at};
 ghost use Rattle.vx_session.specs.Serving.{IsAborted};
+ghost use Rattle.vx_buses.specs.Origins.{origins, on};
 ghost use Rattle.vx_buses.specs.Asking.{OnBus};
 ghost use Rattle.vx_buses.specs.Holding.{four_of};
 ghost use Rattle.vx_buses.specs.Serving.{IsAsked, outward};
@@ -57,7 +58,7 @@ pub(crate) fn ask_bus<R: Wait, B: Bus, C: Clock, P: Pause>(
     requires short { IsShort (call_shown call.now) }
     requires room { REPLY_ROOM ≤ length reply.old }
     ensures asks { OnBus (C.told clock.new) (passes_shown passes) bus
-        (λ placed. IsAsked B.Bus (at bus (passes_shown passes)).number (at bus (four_of conns.now)) xid (call_shown call.now) bus placed (take result.1 reply.new))
+        (λ placed. IsAsked (on bus (origins B.Bus (firsts_shown buses.now))) (at bus (passes_shown passes)).number (at bus (four_of conns.now)) xid (call_shown call.now) bus placed (take result.1 reply.new))
         (passes_shown result.0) }
     ensures phase { phase_at (at bus (passes_shown result.0)) (at bus (four_of conns.now)) ≡ Idle role.Core }
     ensures told { C.told clock.old ≤ C.told clock.new }

@@ -47,7 +47,7 @@ impl<'a, R: Wait, N: Door, B: Bus, C: Clock, P: Pause> Serves<N> for Host<'a, R,
     ghost use Rattle.vx_io_traits.specs.Faults.{Rose};
     ghost use Rattle.vx_door.specs.Serving.{is_cut};
     ghost use Rattle.vx_gates.specs.Passing.{passes_shown};
-    ghost use Rattle.vx_gates.specs.Standing.{gates_shown};
+    ghost use Rattle.vx_gates.specs.Standing.{gates_shown, firsts_shown};
     ghost use Rattle.vx_stream.specs.Shown.{link_shown};
     ghost use Rattle.vx_buses.specs.Hosting.{IsReady, PeerDid, passes_of};
     ghost use Rattle.vx_buses.specs.Linking.{is_own, is_whole};
@@ -57,8 +57,8 @@ impl<'a, R: Wait, N: Door, B: Bus, C: Clock, P: Pause> Serves<N> for Host<'a, R,
     ghost can = { λ s. IsReady s.served (option_map passes_shown s.held) (gates_shown s.buses) };
 
     ghost did = { λ s door how s' door'. PeerDid B.Bus N.stands N.receives N.sends (link_shown N.left N.peers N.receive_faults N.send_faults)
-        (record { passes = passes_of (option_map passes_shown s.held); told = C.told s.clock }) door how
-        (record { passes = passes_of (option_map passes_shown s'.held); told = C.told s'.clock }) door' };
+        (record { passes = passes_of (option_map passes_shown s.held); firsts = firsts_shown s.buses; told = C.told s.clock }) door how
+        (record { passes = passes_of (option_map passes_shown s'.held); firsts = firsts_shown s'.buses; told = C.told s'.clock }) door' };
 
     ghost is_own = { is_own };
 

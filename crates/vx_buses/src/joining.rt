@@ -1,13 +1,15 @@
 //! The connections of a link to four buses: one of each comes up, or none stays.
 ghost use Rattle.std.specs.Prelude.{◌≡◌, ◌≤◌, Ok, Err, IfOk, IfErr};
 ghost use Rattle.vx_calls.specs.declared.calls.Role.TheVariants as role;
-ghost use Rattle.vx_gate.specs.Gates.{gate_of};
+ghost use Rattle.vx_gate.specs.Gates.{gate_of, first_of};
 ghost use Rattle.vx_gates.specs.Four.{Each};
 ghost use Rattle.vx_gates.specs.Passing.{passes_shown, IsOf};
-ghost use Rattle.vx_gates.specs.Standing.{gates_shown};
+ghost use Rattle.vx_gates.specs.Standing.{gates_shown, firsts_shown};
 ghost use Rattle.vx_group.specs.Phases.{Idle};
+ghost use Rattle.vx_session.specs.Origin.{origin};
 ghost use Rattle.vx_session.specs.Turning.{phase_at};
 ghost use Rattle.vx_buses.specs.Holding.{four_of};
+ghost use Rattle.vx_buses.specs.Origins.{origins};
 ghost use Rattle.vx_buses.specs.Joining.{JoinsAll, Undone, UndoneAll, joined_shown, outcome};
 
 use crate::{BusPass, Buses};
@@ -37,7 +39,7 @@ pub(crate) fn join_all<R: Wait, B: Bus>(
     passes: BusPass<B>,
 ) -> (BusPass<B>, Joined)
     requires gates { Each IsOf (passes_shown passes) (gates_shown buses.now) }
-    ensures joins { JoinsAll (passes_shown passes) (joined_shown result.1) (passes_shown result.0) }
+    ensures joins { JoinsAll (origins B.Bus (firsts_shown buses.now)) (passes_shown passes) (joined_shown result.1) (passes_shown result.0) }
     ensures gates { Each IsOf (passes_shown result.0) (gates_shown buses.now) }
 {
     let (zero, zeroth) = join(rt, alloc, &buses.zero, passes.zero, Role::Core);
@@ -80,7 +82,7 @@ fn undo<R: Wait, B: Bus>(
 ) -> Pass<Core<B>>
     requires gate { pass.gate ≡ gate_of gate.now }
     requires phase { IfOk joined (λ conn. phase_at pass conn ≡ Idle role.Core) }
-    ensures { Undone pass joined result }
+    ensures { Undone (origin B.Bus (first_of gate.now)) pass joined result }
 {
     match joined {
         Ok(conn) => leave(rt, gate, pass, conn),
@@ -97,7 +99,7 @@ pub(crate) fn undo_all<R: Wait, B: Bus>(
 ) -> BusPass<B>
     requires gates { Each IsOf (passes_shown passes) (gates_shown buses.now) }
     requires phases { Each (λ pass answer. IfOk answer (λ conn. phase_at pass conn ≡ Idle role.Core)) (passes_shown passes) (joined_shown joined.now) }
-    ensures { UndoneAll (passes_shown passes) (joined_shown joined.now) (passes_shown result) }
+    ensures { UndoneAll (origins B.Bus (firsts_shown buses.now)) (passes_shown passes) (joined_shown joined.now) (passes_shown result) }
 {
     Passes {
         zero: undo(rt, &buses.zero, passes.zero, joined.zero),

@@ -3,8 +3,9 @@ ghost use Rattle.std.specs.Prelude.{◌≡◌};
 ghost use Rattle.vx_calls.specs.declared.calls.Role.{Role};
 ghost use Rattle.vx_gates.specs.Four.{Each};
 ghost use Rattle.vx_gates.specs.Passing.{passes_shown, IsOf};
-ghost use Rattle.vx_gates.specs.Standing.{gates_shown};
+ghost use Rattle.vx_gates.specs.Standing.{gates_shown, firsts_shown};
 ghost use Rattle.vx_buses.specs.Ending.{LeavesAll};
+ghost use Rattle.vx_buses.specs.Origins.{origins};
 ghost use Rattle.vx_buses.specs.Holding.{four_of, AreIdle};
 
 use crate::{BusPass, Buses};
@@ -22,7 +23,7 @@ pub(crate) fn leave_all<R: Wait, B: Bus>(
 ) -> BusPass<B>
     requires gates { Each IsOf (passes_shown passes) (gates_shown buses.now) }
     requires idle { (r : Role) × AreIdle (passes_shown passes) (four_of conns.now) r }
-    ensures { LeavesAll (passes_shown passes) (four_of conns.now) (passes_shown result) }
+    ensures { LeavesAll (origins B.Bus (firsts_shown buses.now)) (passes_shown passes) (four_of conns.now) (passes_shown result) }
 {
     let [zero, one, two, three] = *conns;
     Passes {

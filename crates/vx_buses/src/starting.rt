@@ -1,13 +1,12 @@
 //! The gateways of the program as they start: each over a simulated bus with one instrument.
 ghost use Rattle.std.specs.Prelude.{◌≡◌, ◌<◌, ◌+◌, ◌++◌, ◌∷◌, [], length, map, IfSome, OnSome};
 ghost use Rattle.std.specs.List.{All};
-ghost use Rattle.vx_gates.specs.Four.{Each};
+ghost use Rattle.vx_gates.specs.Four.{Each, listed};
 ghost use Rattle.vx_gates.specs.Passing.{passes_shown, IsFirst};
-ghost use Rattle.vx_gates.specs.Standing.{gates_shown};
-ghost use Rattle.vx_group.specs.Groups.{StandsFor};
+ghost use Rattle.vx_gates.specs.Standing.{gates_shown, firsts_shown};
 ghost use Rattle.vx_lone.specs.Lone.{handed, IsOneOf};
 ghost use Rattle.vx_sim.specs.Occupants.{handed_in};
-ghost use Rattle.vx_buses.specs.Starting.{IsFurnished, AreFurnished, AddsCore};
+ghost use Rattle.vx_buses.specs.Starting.{IsFurnished, AreFurnished, AddsCore, IsNew, AreNew};
 
 use crate::{BusPass, Buses};
 use std::alloc::Global;
@@ -68,13 +67,14 @@ fn cores_of<I: Instrument>(alloc: Global, rack: Vec<Spare<I>>) -> Option<Vec<Cor
 }
 
 /// Four gateways behind gates of their own, bus 0 to 3, each over a bus with the instrument of its place in the rack at primary address
-/// 5, and the first passes; none where there is no memory. What stands on a bus is no clause.
+/// 5, whose abort channels are at port 9011, and the first passes; none where there is no memory.
 pub fn start_buses<I: Instrument>(
     alloc: Global,
     rack: Vec<Spare<I>>,
 ) -> Option<(Buses<SimBus<I>>, BusPass<SimBus<I>>)>
     requires { length rack.items ≡ 4 }
-    ensures { IfSome result (λ r. Each IsFirst (passes_shown r.1) (gates_shown r.0)) }
+    ensures started { IfSome result (λ r. Each IsFirst (passes_shown r.1) (gates_shown r.0)) }
+    ensures furnished { IfSome result (λ r. AreFurnished (handed (λ i. I.behaves i) (λ i. I.nature i) rack.items) (listed (firsts_shown r.0))) }
 {
     first_law();
     let cores = cores_of(alloc, rack)?;
@@ -84,9 +84,8 @@ pub fn start_buses<I: Instrument>(
 /// A gateway with nothing in it, over a bus with this instrument of the rack and nothing else.
 fn lone_core<I: Instrument, M: Racked>(alloc: Global, inst: I) -> Option<Core<LoneBus<I, M>>>
     requires { IsOneOf M.rack (handed_in (λ i. I.behaves i) (λ i. I.nature i) inst) }
-    ensures { IfSome result (λ core. StandsFor core.fine []) }
+    ensures { IfSome result (λ core. IsNew core) }
 {
-    first_law();
     let bus = LoneBus::new(alloc, inst).ok()?;
     Core::start(alloc, bus, ABORT_PORT).ok()
 }
@@ -99,10 +98,10 @@ fn add_lone<I: Instrument, M: Racked>(
 ) -> Option<()>
     requires some { 0 < length left.old.items }
     requires racked { All (IsOneOf M.rack) (handed (λ i. I.behaves i) (λ i. I.nature i) left.old.items) }
-    requires stand { All (λ core. StandsFor core.fine []) cores.old.items }
+    requires new { All IsNew cores.old.items }
     ensures taken { length left.old.items ≡ length left.new.items + 1 }
     ensures racked { All (IsOneOf M.rack) (handed (λ i. I.behaves i) (λ i. I.nature i) left.new.items) }
-    ensures stand { All (λ core. StandsFor core.fine []) cores.new.items }
+    ensures new { All IsNew cores.new.items }
     ensures one { IfSome result (λ _. length cores.new.items ≡ length cores.old.items + 1) }
 {
     let spare = left.remove(0);
@@ -118,7 +117,7 @@ fn lone_cores<I: Instrument, M: Racked>(
     requires four { length rack.items ≡ 4 }
     requires racked { M.rack ≡ handed (λ i. I.behaves i) (λ i. I.nature i) rack.items }
     ensures four { IfSome result (λ cores. length cores.items ≡ 4) }
-    ensures stand { IfSome result (λ cores. All (λ core. StandsFor core.fine []) cores.items) }
+    ensures new { IfSome result (λ cores. All IsNew cores.items) }
 {
     let mut left = rack;
     let mut cores = Vec::new(alloc);
@@ -130,15 +129,17 @@ fn lone_cores<I: Instrument, M: Racked>(
 }
 
 /// Four gateways behind gates of their own, each over a bus with an instrument of the rack at primary address 5 and nothing else, and the
-/// first passes; none where there is no memory. They are started in the order of the rack.
+/// first passes; none where there is no memory. They are started in the order of the rack, with their abort channels at port 9011.
 pub(crate) fn start_racked<I: Instrument, M: Racked>(
     alloc: Global,
     rack: Vec<Spare<I>>,
 ) -> Option<(Buses<LoneBus<I, M>>, BusPass<LoneBus<I, M>>)>
     requires four { length rack.items ≡ 4 }
     requires racked { M.rack ≡ handed (λ i. I.behaves i) (λ i. I.nature i) rack.items }
-    ensures { IfSome result (λ r. Each IsFirst (passes_shown r.1) (gates_shown r.0)) }
+    ensures started { IfSome result (λ r. Each IsFirst (passes_shown r.1) (gates_shown r.0)) }
+    ensures new { IfSome result (λ r. AreNew (firsts_shown r.0)) }
 {
+    first_law();
     let cores = lone_cores::<I, M>(alloc, rack)?;
     Buses::start(alloc, cores).ok()
 }

@@ -2,14 +2,15 @@ use Rattle.std.proofs.Common.{take}
 use Rattle.vx_calls.specs.Call.{call_shown}
 use Rattle.vx_calls.specs.declared.calls.Role.TheVariants as role
 use Rattle.vx_gates.specs.Passing.{passes_shown}
-use Rattle.vx_gates.specs.Standing.{gates_shown}
+use Rattle.vx_gates.specs.Standing.{gates_shown, firsts_shown}
+use Rattle.vx_buses.specs.Origins.{origins}
 use Rattle.vx_buses.specs.Holding.{four_of}
 use Rattle.vx_buses.proofs.Answered.{idle-at, holds-on, refused-served, asked-served}
 use Rattle.vx_buses.proofs.answering.serve_call.Goals as goal
 
 pub returns-in-Refused-clause-served : goal.returns-in-Refused-clause-served
 returns-in-Refused-clause-served g c =
-    refused-served g.B.Bus (g.C.Clock.told c.args.clock.now) (passes_shown c.args.passes) (four_of c.args.conns.now) c.args.xid (call_shown c.args.call) c.in-Refused.error _
+    refused-served (origins g.B.Bus (firsts_shown c.args.buses.now)) (g.C.Clock.told c.args.clock.now) (passes_shown c.args.passes) (four_of c.args.conns.now) c.args.xid (call_shown c.args.call) c.in-Refused.error _
     c.in-Refused.ensures.route c.put_error_record.ensures.record
 
 pub ask_bus-requires-clause-phase : goal.ask_bus-requires-clause-phase
@@ -17,7 +18,7 @@ ask_bus-requires-clause-phase g c = idle-at c.in-Goes.bus (passes_shown c.args.p
 
 pub returns-in-Goes-clause-served : goal.returns-in-Goes-clause-served
 returns-in-Goes-clause-served g c =
-    asked-served g.B.Bus (g.C.Clock.told c.ask_bus.new.clock) (passes_shown c.args.passes) (four_of c.args.conns.now) c.args.xid (call_shown c.args.call) (call_shown c.in-Goes.call) c.in-Goes.bus
+    asked-served (origins g.B.Bus (firsts_shown c.args.buses.now)) (g.C.Clock.told c.ask_bus.new.clock) (passes_shown c.args.passes) (four_of c.args.conns.now) c.args.xid (call_shown c.args.call) (call_shown c.in-Goes.call) c.in-Goes.bus
     (take c.ask_bus.result.1 c.ask_bus.new.reply) (passes_shown c.ask_bus.result.0) c.in-Goes.ensures.route (c.in-Goes.ensures.routed c.requires.waits c.requires.short).0 c.ask_bus.ensures.asks
 
 pub returns-in-Goes-clause-holds : goal.returns-in-Goes-clause-holds

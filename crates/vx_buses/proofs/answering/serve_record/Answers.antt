@@ -2,7 +2,8 @@ use Rattle.std.proofs.Common.{refl, sym, subst, take, arith}
 use Rattle.vx_calls.specs.Call.{call_shown}
 use Rattle.vx_calls.specs.declared.calls.Role.TheVariants as role
 use Rattle.vx_gates.specs.Passing.{passes_shown}
-use Rattle.vx_gates.specs.Standing.{gates_shown}
+use Rattle.vx_gates.specs.Standing.{gates_shown, firsts_shown}
+use Rattle.vx_buses.specs.Origins.{origins}
 use Rattle.vx_buses.specs.Holding.{four_of, Holds}
 use Rattle.vx_buses.proofs.Answered.{idle-at, holds-on, answered-does, asks-does, aborts-does}
 use Rattle.vx_buses.proofs.answering.serve_record.Goals as goal
@@ -15,7 +16,7 @@ returns-in-Answered-clause-does g c =
       role = refl;
       conns = refl;
       later = omega arith;
-      has = answered-does g.B.Bus told (passes_shown c.args.passes) (four_of c.args.conns.now) told c.args.role c.args.message.now opens.0 c.open.new.reply c.in-Answered.len opens.1 opens.2;
+      has = answered-does (origins g.B.Bus (firsts_shown c.args.buses.now)) told (passes_shown c.args.passes) (four_of c.args.conns.now) told c.args.role c.args.message.now opens.0 c.open.new.reply c.in-Answered.len opens.1 opens.2;
     }
 
 pub serve_call-passes-requires-clause-holds : goal.serve_call-passes-requires-clause-holds
@@ -27,7 +28,7 @@ returns-in-Asks-clause-does g c = record {
   role = refl;
   conns = refl;
   later = c.serve_call-passes.ensures.told;
-  has = asks-does g.B.Bus (g.C.Clock.told c.serve_call-passes.new.clock) (passes_shown c.args.passes) (four_of c.args.conns.now) (g.C.Clock.told c.args.clock.now) c.args.role c.args.message.now
+  has = asks-does (origins g.B.Bus (firsts_shown c.args.buses.now)) (g.C.Clock.told c.serve_call-passes.new.clock) (passes_shown c.args.passes) (four_of c.args.conns.now) (g.C.Clock.told c.args.clock.now) c.args.role c.args.message.now
       c.in-Asks.xid (call_shown c.in-Asks.call) (take c.serve_call-passes.result.1 c.serve_call-passes.new.reply) (passes_shown c.serve_call-passes.result.0) c.in-Asks.ensures.opens
       c.serve_call-passes.ensures.served;
 }
@@ -48,7 +49,7 @@ returns-in-Aborts-clause-does g c =
       role = refl;
       conns = refl;
       later = omega arith;
-      has = aborts-does g.B.Bus told (passes_shown c.args.passes) (four_of c.args.conns.now) told c.args.role c.args.message.now c.in-Aborts.xid c.in-Aborts.lid c.place_of-bus.result.0
+      has = aborts-does (origins g.B.Bus (firsts_shown c.args.buses.now)) told (passes_shown c.args.passes) (four_of c.args.conns.now) told c.args.role c.args.message.now c.in-Aborts.xid c.in-Aborts.lid c.place_of-bus.result.0
           c.place_of-bus.result.1 (take c.abort_on_bus-passes.result.1 c.abort_on_bus-passes.new.reply) (passes_shown c.abort_on_bus-passes.result.0) c.in-Aborts.ensures.opens
           c.place_of-bus.ensures.place c.place_of-bus.ensures.bus c.abort_on_bus-passes.ensures.aborts;
     }

@@ -2,8 +2,9 @@ use Rattle.std.specs.Prelude.{◌∷◌, ◌++◌, []}
 use Rattle.vx_door.specs.Going.{Not_yet}
 use Rattle.vx_gates.specs.Four.{at}
 use Rattle.vx_gates.specs.Passing.{passes_shown}
-use Rattle.vx_gates.specs.Standing.{gates_shown}
+use Rattle.vx_gates.specs.Standing.{gates_shown, firsts_shown}
 use Rattle.vx_stream.specs.Shown.{link_shown}
+use Rattle.vx_buses.specs.Origins.{origins}
 use Rattle.vx_buses.specs.Joining.{joined_shown}
 use Rattle.vx_buses.specs.Serving.{placed_on}
 use Rattle.vx_buses.proofs.Linked.{gates-kept, link-refused}
@@ -11,7 +12,7 @@ use Rattle.vx_buses.proofs.links.many_link.Goals as goal
 
 pub returns-in-Err-clause-did : goal.returns-in-Err-clause-did
 returns-in-Err-clause-did g c =
-    link-refused g.B.Bus g.L.Link.stands c.headline_law.ensures.headline c.owned_law.ensures c.given_once_law.ensures.once (g.C.Clock.told c.args.clock.now) (passes_shown c.args.passes) (passes_shown c.join_all-passes.result.0) (passes_shown c.undo_all.result) c.args.link.now
+    link-refused (origins g.B.Bus (firsts_shown c.args.buses.now)) g.L.Link.stands c.headline_law.ensures.headline c.owned_law.ensures c.given_once_law.ensures.once (g.C.Clock.told c.args.clock.now) (passes_shown c.args.passes) (passes_shown c.join_all-passes.result.0) (passes_shown c.undo_all.result) c.args.link.now
     (link_shown g.L.Link.left g.L.Link.peers g.L.Link.receive_faults g.L.Link.send_faults c.args.link.now) (joined_shown c.join_all-passes.result.1) c.in-Err.why c.refused.result c.refused.ensures
     c.join_all-passes.ensures.joins c.in-Err.ensures.err c.undo_all.ensures
 

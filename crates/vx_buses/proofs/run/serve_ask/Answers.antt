@@ -1,8 +1,9 @@
+use Rattle.std.proofs.Common.{refl}
 use Rattle.std.specs.Prelude.{option_map}
 use Rattle.vx_door.specs.ProvedLaws.{went_keeps}
 use Rattle.vx_door.specs.Shown.{door_shown}
 use Rattle.vx_gates.specs.Passing.{passes_shown}
-use Rattle.vx_gates.specs.Standing.{gates_shown}
+use Rattle.vx_gates.specs.Standing.{gates_shown, firsts_shown}
 use Rattle.vx_peers.specs.Outcome as peers
 use Rattle.vx_peers.specs.ProvedLaws.{told_served}
 use Rattle.vx_stream.specs.Shown.{link_shown}
@@ -15,8 +16,8 @@ use Rattle.vx_buses.proofs.run.serve_ask.Given as given
 use Rattle.vx_buses.proofs.run.serve_ask.Goals as goal
 
 -- the server, as it is told
-abbrev view : (g : given.Over) → Host g.row.R.Denot g.row.B.Denot g.row.X-C.Denot g.row.X-P.Denot → Hosting
-view g s = record { passes = passes_of (option_map passes_shown s.held); told = g.X.C.Clock.told s.clock }
+abbrev view : (g : given.Over) → Host g.row.R.Denot g.row.B.Denot g.row.X-C.Denot g.row.X-P.Denot → Hosting g.row.B.Denot
+view g s = record { passes = passes_of (option_map passes_shown s.held); firsts = firsts_shown s.buses; told = g.X.C.Clock.told s.clock }
 
 -- the door
 abbrev shows : (g : given.Over) → Shows g.row.N.Denot
@@ -45,8 +46,8 @@ known g = record {
 
 pub returns : goal.returns
 returns g c = record {
-  server = record { passes = passes_shown c.args.passes; told = g.X.C.Clock.told c.clock.result };
-  begins = record { gates = gates_shown c.args.buses; first = c.requires.first };
+  server = record { passes = passes_shown c.args.passes; firsts = firsts_shown c.args.buses; told = g.X.C.Clock.told c.clock.result };
+  begins = record { gates = gates_shown c.args.buses; first = c.requires.first; cores = refl };
   server' = view g c.serve_peers.new.server;
   served = told_served (known g) (view g) (Does g.B.Bus (shows g)) (λ s s' d d' how did. did) (shows g).opening c.args.ask.now _ c.args.net.now c.serve_peers.new.server c.serve_peers.new.net _ _
       c.serve_peers.result c.serve_peers.ensures;
