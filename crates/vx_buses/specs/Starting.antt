@@ -30,14 +30,9 @@ AreFurnished [] (core ∷ cores) = ⊥
 AreFurnished (inst ∷ insts) [] = ⊥
 AreFurnished (inst ∷ insts) (core ∷ cores) = IsFurnished inst core × AreFurnished insts cores
 
--- a gateway with nothing in it, whose abort channel is at port 9011, over a bus that nobody has asked yet
-pub record IsNew (core : CoreState SimState) : Type 0 where
-  pub fine : core.fine ≡ first_fine 9011
-  pub means : core.bus.means ≡ first_means
-
--- each of four is so
-abbrev pub AreNew : Four (CoreState SimState) → Type 0
-AreNew firsts = All IsNew (listed firsts)
+-- the first core of each of four gates is over the instrument of its place in these
+abbrev pub StandInOrder : List Seated → Four (CoreState SimState) → Type 0
+StandInOrder insts firsts = AreFurnished insts (listed firsts)
 
 -- the first instrument of a rack was taken, and a gateway over it stands behind the others
 pub record AddsCore {I : Type 0} (behaves : I → Behavior) (nature : I → List ℕ) (rack : List (Spare I)) (cores : List (CoreState SimState)) (rack' : List (Spare I)) (cores' : List (CoreState SimState)) : Type 0 where

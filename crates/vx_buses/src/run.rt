@@ -6,7 +6,7 @@ ghost use Rattle.vx_gates.specs.Four.{Each};
 ghost use Rattle.vx_gates.specs.Passing.{passes_shown, IsFirst};
 ghost use Rattle.vx_gates.specs.Standing.{gates_shown, firsts_shown};
 ghost use Rattle.vx_stream.specs.Shown.{link_shown};
-ghost use Rattle.vx_buses.specs.Starting.{AreNew};
+ghost use Rattle.vx_buses.specs.Starting.{StandInOrder};
 ghost use Rattle.vx_buses.specs.Outcome.{Hosts, IsAskRun, IsRun, EndsRun};
 
 use crate::hosting::Host;
@@ -84,7 +84,7 @@ fn run_racked<R: Wait, I: Instrument, N: Door, X: Tools, K: Sink, M: Racked>(
       door = door_shown N.met N.ended N.faults N.receive_faults N.send_faults N.left N.peers;
       link = link_shown N.left N.peers N.receive_faults N.send_faults;
       opening = record { opens = N.opens; ready = N.is_ready };
-    }) AreNew ask.now net.old net.new
+    }) (StandInOrder M.rack) ask.now net.old net.new
         (record { bytes = K.taken sink.old; faults = K.faults sink.old })
         (record { bytes = K.taken sink.new; faults = K.faults sink.new }) result }
 {
@@ -117,7 +117,7 @@ fn run_ask<R: Wait, I: Instrument, N: Door, X: Tools, K: Sink>(
       door = door_shown N.met N.ended N.faults N.receive_faults N.send_faults N.left N.peers;
       link = link_shown N.left N.peers N.receive_faults N.send_faults;
       opening = record { opens = N.opens; ready = N.is_ready };
-    }) AreNew ask.now net.old net.new
+    }) (StandInOrder (handed (λ i. I.behaves i) (λ i. I.nature i) rack.items)) ask.now net.old net.new
         (record { bytes = K.taken sink.old; faults = K.faults sink.old })
         (record { bytes = K.taken sink.new; faults = K.faults sink.new }) result }
 {
@@ -143,7 +143,7 @@ fn run<R: Wait, I: Instrument, N: Door, X: Tools, K: Sink>(
       door = door_shown N.met N.ended N.faults N.receive_faults N.send_faults N.left N.peers;
       link = link_shown N.left N.peers N.receive_faults N.send_faults;
       opening = record { opens = N.opens; ready = N.is_ready };
-    }) AreNew (map string_bytes words.now) net.old net.new
+    }) (StandInOrder (handed (λ i. I.behaves i) (λ i. I.nature i) rack.items)) (map string_bytes words.now) net.old net.new
         (record { bytes = K.taken sink.old; faults = K.faults sink.old })
         (record { bytes = K.taken sink.new; faults = K.faults sink.new }) result }
 {
@@ -169,8 +169,8 @@ fn run<R: Wait, I: Instrument, N: Door, X: Tools, K: Sink>(
 /// - 6: the sink failed; a front of what was due was written.
 ///
 /// A fault of a link ends that link alone. One port is opened, once: that of the words, as a door tells it that tells its openings. That
-/// Each bus's history goes on, step after step, from the one bus that its gate was started over. The four gateways begin with nothing in
-/// them and with their abort channels at port 9011, which a create_link tells.
+/// Each bus's history goes on, step after step, from the one bus that its gate was started over, on which the instrument of its place in
+/// the rack stood. The four gateways begin with nothing in them and with their abort channels at port 9011, which a create_link tells.
 ///
 /// A fault of a link ends that link alone. That each bus has one instrument of the rack at that address, and nothing else, is part of what
 /// is said of each poll ([`LoneBus`](vx_lone::LoneBus)). No clause says which of the four it is, nor that the port is that of the words.
@@ -193,7 +193,7 @@ pub fn buses_run<R: Wait, I: Instrument, N: Door, X: Tools, K: Sink>(
       door = door_shown N.met N.ended N.faults N.receive_faults N.send_faults N.left N.peers;
       link = link_shown N.left N.peers N.receive_faults N.send_faults;
       opening = record { opens = N.opens; ready = N.is_ready };
-    }) AreNew (map string_bytes words.now) net.old net.new
+    }) (StandInOrder (handed (λ i. I.behaves i) (λ i. I.nature i) rack.items)) (map string_bytes words.now) net.old net.new
         (record { bytes = K.taken sink.old; faults = K.faults sink.old })
         (record { bytes = K.taken sink.new; faults = K.faults sink.new }) result }
 {

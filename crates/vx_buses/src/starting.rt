@@ -6,7 +6,7 @@ ghost use Rattle.vx_gates.specs.Passing.{passes_shown, IsFirst};
 ghost use Rattle.vx_gates.specs.Standing.{gates_shown, firsts_shown};
 ghost use Rattle.vx_lone.specs.Lone.{handed, IsOneOf};
 ghost use Rattle.vx_sim.specs.Occupants.{handed_in};
-ghost use Rattle.vx_buses.specs.Starting.{IsFurnished, AreFurnished, AddsCore, IsNew, AreNew};
+ghost use Rattle.vx_buses.specs.Starting.{IsFurnished, AreFurnished, AddsCore};
 
 use crate::{BusPass, Buses};
 use std::alloc::Global;
@@ -84,7 +84,7 @@ pub fn start_buses<I: Instrument>(
 /// A gateway with nothing in it, over a bus with this instrument of the rack and nothing else.
 fn lone_core<I: Instrument, M: Racked>(alloc: Global, inst: I) -> Option<Core<LoneBus<I, M>>>
     requires { IsOneOf M.rack (handed_in (λ i. I.behaves i) (λ i. I.nature i) inst) }
-    ensures { IfSome result (λ core. IsNew core) }
+    ensures { IfSome result (λ core. IsFurnished (handed_in (λ i. I.behaves i) (λ i. I.nature i) inst) core) }
 {
     let bus = LoneBus::new(alloc, inst).ok()?;
     Core::start(alloc, bus, ABORT_PORT).ok()
@@ -98,11 +98,9 @@ fn add_lone<I: Instrument, M: Racked>(
 ) -> Option<()>
     requires some { 0 < length left.old.items }
     requires racked { All (IsOneOf M.rack) (handed (λ i. I.behaves i) (λ i. I.nature i) left.old.items) }
-    requires new { All IsNew cores.old.items }
     ensures taken { length left.old.items ≡ length left.new.items + 1 }
     ensures racked { All (IsOneOf M.rack) (handed (λ i. I.behaves i) (λ i. I.nature i) left.new.items) }
-    ensures new { All IsNew cores.new.items }
-    ensures one { IfSome result (λ _. length cores.new.items ≡ length cores.old.items + 1) }
+    ensures added { IfSome result (λ _. AddsCore (λ i. I.behaves i) (λ i. I.nature i) left.old.items cores.old.items left.new.items cores.new.items) }
 {
     let spare = left.remove(0);
     let core = lone_core(alloc, spare.inst)?;
@@ -116,8 +114,7 @@ fn lone_cores<I: Instrument, M: Racked>(
 ) -> Option<Vec<Core<LoneBus<I, M>>>>
     requires four { length rack.items ≡ 4 }
     requires racked { M.rack ≡ handed (λ i. I.behaves i) (λ i. I.nature i) rack.items }
-    ensures four { IfSome result (λ cores. length cores.items ≡ 4) }
-    ensures new { IfSome result (λ cores. All IsNew cores.items) }
+    ensures { IfSome result (λ cores. AreFurnished (handed (λ i. I.behaves i) (λ i. I.nature i) rack.items) cores.items) }
 {
     let mut left = rack;
     let mut cores = Vec::new(alloc);
@@ -128,8 +125,8 @@ fn lone_cores<I: Instrument, M: Racked>(
     Some(cores)
 }
 
-/// Four gateways behind gates of their own, each over a bus with an instrument of the rack at primary address 5 and nothing else, and the
-/// first passes; none where there is no memory. They are started in the order of the rack, with their abort channels at port 9011.
+/// Four gateways behind gates of their own, bus 0 to 3, each over a bus with the instrument of its place in the rack at primary address 5
+/// and nothing else, whose abort channels are at port 9011, and the first passes; none where there is no memory.
 pub(crate) fn start_racked<I: Instrument, M: Racked>(
     alloc: Global,
     rack: Vec<Spare<I>>,
@@ -137,7 +134,7 @@ pub(crate) fn start_racked<I: Instrument, M: Racked>(
     requires four { length rack.items ≡ 4 }
     requires racked { M.rack ≡ handed (λ i. I.behaves i) (λ i. I.nature i) rack.items }
     ensures started { IfSome result (λ r. Each IsFirst (passes_shown r.1) (gates_shown r.0)) }
-    ensures new { IfSome result (λ r. AreNew (firsts_shown r.0)) }
+    ensures furnished { IfSome result (λ r. AreFurnished (handed (λ i. I.behaves i) (λ i. I.nature i) rack.items) (listed (firsts_shown r.0))) }
 {
     first_law();
     let cores = lone_cores::<I, M>(alloc, rack)?;

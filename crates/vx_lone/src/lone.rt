@@ -2,8 +2,10 @@
 
 ghost use Rattle.std.specs.Prelude.{◌≡◌, List, [], IfOk};
 ghost use Rattle.vx_bus_traits.specs.Means.{first_means};
-ghost use Rattle.vx_sim.specs.Occupants.{Seated, handed_in};
-ghost use Rattle.vx_lone.specs.Lone.{IsOneOf};
+ghost use Rattle.vx_sim.specs.Attaching.{IsAttached};
+ghost use Rattle.vx_sim.specs.Occupants.{Seated, Boxed, handed_in};
+ghost use Rattle.vx_sim.specs.SimState.{first_state};
+ghost use Rattle.vx_lone.specs.Lone.{place, IsOneOf};
 
 use std::alloc::Global;
 use std::marker::{Brand, Model, PhantomData};
@@ -47,7 +49,8 @@ impl<I: Instrument, M: Racked> LoneBus<I, M> {
     #[tactic(auto, using(crate::proofs::Stays::attached_alone))]
     pub fn new(alloc: Global, inst: I) -> Result<LoneBus<I, M>, NoMemory>
         requires { IsOneOf M.rack (handed_in (λ i. I.behaves i) (λ i. I.nature i) inst) }
-        ensures { IfOk result (λ bus. bus.means ≡ first_means) }
+        ensures fresh { IfOk result (λ bus. bus.means ≡ first_means) }
+        ensures stands { IfOk result (λ bus. IsAttached place (Boxed (handed_in (λ i. I.behaves i) (λ i. I.nature i) inst)) first_state bus) }
     {
         let mut bus = SimBus::new(alloc)?;
         match bus.attach_box(PLACE, inst) {
