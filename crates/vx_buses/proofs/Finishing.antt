@@ -14,6 +14,7 @@ use Rattle.vx_group.specs.Headline.{Headline}
 use Rattle.vx_group.specs.Laws.{HeadlineOfGroupsLaw, OwnedLaw}
 use Rattle.vx_routes.specs.Given.{LinksLaw, OnceLaw}
 use Rattle.vx_stream.specs.Answered.{replies}
+use Rattle.vx_stream.specs.Calling.{Receives, Sends, InTurn}
 use Rattle.vx_stream.specs.Shown.{LinkShown}
 use Rattle.vx_stream.specs.Stopping.{EndsSo}
 use Rattle.vx_stream.specs.declared.ends.End.{End}
@@ -51,11 +52,11 @@ left g told before mid after conn ps makes leaves =
     makes-goes told told before mid after ps (leaves.placed ∷ []) (omega arith) makes (makes-later 0 told mid after (leaves.placed ∷ []) (omega arith) leaves.turns.makes)
 
 -- the records of a stream were served, and then the connections went
-pub session-did : {B L : Type 0} (g : Origins B) (stands : L → List ℕ → List ℕ → Type 0) → HeadlineOfGroupsLaw → OwnedLaw → LinksLaw → OnceLaw → (s s' : State)
-    (passes mid passes' : Four (PassView Group)) (link link' : L) (seen seen' : LinkShown) (how : End) (told : ℕ) → StreamServed g stands s passes link seen how s' link' seen'
+pub session-did : {B L : Type 0} (g : Origins B) (stands : L → List ℕ → List ℕ → Type 0) (receives : Receives L) (sends : Sends L) → HeadlineOfGroupsLaw → OwnedLaw → LinksLaw → OnceLaw → (s s' : State)
+    (passes mid passes' : Four (PassView Group)) (link link' : L) (seen seen' : LinkShown) (how : End) (told : ℕ) → StreamServed g stands receives sends s passes link seen how s' link' seen'
     → s'.passes ≡ Some mid → s'.told ≡ told → LeavesAll g mid s.conns passes'
-    → SessionDid g stands told s.role s.conns passes link seen how passes' link' seen'
-session-did g stands headline owned links once s s' passes mid passes' link link' seen seen' how told did has told_is leaves =
+    → SessionDid g stands receives sends told s.role s.conns passes link seen how passes' link' seen'
+session-did g stands receives sends headline owned links once s s' passes mid passes' link link' seen seen' how told did has told_is leaves =
     let all = did.serves in
     let zeroth = leaves.zero_ in
     let first = leaves.one in
@@ -88,6 +89,8 @@ session-did g stands headline owned links once s s' passes mid passes' link link
       bytes = did.bytes;
       goes = did.goes;
       wrote = ap replies all.are ∙ did.wrote;
+      near = did.near;
+      in_turn = subst (λ list. InTurn receives sends RECORD_MAX list link (did.front ++ did.behind) did.written link') (sym all.are) did.in_turn;
       ended = subst (λ list. EndsSo (λ message. meaning message s.role ≡ Junk) seen list (records RECORD_MAX did.front) did.behind did.unsent seen' (Some how)) (sym all.are) did.ended;
       upholds = upheld;
       links = λ bus h. let u = upheld bus h in links (at bus g.firsts).fine.state.tables.abort_port (history_of (at bus passes')) _ u.headline.gathered.legal;

@@ -8,6 +8,7 @@ use Rattle.vx_group.specs.Laws.{HeadlineOfGroupsLaw, OwnedLaw}
 use Rattle.vx_routes.specs.Given.{OnceLaw}
 use Rattle.vx_tables.specs.declared.tables.Connect.{Connect}
 use Rattle.vx_tables.specs.declared.tables.Connect.TheVariants as connect
+use Rattle.vx_stream.specs.Calling.{Receives, Sends}
 use Rattle.vx_stream.specs.Shown.{LinkShown}
 use Rattle.vx_session.specs.Linking.{refused_as}
 use Rattle.vx_session.specs.Origin.{Origin}
@@ -47,17 +48,17 @@ undone-uphold g headline owned passes up passes' joined joins undone =
     (upholds (on 3 g) headline owned passes'.three (undone-history (on 3 g) up.three passes'.three joined.three joins.three.turns.history undone.three))
 
 -- the connections were refused, and their link is told so
-pub link-refused : {B L : Type 0} (g : Origins B) (stands : L → List ℕ → List ℕ → Type 0) → HeadlineOfGroupsLaw → OwnedLaw → OnceLaw → (told : ℕ) (passes up passes' : Four (PassView Group)) (link : L)
+pub link-refused : {B L : Type 0} (g : Origins B) (stands : L → List ℕ → List ℕ → Type 0) (receives : Receives L) (sends : Sends L) → HeadlineOfGroupsLaw → OwnedLaw → OnceLaw → (told : ℕ) (passes up passes' : Four (PassView Group)) (link : L)
     (seen : LinkShown) (joined : Four (Result ℕ Connect)) (why : Connect) (how : Linked) → how ≡ refused_as why → JoinsAll g passes joined up → outcome joined ≡ Err why → UndoneAll g up joined passes'
-    → LinkDid g stands told passes link seen how passes' link seen
-link-refused g stands headline owned law told passes up passes' link seen joined why how how_is joins is undone =
-    subst (λ h. LinkDid g stands told passes link seen h passes' link seen) (sym how_is) (by why is) where
+    → LinkDid g stands receives sends told passes link seen how passes' link seen
+link-refused g stands receives sends headline owned law told passes up passes' link seen joined why how how_is joins is undone =
+    subst (λ h. LinkDid g stands receives sends told passes link seen h passes' link seen) (sym how_is) (by why is) where
       all : (bus : ℕ) → bus ≤ 3 → Upholds (on bus g) (at bus passes')
       all = undone-uphold g headline owned passes up passes' joined joins undone
 
       once : GivesOnce passes'
       once = gives-once g law passes' (all 0 (omega arith)) (all 1 (omega arith)) (all 2 (omega arith)) (all 3 (omega arith))
 
-      by : (c : Connect) → outcome joined ≡ Err c → LinkDid g stands told passes link seen (refused_as c) passes' link seen
+      by : (c : Connect) → outcome joined ≡ Err c → LinkDid g stands receives sends told passes link seen (refused_as c) passes' link seen
       by connect.Full refused = record { joined = joined; up = up; joins = joins; refused = refused; undone = undone; same = refl; upholds = all; once = once }
       by connect.NoMemory refused = record { joined = joined; up = up; joins = joins; refused = refused; undone = undone; same = refl; upholds = all; once = once }

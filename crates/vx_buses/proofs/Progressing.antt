@@ -1,5 +1,5 @@
 -- How a session comes on: the messages that it answered, one after the other, as the records that its buses served.
-use Rattle.std.proofs.Common.{◌≡◌, ◌≤◌, ◌==◌, ◌⊎◌, inl, inr, ℕ, Bool, true, false, cond, List, [], ◌∷◌, ◌++◌, Option, None, Some, refl, sym, ap, ◌∙◌, subst, arith}
+use Rattle.std.proofs.Common.{◌≡◌, ◌≤◌, ◌<◌, ◌==◌, ◌⊎◌, inl, inr, ℕ, Bool, true, false, cond, List, [], ◌∷◌, ◌++◌, length, Option, None, Some, refl, sym, ap, ◌∙◌, subst, arith}
 use Rattle.std.specs.List.{All}
 use Rattle.std.proofs.lemmas.Bool.{eqb-true, eqb-false}
 use Rattle.std.proofs.lemmas.List.Elements.{All-nil, All-cons}
@@ -13,11 +13,13 @@ use Rattle.vx_gates.specs.Four.{Four, at, put}
 use Rattle.vx_group.specs.Groups.{Group}
 use Rattle.vx_record.specs.Records.{Split, records}
 use Rattle.vx_exchange.specs.Meaning.{meaning, Junk}
+use Rattle.vx_stream.specs.Calling.{Receives, Sends, InTurn}
 use Rattle.vx_stream.specs.Shown.{LinkShown, LinkGoes}
 use Rattle.vx_stream.specs.Answered.{Answered, AnswersAll, replies}
 use Rattle.vx_stream.specs.Stopping.{EndsSo, IsLeft, StreamAnswered}
 use Rattle.vx_stream.specs.declared.ends.End.{End}
 use Rattle.vx_stream.specs.declared.ends.End.TheVariants as end
+use Rattle.vx_session.specs.declared.sessions.TheConstants.{PIECE}
 use Rattle.vx_session.specs.Placing.{Placed, Makes}
 use Rattle.vx_session.specs.ProvedLaws.{makes-none, makes-goes}
 use Rattle.vx_buses.specs.Origins.{Origins, origins}
@@ -116,7 +118,7 @@ left-so does last s' seen list looked behind unsent seen' end.ReadFault ended le
 left-so does last s' seen list looked behind unsent seen' end.WriteFault ended left = inl left
 
 -- The records of a session's stream were served, up to its end or to where it is no longer read.
-pub record StreamServed {B L : Type 0} (g : Origins B) (stands : L → List ℕ → List ℕ → Type 0) (s : State) (passes : Four (PassView Group)) (link : L) (seen : LinkShown) (how : End)
+pub record StreamServed {B L : Type 0} (g : Origins B) (stands : L → List ℕ → List ℕ → Type 0) (receives : Receives L) (sends : Sends L) (s : State) (passes : Four (PassView Group)) (link : L) (seen : LinkShown) (how : End)
     (s' : State) (link' : L) (seen' : LinkShown) : Type 0 where
   pub list : List Answered
   pub front : List ℕ
@@ -127,6 +129,8 @@ pub record StreamServed {B L : Type 0} (g : Origins B) (stands : L → List ℕ 
   pub bytes : Goes stands link link' written (front ++ behind)
   pub goes : LinkGoes seen (front ++ behind) seen'
   pub wrote : replies list ≡ written ++ unsent
+  pub near : length behind < PIECE
+  pub in_turn : InTurn receives sends RECORD_MAX list link (front ++ behind) written link'
   pub ended : EndsSo (λ message. meaning message s.role ≡ Junk) seen list (records RECORD_MAX front) behind unsent seen' (Some how)
 
 -- what answers messages, as a session's state shows it
@@ -152,10 +156,10 @@ module _ {B S : Type 0} (bus : Ghosts B) (firsts : S → Four (CoreState B)) (do
       (all-served all.0 last s' (put did.has.bus did.has.own did.has.passes) more did.has.has all.2 stays)))
 
   -- so the records of its stream were served
-  pub stream-served : {L : Type 0} (stands : L → List ℕ → List ℕ → Type 0) (s s' : S) (passes : Four (PassView Group)) (link link' : L) (seen seen' : LinkShown) (how : End)
-      → (shown s).passes ≡ Some passes → StreamAnswered does stands RECORD_MAX None s link seen (Some how) s' link' seen'
-      → StreamServed (origins bus (firsts s)) stands (shown s) passes link seen how (shown s') link' seen'
-  stream-served stands s s' passes link link' seen seen' how had did =
+  pub stream-served : {L : Type 0} (stands : L → List ℕ → List ℕ → Type 0) (receives : Receives L) (sends : Sends L) (s s' : S) (passes : Four (PassView Group)) (link link' : L) (seen seen' : LinkShown) (how : End)
+      → (shown s).passes ≡ Some passes → StreamAnswered does stands receives sends RECORD_MAX PIECE None s link seen (Some how) s' link' seen'
+      → StreamServed (origins bus (firsts s)) stands receives sends (shown s) passes link seen how (shown s') link' seen'
+  stream-served stands receives sends s s' passes link link' seen seen' how had did =
       let last = did.last in
       let looked = records RECORD_MAX did.front in
       let left = left-so (λ a junk b. does a junk None b) last s' seen did.answered looked did.behind did.unsent seen' how did.ended did.left in
@@ -170,6 +174,8 @@ module _ {B S : Type 0} (bus : Ghosts B) (firsts : S → Four (CoreState B)) (do
         bytes = did.progress.bytes;
         goes = did.progress.goes;
         wrote = did.wrote;
+        near = did.near;
+        in_turn = did.in_turn;
         ended = ends-as (λ message. does last message None s') (λ message. meaning message (shown s).role ≡ Junk)
             (λ message d. let junk = one last s' message None d in ap (meaning message) (sym all.role ∙ junk.role) ∙ junk.has.0) seen did.answered looked did.behind did.unsent seen' how did.ended;
       }
@@ -182,9 +188,9 @@ module _ {S A : Type 0} (does : S → List ℕ → Option (List ℕ) → S → T
   all-keeps s s' (first ∷ more) all = all-keeps all.0 s' more all.2 ∙ one s all.0 first.message (Some first.reply) all.1
 
   -- and to the end of the stream
-  pub stream-keeps : {L : Type 0} (stands : L → List ℕ → List ℕ → Type 0) (s s' : S) (link link' : L) (seen seen' : LinkShown) (limit : ℕ) (how : End)
-      → StreamAnswered does stands limit None s link seen (Some how) s' link' seen' → of s' ≡ of s
-  stream-keeps stands s s' link link' seen seen' limit how did =
+  pub stream-keeps : {L : Type 0} (stands : L → List ℕ → List ℕ → Type 0) (receives : Receives L) (sends : Sends L) (s s' : S) (link link' : L) (seen seen' : LinkShown) (limit room : ℕ) (how : End)
+      → StreamAnswered does stands receives sends limit room None s link seen (Some how) s' link' seen' → of s' ≡ of s
+  stream-keeps stands receives sends s s' link link' seen seen' limit room how did =
       by (left-so (λ a junk b. does a junk None b) did.last s' seen did.answered (records limit did.front) did.behind did.unsent seen' how did.ended did.left)
       ∙ all-keeps s did.last did.answered did.progress.answers
     where

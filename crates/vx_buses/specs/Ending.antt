@@ -1,6 +1,6 @@
 -- To be believed.
 -- What a whole session of connections to four buses did.
-use Rattle.std.specs.Prelude.{◌≡◌, ◌≢◌, ◌≤◌, ℕ, List, [], ◌∷◌, ◌++◌, Some}
+use Rattle.std.specs.Prelude.{◌≡◌, ◌≢◌, ◌≤◌, ◌<◌, ℕ, List, [], ◌∷◌, ◌++◌, length, Some}
 use Rattle.std.specs.List.{All, AllPairs}
 use Rattle.vx_io_traits.specs.Stands.{Goes}
 use Rattle.vx_calls.specs.declared.calls.Role.{Role}
@@ -18,9 +18,11 @@ use Rattle.vx_rules.specs.Numbers.{links_given}
 use Rattle.vx_rules.specs.Entry.{Entry}
 use Rattle.vx_routes.specs.Given.{IsLink, given_by_all}
 use Rattle.vx_stream.specs.Answered.{replies}
+use Rattle.vx_stream.specs.Calling.{Receives, Sends, InTurn}
 use Rattle.vx_stream.specs.Shown.{LinkShown, LinkGoes}
 use Rattle.vx_stream.specs.Stopping.{EndsSo}
 use Rattle.vx_stream.specs.declared.ends.End.{End}
+use Rattle.vx_session.specs.declared.sessions.TheConstants.{PIECE}
 use Rattle.vx_session.specs.Placing.{Placed, Makes}
 use Rattle.vx_session.specs.Turning.{Leaves}
 use Rattle.vx_session.specs.Ending.{Upholds}
@@ -40,9 +42,9 @@ abbrev pub GivesOnce : Four (PassView Group) → Type 0
 GivesOnce passes = AllPairs (λ a b. a ≢ b) (given_by_all (history_of passes.zero_) (history_of passes.one) (history_of passes.two) (history_of passes.three))
 
 -- A session on connections of this role, one of each bus: the records that it served, in their order; the bytes `front` that it looked
--- at, and those that it received behind them; the replies, of which the link took `written`; and the end of each connection. What it
--- received and what the link took are each in order; which of the two came first isn't said.
-pub record SessionDid {B L : Type 0} (g : Origins B) (stands : L → List ℕ → List ℕ → Type 0) (told : ℕ) (r : Role) (conns : Four ℕ) (passes : Four (PassView Group)) (link : L)
+-- at, and those that it received behind them, fewer than it receives at once; the replies, of which the link took `written`; and the end
+-- of each connection. It received more only where it had written the replies to all records that had come, whole.
+pub record SessionDid {B L : Type 0} (g : Origins B) (stands : L → List ℕ → List ℕ → Type 0) (receives : Receives L) (sends : Sends L) (told : ℕ) (r : Role) (conns : Four ℕ) (passes : Four (PassView Group)) (link : L)
     (seen : LinkShown) (how : End) (passes' : Four (PassView Group)) (link' : L) (seen' : LinkShown) : Type 0 where
   pub items : List Item
   pub lasts : Four Placed
@@ -59,6 +61,8 @@ pub record SessionDid {B L : Type 0} (g : Origins B) (stands : L → List ℕ �
   pub bytes : Goes stands link link' written (front ++ behind)
   pub goes : LinkGoes seen (front ++ behind) seen'
   pub wrote : replies (answered items) ≡ written ++ unsent
+  pub near : length behind < PIECE
+  pub in_turn : InTurn receives sends RECORD_MAX (answered items) link (front ++ behind) written link'
   -- why it ended: a message without a reply is junk
   pub ended : EndsSo (λ message. meaning message r ≡ Junk) seen (answered items) (records RECORD_MAX front) behind unsent seen' (Some how)
   -- each bus has a legal history of its own, over the one bus that its gate was started over, with its laws

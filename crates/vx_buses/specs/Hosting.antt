@@ -56,7 +56,7 @@ pub record Begins {B : Type 0} (start : Four (CoreState B) → Type 0) (server :
 -- want of room. `receives` and `sends` are what one of them does.
 pub record PeerDid {B N : Type 0} (g : Ghosts B) (stands : N → List ℕ → List ℕ → Type 0) (receives : N → List ℕ → ReadOut → List ℕ → N → Type 0) (sends : N → List ℕ → WriteOut → N → Type 0)
     (shown : N → LinkShown) (server : Hosting B) (door : N) (how : Linked) (server' : Hosting B) (door' : N) : Type 0 where
-  pub did : LinkDid (origins g server.firsts) stands server'.told server.passes door (shown door) how server'.passes door' (shown door')
+  pub did : LinkDid (origins g server.firsts) stands receives sends server'.told server.passes door (shown door) how server'.passes door' (shown door')
   pub same : server'.firsts ≡ server.firsts
   pub went : Went receives sends door door'
   pub later : server.told ≤ server'.told

@@ -44,7 +44,7 @@ pub fn many_link<R: Wait, B: Bus, L: Link, C: Clock, P: Pause>(
     room: &mut Room,
 ) -> (BusPass<B>, Linked)
     requires gates { Each IsOf (passes_shown passes) (gates_shown buses.now) }
-    ensures did { LinkDid (origins B.Bus (firsts_shown buses.now)) L.stands (C.told clock.new) (passes_shown passes) link.old (link_shown L.left L.peers L.receive_faults L.send_faults link.old)
+    ensures did { LinkDid (origins B.Bus (firsts_shown buses.now)) L.stands L.receives L.sends (C.told clock.new) (passes_shown passes) link.old (link_shown L.left L.peers L.receive_faults L.send_faults link.old)
         result.1 (passes_shown result.0) link.new (link_shown L.left L.peers L.receive_faults L.send_faults link.new) }
     ensures went { Went L.receives L.sends link.old link.new }
     ensures gates { Each IsOf (passes_shown result.0) (gates_shown buses.now) }

@@ -1,5 +1,5 @@
 -- How a guarded session comes to its end: its stream was answered, and then its connection goes.
-use Rattle.std.proofs.Common.{◌≡◌, ◌≤◌, ◌⊎◌, inl, inr, ℕ, true, false, List, [], ◌∷◌, ◌++◌, Option, None, Some, refl, sym, ap, ◌∙◌, subst, arith}
+use Rattle.std.proofs.Common.{◌≡◌, ◌≤◌, ◌<◌, ◌⊎◌, inl, inr, ℕ, true, false, List, [], ◌∷◌, ◌++◌, length, Option, None, Some, refl, sym, ap, ◌∙◌, subst, arith}
 use Rattle.std.specs.Io.KnownBytes.{Appends}
 use Rattle.std.proofs.lemmas.Option.{same_Some}
 use Rattle.vx_calls.specs.declared.calls.Role.TheVariants as role
@@ -15,6 +15,7 @@ use Rattle.vx_group.specs.Groups.{Group}
 use Rattle.vx_group.specs.Laws.{HeadlineOfGroupsLaw, OwnedLaw}
 use Rattle.vx_exchange.specs.Meaning.{meaning, Junk}
 use Rattle.vx_io_traits.specs.Stands.{Goes}
+use Rattle.vx_stream.specs.Calling.{Receives, Sends, InTurn}
 use Rattle.vx_stream.specs.Shown.{LinkShown, LinkGoes}
 use Rattle.vx_stream.specs.Answered.{Answered, messages, replies}
 use Rattle.vx_stream.specs.Stopping.{EndsSo, IsLeft, StreamAnswered}
@@ -27,6 +28,7 @@ use Rattle.vx_session.specs.Progress.{Rings, answered, placed, calls}
 use Rattle.vx_session.specs.ProvedLaws.{makes-goes, makes-later}
 use Rattle.vx_session.proofs.Finishing.{upholds}
 use Rattle.vx_policy.specs.Texts.{deny_line}
+use Rattle.vx_guard.specs.declared.sessions.TheConstants.{PIECE}
 use Rattle.vx_guard.specs.declared.sessions.GuardEnd.{GuardEnd}
 use Rattle.vx_guard.specs.Judged.{Guards, denial, notes}
 use Rattle.vx_guard.specs.Stages.{GuardState, GuardDoes, IsUnasked, NoteFails}
@@ -45,7 +47,7 @@ pub record StreamEnds (last s' : GuardState) (seen : LinkShown) (list : List Ans
   pub why : WhyEnded last s' seen list looked behind unsent seen' how
 
 -- the records of a guarded session's stream were answered, up to its end or to where it is no longer read
-pub record StreamGuarded {B L : Type 0} (g : Origin B) (stands : L → List ℕ → List ℕ → Type 0) (s : GuardState) (pass : PassView Group) (link : L) (seen : LinkShown) (how : End)
+pub record StreamGuarded {B L : Type 0} (g : Origin B) (stands : L → List ℕ → List ℕ → Type 0) (receives : Receives L) (sends : Sends L) (s : GuardState) (pass : PassView Group) (link : L) (seen : LinkShown) (how : End)
     (s' : GuardState) (link' : L) (seen' : LinkShown) : Type 0 where
   pub last : GuardState
   pub list : List Answered
@@ -57,6 +59,8 @@ pub record StreamGuarded {B L : Type 0} (g : Origin B) (stands : L → List ℕ 
   pub bytes : Goes stands link link' written (front ++ behind)
   pub goes : LinkGoes seen (front ++ behind) seen'
   pub wrote : replies list ≡ written ++ unsent
+  pub near : length behind < PIECE
+  pub in_turn : InTurn receives sends RECORD_MAX list link (front ++ behind) written link'
   pub ends : StreamEnds last s' seen list (records RECORD_MAX front) behind unsent seen' how
 
 -- a session that is as it was when its stream ended
@@ -99,10 +103,10 @@ module _ {B S : Type 0} (bus : Ghosts B) (first : S → CoreState B) (does : S �
   stream-ends last s' seen list looked behind unsent seen' end.WriteFault sound ended left =
       ended-same (shown last) (shown s') seen list looked behind unsent seen' end.WriteFault (ap shown left) sound ended
 
-  pub stream-guarded : {L : Type 0} (stands : L → List ℕ → List ℕ → Type 0) (s s' : S) (pass : PassView Group) (link link' : L) (seen seen' : LinkShown) (limit : ℕ) (how : End)
-      → (shown s).session.pass ≡ Some pass → (shown s).failed ≡ false → limit ≡ RECORD_MAX → StreamAnswered does stands limit None s link seen (Some how) s' link' seen'
-      → StreamGuarded (origin bus (first s)) stands (shown s) pass link seen how (shown s') link' seen'
-  stream-guarded stands s s' pass link link' seen seen' limit how had sound limit_is did =
+  pub stream-guarded : {L : Type 0} (stands : L → List ℕ → List ℕ → Type 0) (receives : Receives L) (sends : Sends L) (s s' : S) (pass : PassView Group) (link link' : L) (seen seen' : LinkShown) (limit room : ℕ) (how : End)
+      → (shown s).session.pass ≡ Some pass → (shown s).failed ≡ false → limit ≡ RECORD_MAX → room ≡ PIECE → StreamAnswered does stands receives sends limit room None s link seen (Some how) s' link' seen'
+      → StreamGuarded (origin bus (first s)) stands receives sends (shown s) pass link seen how (shown s') link' seen'
+  stream-guarded stands receives sends s s' pass link link' seen seen' limit room how had sound limit_is room_is did =
       let all = all-guarded bus first does shown one same core s did.last pass did.answered had did.progress.answers in
       record {
         last = shown did.last;
@@ -115,6 +119,8 @@ module _ {B S : Type 0} (bus : Ghosts B) (first : S → CoreState B) (does : S �
         bytes = did.progress.bytes;
         goes = did.progress.goes;
         wrote = did.wrote;
+        near = subst (λ n. length did.behind < n) room_is did.near;
+        in_turn = subst (λ n. InTurn receives sends n did.answered link (did.front ++ did.behind) did.written link') limit_is did.in_turn;
         ends = subst (λ n. StreamEnds (shown did.last) (shown s') seen did.answered (records n did.front) did.behind did.unsent seen' how) limit_is
             (stream-ends did.last s' seen did.answered (records limit did.front) did.behind did.unsent seen' how (all.failed ∙ sound) did.ended did.left);
       }
@@ -146,24 +152,24 @@ ends-guarded g s last s' pass list all seen looked behind unsent seen' how (inr 
     subst (λ f. GuardEndsSo s.rules s.peer s.session.conn last.made seen list lines looked behind unsent seen' s.note s'.note (guard_end f how)) (sym why.0) stops
 
 -- its clock doesn't go back
-pub guarded-later : {B L : Type 0} (g : Origin B) (stands : L → List ℕ → List ℕ → Type 0) (s s' : GuardState) (pass : PassView Group) (link link' : L) (seen seen' : LinkShown) (how : End)
-    → StreamGuarded g stands s pass link seen how s' link' seen' → s.session.told ≤ s'.session.told
-guarded-later g stands s s' pass link link' seen seen' how did =
+pub guarded-later : {B L : Type 0} (g : Origin B) (stands : L → List ℕ → List ℕ → Type 0) (receives : Receives L) (sends : Sends L) (s s' : GuardState) (pass : PassView Group) (link link' : L) (seen seen' : LinkShown) (how : End)
+    → StreamGuarded g stands receives sends s pass link seen how s' link' seen' → s.session.told ≤ s'.session.told
+guarded-later g stands receives sends s s' pass link link' seen seen' how did =
     let first = did.guards.later in
     let second = did.ends.later in
     omega arith
 
 -- behind its stream the session has the pass, of the same gate
-pub guarded-pass : {B L : Type 0} (g : Origin B) (stands : L → List ℕ → List ℕ → Type 0) (s s' : GuardState) (pass : PassView Group) (link link' : L) (seen seen' : LinkShown) (how : End)
-    → StreamGuarded g stands s pass link seen how s' link' seen' → (pass' : PassView Group) × (s'.session.pass ≡ Some pass') × (pass'.gate ≡ pass.gate)
-guarded-pass g stands s s' pass link link' seen seen' how did = (did.guards.pass', did.ends.unasked.pass ∙ did.guards.has, did.guards.makes.gate)
+pub guarded-pass : {B L : Type 0} (g : Origin B) (stands : L → List ℕ → List ℕ → Type 0) (receives : Receives L) (sends : Sends L) (s s' : GuardState) (pass : PassView Group) (link link' : L) (seen seen' : LinkShown) (how : End)
+    → StreamGuarded g stands receives sends s pass link seen how s' link' seen' → (pass' : PassView Group) × (s'.session.pass ≡ Some pass') × (pass'.gate ≡ pass.gate)
+guarded-pass g stands receives sends s s' pass link link' seen seen' how did = (did.guards.pass', did.ends.unasked.pass ∙ did.guards.has, did.guards.makes.gate)
 
 -- the messages of a stream were judged and answered, and then the connection went; the session began without a link that it knew
-pub guard-did : {B L : Type 0} (g : Origin B) (stands : L → List ℕ → List ℕ → Type 0) → HeadlineOfGroupsLaw → OwnedLaw → (s s' : GuardState) (pass mid pass' : PassView Group)
-    (link link' : L) (seen seen' : LinkShown) (how : End) (end' : GuardEnd) (told : ℕ) (dial : DialShown) (note : Ends) → StreamGuarded g stands s pass link seen how s' link' seen' → s.made ≡ []
+pub guard-did : {B L : Type 0} (g : Origin B) (stands : L → List ℕ → List ℕ → Type 0) (receives : Receives L) (sends : Sends L) → HeadlineOfGroupsLaw → OwnedLaw → (s s' : GuardState) (pass mid pass' : PassView Group)
+    (link link' : L) (seen seen' : LinkShown) (how : End) (end' : GuardEnd) (told : ℕ) (dial : DialShown) (note : Ends) → StreamGuarded g stands receives sends s pass link seen how s' link' seen' → s.made ≡ []
     → s'.session.pass ≡ Some mid → s'.session.told ≡ told → s'.session.dial ≡ dial → s'.note ≡ note → end' ≡ guard_end s'.failed how → Leaves g mid s.session.conn pass'
-    → GuardDid g stands told s.rules s.peer s.session.conn pass link seen s.session.dial s.note end' pass' link' seen' dial note
-guard-did g stands headline owned s s' pass mid pass' link link' seen seen' how end' told dial note did fresh has told_is dial_is note_is end_is leaves =
+    → GuardDid g stands receives sends told s.rules s.peer s.session.conn pass link seen s.session.dial s.note end' pass' link' seen' dial note
+guard-did g stands receives sends headline owned s s' pass mid pass' link link' seen seen' how end' told dial note did fresh has told_is dial_is note_is end_is leaves =
     let last = leaves.placed in
     let all = did.guards in
     let ends = did.ends in
@@ -189,6 +195,8 @@ guard-did g stands headline owned s s' pass mid pass' link link' seen seen' how 
       bytes = did.bytes;
       goes = did.goes;
       wrote = ap replies all.are ∙ did.wrote;
+      near = did.near;
+      in_turn = subst (λ list. InTurn receives sends RECORD_MAX list link (did.front ++ did.behind) did.written link') (sym all.are) did.in_turn;
       ended = subst (λ e. GuardEndsSo s.rules s.peer s.session.conn did.last.made seen (answered (served all.items)) lines (records RECORD_MAX did.front) did.behind did.unsent seen' s.note note e) (sym end_is)
           (subst (λ n. GuardEndsSo s.rules s.peer s.session.conn did.last.made seen (answered (served all.items)) lines (records RECORD_MAX did.front) did.behind did.unsent seen' s.note n (guard_end s'.failed how)) note_is
           (subst (λ list. GuardEndsSo s.rules s.peer s.session.conn did.last.made seen list lines (records RECORD_MAX did.front) did.behind did.unsent seen' s.note s'.note (guard_end s'.failed how)) (sym all.are)

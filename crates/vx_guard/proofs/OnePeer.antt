@@ -14,6 +14,7 @@ use Rattle.vx_session.specs.Origin.{Origin}
 use Rattle.vx_gate.specs.PassView.{PassView, GateId}
 use Rattle.vx_text.specs.Ends.{End}
 use Rattle.vx_group.specs.Groups.{Group}
+use Rattle.vx_stream.specs.Calling.{Receives, Sends}
 use Rattle.vx_stream.specs.Shown.{LinkShown}
 use Rattle.vx_stream.specs.declared.ends.End.TheVariants as stream
 use Rattle.vx_session.specs.Outside.{DialShown}
@@ -33,10 +34,10 @@ ended-spent : (first now : Option (List ℕ)) (bytes : List ℕ) → Consumes fi
 ended-spent None now bytes gave at_end = refl
 ended-spent (Some all) now bytes gave at_end = spent_at_end (Some all) now bytes gave at_end
 
-module _ {B L : Type 0} (g : Origin B) (stands : L → List ℕ → List ℕ → Type 0) (shown : L → LinkShown) where
+module _ {B L : Type 0} (g : Origin B) (stands : L → List ℕ → List ℕ → Type 0) (receives : Receives L) (sends : Sends L) (shown : L → LinkShown) where
   -- a peer that was cut short was so by a fault of its link
   pub link-cut : (told : ℕ) (rules : List Rule) (pass : PassView Group) (link : L) (dial : DialShown) (note : End) (how : Guarded) (pass' : PassView Group) (link' : L) (dial' : DialShown) (note' : End)
-      → GuardLinkDid g stands told rules pass link (shown link) dial note how pass' link' (shown link') dial' note'
+      → GuardLinkDid g stands receives sends told rules pass link (shown link) dial note how pass' link' (shown link') dial' note'
       → is_cut (is_own how) (is_whole how) (shown link).left (shown link').left ≡ true
       → Rose (shown link).receive_faults (shown link').receive_faults ⊎ Rose (shown link).send_faults (shown link').send_faults
   link-cut told rules pass link dial note (guarded.Ended (guard.Ended stream.Closed)) pass' link' dial' note' d cut =
@@ -58,7 +59,7 @@ module _ {B L : Type 0} (g : Origin B) (stands : L → List ℕ → List ℕ →
 
   -- the counts of a link don't fall
   pub link-counts : (told : ℕ) (rules : List Rule) (pass : PassView Group) (link : L) (dial : DialShown) (note : End) (how : Guarded) (pass' : PassView Group) (link' : L) (dial' : DialShown) (note' : End)
-      → GuardLinkDid g stands told rules pass link (shown link) dial note how pass' link' (shown link') dial' note'
+      → GuardLinkDid g stands receives sends told rules pass link (shown link) dial note how pass' link' (shown link') dial' note'
       → ((shown link).receive_faults ≤ (shown link').receive_faults) × ((shown link).send_faults ≤ (shown link').send_faults)
   link-counts told rules pass link dial note (guarded.Ended how) pass' link' dial' note' d = (d.did.goes.receives, d.did.goes.sends)
   link-counts told rules pass link dial note guarded.Full pass' link' dial' note' d = as-it-was link link' d.1
@@ -66,7 +67,7 @@ module _ {B L : Type 0} (g : Origin B) (stands : L → List ℕ → List ℕ →
 
   -- the count of the note's faults rises where it failed, and doesn't fall
   pub link-notes : (told : ℕ) (rules : List Rule) (pass : PassView Group) (link : L) (dial : DialShown) (note : End) (how : Guarded) (pass' : PassView Group) (link' : L) (dial' : DialShown) (note' : End)
-      → GuardLinkDid g stands told rules pass link (shown link) dial note how pass' link' (shown link') dial' note'
+      → GuardLinkDid g stands receives sends told rules pass link (shown link) dial note how pass' link' (shown link') dial' note'
       → Notes (is_note_fault how) note.faults note'.faults
   link-notes told rules pass link dial note (guarded.Ended (guard.Ended how)) pass' link' dial' note' d = d.did.ended.2
   link-notes told rules pass link dial note (guarded.Ended guard.NoteFault) pass' link' dial' note' d =
@@ -76,7 +77,7 @@ module _ {B L : Type 0} (g : Origin B) (stands : L → List ℕ → List ℕ →
 
   -- the pass is of the same gate, with the same number and as many parts
   pub link-pass : (told : ℕ) (rules : List Rule) (pass : PassView Group) (link : L) (dial : DialShown) (note : End) (how : Guarded) (pass' : PassView Group) (link' : L) (dial' : DialShown) (note' : End)
-      → GuardLinkDid g stands told rules pass link (shown link) dial note how pass' link' (shown link') dial' note'
+      → GuardLinkDid g stands receives sends told rules pass link (shown link) dial note how pass' link' (shown link') dial' note'
       → (pass'.gate ≡ pass.gate) × (pass'.number ≡ pass.number) × (pass'.parts ≡ pass.parts)
   link-pass told rules pass link dial note (guarded.Ended how) pass' link' dial' note' d =
       let up = d.joins.turns.makes in
@@ -91,24 +92,24 @@ module _ {B L : Type 0} (g : Origin B) (stands : L → List ℕ → List ℕ →
 
   -- so a guard can serve another
   pub link-can : (gate : GateId) (told : ℕ) (rules : List Rule) (pass : PassView Group) (link : L) (dial : DialShown) (note : End) (how : Guarded) (pass' : PassView Group) (link' : L) (dial' : DialShown) (note' : End)
-      → CanServe gate pass → GuardLinkDid g stands told rules pass link (shown link) dial note how pass' link' (shown link') dial' note' → CanServe gate pass'
+      → CanServe gate pass → GuardLinkDid g stands receives sends told rules pass link (shown link) dial note how pass' link' (shown link') dial' note' → CanServe gate pass'
   link-can gate told rules pass link dial note how pass' link' dial' note' can d =
       let kept = link-pass told rules pass link dial note how pass' link' dial' note' d in
       record { gate_is = kept.0 ∙ can.gate_is; number = kept.1 ∙ can.number; parts = kept.2 ∙ can.parts }
 
   -- and behind one more than so many peers each of its connections went again
   pub link-ready : (gate : GateId) (count told : ℕ) (rules : List Rule) (pass : PassView Group) (link : L) (dial : DialShown) (note : End) (how : Guarded) (pass' : PassView Group) (link' : L) (dial' : DialShown) (note' : End)
-      → IsReady gate count pass → GuardLinkDid g stands told rules pass link (shown link) dial note how pass' link' (shown link') dial' note' → IsReady gate (count + 1) pass'
+      → IsReady gate count pass → GuardLinkDid g stands receives sends told rules pass link (shown link) dial note how pass' link' (shown link') dial' note' → IsReady gate (count + 1) pass'
   link-ready gate count told rules pass link dial note how pass' link' dial' note' ready d = record {
     can = link-can gate told rules pass link dial note how pass' link' dial' note' ready.can d;
-    clear = clear-on count pass pass' ready.clear (rooms.link-counts g stands told rules pass link (shown link) dial note how pass' link' (shown link') dial' note' d);
+    clear = clear-on count pass pass' ready.clear (rooms.link-counts g stands receives sends told rules pass link (shown link) dial note how pass' link' (shown link') dial' note' d);
   }
 
   -- its connection wasn't refused for want of room
   pub link-room : (count told : ℕ) (rules : List Rule) (pass : PassView Group) (link : L) (dial : DialShown) (note : End) (how : Guarded) (pass' : PassView Group) (link' : L) (dial' : DialShown) (note' : End)
-      → IsClear count pass → count < CONNECTION_LAST → GuardLinkDid g stands told rules pass link (shown link) dial note how pass' link' (shown link') dial' note' → how ≢ guarded.Full
+      → IsClear count pass → count < CONNECTION_LAST → GuardLinkDid g stands receives sends told rules pass link (shown link) dial note how pass' link' (shown link') dial' note' → how ≢ guarded.Full
   link-room count told rules pass link dial note guarded.Full pass' link' dial' note' clear low d is =
-      rooms.link-never-full g stands told count rules pass link (shown link) dial note pass' link' (shown link') dial' note' clear low d
+      rooms.link-never-full g stands receives sends told count rules pass link (shown link) dial note pass' link' (shown link') dial' note' clear low d
   link-room count told rules pass link dial note (guarded.Ended how) pass' link' dial' note' clear low d is = cc
   link-room count told rules pass link dial note guarded.NoMemory pass' link' dial' note' clear low d is = cc
 
@@ -129,7 +130,7 @@ ShowsLink {B} {N} n = (d : N) → ((n.door d).receive_faults ≡ (n.link d).rece
 
 module _ {B N : Type 0} (n : GuardShows B N) (shows : ShowsLink n) (rules : List Rule) (pass : PassView Group) (told : ℕ) (dial : DialShown) (note : End)
     (pass' : PassView Group) (told' : ℕ) (dial' : DialShown) (note' : End) (met at' : N) (how : Guarded)
-    (did : GuardLinkDid n.bus n.stands told' rules pass met (n.link met) dial note how pass' at' (n.link at') dial' note') where
+    (did : GuardLinkDid n.bus n.stands n.receives n.sends told' rules pass met (n.link met) dial note how pass' at' (n.link at') dial' note') where
   -- the count of the door's receives or of its sends that failed rose, as that of its link did
   rose-either : Rose (n.link met).receive_faults (n.link at').receive_faults ⊎ Rose (n.link met).send_faults (n.link at').send_faults → RoseEither (n.door met) (n.door at')
   rose-either (inl rose) = inl (subst (λ a. Rose a (n.door at').receive_faults) (sym (shows met).0) (subst (λ b. Rose (n.link met).receive_faults b) (sym (shows at').0) rose))
@@ -140,7 +141,7 @@ module _ {B N : Type 0} (n : GuardShows B N) (shows : ShowsLink n) (rules : List
       → IsNext n rules (record { pass = pass; told = told; dial = dial; note = note; failed = false }) at (next.Peer failed)
       (λ f. record { pass = pass'; told = told'; dial = dial'; note = note'; failed = f }) at'
   next-peer at failed room failed_is meets later went =
-      let counts = link-counts n.bus n.stands n.link told' rules pass met dial note how pass' at' dial' note' did in
+      let counts = link-counts n.bus n.stands n.receives n.sends n.link told' rules pass met dial note how pass' at' dial' note' did in
       let before = shows met in
       let behind = shows at' in (
         record {
@@ -150,9 +151,9 @@ module _ {B N : Type 0} (n : GuardShows B N) (shows : ShowsLink n) (rules : List
           serves = record { did = did; later = later; went = went; failed = failed_is; room = room };
           receives = omega (arith, before.0, behind.0, counts.0);
           sends = omega (arith, before.1, behind.1, counts.1);
-          cut = λ cut. rose-either (link-cut n.bus n.stands n.link told' rules pass met dial note how pass' at' dial' note' did
+          cut = λ cut. rose-either (link-cut n.bus n.stands n.receives n.sends n.link told' rules pass met dial note how pass' at' dial' note' did
               (subst (λ l. is_cut (is_own how) (is_whole how) l (n.link at').left ≡ true) before.2
               (subst (λ l. is_cut (is_own how) (is_whole how) (n.door met).left l ≡ true) behind.2 cut)));
         },
-        subst (λ f. Notes f note.faults note'.faults) (sym failed_is) (link-notes n.bus n.stands n.link told' rules pass met dial note how pass' at' dial' note' did),
+        subst (λ f. Notes f note.faults note'.faults) (sym failed_is) (link-notes n.bus n.stands n.receives n.sends n.link told' rules pass met dial note how pass' at' dial' note' did),
       )

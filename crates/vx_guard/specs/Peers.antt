@@ -85,7 +85,7 @@ is_whole _ = true
 -- A peer was served by these rules: it had its guarded session, or none came up, as there was no memory. It is judged by the address
 -- that the door's list of its peers ends with. The door went by receives and sends alone, and the guard knows whether the note failed.
 pub record GuardsPeer {B N : Type 0} (n : GuardShows B N) (rules : List Rule) (s : GuardHas) (door : N) (how : Guarded) (s' : GuardHas) (door' : N) : Type 0 where
-  pub did : GuardLinkDid n.bus n.stands s'.told rules s.pass door (n.link door) s.dial s.note how s'.pass door' (n.link door') s'.dial s'.note
+  pub did : GuardLinkDid n.bus n.stands n.receives n.sends s'.told rules s.pass door (n.link door) s.dial s.note how s'.pass door' (n.link door') s'.dial s'.note
   pub later : s.told ≤ s'.told
   pub went : Went n.receives n.sends door door'
   pub failed : s'.failed ≡ (s.failed || is_note_fault how)

@@ -1,6 +1,6 @@
 -- To be believed.
 -- What a whole guarded session did.
-use Rattle.std.specs.Prelude.{◌≡◌, ◌≤◌, ℕ, Bool, true, false, List, [], ◌∷◌, ◌++◌, map, Some}
+use Rattle.std.specs.Prelude.{◌≡◌, ◌≤◌, ◌<◌, ℕ, Bool, true, false, List, [], ◌∷◌, ◌++◌, map, length, Some}
 use Rattle.std.specs.Io.KnownBytes.{Appends}
 use Rattle.vx_io_traits.specs.Stands.{Goes}
 use Rattle.vx_calls.specs.declared.calls.Role.TheVariants as role
@@ -15,6 +15,7 @@ use Rattle.vx_exchange.specs.Meaning.{meaning, Junk}
 use Rattle.vx_group.specs.Event.{Down}
 use Rattle.vx_group.specs.Groups.{Group}
 use Rattle.vx_stream.specs.Answered.{Answered, messages, replies}
+use Rattle.vx_stream.specs.Calling.{Receives, Sends, InTurn}
 use Rattle.vx_stream.specs.Shown.{LinkShown, LinkGoes}
 use Rattle.vx_stream.specs.Stopping.{EndsSo}
 use Rattle.vx_stream.specs.declared.ends.End as stream
@@ -26,6 +27,7 @@ use Rattle.vx_session.specs.Ending.{Upholds}
 use Rattle.vx_policy.specs.declared.made.MadeLink.{MadeLink}
 use Rattle.vx_policy.specs.declared.rules.Rule.{Rule}
 use Rattle.vx_policy.specs.Texts.{deny_line}
+use Rattle.vx_guard.specs.declared.sessions.TheConstants.{PIECE}
 use Rattle.vx_guard.specs.declared.sessions.GuardEnd.{GuardEnd}
 use Rattle.vx_guard.specs.declared.sessions.GuardEnd.TheVariants as guard
 use Rattle.vx_guard.specs.Judged.{Judged, Guards, denial, notes}
@@ -57,9 +59,10 @@ GuardEndsSo rules peer conn made seen list lines looked behind unsent seen' note
     NoteStops rules peer conn made list lines looked unsent note note'
 
 -- A guarded session on a core connection, of the peer at this address: the messages that it judged, in their order, and the links that
--- it knows at its end; the bytes `front` that it looked at, and those that it received behind them; the replies, of which the link took
--- `written`; and the end of the connection, its last group.
-pub record GuardDid {B L : Type 0} (g : Origin B) (stands : L → List ℕ → List ℕ → Type 0) (told : ℕ) (rules : List Rule) (peer conn : ℕ) (pass : PassView Group) (link : L) (seen : LinkShown)
+-- it knows at its end; the bytes `front` that it looked at, and those that it received behind them, fewer than it receives at once; the
+-- replies, of which the link took `written`; and the end of the connection, its last group. It received more only where it had written
+-- the replies to all records that had come, whole.
+pub record GuardDid {B L : Type 0} (g : Origin B) (stands : L → List ℕ → List ℕ → Type 0) (receives : Receives L) (sends : Sends L) (told : ℕ) (rules : List Rule) (peer conn : ℕ) (pass : PassView Group) (link : L) (seen : LinkShown)
     (dial : DialShown) (note : End) (how : GuardEnd) (pass' : PassView Group) (link' : L) (seen' : LinkShown) (dial' : DialShown) (note' : End) : Type 0 where
   pub items : List Judged
   pub made : List MadeLink
@@ -78,6 +81,8 @@ pub record GuardDid {B L : Type 0} (g : Origin B) (stands : L → List ℕ → L
   pub bytes : Goes stands link link' written (front ++ behind)
   pub goes : LinkGoes seen (front ++ behind) seen'
   pub wrote : replies (answered (served items)) ≡ written ++ unsent
+  pub near : length behind < PIECE
+  pub in_turn : InTurn receives sends RECORD_MAX (answered (served items)) link (front ++ behind) written link'
   pub ended : GuardEndsSo rules peer conn made seen (answered (served items)) (notes conn items) (records RECORD_MAX front) behind unsent seen' note note' how
   -- the dial's calls
   pub rings : Rings dial (placed (served items)) (calls (served items)) dial'

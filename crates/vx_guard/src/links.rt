@@ -65,7 +65,7 @@ pub fn guarded_link<
     note: &mut K,
 ) -> (Pass<Core<B>>, Guarded)
     requires gate { pass.gate ≡ T.gate turns.now }
-    ensures did { GuardLinkDid (origin B.Bus (T.first turns.now)) L.stands (C.told clock.new) policy.now pass link.old
+    ensures did { GuardLinkDid (origin B.Bus (T.first turns.now)) L.stands L.receives L.sends (C.told clock.new) policy.now pass link.old
         (link_shown L.left L.peers L.receive_faults L.send_faults link.old) (dial_shown D.calls D.faults dial.old)
         (record { bytes = K.taken note.old; faults = K.faults note.old }) result.1 result.0 link.new
         (link_shown L.left L.peers L.receive_faults L.send_faults link.new) (dial_shown D.calls D.faults dial.new)

@@ -23,6 +23,7 @@ use Rattle.vx_group.specs.Groups.{Group, events_of}
 use Rattle.vx_core.specs.CoreState.{CoreState}
 use Rattle.vx_stream.specs.Shown.{LinkShown}
 use Rattle.vx_session.specs.Origin.{Origin}
+use Rattle.vx_stream.specs.Calling.{Receives, Sends}
 use Rattle.vx_session.specs.Outside.{DialShown}
 use Rattle.vx_session.specs.Placing.{Placed, Makes, logged}
 use Rattle.vx_session.specs.Parts.{IsPolled, moment_at}
@@ -203,10 +204,10 @@ came-undone g conn r pass up pass' joins leaves =
     }
 
 -- a link of one bus
-pub link-counts : {B L : Type 0} (g : Origin B) (stands : L → List ℕ → List ℕ → Type 0) (told : ℕ) (r : Role) (pass : PassView Group) (link : L) (seen : LinkShown) (dial : DialShown)
-    (how : Linked) (pass' : PassView Group) (link' : L) (seen' : LinkShown) (dial' : DialShown) → LinkDid g stands told r pass link seen dial how pass' link' seen' dial' → ComesAndGoes pass pass'
-link-counts g stands told r pass link seen dial (linked.Ended how) pass' link' seen' dial' had =
+pub link-counts : {B L : Type 0} (g : Origin B) (stands : L → List ℕ → List ℕ → Type 0) (receives : Receives L) (sends : Sends L) (told : ℕ) (r : Role) (pass : PassView Group) (link : L) (seen : LinkShown) (dial : DialShown)
+    (how : Linked) (pass' : PassView Group) (link' : L) (seen' : LinkShown) (dial' : DialShown) → LinkDid g stands receives sends told r pass link seen dial how pass' link' seen' dial' → ComesAndGoes pass pass'
+link-counts g stands receives sends told r pass link seen dial (linked.Ended how) pass' link' seen' dial' had =
     let did = had.did in
     came-and-went g told had.conn r pass had.up pass' (placed did.items) did.last had.joins did.makes (items-steady g had.up.number had.conn r did.items did.each) did.down
-link-counts g stands told r pass link seen dial linked.Full pass' link' seen' dial' had = none-came g r connect.Full pass pass' had.0
-link-counts g stands told r pass link seen dial linked.NoMemory pass' link' seen' dial' had = none-came g r connect.NoMemory pass pass' had.0
+link-counts g stands receives sends told r pass link seen dial linked.Full pass' link' seen' dial' had = none-came g r connect.Full pass pass' had.0
+link-counts g stands receives sends told r pass link seen dial linked.NoMemory pass' link' seen' dial' had = none-came g r connect.NoMemory pass pass' had.0

@@ -8,7 +8,7 @@ use Rattle.vx_guard.proofs.links.guarded_link.Goals as goal
 
 pub returns-in-Err-clause-did : goal.returns-in-Err-clause-did
 returns-in-Err-clause-did g c =
-    link-refused (origin g.B.Bus (g.T.Turns.first c.args.turns.now)) g.L.Link.stands c.headline_law.ensures.headline c.owned_law.ensures _ _ c.args.pass c.join-pass.result.0 _ _ _ _ c.join-pass.result.1 c.in-Err.why _
+    link-refused (origin g.B.Bus (g.T.Turns.first c.args.turns.now)) g.L.Link.stands g.L.Link.receives g.L.Link.sends c.headline_law.ensures.headline c.owned_law.ensures _ _ c.args.pass c.join-pass.result.0 _ _ _ _ c.join-pass.result.1 c.in-Err.why _
     c.in-Err.is c.refused.ensures c.join-pass.ensures
 
 pub returns-in-Ok-clause-did : goal.returns-in-Ok-clause-did

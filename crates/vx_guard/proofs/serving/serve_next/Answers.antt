@@ -23,7 +23,7 @@ shows g first = record {
 
 pub returns-in-Peer-clause-ready : goal.returns-in-Peer-clause-ready
 returns-in-Peer-clause-ready g c =
-    link-ready (origin g.B.Bus (g.T.Turns.first c.args.turns.now)) g.N.Link.stands (shows g (g.T.Turns.first c.args.turns.now)).link (g.T.Turns.gate c.args.turns.now) c.args.number _ _ c.args.pass _ _ _ _ c.guarded_link-pass.result.0 _ _ _
+    link-ready (origin g.B.Bus (g.T.Turns.first c.args.turns.now)) g.N.Link.stands g.N.Link.receives g.N.Link.sends (shows g (g.T.Turns.first c.args.turns.now)).link (g.T.Turns.gate c.args.turns.now) c.args.number _ _ c.args.pass _ _ _ _ c.guarded_link-pass.result.0 _ _ _
     c.requires.ready c.guarded_link-pass.ensures.did
 
 pub returns-in-Ended-clause-ready : goal.returns-in-Ended-clause-ready
@@ -36,5 +36,5 @@ pub returns-in-Peer-clause-next : goal.returns-in-Peer-clause-next
 returns-in-Peer-clause-next g c =
     next-peer (shows g (g.T.Turns.first c.args.turns.now)) (λ d. (refl, refl, refl)) c.args.policy.now c.args.pass _ _ _ c.guarded_link-pass.result.0 _ _ _ c.meet.new.net c.guarded_link-pass.new.link c.guarded_link-pass.result.1
     c.guarded_link-pass.ensures.did c.args.net.now c.failed_note-failed.result
-    (link-room (origin g.B.Bus (g.T.Turns.first c.args.turns.now)) g.N.Link.stands (shows g (g.T.Turns.first c.args.turns.now)).link c.args.number _ _ c.args.pass _ _ _ c.guarded_link-pass.result.1 c.guarded_link-pass.result.0 _ _ _ c.requires.ready.clear c.requires.few
+    (link-room (origin g.B.Bus (g.T.Turns.first c.args.turns.now)) g.N.Link.stands g.N.Link.receives g.N.Link.sends (shows g (g.T.Turns.first c.args.turns.now)).link c.args.number _ _ c.args.pass _ _ _ c.guarded_link-pass.result.1 c.guarded_link-pass.result.0 _ _ _ c.requires.ready.clear c.requires.few
     c.guarded_link-pass.ensures.did) c.failed_note-failed.ensures c.in-Peer.ensures c.guarded_link-pass.ensures.told c.guarded_link-pass.ensures.went

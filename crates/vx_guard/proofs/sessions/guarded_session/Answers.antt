@@ -30,22 +30,22 @@ shown g s = record {
 
 pub unreachable-requires : goal.unreachable-requires
 unreachable-requires g c =
-    let name = stream-keeps _ (λ s. s.held.ghost_name) (λ s s' message reply did. did.1) g.L.Link.stands _ _ _ _ _ _ _ _ c.answer_stream-failed.ensures.answers in
+    let name = stream-keeps _ (λ s. s.held.ghost_name) (λ s s' message reply did. did.1) g.L.Link.stands g.L.Link.receives g.L.Link.sends _ _ _ _ _ _ _ _ _ c.answer_stream-failed.ensures.answers in
     let can = c.answer_stream-failed.ensures.can in
     none-some can.0 (sym (subst (λ held. held ≡ None) (search (rules, name)) c.in_default.is) ∙ can.1)
 
 pub leave-requires-clause-gate : goal.leave-requires-clause-gate
 leave-requires-clause-gate g c =
-    let name = stream-keeps _ (λ s. s.held.ghost_name) (λ s s' message reply did. did.1) g.L.Link.stands _ _ _ _ _ _ _ _ c.answer_stream-failed.ensures.answers in
+    let name = stream-keeps _ (λ s. s.held.ghost_name) (λ s s' message reply did. did.1) g.L.Link.stands g.L.Link.receives g.L.Link.sends _ _ _ _ _ _ _ _ _ c.answer_stream-failed.ensures.answers in
     let left = subst (λ held. held ≡ Some c.in-Some.pass) (search (rules, name)) c.in-Some.is in
-    let has = guarded-pass (origin g.B.Bus (g.T.Turns.first c.args.turns.now)) g.L.Link.stands _ _ c.args.pass _ _ _ _ _
-    (stream-guarded g.B.Bus (λ s. g.T.Turns.first s.turns.now) _ (shown g) (λ s s' message reply did. did.0) (λ s s' message reply did. did.6) (λ s. refl) g.L.Link.stands _ _ c.args.pass _ _ _ _ _ _ refl refl (search rules) c.answer_stream-failed.ensures.answers) in
+    let has = guarded-pass (origin g.B.Bus (g.T.Turns.first c.args.turns.now)) g.L.Link.stands g.L.Link.receives g.L.Link.sends _ _ c.args.pass _ _ _ _ _
+    (stream-guarded g.B.Bus (λ s. g.T.Turns.first s.turns.now) _ (shown g) (λ s s' message reply did. did.0) (λ s s' message reply did. did.6) (λ s. refl) g.L.Link.stands g.L.Link.receives g.L.Link.sends _ _ c.args.pass _ _ _ _ _ _ _ refl refl (search rules) (search rules) c.answer_stream-failed.ensures.answers) in
     subst (λ p. p.gate ≡ g.T.Turns.gate c.args.turns.now) (same_Some _ _ (sym has.1 ∙ left)) (has.2 ∙ c.requires.gate)
 
 pub leave-requires-clause-phase : goal.leave-requires-clause-phase
 leave-requires-clause-phase g c =
-    let name = stream-keeps _ (λ s. s.held.ghost_name) (λ s s' message reply did. did.1) g.L.Link.stands _ _ _ _ _ _ _ _ c.answer_stream-failed.ensures.answers in
-    let number = stream-keeps _ (λ s. s.conn) (λ s s' message reply did. did.0.conn) g.L.Link.stands _ _ _ _ _ _ _ _ c.answer_stream-failed.ensures.answers in
+    let name = stream-keeps _ (λ s. s.held.ghost_name) (λ s s' message reply did. did.1) g.L.Link.stands g.L.Link.receives g.L.Link.sends _ _ _ _ _ _ _ _ _ c.answer_stream-failed.ensures.answers in
+    let number = stream-keeps _ (λ s. s.conn) (λ s s' message reply did. did.0.conn) g.L.Link.stands g.L.Link.receives g.L.Link.sends _ _ _ _ _ _ _ _ _ c.answer_stream-failed.ensures.answers in
     let left = subst (λ held. held ≡ Some c.in-Some.pass) (search (rules, name)) c.in-Some.is in
     let can = c.answer_stream-failed.ensures.can in
     subst (λ n. is_up (phase_at c.in-Some.pass n) ≡ true) number
@@ -54,14 +54,14 @@ leave-requires-clause-phase g c =
 pub returns-clause-did : goal.returns-clause-did
 returns-clause-did g c =
     let answers = c.answer_stream-failed.ensures.answers in
-    let held = stream-keeps _ (λ s. s.held.ghost_name) (λ s s' message reply did. did.1) g.L.Link.stands _ _ _ _ _ _ _ _ answers in
-    let clock = stream-keeps _ (λ s. s.clock.ghost_name) (λ s s' message reply did. did.3) g.L.Link.stands _ _ _ _ _ _ _ _ answers in
-    let dial = stream-keeps _ (λ s. s.dial.ghost_name) (λ s s' message reply did. did.4) g.L.Link.stands _ _ _ _ _ _ _ _ answers in
-    let note = stream-keeps _ (λ s. s.note.ghost_name) (λ s s' message reply did. did.5) g.L.Link.stands _ _ _ _ _ _ _ _ answers in (
+    let held = stream-keeps _ (λ s. s.held.ghost_name) (λ s s' message reply did. did.1) g.L.Link.stands g.L.Link.receives g.L.Link.sends _ _ _ _ _ _ _ _ _ answers in
+    let clock = stream-keeps _ (λ s. s.clock.ghost_name) (λ s s' message reply did. did.3) g.L.Link.stands g.L.Link.receives g.L.Link.sends _ _ _ _ _ _ _ _ _ answers in
+    let dial = stream-keeps _ (λ s. s.dial.ghost_name) (λ s s' message reply did. did.4) g.L.Link.stands g.L.Link.receives g.L.Link.sends _ _ _ _ _ _ _ _ _ answers in
+    let note = stream-keeps _ (λ s. s.note.ghost_name) (λ s s' message reply did. did.5) g.L.Link.stands g.L.Link.receives g.L.Link.sends _ _ _ _ _ _ _ _ _ answers in (
       c.peer-peer.result,
       c.peer-peer.ensures,
-      guard-did (origin g.B.Bus (g.T.Turns.first c.args.turns.now)) g.L.Link.stands c.headline_law.ensures.headline c.owned_law.ensures _ _ _ c.in-Some.pass _ _ _ _ _ _ _ _ _ _
-          (stream-guarded g.B.Bus (λ s. g.T.Turns.first s.turns.now) _ (shown g) (λ s s' message reply did. did.0) (λ s s' message reply did. did.6) (λ s. refl) g.L.Link.stands _ _ c.args.pass _ _ _ _ _ _ refl refl (search rules) answers)
+      guard-did (origin g.B.Bus (g.T.Turns.first c.args.turns.now)) g.L.Link.stands g.L.Link.receives g.L.Link.sends c.headline_law.ensures.headline c.owned_law.ensures _ _ _ c.in-Some.pass _ _ _ _ _ _ _ _ _ _
+          (stream-guarded g.B.Bus (λ s. g.T.Turns.first s.turns.now) _ (shown g) (λ s s' message reply did. did.0) (λ s s' message reply did. did.6) (λ s. refl) g.L.Link.stands g.L.Link.receives g.L.Link.sends _ _ c.args.pass _ _ _ _ _ _ _ refl refl (search rules) (search rules) answers)
           c.clear.ensures
           (subst (λ o. o ≡ Some c.in-Some.pass) (search (rules, held)) c.in-Some.is)
           (ap g.C.Clock.told (search (rules, clock))) (ap (dial_shown g.D.Dial.calls g.D.Dial.faults) (search (rules, dial))) (ap (noted g) (search (rules, note))) c.guard_end-how.ensures c.leave.ensures,
@@ -69,7 +69,7 @@ returns-clause-did g c =
 
 pub returns-clause-told : goal.returns-clause-told
 returns-clause-told g c =
-    let name = stream-keeps _ (λ s. s.clock.ghost_name) (λ s s' message reply did. did.3) g.L.Link.stands _ _ _ _ _ _ _ _ c.answer_stream-failed.ensures.answers in
+    let name = stream-keeps _ (λ s. s.clock.ghost_name) (λ s s' message reply did. did.3) g.L.Link.stands g.L.Link.receives g.L.Link.sends _ _ _ _ _ _ _ _ _ c.answer_stream-failed.ensures.answers in
     subst (λ clock. g.C.Clock.told c.args.clock.now ≤ g.C.Clock.told clock) (search (rules, name))
-    (guarded-later (origin g.B.Bus (g.T.Turns.first c.args.turns.now)) g.L.Link.stands _ _ c.args.pass _ _ _ _ _
-    (stream-guarded g.B.Bus (λ s. g.T.Turns.first s.turns.now) _ (shown g) (λ s s' message reply did. did.0) (λ s s' message reply did. did.6) (λ s. refl) g.L.Link.stands _ _ c.args.pass _ _ _ _ _ _ refl refl (search rules) c.answer_stream-failed.ensures.answers))
+    (guarded-later (origin g.B.Bus (g.T.Turns.first c.args.turns.now)) g.L.Link.stands g.L.Link.receives g.L.Link.sends _ _ c.args.pass _ _ _ _ _
+    (stream-guarded g.B.Bus (λ s. g.T.Turns.first s.turns.now) _ (shown g) (λ s s' message reply did. did.0) (λ s s' message reply did. did.6) (λ s. refl) g.L.Link.stands g.L.Link.receives g.L.Link.sends _ _ c.args.pass _ _ _ _ _ _ _ refl refl (search rules) (search rules) c.answer_stream-failed.ensures.answers))

@@ -22,7 +22,7 @@ returns-clause-can g c =
     let taken : c.args.self.now.held ≡ Some c.in-Some.passes = search rules in
     let same = same_Some c.requires.can.passes (passes_shown c.in-Some.passes) (sym c.requires.can.has ∙ ap (option_map passes_shown) taken) in
     subst (λ (n : ℕ). IsReady n (Some (passes_shown c.many_link-passes.result.0)) (gates_shown c.args.self.now.buses)) (sym c.one_more-self.ensures.more)
-    (ready-on (origins g.B.Bus (firsts_shown c.args.self.now.buses)) g.N.Link.stands _ (passes_shown c.in-Some.passes) _ (passes_shown c.many_link-passes.result.0) _ c.args.self.now.served _ _ c.many_link-passes.result.1 (gates_shown c.args.self.now.buses)
+    (ready-on (origins g.B.Bus (firsts_shown c.args.self.now.buses)) g.N.Link.stands g.N.Link.receives g.N.Link.sends _ (passes_shown c.in-Some.passes) _ (passes_shown c.many_link-passes.result.0) _ c.args.self.now.served _ _ c.many_link-passes.result.1 (gates_shown c.args.self.now.buses)
     c.many_link-passes.ensures.did (subst (λ (p : Four (PassView Group)). clear-at g p c.args.self.now.served) same c.requires.can.clear)
     c.many_link-passes.ensures.gates)
 
@@ -35,6 +35,6 @@ returns-clause-did g c =
       same = search rules;
       went = search rules;
       later = search rules;
-      room = has-room (origins g.B.Bus (firsts_shown c.args.self.now.buses)) g.N.Link.stands _ (passes_shown c.in-Some.passes) _ (passes_shown c.many_link-passes.result.0) _ c.args.self.now.served _ _ c.many_link-passes.result.1
+      room = has-room (origins g.B.Bus (firsts_shown c.args.self.now.buses)) g.N.Link.stands g.N.Link.receives g.N.Link.sends _ (passes_shown c.in-Some.passes) _ (passes_shown c.many_link-passes.result.0) _ c.args.self.now.served _ _ c.many_link-passes.result.1
           (subst (λ (p : Four (PassView Group)). clear-at g p c.args.self.now.served) same c.requires.can.clear) c.one_more-self.ensures.below c.many_link-passes.ensures.did;
     }
