@@ -19,9 +19,9 @@ use Rattle.vx_stream.specs.Answered.{Answered, AnswersAll, replies}
 use Rattle.vx_stream.specs.Stopping.{EndsSo, IsLeft, StreamAnswered}
 use Rattle.vx_stream.specs.declared.ends.End.{End}
 use Rattle.vx_stream.specs.declared.ends.End.TheVariants as end
-use Rattle.vx_session.specs.declared.sessions.TheConstants.{PIECE}
 use Rattle.vx_session.specs.Placing.{Placed, Makes}
 use Rattle.vx_session.specs.ProvedLaws.{makes-none, makes-goes}
+use Rattle.vx_buses.specs.Ending.{at_once}
 use Rattle.vx_buses.specs.Origins.{Origins, origins}
 use Rattle.vx_buses.specs.Serving.{Item, Serves, State, MessageDoes, answered, placed_on, numbers}
 use Rattle.vx_buses.proofs.Fours.{at-put, at-put-other, numbers-put}
@@ -129,7 +129,7 @@ pub record StreamServed {B L : Type 0} (g : Origins B) (stands : L → List ℕ 
   pub bytes : Goes stands link link' written (front ++ behind)
   pub goes : LinkGoes seen (front ++ behind) seen'
   pub wrote : replies list ≡ written ++ unsent
-  pub near : length behind < PIECE
+  pub near : length behind < at_once
   pub in_turn : InTurn receives sends RECORD_MAX list link (front ++ behind) written link'
   pub ended : EndsSo (λ message. meaning message s.role ≡ Junk) seen list (records RECORD_MAX front) behind unsent seen' (Some how)
 
@@ -157,7 +157,7 @@ module _ {B S : Type 0} (bus : Ghosts B) (firsts : S → Four (CoreState B)) (do
 
   -- so the records of its stream were served
   pub stream-served : {L : Type 0} (stands : L → List ℕ → List ℕ → Type 0) (receives : Receives L) (sends : Sends L) (s s' : S) (passes : Four (PassView Group)) (link link' : L) (seen seen' : LinkShown) (how : End)
-      → (shown s).passes ≡ Some passes → StreamAnswered does stands receives sends RECORD_MAX PIECE None s link seen (Some how) s' link' seen'
+      → (shown s).passes ≡ Some passes → StreamAnswered does stands receives sends RECORD_MAX at_once None s link seen (Some how) s' link' seen'
       → StreamServed (origins bus (firsts s)) stands receives sends (shown s) passes link seen how (shown s') link' seen'
   stream-served stands receives sends s s' passes link link' seen seen' how had did =
       let last = did.last in

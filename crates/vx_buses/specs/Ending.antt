@@ -22,7 +22,6 @@ use Rattle.vx_stream.specs.Calling.{Receives, Sends, InTurn}
 use Rattle.vx_stream.specs.Shown.{LinkShown, LinkGoes}
 use Rattle.vx_stream.specs.Stopping.{EndsSo}
 use Rattle.vx_stream.specs.declared.ends.End.{End}
-use Rattle.vx_session.specs.declared.sessions.TheConstants.{PIECE}
 use Rattle.vx_session.specs.Placing.{Placed, Makes}
 use Rattle.vx_session.specs.Turning.{Leaves}
 use Rattle.vx_session.specs.Ending.{Upholds}
@@ -40,6 +39,10 @@ history_of pass = gather (events_of (groups pass.seen))
 -- no number of a link is given twice over what four passes have seen, each of its own bus, as clients know the numbers
 abbrev pub GivesOnce : Four (PassView Group) → Type 0
 GivesOnce passes = AllPairs (λ a b. a ≢ b) (given_by_all (history_of passes.zero_) (history_of passes.one) (history_of passes.two) (history_of passes.three))
+
+-- how many bytes a session receives at once, at most
+abbrev pub at_once : ℕ
+at_once = 4096
 
 -- A session on connections of this role, one of each bus: the records that it served, in their order; the bytes `front` that it looked
 -- at, and those that it received behind them, fewer than it receives at once; the replies, of which the link took `written`; and the end
@@ -61,7 +64,7 @@ pub record SessionDid {B L : Type 0} (g : Origins B) (stands : L → List ℕ �
   pub bytes : Goes stands link link' written (front ++ behind)
   pub goes : LinkGoes seen (front ++ behind) seen'
   pub wrote : replies (answered items) ≡ written ++ unsent
-  pub near : length behind < PIECE
+  pub near : length behind < at_once
   pub in_turn : InTurn receives sends RECORD_MAX (answered items) link (front ++ behind) written link'
   -- why it ended: a message without a reply is junk
   pub ended : EndsSo (λ message. meaning message r ≡ Junk) seen (answered items) (records RECORD_MAX front) behind unsent seen' (Some how)
