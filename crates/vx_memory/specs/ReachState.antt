@@ -16,7 +16,9 @@ pub record ReachState (L : Type 0) : Type 0 where
   pub port : ℕ
   -- whether a reach answered so
   pub is_up : Bool
-  -- how many reaches were refused
+  -- how many reaches there were
+  pub tried : ℕ
+  -- how many of them were refused
   pub refused : ℕ
   -- how many receives and how many sends came before the first reach with `Up`, and so failed
   pub early_receives : ℕ
@@ -46,5 +48,9 @@ IsLinkCall old new = new ≡ record old { link = new.link }
 
 -- the reach after a call of it with that answer
 abbrev pub after_reach : {L : Type 0} → ReachState L → DialOut → ReachState L
-after_reach s Up = record s { is_up = true }
-after_reach s Failed = record s { refused = one_more s.refused }
+after_reach s Up = record s { is_up = true; tried = one_more s.tried }
+after_reach s Failed = record s { tried = one_more s.tried; refused = one_more s.refused }
+
+-- one call of it, with that answer
+abbrev pub IsReach : {L : Type 0} → ReachState L → DialOut → ReachState L → Type 0
+IsReach old answer new = new ≡ after_reach old answer

@@ -11,6 +11,7 @@ pub struct MemReach<L> {
     host: String,
     port: u16,
     is_up: bool,
+    tried: u64,
     refused: u64,
     early_receives: u64,
     early_sends: u64,
@@ -27,6 +28,7 @@ impl<L> Model for MemReach<L> {
       host = string_bytes s.host;
       port = s.port;
       is_up = s.is_up;
+      tried = s.tried;
       refused = s.refused;
       early_receives = s.early_receives;
       early_sends = s.early_sends;
@@ -42,6 +44,7 @@ impl<L> MemReach<L> {
         ensures host { result.host ≡ string_bytes host }
         ensures port { result.port ≡ port }
         ensures is_up { result.is_up ≡ false }
+        ensures tried { result.tried ≡ 0 }
         ensures refused { result.refused ≡ 0 }
         ensures early_receives { result.early_receives ≡ 0 }
         ensures early_sends { result.early_sends ≡ 0 }
@@ -51,10 +54,18 @@ impl<L> MemReach<L> {
             host,
             port,
             is_up: false,
+            tried: 0,
             refused: 0,
             early_receives: 0,
             early_sends: 0,
         }
+    }
+
+    /// How many reaches there were: a count that stays at its greatest value.
+    pub fn tried(&self) -> u64
+        ensures { result ≡ self.now.tried }
+    {
+        self.tried
     }
 
     /// The link that it was made with, with what it took and gave since.
@@ -164,16 +175,18 @@ impl<L: Link> Reach for MemReach<L> {
     ghost use Rattle.vx_io_traits.specs.Rung.{OnDialFailed};
     ghost use Rattle.vx_io_traits.specs.Stands.{Stays};
     ghost use Rattle.vx_io_traits.specs.Reached.{AnswersAt};
-    ghost use Rattle.vx_memory.specs.ReachState.{place_of, with_early, after_reach};
+    ghost use Rattle.vx_memory.specs.ReachState.{place_of, with_early, after_reach, IsReach};
 
     ghost refused = { λ s. s.refused };
 
     ghost place = { place_of };
 
+    ghost tries = { λ old host port answer new. IsReach old answer new };
+
     /// Answers `Up` exactly where the words are its own; a host is compared byte by byte.
     fn reach(&mut self, host: &str, port: u16) -> DialOut
         // What the reach is afterwards.
-        ensures after { self.new ≡ after_reach self.old result }
+        ensures after { IsReach self.old result self.new }
 
         // What every reach says.
         ensures counted { self.old.refused ≤ self.new.refused }
@@ -187,6 +200,7 @@ impl<L: Link> Reach for MemReach<L> {
         ensures left { Keeps (L.left self.old.link) (L.left self.new.link) }
         ensures stays { Stays L.stands self.old.link self.new.link }
     {
+        self.tried = self.tried.saturating_add(1);
         if self.host.as_str() == host && self.port == port {
             self.is_up = true;
             return DialOut::Up;
