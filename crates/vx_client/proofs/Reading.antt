@@ -1,5 +1,5 @@
 -- How a reply comes out of a stream, piece by piece.
-use Rattle.std.proofs.Common.{◌≡◌, ℕ, zero, suc, ◌+◌, ◌-◌, ◌≤◌, ◌<◌, min, false, List, [], ◌∷◌, ◌++◌, Option, length, take, drop, refl, subst, sym, ap, ◌∙◌, arith, append_assoc, append-nil, length-append, take-append-drop}
+use Rattle.std.proofs.Common.{◌≡◌, ℕ, zero, suc, ◌+◌, ◌-◌, ◌≤◌, ◌<◌, min, false, List, [], ◌∷◌, ◌++◌, Option, length, take, drop, refl, subst, sym, ap, ◌∙◌, arith, append_assoc, append-nil, length-append, length-drop, take-append-drop}
 use Rattle.std.proofs.lemmas.List.{take_at, take-take, length-take-le, drop-take, length-take}
 use Rattle.std.proofs.lemmas.Grind.{common_steps}
 use Rattle.std.proofs.KnownBytes.{Consumes-nil, Consumes-trans, Consumes-kept, Consumes-whole}
@@ -14,7 +14,7 @@ use Rattle.vx_record.specs.declared.Feed.TheVariants.{More, Whole, TooLong}
 use Rattle.vx_record.specs.ProvedLaws.{settled-none, fed-append, fed-stopped, taken-stopped, taken-more}
 use Rattle.vx_client.specs.Stream.{by_header, by_length, IsOpen}
 use Rattle.vx_client.specs.Inbox.{InboxState, Gave, last_at, last_of, Refills, IsBrought}
-use Rattle.vx_client.specs.declared.inbox.TheConstants.{REPLY_STREAM_MAX}
+use Rattle.vx_client.specs.declared.inbox.TheConstants.{REPLY_STREAM_MAX, PIECE}
 use Rattle.vx_client.specs.declared.inbox.Refill.TheVariants as refill
 use Rattle.vx_client.specs.declared.inbox.Brought.TheVariants as brought
 
@@ -175,6 +175,14 @@ fed_cut used s t most n on =
     ap (λ xs. used ++ xs) (sym (take-append-drop n s.kept)) ∙ ap (λ xs. used ++ (xs ++ drop n s.kept)) (sym part)
     ∙ ap (λ xs. used ++ (take n (take most s.kept) ++ xs)) (sym on.kept) ∙ sym (append_assoc used (take n (take most s.kept)) t.kept)
 
+-- it leaves fewer bytes than came at once
+fed_few : (s t : InboxState) (most n : ℕ) → Fed_on s t most n → length s.kept ≤ PIECE → length t.kept < PIECE
+fed_few s t most n on few =
+    let len : length t.kept ≡ length s.kept - n = ap length on.kept ∙ length-drop n s.kept in
+    let some : 0 < n = on.some in
+    let within : n ≤ min most (length s.kept) = on.within in
+    omega arith
+
 -- the bytes that a feed is handed are the front of those that are kept
 pub part-of : (xs ys kept : List ℕ) (from to most part : ℕ) → ys ≡ xs → kept ≡ drop from (take to xs) → part ≡ min most (to - from) → from ≤ to
     → take (from + part - from) (drop from ys) ≡ take most kept
@@ -219,8 +227,8 @@ read-fed ends stands left receives sends first now before s t room n so_far on m
 -- a feed that made the record whole
 pub read-whole : {L : Type 0} → EndLaw → (stands : L → List ℕ → List ℕ → Type 0) (left : L → Option (List ℕ)) (receives sends : L → ℕ) (first now : L)
     (before : List ℕ) (s t : InboxState) (room n : ℕ) → ReadSoFar stands left receives sends first now before s room → Fed_on s t room n
-    → t.reply.state ≡ Whole → IsBrought stands left receives first now before t brought.Record
-read-whole ends stands left receives sends first now before s t room n so_far on whole =
+    → t.reply.state ≡ Whole → length s.kept ≤ PIECE → IsBrought stands left receives first now before t brought.Record
+read-whole ends stands left receives sends first now before s t room n so_far on whole few =
     let piece : List ℕ = take room s.kept in
     let part : List ℕ = take n piece in
     let within : n ≤ min room (length s.kept) = on.within in
@@ -241,6 +249,7 @@ read-whole ends stands left receives sends first now before s t room n so_far on
           whole = ended;
           shortest = behind.shortest;
           within = omega arith;
+          few = fed_few s t room n on few;
         },
         whole,
       ),
@@ -249,8 +258,8 @@ read-whole ends stands left receives sends first now before s t room n so_far on
 -- a feed that came to a header above the limit
 pub read-long_header : {L : Type 0} → EndLaw → (stands : L → List ℕ → List ℕ → Type 0) (left : L → Option (List ℕ)) (receives sends : L → ℕ) (first now : L)
     (before : List ℕ) (s t : InboxState) (room n : ℕ) → ReadSoFar stands left receives sends first now before s room → Fed_on s t room n
-    → t.reply.state ≡ TooLong → IsBrought stands left receives first now before t brought.TooLong
-read-long_header ends stands left receives sends first now before s t room n so_far on long =
+    → t.reply.state ≡ TooLong → length s.kept ≤ PIECE → IsBrought stands left receives first now before t brought.TooLong
+read-long_header ends stands left receives sends first now before s t room n so_far on long few =
     let piece : List ℕ = take room s.kept in
     let part : List ℕ = take n piece in
     let within : n ≤ min room (length s.kept) = on.within in
@@ -265,7 +274,8 @@ read-long_header ends stands left receives sends first now before s t room n so_
       so_far.got,
       so_far.gave,
       (
-        by_header (so_far.used ++ part) t.kept (so_far.stream ∙ fed_cut so_far.used s t room n on) (omega arith) ended.0 ended.1,
+        by_header (so_far.used ++ part) t.kept (so_far.stream ∙ fed_cut so_far.used s t room n on) (omega arith) ended.0 ended.1 behind.shortest
+            (fed_few s t room n on few),
         last-none t.reply TooLong long tt,
       ),
     )
@@ -273,15 +283,15 @@ read-long_header ends stands left receives sends first now before s t room n so_
 -- bytes that came where the reply may have no more
 pub read-long_stream : {L : Type 0} (stands : L → List ℕ → List ℕ → Type 0) (left : L → Option (List ℕ)) (receives sends : L → ℕ) (first now : L)
     (before : List ℕ) (s : InboxState) (room : ℕ) → ReadSoFar stands left receives sends first now before s room → room ≡ 0 → 0 < length s.kept
-    → IsBrought stands left receives first now before s brought.TooLong
-read-long_stream stands left receives sends first now before s room so_far none some =
+    → length s.kept ≤ PIECE → IsBrought stands left receives first now before s brought.TooLong
+read-long_stream stands left receives sends first now before s room so_far none some few =
     let stream = so_far.stream in
     let whole = length-append so_far.used s.kept in
     let count : room + length so_far.used ≡ REPLY_STREAM_MAX = so_far.count in
     let used_len : length so_far.used ≡ REPLY_STREAM_MAX = omega arith in
     let len : length (before ++ so_far.got) ≡ length (so_far.used ++ s.kept) = ap length stream in
     let front : take REPLY_STREAM_MAX (before ++ so_far.got) ≡ so_far.used = ap (take REPLY_STREAM_MAX) stream ∙ take_at so_far.used s.kept REPLY_STREAM_MAX used_len in
-    (so_far.got, so_far.gave, (by_length (omega arith) (ap (λ xs. is_settled (records REPLY_MAX xs)) front ∙ so_far.unsettled), last-none s.reply More so_far.more tt))
+    (so_far.got, so_far.gave, (by_length (omega arith) (ap (λ xs. is_settled (records REPLY_MAX xs)) front ∙ so_far.unsettled) (omega arith), last-none s.reply More so_far.more tt))
 
 -- the stream so far is open
 pub read-open : {L : Type 0} (stands : L → List ℕ → List ℕ → Type 0) (left : L → Option (List ℕ)) (receives sends : L → ℕ) (first now : L)

@@ -4,6 +4,7 @@ ghost use Rattle.std.specs.Prelude.{◌≡◌, ◌+◌, ◌≤◌, ◌<◌, ◌+
 ghost use Rattle.vx_record.specs.Buffer.{fresh, fed, taken};
 ghost use Rattle.vx_client.specs.Inbox.{IsReady, last_of, Refills, IsBrought};
 ghost use Rattle.vx_client.specs.Ending.{TellsRefill, TellsBrought};
+ghost use Rattle.vx_client.specs.declared.inbox.TheConstants.{PIECE};
 
 use std::alloc::Global;
 use std::marker::Model;
@@ -15,7 +16,7 @@ use vx_record::{Fed, Feed, RecordBuf, end_law};
 pub(crate) const REPLY_STREAM_MAX: usize = 1_048_576;
 
 /// How many bytes are asked of the link at once.
-const PIECE: usize = 65_536;
+pub(crate) const PIECE: usize = 65_536;
 
 /// There was no memory for the room.
 #[derive(Clone, Copy)]
@@ -56,6 +57,7 @@ impl Model for Inbox {
     ghost use Rattle.std.specs.Prelude.{◌≡◌, ◌<◌, ◌≤◌, ◌↔◌, IsTrue, drop, take, vec_len};
     ghost use Rattle.vx_record.specs.declared.Feed.TheVariants.{Whole};
     ghost use Rattle.vx_calls.specs.declared.limits.TheConstants.{REPLY_MAX};
+    ghost use Rattle.vx_client.specs.declared.inbox.TheConstants.{PIECE};
     ghost use Rattle.vx_client.specs.Inbox.{InboxState};
 
     ghost Value = { InboxState };
@@ -65,7 +67,7 @@ impl Model for Inbox {
       reply = b.reply;
     } };
 
-    ghost invariant = { λ b. (0 < vec_len b.room) × (b.from ≤ b.to) × (b.to ≤ vec_len b.room)
+    ghost invariant = { λ b. (vec_len b.room ≡ PIECE) × (b.from ≤ b.to) × (b.to ≤ vec_len b.room)
         × (b.reply.limit ≡ REPLY_MAX) × (IsTrue b.whole ↔ (b.reply.state ≡ Whole)) };
 }
 
@@ -113,6 +115,7 @@ impl Inbox {
     fn refill<L: Link>(&mut self, link: &mut L) -> Refill
         ensures brought { Refills L.stands L.left L.receive_faults link.old link.new self.old.kept self.new.kept result }
         ensures told { TellsRefill L.receives link.old link.new result }
+        ensures few { length self.new.kept ≤ PIECE }
         ensures reply { self.new.reply ≡ self.old.reply }
         ensures receives { L.receive_faults link.old ≤ L.receive_faults link.new }
         ensures sends { L.send_faults link.new ≡ L.send_faults link.old }

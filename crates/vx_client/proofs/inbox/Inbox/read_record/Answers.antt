@@ -11,7 +11,7 @@ returns-then-left-eq0-clause-brought g c =
     read-long_stream g.L.Link.stands g.L.Link.left g.L.Link.receive_faults g.L.Link.send_faults _ _ _ c.refill.new.self c.loop-self.left
     (read-refilled g.L.Link.stands g.L.Link.left g.L.Link.receive_faults g.L.Link.send_faults _ _ _ _ c.loop-self.self c.refill.new.self c.loop-self.left
     c.loop-self.invariant.0 c.in-Some.ensures.brought c.in-Some.ensures.reply c.in-Some.ensures.receives c.in-Some.ensures.sends)
-    c.if-left-eq0.true c.in-Some.ensures.brought.3
+    c.if-left-eq0.true c.in-Some.ensures.brought.3 c.in-Some.ensures.few
 
 pub loop-self-preserved : goal.loop-self-preserved
 loop-self-preserved g c = (
@@ -41,7 +41,7 @@ returns-in-Whole-clause-brought g c =
       some = c.feed-fed.ensures.some_took;
       within = c.feed-fed.ensures.within;
     })
-    (cc)
+    (cc) c.in-Some.ensures.few
 
 pub returns-in-TooLong-clause-brought : goal.returns-in-TooLong-clause-brought
 returns-in-TooLong-clause-brought g c =
@@ -55,7 +55,7 @@ returns-in-TooLong-clause-brought g c =
       some = c.feed-fed.ensures.some_took;
       within = c.feed-fed.ensures.within;
     })
-    (cc)
+    (cc) c.in-Some.ensures.few
 
 pub returns-in-End-clause-told : goal.returns-in-End-clause-told
 returns-in-End-clause-told g c = record { before = c.loop-self.link; received = c.loop-self.invariant.1; last = c.in-End.ensures.told }
