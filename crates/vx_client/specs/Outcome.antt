@@ -94,7 +94,7 @@ abbrev pub EndsOver : {L : Type 0} → (L → List ℕ → List ℕ → Type 0) 
 EndsOver stands left receives sends words old new before after number =
     (ask : Ask) × (ask_of words ≡ Some ask) × (how : Status) × (number ≡ status_number how) × IsOver stands left receives sends ask old new before after how
 
--- what a reach and its counts are, to what is said of it
+-- what a reach, its counts and its one call are, to what is said of it
 pub record Reaching (R : Type 0) : Type 1 where
   pub stands : R → List ℕ → List ℕ → Type 0
   pub left : R → Option (List ℕ)
@@ -102,9 +102,11 @@ pub record Reaching (R : Type 0) : Type 1 where
   pub sends : R → ℕ
   pub refused : R → ℕ
   pub place : R → Option (List ℕ × ℕ)
+  pub tries : R → List ℕ → ℕ → DialOut → R → Type 0
 
--- the server's host and port were tried, the last time with this answer, and no byte was sent or received
+-- the server's host and port were tried once, with this answer, and no byte was sent or received
 pub record Tries {R : Type 0} (r : Reaching R) (ask : Ask) (old new : R) (answer : DialOut) : Type 0 where
+  pub tried : r.tries old ask.host ask.port answer new
   pub answers : AnswersAt (r.place old) ask.host ask.port answer
   pub rose : OnDialFailed answer (Rose (r.refused old) (r.refused new))
   pub given : Keeps (r.left old) (r.left new)

@@ -177,7 +177,7 @@ pub fn call_over<L: Link, K: Sink>(
 fn serve<R: Reach, K: Sink>(alloc: Global, ask: &Ask<'_>, reach: R, sink: &mut K) -> (Status, R)
     requires device { length ask.now.device.now ≤ DEVICE_MAX }
     ensures { IsServed
-        (record { stands = R.stands; left = R.left; receives = R.receive_faults; sends = R.send_faults; refused = R.refused; place = R.place })
+        (record { stands = R.stands; left = R.left; receives = R.receive_faults; sends = R.send_faults; refused = R.refused; place = R.place; tries = R.tries })
         (ask_shown ask.now) reach result.1
         (record { bytes = K.taken sink.old; faults = K.faults sink.old })
         (record { bytes = K.taken sink.new; faults = K.faults sink.new }) result.0 }
@@ -200,7 +200,7 @@ fn reach_and_serve<R: Reach, K: Sink>(
 ) -> (Status, R)
     requires device { length ask.now.device.now ≤ DEVICE_MAX }
     ensures { IsAskRun
-        (record { stands = R.stands; left = R.left; receives = R.receive_faults; sends = R.send_faults; refused = R.refused; place = R.place })
+        (record { stands = R.stands; left = R.left; receives = R.receive_faults; sends = R.send_faults; refused = R.refused; place = R.place; tries = R.tries })
         (ask_shown ask.now) reach result.1
         (record { bytes = K.taken sink.old; faults = K.faults sink.old })
         (record { bytes = K.taken sink.new; faults = K.faults sink.new }) result.0 }
@@ -218,7 +218,7 @@ fn reach_and_serve<R: Reach, K: Sink>(
 /// Does what the words ask.
 fn run<R: Reach, K: Sink>(alloc: Global, words: &[String], reach: R, sink: &mut K) -> (Status, R)
     ensures { IsRun
-        (record { stands = R.stands; left = R.left; receives = R.receive_faults; sends = R.send_faults; refused = R.refused; place = R.place })
+        (record { stands = R.stands; left = R.left; receives = R.receive_faults; sends = R.send_faults; refused = R.refused; place = R.place; tries = R.tries })
         (map string_bytes words.now) reach result.1
         (record { bytes = K.taken sink.old; faults = K.faults sink.old })
         (record { bytes = K.taken sink.new; faults = K.faults sink.new }) result.0 }
@@ -257,7 +257,7 @@ pub fn call_run<R: Reach, K: Sink>(
     sink: &mut K,
 ) -> (u8, R)
     ensures { EndsRun
-        (record { stands = R.stands; left = R.left; receives = R.receive_faults; sends = R.send_faults; refused = R.refused; place = R.place })
+        (record { stands = R.stands; left = R.left; receives = R.receive_faults; sends = R.send_faults; refused = R.refused; place = R.place; tries = R.tries })
         (map string_bytes words.now) reach result.1
         (record { bytes = K.taken sink.old; faults = K.faults sink.old })
         (record { bytes = K.taken sink.new; faults = K.faults sink.new }) result.0 }
