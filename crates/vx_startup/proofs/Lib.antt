@@ -4,3 +4,4 @@ pub mod Verdicts
 pub mod Causes
 pub mod Early
 pub mod Written
+pub mod Done

@@ -1,7 +1,7 @@
 -- To be believed.
 -- How a server ends: by what its words ask, what its bench's source gives, what its lines are, and then by its ports, its workers
 -- and its links, in this order.
-use Rattle.std.specs.Prelude.{◌≡◌, ℕ, List, Result, Ok, Err, ◌⊎◌, string_bytes}
+use Rattle.std.specs.Prelude.{◌≡◌, ℕ, List, ◌++◌, Result, Ok, Err, ◌⊎◌, string_bytes}
 use Rattle.std.specs.Io.KnownBytes.{Appends}
 use Rattle.vx_text.specs.Ends.{End}
 use Rattle.vx_text.specs.Reading.{IsInput}
@@ -23,8 +23,8 @@ use Rattle.vx_startup.specs.Meant.{Answers}
 use Rattle.vx_startup.specs.declared.preparing.TheConstants.{BENCH_MAX}
 use Rattle.vx_startup.specs.declared.status.Status.{Status}
 use Rattle.vx_startup.specs.declared.status.Status.TheVariants as status
-use Rattle.vx_startup.specs.Lines.{usage_line}
-use Rattle.vx_startup.specs.Running.{Ports, EndsRun}
+use Rattle.vx_startup.specs.Lines.{usage_line, served_line}
+use Rattle.vx_startup.specs.Running.{Ports, EndsRun, first_line}
 
 -- the number of a status
 abbrev pub status_number : Status → ℕ
@@ -115,3 +115,15 @@ pub record Ends (words : List (List ℕ)) (rack : List SpareShown) (source sourc
 abbrev pub EndsSo : List (List ℕ) → List SpareShown → End → End → Outside → Outside → ℕ → ℕ → Type 0
 EndsSo words rack source source' before after tally number =
     (how : Status) × (number ≡ status_number how) × Ends words rack source source' before after tally how
+
+-- What a server that ends with 0 has written, by what its words ask: to serve, both its lines; for the help or the version, that text.
+abbrev pub DoneFor : Asked → End → End → ℕ → Type 0
+DoneFor (asked.Serve o) before after tally = Appends before.bytes after.bytes (first_line o ++ served_line tally)
+DoneFor (asked.Tell text) before after tally = Appends before.bytes after.bytes (string_bytes text)
+DoneFor _ before after tally = ⊥
+
+-- it has, with the number of the tally that it gives back
+pub record IsDone (words : List (List ℕ)) (before after : End) (tally : ℕ) : Type 0 where
+  pub request : Asked
+  pub asks : Answers words request
+  pub written : DoneFor request before after tally
