@@ -5,7 +5,7 @@ ghost use Rattle.vx_startup.specs.Meant.{IsInRange};
 ghost use Rattle.vx_startup.specs.Spares.{spare_shown};
 ghost use Rattle.vx_sim.specs.Occupants.{handed_in};
 ghost use Rattle.vx_startup.specs.Running.{EndsRun, LinksEnd, LinksServed, net_shown};
-ghost use Rattle.vx_startup.specs.Outcome.{Ends, EndsSo};
+ghost use Rattle.vx_startup.specs.Outcome.{Ends, EndsSo, IsDone};
 
 use crate::accepting::accept_links;
 use crate::access::{Access, GateAccess};
@@ -326,6 +326,8 @@ where
         (record { ports = record { net = net_shown N.faults N.given N.ended net.old; sink = record { bytes = K.taken sink.old; faults = K.faults sink.old } }; refused = W.faults spawner.old })
         (record { ports = record { net = net_shown N.faults N.given N.ended net.new; sink = record { bytes = K.taken sink.new; faults = K.faults sink.new } }; refused = W.faults spawner.new })
         result.1 result.0 }
+    ensures done { result.0 ≡ 0 → IsDone (map string_bytes words.now) (record { bytes = K.taken sink.old; faults = K.faults sink.old }) (record { bytes = K.taken sink.new; faults = K.faults sink.new })
+        result.1 }
 {
     let Ended { status, tally } = serve_words(
         rt, alloc, words, bench, net, spawner, tools, sink, rack,
