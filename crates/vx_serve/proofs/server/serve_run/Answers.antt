@@ -10,7 +10,7 @@ pub returns-clause-done : goal.returns-clause-done
 returns-clause-done g c =
     is_done (map string_bytes c.args.words.now) (map (spare_shown (handed_in (λ i. g.I.Instrument.behaves i) (λ i. g.I.Instrument.nature i))) c.args.rack.items)
     (record { bytes = g.S.Source.left c.args.bench.now; faults = g.S.Source.faults c.args.bench.now })
-    (record { bytes = g.S.Source.left c.serve_words.new.bench; faults = g.S.Source.faults c.serve_words.new.bench })
+    (record { bytes = g.S.Source.left c.serve_words-status.new.bench; faults = g.S.Source.faults c.serve_words-status.new.bench })
     (record {
       ports = record {
         net = net_shown g.N.Net.faults g.N.Net.given g.N.Net.ended c.args.net.now;
@@ -20,8 +20,8 @@ returns-clause-done g c =
     })
     (record {
       ports = record {
-        net = net_shown g.N.Net.faults g.N.Net.given g.N.Net.ended c.serve_words.new.net;
-        sink = record { bytes = g.K.Sink.taken c.serve_words.new.sink; faults = g.K.Sink.faults c.serve_words.new.sink };
+        net = net_shown g.N.Net.faults g.N.Net.given g.N.Net.ended c.serve_words-status.new.net;
+        sink = record { bytes = g.K.Sink.taken c.serve_words-status.new.sink; faults = g.K.Sink.faults c.serve_words-status.new.sink };
       };
-      refused = g.W.Spawner.faults c.serve_words.new.spawner;
-    }) c.serve_words.result.tally c.number.result (c.serve_words.result.status, c.number.ensures, c.serve_words.ensures)
+      refused = g.W.Spawner.faults c.serve_words-status.new.spawner;
+    }) c.serve_words-status.result.tally c.number.result (c.serve_words-status.result.status, c.number.ensures, c.serve_words-status.ensures)
