@@ -29,7 +29,7 @@ use Rattle.vx_exchange.specs.Meaning.{Meaning, Junk, Asks, Aborts, meaning}
 use Rattle.vx_exchange.specs.Meaning as meant
 use Rattle.vx_run.specs.Stream.{Brought, NoEnd, Whole, TooLong, After, brought, message_by}
 use Rattle.vx_run.specs.Item.{Item, events, noted}
-use Rattle.vx_run.specs.RunText.{message_lines, item_lines2, item_text}
+use Rattle.vx_run.specs.RunText.{IsPrintable, message_lines, item_lines2, item_text}
 use Rattle.vx_run.specs.Position.{Position, first_position, xids_after, moment_after, message_after}
 use Rattle.vx_run.specs.Giving.{Gives, PollGives, MessageGives, RecordGives, PieceGives, ChannelGives, StepGives}
 use Rattle.vx_run.specs.Forming.{Forms, FormsAll}
@@ -41,7 +41,7 @@ use Rattle.vx_check.specs.Laws.{ReplyLaw, OneHistoryLaw, LawfulLaw}
 use Rattle.vx_check.specs.Outcome.{Ends, EndsSo}
 use Rattle.vx_check.specs.Verdicts.{IsUndisturbed, RanOut, IsAnswered}
 use Rattle.vx_check.proofs.Verdicts.{completes}
-use Rattle.vx_check.specs.Formed.{IsPrintable, run_trace, is_told, told_events, FormedLaw, FormedLegalLaw, ToldLaw, EndsFormed}
+use Rattle.vx_check.specs.Formed.{run_trace, is_told, told_events, FormedLaw, FormedLegalLaw, ToldLaw, EndsFormed}
 use Rattle.vx_check.proofs.FormedReads.{Each, each-all, Reads, reads-one, reads-append, IsTold, texts_of, HasLines, has-lines, walks-reads}
 use Rattle.vx_check.proofs.FormedStands.{here, timed, IsOwn, StandsFor, Led}
 use Rattle.vx_check.proofs.FormedPolls.{lines_of, told_of, split-front}

@@ -1,27 +1,22 @@
 -- To be believed.
 -- What the traces of formed runs tell.
-use Rattle.std.specs.Prelude.{◌≡◌, ◌≤◌, ◌<◌, ◌^◌, ℕ, Bool, true, false, List, [], ◌++◌, length, filter, Some, ◌⊎◌}
+use Rattle.std.specs.Prelude.{◌≡◌, ◌≤◌, ℕ, Bool, true, false, List, [], ◌++◌, length, filter, Some, ◌⊎◌}
 use Rattle.std.specs.List.{All}
 use Rattle.vx_io_traits.specs.Faults.{Rose}
 use Rattle.vx_script.specs.declared.Version.TheVariants as version
 use Rattle.vx_trace.specs.Output.{Done}
-use Rattle.vx_trace.specs.Text.{HasRanges, line_text}
+use Rattle.vx_trace.specs.Text.{line_text}
 use Rattle.vx_rules.specs.Legal.{IsLegal}
 use Rattle.vx_flow.specs.Event.{Event}
 use Rattle.vx_flow.specs.Event as event
 use Rattle.vx_flow.specs.Gather.{gather}
 use Rattle.vx_run.specs.Item.{Item, events}
-use Rattle.vx_run.specs.RunText.{item_lines2, text}
+use Rattle.vx_run.specs.RunText.{IsPrintable, text}
 use Rattle.vx_run.specs.Forming.{IsFormed}
 use Rattle.vx_check.specs.declared.limits.TheConstants.{TRACE_MAX}
 use Rattle.vx_check.specs.CheckState.{abort_port}
 use Rattle.vx_check.specs.History.{Lawful, Tells}
 use Rattle.vx_check.specs.Outcome.{Ends}
-
--- an item can be printed: its moment fits 64 bits, and the numbers and bytes of its lines are such as lines hold
-pub record IsPrintable (item : Item) : Type 0 where
-  pub moment : item.moment < 2 ^ 64
-  pub lines : All HasRanges (item_lines2 item)
 
 -- the bytes of the trace of a run
 abbrev pub run_trace : List Item → List ℕ

@@ -40,7 +40,7 @@ use Rattle.vx_run.specs.Position.{xid_of, xid_brought}
 use Rattle.vx_play.specs.PlayerState.{PlayerState, incoming_at}
 use Rattle.vx_play.specs.Serving.{MadeBy}
 use Rattle.vx_play.specs.Feeding.{kept_behind, AnswersRecord, FeedMakes, FeedsPiece, StopsPiece}
-use Rattle.vx_play.specs.Standing.{HoldsStream, Holds, Stands, IsReady, IsPrintable, TakesTo, StopsFor}
+use Rattle.vx_play.specs.Standing.{HoldsStream, Holds, Stands, IsReady, HasLineRoom, TakesTo, StopsFor}
 use Rattle.vx_play.specs.ProvedLaws.{by_end, brought_of}
 use Rattle.vx_play.proofs.Roles.{roles-stay, polls-roles, up-lives, up-others, down-roles, down-others}
 use Rattle.vx_play.proofs.Stepping.{HoldsBehind, made-there, takes-to, call_lines}
@@ -469,12 +469,12 @@ piece-takes stage old new conn r kept piece made f makes = by (fed kept.buffer p
 
 -- there is room for what it made
 pub piece-printable : (new : PlayerState) (g : Gateway) (conn now : ℕ) (r : Role) (fed_kept : Incoming) (after_kept : Option Incoming) (made : Made) (state : Feed)
-    → FeedMakes g conn now r fed_kept new.reply new.message after_kept made new.core state → IsPrintable new made
+    → FeedMakes g conn now r fed_kept new.reply new.message after_kept made new.core state → HasLineRoom new made
 piece-printable new g conn now r fed_kept after_kept made feed.More h =
-    subst (IsPrintable new) (sym h.2) (record { note = tt; few = λ polled. absurd (false≢true polled) })
+    subst (HasLineRoom new) (sym h.2) (record { note = tt; few = λ polled. absurd (false≢true polled) })
 piece-printable new g conn now r fed_kept after_kept made feed.Whole h = record { note = h.made_by.note; few = h.made_by.few }
 piece-printable new g conn now r fed_kept after_kept made feed.TooLong h =
-    subst (IsPrintable new) (sym h.2) (record { note = tt; few = λ polled. absurd (false≢true polled) })
+    subst (HasLineRoom new) (sym h.2) (record { note = tt; few = λ polled. absurd (false≢true polled) })
 
 -- ---- a fed piece, as a player's method has it
 
@@ -547,9 +547,9 @@ pieces-stopped player old new conn r piece room result view p =
 
 -- the room for what one made
 pub pieces-printable : (player old new : PlayerState) (conn : ℕ) (r : Role) (piece room : List ℕ) (result : Result Made Stop) → old ≡ player → PieceFed old new conn r piece room result
-    → IfOk result (IsPrintable new)
+    → IfOk result (HasLineRoom new)
 pieces-printable player old new conn r piece room result view p =
-    if-ok _ (IsPrintable new) _ result p.taken p.known
+    if-ok _ (HasLineRoom new) _ result p.taken p.known
     (λ made feeds known.
     let found = some-of (incoming_at old.incoming conn) known in
     let kept : Incoming = found.0 in

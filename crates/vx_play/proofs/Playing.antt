@@ -1,7 +1,9 @@
 -- Steps of playing one line.
-use Rattle.std.proofs.Common.{◌≡◌, ℕ, ◌∙◌, List, [], ◌∷◌, ◌++◌, Option, Some, None, Ok, Err, ap, sym, subst, refl, append-nil, inl, inr}
-use Rattle.std.specs.List.{flat_map}
+use Rattle.std.proofs.Common.{◌≡◌, ◌<◌, ℕ, ◌∙◌, List, [], ◌∷◌, ◌++◌, Option, Some, None, Ok, Err, ap, sym, subst, refl, append-nil, inl, inr}
+use Rattle.std.specs.Prelude.{◌^◌}
+use Rattle.std.specs.List.{All, flat_map}
 use Rattle.std.proofs.lemmas.List.{append_assoc}
+use Rattle.std.proofs.lemmas.List.Elements.{All-append, All-cons, All-nil}
 use Rattle.std.specs.Io.KnownBytes.{Appends}
 use Rattle.std.proofs.KnownBytes.{Appends-nil}
 use Rattle.vx_script.specs.declared.Cause.{Cause}
@@ -15,20 +17,21 @@ use Rattle.vx_script.specs.Timed.{Timed, Blank, DoesAt, Strange, timed}
 use Rattle.vx_script.specs.Reads.{Reads, ReadsAt}
 use Rattle.vx_bench.specs.Script.{commands, commands_read, commands_timed}
 use Rattle.vx_bench.proofs.Scripts.{doing}
-use Rattle.vx_trace.specs.Text.{line_text, line_text2}
+use Rattle.vx_trace.specs.Text.{HasRanges, line_text, line_text2}
 use Rattle.vx_bench.specs.declared.stops.Stop.{Stop}
 use Rattle.vx_bench.specs.declared.stops.Stop.TheVariants as stops
 use Rattle.vx_text.specs.Ends.{End}
 use Rattle.vx_text.specs.Writing.{StopsIn}
 use Rattle.vx_run.specs.Item.{Item}
-use Rattle.vx_run.specs.RunText.{item_text}
+use Rattle.vx_run.specs.RunText.{IsPrintable, item_text}
 use Rattle.vx_play.specs.declared.note.Made.{Made}
 use Rattle.vx_play.specs.declared.run.LineEnd.{LineEnd}
 use Rattle.vx_play.specs.declared.run.LineEnd.TheVariants as line_end
 use Rattle.vx_play.specs.Stage.{Stage, refusal}
 use Rattle.vx_play.specs.Play.{Takes}
 use Rattle.vx_play.specs.PlayerState.{PlayerState}
-use Rattle.vx_play.specs.Printing.{made_text}
+use Rattle.vx_play.specs.Printing.{made_text, HasMadeRanges}
+use Rattle.vx_play.specs.Upholding.{ArePrintable}
 use Rattle.vx_play.specs.Standing.{Stands, TakesTo, StopsFor, WantsMemory, made_lines2}
 use Rattle.vx_play.specs.StepPlayed.{IsTaken, IsWritten, IsCutShort, EndsStep}
 use Rattle.vx_play.specs.LinePlayed.{TakesAll, IsFrontOf, EndsLine}
@@ -42,23 +45,37 @@ text-of version.One stage command made player t = ap (flat_map line_text) (sym t
 text-of version.Two stage command made player t =
     ap (λ m. flat_map (line_text2 m) (made_lines2 player made)) (sym t.moment_is) ∙ ap (flat_map (line_text2 t.item.moment)) (sym t.lines2_are)
 
-abbrev taken : (stage : Stage) (command : Command) (made : Made) (player : PlayerState) → TakesTo stage command made player → IsTaken stage command
-taken stage command made player t = record { item = t.item; after = t.after; command_is = t.command_is; takes = t.takes }
+-- the item of a step whose lines are in their ranges can be printed
+item-printable : (stage : Stage) (command : Command) (made : Made) (player : PlayerState) (t : TakesTo stage command made player) → HasMadeRanges player made
+    → All IsPrintable (t.item ∷ [])
+item-printable stage command made player t ranges =
+    All-cons IsPrintable t.item []
+    (record { moment = subst (λ m. m < 2 ^ 64) (sym t.moment_is) ranges.moment; lines = subst (All HasRanges) (sym t.lines2_are) ranges.lines }) (All-nil IsPrintable)
+
+abbrev taken : (v : Version) (stage : Stage) (command : Command) (made : Made) (player : PlayerState) → TakesTo stage command made player
+    → (v ≡ version.Two → HasMadeRanges player made) → IsTaken v stage command
+taken v stage command made player t ranges = record {
+  item = t.item;
+  after = t.after;
+  command_is = t.command_is;
+  takes = t.takes;
+  printable = λ is. item-printable stage command made player t (ranges is);
+}
 
 -- a step that was taken, and its text written
 pub step-written : (v : Version) (stage : Stage) (command : Command) (made : Made) (player : PlayerState) (before after : End) → TakesTo stage command made player
-    → Appends before.bytes after.bytes (made_text v player made) → IsWritten v stage command player before after
-step-written v stage command made player before after t put = record {
-  taken = taken stage command made player t;
+    → (v ≡ version.Two → HasMadeRanges player made) → Appends before.bytes after.bytes (made_text v player made) → IsWritten v stage command player before after
+step-written v stage command made player before after t ranges put = record {
+  taken = taken v stage command made player t ranges;
   stands = t.stands;
   written = subst (Appends before.bytes after.bytes) (text-of v stage command made player t) put;
 }
 
 -- and one at whose text the sink failed
 pub step-cut : (v : Version) (stage : Stage) (command : Command) (made : Made) (player : PlayerState) (before after : End) → TakesTo stage command made player
-    → StopsIn before after (made_text v player made) → IsCutShort v stage command before after
-step-cut v stage command made player before after t put = record {
-  taken = taken stage command made player t;
+    → (v ≡ version.Two → HasMadeRanges player made) → StopsIn before after (made_text v player made) → IsCutShort v stage command before after
+step-cut v stage command made player before after t ranges put = record {
+  taken = taken v stage command made player t ranges;
   stops = subst (StopsIn before after) (text-of v stage command made player t) put;
 }
 
@@ -79,7 +96,7 @@ one-text v item = sym (append-nil (item_text v item))
 
 -- Commands in front that make no text, and the step behind them.
 module _ (v : Version) (said : Option (List Command)) (front : List Command) (command : Command) (says : said ≡ Some (front ++ command ∷ [])) (stage mid : Stage) (quiet : List Item)
-    (took : TakesAll stage front quiet mid) (silent : flat_map (item_text v) quiet ≡ []) where
+    (took : TakesAll stage front quiet mid) (silent : flat_map (item_text v) quiet ≡ []) (plain : ArePrintable v quiet) where
   all-taken : (item : Item) (after : Stage) → item.command ≡ command → Takes mid item after → TakesAll stage (front ++ command ∷ []) (quiet ++ item ∷ []) after
   all-taken item after is takes = by stage front quiet took where
     by : (before : Stage) (front : List Command) (quiet : List Item) → TakesAll before front quiet mid
@@ -88,6 +105,9 @@ module _ (v : Version) (said : Option (List Command)) (front : List Command) (co
     by before [] (i ∷ items) h = absurd h
     by before (c ∷ commands) [] h = absurd h
     by before (c ∷ commands) (i ∷ items) (first, next, took, rest) = (first, next, took, by next commands items rest)
+
+  all-printable : (item : Item) → ArePrintable v (item ∷ []) → ArePrintable v (quiet ++ item ∷ [])
+  all-printable item printable = λ is. All-append IsPrintable quiet (item ∷ []) (plain is) (printable is)
 
   quiet-text : (item : Item) → flat_map (item_text v) (quiet ++ item ∷ []) ≡ item_text v item
   quiet-text item = text-behind v quiet item ∙ ap (λ xs. xs ++ item_text v item) silent where
@@ -100,14 +120,24 @@ module _ (v : Version) (said : Option (List Command)) (front : List Command) (co
   line-ended player before after line_end.Played h = record {
     commands = front ++ command ∷ [];
     said_is = says;
-    front = record { items = quiet ++ h.taken.item ∷ []; after = h.taken.after; takes = all-taken h.taken.item h.taken.after h.taken.command_is h.taken.takes };
+    front = record {
+      items = quiet ++ h.taken.item ∷ [];
+      after = h.taken.after;
+      takes = all-taken h.taken.item h.taken.after h.taken.command_is h.taken.takes;
+      printable = all-printable h.taken.item h.taken.printable;
+    };
     stands = h.stands;
     written = subst (Appends before.bytes after.bytes) (sym (quiet-text h.taken.item)) h.written;
   }
   line-ended player before after line_end.SinkFailed h = record {
     commands = front ++ command ∷ [];
     said_is = says;
-    front = record { items = quiet ++ h.taken.item ∷ []; after = h.taken.after; takes = all-taken h.taken.item h.taken.after h.taken.command_is h.taken.takes };
+    front = record {
+      items = quiet ++ h.taken.item ∷ [];
+      after = h.taken.after;
+      takes = all-taken h.taken.item h.taken.after h.taken.command_is h.taken.takes;
+      printable = all-printable h.taken.item h.taken.printable;
+    };
     stops = subst (StopsIn before after) (sym (quiet-text h.taken.item)) h.stops;
   }
   line-ended player before after (line_end.Refused why) h = inr (record { at = at h.1; refused = h.0 }) where
@@ -117,7 +147,7 @@ module _ (v : Version) (said : Option (List Command)) (front : List Command) (co
       command = command;
       later = [];
       said_is = says;
-      front = record { items = quiet; after = mid; takes = took };
+      front = record { items = quiet; after = mid; takes = took; printable = plain };
       written = subst (Appends before.bytes after.bytes) (sym silent) unwritten;
     }
   line-ended player before after line_end.NoMemory h = record {
@@ -126,7 +156,7 @@ module _ (v : Version) (said : Option (List Command)) (front : List Command) (co
       command = command;
       later = [];
       said_is = says;
-      front = record { items = quiet; after = mid; takes = took };
+      front = record { items = quiet; after = mid; takes = took; printable = plain };
       written = subst (Appends before.bytes after.bytes) (sym silent) h.1;
     };
     wants = h.0;
@@ -136,15 +166,17 @@ module _ (v : Version) (said : Option (List Command)) (front : List Command) (co
 pub plain-ended : (said : Option (List Command)) (command : Command) (stage : Stage) (player : PlayerState) (before after : End) (result : LineEnd)
     → said ≡ Some (command ∷ []) → EndsStep version.One command stage player before after result → EndsLine version.One said stage player before after result
 plain-ended said command stage player before after result says ends =
-    line-ended version.One said [] command says stage stage [] refl refl player before after result ends
+    line-ended version.One said [] command says stage stage [] refl refl (λ is. All-nil IsPrintable) player before after result ends
 
 -- a line of a moment and a step
 pub timed-ended : (said : Option (List Command)) (moment : ℕ) (command : Command) (made : Made) (stage : Stage) (mid player : PlayerState) (before after : End) (result : LineEnd)
-    → said ≡ Some (At moment ∷ command ∷ []) → TakesTo stage (At moment) made mid → made_lines2 mid made ≡ []
+    → said ≡ Some (At moment ∷ command ∷ []) → TakesTo stage (At moment) made mid → made_lines2 mid made ≡ [] → mid.moment < 2 ^ 64
     → ((s : Stage) → Stands mid s → EndsStep version.Two command s player before after result) → EndsLine version.Two said stage player before after result
-timed-ended said moment command made stage mid player before after result says t quiet ends =
+timed-ended said moment command made stage mid player before after result says t quiet timely ends =
     line-ended version.Two said (At moment ∷ []) command says stage t.after (t.item ∷ []) (t.command_is, t.after, t.takes, refl)
-    (append-nil (item_text version.Two t.item) ∙ ap (flat_map (line_text2 t.item.moment)) (t.lines2_are ∙ quiet)) player before after result (ends t.after t.stands)
+    (append-nil (item_text version.Two t.item) ∙ ap (flat_map (line_text2 t.item.moment)) (t.lines2_are ∙ quiet))
+    (λ is. item-printable stage (At moment) made mid t (record { moment = timely; lines = subst (All HasRanges) (sym quiet) (All-nil HasRanges) }))
+    player before after result (ends t.after t.stands)
 
 -- a line that says nothing
 pub nothing-ended : (v : Version) (said : Option (List Command)) (stage : Stage) (player : PlayerState) (ends : End) → said ≡ Some [] → Stands player stage
@@ -152,7 +184,7 @@ pub nothing-ended : (v : Version) (said : Option (List Command)) (stage : Stage)
 nothing-ended v said stage player ends says stands = record {
   commands = [];
   said_is = says;
-  front = record { items = []; after = stage; takes = refl };
+  front = record { items = []; after = stage; takes = refl; printable = λ is. All-nil IsPrintable };
   stands = stands;
   written = Appends-nil ends.bytes;
 }

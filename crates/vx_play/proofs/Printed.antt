@@ -1,14 +1,14 @@
 -- The lines of a step fit into the printer's room, and their text is the step's.
 use Rattle.std.proofs.Common.{Result, ◌≡◌, ◌≤◌, ◌<◌, ◌+◌, ◌*◌, ℕ, Bool, true, false, List, [], ◌∷◌, ◌++◌, length, take, Option, Some, None, IfSome, IsSome, refl, ap, sym, subst, ◌∙◌, arith, length-take, append-nil}
 use Rattle.std.specs.Prelude.{option_map}
-use Rattle.std.specs.List.{flat_map}
+use Rattle.std.specs.List.{All, flat_map}
 use Rattle.std.proofs.lemmas.List.{append_assoc}
 use Rattle.std.proofs.lemmas.Grind.{flat_map-append}
 use Rattle.vx_488.specs.declared.transfers.Transfer.{Transfer}
 use Rattle.vx_calls.specs.declared.limits.TheConstants.{SLICE_MAX, RECORD_MAX}
 use Rattle.vx_trace.specs.declared.lines.Line.{Line}
 use Rattle.vx_trace.specs.Output.{Output, Up, Call, Begin, DialDone, Srq, Bus, Out, Irq, line_shown}
-use Rattle.vx_trace.specs.Text.{text_room, IsWhole, is_first}
+use Rattle.vx_trace.specs.Text.{text_room, HasRanges, IsWhole, is_first}
 use Rattle.vx_play.specs.declared.note.Intake.{Intake}
 use Rattle.vx_play.specs.declared.note.Intake.TheVariants as intake
 use Rattle.vx_play.specs.declared.note.Note.{Note}
@@ -140,3 +140,17 @@ pub lines-put : {E : Type 0} (before after : End) (written : List ℕ) (moment :
     → IsPut before after written result → IsPut before after (texts moment (a ++ b ++ c ++ noted told)) result
 lines-put before after written moment first second third last a b c told result is ha hb hc hd put =
     subst (λ text. IsPut before after text result) (is ∙ lines-text moment first second third last a b c told ha hb hc hd) put
+
+-- the outputs that lines in their ranges show are in them
+pub lines-ranges : (first second third last : Option Line) (a b c : List Output) (told : Option Output) → outputs_of first ≡ a → outputs_of second ≡ b → outputs_of third ≡ c
+    → option_map line_shown last ≡ told → All HasRanges ((outputs_of first ++ outputs_of second) ++ (outputs_of third ++ outputs_of last))
+    → All HasRanges (a ++ b ++ c ++ noted told)
+lines-ranges first second third last a b c told ha hb hc hd all =
+    subst (All HasRanges)
+    (sym (append_assoc (outputs_of first ++ outputs_of second) (outputs_of third) (outputs_of last))
+    ∙ ap (λ x. x ++ outputs_of second ++ outputs_of third ++ outputs_of last) ha ∙ ap (λ x. a ++ x ++ outputs_of third ++ outputs_of last) hb
+    ∙ ap (λ x. a ++ b ++ x ++ outputs_of last) hc ∙ ap (λ x. a ++ b ++ c ++ x) (shown last ∙ ap noted hd)) all
+  where
+    shown : (line : Option Line) → outputs_of line ≡ noted (option_map line_shown line)
+    shown None = refl
+    shown (Some line) = refl

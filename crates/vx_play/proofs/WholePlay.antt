@@ -2,6 +2,7 @@
 use Rattle.std.proofs.Common.{IsTrue, ◌≡◌, ℕ, ◌+◌, ◌≤◌, map, List, [], ◌∷◌, ◌++◌, length, Option, Some, None, IsSome, refl, ap, sym, subst, ◌∙◌, inl, inr, ◌⊎◌, arith, length-append, append-nil}
 use Rattle.std.specs.List.{flat_map}
 use Rattle.std.proofs.lemmas.List.{append_assoc}
+use Rattle.std.proofs.lemmas.List.Elements.{All-append, All-nil}
 use Rattle.std.proofs.lemmas.Grind.{flat_map-append}
 use Rattle.std.proofs.Math.Seq.{take-append-add}
 use Rattle.std.specs.Io.KnownBytes.{Appends}
@@ -22,11 +23,12 @@ use Rattle.vx_text.specs.Writing.{StopsIn}
 use Rattle.vx_bench.specs.Script.{Step, Script, script, script_by, script_from, commands, behind_steps}
 use Rattle.vx_text.specs.TextLines.{lines}
 use Rattle.vx_run.specs.Item.{Item, Fault, last_line}
-use Rattle.vx_run.specs.RunText.{item_text, head_text, text}
+use Rattle.vx_run.specs.RunText.{IsPrintable, item_text, head_text, text}
 use Rattle.vx_bench.specs.Rack.{SpareShown}
 use Rattle.vx_bench.specs.ProvedLaws.{is_named}
 use Rattle.vx_play.specs.Stage.{Stage, beginning, refusal}
 use Rattle.vx_play.specs.Play.{Takes, Plays}
+use Rattle.vx_play.specs.Upholding.{ArePrintable}
 use Rattle.vx_play.specs.PlayerState.{PlayerState}
 use Rattle.vx_play.specs.Standing.{Stands, WantsMemory}
 use Rattle.vx_play.specs.LinePlayed.{TakesAll, IsPlayed, IsCut, IsBad, IsFrontOf, IsTurnedDown, IsWanting}
@@ -50,6 +52,14 @@ plays_more before mid after (s ∷ steps) (i ∷ items) step item (first, next, 
 text_more : (v : Version) (items more : List Item) → text v (items ++ more) ≡ text v items ++ flat_map (item_text v) more
 text_more v items more =
     ap (λ xs. head_text v ++ xs) (flat_map-append (item_text v) items more) ∙ sym (append_assoc (head_text v) (flat_map (item_text v) items) (flat_map (item_text v) more))
+
+-- more items that can be printed
+more-printable : (v : Version) (items more : List Item) → ArePrintable v items → ArePrintable v more → ArePrintable v (items ++ more)
+more-printable v items more all rest = λ is. All-append IsPrintable items more (all is) (rest is)
+
+-- items of a script of this version can be printed
+same-printable : (w v : Version) (items : List Item) → w ≡ v → ArePrintable v items → ArePrintable w items
+same-printable w v items same all = λ is. all (sym same ∙ is)
 
 -- the commands of a line, as the steps of its number
 abbrev pub numbered : ℕ → List Command → List Step
@@ -108,6 +118,7 @@ begun t rest rack v count player before after is front stands put counted = reco
   is_front = front;
   played = refl;
   stands = stands;
+  printable = λ is. All-nil IsPrintable;
   written = subst (Appends before.bytes after.bytes) (sym (append-nil (head_text v))) put;
   counted = counted;
 }
@@ -122,6 +133,7 @@ head-cut t rack v before after is stops = (
     stage = beginning rack;
     played = record { later = (script t).steps; front = refl; played = refl };
     upholds = plays-uphold rack [] [] (beginning rack) refl;
+    printable = λ is. All-nil IsPrintable;
   },
   subst (λ w. StopsIn before after (text w [])) is (subst (StopsIn before after) (sym (append-nil (head_text v))) stops),
 )
@@ -143,6 +155,7 @@ goes-on t rack v rest line behind count player next before mid after u cut how m
           ∙ behind_both u.steps steps (script_from v (count + 1 + 1) (lines behind));
       played = plays_on (beginning rack) u.stage k.front.after u.steps u.items (count + 1) k.commands k.front.items u.played k.front.takes;
       stands = k.stands;
+      printable = more-printable v u.items k.front.items u.printable k.front.printable;
       written = subst (Appends before.bytes after.bytes) (sym (text_more v u.items k.front.items))
           (Appends-trans before.bytes mid.bytes after.bytes _ _ u.written k.written);
       counted = (let a = u.counted in omega arith);
@@ -163,6 +176,7 @@ whole-played t rack v rest count player before after u at_end =
           ends = record { all = ap (λ s. s.steps) all ∙ append-nil u.steps; none_bad = ap (λ s. s.bad) all };
         };
         upholds = plays-uphold rack u.steps u.items u.stage u.played;
+        printable = same-printable (version_in t) v u.items u.version_is u.printable;
       },
       subst (λ w. Appends before.bytes after.bytes (text w u.items)) (sym u.version_is) u.written,
     )
@@ -201,6 +215,9 @@ module _ (t : List ℕ) (rack : List SpareShown) (v : Version) (rest line behind
       subst (λ w. Appends before.bytes after.bytes (text w front_items)) (sym u.version_is)
       (subst (Appends before.bytes after.bytes) (sym (text_more v u.items k.front.items)) (Appends-trans before.bytes mid.bytes after.bytes _ _ u.written k.written))
 
+  front_printable : ArePrintable (version_in t) front_items
+  front_printable = same-printable (version_in t) v front_items u.version_is (more-printable v u.items k.front.items u.printable k.front.printable)
+
   -- a command behind them is refused
   pub refused-at : (why : Cause) → refusal k.front.after k.command ≡ Some why
       → (items : List Item) × ended.IsPlayed t rack items (Some (record { line = count + 1; cause = why })) × Appends before.bytes after.bytes (text (version_in t) items)
@@ -214,6 +231,7 @@ module _ (t : List ℕ) (rack : List SpareShown) (v : Version) (rest line behind
         ends = inl (record { step = next_step; later = later_steps; next = in_front; line = refl; refused = refused });
       };
       upholds = plays-uphold rack front_steps front_items k.front.after front_played;
+      printable = front_printable;
     },
     front_written,
   )
@@ -228,6 +246,7 @@ module _ (t : List ℕ) (rack : List SpareShown) (v : Version) (rest line behind
         stage = k.front.after;
         played = record { later = next_step ∷ later_steps; front = in_front; played = front_played };
         upholds = plays-uphold rack front_steps front_items k.front.after front_played;
+        printable = front_printable;
       };
       wants = record { step = next_step; later = later_steps; next = in_front; wants = wants };
     },
@@ -254,6 +273,7 @@ fault-played t rack v rest line behind count player before mid after why u cut h
               ends = inr (record { all = ap (λ s. s.steps) all ∙ append-nil u.steps; bad = ap (λ s. s.bad) all; form = k.form });
             };
             upholds = plays-uphold rack u.steps u.items u.stage u.played;
+            printable = same-printable (version_in t) v u.items u.version_is u.printable;
           },
           subst (λ w. Appends before.bytes after.bytes (text w u.items)) (sym u.version_is) (kept before.bytes mid.bytes after.bytes (text v u.items) u.written k.unwritten),
         )
@@ -275,6 +295,7 @@ cut-played t rack v rest line behind count player before mid after u cut how =
         stage = k.front.after;
         played = record { later = (script_from v (count + 1 + 1) (lines behind)).steps; front = ap (λ s. s.steps) all; played = played };
         upholds = plays-uphold rack _ _ k.front.after played;
+        printable = same-printable (version_in t) v (u.items ++ k.front.items) u.version_is (more-printable v u.items k.front.items u.printable k.front.printable);
       },
       subst (λ w. StopsIn before after (text w (u.items ++ k.front.items))) (sym u.version_is)
           (subst (StopsIn before after) (sym (text_more v u.items k.front.items))

@@ -16,7 +16,7 @@ use Rattle.vx_script.specs.declared.Version.{Version}
 use Rattle.vx_bench.specs.Rack.{SpareShown}
 use Rattle.vx_play.specs.Stage.{Stage, beginning}
 use Rattle.vx_play.specs.Play.{Plays, PlaysFront, IsPlay}
-use Rattle.vx_play.specs.Upholding.{Upholds}
+use Rattle.vx_play.specs.Upholding.{Upholds, ArePrintable}
 use Rattle.vx_play.specs.PlayerState.{PlayerState}
 use Rattle.vx_play.specs.Standing.{Stands, WantsMemory}
 
@@ -28,6 +28,7 @@ version_in script_text = version_of_lines (lines script_text)
 pub record IsPlayed (script_text : List ℕ) (rack : List SpareShown) (items : List Item) (fault : Option Fault) : Type 0 where
   pub play : IsPlay script_text rack items fault
   pub upholds : Upholds items
+  pub printable : ArePrintable (version_in script_text) items
 
 -- the steps in front of a place of a script are played
 pub record IsFront (script_text : List ℕ) (rack : List SpareShown) (items : List Item) : Type 0 where
@@ -35,6 +36,7 @@ pub record IsFront (script_text : List ℕ) (rack : List SpareShown) (items : Li
   pub stage : Stage
   pub played : PlaysFront script_text rack steps items stage
   pub upholds : Upholds items
+  pub printable : ArePrintable (version_in script_text) items
 
 -- the next step wants memory
 pub record WantsAtStep (script_text : List ℕ) (steps : List Step) (stage : Stage) : Type 0 where
@@ -57,6 +59,7 @@ pub record UnderWay (script_text : List ℕ) (rack : List SpareShown) (v : Versi
   pub is_front : script script_text ≡ behind_steps steps (script_from v (count + 1) (lines rest))
   pub played : Plays (beginning rack) steps items stage
   pub stands : Stands player stage
+  pub printable : ArePrintable v items
   pub written : Appends before.bytes after.bytes (text v items)
   pub counted : before.faults ≤ after.faults
 

@@ -14,6 +14,7 @@ use Rattle.vx_run.specs.Item.{Item}
 use Rattle.vx_run.specs.RunText.{item_text}
 use Rattle.vx_play.specs.Stage.{Stage, refusal}
 use Rattle.vx_play.specs.Play.{Takes}
+use Rattle.vx_play.specs.Upholding.{ArePrintable}
 use Rattle.vx_play.specs.PlayerState.{PlayerState}
 use Rattle.vx_play.specs.Standing.{Stands, WantsMemory}
 
@@ -25,17 +26,18 @@ TakesAll before (command ∷ commands) (item ∷ items) after =
 TakesAll before [] (item ∷ items) after = ⊥
 TakesAll before (command ∷ commands) [] after = ⊥
 
--- some first commands of a line were taken
-pub record TakesFront (before : Stage) (commands : List Command) : Type 0 where
+-- some first commands of a line were taken, and their lines can be printed
+pub record TakesFront (v : Version) (before : Stage) (commands : List Command) : Type 0 where
   pub items : List Item
   pub after : Stage
   pub takes : TakesAll before commands items after
+  pub printable : ArePrintable v items
 
 -- a line's commands, none or more, were taken, and their text written
 pub record IsPlayed (v : Version) (said : Option (List Command)) (stage : Stage) (player : PlayerState) (before after : End) : Type 0 where
   pub commands : List Command
   pub said_is : said ≡ Some commands
-  pub front : TakesFront stage commands
+  pub front : TakesFront v stage commands
   pub stands : Stands player front.after
   pub written : Appends before.bytes after.bytes (flat_map (item_text v) front.items)
 
@@ -43,7 +45,7 @@ pub record IsPlayed (v : Version) (said : Option (List Command)) (stage : Stage)
 pub record IsCut (v : Version) (said : Option (List Command)) (stage : Stage) (before after : End) : Type 0 where
   pub commands : List Command
   pub said_is : said ≡ Some commands
-  pub front : TakesFront stage commands
+  pub front : TakesFront v stage commands
   pub stops : StopsIn before after (flat_map (item_text v) front.items)
 
 -- a line outside the grammar
@@ -58,7 +60,7 @@ pub record IsFrontOf (v : Version) (said : Option (List Command)) (stage : Stage
   pub command : Command
   pub later : List Command
   pub said_is : said ≡ Some (commands ++ command ∷ later)
-  pub front : TakesFront stage commands
+  pub front : TakesFront v stage commands
   pub written : Appends before.bytes after.bytes (flat_map (item_text v) front.items)
 
 -- a command of the line is refused behind them

@@ -1,11 +1,11 @@
 -- The lines of a step as the printer writes them.
-use Rattle.std.specs.Prelude.{◌≡◌, ◌≤◌, ◌+◌, ℕ, true, false, List, [], ◌∷◌, Option, Some, None, IfSome}
-use Rattle.std.specs.List.{flat_map}
+use Rattle.std.specs.Prelude.{◌≡◌, ◌≤◌, ◌<◌, ◌+◌, ◌^◌, ℕ, true, false, List, [], ◌∷◌, Option, Some, None, IfSome}
+use Rattle.std.specs.List.{All, flat_map}
 use Rattle.vx_script.specs.declared.Version.{Version}
 use Rattle.vx_script.specs.declared.Version.TheVariants as version
 use Rattle.vx_trace.specs.declared.lines.Line.{Line}
 use Rattle.vx_trace.specs.Output.{Output, line_shown}
-use Rattle.vx_trace.specs.Text.{line_text, line_text2, text_room, IsWhole, is_first, is_timed}
+use Rattle.vx_trace.specs.Text.{HasRanges, line_text, line_text2, text_room, IsWhole, is_first, is_timed}
 use Rattle.vx_play.specs.declared.note.Made.{Made}
 use Rattle.vx_play.specs.declared.printer.TheConstants.{STAMP_ROOM, INTAKE_ROOM, BEGUN_ROOM, MOVES_ROOM, NOTE_ROOM}
 use Rattle.vx_play.specs.PlayerState.{PlayerState}
@@ -49,3 +49,8 @@ outputs_of (Some line) = line_shown line ∷ []
 abbrev pub made_text : Version → PlayerState → Made → List ℕ
 made_text version.One player made = flat_map line_text (made_lines player made)
 made_text version.Two player made = flat_map (line_text2 player.moment) (made_lines2 player made)
+
+-- the moment of a step that made this, and the numbers and bytes of its lines in version 2, are such as lines hold
+pub record HasMadeRanges (player : PlayerState) (made : Made) : Type 0 where
+  pub moment : player.moment < 2 ^ 64
+  pub lines : All HasRanges (made_lines2 player made)

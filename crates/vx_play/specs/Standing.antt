@@ -108,7 +108,7 @@ NoteWithin room (note.Interrupt conn len) = (0 < len) × (len ≤ room)
 NoteWithin room _ = Unit {0}
 
 -- there is room for the lines of a step that made this
-pub record IsPrintable (player : PlayerState) (made : Made) : Type 0 where
+pub record HasLineRoom (player : PlayerState) (made : Made) : Type 0 where
   pub note : NoteWithin (length player.reply) made.note
   pub few : IsSome made.polled → length player.core.bus.means.moves ≤ SLICE_MAX
 

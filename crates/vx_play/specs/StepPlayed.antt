@@ -1,5 +1,5 @@
 -- What playing one step does: the step of a line, behind its moment where it has one.
-use Rattle.std.specs.Prelude.{◌≡◌, [], Some}
+use Rattle.std.specs.Prelude.{◌≡◌, [], ◌∷◌, Some}
 use Rattle.std.specs.Io.KnownBytes.{Appends}
 use Rattle.vx_script.specs.declared.Version.{Version}
 use Rattle.vx_script.specs.Command.{Command}
@@ -11,25 +11,27 @@ use Rattle.vx_run.specs.Item.{Item}
 use Rattle.vx_run.specs.RunText.{item_text}
 use Rattle.vx_play.specs.Stage.{Stage, refusal}
 use Rattle.vx_play.specs.Play.{Takes}
+use Rattle.vx_play.specs.Upholding.{ArePrintable}
 use Rattle.vx_play.specs.PlayerState.{PlayerState}
 use Rattle.vx_play.specs.Standing.{Stands, WantsMemory}
 
--- a command was taken
-pub record IsTaken (stage : Stage) (command : Command) : Type 0 where
+-- a command was taken, and its lines can be printed
+pub record IsTaken (v : Version) (stage : Stage) (command : Command) : Type 0 where
   pub item : Item
   pub after : Stage
   pub command_is : item.command ≡ command
   pub takes : Takes stage item after
+  pub printable : ArePrintable v (item ∷ [])
 
 -- its text was written
 pub record IsWritten (v : Version) (stage : Stage) (command : Command) (player : PlayerState) (before after : End) : Type 0 where
-  pub taken : IsTaken stage command
+  pub taken : IsTaken v stage command
   pub stands : Stands player taken.after
   pub written : Appends before.bytes after.bytes (item_text v taken.item)
 
 -- the sink failed in its text
 pub record IsCutShort (v : Version) (stage : Stage) (command : Command) (before after : End) : Type 0 where
-  pub taken : IsTaken stage command
+  pub taken : IsTaken v stage command
   pub stops : StopsIn before after (item_text v taken.item)
 
 abbrev pub EndsStep : Version → Command → Stage → PlayerState → End → End → LineEnd → Type 0

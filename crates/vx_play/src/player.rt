@@ -1,5 +1,5 @@
 //! The player: the core over a simulated bus, and of each connection what comes in.
-ghost use Rattle.std.specs.Prelude.{◌≡◌, ◌≢◌, ℕ, ◌≤◌, ◌<◌, length, true, false, option_map, position, None, Some, IfOk, IfErr, IfSome, IfNone, IsSome, is_some, OnOk, map, []};
+ghost use Rattle.std.specs.Prelude.{◌≡◌, ◌≢◌, ℕ, ◌≤◌, ◌<◌, ◌^◌, length, true, false, option_map, position, None, Some, IfOk, IfErr, IfSome, IfNone, IsSome, is_some, OnOk, map, []};
 ghost use Rattle.std.specs.Str.{bytes_eq};
 ghost use Rattle.vx_calls.specs.declared.calls.Role.TheVariants as role;
 ghost use Rattle.vx_calls.specs.declared.limits.TheConstants.{RECORD_MAX};
@@ -18,7 +18,7 @@ ghost use Rattle.vx_bench.specs.Refusing.{cause_of};
 ghost use Rattle.vx_play.specs.PlayerState.{PlayerState, incoming_at};
 ghost use Rattle.vx_sim.specs.Occupants.{handed_in};
 ghost use Rattle.vx_bench.specs.Spares.{spare_shown};
-ghost use Rattle.vx_play.specs.Standing.{IsReady, Stands, IsPrintable, TakesTo, StopsFor};
+ghost use Rattle.vx_play.specs.Standing.{IsReady, Stands, HasLineRoom, TakesTo, StopsFor};
 
 use crate::bench;
 use crate::message::Message;
@@ -150,7 +150,7 @@ impl<I: Instrument> Player<I> {
         requires ready { IsReady self.old }
         ensures taken { IfOk result (λ made. (stage : Stage) → Stands self.old stage → TakesTo stage (step_shown step.now) made self.new) }
         ensures stopped { IfErr result (λ stop. (stage : Stage) → Stands self.old stage → StopsFor stage (step_shown step.now) stop) }
-        ensures printable { IfOk result (IsPrintable self.new) }
+        ensures printable { IfOk result (HasLineRoom self.new) }
     {
         match *step {
             Step::Up { conn, role } => self.up(alloc, conn, role),
@@ -177,7 +177,7 @@ impl<I: Instrument> Player<I> {
         requires ready { IsReady self.old }
         ensures taken { IfOk result (λ made. (stage : Stage) → Stands self.old stage → TakesTo stage (Up conn role) made self.new) }
         ensures stopped { IfErr result (λ stop. (stage : Stage) → Stands self.old stage → StopsFor stage (Up conn role) stop) }
-        ensures printable { IfOk result (IsPrintable self.new) }
+        ensures printable { IfOk result (HasLineRoom self.new) }
     {
         if conn != self.core.next_number() {
             return Err(Stop::Refused(Cause::Number));
@@ -196,7 +196,7 @@ impl<I: Instrument> Player<I> {
         requires ready { IsReady self.old }
         ensures taken { IfOk result (λ made. (stage : Stage) → Stands self.old stage → TakesTo stage (Down conn) made self.new) }
         ensures stopped { IfErr result (λ stop. (stage : Stage) → Stands self.old stage → StopsFor stage (Down conn) stop) }
-        ensures printable { IfOk result (IsPrintable self.new) }
+        ensures printable { IfOk result (HasLineRoom self.new) }
     {
         match self.core.role(conn) {
             None => Err(Stop::Refused(Cause::Conn)),
@@ -216,7 +216,7 @@ impl<I: Instrument> Player<I> {
         requires ready { IsReady self.old }
         ensures taken { IfOk result (λ made. (stage : Stage) → Stands self.old stage → TakesTo stage (In conn bytes.now) made self.new) }
         ensures stopped { IfErr result (λ stop. (stage : Stage) → Stands self.old stage → StopsFor stage (In conn bytes.now) stop) }
-        ensures printable { IfOk result (IsPrintable self.new) }
+        ensures printable { IfOk result (HasLineRoom self.new) }
     {
         let Some(role) = self.core.role(conn) else {
             return Err(Stop::Refused(Cause::Conn));
@@ -264,8 +264,9 @@ impl<I: Instrument> Player<I> {
     pub fn at(&mut self, moment: u64) -> Made
         requires ready { IsReady self.old }
         ensures taken { (stage : Stage) → Stands self.old stage → TakesTo stage (At moment) result self.new }
-        ensures printable { IsPrintable self.new result }
+        ensures printable { HasLineRoom self.new result }
         ensures quiet { result ≡ record { intake = intake.Nothing; polled = None; note = note.Nothing; answered = None } }
+        ensures timely { self.new.moment < 2 ^ 64 }
         ensures ready { IsReady self.new }
     {
         self.moment = self.moment.max(moment);
@@ -277,7 +278,7 @@ impl<I: Instrument> Player<I> {
         requires ready { IsReady self.old }
         ensures taken { IfOk result (λ made. (stage : Stage) → Stands self.old stage → TakesTo stage (Poll conn) made self.new) }
         ensures stopped { IfErr result (λ stop. (stage : Stage) → Stands self.old stage → StopsFor stage (Poll conn) stop) }
-        ensures printable { IfOk result (IsPrintable self.new) }
+        ensures printable { IfOk result (HasLineRoom self.new) }
     {
         self.core_only(conn)?;
         if !self.core.pending(conn) {
@@ -291,7 +292,7 @@ impl<I: Instrument> Player<I> {
     fn sample(&mut self) -> Made
         requires ready { IsReady self.old }
         ensures taken { (stage : Stage) → Stands self.old stage → TakesTo stage Sample result self.new }
-        ensures printable { IsPrintable self.new result }
+        ensures printable { HasLineRoom self.new result }
     {
         self.core.sample(self.moment);
         Made::QUIET.of_intake(Intake::Sampled {
@@ -304,7 +305,7 @@ impl<I: Instrument> Player<I> {
         requires ready { IsReady self.old }
         ensures taken { IfOk result (λ made. (stage : Stage) → Stands self.old stage → TakesTo stage (Take conn) made self.new) }
         ensures stopped { IfErr result (λ stop. (stage : Stage) → Stands self.old stage → StopsFor stage (Take conn) stop) }
-        ensures printable { IfOk result (IsPrintable self.new) }
+        ensures printable { IfOk result (HasLineRoom self.new) }
     {
         self.core_only(conn)?;
         let Some(chan) = self.core.channel(conn) else {
@@ -325,7 +326,7 @@ impl<I: Instrument> Player<I> {
         requires ready { IsReady self.old }
         ensures taken { IfOk result (λ made. (stage : Stage) → Stands self.old stage → TakesTo stage (Dial conn up) made self.new) }
         ensures stopped { IfErr result (λ stop. (stage : Stage) → Stands self.old stage → StopsFor stage (Dial conn up) stop) }
-        ensures printable { IfOk result (IsPrintable self.new) }
+        ensures printable { IfOk result (HasLineRoom self.new) }
     {
         self.core_only(conn)?;
         if !self.core.dialing(conn) {
@@ -353,7 +354,7 @@ impl<I: Instrument> Player<I> {
         requires ready { IsReady self.old }
         ensures taken { IfOk result (λ made. (stage : Stage) → Stands self.old stage → TakesTo stage (Inst p s text.now) made self.new) }
         ensures stopped { IfErr result (λ stop. (stage : Stage) → Stands self.old stage → StopsFor stage (Inst p s text.now) stop) }
-        ensures printable { IfOk result (IsPrintable self.new) }
+        ensures printable { IfOk result (HasLineRoom self.new) }
     {
         let inst = table_of(alloc, text)?;
         let mut act = bench::AttachTable::new(Addr { p, s }, inst);
@@ -369,7 +370,7 @@ impl<I: Instrument> Player<I> {
         requires ready { IsReady self.old }
         ensures taken { IfOk result (λ made. (stage : Stage) → Stands self.old stage → TakesTo stage (Plug p s name.now) made self.new) }
         ensures stopped { IfErr result (λ stop. (stage : Stage) → Stands self.old stage → StopsFor stage (Plug p s name.now) stop) }
-        ensures printable { IfOk result (IsPrintable self.new) }
+        ensures printable { IfOk result (HasLineRoom self.new) }
     {
         let Some(place) = spare_place(&self.rack, name) else {
             return Err(Stop::Refused(Cause::Spare));
@@ -388,7 +389,7 @@ impl<I: Instrument> Player<I> {
         requires ready { IsReady self.old }
         ensures taken { IfOk result (λ made. (stage : Stage) → Stands self.old stage → TakesTo stage (Pull p s) made self.new) }
         ensures stopped { IfErr result (λ stop. (stage : Stage) → Stands self.old stage → StopsFor stage (Pull p s) stop) }
-        ensures printable { IfOk result (IsPrintable self.new) }
+        ensures printable { IfOk result (HasLineRoom self.new) }
     {
         if self.core.tweak(&mut bench::Pull::new(Addr { p, s })) {
             Ok(Made::QUIET)
@@ -402,7 +403,7 @@ impl<I: Instrument> Player<I> {
         requires ready { IsReady self.old }
         ensures taken { IfOk result (λ made. (stage : Stage) → Stands self.old stage → TakesTo stage (Set p s b) made self.new) }
         ensures stopped { IfErr result (λ stop. (stage : Stage) → Stands self.old stage → StopsFor stage (Set p s b) stop) }
-        ensures printable { IfOk result (IsPrintable self.new) }
+        ensures printable { IfOk result (HasLineRoom self.new) }
     {
         let at = Addr { p, s };
         if self.core.tweak(&mut bench::SetStatus { at, b }) {
@@ -417,7 +418,7 @@ impl<I: Instrument> Player<I> {
         requires count { 1 ≤ n }
         requires ready { IsReady self.old }
         ensures taken { (stage : Stage) → Stands self.old stage → TakesTo stage (Fail n) result self.new }
-        ensures printable { IsPrintable self.new result }
+        ensures printable { HasLineRoom self.new result }
     {
         self.core.tweak(&mut bench::FailAfter::new(n));
         Made::QUIET

@@ -1,9 +1,10 @@
 //! The lines of a play, written into room that is made once.
 ghost use Rattle.std.specs.Prelude.{◌≡◌, ◌≤◌, ◌++◌, ◌+◌, ◌-◌, false, length, take, vec_len, None, Some, IfSome};
-ghost use Rattle.vx_trace.specs.Text.{IsWhole, is_timed, line_text};
+ghost use Rattle.std.specs.List.{All};
+ghost use Rattle.vx_trace.specs.Text.{HasRanges, IsWhole, is_timed, line_text};
 ghost use Rattle.vx_trace.specs.Output.{line_shown};
 ghost use Rattle.vx_play.specs.declared.printer.TheConstants.{TEXT_ROOM};
-ghost use Rattle.vx_play.specs.Printing.{option_text, stamped, IsClosing, AreWritable, Writable};
+ghost use Rattle.vx_play.specs.Printing.{option_text, outputs_of, stamped, IsClosing, AreWritable, Writable};
 
 use std::alloc::{AllocError, Global};
 use vx_calls::{RECORD_MAX, SLICE_MAX};
@@ -60,7 +61,8 @@ impl Printer {
         note: &Option<Line<'_>>,
     ) -> &[u8]
         requires { AreWritable moment intake.now begun.now moves.now note.now }
-        ensures { result.now ≡ (option_text moment intake.now ++ option_text moment begun.now) ++ (option_text moment moves.now ++ option_text moment note.now) }
+        ensures text { result.now ≡ (option_text moment intake.now ++ option_text moment begun.now) ++ (option_text moment moves.now ++ option_text moment note.now) }
+        ensures fits { All HasRanges ((outputs_of intake.now ++ outputs_of begun.now) ++ (outputs_of moves.now ++ outputs_of note.now)) }
     {
         let len = put_four(moment, intake, begun, moves, note, &mut self.room);
         &self.room[..len]
@@ -88,6 +90,7 @@ fn put_four(
     requires room { length room.old ≡ TEXT_ROOM }
     requires lines { AreWritable moment intake.now begun.now moves.now note.now }
     ensures text { take result room.new ≡ (option_text moment intake.now ++ option_text moment begun.now) ++ (option_text moment moves.now ++ option_text moment note.now) }
+    ensures fits { All HasRanges ((outputs_of intake.now ++ outputs_of begun.now) ++ (outputs_of moves.now ++ outputs_of note.now)) }
     ensures within { result ≤ length room.new }
     ensures len { length room.new ≡ length room.old }
 {
@@ -109,6 +112,7 @@ fn put_two(
     requires first { IfSome first.now (λ l. Writable moment l front) }
     requires second { IfSome second.now (λ l. Writable moment l (length room.old - front)) }
     ensures text { take result room.new ≡ option_text moment first.now ++ option_text moment second.now }
+    ensures fits { All HasRanges (outputs_of first.now ++ outputs_of second.now) }
     ensures within { result ≤ length room.new }
     ensures len { length room.new ≡ length room.old }
 {
@@ -121,6 +125,7 @@ fn put_two(
 fn put(moment: Option<u64>, line: &Option<Line<'_>>, room: &mut [u8]) -> usize
     requires { IfSome line.now (λ l. Writable moment l (length room.old)) }
     ensures text { take result room.new ≡ option_text moment line.now }
+    ensures fits { All HasRanges (outputs_of line.now) }
     ensures long { result ≡ length (option_text moment line.now) }
     ensures within { result ≤ length room.new }
     ensures len { length room.new ≡ length room.old }
@@ -135,6 +140,7 @@ fn put(moment: Option<u64>, line: &Option<Line<'_>>, room: &mut [u8]) -> usize
 fn put_one(moment: Option<u64>, line: &Line<'_>, room: &mut [u8]) -> usize
     requires { Writable moment line.now (length room.old) }
     ensures text { take result room.new ≡ stamped moment (line_shown line.now) }
+    ensures fits { HasRanges (line_shown line.now) }
     ensures long { result ≡ length (stamped moment (line_shown line.now)) }
     ensures within { result ≤ length room.new }
     ensures len { length room.new ≡ length room.old }

@@ -6,6 +6,7 @@ ghost use Rattle.vx_trace.specs.Output.{line_shown};
 ghost use Rattle.vx_trace.specs.Text.{line_text};
 ghost use Rattle.vx_script.specs.declared.Version.{Version};
 ghost use Rattle.vx_script.specs.declared.Version.TheVariants as version;
+ghost use Rattle.vx_script.specs.declared.Version.TheVariants.{Two};
 ghost use Rattle.vx_script.specs.Command.{step_shown};
 ghost use Rattle.vx_bench.specs.Script.{commands, script, script_from, version_of_lines};
 ghost use Rattle.vx_text.specs.TextLines.{lines};
@@ -16,9 +17,9 @@ ghost use Rattle.vx_sim.specs.Occupants.{handed_in};
 ghost use Rattle.vx_bench.specs.Spares.{spare_shown};
 ghost use Rattle.vx_text.specs.Reading.{GivesUpTo};
 ghost use Rattle.vx_text.specs.Writing.{IsPut};
-ghost use Rattle.vx_play.specs.Standing.{IsReady, Stands, IsPrintable, NoteWithin, intake_lines, begun_lines, moves_lines, note_line as line_of_note, gone_line as line_of_end};
+ghost use Rattle.vx_play.specs.Standing.{IsReady, Stands, HasLineRoom, NoteWithin, intake_lines, begun_lines, moves_lines, note_line as line_of_note, gone_line as line_of_end};
 ghost use Rattle.vx_run.specs.Notes.{wait_line as line_of_wait};
-ghost use Rattle.vx_play.specs.Printing.{outputs_of, made_text};
+ghost use Rattle.vx_play.specs.Printing.{outputs_of, made_text, HasMadeRanges};
 ghost use Rattle.vx_play.specs.StepPlayed.{EndsStep};
 ghost use Rattle.vx_play.specs.LinePlayed.{EndsLine};
 ghost use Rattle.vx_play.specs.Ended.{EndsLines, EndsScript, PutsLast};
@@ -199,10 +200,11 @@ fn put_made<I: Instrument, K: Sink>(
     printer: &mut Printer,
     sink: &mut K,
 ) -> Result<(), SinkFailed>
-    requires { IsPrintable player.now made }
+    requires { HasLineRoom player.now made }
     ensures put { IsPut
         (record { bytes = K.taken sink.old; faults = K.faults sink.old })
         (record { bytes = K.taken sink.new; faults = K.faults sink.new }) (made_text version player.now made) result }
+    ensures printable { version ≡ Two → HasMadeRanges player.now made }
     ensures counted { K.faults sink.old ≤ K.faults sink.new }
 {
     let moves = moves_line(made.polled, player.moves());

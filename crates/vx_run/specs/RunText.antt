@@ -1,12 +1,12 @@
 -- To be believed.
 -- The text of a run, in both versions of the output.
-use Rattle.std.specs.Prelude.{ℕ, List, [], ◌∷◌, ◌++◌, Option, Some, None}
-use Rattle.std.specs.List.{flat_map}
+use Rattle.std.specs.Prelude.{ℕ, ◌<◌, ◌^◌, List, [], ◌∷◌, ◌++◌, Option, Some, None}
+use Rattle.std.specs.List.{flat_map, All}
 use Rattle.vx_script.specs.Command.{Command, In}
 use Rattle.vx_script.specs.declared.Version.{Version}
 use Rattle.vx_script.specs.declared.Version.TheVariants as version
 use Rattle.vx_trace.specs.Output.{Output, TraceHead, Up, Call, Begin, Bus, DialDone, Srq}
-use Rattle.vx_trace.specs.Text.{line_text, line_text2}
+use Rattle.vx_trace.specs.Text.{HasRanges, line_text, line_text2}
 use Rattle.vx_flow.specs.Event.{Event}
 use Rattle.vx_flow.specs.Event as event
 use Rattle.vx_run.specs.Item.{Item, item_lines, noted}
@@ -34,6 +34,11 @@ item_lines2 item = message_lines item.command item.message ++ flat_map event_lin
 abbrev pub item_text : Version → Item → List ℕ
 item_text version.One item = flat_map line_text (item_lines item)
 item_text version.Two item = flat_map (line_text2 item.moment) (item_lines2 item)
+
+-- an item can be printed in version 2: its moment fits 64 bits, and the numbers and bytes of its lines are such as lines hold
+pub record IsPrintable (item : Item) : Type 0 where
+  pub moment : item.moment < 2 ^ 64
+  pub lines : All HasRanges (item_lines2 item)
 
 -- the line that a text of version 2 begins with
 abbrev pub head_text : Version → List ℕ

@@ -13,7 +13,7 @@ pub returns-in-Ok-Some-clause-ended : goal.returns-in-Ok-Some-clause-ended
 returns-in-Ok-Some-clause-ended g c = λ stage stands.
     timed-ended _ c.in-Ok-Some.moment (step_shown c.in-Ok-Some.step) c.at.result stage c.at.new.self _ _ _ _
     (timed-said c.args.line.now _ c.in-Ok-Some.moment c.in-Ok-Some.step c.in-Ok-Some.ensures.reads (cc)) (c.at.ensures.taken stage stands)
-    (ap (λ (m : Made). made_lines2 c.at.new.self m) c.at.ensures.quiet) c.play_step.ensures.ended
+    (ap (λ (m : Made). made_lines2 c.at.new.self m) c.at.ensures.quiet) c.at.ensures.timely c.play_step.ensures.ended
 
 pub returns-in-Ok-None-clause-ended : goal.returns-in-Ok-None-clause-ended
 returns-in-Ok-None-clause-ended g c = λ stage stands.

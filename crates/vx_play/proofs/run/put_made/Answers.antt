@@ -1,8 +1,9 @@
-use Rattle.std.proofs.Common.{◌++◌, Some, subst, ap, ◌∙◌}
+use Rattle.std.proofs.Common.{◌++◌, ◌<◌, Some, subst, ap, rules, ◌∙◌}
+use Rattle.std.specs.Prelude.{◌^◌}
 use Rattle.vx_text.specs.declared.output.SinkFailed.{SinkFailed}
 use Rattle.vx_text.specs.Writing.{IsPut}
 use Rattle.vx_play.specs.Standing.{moves_lines, note_line, intake_lines, begun_lines}
-use Rattle.vx_play.proofs.Printed.{texts, lines-put}
+use Rattle.vx_play.proofs.Printed.{texts, lines-put, lines-ranges}
 use Rattle.vx_run.specs.Item.{noted}
 use Rattle.vx_play.proofs.run.put_made.Goals as goal
 
@@ -16,8 +17,18 @@ returns-in-Two-clause-put g c =
     (lines-put {E = SinkFailed}
     (record { bytes = g.K.Sink.taken c.args.sink.now; faults = g.K.Sink.faults c.args.sink.now })
     (record { bytes = g.K.Sink.taken c.put_all-in-Two.new.sink; faults = g.K.Sink.faults c.put_all-in-Two.new.sink }) _ (Some c.moment.result) _ _ _ _ _ _ _ _ c.put_all-in-Two.result
-    c.lines-in-Two.ensures
+    c.lines-in-Two.ensures.text
     (c.intake_line-intake.ensures ∙ ap (λ m. intake_lines m c.args.made.intake) c.message.ensures.value)
     (c.begun_line-begun.ensures ∙ ap (λ b. begun_lines c.args.made.polled b) c.began.ensures)
     (c.moves_line-moves.ensures ∙ ap (λ m. moves_lines c.args.made.polled m) c.moves.ensures)
     (c.note_line-note.ensures ∙ ap (λ r. note_line r c.args.made.note) c.room.ensures.value) c.put_all-in-Two.ensures.put))
+
+pub returns-in-Two-clause-printable : goal.returns-in-Two-clause-printable
+returns-in-Two-clause-printable g c = λ is. record {
+  moment = subst (λ m. m < 2 ^ 64) c.moment.ensures (search rules);
+  lines = lines-ranges _ _ _ _ _ _ _ _
+      (c.intake_line-intake.ensures ∙ ap (λ m. intake_lines m c.args.made.intake) c.message.ensures.value)
+      (c.begun_line-begun.ensures ∙ ap (λ b. begun_lines c.args.made.polled b) c.began.ensures)
+      (c.moves_line-moves.ensures ∙ ap (λ m. moves_lines c.args.made.polled m) c.moves.ensures)
+      (c.note_line-note.ensures ∙ ap (λ r. note_line r c.args.made.note) c.room.ensures.value) c.lines-in-Two.ensures.fits;
+}
