@@ -12,40 +12,41 @@ use vx_script::Cause;
 use vx_sim::SimBus;
 
 /// A spare instrument of the name `echo`.
-fn spare_echo(alloc: Global) -> Result<Spare<Echo>, Fail> {
-    let name = ArrayString::from("echo").map_err(|_| "too long")?;
-    let inst = Echo::new(alloc).map_err(|_| "no memory")?;
-    Ok(Spare { name, inst })
+fn spare_echo(alloc: Global) -> Option<Spare<Echo>> {
+    let name = ArrayString::from("echo").ok()?;
+    let inst = Echo::new(alloc).ok()?;
+    Some(Spare { name, inst })
 }
 
-/// Two of them.
-fn two_echoes(alloc: Global) -> Result<Vec<Spare<Echo>>, Fail> {
-    let mut rack = Vec::with_capacity(alloc, 2)?;
-    push_echoes(alloc, &mut rack)?;
-    Ok(rack)
-}
-
-fn push_echoes(alloc: Global, rack: &mut Vec<Spare<Echo>>) -> Result<(), Fail> {
+/// Adds two of them to a rack.
+fn push_echoes(alloc: Global, rack: &mut Vec<Spare<Echo>>) -> Option<()> {
     for _ in 0..2 {
-        rack.push(spare_echo(alloc)?)?;
+        rack.push(spare_echo(alloc)?).ok()?;
     }
-    Ok(())
+    Some(())
 }
 
 /// How a bench ends, how many spares are left, and whether instruments stand at 5, at 6 and at 7,8 then.
 type Ended = (Option<BenchStop>, usize, [bool; 3]);
 
-/// Sets a bench up on a bus.
-fn set_on(alloc: Global, text: &[u8], bus: &mut SimBus<Echo>) -> Result<Ended, Fail> {
-    let mut rack = two_echoes(alloc)?;
+/// Sets a bench up on a bus, where there is memory for the spares.
+fn set_on(alloc: Global, text: &[u8], bus: &mut SimBus<Echo>) -> Option<Ended> {
+    let mut rack = Vec::new(alloc);
+    push_echoes(alloc, &mut rack)?;
     let stop = set_up(alloc, text, bus, &mut rack).err();
-    Ok((stop, rack.len(), standing(bus)))
+    Some((stop, rack.len(), standing(bus)))
 }
 
 /// Sets a bench up on a bus with nothing on it.
-fn end_of(alloc: Global, text: &[u8]) -> Result<Ended, Fail> {
-    let mut bus = SimBus::new(alloc).map_err(|_| "no memory")?;
+fn end_of(alloc: Global, text: &[u8]) -> Option<Ended> {
+    let mut bus = SimBus::new(alloc).ok()?;
     set_on(alloc, text, &mut bus)
+}
+
+/// How such a bench ends.
+fn stop_in(alloc: Global, text: &[u8]) -> Option<Option<BenchStop>> {
+    let (stop, _, _) = end_of(alloc, text)?;
+    Some(stop)
 }
 
 /// Whether instruments stand at 5, at 6 and at 7,8.
@@ -136,12 +137,11 @@ fn stop_of(refused: Option<(u64, Cause)>) -> Option<BenchStop> {
 }
 
 #[test]
-fn benches(rt: HostRuntime) -> Result<(), Fail> {
+fn benches(rt: HostRuntime) {
     for (row, (text, refused, left, stand)) in BENCHES.iter().enumerate() {
-        let ended = (stop_of(*refused), *left, *stand);
-        compare(&rt, row, &end_of(rt.alloc(), text)?, &ended);
+        let ended = Some((stop_of(*refused), *left, *stand));
+        compare(&rt, row, &end_of(rt.alloc(), text), &ended);
     }
-    Ok(())
 }
 
 /// A bench of 31 tables, and then one more instrument.
@@ -158,8 +158,8 @@ fn full_text(alloc: Global) -> Result<String, Fail> {
 #[test]
 fn full_bench(rt: HostRuntime) -> Result<(), Fail> {
     let text = full_text(rt.alloc())?;
-    let ended = end_of(rt.alloc(), text.as_bytes())?;
-    compare(&rt, 0, &ended.0, &stop_of(Some((32, Cause::Bench))));
+    let stop = stop_of(Some((32, Cause::Bench)));
+    compare(&rt, 0, &stop_in(rt.alloc(), text.as_bytes()), &Some(stop));
     Ok(())
 }
 
@@ -173,8 +173,8 @@ static LENGTHS: [(usize, Option<(u64, Cause)>); 2] = [
 fn long_lines(rt: HostRuntime) -> Result<(), Fail> {
     for (row, (len, refused)) in LENGTHS.iter().enumerate() {
         let text = vec![in rt.alloc(); b'#'; *len]?;
-        let ended = end_of(rt.alloc(), &text)?;
-        compare(&rt, row, &ended.0, &stop_of(*refused));
+        let stop = stop_of(*refused);
+        compare(&rt, row, &stop_in(rt.alloc(), &text), &Some(stop));
     }
     Ok(())
 }

@@ -1,32 +1,31 @@
 //! Bursts over memory, each equal to single calls, with a hold or a fault at each of the first bytes.
 
-ghost use Rattle.std.specs.Prelude.{◌≡◌, ◌+◌, ◌≤◌, length, IfOk};
+ghost use Rattle.std.specs.Prelude.{◌≡◌, ◌+◌, ◌≤◌, length, IfSome};
 
 use crate::ask_tools::{Answer, ask};
+use crate::bus_tools::told_bus;
 use crate::row_tools::compare;
 use std::alloc::Global;
 use std::process::Abort;
-use std::test::Fail;
 use vx_bus::*;
 
 const BYTES: [u8; 5] = [65, 66, 67, 68, 69];
 
-/// A bus that gives the bytes, END on the last, and of which this call is held, or fails.
-fn told_bus(alloc: Global, call: u64, fails: bool) -> Result<MemBus, Fail>
-    ensures { IfOk result (λ bus. bus.means.asks ≡ 0) }
+/// The bytes as a bus gives them, END on the last.
+const GIVEN: [(u8, bool); 5] = [
+    (65, false),
+    (66, false),
+    (67, false),
+    (68, false),
+    (69, true),
+];
+
+/// A bus that gives the bytes, and of which this call is held, or fails.
+fn bus_of(alloc: Global, call: u64, fails: bool) -> Option<MemBus>
+    ensures { IfSome result (λ bus. bus.means.asks ≡ 0) }
 {
-    let gets = [
-        (65u8, false),
-        (66, false),
-        (67, false),
-        (68, false),
-        (69, true),
-    ]
-    .to_vec(alloc)?;
     let (hold, fail) = if fails { (0, call) } else { (call, 0) };
-    let holds = [hold].to_vec(alloc)?;
-    let fails = [fail].to_vec(alloc)?;
-    Ok(MemBus::new(alloc, gets, holds, fails).map_err(|_| "no memory")?)
+    told_bus(alloc, &GIVEN, &[hold], &[fail])
 }
 
 /// What single puts come to.
@@ -38,20 +37,13 @@ fn put_each(bus: &mut MemBus, bytes: &[u8], end: bool) -> Many
             b: bytes[moved],
             end: end && moved + 1 == bytes.len(),
         };
-        match ask(bus, asked) {
-            Answer::Went => {}
-            Answer::Failed => {
-                return Many {
-                    moved,
-                    last: Move::Failed,
-                };
-            }
-            _ => {
-                return Many {
-                    moved,
-                    last: Move::Held,
-                };
-            }
+        let last = match ask(bus, asked) {
+            Answer::Went => Move::Went,
+            Answer::Failed => Move::Failed,
+            _ => Move::Held,
+        };
+        if last != Move::Went {
+            return Many { moved, last };
         }
     }
     Many {
@@ -104,28 +96,65 @@ fn get_each(bus: &mut MemBus, room: &mut [u8], char: Option<u8>) -> ManyGot
 }
 
 /// Puts the bytes twice on two buses that are told alike, by bursts and by single puts.
+fn compare_puts_on(
+    rt: &impl Abort,
+    row: usize,
+    burst: &mut MemBus,
+    single: &mut MemBus,
+    wanted: Many,
+)
+    requires burst { burst.old.means.asks ≡ 0 }
+    requires single { single.old.means.asks ≡ 0 }
+{
+    compare(rt, row, &burst.put_many(&BYTES, true), &wanted);
+    compare(rt, row, &put_each(single, &BYTES, true), &wanted);
+    compare(rt, row, &burst.moves(), &single.moves());
+    burst.cut();
+    single.cut();
+    let again = burst.put_many(&BYTES, false);
+    compare(rt, row, &again, &put_each(single, &BYTES, false));
+    compare(rt, row, &burst.moves(), &single.moves());
+}
+
+/// The same on buses of which this call is held, or fails.
 fn compare_puts(
     rt: &impl Abort,
     alloc: Global,
     call: u64,
     fails: bool,
     wanted: Many,
-) -> Result<(), Fail> {
-    let row = call as usize;
-    let mut burst = told_bus(alloc, call, fails)?;
-    let mut single = told_bus(alloc, call, fails)?;
-    compare(rt, row, &burst.put_many(&BYTES, true), &wanted);
-    compare(rt, row, &put_each(&mut single, &BYTES, true), &wanted);
-    compare(rt, row, &burst.moves(), &single.moves());
-    burst.cut();
-    single.cut();
-    let again = burst.put_many(&BYTES, false);
-    compare(rt, row, &again, &put_each(&mut single, &BYTES, false));
-    compare(rt, row, &burst.moves(), &single.moves());
-    Ok(())
+) -> Option<()> {
+    let mut burst = bus_of(alloc, call, fails)?;
+    let mut single = bus_of(alloc, call, fails)?;
+    compare_puts_on(rt, call as usize, &mut burst, &mut single, wanted);
+    Some(())
 }
 
-/// The same of gets.
+/// Gets the bytes twice of two buses that are told alike, by bursts and by single gets.
+fn compare_gets_on(
+    rt: &impl Abort,
+    row: usize,
+    burst: &mut MemBus,
+    single: &mut MemBus,
+    char: Option<u8>,
+    wanted: ManyGot,
+)
+    requires burst { burst.old.means.asks ≡ 0 }
+    requires single { single.old.means.asks ≡ 0 }
+{
+    let mut got = [0; 5];
+    let mut room = [0; 5];
+    compare(rt, row, &burst.get_many(&mut got, char), &wanted);
+    compare(rt, row, &get_each(single, &mut room, char), &wanted);
+    compare(rt, row, &(got, burst.moves()), &(room, single.moves()));
+    burst.cut();
+    single.cut();
+    let again = burst.get_many(&mut got, char);
+    compare(rt, row, &again, &get_each(single, &mut room, char));
+    compare(rt, row, &(got, burst.moves()), &(room, single.moves()));
+}
+
+/// The same of buses of which this call is held, or fails.
 fn compare_gets(
     rt: &impl Abort,
     alloc: Global,
@@ -133,69 +162,71 @@ fn compare_gets(
     fails: bool,
     char: Option<u8>,
     wanted: ManyGot,
-) -> Result<(), Fail> {
-    let row = call as usize;
-    let mut burst = told_bus(alloc, call, fails)?;
-    let mut single = told_bus(alloc, call, fails)?;
-    let mut got = [0; 5];
-    let mut room = [0; 5];
-    compare(rt, row, &burst.get_many(&mut got, char), &wanted);
-    compare(rt, row, &get_each(&mut single, &mut room, char), &wanted);
-    compare(rt, row, &(got, burst.moves()), &(room, single.moves()));
-    burst.cut();
-    single.cut();
-    let again = burst.get_many(&mut got, char);
-    compare(rt, row, &again, &get_each(&mut single, &mut room, char));
-    compare(rt, row, &(got, burst.moves()), &(room, single.moves()));
-    Ok(())
+) -> Option<()> {
+    let mut burst = bus_of(alloc, call, fails)?;
+    let mut single = bus_of(alloc, call, fails)?;
+    compare_gets_on(rt, call as usize, &mut burst, &mut single, char, wanted);
+    Some(())
 }
 
 // The call that doesn't go, and how many bytes went before it.
 static PUTS: [(u64, usize); 5] = [(1, 0), (2, 1), (3, 2), (4, 3), (5, 4)];
 
-#[test]
-fn bursts_of_puts_are_single_puts(rt: HostRuntime) -> Result<(), Fail> {
-    for (call, moved) in &PUTS {
-        let held = Many {
-            moved: *moved,
-            last: Move::Held,
-        };
-        let failed = Many {
-            moved: *moved,
-            last: Move::Failed,
-        };
-        compare_puts(&rt, rt.alloc(), *call, false, held)?;
-        compare_puts(&rt, rt.alloc(), *call, true, failed)?;
+/// Bursts of puts of which each call in turn is held, and fails, and one of which none does.
+fn compare_all_puts(rt: &impl Abort, alloc: Global) -> Option<()> {
+    for (call, moved) in PUTS {
+        let (held, failed) = (Move::Held, Move::Failed);
+        compare_puts(rt, alloc, call, false, Many { moved, last: held })?;
+        compare_puts(
+            rt,
+            alloc,
+            call,
+            true,
+            Many {
+                moved,
+                last: failed,
+            },
+        )?;
     }
     let went = Many {
         moved: 5,
         last: Move::Went,
     };
-    compare_puts(&rt, rt.alloc(), 6, true, went)
+    compare_puts(rt, alloc, 6, true, went)
 }
 
 #[test]
-fn bursts_of_gets_are_single_gets(rt: HostRuntime) -> Result<(), Fail> {
-    for (call, got) in &PUTS {
-        let held = ManyGot {
-            got: *got,
-            stop: Stop::Held,
-        };
-        let failed = ManyGot {
-            got: *got,
-            stop: Stop::Failed,
-        };
-        compare_gets(&rt, rt.alloc(), *call, false, None, held)?;
-        compare_gets(&rt, rt.alloc(), *call, true, Some(69), failed)?;
+fn bursts_of_puts_are_single_puts(rt: HostRuntime) {
+    assert!(rt; compare_all_puts(&rt, rt.alloc()).is_some());
+}
+
+/// The same of gets, with the stop byte 69 where the call fails; and one up to END, and one up to the stop byte 67.
+fn compare_all_gets(rt: &impl Abort, alloc: Global) -> Option<()> {
+    for (call, got) in PUTS {
+        let (held, failed) = (Stop::Held, Stop::Failed);
+        compare_gets(rt, alloc, call, false, None, ManyGot { got, stop: held })?;
+        compare_gets(
+            rt,
+            alloc,
+            call,
+            true,
+            Some(69),
+            ManyGot { got, stop: failed },
+        )?;
     }
     let end = ManyGot {
         got: 5,
         stop: Stop::End,
     };
-    compare_gets(&rt, rt.alloc(), 6, true, Some(69), end)?;
     let char = ManyGot {
         got: 3,
         stop: Stop::Char,
     };
-    compare_gets(&rt, rt.alloc(), 6, false, Some(67), char)
+    compare_gets(rt, alloc, 6, true, Some(69), end)?;
+    compare_gets(rt, alloc, 6, false, Some(67), char)
+}
+
+#[test]
+fn bursts_of_gets_are_single_gets(rt: HostRuntime) {
+    assert!(rt; compare_all_gets(&rt, rt.alloc()).is_some());
 }

@@ -1,23 +1,20 @@
 //! The bus over memory, and a change of any bus.
 
-ghost use Rattle.std.specs.Prelude.{◌≡◌, ◌+◌, ◌≤◌, length, IfOk};
+ghost use Rattle.std.specs.Prelude.{◌≡◌, ◌+◌, ◌≤◌, length, IfSome};
 
 use crate::ask_tools::{Answer, ask};
+use crate::bus_tools::told_bus;
 use crate::row_tools::compare;
 use std::alloc::Global;
 use std::process::Abort;
-use std::test::Fail;
 use vx_488::{Addr, Transfer};
 use vx_bus::*;
 
 /// A bus that gives 65 and then 66 with END, whose moving calls 2 and 6 fail, and 3 and 6 are held.
-fn told_bus(alloc: Global) -> Result<MemBus, Fail>
-    ensures { IfOk result (λ bus. bus.means.asks ≡ 0) }
+fn failing_bus(alloc: Global) -> Option<MemBus>
+    ensures { IfSome result (λ bus. bus.means.asks ≡ 0) }
 {
-    let gets = [(65u8, false), (66, true)].to_vec(alloc)?;
-    let holds = [3u64, 6].to_vec(alloc)?;
-    let fails = [6u64, 2].to_vec(alloc)?;
-    Ok(MemBus::new(alloc, gets, holds, fails).map_err(|_| "no memory")?)
+    told_bus(alloc, &[(65, false), (66, true)], &[3, 6], &[6, 2])
 }
 
 /// Asks a bus for each row, and compares what it answers.
@@ -106,22 +103,27 @@ static SHOWN: [Shown<'static>; 5] = [
     (CLEARED, None, false, 7, REMOTE),
 ];
 
-// Twelve moving calls with a cut between the fourth and the fifth, through which their numbers go on.
-#[test]
-fn memory_answers_what_its_lists_say(rt: HostRuntime) -> Result<(), Fail> {
-    let mut bus = told_bus(rt.alloc())?;
-    ask_each(&rt, &mut bus, &UP_TO_A_HOLD);
-    compare(&rt, 0, &shown(&bus), &SHOWN[0]);
-    ask_each(&rt, &mut bus, &BEHIND_THE_HOLD);
-    compare(&rt, 1, &shown(&bus), &SHOWN[1]);
+/// Twelve moving calls with a cut between the fourth and the fifth, through which their numbers go on; on a bus of its own, where there
+/// is memory for one.
+fn compare_answers(rt: &impl Abort, alloc: Global) -> Option<()> {
+    let mut bus = failing_bus(alloc)?;
+    ask_each(rt, &mut bus, &UP_TO_A_HOLD);
+    compare(rt, 0, &shown(&bus), &SHOWN[0]);
+    ask_each(rt, &mut bus, &BEHIND_THE_HOLD);
+    compare(rt, 1, &shown(&bus), &SHOWN[1]);
     bus.cut();
-    compare(&rt, 2, &shown(&bus), &SHOWN[2]);
-    ask_each(&rt, &mut bus, &BEHIND_THE_CUT);
+    compare(rt, 2, &shown(&bus), &SHOWN[2]);
+    ask_each(rt, &mut bus, &BEHIND_THE_CUT);
     bus.moment(5);
-    compare(&rt, 3, &shown(&bus), &SHOWN[3]);
-    ask_each(&rt, &mut bus, &CLEARS);
-    compare(&rt, 4, &shown(&bus), &SHOWN[4]);
-    Ok(())
+    compare(rt, 3, &shown(&bus), &SHOWN[3]);
+    ask_each(rt, &mut bus, &CLEARS);
+    compare(rt, 4, &shown(&bus), &SHOWN[4]);
+    Some(())
+}
+
+#[test]
+fn memory_answers_what_its_lists_say(rt: HostRuntime) {
+    assert!(rt; compare_answers(&rt, rt.alloc()).is_some());
 }
 
 /// A watch beside a bus, which tells it the moments that it counts.
@@ -151,17 +153,24 @@ fn change<B: Bus, T: Tweak<B>>(tweak: &mut T, bus: &mut B) -> T::Answer
     tweak.apply(bus)
 }
 
-// A change through its bound makes no transfer.
-#[test]
-fn tweak_keeps_the_transfers(rt: HostRuntime) -> Result<(), Fail> {
-    let mut bus = told_bus(rt.alloc())?;
+/// A command, and a change through its bound, which makes no transfer.
+fn compare_change(rt: &impl Abort, bus: &mut MemBus)
+    requires { bus.old.means.asks ≡ 0 }
+{
     let went = bus.command(0x23);
-    let answer = change(&mut Watch { now: 8 }, &mut bus);
-    compare(
-        &rt,
-        0,
-        &(went, answer, bus.moves()),
-        &(Move::Went, 8, [Transfer::Cmd(0x23)].as_slice()),
-    );
-    Ok(())
+    let answer = change(&mut Watch { now: 8 }, bus);
+    let moves: &[Transfer] = &[Transfer::Cmd(0x23)];
+    compare(rt, 0, &(went, answer, bus.moves()), &(Move::Went, 8, moves));
+}
+
+/// The same on a bus of its own, where there is memory for one.
+fn compare_change_anew(rt: &impl Abort, alloc: Global) -> Option<()> {
+    let mut bus = failing_bus(alloc)?;
+    compare_change(rt, &mut bus);
+    Some(())
+}
+
+#[test]
+fn tweak_keeps_the_transfers(rt: HostRuntime) {
+    assert!(rt; compare_change_anew(&rt, rt.alloc()).is_some());
 }

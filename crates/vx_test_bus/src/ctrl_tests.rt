@@ -1,16 +1,16 @@
 //! Tables of turns on a bus over memory.
 
-ghost use Rattle.std.specs.Prelude.{◌≡◌, ◌≤◌, IfOk, length};
+ghost use Rattle.std.specs.Prelude.{◌≡◌, ◌≤◌, IfSome, length};
 ghost use Rattle.vx_calls.specs.declared.limits.TheConstants.{WRITE_MAX};
 ghost use Rattle.vx_plan.specs.Tasks.{IsPlainTask, HasBytes};
 ghost use Rattle.vx_bus.specs.Means.{first_means};
 ghost use Rattle.vx_ctrl.specs.Turns.{HasRoom};
 
+use crate::bus_tools::told_bus;
 use crate::row_tools::compare;
 use crate::task_tools::{has_bytes, has_room};
 use std::alloc::Global;
 use std::process::Abort;
-use std::test::Fail;
 use vx_488::Transfer::{self, Cmd, Got, Put};
 use vx_bus::{Bus, MemBus};
 use vx_calls::Target;
@@ -41,13 +41,10 @@ const GIVES: Bench = Bench {
     fails: &[],
 };
 
-fn told_bus(alloc: Global, bench: &Bench) -> Result<MemBus, Fail>
-    ensures { IfOk result (λ bus. bus.means ≡ first_means) }
+fn bus_of(alloc: Global, bench: &Bench) -> Option<MemBus>
+    ensures { IfSome result (λ bus. bus.means ≡ first_means) }
 {
-    let gets = bench.gets.to_vec(alloc)?;
-    let holds = bench.holds.to_vec(alloc)?;
-    let fails = bench.fails.to_vec(alloc)?;
-    Ok(MemBus::new(alloc, gets, holds, fails).map_err(|_| "no memory")?)
+    told_bus(alloc, bench.gets, bench.holds, bench.fails)
 }
 
 /// Why a turn stopped, how many bytes it moved, and the reason of a read.
@@ -110,16 +107,23 @@ fn go_row(bus: &mut MemBus, row: &Row, room: &mut [u8]) -> Option<Told>
     Some(go_once(bus, row.task, row.bytes, room))
 }
 
-/// Goes through rows, each on a bus of its own, and compares what each told, its transfers, and what stands in its room.
-fn go_rows(rt: &impl Abort, alloc: Global, rows: &[Row]) -> Result<(), Fail> {
+/// Goes through a row, and compares what it told, its transfers, and what stands in its room.
+fn compare_row(rt: &impl Abort, number: usize, bus: &mut MemBus, row: &Row, room: &mut [u8])
+    requires { bus.old.means ≡ first_means }
+{
+    let told = go_row(bus, row, room);
+    let found = (told, bus.moves(), &*room);
+    compare(rt, number, &found, &(Some(row.told), row.moves, row.room));
+}
+
+/// Goes through rows, each on a bus of its own.
+fn go_rows(rt: &impl Abort, alloc: Global, rows: &[Row]) -> Option<()> {
     for (number, row) in rows.iter().enumerate() {
-        let mut room = vec![in alloc; 0u8; row.room.len()]?;
-        let mut bus = told_bus(alloc, &row.bench)?;
-        let told = go_row(&mut bus, row, &mut room);
-        let found = (told, bus.moves(), room.as_slice());
-        compare(rt, number, &found, &(Some(row.told), row.moves, row.room));
+        let mut room = vec![in alloc; 0u8; row.room.len()].ok()?;
+        let mut bus = bus_of(alloc, &row.bench)?;
+        compare_row(rt, number, &mut bus, row, &mut room);
     }
-    Ok(())
+    Some(())
 }
 
 static READS: [Row; 4] = [
@@ -186,8 +190,8 @@ static READS: [Row; 4] = [
 ];
 
 #[test]
-fn reads_up_to_a_reason(rt: HostRuntime) -> Result<(), Fail> {
-    go_rows(&rt, rt.alloc(), &READS)
+fn reads_up_to_a_reason(rt: HostRuntime) {
+    assert!(rt; go_rows(&rt, rt.alloc(), &READS).is_some());
 }
 
 const WRITE: Task = Task::Write {
@@ -287,20 +291,32 @@ static TURNS: [Row; 6] = [
 ];
 
 #[test]
-fn turns_go_once(rt: HostRuntime) -> Result<(), Fail> {
-    go_rows(&rt, rt.alloc(), &TURNS)
+fn turns_go_once(rt: HostRuntime) {
+    assert!(rt; go_rows(&rt, rt.alloc(), &TURNS).is_some());
 }
 
 // The bytes that a turn puts behind a hold.
 const BEHIND_A_HOLD: &[Transfer] = &[Put { b: 65, end: false }, Put { b: 10, end: true }];
 
-#[test]
-fn goes_on_behind_a_hold(rt: HostRuntime) -> Result<(), Fail> {
-    let mut bus = told_bus(rt.alloc(), &HOLDS)?;
-    let gone = go_twice(&mut bus, WRITE, b"A\n", &mut []);
+/// A write goes on behind a hold: what it told, and its transfers then.
+fn compare_hold(rt: &impl Abort, bus: &mut MemBus)
+    requires { bus.old.means ≡ first_means }
+{
+    let gone = go_twice(bus, WRITE, b"A\n", &mut []);
     let wanted = ((Went::Held, 0, 0), (Went::Finished, 2, 0));
-    compare(&rt, 0, &(gone, bus.moves()), &(wanted, BEHIND_A_HOLD));
-    Ok(())
+    compare(rt, 0, &(gone, bus.moves()), &(wanted, BEHIND_A_HOLD));
+}
+
+/// The same on a bus of its own.
+fn compare_hold_anew(rt: &impl Abort, alloc: Global) -> Option<()> {
+    let mut bus = bus_of(alloc, &HOLDS)?;
+    compare_hold(rt, &mut bus);
+    Some(())
+}
+
+#[test]
+fn goes_on_behind_a_hold(rt: HostRuntime) {
+    assert!(rt; compare_hold_anew(&rt, rt.alloc()).is_some());
 }
 
 /// A turn that goes twice, its job's bytes, what it tells each time, how many transfers it makes at last, and which is the
@@ -451,16 +467,28 @@ fn go_slice_row(bus: &mut MemBus, row: &SliceRow, room: &mut [u8]) -> Option<(To
     Some(go_twice(bus, row.task, row.bytes, room))
 }
 
-#[test]
-fn stops_behind_256_transfers(rt: HostRuntime) -> Result<(), Fail> {
+/// Goes through such a row, and compares what it told, and its transfers.
+fn compare_slice_row(rt: &impl Abort, number: usize, bus: &mut MemBus, row: &SliceRow)
+    requires { bus.old.means ≡ first_means }
+{
+    let mut room = [0; 300];
+    let told = go_slice_row(bus, row, &mut room);
+    let moves = (bus.moves().len(), bus.moves().last().copied());
+    compare(rt, number, &(told, moves), &(Some(row.told), row.moves));
+}
+
+/// Goes through all of them, each on a bus of its own.
+fn go_slice_rows(rt: &impl Abort, alloc: Global) -> Option<()> {
     for (number, row) in SLICES.iter().enumerate() {
-        let mut room = [0; 300];
-        let mut bus = told_bus(rt.alloc(), &row.bench)?;
-        let told = go_slice_row(&mut bus, row, &mut room);
-        let moves = (bus.moves().len(), bus.moves().last().copied());
-        compare(&rt, number, &(told, moves), &(Some(row.told), row.moves));
+        let mut bus = bus_of(alloc, &row.bench)?;
+        compare_slice_row(rt, number, &mut bus, row);
     }
-    Ok(())
+    Some(())
+}
+
+#[test]
+fn stops_behind_256_transfers(rt: HostRuntime) {
+    assert!(rt; go_slice_rows(&rt, rt.alloc()).is_some());
 }
 
 /// How many bytes were put with END on them.
@@ -493,23 +521,35 @@ fn go_on(bus: &mut MemBus, task: Task, bytes: &[u8], room: &mut [u8]) -> (u32, u
     (2000, early, told(&turn, Went::Slice))
 }
 
-// The longest write there is: 1,024 slices, and then its last three bytes, of which the last one alone has END.
-#[test]
-fn writes_262144_bytes(rt: HostRuntime) -> Result<(), Fail> {
-    let bytes = vec![in rt.alloc(); 7u8; 262_144]?;
-    let mut bus = told_bus(rt.alloc(), &READY)?;
+/// The longest write there is: 1,024 slices, and then its last three bytes, of which the last one alone has END.
+fn compare_longest(rt: &impl Abort, bus: &mut MemBus, bytes: &[u8])
+    requires fresh { bus.old.means ≡ first_means }
+    requires bytes { length bytes.now ≡ 262144 }
+{
     let write = Task::Write {
         t: PRIMARY,
         len: 262_144,
         end: true,
     };
-    let gone = go_on(&mut bus, write, &bytes, &mut []);
+    let gone = go_on(bus, write, bytes, &mut []);
     let moves: &[Transfer] = &[
         Put { b: 7, end: false },
         Put { b: 7, end: false },
         Put { b: 7, end: true },
     ];
     let wanted = (1024, 0, (Went::Finished, 262_144, 0));
-    compare(&rt, 0, &(gone, bus.moves()), &(wanted, moves));
-    Ok(())
+    compare(rt, 0, &(gone, bus.moves()), &(wanted, moves));
+}
+
+/// The same on a bus of its own.
+fn compare_longest_anew(rt: &impl Abort, alloc: Global) -> Option<()> {
+    let bytes = vec![in alloc; 7u8; 262_144].ok()?;
+    let mut bus = bus_of(alloc, &READY)?;
+    compare_longest(rt, &mut bus, &bytes);
+    Some(())
+}
+
+#[test]
+fn writes_262144_bytes(rt: HostRuntime) {
+    assert!(rt; compare_longest_anew(&rt, rt.alloc()).is_some());
 }

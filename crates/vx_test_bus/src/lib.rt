@@ -12,6 +12,8 @@ mod burst_tests;
 #[cfg(test)]
 mod bus_tests;
 #[cfg(test)]
+mod bus_tools;
+#[cfg(test)]
 mod ctrl_tests;
 #[cfg(test)]
 mod drop_tests;

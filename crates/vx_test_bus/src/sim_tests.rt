@@ -7,7 +7,6 @@ use crate::ask_tools::{Answer, ask};
 use serde_json::Value;
 use std::alloc::Global;
 use std::process::Abort;
-use std::test::Fail;
 use vx_488::{ADDRESS_MAX, Addr, Transfer};
 use vx_bus::{Ask, Bus, Many, Move, Stop};
 use vx_inst::{Body, Instrument};
@@ -86,9 +85,9 @@ impl Instrument for Toy {
     }
 }
 
-fn make_toy(alloc: Global, slow: bool) -> Result<Toy, Fail> {
-    let body = Body::new(alloc)?;
-    Ok(Toy {
+fn make_toy(alloc: Global, slow: bool) -> Option<Toy> {
+    let body = Body::new(alloc).ok()?;
+    Some(Toy {
         body,
         slow,
         ready: true,
@@ -138,40 +137,40 @@ fn is_on_bus(a: Addr) -> bool
     a.p <= ADDRESS_MAX && a.s.is_none_or(|s| s <= ADDRESS_MAX)
 }
 
-/// Attaches a toy. Answers why it isn't attached, where it isn't.
-fn attach(alloc: Global, bus: &mut SimBus<Toy>, a: Addr, slow: bool) -> Result<Option<Attach>, Fail>
+/// Attaches a toy, where there is memory for one. Answers why it isn't attached, where it isn't.
+fn attach(alloc: Global, bus: &mut SimBus<Toy>, a: Addr, slow: bool) -> Option<Option<Attach>>
     requires { is_bus_address a ≡ true }
 {
     let toy = make_toy(alloc, slow)?;
-    Ok(bus.attach_box(a, toy).err().map(|refused| refused.why))
+    match bus.attach_box(a, toy) {
+        Ok(()) => Some(None),
+        Err(refused) => Some(Some(refused.why)),
+    }
 }
 
 /// The same of a table instrument that a text spells.
-fn attach_table(
-    alloc: Global,
-    bus: &mut SimBus<Toy>,
-    a: Addr,
-    text: &str,
-) -> Result<Option<Attach>, Fail>
+fn attach_table(alloc: Global, bus: &mut SimBus<Toy>, a: Addr, text: &str) -> Option<Option<Attach>>
     requires { is_bus_address a ≡ true }
 {
     let inst = spelled(alloc, text)?;
-    Ok(bus.attach_table(a, inst).err().map(|refused| refused.why))
+    match bus.attach_table(a, inst) {
+        Ok(()) => Some(None),
+        Err(refused) => Some(Some(refused.why)),
+    }
 }
 
-fn spelled(alloc: Global, text: &str) -> Result<TableInst, Fail> {
-    let value = Value::from_str(alloc, text)?;
-    Ok(TableInst::from_json(alloc, &value)?)
+fn spelled(alloc: Global, text: &str) -> Option<TableInst> {
+    let value = Value::from_str(alloc, text).ok()?;
+    TableInst::from_json(alloc, &value).ok()
 }
 
 /// Attaches toys at this many secondary addresses of 7. Answers whether all were attached.
-fn fill(alloc: Global, bus: &mut SimBus<Toy>, count: u8) -> Result<bool, Fail> {
+fn fill(alloc: Global, bus: &mut SimBus<Toy>, count: u8) -> bool {
+    let mut all = true;
     for s in 0..count.min(ADDRESS_MAX) {
-        if attach(alloc, bus, Addr { p: 7, s: Some(s) }, false)?.is_some() {
-            return Ok(false);
-        }
+        all &= attach(alloc, bus, Addr { p: 7, s: Some(s) }, false) == Some(None);
     }
-    Ok(true)
+    all
 }
 
 /// Cuts the bus, and then asks it.
@@ -217,13 +216,13 @@ fn get_anew(
 }
 
 /// Does a step that may take memory, where it is one. Answers whether it is as wanted.
-fn take_made(alloc: Global, bus: &mut SimBus<Toy>, step: &Step) -> Result<bool, Fail> {
+fn take_made(alloc: Global, bus: &mut SimBus<Toy>, step: &Step) -> bool {
     match *step {
-        Step::Attach(a, why) if is_on_bus(a) => Ok(attach(alloc, bus, a, false)? == why),
-        Step::AttachSlow(a, why) if is_on_bus(a) => Ok(attach(alloc, bus, a, true)? == why),
-        Step::Table(a, text, why) if is_on_bus(a) => Ok(attach_table(alloc, bus, a, text)? == why),
+        Step::Attach(a, why) => is_on_bus(a) && attach(alloc, bus, a, false) == Some(why),
+        Step::AttachSlow(a, why) => is_on_bus(a) && attach(alloc, bus, a, true) == Some(why),
+        Step::Table(a, text, why) => is_on_bus(a) && attach_table(alloc, bus, a, text) == Some(why),
         Step::Fill(count) => fill(alloc, bus, count),
-        _ => Ok(take_step(bus, step)),
+        _ => take_step(bus, step),
     }
 }
 
@@ -261,24 +260,20 @@ fn is_shown(bus: &SimBus<Toy>, step: &Step) -> bool {
 }
 
 /// Does the steps of a play.
-fn take_steps(
-    rt: &impl Abort,
-    alloc: Global,
-    play: usize,
-    bus: &mut SimBus<Toy>,
-    steps: &[Step],
-) -> Result<(), Fail> {
+fn take_steps(rt: &impl Abort, alloc: Global, play: usize, bus: &mut SimBus<Toy>, steps: &[Step]) {
     for (number, step) in steps.iter().enumerate() {
-        let is_wanted = take_made(alloc, bus, step)?;
-        assert!(rt; is_wanted, "in play {play}, at step {number}");
+        assert!(rt;
+            take_made(alloc, bus, step),
+            "in play {play}, at step {number}"
+        );
     }
-    Ok(())
 }
 
-/// Does them on a bus with nothing on it.
-fn play(rt: &impl Abort, alloc: Global, number: usize, steps: &[Step]) -> Result<(), Fail> {
-    let mut bus = SimBus::new(alloc).map_err(|_| "no memory")?;
-    take_steps(rt, alloc, number, &mut bus, steps)
+/// Does them on a bus with nothing on it, where there is memory for one.
+fn play(rt: &impl Abort, alloc: Global, number: usize, steps: &[Step]) -> Option<()> {
+    let mut bus = SimBus::new(alloc).ok()?;
+    take_steps(rt, alloc, number, &mut bus, steps);
+    Some(())
 }
 
 const FIVE: Addr = Addr { p: 5, s: None };
@@ -581,9 +576,8 @@ static PLAYS: [&[Step]; 11] = [
 ];
 
 #[test]
-fn plays(rt: HostRuntime) -> Result<(), Fail> {
+fn plays(rt: HostRuntime) {
     for (number, steps) in PLAYS.iter().enumerate() {
-        play(&rt, rt.alloc(), number, steps)?;
+        assert!(rt; play(&rt, rt.alloc(), number, steps).is_some());
     }
-    Ok(())
 }
