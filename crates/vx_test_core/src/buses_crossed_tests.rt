@@ -1,6 +1,6 @@
 //! Two workers on two passes of the four gates, each in a thread: one has a read that waits, and the other tells its abort. The records
 //! are those of RFC 5531, sections 9 and 11, and of VXI-11.
-ghost use Rattle.std.specs.Prelude.{◌≡◌, ◌≤◌, None, IfSome};
+ghost use Rattle.std.specs.Prelude.{◌≡◌, ◌≤◌, IfSome};
 ghost use Rattle.vx_calls.specs.declared.calls.Role.TheVariants as role;
 ghost use Rattle.vx_gates.specs.Four.{Each};
 ghost use Rattle.vx_gates.specs.Passing.{passes_shown, IsOf};
@@ -8,43 +8,16 @@ ghost use Rattle.vx_gates.specs.Standing.{gates_shown};
 ghost use Rattle.vx_buses.specs.Holding.{four_of, Holds};
 
 use crate::buses_tools::{Bench, fleet};
+use crate::crossing_tools::{Crossing, Flags, Pausing, Ran, Side};
 use crate::record_tools::are_words;
 use std::alloc::Global;
 use std::sync::Wait;
-use std::sync::atomic::{AtomicU64, Ordering};
 use std::test::Fail;
 use std::thread::{self, Threads};
 use vx_buses::{BusPass, Buses, many_abort, many_link};
 use vx_calls::Role;
 use vx_gates::Passes;
-use vx_io_traits::{Link, Pause, ReadOut, WriteOut};
 use vx_session::{End, Linked, Room, Still, join};
-
-/// The most turns that a link waits for its flag.
-const TURNS: u64 = 1_000_000;
-
-/// Waits for a flag, and says whether it is there.
-fn comes(flag: &AtomicU64) -> bool {
-    for _ in 0..TURNS {
-        if flag.load(Ordering::SeqCst) > 0 {
-            return true;
-        }
-        thread::yield_now();
-    }
-    false
-}
-
-// create_link of `gpib2,5`, xid 1
-const CREATE: [u8; 68] =
-    *b"\x80\0\0\x40\0\0\0\x01\0\0\0\0\0\0\0\x02\0\x06\x07\xaf\0\0\0\x01\0\0\0\x0a\0\0\0\0\0\0\0\0\0\0\0\0\0\0\0\0\0\0\0\0\0\0\0\0\0\0\0\0\0\0\0\x07gpib2,5\0";
-
-// device_read of at most 10 bytes on link 3, for 1,000,000 ms at most, xid 2
-const READ: [u8; 68] =
-    *b"\x80\0\0\x40\0\0\0\x02\0\0\0\0\0\0\0\x02\0\x06\x07\xaf\0\0\0\x01\0\0\0\x0c\0\0\0\0\0\0\0\0\0\0\0\0\0\0\0\0\0\0\0\x03\0\0\0\x0a\0\x0f\x42\x40\0\0\0\0\0\0\0\0\0\0\0\0";
-
-// device_abort of link 3, xid 3
-const ABORT: [u8; 48] =
-    *b"\x80\0\0\x2c\0\0\0\x03\0\0\0\0\0\0\0\x02\0\x06\x07\xb0\0\0\0\x01\0\0\0\x01\0\0\0\0\0\0\0\0\0\0\0\0\0\0\0\0\0\0\0\x03";
 
 // link 3; the read ended by the abort, with nothing
 const READER_TOOK: [u32; 21] = [
@@ -53,70 +26,6 @@ const READER_TOOK: [u32; 21] = [
 
 // done
 const ABORTER_TOOK: [u32; 8] = [0x8000001C, 3, 1, 0, 0, 0, 0, 0];
-
-/// The record that a side gives in its step of this number, once it may; none at its end.
-fn record_of(side: Role, paused: &AtomicU64, step: u64) -> &'static [u8] {
-    match (side, step) {
-        (Role::Core, 0) => &CREATE,
-        (Role::Core, 1) => &READ,
-        (Role::Abort, 0) if comes(paused) => &ABORT,
-        _ => &[],
-    }
-}
-
-/// The link of a side: it gives a record a receive, and keeps what it takes.
-#[derive(Drop)]
-struct Crossing<'a> {
-    side: Role,
-    paused: &'a AtomicU64,
-    gave: u64,
-    took: Vec<u8>,
-    faults: u64,
-}
-
-impl<'a> Link for Crossing<'a> {
-    ghost stands = { λ _ taken given. ⊥ };
-
-    ghost left = { λ _. None };
-
-    ghost receive_faults = { λ _. 0 };
-
-    ghost send_faults = { λ c. c.faults };
-
-    fn receive(&mut self, into: &mut [u8]) -> ReadOut {
-        let record = record_of(self.side, self.paused, self.gave);
-        let count = record.len().min(into.len());
-        if count == 0 {
-            return ReadOut::End;
-        }
-        into[..count].copy_from_slice(&record[..count]);
-        self.gave = self.gave.saturating_add(1);
-        ReadOut::Got(count)
-    }
-
-    fn send(&mut self, from: &[u8]) -> WriteOut {
-        if self.took.extend_from_slice(from).is_err() {
-            self.faults = self.faults.saturating_add(1);
-            return WriteOut::Failed;
-        }
-        WriteOut::Took(from.len())
-    }
-}
-
-/// Raises the flag, and counts.
-#[derive(Drop)]
-struct Pausing<'a> {
-    paused: &'a AtomicU64,
-    count: u64,
-}
-
-impl<'a> Pause for Pausing<'a> {
-    fn pause(&mut self) {
-        self.paused.store(1, Ordering::SeqCst);
-        self.count = self.count.saturating_add(1);
-        thread::yield_now();
-    }
-}
 
 /// An abort connection to each bus, where all come up.
 fn join_aborts<R: Wait>(
@@ -145,40 +54,22 @@ fn join_aborts<R: Wait>(
     }
 }
 
-/// How a side's session ended, and what its link took.
-#[derive(Drop)]
-struct Ran {
-    end: Option<End>,
-    took: Vec<u8>,
-}
-
-/// The link of a side, which nothing went over yet.
-fn link_of(alloc: Global, side: Role, paused: &AtomicU64) -> Crossing<'_> {
-    Crossing {
-        side,
-        paused,
-        gave: 0,
-        took: Vec::new(alloc),
-        faults: 0,
-    }
-}
-
 /// Serves the link whose read waits.
 fn run_reader<R: Wait>(
     rt: &R,
     alloc: Global,
     buses: &Buses<Bench>,
     passes: BusPass<Bench>,
-    paused: &AtomicU64,
+    flags: &Flags,
     room: Room,
 ) -> (BusPass<Bench>, Ran)
     requires { Each IsOf (passes_shown passes) (gates_shown buses.now) }
     ensures { Each IsOf (passes_shown result.0) (gates_shown buses.now) }
 {
     let mut room = room;
-    let mut link = link_of(alloc, Role::Core, paused);
+    let mut link = Crossing::new(alloc, Side::Reader, flags);
     let mut clock = Still::new();
-    let mut pause = Pausing { paused, count: 0 };
+    let mut pause = Pausing { flags, count: 0 };
     let (passes, how) = many_link(
         rt, alloc, buses, passes, &mut link, &mut clock, &mut pause, &mut room,
     );
@@ -187,7 +78,8 @@ fn run_reader<R: Wait>(
         Linked::Full | Linked::NoMemory => None,
     };
     let Crossing { took, .. } = link;
-    (passes, Ran { end, took })
+    let pauses = pause.count;
+    (passes, Ran { end, took, pauses })
 }
 
 /// Serves the link of the abort.
@@ -196,17 +88,18 @@ fn run_aborter<R: Wait>(
     alloc: Global,
     buses: &Buses<Bench>,
     passes: BusPass<Bench>,
-    paused: &AtomicU64,
+    flags: &Flags,
     room: Room,
 ) -> (BusPass<Bench>, Ran)
     requires { Each IsOf (passes_shown passes) (gates_shown buses.now) }
     ensures { Each IsOf (passes_shown result.0) (gates_shown buses.now) }
 {
     let mut room = room;
-    let mut link = link_of(alloc, Role::Abort, paused);
+    let mut link = Crossing::new(alloc, Side::Aborter, flags);
     let (passes, end) = serve_aborter(rt, alloc, buses, passes, &mut link, &mut room);
     let Crossing { took, .. } = link;
-    (passes, Ran { end, took })
+    let pauses = 0;
+    (passes, Ran { end, took, pauses })
 }
 
 /// Serves it on connections of its own.
@@ -236,7 +129,7 @@ fn run_both<R: Threads + Wait + Sync>(
     buses: &Buses<Bench>,
     one: BusPass<Bench>,
     two: BusPass<Bench>,
-    paused: &AtomicU64,
+    flags: &Flags,
     rooms: (Room, Room),
 ) -> (Ran, Ran)
     requires one { Each IsOf (passes_shown one) (gates_shown buses.now) }
@@ -248,11 +141,11 @@ fn run_both<R: Threads + Wait + Sync>(
         move ||
             requires { Each IsOf (passes_shown one) (gates_shown buses.now) }
             ensures { Each IsOf (passes_shown result.0) (gates_shown buses.entry.now) }
-        { run_reader(rt, alloc, buses, one, paused, first_room) },
+        { run_reader(rt, alloc, buses, one, flags, first_room) },
         move ||
             requires { Each IsOf (passes_shown two) (gates_shown buses.now) }
             ensures { Each IsOf (passes_shown result.0) (gates_shown buses.entry.now) }
-        { run_aborter(rt, alloc, buses, two, paused, second_room) },
+        { run_aborter(rt, alloc, buses, two, flags, second_room) },
     );
     let _ = buses.meet(one, two);
     (first, second)
@@ -271,9 +164,9 @@ fn cross<R: Threads + Wait + Sync>(
     requires gates { Each IsOf (passes_shown passes) (gates_shown buses) }
     requires parts { Each (λ pass gate. 2 ≤ pass.parts) (passes_shown passes) (gates_shown buses) }
 {
-    let paused = AtomicU64::new(0);
+    let flags = Flags::new();
     let (one, two) = buses.part(passes);
-    let (reader, aborter) = run_both(rt, alloc, &buses, one, two, &paused, rooms);
+    let (reader, aborter) = run_both(rt, alloc, &buses, one, two, &flags, rooms);
     (
         [reader.end, aborter.end],
         [

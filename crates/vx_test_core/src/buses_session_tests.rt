@@ -39,12 +39,13 @@ const TOOK: [u32; 135] = [
 ];
 
 /// Serves a link by four gateways of its own.
-fn serve<R: Wait>(rt: &R, alloc: Global, link: &mut MemLink, room: &mut Room) -> Option<Linked> {
+fn serve<R: Wait>(rt: &R, alloc: Global, link: &mut MemLink) -> Option<Linked> {
+    let mut room = Room::new(alloc).ok()?;
     let (buses, passes) = fleet(alloc)?;
     let mut clock = Still::new();
     let mut pause = Still::new();
     let (_passes, how) = many_link(
-        rt, alloc, &buses, passes, link, &mut clock, &mut pause, room,
+        rt, alloc, &buses, passes, link, &mut clock, &mut pause, &mut room,
     );
     Some(how)
 }
@@ -52,10 +53,9 @@ fn serve<R: Wait>(rt: &R, alloc: Global, link: &mut MemLink, room: &mut Room) ->
 #[test]
 fn calls_go_to_their_buses(rt: HostRuntime) -> Result<(), Fail> {
     let alloc = rt.alloc();
-    let mut room = Room::new(alloc).map_err(|_| "no memory")?;
     let gives = words(alloc, &GIVES, &[])?;
     let mut link = MemLink::new(gives, 100, Vec::new(alloc), Vec::new(alloc));
-    let how = serve(&rt, alloc, &mut link, &mut room);
+    let how = serve(&rt, alloc, &mut link);
     let is_told = are_words(link.bytes(), &TOOK);
     assert!(rt; how == Some(Linked::Ended(End::Closed)) && is_told);
     Ok(())

@@ -5,6 +5,7 @@ ghost use Rattle.vx_rules.specs.One.{may_wait};
 ghost use Rattle.vx_rules.specs.Calls.{IsShort};
 ghost use Rattle.vx_exchange.specs.declared.record.TheConstants.{REPLY_ROOM};
 
+use crate::gateway_tools::mem_core;
 use arrayvec::ArrayVec;
 use std::alloc::Global;
 use std::test::Fail;
@@ -66,12 +67,7 @@ fn write_on(core: &mut Core<MemBus>, conn: u32, reply: &mut [u8]) -> Option<usiz
 fn written(alloc: Global, reply: &mut [u8]) -> Option<usize>
     requires room { REPLY_ROOM ≤ length reply.old }
 {
-    let Ok(bus) = MemBus::new(alloc, Vec::new(alloc), Vec::new(alloc), Vec::new(alloc)) else {
-        return None;
-    };
-    let Ok(mut core) = Core::start(alloc, bus, 9011) else {
-        return None;
-    };
+    let mut core = mem_core(alloc, &[], &[], &[])?;
     match core.connect(alloc, Role::Core) {
         Ok(conn) => write_on(&mut core, conn, reply),
         Err(_) => None,

@@ -1,11 +1,17 @@
 //! Gateways, and what is outside of their sessions.
-ghost use Rattle.std.specs.Prelude.{◌≡◌, [], IfSome};
+ghost use Rattle.std.specs.Prelude.{◌≡◌, [], true, IfSome};
+ghost use Rattle.vx_bus_traits.specs.Means.{first_means};
+ghost use Rattle.vx_calls.specs.Call.{call_shown};
 ghost use Rattle.vx_gate.specs.Gates.{gate_of};
 ghost use Rattle.vx_group.specs.Groups.{StandsFor};
+ghost use Rattle.vx_rules.specs.Calls.{IsShort};
+ghost use Rattle.vx_rules.specs.One.{may_wait};
 
 use std::alloc::Global;
 use vx_488::Addr;
 use vx_bus::MemBus;
+use vx_bus_traits::Bus;
+use vx_calls::{CallRef, Role};
 use vx_core::Core;
 use vx_gate::{Gate, Pass};
 use vx_group::first_law;
@@ -20,25 +26,63 @@ pub(crate) type Gateway = Gate<Core<MemBus>>;
 
 pub(crate) type Turn = Pass<Core<MemBus>>;
 
-/// A gate round a gateway with nothing in it, over a bus of which these moving calls are held, and its pass.
-pub(crate) fn gateway(alloc: Global, holds: &[u64]) -> Option<(Gateway, Turn)>
+/// A bus over memory that gives these bytes, and of whose moving calls these are held, and these fail.
+fn mem_bus(alloc: Global, gets: &[(u8, bool)], holds: &[u64], fails: &[u64]) -> Option<MemBus>
+    ensures { IfSome result (λ bus. bus.means ≡ first_means) }
+{
+    let gets = gets.to_vec(alloc).ok()?;
+    let holds = holds.to_vec(alloc).ok()?;
+    let fails = fails.to_vec(alloc).ok()?;
+    MemBus::new(alloc, gets, holds, fails).ok()
+}
+
+/// A gateway with nothing in it, over such a bus.
+pub(crate) fn mem_core(
+    alloc: Global,
+    gets: &[(u8, bool)],
+    holds: &[u64],
+    fails: &[u64],
+) -> Option<Core<MemBus>>
+    ensures { IfSome result (λ core. StandsFor core.fine []) }
+{
+    first_law();
+    let bus = mem_bus(alloc, gets, holds, fails)?;
+    Core::start(alloc, bus, PORT).ok()
+}
+
+/// A gate round a gateway with nothing in it, and its pass.
+pub(crate) fn gate_round<B: Bus + Drop>(
+    alloc: Global,
+    core: Core<B>,
+) -> Option<(Gate<Core<B>>, Pass<Core<B>>)>
+    requires { StandsFor core.fine [] }
     ensures gate { IfSome result (λ r. r.1.gate ≡ gate_of r.0) }
     ensures parts { IfSome result (λ r. r.1.parts ≡ 4294967296) }
 {
-    first_law();
-    let Ok(holds) = holds.to_vec(alloc) else {
-        return None;
-    };
-    let Ok(bus) = MemBus::new(alloc, Vec::new(alloc), holds, Vec::new(alloc)) else {
-        return None;
-    };
-    let Ok(core) = Core::start(alloc, bus, PORT) else {
-        return None;
-    };
     match Gate::start(alloc, core) {
         Ok(started) => Some(started),
         Err(_) => None,
     }
+}
+
+/// The same over a bus in memory of which these moving calls are held.
+pub(crate) fn gateway(alloc: Global, holds: &[u64]) -> Option<(Gateway, Turn)>
+    ensures gate { IfSome result (λ r. r.1.gate ≡ gate_of r.0) }
+    ensures parts { IfSome result (λ r. r.1.parts ≡ 4294967296) }
+{
+    gate_round(alloc, mem_core(alloc, &[], holds, &[])?)
+}
+
+/// A call comes at moment 0 on a connection that waits for nothing.
+pub(crate) fn arrive(core: &mut Core<MemBus>, conn: u32, call: &CallRef<'_>) -> bool
+    requires waits { may_wait (call_shown call.now) ≡ true }
+    requires short { IsShort (call_shown call.now) }
+{
+    let is_free = core.role(conn) == Some(Role::Core) && !core.pending(conn);
+    if is_free {
+        core.arrive(conn, call, 0);
+    }
+    is_free
 }
 
 /// An instrument that gives back what it is sent stands at 5, with this status byte.

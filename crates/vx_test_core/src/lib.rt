@@ -16,6 +16,8 @@ mod core_tests;
 #[cfg(test)]
 mod crossed_session_tests;
 #[cfg(test)]
+mod crossing_tools;
+#[cfg(test)]
 mod exchange_tests;
 #[cfg(test)]
 mod gateway_tools;

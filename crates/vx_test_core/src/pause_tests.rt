@@ -20,9 +20,9 @@ fn serve<R: Wait>(
     holds: &[u64],
     gives: Vec<u8>,
     took: &[u32],
-) -> Result<Came, Fail> {
-    let mut room = Room::new(alloc).map_err(|_| "no memory")?;
-    let (gate, pass) = gateway(alloc, holds).ok_or("no memory")?;
+) -> Option<Came> {
+    let mut room = Room::new(alloc).ok()?;
+    let (gate, pass) = gateway(alloc, holds)?;
     let link = MemLink::new(gives, 4096, Vec::new(alloc), Vec::new(alloc));
     let mut clock = Counting { told: 0 };
     let mut pauses = Pauses { count: 0 };
@@ -39,7 +39,7 @@ fn serve<R: Wait>(
         &mut room,
     );
     let took = are_words(done.link().bytes(), took);
-    Ok((took, clock.told, pauses.count))
+    Some((took, clock.told, pauses.count))
 }
 
 /// Writes of so many bytes each, one behind the other, on a bus of which these moving calls are held; and how many polls and pauses
@@ -126,20 +126,19 @@ fn written(alloc: Global, lens: &[u32]) -> Result<Vec<u32>, AllocError> {
 }
 
 /// What comes of a row, beside the one poll of create_link.
-fn serve_row<R: Wait>(rt: &R, alloc: Global, row: &Row) -> Result<Came, Fail> {
-    let gives = writes(alloc, row.lens)?;
-    let took = written(alloc, row.lens)?;
+fn serve_row<R: Wait>(rt: &R, alloc: Global, row: &Row) -> Option<Came> {
+    let took = written(alloc, row.lens).ok()?;
+    let gives = writes(alloc, row.lens).ok()?;
     serve(rt, alloc, row.holds, gives, &took)
 }
 
 #[test]
-fn no_pause_at_a_slice(rt: HostRuntime) -> Result<(), Fail> {
+fn no_pause_at_a_slice(rt: HostRuntime) {
     for row in &ROWS {
-        let came = serve_row(&rt, rt.alloc(), row)?;
+        let came = serve_row(&rt, rt.alloc(), row);
         let wanted = (true, row.polls.saturating_add(1), row.pauses);
-        assert!(rt; came == wanted, "{}", row.name);
+        assert!(rt; came == Some(wanted), "{}", row.name);
     }
-    Ok(())
 }
 
 // create_link of `gpib0,5` twice, device_lock of the one link, and of the other, which waits 10 ms for the lock, in vain
@@ -157,7 +156,7 @@ fn a_pause_at_each_wait_for_a_lock(rt: HostRuntime) -> Result<(), Fail> {
         262144, 0x8000001C, 3, 1, 0, 0, 0, 0, 0, 0x8000001C, 4, 1, 0, 0, 0, 0, 11,
     ];
     let gives = words(alloc, &gives, &[])?;
-    let came = serve(&rt, alloc, &[], gives, &took)?;
-    assert_eq!(rt; came, (true, 3 + 11, 10));
+    let came = serve(&rt, alloc, &[], gives, &took);
+    assert_eq!(rt; came, Some((true, 3 + 11, 10)));
     Ok(())
 }

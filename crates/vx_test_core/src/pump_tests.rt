@@ -10,7 +10,7 @@ ghost use Rattle.vx_gate.specs.Gates.{gate_of};
 ghost use Rattle.vx_group.specs.Phases.{Idle};
 ghost use Rattle.vx_session.specs.Turning.{phase_at};
 
-use crate::gateway_tools::{Pauses, echo_core};
+use crate::gateway_tools::{Pauses, echo_core, gate_round};
 use crate::record_tools::are_words;
 use arrayvec::ArrayVec;
 use std::alloc::{AllocError, Global};
@@ -32,11 +32,7 @@ type Asking = Core<SimBus<Echo>>;
 fn asking(alloc: Global) -> Option<(Gate<Asking>, Pass<Asking>)>
     ensures { IfSome result (λ r. r.1.gate ≡ gate_of r.0) }
 {
-    let core = echo_core(alloc, 0x40)?;
-    match Gate::start(alloc, core) {
-        Ok(started) => Some(started),
-        Err(_) => None,
-    }
+    gate_round(alloc, echo_core(alloc, 0x40)?)
 }
 
 /// A handle of one byte.

@@ -254,11 +254,11 @@ struct Outside {
     room: Room,
 }
 
-fn make_outside(alloc: Global, moments: &[u64], fails: &[u64]) -> Result<Outside, Fail> {
-    let moments = moments.to_vec(alloc)?;
-    let fails = fails.to_vec(alloc)?;
-    let room = Room::new(alloc).map_err(|_| "no memory")?;
-    Ok(Outside {
+fn make_outside(alloc: Global, moments: &[u64], fails: &[u64]) -> Option<Outside> {
+    let moments = moments.to_vec(alloc).ok()?;
+    let fails = fails.to_vec(alloc).ok()?;
+    let room = Room::new(alloc).ok()?;
+    Some(Outside {
         room,
         clock: MemClock::new(moments),
         pauses: Pauses { count: 0 },
@@ -304,30 +304,25 @@ fn serve<R: Wait>(
 }
 
 /// Serves the link of a row.
-fn serve_row<R: Wait>(rt: &R, alloc: Global, row: &Row) -> Result<Option<Came>, Fail> {
-    let link = link_of(alloc, row.gives, row.rest, row.piece, row.fails)?;
+fn serve_row<R: Wait>(rt: &R, alloc: Global, row: &Row) -> Option<Came> {
     let mut outside = make_outside(alloc, row.moments, row.dial_fails)?;
-    Ok(serve(rt, alloc, row, link, &mut outside))
+    let link = link_of(alloc, row.gives, row.rest, row.piece, row.fails).ok()?;
+    serve(rt, alloc, row, link, &mut outside)
 }
 
 #[test]
-fn links_are_served(rt: HostRuntime) -> Result<(), Fail> {
+fn links_are_served(rt: HostRuntime) {
     for row in &ROWS {
-        let came = serve_row(&rt, rt.alloc(), row)?;
+        let came = serve_row(&rt, rt.alloc(), row);
         assert!(rt; came == Some((row.how, [0, 1], true, true)), "{}", row.name);
     }
-    Ok(())
 }
 
 /// Serves an abort link by a gateway of its own.
-fn serve_abort<R: Wait>(
-    rt: &R,
-    alloc: Global,
-    link: &mut MemLink,
-    room: &mut Room,
-) -> Option<Linked> {
+fn serve_abort<R: Wait>(rt: &R, alloc: Global, link: &mut MemLink) -> Option<Linked> {
+    let mut room = Room::new(alloc).ok()?;
     let (gate, pass) = gateway(alloc, &[])?;
-    let (_pass, how) = abort_link(rt, alloc, &gate, pass, link, room);
+    let (_pass, how) = abort_link(rt, alloc, &gate, pass, link, &mut room);
     Some(how)
 }
 
@@ -337,9 +332,8 @@ fn aborts_a_link_that_is_not_there(rt: HostRuntime) -> Result<(), Fail> {
     let alloc = rt.alloc();
     let gives = [0x8000002C, 1, 0, 2, 0x0607B0, 1, 1, 0, 0, 0, 0, 9];
     let took = [0x8000001C, 1, 1, 0, 0, 0, 0, 4];
-    let mut room = Room::new(alloc).map_err(|_| "no memory")?;
     let mut link = link_of(alloc, &gives, &[], 4096, &[])?;
-    let how = serve_abort(&rt, alloc, &mut link, &mut room);
+    let how = serve_abort(&rt, alloc, &mut link);
     let is_told = are_words(link.bytes(), &took);
     assert!(rt; how == Some(Linked::Ended(End::Closed)) && is_told);
     Ok(())

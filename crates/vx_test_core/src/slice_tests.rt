@@ -1,14 +1,7 @@
 //! Calls of many transfers: a poll makes 256 of them at most, and the next one goes on. The list of a write or a read of a
 //! device has three commands (UNL, and the two addresses), and then one transfer a byte (IEEE 488.1).
-ghost use Rattle.std.specs.Prelude.{◌≡◌, true, IfOk};
-ghost use Rattle.vx_bus_traits.specs.Means.{first_means};
-ghost use Rattle.vx_calls.specs.Call.{call_shown};
-ghost use Rattle.vx_rules.specs.One.{may_wait};
-ghost use Rattle.vx_rules.specs.Calls.{IsShort};
-
-use crate::gateway_tools::PORT;
+use crate::gateway_tools::{arrive, mem_core};
 use std::alloc::{AllocError, Global};
-use std::test::Fail;
 use vx_bus::MemBus;
 use vx_calls::{CallRef, ErrorCode, ReplyRef, Role};
 use vx_core::{Core, Polled, Why};
@@ -146,27 +139,6 @@ fn given(alloc: Global, bytes: &[u8]) -> Result<Vec<(u8, bool)>, AllocError> {
     Ok(gets)
 }
 
-fn bus_of(alloc: Global, row: &Row, bytes: &[u8]) -> Result<MemBus, Fail>
-    ensures { IfOk result (λ bus. bus.means ≡ first_means) }
-{
-    let gets = given(alloc, bytes)?;
-    let holds = row.holds.to_vec(alloc)?;
-    let fails = row.fails.to_vec(alloc)?;
-    Ok(MemBus::new(alloc, gets, holds, fails).map_err(|_| "no memory")?)
-}
-
-/// A call comes on connection 1, where it waits for nothing.
-fn arrive(core: &mut Core<MemBus>, call: &CallRef<'_>) -> bool
-    requires waits { may_wait (call_shown call.now) ≡ true }
-    requires short { IsShort (call_shown call.now) }
-{
-    if core.role(1) != Some(Role::Core) || core.pending(1) {
-        return false;
-    }
-    core.arrive(1, call, 0);
-    true
-}
-
 /// Polls the call of connection 1, where it has one. A read is to have these bytes.
 fn poll(core: &mut Core<MemBus>, now: u64, wanted: &[u8]) -> Came {
     if !core.pending(1) {
@@ -195,7 +167,7 @@ fn link(core: &mut Core<MemBus>, alloc: Global) {
         lock_timeout: 0,
         device: b"gpib0,5",
     };
-    if arrive(core, &call) {
+    if arrive(core, 1, &call) {
         let _ = poll(core, 0, &[]);
     }
 }
@@ -211,7 +183,7 @@ fn ask(core: &mut Core<MemBus>, row: &Row, bytes: &[u8]) -> bool {
             flags: 0,
             term: 0,
         };
-        return arrive(core, &call);
+        return arrive(core, 1, &call);
     }
     if bytes.len() > 262_144 {
         return false;
@@ -223,7 +195,7 @@ fn ask(core: &mut Core<MemBus>, row: &Row, bytes: &[u8]) -> bool {
         flags: 8,
         bytes,
     };
-    arrive(core, &call)
+    arrive(core, 1, &call)
 }
 
 /// Polls the call until one isn't a full slice of 256 transfers.
@@ -238,20 +210,28 @@ fn poll_on(core: &mut Core<MemBus>, wanted: &[u8]) -> Polls {
     (2000, 0, Came::Other)
 }
 
-/// Whether what comes of a row, on a gateway of its own, is what it wants.
-fn comes(alloc: Global, row: &Row) -> Result<bool, Fail> {
-    let bytes = numbered(alloc, row.len)?;
-    let bus = bus_of(alloc, row, &bytes)?;
-    let mut core = Core::start(alloc, bus, PORT).map_err(|_| "no memory")?;
-    link(&mut core, alloc);
-    Ok(ask(&mut core, row, &bytes) && poll_on(&mut core, &bytes) == row.wanted)
+/// What comes of the call of a row. A write is of these bytes, and a read is to have them.
+fn polls(core: &mut Core<MemBus>, alloc: Global, row: &Row, bytes: &[u8]) -> Option<Polls> {
+    link(core, alloc);
+    if ask(core, row, bytes) {
+        Some(poll_on(core, bytes))
+    } else {
+        None
+    }
+}
+
+/// The same on a gateway of its own.
+fn polls_anew(alloc: Global, row: &Row) -> Option<Polls> {
+    let bytes = numbered(alloc, row.len).ok()?;
+    let gets = given(alloc, &bytes).ok()?;
+    let mut core = mem_core(alloc, &gets, row.holds, row.fails)?;
+    polls(&mut core, alloc, row, &bytes)
 }
 
 #[test]
-fn slices(rt: HostRuntime) -> Result<(), Fail> {
+fn slices(rt: HostRuntime) {
     for row in &ROWS {
-        let is_so = comes(rt.alloc(), row)?;
-        assert!(rt; is_so, "{}", row.name);
+        let came = polls_anew(rt.alloc(), row);
+        assert!(rt; came == Some(row.wanted), "{}", row.name);
     }
-    Ok(())
 }

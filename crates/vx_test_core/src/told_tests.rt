@@ -4,9 +4,8 @@ ghost use Rattle.vx_calls.specs.Call.{call_shown};
 ghost use Rattle.vx_rules.specs.One.{may_wait};
 ghost use Rattle.vx_rules.specs.Calls.{IsShort};
 
-use crate::gateway_tools::{PORT, echo_core};
+use crate::gateway_tools::{arrive, echo_core, mem_core};
 use std::alloc::Global;
-use std::test::Fail;
 use vx_bus::MemBus;
 use vx_calls::{CallRef, Role};
 use vx_core::Core;
@@ -25,11 +24,11 @@ fn asked(core: &mut Core<MemBus>, call: &CallRef<'_>) -> Option<bool>
     requires waits { may_wait (call_shown call.now) ≡ true }
     requires short { IsShort (call_shown call.now) }
 {
-    if core.role(1) != Some(Role::Core) || core.pending(1) {
-        return None;
+    if arrive(core, 1, call) {
+        polled(core)
+    } else {
+        None
     }
-    core.arrive(1, call, 0);
-    polled(core)
 }
 
 /// What is told at first; of a create_link, a write, a write that is held, and its next poll; and behind a sample.
@@ -64,14 +63,14 @@ fn told(core: &mut Core<MemBus>, alloc: Global) -> [Option<bool>; 6] {
     ]
 }
 
+/// The same of a gateway of its own. A write makes four transfers: the sixth, which is held, is of the second one.
+fn told_anew(alloc: Global) -> Option<[Option<bool>; 6]> {
+    let mut core = mem_core(alloc, &[], &[6], &[])?;
+    Some(told(&mut core, alloc))
+}
+
 #[test]
-fn polls_that_begin(rt: HostRuntime) -> Result<(), Fail> {
-    let alloc = rt.alloc();
-    let none = Vec::new(alloc);
-    // a write makes four transfers: the sixth is of the second one
-    let holds = [6u64].as_slice().to_vec(alloc)?;
-    let bus = MemBus::new(alloc, none, holds, Vec::new(alloc)).map_err(|_| "no memory")?;
-    let mut core = Core::start(alloc, bus, PORT).map_err(|_| "no memory")?;
+fn polls_that_begin(rt: HostRuntime) {
     let wanted = [
         Some(false),
         Some(false),
@@ -80,8 +79,7 @@ fn polls_that_begin(rt: HostRuntime) -> Result<(), Fail> {
         Some(true),
         Some(false),
     ];
-    assert_eq!(rt; told(&mut core, alloc), wanted);
-    Ok(())
+    assert_eq!(rt; told_anew(rt.alloc()), Some(wanted));
 }
 
 /// The level of SRQ that is told before a sample and behind it, where an instrument has this status byte.
