@@ -1,9 +1,9 @@
 //! Calls of a user over memory. Records are composed by hand from their words; the record's mark stands first.
 
 use crate::client_tests::{behind, words};
+use crate::client_tools::run_so;
 use std::alloc::{AllocError, Global};
-use std::test::Fail;
-use vx_client::{Client, call_over, call_run, is_call};
+use vx_client::{Client, call_over, is_call};
 use vx_memory::{MemLink, MemReach, MemSink};
 
 /// A create_link that made link 7, of 65,536 bytes a write, as the reply to the first call.
@@ -320,42 +320,34 @@ fn sink_of(alloc: Global, row: &Row) -> Result<MemSink, AllocError> {
     Ok(MemSink::new(Vec::new(alloc), fails))
 }
 
-/// Whether a call with these words comes to what a row says.
-fn comes_so(
-    alloc: Global,
-    list: &[String],
-    reach: MemReach<MemLink>,
-    mut sink: MemSink,
-    row: &Row,
-) -> bool {
-    let (status, reach) = call_run(alloc, list, reach, &mut sink);
-    status == row.status && sink.bytes() == row.text.as_bytes() && took(&reach, row.sent)
+/// Whether a call with these words comes to what a row says, where there is memory for it.
+fn comes_so(alloc: Global, list: &[String], row: &Row) -> Option<bool> {
+    let mut sink = sink_of(alloc, row).ok()?;
+    let reach = reach_of(alloc, row).ok()?;
+    let (reach, is_so) = run_so(alloc, list, reach, &mut sink, row.status, row.text);
+    Some(is_so && took(&reach, row.sent))
 }
 
 /// The same for the words of a line.
-fn line_comes_so(alloc: Global, line: &str, row: &Row) -> Result<bool, Fail> {
-    let sink = sink_of(alloc, row)?;
-    let list = line_words(alloc, line)?;
-    let reach = reach_of(alloc, row)?;
-    Ok(comes_so(alloc, list.as_slice(), reach, sink, row))
+fn line_comes_so(alloc: Global, line: &str, row: &Row) -> Option<bool> {
+    let list = line_words(alloc, line).ok()?;
+    comes_so(alloc, list.as_slice(), row)
 }
 
 #[test]
-fn tells_what_came(rt: HostRuntime) -> Result<(), Fail> {
+fn tells_what_came(rt: HostRuntime) {
     for (place, row) in ROWS.iter().enumerate() {
-        let is_so = line_comes_so(rt.alloc(), row.line, row)?;
-        assert!(rt; is_so, "row {place}: {}", row.line);
+        let is_so = line_comes_so(rt.alloc(), row.line, row);
+        assert!(rt; is_so == Some(true), "row {place}: {}", row.line);
     }
-    Ok(())
 }
 
 #[test]
-fn refuses_other_words(rt: HostRuntime) -> Result<(), Fail> {
+fn refuses_other_words(rt: HostRuntime) {
     for line in OTHER_LINES {
-        let is_so = line_comes_so(rt.alloc(), line, &OTHER)?;
-        assert!(rt; is_so, "{line}");
+        let is_so = line_comes_so(rt.alloc(), line, &OTHER);
+        assert!(rt; is_so == Some(true), "{line}");
     }
-    Ok(())
 }
 
 /// The line of a call for a device whose text has so many characters.
@@ -372,31 +364,25 @@ fn long_line(alloc: Global, count: u32) -> Result<String, AllocError> {
 static UNMADE: Row = Row { front: &[], ..STB };
 
 /// Whether a call for a device of so many characters comes to what a row says.
-fn long_comes_so(alloc: Global, count: u32, row: &Row) -> Result<bool, Fail> {
-    let line = long_line(alloc, count)?;
+fn long_comes_so(alloc: Global, count: u32, row: &Row) -> Option<bool> {
+    let line = long_line(alloc, count).ok()?;
     line_comes_so(alloc, line.as_str(), row)
 }
 
 // A device's text has at most 255 bytes.
 #[test]
-fn refuses_a_long_device(rt: HostRuntime) -> Result<(), Fail> {
-    let longest = long_comes_so(rt.alloc(), 255, &UNMADE)?;
-    let longer = long_comes_so(rt.alloc(), 256, &OTHER)?;
-    assert_eq!(rt; [longest, longer], [true, true]);
-    Ok(())
+fn refuses_a_long_device(rt: HostRuntime) {
+    let longest = long_comes_so(rt.alloc(), 255, &UNMADE);
+    let longer = long_comes_so(rt.alloc(), 256, &OTHER);
+    assert_eq!(rt; [longest, longer], [Some(true), Some(true)]);
 }
 
-/// Whether a call of these words is done over a client of this link.
-fn is_done(alloc: Global, list: &[String], link: MemLink) -> bool {
+/// Whether a call of these words is done over this client.
+fn is_done(alloc: Global, list: &[String], client: &mut Client<MemLink>) -> bool {
     let mut sink = MemSink::new(Vec::new(alloc), Vec::new(alloc));
-    match Client::new(alloc, link) {
-        Ok(mut client) => {
-            is_call(list)
-                && call_over(alloc, list, &mut client, &mut sink) == 0
-                && sink.bytes() == b"done\n".as_slice()
-        }
-        Err(_) => false,
-    }
+    is_call(list)
+        && call_over(alloc, list, client, &mut sink) == 0
+        && sink.bytes() == b"done\n".as_slice()
 }
 
 /// A server that makes the link and is done with a call.
@@ -405,16 +391,16 @@ static DONE: Row = Row {
     ..STB
 };
 
-/// Whether a call of the words of a line is done over a client of the link of a row.
-fn line_is_done(alloc: Global, line: &str, row: &Row) -> Result<bool, Fail> {
-    let list = line_words(alloc, line)?;
-    let link = link_of(alloc, row)?;
-    Ok(is_done(alloc, list.as_slice(), link))
+/// Whether a call of the words of a line is done over a client of the link of a row, where there is memory for it.
+fn line_is_done(alloc: Global, line: &str, row: &Row) -> Option<bool> {
+    let list = line_words(alloc, line).ok()?;
+    let link = link_of(alloc, row).ok()?;
+    let mut client = Client::new(alloc, link).ok()?;
+    Some(is_done(alloc, list.as_slice(), &mut client))
 }
 
 #[test]
-fn calls_over_a_client(rt: HostRuntime) -> Result<(), Fail> {
-    let done = line_is_done(rt.alloc(), "h 9010 gpib0,5 trigger", &DONE)?;
-    assert!(rt; done);
-    Ok(())
+fn calls_over_a_client(rt: HostRuntime) {
+    let done = line_is_done(rt.alloc(), "h 9010 gpib0,5 trigger", &DONE);
+    assert!(rt; done == Some(true));
 }

@@ -6,7 +6,7 @@ use std::net::{Ipv4Addr, TcpListener};
 use std::sync::atomic::{AtomicU64, Ordering};
 use std::sync::{Arc, Wait};
 use std::test::Fail;
-use std::thread;
+use std::thread::{self, Threads};
 use vx_host::{Dialed, TcpStreams, TcpTools, ThreadSpawner, start_threads};
 use vx_io::{
     Accepted, Clock, Dial, DialOut, Handed, Link, Listen, Pause, ReadOut, Spawner, Started,
@@ -65,17 +65,23 @@ fn works<R: Wait + Copy>(
     Ok((up, count.load(Ordering::SeqCst)))
 }
 
-#[test]
-fn each_work_runs_once(rt: HostRuntime) -> Result<(), Fail> {
-    let (jobs, queue) = unbounded::<Adds, Global>(rt.alloc())?;
-    let (answers, started) = unbounded(rt.alloc())?;
-    let starter = thread::spawn(&rt, move || start_threads(rt, queue, answers)).map_err(
-        |_| "no thread",
-    )?;
-    let came = works(&rt, rt.alloc(), jobs, started, 8);
+/// The same of so many works in threads, until all of them have ended.
+fn works_in_threads<R: Threads + Wait + Copy + Send + 'static>(
+    rt: R,
+    alloc: Global,
+    most: u64,
+) -> Option<(u64, u64)> {
+    let (jobs, queue) = unbounded::<Adds, Global>(alloc).ok()?;
+    let (answers, started) = unbounded(alloc).ok()?;
+    let starter = thread::spawn(&rt, move || start_threads(rt, queue, answers)).ok()?;
+    let came = works(&rt, alloc, jobs, started, most).ok();
     starter.join(&rt);
-    assert_eq!(rt; came, Ok((8, 36)));
-    Ok(())
+    came
+}
+
+#[test]
+fn each_work_runs_once(rt: HostRuntime) {
+    assert_eq!(rt; works_in_threads(rt, rt.alloc(), 8), Some((8, 36)));
 }
 
 // Where nothing starts the works any more, each is refused.

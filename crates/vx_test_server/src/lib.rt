@@ -6,6 +6,8 @@ mod client_run_tests;
 #[cfg(test)]
 mod client_tests;
 #[cfg(test)]
+mod client_tools;
+#[cfg(test)]
 mod host_tests;
 #[cfg(test)]
 mod loop_tests;

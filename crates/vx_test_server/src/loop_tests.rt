@@ -1,16 +1,14 @@
 //! A client over a link to a gateway with an instrument at 5 that gives back what it is sent.
 
-ghost use Rattle.std.specs.Prelude.{IfOk};
+ghost use Rattle.std.specs.Prelude.{◌≡◌, IfSome};
 ghost use Rattle.vx_loop.specs.LoopState.{IsUnconnected};
 
 use crate::client_run_tests::line_words;
-use crate::client_tests::{Answer, Got};
-use arrayvec::ArrayVec;
+use crate::client_tools::{Answer, Ask, Got, answer, run_so};
 use std::alloc::{AllocError, Global};
 use std::test::Fail;
 use vx_488::Addr;
-use vx_calls::{DEVICE_MAX, Handle};
-use vx_client::{CallOpts, Client, ClientErr, LinkMade, ReadEnd, call_run};
+use vx_client::{CallOpts, Client, ClientErr, LinkMade, ReadEnd};
 use vx_core::Core;
 use vx_io_traits::{Link, ReadOut, WriteOut};
 use vx_loop::{LoopLink, through_client};
@@ -33,44 +31,47 @@ const LINK: LinkMade = LinkMade {
     max: 262_144,
 };
 
-/// A gateway with that instrument.
-fn echoing(alloc: Global) -> Result<Core<SimBus<Echo>>, &'static str>
-    ensures { IfOk result (λ core. IsUnconnected core.fine) }
+/// That instrument is hung on a bus.
+fn hang(alloc: Global, bus: &mut SimBus<Echo>) -> bool
+    ensures { bus.new.means ≡ bus.old.means }
 {
-    let echo = Echo::new(alloc).map_err(|_| "no memory")?;
-    let mut bus = SimBus::new(alloc).map_err(|_| "no memory")?;
-    bus.attach_box(Addr { p: 5, s: None }, echo)
-        .map_err(|_| "not attached")?;
-    Core::start(alloc, bus, 9011).map_err(|_| "no memory")
+    match Echo::new(alloc) {
+        Ok(echo) => bus.attach_box(Addr { p: 5, s: None }, echo).is_ok(),
+        Err(_) => false,
+    }
+}
+
+/// A gateway with that instrument.
+fn echoing(alloc: Global) -> Option<Core<SimBus<Echo>>>
+    ensures { IfSome result (λ core. IsUnconnected core.fine) }
+{
+    let mut bus = SimBus::new(alloc).ok()?;
+    if hang(alloc, &mut bus) {
+        Core::start(alloc, bus, 9011).ok()
+    } else {
+        None
+    }
 }
 
 /// A gateway with nothing on its bus that was told the last moment.
-fn late(alloc: Global) -> Result<Core<SimBus<Echo>>, &'static str>
-    ensures { IfOk result (λ core. IsUnconnected core.fine) }
+fn late(alloc: Global) -> Option<Core<SimBus<Echo>>>
+    ensures { IfSome result (λ core. IsUnconnected core.fine) }
 {
-    let bus = SimBus::new(alloc).map_err(|_| "no memory")?;
-    let mut core = Core::start(alloc, bus, 9011).map_err(|_| "no memory")?;
+    let bus = SimBus::new(alloc).ok()?;
+    let mut core = Core::start(alloc, bus, 9011).ok()?;
     core.sample(u64::MAX);
-    Ok(core)
+    Some(core)
 }
 
-/// Either.
-fn core(alloc: Global, is_late: bool) -> Result<Core<SimBus<Echo>>, &'static str>
-    ensures { IfOk result (λ core. IsUnconnected core.fine) }
-{
-    if is_late { late(alloc) } else { echoing(alloc) }
-}
-
-/// A link to it.
-fn link(alloc: Global, is_late: bool) -> Result<LoopLink<Echo>, &'static str> {
-    let core = core(alloc, is_late)?;
-    LoopLink::new(alloc, core).map_err(|_| "no memory")
+/// A link to either.
+fn link(alloc: Global, is_late: bool) -> Option<LoopLink<Echo>> {
+    let core = if is_late { late(alloc) } else { echoing(alloc) };
+    LoopLink::new(alloc, core?).ok()
 }
 
 /// A client over that.
-fn client(alloc: Global, is_late: bool) -> Result<Looped, &'static str> {
-    let link = link(alloc, is_late)?;
-    Client::new(alloc, link).map_err(|_| "no memory")
+fn client(alloc: Global, is_late: bool) -> Option<Looped> {
+    Client::new(alloc, link(alloc, is_late)?).ok()
 }
 
 /// Whether a write of these bytes goes through, in two pieces, and is read back.
@@ -84,17 +85,17 @@ fn goes_through(client: &mut Looped, bytes: &[u8], into: &mut [u8]) -> bool {
         len: 100_000,
         reason: 5,
     };
-    client.create_link(false, 0, b"gpib0,5") == Ok(LINK)
-        && through_client(client, &LINK, &OPTS, bytes) == Ok(())
-        && client.last() == last.as_slice()
-        && client.read(1, &OPTS, 0, into) == Ok(end)
-        && &*into == bytes
+    let is_made = client.create_link(false, 0, b"gpib0,5") == Ok(LINK);
+    let is_written = through_client(client, &LINK, &OPTS, bytes) == Ok(());
+    let is_last = client.last() == last.as_slice();
+    let is_read = client.read(1, &OPTS, 0, into) == Ok(end);
+    is_made && is_written && is_last && is_read && &*into == bytes
 }
 
-/// The same for a text over a client of its own.
-fn text_goes_through(alloc: Global, bytes: &[u8], into: &mut [u8]) -> Result<bool, Fail> {
+/// The same for a text over a client of its own, where there is memory for that.
+fn text_goes_through(alloc: Global, bytes: &[u8], into: &mut [u8]) -> Option<bool> {
     let mut client = client(alloc, false)?;
-    Ok(goes_through(&mut client, bytes, into))
+    Some(goes_through(&mut client, bytes, into))
 }
 
 /// 100,000 bytes, the numbers from 0 to 250 over and over.
@@ -111,29 +112,9 @@ fn a_write_goes_through(rt: HostRuntime) -> Result<(), Fail> {
     let alloc = rt.alloc();
     let bytes = long_text(alloc)?;
     let mut into = vec![in alloc; 0u8; 100_000]?;
-    let goes = text_goes_through(alloc, bytes.as_slice(), into.as_mut_slice())?;
-    assert!(rt; goes);
+    let goes = text_goes_through(alloc, bytes.as_slice(), into.as_mut_slice());
+    assert!(rt; goes == Some(true));
     Ok(())
-}
-
-/// A call of a client. Those that name a link name 1.
-#[derive(Clone, Copy)]
-enum Ask {
-    Create { lock: bool, device: &'static [u8] },
-    Write(&'static [u8]),
-    ReadStb,
-    Trigger,
-    Clear,
-    Remote,
-    Local,
-    Lock,
-    Unlock,
-    Destroy,
-    EnableSrq,
-    CreateIntr,
-    DestroyIntr,
-    /// The command byte 0x3F over this link, into two bytes.
-    Docmd(u32),
 }
 
 const DONE: Answer = Ok(Got::Done);
@@ -155,6 +136,7 @@ static ROWS: [Row; 5] = [
             (
                 Ask::Create {
                     lock: true,
+                    lock_timeout: 0,
                     device: b"gpib0,5",
                 },
                 MADE,
@@ -180,12 +162,13 @@ static ROWS: [Row; 5] = [
             (
                 Ask::Create {
                     lock: false,
+                    lock_timeout: 0,
                     device: b"gpib0,5",
                 },
                 MADE,
             ),
-            (Ask::EnableSrq, DONE),
-            (Ask::CreateIntr, Err(ClientErr::Device(6))),
+            (Ask::EnableSrq(&[]), DONE),
+            (Ask::CreateIntr(9012), Err(ClientErr::Device(6))),
             (Ask::DestroyIntr, Err(ClientErr::Device(6))),
         ],
         room: [0, 0],
@@ -197,6 +180,7 @@ static ROWS: [Row; 5] = [
             (
                 Ask::Create {
                     lock: false,
+                    lock_timeout: 0,
                     device: b"gpib0,5",
                 },
                 MADE,
@@ -204,6 +188,7 @@ static ROWS: [Row; 5] = [
             (
                 Ask::Create {
                     lock: false,
+                    lock_timeout: 0,
                     device: b"gpib0",
                 },
                 Ok(Got::Link(LinkMade {
@@ -224,6 +209,7 @@ static ROWS: [Row; 5] = [
             (
                 Ask::Create {
                     lock: false,
+                    lock_timeout: 0,
                     device: b"gpib0,6",
                 },
                 MADE,
@@ -239,6 +225,7 @@ static ROWS: [Row; 5] = [
             (
                 Ask::Create {
                     lock: false,
+                    lock_timeout: 0,
                     device: b"gpib0,6",
                 },
                 MADE,
@@ -249,41 +236,14 @@ static ROWS: [Row; 5] = [
     },
 ];
 
-fn no_handle() -> Handle {
-    Handle {
-        bytes: ArrayVec::new(),
-    }
-}
-
-/// What a call answers that gives nothing.
-fn order(client: &mut Looped, ask: Ask) -> Result<(), ClientErr> {
+/// What a call answers: a command sends the byte 0x3F.
+fn answer_moving(client: &mut Looped, ask: Ask, room: &mut [u8; 2]) -> Answer {
     match ask {
-        Ask::Write(bytes) => through_client(client, &LINK, &OPTS, bytes),
-        Ask::Trigger => client.trigger(1, &OPTS),
-        Ask::Clear => client.clear(1, &OPTS),
-        Ask::Remote => client.remote(1, &OPTS),
-        Ask::Local => client.local(1, &OPTS),
-        Ask::Lock => client.lock(1, &OPTS),
-        Ask::Unlock => client.unlock(1),
-        Ask::Destroy => client.destroy_link(1),
-        Ask::EnableSrq => client.enable_srq(1, true, &no_handle()),
-        Ask::CreateIntr => client.create_intr_chan(0x7F000001, 9012, 0x0607B1, 1),
-        Ask::DestroyIntr => client.destroy_intr_chan(),
-        _ => Err(ClientErr::Spent),
-    }
-}
-
-/// What a call answers.
-fn answer(client: &mut Looped, ask: Ask, room: &mut [u8; 2]) -> Answer {
-    match ask {
-        Ask::Create { lock, device } => client
-            .create_link(lock, 0, &device[..device.len().min(DEVICE_MAX)])
-            .map(Got::Link),
-        Ask::ReadStb => client.readstb(1, &OPTS).map(Got::Status),
+        Ask::Write(bytes) => through_client(client, &LINK, &OPTS, bytes).map(|_| Got::Done),
         Ask::Docmd(lid) => client
             .docmd(lid, &OPTS, 0x020000, &[0x3F], room)
             .map(Got::Bytes),
-        _ => order(client, ask).map(|_| Got::Done),
+        _ => answer(client, LINK.lid, &OPTS, ask),
     }
 }
 
@@ -292,46 +252,37 @@ fn is_answered(client: &mut Looped, row: &Row) -> bool {
     let mut room = [0; 2];
     let mut same = true;
     for (ask, want) in row.steps {
-        same = same && answer(client, *ask, &mut room) == *want;
+        same &= answer_moving(client, *ask, &mut room) == *want;
     }
     same && room == row.room
 }
 
-/// Whether a row holds.
-fn holds(alloc: Global, row: &Row) -> Result<bool, Fail> {
+/// Whether a row holds, where there is memory for its client.
+fn holds(alloc: Global, row: &Row) -> Option<bool> {
     let mut client = client(alloc, row.is_late)?;
-    Ok(is_answered(&mut client, row))
+    Some(is_answered(&mut client, row))
 }
 
 #[test]
-fn calls_are_answered(rt: HostRuntime) -> Result<(), Fail> {
+fn calls_are_answered(rt: HostRuntime) {
     for (place, row) in ROWS.iter().enumerate() {
-        let is_so = holds(rt.alloc(), row)?;
-        assert!(rt; is_so, "row {place}");
+        let is_so = holds(rt.alloc(), row);
+        assert!(rt; is_so == Some(true), "row {place}");
     }
-    Ok(())
 }
 
-/// Whether a command over a link ends with a status and prints a text.
-fn comes_so(
-    alloc: Global,
-    words: &[String],
-    reach: MemReach<LoopLink<Echo>>,
-    status: u8,
-    text: &str,
-) -> bool {
+/// Whether a command over a link of its own ends with a status and prints a text.
+fn comes_so(alloc: Global, words: &[String], host: String, status: u8, text: &str) -> Option<bool> {
     let mut sink = MemSink::new(Vec::new(alloc), Vec::new(alloc));
-    let (number, _) = call_run(alloc, words, reach, &mut sink);
-    number == status && sink.bytes() == text.as_bytes()
+    let reach = MemReach::new(link(alloc, false)?, host, 9010);
+    Some(run_so(alloc, words, reach, &mut sink, status, text).1)
 }
 
 /// The same for the words of a line.
-fn line_comes_so(alloc: Global, line: &str, status: u8, text: &str) -> Result<bool, Fail> {
-    let list = line_words(alloc, line)?;
-    let host = String::from_str(alloc, "h")?;
-    let link = link(alloc, false)?;
-    let reach = MemReach::new(link, host, 9010);
-    Ok(comes_so(alloc, list.as_slice(), reach, status, text))
+fn line_comes_so(alloc: Global, line: &str, status: u8, text: &str) -> Option<bool> {
+    let list = line_words(alloc, line).ok()?;
+    let host = String::from_str(alloc, "h").ok()?;
+    comes_so(alloc, list.as_slice(), host, status, text)
 }
 
 /// Command lines, what each ends with, and what it prints.
@@ -341,12 +292,11 @@ static LINES: [(&str, u8, &str); 2] = [
 ];
 
 #[test]
-fn a_command_is_done(rt: HostRuntime) -> Result<(), Fail> {
+fn a_command_is_done(rt: HostRuntime) {
     for (line, status, text) in LINES {
-        let is_so = line_comes_so(rt.alloc(), line, status, text)?;
-        assert!(rt; is_so, "{line}");
+        let is_so = line_comes_so(rt.alloc(), line, status, text);
+        assert!(rt; is_so == Some(true), "{line}");
     }
-    Ok(())
 }
 
 /// A send over a link and what it answers, or a receive of at most so many bytes, at most 20, what it answers, and the front
@@ -411,22 +361,21 @@ fn acts_so(link: &mut LoopLink<Echo>, act: Act) -> bool {
 fn acts(link: &mut LoopLink<Echo>, list: &[Act]) -> bool {
     let mut same = true;
     for act in list {
-        same = same && acts_so(link, *act);
+        same &= acts_so(link, *act);
     }
     same
 }
 
-/// The same of a link of its own.
-fn link_acts(alloc: Global, list: &[Act]) -> Result<bool, Fail> {
+/// The same of a link of its own, where there is memory for that.
+fn link_acts(alloc: Global, list: &[Act]) -> Option<bool> {
     let mut link = link(alloc, false)?;
-    Ok(acts(&mut link, list))
+    Some(acts(&mut link, list))
 }
 
 #[test]
-fn records_are_answered(rt: HostRuntime) -> Result<(), Fail> {
+fn records_are_answered(rt: HostRuntime) {
     for (place, list) in ACTS.iter().enumerate() {
-        let is_so = link_acts(rt.alloc(), list)?;
-        assert!(rt; is_so, "list {place}");
+        let is_so = link_acts(rt.alloc(), list);
+        assert!(rt; is_so == Some(true), "list {place}");
     }
-    Ok(())
 }

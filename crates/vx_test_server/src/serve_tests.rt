@@ -2,7 +2,6 @@
 use crate::served_tests::{Ends, Job, Log, Row, Side, ends_so};
 use std::alloc::Global;
 use std::sync::Wait;
-use std::test::Fail;
 use vx_io_traits::{Spawner, Started};
 use vx_serve::BENCH_MAX;
 
@@ -349,7 +348,7 @@ static LINKS: [Row; 2] = [
 ];
 
 /// Runs the server of a row, whose workers never run.
-fn ends_so_idle<R: Wait>(rt: &R, alloc: Global, row: &Row) -> Result<bool, Fail> {
+fn ends_so_idle<R: Wait>(rt: &R, alloc: Global, row: &Row) -> Option<bool> {
     let mut spawner = Idle {
         refuses: row.refuses,
         starts: 0,
@@ -359,7 +358,7 @@ fn ends_so_idle<R: Wait>(rt: &R, alloc: Global, row: &Row) -> Result<bool, Fail>
 }
 
 #[test]
-fn servers_end_so(rt: HostRuntime) -> Result<(), Fail> {
+fn servers_end_so(rt: HostRuntime) {
     let tables = [
         ("words", WORDS.as_slice()),
         ("bench", &BENCHES),
@@ -369,9 +368,8 @@ fn servers_end_so(rt: HostRuntime) -> Result<(), Fail> {
     ];
     for (name, rows) in tables {
         for (place, row) in rows.iter().enumerate() {
-            let is_so = ends_so_idle(&rt, rt.alloc(), row)?;
-            assert!(rt; is_so, "{name} {place}");
+            let is_so = ends_so_idle(&rt, rt.alloc(), row);
+            assert!(rt; is_so == Some(true), "{name} {place}");
         }
     }
-    Ok(())
 }

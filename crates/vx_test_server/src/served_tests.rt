@@ -7,11 +7,10 @@ use crossbeam_channel::{Receiver, Sender, unbounded};
 use std::alloc::{AllocError, Global};
 use std::sync::atomic::{AtomicU64, Ordering};
 use std::sync::{Arc, Wait};
-use std::test::Fail;
 use std::thread::{self, Threads};
 use vx_host::{ThreadSpawner, start_threads};
 use vx_io_traits::{
-    Clock, Dial, DialOut, Handed, Link, Pause, ReadOut, Sink, Spawner, Streams, WriteOut,
+    Clock, Dial, DialOut, Handed, Link, Pause, ReadOut, Sink, Spawner, Started, Streams, WriteOut,
 };
 use vx_memory::{MemNet, MemSink, MemSource};
 use vx_rack::{Asker, Spare};
@@ -401,13 +400,15 @@ impl Logs for Bag {
 pub(crate) type Job = Serve<MemNet<Comparing>, Bag, Asker>;
 
 /// One spare `asker`.
-fn askers(alloc: Global) -> Result<Vec<Spare<Asker>>, Fail> {
-    let inst = Asker::new(alloc).map_err(|_| "no memory")?;
+fn askers(alloc: Global) -> Option<Vec<Spare<Asker>>> {
     let mut name = ArrayString::new();
     let _ = name.try_push_str("asker");
+    let inst = Asker::new(alloc).ok()?;
     let mut rack = Vec::new(alloc);
-    rack.push(Spare { name, inst })?;
-    Ok(rack)
+    match rack.push(Spare { name, inst }) {
+        Ok(()) => Some(rack),
+        Err(_) => None,
+    }
 }
 
 fn counts_of(alloc: Global) -> Result<Arc<Counts, Global>, AllocError> {
@@ -498,7 +499,52 @@ pub(crate) struct Ends {
     pub bytes: [u64; 3],
 }
 
+/// What a server is run on, beside its workers, its sink and its instruments.
+#[derive(Drop)]
+struct Ground {
+    words: Vec<String>,
+    source: MemSource,
+    net: MemNet<Comparing>,
+    tools: Bag,
+}
+
+fn ground_of(alloc: Global, row: &Row, counts: &Arc<Counts, Global>) -> Option<Ground> {
+    let words = words_of(alloc, row).ok()?;
+    let source = source_of(alloc, row).ok()?;
+    let net = net_of(alloc, row, counts).ok()?;
+    let tools = bag_of(alloc, row, counts).ok()?;
+    Some(Ground {
+        words,
+        source,
+        net,
+        tools,
+    })
+}
+
 /// Runs a server with these ends, and answers its status and the number of its tally.
+fn run_on<R: Wait, W: Spawner<Job>>(
+    rt: &R,
+    alloc: Global,
+    ground: &mut Ground,
+    spawner: &mut W,
+    sink: &mut MemSink,
+) -> Option<(u8, u64)> {
+    let rack = askers(alloc)?;
+    let (status, tally) = serve_run(
+        rt,
+        alloc,
+        ground.words.as_slice(),
+        &mut ground.source,
+        &mut ground.net,
+        spawner,
+        &mut ground.tools,
+        sink,
+        rack,
+    );
+    Some((status, tally.number()))
+}
+
+/// The same for the server of a row.
 fn run<R: Wait, W: Spawner<Job>>(
     rt: &R,
     alloc: Global,
@@ -506,24 +552,9 @@ fn run<R: Wait, W: Spawner<Job>>(
     counts: &Arc<Counts, Global>,
     spawner: &mut W,
     sink: &mut MemSink,
-) -> Result<(u8, u64), Fail> {
-    let words = words_of(alloc, row)?;
-    let mut source = source_of(alloc, row)?;
-    let mut net = net_of(alloc, row, counts)?;
-    let mut tools = bag_of(alloc, row, counts)?;
-    let rack = askers(alloc)?;
-    let (status, tally) = serve_run(
-        rt,
-        alloc,
-        words.as_slice(),
-        &mut source,
-        &mut net,
-        spawner,
-        &mut tools,
-        sink,
-        rack,
-    );
-    Ok((status, tally.number()))
+) -> Option<(u8, u64)> {
+    let mut ground = ground_of(alloc, row, counts)?;
+    run_on(rt, alloc, &mut ground, spawner, sink)
 }
 
 /// Whether each line that is due in the log comes once, and no other was written.
@@ -534,39 +565,69 @@ fn is_logged(row: &Row, counts: &Counts) -> bool {
         && counts.strange.load(Ordering::SeqCst) == 0
 }
 
-/// Whether the server of a row ends as it says.
-pub(crate) fn ends_so<R: Wait, W: Spawner<Job>>(
-    rt: &R,
-    alloc: Global,
-    row: &Row,
-    spawner: &mut W,
-) -> Result<bool, Fail> {
-    let counts = counts_of(alloc)?;
-    let mut sink = MemSink::new(Vec::new(alloc), row.writes.to_vec(alloc)?);
-    let (status, number) = run(rt, alloc, row, &counts, spawner, &mut sink)?;
+/// Whether a server that ended so ended as its row says.
+fn is_ended(row: &Row, counts: &Counts, sink: &MemSink, ended: (u8, u64)) -> bool {
     let bytes = [
         counts.core.load(Ordering::SeqCst),
         counts.abort.load(Ordering::SeqCst),
         counts.interrupt.load(Ordering::SeqCst),
     ];
-    let is_told = sink.bytes() == row.ends.text.as_bytes() && is_logged(row, &counts);
-    Ok(is_told && (status, number, bytes) == (row.ends.status, row.ends.number, row.ends.bytes))
+    let is_told = sink.bytes() == row.ends.text.as_bytes() && is_logged(row, counts);
+    is_told && ended == (row.ends.status, row.ends.number) && bytes == row.ends.bytes
 }
 
-/// The same with a thread for each worker, until all of them have ended.
+/// A sink of which the writes of a row fail.
+fn sink_of(alloc: Global, row: &Row) -> Result<MemSink, AllocError> {
+    let fails = row.writes.to_vec(alloc)?;
+    Ok(MemSink::new(Vec::new(alloc), fails))
+}
+
+/// Whether the server of a row ends as it says, with this count of what is due.
+fn ends_so_by<R: Wait, W: Spawner<Job>>(
+    rt: &R,
+    alloc: Global,
+    row: &Row,
+    counts: &Arc<Counts, Global>,
+    spawner: &mut W,
+) -> Option<bool> {
+    let mut sink = sink_of(alloc, row).ok()?;
+    let ended = run(rt, alloc, row, counts, spawner, &mut sink)?;
+    Some(is_ended(row, counts, &sink, ended))
+}
+
+/// Whether the server of a row ends as it says, where there is memory for it.
+pub(crate) fn ends_so<R: Wait, W: Spawner<Job>>(
+    rt: &R,
+    alloc: Global,
+    row: &Row,
+    spawner: &mut W,
+) -> Option<bool> {
+    let counts = counts_of(alloc).ok()?;
+    ends_so_by(rt, alloc, row, &counts, spawner)
+}
+
+/// The same with a thread for each worker, over these channels to what starts them.
+fn ends_so_over<R: Threads + Wait + Copy + Send + 'static>(
+    rt: R,
+    alloc: Global,
+    row: &Row,
+    jobs: Sender<Job>,
+    started: Receiver<Started>,
+) -> Option<bool> {
+    let mut spawner = ThreadSpawner::new(rt, jobs, started);
+    ends_so(&rt, alloc, row, &mut spawner)
+}
+
+/// The same until all of the threads have ended.
 fn ends_so_in_threads<R: Threads + Wait + Copy + Send + 'static>(
     rt: R,
     alloc: Global,
     row: &Row,
-) -> Result<bool, Fail> {
-    let (jobs, queue) = unbounded::<Job, Global>(alloc)?;
-    let (answers, started) = unbounded(alloc)?;
-    let starter = thread::spawn(&rt, move || start_threads(rt, queue, answers)).map_err(
-        |_| "no thread",
-    )?;
-    let mut spawner = ThreadSpawner::new(rt, jobs, started);
-    let so = ends_so(&rt, alloc, row, &mut spawner);
-    drop(spawner);
+) -> Option<bool> {
+    let (jobs, queue) = unbounded::<Job, Global>(alloc).ok()?;
+    let (answers, started) = unbounded(alloc).ok()?;
+    let starter = thread::spawn(&rt, move || start_threads(rt, queue, answers)).ok()?;
+    let so = ends_so_over(rt, alloc, row, jobs, started);
     starter.join(&rt);
     so
 }
@@ -615,13 +676,12 @@ static INTERRUPTED: Row = Row {
 };
 
 #[test]
-fn links_are_served_in_threads(rt: HostRuntime) -> Result<(), Fail> {
+fn links_are_served_in_threads(rt: HostRuntime) {
     for (name, row) in [
         ("a link", &SHORT),
         ("an interrupt and an abort", &INTERRUPTED),
     ] {
-        let is_so = ends_so_in_threads(rt, rt.alloc(), row)?;
-        assert!(rt; is_so, "{name}");
+        let is_so = ends_so_in_threads(rt, rt.alloc(), row);
+        assert!(rt; is_so == Some(true), "{name}");
     }
-    Ok(())
 }
