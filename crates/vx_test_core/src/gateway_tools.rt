@@ -1,11 +1,13 @@
 //! Gateways, and what is outside of their sessions.
 ghost use Rattle.std.specs.Prelude.{◌≡◌, [], true, IfSome};
 ghost use Rattle.vx_bus_traits.specs.Means.{first_means};
+ghost use Rattle.vx_bus.specs.MemState.{MemState, Through as MemThrough};
 ghost use Rattle.vx_calls.specs.Call.{call_shown};
+ghost use Rattle.vx_core.specs.Standing.{Became};
 ghost use Rattle.vx_gate.specs.Gates.{gate_of};
-ghost use Rattle.vx_group.specs.Groups.{StandsFor};
 ghost use Rattle.vx_rules.specs.Calls.{IsShort};
 ghost use Rattle.vx_rules.specs.One.{may_wait};
+ghost use Rattle.vx_sim.specs.SimState.{SimState, Through};
 
 use std::alloc::Global;
 use vx_488::Addr;
@@ -14,7 +16,6 @@ use vx_bus_traits::Bus;
 use vx_calls::{CallRef, Role};
 use vx_core::Core;
 use vx_gate::{Gate, Pass};
-use vx_group::first_law;
 use vx_io_traits::{Clock, Pause};
 use vx_rack::Echo;
 use vx_sim::SimBus;
@@ -43,9 +44,8 @@ pub(crate) fn mem_core(
     holds: &[u64],
     fails: &[u64],
 ) -> Option<Core<MemBus>>
-    ensures { IfSome result (λ core. StandsFor core.fine []) }
+    ensures { IfSome result (λ core. Became (λ (s : MemState). s.means) MemThrough core core []) }
 {
-    first_law();
     let bus = mem_bus(alloc, gets, holds, fails)?;
     Core::start(alloc, bus, PORT).ok()
 }
@@ -55,7 +55,7 @@ pub(crate) fn gate_round<B: Bus + Drop>(
     alloc: Global,
     core: Core<B>,
 ) -> Option<(Gate<Core<B>>, Pass<Core<B>>)>
-    requires { StandsFor core.fine [] }
+    requires { Became B.means B.through core core [] }
     ensures gate { IfSome result (λ r. r.1.gate ≡ gate_of r.0) }
     ensures parts { IfSome result (λ r. r.1.parts ≡ 4294967296) }
 {
@@ -101,9 +101,8 @@ fn hang(bus: &mut SimBus<Echo>, echo: Echo, status: u8) -> bool
 
 /// A gateway with nothing in it, over a bus with such an instrument, which asks for service where its status byte has the bit 0x40.
 pub(crate) fn echo_core(alloc: Global, status: u8) -> Option<Core<SimBus<Echo>>>
-    ensures { IfSome result (λ core. StandsFor core.fine []) }
+    ensures { IfSome result (λ core. Became (λ (s : SimState). s.means) Through core core []) }
 {
-    first_law();
     let Ok(echo) = Echo::new(alloc) else {
         return None;
     };
