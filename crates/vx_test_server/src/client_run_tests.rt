@@ -1,9 +1,14 @@
 //! Calls of a user over memory. Records are composed by hand from their words; the record's mark stands first.
 
+ghost use Rattle.std.specs.Prelude.{None};
+
 use crate::client_tests::{behind, words};
 use crate::client_tools::run_so;
 use std::alloc::{AllocError, Global};
-use vx_client::{Client, call_over, is_call};
+use std::sync::atomic::{AtomicU64, Ordering};
+use std::test::Fail;
+use vx_client::{Client, call_over, call_run, is_call};
+use vx_io_traits::{Link, ReadOut, Sink, WriteOut};
 use vx_memory::{MemLink, MemReach, MemSink};
 
 /// A create_link that made link 7, of 65,536 bytes a write, as the reply to the first call.
@@ -320,12 +325,14 @@ fn sink_of(alloc: Global, row: &Row) -> Result<MemSink, AllocError> {
     Ok(MemSink::new(Vec::new(alloc), fails))
 }
 
-/// Whether a call with these words comes to what a row says, where there is memory for it.
+/// Whether a call with these words comes to what a row says, where there is memory for it. The server is tried once, where the words
+/// are taken.
 fn comes_so(alloc: Global, list: &[String], row: &Row) -> Option<bool> {
     let mut sink = sink_of(alloc, row).ok()?;
     let reach = reach_of(alloc, row).ok()?;
     let (reach, is_so) = run_so(alloc, list, reach, &mut sink, row.status, row.text);
-    Some(is_so && took(&reach, row.sent))
+    let dials = if row.status == 1 { 0 } else { 1 };
+    Some(is_so && reach.tried() == dials && took(&reach, row.sent))
 }
 
 /// The same for the words of a line.
@@ -403,4 +410,73 @@ fn line_is_done(alloc: Global, line: &str, row: &Row) -> Option<bool> {
 fn calls_over_a_client(rt: HostRuntime) {
     let done = line_is_done(rt.alloc(), "h 9010 gpib0,5 trigger", &DONE);
     assert!(rt; done == Some(true));
+}
+
+/// A link that counts its sends where others see it.
+#[derive(Drop)]
+struct Counted<'a> {
+    link: MemLink,
+    sends: &'a AtomicU64,
+}
+
+impl<'a> Link for Counted<'a> {
+    ghost stands = { λ _ taken given. ⊥ };
+
+    ghost left = { λ _. None };
+
+    ghost receive_faults = { λ c. c.link.receive_faults };
+
+    ghost send_faults = { λ c. c.link.send_faults };
+
+    fn receive(&mut self, into: &mut [u8]) -> ReadOut {
+        self.link.receive(into)
+    }
+
+    fn send(&mut self, from: &[u8]) -> WriteOut {
+        self.sends.fetch_add(1, Ordering::SeqCst);
+        self.link.send(from)
+    }
+}
+
+/// An output that keeps how many sends there were at its last write.
+#[derive(Drop)]
+struct Noting<'a> {
+    sends: &'a AtomicU64,
+    seen: u64,
+}
+
+impl<'a> Sink for Noting<'a> {
+    ghost taken = { λ _. None };
+
+    ghost faults = { λ _. 0 };
+
+    fn write(&mut self, from: &[u8]) -> WriteOut {
+        self.seen = self.sends.load(Ordering::SeqCst);
+        WriteOut::Took(from.len())
+    }
+}
+
+/// How many sends there were as a call of these words printed its line.
+fn sends_at_print(alloc: Global, list: &[String], link: MemLink, sends: &AtomicU64) -> u64 {
+    let mut sink = Noting { sends, seen: 0 };
+    match Client::new(alloc, Counted { link, sends }) {
+        Ok(mut client) => {
+            if is_call(list) {
+                call_over(alloc, list, &mut client, &mut sink);
+            }
+        }
+        Err(_) => {}
+    }
+    sink.seen
+}
+
+// The create_link, the trigger and the destroy_link were sent before anything was printed, and nothing after that.
+#[test]
+fn prints_behind_its_calls(rt: HostRuntime) -> Result<(), Fail> {
+    let list = line_words(rt.alloc(), "h 9010 gpib0,5 trigger")?;
+    let link = link_of(rt.alloc(), &DONE)?;
+    let sends = AtomicU64::new(0);
+    let seen = sends_at_print(rt.alloc(), list.as_slice(), link, &sends);
+    assert_eq!(rt; [seen, sends.load(Ordering::SeqCst)], [3, 3]);
+    Ok(())
 }
