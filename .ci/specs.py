@@ -14,7 +14,7 @@ MARK = "-- To be believed."
 
 USE = re.compile(r"\s*(?:ghost )?(?:pub )?use Rattle\.(\w+)\.(specs|proofs)\.([\w.]+?)\.?(?:\{(.*)\}|\s+as\s+(\S+?))?;?\s*$")
 HEAD = re.compile(
-    r"^(?:(?:(?:abbrev|unfoldable|opaque|pub|record|data|mutual|private)\s+)+| {2}(?:abbrev pub|pub record|pub data) )([^\s:({]+)"
+    r"^(?:(?:(?:abbrev|unfoldable|opaque|pub|record|data|mutual|private)\s+)+|(?: {2}| {4})(?:abbrev pub|pub record|pub data) )([^\s:({]+)"
 )
 PLAIN = re.compile(r"^([^\s:(){}=,]+) :(?: |$)")
 FIELD = re.compile(r"^\s+(?:pub )?([\w'\-◌]+) :")

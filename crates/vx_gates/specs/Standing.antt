@@ -1,4 +1,3 @@
--- To be believed.
 -- Four gates, as a contract sees them.
 use Rattle.std.specs.Prelude.{List, [], ◌∷◌}
 use Rattle.vx_gate.specs.Gates.{gate_of, first_of}
