@@ -36,6 +36,8 @@ struct Row {
     text: &'static str,
     /// What the server took, record by record, where it is looked at.
     sent: Option<&'static [&'static [u32]]>,
+    /// How often it was tried to reach.
+    dials: u64,
 }
 
 /// A status byte from a server that makes the link and gives nothing more.
@@ -48,6 +50,7 @@ const STB: Row = Row {
     status: 4,
     text: "broken closed\n",
     sent: None,
+    dials: 1,
 };
 
 static ROWS: [Row; 26] = [
@@ -248,6 +251,7 @@ static ROWS: [Row; 26] = [
         sink_fails: &[1],
         status: 6,
         text: "",
+        dials: 0,
         ..STB
     },
 ];
@@ -277,6 +281,7 @@ static OTHER: Row = Row {
     status: 1,
     text: USAGE,
     sent: Some(&[]),
+    dials: 0,
     ..STB
 };
 
@@ -325,14 +330,12 @@ fn sink_of(alloc: Global, row: &Row) -> Result<MemSink, AllocError> {
     Ok(MemSink::new(Vec::new(alloc), fails))
 }
 
-/// Whether a call with these words comes to what a row says, where there is memory for it. The server is tried once, where the words
-/// are taken.
+/// Whether a call with these words comes to what a row says, where there is memory for it.
 fn comes_so(alloc: Global, list: &[String], row: &Row) -> Option<bool> {
     let mut sink = sink_of(alloc, row).ok()?;
     let reach = reach_of(alloc, row).ok()?;
     let (reach, is_so) = run_so(alloc, list, reach, &mut sink, row.status, row.text);
-    let dials = if row.status == 1 { 0 } else { 1 };
-    Some(is_so && reach.tried() == dials && took(&reach, row.sent))
+    Some(is_so && reach.tried() == row.dials && took(&reach, row.sent))
 }
 
 /// The same for the words of a line.
