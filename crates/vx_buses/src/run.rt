@@ -168,12 +168,12 @@ fn run<R: Wait, I: Instrument, N: Door, X: Tools, K: Sink>(
 /// - 5, nothing printed and nothing opened: there was no memory.
 /// - 6: the sink failed; a front of what was due was written.
 ///
-/// A fault of a link ends that link alone. One port is opened, once: that of the words, as a door tells it that tells its openings. That
 /// Each bus's history goes on, step after step, from the one bus that its gate was started over, on which the instrument of its place in
 /// the rack stood. The four gateways begin with nothing in them and with their abort channels at port 9011, which a create_link tells.
 ///
-/// A fault of a link ends that link alone. That each bus has one instrument of the rack at that address, and nothing else, is part of what
-/// is said of each poll ([`LoneBus`](vx_lone::LoneBus)). No clause says which of the four it is, nor that the port is that of the words.
+/// A fault of a link ends that link alone. One port is opened, once: that of the words, as a door tells it that tells its openings. That
+/// each bus has one instrument of the rack at that address, and nothing else, is part of what is said of each poll
+/// ([`LoneBus`](vx_lone::LoneBus)).
 pub fn buses_run<R: Wait, I: Instrument, N: Door, X: Tools, K: Sink>(
     rt: &R,
     alloc: Global,
