@@ -339,52 +339,20 @@ fn met_so(door: &MemDoor, row: &Row) -> bool {
     last && door.sent(row.met).is_none() && are_words(first, row.took)
 }
 
-/// What a guard is run over, beside its instrument.
-#[derive(Drop)]
-struct Ground {
-    words: Vec<String>,
-    rules: MemSource,
-    door: MemDoor,
-    sink: MemSink,
-}
-
-fn ground_of(alloc: Global, row: &Row) -> Option<Ground> {
+/// Runs a row, and answers whether it went as the row says.
+fn went<R: Wait>(rt: &R, alloc: Global, row: &Row) -> Option<bool> {
     let words = words_of(alloc, row.words).ok()?;
     let text = text_of(alloc, row).ok()?;
-    let source_fails = row.source_fails.to_vec(alloc).ok()?;
-    let sink_fails = row.sink_fails.to_vec(alloc).ok()?;
-    let door = door_of(alloc, row)?;
-    Some(Ground {
-        words,
-        rules: MemSource::new(text, 1_000_000, source_fails),
-        door,
-        sink: MemSink::new(Vec::new(alloc), sink_fails),
-    })
-}
-
-/// Runs a row over this, and answers whether it went as the row says.
-fn went_over<R: Wait>(rt: &R, alloc: Global, row: &Row, ground: &mut Ground) -> Option<bool> {
+    let mut rules = MemSource::new(text, 1_000_000, row.source_fails.to_vec(alloc).ok()?);
+    let mut sink = MemSink::new(Vec::new(alloc), row.sink_fails.to_vec(alloc).ok()?);
+    let mut door = door_of(alloc, row)?;
     let rack = rack_of(alloc)?;
     let mut tools = StillTools { alloc };
     let status = guard_run(
-        rt,
-        alloc,
-        &ground.words,
-        &mut ground.rules,
-        &mut ground.door,
-        &mut tools,
-        &mut ground.sink,
-        rack,
+        rt, alloc, &words, &mut rules, &mut door, &mut tools, &mut sink, rack,
     );
-    let is_told = ground.sink.bytes() == row.text;
-    let as_written = status == row.status && is_told;
-    Some(as_written && met_so(&ground.door, row) && ground.door.port() == row.port)
-}
-
-/// The same, where there is memory for it.
-fn went<R: Wait>(rt: &R, alloc: Global, row: &Row) -> Option<bool> {
-    let mut ground = ground_of(alloc, row)?;
-    went_over(rt, alloc, row, &mut ground)
+    let as_written = status == row.status && sink.bytes() == row.text;
+    Some(as_written && met_so(&door, row) && door.port() == row.port)
 }
 
 #[test]
