@@ -4,15 +4,17 @@ of it.
 
     memory.py PLAYER SERVER CLIENT MEASURE MAPPER BUSES GUARD
 
-A program runs once for each allocation that it makes, with that one refused: `refuse.c`, which `cc` compiles, is preloaded. The
-player plays `examples/session.vxs`, the client asks `*IDN?` of a server, and the server of `examples/bench.txt`, with a log and a
-time for idle connections, is asked the same by three clients. The loop asks an instrument of its own, and makes a link or a client once more of what a refused one handed
-back, so that it goes on where one of those is refused. The port mapper, by streams and by packets, the server of four buses and the guard are asked
-by two peers, one after the other. With an allocation refused each of these three ends with its status before it has its port, with
-nothing printed, whichever of the four buses or their gates the allocation was for; or it serves both peers; or the two latter close
-one peer's link at once, and serve the other. A refused allocation of any other program has to end the program with its status for want of memory, with a front of its output
-written, or to leave it as it is; at a running server it may end the link of one client, and the others and a next one are served. The script
-ends with status 1 where something else came of one.
+A program runs once for each allocation that it makes, with that one refused: `refuse.c`, which `cc` compiles, is preloaded.
+
+The player plays `examples/session.vxs`, the client asks `*IDN?` of a server, and the server of `examples/bench.txt`, with a log and
+a time for idle connections, is asked the same by three clients. The loop asks an instrument of its own, and makes a link or a
+client once more of what a refused one handed back, so that it goes on where one of those is refused. The port mapper, by streams
+and by packets, the server of four buses and the guard are asked by two peers, one after the other. With an allocation refused each
+of these three ends with its status before it has its port, with nothing printed, whichever of the four buses or their gates the
+allocation was for; or it serves both peers; or the two latter close one peer's link at once, and serve the other. A refused
+allocation of any other program has to end the program with its status for want of memory, with a front of its output written, or to
+leave it as it is; at a running server it may end the link of one client, and the others and a next one are served. The script ends
+with status 1 where something else came of one.
 """
 import os
 import pathlib
