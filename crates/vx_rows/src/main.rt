@@ -74,27 +74,15 @@ fn add(rack: &mut Vec<Spare<Boxed>>, name: &str, inst: Boxed) -> Result<(), Allo
     Ok(())
 }
 
-/// Adds a spare instrument of each model.
-fn add_each(alloc: Global, rack: &mut Vec<Spare<Boxed>>) -> Result<(), Unmade> {
-    add(rack, "echo", Box::new(alloc, Echo::new(alloc)?)?)?;
-    add(rack, "slow", Box::new(alloc, Slow::new(alloc)?)?)?;
-    add(rack, "asker", Box::new(alloc, Asker::new(alloc)?)?)?;
-    Ok(())
-}
-
-/// As many of each as there are.
-fn rack_of(alloc: Global) -> Result<Vec<Spare<Boxed>>, Unmade> {
-    let mut rack = Vec::new(alloc);
-    for _ in 0..SPARES {
-        add_each(alloc, &mut rack)?;
-    }
-    Ok(rack)
-}
-
 /// Plays a script with these words, and answers its status. What it prints goes to the sink.
 fn play(alloc: Global, words: &[String], script: &[u8], sink: &mut MemSink) -> Result<u8, Unmade> {
     let mut source = MemSource::new(script.to_vec(alloc)?, 100, Vec::new(alloc));
-    let rack = rack_of(alloc)?;
+    let mut rack = Vec::new(alloc);
+    for _ in 0..SPARES {
+        add(&mut rack, "echo", Box::new(alloc, Echo::new(alloc)?)?)?;
+        add(&mut rack, "slow", Box::new(alloc, Slow::new(alloc)?)?)?;
+        add(&mut rack, "asker", Box::new(alloc, Asker::new(alloc)?)?)?;
+    }
     Ok(play_run(alloc, words, &mut source, sink, rack))
 }
 

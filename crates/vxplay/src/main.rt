@@ -2,7 +2,7 @@
 #![tactic(auto)]
 
 use arrayvec::ArrayString;
-use std::alloc::{AllocError, AllocFailed, Global};
+use std::alloc::{AllocError, AllocFailed};
 use std::env::{self, Env};
 use std::io::{self, ErrorKind};
 use std::process::ExitCode;
@@ -34,30 +34,19 @@ fn add(rack: &mut Vec<Spare<Boxed>>, name: &str, inst: Boxed) -> Result<(), Allo
     Ok(())
 }
 
-/// Adds a spare instrument of each model.
-fn add_each(alloc: Global, rack: &mut Vec<Spare<Boxed>>) -> Result<(), Unmade> {
-    add(rack, "echo", Box::new(alloc, Echo::new(alloc)?)?)?;
-    add(rack, "meter", Box::new(alloc, Meter::new(alloc)?)?)?;
-    add(rack, "slow", Box::new(alloc, Slow::new(alloc)?)?)?;
-    add(rack, "asker", Box::new(alloc, Asker::new(alloc)?)?)?;
-    Ok(())
-}
-
-/// Four spare instruments of each model.
-fn rack_of(alloc: Global) -> Result<Vec<Spare<Boxed>>, Unmade> {
+/// Plays the script on standard input, with four spare instruments of each model.
+fn play(rt: &HostRuntime, words: &[String]) -> Result<u8, Unmade> {
+    let alloc = rt.alloc();
     let mut rack = Vec::new(alloc);
     for _ in 0..SPARES {
-        add_each(alloc, &mut rack)?;
+        add(&mut rack, "echo", Box::new(alloc, Echo::new(alloc)?)?)?;
+        add(&mut rack, "meter", Box::new(alloc, Meter::new(alloc)?)?)?;
+        add(&mut rack, "slow", Box::new(alloc, Slow::new(alloc)?)?)?;
+        add(&mut rack, "asker", Box::new(alloc, Asker::new(alloc)?)?)?;
     }
-    Ok(rack)
-}
-
-/// Plays the script on standard input.
-fn play(rt: &HostRuntime, words: &[String]) -> Result<u8, Unmade> {
-    let rack = rack_of(rt.alloc())?;
     let mut source = StdSource::new(rt.stdin());
     let mut sink = StdSink::new(rt.stdout());
-    Ok(play_run(rt.alloc(), words, &mut source, &mut sink, rack))
+    Ok(play_run(alloc, words, &mut source, &mut sink, rack))
 }
 
 /// There was no memory for the spare instruments.
