@@ -34,8 +34,8 @@ use Rattle.vx_session.specs.Turning.{phase_at, IsChannel, Comes, PollsAgain, Set
 use Rattle.vx_session.specs.ProvedLaws.{ispolled-all, makes-later, makes-goes}
 use Rattle.vx_session.specs.Outside.{DialShown, RoseBy, is_failed_dial}
 use Rattle.vx_session.specs.Serving.{IsPoll, IsCalled, GoesOn, rings}
-use Rattle.vx_session.specs.Progress.{Rings, AnswersCall, AnswersDial, failed_dials}
-use Rattle.vx_session.proofs.Progressing.{adds-none, adds-goes, failed_dials-append}
+use Rattle.vx_session.specs.Progress.{Rings, Clocked, AnswersCall, AnswersDial, failed_dials}
+use Rattle.vx_session.proofs.Progressing.{adds-none, adds-goes, failed_dials-append, clocked-goes}
 
 -- ---- the calls of a dial
 
@@ -95,15 +95,16 @@ settled-failed p conn now up error before after events counted failed =
       by true h = omega arith
       by false h = h
 
-module _ {B : Type 0} (g : Origin B) (told now : ℕ) (pass pass' : PassView Group) (conn xid : ℕ) (call : Call) (host port : ℕ) (room : List ℕ) where
+module _ {B C : Type 0} (g : Origin B) (tells : C → ℕ → C → Type 0) (clock clock' : C) (told now : ℕ) (asked : tells clock now clock') (pass pass' : PassView Group) (conn xid : ℕ) (call : Call) (host port : ℕ) (room : List ℕ) where
   -- Its call was answered behind a dial: these are the calls of the dial, with those that handed a stream on.
   settled-so : (up : Bool) (answered : DialAnswered) (chan : Option ℕ) (old new : DialShown) → now ≤ told → Settles g now pass conn xid up room answered pass' → answered.chan ≡ chan
       → AddsCalls old.calls new.calls (rings conn host port up chan) → old.faults ≤ new.faults → IfDown up (Rose old.faults new.faults)
-      → AnswersDial g told pass conn xid call host port old (take answered.len room) pass' new
+      → AnswersDial g (Clocked tells clock clock') told pass conn xid call host port old (take answered.len room) pass' new
   settled-so up answered chan old new later settles is calls counted failed = record {
     placed = settles.placed ∷ [];
     rung = rings conn host port up chan;
     makes = makes-later now told pass pass' (settles.placed ∷ []) later settles.turns.makes;
+    asks = (now, clock', asked, settles.keeps, refl);
     rings = record {
       told = calls;
       failed = settled-failed settles.placed conn (moment_at settles.placed now) up answered.error old.faults new.faults settles.events counted failed;
@@ -115,6 +116,7 @@ module _ {B : Type 0} (g : Origin B) (told now : ℕ) (pass pass' : PassView Gro
       chan = answered.chan;
       events = settles.events;
       steps = settles.steps;
+      keeps = settles.keeps;
       error_is = settles.error_is;
       chan_is = settles.chan_is;
       rung = ap (rings conn host port up) (sym is);
@@ -125,7 +127,7 @@ module _ {B : Type 0} (g : Origin B) (told now : ℕ) (pass pass' : PassView Gro
   -- where it made a channel, the dial came up, and a stream that stands was handed on
   pub dial-answered : (up : Bool) (answered : DialAnswered) (n : ℕ) (old mid new : DialShown) → now ≤ told → Dials old mid host port up
       → Settles g now pass conn xid up room answered pass' → answered.chan ≡ Some n → AddsCalls mid.calls new.calls (handed conn n ∷ []) → new.faults ≡ mid.faults
-      → AnswersDial g told pass conn xid call host port old (take answered.len room) pass' new
+      → AnswersDial g (Clocked tells clock clock') told pass conn xid call host port old (take answered.len room) pass' new
   dial-answered true answered n old mid new later dials settles is hands kept =
       settled-so true answered (Some n) old new later settles is
       (adds-goes old.calls mid.calls new.calls (rang.Dialed host port true ∷ []) (handed conn n ∷ []) dials.told hands)
@@ -134,7 +136,7 @@ module _ {B : Type 0} (g : Origin B) (told now : ℕ) (pass pass' : PassView Gro
 
   -- where it made none, the dial failed
   pub dial-failed : (up : Bool) (answered : DialAnswered) (old new : DialShown) → now ≤ told → Dials old new host port up
-      → Settles g now pass conn xid up room answered pass' → answered.chan ≡ None → AnswersDial g told pass conn xid call host port old (take answered.len room) pass' new
+      → Settles g now pass conn xid up room answered pass' → answered.chan ≡ None → AnswersDial g (Clocked tells clock clock') told pass conn xid call host port old (take answered.len room) pass' new
   dial-failed true answered old new later dials settles is = absurd (no-channel answered.chan is settles.chan_is) where
     no-channel : (chan : Option ℕ) → chan ≡ None → IsChannel (behind pass.number settles.placed) conn true chan → ⊥
     no-channel None none is_channel = is_channel
@@ -149,7 +151,7 @@ poll-quiet : {B : Type 0} (g : Ghosts B) (before : CoreState B) (conn now : ℕ)
 poll-quiet g before conn now ending events steps polled =
     none-failed events (ispolled-all (λ e. is_failed_dial e ≡ false) g before conn now ending events steps polled refl (λ made. refl) (λ failed level told. refl) refl)
 
-module _ {B : Type 0} (g : Origin B) (told : ℕ) (pass pass' : PassView Group) (conn xid : ℕ) (call : Call) where
+module _ {B C : Type 0} (g : Origin B) (tells : C → ℕ → C → Type 0) (clock clock' : C) (told : ℕ) (pass pass' : PassView Group) (conn xid : ℕ) (call : Call) where
   -- The call came and was polled, the last time with this end, as its turn says it: with the groups so far, and those with which
   -- it goes on from there, it is called. None of the groups has an answer behind a dial.
   pub record Polled (room : List ℕ) (end : PollEnd) : Type 0 where
@@ -158,13 +160,14 @@ module _ {B : Type 0} (g : Origin B) (told : ℕ) (pass pass' : PassView Group) 
     pub makes : Makes told pass groups pass'
     pub called : (rest : List Placed) (rung : List Rang) (out : List ℕ) → GoesOn g pass.number conn xid call last rest rung out
         → IsCalled g pass.number conn xid call (groups ++ rest) rung out
+    pub asks : Clocked tells clock clock' groups
     pub quiet : failed_dials groups ≡ 0
     pub says : Says xid room end last
     pub phase : phase_at pass' conn ≡ phase_behind call false last
 
   -- it came, and was polled once
-  pub polled-once : (now : ℕ) (room : List ℕ) (end : PollEnd) → now ≤ told → Comes g now pass conn xid call room end pass' → Polled room end
-  polled-once now room end later comes = record {
+  pub polled-once : (now : ℕ) (room : List ℕ) (end : PollEnd) → tells clock now clock' → now ≤ told → Comes g now pass conn xid call room end pass' → Polled room end
+  polled-once now room end asked later comes = record {
     groups = comes.placed ∷ [];
     last = comes.ending;
     makes = makes-later now told pass pass' (comes.placed ∷ []) later comes.turns.makes;
@@ -178,6 +181,7 @@ module _ {B : Type 0} (g : Origin B) (told : ℕ) (pass pass' : PassView Group) 
       dials = comes.dials;
       goes_on = goes_on;
     };
+    asks = (now, clock', asked, comes.comes.keeps, refl);
     quiet = failed-one comes.placed ∙ ap (count_by is_failed_dial) comes.comes.events
         ∙ poll-quiet g.bus comes.comes.come conn (moment_at comes.placed now) comes.ending comes.comes.part comes.comes.asked comes.comes.polled;
     says = comes.says;
@@ -188,7 +192,7 @@ module _ {B : Type 0} (g : Origin B) (told : ℕ) (pass pass' : PassView Group) 
 
   -- a poll answered it: the reply's record stands at the front of the room, and the connection is idle again
   pub record Replies (room : List ℕ) (dial : DialShown) (len : ℕ) : Type 0 where
-    pub answers : AnswersCall g told pass conn xid call dial (take len room) pass' dial
+    pub answers : AnswersCall g (Clocked tells clock clock') told pass conn xid call dial (take len room) pass' dial
     pub phase : phase_at pass' conn ≡ Idle role.Core
     pub some : 0 < len
     pub within : len ≤ length room
@@ -204,6 +208,7 @@ module _ {B : Type 0} (g : Origin B) (told : ℕ) (pass pass' : PassView Group) 
         placed = polled.groups;
         rung = [];
         makes = polled.makes;
+        asks = polled.asks;
         rings = rings-still dial polled.groups polled.quiet;
         holding = subst (λ ps. IsCalled g pass.number conn xid call ps [] (take len room)) (append-nil polled.groups) (called [] [] (take len room) (refl, says.0.record_is));
       };
@@ -236,7 +241,7 @@ module _ {B : Type 0} (g : Origin B) (told : ℕ) (pass pass' : PassView Group) 
 front-none : (all front rest : ℕ) → all ≡ front + rest → front ≡ 0 → rest ≡ all
 front-none all front rest sum none_before = omega arith
 
-module _ {B : Type 0} (g : Origin B) (told told' : ℕ) (pass pass' pass'' : PassView Group) (conn xid : ℕ) (call : Call) (room : List ℕ) (end : PollEnd) where
+module _ {B C : Type 0} (g : Origin B) (tells : C → ℕ → C → Type 0) (clock clock' clock'' : C) (told told' : ℕ) (pass pass' pass'' : PassView Group) (conn xid : ℕ) (call : Call) (room : List ℕ) (end : PollEnd) where
   -- a call without an answer goes on by one more poll
   goes-by-poll : (last next : Ending) (why : _) (p : Placed) (rest : List Placed) (rung : List Rang) (out : List ℕ) → Says xid room (said.NotYet why) last → IsPoll g conn call p next
       → GoesOn g pass.number conn xid call next rest rung out → GoesOn g pass.number conn xid call last (p ∷ rest) rung out
@@ -245,9 +250,10 @@ module _ {B : Type 0} (g : Origin B) (told told' : ℕ) (pass pass' pass'' : Pas
   goes-by-poll (Dialed host port) next why p rest rung out says poll goes_on = absurd says
 
   -- it has no answer yet, and is polled again
-  pub polled-again : (now : ℕ) (room' : List ℕ) (end' : PollEnd) (why : _) → told ≤ told' → now ≤ told' → end ≡ said.NotYet why
-      → Polled g told pass pass' conn xid call room end → PollsAgain g now pass' conn xid call false room' end' pass'' → Polled g told' pass pass'' conn xid call room' end'
-  polled-again now room' end' why later by_then is polled again =
+  pub polled-again : (now : ℕ) (room' : List ℕ) (end' : PollEnd) (why : _) → tells clock' now clock'' → told ≤ told' → now ≤ told' → end ≡ said.NotYet why
+      → Polled g tells clock clock' told pass pass' conn xid call room end → PollsAgain g now pass' conn xid call false room' end' pass''
+      → Polled g tells clock clock'' told' pass pass'' conn xid call room' end'
+  polled-again now room' end' why asked later by_then is polled again =
       let p = again.placed in
       let says = subst (λ e. Says xid room e polled.last) is polled.says in
       record {
@@ -258,6 +264,7 @@ module _ {B : Type 0} (g : Origin B) (told told' : ℕ) (pass pass' pass'' : Pas
             subst (λ ps. IsCalled g pass.number conn xid call ps rung out) (sym (append_assoc polled.groups (p ∷ []) rest))
             (polled.called (p ∷ rest) rung out
             (goes-by-poll polled.last again.ending why p rest rung out says (record { told = now; polls = again.polls; dials = again.dials }) goes_on));
+        asks = clocked-goes tells clock clock' clock'' polled.groups (p ∷ []) polled.asks (now, clock'', asked, again.polls.keeps, refl);
         quiet = both-none (failed_dials (polled.groups ++ p ∷ [])) (failed_dials polled.groups) (failed_dials (p ∷ [])) (failed_dials-append polled.groups (p ∷ [])) polled.quiet
             (failed-one p ∙ poll-quiet g.bus again.polls.core conn (moment_at p now) again.ending p.group.events p.group.steps again.polls.polled);
         says = again.says;
@@ -274,14 +281,15 @@ module _ {B : Type 0} (g : Origin B) (told told' : ℕ) (pass pass' pass'' : Pas
   goes-by-dial (Waited waits) host port rest rung out says goes_on = absurd says
 
   -- the dial was made then, and the call answered
-  pub polled-settled : (dial dial' : DialShown) (out : List ℕ) (host port : ℕ) → told ≤ told' → end ≡ said.Dial host port → Polled g told pass pass' conn xid call room end
-      → AnswersDial g told' pass' conn xid call host port dial out pass'' dial' → AnswersCall g told' pass conn xid call dial out pass'' dial'
+  pub polled-settled : (dial dial' : DialShown) (out : List ℕ) (host port : ℕ) → told ≤ told' → end ≡ said.Dial host port → Polled g tells clock clock' told pass pass' conn xid call room end
+      → AnswersDial g (Clocked tells clock' clock'') told' pass' conn xid call host port dial out pass'' dial' → AnswersCall g (Clocked tells clock clock'') told' pass conn xid call dial out pass'' dial'
   polled-settled dial dial' out host port later is polled dialed =
       let says = subst (λ e. Says xid room e polled.last) is polled.says in
       record {
         placed = polled.groups ++ dialed.placed;
         rung = dialed.rung;
         makes = makes-goes told told' pass pass' pass'' polled.groups dialed.placed later polled.makes dialed.makes;
+        asks = clocked-goes tells clock clock' clock'' polled.groups dialed.placed polled.asks dialed.asks;
         rings = record {
           told = dialed.rings.told;
           failed = subst (λ n. RoseBy n dial.faults dial'.faults)
@@ -295,8 +303,8 @@ module _ {B : Type 0} (g : Origin B) (told told' : ℕ) (pass pass' pass'' : Pas
       }
 
 -- The polls of a call so far, while the clock went on and nothing was dialed.
-pub record Polling {B C D : Type 0} (g : Origin B) (told : C → ℕ) (clock clock' : C) (dial dial' : D) (pass : PassView Group) (conn xid : ℕ) (call : Call) (room : List ℕ) (end : PollEnd)
+pub record Polling {B C D : Type 0} (g : Origin B) (tells : C → ℕ → C → Type 0) (told : C → ℕ) (clock clock' : C) (dial dial' : D) (pass : PassView Group) (conn xid : ℕ) (call : Call) (room : List ℕ) (end : PollEnd)
     (pass' : PassView Group) : Type 0 where
-  pub polled : Polled g (told clock') pass pass' conn xid call room end
+  pub polled : Polled g tells clock clock' (told clock') pass pass' conn xid call room end
   pub later : told clock ≤ told clock'
   pub dial_is : dial' ≡ dial

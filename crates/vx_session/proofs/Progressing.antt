@@ -9,6 +9,8 @@ use Rattle.std.proofs.lemmas.Option.{same_Some}
 use Rattle.vx_io_traits.specs.declared.dials.Rang.{Rang}
 use Rattle.vx_io_traits.specs.Rung.{AddsCalls}
 use Rattle.vx_io_traits.specs.Stands.{Goes}
+use Rattle.vx_calls.specs.declared.calls.Role.{Role}
+use Rattle.vx_calls.specs.declared.calls.Role.TheVariants as role
 use Rattle.vx_calls.specs.declared.limits.TheConstants.{RECORD_MAX}
 use Rattle.vx_bus_traits.specs.declared.bus.Bus.{Ghosts}
 use Rattle.vx_core.specs.CoreState.{CoreState}
@@ -27,7 +29,7 @@ use Rattle.vx_session.specs.declared.sessions.TheConstants.{PIECE}
 use Rattle.vx_session.specs.Placing.{Placed, Makes}
 use Rattle.vx_session.specs.Outside.{DialShown, RoseBy, is_failed_dial}
 use Rattle.vx_session.specs.Serving.{Item, Serves}
-use Rattle.vx_session.specs.Progress.{Rings, SessionState, ServesRecord, MessageDoes, answered, placed, calls, failed_dials}
+use Rattle.vx_session.specs.Progress.{Rings, Clocked, ClockedAs, SessionState, ServesRecord, MessageDoes, answered, placed, calls, failed_dials}
 use Rattle.vx_session.specs.ProvedLaws.{makes-none, makes-goes}
 
 -- a dial told no further call
@@ -65,39 +67,60 @@ rings-goes a b c ps qs xs ys before after = record {
       (rose-goes (failed_dials ps) (failed_dials qs) a.faults b.faults c.faults before.failed after.failed);
 }
 
+-- ---- a clock
+
+-- the calls of a clock for some groups, and then those for more of them
+pub clocked-goes : {C : Type 0} (tells : C → ℕ → C → Type 0) (a b c : C) (ps qs : List Placed) → Clocked tells a b ps → Clocked tells b c qs → Clocked tells a c (ps ++ qs)
+clocked-goes tells a b c [] qs before after = subst (λ x. Clocked tells x c qs) before after
+clocked-goes tells a b c (p ∷ ps) qs before after = (before.0, before.1, before.2, before.3, clocked-goes tells before.1 b c ps qs before.4 after)
+
+module _ {C : Type 0} (tells : C → ℕ → C → Type 0) where
+  -- on a connection of a role: for no group
+  pub clockedas-none : (r : Role) (a b : C) → b ≡ a → ClockedAs r tells a b []
+  clockedas-none role.Core a b same = same
+  clockedas-none role.Abort a b same = same
+
+  -- and for groups, and then more of them
+  clockedas-goes : (r : Role) (a b c : C) (ps qs : List Placed) → ClockedAs r tells a b ps → ClockedAs r tells b c qs → ClockedAs r tells a c (ps ++ qs)
+  clockedas-goes role.Core a b c ps qs before after = clocked-goes tells a b c ps qs before after
+  clockedas-goes role.Abort a b c ps qs before after = after ∙ before
+
 -- ---- the messages of a session
 
 -- These messages of a session, whose pass was this one, were served, one after the other, by the groups of its pass and the calls of
 -- its dial.
-pub record ServesAll {B : Type 0} (g : Origin B) (s : SessionState) (pass : PassView Group) (list : List Answered) (s' : SessionState) : Type 0 where
+pub record ServesAll {B C : Type 0} (g : Origin B) (tells : C → ℕ → C → Type 0) (s : SessionState C) (pass : PassView Group) (list : List Answered) (s' : SessionState C) : Type 0 where
   pub items : List Item
   pub pass' : PassView Group
   pub are : answered items ≡ list
   pub has : s'.pass ≡ Some pass'
   pub makes : Makes s'.told pass (placed items) pass'
   pub each : All (Serves g pass.number s.conn s.role) items
+  pub asks : ClockedAs s.role tells s.clock s'.clock (placed items)
   pub rings : Rings s.dial (placed items) (calls items) s'.dial
   pub role : s'.role ≡ s.role
   pub conn : s'.conn ≡ s.conn
   pub later : s.told ≤ s'.told
 
 -- what a session has in common with what it was, where nothing was served in between
-pub record Stays (s s' : SessionState) : Type 0 where
+pub record Stays {C : Type 0} (s s' : SessionState C) : Type 0 where
   pub role : s'.role ≡ s.role
   pub conn : s'.conn ≡ s.conn
   pub pass : s'.pass ≡ s.pass
   pub dial : s'.dial ≡ s.dial
+  pub clock : s'.clock ≡ s.clock
   pub later : s.told ≤ s'.told
 
 -- no message was served
-serves-none : {B : Type 0} (g : Origin B) (s s' : SessionState) (pass : PassView Group) → s.pass ≡ Some pass → Stays s s' → ServesAll g s pass [] s'
-serves-none g s s' pass had stays = record {
+serves-none : {B C : Type 0} (g : Origin B) (tells : C → ℕ → C → Type 0) (s s' : SessionState C) (pass : PassView Group) → s.pass ≡ Some pass → Stays s s' → ServesAll g tells s pass [] s'
+serves-none g tells s s' pass had stays = record {
   items = [];
   pass' = pass;
   are = refl;
   has = stays.pass ∙ had;
   makes = makes-none s'.told pass;
   each = All-nil (Serves g pass.number s.conn s.role);
+  asks = clockedas-none tells s.role s.clock s'.clock stays.clock;
   rings = subst (λ d. Rings s.dial [] [] d) (sym stays.dial) (rings-none s.dial);
   role = stays.role;
   conn = stays.conn;
@@ -105,10 +128,10 @@ serves-none g s s' pass had stays = record {
 }
 
 -- one message was answered, and then more of them
-serves-more : {B : Type 0} (g : Origin B) (s mid s' : SessionState) (pass : PassView Group) (one : Answered) (more : List Answered) → s.pass ≡ Some pass
-    → (does : MessageDoes g s one.message (Some one.reply) mid) → ServesAll g mid does.has.pass' more s' → ServesAll g s pass (one ∷ more) s'
-serves-more g s mid s' pass one more had does rest =
-    let first = subst (λ p. ServesRecord g mid.told s.role p s.conn one.message s.dial one.reply does.has.pass' mid.dial) (same_Some does.has.pass pass (sym does.has.had ∙ had)) does.has.serves in
+serves-more : {B C : Type 0} (g : Origin B) (tells : C → ℕ → C → Type 0) (s mid s' : SessionState C) (pass : PassView Group) (one : Answered) (more : List Answered) → s.pass ≡ Some pass
+    → (does : MessageDoes g tells s one.message (Some one.reply) mid) → ServesAll g tells mid does.has.pass' more s' → ServesAll g tells s pass (one ∷ more) s'
+serves-more g tells s mid s' pass one more had does rest =
+    let first = subst (λ p. ServesRecord g (ClockedAs s.role tells s.clock mid.clock) mid.told s.role p s.conn one.message s.dial one.reply does.has.pass' mid.dial) (same_Some does.has.pass pass (sym does.has.had ∙ had)) does.has.serves in
     let item : Item = record { answered = one; placed = first.placed; calls = first.rung } in
     let earlier = does.later in
     let later = rest.later in
@@ -122,6 +145,8 @@ serves-more g s mid s' pass one more had does rest =
           (subst (λ n. All (Serves g n s.conn s.role) rest.items) first.makes.number
           (subst (λ n. All (Serves g does.has.pass'.number n s.role) rest.items) does.conn
           (subst (λ r. All (Serves g does.has.pass'.number mid.conn r) rest.items) does.role rest.each)));
+      asks = clockedas-goes tells s.role s.clock mid.clock s'.clock item.placed (placed rest.items) first.asks
+          (subst (λ r. ClockedAs r tells mid.clock s'.clock (placed rest.items)) does.role rest.asks);
       rings = rings-goes s.dial mid.dial s'.dial item.placed (placed rest.items) item.calls (calls rest.items) first.rings rest.rings;
       role = rest.role ∙ does.role;
       conn = rest.conn ∙ does.conn;
@@ -151,14 +176,14 @@ left-so does last s' seen list looked behind unsent seen' end.ReadFault ended le
 left-so does last s' seen list looked behind unsent seen' end.WriteFault ended left = inl left
 
 -- The records of a session's stream were served, up to its end or to where it is no longer read.
-pub record StreamServed {B L : Type 0} (g : Origin B) (stands : L → List ℕ → List ℕ → Type 0) (receives : Receives L) (sends : Sends L) (s : SessionState) (pass : PassView Group) (link : L) (seen : LinkShown) (how : End)
-    (s' : SessionState) (link' : L) (seen' : LinkShown) : Type 0 where
+pub record StreamServed {B C L : Type 0} (g : Origin B) (tells : C → ℕ → C → Type 0) (stands : L → List ℕ → List ℕ → Type 0) (receives : Receives L) (sends : Sends L) (s : SessionState C) (pass : PassView Group) (link : L) (seen : LinkShown) (how : End)
+    (s' : SessionState C) (link' : L) (seen' : LinkShown) : Type 0 where
   pub list : List Answered
   pub front : List ℕ
   pub behind : List ℕ
   pub written : List ℕ
   pub unsent : List ℕ
-  pub serves : ServesAll g s pass list s'
+  pub serves : ServesAll g tells s pass list s'
   pub bytes : Goes stands link link' written (front ++ behind)
   pub goes : LinkGoes seen (front ++ behind) seen'
   pub wrote : replies list ≡ written ++ unsent
@@ -167,30 +192,30 @@ pub record StreamServed {B L : Type 0} (g : Origin B) (stands : L → List ℕ �
   pub ended : EndsSo (λ message. meaning message s.role ≡ Junk) seen list (records RECORD_MAX front) behind unsent seen' (Some how)
 
 -- what answers messages, as a session's state shows it
-module _ {B S : Type 0} (bus : Ghosts B) (first : S → CoreState B) (does : S → List ℕ → Option (List ℕ) → S → Type 0) (shown : S → SessionState)
-    (one : (s s' : S) (message : List ℕ) (reply : Option (List ℕ)) → does s message reply s' → MessageDoes (origin bus (first s)) (shown s) message reply (shown s'))
+module _ {B C S : Type 0} (bus : Ghosts B) (tells : C → ℕ → C → Type 0) (first : S → CoreState B) (does : S → List ℕ → Option (List ℕ) → S → Type 0) (shown : S → SessionState C)
+    (one : (s s' : S) (message : List ℕ) (reply : Option (List ℕ)) → does s message reply s' → MessageDoes (origin bus (first s)) tells (shown s) message reply (shown s'))
     (same : (s s' : S) (message : List ℕ) (reply : Option (List ℕ)) → does s message reply s' → first s' ≡ first s) where
   -- as it is left, it stays
   left-stays : (last s' : S) → (s' ≡ last) ⊎ ((junk : List ℕ) × does last junk None s') → Stays (shown last) (shown s')
-  left-stays last s' (inl same) = subst (λ x. Stays (shown last) (shown x)) (sym same) (record { role = refl; conn = refl; pass = refl; dial = refl; later = omega arith })
+  left-stays last s' (inl same) = subst (λ x. Stays (shown last) (shown x)) (sym same) (record { role = refl; conn = refl; pass = refl; dial = refl; clock = refl; later = omega arith })
   left-stays last s' (inr did) =
       let junk = one last s' did.0 None did.1 in
-      record { role = junk.role; conn = junk.conn; pass = junk.has.1; dial = junk.has.2; later = junk.later }
+      record { role = junk.role; conn = junk.conn; pass = junk.has.1; dial = junk.has.2; clock = junk.has.3; later = junk.later }
 
   -- the messages that it answered were served
   all-served : (s last s' : S) (pass : PassView Group) (list : List Answered) → (shown s).pass ≡ Some pass → AnswersAll does s list last → Stays (shown last) (shown s')
-      → ServesAll (origin bus (first s)) (shown s) pass list (shown s')
-  all-served s last s' pass [] had all stays = serves-none (origin bus (first s)) (shown s) (shown s') pass had (subst (λ x. Stays (shown x) (shown s')) all stays)
+      → ServesAll (origin bus (first s)) tells (shown s) pass list (shown s')
+  all-served s last s' pass [] had all stays = serves-none (origin bus (first s)) tells (shown s) (shown s') pass had (subst (λ x. Stays (shown x) (shown s')) all stays)
   all-served s last s' pass (message ∷ more) had all stays =
       let did = one s all.0 message.message (Some message.reply) all.1 in
-      serves-more (origin bus (first s)) (shown s) (shown all.0) (shown s') pass message more had did
-      (subst (λ x. ServesAll (origin bus x) (shown all.0) did.has.pass' more (shown s')) (same s all.0 message.message (Some message.reply) all.1)
+      serves-more (origin bus (first s)) tells (shown s) (shown all.0) (shown s') pass message more had did
+      (subst (λ x. ServesAll (origin bus x) tells (shown all.0) did.has.pass' more (shown s')) (same s all.0 message.message (Some message.reply) all.1)
       (all-served all.0 last s' did.has.pass' more did.has.has all.2 stays))
 
   -- so the records of its stream were served
   pub stream-served : {L : Type 0} (stands : L → List ℕ → List ℕ → Type 0) (receives : Receives L) (sends : Sends L) (s s' : S) (pass : PassView Group) (link link' : L) (seen seen' : LinkShown) (limit room : ℕ) (how : End)
       → (shown s).pass ≡ Some pass → limit ≡ RECORD_MAX → room ≡ PIECE → StreamAnswered does stands receives sends limit room None s link seen (Some how) s' link' seen'
-      → StreamServed (origin bus (first s)) stands receives sends (shown s) pass link seen how (shown s') link' seen'
+      → StreamServed (origin bus (first s)) tells stands receives sends (shown s) pass link seen how (shown s') link' seen'
   stream-served stands receives sends s s' pass link link' seen seen' limit room how had limit_is room_is did =
       let last = did.last in
       let looked = records limit did.front in

@@ -37,7 +37,7 @@ pub record Upholds {B : Type 0} (g : Origin B) (pass : PassView Group) : Type 0 
 -- A session on a connection of this role: the records that it served, in their order; the bytes `front` that it looked at, and
 -- those that it received behind them, fewer than it receives at once; the replies, of which the link took `written`; and the end of
 -- the connection, its last group. It received more only where it had written the replies to all records that had come, whole.
-pub record SessionDid {B L : Type 0} (g : Origin B) (stands : L → List ℕ → List ℕ → Type 0) (receives : Receives L) (sends : Sends L) (told : ℕ) (r : Role) (conn : ℕ) (pass : PassView Group) (link : L) (seen : LinkShown) (dial : DialShown)
+pub record SessionDid {B L : Type 0} (g : Origin B) (stands : L → List ℕ → List ℕ → Type 0) (receives : Receives L) (sends : Sends L) (clocked : List Placed → Type 0) (told : ℕ) (r : Role) (conn : ℕ) (pass : PassView Group) (link : L) (seen : LinkShown) (dial : DialShown)
     (how : End) (pass' : PassView Group) (link' : L) (seen' : LinkShown) (dial' : DialShown) : Type 0 where
   pub items : List Item
   pub last : Placed
@@ -58,6 +58,7 @@ pub record SessionDid {B L : Type 0} (g : Origin B) (stands : L → List ℕ →
   pub in_turn : InTurn receives sends RECORD_MAX (answered items) link (front ++ behind) written link'
   -- why it ended: a message without a reply is junk
   pub ended : EndsSo (λ message. meaning message r ≡ Junk) seen (answered items) (records RECORD_MAX front) behind unsent seen' (Some how)
-  -- the dial's calls
+  -- the calls of the clock and of the dial for the groups of the records
+  pub asks : clocked (placed items)
   pub rings : Rings dial (placed items) (calls items) dial'
   pub upholds : Upholds g pass'

@@ -1,10 +1,11 @@
 -- To be believed.
 -- How far a session has come.
-use Rattle.std.specs.Prelude.{◌≡◌, ◌≤◌, ℕ, List, map, count_by, Option, Some, None}
+use Rattle.std.specs.Prelude.{◌≡◌, ◌≤◌, ℕ, List, [], ◌∷◌, map, count_by, Option, Some, None}
 use Rattle.std.specs.List.{flat_map}
 use Rattle.vx_io_traits.specs.Rung.{AddsCalls}
 use Rattle.vx_io_traits.specs.declared.dials.Rang.{Rang}
 use Rattle.vx_calls.specs.declared.calls.Role.{Role}
+use Rattle.vx_calls.specs.declared.calls.Role.TheVariants as role
 use Rattle.vx_calls.specs.Call.{Call}
 use Rattle.vx_gate.specs.PassView.{PassView}
 use Rattle.vx_group.specs.Groups.{Group, events_of}
@@ -13,6 +14,7 @@ use Rattle.vx_exchange.specs.Meaning.{meaning, Junk}
 use Rattle.vx_stream.specs.Answered.{Answered}
 use Rattle.vx_session.specs.Origin.{Origin}
 use Rattle.vx_session.specs.Placing.{Placed, Makes}
+use Rattle.vx_session.specs.Parts.{moment_at}
 use Rattle.vx_session.specs.Outside.{DialShown, RoseBy, is_failed_dial}
 use Rattle.vx_session.specs.Serving.{Item, GoesOn, IsCalled, IsServed}
 
@@ -35,53 +37,71 @@ pub record Rings (old : DialShown) (groups : List Placed) (rung : List Rang) (ne
   pub told : AddsCalls old.calls new.calls rung
   pub failed : RoseBy (failed_dials groups) old.faults new.faults
 
--- A pass made some groups, for which a dial was called or not, and this holds of them.
-pub record Uses (told : ℕ) (pass : PassView Group) (dial : DialShown) (holds : List Placed → List Rang → Type 0) (pass' : PassView Group) (dial' : DialShown) : Type 0 where
+-- A clock was called once for each of these groups, in their order. The moment of a group is the greater of the one that was told for it
+-- and the one that the history before it keeps. `tells` is what a call of the clock does.
+abbrev pub Clocked : {C : Type 0} → (C → ℕ → C → Type 0) → (clock clock' : C) → List Placed → Type 0
+Clocked tells clock clock' [] = clock' ≡ clock
+Clocked {C} tells clock clock' (p ∷ ps) =
+    (told : ℕ) × (next : C) × tells clock told next × (p.group.moment ≡ moment_at p told) × Clocked tells next clock' ps
+
+-- So it was for the groups of calls. No clock is called for a device_abort.
+abbrev pub ClockedAs : {C : Type 0} → Role → (C → ℕ → C → Type 0) → (clock clock' : C) → List Placed → Type 0
+ClockedAs role.Core tells clock clock' groups = Clocked tells clock clock' groups
+ClockedAs role.Abort tells clock clock' groups = clock' ≡ clock
+
+-- no clock is called
+abbrev pub unclocked : List Placed → Type 0
+unclocked groups = Unit {0}
+
+-- A pass made some groups, for which a clock and a dial were called so, and this holds of them.
+pub record Uses (clocked : List Placed → Type 0) (told : ℕ) (pass : PassView Group) (dial : DialShown) (holds : List Placed → List Rang → Type 0) (pass' : PassView Group) (dial' : DialShown) : Type 0 where
   pub placed : List Placed
   pub rung : List Rang
   pub makes : Makes told pass placed pass'
+  pub asks : clocked placed
   pub rings : Rings dial placed rung dial'
   pub holding : holds placed rung
 
 -- the call of this xid was answered, by the record that stands in the room
-abbrev pub AnswersCall : {B : Type 0} → Origin B → (told : ℕ) → PassView Group → (conn xid : ℕ) → Call → DialShown → List ℕ → PassView Group → DialShown → Type 0
-AnswersCall g told pass conn xid call dial out pass' dial' = Uses told pass dial (λ placed rung. IsCalled g pass.number conn xid call placed rung out) pass' dial'
+abbrev pub AnswersCall : {B : Type 0} → Origin B → (List Placed → Type 0) → (told : ℕ) → PassView Group → (conn xid : ℕ) → Call → DialShown → List ℕ → PassView Group → DialShown → Type 0
+AnswersCall g clocked told pass conn xid call dial out pass' dial' = Uses clocked told pass dial (λ placed rung. IsCalled g pass.number conn xid call placed rung out) pass' dial'
 
 -- the dial that a call asked for was made, and the call answered, by the record that stands in the room
-abbrev pub AnswersDial : {B : Type 0} → Origin B → (told : ℕ) → PassView Group → (conn xid : ℕ) → Call → (host port : ℕ) → DialShown → List ℕ → PassView Group → DialShown → Type 0
-AnswersDial g told pass conn xid call host port dial out pass' dial' =
-    Uses told pass dial (λ placed rung. GoesOn g pass.number conn xid call (Dialed host port) placed rung out) pass' dial'
+abbrev pub AnswersDial : {B : Type 0} → Origin B → (List Placed → Type 0) → (told : ℕ) → PassView Group → (conn xid : ℕ) → Call → (host port : ℕ) → DialShown → List ℕ → PassView Group → DialShown → Type 0
+AnswersDial g clocked told pass conn xid call host port dial out pass' dial' =
+    Uses clocked told pass dial (λ placed rung. GoesOn g pass.number conn xid call (Dialed host port) placed rung out) pass' dial'
 
 -- a record on the connection was served, by the reply that stands in the room
-abbrev pub ServesRecord : {B : Type 0} → Origin B → (told : ℕ) → Role → PassView Group → (conn : ℕ) → List ℕ → DialShown → List ℕ → PassView Group → DialShown → Type 0
-ServesRecord g told r pass conn message dial out pass' dial' =
-    Uses told pass dial (λ placed rung. IsServed g pass.number conn (meaning message r) placed rung out) pass' dial'
+abbrev pub ServesRecord : {B : Type 0} → Origin B → (List Placed → Type 0) → (told : ℕ) → Role → PassView Group → (conn : ℕ) → List ℕ → DialShown → List ℕ → PassView Group → DialShown → Type 0
+ServesRecord g clocked told r pass conn message dial out pass' dial' =
+    Uses clocked told pass dial (λ placed rung. IsServed g pass.number conn (meaning message r) placed rung out) pass' dial'
 
--- what a session has between two messages: the connection's role and number, its pass, the greatest moment that its clock has
+-- what a session has between two messages: the connection's role and number, its pass, its clock and the greatest moment that that has
 -- told, and its dial
-pub record SessionState : Type 0 where
+pub record SessionState (C : Type 0) : Type 0 where
   pub role : Role
   pub conn : ℕ
   pub pass : Option (PassView Group)
+  pub clock : C
   pub told : ℕ
   pub dial : DialShown
 
 -- a message was served by this reply, by the pass that the session had, and has
-pub record IsAnswered {B : Type 0} (g : Origin B) (s : SessionState) (message reply : List ℕ) (s' : SessionState) : Type 0 where
+pub record IsAnswered {B C : Type 0} (g : Origin B) (tells : C → ℕ → C → Type 0) (s : SessionState C) (message reply : List ℕ) (s' : SessionState C) : Type 0 where
   pub pass : PassView Group
   pub pass' : PassView Group
   pub had : s.pass ≡ Some pass
   pub has : s'.pass ≡ Some pass'
-  pub serves : ServesRecord g s'.told s.role pass s.conn message s.dial reply pass' s'.dial
+  pub serves : ServesRecord g (ClockedAs s.role tells s.clock s'.clock) s'.told s.role pass s.conn message s.dial reply pass' s'.dial
 
 -- junk is no call and changes nothing; any other message is served
-abbrev pub HasReply : {B : Type 0} → Origin B → SessionState → List ℕ → Option (List ℕ) → SessionState → Type 0
-HasReply g s message None s' = (meaning message s.role ≡ Junk) × (s'.pass ≡ s.pass) × (s'.dial ≡ s.dial)
-HasReply g s message (Some reply) s' = IsAnswered g s message reply s'
+abbrev pub HasReply : {B C : Type 0} → Origin B → (C → ℕ → C → Type 0) → SessionState C → List ℕ → Option (List ℕ) → SessionState C → Type 0
+HasReply g tells s message None s' = (meaning message s.role ≡ Junk) × (s'.pass ≡ s.pass) × (s'.dial ≡ s.dial) × (s'.clock ≡ s.clock)
+HasReply g tells s message (Some reply) s' = IsAnswered g tells s message reply s'
 
 -- what a message on the connection does
-pub record MessageDoes {B : Type 0} (g : Origin B) (s : SessionState) (message : List ℕ) (reply : Option (List ℕ)) (s' : SessionState) : Type 0 where
+pub record MessageDoes {B C : Type 0} (g : Origin B) (tells : C → ℕ → C → Type 0) (s : SessionState C) (message : List ℕ) (reply : Option (List ℕ)) (s' : SessionState C) : Type 0 where
   pub role : s'.role ≡ s.role
   pub conn : s'.conn ≡ s.conn
   pub later : s.told ≤ s'.told
-  pub has : HasReply g s message reply s'
+  pub has : HasReply g tells s message reply s'

@@ -49,6 +49,7 @@ pub record IsSettled (number conn xid host port : ℕ) (p : Placed) (calls : Lis
   pub chan : Option ℕ
   pub events : p.group.events ≡ settled_events conn (moment_at p told) up error
   pub steps : p.group.steps ≡ Cut ∷ Told (moment_at p told) ∷ []
+  pub keeps : p.group.moment ≡ moment_at p told
   pub error_is : error ≡ (if up then code.Ok else code.NoChannel)
   pub chan_is : IsChannel (behind number p) conn up chan
   pub rung : calls ≡ rings conn host port up chan

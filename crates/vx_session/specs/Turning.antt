@@ -79,6 +79,7 @@ pub record Settles {B : Type 0} (g : Origin B) (told : ℕ) (pass : PassView Gro
   pub turns : Turns g told pass placed pass'
   pub events : placed.group.events ≡ settled_events conn (moment_at placed told) up answered.error
   pub steps : placed.group.steps ≡ Cut ∷ Told (moment_at placed told) ∷ []
+  pub keeps : placed.group.moment ≡ moment_at placed told
   pub error_is : answered.error ≡ (if up then code.Ok else code.NoChannel)
   pub chan_is : IsChannel (behind pass.number placed) conn up answered.chan
   pub stands : Stands (reply_record xid (reply.Error answered.error)) answered.len room

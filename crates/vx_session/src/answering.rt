@@ -7,7 +7,7 @@ ghost use Rattle.vx_group.specs.Groups.{Group};
 ghost use Rattle.vx_group.specs.Phases.{Idle, Asked};
 ghost use Rattle.vx_session.specs.Turning.{phase_at};
 ghost use Rattle.vx_session.specs.Outside.{dial_shown};
-ghost use Rattle.vx_session.specs.Progress.{MessageDoes, AnswersCall, AnswersDial};
+ghost use Rattle.vx_session.specs.Progress.{Clocked, MessageDoes, AnswersCall, AnswersDial};
 ghost use Rattle.vx_calls.specs.declared.calls.Role.TheVariants as role;
 ghost use Rattle.vx_calls.specs.Call.{Call, call_shown};
 ghost use Rattle.vx_rules.specs.One.{may_wait};
@@ -43,9 +43,9 @@ impl<'a, R: Wait, B: Bus, T: Turns<Core<B>>, C: Clock, P: Pause, D: Dial> Answer
     // the connection is idle
     ghost can = { λ s. (pass : PassView Group) × (s.held.now ≡ Some pass) × (pass.gate ≡ T.gate s.turns.now) × (phase_at pass s.conn ≡ Idle s.role) };
 
-    ghost does = { λ s message reply s'. MessageDoes (origin B.Bus (T.first s.turns.now))
-        (record { role = s.role; conn = s.conn; pass = s.held.now; told = C.told s.clock.now; dial = dial_shown D.calls D.faults s.dial.now }) message reply
-        (record { role = s'.role; conn = s'.conn; pass = s'.held.now; told = C.told s'.clock.now; dial = dial_shown D.calls D.faults s'.dial.now })
+    ghost does = { λ s message reply s'. MessageDoes (origin B.Bus (T.first s.turns.now)) C.tells
+        (record { role = s.role; conn = s.conn; pass = s.held.now; clock = s.clock.now; told = C.told s.clock.now; dial = dial_shown D.calls D.faults s.dial.now }) message reply
+        (record { role = s'.role; conn = s'.conn; pass = s'.held.now; clock = s'.clock.now; told = C.told s'.clock.now; dial = dial_shown D.calls D.faults s'.dial.now })
         × (s'.held.ghost_name ≡ s.held.ghost_name) × (s'.clock.ghost_name ≡ s.clock.ghost_name) × (s'.dial.ghost_name ≡ s.dial.ghost_name) × (T.first s'.turns.now ≡ T.first s.turns.now) };
 
     ghost longest = { RECORD_MAX };
@@ -102,8 +102,8 @@ fn serve_record<R: Wait, B: Bus, T: Turns<Core<B>>, C: Clock, P: Pause, D: Dial>
     requires phase { phase_at pass conn ≡ Idle role }
     requires short { length message.now ≤ RECORD_MAX }
     requires room { REPLY_ROOM ≤ length reply.old }
-    ensures does { MessageDoes (origin B.Bus (T.first turns.now)) (record { role = role; conn = conn; pass = Some pass; told = C.told clock.old; dial = dial_shown D.calls D.faults dial.old }) message.now
-        (option_map (λ n. take n reply.new) result.1) (record { role = role; conn = conn; pass = Some result.0; told = C.told clock.new; dial = dial_shown D.calls D.faults dial.new }) }
+    ensures does { MessageDoes (origin B.Bus (T.first turns.now)) C.tells (record { role = role; conn = conn; pass = Some pass; clock = clock.old; told = C.told clock.old; dial = dial_shown D.calls D.faults dial.old }) message.now
+        (option_map (λ n. take n reply.new) result.1) (record { role = role; conn = conn; pass = Some result.0; clock = clock.new; told = C.told clock.new; dial = dial_shown D.calls D.faults dial.new }) }
     ensures gate { result.0.gate ≡ T.gate turns.now }
     ensures phase { phase_at result.0 conn ≡ Idle role }
     ensures within { IfSome result.1 (λ n. n ≤ length reply.new) }
@@ -146,7 +146,7 @@ pub fn answer_call<R: Wait, B: Bus, T: Turns<Core<B>>, C: Clock, P: Pause, D: Di
     requires waits { may_wait (call_shown call.now) ≡ true }
     requires short { IsShort (call_shown call.now) }
     requires room { REPLY_ROOM ≤ length reply.old }
-    ensures answers { AnswersCall (origin B.Bus (T.first turns.now)) (C.told clock.new) pass conn xid (call_shown call.now) (dial_shown D.calls D.faults dial.old) (take result.1 reply.new) result.0 (dial_shown D.calls D.faults dial.new) }
+    ensures answers { AnswersCall (origin B.Bus (T.first turns.now)) (Clocked C.tells clock.old clock.new) (C.told clock.new) pass conn xid (call_shown call.now) (dial_shown D.calls D.faults dial.old) (take result.1 reply.new) result.0 (dial_shown D.calls D.faults dial.new) }
     ensures phase { phase_at result.0 conn ≡ Idle role.Core }
     ensures told { C.told clock.old ≤ C.told clock.new }
     ensures some { 0 < result.1 }
@@ -203,7 +203,7 @@ fn answer_dial<R: Wait, B: Bus, T: Turns<Core<B>>, C: Clock, D: Dial>(
     requires gate { pass.gate ≡ T.gate turns.now }
     requires phase { (call : Call) × (phase_at pass conn ≡ Asked call true) }
     requires room { REPLY_ROOM ≤ length reply.old }
-    ensures dials { (call : Call) → AnswersDial (origin B.Bus (T.first turns.now)) (C.told clock.new) pass conn xid call host port (dial_shown D.calls D.faults dial.old) (take result.1 reply.new) result.0 (dial_shown D.calls D.faults dial.new) }
+    ensures dials { (call : Call) → AnswersDial (origin B.Bus (T.first turns.now)) (Clocked C.tells clock.old clock.new) (C.told clock.new) pass conn xid call host port (dial_shown D.calls D.faults dial.old) (take result.1 reply.new) result.0 (dial_shown D.calls D.faults dial.new) }
     ensures phase { phase_at result.0 conn ≡ Idle role.Core }
     ensures told { C.told clock.old ≤ C.told clock.new }
     ensures some { 0 < result.1 }

@@ -4,6 +4,7 @@ ghost use Rattle.vx_session.specs.Origin.{origin};
 ghost use Rattle.vx_calls.specs.declared.calls.Role.TheVariants as role;
 ghost use Rattle.vx_stream.specs.Shown.{link_shown};
 ghost use Rattle.vx_session.specs.Outside.{dial_shown, no_dial};
+ghost use Rattle.vx_session.specs.Progress.{Clocked, unclocked};
 ghost use Rattle.vx_session.specs.Linking.{LinkDid, refused_as};
 
 use crate::sessions::{Room, abort_session, core_session};
@@ -112,7 +113,7 @@ pub fn core_link<R: Wait, B: Bus, T: Turns<Core<B>>, L: Link, C: Clock, P: Pause
     room: &mut Room,
 ) -> (Pass<Core<B>>, LinkDone<L>)
     requires gate { pass.gate ≡ T.gate turns.now }
-    ensures did { LinkDid (origin B.Bus (T.first turns.now)) L.stands L.receives L.sends (C.told clock.new) role.Core pass link (link_shown L.left L.peers L.receive_faults L.send_faults link) (dial_shown D.calls D.faults dial.old)
+    ensures did { LinkDid (origin B.Bus (T.first turns.now)) L.stands L.receives L.sends (Clocked C.tells clock.old clock.new) (C.told clock.new) role.Core pass link (link_shown L.left L.peers L.receive_faults L.send_faults link) (dial_shown D.calls D.faults dial.old)
         result.1.how result.0 result.1.link (link_shown L.left L.peers L.receive_faults L.send_faults result.1.link) (dial_shown D.calls D.faults dial.new) }
     ensures told { C.told clock.old ≤ C.told clock.new }
 {
@@ -145,7 +146,7 @@ pub fn abort_link<R: Wait, B: Bus, T: Turns<Core<B>>, L: Link>(
     room: &mut Room,
 ) -> (Pass<Core<B>>, Linked)
     requires gate { pass.gate ≡ T.gate turns.now }
-    ensures { LinkDid (origin B.Bus (T.first turns.now)) L.stands L.receives L.sends 0 role.Abort pass link.old (link_shown L.left L.peers L.receive_faults L.send_faults link.old) no_dial
+    ensures { LinkDid (origin B.Bus (T.first turns.now)) L.stands L.receives L.sends unclocked 0 role.Abort pass link.old (link_shown L.left L.peers L.receive_faults L.send_faults link.old) no_dial
         result.1 result.0 link.new (link_shown L.left L.peers L.receive_faults L.send_faults link.new) no_dial }
 {
     headline_law();

@@ -10,6 +10,7 @@ ghost use Rattle.vx_exchange.specs.declared.record.TheConstants.{REPLY_ROOM};
 ghost use Rattle.vx_stream.specs.Shown.{link_shown};
 ghost use Rattle.vx_stream.specs.Stopping.{StreamAnswered};
 ghost use Rattle.vx_session.specs.Outside.{dial_shown, no_dial};
+ghost use Rattle.vx_session.specs.Progress.{Clocked, ClockedAs, unclocked};
 ghost use Rattle.vx_session.specs.declared.sessions.TheConstants.{PIECE};
 ghost use Rattle.vx_session.specs.Ending.{SessionDid};
 
@@ -126,7 +127,7 @@ fn run_session<R: Wait, B: Bus, T: Turns<Core<B>>, L: Link, C: Clock, P: Pause, 
 ) -> (Pass<Core<B>>, End)
     requires gate { pass.gate ≡ T.gate turns.now }
     requires phase { phase_at pass conn ≡ Idle role }
-    ensures did { SessionDid (origin B.Bus (T.first turns.now)) L.stands L.receives L.sends (C.told clock.new) role conn pass link.old (link_shown L.left L.peers L.receive_faults L.send_faults link.old) (dial_shown D.calls D.faults dial.old)
+    ensures did { SessionDid (origin B.Bus (T.first turns.now)) L.stands L.receives L.sends (ClockedAs role C.tells clock.old clock.new) (C.told clock.new) role conn pass link.old (link_shown L.left L.peers L.receive_faults L.send_faults link.old) (dial_shown D.calls D.faults dial.old)
         result.1 result.0 link.new (link_shown L.left L.peers L.receive_faults L.send_faults link.new) (dial_shown D.calls D.faults dial.new) }
     ensures told { C.told clock.old ≤ C.told clock.new }
 {
@@ -163,7 +164,7 @@ pub fn core_session<R: Wait, B: Bus, T: Turns<Core<B>>, L: Link, C: Clock, P: Pa
 ) -> (Pass<Core<B>>, End)
     requires gate { pass.gate ≡ T.gate turns.now }
     requires phase { phase_at pass conn ≡ Idle role.Core }
-    ensures did { SessionDid (origin B.Bus (T.first turns.now)) L.stands L.receives L.sends (C.told clock.new) role.Core conn pass link.old (link_shown L.left L.peers L.receive_faults L.send_faults link.old) (dial_shown D.calls D.faults dial.old)
+    ensures did { SessionDid (origin B.Bus (T.first turns.now)) L.stands L.receives L.sends (Clocked C.tells clock.old clock.new) (C.told clock.new) role.Core conn pass link.old (link_shown L.left L.peers L.receive_faults L.send_faults link.old) (dial_shown D.calls D.faults dial.old)
         result.1 result.0 link.new (link_shown L.left L.peers L.receive_faults L.send_faults link.new) (dial_shown D.calls D.faults dial.new) }
     ensures told { C.told clock.old ≤ C.told clock.new }
 {
@@ -192,7 +193,7 @@ pub fn abort_session<R: Wait, B: Bus, T: Turns<Core<B>>, L: Link>(
 ) -> (Pass<Core<B>>, End)
     requires gate { pass.gate ≡ T.gate turns.now }
     requires phase { phase_at pass conn ≡ Idle role.Abort }
-    ensures did { SessionDid (origin B.Bus (T.first turns.now)) L.stands L.receives L.sends 0 role.Abort conn pass link.old (link_shown L.left L.peers L.receive_faults L.send_faults link.old) no_dial
+    ensures did { SessionDid (origin B.Bus (T.first turns.now)) L.stands L.receives L.sends unclocked 0 role.Abort conn pass link.old (link_shown L.left L.peers L.receive_faults L.send_faults link.old) no_dial
         result.1 result.0 link.new (link_shown L.left L.peers L.receive_faults L.send_faults link.new) no_dial }
 {
     run_session(

@@ -204,10 +204,10 @@ came-undone g conn r pass up pass' joins leaves =
     }
 
 -- a link of one bus
-pub link-counts : {B L : Type 0} (g : Origin B) (stands : L → List ℕ → List ℕ → Type 0) (receives : Receives L) (sends : Sends L) (told : ℕ) (r : Role) (pass : PassView Group) (link : L) (seen : LinkShown) (dial : DialShown)
-    (how : Linked) (pass' : PassView Group) (link' : L) (seen' : LinkShown) (dial' : DialShown) → LinkDid g stands receives sends told r pass link seen dial how pass' link' seen' dial' → ComesAndGoes pass pass'
-link-counts g stands receives sends told r pass link seen dial (linked.Ended how) pass' link' seen' dial' had =
+pub link-counts : {B L : Type 0} (g : Origin B) (stands : L → List ℕ → List ℕ → Type 0) (receives : Receives L) (sends : Sends L) (clocked : List Placed → Type 0) (told : ℕ) (r : Role) (pass : PassView Group) (link : L) (seen : LinkShown) (dial : DialShown)
+    (how : Linked) (pass' : PassView Group) (link' : L) (seen' : LinkShown) (dial' : DialShown) → LinkDid g stands receives sends clocked told r pass link seen dial how pass' link' seen' dial' → ComesAndGoes pass pass'
+link-counts g stands receives sends clocked told r pass link seen dial (linked.Ended how) pass' link' seen' dial' had =
     let did = had.did in
     came-and-went g told had.conn r pass had.up pass' (placed did.items) did.last had.joins did.makes (items-steady g had.up.number had.conn r did.items did.each) did.down
-link-counts g stands receives sends told r pass link seen dial linked.Full pass' link' seen' dial' had = none-came g r connect.Full pass pass' had.0
-link-counts g stands receives sends told r pass link seen dial linked.NoMemory pass' link' seen' dial' had = none-came g r connect.NoMemory pass pass' had.0
+link-counts g stands receives sends clocked told r pass link seen dial linked.Full pass' link' seen' dial' had = none-came g r connect.Full pass pass' had.0
+link-counts g stands receives sends clocked told r pass link seen dial linked.NoMemory pass' link' seen' dial' had = none-came g r connect.NoMemory pass pass' had.0

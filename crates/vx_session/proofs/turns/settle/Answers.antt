@@ -48,6 +48,7 @@ returns-clause-settles g c =
           (timely-now c.args.now t.log f t.after.fine (event ∷ []) (Cut ∷ Told now ∷ []) t.stood.state (one-moment event now refl) (fine-moment event f t.after.fine did.answers));
       events = ap (λ n. settled_events conn n c.args.up answer.error) (now-is c.args.now t.log f group t.stood.state);
       steps = ap (λ n. Cut ∷ Told n ∷ []) (now-is c.args.now t.log f group t.stood.state);
+      keeps = fine-moment event f t.after.fine did.answers ∙ now-is c.args.now t.log f group t.stood.state;
       error_is = did.error_is;
       chan_is = is-channel (behind c.args.pass.number (record { before = t.log; group = group })) t.after.fine conn c.args.up answer.chan stands did.chan_is
           (λ came. settled-channel f t.after.fine (groups t.log) conn now (reply.Error answer.error) t.stood.state
