@@ -1,6 +1,7 @@
 -- A message of a session to four buses: what it means, and how it is served.
 use Rattle.std.proofs.Common.{◌≡◌, ◌≤◌, ℕ, zero, suc, List, [], take, Some, refl, sym, ap, ◌∙◌, subst, arith}
 use Rattle.vx_calls.specs.declared.calls.Role.{Role}
+use Rattle.vx_calls.specs.declared.calls.Role.TheVariants as role
 use Rattle.vx_calls.specs.declared.codes.ErrorCode.{ErrorCode}
 use Rattle.vx_calls.specs.Call.{Call}
 use Rattle.vx_calls.specs.Reply as reply
@@ -16,7 +17,8 @@ use Rattle.vx_group.specs.Phases.{Idle}
 use Rattle.vx_routes.specs.Replying.{success_record}
 use Rattle.vx_routes.specs.Routing.{Way, Refused, Goes, route_of, place_of}
 use Rattle.vx_session.specs.Placing.{Placed}
-use Rattle.vx_session.specs.ProvedLaws.{makes-none, makes-later}
+use Rattle.vx_session.specs.Progress.{Clocked, ClockedAs, unclocked}
+use Rattle.vx_session.specs.ProvedLaws.{makes-none, makes-later, clockedas-none}
 use Rattle.vx_session.specs.Serving.{IsAborted}
 use Rattle.vx_session.specs.Turning.{phase_at}
 use Rattle.vx_buses.specs.Asking.{OnBus}
@@ -40,9 +42,9 @@ pub idle-at : (b : ℕ) (passes : Four (PassView Group)) (gates : Four GateId) (
 idle-at b passes gates conns r holds = each-at (λ pass conn. phase_at pass conn ≡ Idle r) b passes conns holds.idle
 
 -- it is held still where one bus's pass went on and its connection is idle again
-pub holds-on : (told b : ℕ) (P : List Placed → Type 0) (passes passes' : Four (PassView Group)) (gates : Four GateId) (conns : Four ℕ) (r : Role) → Holds passes gates conns r
-    → OnBus told passes b P passes' → phase_at (at b passes') (at b conns) ≡ Idle r → Holds passes' gates conns r
-holds-on told b P passes passes' gates conns r holds went phase =
+pub holds-on : (clocked : List Placed → Type 0) (told b : ℕ) (P : List Placed → Type 0) (passes passes' : Four (PassView Group)) (gates : Four GateId) (conns : Four ℕ) (r : Role) → Holds passes gates conns r
+    → OnBus clocked told passes b P passes' → phase_at (at b passes') (at b conns) ≡ Idle r → Holds passes' gates conns r
+holds-on clocked told b P passes passes' gates conns r holds went phase =
     let own = went.own in
     let here : at b passes' ≡ own = ap (at b) went.is ∙ at-put b own passes in
     record {
@@ -56,45 +58,47 @@ module _ {B : Type 0} (g : Origins B) (told : ℕ) (passes : Four (PassView Grou
 
   -- a call that is refused is answered without a bus
   pub refused-served : (xid : ℕ) (asked : Call) (error : ErrorCode) (out : List ℕ) → Refused error ≡ route_of asked → out ≡ success_record xid (reply.Error error)
-      → ServesCall g told passes conns (by_way xid (route_of asked)) out passes
-  refused-served xid asked error out way out_is = record {
+      → (clocked : List Placed → Type 0) → clocked [] → ServesCall g clocked told passes conns (by_way xid (route_of asked)) out passes
+  refused-served xid asked error out way out_is clocked none = record {
     bus = 0;
     within = omega arith;
     placed = [];
     own = passes.zero_;
     is = refl;
     makes = makes-none told passes.zero_;
+    asks = none;
     served = subst (λ (w : Way). IsServed g (numbers passes) conns (by_way xid w) 0 [] out) way (refl, out_is);
   }
 
   -- any other is answered by its bus
-  pub asked-served : (xid : ℕ) (asked there : Call) (bus : ℕ) (out : List ℕ) (passes' : Four (PassView Group)) → Goes bus there ≡ route_of asked → bus ≤ 3
-      → OnBus told passes bus (λ placed. IsAsked (on bus g) (at bus passes).number (at bus conns) xid there bus placed out) passes'
-      → ServesCall g told passes conns (by_way xid (route_of asked)) out passes'
-  asked-served xid asked there bus out passes' way within went = record {
+  pub asked-served : (clocked : List Placed → Type 0) (xid : ℕ) (asked there : Call) (bus : ℕ) (out : List ℕ) (passes' : Four (PassView Group)) → Goes bus there ≡ route_of asked → bus ≤ 3
+      → OnBus clocked told passes bus (λ placed. IsAsked (on bus g) (at bus passes).number (at bus conns) xid there bus placed out) passes'
+      → ServesCall g clocked told passes conns (by_way xid (route_of asked)) out passes'
+  asked-served clocked xid asked there bus out passes' way within went = record {
     bus = bus;
     within = within;
     placed = went.placed;
     own = went.own;
     is = went.is;
     makes = went.makes;
+    asks = went.asks;
     served = subst (λ (w : Way). IsServed g (numbers passes) conns (by_way xid w) bus went.placed out) way
         (refl, subst (λ n. IsAsked (on bus g) n (at bus conns) xid there bus went.placed out) (at-numbers bus passes) went.holding);
   }
 
   -- ---- a message
 
-  module _ (first : ℕ) (r : Role) (message : List ℕ) where
+  module _ {C : Type 0} (tells : C → ℕ → C → Type 0) (clock clock' : C) (first : ℕ) (r : Role) (message : List ℕ) where
     -- the state before, and behind passes that went on
-    abbrev before : State
-    before = record { role = r; conns = conns; passes = Some passes; told = first }
+    abbrev before : State C
+    before = record { role = r; conns = conns; passes = Some passes; clock = clock; told = first }
 
-    abbrev after : Four (PassView Group) → State
-    after passes' = record { role = r; conns = conns; passes = Some passes'; told = told }
+    abbrev after : Four (PassView Group) → State C
+    after passes' = record { role = r; conns = conns; passes = Some passes'; clock = clock'; told = told }
 
     -- a message that says what is answered without a bus
-    pub answered-does : (text room : List ℕ) (len : ℕ) → meaning message r ≡ one.Answered text → Stands (record_of text) len room → IsAnswered g before message (take len room) (after passes)
-    answered-does text room len is stands = record {
+    pub answered-does : clock' ≡ clock → (text room : List ℕ) (len : ℕ) → meaning message r ≡ one.Answered text → Stands (record_of text) len room → IsAnswered g tells before message (take len room) (after passes)
+    answered-does same text room len is stands = record {
       passes = passes;
       bus = 0;
       within = omega arith;
@@ -103,13 +107,14 @@ module _ {B : Type 0} (g : Origins B) (told : ℕ) (passes : Four (PassView Grou
       had = refl;
       has = refl;
       makes = makes-none told passes.zero_;
+      asks = clockedas-none tells r clock clock' same;
       served = subst (λ (m : Meaning). IsServed g (numbers passes) conns (by_meaning m) 0 [] (take len room)) (sym is) (refl, stands.record_is);
     }
 
     -- a call
-    pub asks-does : (xid : ℕ) (asked : Call) (out : List ℕ) (passes' : Four (PassView Group)) → meaning message r ≡ one.Asks xid asked
-        → ServesCall g told passes conns (by_way xid (route_of asked)) out passes' → IsAnswered g before message out (after passes')
-    asks-does xid asked out passes' is serves = record {
+    pub asks-does : r ≡ role.Core → (xid : ℕ) (asked : Call) (out : List ℕ) (passes' : Four (PassView Group)) → meaning message r ≡ one.Asks xid asked
+        → ServesCall g (Clocked tells clock clock') told passes conns (by_way xid (route_of asked)) out passes' → IsAnswered g tells before message out (after passes')
+    asks-does of_role xid asked out passes' is serves = record {
       passes = passes;
       bus = serves.bus;
       within = serves.within;
@@ -118,13 +123,14 @@ module _ {B : Type 0} (g : Origins B) (told : ℕ) (passes : Four (PassView Grou
       had = refl;
       has = ap Some serves.is;
       makes = serves.makes;
+      asks = subst (λ x. ClockedAs x tells clock clock' serves.placed) (sym of_role) serves.asks;
       served = subst (λ (m : Meaning). IsServed g (numbers passes) conns (by_meaning m) serves.bus serves.placed out) (sym is) serves.served;
     }
 
     -- a device_abort
-    pub aborts-does : (xid lid bus link : ℕ) (out : List ℕ) (passes' : Four (PassView Group)) → meaning message r ≡ one.Aborts xid lid → (bus, link) ≡ place_of lid → bus ≤ 3
-        → OnBus 0 passes bus (λ placed. IsAborted (at bus conns) xid link placed [] out) passes' → IsAnswered g before message out (after passes')
-    aborts-does xid lid bus link out passes' is place within went = record {
+    pub aborts-does : r ≡ role.Abort → clock' ≡ clock → (xid lid bus link : ℕ) (out : List ℕ) (passes' : Four (PassView Group)) → meaning message r ≡ one.Aborts xid lid → (bus, link) ≡ place_of lid → bus ≤ 3
+        → OnBus unclocked 0 passes bus (λ placed. IsAborted (at bus conns) xid link placed [] out) passes' → IsAnswered g tells before message out (after passes')
+    aborts-does of_role same xid lid bus link out passes' is place within went = record {
       passes = passes;
       bus = bus;
       within = within;
@@ -133,6 +139,7 @@ module _ {B : Type 0} (g : Origins B) (told : ℕ) (passes : Four (PassView Grou
       had = refl;
       has = ap Some went.is;
       makes = makes-later 0 told (at bus passes) went.own went.placed (omega arith) went.makes;
+      asks = subst (λ x. ClockedAs x tells clock clock' went.placed) (sym of_role) same;
       served = subst (λ (m : Meaning). IsServed g (numbers passes) conns (by_meaning m) bus went.placed out) (sym is)
           (ap (λ (p : ℕ × ℕ). p.0) place, subst (λ n. IsAborted (at bus conns) xid n went.placed [] out) (ap (λ (p : ℕ × ℕ). p.1) place) went.holding);
     }

@@ -10,8 +10,8 @@ use Rattle.vx_group.specs.Event.{Abort}
 use Rattle.vx_group.specs.Groups.{Group}
 use Rattle.vx_session.specs.Origin.{Origin, origin}
 use Rattle.vx_session.specs.Outside.{DialShown}
-use Rattle.vx_session.specs.Placing.{Makes}
-use Rattle.vx_session.specs.Progress.{AnswersCall}
+use Rattle.vx_session.specs.Placing.{Placed, Makes}
+use Rattle.vx_session.specs.Progress.{AnswersCall, unclocked}
 use Rattle.vx_session.specs.Serving.{IsCalled, IsAborted}
 use Rattle.vx_session.specs.Turning as turning
 use Rattle.vx_buses.specs.Asking.{OnBus}
@@ -38,14 +38,15 @@ module _ (passes : Four (PassView Group)) (bus : ℕ) (first : Four (PassView Gr
       ∙ swapped-back bus passes own
 
   -- a call was answered there, and told
-  pub asked-on-bus : {B : Type 0} (g : Ghosts B) (firsts : Four (CoreState B)) (core : CoreState B) (told : ℕ) (conns : Four ℕ) (conn xid : ℕ) (asked : Call) (dial dial' : DialShown) (given out : List ℕ) → core ≡ at bus firsts → conn ≡ at bus conns
-      → AnswersCall (origin g core) told first.zero_ conn xid asked dial given own dial' → out ≡ outward asked bus given
-      → OnBus told passes bus (λ placed. IsAsked (on bus (origins g firsts)) (at bus passes).number (at bus conns) xid asked bus placed out) last
-  asked-on-bus g firsts core told conns conn xid asked dial dial' given out core_is conn_is answers out_is = record {
+  pub asked-on-bus : {B : Type 0} (g : Ghosts B) (firsts : Four (CoreState B)) (core : CoreState B) (clocked : List Placed → Type 0) (told : ℕ) (conns : Four ℕ) (conn xid : ℕ) (asked : Call) (dial dial' : DialShown) (given out : List ℕ) → core ≡ at bus firsts → conn ≡ at bus conns
+      → AnswersCall (origin g core) clocked told first.zero_ conn xid asked dial given own dial' → out ≡ outward asked bus given
+      → OnBus clocked told passes bus (λ placed. IsAsked (on bus (origins g firsts)) (at bus passes).number (at bus conns) xid asked bus placed out) last
+  asked-on-bus g firsts core clocked told conns conn xid asked dial dial' given out core_is conn_is answers out_is = record {
     own = own;
     is = one-went;
     placed = answers.placed;
     makes = subst (λ p. Makes told p answers.placed own) own-first answers.makes;
+    asks = answers.asks;
     holding = record {
       calls = answers.rung;
       given = given;
@@ -58,12 +59,13 @@ module _ (passes : Four (PassView Group)) (bus : ℕ) (first : Four (PassView Gr
 
   -- a device_abort was told there
   pub aborted-on-bus : {B : Type 0} (g : Origin B) (conns : Four ℕ) (conn xid lid : ℕ) (room : List ℕ) (aborted : Aborted) → conn ≡ at bus conns → turning.Aborts g first.zero_ conn lid xid room aborted own
-      → OnBus 0 passes bus (λ placed. IsAborted (at bus conns) xid lid placed [] (take aborted.len room)) last
+      → OnBus unclocked 0 passes bus (λ placed. IsAborted (at bus conns) xid lid placed [] (take aborted.len room)) last
   aborted-on-bus g conns conn xid lid room aborted conn_is aborts = record {
     own = own;
     is = one-went;
     placed = aborts.placed ∷ [];
     makes = subst (λ p. Makes 0 p (aborts.placed ∷ []) own) own-first aborts.turns.makes;
+    asks = tt;
     holding = record {
       group = aborts.placed;
       error = aborted.error;

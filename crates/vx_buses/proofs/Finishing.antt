@@ -1,6 +1,7 @@
 -- How a session comes to its end: its stream was served, and then its connections go.
 use Rattle.std.proofs.Common.{◌≡◌, ◌≤◌, ℕ, List, [], ◌∷◌, ◌++◌, Some, sym, ap, ◌∙◌, subst, arith}
 use Rattle.std.proofs.lemmas.Option.{same_Some}
+use Rattle.vx_calls.specs.declared.calls.Role.{Role}
 use Rattle.vx_calls.specs.declared.limits.TheConstants.{RECORD_MAX}
 use Rattle.vx_bus_traits.specs.Steps.{Cut}
 use Rattle.vx_gate.specs.History.{groups}
@@ -24,7 +25,8 @@ use Rattle.vx_session.specs.ProvedLaws.{makes-goes, makes-later}
 use Rattle.vx_session.specs.Turning.{Leaves}
 use Rattle.vx_session.specs.Ending.{Upholds}
 use Rattle.vx_buses.specs.Origins.{Origins, on}
-use Rattle.vx_buses.specs.Serving.{State, placed_on}
+use Rattle.vx_session.specs.Progress.{ClockedAs}
+use Rattle.vx_buses.specs.Serving.{State, placed, placed_on}
 use Rattle.vx_buses.specs.Ending.{LeavesAll, SessionDid, GivesOnce, history_of}
 use Rattle.vx_buses.proofs.Fours.{each-number}
 use Rattle.vx_buses.proofs.Progressing.{StreamServed}
@@ -52,11 +54,11 @@ left g told before mid after conn ps makes leaves =
     makes-goes told told before mid after ps (leaves.placed ∷ []) (omega arith) makes (makes-later 0 told mid after (leaves.placed ∷ []) (omega arith) leaves.turns.makes)
 
 -- the records of a stream were served, and then the connections went
-pub session-did : {B L : Type 0} (g : Origins B) (stands : L → List ℕ → List ℕ → Type 0) (receives : Receives L) (sends : Sends L) → HeadlineOfGroupsLaw → OwnedLaw → LinksLaw → OnceLaw → (s s' : State)
-    (passes mid passes' : Four (PassView Group)) (link link' : L) (seen seen' : LinkShown) (how : End) (told : ℕ) → StreamServed g stands receives sends s passes link seen how s' link' seen'
-    → s'.passes ≡ Some mid → s'.told ≡ told → LeavesAll g mid s.conns passes'
-    → SessionDid g stands receives sends told s.role s.conns passes link seen how passes' link' seen'
-session-did g stands receives sends headline owned links once s s' passes mid passes' link link' seen seen' how told did has told_is leaves =
+pub session-did : {B C L : Type 0} (g : Origins B) (tells : C → ℕ → C → Type 0) (stands : L → List ℕ → List ℕ → Type 0) (receives : Receives L) (sends : Sends L) → HeadlineOfGroupsLaw → OwnedLaw → LinksLaw → OnceLaw → (s s' : State C)
+    (passes mid passes' : Four (PassView Group)) (link link' : L) (seen seen' : LinkShown) (how : End) (told : ℕ) (clock : C) → StreamServed g tells stands receives sends s passes link seen how s' link' seen'
+    → s'.passes ≡ Some mid → s'.told ≡ told → s'.clock ≡ clock → LeavesAll g mid s.conns passes'
+    → SessionDid g stands receives sends (ClockedAs s.role tells s.clock clock) told s.role s.conns passes link seen how passes' link' seen'
+session-did g tells stands receives sends headline owned links once s s' passes mid passes' link link' seen seen' how told clock did has told_is clock_is leaves =
     let all = did.serves in
     let zeroth = leaves.zero_ in
     let first = leaves.one in
@@ -92,7 +94,35 @@ session-did g stands receives sends headline owned links once s s' passes mid pa
       near = did.near;
       in_turn = subst (λ list. InTurn receives sends RECORD_MAX list link (did.front ++ did.behind) did.written link') (sym all.are) did.in_turn;
       ended = subst (λ list. EndsSo (λ message. meaning message s.role ≡ Junk) seen list (records RECORD_MAX did.front) did.behind did.unsent seen' (Some how)) (sym all.are) did.ended;
+      asks = subst (λ k. ClockedAs s.role tells s.clock k (placed all.items)) clock_is all.asks;
       upholds = upheld;
       links = λ bus h. let u = upheld bus h in links (at bus g.firsts).fine.state.tables.abort_port (history_of (at bus passes')) _ u.headline.gathered.legal;
       once = gives-once g once passes' (upheld 0 (omega arith)) (upheld 1 (omega arith)) (upheld 2 (omega arith)) (upheld 3 (omega arith));
     }
+
+-- what a session did, of which less is said of its clock
+pub session-says : {B L : Type 0} (g : Origins B) (stands : L → List ℕ → List ℕ → Type 0) (receives : Receives L) (sends : Sends L) (clocked less : List Placed → Type 0) → ((groups : List Placed) → clocked groups → less groups)
+    → (told : ℕ) (r : Role) (conns : Four ℕ) (passes : Four (PassView Group)) (link : L) (seen : LinkShown) (how : End) (passes' : Four (PassView Group)) (link' : L) (seen' : LinkShown)
+    → SessionDid g stands receives sends clocked told r conns passes link seen how passes' link' seen' → SessionDid g stands receives sends less told r conns passes link seen how passes' link' seen'
+session-says g stands receives sends clocked less so told r conns passes link seen how passes' link' seen' did = record {
+  items = did.items;
+  lasts = did.lasts;
+  front = did.front;
+  behind = did.behind;
+  written = did.written;
+  unsent = did.unsent;
+  makes = did.makes;
+  each = did.each;
+  down = did.down;
+  cut = did.cut;
+  bytes = did.bytes;
+  goes = did.goes;
+  wrote = did.wrote;
+  near = did.near;
+  in_turn = did.in_turn;
+  ended = did.ended;
+  asks = so (placed did.items) did.asks;
+  upholds = did.upholds;
+  links = did.links;
+  once = did.once;
+}

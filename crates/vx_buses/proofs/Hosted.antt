@@ -16,6 +16,7 @@ use Rattle.vx_rooms.specs.ProvedLaws.{clear-first, clear-on}
 use Rattle.vx_stream.specs.Calling.{Receives, Sends}
 use Rattle.vx_stream.specs.Shown.{LinkShown}
 use Rattle.vx_stream.specs.declared.ends.End.TheVariants as stream
+use Rattle.vx_session.specs.Placing.{Placed}
 use Rattle.vx_session.specs.declared.links.Linked.{Linked}
 use Rattle.vx_session.specs.declared.links.Linked.TheVariants as linked
 use Rattle.vx_buses.specs.Origins.{Origins}
@@ -26,26 +27,26 @@ use Rattle.vx_buses.proofs.Rooms.{link-counts, link-never-full}
 
 -- ---- a link
 
-module _ {B L : Type 0} (g : Origins B) (stands : L → List ℕ → List ℕ → Type 0) (receives : Receives L) (sends : Sends L) (told : ℕ) (passes : Four (PassView Group)) (link : L) (passes' : Four (PassView Group)) (link' : L) where
+module _ {B L : Type 0} (g : Origins B) (stands : L → List ℕ → List ℕ → Type 0) (receives : Receives L) (sends : Sends L) (clocked : List Placed → Type 0) (told : ℕ) (passes : Four (PassView Group)) (link : L) (passes' : Four (PassView Group)) (link' : L) where
   -- what holds between two links holds behind one, with one more served
-  pub ready-on : (count : ℕ) (seen seen' : LinkShown) (how : Linked) (gates : Four GateId) → LinkDid g stands receives sends told passes link seen how passes' link' seen'
+  pub ready-on : (count : ℕ) (seen seen' : LinkShown) (how : Linked) (gates : Four GateId) → LinkDid g stands receives sends clocked told passes link seen how passes' link' seen'
       → ((bus : ℕ) → bus ≤ 3 → IsClear count (at bus passes)) → Each IsOf passes' gates → IsReady (count + 1) (Some passes') gates
   ready-on count seen seen' how gates d clear of = record {
     passes = passes';
     has = refl;
     of = of;
-    clear = λ bus within. clear-on count (at bus passes) (at bus passes') (clear bus within) (link-counts g stands receives sends told passes link seen how passes' link' seen' d bus within);
+    clear = λ bus within. clear-on count (at bus passes) (at bus passes') (clear bus within) (link-counts g stands receives sends clocked told passes link seen how passes' link' seen' d bus within);
   }
 
   -- no connection was refused for want of room
   pub has-room : (count : ℕ) (seen seen' : LinkShown) (how : Linked) → ((bus : ℕ) → bus ≤ 3 → IsClear count (at bus passes)) → count < CONNECTION_LAST
-      → LinkDid g stands receives sends told passes link seen how passes' link' seen' → how ≢ linked.Full
-  has-room count seen seen' linked.Full clear low d is = link-never-full g stands receives sends told count passes link seen passes' link' seen' clear low d
+      → LinkDid g stands receives sends clocked told passes link seen how passes' link' seen' → how ≢ linked.Full
+  has-room count seen seen' linked.Full clear low d is = link-never-full g stands receives sends clocked told count passes link seen passes' link' seen' clear low d
   has-room count seen seen' (linked.Ended how) clear low d is = cc
   has-room count seen seen' linked.NoMemory clear low d is = cc
 
   -- the link's counts of faults don't fall
-  pub link-faults : (shown : L → LinkShown) (how : Linked) → LinkDid g stands receives sends told passes link (shown link) how passes' link' (shown link')
+  pub link-faults : (shown : L → LinkShown) (how : Linked) → LinkDid g stands receives sends clocked told passes link (shown link) how passes' link' (shown link')
       → ((shown link).receive_faults ≤ (shown link').receive_faults) × ((shown link).send_faults ≤ (shown link').send_faults)
   link-faults shown (linked.Ended how) d = (d.did.goes.receives, d.did.goes.sends)
   link-faults shown linked.Full d =
@@ -60,10 +61,10 @@ ended-spent : (first now : Option (List ℕ)) (bytes : List ℕ) → Consumes fi
 ended-spent None now bytes gave at_end = refl
 ended-spent (Some all) now bytes gave at_end = spent_at_end (Some all) now bytes gave at_end
 
-module _ {B L : Type 0} (g : Origins B) (stands : L → List ℕ → List ℕ → Type 0) (receives : Receives L) (sends : Sends L) (told : ℕ) (passes : Four (PassView Group)) (link : L) (seen : LinkShown) (passes' : Four (PassView Group)) (link' : L)
+module _ {B L : Type 0} (g : Origins B) (stands : L → List ℕ → List ℕ → Type 0) (receives : Receives L) (sends : Sends L) (clocked : List Placed → Type 0) (told : ℕ) (passes : Four (PassView Group)) (link : L) (seen : LinkShown) (passes' : Four (PassView Group)) (link' : L)
     (seen' : LinkShown) where
   -- a peer that was cut short was so by a fault of its link
-  pub link-cut : (how : Linked) → LinkDid g stands receives sends told passes link seen how passes' link' seen' → is_cut (is_own how) (is_whole how) seen.left seen'.left ≡ true
+  pub link-cut : (how : Linked) → LinkDid g stands receives sends clocked told passes link seen how passes' link' seen' → is_cut (is_own how) (is_whole how) seen.left seen'.left ≡ true
       → Rose seen.receive_faults seen'.receive_faults ⊎ Rose seen.send_faults seen'.send_faults
   link-cut linked.Full d cut = absurd (false≢true cut)
   link-cut linked.NoMemory d cut = absurd (false≢true cut)

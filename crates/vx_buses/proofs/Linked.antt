@@ -1,5 +1,5 @@
 -- A link's connections: what their passes keep, and how they are refused.
-use Rattle.std.proofs.Common.{◌≡◌, ◌≤◌, ℕ, List, Result, Ok, Err, refl, sym, ◌∙◌, subst, arith}
+use Rattle.std.proofs.Common.{◌≡◌, ◌≤◌, ℕ, List, Result, Ok, Err, refl, sym, ◌∙◌, subst, arith, []}
 use Rattle.vx_gate.specs.PassView.{PassView, GateId}
 use Rattle.vx_gates.specs.Four.{Four, at, Each}
 use Rattle.vx_gates.specs.Passing.{IsOf}
@@ -48,17 +48,17 @@ undone-uphold g headline owned passes up passes' joined joins undone =
     (upholds (on 3 g) headline owned passes'.three (undone-history (on 3 g) up.three passes'.three joined.three joins.three.turns.history undone.three))
 
 -- the connections were refused, and their link is told so
-pub link-refused : {B L : Type 0} (g : Origins B) (stands : L → List ℕ → List ℕ → Type 0) (receives : Receives L) (sends : Sends L) → HeadlineOfGroupsLaw → OwnedLaw → OnceLaw → (told : ℕ) (passes up passes' : Four (PassView Group)) (link : L)
+pub link-refused : {B L : Type 0} (g : Origins B) (stands : L → List ℕ → List ℕ → Type 0) (receives : Receives L) (sends : Sends L) → HeadlineOfGroupsLaw → OwnedLaw → OnceLaw → (clocked : List Placed → Type 0) → clocked [] → (told : ℕ) (passes up passes' : Four (PassView Group)) (link : L)
     (seen : LinkShown) (joined : Four (Result ℕ Connect)) (why : Connect) (how : Linked) → how ≡ refused_as why → JoinsAll g passes joined up → outcome joined ≡ Err why → UndoneAll g up joined passes'
-    → LinkDid g stands receives sends told passes link seen how passes' link seen
-link-refused g stands receives sends headline owned law told passes up passes' link seen joined why how how_is joins is undone =
-    subst (λ h. LinkDid g stands receives sends told passes link seen h passes' link seen) (sym how_is) (by why is) where
+    → LinkDid g stands receives sends clocked told passes link seen how passes' link seen
+link-refused g stands receives sends headline owned law clocked none told passes up passes' link seen joined why how how_is joins is undone =
+    subst (λ h. LinkDid g stands receives sends clocked told passes link seen h passes' link seen) (sym how_is) (by why is) where
       all : (bus : ℕ) → bus ≤ 3 → Upholds (on bus g) (at bus passes')
       all = undone-uphold g headline owned passes up passes' joined joins undone
 
       once : GivesOnce passes'
       once = gives-once g law passes' (all 0 (omega arith)) (all 1 (omega arith)) (all 2 (omega arith)) (all 3 (omega arith))
 
-      by : (c : Connect) → outcome joined ≡ Err c → LinkDid g stands receives sends told passes link seen (refused_as c) passes' link seen
-      by connect.Full refused = record { joined = joined; up = up; joins = joins; refused = refused; undone = undone; same = refl; upholds = all; once = once }
-      by connect.NoMemory refused = record { joined = joined; up = up; joins = joins; refused = refused; undone = undone; same = refl; upholds = all; once = once }
+      by : (c : Connect) → outcome joined ≡ Err c → LinkDid g stands receives sends clocked told passes link seen (refused_as c) passes' link seen
+      by connect.Full refused = record { joined = joined; up = up; joins = joins; refused = refused; undone = undone; same = refl; asks = none; upholds = all; once = once }
+      by connect.NoMemory refused = record { joined = joined; up = up; joins = joins; refused = refused; undone = undone; same = refl; asks = none; upholds = all; once = once }

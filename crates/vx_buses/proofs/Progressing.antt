@@ -20,10 +20,11 @@ use Rattle.vx_stream.specs.Stopping.{EndsSo, IsLeft, StreamAnswered}
 use Rattle.vx_stream.specs.declared.ends.End.{End}
 use Rattle.vx_stream.specs.declared.ends.End.TheVariants as end
 use Rattle.vx_session.specs.Placing.{Placed, Makes}
-use Rattle.vx_session.specs.ProvedLaws.{makes-none, makes-goes}
+use Rattle.vx_session.specs.Progress.{ClockedAs}
+use Rattle.vx_session.specs.ProvedLaws.{makes-none, makes-goes, clockedas-none, clockedas-goes}
 use Rattle.vx_buses.specs.Ending.{at_once}
 use Rattle.vx_buses.specs.Origins.{Origins, origins}
-use Rattle.vx_buses.specs.Serving.{Item, Serves, State, MessageDoes, answered, placed_on, numbers}
+use Rattle.vx_buses.specs.Serving.{Item, Serves, State, MessageDoes, answered, placed, placed_on, numbers}
 use Rattle.vx_buses.proofs.Fours.{at-put, at-put-other, numbers-put}
 
 -- what the pass of a bus made where one bus's pass made some groups, and then each bus's made more
@@ -38,42 +39,45 @@ makes-at told told' b k p own r ps qs hb hk later first rest = by (k == b) refl 
   by false is = subst (λ x. Makes told' x qs r) (at-put-other b k own p hb hk (λ e. eqb-false k b is (sym e))) rest
 
 -- These messages of a session, whose passes were these, were served, one after the other.
-pub record ServesAll {B : Type 0} (g : Origins B) (s : State) (passes : Four (PassView Group)) (list : List Answered) (s' : State) : Type 0 where
+pub record ServesAll {B C : Type 0} (g : Origins B) (tells : C → ℕ → C → Type 0) (s : State C) (passes : Four (PassView Group)) (list : List Answered) (s' : State C) : Type 0 where
   pub items : List Item
   pub passes' : Four (PassView Group)
   pub are : answered items ≡ list
   pub has : s'.passes ≡ Some passes'
   pub makes : (bus : ℕ) → bus ≤ 3 → Makes s'.told (at bus passes) (placed_on bus items) (at bus passes')
   pub each : All (Serves g (numbers passes) s.conns s.role) items
+  pub asks : ClockedAs s.role tells s.clock s'.clock (placed items)
   pub role : s'.role ≡ s.role
   pub conns : s'.conns ≡ s.conns
   pub later : s.told ≤ s'.told
 
 -- what a session has in common with what it was, where nothing was served in between
-pub record Stays (s s' : State) : Type 0 where
+pub record Stays {C : Type 0} (s s' : State C) : Type 0 where
   pub role : s'.role ≡ s.role
   pub conns : s'.conns ≡ s.conns
   pub passes : s'.passes ≡ s.passes
+  pub clock : s'.clock ≡ s.clock
   pub later : s.told ≤ s'.told
 
 -- no message was served
-serves-none : {B : Type 0} (g : Origins B) (s s' : State) (passes : Four (PassView Group)) → s.passes ≡ Some passes → Stays s s' → ServesAll g s passes [] s'
-serves-none g s s' passes had stays = record {
+serves-none : {B C : Type 0} (g : Origins B) (tells : C → ℕ → C → Type 0) (s s' : State C) (passes : Four (PassView Group)) → s.passes ≡ Some passes → Stays s s' → ServesAll g tells s passes [] s'
+serves-none g tells s s' passes had stays = record {
   items = [];
   passes' = passes;
   are = refl;
   has = stays.passes ∙ had;
   makes = λ bus h. makes-none s'.told (at bus passes);
   each = All-nil (Serves g (numbers passes) s.conns s.role);
+  asks = clockedas-none tells s.role s.clock s'.clock stays.clock;
   role = stays.role;
   conns = stays.conns;
   later = stays.later;
 }
 
 -- one message was answered, and then more of them
-serves-more : {B : Type 0} (g : Origins B) (s mid s' : State) (one : Answered) (more : List Answered) → (does : MessageDoes g s one.message (Some one.reply) mid)
-    → ServesAll g mid (put does.has.bus does.has.own does.has.passes) more s' → ServesAll g s does.has.passes (one ∷ more) s'
-serves-more g s mid s' one more does rest =
+serves-more : {B C : Type 0} (g : Origins B) (tells : C → ℕ → C → Type 0) (s mid s' : State C) (one : Answered) (more : List Answered) → (does : MessageDoes g tells s one.message (Some one.reply) mid)
+    → ServesAll g tells mid (put does.has.bus does.has.own does.has.passes) more s' → ServesAll g tells s does.has.passes (one ∷ more) s'
+serves-more g tells s mid s' one more does rest =
     let first = does.has in
     let item : Item = record { answered = one; bus = first.bus; placed = first.placed } in
     let earlier = does.later in
@@ -90,6 +94,8 @@ serves-more g s mid s' one more does rest =
           (subst (λ ns. All (Serves g ns s.conns s.role) rest.items) same
           (subst (λ cs. All (Serves g (numbers (put first.bus first.own first.passes)) cs s.role) rest.items) does.conns
           (subst (λ r. All (Serves g (numbers (put first.bus first.own first.passes)) mid.conns r) rest.items) does.role rest.each)));
+      asks = clockedas-goes tells s.role s.clock mid.clock s'.clock item.placed (placed rest.items) first.asks
+          (subst (λ r. ClockedAs r tells mid.clock s'.clock (placed rest.items)) does.role rest.asks);
       role = rest.role ∙ does.role;
       conns = rest.conns ∙ does.conns;
       later = omega arith;
@@ -118,14 +124,14 @@ left-so does last s' seen list looked behind unsent seen' end.ReadFault ended le
 left-so does last s' seen list looked behind unsent seen' end.WriteFault ended left = inl left
 
 -- The records of a session's stream were served, up to its end or to where it is no longer read.
-pub record StreamServed {B L : Type 0} (g : Origins B) (stands : L → List ℕ → List ℕ → Type 0) (receives : Receives L) (sends : Sends L) (s : State) (passes : Four (PassView Group)) (link : L) (seen : LinkShown) (how : End)
-    (s' : State) (link' : L) (seen' : LinkShown) : Type 0 where
+pub record StreamServed {B C L : Type 0} (g : Origins B) (tells : C → ℕ → C → Type 0) (stands : L → List ℕ → List ℕ → Type 0) (receives : Receives L) (sends : Sends L) (s : State C) (passes : Four (PassView Group)) (link : L) (seen : LinkShown) (how : End)
+    (s' : State C) (link' : L) (seen' : LinkShown) : Type 0 where
   pub list : List Answered
   pub front : List ℕ
   pub behind : List ℕ
   pub written : List ℕ
   pub unsent : List ℕ
-  pub serves : ServesAll g s passes list s'
+  pub serves : ServesAll g tells s passes list s'
   pub bytes : Goes stands link link' written (front ++ behind)
   pub goes : LinkGoes seen (front ++ behind) seen'
   pub wrote : replies list ≡ written ++ unsent
@@ -134,31 +140,31 @@ pub record StreamServed {B L : Type 0} (g : Origins B) (stands : L → List ℕ 
   pub ended : EndsSo (λ message. meaning message s.role ≡ Junk) seen list (records RECORD_MAX front) behind unsent seen' (Some how)
 
 -- what answers messages, as a session's state shows it
-module _ {B S : Type 0} (bus : Ghosts B) (firsts : S → Four (CoreState B)) (does : S → List ℕ → Option (List ℕ) → S → Type 0) (shown : S → State)
-    (one : (s s' : S) (message : List ℕ) (reply : Option (List ℕ)) → does s message reply s' → MessageDoes (origins bus (firsts s)) (shown s) message reply (shown s'))
+module _ {B C S : Type 0} (bus : Ghosts B) (tells : C → ℕ → C → Type 0) (firsts : S → Four (CoreState B)) (does : S → List ℕ → Option (List ℕ) → S → Type 0) (shown : S → State C)
+    (one : (s s' : S) (message : List ℕ) (reply : Option (List ℕ)) → does s message reply s' → MessageDoes (origins bus (firsts s)) tells (shown s) message reply (shown s'))
     (same : (s s' : S) (message : List ℕ) (reply : Option (List ℕ)) → does s message reply s' → firsts s' ≡ firsts s) where
   -- as it is left, it stays
   left-stays : (last s' : S) → (s' ≡ last) ⊎ ((junk : List ℕ) × does last junk None s') → Stays (shown last) (shown s')
-  left-stays last s' (inl same) = subst (λ x. Stays (shown last) (shown x)) (sym same) (record { role = refl; conns = refl; passes = refl; later = omega arith })
+  left-stays last s' (inl same) = subst (λ x. Stays (shown last) (shown x)) (sym same) (record { role = refl; conns = refl; passes = refl; clock = refl; later = omega arith })
   left-stays last s' (inr did) =
       let junk = one last s' did.0 None did.1 in
-      record { role = junk.role; conns = junk.conns; passes = junk.has.1; later = junk.later }
+      record { role = junk.role; conns = junk.conns; passes = junk.has.1; clock = junk.has.2; later = junk.later }
 
   -- the messages that it answered were served
   all-served : (s last s' : S) (passes : Four (PassView Group)) (list : List Answered) → (shown s).passes ≡ Some passes → AnswersAll does s list last → Stays (shown last) (shown s')
-      → ServesAll (origins bus (firsts s)) (shown s) passes list (shown s')
-  all-served s last s' passes [] had all stays = serves-none (origins bus (firsts s)) (shown s) (shown s') passes had (subst (λ x. Stays (shown x) (shown s')) all stays)
+      → ServesAll (origins bus (firsts s)) tells (shown s) passes list (shown s')
+  all-served s last s' passes [] had all stays = serves-none (origins bus (firsts s)) tells (shown s) (shown s') passes had (subst (λ x. Stays (shown x) (shown s')) all stays)
   all-served s last s' passes (first ∷ more) had all stays =
       let did = one s all.0 first.message (Some first.reply) all.1 in
-      subst (λ p. ServesAll (origins bus (firsts s)) (shown s) p (first ∷ more) (shown s')) (same_Some did.has.passes passes (sym did.has.had ∙ had))
-      (serves-more (origins bus (firsts s)) (shown s) (shown all.0) (shown s') first more did
-      (subst (λ x. ServesAll (origins bus x) (shown all.0) (put did.has.bus did.has.own did.has.passes) more (shown s')) (same s all.0 first.message (Some first.reply) all.1)
+      subst (λ p. ServesAll (origins bus (firsts s)) tells (shown s) p (first ∷ more) (shown s')) (same_Some did.has.passes passes (sym did.has.had ∙ had))
+      (serves-more (origins bus (firsts s)) tells (shown s) (shown all.0) (shown s') first more did
+      (subst (λ x. ServesAll (origins bus x) tells (shown all.0) (put did.has.bus did.has.own did.has.passes) more (shown s')) (same s all.0 first.message (Some first.reply) all.1)
       (all-served all.0 last s' (put did.has.bus did.has.own did.has.passes) more did.has.has all.2 stays)))
 
   -- so the records of its stream were served
   pub stream-served : {L : Type 0} (stands : L → List ℕ → List ℕ → Type 0) (receives : Receives L) (sends : Sends L) (s s' : S) (passes : Four (PassView Group)) (link link' : L) (seen seen' : LinkShown) (how : End)
       → (shown s).passes ≡ Some passes → StreamAnswered does stands receives sends RECORD_MAX at_once None s link seen (Some how) s' link' seen'
-      → StreamServed (origins bus (firsts s)) stands receives sends (shown s) passes link seen how (shown s') link' seen'
+      → StreamServed (origins bus (firsts s)) tells stands receives sends (shown s) passes link seen how (shown s') link' seen'
   stream-served stands receives sends s s' passes link link' seen seen' how had did =
       let last = did.last in
       let looked = records RECORD_MAX did.front in

@@ -1,6 +1,6 @@
 -- How a run comes to its end: the work at the port is what was asked.
 use Rattle.vx_text.specs.Ends.{End}
-use Rattle.std.proofs.Common.{◌≡◌, sym, subst}
+use Rattle.std.proofs.Common.{◌≡◌, ℕ, sym, subst}
 use Rattle.vx_bus_traits.specs.declared.bus.Bus.{Ghosts}
 use Rattle.vx_core.specs.CoreState.{CoreState}
 use Rattle.vx_gates.specs.Four.{Four}
@@ -10,9 +10,9 @@ use Rattle.vx_peers.specs.declared.serving.Status.TheVariants as status
 use Rattle.vx_buses.specs.Outcome.{Shows, Hosts, IsAskRun}
 
 -- of the cores that are told to be these holds what holds of these
-begun : {B N : Type 0} (g : Ghosts B) (start : Four (CoreState B) → Type 0) (firsts : Four (CoreState B)) (n : Shows N) (ask : Ask) (old new : N) (before after : End) (how : Status) → start firsts
-    → Hosts g n (λ f. f ≡ firsts) ask old new before after how → Hosts g n start ask old new before after how
-begun g start firsts n ask old new before after how holds hosts = record {
+begun : {B C N : Type 0} (g : Ghosts B) (clock : C → ℕ → C → Type 0) (start : Four (CoreState B) → Type 0) (firsts : Four (CoreState B)) (n : Shows N) (ask : Ask) (old new : N) (before after : End) (how : Status) → start firsts
+    → Hosts g clock n (λ f. f ≡ firsts) ask old new before after how → Hosts g clock n start ask old new before after how
+begun g clock start firsts n ask old new before after how holds hosts = record {
   server = hosts.server;
   begins = record { gates = hosts.begins.gates; first = hosts.begins.first; cores = subst start (sym hosts.begins.cores) holds };
   server' = hosts.server';
@@ -21,10 +21,10 @@ begun g start firsts n ask old new before after how holds hosts = record {
 }
 
 -- the work at a port doesn't end for want of memory
-pub hosts-run : {B N : Type 0} (g : Ghosts B) (start : Four (CoreState B) → Type 0) (firsts : Four (CoreState B)) (n : Shows N) (ask : Ask) (old new : N) (before after : End) (how : Status) → start firsts
-    → Hosts g n (λ f. f ≡ firsts) ask old new before after how → IsAskRun g n start ask old new before after how
-hosts-run g start firsts n ask old new before after status.NoMemory holds hosts = absurd hosts.served.serves
-hosts-run g start firsts n ask old new before after status.Served holds hosts = begun g start firsts n ask old new before after status.Served holds hosts
-hosts-run g start firsts n ask old new before after status.Usage holds hosts = begun g start firsts n ask old new before after status.Usage holds hosts
-hosts-run g start firsts n ask old new before after status.NetFailed holds hosts = begun g start firsts n ask old new before after status.NetFailed holds hosts
-hosts-run g start firsts n ask old new before after status.SinkFailed holds hosts = begun g start firsts n ask old new before after status.SinkFailed holds hosts
+pub hosts-run : {B C N : Type 0} (g : Ghosts B) (clock : C → ℕ → C → Type 0) (start : Four (CoreState B) → Type 0) (firsts : Four (CoreState B)) (n : Shows N) (ask : Ask) (old new : N) (before after : End) (how : Status) → start firsts
+    → Hosts g clock n (λ f. f ≡ firsts) ask old new before after how → IsAskRun g clock n start ask old new before after how
+hosts-run g clock start firsts n ask old new before after status.NoMemory holds hosts = absurd hosts.served.serves
+hosts-run g clock start firsts n ask old new before after status.Served holds hosts = begun g clock start firsts n ask old new before after status.Served holds hosts
+hosts-run g clock start firsts n ask old new before after status.Usage holds hosts = begun g clock start firsts n ask old new before after status.Usage holds hosts
+hosts-run g clock start firsts n ask old new before after status.NetFailed holds hosts = begun g clock start firsts n ask old new before after status.NetFailed holds hosts
+hosts-run g clock start firsts n ask old new before after status.SinkFailed holds hosts = begun g clock start firsts n ask old new before after status.SinkFailed holds hosts

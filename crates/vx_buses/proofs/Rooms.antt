@@ -101,10 +101,10 @@ who-refused (Ok x) (Ok y) (Ok z) (Ok w) why h = absurd (cc)
 -- ---- a link
 
 -- a connection of each bus came up, had its session, and went
-had-counts : {B L : Type 0} (g : Origins B) (stands : L → List ℕ → List ℕ → Type 0) (receives : Receives L) (sends : Sends L) (told : ℕ) (passes : Four (PassView Group)) (link : L) (seen : LinkShown) (how : End)
-    (passes' : Four (PassView Group)) (link' : L) (seen' : LinkShown) → HadSession g stands receives sends told passes link seen how passes' link' seen'
+had-counts : {B L : Type 0} (g : Origins B) (stands : L → List ℕ → List ℕ → Type 0) (receives : Receives L) (sends : Sends L) (clocked : List Placed → Type 0) (told : ℕ) (passes : Four (PassView Group)) (link : L) (seen : LinkShown) (how : End)
+    (passes' : Four (PassView Group)) (link' : L) (seen' : LinkShown) → HadSession g stands receives sends clocked told passes link seen how passes' link' seen'
     → (bus : ℕ) → bus ≤ 3 → ComesAndGoes (at bus passes) (at bus passes')
-had-counts g stands receives sends told passes link seen how passes' link' seen' had bus within =
+had-counts g stands receives sends clocked told passes link seen how passes' link' seen' had bus within =
     let did = had.did in
     let joins = subst (λ o. Joins (on bus g) (at bus passes) role.Core o (at bus had.up)) (each-up had.joined had.conns had.all bus)
     (each-on (λ o pass answer pass'. Joins o pass role.Core answer pass') g passes had.joined had.up had.joins bus) in
@@ -112,9 +112,9 @@ had-counts g stands receives sends told passes link seen how passes' link' seen'
     (items-steady g (numbers had.up) had.conns role.Core bus did.items did.each) (did.down bus within)
 
 -- one didn't come up, and those that did went again
-refused-counts : {B L : Type 0} (g : Origins B) (passes : Four (PassView Group)) (link : L) (why : Connect) (passes' : Four (PassView Group)) (link' : L) → WasRefused g passes link why passes' link'
+refused-counts : {B L : Type 0} (g : Origins B) (clocked : List Placed → Type 0) (passes : Four (PassView Group)) (link : L) (why : Connect) (passes' : Four (PassView Group)) (link' : L) → WasRefused g clocked passes link why passes' link'
     → (bus : ℕ) → ComesAndGoes (at bus passes) (at bus passes')
-refused-counts g passes link why passes' link' was bus =
+refused-counts g clocked passes link why passes' link' was bus =
     by (at bus was.joined) (each-on (λ o pass answer pass'. Joins o pass role.Core answer pass') g passes was.joined was.up was.joins bus)
     (each-on (λ o pass answer pass'. Undone o pass answer pass') g was.up was.joined passes' was.undone bus)
   where
@@ -123,18 +123,18 @@ refused-counts g passes link why passes' link' was bus =
     by (Err why) joins same = subst (ComesAndGoes (at bus passes)) (sym same) (none-came (on bus g) role.Core why (at bus passes) (at bus was.up) joins)
 
 -- Whatever became of a link: among the groups that each bus's pass made as many connections came up as went down, and at most one.
-pub link-counts : {B L : Type 0} (g : Origins B) (stands : L → List ℕ → List ℕ → Type 0) (receives : Receives L) (sends : Sends L) (told : ℕ) (passes : Four (PassView Group)) (link : L) (seen : LinkShown) (how : Linked)
-    (passes' : Four (PassView Group)) (link' : L) (seen' : LinkShown) → LinkDid g stands receives sends told passes link seen how passes' link' seen'
+pub link-counts : {B L : Type 0} (g : Origins B) (stands : L → List ℕ → List ℕ → Type 0) (receives : Receives L) (sends : Sends L) (clocked : List Placed → Type 0) (told : ℕ) (passes : Four (PassView Group)) (link : L) (seen : LinkShown) (how : Linked)
+    (passes' : Four (PassView Group)) (link' : L) (seen' : LinkShown) → LinkDid g stands receives sends clocked told passes link seen how passes' link' seen'
     → (bus : ℕ) → bus ≤ 3 → ComesAndGoes (at bus passes) (at bus passes')
-link-counts g stands receives sends told passes link seen (linked.Ended how) passes' link' seen' did bus within = had-counts g stands receives sends told passes link seen how passes' link' seen' did bus within
-link-counts g stands receives sends told passes link seen linked.Full passes' link' seen' did bus within = refused-counts g passes link connect.Full passes' link' did bus
-link-counts g stands receives sends told passes link seen linked.NoMemory passes' link' seen' did bus within = refused-counts g passes link connect.NoMemory passes' link' did bus
+link-counts g stands receives sends clocked told passes link seen (linked.Ended how) passes' link' seen' did bus within = had-counts g stands receives sends clocked told passes link seen how passes' link' seen' did bus within
+link-counts g stands receives sends clocked told passes link seen linked.Full passes' link' seen' did bus within = refused-counts g clocked passes link connect.Full passes' link' did bus
+link-counts g stands receives sends clocked told passes link seen linked.NoMemory passes' link' seen' did bus within = refused-counts g clocked passes link connect.NoMemory passes' link' did bus
 
 -- Where the pass of each bus is clear behind so many links, the next one isn't refused for want of room.
-pub link-never-full : {B L : Type 0} (g : Origins B) (stands : L → List ℕ → List ℕ → Type 0) (receives : Receives L) (sends : Sends L) (told count : ℕ) (passes : Four (PassView Group)) (link : L) (seen : LinkShown)
+pub link-never-full : {B L : Type 0} (g : Origins B) (stands : L → List ℕ → List ℕ → Type 0) (receives : Receives L) (sends : Sends L) (clocked : List Placed → Type 0) (told count : ℕ) (passes : Four (PassView Group)) (link : L) (seen : LinkShown)
     (passes' : Four (PassView Group)) (link' : L) (seen' : LinkShown) → ((bus : ℕ) → bus ≤ 3 → IsClear count (at bus passes)) → count < CONNECTION_LAST
-    → LinkDid g stands receives sends told passes link seen linked.Full passes' link' seen' → ⊥
-link-never-full g stands receives sends told count passes link seen passes' link' seen' clear low was =
+    → LinkDid g stands receives sends clocked told passes link seen linked.Full passes' link' seen' → ⊥
+link-never-full g stands receives sends clocked told count passes link seen passes' link' seen' clear low was =
     let who = who-refused was.joined.zero_ was.joined.one was.joined.two was.joined.three connect.Full was.refused in
     never-full (on who.bus g) count (at who.bus passes) (at who.bus was.up) role.Core (clear who.bus who.within) low
     (subst (λ o. Joins (on who.bus g) (at who.bus passes) role.Core o (at who.bus was.up)) who.answer

@@ -26,7 +26,7 @@ use Rattle.vx_session.specs.Placing.{Placed, Makes}
 use Rattle.vx_session.specs.Turning.{Leaves}
 use Rattle.vx_session.specs.Ending.{Upholds}
 use Rattle.vx_buses.specs.Origins.{Origins, on, OnEach}
-use Rattle.vx_buses.specs.Serving.{Item, Serves, answered, placed_on, numbers}
+use Rattle.vx_buses.specs.Serving.{Item, Serves, answered, placed, placed_on, numbers}
 
 -- the connection of each bus went
 abbrev pub LeavesAll : {B : Type 0} → Origins B → Four (PassView Group) → Four ℕ → Four (PassView Group) → Type 0
@@ -47,7 +47,7 @@ at_once = 4096
 -- A session on connections of this role, one of each bus: the records that it served, in their order; the bytes `front` that it looked
 -- at, and those that it received behind them, fewer than it receives at once; the replies, of which the link took `written`; and the end
 -- of each connection. It received more only where it had written the replies to all records that had come, whole.
-pub record SessionDid {B L : Type 0} (g : Origins B) (stands : L → List ℕ → List ℕ → Type 0) (receives : Receives L) (sends : Sends L) (told : ℕ) (r : Role) (conns : Four ℕ) (passes : Four (PassView Group)) (link : L)
+pub record SessionDid {B L : Type 0} (g : Origins B) (stands : L → List ℕ → List ℕ → Type 0) (receives : Receives L) (sends : Sends L) (clocked : List Placed → Type 0) (told : ℕ) (r : Role) (conns : Four ℕ) (passes : Four (PassView Group)) (link : L)
     (seen : LinkShown) (how : End) (passes' : Four (PassView Group)) (link' : L) (seen' : LinkShown) : Type 0 where
   pub items : List Item
   pub lasts : Four Placed
@@ -68,6 +68,8 @@ pub record SessionDid {B L : Type 0} (g : Origins B) (stands : L → List ℕ �
   pub in_turn : InTurn receives sends RECORD_MAX (answered items) link (front ++ behind) written link'
   -- why it ended: a message without a reply is junk
   pub ended : EndsSo (λ message. meaning message r ≡ Junk) seen (answered items) (records RECORD_MAX front) behind unsent seen' (Some how)
+  -- the calls of the clock for the groups of the records
+  pub asks : clocked (placed items)
   -- each bus has a legal history of its own, over the one bus that its gate was started over, with its laws
   pub upholds : (bus : ℕ) → bus ≤ 3 → Upholds (on bus g) (at bus passes')
   -- no number of a link is given twice over all four

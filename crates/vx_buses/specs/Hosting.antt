@@ -14,15 +14,17 @@ use Rattle.vx_group.specs.Groups.{Group}
 use Rattle.vx_stream.specs.Shown.{LinkShown}
 use Rattle.vx_session.specs.declared.links.Linked.{Linked}
 use Rattle.vx_session.specs.declared.links.Linked.TheVariants as linked
+use Rattle.vx_session.specs.Progress.{Clocked}
 use Rattle.vx_rooms.specs.Counting.{IsClear}
 use Rattle.vx_buses.specs.Origins.{origins}
 use Rattle.vx_buses.specs.Linking.{LinkDid}
 
--- what it has between two links: its passes of four gates, the cores, each with its bus, that these gates were started over, and the
--- greatest moment that its clock has told
-pub record Hosting (B : Type 0) : Type 0 where
+-- what it has between two links: its passes of four gates, the cores, each with its bus, that these gates were started over, its clock,
+-- and the greatest moment that that has told
+pub record Hosting (B C : Type 0) : Type 0 where
   pub passes : Four (PassView Group)
   pub firsts : Four (CoreState B)
+  pub clock : C
   pub told : ℕ
 
 -- passes of no gate
@@ -47,16 +49,16 @@ pub record IsReady (count : ℕ) (held : Option (Four (PassView Group))) (gates 
 -- It begins with the first pass of each of four gates, which has all 4,294,967,296 parts, has seen nothing and made nothing: so each
 -- bus's history begins with nothing, and all of it is made by these passes. `start` tells of the cores that the gates were started
 -- over.
-pub record Begins {B : Type 0} (start : Four (CoreState B) → Type 0) (server : Hosting B) : Type 0 where
+pub record Begins {B C : Type 0} (start : Four (CoreState B) → Type 0) (server : Hosting B C) : Type 0 where
   pub gates : Four GateId
   pub first : Each IsFirst server.passes gates
   pub cores : start server.firsts
 
 -- A link was served, at the gates that it had, by receives and sends of the door alone, and none of its connections was refused for
--- want of room. `receives` and `sends` are what one of them does.
-pub record PeerDid {B N : Type 0} (g : Ghosts B) (stands : N → List ℕ → List ℕ → Type 0) (receives : N → List ℕ → ReadOut → List ℕ → N → Type 0) (sends : N → List ℕ → WriteOut → N → Type 0)
-    (shown : N → LinkShown) (server : Hosting B) (door : N) (how : Linked) (server' : Hosting B) (door' : N) : Type 0 where
-  pub did : LinkDid (origins g server.firsts) stands receives sends server'.told server.passes door (shown door) how server'.passes door' (shown door')
+-- want of room. `receives` and `sends` are what one of them does, and `tells` what a call of its clock does.
+pub record PeerDid {B C N : Type 0} (g : Ghosts B) (tells : C → ℕ → C → Type 0) (stands : N → List ℕ → List ℕ → Type 0) (receives : N → List ℕ → ReadOut → List ℕ → N → Type 0) (sends : N → List ℕ → WriteOut → N → Type 0)
+    (shown : N → LinkShown) (server : Hosting B C) (door : N) (how : Linked) (server' : Hosting B C) (door' : N) : Type 0 where
+  pub did : LinkDid (origins g server.firsts) stands receives sends (Clocked tells server.clock server'.clock) server'.told server.passes door (shown door) how server'.passes door' (shown door')
   pub same : server'.firsts ≡ server.firsts
   pub went : Went receives sends door door'
   pub later : server.told ≤ server'.told

@@ -36,13 +36,13 @@ pub record Shows (N : Type 0) : Type 1 where
   pub link : N → LinkShown
   pub opening : Opening N
 
-module _ {B N : Type 0} (g : Ghosts B) (n : Shows N) where
+module _ {B C N : Type 0} (g : Ghosts B) (clock : C → ℕ → C → Type 0) (n : Shows N) where
   -- serving a link of the door
-  abbrev pub Does : Hosting B → N → Linked → Hosting B → N → Type 0
-  Does = PeerDid g n.stands n.receives n.sends n.link
+  abbrev pub Does : Hosting B C → N → Linked → Hosting B C → N → Type 0
+  Does = PeerDid g clock n.stands n.receives n.sends n.link
 
   -- the door with what its server does, as a program over a door has it
-  abbrev pub hosted : peers.Shows N (Hosting B) Linked
+  abbrev pub hosted : peers.Shows N (Hosting B C) Linked
   hosted = record { stands = n.stands; tells = n.tells; waits = n.waits; door = n.door; did = Does; own = is_own; whole = is_whole }
 
   -- `start` tells of the cores, each with its bus, that the four gates are started over
@@ -50,9 +50,9 @@ module _ {B N : Type 0} (g : Ghosts B) (n : Shows N) where
     -- The work at the port that is asked for, by four gates that begin with nothing. As serving a link leaves the door's own counts, those tell how many
     -- it met over the whole run.
     pub record Hosts (ask : Ask) (old new : N) (before after : End) (how : Status) : Type 0 where
-      pub server : Hosting B
+      pub server : Hosting B C
       pub begins : Begins start server
-      pub server' : Hosting B
+      pub server' : Hosting B C
       pub served : IsServed hosted n.opening ask server old server' new before after how
       pub keeps : KeepsOwn n.door Does
 

@@ -14,6 +14,7 @@ use Rattle.vx_routes.specs.Replying.{renumbered}
 use Rattle.vx_stream.specs.Answered.{Answered}
 use Rattle.vx_session.specs.Origin.{Origin}
 use Rattle.vx_session.specs.Placing.{Placed, Makes}
+use Rattle.vx_session.specs.Progress.{ClockedAs}
 use Rattle.vx_session.specs.Serving.{IsCalled, IsAborted}
 use Rattle.vx_exchange.specs.Meaning as one
 use Rattle.vx_exchange.specs.Meaning.{meaning}
@@ -51,10 +52,15 @@ pub record Serves {B : Type 0} (g : Origins B) (numbers conns : Four ℕ) (r : R
   pub within : item.bus ≤ 3
   pub served : IsServed g numbers conns (meant item.answered.message r) item.bus item.placed item.answered.reply
 
--- the messages of these items with their replies, and the groups that they added to this bus's history
+-- the messages of these items with their replies
 abbrev pub answered : List Item → List Answered
 answered items = map (λ i. i.answered) items
 
+-- the groups that they added to all histories, in the order of the items
+abbrev pub placed : List Item → List Placed
+placed items = flat_map (λ i. i.placed) items
+
+-- and those that they added to this bus's history
 abbrev pub placed_on : ℕ → List Item → List Placed
 placed_on bus items = flat_map (λ i. if i.bus == bus then i.placed else []) items
 
@@ -64,16 +70,17 @@ numbers f = record { zero_ = f.zero_.number; one = f.one.number; two = f.two.num
 
 -- ---- a message
 
--- what a session has between two messages: the connections' role, their numbers, the passes, and the greatest moment that its clock has
--- told
-pub record State : Type 0 where
+-- what a session has between two messages: the connections' role, their numbers, the passes, its clock, and the greatest moment that that
+-- has told
+pub record State (C : Type 0) : Type 0 where
   pub role : Role
   pub conns : Four ℕ
   pub passes : Option (Four (PassView Group))
+  pub clock : C
   pub told : ℕ
 
 -- A message was served by this reply. Its bus's pass went on; the other three stay as they were.
-pub record IsAnswered {B : Type 0} (g : Origins B) (s : State) (message reply : List ℕ) (s' : State) : Type 0 where
+pub record IsAnswered {B C : Type 0} (g : Origins B) (tells : C → ℕ → C → Type 0) (s : State C) (message reply : List ℕ) (s' : State C) : Type 0 where
   pub passes : Four (PassView Group)
   pub bus : ℕ
   pub within : bus ≤ 3
@@ -82,26 +89,28 @@ pub record IsAnswered {B : Type 0} (g : Origins B) (s : State) (message reply : 
   pub had : s.passes ≡ Some passes
   pub has : s'.passes ≡ Some (put bus own passes)
   pub makes : Makes s'.told (at bus passes) placed own
+  pub asks : ClockedAs s.role tells s.clock s'.clock placed
   pub served : IsServed g (numbers passes) s.conns (meant message s.role) bus placed reply
 
 -- junk is no call and changes nothing; any other message is served
-abbrev pub HasReply : {B : Type 0} → Origins B → State → List ℕ → Option (List ℕ) → State → Type 0
-HasReply g s message None s' = (meaning message s.role ≡ one.Junk) × (s'.passes ≡ s.passes)
-HasReply g s message (Some reply) s' = IsAnswered g s message reply s'
+abbrev pub HasReply : {B C : Type 0} → Origins B → (C → ℕ → C → Type 0) → State C → List ℕ → Option (List ℕ) → State C → Type 0
+HasReply g tells s message None s' = (meaning message s.role ≡ one.Junk) × (s'.passes ≡ s.passes) × (s'.clock ≡ s.clock)
+HasReply g tells s message (Some reply) s' = IsAnswered g tells s message reply s'
 
 -- what a message on the connections does
-pub record MessageDoes {B : Type 0} (g : Origins B) (s : State) (message : List ℕ) (reply : Option (List ℕ)) (s' : State) : Type 0 where
+pub record MessageDoes {B C : Type 0} (g : Origins B) (tells : C → ℕ → C → Type 0) (s : State C) (message : List ℕ) (reply : Option (List ℕ)) (s' : State C) : Type 0 where
   pub role : s'.role ≡ s.role
   pub conns : s'.conns ≡ s.conns
   pub later : s.told ≤ s'.told
-  pub has : HasReply g s message reply s'
+  pub has : HasReply g tells s message reply s'
 
 -- a message of this meaning was served by one of the four buses, or by none
-pub record ServesCall {B : Type 0} (g : Origins B) (told : ℕ) (passes : Four (PassView Group)) (conns : Four ℕ) (m : Meant) (out : List ℕ) (passes' : Four (PassView Group)) : Type 0 where
+pub record ServesCall {B : Type 0} (g : Origins B) (clocked : List Placed → Type 0) (told : ℕ) (passes : Four (PassView Group)) (conns : Four ℕ) (m : Meant) (out : List ℕ) (passes' : Four (PassView Group)) : Type 0 where
   pub bus : ℕ
   pub within : bus ≤ 3
   pub placed : List Placed
   pub own : PassView Group
   pub is : passes' ≡ put bus own passes
   pub makes : Makes told (at bus passes) placed own
+  pub asks : clocked placed
   pub served : IsServed g (numbers passes) conns m bus placed out

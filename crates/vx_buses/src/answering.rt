@@ -16,6 +16,7 @@ ghost use Rattle.vx_routes.specs.Routing.{route_of};
 ghost use Rattle.vx_buses.specs.Origins.{origins};
 ghost use Rattle.vx_buses.specs.Holding.{four_of, Holds};
 ghost use Rattle.vx_buses.specs.Meant.{by_way};
+ghost use Rattle.vx_session.specs.Progress.{Clocked};
 ghost use Rattle.vx_buses.specs.Serving.{MessageDoes, ServesCall};
 
 use crate::asking::{abort_on_bus, ask_bus};
@@ -45,9 +46,9 @@ impl<'a, R: Wait, B: Bus, C: Clock, P: Pause> Answers for Many<'a, R, B, C, P> {
     // the connections are idle
     ghost can = { λ s. (passes : Four (PassView Group)) × (option_map passes_shown s.held.now ≡ Some passes) × Holds passes (gates_shown s.buses.now) (four_of s.conns) s.role };
 
-    ghost does = { λ s message reply s'. MessageDoes (origins B.Bus (firsts_shown s.buses.now))
-        (record { role = s.role; conns = four_of s.conns; passes = option_map passes_shown s.held.now; told = C.told s.clock.now }) message reply
-        (record { role = s'.role; conns = four_of s'.conns; passes = option_map passes_shown s'.held.now; told = C.told s'.clock.now })
+    ghost does = { λ s message reply s'. MessageDoes (origins B.Bus (firsts_shown s.buses.now)) C.tells
+        (record { role = s.role; conns = four_of s.conns; passes = option_map passes_shown s.held.now; clock = s.clock.now; told = C.told s.clock.now }) message reply
+        (record { role = s'.role; conns = four_of s'.conns; passes = option_map passes_shown s'.held.now; clock = s'.clock.now; told = C.told s'.clock.now })
         × (s'.held.ghost_name ≡ s.held.ghost_name) × (s'.clock.ghost_name ≡ s.clock.ghost_name) × (firsts_shown s'.buses.now ≡ firsts_shown s.buses.now) };
 
     ghost longest = { RECORD_MAX };
@@ -100,8 +101,8 @@ fn serve_record<R: Wait, B: Bus, C: Clock, P: Pause>(
     requires holds { Holds (passes_shown passes) (gates_shown buses.now) (four_of conns.now) role }
     requires short { length message.now ≤ RECORD_MAX }
     requires room { REPLY_ROOM ≤ length reply.old }
-    ensures does { MessageDoes (origins B.Bus (firsts_shown buses.now)) (record { role = role; conns = four_of conns.now; passes = Some (passes_shown passes); told = C.told clock.old }) message.now
-        (option_map (λ n. take n reply.new) result.1) (record { role = role; conns = four_of conns.now; passes = Some (passes_shown result.0); told = C.told clock.new }) }
+    ensures does { MessageDoes (origins B.Bus (firsts_shown buses.now)) C.tells (record { role = role; conns = four_of conns.now; passes = Some (passes_shown passes); clock = clock.old; told = C.told clock.old }) message.now
+        (option_map (λ n. take n reply.new) result.1) (record { role = role; conns = four_of conns.now; passes = Some (passes_shown result.0); clock = clock.new; told = C.told clock.new }) }
     ensures holds { Holds (passes_shown result.0) (gates_shown buses.now) (four_of conns.now) role }
     ensures within { IfSome result.1 (λ n. n ≤ length reply.new) }
     ensures len { length reply.new ≡ length reply.old }
@@ -139,7 +140,7 @@ fn serve_call<R: Wait, B: Bus, C: Clock, P: Pause>(
     requires waits { may_wait (call_shown call) ≡ true }
     requires short { IsShort (call_shown call) }
     requires room { REPLY_ROOM ≤ length reply.old }
-    ensures served { ServesCall (origins B.Bus (firsts_shown buses.now)) (C.told clock.new) (passes_shown passes) (four_of conns.now) (by_way xid (route_of (call_shown call.entry))) (take result.1 reply.new) (passes_shown result.0) }
+    ensures served { ServesCall (origins B.Bus (firsts_shown buses.now)) (Clocked C.tells clock.old clock.new) (C.told clock.new) (passes_shown passes) (four_of conns.now) (by_way xid (route_of (call_shown call.entry))) (take result.1 reply.new) (passes_shown result.0) }
     ensures holds { Holds (passes_shown result.0) (gates_shown buses.now) (four_of conns.now) role.Core }
     ensures told { C.told clock.old ≤ C.told clock.new }
     ensures within { result.1 ≤ length reply.new }

@@ -11,6 +11,7 @@ ghost use Rattle.vx_rules.specs.Calls.{IsShort};
 ghost use Rattle.vx_rules.specs.One.{may_wait};
 ghost use Rattle.vx_session.specs.Turning.{phase_at};
 ghost use Rattle.vx_session.specs.Serving.{IsAborted};
+ghost use Rattle.vx_session.specs.Progress.{Clocked, unclocked};
 ghost use Rattle.vx_buses.specs.Origins.{origins, on};
 ghost use Rattle.vx_buses.specs.Asking.{OnBus};
 ghost use Rattle.vx_buses.specs.Holding.{four_of};
@@ -57,7 +58,7 @@ pub(crate) fn ask_bus<R: Wait, B: Bus, C: Clock, P: Pause>(
     requires waits { may_wait (call_shown call.now) ≡ true }
     requires short { IsShort (call_shown call.now) }
     requires room { REPLY_ROOM ≤ length reply.old }
-    ensures asks { OnBus (C.told clock.new) (passes_shown passes) bus
+    ensures asks { OnBus (Clocked C.tells clock.old clock.new) (C.told clock.new) (passes_shown passes) bus
         (λ placed. IsAsked (on bus (origins B.Bus (firsts_shown buses.now))) (at bus (passes_shown passes)).number (at bus (four_of conns.now)) xid (call_shown call.now) bus placed (take result.1 reply.new))
         (passes_shown result.0) }
     ensures phase { phase_at (at bus (passes_shown result.0)) (at bus (four_of conns.now)) ≡ Idle role.Core }
@@ -110,7 +111,7 @@ pub(crate) fn abort_on_bus<R: Wait, B: Bus>(
     requires bus { bus ≤ 3 }
     requires phase { phase_at (at bus (passes_shown passes)) (at bus (four_of conns.now)) ≡ Idle role.Abort }
     requires room { REPLY_ROOM ≤ length reply.old }
-    ensures aborts { OnBus 0 (passes_shown passes) bus (λ placed. IsAborted (at bus (four_of conns.now)) xid lid placed [] (take result.1 reply.new)) (passes_shown result.0) }
+    ensures aborts { OnBus unclocked 0 (passes_shown passes) bus (λ placed. IsAborted (at bus (four_of conns.now)) xid lid placed [] (take result.1 reply.new)) (passes_shown result.0) }
     ensures phase { phase_at (at bus (passes_shown result.0)) (at bus (four_of conns.now)) ≡ Idle role.Abort }
     ensures within { result.1 ≤ length reply.new }
     ensures len { length reply.new ≡ length reply.old }

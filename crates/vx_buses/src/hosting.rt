@@ -56,9 +56,9 @@ impl<'a, R: Wait, N: Door, B: Bus, C: Clock, P: Pause> Serves<N> for Host<'a, R,
 
     ghost can = { λ s. IsReady s.served (option_map passes_shown s.held) (gates_shown s.buses) };
 
-    ghost did = { λ s door how s' door'. PeerDid B.Bus N.stands N.receives N.sends (link_shown N.left N.peers N.receive_faults N.send_faults)
-        (record { passes = passes_of (option_map passes_shown s.held); firsts = firsts_shown s.buses; told = C.told s.clock }) door how
-        (record { passes = passes_of (option_map passes_shown s'.held); firsts = firsts_shown s'.buses; told = C.told s'.clock }) door' };
+    ghost did = { λ s door how s' door'. PeerDid B.Bus C.tells N.stands N.receives N.sends (link_shown N.left N.peers N.receive_faults N.send_faults)
+        (record { passes = passes_of (option_map passes_shown s.held); firsts = firsts_shown s.buses; clock = s.clock; told = C.told s.clock }) door how
+        (record { passes = passes_of (option_map passes_shown s'.held); firsts = firsts_shown s'.buses; clock = s'.clock; told = C.told s'.clock }) door' };
 
     ghost is_own = { is_own };
 

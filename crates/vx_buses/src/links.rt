@@ -6,6 +6,7 @@ ghost use Rattle.vx_gates.specs.Passing.{passes_shown, IsOf};
 ghost use Rattle.vx_gates.specs.Standing.{gates_shown, firsts_shown};
 ghost use Rattle.vx_session.specs.Linking.{refused_as};
 ghost use Rattle.vx_stream.specs.Shown.{link_shown};
+ghost use Rattle.vx_session.specs.Progress.{Clocked};
 ghost use Rattle.vx_buses.specs.Origins.{origins};
 ghost use Rattle.vx_buses.specs.Linking.{LinkDid};
 
@@ -44,7 +45,7 @@ pub fn many_link<R: Wait, B: Bus, L: Link, C: Clock, P: Pause>(
     room: &mut Room,
 ) -> (BusPass<B>, Linked)
     requires gates { Each IsOf (passes_shown passes) (gates_shown buses.now) }
-    ensures did { LinkDid (origins B.Bus (firsts_shown buses.now)) L.stands L.receives L.sends (C.told clock.new) (passes_shown passes) link.old (link_shown L.left L.peers L.receive_faults L.send_faults link.old)
+    ensures did { LinkDid (origins B.Bus (firsts_shown buses.now)) L.stands L.receives L.sends (Clocked C.tells clock.old clock.new) (C.told clock.new) (passes_shown passes) link.old (link_shown L.left L.peers L.receive_faults L.send_faults link.old)
         result.1 (passes_shown result.0) link.new (link_shown L.left L.peers L.receive_faults L.send_faults link.new) }
     ensures went { Went L.receives L.sends link.old link.new }
     ensures gates { Each IsOf (passes_shown result.0) (gates_shown buses.now) }

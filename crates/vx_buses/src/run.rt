@@ -37,7 +37,7 @@ fn serve_ask<R: Wait, B: Bus + Drop, N: Door, X: Tools, K: Sink>(
     sink: &mut K,
 ) -> Status
     requires first { Each IsFirst (passes_shown passes) (gates_shown buses) }
-    ensures { Hosts B.Bus (record {
+    ensures { Hosts B.Bus X.C.tells (record {
       stands = N.stands;
       receives = N.receives;
       sends = N.sends;
@@ -75,7 +75,7 @@ fn run_racked<R: Wait, I: Instrument, N: Door, X: Tools, K: Sink, M: Racked>(
 ) -> Status
     requires four { length rack.items ≡ 4 }
     requires racked { M.rack ≡ handed (λ i. I.behaves i) (λ i. I.nature i) rack.items }
-    ensures { IsAskRun (lone M.rack) (record {
+    ensures { IsAskRun (lone M.rack) X.C.tells (record {
       stands = N.stands;
       receives = N.receives;
       sends = N.sends;
@@ -108,7 +108,7 @@ fn run_ask<R: Wait, I: Instrument, N: Door, X: Tools, K: Sink>(
     rack: Vec<Spare<I>>,
 ) -> Status
     requires four { length rack.items ≡ 4 }
-    ensures { IsAskRun (lone (handed (λ i. I.behaves i) (λ i. I.nature i) rack.items)) (record {
+    ensures { IsAskRun (lone (handed (λ i. I.behaves i) (λ i. I.nature i) rack.items)) X.C.tells (record {
       stands = N.stands;
       receives = N.receives;
       sends = N.sends;
@@ -134,7 +134,7 @@ fn run<R: Wait, I: Instrument, N: Door, X: Tools, K: Sink>(
     rack: Vec<Spare<I>>,
 ) -> Status
     requires four { length rack.items ≡ 4 }
-    ensures { IsRun (lone (handed (λ i. I.behaves i) (λ i. I.nature i) rack.items)) (record {
+    ensures { IsRun (lone (handed (λ i. I.behaves i) (λ i. I.nature i) rack.items)) X.C.tells (record {
       stands = N.stands;
       receives = N.receives;
       sends = N.sends;
@@ -184,7 +184,7 @@ pub fn buses_run<R: Wait, I: Instrument, N: Door, X: Tools, K: Sink>(
     rack: Vec<Spare<I>>,
 ) -> u8
     requires four { length rack.items ≡ 4 }
-    ensures { EndsRun (lone (handed (λ i. I.behaves i) (λ i. I.nature i) rack.items)) (record {
+    ensures { EndsRun (lone (handed (λ i. I.behaves i) (λ i. I.nature i) rack.items)) X.C.tells (record {
       stands = N.stands;
       receives = N.receives;
       sends = N.sends;

@@ -5,6 +5,7 @@ ghost use Rattle.vx_door.specs.Going.{Went};
 ghost use Rattle.vx_gates.specs.Passing.{passes_shown};
 ghost use Rattle.vx_gates.specs.Standing.{gates_shown, firsts_shown};
 ghost use Rattle.vx_stream.specs.Shown.{link_shown};
+ghost use Rattle.vx_session.specs.Progress.{Clocked, ClockedAs, unclocked};
 ghost use Rattle.vx_buses.specs.Origins.{origins};
 ghost use Rattle.vx_buses.specs.Ending.{SessionDid};
 ghost use Rattle.vx_buses.specs.Holding.{four_of, Holds};
@@ -34,7 +35,7 @@ fn run_session<R: Wait, B: Bus, L: Link, C: Clock, P: Pause>(
     room: &mut Room,
 ) -> (BusPass<B>, End)
     requires holds { Holds (passes_shown pass) (gates_shown buses.now) (four_of conns) role }
-    ensures did { SessionDid (origins B.Bus (firsts_shown buses.now)) L.stands L.receives L.sends (C.told clock.new) role (four_of conns) (passes_shown pass) link.old (link_shown L.left L.peers L.receive_faults L.send_faults link.old)
+    ensures did { SessionDid (origins B.Bus (firsts_shown buses.now)) L.stands L.receives L.sends (ClockedAs role C.tells clock.old clock.new) (C.told clock.new) role (four_of conns) (passes_shown pass) link.old (link_shown L.left L.peers L.receive_faults L.send_faults link.old)
         result.1 (passes_shown result.0) link.new (link_shown L.left L.peers L.receive_faults L.send_faults link.new) }
     ensures went { Went L.receives L.sends link.old link.new }
     ensures told { C.told clock.old ≤ C.told clock.new }
@@ -72,7 +73,7 @@ pub fn many_session<R: Wait, B: Bus, L: Link, C: Clock, P: Pause>(
     room: &mut Room,
 ) -> (BusPass<B>, End)
     requires holds { Holds (passes_shown pass) (gates_shown buses.now) (four_of conns) role.Core }
-    ensures did { SessionDid (origins B.Bus (firsts_shown buses.now)) L.stands L.receives L.sends (C.told clock.new) role.Core (four_of conns) (passes_shown pass) link.old (link_shown L.left L.peers L.receive_faults L.send_faults link.old)
+    ensures did { SessionDid (origins B.Bus (firsts_shown buses.now)) L.stands L.receives L.sends (Clocked C.tells clock.old clock.new) (C.told clock.new) role.Core (four_of conns) (passes_shown pass) link.old (link_shown L.left L.peers L.receive_faults L.send_faults link.old)
         result.1 (passes_shown result.0) link.new (link_shown L.left L.peers L.receive_faults L.send_faults link.new) }
     ensures went { Went L.receives L.sends link.old link.new }
     ensures told { C.told clock.old ≤ C.told clock.new }
@@ -90,7 +91,7 @@ pub fn many_abort<R: Wait, B: Bus, L: Link>(
     room: &mut Room,
 ) -> (BusPass<B>, End)
     requires holds { Holds (passes_shown pass) (gates_shown buses.now) (four_of conns) role.Abort }
-    ensures did { SessionDid (origins B.Bus (firsts_shown buses.now)) L.stands L.receives L.sends 0 role.Abort (four_of conns) (passes_shown pass) link.old (link_shown L.left L.peers L.receive_faults L.send_faults link.old)
+    ensures did { SessionDid (origins B.Bus (firsts_shown buses.now)) L.stands L.receives L.sends unclocked 0 role.Abort (four_of conns) (passes_shown pass) link.old (link_shown L.left L.peers L.receive_faults L.send_faults link.old)
         result.1 (passes_shown result.0) link.new (link_shown L.left L.peers L.receive_faults L.send_faults link.new) }
     ensures went { Went L.receives L.sends link.old link.new }
 {

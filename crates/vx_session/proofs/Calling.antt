@@ -31,11 +31,11 @@ use Rattle.vx_exchange.specs.Doing.{Says}
 use Rattle.vx_session.specs.Placing.{Placed, Makes, behind}
 use Rattle.vx_session.specs.Parts.{IsPolled, moment_at, phase_behind, settled_events}
 use Rattle.vx_session.specs.Turning.{phase_at, IsChannel, Comes, PollsAgain, Settles}
-use Rattle.vx_session.specs.ProvedLaws.{ispolled-all, makes-later, makes-goes}
+use Rattle.vx_session.specs.ProvedLaws.{ispolled-all, makes-later, makes-goes, clocked-goes}
 use Rattle.vx_session.specs.Outside.{DialShown, RoseBy, is_failed_dial}
 use Rattle.vx_session.specs.Serving.{IsPoll, IsCalled, GoesOn, rings}
 use Rattle.vx_session.specs.Progress.{Rings, Clocked, AnswersCall, AnswersDial, failed_dials}
-use Rattle.vx_session.proofs.Progressing.{adds-none, adds-goes, failed_dials-append, clocked-goes}
+use Rattle.vx_session.proofs.Progressing.{adds-none, adds-goes, failed_dials-append}
 
 -- ---- the calls of a dial
 

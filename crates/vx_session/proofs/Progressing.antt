@@ -9,8 +9,6 @@ use Rattle.std.proofs.lemmas.Option.{same_Some}
 use Rattle.vx_io_traits.specs.declared.dials.Rang.{Rang}
 use Rattle.vx_io_traits.specs.Rung.{AddsCalls}
 use Rattle.vx_io_traits.specs.Stands.{Goes}
-use Rattle.vx_calls.specs.declared.calls.Role.{Role}
-use Rattle.vx_calls.specs.declared.calls.Role.TheVariants as role
 use Rattle.vx_calls.specs.declared.limits.TheConstants.{RECORD_MAX}
 use Rattle.vx_bus_traits.specs.declared.bus.Bus.{Ghosts}
 use Rattle.vx_core.specs.CoreState.{CoreState}
@@ -29,8 +27,8 @@ use Rattle.vx_session.specs.declared.sessions.TheConstants.{PIECE}
 use Rattle.vx_session.specs.Placing.{Placed, Makes}
 use Rattle.vx_session.specs.Outside.{DialShown, RoseBy, is_failed_dial}
 use Rattle.vx_session.specs.Serving.{Item, Serves}
-use Rattle.vx_session.specs.Progress.{Rings, Clocked, ClockedAs, SessionState, ServesRecord, MessageDoes, answered, placed, calls, failed_dials}
-use Rattle.vx_session.specs.ProvedLaws.{makes-none, makes-goes}
+use Rattle.vx_session.specs.Progress.{Rings, ClockedAs, SessionState, ServesRecord, MessageDoes, answered, placed, calls, failed_dials}
+use Rattle.vx_session.specs.ProvedLaws.{makes-none, makes-goes, clockedas-none, clockedas-goes}
 
 -- a dial told no further call
 pub adds-none : (a : Option (List Rang)) → AddsCalls a a []
@@ -66,24 +64,6 @@ rings-goes a b c ps qs xs ys before after = record {
   failed = subst (λ n. RoseBy n a.faults c.faults) (sym (failed_dials-append ps qs))
       (rose-goes (failed_dials ps) (failed_dials qs) a.faults b.faults c.faults before.failed after.failed);
 }
-
--- ---- a clock
-
--- the calls of a clock for some groups, and then those for more of them
-pub clocked-goes : {C : Type 0} (tells : C → ℕ → C → Type 0) (a b c : C) (ps qs : List Placed) → Clocked tells a b ps → Clocked tells b c qs → Clocked tells a c (ps ++ qs)
-clocked-goes tells a b c [] qs before after = subst (λ x. Clocked tells x c qs) before after
-clocked-goes tells a b c (p ∷ ps) qs before after = (before.0, before.1, before.2, before.3, clocked-goes tells before.1 b c ps qs before.4 after)
-
-module _ {C : Type 0} (tells : C → ℕ → C → Type 0) where
-  -- on a connection of a role: for no group
-  pub clockedas-none : (r : Role) (a b : C) → b ≡ a → ClockedAs r tells a b []
-  clockedas-none role.Core a b same = same
-  clockedas-none role.Abort a b same = same
-
-  -- and for groups, and then more of them
-  clockedas-goes : (r : Role) (a b c : C) (ps qs : List Placed) → ClockedAs r tells a b ps → ClockedAs r tells b c qs → ClockedAs r tells a c (ps ++ qs)
-  clockedas-goes role.Core a b c ps qs before after = clocked-goes tells a b c ps qs before after
-  clockedas-goes role.Abort a b c ps qs before after = after ∙ before
 
 -- ---- the messages of a session
 

@@ -5,6 +5,7 @@ use Rattle.std.proofs.lemmas.List.{map-append}
 use Rattle.std.proofs.lemmas.List.Elements.{All-nil, All-cons, All-append, All-weaker}
 use Rattle.std.proofs.lemmas.Option.{none-some, same_Some}
 use Rattle.std.specs.List.{All}
+use Rattle.vx_calls.specs.declared.calls.Role.{Role}
 use Rattle.vx_calls.specs.declared.calls.Role.TheVariants as role
 use Rattle.vx_calls.specs.Call.{Call}
 use Rattle.vx_calls.specs.Reply.{Reply}
@@ -25,6 +26,7 @@ use Rattle.vx_group.specs.ProvedLaws.{phase-append}
 use Rattle.vx_session.specs.Acting.{poll_events}
 use Rattle.vx_session.specs.Placing.{Placed, Chain, IsTold, IsTimely, Makes, behind, logged}
 use Rattle.vx_session.specs.Parts.{IsPolled, IsAt, dialed_of, phase_behind}
+use Rattle.vx_session.specs.Progress.{Clocked, ClockedAs}
 
 -- ---- polls
 
@@ -194,3 +196,21 @@ makes-later told told' p q ps later makes = record {
   timely = all-later told told' ps later makes.timely;
   alone = makes.alone;
 }
+
+-- ---- a clock
+
+-- the calls of a clock for some groups, and then those for more of them
+pub clocked-goes : {C : Type 0} (tells : C → ℕ → C → Type 0) (a b c : C) (ps qs : List Placed) → Clocked tells a b ps → Clocked tells b c qs → Clocked tells a c (ps ++ qs)
+clocked-goes tells a b c [] qs before after = subst (λ x. Clocked tells x c qs) before after
+clocked-goes tells a b c (p ∷ ps) qs before after = (before.0, before.1, before.2, before.3, clocked-goes tells before.1 b c ps qs before.4 after)
+
+module _ {C : Type 0} (tells : C → ℕ → C → Type 0) where
+  -- on a connection of a role: for no group
+  pub clockedas-none : (r : Role) (a b : C) → b ≡ a → ClockedAs r tells a b []
+  clockedas-none role.Core a b same = same
+  clockedas-none role.Abort a b same = same
+
+  -- and for groups, and then more of them
+  pub clockedas-goes : (r : Role) (a b c : C) (ps qs : List Placed) → ClockedAs r tells a b ps → ClockedAs r tells b c qs → ClockedAs r tells a c (ps ++ qs)
+  clockedas-goes role.Core a b c ps qs before after = clocked-goes tells a b c ps qs before after
+  clockedas-goes role.Abort a b c ps qs before after = after ∙ before

@@ -5,6 +5,7 @@ use Rattle.vx_gates.specs.Passing.{passes_shown}
 use Rattle.vx_gates.specs.Standing.{gates_shown, firsts_shown}
 use Rattle.vx_buses.specs.Origins.{origins}
 use Rattle.vx_buses.specs.Holding.{four_of, Holds}
+use Rattle.vx_session.specs.Progress.{unclocked}
 use Rattle.vx_buses.proofs.Answered.{idle-at, holds-on, answered-does, asks-does, aborts-does}
 use Rattle.vx_buses.proofs.answering.serve_record.Goals as goal
 
@@ -16,7 +17,7 @@ returns-in-Answered-clause-does g c =
       role = refl;
       conns = refl;
       later = omega arith;
-      has = answered-does (origins g.B.Bus (firsts_shown c.args.buses.now)) told (passes_shown c.args.passes) (four_of c.args.conns.now) told c.args.role c.args.message.now opens.0 c.open.new.reply c.in-Answered.len opens.1 opens.2;
+      has = answered-does (origins g.B.Bus (firsts_shown c.args.buses.now)) told (passes_shown c.args.passes) (four_of c.args.conns.now) g.C.Clock.tells c.args.clock.now c.args.clock.now told c.args.role c.args.message.now refl opens.0 c.open.new.reply c.in-Answered.len opens.1 opens.2;
     }
 
 pub serve_call-passes-requires-clause-holds : goal.serve_call-passes-requires-clause-holds
@@ -28,8 +29,8 @@ returns-in-Asks-clause-does g c = record {
   role = refl;
   conns = refl;
   later = c.serve_call-passes.ensures.told;
-  has = asks-does (origins g.B.Bus (firsts_shown c.args.buses.now)) (g.C.Clock.told c.serve_call-passes.new.clock) (passes_shown c.args.passes) (four_of c.args.conns.now) (g.C.Clock.told c.args.clock.now) c.args.role c.args.message.now
-      c.in-Asks.xid (call_shown c.in-Asks.call) (take c.serve_call-passes.result.1 c.serve_call-passes.new.reply) (passes_shown c.serve_call-passes.result.0) c.in-Asks.ensures.opens
+  has = asks-does (origins g.B.Bus (firsts_shown c.args.buses.now)) (g.C.Clock.told c.serve_call-passes.new.clock) (passes_shown c.args.passes) (four_of c.args.conns.now) g.C.Clock.tells c.args.clock.now c.serve_call-passes.new.clock (g.C.Clock.told c.args.clock.now) c.args.role c.args.message.now
+      c.in-Asks.ensures.role.0 c.in-Asks.xid (call_shown c.in-Asks.call) (take c.serve_call-passes.result.1 c.serve_call-passes.new.reply) (passes_shown c.serve_call-passes.result.0) c.in-Asks.ensures.opens
       c.serve_call-passes.ensures.served;
 }
 
@@ -49,7 +50,7 @@ returns-in-Aborts-clause-does g c =
       role = refl;
       conns = refl;
       later = omega arith;
-      has = aborts-does (origins g.B.Bus (firsts_shown c.args.buses.now)) told (passes_shown c.args.passes) (four_of c.args.conns.now) told c.args.role c.args.message.now c.in-Aborts.xid c.in-Aborts.lid c.place_of-bus.result.0
+      has = aborts-does (origins g.B.Bus (firsts_shown c.args.buses.now)) told (passes_shown c.args.passes) (four_of c.args.conns.now) g.C.Clock.tells c.args.clock.now c.args.clock.now told c.args.role c.args.message.now c.in-Aborts.ensures.role refl c.in-Aborts.xid c.in-Aborts.lid c.place_of-bus.result.0
           c.place_of-bus.result.1 (take c.abort_on_bus-passes.result.1 c.abort_on_bus-passes.new.reply) (passes_shown c.abort_on_bus-passes.result.0) c.in-Aborts.ensures.opens
           c.place_of-bus.ensures.place c.place_of-bus.ensures.bus c.abort_on_bus-passes.ensures.aborts;
     }
@@ -57,5 +58,5 @@ returns-in-Aborts-clause-does g c =
 pub returns-in-Aborts-clause-holds : goal.returns-in-Aborts-clause-holds
 returns-in-Aborts-clause-holds g c =
     subst (λ r. Holds (passes_shown c.abort_on_bus-passes.result.0) (gates_shown c.args.buses.now) (four_of c.args.conns.now) r) (sym c.in-Aborts.ensures.role)
-    (holds-on 0 c.place_of-bus.result.0 _ (passes_shown c.args.passes) (passes_shown c.abort_on_bus-passes.result.0) (gates_shown c.args.buses.now) (four_of c.args.conns.now) role.Abort
+    (holds-on unclocked 0 c.place_of-bus.result.0 _ (passes_shown c.args.passes) (passes_shown c.abort_on_bus-passes.result.0) (gates_shown c.args.buses.now) (four_of c.args.conns.now) role.Abort
     (subst (λ r. Holds (passes_shown c.args.passes) (gates_shown c.args.buses.now) (four_of c.args.conns.now) r) c.in-Aborts.ensures.role c.requires.holds) c.abort_on_bus-passes.ensures.aborts c.abort_on_bus-passes.ensures.phase)

@@ -13,6 +13,6 @@ returns-clause-asks g c =
     let room = c.answer_call-own.new.reply in
     let part : length c.tell_outward.new.bytes ≡ len = c.tell_outward.auto.bytes ∙ length-take-le len room c.answer_call-own.ensures.within in
     asked-on-bus (passes_shown c.args.passes) c.args.bus (passes_shown c.swapped-own.result) c.swapped-own.ensures c.answer_call-own.result.0 (passes_shown c.swapped.result) c.swapped.ensures
-    g.B.Bus (firsts_shown c.args.buses.now) _ (g.C.Clock.told c.answer_call-own.new.clock) (four_of c.args.conns.now) _ c.args.xid (call_shown c.args.call.now) _ _ (take len room) _
+    g.B.Bus (firsts_shown c.args.buses.now) _ _ (g.C.Clock.told c.answer_call-own.new.clock) (four_of c.args.conns.now) _ c.args.xid (call_shown c.args.call.now) _ _ (take len room) _
     c.gate.ensures.first (conn-at c.args.conns.now c.args.bus c.requires.bus) c.answer_call-own.ensures.answers
     (take_at c.tell_outward.new.bytes (drop len room) len part ∙ c.tell_outward.ensures)

@@ -16,8 +16,8 @@ use Rattle.vx_buses.proofs.run.serve_ask.Given as given
 use Rattle.vx_buses.proofs.run.serve_ask.Goals as goal
 
 -- the server, as it is told
-abbrev view : (g : given.Over) → Host g.row.R.Denot g.row.B.Denot g.row.X-C.Denot g.row.X-P.Denot → Hosting g.row.B.Denot
-view g s = record { passes = passes_of (option_map passes_shown s.held); firsts = firsts_shown s.buses; told = g.X.C.Clock.told s.clock }
+abbrev view : (g : given.Over) → Host g.row.R.Denot g.row.B.Denot g.row.X-C.Denot g.row.X-P.Denot → Hosting g.row.B.Denot g.row.X-C.Denot
+view g s = record { passes = passes_of (option_map passes_shown s.held); firsts = firsts_shown s.buses; clock = s.clock; told = g.X.C.Clock.told s.clock }
 
 -- the door
 abbrev shows : (g : given.Over) → Shows g.row.N.Denot
@@ -39,17 +39,17 @@ known g = record {
   tells = (shows g).tells;
   waits = (shows g).waits;
   door = (shows g).door;
-  did = λ s door how s' door'. Does g.B.Bus (shows g) (view g s) door how (view g s') door';
+  did = λ s door how s' door'. Does g.B.Bus g.X.C.Clock.tells (shows g) (view g s) door how (view g s') door';
   own = is_own;
   whole = is_whole;
 }
 
 pub returns : goal.returns
 returns g c = record {
-  server = record { passes = passes_shown c.args.passes; firsts = firsts_shown c.args.buses; told = g.X.C.Clock.told c.clock.result };
+  server = record { passes = passes_shown c.args.passes; firsts = firsts_shown c.args.buses; clock = c.clock.result; told = g.X.C.Clock.told c.clock.result };
   begins = record { gates = gates_shown c.args.buses; first = c.requires.first; cores = refl };
   server' = view g c.serve_peers.new.server;
-  served = told_served (known g) (view g) (Does g.B.Bus (shows g)) (λ s s' d d' how did. did) (shows g).opening c.args.ask.now _ c.args.net.now c.serve_peers.new.server c.serve_peers.new.net _ _
+  served = told_served (known g) (view g) (Does g.B.Bus g.X.C.Clock.tells (shows g)) (λ s s' d d' how did. did) (shows g).opening c.args.ask.now _ c.args.net.now c.serve_peers.new.server c.serve_peers.new.net _ _
       c.serve_peers.result c.serve_peers.ensures;
   keeps = λ s t d e how did. went_keeps g.N.Link.receives g.N.Link.sends g.N.Door.met g.N.Door.ended g.N.Door.faults g.met.N.Door.receive_keeps g.met.N.Door.send_keeps d e did.went;
 }

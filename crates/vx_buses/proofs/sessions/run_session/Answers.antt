@@ -15,8 +15,8 @@ use Rattle.vx_buses.proofs.sessions.run_session.Given as given
 use Rattle.vx_buses.proofs.sessions.run_session.Goals as goal
 
 -- the state of the session, of what answers its messages
-abbrev shown : (g : given.Over) → Many g.row.R.Denot g.row.B.Denot g.row.C.Denot g.row.P.Denot → State
-shown g s = record { role = s.role; conns = four_of s.conns; passes = option_map passes_shown s.held.now; told = g.C.Clock.told s.clock.now }
+abbrev shown : (g : given.Over) → Many g.row.R.Denot g.row.B.Denot g.row.C.Denot g.row.P.Denot → State g.row.C.Denot
+shown g s = record { role = s.role; conns = four_of s.conns; passes = option_map passes_shown s.held.now; clock = s.clock.now; told = g.C.Clock.told s.clock.now }
 
 pub unreachable-requires : goal.unreachable-requires
 unreachable-requires g c =
@@ -26,7 +26,7 @@ unreachable-requires g c =
 
 pub leave_all-requires-clause-gates : goal.leave_all-requires-clause-gates
 leave_all-requires-clause-gates g c =
-    let served = stream-served g.B.Bus (λ s. firsts_shown s.buses.now) _ (shown g) (λ s s' message reply did. did.0) (λ s s' message reply did. did.3) g.L.Link.stands g.L.Link.receives g.L.Link.sends _ _ (passes_shown c.args.pass) _ _ _ _ _ refl c.answer-end.ensures.answers in
+    let served = stream-served g.B.Bus g.C.Clock.tells (λ s. firsts_shown s.buses.now) _ (shown g) (λ s s' message reply did. did.0) (λ s s' message reply did. did.3) g.L.Link.stands g.L.Link.receives g.L.Link.sends _ _ (passes_shown c.args.pass) _ _ _ _ _ refl c.answer-end.ensures.answers in
     let name = stream-keeps _ (λ s. s.held.ghost_name) (λ s s' message reply did. did.1) g.L.Link.stands g.L.Link.receives g.L.Link.sends _ _ _ _ _ _ _ _ _ c.answer-end.ensures.answers in
     let left = subst (λ held. held ≡ Some c.in-Some.pass) (search (rules, name)) c.in-Some.is in
     subst (λ p. Each IsOf p (gates_shown c.args.buses.now)) (same_Some _ _ (sym served.serves.has ∙ ap (option_map passes_shown) left))
@@ -34,7 +34,7 @@ leave_all-requires-clause-gates g c =
 
 pub leave_all-requires-clause-idle : goal.leave_all-requires-clause-idle
 leave_all-requires-clause-idle g c =
-    let served = stream-served g.B.Bus (λ s. firsts_shown s.buses.now) _ (shown g) (λ s s' message reply did. did.0) (λ s s' message reply did. did.3) g.L.Link.stands g.L.Link.receives g.L.Link.sends _ _ (passes_shown c.args.pass) _ _ _ _ _ refl c.answer-end.ensures.answers in
+    let served = stream-served g.B.Bus g.C.Clock.tells (λ s. firsts_shown s.buses.now) _ (shown g) (λ s s' message reply did. did.0) (λ s s' message reply did. did.3) g.L.Link.stands g.L.Link.receives g.L.Link.sends _ _ (passes_shown c.args.pass) _ _ _ _ _ refl c.answer-end.ensures.answers in
     let name = stream-keeps _ (λ s. s.held.ghost_name) (λ s s' message reply did. did.1) g.L.Link.stands g.L.Link.receives g.L.Link.sends _ _ _ _ _ _ _ _ _ c.answer-end.ensures.answers in
     let left = subst (λ held. held ≡ Some c.in-Some.pass) (search (rules, name)) c.in-Some.is in
     let can = c.answer-end.ensures.can in
@@ -50,13 +50,13 @@ returns-clause-did g c =
     let held = stream-keeps _ (λ s. s.held.ghost_name) (λ s s' message reply did. did.1) g.L.Link.stands g.L.Link.receives g.L.Link.sends _ _ _ _ _ _ _ _ _ answers in
     let clock = stream-keeps _ (λ s. s.clock.ghost_name) (λ s s' message reply did. did.2) g.L.Link.stands g.L.Link.receives g.L.Link.sends _ _ _ _ _ _ _ _ _ answers in
     let left = subst (λ o. o ≡ Some c.in-Some.pass) (search (rules, held)) c.in-Some.is in
-    session-did (origins g.B.Bus (firsts_shown c.args.buses.now)) g.L.Link.stands g.L.Link.receives g.L.Link.sends c.headline_law.ensures.headline c.owned_law.ensures c.given_once_law.ensures.links c.given_once_law.ensures.once _ _
-    (passes_shown c.args.pass) (passes_shown c.in-Some.pass) _ _ _ _ _ _ _
-    (stream-served g.B.Bus (λ s. firsts_shown s.buses.now) _ (shown g) (λ s s' message reply did. did.0) (λ s s' message reply did. did.3) g.L.Link.stands g.L.Link.receives g.L.Link.sends _ _ (passes_shown c.args.pass) _ _ _ _ _ refl answers)
-    (ap (option_map passes_shown) left) (ap g.C.Clock.told (search (rules, clock))) c.leave_all.ensures
+    session-did (origins g.B.Bus (firsts_shown c.args.buses.now)) g.C.Clock.tells g.L.Link.stands g.L.Link.receives g.L.Link.sends c.headline_law.ensures.headline c.owned_law.ensures c.given_once_law.ensures.links c.given_once_law.ensures.once _ _
+    (passes_shown c.args.pass) (passes_shown c.in-Some.pass) _ _ _ _ _ _ _ _
+    (stream-served g.B.Bus g.C.Clock.tells (λ s. firsts_shown s.buses.now) _ (shown g) (λ s s' message reply did. did.0) (λ s s' message reply did. did.3) g.L.Link.stands g.L.Link.receives g.L.Link.sends _ _ (passes_shown c.args.pass) _ _ _ _ _ refl answers)
+    (ap (option_map passes_shown) left) (ap g.C.Clock.told (search (rules, clock))) (search (rules, clock)) c.leave_all.ensures
 
 pub returns-clause-told : goal.returns-clause-told
 returns-clause-told g c =
-    let served = stream-served g.B.Bus (λ s. firsts_shown s.buses.now) _ (shown g) (λ s s' message reply did. did.0) (λ s s' message reply did. did.3) g.L.Link.stands g.L.Link.receives g.L.Link.sends _ _ (passes_shown c.args.pass) _ _ _ _ _ refl c.answer-end.ensures.answers in
+    let served = stream-served g.B.Bus g.C.Clock.tells (λ s. firsts_shown s.buses.now) _ (shown g) (λ s s' message reply did. did.0) (λ s s' message reply did. did.3) g.L.Link.stands g.L.Link.receives g.L.Link.sends _ _ (passes_shown c.args.pass) _ _ _ _ _ refl c.answer-end.ensures.answers in
     let name = stream-keeps _ (λ s. s.clock.ghost_name) (λ s s' message reply did. did.2) g.L.Link.stands g.L.Link.receives g.L.Link.sends _ _ _ _ _ _ _ _ _ c.answer-end.ensures.answers in
     subst (λ clock. g.C.Clock.told c.args.clock.now ≤ g.C.Clock.told clock) (search (rules, name)) served.serves.later

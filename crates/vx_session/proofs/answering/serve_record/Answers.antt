@@ -3,7 +3,7 @@ use Rattle.vx_session.specs.Origin.{origin}
 use Rattle.vx_session.specs.Outside.{dial_shown}
 use Rattle.vx_calls.specs.Call.{call_shown}
 use Rattle.vx_session.specs.Progress.{ClockedAs}
-use Rattle.vx_session.proofs.Progressing.{clockedas-none}
+use Rattle.vx_session.specs.ProvedLaws.{clockedas-none}
 use Rattle.vx_session.proofs.Recorded.{answered-does, aborts-does, asks-does}
 use Rattle.vx_session.proofs.answering.serve_record.Goals as goal
 

@@ -2,7 +2,7 @@ use Rattle.std.proofs.Common.{refl}
 use Rattle.vx_calls.specs.declared.calls.Role.TheVariants as role
 use Rattle.vx_session.specs.Origin.{origin}
 use Rattle.vx_session.specs.Progress.{Clocked}
-use Rattle.vx_session.proofs.Progressing.{clockedas-none}
+use Rattle.vx_session.specs.ProvedLaws.{clockedas-none}
 use Rattle.vx_session.proofs.Finishing.{link-refused}
 use Rattle.vx_session.proofs.links.core_link.Goals as goal
 

@@ -9,7 +9,10 @@ use Rattle.vx_group.specs.Groups.{Group}
 use Rattle.vx_rooms.specs.Counting.{IsClear}
 use Rattle.vx_buses.specs.Origins.{origins}
 use Rattle.vx_buses.proofs.Hosted.{ready-on, has-room}
-use Rattle.vx_buses.specs.Hosting.{IsReady}
+use Rattle.vx_stream.specs.Shown.{LinkShown, link_shown}
+use Rattle.vx_session.specs.Progress.{Clocked}
+use Rattle.vx_buses.specs.Hosting.{IsReady, passes_of}
+use Rattle.vx_buses.specs.Linking.{LinkDid}
 use Rattle.vx_buses.proofs.hosting.HostServes.serve.Given as given
 use Rattle.vx_buses.proofs.hosting.HostServes.serve.Goals as goal
 
@@ -17,12 +20,16 @@ use Rattle.vx_buses.proofs.hosting.HostServes.serve.Goals as goal
 abbrev clear-at : (g : given.Over) (passes : Four (PassView Group)) (count : ℕ) → Type 0
 clear-at g passes count = (bus : ℕ) → bus ≤ 3 → IsClear count (at bus passes)
 
+-- the door as a link
+abbrev shown : (g : given.Over) → g.row.N.Denot → LinkShown
+shown g = link_shown g.N.Link.left g.N.Link.peers g.N.Link.receive_faults g.N.Link.send_faults
+
 pub returns-clause-can : goal.returns-clause-can
 returns-clause-can g c =
     let taken : c.args.self.now.held ≡ Some c.in-Some.passes = search rules in
     let same = same_Some c.requires.can.passes (passes_shown c.in-Some.passes) (sym c.requires.can.has ∙ ap (option_map passes_shown) taken) in
     subst (λ (n : ℕ). IsReady n (Some (passes_shown c.many_link-passes.result.0)) (gates_shown c.args.self.now.buses)) (sym c.one_more-self.ensures.more)
-    (ready-on (origins g.B.Bus (firsts_shown c.args.self.now.buses)) g.N.Link.stands g.N.Link.receives g.N.Link.sends _ (passes_shown c.in-Some.passes) _ (passes_shown c.many_link-passes.result.0) _ c.args.self.now.served _ _ c.many_link-passes.result.1 (gates_shown c.args.self.now.buses)
+    (ready-on (origins g.B.Bus (firsts_shown c.args.self.now.buses)) g.N.Link.stands g.N.Link.receives g.N.Link.sends _ _ (passes_shown c.in-Some.passes) _ (passes_shown c.many_link-passes.result.0) _ c.args.self.now.served _ _ c.many_link-passes.result.1 (gates_shown c.args.self.now.buses)
     c.many_link-passes.ensures.did (subst (λ (p : Four (PassView Group)). clear-at g p c.args.self.now.served) same c.requires.can.clear)
     c.many_link-passes.ensures.gates)
 
@@ -31,10 +38,13 @@ returns-clause-did g c =
     let taken : c.args.self.now.held ≡ Some c.in-Some.passes = search rules in
     let same = same_Some c.requires.can.passes (passes_shown c.in-Some.passes) (sym c.requires.can.has ∙ ap (option_map passes_shown) taken) in
     record {
-      did = search rules;
+      did = subst (λ (p : Four (PassView Group)). LinkDid (origins g.B.Bus (firsts_shown c.args.self.now.buses)) g.N.Link.stands g.N.Link.receives g.N.Link.sends
+          (Clocked g.C.Clock.tells c.args.self.now.clock c.many_link-passes.new.clock) (g.C.Clock.told c.many_link-passes.new.clock) p c.args.door.now (shown g c.args.door.now)
+          c.many_link-passes.result.1 (passes_shown c.many_link-passes.result.0) c.many_link-passes.new.link (shown g c.many_link-passes.new.link))
+          (sym (ap (λ held. passes_of (option_map passes_shown held)) taken)) c.many_link-passes.ensures.did;
       same = search rules;
       went = search rules;
       later = search rules;
-      room = has-room (origins g.B.Bus (firsts_shown c.args.self.now.buses)) g.N.Link.stands g.N.Link.receives g.N.Link.sends _ (passes_shown c.in-Some.passes) _ (passes_shown c.many_link-passes.result.0) _ c.args.self.now.served _ _ c.many_link-passes.result.1
+      room = has-room (origins g.B.Bus (firsts_shown c.args.self.now.buses)) g.N.Link.stands g.N.Link.receives g.N.Link.sends _ _ (passes_shown c.in-Some.passes) _ (passes_shown c.many_link-passes.result.0) _ c.args.self.now.served _ _ c.many_link-passes.result.1
           (subst (λ (p : Four (PassView Group)). clear-at g p c.args.self.now.served) same c.requires.can.clear) c.one_more-self.ensures.below c.many_link-passes.ensures.did;
     }
