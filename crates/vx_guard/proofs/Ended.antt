@@ -24,7 +24,7 @@ use Rattle.vx_stream.specs.declared.ends.End.TheVariants as end
 use Rattle.vx_session.specs.Placing.{Makes}
 use Rattle.vx_session.specs.Turning.{Leaves}
 use Rattle.vx_session.specs.Outside.{DialShown}
-use Rattle.vx_session.specs.Progress.{Rings, answered, placed, calls}
+use Rattle.vx_session.specs.Progress.{Rings, Clocked, answered, placed, calls}
 use Rattle.vx_session.specs.ProvedLaws.{makes-goes, makes-later}
 use Rattle.vx_session.proofs.Finishing.{upholds}
 use Rattle.vx_policy.specs.Texts.{deny_line}
@@ -36,26 +36,26 @@ use Rattle.vx_guard.specs.Wholes.{GuardDid, GuardEndsSo, NoteStops, guard_end, s
 use Rattle.vx_guard.proofs.Goings.{GuardsAll, all-guarded}
 
 -- why a stream ended behind these messages, and what its end did: nothing; or the note failed in the line of a denial
-abbrev pub WhyEnded : (last s' : GuardState) → LinkShown → List Answered → Split → (behind unsent : List ℕ) → LinkShown → End → Type 0
+abbrev pub WhyEnded : {C : Type 0} → (last s' : GuardState C) → LinkShown → List Answered → Split → (behind unsent : List ℕ) → LinkShown → End → Type 0
 WhyEnded last s' seen list looked behind unsent seen' how =
     ((s'.failed ≡ false) × (s'.note ≡ last.note) × EndsSo (λ message. meaning message role.Core ≡ Junk) seen list looked behind unsent seen' (Some how))
     ⊎ ((s'.failed ≡ true) × (message : List ℕ) × NoteFails last message s' × (looked.records ≡ messages list ++ message ∷ []) × (unsent ≡ []))
 
-pub record StreamEnds (last s' : GuardState) (seen : LinkShown) (list : List Answered) (looked : Split) (behind unsent : List ℕ) (seen' : LinkShown) (how : End) : Type 0 where
+pub record StreamEnds {C : Type 0} (last s' : GuardState C) (seen : LinkShown) (list : List Answered) (looked : Split) (behind unsent : List ℕ) (seen' : LinkShown) (how : End) : Type 0 where
   pub unasked : IsUnasked last s'
   pub later : last.session.told ≤ s'.session.told
   pub why : WhyEnded last s' seen list looked behind unsent seen' how
 
 -- the records of a guarded session's stream were answered, up to its end or to where it is no longer read
-pub record StreamGuarded {B L : Type 0} (g : Origin B) (stands : L → List ℕ → List ℕ → Type 0) (receives : Receives L) (sends : Sends L) (s : GuardState) (pass : PassView Group) (link : L) (seen : LinkShown) (how : End)
-    (s' : GuardState) (link' : L) (seen' : LinkShown) : Type 0 where
-  pub last : GuardState
+pub record StreamGuarded {B C L : Type 0} (g : Origin B) (tells : C → ℕ → C → Type 0) (stands : L → List ℕ → List ℕ → Type 0) (receives : Receives L) (sends : Sends L) (s : GuardState C) (pass : PassView Group) (link : L) (seen : LinkShown) (how : End)
+    (s' : GuardState C) (link' : L) (seen' : LinkShown) : Type 0 where
+  pub last : GuardState C
   pub list : List Answered
   pub front : List ℕ
   pub behind : List ℕ
   pub written : List ℕ
   pub unsent : List ℕ
-  pub guards : GuardsAll g s pass list last
+  pub guards : GuardsAll g tells s pass list last
   pub bytes : Goes stands link link' written (front ++ behind)
   pub goes : LinkGoes seen (front ++ behind) seen'
   pub wrote : replies list ≡ written ++ unsent
@@ -64,14 +64,14 @@ pub record StreamGuarded {B L : Type 0} (g : Origin B) (stands : L → List ℕ 
   pub ends : StreamEnds last s' seen list (records RECORD_MAX front) behind unsent seen' how
 
 -- a session that is as it was when its stream ended
-ended-same : (last s' : GuardState) (seen : LinkShown) (list : List Answered) (looked : Split) (behind unsent : List ℕ) (seen' : LinkShown) (how : End) → s' ≡ last → last.failed ≡ false
+ended-same : {C : Type 0} (last s' : GuardState C) (seen : LinkShown) (list : List Answered) (looked : Split) (behind unsent : List ℕ) (seen' : LinkShown) (how : End) → s' ≡ last → last.failed ≡ false
     → EndsSo (λ message. meaning message role.Core ≡ Junk) seen list looked behind unsent seen' (Some how) → StreamEnds last s' seen list looked behind unsent seen' how
 ended-same last s' seen list looked behind unsent seen' how same sound ended =
     subst (λ x. StreamEnds last x seen list looked behind unsent seen' how) (sym same)
-    (record { unasked = record { pass = refl; dial = refl; made = refl }; later = omega arith; why = inl (sound, refl, ended) })
+    (record { unasked = record { pass = refl; clock = refl; dial = refl; made = refl }; later = omega arith; why = inl (sound, refl, ended) })
 
-module _ {B S : Type 0} (bus : Ghosts B) (first : S → CoreState B) (does : S → List ℕ → Option (List ℕ) → S → Type 0) (shown : S → GuardState)
-    (one : (s s' : S) (message : List ℕ) (reply : Option (List ℕ)) → does s message reply s' → GuardDoes (origin bus (first s)) (shown s) message reply (shown s'))
+module _ {B C S : Type 0} (bus : Ghosts B) (tells : C → ℕ → C → Type 0) (first : S → CoreState B) (does : S → List ℕ → Option (List ℕ) → S → Type 0) (shown : S → GuardState C)
+    (one : (s s' : S) (message : List ℕ) (reply : Option (List ℕ)) → does s message reply s' → GuardDoes (origin bus (first s)) tells (shown s) message reply (shown s'))
     (same : (s s' : S) (message : List ℕ) (reply : Option (List ℕ)) → does s message reply s' → first s' ≡ first s)
     (core : (s : S) → (shown s).session.role ≡ role.Core) where
   -- a message without a reply
@@ -105,9 +105,9 @@ module _ {B S : Type 0} (bus : Ghosts B) (first : S → CoreState B) (does : S �
 
   pub stream-guarded : {L : Type 0} (stands : L → List ℕ → List ℕ → Type 0) (receives : Receives L) (sends : Sends L) (s s' : S) (pass : PassView Group) (link link' : L) (seen seen' : LinkShown) (limit room : ℕ) (how : End)
       → (shown s).session.pass ≡ Some pass → (shown s).failed ≡ false → limit ≡ RECORD_MAX → room ≡ PIECE → StreamAnswered does stands receives sends limit room None s link seen (Some how) s' link' seen'
-      → StreamGuarded (origin bus (first s)) stands receives sends (shown s) pass link seen how (shown s') link' seen'
+      → StreamGuarded (origin bus (first s)) tells stands receives sends (shown s) pass link seen how (shown s') link' seen'
   stream-guarded stands receives sends s s' pass link link' seen seen' limit room how had sound limit_is room_is did =
-      let all = all-guarded bus first does shown one same core s did.last pass did.answered had did.progress.answers in
+      let all = all-guarded bus tells first does shown one same core s did.last pass did.answered had did.progress.answers in
       record {
         last = shown did.last;
         list = did.answered;
@@ -126,14 +126,14 @@ module _ {B S : Type 0} (bus : Ghosts B) (first : S → CoreState B) (does : S �
       }
 
 -- how the session ended, by whether its note failed
-ends-guarded : {B : Type 0} (g : Origin B) (s last s' : GuardState) (pass : PassView Group) (list : List Answered) (all : GuardsAll g s pass list last) (seen : LinkShown) (looked : Split)
+ends-guarded : {B C : Type 0} (g : Origin B) (tells : C → ℕ → C → Type 0) (s last s' : GuardState C) (pass : PassView Group) (list : List Answered) (all : GuardsAll g tells s pass list last) (seen : LinkShown) (looked : Split)
     (behind unsent : List ℕ) (seen' : LinkShown) (how : End) → WhyEnded last s' seen list looked behind unsent seen' how
     → GuardEndsSo s.rules s.peer s.session.conn last.made seen list (notes s.session.conn all.items) looked behind unsent seen' s.note s'.note (guard_end s'.failed how)
-ends-guarded g s last s' pass list all seen looked behind unsent seen' how (inl why) =
+ends-guarded g tells s last s' pass list all seen looked behind unsent seen' how (inl why) =
     let lines = notes s.session.conn all.items in
     subst (λ f. GuardEndsSo s.rules s.peer s.session.conn last.made seen list lines looked behind unsent seen' s.note s'.note (guard_end f how)) (sym why.0)
     (why.2, subst (λ n. Appends s.note.bytes n.bytes lines) (sym why.1) all.noted, subst (λ n. s.note.faults ≤ n.faults) (sym why.1) all.counted)
-ends-guarded g s last s' pass list all seen looked behind unsent seen' how (inr why) =
+ends-guarded g tells s last s' pass list all seen looked behind unsent seen' how (inr why) =
     let lines = notes s.session.conn all.items in
     let fails = why.2 in
     let stops : NoteStops s.rules s.peer s.session.conn last.made list lines looked unsent s.note s'.note =
@@ -152,24 +152,24 @@ ends-guarded g s last s' pass list all seen looked behind unsent seen' how (inr 
     subst (λ f. GuardEndsSo s.rules s.peer s.session.conn last.made seen list lines looked behind unsent seen' s.note s'.note (guard_end f how)) (sym why.0) stops
 
 -- its clock doesn't go back
-pub guarded-later : {B L : Type 0} (g : Origin B) (stands : L → List ℕ → List ℕ → Type 0) (receives : Receives L) (sends : Sends L) (s s' : GuardState) (pass : PassView Group) (link link' : L) (seen seen' : LinkShown) (how : End)
-    → StreamGuarded g stands receives sends s pass link seen how s' link' seen' → s.session.told ≤ s'.session.told
-guarded-later g stands receives sends s s' pass link link' seen seen' how did =
+pub guarded-later : {B C L : Type 0} (g : Origin B) (tells : C → ℕ → C → Type 0) (stands : L → List ℕ → List ℕ → Type 0) (receives : Receives L) (sends : Sends L) (s s' : GuardState C) (pass : PassView Group) (link link' : L) (seen seen' : LinkShown) (how : End)
+    → StreamGuarded g tells stands receives sends s pass link seen how s' link' seen' → s.session.told ≤ s'.session.told
+guarded-later g tells stands receives sends s s' pass link link' seen seen' how did =
     let first = did.guards.later in
     let second = did.ends.later in
     omega arith
 
 -- behind its stream the session has the pass, of the same gate
-pub guarded-pass : {B L : Type 0} (g : Origin B) (stands : L → List ℕ → List ℕ → Type 0) (receives : Receives L) (sends : Sends L) (s s' : GuardState) (pass : PassView Group) (link link' : L) (seen seen' : LinkShown) (how : End)
-    → StreamGuarded g stands receives sends s pass link seen how s' link' seen' → (pass' : PassView Group) × (s'.session.pass ≡ Some pass') × (pass'.gate ≡ pass.gate)
-guarded-pass g stands receives sends s s' pass link link' seen seen' how did = (did.guards.pass', did.ends.unasked.pass ∙ did.guards.has, did.guards.makes.gate)
+pub guarded-pass : {B C L : Type 0} (g : Origin B) (tells : C → ℕ → C → Type 0) (stands : L → List ℕ → List ℕ → Type 0) (receives : Receives L) (sends : Sends L) (s s' : GuardState C) (pass : PassView Group) (link link' : L) (seen seen' : LinkShown) (how : End)
+    → StreamGuarded g tells stands receives sends s pass link seen how s' link' seen' → (pass' : PassView Group) × (s'.session.pass ≡ Some pass') × (pass'.gate ≡ pass.gate)
+guarded-pass g tells stands receives sends s s' pass link link' seen seen' how did = (did.guards.pass', did.ends.unasked.pass ∙ did.guards.has, did.guards.makes.gate)
 
 -- the messages of a stream were judged and answered, and then the connection went; the session began without a link that it knew
-pub guard-did : {B L : Type 0} (g : Origin B) (stands : L → List ℕ → List ℕ → Type 0) (receives : Receives L) (sends : Sends L) → HeadlineOfGroupsLaw → OwnedLaw → (s s' : GuardState) (pass mid pass' : PassView Group)
-    (link link' : L) (seen seen' : LinkShown) (how : End) (end' : GuardEnd) (told : ℕ) (dial : DialShown) (note : Ends) → StreamGuarded g stands receives sends s pass link seen how s' link' seen' → s.made ≡ []
-    → s'.session.pass ≡ Some mid → s'.session.told ≡ told → s'.session.dial ≡ dial → s'.note ≡ note → end' ≡ guard_end s'.failed how → Leaves g mid s.session.conn pass'
-    → GuardDid g stands receives sends told s.rules s.peer s.session.conn pass link seen s.session.dial s.note end' pass' link' seen' dial note
-guard-did g stands receives sends headline owned s s' pass mid pass' link link' seen seen' how end' told dial note did fresh has told_is dial_is note_is end_is leaves =
+pub guard-did : {B C L : Type 0} (g : Origin B) (tells : C → ℕ → C → Type 0) (stands : L → List ℕ → List ℕ → Type 0) (receives : Receives L) (sends : Sends L) → HeadlineOfGroupsLaw → OwnedLaw → (s s' : GuardState C) (pass mid pass' : PassView Group)
+    (link link' : L) (seen seen' : LinkShown) (how : End) (end' : GuardEnd) (told : ℕ) (dial : DialShown) (note : Ends) (clock : C) → StreamGuarded g tells stands receives sends s pass link seen how s' link' seen' → s.made ≡ []
+    → s'.session.pass ≡ Some mid → s'.session.told ≡ told → s'.session.dial ≡ dial → s'.note ≡ note → s'.session.clock ≡ clock → end' ≡ guard_end s'.failed how → Leaves g mid s.session.conn pass'
+    → GuardDid g stands receives sends (Clocked tells s.session.clock clock) told s.rules s.peer s.session.conn pass link seen s.session.dial s.note end' pass' link' seen' dial note
+guard-did g tells stands receives sends headline owned s s' pass mid pass' link link' seen seen' how end' told dial note clock did fresh has told_is dial_is note_is clock_is end_is leaves =
     let last = leaves.placed in
     let all = did.guards in
     let ends = did.ends in
@@ -200,7 +200,8 @@ guard-did g stands receives sends headline owned s s' pass mid pass' link link' 
       ended = subst (λ e. GuardEndsSo s.rules s.peer s.session.conn did.last.made seen (answered (served all.items)) lines (records RECORD_MAX did.front) did.behind did.unsent seen' s.note note e) (sym end_is)
           (subst (λ n. GuardEndsSo s.rules s.peer s.session.conn did.last.made seen (answered (served all.items)) lines (records RECORD_MAX did.front) did.behind did.unsent seen' s.note n (guard_end s'.failed how)) note_is
           (subst (λ list. GuardEndsSo s.rules s.peer s.session.conn did.last.made seen list lines (records RECORD_MAX did.front) did.behind did.unsent seen' s.note s'.note (guard_end s'.failed how)) (sym all.are)
-          (ends-guarded g s did.last s' pass did.list all seen (records RECORD_MAX did.front) did.behind did.unsent seen' how ends.why)));
+          (ends-guarded g tells s did.last s' pass did.list all seen (records RECORD_MAX did.front) did.behind did.unsent seen' how ends.why)));
+      asks = subst (λ k. Clocked tells s.session.clock k judged) (sym ends.unasked.clock ∙ clock_is) all.asks;
       rings = subst (λ d. Rings s.session.dial judged (calls (served all.items)) d) (sym ends.unasked.dial ∙ dial_is) all.rings;
       upholds = upholds g headline owned pass' leaves.turns.history;
     }

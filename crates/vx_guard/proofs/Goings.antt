@@ -13,8 +13,8 @@ use Rattle.vx_exchange.specs.Meaning.{Meaning, meaning}
 use Rattle.vx_exchange.specs.Meaning as meant
 use Rattle.vx_stream.specs.Answered.{Answered, AnswersAll}
 use Rattle.vx_session.specs.Placing.{Makes}
-use Rattle.vx_session.specs.Progress.{Rings, ServesRecord, answered, placed, calls}
-use Rattle.vx_session.specs.ProvedLaws.{makes-none, makes-goes}
+use Rattle.vx_session.specs.Progress.{Rings, Clocked, ClockedAs, ServesRecord, answered, placed, calls}
+use Rattle.vx_session.specs.ProvedLaws.{makes-none, makes-goes, clocked-goes, clockedas-none}
 use Rattle.vx_session.proofs.Progressing.{rings-none, rings-goes}
 use Rattle.vx_policy.specs.declared.made.MadeLink.{MadeLink}
 use Rattle.vx_guard.specs.Judged.{Judged, IsDenied, IsGuarded, Guards, note_of, notes}
@@ -22,7 +22,7 @@ use Rattle.vx_guard.specs.Stages.{GuardState, GuardDoes, HasReply, IsDenial, den
 use Rattle.vx_guard.specs.Wholes.{served}
 
 -- one message of a session, whose pass was this one, was answered so
-record Step {B : Type 0} (g : Origin B) (s : GuardState) (pass : PassView Group) (one : Answered) (mid : GuardState) : Type 0 where
+record Step {B C : Type 0} (g : Origin B) (tells : C → ℕ → C → Type 0) (s : GuardState C) (pass : PassView Group) (one : Answered) (mid : GuardState C) : Type 0 where
   item : Judged
   pass' : PassView Group
   is : item.served.answered ≡ one
@@ -30,6 +30,7 @@ record Step {B : Type 0} (g : Origin B) (s : GuardState) (pass : PassView Group)
   makes : Makes mid.session.told pass item.served.placed pass'
   denial : item.denial ≡ denial_at s one.message
   guarded : IsGuarded g pass.number s.session.conn s.made (meaning one.message role.Core) item.denial item.served mid.made
+  asks : Clocked tells s.session.clock mid.session.clock item.served.placed
   rings : Rings s.session.dial item.served.placed item.served.calls mid.session.dial
   noted : Appends s.note.bytes mid.note.bytes (note_of s.session.conn item.denial)
   counted : s.note.faults ≤ mid.note.faults
@@ -42,12 +43,12 @@ denied-so (meant.Answered text) made made' one h same = absurd h
 denied-so (meant.Asks xid call) made made' one h same = (refl, refl, h, same)
 denied-so (meant.Aborts xid lid) made made' one h same = absurd h
 
-step : {B : Type 0} (g : Origin B) (s mid : GuardState) (pass : PassView Group) (one : Answered) → s.session.pass ≡ Some pass → s.session.role ≡ role.Core
-    → (d : Option ℕ) → denial_at s one.message ≡ d → HasReply g s one.message one.reply mid d → Step g s pass one mid
-step g s mid pass one had core None is has =
+step : {B C : Type 0} (g : Origin B) (tells : C → ℕ → C → Type 0) (s mid : GuardState C) (pass : PassView Group) (one : Answered) → s.session.pass ≡ Some pass → s.session.role ≡ role.Core
+    → (d : Option ℕ) → denial_at s one.message ≡ d → HasReply g tells s one.message one.reply mid d → Step g tells s pass one mid
+step g tells s mid pass one had core None is has =
     let answers = has.0 in
-    let serves = subst (λ r. ServesRecord g mid.session.told r pass s.session.conn one.message s.session.dial one.reply answers.pass' mid.session.dial) core
-    (subst (λ p. ServesRecord g mid.session.told s.session.role p s.session.conn one.message s.session.dial one.reply answers.pass' mid.session.dial)
+    let serves = subst (λ r. ServesRecord g (ClockedAs r tells s.session.clock mid.session.clock) mid.session.told r pass s.session.conn one.message s.session.dial one.reply answers.pass' mid.session.dial) core
+    (subst (λ p. ServesRecord g (ClockedAs s.session.role tells s.session.clock mid.session.clock) mid.session.told s.session.role p s.session.conn one.message s.session.dial one.reply answers.pass' mid.session.dial)
     (same_Some answers.pass pass (sym answers.had ∙ had)) answers.serves) in
     record {
       item = record { served = record { answered = one; placed = serves.placed; calls = serves.rung }; denial = None };
@@ -57,11 +58,12 @@ step g s mid pass one had core None is has =
       makes = serves.makes;
       denial = sym is;
       guarded = (serves.holding, has.1);
+      asks = serves.asks;
       rings = serves.rings;
       noted = subst (λ n. Appends s.note.bytes n.bytes []) (sym has.2) (Appends-nil s.note.bytes);
       counted = subst (λ n. s.note.faults ≤ n.faults) (sym has.2) (omega arith);
     }
-step g s mid pass one had core (Some rule) is has =
+step g tells s mid pass one had core (Some rule) is has =
     let same = has.0 in
     record {
       item = record { served = record { answered = one; placed = []; calls = [] }; denial = Some rule };
@@ -71,19 +73,21 @@ step g s mid pass one had core (Some rule) is has =
       makes = makes-none mid.session.told pass;
       denial = sym is;
       guarded = denied-so (meaning one.message role.Core) s.made mid.made one has.1 same.made;
+      asks = same.clock;
       rings = subst (λ d. Rings s.session.dial [] [] d) (sym same.dial) (rings-none s.session.dial);
       noted = has.2;
       counted = has.3;
     }
 
 -- These messages of a session, whose pass was this one, were answered, one after the other.
-pub record GuardsAll {B : Type 0} (g : Origin B) (s : GuardState) (pass : PassView Group) (list : List Answered) (s' : GuardState) : Type 0 where
+pub record GuardsAll {B C : Type 0} (g : Origin B) (tells : C → ℕ → C → Type 0) (s : GuardState C) (pass : PassView Group) (list : List Answered) (s' : GuardState C) : Type 0 where
   pub items : List Judged
   pub pass' : PassView Group
   pub are : answered (served items) ≡ list
   pub has : s'.session.pass ≡ Some pass'
   pub makes : Makes s'.session.told pass (placed (served items)) pass'
   pub each : Guards g pass.number s.session.conn s.rules s.peer s.made items s'.made
+  pub asks : Clocked tells s.session.clock s'.session.clock (placed (served items))
   pub rings : Rings s.session.dial (placed (served items)) (calls (served items)) s'.session.dial
   pub noted : Appends s.note.bytes s'.note.bytes (notes s.session.conn items)
   pub counted : s.note.faults ≤ s'.note.faults
@@ -94,14 +98,15 @@ pub record GuardsAll {B : Type 0} (g : Origin B) (s : GuardState) (pass : PassVi
   pub later : s.session.told ≤ s'.session.told
 
 -- no message was answered
-guards-none : {B : Type 0} (g : Origin B) (s : GuardState) (pass : PassView Group) → s.session.pass ≡ Some pass → GuardsAll g s pass [] s
-guards-none g s pass had = record {
+guards-none : {B C : Type 0} (g : Origin B) (tells : C → ℕ → C → Type 0) (s : GuardState C) (pass : PassView Group) → s.session.pass ≡ Some pass → GuardsAll g tells s pass [] s
+guards-none g tells s pass had = record {
   items = [];
   pass' = pass;
   are = refl;
   has = had;
   makes = makes-none s.session.told pass;
   each = refl;
+  asks = clockedas-none tells role.Core s.session.clock s.session.clock refl;
   rings = rings-none s.session.dial;
   noted = Appends-nil s.note.bytes;
   counted = omega arith;
@@ -113,9 +118,9 @@ guards-none g s pass had = record {
 }
 
 -- one was answered, and then more of them
-guards-more : {B : Type 0} (g : Origin B) (s mid s' : GuardState) (pass : PassView Group) (one : Answered) (more : List Answered) → GuardDoes g s one.message (Some one.reply) mid
-    → (first : Step g s pass one mid) → GuardsAll g mid first.pass' more s' → GuardsAll g s pass (one ∷ more) s'
-guards-more g s mid s' pass one more does first rest =
+guards-more : {B C : Type 0} (g : Origin B) (tells : C → ℕ → C → Type 0) (s mid s' : GuardState C) (pass : PassView Group) (one : Answered) (more : List Answered) → GuardDoes g tells s one.message (Some one.reply) mid
+    → (first : Step g tells s pass one mid) → GuardsAll g tells mid first.pass' more s' → GuardsAll g tells s pass (one ∷ more) s'
+guards-more g tells s mid s' pass one more does first rest =
     let earlier = does.later in
     let later = rest.later in
     let before = first.counted in
@@ -139,6 +144,7 @@ guards-more g s mid s' pass one more does first rest =
         subst (λ m. IsGuarded g pass.number s.session.conn s.made (meaning m role.Core) item.denial item.served mid.made) (sym message) first.guarded,
         each,
       );
+      asks = clocked-goes tells s.session.clock mid.session.clock s'.session.clock item.served.placed (placed (served rest.items)) first.asks rest.asks;
       rings = rings-goes s.session.dial mid.session.dial s'.session.dial item.served.placed (placed (served rest.items)) item.served.calls (calls (served rest.items)) first.rings rest.rings;
       noted = Appends-trans s.note.bytes mid.note.bytes s'.note.bytes (note_of s.session.conn item.denial) (notes s.session.conn rest.items) first.noted
           (subst (λ c. Appends mid.note.bytes s'.note.bytes (notes c rest.items)) does.conn rest.noted);
@@ -151,19 +157,19 @@ guards-more g s mid s' pass one more does first rest =
     }
 
 -- what answers messages, as a guarded session's state shows it
-module _ {B S : Type 0} (bus : Ghosts B) (first : S → CoreState B) (does : S → List ℕ → Option (List ℕ) → S → Type 0) (shown : S → GuardState)
-    (one : (s s' : S) (message : List ℕ) (reply : Option (List ℕ)) → does s message reply s' → GuardDoes (origin bus (first s)) (shown s) message reply (shown s'))
+module _ {B C S : Type 0} (bus : Ghosts B) (tells : C → ℕ → C → Type 0) (first : S → CoreState B) (does : S → List ℕ → Option (List ℕ) → S → Type 0) (shown : S → GuardState C)
+    (one : (s s' : S) (message : List ℕ) (reply : Option (List ℕ)) → does s message reply s' → GuardDoes (origin bus (first s)) tells (shown s) message reply (shown s'))
     (same : (s s' : S) (message : List ℕ) (reply : Option (List ℕ)) → does s message reply s' → first s' ≡ first s)
     (core : (s : S) → (shown s).session.role ≡ role.Core) where
   -- the messages that it answered were judged, each by the rules
   pub all-guarded : (s last : S) (pass : PassView Group) (list : List Answered) → (shown s).session.pass ≡ Some pass → AnswersAll does s list last
-      → GuardsAll (origin bus (first s)) (shown s) pass list (shown last)
+      → GuardsAll (origin bus (first s)) tells (shown s) pass list (shown last)
   all-guarded s last pass [] had all =
-      subst (λ x. GuardsAll (origin bus (first s)) (shown s) pass [] (shown x)) (sym all) (guards-none (origin bus (first s)) (shown s) pass had)
+      subst (λ x. GuardsAll (origin bus (first s)) tells (shown s) pass [] (shown x)) (sym all) (guards-none (origin bus (first s)) tells (shown s) pass had)
   all-guarded s last pass (message ∷ more) had all =
       let o = origin bus (first s) in
       let did = one s all.0 message.message (Some message.reply) all.1 in
-      let taken = step o (shown s) (shown all.0) pass message had (core s) (denial_at (shown s) message.message) refl did.has.0 in
-      guards-more o (shown s) (shown all.0) (shown last) pass message more did taken
-      (subst (λ x. GuardsAll (origin bus x) (shown all.0) taken.pass' more (shown last)) (same s all.0 message.message (Some message.reply) all.1)
+      let taken = step o tells (shown s) (shown all.0) pass message had (core s) (denial_at (shown s) message.message) refl did.has.0 in
+      guards-more o tells (shown s) (shown all.0) (shown last) pass message more did taken
+      (subst (λ x. GuardsAll (origin bus x) tells (shown all.0) taken.pass' more (shown last)) (same s all.0 message.message (Some message.reply) all.1)
       (all-guarded all.0 last taken.pass' more taken.has all.2))

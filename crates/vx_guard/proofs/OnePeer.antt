@@ -17,7 +17,9 @@ use Rattle.vx_group.specs.Groups.{Group}
 use Rattle.vx_stream.specs.Calling.{Receives, Sends}
 use Rattle.vx_stream.specs.Shown.{LinkShown}
 use Rattle.vx_stream.specs.declared.ends.End.TheVariants as stream
+use Rattle.vx_session.specs.Placing.{Placed}
 use Rattle.vx_session.specs.Outside.{DialShown}
+use Rattle.vx_session.specs.Progress.{Clocked}
 use Rattle.vx_policy.specs.declared.rules.Rule.{Rule}
 use Rattle.vx_guard.specs.declared.sessions.GuardEnd.TheVariants as guard
 use Rattle.vx_guard.specs.declared.links.Guarded.{Guarded}
@@ -34,10 +36,10 @@ ended-spent : (first now : Option (List ℕ)) (bytes : List ℕ) → Consumes fi
 ended-spent None now bytes gave at_end = refl
 ended-spent (Some all) now bytes gave at_end = spent_at_end (Some all) now bytes gave at_end
 
-module _ {B L : Type 0} (g : Origin B) (stands : L → List ℕ → List ℕ → Type 0) (receives : Receives L) (sends : Sends L) (shown : L → LinkShown) where
+module _ {B L : Type 0} (g : Origin B) (stands : L → List ℕ → List ℕ → Type 0) (receives : Receives L) (sends : Sends L) (clocked : List Placed → Type 0) (shown : L → LinkShown) where
   -- a peer that was cut short was so by a fault of its link
   pub link-cut : (told : ℕ) (rules : List Rule) (pass : PassView Group) (link : L) (dial : DialShown) (note : End) (how : Guarded) (pass' : PassView Group) (link' : L) (dial' : DialShown) (note' : End)
-      → GuardLinkDid g stands receives sends told rules pass link (shown link) dial note how pass' link' (shown link') dial' note'
+      → GuardLinkDid g stands receives sends clocked told rules pass link (shown link) dial note how pass' link' (shown link') dial' note'
       → is_cut (is_own how) (is_whole how) (shown link).left (shown link').left ≡ true
       → Rose (shown link).receive_faults (shown link').receive_faults ⊎ Rose (shown link).send_faults (shown link').send_faults
   link-cut told rules pass link dial note (guarded.Ended (guard.Ended stream.Closed)) pass' link' dial' note' d cut =
@@ -59,7 +61,7 @@ module _ {B L : Type 0} (g : Origin B) (stands : L → List ℕ → List ℕ →
 
   -- the counts of a link don't fall
   pub link-counts : (told : ℕ) (rules : List Rule) (pass : PassView Group) (link : L) (dial : DialShown) (note : End) (how : Guarded) (pass' : PassView Group) (link' : L) (dial' : DialShown) (note' : End)
-      → GuardLinkDid g stands receives sends told rules pass link (shown link) dial note how pass' link' (shown link') dial' note'
+      → GuardLinkDid g stands receives sends clocked told rules pass link (shown link) dial note how pass' link' (shown link') dial' note'
       → ((shown link).receive_faults ≤ (shown link').receive_faults) × ((shown link).send_faults ≤ (shown link').send_faults)
   link-counts told rules pass link dial note (guarded.Ended how) pass' link' dial' note' d = (d.did.goes.receives, d.did.goes.sends)
   link-counts told rules pass link dial note guarded.Full pass' link' dial' note' d = as-it-was link link' d.1
@@ -67,17 +69,17 @@ module _ {B L : Type 0} (g : Origin B) (stands : L → List ℕ → List ℕ →
 
   -- the count of the note's faults rises where it failed, and doesn't fall
   pub link-notes : (told : ℕ) (rules : List Rule) (pass : PassView Group) (link : L) (dial : DialShown) (note : End) (how : Guarded) (pass' : PassView Group) (link' : L) (dial' : DialShown) (note' : End)
-      → GuardLinkDid g stands receives sends told rules pass link (shown link) dial note how pass' link' (shown link') dial' note'
+      → GuardLinkDid g stands receives sends clocked told rules pass link (shown link) dial note how pass' link' (shown link') dial' note'
       → Notes (is_note_fault how) note.faults note'.faults
   link-notes told rules pass link dial note (guarded.Ended (guard.Ended how)) pass' link' dial' note' d = d.did.ended.2
   link-notes told rules pass link dial note (guarded.Ended guard.NoteFault) pass' link' dial' note' d =
       rose_earlier note.faults d.did.ended.between.faults note'.faults d.did.ended.counted d.did.ended.stops.rose
-  link-notes told rules pass link dial note guarded.Full pass' link' dial' note' d = subst (λ e. note.faults ≤ e.faults) (sym d.3) (omega arith)
-  link-notes told rules pass link dial note guarded.NoMemory pass' link' dial' note' d = subst (λ e. note.faults ≤ e.faults) (sym d.3) (omega arith)
+  link-notes told rules pass link dial note guarded.Full pass' link' dial' note' d = subst (λ e. note.faults ≤ e.faults) (sym d.4) (omega arith)
+  link-notes told rules pass link dial note guarded.NoMemory pass' link' dial' note' d = subst (λ e. note.faults ≤ e.faults) (sym d.4) (omega arith)
 
   -- the pass is of the same gate, with the same number and as many parts
   pub link-pass : (told : ℕ) (rules : List Rule) (pass : PassView Group) (link : L) (dial : DialShown) (note : End) (how : Guarded) (pass' : PassView Group) (link' : L) (dial' : DialShown) (note' : End)
-      → GuardLinkDid g stands receives sends told rules pass link (shown link) dial note how pass' link' (shown link') dial' note'
+      → GuardLinkDid g stands receives sends clocked told rules pass link (shown link) dial note how pass' link' (shown link') dial' note'
       → (pass'.gate ≡ pass.gate) × (pass'.number ≡ pass.number) × (pass'.parts ≡ pass.parts)
   link-pass told rules pass link dial note (guarded.Ended how) pass' link' dial' note' d =
       let up = d.joins.turns.makes in
@@ -92,24 +94,24 @@ module _ {B L : Type 0} (g : Origin B) (stands : L → List ℕ → List ℕ →
 
   -- so a guard can serve another
   pub link-can : (gate : GateId) (told : ℕ) (rules : List Rule) (pass : PassView Group) (link : L) (dial : DialShown) (note : End) (how : Guarded) (pass' : PassView Group) (link' : L) (dial' : DialShown) (note' : End)
-      → CanServe gate pass → GuardLinkDid g stands receives sends told rules pass link (shown link) dial note how pass' link' (shown link') dial' note' → CanServe gate pass'
+      → CanServe gate pass → GuardLinkDid g stands receives sends clocked told rules pass link (shown link) dial note how pass' link' (shown link') dial' note' → CanServe gate pass'
   link-can gate told rules pass link dial note how pass' link' dial' note' can d =
       let kept = link-pass told rules pass link dial note how pass' link' dial' note' d in
       record { gate_is = kept.0 ∙ can.gate_is; number = kept.1 ∙ can.number; parts = kept.2 ∙ can.parts }
 
   -- and behind one more than so many peers each of its connections went again
   pub link-ready : (gate : GateId) (count told : ℕ) (rules : List Rule) (pass : PassView Group) (link : L) (dial : DialShown) (note : End) (how : Guarded) (pass' : PassView Group) (link' : L) (dial' : DialShown) (note' : End)
-      → IsReady gate count pass → GuardLinkDid g stands receives sends told rules pass link (shown link) dial note how pass' link' (shown link') dial' note' → IsReady gate (count + 1) pass'
+      → IsReady gate count pass → GuardLinkDid g stands receives sends clocked told rules pass link (shown link) dial note how pass' link' (shown link') dial' note' → IsReady gate (count + 1) pass'
   link-ready gate count told rules pass link dial note how pass' link' dial' note' ready d = record {
     can = link-can gate told rules pass link dial note how pass' link' dial' note' ready.can d;
-    clear = clear-on count pass pass' ready.clear (rooms.link-counts g stands receives sends told rules pass link (shown link) dial note how pass' link' (shown link') dial' note' d);
+    clear = clear-on count pass pass' ready.clear (rooms.link-counts g stands receives sends clocked told rules pass link (shown link) dial note how pass' link' (shown link') dial' note' d);
   }
 
   -- its connection wasn't refused for want of room
   pub link-room : (count told : ℕ) (rules : List Rule) (pass : PassView Group) (link : L) (dial : DialShown) (note : End) (how : Guarded) (pass' : PassView Group) (link' : L) (dial' : DialShown) (note' : End)
-      → IsClear count pass → count < CONNECTION_LAST → GuardLinkDid g stands receives sends told rules pass link (shown link) dial note how pass' link' (shown link') dial' note' → how ≢ guarded.Full
+      → IsClear count pass → count < CONNECTION_LAST → GuardLinkDid g stands receives sends clocked told rules pass link (shown link) dial note how pass' link' (shown link') dial' note' → how ≢ guarded.Full
   link-room count told rules pass link dial note guarded.Full pass' link' dial' note' clear low d is =
-      rooms.link-never-full g stands receives sends told count rules pass link (shown link) dial note pass' link' (shown link') dial' note' clear low d
+      rooms.link-never-full g stands receives sends clocked told count rules pass link (shown link) dial note pass' link' (shown link') dial' note' clear low d
   link-room count told rules pass link dial note (guarded.Ended how) pass' link' dial' note' clear low d is = cc
   link-room count told rules pass link dial note guarded.NoMemory pass' link' dial' note' clear low d is = cc
 
@@ -125,12 +127,12 @@ pub ready-first : (gate : GateId) (pass : PassView Group) → CanServe gate pass
 ready-first gate pass can seen own = record { can = can; clear = clear-first pass can.parts seen own }
 
 -- what a door shows of its link is what its link shows
-abbrev pub ShowsLink : {B N : Type 0} → GuardShows B N → Type 0
-ShowsLink {B} {N} n = (d : N) → ((n.door d).receive_faults ≡ (n.link d).receive_faults) × ((n.door d).send_faults ≡ (n.link d).send_faults) × ((n.door d).left ≡ (n.link d).left)
+abbrev pub ShowsLink : {B C N : Type 0} → GuardShows B C N → Type 0
+ShowsLink {B} {C} {N} n = (d : N) → ((n.door d).receive_faults ≡ (n.link d).receive_faults) × ((n.door d).send_faults ≡ (n.link d).send_faults) × ((n.door d).left ≡ (n.link d).left)
 
-module _ {B N : Type 0} (n : GuardShows B N) (shows : ShowsLink n) (rules : List Rule) (pass : PassView Group) (told : ℕ) (dial : DialShown) (note : End)
-    (pass' : PassView Group) (told' : ℕ) (dial' : DialShown) (note' : End) (met at' : N) (how : Guarded)
-    (did : GuardLinkDid n.bus n.stands n.receives n.sends told' rules pass met (n.link met) dial note how pass' at' (n.link at') dial' note') where
+module _ {B C N : Type 0} (n : GuardShows B C N) (shows : ShowsLink n) (rules : List Rule) (pass : PassView Group) (clock : C) (told : ℕ) (dial : DialShown) (note : End)
+    (pass' : PassView Group) (clock' : C) (told' : ℕ) (dial' : DialShown) (note' : End) (met at' : N) (how : Guarded)
+    (did : GuardLinkDid n.bus n.stands n.receives n.sends (Clocked n.clock clock clock') told' rules pass met (n.link met) dial note how pass' at' (n.link at') dial' note') where
   -- the count of the door's receives or of its sends that failed rose, as that of its link did
   rose-either : Rose (n.link met).receive_faults (n.link at').receive_faults ⊎ Rose (n.link met).send_faults (n.link at').send_faults → RoseEither (n.door met) (n.door at')
   rose-either (inl rose) = inl (subst (λ a. Rose a (n.door at').receive_faults) (sym (shows met).0) (subst (λ b. Rose (n.link met).receive_faults b) (sym (shows at').0) rose))
@@ -138,10 +140,10 @@ module _ {B N : Type 0} (n : GuardShows B N) (shows : ShowsLink n) (rules : List
 
   -- a peer was met and served
   pub next-peer : (at : N) (failed : Bool) → how ≢ guarded.Full → failed ≡ is_note_fault how → MeetsPeer n.stands n.tells n.waits n.door at met → told ≤ told' → Went n.receives n.sends met at'
-      → IsNext n rules (record { pass = pass; told = told; dial = dial; note = note; failed = false }) at (next.Peer failed)
-      (λ f. record { pass = pass'; told = told'; dial = dial'; note = note'; failed = f }) at'
+      → IsNext n rules (record { pass = pass; clock = clock; told = told; dial = dial; note = note; failed = false }) at (next.Peer failed)
+      (λ f. record { pass = pass'; clock = clock'; told = told'; dial = dial'; note = note'; failed = f }) at'
   next-peer at failed room failed_is meets later went =
-      let counts = link-counts n.bus n.stands n.receives n.sends n.link told' rules pass met dial note how pass' at' dial' note' did in
+      let counts = link-counts n.bus n.stands n.receives n.sends (Clocked n.clock clock clock') n.link told' rules pass met dial note how pass' at' dial' note' did in
       let before = shows met in
       let behind = shows at' in (
         record {
@@ -151,9 +153,9 @@ module _ {B N : Type 0} (n : GuardShows B N) (shows : ShowsLink n) (rules : List
           serves = record { did = did; later = later; went = went; failed = failed_is; room = room };
           receives = omega (arith, before.0, behind.0, counts.0);
           sends = omega (arith, before.1, behind.1, counts.1);
-          cut = λ cut. rose-either (link-cut n.bus n.stands n.receives n.sends n.link told' rules pass met dial note how pass' at' dial' note' did
+          cut = λ cut. rose-either (link-cut n.bus n.stands n.receives n.sends (Clocked n.clock clock clock') n.link told' rules pass met dial note how pass' at' dial' note' did
               (subst (λ l. is_cut (is_own how) (is_whole how) l (n.link at').left ≡ true) before.2
               (subst (λ l. is_cut (is_own how) (is_whole how) (n.door met).left l ≡ true) behind.2 cut)));
         },
-        subst (λ f. Notes f note.faults note'.faults) (sym failed_is) (link-notes n.bus n.stands n.receives n.sends n.link told' rules pass met dial note how pass' at' dial' note' did),
+        subst (λ f. Notes f note.faults note'.faults) (sym failed_is) (link-notes n.bus n.stands n.receives n.sends (Clocked n.clock clock clock') n.link told' rules pass met dial note how pass' at' dial' note' did),
       )

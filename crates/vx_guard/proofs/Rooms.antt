@@ -12,6 +12,7 @@ use Rattle.vx_group.specs.Groups.{Group}
 use Rattle.vx_stream.specs.Calling.{Receives, Sends}
 use Rattle.vx_stream.specs.Shown.{LinkShown}
 use Rattle.vx_session.specs.Outside.{DialShown}
+use Rattle.vx_session.specs.Placing.{Placed}
 use Rattle.vx_session.specs.Serving.{Item}
 use Rattle.vx_session.specs.Progress.{placed}
 use Rattle.vx_policy.specs.declared.made.MadeLink.{MadeLink}
@@ -45,18 +46,18 @@ items-steady g number conn rules peer made (j ∷ later) made' all =
     (append-steady (events_by j.served.placed) (events_by (placed (served later))) one (items-steady g number conn rules peer all.1 later made' all.3))
 
 -- Whatever became of a guarded link: among the groups that its pass made as many connections came up as went down, and at most one.
-pub link-counts : {B L : Type 0} (g : Origin B) (stands : L → List ℕ → List ℕ → Type 0) (receives : Receives L) (sends : Sends L) (told : ℕ) (rules : List Rule) (pass : PassView Group) (link : L) (seen : LinkShown) (dial : DialShown)
+pub link-counts : {B L : Type 0} (g : Origin B) (stands : L → List ℕ → List ℕ → Type 0) (receives : Receives L) (sends : Sends L) (clocked : List Placed → Type 0) (told : ℕ) (rules : List Rule) (pass : PassView Group) (link : L) (seen : LinkShown) (dial : DialShown)
     (note : End) (how : Guarded) (pass' : PassView Group) (link' : L) (seen' : LinkShown) (dial' : DialShown) (note' : End)
-    → GuardLinkDid g stands receives sends told rules pass link seen dial note how pass' link' seen' dial' note' → ComesAndGoes pass pass'
-link-counts g stands receives sends told rules pass link seen dial note (guarded.Ended how) pass' link' seen' dial' note' had =
+    → GuardLinkDid g stands receives sends clocked told rules pass link seen dial note how pass' link' seen' dial' note' → ComesAndGoes pass pass'
+link-counts g stands receives sends clocked told rules pass link seen dial note (guarded.Ended how) pass' link' seen' dial' note' had =
     let did = had.did in
     came-and-went g told had.conn role.Core pass had.up pass' (placed (served did.items)) did.last had.joins did.makes
     (items-steady g had.up.number had.conn rules had.peer [] did.items did.made did.each) did.down
-link-counts g stands receives sends told rules pass link seen dial note guarded.Full pass' link' seen' dial' note' had = none-came g role.Core connect.Full pass pass' had.0
-link-counts g stands receives sends told rules pass link seen dial note guarded.NoMemory pass' link' seen' dial' note' had = none-came g role.Core connect.NoMemory pass pass' had.0
+link-counts g stands receives sends clocked told rules pass link seen dial note guarded.Full pass' link' seen' dial' note' had = none-came g role.Core connect.Full pass pass' had.0
+link-counts g stands receives sends clocked told rules pass link seen dial note guarded.NoMemory pass' link' seen' dial' note' had = none-came g role.Core connect.NoMemory pass pass' had.0
 
 -- Where the pass is clear behind so many links, the next one isn't refused for want of room.
-pub link-never-full : {B L : Type 0} (g : Origin B) (stands : L → List ℕ → List ℕ → Type 0) (receives : Receives L) (sends : Sends L) (told count : ℕ) (rules : List Rule) (pass : PassView Group) (link : L) (seen : LinkShown)
+pub link-never-full : {B L : Type 0} (g : Origin B) (stands : L → List ℕ → List ℕ → Type 0) (receives : Receives L) (sends : Sends L) (clocked : List Placed → Type 0) (told count : ℕ) (rules : List Rule) (pass : PassView Group) (link : L) (seen : LinkShown)
     (dial : DialShown) (note : End) (pass' : PassView Group) (link' : L) (seen' : LinkShown) (dial' : DialShown) (note' : End) → IsClear count pass → count < CONNECTION_LAST
-    → GuardLinkDid g stands receives sends told rules pass link seen dial note guarded.Full pass' link' seen' dial' note' → ⊥
-link-never-full g stands receives sends told count rules pass link seen dial note pass' link' seen' dial' note' clear low had = never-full g count pass pass' role.Core clear low had.0
+    → GuardLinkDid g stands receives sends clocked told rules pass link seen dial note guarded.Full pass' link' seen' dial' note' → ⊥
+link-never-full g stands receives sends clocked told count rules pass link seen dial note pass' link' seen' dial' note' clear low had = never-full g count pass pass' role.Core clear low had.0

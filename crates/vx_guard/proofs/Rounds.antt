@@ -8,9 +8,9 @@ use Rattle.vx_guard.specs.declared.serving.Next.TheVariants as next
 use Rattle.vx_guard.specs.declared.serving.Stop.TheVariants as stop
 use Rattle.vx_guard.specs.Peers.{GuardHas, GuardShows, GuardsPeer, IsNext, StopsPeers, is_own, is_whole}
 
-module _ {B N : Type 0} (n : GuardShows B N) (rules : List Rule) (first : GuardHas) (opened : N) where
+module _ {B C N : Type 0} (n : GuardShows B C N) (rules : List Rule) (first : GuardHas C) (opened : N) where
   -- so many peers were met and served so far, and no note failed
-  pub record Round (number : ℕ) (s : GuardHas) (at : N) : Type 0 where
+  pub record Round (number : ℕ) (s : GuardHas C) (at : N) : Type 0 where
     pub so_far : SoFar n.stands n.tells n.waits n.door (GuardsPeer n rules) is_own is_whole first opened number s at
     pub noted : first.note.faults ≤ s.note.faults
 
@@ -18,7 +18,7 @@ module _ {B N : Type 0} (n : GuardShows B N) (rules : List Rule) (first : GuardH
   pub round-none : Round 0 first opened
   round-none = record { so_far = so-none n.stands n.tells n.waits n.door (GuardsPeer n rules) is_own is_whole first opened; noted = omega arith }
 
-  module _ (limit number : ℕ) (s : GuardHas) (at : N) (after : Bool → GuardHas) (at' : N) (round : Round number s at) where
+  module _ (limit number : ℕ) (s : GuardHas C) (at : N) (after : Bool → GuardHas C) (at' : N) (round : Round number s at) where
     -- one more peer, whose note didn't fail
     pub round-more : IsNext n rules s at (next.Peer false) after at' → Round (number + 1) (after false) at'
     round-more one = record {
@@ -50,7 +50,7 @@ module _ {B N : Type 0} (n : GuardShows B N) (rules : List Rule) (first : GuardH
     )
 
   -- as many were served as were to be
-  pub round-enough : (limit number : ℕ) (s : GuardHas) (at : N) → Round number s at → number ≤ limit → limit ≤ number
+  pub round-enough : (limit number : ℕ) (s : GuardHas C) (at : N) → Round number s at → number ≤ limit → limit ≤ number
       → StopsPeers n rules first opened limit (stop.Door door.Served) number s at
   round-enough limit number s at round within enough = (
     so-served n.stands n.tells n.waits n.door (GuardsPeer n rules) is_own is_whole first opened limit number s at round.so_far within enough,

@@ -19,7 +19,7 @@ use Rattle.vx_guard.specs.declared.serving.Stop.TheVariants as stop
 use Rattle.vx_guard.specs.Peers.{GuardHas, GuardShows, GuardsPeer, StopsPeers, is_note_stop}
 use Rattle.vx_guard.specs.Outcome.{Begins, GivesRules, Works, IsEnd, IsPortRun, IsNew, IsRuledRun, IsAskRun, PutsLine}
 
-module _ {B N : Type 0} (n : GuardShows B N) (rules : List Rule) (ask : Ask) (first : GuardHas) (opened : N) (last : GuardHas) (new : N) (before after : End)
+module _ {B C N : Type 0} (n : GuardShows B C N) (rules : List Rule) (ask : Ask) (first : GuardHas C) (opened : N) (last : GuardHas C) (new : N) (before after : End)
     (begins : Begins first before) (keeps : KeepsOwn n.door (GuardsPeer n rules)) (number : ℕ) where
   -- the door failed
   pub open-failed : StopsPeers n rules first opened ask.number (stop.Door door.Failed) number last new → last.failed ≡ false → after ≡ last.note
@@ -75,7 +75,7 @@ module _ {B N : Type 0} (n : GuardShows B N) (rules : List Rule) (ask : Ask) (fi
   open-ended (stop.Door door.Served) stops failed how told = open-told door.Served (λ e. absurd cc) stops failed how told
   open-ended (stop.Door door.Ended) stops failed how told = open-told door.Ended (λ e. absurd cc) stops failed how told
 
-module _ {B N : Type 0} (n : GuardShows B N) (rules : List Rule) (o : Opening N) (ask : Ask) (old new : N) (before after : End) where
+module _ {B C N : Type 0} (n : GuardShows B C N) (rules : List Rule) (o : Opening N) (ask : Ask) (old new : N) (before after : End) where
   -- the port was opened, and the work there ended
   pub port_opened : (opened : N) → Opens o n.stands n.door ask.port old Up opened → (how : Status) → Works n rules ask opened new before after how → IsPortRun n rules o ask old new before after how
   port_opened opened opens status.Served works = record { opened = opened; opens = opens; works = works }
@@ -87,7 +87,7 @@ module _ {B N : Type 0} (n : GuardShows B N) (rules : List Rule) (o : Opening N)
   port_opened opened opens status.SourceFailed works = record { opened = opened; opens = opens; works = works }
 
 -- there was memory
-pub ruled_run : {B N : Type 0} (n : CoreState B → GuardShows B N) (rules : List Rule) (o : Opening N) (ask : Ask) (old new : N) (before after : End) (first : CoreState B) → IsNew first → (how : Status)
+pub ruled_run : {B C N : Type 0} (n : CoreState B → GuardShows B C N) (rules : List Rule) (o : Opening N) (ask : Ask) (old new : N) (before after : End) (first : CoreState B) → IsNew first → (how : Status)
     → IsPortRun (n first) rules o ask old new before after how → IsRuledRun n rules o ask old new before after how
 ruled_run n rules o ask old new before after first is_new status.Served run = (first, is_new, run)
 ruled_run n rules o ask old new before after first is_new status.Usage run = (first, is_new, run)
@@ -98,7 +98,7 @@ ruled_run n rules o ask old new before after first is_new status.SinkFailed run 
 ruled_run n rules o ask old new before after first is_new status.SourceFailed run = (first, is_new, run)
 
 -- the source gave rules
-pub ask_run : {B N K : Type 0} (n : CoreState B → GuardShows B N) (rules : List Rule) (o : Opening N) (ask : Ask) (old new : N) (source source' : End) (end : K → End) (first before after : K) (how : Status)
+pub ask_run : {B C N K : Type 0} (n : CoreState B → GuardShows B C N) (rules : List Rule) (o : Opening N) (ask : Ask) (old new : N) (source source' : End) (end : K → End) (first before after : K) (how : Status)
     → GivesRules source source' rules → before ≡ first → IsRuledRun n rules o ask old new (end before) (end after) how
     → IsAskRun n o ask old new (record { source = source; source_after = source'; sink = end first; sink_after = end after }) how
 ask_run n rules o ask old new source source' end first before after how gives same run =

@@ -13,7 +13,7 @@ use Rattle.vx_group.specs.Groups.{Group}
 use Rattle.vx_rules.specs.Calls.{proc_of}
 use Rattle.vx_exchange.specs.Meaning.{Meaning, Junk, Answered, Asks, meaning}
 use Rattle.vx_session.specs.Outside.{DialShown}
-use Rattle.vx_session.specs.Progress.{ServesRecord, AnswersCall}
+use Rattle.vx_session.specs.Progress.{Clocked, ServesRecord, AnswersCall}
 use Rattle.vx_session.proofs.Recorded.{asks-does}
 use Rattle.vx_policy.specs.declared.made.MadeLink.{MadeLink}
 use Rattle.vx_policy.specs.declared.policy.Verdict.{Verdict}
@@ -37,12 +37,12 @@ judged-so rules peer made m xid call v p t verdict proc to is =
     ap (denial rules peer made) is
     ∙ sym (ap denied_by (verdict ∙ ap (λ (x : Proc). judged rules peer x t) proc ∙ ap (λ (y : Option Target). judged rules peer (proc_of call) y) to))
 
-module _ {B : Type 0} (g : Origin B) (conn : ℕ) (rules : List Rule) (peer : ℕ) (made : List MadeLink) (note : End) (failed : Bool) (pass : PassView Group) (dial : DialShown) (told : ℕ)
+module _ {B C : Type 0} (g : Origin B) (tells : C → ℕ → C → Type 0) (conn : ℕ) (rules : List Rule) (peer : ℕ) (made : List MadeLink) (note : End) (failed : Bool) (pass : PassView Group) (dial : DialShown) (clock : C) (told : ℕ)
     (message : List ℕ) where
   -- the session before, and as it is then
-  abbrev state : PassView Group → ℕ → DialShown → List MadeLink → End → Bool → GuardState
-  state p t d m n f = record {
-    session = record { role = role.Core; conn = conn; pass = Some p; told = t; dial = d };
+  abbrev state : PassView Group → C → ℕ → DialShown → List MadeLink → End → Bool → GuardState C
+  state p k t d m n f = record {
+    session = record { role = role.Core; conn = conn; pass = Some p; clock = k; told = t; dial = d };
     rules = rules;
     peer = peer;
     made = m;
@@ -50,22 +50,22 @@ module _ {B : Type 0} (g : Origin B) (conn : ℕ) (rules : List Rule) (peer : �
     failed = f;
   }
 
-  abbrev before : GuardState
-  before = state pass told dial made note failed
+  abbrev before : GuardState C
+  before = state pass clock told dial made note failed
 
-  pub junk-does : meaning message role.Core ≡ Junk → GuardDoes g before message None before
+  pub junk-does : meaning message role.Core ≡ Junk → GuardDoes g tells before message None before
   junk-does is = record {
     role = refl;
     conn = refl;
     rules = refl;
     peer = refl;
     later = omega arith;
-    has = (record { pass = refl; dial = refl; made = refl }, inl (is, refl, refl));
+    has = (record { pass = refl; clock = refl; dial = refl; made = refl }, inl (is, refl, refl));
   }
 
   -- a message that is answered without the core
-  pub answered-does : (text reply : List ℕ) → meaning message role.Core ≡ Answered text → ServesRecord g told role.Core pass conn message dial reply pass dial
-      → GuardDoes g before message (Some reply) before
+  pub answered-does : (text reply : List ℕ) → meaning message role.Core ≡ Answered text → ServesRecord g (Clocked tells clock clock) told role.Core pass conn message dial reply pass dial
+      → GuardDoes g tells before message (Some reply) before
   answered-does text reply is serves =
       let unjudged : denial_at before message ≡ None = ap (denial rules peer made) is in
       record {
@@ -75,18 +75,18 @@ module _ {B : Type 0} (g : Origin B) (conn : ℕ) (rules : List Rule) (peer : �
         peer = refl;
         later = omega arith;
         has = (
-          subst (HasReply g before message reply before) (sym unjudged)
+          subst (HasReply g tells before message reply before) (sym unjudged)
               (record { pass = pass; pass' = pass; had = refl; has = refl; serves = serves }, sym (ap (λ (m : Meaning). learned made m reply) is), refl),
           refl,
         );
       }
 
   -- a call that the rules allow
-  pub allowed-does : (xid : ℕ) (call : Call) (v : Verdict) (reply : List ℕ) (pass' : PassView Group) (told' : ℕ) (dial' : DialShown) (made' : List MadeLink)
+  pub allowed-does : (xid : ℕ) (call : Call) (v : Verdict) (reply : List ℕ) (pass' : PassView Group) (clock' : C) (told' : ℕ) (dial' : DialShown) (made' : List MadeLink)
       → meaning message role.Core ≡ Asks xid call → denial_at before message ≡ denied_by v → v.allow ≡ true → told ≤ told'
-      → AnswersCall g told' pass conn xid call dial reply pass' dial' → made' ≡ made_after made call reply
-      → GuardDoes g before message (Some reply) (state pass' told' dial' made' note failed)
-  allowed-does xid call v reply pass' told' dial' made' is judge allow later answers learns =
+      → AnswersCall g (Clocked tells clock clock') told' pass conn xid call dial reply pass' dial' → made' ≡ made_after made call reply
+      → GuardDoes g tells before message (Some reply) (state pass' clock' told' dial' made' note failed)
+  allowed-does xid call v reply pass' clock' told' dial' made' is judge allow later answers learns =
       record {
         role = refl;
         conn = refl;
@@ -94,8 +94,8 @@ module _ {B : Type 0} (g : Origin B) (conn : ℕ) (rules : List Rule) (peer : �
         peer = refl;
         later = later;
         has = (
-          subst (HasReply g before message reply (state pass' told' dial' made' note failed)) (sym (judge ∙ allows v allow)) (
-            record { pass = pass; pass' = pass'; had = refl; has = refl; serves = asks-does g told' role.Core pass conn message dial xid call reply pass' dial' is answers },
+          subst (HasReply g tells before message reply (state pass' clock' told' dial' made' note failed)) (sym (judge ∙ allows v allow)) (
+            record { pass = pass; pass' = pass'; had = refl; has = refl; serves = asks-does g told' role.Core pass conn message dial tells clock clock' refl xid call reply pass' dial' is answers },
             learns ∙ sym (ap (λ (m : Meaning). learned made m reply) is),
             refl,
           ),
@@ -106,7 +106,7 @@ module _ {B : Type 0} (g : Origin B) (conn : ℕ) (rules : List Rule) (peer : �
   -- a call that they deny
   pub denied-does : (xid : ℕ) (call : Call) (v : Verdict) (o : Option ℕ) (room : List ℕ) (note' : End) → meaning message role.Core ≡ Asks xid call → denial_at before message ≡ denied_by v
       → v.allow ≡ false → IsNoted conn v.rule xid call note (option_map (λ n. take n room) o) note'
-      → GuardDoes g before message (option_map (λ n. take n room) o) (state pass told dial made note' (failed || is_none o))
+      → GuardDoes g tells before message (option_map (λ n. take n room) o) (state pass clock told dial made note' (failed || is_none o))
   denied-does xid call v None room note' is judge deny noted =
       record {
         role = refl;
@@ -114,7 +114,7 @@ module _ {B : Type 0} (g : Origin B) (conn : ℕ) (rules : List Rule) (peer : �
         rules = refl;
         peer = refl;
         later = omega arith;
-        has = (record { pass = refl; dial = refl; made = refl }, inr (record { rule = v.rule; denied = judge ∙ denies v deny; stops = noted }, stays failed));
+        has = (record { pass = refl; clock = refl; dial = refl; made = refl }, inr (record { rule = v.rule; denied = judge ∙ denies v deny; stops = noted }, stays failed));
       }
     where
       stays : (b : Bool) → (b || true) ≡ true
@@ -128,8 +128,8 @@ module _ {B : Type 0} (g : Origin B) (conn : ℕ) (rules : List Rule) (peer : �
         peer = refl;
         later = omega arith;
         has = (
-          subst (HasReply g before message (take n room) (state pass told dial made note' (failed || false))) (sym (judge ∙ denies v deny))
-              (record { pass = refl; dial = refl; made = refl }, subst (λ (m : Meaning). IsDenial m (take n room)) (sym is) noted.0, noted.1, noted.2),
+          subst (HasReply g tells before message (take n room) (state pass clock told dial made note' (failed || false))) (sym (judge ∙ denies v deny))
+              (record { pass = refl; clock = refl; dial = refl; made = refl }, subst (λ (m : Meaning). IsDenial m (take n room)) (sym is) noted.0, noted.1, noted.2),
           stays failed,
         );
       }

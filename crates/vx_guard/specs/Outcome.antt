@@ -48,7 +48,7 @@ pub record Ends : Type 0 where
 
 -- a guard that begins: its pass is the first of its gate, has all parts, has seen nothing and made nothing, so its history has no group;
 -- and its note is the sink
-pub record Begins (s : GuardHas) (sink : End) : Type 0 where
+pub record Begins {C : Type 0} (s : GuardHas C) (sink : End) : Type 0 where
   pub number : s.pass.number ≡ 0
   pub parts : s.pass.parts ≡ 4294967296
   pub seen : s.pass.seen ≡ []
@@ -97,15 +97,15 @@ IsUnruled ends status.SourceFailed =
 IsUnruled ends status.NoMemory = GivesUpTo (TEXT_MAX + 1) ends.source ends.source_after × (ends.sink_after ≡ ends.sink)
 IsUnruled ends _ = ⊥
 
-module _ {B N : Type 0} (n : GuardShows B N) (rules : List Rule) where
+module _ {B C N : Type 0} (n : GuardShows B C N) (rules : List Rule) where
   -- Peers were met and served, each with its note behind the one before, and no note failed. What was written behind the last note is as
   -- with each program over a door that serves so many.
-  pub record Serves (ask : Ask) (first : GuardHas) (opened : N) (last : GuardHas) (new : N) (after : End) (how : DoorStatus) : Type 0 where
+  pub record Serves (ask : Ask) (first : GuardHas C) (opened : N) (last : GuardHas C) (new : N) (after : End) (how : DoorStatus) : Type 0 where
     pub served : IsOpenServed (serving n rules) ask first opened last new last.note after how
     pub noted : last.failed ≡ false
 
   -- The note failed in the session of the last peer. No further one was met, and nothing was written behind.
-  pub record StopsNote (ask : Ask) (first : GuardHas) (opened : N) (last : GuardHas) (new : N) (after : End) : Type 0 where
+  pub record StopsNote (ask : Ask) (first : GuardHas C) (opened : N) (last : GuardHas C) (new : N) (after : End) : Type 0 where
     pub number : ℕ
     pub within : number ≤ ask.number
     pub serves : GuardsPeers n rules first opened number door.Served number last new
@@ -113,7 +113,7 @@ module _ {B N : Type 0} (n : GuardShows B N) (rules : List Rule) where
     pub same : after ≡ last.note
 
   -- how the work at a port that was opened ends
-  abbrev pub IsWorked : Ask → GuardHas → N → GuardHas → N → End → Status → Type 0
+  abbrev pub IsWorked : Ask → GuardHas C → N → GuardHas C → N → End → Status → Type 0
   IsWorked ask first opened last new after status.Served = Serves ask first opened last new after peers.Served
   IsWorked ask first opened last new after status.NetFailed =
       Rose (n.door opened).faults (n.door new).faults × Serves ask first opened last new after peers.NetFailed
@@ -123,9 +123,9 @@ module _ {B N : Type 0} (n : GuardShows B N) (rules : List Rule) where
 
   -- The work ended that began with a history without a group.
   pub record Works (ask : Ask) (opened new : N) (before after : End) (how : Status) : Type 0 where
-    pub first : GuardHas
+    pub first : GuardHas C
     pub begins : Begins first before
-    pub last : GuardHas
+    pub last : GuardHas C
     pub worked : IsWorked ask first opened last new after how
     -- serving leaves the door's own counts as they are: they tell how many peers it met, and why no more
     pub keeps : KeepsOwn n.door (GuardsPeer n rules)
@@ -148,27 +148,27 @@ IsNew first = first.fine ≡ first_fine 9011
 
 -- how what is asked ends by these rules: there was no memory, and nothing was opened or written; or the work at the port ended, of a
 -- gateway that began as a new one
-abbrev pub IsRuledRun : {B N : Type 0} → (CoreState B → GuardShows B N) → List Rule → Opening N → Ask → N → N → End → End → Status → Type 0
+abbrev pub IsRuledRun : {B C N : Type 0} → (CoreState B → GuardShows B C N) → List Rule → Opening N → Ask → N → N → End → End → Status → Type 0
 IsRuledRun n rules o ask old new before after status.NoMemory = (new ≡ old) × (after ≡ before)
 IsRuledRun {B} n rules o ask old new before after how = (first : CoreState B) × IsNew first × IsPortRun (n first) rules o ask old new before after how
 
 -- the source gave rules, and the run by them ended so
-pub record RunsRules {B N : Type 0} (n : CoreState B → GuardShows B N) (o : Opening N) (ask : Ask) (old new : N) (ends : Ends) (how : Status) : Type 0 where
+pub record RunsRules {B C N : Type 0} (n : CoreState B → GuardShows B C N) (o : Opening N) (ask : Ask) (old new : N) (ends : Ends) (how : Status) : Type 0 where
   pub rules : List Rule
   pub gives : GivesRules ends.source ends.source_after rules
   pub runs : IsRuledRun n rules o ask old new ends.sink ends.sink_after how
 
 -- how what is asked ends: there are no rules, and nothing was opened; or the run by those that the source gave ended
-abbrev pub IsAskRun : {B N : Type 0} → (CoreState B → GuardShows B N) → Opening N → Ask → N → N → Ends → Status → Type 0
+abbrev pub IsAskRun : {B C N : Type 0} → (CoreState B → GuardShows B C N) → Opening N → Ask → N → N → Ends → Status → Type 0
 IsAskRun n o ask old new ends how = (IsUnruled ends how × (new ≡ old)) ⊎ RunsRules n o ask old new ends how
 
 -- How a run ends: the words ask nothing, which is told, and the source is unread; or what they ask is done.
-abbrev pub IsRun : {B N : Type 0} → (CoreState B → GuardShows B N) → Opening N → List (List ℕ) → N → N → Ends → Status → Type 0
+abbrev pub IsRun : {B C N : Type 0} → (CoreState B → GuardShows B C N) → Opening N → List (List ℕ) → N → N → Ends → Status → Type 0
 IsRun n o words old new ends how =
     (AsksNothing words × (new ≡ old) × (ends.source_after ≡ ends.source)
     × PutsLine status.Usage usage_line ends.sink ends.sink_after how)
     ⊎ ((ask : Ask) × Asks words ask × IsAskRun n o ask old new ends how)
 
 -- it ends with the number of its status
-abbrev pub EndsRun : {B N : Type 0} → (CoreState B → GuardShows B N) → Opening N → List (List ℕ) → N → N → Ends → ℕ → Type 0
+abbrev pub EndsRun : {B C N : Type 0} → (CoreState B → GuardShows B C N) → Opening N → List (List ℕ) → N → N → Ends → ℕ → Type 0
 EndsRun n o words old new ends number = (how : Status) × (number ≡ status_number how) × IsRun n o words old new ends how

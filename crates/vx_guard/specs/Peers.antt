@@ -19,6 +19,7 @@ use Rattle.vx_group.specs.Groups.{Group}
 use Rattle.vx_stream.specs.Shown.{LinkShown}
 use Rattle.vx_stream.specs.declared.ends.End.TheVariants as stream
 use Rattle.vx_session.specs.Outside.{DialShown}
+use Rattle.vx_session.specs.Progress.{Clocked}
 use Rattle.vx_rooms.specs.Counting.{IsClear}
 use Rattle.vx_policy.specs.declared.rules.Rule.{Rule}
 use Rattle.vx_peers.specs.Outcome.{Shows}
@@ -31,10 +32,11 @@ use Rattle.vx_guard.specs.declared.serving.Stop.{Stop}
 use Rattle.vx_guard.specs.declared.serving.Stop.TheVariants as stop
 use Rattle.vx_guard.specs.Linking.{GuardLinkDid}
 
--- what a guard has between two peers: its pass, the greatest moment that its clock has told, its dial, what its note took, and whether
--- that failed
-pub record GuardHas : Type 0 where
+-- what a guard has between two peers: its pass, its clock and the greatest moment that that has told, its dial, what its note took, and
+-- whether that failed
+pub record GuardHas (C : Type 0) : Type 0 where
   pub pass : PassView Group
+  pub clock : C
   pub told : ℕ
   pub dial : DialShown
   pub note : End
@@ -51,9 +53,10 @@ pub record IsReady (gate : GateId) (count : ℕ) (pass : PassView Group) : Type 
   pub can : CanServe gate pass
   pub clear : IsClear count pass
 
--- what a bus and a door are to what is said of them
-pub record GuardShows (B N : Type 0) : Type 1 where
+-- what a bus, a clock and a door are to what is said of them
+pub record GuardShows (B C N : Type 0) : Type 1 where
   pub bus : Origin B
+  pub clock : C → ℕ → C → Type 0
   pub stands : N → List ℕ → List ℕ → Type 0
   pub receives : N → List ℕ → ReadOut → List ℕ → N → Type 0
   pub sends : N → List ℕ → WriteOut → N → Type 0
@@ -84,8 +87,8 @@ is_whole _ = true
 
 -- A peer was served by these rules: it had its guarded session, or none came up, as there was no memory. It is judged by the address
 -- that the door's list of its peers ends with. The door went by receives and sends alone, and the guard knows whether the note failed.
-pub record GuardsPeer {B N : Type 0} (n : GuardShows B N) (rules : List Rule) (s : GuardHas) (door : N) (how : Guarded) (s' : GuardHas) (door' : N) : Type 0 where
-  pub did : GuardLinkDid n.bus n.stands n.receives n.sends s'.told rules s.pass door (n.link door) s.dial s.note how s'.pass door' (n.link door') s'.dial s'.note
+pub record GuardsPeer {B C N : Type 0} (n : GuardShows B C N) (rules : List Rule) (s : GuardHas C) (door : N) (how : Guarded) (s' : GuardHas C) (door' : N) : Type 0 where
+  pub did : GuardLinkDid n.bus n.stands n.receives n.sends (Clocked n.clock s.clock s'.clock) s'.told rules s.pass door (n.link door) s.dial s.note how s'.pass door' (n.link door') s'.dial s'.note
   pub later : s.told ≤ s'.told
   pub went : Went n.receives n.sends door door'
   pub failed : s'.failed ≡ (s.failed || is_note_fault how)
@@ -93,7 +96,7 @@ pub record GuardsPeer {B N : Type 0} (n : GuardShows B N) (rules : List Rule) (s
   pub room : how ≢ guarded.Full
 
 -- how a guard by these rules is seen as what serves the peers of a door
-abbrev pub serving : {B N : Type 0} → GuardShows B N → List Rule → Shows N GuardHas Guarded
+abbrev pub serving : {B C N : Type 0} → GuardShows B C N → List Rule → Shows N (GuardHas C) Guarded
 serving n rules = record {
   stands = n.stands;
   tells = n.tells;
@@ -105,7 +108,7 @@ serving n rules = record {
 }
 
 -- so many peers were met and served by these rules, each before the next, and at most `limit`
-abbrev pub GuardsPeers : {B N : Type 0} → GuardShows B N → List Rule → GuardHas → N → (limit : ℕ) → DoorEnd → (number : ℕ) → GuardHas → N → Type 0
+abbrev pub GuardsPeers : {B C N : Type 0} → GuardShows B C N → List Rule → GuardHas C → N → (limit : ℕ) → DoorEnd → (number : ℕ) → GuardHas C → N → Type 0
 GuardsPeers n rules s door limit how number s' door' =
     ServesPeers n.stands n.tells n.waits n.door (GuardsPeer n rules) is_own is_whole s door limit how number s' door'
 
@@ -122,7 +125,7 @@ Notes false before after = before ≤ after
 
 -- What a wait for the next peer came to, of a guard whose note didn't fail: one was met and served, or none came, and it has what it had.
 -- `after` is what it has then, by whether the note failed.
-abbrev pub IsNext : {B N : Type 0} → GuardShows B N → List Rule → GuardHas → N → Next → (after : Bool → GuardHas) → N → Type 0
+abbrev pub IsNext : {B C N : Type 0} → GuardShows B C N → List Rule → GuardHas C → N → Next → (after : Bool → GuardHas C) → N → Type 0
 IsNext n rules s door (next.Peer failed) after door' =
     ServesOne n.stands n.tells n.waits n.door (GuardsPeer n rules) is_own is_whole s door (after failed) door'
     × Notes failed s.note.faults (after failed).note.faults
@@ -135,7 +138,7 @@ is_note_stop stop.Note = true
 is_note_stop (stop.Door how) = false
 
 -- Why no more were served of at most so many: as with each door; or the note failed in the session of the last.
-abbrev pub StopsPeers : {B N : Type 0} → GuardShows B N → List Rule → GuardHas → N → (limit : ℕ) → Stop → (number : ℕ) → GuardHas → N → Type 0
+abbrev pub StopsPeers : {B C N : Type 0} → GuardShows B C N → List Rule → GuardHas C → N → (limit : ℕ) → Stop → (number : ℕ) → GuardHas C → N → Type 0
 StopsPeers n rules s at limit (stop.Door how) number s' at' =
     GuardsPeers n rules s at limit how number s' at' × (s.note.faults ≤ s'.note.faults)
 StopsPeers n rules s at limit stop.Note number s' at' =

@@ -14,8 +14,8 @@ use Rattle.vx_guard.specs.Judged.{denial, learned, denied_record}
 
 -- what a guarded session has between two messages: what each session has; the rules, the peer, the links that it knows, what its note
 -- took, and whether that failed
-pub record GuardState : Type 0 where
-  pub session : SessionState
+pub record GuardState (C : Type 0) : Type 0 where
+  pub session : SessionState C
   pub rules : List Rule
   pub peer : ℕ
   pub made : List MadeLink
@@ -23,23 +23,24 @@ pub record GuardState : Type 0 where
   pub failed : Bool
 
 -- what the rules say of a message
-abbrev pub denial_at : GuardState → List ℕ → Option ℕ
+abbrev pub denial_at : {C : Type 0} → GuardState C → List ℕ → Option ℕ
 denial_at s message = denial s.rules s.peer s.made (meaning message role.Core)
 
 -- the core wasn't asked
-pub record IsUnasked (s s' : GuardState) : Type 0 where
+pub record IsUnasked {C : Type 0} (s s' : GuardState C) : Type 0 where
   pub pass : s'.session.pass ≡ s.session.pass
+  pub clock : s'.session.clock ≡ s.session.clock
   pub dial : s'.session.dial ≡ s.session.dial
   pub made : s'.made ≡ s.made
 
 -- the note failed in the line of a denial
-pub record NoteFails (s : GuardState) (message : List ℕ) (s' : GuardState) : Type 0 where
+pub record NoteFails {C : Type 0} (s : GuardState C) (message : List ℕ) (s' : GuardState C) : Type 0 where
   pub rule : ℕ
   pub denied : denial_at s message ≡ Some rule
   pub stops : StopsIn s.note s'.note (deny_line s.session.conn rule)
 
 -- a message without a reply: it is junk, or the note failed
-abbrev pub HasNone : GuardState → List ℕ → GuardState → Type 0
+abbrev pub HasNone : {C : Type 0} → GuardState C → List ℕ → GuardState C → Type 0
 HasNone s message s' =
     IsUnasked s s'
     × (((meaning message role.Core ≡ Junk) × (s'.note ≡ s.note) × (s'.failed ≡ s.failed)) ⊎ (NoteFails s message s' × (s'.failed ≡ true)))
@@ -50,22 +51,22 @@ IsDenial (Asks xid call) reply = reply ≡ denied_record xid call
 IsDenial _ reply = ⊥
 
 -- a message with a reply: it was served as each session serves it, or denied, and the line of that went to the note before
-abbrev pub HasReply : {B : Type 0} → Origin B → GuardState → List ℕ → List ℕ → GuardState → Option ℕ → Type 0
-HasReply g s message reply s' None =
-    IsAnswered g s.session message reply s'.session × (s'.made ≡ learned s.made (meaning message role.Core) reply) × (s'.note ≡ s.note)
-HasReply g s message reply s' (Some rule) =
+abbrev pub HasReply : {B C : Type 0} → Origin B → (C → ℕ → C → Type 0) → GuardState C → List ℕ → List ℕ → GuardState C → Option ℕ → Type 0
+HasReply g tells s message reply s' None =
+    IsAnswered g tells s.session message reply s'.session × (s'.made ≡ learned s.made (meaning message role.Core) reply) × (s'.note ≡ s.note)
+HasReply g tells s message reply s' (Some rule) =
     IsUnasked s s' × IsDenial (meaning message role.Core) reply × Appends s.note.bytes s'.note.bytes (deny_line s.session.conn rule)
     × (s.note.faults ≤ s'.note.faults)
 
-abbrev pub Has : {B : Type 0} → Origin B → GuardState → List ℕ → Option (List ℕ) → GuardState → Type 0
-Has g s message None s' = HasNone s message s'
-Has g s message (Some reply) s' = HasReply g s message reply s' (denial_at s message) × (s'.failed ≡ s.failed)
+abbrev pub Has : {B C : Type 0} → Origin B → (C → ℕ → C → Type 0) → GuardState C → List ℕ → Option (List ℕ) → GuardState C → Type 0
+Has g tells s message None s' = HasNone s message s'
+Has g tells s message (Some reply) s' = HasReply g tells s message reply s' (denial_at s message) × (s'.failed ≡ s.failed)
 
 -- what a message on the connection does
-pub record GuardDoes {B : Type 0} (g : Origin B) (s : GuardState) (message : List ℕ) (reply : Option (List ℕ)) (s' : GuardState) : Type 0 where
+pub record GuardDoes {B C : Type 0} (g : Origin B) (tells : C → ℕ → C → Type 0) (s : GuardState C) (message : List ℕ) (reply : Option (List ℕ)) (s' : GuardState C) : Type 0 where
   pub role : s'.session.role ≡ s.session.role
   pub conn : s'.session.conn ≡ s.session.conn
   pub rules : s'.rules ≡ s.rules
   pub peer : s'.peer ≡ s.peer
   pub later : s.session.told ≤ s'.session.told
-  pub has : Has g s message reply s'
+  pub has : Has g tells s message reply s'

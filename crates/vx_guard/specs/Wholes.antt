@@ -62,7 +62,7 @@ GuardEndsSo rules peer conn made seen list lines looked behind unsent seen' note
 -- it knows at its end; the bytes `front` that it looked at, and those that it received behind them, fewer than it receives at once; the
 -- replies, of which the link took `written`; and the end of the connection, its last group. It received more only where it had written
 -- the replies to all records that had come, whole.
-pub record GuardDid {B L : Type 0} (g : Origin B) (stands : L → List ℕ → List ℕ → Type 0) (receives : Receives L) (sends : Sends L) (told : ℕ) (rules : List Rule) (peer conn : ℕ) (pass : PassView Group) (link : L) (seen : LinkShown)
+pub record GuardDid {B L : Type 0} (g : Origin B) (stands : L → List ℕ → List ℕ → Type 0) (receives : Receives L) (sends : Sends L) (clocked : List Placed → Type 0) (told : ℕ) (rules : List Rule) (peer conn : ℕ) (pass : PassView Group) (link : L) (seen : LinkShown)
     (dial : DialShown) (note : End) (how : GuardEnd) (pass' : PassView Group) (link' : L) (seen' : LinkShown) (dial' : DialShown) (note' : End) : Type 0 where
   pub items : List Judged
   pub made : List MadeLink
@@ -84,7 +84,8 @@ pub record GuardDid {B L : Type 0} (g : Origin B) (stands : L → List ℕ → L
   pub near : length behind < PIECE
   pub in_turn : InTurn receives sends RECORD_MAX (answered (served items)) link (front ++ behind) written link'
   pub ended : GuardEndsSo rules peer conn made seen (answered (served items)) (notes conn items) (records RECORD_MAX front) behind unsent seen' note note' how
-  -- the dial's calls
+  -- the calls of the clock and of the dial for the groups of the messages
+  pub asks : clocked (placed (served items))
   pub rings : Rings dial (placed (served items)) (calls (served items)) dial'
   pub upholds : Upholds g pass'
 

@@ -51,9 +51,9 @@ impl<'a, R: Wait, B: Bus, T: Turns<Core<B>>, C: Clock, P: Pause, D: Dial, K: Sin
     // the connection is idle
     ghost can = { λ s. (pass : PassView Group) × (s.held.now ≡ Some pass) × (pass.gate ≡ T.gate s.turns.now) × (phase_at pass s.conn ≡ Idle role.Core) };
 
-    ghost does = { λ s message reply s'. GuardDoes (origin B.Bus (T.first s.turns.now))
+    ghost does = { λ s message reply s'. GuardDoes (origin B.Bus (T.first s.turns.now)) C.tells
         (record {
-          session = record { role = role.Core; conn = s.conn; pass = s.held.now; told = C.told s.clock.now; dial = dial_shown D.calls D.faults s.dial.now };
+          session = record { role = role.Core; conn = s.conn; pass = s.held.now; clock = s.clock.now; told = C.told s.clock.now; dial = dial_shown D.calls D.faults s.dial.now };
           rules = s.policy.now;
           peer = s.peer;
           made = s.made.now;
@@ -61,7 +61,7 @@ impl<'a, R: Wait, B: Bus, T: Turns<Core<B>>, C: Clock, P: Pause, D: Dial, K: Sin
           failed = s.failed;
         }) message reply
         (record {
-          session = record { role = role.Core; conn = s'.conn; pass = s'.held.now; told = C.told s'.clock.now; dial = dial_shown D.calls D.faults s'.dial.now };
+          session = record { role = role.Core; conn = s'.conn; pass = s'.held.now; clock = s'.clock.now; told = C.told s'.clock.now; dial = dial_shown D.calls D.faults s'.dial.now };
           rules = s'.policy.now;
           peer = s'.peer;
           made = s'.made.now;
@@ -170,9 +170,9 @@ fn guard_message<R: Wait, B: Bus, T: Turns<Core<B>>, C: Clock, P: Pause, D: Dial
     requires phase { phase_at pass conn ≡ Idle role.Core }
     requires short { length message.now ≤ RECORD_MAX }
     requires room { REPLY_ROOM ≤ length reply.old }
-    ensures does { GuardDoes (origin B.Bus (T.first turns.now))
+    ensures does { GuardDoes (origin B.Bus (T.first turns.now)) C.tells
         (record {
-          session = record { role = role.Core; conn = conn; pass = Some pass; told = C.told clock.old; dial = dial_shown D.calls D.faults dial.old };
+          session = record { role = role.Core; conn = conn; pass = Some pass; clock = clock.old; told = C.told clock.old; dial = dial_shown D.calls D.faults dial.old };
           rules = policy.now;
           peer = peer;
           made = made.old;
@@ -180,7 +180,7 @@ fn guard_message<R: Wait, B: Bus, T: Turns<Core<B>>, C: Clock, P: Pause, D: Dial
           failed = failed;
         }) message.now (option_map (λ n. take n reply.new) result.1)
         (record {
-          session = record { role = role.Core; conn = conn; pass = Some result.0; told = C.told clock.new; dial = dial_shown D.calls D.faults dial.new };
+          session = record { role = role.Core; conn = conn; pass = Some result.0; clock = clock.new; told = C.told clock.new; dial = dial_shown D.calls D.faults dial.new };
           rules = policy.now;
           peer = peer;
           made = made.new;

@@ -4,6 +4,7 @@ ghost use Rattle.vx_session.specs.Origin.{origin};
 ghost use Rattle.vx_door.specs.Going.{Went};
 ghost use Rattle.vx_stream.specs.Shown.{link_shown};
 ghost use Rattle.vx_session.specs.Outside.{dial_shown};
+ghost use Rattle.vx_session.specs.Progress.{Clocked};
 ghost use Rattle.vx_guard.specs.Linking.{GuardLinkDid, refused_as};
 
 use crate::sessions::{GuardEnd, GuardRoom, guarded_session};
@@ -65,7 +66,7 @@ pub fn guarded_link<
     note: &mut K,
 ) -> (Pass<Core<B>>, Guarded)
     requires gate { pass.gate ≡ T.gate turns.now }
-    ensures did { GuardLinkDid (origin B.Bus (T.first turns.now)) L.stands L.receives L.sends (C.told clock.new) policy.now pass link.old
+    ensures did { GuardLinkDid (origin B.Bus (T.first turns.now)) L.stands L.receives L.sends (Clocked C.tells clock.old clock.new) (C.told clock.new) policy.now pass link.old
         (link_shown L.left L.peers L.receive_faults L.send_faults link.old) (dial_shown D.calls D.faults dial.old)
         (record { bytes = K.taken note.old; faults = K.faults note.old }) result.1 result.0 link.new
         (link_shown L.left L.peers L.receive_faults L.send_faults link.new) (dial_shown D.calls D.faults dial.new)

@@ -70,6 +70,7 @@ fn serve_open<
     requires fresh { (pass.seen ≡ []) × (pass.own ≡ []) }
     ensures { Works (record {
       bus = origin B.Bus (T.first turns.now);
+      clock = C.tells;
       stands = N.stands;
       receives = N.receives;
       sends = N.sends;
@@ -112,6 +113,7 @@ fn run_gate<
     requires fresh { (pass.seen ≡ []) × (pass.own ≡ []) }
     ensures { IsPortRun (record {
       bus = origin B.Bus (T.first turns.now);
+      clock = C.tells;
       stands = N.stands;
       receives = N.receives;
       sends = N.sends;
@@ -159,6 +161,7 @@ fn run_racked<R: Wait, N: Door + Peered, X: Tools, K: Sink, I: Instrument, M: Ra
     requires racked { M.rack ≡ handed (λ i. I.behaves i) (λ i. I.nature i) rack.items }
     ensures { IsRuledRun (λ first. record {
       bus = origin (lone M.rack) first;
+      clock = X.C.tells;
       stands = N.stands;
       receives = N.receives;
       sends = N.sends;
@@ -194,6 +197,7 @@ fn run_ruled<R: Wait, N: Door + Peered, X: Tools, K: Sink, I: Instrument>(
     requires rack { vec_len rack ≡ 1 }
     ensures { IsRuledRun (λ first. record {
       bus = origin (lone (handed (λ i. I.behaves i) (λ i. I.nature i) rack.items)) first;
+      clock = X.C.tells;
       stands = N.stands;
       receives = N.receives;
       sends = N.sends;
@@ -223,6 +227,7 @@ fn run_ask<R: Wait, N: Door + Peered, X: Tools, S: Source, K: Sink, I: Instrumen
     requires rack { vec_len rack ≡ 1 }
     ensures { IsAskRun (λ first. record {
       bus = origin (lone (handed (λ i. I.behaves i) (λ i. I.nature i) rack.items)) first;
+      clock = X.C.tells;
       stands = N.stands;
       receives = N.receives;
       sends = N.sends;
@@ -257,6 +262,7 @@ fn run<R: Wait, N: Door + Peered, X: Tools, S: Source, K: Sink, I: Instrument>(
     requires rack { vec_len rack ≡ 1 }
     ensures { IsRun (λ first. record {
       bus = origin (lone (handed (λ i. I.behaves i) (λ i. I.nature i) rack.items)) first;
+      clock = X.C.tells;
       stands = N.stands;
       receives = N.receives;
       sends = N.sends;
@@ -312,6 +318,7 @@ pub fn guard_run<R: Wait, N: Door + Peered, X: Tools, S: Source, K: Sink, I: Ins
     requires rack { vec_len rack ≡ 1 }
     ensures { EndsRun (λ first. record {
       bus = origin (lone (handed (λ i. I.behaves i) (λ i. I.nature i) rack.items)) first;
+      clock = X.C.tells;
       stands = N.stands;
       receives = N.receives;
       sends = N.sends;

@@ -97,6 +97,7 @@ fn serve_next<
     ensures next { IsNext
         (record {
           bus = origin B.Bus (T.first turns.now);
+          clock = C.tells;
           stands = N.stands;
           receives = N.receives;
           sends = N.sends;
@@ -105,8 +106,8 @@ fn serve_next<
           door = door_shown N.met N.ended N.faults N.receive_faults N.send_faults N.left N.peers;
           link = link_shown N.left N.peers N.receive_faults N.send_faults;
         }) policy.now
-        (record { pass = pass; told = C.told kit.old.clock; dial = dial_shown D.calls D.faults kit.old.dial; note = record { bytes = K.taken note.old; faults = K.faults note.old }; failed = false }) net.old result.1
-        (λ failed. record { pass = result.0; told = C.told kit.new.clock; dial = dial_shown D.calls D.faults kit.new.dial; note = record { bytes = K.taken note.new; faults = K.faults note.new }; failed = failed }) net.new }
+        (record { pass = pass; clock = kit.old.clock; told = C.told kit.old.clock; dial = dial_shown D.calls D.faults kit.old.dial; note = record { bytes = K.taken note.old; faults = K.faults note.old }; failed = false }) net.old result.1
+        (λ failed. record { pass = result.0; clock = kit.new.clock; told = C.told kit.new.clock; dial = dial_shown D.calls D.faults kit.new.dial; note = record { bytes = K.taken note.new; faults = K.faults note.new }; failed = failed }) net.new }
 {
     match meet(net) {
         Met::Peer => {
@@ -154,6 +155,7 @@ pub(crate) fn serve_links<
     ensures { StopsPeers
         (record {
           bus = origin B.Bus (T.first turns.now);
+          clock = C.tells;
           stands = N.stands;
           receives = N.receives;
           sends = N.sends;
@@ -162,8 +164,8 @@ pub(crate) fn serve_links<
           door = door_shown N.met N.ended N.faults N.receive_faults N.send_faults N.left N.peers;
           link = link_shown N.left N.peers N.receive_faults N.send_faults;
         }) policy.now
-        (record { pass = pass; told = C.told kit.old.clock; dial = dial_shown D.calls D.faults kit.old.dial; note = record { bytes = K.taken note.old; faults = K.faults note.old }; failed = false }) net.old limit result.1 result.2
-        (record { pass = result.0; told = C.told kit.new.clock; dial = dial_shown D.calls D.faults kit.new.dial; note = record { bytes = K.taken note.new; faults = K.faults note.new }; failed = is_note_stop result.1 }) net.new }
+        (record { pass = pass; clock = kit.old.clock; told = C.told kit.old.clock; dial = dial_shown D.calls D.faults kit.old.dial; note = record { bytes = K.taken note.old; faults = K.faults note.old }; failed = false }) net.old limit result.1 result.2
+        (record { pass = result.0; clock = kit.new.clock; told = C.told kit.new.clock; dial = dial_shown D.calls D.faults kit.new.dial; note = record { bytes = K.taken note.new; faults = K.faults note.new }; failed = is_note_stop result.1 }) net.new }
 {
     let mut pass = pass;
     let mut number = 0;

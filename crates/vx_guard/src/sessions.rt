@@ -8,6 +8,7 @@ ghost use Rattle.vx_session.specs.Turning.{phase_at};
 ghost use Rattle.vx_session.specs.Outside.{dial_shown};
 ghost use Rattle.vx_stream.specs.Shown.{link_shown};
 ghost use Rattle.vx_door.specs.Peering.{IsPeer};
+ghost use Rattle.vx_session.specs.Progress.{Clocked};
 ghost use Rattle.vx_guard.specs.Wholes.{GuardDid, guard_end};
 
 use crate::guarding::Guarding;
@@ -130,7 +131,7 @@ pub fn guarded_session<
 ) -> (Pass<Core<B>>, GuardEnd)
     requires gate { pass.gate ≡ T.gate turns.now }
     requires phase { phase_at pass conn ≡ Idle role.Core }
-    ensures did { (peer : ℕ) × IsPeer (L.peers link.old) peer × GuardDid (origin B.Bus (T.first turns.now)) L.stands L.receives L.sends (C.told clock.new) policy.now peer conn pass link.old
+    ensures did { (peer : ℕ) × IsPeer (L.peers link.old) peer × GuardDid (origin B.Bus (T.first turns.now)) L.stands L.receives L.sends (Clocked C.tells clock.old clock.new) (C.told clock.new) policy.now peer conn pass link.old
         (link_shown L.left L.peers L.receive_faults L.send_faults link.old) (dial_shown D.calls D.faults dial.old)
         (record { bytes = K.taken note.old; faults = K.faults note.old }) result.1 result.0 link.new
         (link_shown L.left L.peers L.receive_faults L.send_faults link.new) (dial_shown D.calls D.faults dial.new)

@@ -1,14 +1,17 @@
-use Rattle.std.proofs.Common.{subst}
+use Rattle.std.proofs.Common.{refl, subst}
 use Rattle.vx_calls.specs.declared.calls.Role.TheVariants as role
 use Rattle.vx_door.specs.Going.{Not_yet}
 use Rattle.vx_session.specs.Turning.{Joins}
 use Rattle.vx_session.specs.Origin.{origin}
+use Rattle.vx_session.specs.Progress.{Clocked}
+use Rattle.vx_session.specs.ProvedLaws.{clockedas-none}
 use Rattle.vx_guard.proofs.Refused.{link-refused}
 use Rattle.vx_guard.proofs.links.guarded_link.Goals as goal
 
 pub returns-in-Err-clause-did : goal.returns-in-Err-clause-did
 returns-in-Err-clause-did g c =
-    link-refused (origin g.B.Bus (g.T.Turns.first c.args.turns.now)) g.L.Link.stands g.L.Link.receives g.L.Link.sends c.headline_law.ensures.headline c.owned_law.ensures _ _ c.args.pass c.join-pass.result.0 _ _ _ _ c.join-pass.result.1 c.in-Err.why _
+    link-refused (origin g.B.Bus (g.T.Turns.first c.args.turns.now)) g.L.Link.stands g.L.Link.receives g.L.Link.sends c.headline_law.ensures.headline c.owned_law.ensures
+    (Clocked g.C.Clock.tells c.args.clock.now c.args.clock.now) (clockedas-none g.C.Clock.tells role.Core c.args.clock.now c.args.clock.now refl) _ _ c.args.pass c.join-pass.result.0 _ _ _ _ c.join-pass.result.1 c.in-Err.why _
     c.in-Err.is c.refused.ensures c.join-pass.ensures
 
 pub returns-in-Ok-clause-did : goal.returns-in-Ok-clause-did

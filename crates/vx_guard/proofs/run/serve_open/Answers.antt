@@ -11,9 +11,10 @@ use Rattle.vx_guard.proofs.run.serve_open.Given as given
 use Rattle.vx_guard.proofs.run.serve_open.Goals as goal
 
 -- what the bus and the door are to what is said of them
-abbrev shows : (g : given.Over) → CoreState g.row.B.Denot → GuardShows g.row.B.Denot g.row.N.Denot
+abbrev shows : (g : given.Over) → CoreState g.row.B.Denot → GuardShows g.row.B.Denot g.row.C.Denot g.row.N.Denot
 shows g first = record {
   bus = origin g.B.Bus first;
+  clock = g.C.Clock.tells;
   stands = g.N.Link.stands;
   receives = g.N.Link.receives;
   sends = g.N.Link.sends;

@@ -11,9 +11,10 @@ use Rattle.vx_guard.proofs.serving.serve_links.Invariants.{has, shows}
 use Rattle.vx_guard.proofs.serving.serve_links.Goals as goal
 
 -- what the guard has behind a peer, by whether its note failed
-abbrev behind : (g : given.Over) → PassView Group → Kit g.row.C.Denot g.row.P.Denot g.row.D.Denot → g.row.K.Denot → Bool → GuardHas
+abbrev behind : (g : given.Over) → PassView Group → Kit g.row.C.Denot g.row.P.Denot g.row.D.Denot → g.row.K.Denot → Bool → GuardHas g.row.C.Denot
 behind g pass kit note failed = record {
   pass = pass;
+  clock = kit.clock;
   told = g.C.Clock.told kit.clock;
   dial = dial_shown g.D.Dial.calls g.D.Dial.faults kit.dial;
   note = record { bytes = g.K.Sink.taken note; faults = g.K.Sink.faults note };

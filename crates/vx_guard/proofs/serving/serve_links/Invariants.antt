@@ -12,9 +12,10 @@ use Rattle.vx_guard.proofs.Rounds.{Round}
 use Rattle.vx_guard.proofs.serving.serve_links.Given as goal
 
 -- what the bus and the door are to what is said of them
-abbrev pub shows : (g : goal.Over) → CoreState g.row.B.Denot → GuardShows g.row.B.Denot g.row.N.Denot
+abbrev pub shows : (g : goal.Over) → CoreState g.row.B.Denot → GuardShows g.row.B.Denot g.row.C.Denot g.row.N.Denot
 shows g first = record {
   bus = origin g.B.Bus first;
+  clock = g.C.Clock.tells;
   stands = g.N.Link.stands;
   receives = g.N.Link.receives;
   sends = g.N.Link.sends;
@@ -25,9 +26,10 @@ shows g first = record {
 }
 
 -- what the guard has, whose note didn't fail
-abbrev pub has : (g : goal.Over) → PassView Group → Kit g.row.C.Denot g.row.P.Denot g.row.D.Denot → g.row.K.Denot → GuardHas
+abbrev pub has : (g : goal.Over) → PassView Group → Kit g.row.C.Denot g.row.P.Denot g.row.D.Denot → g.row.K.Denot → GuardHas g.row.C.Denot
 has g pass kit note = record {
   pass = pass;
+  clock = kit.clock;
   told = g.C.Clock.told kit.clock;
   dial = dial_shown g.D.Dial.calls g.D.Dial.faults kit.dial;
   note = record { bytes = g.K.Sink.taken note; faults = g.K.Sink.faults note };

@@ -18,9 +18,9 @@ abbrev noted : (g : given.Over) → g.row.K.Denot → End
 noted g k = record { bytes = g.K.Sink.taken k; faults = g.K.Sink.faults k }
 
 -- the state of the session, of what answers its messages
-abbrev shown : (g : given.Over) → Guarding g.row.R.Denot g.row.B.Denot g.row.T.Denot g.row.C.Denot g.row.P.Denot g.row.D.Denot g.row.K.Denot → GuardState
+abbrev shown : (g : given.Over) → Guarding g.row.R.Denot g.row.B.Denot g.row.T.Denot g.row.C.Denot g.row.P.Denot g.row.D.Denot g.row.K.Denot → GuardState g.row.C.Denot
 shown g s = record {
-  session = record { role = role.Core; conn = s.conn; pass = s.held.now; told = g.C.Clock.told s.clock.now; dial = dial_shown g.D.Dial.calls g.D.Dial.faults s.dial.now };
+  session = record { role = role.Core; conn = s.conn; pass = s.held.now; clock = s.clock.now; told = g.C.Clock.told s.clock.now; dial = dial_shown g.D.Dial.calls g.D.Dial.faults s.dial.now };
   rules = s.policy.now;
   peer = s.peer;
   made = s.made.now;
@@ -38,8 +38,8 @@ pub leave-requires-clause-gate : goal.leave-requires-clause-gate
 leave-requires-clause-gate g c =
     let name = stream-keeps _ (λ s. s.held.ghost_name) (λ s s' message reply did. did.1) g.L.Link.stands g.L.Link.receives g.L.Link.sends _ _ _ _ _ _ _ _ _ c.answer_stream-failed.ensures.answers in
     let left = subst (λ held. held ≡ Some c.in-Some.pass) (search (rules, name)) c.in-Some.is in
-    let has = guarded-pass (origin g.B.Bus (g.T.Turns.first c.args.turns.now)) g.L.Link.stands g.L.Link.receives g.L.Link.sends _ _ c.args.pass _ _ _ _ _
-    (stream-guarded g.B.Bus (λ s. g.T.Turns.first s.turns.now) _ (shown g) (λ s s' message reply did. did.0) (λ s s' message reply did. did.6) (λ s. refl) g.L.Link.stands g.L.Link.receives g.L.Link.sends _ _ c.args.pass _ _ _ _ _ _ _ refl refl (search rules) (search rules) c.answer_stream-failed.ensures.answers) in
+    let has = guarded-pass (origin g.B.Bus (g.T.Turns.first c.args.turns.now)) g.C.Clock.tells g.L.Link.stands g.L.Link.receives g.L.Link.sends _ _ c.args.pass _ _ _ _ _
+    (stream-guarded g.B.Bus g.C.Clock.tells (λ s. g.T.Turns.first s.turns.now) _ (shown g) (λ s s' message reply did. did.0) (λ s s' message reply did. did.6) (λ s. refl) g.L.Link.stands g.L.Link.receives g.L.Link.sends _ _ c.args.pass _ _ _ _ _ _ _ refl refl (search rules) (search rules) c.answer_stream-failed.ensures.answers) in
     subst (λ p. p.gate ≡ g.T.Turns.gate c.args.turns.now) (same_Some _ _ (sym has.1 ∙ left)) (has.2 ∙ c.requires.gate)
 
 pub leave-requires-clause-phase : goal.leave-requires-clause-phase
@@ -60,16 +60,16 @@ returns-clause-did g c =
     let note = stream-keeps _ (λ s. s.note.ghost_name) (λ s s' message reply did. did.5) g.L.Link.stands g.L.Link.receives g.L.Link.sends _ _ _ _ _ _ _ _ _ answers in (
       c.peer-peer.result,
       c.peer-peer.ensures,
-      guard-did (origin g.B.Bus (g.T.Turns.first c.args.turns.now)) g.L.Link.stands g.L.Link.receives g.L.Link.sends c.headline_law.ensures.headline c.owned_law.ensures _ _ _ c.in-Some.pass _ _ _ _ _ _ _ _ _ _
-          (stream-guarded g.B.Bus (λ s. g.T.Turns.first s.turns.now) _ (shown g) (λ s s' message reply did. did.0) (λ s s' message reply did. did.6) (λ s. refl) g.L.Link.stands g.L.Link.receives g.L.Link.sends _ _ c.args.pass _ _ _ _ _ _ _ refl refl (search rules) (search rules) answers)
+      guard-did (origin g.B.Bus (g.T.Turns.first c.args.turns.now)) g.C.Clock.tells g.L.Link.stands g.L.Link.receives g.L.Link.sends c.headline_law.ensures.headline c.owned_law.ensures _ _ _ c.in-Some.pass _ _ _ _ _ _ _ _ _ _ _
+          (stream-guarded g.B.Bus g.C.Clock.tells (λ s. g.T.Turns.first s.turns.now) _ (shown g) (λ s s' message reply did. did.0) (λ s s' message reply did. did.6) (λ s. refl) g.L.Link.stands g.L.Link.receives g.L.Link.sends _ _ c.args.pass _ _ _ _ _ _ _ refl refl (search rules) (search rules) answers)
           c.clear.ensures
           (subst (λ o. o ≡ Some c.in-Some.pass) (search (rules, held)) c.in-Some.is)
-          (ap g.C.Clock.told (search (rules, clock))) (ap (dial_shown g.D.Dial.calls g.D.Dial.faults) (search (rules, dial))) (ap (noted g) (search (rules, note))) c.guard_end-how.ensures c.leave.ensures,
+          (ap g.C.Clock.told (search (rules, clock))) (ap (dial_shown g.D.Dial.calls g.D.Dial.faults) (search (rules, dial))) (ap (noted g) (search (rules, note))) (search (rules, clock)) c.guard_end-how.ensures c.leave.ensures,
     )
 
 pub returns-clause-told : goal.returns-clause-told
 returns-clause-told g c =
     let name = stream-keeps _ (λ s. s.clock.ghost_name) (λ s s' message reply did. did.3) g.L.Link.stands g.L.Link.receives g.L.Link.sends _ _ _ _ _ _ _ _ _ c.answer_stream-failed.ensures.answers in
     subst (λ clock. g.C.Clock.told c.args.clock.now ≤ g.C.Clock.told clock) (search (rules, name))
-    (guarded-later (origin g.B.Bus (g.T.Turns.first c.args.turns.now)) g.L.Link.stands g.L.Link.receives g.L.Link.sends _ _ c.args.pass _ _ _ _ _
-    (stream-guarded g.B.Bus (λ s. g.T.Turns.first s.turns.now) _ (shown g) (λ s s' message reply did. did.0) (λ s s' message reply did. did.6) (λ s. refl) g.L.Link.stands g.L.Link.receives g.L.Link.sends _ _ c.args.pass _ _ _ _ _ _ _ refl refl (search rules) (search rules) c.answer_stream-failed.ensures.answers))
+    (guarded-later (origin g.B.Bus (g.T.Turns.first c.args.turns.now)) g.C.Clock.tells g.L.Link.stands g.L.Link.receives g.L.Link.sends _ _ c.args.pass _ _ _ _ _
+    (stream-guarded g.B.Bus g.C.Clock.tells (λ s. g.T.Turns.first s.turns.now) _ (shown g) (λ s s' message reply did. did.0) (λ s s' message reply did. did.6) (λ s. refl) g.L.Link.stands g.L.Link.receives g.L.Link.sends _ _ c.args.pass _ _ _ _ _ _ _ refl refl (search rules) (search rules) c.answer_stream-failed.ensures.answers))
