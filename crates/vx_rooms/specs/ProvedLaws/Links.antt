@@ -7,7 +7,6 @@ use Rattle.vx_io_traits.specs.declared.dials.Rang.{Rang}
 use Rattle.vx_calls.specs.Call.{Call}
 use Rattle.vx_calls.specs.Reply.{Reply}
 use Rattle.vx_calls.specs.Reply as reply
-use Rattle.vx_488.specs.declared.transfers.Transfer.{Transfer}
 use Rattle.vx_bus_traits.specs.Steps.{Step}
 use Rattle.vx_bus_traits.specs.declared.bus.Bus.{Ghosts}
 use Rattle.vx_exchange.specs.Meaning.{reply_record}
@@ -46,7 +45,7 @@ numbers_behind call (Waited why) numbers = numbers
 numbers_behind call (Dialed host port) numbers = numbers
 
 -- a beginning and transfers leave the phase and the numbers
-begun-numbers : (conn now : ℕ) (phase : Phase) (numbers : Option (List ℕ)) (begun : Bool) (moves : List Transfer) (es : List Event)
+begun-numbers : (conn now : ℕ) (phase : Phase) (numbers : Option (List ℕ)) (begun : Bool) (moves : _) (es : List Event)
     → numbers_along conn phase numbers (cond begun (Begin conn now ∷ []) [] ++ moved_events conn moves ++ es) ≡ numbers_along conn phase numbers es
 begun-numbers conn now phase numbers true [] es = refl
 begun-numbers conn now phase numbers true (t ∷ ts) es = refl
@@ -107,33 +106,28 @@ goes-numbers g number conn xid call dialed (Waited why) (p ∷ ps) calls out num
     )
 goes-numbers g number conn xid call dialed _ _ calls out numbers goes = absurd goes
 
--- a call that comes, is polled, and goes on
+-- a call that comes and is polled, in these events, and goes on
+came-numbers : {B : Type 0} (g : Origin B) (number conn xid now : ℕ) (call : Call) (come : CoreState B) (begun : Ending) (events part : List Event) (asked : List Step) (later : List Placed)
+    (calls : List Rang) (out : List ℕ) (phase : Phase) (numbers : Option (List ℕ)) → events ≡ Arrive conn call now ∷ part → IsPolled g.bus come conn now begun part asked
+    → GoesOn g number conn xid call begun later calls out → Tells conn xid call phase numbers numbers (events ++ events_by later) out
+came-numbers g number conn xid now call come begun events part asked later calls out phase numbers are polled goes_on =
+    let rest = goes-numbers g number conn xid call false begun later calls out numbers goes_on in (
+      rest.0,
+      rest.1,
+      ap (λ es. numbers_along conn phase numbers (es ++ events_by later)) are
+      ∙ ap (λ s. numbers_along conn s numbers (part ++ events_by later)) (chosen-own conn (Asked call false) phase)
+      ∙ numbers-append conn (Asked call false) numbers part (events_by later)
+      ∙ ap (λ s. numbers_along conn s (numbers_along conn (Asked call false) numbers part) (events_by later)) (ispolled-phase g.bus come conn now begun part asked call false polled)
+      ∙ ap (λ n. numbers_along conn (phase_behind call false begun) n (events_by later)) (polled-numbers g.bus come conn now begun part asked call false numbers polled)
+      ∙ rest.2,
+    )
+
+-- a call, as its groups have it
 called-numbers : {B : Type 0} (g : Origin B) (number conn xid : ℕ) (call : Call) (placed : List Placed) (calls : List Rang) (out : List ℕ) (phase : Phase) (numbers : Option (List ℕ))
     → IsCalled g number conn xid call placed calls out → Tells conn xid call phase numbers numbers (events_by placed) out
-called-numbers g number conn xid call placed calls out phase numbers is = subst (λ ps. Tells conn xid call phase numbers numbers (events_by ps) out) (sym is.groups) here where
-  part : List Event
-  part = is.comes.part
-
-  later : List Event
-  later = events_by is.later
-
-  came : (now : ℕ) → numbers_along conn phase numbers ((Arrive conn call now ∷ part) ++ later) ≡ numbers_along conn (Asked call false) numbers (part ++ later)
-  came now = ap (λ s. numbers_along conn s numbers (part ++ later)) (chosen-own conn (Asked call false) phase)
-
-  rest : Tells conn xid call (phase_behind call false is.begun) numbers (numbers_behind call is.begun numbers) later out
-  rest = goes-numbers g number conn xid call false is.begun is.later calls out numbers is.goes_on
-
-  here : Tells conn xid call phase numbers numbers (events_by (is.first ∷ is.later)) out
-  here = (
-    rest.0,
-    rest.1,
-    ap (numbers_along conn phase numbers) (events-front is.first is.later ∙ ap (λ es. es ++ later) is.comes.events)
-    ∙ came _
-    ∙ numbers-append conn (Asked call false) numbers part later
-    ∙ ap (λ s. numbers_along conn s (numbers_along conn (Asked call false) numbers part) later) (ispolled-phase g.bus is.comes.come conn _ is.begun part is.comes.asked call false is.comes.polled)
-    ∙ ap (λ n. numbers_along conn (phase_behind call false is.begun) n later) (polled-numbers g.bus is.comes.come conn _ is.begun part is.comes.asked call false numbers is.comes.polled)
-    ∙ rest.2,
-  )
+called-numbers g number conn xid call placed calls out phase numbers is =
+    subst (λ es. Tells conn xid call phase numbers numbers es out) (sym (ap events_by is.groups ∙ events-front is.first is.later))
+    (came-numbers g number conn xid _ call is.comes.come is.begun is.first.group.events is.comes.part is.comes.asked is.later calls out phase numbers is.comes.events is.comes.polled is.goes_on)
 
 -- behind whatever groups its pass made before
 pub called-links : {B : Type 0} (g : Origin B) → CalledLinksLaw g
