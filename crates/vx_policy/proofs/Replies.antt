@@ -1,8 +1,8 @@
 -- What is read of the records of replies.
-use Rattle.std.proofs.Common.{◌≡◌, ◌<◌, ◌^◌, ◌++◌, ℕ, List, Some, refl, ap, ◌∙◌, arith}
+use Rattle.std.proofs.Common.{◌≡◌, ◌<◌, ◌^◌, ◌==◌, ◌++◌, ℕ, Bool, true, false, cond, [], Some, None, refl, ap, ◌∙◌, arith}
 use Rattle.byteorder.specs.Endian.{big_number}
 use Rattle.vx_xdr.specs.Spelling.{word}
-use Rattle.vx_xdr.specs.ProvedLaws.{word-bytes, word-number, number-lt}
+use Rattle.vx_xdr.specs.ProvedLaws.{word-bytes, word-number, number-word, number-lt}
 use Rattle.vx_calls.specs.declared.calls.Proc.{Proc}
 use Rattle.vx_calls.specs.declared.calls.Proc.TheVariants as proc
 use Rattle.vx_calls.specs.declared.codes.ErrorCode.{ErrorCode}
@@ -44,17 +44,25 @@ error-fits code.InvalidAddress = omega arith
 error-fits code.Abort = omega arith
 error-fits code.ChannelUp = omega arith
 
+-- what stands for a link, or for none
+same-made : (b : Bool) (read lid : ℕ) → (b ≡ true → read ≡ lid) → cond b (Some read) None ≡ cond b (Some lid) None
+same-made true read lid same = ap Some (same refl)
+same-made false read lid same = refl
+
 -- the link that a create_link made
 pub made-read : AnsweredAgain → MadeRead
 made-read again text error lid abort_port max is low =
+    let link = big_number 4 (word lid) in
     let port = big_number 4 (word abort_port) in
     let most = big_number 4 (word max) in
-    let told = reply.CreateLink error lid port most in
+    let told = reply.CreateLink error link port most in
     let same : results (reply.CreateLink error lid abort_port max) ≡ results told =
-    ap (λ w. word (error_number error) ++ word lid ++ w ++ word max) (word-again abort_port)
-    ∙ ap (λ w. word (error_number error) ++ word lid ++ word port ++ w) (word-again max) in
+    ap (λ w. word (error_number error) ++ w ++ word abort_port ++ word max) (word-again lid)
+    ∙ ap (λ w. word (error_number error) ++ word link ++ w ++ word max) (word-again abort_port)
+    ∙ ap (λ w. word (error_number error) ++ word link ++ word port ++ w) (word-again max) in
     ap (λ bytes. made_by (answered proc.CreateLink bytes)) (is ∙ same)
-    ∙ ap made_by (again proc.CreateLink told refl (error-fits error, (low, (number-fits abort_port, (number-fits max, tt)))))
+    ∙ ap made_by (again proc.CreateLink told refl (error-fits error, (number-fits lid, (number-fits abort_port, (number-fits max, tt)))))
+    ∙ same-made (error_number error == 0) link lid (λ none. number-word lid [] (low none))
 
 -- whether a destroy_link has no error
 pub done-read : AnsweredAgain → DoneRead

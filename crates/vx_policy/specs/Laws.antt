@@ -28,10 +28,11 @@ abbrev pub NoneDenies : Type 0
 NoneDenies = (rules : List Rule) (peer : ℕ) (asked : Proc) (at : Option Target)
     → All (λ r. matches r peer asked at ≡ false) rules → judged rules peer asked at ≡ record { allow = false; rule = 0 }
 
--- of a record that has the results of a create_link, the link is read that they tell, where they have no error
+-- Of a record that has the results of a create_link, the link is read that they tell, where they have no error. A word can have its
+-- number.
 abbrev pub MadeRead : Type 0
-MadeRead = (text : List ℕ) (error : ErrorCode) (lid abort_port max : ℕ) → drop HEAD text ≡ results (reply.CreateLink error lid abort_port max) → lid < 2 ^ 32
-    → link_made text ≡ (if error_number error == 0 then Some lid else None)
+MadeRead = (text : List ℕ) (error : ErrorCode) (lid abort_port max : ℕ) → drop HEAD text ≡ results (reply.CreateLink error lid abort_port max)
+    → ((error_number error == 0) ≡ true → lid < 2 ^ 32) → link_made text ≡ (if error_number error == 0 then Some lid else None)
 
 -- of one that has an error alone it is read whether there is none
 abbrev pub DoneRead : Type 0

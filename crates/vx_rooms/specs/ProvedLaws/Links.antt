@@ -1,5 +1,5 @@
 -- What the groups of a call leave of the numbers of its connection's links.
-use Rattle.std.proofs.Common.{◌≡◌, ◌==◌, ℕ, Bool, true, false, cond, List, [], ◌∷◌, ◌++◌, map, Option, Some, None, option_and_then, refl, sym, ap, ◌∙◌, subst}
+use Rattle.std.proofs.Common.{◌≡◌, ◌==◌, ℕ, Bool, true, false, cond, List, [], ◌∷◌, ◌++◌, map, Option, Some, option_and_then, refl, sym, ap, ◌∙◌, subst}
 use Rattle.std.proofs.lemmas.Bool.{cond-true}
 use Rattle.std.proofs.lemmas.List.Concat.{flat_map-cons}
 use Rattle.vx_lemmas.specs.Conditions.{eqb-self}
@@ -87,9 +87,9 @@ goes-numbers g number conn xid call dialed (Dialed host port) (p ∷ []) calls o
   reply.Error goes.error,
   goes.reply_is,
   ap (numbers_along conn (Asked call true) numbers) (events-front p [])
-  ∙ numbers-append conn (Asked call true) numbers p.group.events []
-  ∙ ap (numbers_along conn (Asked call true) numbers) goes.events
-  ∙ own-numbers conn (option_and_then (numbers_after call (reply.Error goes.error)) numbers) numbers,
+      ∙ numbers-append conn (Asked call true) numbers p.group.events []
+      ∙ ap (numbers_along conn (Asked call true) numbers) goes.events
+      ∙ own-numbers conn (option_and_then (numbers_after call (reply.Error goes.error)) numbers) numbers,
 )
 goes-numbers g number conn xid call dialed (Waited why) (p ∷ ps) calls out numbers goes =
     let polled = goes.1.polls.polled in
@@ -98,11 +98,11 @@ goes-numbers g number conn xid call dialed (Waited why) (p ∷ ps) calls out num
       rest.0,
       rest.1,
       ap (numbers_along conn (Asked call dialed) numbers) (events-front p ps)
-      ∙ numbers-append conn (Asked call dialed) numbers p.group.events (events_by ps)
-      ∙ ap (λ s. numbers_along conn s (numbers_along conn (Asked call dialed) numbers p.group.events) (events_by ps))
+          ∙ numbers-append conn (Asked call dialed) numbers p.group.events (events_by ps)
+          ∙ ap (λ s. numbers_along conn s (numbers_along conn (Asked call dialed) numbers p.group.events) (events_by ps))
           (ispolled-phase g.bus core conn _ goes.0 p.group.events p.group.steps call dialed polled)
-      ∙ ap (λ n. numbers_along conn (phase_behind call dialed goes.0) n (events_by ps)) (polled-numbers g.bus core conn _ goes.0 p.group.events p.group.steps call dialed numbers polled)
-      ∙ rest.2,
+          ∙ ap (λ n. numbers_along conn (phase_behind call dialed goes.0) n (events_by ps)) (polled-numbers g.bus core conn _ goes.0 p.group.events p.group.steps call dialed numbers polled)
+          ∙ rest.2,
     )
 goes-numbers g number conn xid call dialed _ _ calls out numbers goes = absurd goes
 
@@ -115,11 +115,11 @@ came-numbers g number conn xid now call come begun events part asked later calls
       rest.0,
       rest.1,
       ap (λ es. numbers_along conn phase numbers (es ++ events_by later)) are
-      ∙ ap (λ s. numbers_along conn s numbers (part ++ events_by later)) (chosen-own conn (Asked call false) phase)
-      ∙ numbers-append conn (Asked call false) numbers part (events_by later)
-      ∙ ap (λ s. numbers_along conn s (numbers_along conn (Asked call false) numbers part) (events_by later)) (ispolled-phase g.bus come conn now begun part asked call false polled)
-      ∙ ap (λ n. numbers_along conn (phase_behind call false begun) n (events_by later)) (polled-numbers g.bus come conn now begun part asked call false numbers polled)
-      ∙ rest.2,
+          ∙ ap (λ s. numbers_along conn s numbers (part ++ events_by later)) (chosen-own conn (Asked call false) phase)
+          ∙ numbers-append conn (Asked call false) numbers part (events_by later)
+          ∙ ap (λ s. numbers_along conn s (numbers_along conn (Asked call false) numbers part) (events_by later)) (ispolled-phase g.bus come conn now begun part asked call false polled)
+          ∙ ap (λ n. numbers_along conn (phase_behind call false begun) n (events_by later)) (polled-numbers g.bus come conn now begun part asked call false numbers polled)
+          ∙ rest.2,
     )
 
 -- a call, as its groups have it
