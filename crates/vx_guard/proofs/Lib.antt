@@ -1,6 +1,7 @@
 mod Goings
 mod Ended
 mod Served
+mod Knowing
 mod Refused
 mod Rooms
 mod OnePeer

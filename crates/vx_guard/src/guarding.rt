@@ -1,5 +1,5 @@
 //! The messages of a guarded connection, each judged, and answered by the record of its reply.
-ghost use Rattle.std.specs.Prelude.{◌≡◌, ◌≤◌, ◌||◌, length, take, Some, option_map, IfSome};
+ghost use Rattle.std.specs.Prelude.{◌≡◌, ◌≤◌, ◌||◌, true, length, take, Some, option_map, IfSome};
 ghost use Rattle.std.specs.Option.{is_none};
 ghost use Rattle.vx_session.specs.Origin.{origin};
 ghost use Rattle.vx_calls.specs.declared.limits.TheConstants.{RECORD_MAX};
@@ -11,6 +11,11 @@ ghost use Rattle.vx_group.specs.Groups.{Group};
 ghost use Rattle.vx_group.specs.Phases.{Idle};
 ghost use Rattle.vx_session.specs.Turning.{phase_at};
 ghost use Rattle.vx_session.specs.Outside.{dial_shown};
+ghost use Rattle.vx_rules.specs.Calls.{IsShort};
+ghost use Rattle.vx_rules.specs.One.{may_wait};
+ghost use Rattle.vx_session.specs.Progress.{Clocked, AnswersCall};
+ghost use Rattle.vx_policy.specs.Targets.{made_after};
+ghost use Rattle.vx_guard.specs.Knowing.{KnowsOwn};
 ghost use Rattle.vx_guard.specs.Noting.{IsNoted};
 ghost use Rattle.vx_guard.specs.Stages.{GuardDoes};
 
@@ -21,8 +26,10 @@ use vx_calls::{CallRef, Role};
 use vx_core::Core;
 use vx_exchange::{Opened, open};
 use vx_gate::{Pass, Turns};
+use vx_group::links_law;
 use vx_io_traits::{Clock, Dial, Pause, Sink};
-use vx_policy::{LINE_ROOM, Made, Policy, Verdict, deny_line, proc_of};
+use vx_policy::{LINE_ROOM, Made, Policy, Verdict, deny_line, proc_of, replies_read};
+use vx_rooms::called_law;
 use vx_session::answer_call;
 use vx_stream::Answers;
 use vx_text::put_all;
@@ -48,8 +55,8 @@ pub(crate) struct Guarding<'a, R, B: Bus, T, C, P, D, K> {
 
 impl<'a, R: Wait, B: Bus, T: Turns<Core<B>>, C: Clock, P: Pause, D: Dial, K: Sink> Answers
     for Guarding<'a, R, B, T, C, P, D, K> {
-    // the connection is idle
-    ghost can = { λ s. (pass : PassView Group) × (s.held.now ≡ Some pass) × (pass.gate ≡ T.gate s.turns.now) × (phase_at pass s.conn ≡ Idle role.Core) };
+    // the connection is idle, and has the links that are known
+    ghost can = { λ s. (pass : PassView Group) × (s.held.now ≡ Some pass) × (pass.gate ≡ T.gate s.turns.now) × (phase_at pass s.conn ≡ Idle role.Core) × KnowsOwn pass s.conn s.made.now };
 
     ghost does = { λ s message reply s'. GuardDoes (origin B.Bus (T.first s.turns.now)) C.tells
         (record {
@@ -147,6 +154,44 @@ fn fails(failed: bool, denied: Option<usize>) -> bool
     failed || denied.is_none()
 }
 
+/// Has an allowed call answered, and learns by the record of its reply which links the session knows then. The table has a place for
+/// each of them: they are links of the connection, and a gateway has no more.
+fn answer_allowed<R: Wait, B: Bus, T: Turns<Core<B>>, C: Clock, P: Pause, D: Dial>(
+    rt: &R,
+    turns: &T,
+    pass: Pass<Core<B>>,
+    conn: u32,
+    made: &mut Made,
+    xid: u32,
+    call: &CallRef<'_>,
+    clock: &mut C,
+    pause: &mut P,
+    dial: &mut D,
+    reply: &mut [u8],
+) -> (Pass<Core<B>>, usize)
+    requires gate { pass.gate ≡ T.gate turns.now }
+    requires phase { phase_at pass conn ≡ Idle role.Core }
+    requires known { KnowsOwn pass conn made.old }
+    requires waits { may_wait (call_shown call.now) ≡ true }
+    requires short { IsShort (call_shown call.now) }
+    requires room { REPLY_ROOM ≤ length reply.old }
+    ensures answers { AnswersCall (origin B.Bus (T.first turns.now)) (Clocked C.tells clock.old clock.new) (C.told clock.new) pass conn xid (call_shown call.now) (dial_shown D.calls D.faults dial.old) (take result.1 reply.new) result.0 (dial_shown D.calls D.faults dial.new) }
+    ensures learns { made.new ≡ made_after made.old (call_shown call.now) (take result.1 reply.new) }
+    ensures phase { phase_at result.0 conn ≡ Idle role.Core }
+    ensures known { KnowsOwn result.0 conn made.new }
+    ensures told { C.told clock.old ≤ C.told clock.new }
+    ensures within { result.1 ≤ length reply.new }
+    ensures len { length reply.new ≡ length reply.old }
+{
+    links_law();
+    called_law::<B>();
+    replies_read();
+    let (pass, len) = answer_call(rt, turns, pass, conn, xid, call, clock, pause, dial, reply);
+    pass.order();
+    made.learn(call, &reply[..len]);
+    (pass, len)
+}
+
 /// Serves a message on an idle core connection, where no rule denies it: its reply's record, of so many bytes, stands at the
 /// front of `reply` then. There is none for junk, which changes nothing, and where the line of a denial couldn't be written;
 /// then the note failed.
@@ -168,6 +213,7 @@ fn guard_message<R: Wait, B: Bus, T: Turns<Core<B>>, C: Clock, P: Pause, D: Dial
 ) -> (Pass<Core<B>>, Option<usize>, bool)
     requires gate { pass.gate ≡ T.gate turns.now }
     requires phase { phase_at pass conn ≡ Idle role.Core }
+    requires known { KnowsOwn pass conn made.old }
     requires short { length message.now ≤ RECORD_MAX }
     requires room { REPLY_ROOM ≤ length reply.old }
     ensures does { GuardDoes (origin B.Bus (T.first turns.now)) C.tells
@@ -189,6 +235,7 @@ fn guard_message<R: Wait, B: Bus, T: Turns<Core<B>>, C: Clock, P: Pause, D: Dial
         }) }
     ensures gate { result.0.gate ≡ T.gate turns.now }
     ensures phase { phase_at result.0 conn ≡ Idle role.Core }
+    ensures known { KnowsOwn result.0 conn made.new }
     ensures within { IfSome result.1 (λ n. n ≤ length reply.new) }
     ensures len { length reply.new ≡ length reply.old }
 {
@@ -202,10 +249,9 @@ fn guard_message<R: Wait, B: Bus, T: Turns<Core<B>>, C: Clock, P: Pause, D: Dial
                 let denied = deny(conn, rule, xid, &call, note, reply);
                 return (pass, denied, fails(failed, denied));
             }
-            let (pass, len) = answer_call(
-                rt, turns, pass, conn, xid, &call, clock, pause, dial, reply,
+            let (pass, len) = answer_allowed(
+                rt, turns, pass, conn, made, xid, &call, clock, pause, dial, reply,
             );
-            made.learn(&call, &reply[..len]);
             (pass, Some(len), failed)
         }
     }

@@ -3,3 +3,4 @@ mod Spelled
 mod Readings
 mod Judged
 mod Behind
+mod Replies

@@ -1,8 +1,7 @@
 -- To be believed.
 -- What a call of a session is to.
-use Rattle.std.specs.Prelude.{ℕ, ◌==◌, Bool, false, not, nat_lt, if◌then◌else◌, List, [], ◌∷◌, ◌++◌, length, drop, filter, find, Option, None, Some, option_map, option_and_then}
+use Rattle.std.specs.Prelude.{ℕ, ◌==◌, Bool, false, not, if◌then◌else◌, List, [], ◌∷◌, ◌++◌, drop, filter, find, Option, None, Some, option_map, option_and_then}
 use Rattle.std.specs.Result.{result_ok}
-use Rattle.vx_calls.specs.declared.limits.TheConstants.{LINK_MAX}
 use Rattle.vx_calls.specs.declared.calls.Proc.TheVariants as proc
 use Rattle.vx_calls.specs.declared.targets.Target.{Target}
 use Rattle.vx_calls.specs.Target.{target}
@@ -45,12 +44,9 @@ has_none _ = false
 abbrev pub is_done : List ℕ → Bool
 is_done reply = has_none (answered proc.DestroyLink (drop HEAD reply))
 
--- One more link was made. No more than LINK_MAX are known.
-abbrev pub with_made : List MadeLink → MadeLink → List MadeLink
-with_made made m = if nat_lt (length made) LINK_MAX then made ++ m ∷ [] else made
-
+-- the links with one more, which a create_link made, where its device text names a target
 abbrev pub with_link : List MadeLink → Option ℕ → Option Target → List MadeLink
-with_link made (Some lid) (Some to) = with_made made (record { lid = lid; target = to })
+with_link made (Some lid) (Some to) = made ++ record { lid = lid; target = to } ∷ []
 with_link made _ _ = made
 
 -- the links that are known behind a call that reached the core and was answered by this record

@@ -1,5 +1,7 @@
-//! Laws of a policy's text and of its verdicts, each the contract of a function that does nothing.
-ghost use Rattle.vx_policy.specs.Laws.{OneReading, FirstDecides, NoneDenies};
+//! Laws of a policy's text, of its verdicts and of what is read of replies, each the contract of a function that does nothing.
+ghost use Rattle.vx_policy.specs.Laws.{OneReading, FirstDecides, NoneDenies, MadeRead, DoneRead};
+
+use vx_codec::answered_again;
 
 /// A text says no two lists of rules.
 pub fn one_reading()
@@ -11,3 +13,12 @@ pub fn one_verdict()
     ensures first { FirstDecides }
     ensures none { NoneDenies }
 {}
+
+/// What is read of the record of a reply is what the reply tells: of a create_link the link that it made, of a destroy_link
+/// whether it has no error.
+pub fn replies_read()
+    ensures made { MadeRead }
+    ensures done { DoneRead }
+{
+    answered_again();
+}

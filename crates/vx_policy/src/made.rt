@@ -1,11 +1,11 @@
 //! The links that a session made, and what its calls are to.
-ghost use Rattle.std.specs.Prelude.{◌≡◌, ◌==◌, [], not, drop, filter, find, vec_capacity, IfOk};
+ghost use Rattle.std.specs.Prelude.{◌≡◌, ◌≤◌, ◌<◌, ◌==◌, [], ◌∷◌, ◌++◌, not, length, drop, filter, find, vec_capacity, IfOk};
 ghost use Rattle.std.specs.Option.{option_copied, option_map};
 ghost use Rattle.vx_calls.specs.declared.limits.TheConstants.{LINK_MAX};
 ghost use Rattle.vx_calls.specs.Call.{call_shown};
 ghost use Rattle.vx_rules.specs.Calls.{proc_of, link_named};
 ghost use Rattle.vx_policy.specs.declared.made.TheConstants.{HEAD};
-ghost use Rattle.vx_policy.specs.Targets.{link_made, is_done, target_at, call_target, text_target, with_made, made_after};
+ghost use Rattle.vx_policy.specs.Targets.{link_made, is_done, target_at, call_target, text_target, made_after};
 
 use std::alloc::Global;
 use std::marker::Model;
@@ -30,14 +30,15 @@ pub struct MadeLink {
     pub target: Target,
 }
 
-/// The links that a session made and didn't destroy, in order of making. It has room for as many as may live at once.
+/// The links that a session made and didn't destroy, in order of making. It has room for as many as may live at once, and has no
+/// more.
 #[derive(Drop)]
 pub struct Made {
     links: Vec<MadeLink>,
 }
 
 impl Model for Made {
-    ghost use Rattle.std.specs.Prelude.{◌≤◌, List, vec_capacity};
+    ghost use Rattle.std.specs.Prelude.{◌≤◌, List, length, vec_capacity};
     ghost use Rattle.vx_calls.specs.declared.limits.TheConstants.{LINK_MAX};
     ghost use Rattle.vx_policy.specs.declared.made.MadeLink.{MadeLink};
 
@@ -45,7 +46,7 @@ impl Model for Made {
 
     ghost view = { λ m. m.links.items };
 
-    ghost invariant = { λ m. LINK_MAX ≤ vec_capacity m.links };
+    ghost invariant = { λ m. (LINK_MAX ≤ vec_capacity m.links) × (length m.links.items ≤ LINK_MAX) };
 }
 
 /// The procedure of a call.
@@ -153,6 +154,7 @@ fn target_at(links: &[MadeLink], lid: u32) -> Option<Target>
 // The link of this number goes.
 fn forget(links: &mut Vec<MadeLink>, lid: u32)
     ensures left { links.new.items ≡ filter (λ m. not (m.lid == lid)) links.old.items }
+    ensures fewer { length links.new.items ≤ length links.old.items }
     ensures room { vec_capacity links.new ≡ vec_capacity links.old }
 {
     links.retain(|m| m.lid != lid);
@@ -187,9 +189,11 @@ impl Made {
         }
     }
 
-    /// A call was answered by this record: a link that it made is known from now on, and one that it destroyed no longer.
+    /// A call was answered by this record: a link that it made is known from now on, and one that it destroyed no longer. A link
+    /// beyond the [`LINK_MAX`] that may live at once has no place in the table, and is not kept.
     pub fn learn(&mut self, call: &CallRef<'_>, reply: &[u8])
-        ensures { self.new ≡ made_after self.old (call_shown call.now) reply.now }
+        ensures few { length (made_after self.old (call_shown call.now) reply.now) ≤ LINK_MAX → self.new ≡ made_after self.old (call_shown call.now) reply.now }
+        ensures full { LINK_MAX < length (made_after self.old (call_shown call.now) reply.now) → self.new ≡ self.old }
     {
         match call {
             CallRef::CreateLink { device, .. } => {
@@ -207,7 +211,8 @@ impl Made {
     }
 
     fn add(&mut self, link: MadeLink)
-        ensures { self.new ≡ with_made self.old link }
+        ensures few { length (self.old ++ link ∷ []) ≤ LINK_MAX → self.new ≡ self.old ++ link ∷ [] }
+        ensures full { LINK_MAX < length (self.old ++ link ∷ []) → self.new ≡ self.old }
     {
         if self.links.len() < LINK_MAX as usize {
             self.links.push_reserved(link);

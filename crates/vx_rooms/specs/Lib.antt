@@ -1,4 +1,5 @@
 pub mod Counting
 pub mod Laws
 pub mod TurnLaws
+pub mod LinkLaws
 pub mod ProvedLaws

@@ -1,10 +1,11 @@
--- Laws of how many connections come up and go down, proved: what the crates above cite, each from the file of this folder that has
+-- Laws of how many connections come up and go down, and of the links that calls make and destroy, proved: what the crates above cite, each from the file of this folder that has
 -- its proof.
 pub mod Events
 pub mod Numbers
 pub mod Counted
 pub mod Sessions
 pub mod Clear
+pub mod Links
 -- lists of events, one after another; and where no connection comes up or goes down
 pub use Rattle.vx_rooms.specs.ProvedLaws.Events.{ups-append, downs-append, ups-front, downs-front, events_of-append, IsNeither, front-steady, all-steady, append-steady}
 -- how many connections live behind a history, and where there is room for one more
@@ -15,3 +16,5 @@ pub use Rattle.vx_rooms.specs.ProvedLaws.Sessions.{events_by-append, none-steady
 pub use Rattle.vx_rooms.specs.ProvedLaws.Sessions.{joined-holds, refused-holds, left-holds, ends-made, came-and-went, none-came, came-undone, link-counts}
 -- one link after another: where each connection went down again none is refused for want of room
 pub use Rattle.vx_rooms.specs.ProvedLaws.Clear.{clear-first, clear-on, never-full}
+-- the numbers of a connection's links behind a call
+pub use Rattle.vx_rooms.specs.ProvedLaws.Links.{numbers-append, called-links}

@@ -1,8 +1,9 @@
-//! Laws of the connections that live behind a history. These functions do nothing: their contracts are what they are for, and a
+//! Laws of the connections that live behind a history, and of their links. These functions do nothing: their contracts are what they are for, and a
 //! caller that cites a law calls its function.
 ghost use Rattle.vx_core.specs.CoreState.{CoreState};
 ghost use Rattle.vx_session.specs.Origin.{origin};
 ghost use Rattle.vx_rooms.specs.Laws.{CountsLaw, FewLaw, RoomLaw};
+ghost use Rattle.vx_rooms.specs.LinkLaws.{CalledLinksLaw};
 ghost use Rattle.vx_rooms.specs.TurnLaws.{JoinedLaw, RefusedLaw, LeftLaw, ClearFirstLaw, ClearLaw, NeverFullLaw};
 
 use vx_bus_traits::Bus;
@@ -25,4 +26,10 @@ pub fn turns_law<B: Bus>()
     ensures first { ClearFirstLaw }
     ensures clear { ClearLaw }
     ensures never_full { (first : CoreState B) → NeverFullLaw (origin B.Bus first) }
+{}
+
+/// What a call leaves of the links of its connection, by the groups that it added: those that its reply tells. A create_link without
+/// an error made one, and a destroy_link without an error destroyed one; the reply is the one in its record.
+pub fn called_law<B: Bus>()
+    ensures { (first : CoreState B) → CalledLinksLaw (origin B.Bus first) }
 {}

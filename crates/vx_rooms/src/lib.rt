@@ -1,6 +1,7 @@
-//! How many connections live behind a history, and that there is room for one more where each that came up went down again.
+//! How many connections live behind a history, and that there is room for one more where each that came up went down again; and
+//! what a call leaves of the links of its connection.
 #![tactic(auto)]
 
 mod laws;
 
-pub use laws::{room_law, turns_law};
+pub use laws::{called_law, room_law, turns_law};

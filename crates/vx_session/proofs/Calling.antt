@@ -28,7 +28,7 @@ use Rattle.vx_exchange.specs.declared.polls.PollEnd.{PollEnd}
 use Rattle.vx_exchange.specs.declared.polls.PollEnd.TheVariants as said
 use Rattle.vx_exchange.specs.declared.polls.DialAnswered.{DialAnswered}
 use Rattle.vx_exchange.specs.Doing.{Says}
-use Rattle.vx_session.specs.Placing.{Placed, Makes, behind}
+use Rattle.vx_session.specs.Placing.{Placed, Makes, IsHistory, behind}
 use Rattle.vx_session.specs.Parts.{IsPolled, moment_at, phase_behind, settled_events}
 use Rattle.vx_session.specs.Turning.{phase_at, IsChannel, Comes, PollsAgain, Settles}
 use Rattle.vx_session.specs.ProvedLaws.{ispolled-all, makes-later, makes-goes, clocked-goes}
@@ -162,6 +162,7 @@ module _ {B C : Type 0} (g : Origin B) (tells : C → ℕ → C → Type 0) (clo
         → IsCalled g pass.number conn xid call (groups ++ rest) rung out
     pub asks : Clocked tells clock clock' groups
     pub quiet : failed_dials groups ≡ 0
+    pub history : IsHistory g pass'.seen
     pub says : Says xid room end last
     pub phase : phase_at pass' conn ≡ phase_behind call false last
 
@@ -184,6 +185,7 @@ module _ {B C : Type 0} (g : Origin B) (tells : C → ℕ → C → Type 0) (clo
     asks = (now, clock', asked, comes.comes.keeps, refl);
     quiet = failed-one comes.placed ∙ ap (count_by is_failed_dial) comes.comes.events
         ∙ poll-quiet g.bus comes.comes.come conn (moment_at comes.placed now) comes.ending comes.comes.part comes.comes.asked comes.comes.polled;
+    history = comes.turns.history;
     says = comes.says;
     phase = comes.phase;
   }
@@ -267,6 +269,7 @@ module _ {B C : Type 0} (g : Origin B) (tells : C → ℕ → C → Type 0) (clo
         asks = clocked-goes tells clock clock' clock'' polled.groups (p ∷ []) polled.asks (now, clock'', asked, again.polls.keeps, refl);
         quiet = both-none (failed_dials (polled.groups ++ p ∷ [])) (failed_dials polled.groups) (failed_dials (p ∷ [])) (failed_dials-append polled.groups (p ∷ [])) polled.quiet
             (failed-one p ∙ poll-quiet g.bus again.polls.core conn (moment_at p now) again.ending p.group.events p.group.steps again.polls.polled);
+        history = again.turns.history;
         says = again.says;
         phase = again.phase;
       }

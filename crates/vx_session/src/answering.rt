@@ -8,6 +8,7 @@ ghost use Rattle.vx_group.specs.Phases.{Idle, Asked};
 ghost use Rattle.vx_session.specs.Turning.{phase_at};
 ghost use Rattle.vx_session.specs.Outside.{dial_shown};
 ghost use Rattle.vx_session.specs.Progress.{Clocked, MessageDoes, AnswersCall, AnswersDial};
+ghost use Rattle.vx_session.specs.Placing.{IsHistory};
 ghost use Rattle.vx_calls.specs.declared.calls.Role.TheVariants as role;
 ghost use Rattle.vx_calls.specs.Call.{Call, call_shown};
 ghost use Rattle.vx_rules.specs.One.{may_wait};
@@ -128,7 +129,8 @@ fn serve_record<R: Wait, B: Bus, T: Turns<Core<B>>, C: Clock, P: Pause, D: Dial>
 /// Has a call answered: it comes and is polled in one turn, and is polled again, each time in a new turn, until it is answered, or
 /// until it asks for a dial, which is made then. Between two polls it is outside the gate, and pauses there where it waits
 /// (`rest`). Behind a call of more than a slice it pauses once, before its reply goes out, so that who waits for the bus finds it
-/// free. The record of the reply, of so many bytes, stands at the front of `reply`.
+/// free. The record of the reply, of so many bytes, stands at the front of `reply`. What the pass has seen then is a beginning of the
+/// gateway's history.
 pub fn answer_call<R: Wait, B: Bus, T: Turns<Core<B>>, C: Clock, P: Pause, D: Dial>(
     rt: &R,
     turns: &T,
@@ -147,6 +149,7 @@ pub fn answer_call<R: Wait, B: Bus, T: Turns<Core<B>>, C: Clock, P: Pause, D: Di
     requires short { IsShort (call_shown call.now) }
     requires room { REPLY_ROOM ≤ length reply.old }
     ensures answers { AnswersCall (origin B.Bus (T.first turns.now)) (Clocked C.tells clock.old clock.new) (C.told clock.new) pass conn xid (call_shown call.now) (dial_shown D.calls D.faults dial.old) (take result.1 reply.new) result.0 (dial_shown D.calls D.faults dial.new) }
+    ensures history { IsHistory (origin B.Bus (T.first turns.now)) result.0.seen }
     ensures phase { phase_at result.0 conn ≡ Idle role.Core }
     ensures told { C.told clock.old ≤ C.told clock.new }
     ensures some { 0 < result.1 }
@@ -204,6 +207,7 @@ fn answer_dial<R: Wait, B: Bus, T: Turns<Core<B>>, C: Clock, D: Dial>(
     requires phase { (call : Call) × (phase_at pass conn ≡ Asked call true) }
     requires room { REPLY_ROOM ≤ length reply.old }
     ensures dials { (call : Call) → AnswersDial (origin B.Bus (T.first turns.now)) (Clocked C.tells clock.old clock.new) (C.told clock.new) pass conn xid call host port (dial_shown D.calls D.faults dial.old) (take result.1 reply.new) result.0 (dial_shown D.calls D.faults dial.new) }
+    ensures history { IsHistory (origin B.Bus (T.first turns.now)) result.0.seen }
     ensures phase { phase_at result.0 conn ≡ Idle role.Core }
     ensures told { C.told clock.old ≤ C.told clock.new }
     ensures some { 0 < result.1 }

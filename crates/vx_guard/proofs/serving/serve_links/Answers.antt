@@ -1,4 +1,4 @@
-use Rattle.std.proofs.Common.{Bool, true, false, ap, ◌∙◌, subst, arith}
+use Rattle.std.proofs.Common.{Bool, ap, ◌∙◌, subst, arith}
 use Rattle.vx_session.specs.Outside.{dial_shown}
 use Rattle.vx_guard.specs.declared.serving.Kit.{Kit}
 use Rattle.vx_guard.specs.declared.serving.Next.TheVariants as next

@@ -24,6 +24,7 @@ returns-in-Replied g c =
     record {
       answers = subst (λ d. AnswersCall (origin g.B.Bus (g.T.Turns.first c.args.turns.now)) (Clocked g.C.Clock.tells c.args.clock.now c.loop.clock) told c.args.pass c.args.conn c.args.xid call (shown c.args.dial.now) (take c.in-Replied.len c.loop.reply) c.loop.pass (shown d))
           (sym c.loop.invariant.dial_is) replies.answers;
+      history = c.loop.invariant.polled.history;
       phase = replies.phase;
       told = c.loop.invariant.later;
       some = replies.some;
