@@ -7,12 +7,14 @@ use Rattle.vx_calls.specs.declared.limits.TheConstants.{RECORD_MAX}
 use Rattle.vx_bus_traits.specs.declared.bus.Bus.{Ghosts}
 use Rattle.vx_core.specs.CoreState.{CoreState}
 use Rattle.vx_session.specs.Origin.{Origin, origin}
+use Rattle.vx_gate.specs.History.{made_by}
 use Rattle.vx_gate.specs.PassView.{PassView}
 use Rattle.vx_text.specs.Ends.{End as Ends}
 use Rattle.vx_text.specs.Writing.{StopsIn}
 use Rattle.vx_record.specs.Records.{Split, records}
 use Rattle.vx_group.specs.Groups.{Group}
-use Rattle.vx_group.specs.Laws.{HeadlineOfGroupsLaw, OwnedLaw}
+use Rattle.vx_group.specs.Phases.{Idle}
+use Rattle.vx_group.specs.Laws.{HeadlineOfGroupsLaw, OwnedLaw, LinksLaw}
 use Rattle.vx_exchange.specs.Meaning.{meaning, Junk}
 use Rattle.vx_io_traits.specs.Stands.{Goes}
 use Rattle.vx_stream.specs.Calling.{Receives, Sends, InTurn}
@@ -22,18 +24,21 @@ use Rattle.vx_stream.specs.Stopping.{EndsSo, IsLeft, StreamAnswered}
 use Rattle.vx_stream.specs.declared.ends.End.{End}
 use Rattle.vx_stream.specs.declared.ends.End.TheVariants as end
 use Rattle.vx_session.specs.Placing.{Makes}
-use Rattle.vx_session.specs.Turning.{Leaves}
+use Rattle.vx_session.specs.Turning.{Leaves, phase_at}
 use Rattle.vx_session.specs.Outside.{DialShown}
 use Rattle.vx_session.specs.Progress.{Rings, Clocked, answered, placed, calls}
 use Rattle.vx_session.specs.ProvedLaws.{makes-goes, makes-later}
 use Rattle.vx_session.proofs.Finishing.{upholds}
+use Rattle.vx_rooms.specs.LinkLaws.{CalledLinksLaw}
+use Rattle.vx_policy.specs.Laws.{MadeRead, DoneRead, NamedAlike}
 use Rattle.vx_policy.specs.Texts.{deny_line}
 use Rattle.vx_guard.specs.declared.sessions.TheConstants.{PIECE}
 use Rattle.vx_guard.specs.declared.sessions.GuardEnd.{GuardEnd}
-use Rattle.vx_guard.specs.Judged.{Guards, denial, notes}
+use Rattle.vx_guard.specs.Judged.{Guards, denial, notes, served}
 use Rattle.vx_guard.specs.Stages.{GuardState, GuardDoes, IsUnasked, NoteFails}
-use Rattle.vx_guard.specs.Wholes.{GuardDid, GuardEndsSo, NoteStops, guard_end, served}
+use Rattle.vx_guard.specs.Wholes.{GuardDid, GuardEndsSo, NoteStops, guard_end}
 use Rattle.vx_guard.proofs.Goings.{GuardsAll, all-guarded}
+use Rattle.vx_guard.proofs.Known.{knows-links}
 
 -- why a stream ended behind these messages, and what its end did: nothing; or the note failed in the line of a denial
 abbrev pub WhyEnded : {C : Type 0} → (last s' : GuardState C) → LinkShown → List Answered → Split → (behind unsent : List ℕ) → LinkShown → End → Type 0
@@ -165,11 +170,13 @@ pub guarded-pass : {B C L : Type 0} (g : Origin B) (tells : C → ℕ → C → 
 guarded-pass g tells stands receives sends s s' pass link link' seen seen' how did = (did.guards.pass', did.ends.unasked.pass ∙ did.guards.has, did.guards.makes.gate)
 
 -- the messages of a stream were judged and answered, and then the connection went; the session began without a link that it knew
-pub guard-did : {B C L : Type 0} (g : Origin B) (tells : C → ℕ → C → Type 0) (stands : L → List ℕ → List ℕ → Type 0) (receives : Receives L) (sends : Sends L) → HeadlineOfGroupsLaw → OwnedLaw → (s s' : GuardState C) (pass mid pass' : PassView Group)
+pub guard-did : {B C L : Type 0} (g : Origin B) (tells : C → ℕ → C → Type 0) (stands : L → List ℕ → List ℕ → Type 0) (receives : Receives L) (sends : Sends L) → HeadlineOfGroupsLaw → OwnedLaw → LinksLaw → CalledLinksLaw g → MadeRead → DoneRead → NamedAlike
+    → (s s' : GuardState C) (pass mid pass' : PassView Group)
     (link link' : L) (seen seen' : LinkShown) (how : End) (end' : GuardEnd) (told : ℕ) (dial : DialShown) (note : Ends) (clock : C) → StreamGuarded g tells stands receives sends s pass link seen how s' link' seen' → s.made ≡ []
     → s'.session.pass ≡ Some mid → s'.session.told ≡ told → s'.session.dial ≡ dial → s'.note ≡ note → s'.session.clock ≡ clock → end' ≡ guard_end s'.failed how → Leaves g mid s.session.conn pass'
+    → made_by pass.number pass.seen ≡ pass.own → phase_at pass s.session.conn ≡ Idle role.Core
     → GuardDid g stands receives sends (Clocked tells s.session.clock clock) told s.rules s.peer s.session.conn pass link seen s.session.dial s.note end' pass' link' seen' dial note
-guard-did g tells stands receives sends headline owned s s' pass mid pass' link link' seen seen' how end' told dial note clock did fresh has told_is dial_is note_is clock_is end_is leaves =
+guard-did g tells stands receives sends headline owned links called read_made read_done alike s s' pass mid pass' link link' seen seen' how end' told dial note clock did fresh has told_is dial_is note_is clock_is end_is leaves order idle =
     let last = leaves.placed in
     let all = did.guards in
     let ends = did.ends in
@@ -178,6 +185,10 @@ guard-did g tells stands receives sends headline owned s s' pass mid pass' link 
     let same : all.pass' ≡ mid = same_Some all.pass' mid (sym all.has ∙ sym ends.unasked.pass ∙ has) in
     let within : did.last.session.told ≤ told = subst (λ n. did.last.session.told ≤ n) told_is later in
     let lines = notes s.session.conn all.items in
+    let makes : Makes told pass (judged ++ last ∷ []) pass' =
+    makes-goes told told pass mid pass' judged (last ∷ []) (omega arith)
+    (subst (λ p. Makes told pass judged p) same (makes-later did.last.session.told told pass all.pass' judged within all.makes))
+    (makes-later 0 told mid pass' (last ∷ []) (omega arith) leaves.turns.makes) in
     record {
       items = all.items;
       made = did.last.made;
@@ -187,11 +198,10 @@ guard-did g tells stands receives sends headline owned s s' pass mid pass' link 
       written = did.written;
       unsent = did.unsent;
       each = subst (λ m. Guards g pass.number s.session.conn s.rules s.peer m all.items did.last.made) fresh all.each;
-      makes = makes-goes told told pass mid pass' judged (last ∷ []) (omega arith)
-          (subst (λ p. Makes told pass judged p) same (makes-later did.last.session.told told pass all.pass' judged within all.makes))
-          (makes-later 0 told mid pass' (last ∷ []) (omega arith) leaves.turns.makes);
+      makes = makes;
       down = leaves.events;
       cut = leaves.steps;
+      knows = knows-links g links called read_made read_done alike s.session.conn s.rules s.peer pass pass'.seen all.items last order idle makes.chain leaves.turns.history.lawful;
       bytes = did.bytes;
       goes = did.goes;
       wrote = ap replies all.are ∙ did.wrote;

@@ -17,9 +17,8 @@ use Rattle.vx_session.specs.Progress.{Rings, Clocked, ClockedAs, ServesRecord, a
 use Rattle.vx_session.specs.ProvedLaws.{makes-none, makes-goes, clocked-goes, clockedas-none}
 use Rattle.vx_session.proofs.Progressing.{rings-none, rings-goes}
 use Rattle.vx_policy.specs.declared.made.MadeLink.{MadeLink}
-use Rattle.vx_guard.specs.Judged.{Judged, IsDenied, IsGuarded, Guards, note_of, notes}
+use Rattle.vx_guard.specs.Judged.{Judged, IsDenied, IsGuarded, Guards, note_of, notes, served}
 use Rattle.vx_guard.specs.Stages.{GuardState, GuardDoes, HasReply, IsDenial, denial_at}
-use Rattle.vx_guard.specs.Wholes.{served}
 
 -- one message of a session, whose pass was this one, was answered so
 record Step {B C : Type 0} (g : Origin B) (tells : C → ℕ → C → Type 0) (s : GuardState C) (pass : PassView Group) (one : Answered) (mid : GuardState C) : Type 0 where

@@ -1,7 +1,8 @@
 mod Goings
+mod Knowing
+mod Known
 mod Ended
 mod Served
-mod Knowing
 mod Refused
 mod Rooms
 mod OnePeer

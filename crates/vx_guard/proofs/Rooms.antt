@@ -21,8 +21,7 @@ use Rattle.vx_rooms.specs.Counting.{events_by, IsSteady, ComesAndGoes, IsClear}
 use Rattle.vx_rooms.specs.ProvedLaws.{events_by-append, append-steady, none-steady, served-steady, came-and-went, none-came, never-full}
 use Rattle.vx_guard.specs.declared.links.Guarded.{Guarded}
 use Rattle.vx_guard.specs.declared.links.Guarded.TheVariants as guarded
-use Rattle.vx_guard.specs.Judged.{Judged, IsDenied, IsGuarded, Guards}
-use Rattle.vx_guard.specs.Wholes.{served}
+use Rattle.vx_guard.specs.Judged.{Judged, IsDenied, IsGuarded, Guards, served}
 use Rattle.vx_guard.specs.Linking.{GuardLinkDid}
 
 -- a call that a rule denied adds no group

@@ -1,6 +1,6 @@
 -- To be believed.
 -- What the rules say of the messages of a session.
-use Rattle.std.specs.Prelude.{◌≡◌, ℕ, if◌then◌else◌, List, [], ◌∷◌, Option, Some, None}
+use Rattle.std.specs.Prelude.{◌≡◌, ℕ, if◌then◌else◌, List, [], ◌∷◌, map, Option, Some, None}
 use Rattle.std.specs.List.{flat_map}
 use Rattle.vx_calls.specs.declared.codes.ErrorCode.TheVariants as code
 use Rattle.vx_calls.specs.declared.calls.Role.TheVariants as role
@@ -40,6 +40,10 @@ denied_record xid call = reply_record xid (stopped_reply call code.NotAccessible
 pub record Judged : Type 0 where
   pub served : Item
   pub denial : Option ℕ
+
+-- the messages that were judged, as those that were served
+abbrev pub served : List Judged → List Item
+served items = map (λ j. j.served) items
 
 -- a message that no rule denied was served as each session serves it, and the session knows what it made by it
 abbrev pub IsAllowed : {B : Type 0} → Origin B → (number conn : ℕ) → List MadeLink → Meaning → Item → List MadeLink → Type 0

@@ -19,9 +19,11 @@ use Rattle.vx_policy.specs.declared.rules.Rule.{Rule}
 use Rattle.vx_guard.specs.declared.sessions.GuardEnd.{GuardEnd}
 use Rattle.vx_guard.specs.declared.links.Guarded.{Guarded}
 use Rattle.vx_guard.specs.declared.links.Guarded.TheVariants as guarded
+use Rattle.vx_guard.specs.Known.{KnowsLinks}
 use Rattle.vx_guard.specs.Wholes.{GuardDid}
 
--- a connection came up by the pass's first turn, and had its guarded session, of the peer at this address
+-- A connection came up by the pass's first turn, and had its guarded session, of the peer at this address. At each moment between two
+-- messages the links that the session knows are exactly those that the connection has.
 pub record HadGuarded {B L : Type 0} (g : Origin B) (stands : L → List ℕ → List ℕ → Type 0) (receives : Receives L) (sends : Sends L) (clocked : List Placed → Type 0) (told : ℕ) (rules : List Rule) (pass : PassView Group) (link : L) (seen : LinkShown) (dial : DialShown)
     (note : End) (how : GuardEnd) (pass' : PassView Group) (link' : L) (seen' : LinkShown) (dial' : DialShown) (note' : End) : Type 0 where
   pub conn : ℕ
@@ -30,6 +32,7 @@ pub record HadGuarded {B L : Type 0} (g : Origin B) (stands : L → List ℕ →
   pub peer : ℕ
   pub is_peer : IsPeer seen.peers peer
   pub did : GuardDid g stands receives sends clocked told rules peer conn up link seen dial note how pass' link' seen' dial' note'
+  pub knows : KnowsLinks g up.number conn rules peer up.own did.items pass'.seen
 
 -- The connection had its guarded session; or it was refused, by one group without an event: the link is untouched, nothing was noted,
 -- and all that is claimed of the history that the pass has seen holds too.

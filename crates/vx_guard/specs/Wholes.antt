@@ -1,6 +1,6 @@
 -- To be believed.
 -- What a whole guarded session did.
-use Rattle.std.specs.Prelude.{◌≡◌, ◌≤◌, ◌<◌, ℕ, Bool, true, false, List, [], ◌∷◌, ◌++◌, map, length, Some}
+use Rattle.std.specs.Prelude.{◌≡◌, ◌≤◌, ◌<◌, ℕ, Bool, true, false, List, [], ◌∷◌, ◌++◌, length, Some}
 use Rattle.std.specs.Io.KnownBytes.{Appends}
 use Rattle.vx_io_traits.specs.Stands.{Goes}
 use Rattle.vx_calls.specs.declared.calls.Role.TheVariants as role
@@ -12,8 +12,10 @@ use Rattle.vx_text.specs.Ends.{End}
 use Rattle.vx_text.specs.Writing.{StopsIn}
 use Rattle.vx_record.specs.Records.{Split, records}
 use Rattle.vx_exchange.specs.Meaning.{meaning, Junk}
+use Rattle.vx_gate.specs.History.{groups}
 use Rattle.vx_group.specs.Event.{Down}
-use Rattle.vx_group.specs.Groups.{Group}
+use Rattle.vx_group.specs.FineState.{FineState}
+use Rattle.vx_group.specs.Groups.{Group, StandsFor}
 use Rattle.vx_stream.specs.Answered.{Answered, messages, replies}
 use Rattle.vx_stream.specs.Calling.{Receives, Sends, InTurn}
 use Rattle.vx_stream.specs.Shown.{LinkShown, LinkGoes}
@@ -21,7 +23,6 @@ use Rattle.vx_stream.specs.Stopping.{EndsSo}
 use Rattle.vx_stream.specs.declared.ends.End as stream
 use Rattle.vx_session.specs.Placing.{Placed, Makes}
 use Rattle.vx_session.specs.Outside.{DialShown}
-use Rattle.vx_session.specs.Serving.{Item}
 use Rattle.vx_session.specs.Progress.{Rings, answered, placed, calls}
 use Rattle.vx_session.specs.Ending.{Upholds}
 use Rattle.vx_policy.specs.declared.made.MadeLink.{MadeLink}
@@ -30,11 +31,8 @@ use Rattle.vx_policy.specs.Texts.{deny_line}
 use Rattle.vx_guard.specs.declared.sessions.TheConstants.{PIECE}
 use Rattle.vx_guard.specs.declared.sessions.GuardEnd.{GuardEnd}
 use Rattle.vx_guard.specs.declared.sessions.GuardEnd.TheVariants as guard
-use Rattle.vx_guard.specs.Judged.{Judged, Guards, denial, notes}
-
--- the messages that were judged, as those that were served
-abbrev pub served : List Judged → List Item
-served items = map (λ j. j.served) items
+use Rattle.vx_guard.specs.Judged.{Judged, Guards, denial, notes, served}
+use Rattle.vx_guard.specs.Known.{numbers_had, KnowsLinks}
 
 -- the last message that was looked at is a call that a rule denied, and the note failed in its line: it has no reply, and the lines
 -- before it stand whole
@@ -77,6 +75,9 @@ pub record GuardDid {B L : Type 0} (g : Origin B) (stands : L → List ℕ → L
   pub makes : Makes told pass (placed (served items) ++ last ∷ []) pass'
   pub down : last.group.events ≡ Down conn ∷ []
   pub cut : last.group.steps ≡ Cut ∷ []
+  -- where the connection had no link as the session began, the links that it knows are exactly those that the connection has
+  pub knows : (first : FineState) → StandsFor first (groups pass.seen) → numbers_had first conn ≡ []
+      → KnowsLinks g pass.number conn rules peer pass.own items pass'.seen
   -- the bytes that came and went
   pub bytes : Goes stands link link' written (front ++ behind)
   pub goes : LinkGoes seen (front ++ behind) seen'

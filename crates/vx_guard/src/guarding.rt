@@ -28,7 +28,7 @@ use vx_exchange::{Opened, open};
 use vx_gate::{Pass, Turns};
 use vx_group::links_law;
 use vx_io_traits::{Clock, Dial, Pause, Sink};
-use vx_policy::{LINE_ROOM, Made, Policy, Verdict, deny_line, proc_of, replies_read};
+use vx_policy::{LINE_ROOM, Made, Policy, Verdict, deny_line, proc_of, replies_read, texts_name};
 use vx_rooms::called_law;
 use vx_session::answer_call;
 use vx_stream::Answers;
@@ -186,6 +186,7 @@ fn answer_allowed<R: Wait, B: Bus, T: Turns<Core<B>>, C: Clock, P: Pause, D: Dia
     links_law();
     called_law::<B>();
     replies_read();
+    texts_name();
     let (pass, len) = answer_call(rt, turns, pass, conn, xid, call, clock, pause, dial, reply);
     pass.order();
     made.learn(call, &reply[..len]);

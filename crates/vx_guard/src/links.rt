@@ -15,7 +15,7 @@ use vx_calls::Role;
 use vx_core::{Connect, Core};
 use vx_door::Peered;
 use vx_gate::{Pass, Turns};
-use vx_group::{headline_law, owned_law};
+use vx_group::{headline_law, links_law, owned_law};
 use vx_io_traits::{Clock, Dial, Pause, Sink};
 use vx_policy::Policy;
 use vx_session::join;
@@ -41,8 +41,8 @@ fn refused(why: Connect) -> Guarded
     }
 }
 
-/// Serves a link by the rules of a policy: a core connection comes up, has its guarded session, and ends. It takes memory for the
-/// connection alone.
+/// Serves a link by the rules of a policy: a core connection comes up, has its guarded session, and ends. The links by which that
+/// judges are exactly those that the connection has, at each moment between two messages. It takes memory for the connection alone.
 pub fn guarded_link<
     R: Wait,
     B: Bus,
@@ -76,10 +76,12 @@ pub fn guarded_link<
 {
     headline_law();
     owned_law();
+    links_law();
     let (pass, joined) = join(rt, alloc, turns, pass, Role::Core);
     match joined {
         Err(why) => (pass, refused(why)),
         Ok(conn) => {
+            pass.order();
             let (pass, end) = guarded_session(
                 rt, turns, pass, conn, policy, link, clock, pause, dial, room, note,
             );

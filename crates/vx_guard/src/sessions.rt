@@ -21,10 +21,11 @@ use vx_core::Core;
 use vx_door::Peered;
 use vx_exchange::REPLY_ROOM;
 use vx_gate::{Pass, Turns};
-use vx_group::{headline_law, owned_law};
+use vx_group::{headline_law, links_law, owned_law};
 use vx_io_traits::{Clock, Dial, Pause, Sink};
-use vx_policy::{Made, Policy};
+use vx_policy::{Made, Policy, replies_read, texts_name};
 use vx_record::RecordBuf;
+use vx_rooms::called_law;
 use vx_session::leave;
 use vx_stream::{End, answer_stream};
 
@@ -106,7 +107,8 @@ fn guard_end(failed: bool, end: End) -> GuardEnd
 /// The session of a core connection that is guarded by a policy. It does what `core_session` does, save that each readable call
 /// but the null procedure is judged as its record is taken, by the address of the peer that the link tells as the session
 /// begins. A call that is denied doesn't reach the core: the line `deny CONN RULE` goes to the note, and then its reply has the
-/// error `NotAccessible` (3), and all else is zero or empty.
+/// error `NotAccessible` (3), and all else is zero or empty. Where the connection had no link as the session began, the links by
+/// which it judges are exactly those that the connection has, at each moment between two messages.
 pub fn guarded_session<
     R: Wait,
     B: Bus,
@@ -141,6 +143,11 @@ pub fn guarded_session<
 {
     headline_law();
     owned_law();
+    links_law();
+    called_law::<B>();
+    replies_read();
+    texts_name();
+    pass.order();
     let GuardRoom {
         incoming,
         piece,

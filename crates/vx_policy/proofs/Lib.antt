@@ -4,3 +4,4 @@ mod Readings
 mod Judged
 mod Behind
 mod Replies
+mod Named

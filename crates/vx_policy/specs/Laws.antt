@@ -1,17 +1,18 @@
 -- Laws of the grammar of a policy, and of what its rules say.
-use Rattle.std.specs.Prelude.{◌≡◌, ◌+◌, ◌^◌, ◌<◌, ◌==◌, ℕ, true, false, if◌then◌else◌, List, ◌∷◌, ◌++◌, length, drop, Option, Some, None}
+use Rattle.std.specs.Prelude.{◌≡◌, ◌+◌, ◌^◌, ◌<◌, ◌==◌, ℕ, true, false, if◌then◌else◌, List, ◌∷◌, ◌++◌, length, drop, Option, Some, None, Ok}
 use Rattle.std.specs.List.{All}
 use Rattle.vx_calls.specs.declared.calls.Proc.{Proc}
 use Rattle.vx_calls.specs.declared.targets.Target.{Target}
 use Rattle.vx_calls.specs.declared.codes.ErrorCode.{ErrorCode}
 use Rattle.vx_calls.specs.ErrorCode.{error_number}
+use Rattle.vx_calls.specs.Target.{target}
 use Rattle.vx_calls.specs.Reply as reply
 use Rattle.vx_codec.specs.Answered.{results}
 use Rattle.vx_policy.specs.declared.made.TheConstants.{HEAD}
 use Rattle.vx_policy.specs.declared.rules.Rule.{Rule}
 use Rattle.vx_policy.specs.Grammar.{Reads}
 use Rattle.vx_policy.specs.Judging.{matches, judged}
-use Rattle.vx_policy.specs.Targets.{link_made, is_done}
+use Rattle.vx_policy.specs.Targets.{text_target, link_made, is_done}
 
 -- lines say no two lists of rules
 abbrev pub OneReading : Type 0
@@ -37,3 +38,7 @@ MadeRead = (text : List ℕ) (error : ErrorCode) (lid abort_port max : ℕ) → 
 -- of one that has an error alone it is read whether there is none
 abbrev pub DoneRead : Type 0
 DoneRead = (text : List ℕ) (error : ErrorCode) → drop HEAD text ≡ results (reply.Error error) → is_done text ≡ (error_number error == 0)
+
+-- A device text that names a target on a gateway of some own address names the same to the rules, which know no own address.
+abbrev pub NamedAlike : Type 0
+NamedAlike = (text : List ℕ) (own : ℕ) (named : Target) → target text own ≡ Ok named → text_target text ≡ Some named

@@ -1,5 +1,6 @@
-//! Laws of a policy's text, of its verdicts and of what is read of replies, each the contract of a function that does nothing.
-ghost use Rattle.vx_policy.specs.Laws.{OneReading, FirstDecides, NoneDenies, MadeRead, DoneRead};
+//! Laws of a policy's text, of its verdicts, and of what is read of replies and device texts, each the contract of a function that
+//! does nothing.
+ghost use Rattle.vx_policy.specs.Laws.{OneReading, FirstDecides, NoneDenies, MadeRead, DoneRead, NamedAlike};
 
 use vx_codec::answered_again;
 
@@ -22,3 +23,9 @@ pub fn replies_read()
 {
     answered_again();
 }
+
+/// A device text that names a target on a gateway, whatever its own address, names the same to the rules, which tell devices
+/// from one another and not from the gateway.
+pub fn texts_name()
+    ensures { NamedAlike }
+{}

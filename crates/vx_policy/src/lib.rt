@@ -11,7 +11,7 @@ mod rules;
 mod texts;
 mod words;
 
-pub use laws::{one_reading, one_verdict, replies_read};
+pub use laws::{one_reading, one_verdict, replies_read, texts_name};
 pub use made::{Made, MadeLink, NoMemory, proc_of};
 pub use policy::{Policy, PolicyErr, RULES_MAX, TEXT_MAX, Verdict};
 pub use rules::{Peers, Place, Rule};

@@ -5,6 +5,7 @@ pub mod Numbers
 pub mod Counted
 pub mod Sessions
 pub mod Clear
+pub mod Telling
 pub mod Links
 -- lists of events, one after another; and where no connection comes up or goes down
 pub use Rattle.vx_rooms.specs.ProvedLaws.Events.{ups-append, downs-append, ups-front, downs-front, events_of-append, IsNeither, front-steady, all-steady, append-steady}
@@ -16,5 +17,5 @@ pub use Rattle.vx_rooms.specs.ProvedLaws.Sessions.{events_by-append, none-steady
 pub use Rattle.vx_rooms.specs.ProvedLaws.Sessions.{joined-holds, refused-holds, left-holds, ends-made, came-and-went, none-came, came-undone, link-counts}
 -- one link after another: where each connection went down again none is refused for want of room
 pub use Rattle.vx_rooms.specs.ProvedLaws.Clear.{clear-first, clear-on, never-full}
--- the numbers of a connection's links behind a call
-pub use Rattle.vx_rooms.specs.ProvedLaws.Links.{numbers-append, called-links}
+-- what a call leaves of its connection and of the numbers of its links, and what its reply tells of them
+pub use Rattle.vx_rooms.specs.ProvedLaws.Links.{numbers-append, chain-begins, called-links}

@@ -7,6 +7,7 @@ ghost use Rattle.vx_rooms.specs.LinkLaws.{CalledLinksLaw};
 ghost use Rattle.vx_rooms.specs.TurnLaws.{JoinedLaw, RefusedLaw, LeftLaw, ClearFirstLaw, ClearLaw, NeverFullLaw};
 
 use vx_bus_traits::Bus;
+use vx_group::phase_law;
 
 /// How many connections live behind a history, and which number comes next, by how many came up and went down in it. Where as
 /// many went down as came up, and fewer than 2,147,483,647 came up, there is room for one more of each role.
@@ -28,8 +29,11 @@ pub fn turns_law<B: Bus>()
     ensures never_full { (first : CoreState B) → NeverFullLaw (origin B.Bus first) }
 {}
 
-/// What a call leaves of the links of its connection, by the groups that it added: those that its reply tells. A create_link without
-/// an error made one, and a destroy_link without an error destroyed one; the reply is the one in its record.
+/// What a call leaves of its connection, by the groups that it added: the connection is idle, and its links are those that the call's
+/// reply tells. A create_link without an error made one, of a number up to 2^30 - 1, and its device text names a target; a destroy_link
+/// without an error destroyed one. The reply is the one in its record.
 pub fn called_law<B: Bus>()
     ensures { (first : CoreState B) → CalledLinksLaw (origin B.Bus first) }
-{}
+{
+    phase_law();
+}

@@ -1,30 +1,40 @@
--- What the groups of a call leave of the numbers of its connection's links.
-use Rattle.std.proofs.Common.{◌≡◌, ◌==◌, ℕ, Bool, true, false, cond, List, [], ◌∷◌, ◌++◌, map, Option, Some, option_and_then, refl, sym, ap, ◌∙◌, subst}
+-- What the groups of a call leave of its connection, of the numbers of its links, and what its reply tells of them.
+use Rattle.std.proofs.Common.{◌≡◌, ◌==◌, ℕ, Bool, true, false, cond, List, [], ◌∷◌, ◌++◌, map, Option, Some, option_and_then, refl, sym, ap, ◌∙◌, subst, append_assoc, append-nil}
+use mathlib.Core.List.{IsPrefix}
 use Rattle.std.proofs.lemmas.Bool.{cond-true}
 use Rattle.std.proofs.lemmas.List.Concat.{flat_map-cons}
 use Rattle.vx_lemmas.specs.Conditions.{eqb-self}
 use Rattle.vx_io_traits.specs.declared.dials.Rang.{Rang}
+use Rattle.vx_calls.specs.declared.calls.Role.TheVariants as role
 use Rattle.vx_calls.specs.Call.{Call}
 use Rattle.vx_calls.specs.Reply.{Reply}
 use Rattle.vx_calls.specs.Reply as reply
 use Rattle.vx_bus_traits.specs.Steps.{Step}
 use Rattle.vx_bus_traits.specs.declared.bus.Bus.{Ghosts}
+use Rattle.vx_gate.specs.declared.views.Logged.{Logged}
+use Rattle.vx_gate.specs.History.{made, groups, made_by, Lawful}
+use Rattle.vx_gate.proofs.Histories.{made_by_mine, Lawful_front}
 use Rattle.vx_exchange.specs.Meaning.{reply_record}
 use Rattle.vx_flow.specs.Event.{Event, Arrive, Begin}
+use Rattle.vx_flow.specs.FineState.{FineState}
 use Rattle.vx_flow.specs.Poll as poll
 use Rattle.vx_flow.specs.Poll.{Ending, Waited, Dialed, moved_events, end_events}
 use Rattle.vx_core.specs.CoreState.{CoreState}
-use Rattle.vx_group.specs.Groups.{Group, events_of}
-use Rattle.vx_group.specs.Phases.{Phase, Absent, Asked, phase_after, phase_along, phase_by}
+use Rattle.vx_group.specs.Groups.{Group, events_of, StandsFor}
+use Rattle.vx_group.specs.Phases.{Phase, Absent, Idle, Asked, phase_after, phase_along, phase_by, HasPhase}
 use Rattle.vx_group.specs.MadeLinks.{numbers_after, numbers_next, numbers_along, numbers_by}
+use Rattle.vx_group.specs.Owning.{MayAdd}
+use Rattle.vx_group.specs.Laws.{PhaseLaw}
+use Rattle.vx_group.specs.ProvedLaws.{events-more, phase-append}
 use Rattle.vx_session.specs.Origin.{Origin}
-use Rattle.vx_session.specs.Placing.{Placed}
+use Rattle.vx_session.specs.Placing.{Placed, Chain, behind}
 use Rattle.vx_session.specs.Parts.{IsPolled, phase_behind}
 use Rattle.vx_session.specs.Serving.{GoesOn, IsCalled}
 use Rattle.vx_session.specs.ProvedLaws.{chosen-own, ispolled-shape, ispolled-phase}
 use Rattle.vx_rooms.specs.Counting.{events_by}
-use Rattle.vx_rooms.specs.LinkLaws.{CalledLinksLaw}
+use Rattle.vx_rooms.specs.LinkLaws.{TellsLinks, CalledTells, CalledLinksLaw}
 use Rattle.vx_rooms.specs.ProvedLaws.Events.{events_of-append}
+use Rattle.vx_rooms.specs.ProvedLaws.Telling.{HasCall, EndTells, dial-tells, polled-tells, come-call}
 
 -- the numbers behind one list of events, and then another
 pub numbers-append : (conn : ℕ) (phase : Phase) (numbers : Option (List ℕ)) (xs ys : List Event)
@@ -68,73 +78,142 @@ polled-numbers g before conn now ending events steps call dialed numbers p =
     ∙ begun-numbers conn now (Asked call dialed) numbers shape.0 shape.1 (end_events conn now ending)
     ∙ end-numbers conn now call dialed ending numbers
 
--- ---- a call, from its coming to its answer
+-- ---- groups at their places
 
--- what these groups of a call tell of the numbers behind this phase, by the record of its reply
-abbrev Tells : (conn xid : ℕ) → Call → Phase → (before behind : Option (List ℕ)) → List Event → List ℕ → Type 0
-Tells conn xid call phase before behind events out =
-    (told : Reply) × (out ≡ reply_record xid told) × (numbers_along conn phase behind events ≡ option_and_then (numbers_after call told) before)
+-- what a pass had seen begins what it has seen behind groups at their places
+pub chain-begins : (number : ℕ) (seen seen' : List (Logged Group)) (ps : List Placed) → Chain number seen ps seen' → IsPrefix seen seen'
+chain-begins number seen seen' [] same = ([], append-nil seen ∙ sym same)
+chain-begins number seen seen' (p ∷ ps) chain =
+    let x = made number p.group in
+    let more = chain.0.0 in
+    let rest = chain-begins number (behind number p) seen' ps chain.2 in (
+      more ++ x ∷ rest.0,
+      sym (append_assoc seen more (x ∷ rest.0)) ∙ ap (λ l. l ++ x ∷ rest.0) chain.0.1 ∙ sym (append_assoc p.before (x ∷ []) rest.0) ∙ rest.1,
+    )
+
+-- so does what stands before the first of them
+before-begins : (number : ℕ) (seen' : List (Logged Group)) (p : Placed) (ps : List Placed) → Chain number (behind number p) ps seen' → IsPrefix p.before seen'
+before-begins number seen' p ps chain =
+    let x = made number p.group in
+    let rest = chain-begins number (behind number p) seen' ps chain in
+    (x ∷ rest.0, sym (append_assoc p.before (x ∷ []) rest.0) ∙ rest.1)
+
+-- the phase behind one group more of the pass
+phase-more : (number conn : ℕ) (p : Placed) → phase_by conn (events_of (made_by number (behind number p))) ≡ phase_along conn (phase_by conn (events_of (made_by number p.before))) p.group.events
+phase-more number conn p =
+    ap (λ own. phase_by conn (events_of own)) (made_by_mine number p.group p.before)
+    ∙ ap (phase_by conn) (events-more (made_by number p.before) p.group)
+    ∙ phase-append conn Absent (events_of (made_by number p.before)) p.group.events
+
+-- a connection that the groups of its pass have with a call has that call in each state that stands for the history
+asked-call : PhaseLaw → (log : List (Logged Group)) (f : FineState) (number conn : ℕ) (call : Call) → Lawful MayAdd log → StandsFor f (groups log)
+    → phase_by conn (events_of (made_by number log)) ≡ Asked call false → HasCall f conn call
+asked-call phases log f number conn call lawful stands is =
+    let asked = (subst (HasPhase f conn) is (phases log f number conn lawful stands)).1 in
+    record { pending = asked.pending; call_at = asked.call_at; call_is = asked.call_is }
+
+-- ---- a call, from its coming to its answer
 
 -- the events of one group, and of more
 events-front : (p : Placed) (ps : List Placed) → events_by (p ∷ ps) ≡ p.group.events ++ events_by ps
 events-front p ps = flat_map-cons (λ (x : Group). x.events) p.group (map (λ (q : Placed). q.group) ps)
 
+-- These groups of a call, behind a poll that ended so, tell this of the numbers of its connection's links, by the record of its reply.
+record GoesTells (number conn xid : ℕ) (call : Call) (ending : Ending) (ps : List Placed) (out : List ℕ) : Type 0 where
+  told : Reply
+  reply_is : out ≡ reply_record xid told
+  idle : phase_along conn (phase_behind call false ending) (events_by ps) ≡ Idle role.Core
+  numbers : (before : Option (List ℕ)) → numbers_along conn (phase_behind call false ending) (numbers_behind call ending before) (events_by ps) ≡ option_and_then (numbers_after call told) before
+  links : (seen seen' : List (Logged Group)) → Chain number seen ps seen' → Lawful MayAdd seen' → phase_by conn (events_of (made_by number seen)) ≡ phase_behind call false ending
+      → EndTells call ending → TellsLinks call told
+
 -- how it goes on behind a poll that ended so
-goes-numbers : {B : Type 0} (g : Origin B) (number conn xid : ℕ) (call : Call) (dialed : Bool) (ending : Ending) (ps : List Placed) (calls : List Rang) (out : List ℕ) (numbers : Option (List ℕ))
-    → GoesOn g number conn xid call ending ps calls out → Tells conn xid call (phase_behind call dialed ending) numbers (numbers_behind call ending numbers) (events_by ps) out
-goes-numbers g number conn xid call dialed (poll.Answered ran level told) [] calls out numbers goes = (told, goes.1, refl)
-goes-numbers g number conn xid call dialed (Dialed host port) (p ∷ []) calls out numbers goes = (
-  reply.Error goes.error,
-  goes.reply_is,
-  ap (numbers_along conn (Asked call true) numbers) (events-front p [])
-      ∙ numbers-append conn (Asked call true) numbers p.group.events []
-      ∙ ap (numbers_along conn (Asked call true) numbers) goes.events
-      ∙ own-numbers conn (option_and_then (numbers_after call (reply.Error goes.error)) numbers) numbers,
-)
-goes-numbers g number conn xid call dialed (Waited why) (p ∷ ps) calls out numbers goes =
-    let polled = goes.1.polls.polled in
-    let core = goes.1.polls.core in
-    let rest = goes-numbers g number conn xid call dialed goes.0 ps calls out numbers goes.2 in (
-      rest.0,
-      rest.1,
-      ap (numbers_along conn (Asked call dialed) numbers) (events-front p ps)
-          ∙ numbers-append conn (Asked call dialed) numbers p.group.events (events_by ps)
-          ∙ ap (λ s. numbers_along conn s (numbers_along conn (Asked call dialed) numbers p.group.events) (events_by ps))
-          (ispolled-phase g.bus core conn _ goes.0 p.group.events p.group.steps call dialed polled)
-          ∙ ap (λ n. numbers_along conn (phase_behind call dialed goes.0) n (events_by ps)) (polled-numbers g.bus core conn _ goes.0 p.group.events p.group.steps call dialed numbers polled)
-          ∙ rest.2,
-    )
-goes-numbers g number conn xid call dialed _ _ calls out numbers goes = absurd goes
+goes-tells : {B : Type 0} (g : Origin B) → PhaseLaw → (number conn xid : ℕ) (call : Call) (ending : Ending) (ps : List Placed) (calls : List Rang) (out : List ℕ)
+    → GoesOn g number conn xid call ending ps calls out → GoesTells number conn xid call ending ps out
+goes-tells g phases number conn xid call (poll.Answered ran level told) [] calls out goes = record {
+  told = told;
+  reply_is = goes.1;
+  idle = refl;
+  numbers = λ before. refl;
+  links = λ seen seen' chain lawful phase tells. tells;
+}
+goes-tells g phases number conn xid call (Dialed host port) (p ∷ []) calls out goes = record {
+  told = reply.Error goes.error;
+  reply_is = goes.reply_is;
+  idle = ap (phase_along conn (Asked call true)) (events-front p []) ∙ phase-append conn (Asked call true) p.group.events [] ∙ ap (phase_along conn (Asked call true)) goes.events
+      ∙ chosen-own conn (Idle role.Core) (Asked call true);
+  numbers = λ before. ap (numbers_along conn (Asked call true) before) (events-front p [])
+      ∙ numbers-append conn (Asked call true) before p.group.events []
+      ∙ ap (numbers_along conn (Asked call true) before) goes.events
+      ∙ own-numbers conn (option_and_then (numbers_after call (reply.Error goes.error)) before) before;
+  links = λ seen seen' chain lawful phase asks. dial-tells call (reply.Error goes.error) asks;
+}
+goes-tells g phases number conn xid call (Waited why) (p ∷ ps) calls out goes =
+    let polls = goes.1.polls in
+    let core = polls.core in
+    let polled = polls.polled in
+    let rest = goes-tells g phases number conn xid call goes.0 ps calls out goes.2 in
+    let leaves = ispolled-phase g.bus core conn _ goes.0 p.group.events p.group.steps call false polled in
+    record {
+      told = rest.told;
+      reply_is = rest.reply_is;
+      idle = ap (phase_along conn (Asked call false)) (events-front p ps)
+          ∙ phase-append conn (Asked call false) p.group.events (events_by ps)
+          ∙ ap (λ s. phase_along conn s (events_by ps)) leaves
+          ∙ rest.idle;
+      numbers = λ before. ap (numbers_along conn (Asked call false) before) (events-front p ps)
+          ∙ numbers-append conn (Asked call false) before p.group.events (events_by ps)
+          ∙ ap (λ s. numbers_along conn s (numbers_along conn (Asked call false) before p.group.events) (events_by ps)) leaves
+          ∙ ap (λ n. numbers_along conn (phase_behind call false goes.0) n (events_by ps)) (polled-numbers g.bus core conn _ goes.0 p.group.events p.group.steps call false before polled)
+          ∙ rest.numbers before;
+      links = λ seen seen' chain lawful phase tells.
+          let begun = ap (λ own. phase_by conn (events_of own)) chain.1 ∙ phase in
+          let asked = asked-call phases p.before core.fine number conn call (Lawful_front MayAdd p.before seen' (before-begins number seen' p ps chain.2) lawful) polls.became.state begun in
+          rest.links (behind number p) seen' chain.2 lawful (phase-more number conn p ∙ ap (λ s. phase_along conn s p.group.events) begun ∙ leaves)
+          (polled-tells g.bus core conn _ goes.0 p.group.events p.group.steps call asked polled);
+    }
+goes-tells g phases number conn xid call _ _ calls out goes = absurd goes
 
--- a call that comes and is polled, in these events, and goes on
-came-numbers : {B : Type 0} (g : Origin B) (number conn xid now : ℕ) (call : Call) (come : CoreState B) (begun : Ending) (events part : List Event) (asked : List Step) (later : List Placed)
-    (calls : List Rang) (out : List ℕ) (phase : Phase) (numbers : Option (List ℕ)) → events ≡ Arrive conn call now ∷ part → IsPolled g.bus come conn now begun part asked
-    → GoesOn g number conn xid call begun later calls out → Tells conn xid call phase numbers numbers (events ++ events_by later) out
-came-numbers g number conn xid now call come begun events part asked later calls out phase numbers are polled goes_on =
-    let rest = goes-numbers g number conn xid call false begun later calls out numbers goes_on in (
-      rest.0,
-      rest.1,
-      ap (λ es. numbers_along conn phase numbers (es ++ events_by later)) are
-          ∙ ap (λ s. numbers_along conn s numbers (part ++ events_by later)) (chosen-own conn (Asked call false) phase)
-          ∙ numbers-append conn (Asked call false) numbers part (events_by later)
-          ∙ ap (λ s. numbers_along conn s (numbers_along conn (Asked call false) numbers part) (events_by later)) (ispolled-phase g.bus come conn now begun part asked call false polled)
-          ∙ ap (λ n. numbers_along conn (phase_behind call false begun) n (events_by later)) (polled-numbers g.bus come conn now begun part asked call false numbers polled)
-          ∙ rest.2,
-    )
+-- a call that comes and is polled, and goes on
+came-tells : {B : Type 0} (g : Origin B) → PhaseLaw → (number conn xid : ℕ) (call : Call) (placed : List Placed) (calls : List Rang) (out : List ℕ)
+    → (is : IsCalled g number conn xid call placed calls out) → CalledTells number conn xid call (is.first ∷ is.later) out
+came-tells g phases number conn xid call placed calls out is =
+    let comes = is.comes in
+    let first = is.first in
+    let later = is.later in
+    let part = comes.part in
+    let rest = goes-tells g phases number conn xid call is.begun later calls out is.goes_on in
+    let leaves = ispolled-phase g.bus comes.come conn _ is.begun part comes.asked call false comes.polled in
+    let are : events_by (first ∷ later) ≡ Arrive conn call _ ∷ (part ++ events_by later) = events-front first later ∙ ap (λ es. es ++ events_by later) comes.events in
+    record {
+      told = rest.told;
+      reply_is = rest.reply_is;
+      idle = λ own. let phase = phase_by conn (events_of own) in
+          ap (phase_by conn) (events_of-append own (map (λ (p : Placed). p.group) (first ∷ later)))
+          ∙ phase-append conn Absent (events_of own) (events_by (first ∷ later))
+          ∙ ap (phase_along conn phase) are
+          ∙ ap (λ s. phase_along conn s (part ++ events_by later)) (chosen-own conn (Asked call false) phase)
+          ∙ phase-append conn (Asked call false) part (events_by later)
+          ∙ ap (λ s. phase_along conn s (events_by later)) leaves
+          ∙ rest.idle;
+      numbers = λ own. let phase = phase_by conn (events_of own) in
+          let before = numbers_by conn (events_of own) in
+          ap (numbers_by conn) (events_of-append own (map (λ (p : Placed). p.group) (first ∷ later)))
+          ∙ numbers-append conn Absent (Some []) (events_of own) (events_by (first ∷ later))
+          ∙ ap (numbers_along conn phase before) are
+          ∙ ap (λ s. numbers_along conn s before (part ++ events_by later)) (chosen-own conn (Asked call false) phase)
+          ∙ numbers-append conn (Asked call false) before part (events_by later)
+          ∙ ap (λ s. numbers_along conn s (numbers_along conn (Asked call false) before part) (events_by later)) leaves
+          ∙ ap (λ n. numbers_along conn (phase_behind call false is.begun) n (events_by later)) (polled-numbers g.bus comes.come conn _ is.begun part comes.asked call false before comes.polled)
+          ∙ rest.numbers before;
+      links = λ seen seen' chain lawful.
+          let phase = phase_by conn (events_of (made_by number first.before)) in
+          rest.links (behind number first) seen' chain.2 lawful
+          (phase-more number conn first ∙ ap (phase_along conn phase) comes.events ∙ ap (λ s. phase_along conn s part) (chosen-own conn (Asked call false) phase) ∙ leaves)
+          (polled-tells g.bus comes.come conn _ is.begun part comes.asked call (come-call comes.core.fine comes.come.fine conn _ call comes.arrives) comes.polled);
+    }
 
--- a call, as its groups have it
-called-numbers : {B : Type 0} (g : Origin B) (number conn xid : ℕ) (call : Call) (placed : List Placed) (calls : List Rang) (out : List ℕ) (phase : Phase) (numbers : Option (List ℕ))
-    → IsCalled g number conn xid call placed calls out → Tells conn xid call phase numbers numbers (events_by placed) out
-called-numbers g number conn xid call placed calls out phase numbers is =
-    subst (λ es. Tells conn xid call phase numbers numbers es out) (sym (ap events_by is.groups ∙ events-front is.first is.later))
-    (came-numbers g number conn xid _ call is.comes.come is.begun is.first.group.events is.comes.part is.comes.asked is.later calls out phase numbers is.comes.events is.comes.polled is.goes_on)
-
--- behind whatever groups its pass made before
-pub called-links : {B : Type 0} (g : Origin B) → CalledLinksLaw g
-called-links g number conn xid call placed calls out own is =
-    let before = events_of own in
-    let tells = called-numbers g number conn xid call placed calls out (phase_by conn before) (numbers_by conn before) is in (
-      tells.0,
-      tells.1,
-      ap (numbers_by conn) (events_of-append own (map (λ (p : Placed). p.group) placed)) ∙ numbers-append conn Absent (Some []) before (events_by placed) ∙ tells.2,
-    )
+-- each call, as its groups have it
+pub called-links : {B : Type 0} (g : Origin B) → PhaseLaw → CalledLinksLaw g
+called-links g phases number conn xid call placed calls out is =
+    subst (λ ps. CalledTells number conn xid call ps out) (sym is.groups) (came-tells g phases number conn xid call placed calls out is)

@@ -10,7 +10,7 @@ pub returns-clause-learns : goal.returns-clause-learns
 returns-clause-learns g c =
     let core = g.T.Turns.first c.args.turns.now in
     let answered = c.answer_call-pass in
-    (learns (origin g.B.Bus core) c.links_law.ensures.links c.links_law.ensures.few (c.called_law.ensures core) c.replies_read.ensures.made c.replies_read.ensures.done
+    (learns (origin g.B.Bus core) c.links_law.ensures.links c.links_law.ensures.few (c.called_law.ensures core) c.replies_read.ensures.made c.replies_read.ensures.done c.texts_name.ensures
     (Clocked g.C.Clock.tells c.args.clock.now answered.new.clock) (g.C.Clock.told answered.new.clock) c.args.pass answered.result.0 c.args.conn c.args.xid (call_shown c.args.call.now) (dial_shown g.D.Dial.calls g.D.Dial.faults c.args.dial.now)
     (dial_shown g.D.Dial.calls g.D.Dial.faults answered.new.dial) (take answered.result.1 answered.new.reply) c.args.made.now c.learn.new.self answered.ensures.answers answered.ensures.history
     c.order.ensures answered.ensures.phase c.requires.known c.learn.ensures.few).is
@@ -19,7 +19,7 @@ pub returns-clause-known : goal.returns-clause-known
 returns-clause-known g c =
     let core = g.T.Turns.first c.args.turns.now in
     let answered = c.answer_call-pass in
-    (learns (origin g.B.Bus core) c.links_law.ensures.links c.links_law.ensures.few (c.called_law.ensures core) c.replies_read.ensures.made c.replies_read.ensures.done
+    (learns (origin g.B.Bus core) c.links_law.ensures.links c.links_law.ensures.few (c.called_law.ensures core) c.replies_read.ensures.made c.replies_read.ensures.done c.texts_name.ensures
     (Clocked g.C.Clock.tells c.args.clock.now answered.new.clock) (g.C.Clock.told answered.new.clock) c.args.pass answered.result.0 c.args.conn c.args.xid (call_shown c.args.call.now) (dial_shown g.D.Dial.calls g.D.Dial.faults c.args.dial.now)
     (dial_shown g.D.Dial.calls g.D.Dial.faults answered.new.dial) (take answered.result.1 answered.new.reply) c.args.made.now c.learn.new.self answered.ensures.answers answered.ensures.history
     c.order.ensures answered.ensures.phase c.requires.known c.learn.ensures.few).knows

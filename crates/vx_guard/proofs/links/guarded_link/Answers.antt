@@ -5,6 +5,7 @@ use Rattle.vx_session.specs.Turning.{Joins}
 use Rattle.vx_session.specs.Origin.{origin}
 use Rattle.vx_session.specs.Progress.{Clocked}
 use Rattle.vx_session.specs.ProvedLaws.{clockedas-none}
+use Rattle.vx_guard.proofs.Known.{joined-none}
 use Rattle.vx_guard.proofs.Refused.{link-refused}
 use Rattle.vx_guard.proofs.links.guarded_link.Goals as goal
 
@@ -16,8 +17,19 @@ returns-in-Err-clause-did g c =
 
 pub returns-in-Ok-clause-did : goal.returns-in-Ok-clause-did
 returns-in-Ok-clause-did g c =
+    let o = origin g.B.Bus (g.T.Turns.first c.args.turns.now) in
     let did = c.guarded_session-pass.ensures.did in
-    record { conn = c.in-Ok.conn; up = c.join-pass.result.0; joins = subst (λ a. Joins (origin g.B.Bus (g.T.Turns.first c.args.turns.now)) c.args.pass role.Core a c.join-pass.result.0) c.in-Ok.is c.join-pass.ensures; peer = did.0; is_peer = did.1; did = did.2 }
+    let joins = subst (λ a. Joins o c.args.pass role.Core a c.join-pass.result.0) c.in-Ok.is c.join-pass.ensures in
+    let history = joins.turns.history in
+    record {
+      conn = c.in-Ok.conn;
+      up = c.join-pass.result.0;
+      joins = joins;
+      peer = did.0;
+      is_peer = did.1;
+      did = did.2;
+      knows = did.2.knows history.core.fine history.became.state (joined-none o c.links_law.ensures.links c.args.pass c.join-pass.result.0 c.in-Ok.conn joins c.order.ensures);
+    }
 
 pub returns-in-Err-clause-went : goal.returns-in-Err-clause-went
 returns-in-Err-clause-went g c = Not_yet c.args.link.now

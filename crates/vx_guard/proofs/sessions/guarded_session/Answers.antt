@@ -9,6 +9,7 @@ use Rattle.vx_text.specs.Ends.{End}
 use Rattle.vx_session.specs.Origin.{origin}
 use Rattle.vx_guard.specs.Stages.{GuardState}
 use Rattle.vx_guard.specs.declared.guarding.Guarding.{Guarding}
+use Rattle.vx_guard.proofs.Knowing.{known-first}
 use Rattle.vx_guard.proofs.Ended.{stream-guarded, guard-did, guarded-later, guarded-pass}
 use Rattle.vx_guard.proofs.sessions.guarded_session.Given as given
 use Rattle.vx_guard.proofs.sessions.guarded_session.Goals as goal
@@ -27,6 +28,9 @@ shown g s = record {
   note = noted g s.note.now;
   failed = s.failed;
 }
+
+pub answer_stream-failed-requires-clause-can : goal.answer_stream-failed-requires-clause-can
+answer_stream-failed-requires-clause-can g c = (c.args.pass, refl, c.requires.gate, c.requires.phase, known-first c.args.pass c.args.conn c.clear.new.self c.clear.ensures)
 
 pub unreachable-requires : goal.unreachable-requires
 unreachable-requires g c =
@@ -60,11 +64,12 @@ returns-clause-did g c =
     let note = stream-keeps _ (λ s. s.note.ghost_name) (λ s s' message reply did. did.5) g.L.Link.stands g.L.Link.receives g.L.Link.sends _ _ _ _ _ _ _ _ _ answers in (
       c.peer-peer.result,
       c.peer-peer.ensures,
-      guard-did (origin g.B.Bus (g.T.Turns.first c.args.turns.now)) g.C.Clock.tells g.L.Link.stands g.L.Link.receives g.L.Link.sends c.headline_law.ensures.headline c.owned_law.ensures _ _ _ c.in-Some.pass _ _ _ _ _ _ _ _ _ _ _
+      guard-did (origin g.B.Bus (g.T.Turns.first c.args.turns.now)) g.C.Clock.tells g.L.Link.stands g.L.Link.receives g.L.Link.sends c.headline_law.ensures.headline c.owned_law.ensures c.links_law.ensures.links
+          (c.called_law.ensures (g.T.Turns.first c.args.turns.now)) c.replies_read.ensures.made c.replies_read.ensures.done c.texts_name.ensures _ _ _ c.in-Some.pass _ _ _ _ _ _ _ _ _ _ _
           (stream-guarded g.B.Bus g.C.Clock.tells (λ s. g.T.Turns.first s.turns.now) _ (shown g) (λ s s' message reply did. did.0) (λ s s' message reply did. did.6) (λ s. refl) g.L.Link.stands g.L.Link.receives g.L.Link.sends _ _ c.args.pass _ _ _ _ _ _ _ refl refl (search rules) (search rules) answers)
           c.clear.ensures
           (subst (λ o. o ≡ Some c.in-Some.pass) (search (rules, held)) c.in-Some.is)
-          (ap g.C.Clock.told (search (rules, clock))) (ap (dial_shown g.D.Dial.calls g.D.Dial.faults) (search (rules, dial))) (ap (noted g) (search (rules, note))) (search (rules, clock)) c.guard_end-how.ensures c.leave.ensures,
+          (ap g.C.Clock.told (search (rules, clock))) (ap (dial_shown g.D.Dial.calls g.D.Dial.faults) (search (rules, dial))) (ap (noted g) (search (rules, note))) (search (rules, clock)) c.guard_end-how.ensures c.leave.ensures c.order.ensures c.requires.phase,
     )
 
 pub returns-clause-told : goal.returns-clause-told

@@ -3,4 +3,4 @@ use Rattle.vx_rooms.specs.ProvedLaws.{called-links}
 use Rattle.vx_rooms.proofs.laws.called_law.Goals as goal
 
 pub returns : goal.returns
-returns g c = λ first. called-links (origin g.B.Bus first)
+returns g c = λ first. called-links (origin g.B.Bus first) c.phase_law.ensures
