@@ -11,7 +11,7 @@ use Rattle.vx_run.specs.Item.{Item, events}
 use Rattle.vx_play.specs.declared.run.TheConstants.{SCRIPT_MAX}
 use Rattle.vx_play.specs.declared.run.Order.TheVariants as order
 use Rattle.vx_play.specs.declared.run.Status.TheVariants as status
-use Rattle.vx_play.specs.Play.{IsPlay}
+use Rattle.vx_player.specs.Play.{IsPlay}
 use Rattle.vx_play.specs.Ended.{EndsScript, version_in}
 use Rattle.vx_play.specs.Outcome as player
 use Rattle.vx_play.specs.Outcome.{order_of}
