@@ -4,20 +4,20 @@ use Rattle.std.proofs.lemmas.Bool.{eqb-true}
 use Rattle.std.proofs.KnownBytes.{Consumes-nil}
 use Rattle.vx_text.specs.Reading.{GivesAll, GivesTooMuch, GivesUpTo}
 use Rattle.vx_text.specs.TextLines.{lines}
-use Rattle.vx_check.specs.declared.cause.Cause.{Cause}
-use Rattle.vx_check.specs.declared.cause.Cause.TheVariants as cause
+use Rattle.vx_history.specs.declared.cause.Cause.{Cause}
+use Rattle.vx_history.specs.declared.cause.Cause.TheVariants as cause
 use Rattle.vx_check.specs.declared.run.Status.{Status}
 use Rattle.vx_check.specs.declared.run.Status.TheVariants as status
 use Rattle.vx_check.specs.declared.run.Verdict.{Verdict}
 use Rattle.vx_check.specs.declared.run.Verdict.TheVariants as verdict
-use Rattle.vx_check.specs.CheckState.{beginning}
-use Rattle.vx_check.specs.History.{Through, Stops, Walks, Lawful, Faulty, Tells}
-use Rattle.vx_check.specs.Laws.{LawfulLaw}
+use Rattle.vx_history.specs.CheckState.{beginning}
+use Rattle.vx_history.specs.History.{Through, Stops, Walks, Lawful, Faulty, Tells}
+use Rattle.vx_history.specs.Laws.{LawfulLaw}
 use Rattle.vx_check.specs.Outcome.{Ends, IsUnread, ReadsLegal, ReadsSpoiled, ReadsFront, Spoils, ReadsTooMuch, IsOutcome, legal_line, spoiled_line, long_line, usage_line}
 use Rattle.vx_check.specs.Telling.{IsJudged, IsFrontJudged, IsTold, PutsLine, verdict_of}
-use Rattle.vx_check.specs.declared.walk.Far.{Far}
-use Rattle.vx_check.specs.declared.walk.Far.TheVariants as far
-use Rattle.vx_check.specs.Walking.{EndsWalk, GoesThrough}
+use Rattle.vx_history.specs.declared.lines.Far.{Far}
+use Rattle.vx_history.specs.declared.lines.Far.TheVariants as far
+use Rattle.vx_history.specs.Walking.{EndsWalk, GoesThrough}
 
 -- ---- whole traces
 

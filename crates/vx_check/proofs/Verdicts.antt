@@ -5,13 +5,15 @@ use Rattle.std.specs.Io.KnownBytes.{Consumes}
 use Rattle.std.proofs.lemmas.List.{take-append-le}
 use Rattle.vx_text.specs.Ends.{End}
 use Rattle.vx_text.specs.Reading.{GivesAll, GivesTooMuch}
-use Rattle.vx_check.specs.declared.cause.Cause.{Cause}
+use Rattle.vx_history.specs.declared.cause.Cause.{Cause}
 use Rattle.vx_check.specs.declared.run.Status.{Status}
 use Rattle.vx_check.specs.declared.run.Status.TheVariants as status
-use Rattle.vx_check.specs.History.{History, Lawful, Faulty, Walk, Through, Stops, Tells, Begins}
-use Rattle.vx_check.specs.Laws.{OneHistoryLaw, OneFrontLaw}
+use Rattle.vx_history.specs.History.{History, Lawful, Faulty, Walk, Through, Stops, Tells, Begins}
+use Rattle.vx_history.specs.Laws.{OneHistoryLaw, OneFrontLaw}
 use Rattle.vx_check.specs.Outcome.{Ends, Wrote, ReadsSpoiled, ReadsFront, IsOutcome, EndsSo, status_number, spoiled_line}
-use Rattle.vx_check.specs.Verdicts.{RanOut, IsAnswered, Completes, IsFrontAnswered, CompletesLong}
+use Rattle.vx_check.specs.Verdicts.{IsUndisturbed, RanOut, IsAnswered, Completes, IsFrontAnswered, CompletesLong, EndsFormed}
+use Rattle.vx_history.specs.declared.limits.TheConstants.{TRACE_MAX}
+use Rattle.vx_history.specs.Formed.{run_trace, told_events, FormedLaw}
 
 -- ---- what a source gave that tells its bytes
 
@@ -108,3 +110,15 @@ completes-long one most words ends number (how, is, outcome) bytes far calm abov
   by status.SinkFailed e (inr (inr (inr h))) = absurd (calm.sink_good h.1.rose)
   by status.NoMemory e h = inl (e, h.unwritten)
   by status.TooLong e (r, wrote) = answered (Through r.events r.after) (same r.bytes (Through r.events r.after) r.read r.begins) (e, wrote)
+
+-- where the trace of a formed run is given, a check ends with `legal`, or for want of memory
+pub formed-ends : FormedLaw → OneHistoryLaw → (words : List (List ℕ)) (ends : Ends) (number : ℕ) → EndsSo TRACE_MAX words ends number → EndsFormed words ends number
+formed-ends law one words ends number so r =
+    by (completes one TRACE_MAX words ends number so (run_trace r.items) (Lawful (told_events r.items)) calm r.few (law r.items r.formed r.printable))
+  where
+    calm : IsUndisturbed words ends (run_trace r.items)
+    calm = record { no_words = r.no_words; told = r.given; source_good = r.read_well; sink_good = r.written_well }
+
+    by : RanOut ends number ⊎ IsAnswered ends number (Lawful (told_events r.items)) → (number ≡ 0) ⊎ (number ≡ 5)
+    by (inl lacking) = inr lacking.0
+    by (inr legal) = inl legal.0

@@ -6,15 +6,15 @@ use Rattle.vx_text.specs.Writing.{StopsIn}
 use Rattle.vx_rules.specs.Legal.{IsLegal}
 use Rattle.vx_flow.specs.Event.{Event}
 use Rattle.vx_flow.specs.Gather.{gather}
-use Rattle.vx_check.specs.declared.cause.Cause.TheVariants as cause
-use Rattle.vx_check.specs.declared.walk.Far.{Far}
-use Rattle.vx_check.specs.declared.walk.Far.TheVariants as far
+use Rattle.vx_history.specs.declared.cause.Cause.TheVariants as cause
+use Rattle.vx_history.specs.declared.lines.Far.{Far}
+use Rattle.vx_history.specs.declared.lines.Far.TheVariants as far
 use Rattle.vx_check.specs.declared.run.Status.{Status}
 use Rattle.vx_check.specs.declared.run.Status.TheVariants as status
 use Rattle.vx_check.specs.declared.run.Verdict.{Verdict}
 use Rattle.vx_check.specs.declared.run.Verdict.TheVariants as verdict
-use Rattle.vx_check.specs.CheckState.{CheckState, abort_port}
-use Rattle.vx_check.specs.History.{Lawful, Faulty, Through, Stops, Tells, Begins}
+use Rattle.vx_history.specs.CheckState.{CheckState, abort_port}
+use Rattle.vx_history.specs.History.{Lawful, Faulty, Through, Stops, Tells, Begins}
 use Rattle.vx_check.specs.Outcome.{legal_line, spoiled_line, long_line}
 
 -- what the walk along all lines of a trace finds

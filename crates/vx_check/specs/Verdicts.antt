@@ -5,8 +5,14 @@ use Rattle.vx_io_traits.specs.Faults.{Rose}
 use Rattle.vx_rules.specs.Legal.{IsLegal}
 use Rattle.vx_flow.specs.Gather.{gather}
 use Rattle.vx_check.specs.declared.run.Status.TheVariants as status
-use Rattle.vx_check.specs.CheckState.{abort_port}
-use Rattle.vx_check.specs.History.{History, Lawful, Faulty, Walk, Through, Stops, Tells, Begins}
+use Rattle.vx_history.specs.CheckState.{abort_port}
+use Rattle.vx_history.specs.Formed.{run_trace}
+use Rattle.vx_history.specs.declared.limits.TheConstants.{TRACE_MAX}
+use Rattle.vx_run.specs.Item.{Item}
+use Rattle.vx_run.specs.RunText.{IsPrintable}
+use Rattle.vx_run.specs.Forming.{IsFormed}
+use Rattle.std.specs.List.{All}
+use Rattle.vx_history.specs.History.{History, Lawful, Faulty, Walk, Through, Stops, Tells, Begins}
 use Rattle.vx_check.specs.Outcome.{Ends, Wrote, status_number, legal_line, spoiled_line, long_line}
 
 -- there are no words, the source has these bytes to give, and neither count of faults rose
@@ -39,3 +45,18 @@ IsFrontAnswered ends number (Stops line why) = (number ≡ status_number status.
 abbrev pub CompletesLong : ℕ → List (List ℕ) → Ends → ℕ → Type 0
 CompletesLong most words ends number = (bytes : List ℕ) (far : Walk) → IsUndisturbed words ends bytes → most < length bytes → Begins (take most bytes) far
     → RanOut ends number ⊎ IsFrontAnswered ends number far
+
+-- there are no words; the source has exactly the trace of a formed run to give, which isn't too long; and neither count of faults rose
+pub record GivesRun (words : List (List ℕ)) (ends : Ends) : Type 0 where
+  pub no_words : words ≡ []
+  pub items : List Item
+  pub formed : IsFormed abort_port items
+  pub printable : All IsPrintable items
+  pub few : length (run_trace items) ≤ TRACE_MAX
+  pub given : ends.source.bytes ≡ Some (run_trace items)
+  pub read_well : Rose ends.source.faults ends.source_after.faults → ⊥
+  pub written_well : Rose ends.sink.faults ends.sink_after.faults → ⊥
+
+-- where the trace of a formed run is given, it is legal, or memory ran out
+abbrev pub EndsFormed : List (List ℕ) → Ends → ℕ → Type 0
+EndsFormed words ends number = GivesRun words ends → (number ≡ 0) ⊎ (number ≡ 5)

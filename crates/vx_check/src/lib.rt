@@ -2,20 +2,9 @@
 //! first line that has a cause against it.
 #![tactic(auto)]
 
-mod cause;
-mod checker;
-mod formed;
-mod kept;
-mod laws;
-mod limits;
-mod message;
-mod replies;
 mod run;
-mod trace;
-mod walk;
 
-pub use cause::Cause;
-pub use formed::formed_runs;
-pub use laws::{lawful_histories, one_history, replies_are_read};
-pub use limits::TRACE_MAX;
 pub use run::{check_run, check_up_to};
+pub use vx_history::{
+    Cause, TRACE_MAX, formed_runs, lawful_histories, one_history, replies_are_read,
+};

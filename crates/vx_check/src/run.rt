@@ -2,21 +2,18 @@
 ghost use Rattle.std.specs.Prelude.{◌≡◌, ℕ, List, ◌+◌, ◌<◌, ◌^◌, ◌≤◌, ◌++◌, length, map, take, string_bytes};
 ghost use Rattle.vx_text.specs.Reading.{GivesUpTo};
 ghost use Rattle.vx_text.specs.TextLines.{lines};
-ghost use Rattle.vx_check.specs.Shown.{whole_lines};
-ghost use Rattle.vx_check.specs.declared.limits.TheConstants.{TRACE_MAX};
-ghost use Rattle.vx_check.specs.Formed.{EndsFormed};
-ghost use Rattle.vx_check.specs.Outcome.{EndsSo, IsOutcome, status_number, spoiled_line};
-ghost use Rattle.vx_check.specs.Verdicts.{Completes, CompletesLong};
+ghost use Rattle.vx_history.specs.Shown.{whole_lines};
+ghost use Rattle.vx_history.specs.declared.limits.TheConstants.{TRACE_MAX};
+ghost use Rattle.vx_check.specs.Outcome.{EndsSo, IsOutcome, cause_name, status_number, spoiled_line};
+ghost use Rattle.vx_check.specs.Verdicts.{Completes, CompletesLong, EndsFormed};
 ghost use Rattle.vx_check.specs.Telling.{PutsLine, IsJudged, IsFrontJudged, IsTold, verdict_of};
 
-use crate::cause::Cause;
-use crate::formed::formed_runs;
-use crate::laws::{lawful_histories, one_history};
-use crate::limits::TRACE_MAX;
-use crate::trace::{Trace, read_trace};
-use crate::walk::{Far, end_lines, walk};
 use itoa::Buffer;
 use std::alloc::Global;
+use vx_history::{
+    Cause, Far, TRACE_MAX, Trace, end_lines, formed_runs, lawful_histories, one_history,
+    read_trace, walk,
+};
 use vx_io_traits::{Sink, Source};
 use vx_text::put_all;
 
@@ -68,6 +65,19 @@ pub(crate) enum Verdict {
 /// Room for the line that names a line, in bytes: `line`, a number of 20 digits, a cause of 6 letters, two spaces and LF.
 const LINE_ROOM: usize = 33;
 
+/// The name of a cause that is printed.
+fn word_of(cause: Cause) -> &'static [u8]
+    ensures { result.now ≡ cause_name cause }
+{
+    match cause {
+        Cause::Form => b"form",
+        Cause::Moment => b"moment",
+        Cause::Place => b"place",
+        Cause::Reply => b"reply",
+        Cause::Entry => b"entry",
+    }
+}
+
 /// Writes a piece behind the first `at` bytes of `text`, and answers where it ends.
 fn put_piece(piece: &[u8], at: usize, text: &mut [u8]) -> usize
     requires { at + length piece.now ≤ length text.old }
@@ -88,7 +98,7 @@ fn spoiled_line(line: u64, cause: Cause, room: &mut [u8; LINE_ROOM]) -> &[u8]
     let end = put_piece(b"line ", 0, room);
     let end = put_piece(buffer.format(line).as_bytes(), end, room);
     let end = put_piece(b" ", end, room);
-    let end = put_piece(cause.word(), end, room);
+    let end = put_piece(word_of(cause), end, room);
     let end = put_piece(b"\n", end, room);
     &room[..end]
 }

@@ -1,5 +1,5 @@
 -- What the player writes is what the checker calls legal: the parts of the law.
-use Rattle.std.proofs.Common.{◌≡◌, ℕ, List, [], ◌++◌, Option, Some, None, IfSome, IsSome, refl, ap, sym, subst, ◌∙◌, inl, inr, ◌⊎◌, arith}
+use Rattle.std.proofs.Common.{◌≡◌, ℕ, List, [], ◌++◌, Option, Some, None, IfSome, ap, sym, subst, ◌∙◌, inl, inr, ◌⊎◌, arith}
 use Rattle.std.specs.Prelude.{is_some, ◌≤◌, length}
 use Rattle.std.specs.Io.KnownBytes.{Appends}
 use Rattle.std.proofs.lemmas.Bool.{false≢true}
@@ -7,20 +7,19 @@ use Rattle.vx_bench.specs.Rack.{SpareShown}
 use Rattle.vx_rules.specs.Legal.{IsLegal}
 use Rattle.vx_run.specs.Item.{last_line}
 use Rattle.vx_run.specs.RunText.{text}
-use Rattle.vx_script.specs.declared.Version.TheVariants as version
 use Rattle.vx_play.specs.declared.run.Order.TheVariants as order
 use Rattle.vx_play.specs.declared.run.Status.{Status}
 use Rattle.vx_play.specs.declared.run.Status.TheVariants as status
 use Rattle.vx_play.specs.Ended.{version_in}
 use Rattle.vx_play.specs.Outcome as player
 use Rattle.vx_play.specs.Outcome.{order_of, status_number, IsOutcome, MakesRun}
-use Rattle.vx_check.specs.CheckState.{abort_port}
-use Rattle.vx_check.specs.declared.limits.TheConstants.{TRACE_MAX}
-use Rattle.vx_check.specs.History.{Lawful}
-use Rattle.vx_check.specs.Formed.{FormedLaw, FormedLegalLaw, ToldLaw, run_trace, told_events}
+use Rattle.vx_history.specs.CheckState.{abort_port}
+use Rattle.vx_history.specs.declared.limits.TheConstants.{TRACE_MAX}
+use Rattle.vx_history.specs.History.{Lawful}
+use Rattle.vx_history.specs.Formed.{FormedLaw, FormedLegalLaw, ToldLaw, run_trace, told_events}
 use Rattle.vx_check.specs.Outcome.{Wrote, legal_line}
-use Rattle.vx_check.specs.Verdicts.{IsUndisturbed, RanOut, IsAnswered, Completes}
-use Rattle.vx_legal.specs.Joined.{WritesLegal, PlaysLegal, IsHandedOn, PlaysAreLegal, RunsAreLegal, PlaysAreAnswered}
+use Rattle.vx_check.specs.Verdicts.{IsUndisturbed, RanOut, IsAnswered}
+use Rattle.vx_legal.specs.Joined.{WritesLegal, PlaysLegal, PlaysAreLegal, RunsAreLegal, PlaysAreAnswered}
 
 -- the play of a script of version 2 is a formed run that can be printed
 pub plays-legal : FormedLaw → ToldLaw → FormedLegalLaw → PlaysAreLegal

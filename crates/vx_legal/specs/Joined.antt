@@ -11,14 +11,14 @@ use Rattle.vx_run.specs.Item.{Item, events}
 use Rattle.vx_play.specs.declared.run.TheConstants.{SCRIPT_MAX}
 use Rattle.vx_play.specs.declared.run.Order.TheVariants as order
 use Rattle.vx_play.specs.declared.run.Status.TheVariants as status
-use Rattle.vx_play.specs.Play.{IsPlay}
+use Rattle.vx_player.specs.Play.{IsPlay}
 use Rattle.vx_play.specs.Ended.{EndsScript, version_in}
 use Rattle.vx_play.specs.Outcome as player
 use Rattle.vx_play.specs.Outcome.{order_of}
-use Rattle.vx_check.specs.declared.limits.TheConstants.{TRACE_MAX}
-use Rattle.vx_check.specs.CheckState.{abort_port}
-use Rattle.vx_check.specs.History.{Lawful, Tells}
-use Rattle.vx_check.specs.Formed.{run_trace, told_events}
+use Rattle.vx_history.specs.declared.limits.TheConstants.{TRACE_MAX}
+use Rattle.vx_history.specs.CheckState.{abort_port}
+use Rattle.vx_history.specs.History.{Lawful, Tells}
+use Rattle.vx_history.specs.Formed.{run_trace, told_events}
 use Rattle.vx_check.specs.Outcome as checker
 use Rattle.vx_check.specs.Outcome.{Wrote, legal_line}
 use Rattle.vx_check.specs.Verdicts.{IsUndisturbed, RanOut, Completes}

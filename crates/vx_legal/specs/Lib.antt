@@ -5,9 +5,9 @@ pub use Rattle.vx_bench.specs.Rack
 pub use Rattle.vx_rules.specs.Legal
 pub use Rattle.vx_flow.specs.Gather
 pub use Rattle.vx_run.specs.Item
-pub use Rattle.vx_play.specs.Play
+pub use Rattle.vx_player.specs.Play
 pub use Rattle.vx_play.specs.Ended
-pub use Rattle.vx_check.specs.CheckState
-pub use Rattle.vx_check.specs.History
-pub use Rattle.vx_check.specs.Formed
+pub use Rattle.vx_history.specs.CheckState
+pub use Rattle.vx_history.specs.History
+pub use Rattle.vx_history.specs.Formed
 pub use Rattle.vx_check.specs.Verdicts

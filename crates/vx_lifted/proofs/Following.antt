@@ -4,8 +4,8 @@ use Rattle.std.proofs.Common.{◌≡◌, ℕ, max, ◌≤◌, List, [], ◌∷�
 use Rattle.vx_script.specs.Command.{Command, At}
 use Rattle.vx_flow.specs.Event.{Event}
 use Rattle.vx_run.specs.Item.{Item, events}
-use Rattle.vx_play.specs.Stage.{Stage}
-use Rattle.vx_play.specs.Play.{Takes}
+use Rattle.vx_player.specs.Stage.{Stage}
+use Rattle.vx_player.specs.Play.{Takes}
 use Rattle.vx_lifted.proofs.Spreading.{spread}
 use Rattle.vx_lifted.proofs.Moving.{stage_at, other-kept, at-kept, at_item, at-goes}
 use Rattle.vx_lifted.proofs.Running.{Runs}

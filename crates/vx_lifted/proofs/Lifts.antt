@@ -9,8 +9,8 @@ use Rattle.vx_lift.specs.LiftedLines.{LiftedLinesLaw}
 use Rattle.vx_bench.specs.Script.{Step, script}
 use Rattle.vx_bench.specs.Rack.{SpareShown}
 use Rattle.vx_run.specs.Item.{Item, Fault, events}
-use Rattle.vx_play.specs.Stage.{Stage, beginning, refusal}
-use Rattle.vx_play.specs.Play.{Plays, IsRefused, EndsBehind, IsPlay}
+use Rattle.vx_player.specs.Stage.{Stage, beginning, refusal}
+use Rattle.vx_player.specs.Play.{Plays, IsRefused, EndsBehind, IsPlay}
 use Rattle.vx_lifted.specs.LiftLaw.{PlaysTo, LiftLaw}
 use Rattle.vx_lifted.proofs.Spreading.{spread, reached, spread_up_to, spread-front, spread-parts}
 use Rattle.vx_lifted.proofs.Timing.{commands_of, IsSpread, script-spread}

@@ -5,9 +5,9 @@ use Rattle.vx_script.specs.Command.{Command, Up, At}
 use Rattle.vx_script.specs.Timed.{is_at}
 use Rattle.vx_run.specs.Position.{moment_after}
 use Rattle.vx_run.specs.Item.{Item}
-use Rattle.vx_play.specs.Stage.{Stage, refusal}
-use Rattle.vx_play.specs.Making.{Makes}
-use Rattle.vx_play.specs.Play.{stream_after, xid_after, rack_after, Takes}
+use Rattle.vx_player.specs.Stage.{Stage, refusal}
+use Rattle.vx_player.specs.Making.{Makes}
+use Rattle.vx_player.specs.Play.{stream_after, xid_after, rack_after, Takes}
 
 -- a stage at this moment
 abbrev pub stage_at : Stage → ℕ → Stage

@@ -5,8 +5,8 @@ use Rattle.std.proofs.lemmas.Grind.{flat_map-append}
 use Rattle.vx_script.specs.Command.{Command}
 use Rattle.vx_bench.specs.Script.{Step}
 use Rattle.vx_run.specs.Item.{Item, events}
-use Rattle.vx_play.specs.Stage.{Stage}
-use Rattle.vx_play.specs.Play.{Takes, Plays}
+use Rattle.vx_player.specs.Stage.{Stage}
+use Rattle.vx_player.specs.Play.{Takes, Plays}
 use Rattle.vx_lifted.proofs.Timing.{commands_of}
 
 -- these commands, one item each, take a play from one stage to another

@@ -6,7 +6,7 @@ use Rattle.vx_bench.specs.Rack.{SpareShown}
 use Rattle.vx_flow.specs.Event.{Event}
 use Rattle.vx_run.specs.Item.{Item, Fault, events}
 use Rattle.vx_play.specs.declared.run.TheConstants.{SCRIPT_MAX}
-use Rattle.vx_play.specs.Play.{IsPlay}
+use Rattle.vx_player.specs.Play.{IsPlay}
 use Rattle.vx_play.specs.Ended.{version_in}
 
 -- some play of a script with these spares makes these events

@@ -14,12 +14,12 @@ use Rattle.vx_run.specs.Item.{Item, Fault, last_line}
 use Rattle.vx_run.specs.RunText.{text}
 use Rattle.vx_play.specs.Ended.{version_in}
 use Rattle.vx_bench.specs.Rack.{SpareShown}
-use Rattle.vx_play.specs.Play.{IsPlay}
+use Rattle.vx_player.specs.Play.{IsPlay}
 use Rattle.vx_play.specs.Ended as ended
 use Rattle.vx_play.specs.Ended.{EndsScript}
 use Rattle.vx_gen.specs.declared.words.Ask.{Ask}
 use Rattle.vx_gen.specs.Asked.{spelled}
-use Rattle.vx_play.specs.Generated.{EndsRun}
+use Rattle.vx_play.specs.RunEnded.{EndsRun}
 use Rattle.vx_play.specs.declared.run.Order.{Order}
 use Rattle.vx_play.specs.declared.run.Order.TheVariants as order
 use Rattle.vx_lift.specs.Lifted.{strange_line}

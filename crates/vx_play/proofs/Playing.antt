@@ -24,15 +24,15 @@ use Rattle.vx_text.specs.Ends.{End}
 use Rattle.vx_text.specs.Writing.{StopsIn}
 use Rattle.vx_run.specs.Item.{Item}
 use Rattle.vx_run.specs.RunText.{IsPrintable, item_text}
-use Rattle.vx_play.specs.declared.note.Made.{Made}
+use Rattle.vx_player.specs.declared.note.Made.{Made}
 use Rattle.vx_play.specs.declared.run.LineEnd.{LineEnd}
 use Rattle.vx_play.specs.declared.run.LineEnd.TheVariants as line_end
-use Rattle.vx_play.specs.Stage.{Stage, refusal}
-use Rattle.vx_play.specs.Play.{Takes}
-use Rattle.vx_play.specs.PlayerState.{PlayerState}
-use Rattle.vx_play.specs.Printing.{made_text, HasMadeRanges}
-use Rattle.vx_play.specs.Upholding.{ArePrintable}
-use Rattle.vx_play.specs.Standing.{Stands, TakesTo, StopsFor, WantsMemory, made_lines2}
+use Rattle.vx_player.specs.Stage.{Stage, refusal}
+use Rattle.vx_player.specs.Play.{Takes}
+use Rattle.vx_player.specs.PlayerState.{PlayerState}
+use Rattle.vx_player.specs.Printing.{made_text, HasMadeRanges}
+use Rattle.vx_player.specs.Upholding.{ArePrintable}
+use Rattle.vx_player.specs.Standing.{Stands, TakesTo, StopsFor, WantsMemory, made_lines2}
 use Rattle.vx_play.specs.StepPlayed.{IsTaken, IsWritten, IsCutShort, EndsStep}
 use Rattle.vx_play.specs.LinePlayed.{TakesAll, IsFrontOf, EndsLine}
 

@@ -1,5 +1,5 @@
 -- Steps of playing a script line by line.
-use Rattle.std.proofs.Common.{IsTrue, ◌≡◌, ℕ, ◌+◌, ◌≤◌, map, List, [], ◌∷◌, ◌++◌, length, Option, Some, None, IsSome, refl, ap, sym, subst, ◌∙◌, inl, inr, ◌⊎◌, arith, length-append, append-nil}
+use Rattle.std.proofs.Common.{◌≡◌, ℕ, ◌+◌, ◌≤◌, map, List, [], ◌∷◌, ◌++◌, length, Option, Some, None, IsSome, refl, ap, sym, subst, ◌∙◌, inl, inr, ◌⊎◌, arith, length-append, append-nil}
 use Rattle.std.specs.List.{flat_map}
 use Rattle.std.proofs.lemmas.List.{append_assoc}
 use Rattle.std.proofs.lemmas.List.Elements.{All-append, All-nil}
@@ -9,11 +9,8 @@ use Rattle.std.specs.Io.KnownBytes.{Appends}
 use Rattle.std.proofs.KnownBytes.{Appends-trans}
 use Rattle.vx_io_traits.specs.ProvedLaws.{rose_earlier}
 use Rattle.vx_script.specs.declared.Cause.{Cause}
-use Rattle.vx_script.specs.Cause.{cause_word}
 use Rattle.vx_script.specs.declared.Version.{Version}
 use Rattle.vx_script.specs.Command.{Command}
-use Rattle.vx_trace.specs.Text.{is_cause}
-use Rattle.vx_play.specs.declared.printer.TheConstants.{STAMP_ROOM, NOTE_ROOM}
 use Rattle.vx_play.specs.declared.run.TheConstants.{SCRIPT_MAX}
 use Rattle.vx_play.specs.declared.run.Status.{Status}
 use Rattle.vx_play.specs.declared.run.Status.TheVariants as status
@@ -25,28 +22,18 @@ use Rattle.vx_text.specs.TextLines.{lines}
 use Rattle.vx_run.specs.Item.{Item, Fault, last_line}
 use Rattle.vx_run.specs.RunText.{IsPrintable, item_text, head_text, text}
 use Rattle.vx_bench.specs.Rack.{SpareShown}
-use Rattle.vx_bench.specs.ProvedLaws.{is_named}
-use Rattle.vx_play.specs.Stage.{Stage, beginning, refusal}
-use Rattle.vx_play.specs.Play.{Takes, Plays}
-use Rattle.vx_play.specs.Upholding.{ArePrintable}
-use Rattle.vx_play.specs.PlayerState.{PlayerState}
-use Rattle.vx_play.specs.Standing.{Stands, WantsMemory}
+use Rattle.vx_player.specs.Stage.{Stage, beginning, refusal}
+use Rattle.vx_player.specs.Play.{Plays}
+use Rattle.vx_player.specs.Upholding.{ArePrintable}
+use Rattle.vx_player.specs.PlayerState.{PlayerState}
+use Rattle.vx_player.specs.Standing.{Stands, WantsMemory}
 use Rattle.vx_play.specs.LinePlayed.{TakesAll, IsPlayed, IsCut, IsBad, IsFrontOf, IsTurnedDown, IsWanting}
 use Rattle.vx_play.specs.Ended as ended
 use Rattle.vx_play.specs.Ended.{UnderWay, IsFront, IsShort, PutsLast, EndsScript, version_in}
 use Rattle.vx_play.specs.Outcome.{Ends, IsOutcome, ReadsTooMuch, EndsLifted, order_of, form_line, long_line}
 use Rattle.vx_play.specs.declared.run.Order.TheVariants as order
 use Rattle.vx_lift.specs.Lifted.{lifted, strange_line}
-use Rattle.vx_play.proofs.Upholding.{plays-uphold}
-
--- one more step of a play
-abbrev pub plays_more : (before mid after : Stage) (steps : List Step) (items : List Item) (step : Step) (item : Item) → Plays before steps items mid → item.command ≡ step.command
-    → Takes mid item after → Plays before (steps ++ step ∷ []) (items ++ item ∷ []) after
-plays_more before mid after [] [] step item played same takes = (same, after, subst (λ s. Takes s item after) played takes, refl)
-plays_more before mid after [] (i ∷ items) step item played same takes = absurd played
-plays_more before mid after (s ∷ steps) [] step item played same takes = absurd played
-plays_more before mid after (s ∷ steps) (i ∷ items) step item (first, next, took, rest) same takes =
-    (first, next, took, plays_more next mid after steps items step item rest same takes)
+use Rattle.vx_player.proofs.Upholding.{plays-uphold}
 
 -- the text of more items
 text_more : (v : Version) (items more : List Item) → text v (items ++ more) ≡ text v items ++ flat_map (item_text v) more
@@ -328,10 +315,6 @@ last-written t own rack how fault line before mid after result alike whole (item
     ending (inr (is, stops)) =
         subst (EndsScript t rack before after) (sym is)
         (inr (items, fault, played, subst (λ l. StopsIn before after (text (version_in t) items ++ l)) same (stops-behind before mid after (text (version_in t) items) line written counted stops)))
-
--- the last line of a script with a fault can be written
-pub fault-writable : (why : Cause) (word : List ℕ) → word ≡ cause_word why → IsTrue (is_cause word) × (STAMP_ROOM + 39 ≤ NOTE_ROOM)
-fault-writable why word is = (subst (λ w. IsTrue (is_cause w)) (sym is) (is_named why), omega arith)
 
 -- the sink failed in the text of a step
 pub cut-ended : (t : List ℕ) (own rack : List SpareShown) (before after : End) → own ≡ rack

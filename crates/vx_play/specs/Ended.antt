@@ -14,11 +14,11 @@ use Rattle.vx_run.specs.Item.{Item, Fault, last_line}
 use Rattle.vx_run.specs.RunText.{text}
 use Rattle.vx_script.specs.declared.Version.{Version}
 use Rattle.vx_bench.specs.Rack.{SpareShown}
-use Rattle.vx_play.specs.Stage.{Stage, beginning}
-use Rattle.vx_play.specs.Play.{Plays, PlaysFront, IsPlay}
-use Rattle.vx_play.specs.Upholding.{Upholds, ArePrintable}
-use Rattle.vx_play.specs.PlayerState.{PlayerState}
-use Rattle.vx_play.specs.Standing.{Stands, WantsMemory}
+use Rattle.vx_player.specs.Stage.{Stage, beginning}
+use Rattle.vx_player.specs.Play.{Plays, PlaysFront, IsPlay}
+use Rattle.vx_player.specs.Upholding.{Upholds, ArePrintable}
+use Rattle.vx_player.specs.PlayerState.{PlayerState}
+use Rattle.vx_player.specs.Standing.{Stands, WantsMemory}
 
 -- the version of a script's text
 abbrev pub version_in : List ℕ → Version

@@ -10,7 +10,7 @@ use Rattle.vx_run.specs.Item.{Item, Fault, last_line}
 use Rattle.vx_run.specs.RunText.{text}
 use Rattle.vx_play.specs.Ended.{version_in}
 use Rattle.vx_bench.specs.Rack.{SpareShown}
-use Rattle.vx_play.specs.Play.{IsPlay}
+use Rattle.vx_player.specs.Play.{IsPlay}
 use Rattle.vx_gen.specs.declared.words.Ask.{Ask}
 use Rattle.vx_gen.specs.Asked.{IsInRange, spelled}
 use Rattle.vx_play.specs.Outcome.{Ends, MakesRun, order_of, form_line, status_number}

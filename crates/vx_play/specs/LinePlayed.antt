@@ -12,11 +12,11 @@ use Rattle.vx_text.specs.Ends.{End}
 use Rattle.vx_text.specs.Writing.{StopsIn}
 use Rattle.vx_run.specs.Item.{Item}
 use Rattle.vx_run.specs.RunText.{item_text}
-use Rattle.vx_play.specs.Stage.{Stage, refusal}
-use Rattle.vx_play.specs.Play.{Takes}
-use Rattle.vx_play.specs.Upholding.{ArePrintable}
-use Rattle.vx_play.specs.PlayerState.{PlayerState}
-use Rattle.vx_play.specs.Standing.{Stands, WantsMemory}
+use Rattle.vx_player.specs.Stage.{Stage, refusal}
+use Rattle.vx_player.specs.Play.{Takes}
+use Rattle.vx_player.specs.Upholding.{ArePrintable}
+use Rattle.vx_player.specs.PlayerState.{PlayerState}
+use Rattle.vx_player.specs.Standing.{Stands, WantsMemory}
 
 -- these commands, one item each, take a play from one stage to another
 abbrev pub TakesAll : Stage → List Command → List Item → Stage → Type 0

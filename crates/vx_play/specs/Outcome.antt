@@ -21,7 +21,7 @@ use Rattle.vx_script.specs.declared.Cause.TheVariants as cause
 use Rattle.vx_run.specs.Item.{last_line}
 use Rattle.vx_lift.specs.Lifted.{lifted, strange_line}
 use Rattle.vx_play.specs.Ended.{EndsScript}
-use Rattle.vx_play.specs.Generated.{EndsRun}
+use Rattle.vx_play.specs.RunEnded.{EndsRun}
 
 -- the number of a status
 abbrev pub status_number : Status → ℕ

@@ -9,11 +9,11 @@ use Rattle.vx_text.specs.Ends.{End}
 use Rattle.vx_text.specs.Writing.{StopsIn}
 use Rattle.vx_run.specs.Item.{Item}
 use Rattle.vx_run.specs.RunText.{item_text}
-use Rattle.vx_play.specs.Stage.{Stage, refusal}
-use Rattle.vx_play.specs.Play.{Takes}
-use Rattle.vx_play.specs.Upholding.{ArePrintable}
-use Rattle.vx_play.specs.PlayerState.{PlayerState}
-use Rattle.vx_play.specs.Standing.{Stands, WantsMemory}
+use Rattle.vx_player.specs.Stage.{Stage, refusal}
+use Rattle.vx_player.specs.Play.{Takes}
+use Rattle.vx_player.specs.Upholding.{ArePrintable}
+use Rattle.vx_player.specs.PlayerState.{PlayerState}
+use Rattle.vx_player.specs.Standing.{Stands, WantsMemory}
 
 -- a command was taken, and its lines can be printed
 pub record IsTaken (v : Version) (stage : Stage) (command : Command) : Type 0 where

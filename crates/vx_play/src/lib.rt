@@ -1,14 +1,6 @@
-//! The player: a script of interleaved connections played through the gateway, every reply and transfer printed.
+//! A script of interleaved connections played through the gateway, every reply and transfer printed; or a run that a number makes.
 #![tactic(auto)]
 
-mod bench;
-mod made_run;
-mod message;
-mod note;
-mod pieces;
-mod player;
-mod printer;
 mod run;
-mod serve;
 
 pub use run::play_run;

@@ -1,9 +1,6 @@
 //! A whole play: the words, the source read to its end, its lines one after the other, and the last line; or a whole run that a
 //! number makes.
-ghost use Rattle.std.specs.Prelude.{◌≡◌, ℕ, ◌+◌, ◌≤◌, List, length, map, option_map, string_bytes, Some};
-ghost use Rattle.std.specs.List.{flat_map};
-ghost use Rattle.vx_trace.specs.Output.{line_shown};
-ghost use Rattle.vx_trace.specs.Text.{line_text};
+ghost use Rattle.std.specs.Prelude.{◌≡◌, ◌+◌, ◌≤◌, List, length, map, string_bytes, Some};
 ghost use Rattle.vx_script.specs.declared.Version.{Version};
 ghost use Rattle.vx_script.specs.declared.Version.TheVariants as version;
 ghost use Rattle.vx_script.specs.declared.Version.TheVariants.{Two};
@@ -11,39 +8,33 @@ ghost use Rattle.vx_script.specs.Command.{step_shown};
 ghost use Rattle.vx_bench.specs.Script.{commands, script, script_from, version_of_lines};
 ghost use Rattle.vx_text.specs.TextLines.{lines};
 ghost use Rattle.vx_run.specs.RunText.{head_text};
-ghost use Rattle.vx_play.specs.Stage.{Stage, beginning};
+ghost use Rattle.vx_player.specs.Stage.{Stage, beginning};
 ghost use Rattle.vx_bench.specs.Rack.{SpareShown};
 ghost use Rattle.vx_sim.specs.Occupants.{handed_in};
 ghost use Rattle.vx_bench.specs.Spares.{spare_shown};
 ghost use Rattle.vx_text.specs.Reading.{GivesUpTo};
 ghost use Rattle.vx_text.specs.Writing.{IsPut};
-ghost use Rattle.vx_play.specs.Standing.{IsReady, Stands, HasLineRoom, NoteWithin, intake_lines, begun_lines, moves_lines, note_line as line_of_note, gone_line as line_of_end};
-ghost use Rattle.vx_run.specs.Notes.{wait_line as line_of_wait};
-ghost use Rattle.vx_play.specs.Printing.{outputs_of, made_text, HasMadeRanges};
+ghost use Rattle.vx_player.specs.Standing.{IsReady, Stands, HasLineRoom};
+ghost use Rattle.vx_player.specs.Printing.{made_text, HasMadeRanges};
 ghost use Rattle.vx_play.specs.StepPlayed.{EndsStep};
 ghost use Rattle.vx_play.specs.LinePlayed.{EndsLine};
 ghost use Rattle.vx_play.specs.Ended.{EndsLines, EndsScript, PutsLast};
-ghost use Rattle.vx_play.specs.Generated.{EndsRun};
-ghost use Rattle.vx_play.specs.Counting.{EndsSteps};
+ghost use Rattle.vx_play.specs.RunEnded.{EndsRun};
+ghost use Rattle.vx_play.specs.StepsEnded.{EndsSteps};
 ghost use Rattle.vx_run.specs.Item.{last_line};
-ghost use Rattle.vx_play.specs.Outcome.{Ends, EndsSo, EndsLifted, IsOutcome, order_of, status_number};
+ghost use Rattle.vx_play.specs.Outcome.{EndsSo, EndsLifted, IsOutcome, order_of, status_number};
 ghost use Rattle.vx_play.specs.Laws.{Completes, CompletesLift, CompletesRun};
 ghost use Rattle.vx_play.specs.declared.run.TheConstants.{FAULT_ROOM};
 ghost use Rattle.vx_script.specs.declared.Cause.TheVariants as cause;
 ghost use Rattle.vx_script.specs.Plain.{IsPlainStep};
 
-use crate::made_run::take_all;
-use crate::note::{Gone, Intake, Made, Note};
-use crate::player::Player;
-use crate::printer::Printer;
 use std::alloc::Global;
-use vx_488::Transfer;
 use vx_bench::Stop;
-use vx_core::Why;
 use vx_gen::{Ask, Counts, RECORD_ROOM, SUMMARY_ROOM, TITLE_ROOM, ask_of, summary, title};
 use vx_inst::Instrument;
 use vx_io_traits::{Sink, Source};
 use vx_lift::{LiftEnd, lift_script};
+use vx_player::{Made, Player, Printer, begun_line, intake_line, moves_line, note_line, take_all};
 use vx_rack::Spare;
 use vx_script::{Cause, LINE_MAX, LINE2_MAX, Step, Version, read_step, read_step2, version_of};
 use vx_text::{Input, SinkFailed, first_line, put_all, read_all, zeros};
@@ -107,89 +98,6 @@ pub enum LineEnd {
     Refused(Cause),
     SinkFailed,
     NoMemory,
-}
-
-/// The line of what a step gave the gateway, which version 2 has, where it gave it anything. The message of a record is this.
-fn intake_line<'a>(intake: Intake, message: &'a [u8]) -> Option<Line<'a>>
-    ensures { outputs_of result ≡ intake_lines message.now intake }
-{
-    match intake {
-        Intake::Nothing => None,
-        Intake::Up { conn, role } => Some(Line::Up { conn, role }),
-        Intake::Message { conn } => Some(Line::Call {
-            conn,
-            bytes: message,
-        }),
-        Intake::Dialed { conn, up } => Some(Line::DialDone { conn, up }),
-        Intake::Sampled { level } => Some(Line::Srq { level }),
-    }
-}
-
-/// The line of the turn that a poll of this connection began, which version 2 has, where it began one.
-fn begun_line(polled: Option<u32>, began: bool) -> Option<Line<'static>>
-    ensures { outputs_of result ≡ begun_lines polled began }
-{
-    match polled {
-        Some(conn) if began => Some(Line::Begin { conn }),
-        _ => None,
-    }
-}
-
-/// The line of the transfers that a poll of this connection made, where it made any.
-fn moves_line(polled: Option<u32>, moves: &[Transfer]) -> Option<Line<'_>>
-    ensures { outputs_of result ≡ moves_lines polled moves.now }
-{
-    match polled {
-        Some(conn) if !moves.is_empty() => Some(Line::Bus { conn, moves }),
-        _ => None,
-    }
-}
-
-/// The line of a note, whose record stands at the front of the room.
-fn note_line(note: Note, room: &[u8]) -> Option<Line<'_>>
-    requires { NoteWithin (length room.now) note }
-    ensures { option_map line_shown result ≡ line_of_note room.now note }
-{
-    match note {
-        Note::Nothing => None,
-        Note::Replied { conn, len } => Some(Line::Out {
-            conn,
-            bytes: &room[..len],
-        }),
-        Note::Waiting { conn, why } => Some(wait_line(conn, why)),
-        Note::Dialing { conn } => Some(Line::WaitDial { conn }),
-        Note::Interrupt { conn, len } => Some(Line::Irq {
-            conn,
-            bytes: &room[..len],
-        }),
-        Note::NoInterrupt { conn } => Some(Line::IrqNone { conn }),
-        Note::NoChannel { conn } => Some(Line::IrqClosed { conn }),
-        Note::Ended { conn, how } => Some(gone_line(conn, how)),
-    }
-}
-
-/// The line of a call that waits.
-fn wait_line(conn: u32, why: Why) -> Line<'static>
-    ensures { line_shown result ≡ line_of_wait conn why }
-{
-    match why {
-        Why::Locked { by } => Line::WaitLock { conn, lid: by },
-        Why::Behind { by } => Line::WaitBehind { conn, by },
-        Why::Turn { by } => Line::WaitTurn { conn, by },
-        Why::Held => Line::WaitHeld { conn },
-        Why::Slice => Line::WaitSlice { conn },
-    }
-}
-
-/// The line of a connection that ended.
-fn gone_line(conn: u32, how: Gone) -> Line<'static>
-    ensures { line_shown result ≡ line_of_end conn how }
-{
-    match how {
-        Gone::Down => Line::GoneDown { conn },
-        Gone::Junk => Line::GoneJunk { conn },
-        Gone::Long => Line::GoneLong { conn },
-    }
 }
 
 /// Writes the lines of a step that was taken.

@@ -1,6 +1,5 @@
-use Rattle.vx_check.proofs.FormedRuns.{formed-ends}
 use Rattle.vx_check.proofs.Judged.{outcome-read}
-use Rattle.vx_check.proofs.Verdicts.{completes, completes-long}
+use Rattle.vx_check.proofs.Verdicts.{completes, completes-long, formed-ends}
 use Rattle.vx_check.proofs.run.check_run.Goals as goal
 
 -- where the trace of a formed run is given, how a check ends leaves no other status

@@ -1,5 +1,5 @@
 use Rattle.std.proofs.Common.{subst, sym}
-use Rattle.vx_check.specs.Shown.{whole_lines}
+use Rattle.vx_history.specs.Shown.{whole_lines}
 use Rattle.vx_check.specs.Telling.{IsJudged}
 use Rattle.vx_check.proofs.Judged.{judged-by}
 use Rattle.vx_check.proofs.run.judge_ended.Goals as goal

@@ -1,6 +1,6 @@
 use Rattle.std.proofs.Common.{ap}
 use Rattle.vx_text.specs.Ends.{End}
-use Rattle.vx_play.proofs.Driving.{whole-put, stop-put}
+use Rattle.vx_play.proofs.RunEnding.{whole-put, stop-put}
 use Rattle.vx_play.proofs.run.make_over.Goals as goal
 
 pub returns-in-Ok : goal.returns-in-Ok

@@ -1,6 +1,6 @@
 use Rattle.std.proofs.Common.{subst}
 use Rattle.std.specs.Io.KnownBytes.{Appends}
-use Rattle.vx_play.proofs.Driving.{run-ended}
+use Rattle.vx_play.proofs.RunEnding.{run-ended}
 use Rattle.vx_play.proofs.run.make_run.Goals as goal
 
 pub returns-in-Ok : goal.returns-in-Ok

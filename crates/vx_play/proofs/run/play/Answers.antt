@@ -1,6 +1,6 @@
 use Rattle.std.proofs.Common.{map, string_bytes, refl, sym, ap, inl}
 use Rattle.std.specs.Prelude.{is_some}
-use Rattle.vx_play.proofs.Driving.{run-outcome, usage-outcome}
+use Rattle.vx_play.proofs.RunEnding.{run-outcome, usage-outcome}
 use Rattle.vx_play.proofs.WholePlay.{script-ended, lift-ended, long-ended}
 use Rattle.vx_play.proofs.run.play.Goals as goal
 

@@ -2,7 +2,8 @@ use Rattle.std.proofs.Common.{Some, None, refl, ap, ◌∙◌}
 use Rattle.vx_trace.specs.Output.{FaultLine}
 use Rattle.vx_trace.specs.Text.{line_text}
 use Rattle.vx_play.specs.declared.run.Status.TheVariants as status
-use Rattle.vx_play.proofs.WholePlay.{last-written, cut-ended, short-ended, fault-writable}
+use Rattle.vx_player.proofs.Printed.{fault-writable}
+use Rattle.vx_play.proofs.WholePlay.{last-written, cut-ended, short-ended}
 use Rattle.vx_play.proofs.run.play_over.Goals as goal
 
 pub returns-in-Whole : goal.returns-in-Whole

@@ -1,8 +1,8 @@
 use Rattle.std.proofs.Common.{ap}
 use Rattle.vx_script.specs.Command.{step_shown}
 use Rattle.vx_bench.specs.Script.{commands_timed}
-use Rattle.vx_play.specs.declared.note.Made.{Made}
-use Rattle.vx_play.specs.Standing.{made_lines2}
+use Rattle.vx_player.specs.declared.note.Made.{Made}
+use Rattle.vx_player.specs.Standing.{made_lines2}
 use Rattle.vx_play.proofs.Playing.{timed-said, timed-ended, nothing-ended, strange-ended}
 use Rattle.vx_play.proofs.run.play_timed.Goals as goal
 

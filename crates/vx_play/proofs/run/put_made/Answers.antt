@@ -2,8 +2,8 @@ use Rattle.std.proofs.Common.{◌++◌, ◌<◌, Some, subst, ap, rules, ◌∙�
 use Rattle.std.specs.Prelude.{◌^◌}
 use Rattle.vx_text.specs.declared.output.SinkFailed.{SinkFailed}
 use Rattle.vx_text.specs.Writing.{IsPut}
-use Rattle.vx_play.specs.Standing.{moves_lines, note_line, intake_lines, begun_lines}
-use Rattle.vx_play.proofs.Printed.{texts, lines-put, lines-ranges}
+use Rattle.vx_player.specs.Standing.{moves_lines, note_line, intake_lines, begun_lines}
+use Rattle.vx_player.proofs.Printed.{texts, lines-put, lines-ranges}
 use Rattle.vx_run.specs.Item.{noted}
 use Rattle.vx_play.proofs.run.put_made.Goals as goal
 

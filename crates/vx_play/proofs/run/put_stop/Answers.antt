@@ -1,8 +1,8 @@
 use Rattle.std.proofs.Common.{ℕ, List, refl, subst}
 use Rattle.vx_play.specs.declared.run.Status.TheVariants as status
 use Rattle.vx_play.specs.Ended.{PutsLast}
-use Rattle.vx_play.proofs.Driving.{refused-line}
-use Rattle.vx_play.proofs.WholePlay.{fault-writable}
+use Rattle.vx_play.proofs.RunEnding.{refused-line}
+use Rattle.vx_player.proofs.Printed.{fault-writable}
 use Rattle.vx_play.proofs.run.put_stop.Goals as goal
 
 pub line-requires : goal.line-requires

@@ -1,8 +1,0 @@
-use Rattle.std.proofs.Common.{◌==◌, ap, sym, ◌∙◌}
-use Rattle.std.specs.Option.{option_map}
-use Rattle.vx_lemmas.specs.Lists.{find-map}
-use Rattle.vx_check.specs.Stepping.{kept_shown}
-use Rattle.vx_check.proofs.kept.kept_at.Goals as goal
-
-pub returns : goal.returns
-returns c = ap (option_map kept_shown) c.find_kept.ensures ∙ sym (find-map kept_shown (λ k. k.connection == c.args.conn) c.args.kept.now)
