@@ -17,6 +17,7 @@ mod values;
 
 pub use laws::{grammar, one_command, timed_grammar, within_limit};
 use lines::{command_of, timed_of};
+use values::is;
 use vx_calls::Role;
 
 /// The longest line, in bytes, its LF left out.
@@ -44,7 +45,7 @@ pub enum Version {
 pub fn version_of(first: &[u8]) -> Version
     ensures { result ≡ version_by first.now }
 {
-    if first == b"vxscript 2".as_slice() {
+    if is(first, b"vxscript 2") {
         Version::Two
     } else {
         Version::One

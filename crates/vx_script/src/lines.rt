@@ -9,7 +9,7 @@ ghost use Rattle.vx_script.specs.Words.{cut, number_up_to};
 
 use crate::Step;
 use crate::values::{
-    Address, address_of, byte_of, bytes_of, connection_of, cut, is_name, number_up_to,
+    Address, address_of, byte_of, bytes_of, connection_of, cut, is, is_name, number_up_to,
     positive_up_to,
 };
 use vx_calls::Role;
@@ -17,10 +17,12 @@ use vx_calls::Role;
 fn role_of(text: &[u8]) -> Option<Role>
     ensures { result ≡ role_of text.now }
 {
-    match text {
-        b"core" => Some(Role::Core),
-        b"abort" => Some(Role::Abort),
-        _ => None,
+    if is(text, b"core") {
+        Some(Role::Core)
+    } else if is(text, b"abort") {
+        Some(Role::Abort)
+    } else {
+        None
     }
 }
 
@@ -28,10 +30,12 @@ fn role_of(text: &[u8]) -> Option<Role>
 fn dialed_of(text: &[u8]) -> Option<bool>
     ensures { result ≡ dialed_of text.now }
 {
-    match text {
-        b"ok" => Some(true),
-        b"fail" => Some(false),
-        _ => None,
+    if is(text, b"ok") {
+        Some(true)
+    } else if is(text, b"fail") {
+        Some(false)
+    } else {
+        None
     }
 }
 
@@ -41,11 +45,14 @@ fn at_connection(word: &[u8], conn: u32) -> Option<Step<'static>>
     ensures value { option_map step_shown result ≡ at_connection word.now conn }
     ensures plain { IfSome result IsPlainStep }
 {
-    match word {
-        b"down" => Some(Step::Down { conn }),
-        b"poll" => Some(Step::Poll { conn }),
-        b"take" => Some(Step::Take { conn }),
-        _ => None,
+    if is(word, b"down") {
+        Some(Step::Down { conn })
+    } else if is(word, b"poll") {
+        Some(Step::Poll { conn })
+    } else if is(word, b"take") {
+        Some(Step::Take { conn })
+    } else {
+        None
     }
 }
 
@@ -61,13 +68,13 @@ fn behind_connection<'a>(
     ensures value { option_map step_shown result ≡ behind_connection word.now conn rest.now }
     ensures plain { IfSome result IsPlainStep }
 {
-    if word == b"up".as_slice() {
+    if is(word, b"up") {
         let role = role_of(rest)?;
         Some(Step::Up { conn, role })
-    } else if word == b"in".as_slice() {
+    } else if is(word, b"in") {
         let bytes = bytes_of(rest, room)?;
         Some(Step::In { conn, bytes })
-    } else if word == b"dial".as_slice() {
+    } else if is(word, b"dial") {
         let up = dialed_of(rest)?;
         Some(Step::Dial { conn, up })
     } else {
@@ -96,7 +103,7 @@ fn of_connection<'a>(
 fn is_bus_word(word: &[u8]) -> bool
     ensures { result ≡ is_bus_word word.now }
 {
-    matches!(word, b"inst" | b"plug" | b"pull" | b"set")
+    is(word, b"inst") || is(word, b"plug") || is(word, b"pull") || is(word, b"set")
 }
 
 /// The step of a word and an address.
@@ -105,9 +112,10 @@ fn at_address(word: &[u8], a: Address) -> Option<Step<'static>>
     ensures value { option_map step_shown result ≡ at_address word.now a }
     ensures plain { IfSome result IsPlainStep }
 {
-    match word {
-        b"pull" => Some(Step::Pull { p: a.p, s: a.s }),
-        _ => None,
+    if is(word, b"pull") {
+        Some(Step::Pull { p: a.p, s: a.s })
+    } else {
+        None
     }
 }
 
@@ -118,14 +126,19 @@ fn behind_address<'a>(word: &[u8], a: Address, rest: &'a [u8]) -> Option<Step<'a
     ensures plain { IfSome result IsPlainStep }
 {
     let Address { p, s } = a;
-    match word {
-        b"inst" => Some(Step::Inst { p, s, text: rest }),
-        b"plug" if is_name(rest) => Some(Step::Plug { p, s, name: rest }),
-        b"set" => {
-            let b = byte_of(rest)?;
-            Some(Step::Set { p, s, b })
+    if is(word, b"inst") {
+        Some(Step::Inst { p, s, text: rest })
+    } else if is(word, b"plug") {
+        if is_name(rest) {
+            Some(Step::Plug { p, s, name: rest })
+        } else {
+            None
         }
-        _ => None,
+    } else if is(word, b"set") {
+        let b = byte_of(rest)?;
+        Some(Step::Set { p, s, b })
+    } else {
+        None
     }
 }
 
@@ -146,10 +159,10 @@ fn behind_word<'a>(word: &[u8], rest: &'a [u8], room: &'a mut [u8]) -> Option<St
     ensures value { option_map step_shown result ≡ behind_word word.now rest.now }
     ensures plain { IfSome result IsPlainStep }
 {
-    if word == b"at".as_slice() {
+    if is(word, b"at") {
         let moment = number_up_to(rest, u64::MAX)?;
         Some(Step::At(moment))
-    } else if word == b"fail".as_slice() {
+    } else if is(word, b"fail") {
         let n = positive_up_to(rest, u64::from(u32::MAX))?;
         Some(Step::Fail(n as u32))
     } else if is_bus_word(word) {
@@ -168,7 +181,7 @@ pub fn command_of<'a>(line: &'a [u8], room: &'a mut [u8]) -> Option<Step<'a>>
     ensures plain { IfSome result IsPlainStep }
 {
     match cut(line, b' ') {
-        (b"sample", None) => Some(Step::Sample),
+        (word, None) if is(word, b"sample") => Some(Step::Sample),
         (_, None) => None,
         (word, Some(rest)) => behind_word(word, rest, room),
     }

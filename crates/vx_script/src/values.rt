@@ -1,12 +1,20 @@
 //! The words of a line: numbers, addresses, bytes and names.
 ghost use Rattle.std.specs.Prelude.{◌≡◌, ◌+◌, ◌≤◌, ◌<◌, ◌==◌, ◌^◌, length, position, option_copied, option_map, IfSome, IsTrue};
 ghost use Rattle.std.specs.List.{list_all};
+ghost use Rattle.std.specs.Str.{bytes_eq};
 ghost use Rattle.vx_calls.specs.Target.{is_digit};
 ghost use Rattle.vx_script.specs.Words.{cut, is_positive, positive_up_to, number_up_to, connection_of, part_of, with_secondary, address_of, bytes_of, byte_of, is_lower_letter, is_name};
 ghost use Rattle.vx_script.specs.Plain.{IsConnection, IsAddress};
 
 use crate::{ADDRESS_LAST, NAME_MAX};
 use vx_calls::CONNECTION_LAST;
+
+/// Whether a text is this one.
+pub fn is(text: &[u8], this: &'static [u8]) -> bool
+    ensures { result ≡ bytes_eq text.now this.now }
+{
+    text == this
+}
 
 /// What stands before the first such byte, and what stands behind it where there is one.
 pub fn cut(text: &[u8], mark: u8) -> (&[u8], Option<&[u8]>)
@@ -66,9 +74,10 @@ pub fn number_up_to(text: &[u8], last: u64) -> Option<u64>
     ensures value { result ≡ number_up_to last text.now }
     ensures range { IfSome result (λ n. n ≤ last) }
 {
-    match text {
-        b"0" => Some(0),
-        _ => positive_up_to(text, last),
+    if is(text, b"0") {
+        Some(0)
+    } else {
+        positive_up_to(text, last)
     }
 }
 

@@ -115,6 +115,10 @@ some-found p n (x ∷ xs) h = at (p x) refl (some-found p (n + 1) xs) h
     at true e rest h = ap (λ b. b || list_any p xs) e
     at false e rest h = ap (λ b. b || list_any p xs) e ∙ rest h
 
+-- what is so at a place within the list is so of the one there
+pub is_at-within : {X : Type 0} (q : X → Bool) (xs : List X) (n : ℕ) (d : X) → n < length xs → is_at q xs n ≡ q (get_or xs n d)
+is_at-within {X} q xs n d within = ap (λ (o : Option X). option_map_or q o false) (slice_get-get_or xs n d within)
+
 -- a question to them is one to those of which it is so
 any-of : {X : Type 0} (p q : X → Bool) (all : List X) (n : ℕ) (xs : List X) → drop n all ≡ xs
     → list_any (λ i. is_at q all i) (indices p n xs) ≡ list_any (λ x. p x && q x) xs
@@ -138,7 +142,7 @@ any-of {X} p q all n (x ∷ xs) e = at (p x) (any-of p q all (n + 1) xs behind)
     here : is_at q all n ≡ q x
     here =
         let first : get_or all n x ≡ x = ap (λ (ys : List X). get_or ys 0 x) split in
-        ap (λ (o : Option X). option_map_or q o false) (slice_get-get_or all n x within) ∙ ap q first
+        is_at-within q all n x within ∙ ap q first
 
     at : (b : Bool) → list_any (λ i. is_at q all i) (indices p (n + 1) xs) ≡ list_any (λ y. p y && q y) xs
         → list_any (λ i. is_at q all i) (cond b (n ∷ indices p (n + 1) xs) (indices p (n + 1) xs)) ≡ ((b && q x) || list_any (λ y. p y && q y) xs)

@@ -4,7 +4,7 @@ ghost use Rattle.vx_sim.specs.Shown.{moved};
 use vx_488::{Addr, Transfer};
 
 /// What an instrument is told, and answers nothing to.
-#[derive(Clone, Copy, PartialEq, Eq)]
+#[derive(Clone, Copy)]
 pub enum Signal {
     /// A device clear (IEEE 488.1, 2.10).
     Clear,
@@ -19,7 +19,7 @@ pub enum Signal {
 }
 
 /// Which instruments of a bench are meant.
-#[derive(Clone, Copy, PartialEq, Eq)]
+#[derive(Clone, Copy)]
 pub(crate) enum Whom {
     Listeners,
     Everyone,
@@ -27,7 +27,7 @@ pub(crate) enum Whom {
 }
 
 /// What is asked of the instruments of a bench.
-#[derive(Clone, Copy, PartialEq, Eq)]
+#[derive(Clone, Copy)]
 pub(crate) enum Question {
     /// Whether it is a listener.
     Listens,

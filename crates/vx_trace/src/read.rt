@@ -2,11 +2,11 @@
 ghost use Rattle.std.specs.Prelude.{◌≡◌, ◌≢◌, ℕ, ◌^◌, ◌<◌, ◌≤◌, true, false, length, IfNone, IfSome, option_map};
 ghost use Rattle.vx_trace.specs.Output.{Output, line_shown};
 ghost use Rattle.vx_trace.specs.Text.{IsLine, is_first, is_timed, line_text, line_text2};
-ghost use Rattle.vx_trace.specs.Reading.{irq_of, wait_for, wait_of, gone_of, role_of, dial_of, by_word, begin_of, fault_of, behind_word, numbered_of, line_of, if_first, line1_of, moment_of, if_timed, if_untimed, line2_of};
+ghost use Rattle.vx_trace.specs.Reading.{irq_of, wait_for, wait_of, gone_of, role_of, dial_of, by_word, begin_of, fault_for, fault_of, behind_word, numbered_of, line_of, if_first, line1_of, moment_of, if_timed, if_untimed, line2_of};
 
 use crate::lines::{Line, is_cause};
 use crate::transfers::moves_of;
-use crate::values::{any_bytes_of, bytes_of, cut, number_of, word_of};
+use crate::values::{any_bytes_of, bytes_of, cut, is, number_of, word_of};
 use vx_488::Transfer;
 use vx_calls::Role;
 
@@ -14,9 +14,9 @@ fn irq_of<'a>(conn: u32, rest: &[u8], room: &'a mut [u8]) -> Option<Line<'a>>
     requires { length rest.now ≤ length room.old }
     ensures { option_map line_shown result ≡ irq_of conn rest.now }
 {
-    if rest == b"none".as_slice() {
+    if is(rest, b"none") {
         Some(Line::IrqNone { conn })
-    } else if rest == b"closed".as_slice() {
+    } else if is(rest, b"closed") {
         Some(Line::IrqClosed { conn })
     } else {
         let bytes = bytes_of(rest, room)?;
@@ -27,11 +27,11 @@ fn irq_of<'a>(conn: u32, rest: &[u8], room: &'a mut [u8]) -> Option<Line<'a>>
 fn wait_for(conn: u32, what: &[u8], number: u32) -> Option<Line<'static>>
     ensures { option_map line_shown result ≡ wait_for conn what.now number }
 {
-    if what == b"lock".as_slice() {
+    if is(what, b"lock") {
         Some(Line::WaitLock { conn, lid: number })
-    } else if what == b"turn".as_slice() {
+    } else if is(what, b"turn") {
         Some(Line::WaitTurn { conn, by: number })
-    } else if what == b"behind".as_slice() {
+    } else if is(what, b"behind") {
         Some(Line::WaitBehind { conn, by: number })
     } else {
         None
@@ -41,13 +41,13 @@ fn wait_for(conn: u32, what: &[u8], number: u32) -> Option<Line<'static>>
 fn wait_of(conn: u32, rest: &[u8]) -> Option<Line<'static>>
     ensures { option_map line_shown result ≡ wait_of conn rest.now }
 {
-    if rest == b"held".as_slice() {
+    if is(rest, b"held") {
         return Some(Line::WaitHeld { conn });
     }
-    if rest == b"slice".as_slice() {
+    if is(rest, b"slice") {
         return Some(Line::WaitSlice { conn });
     }
-    if rest == b"dial".as_slice() {
+    if is(rest, b"dial") {
         return Some(Line::WaitDial { conn });
     }
     let (what, number) = cut(rest)?;
@@ -57,11 +57,11 @@ fn wait_of(conn: u32, rest: &[u8]) -> Option<Line<'static>>
 fn gone_of(conn: u32, rest: &[u8]) -> Option<Line<'static>>
     ensures { option_map line_shown result ≡ gone_of conn rest.now }
 {
-    if rest == b"down".as_slice() {
+    if is(rest, b"down") {
         Some(Line::GoneDown { conn })
-    } else if rest == b"junk".as_slice() {
+    } else if is(rest, b"junk") {
         Some(Line::GoneJunk { conn })
-    } else if rest == b"long".as_slice() {
+    } else if is(rest, b"long") {
         Some(Line::GoneLong { conn })
     } else {
         None
@@ -71,9 +71,9 @@ fn gone_of(conn: u32, rest: &[u8]) -> Option<Line<'static>>
 fn role_of(text: &[u8]) -> Option<Role>
     ensures { result ≡ role_of text.now }
 {
-    if text == b"core".as_slice() {
+    if is(text, b"core") {
         Some(Role::Core)
-    } else if text == b"abort".as_slice() {
+    } else if is(text, b"abort") {
         Some(Role::Abort)
     } else {
         None
@@ -83,9 +83,9 @@ fn role_of(text: &[u8]) -> Option<Role>
 fn dial_of(conn: u32, rest: &[u8]) -> Option<Line<'static>>
     ensures { option_map line_shown result ≡ dial_of conn rest.now }
 {
-    if rest == b"ok".as_slice() {
+    if is(rest, b"ok") {
         Some(Line::DialDone { conn, up: true })
-    } else if rest == b"fail".as_slice() {
+    } else if is(rest, b"fail") {
         Some(Line::DialDone { conn, up: false })
     } else {
         None
@@ -104,25 +104,25 @@ fn by_word<'a>(
     requires bytes { length rest.now ≤ length bytes.old }
     ensures { option_map line_shown result ≡ by_word word.now conn rest.now }
 {
-    if word == b"bus".as_slice() {
+    if is(word, b"bus") {
         let moves = moves_of(rest, moves)?;
         Some(Line::Bus { conn, moves })
-    } else if word == b"out".as_slice() {
+    } else if is(word, b"out") {
         let bytes = bytes_of(rest, bytes)?;
         Some(Line::Out { conn, bytes })
-    } else if word == b"irq".as_slice() {
+    } else if is(word, b"irq") {
         irq_of(conn, rest, bytes)
-    } else if word == b"wait".as_slice() {
+    } else if is(word, b"wait") {
         wait_of(conn, rest)
-    } else if word == b"gone".as_slice() {
+    } else if is(word, b"gone") {
         gone_of(conn, rest)
-    } else if word == b"up".as_slice() {
+    } else if is(word, b"up") {
         let role = role_of(rest)?;
         Some(Line::Up { conn, role })
-    } else if word == b"call".as_slice() {
+    } else if is(word, b"call") {
         let bytes = any_bytes_of(rest, bytes)?;
         Some(Line::Call { conn, bytes })
-    } else if word == b"dial".as_slice() {
+    } else if is(word, b"dial") {
         dial_of(conn, rest)
     } else {
         None
@@ -151,19 +151,26 @@ fn begin_of(number: &[u8]) -> Option<Line<'static>>
     Some(Line::Begin { conn })
 }
 
-/// The line of a refused step, behind its first two words.
-fn fault_of<'a>(rest: &[u8], room: &'a mut [u8]) -> Option<Line<'a>>
-    requires { length rest.now ≤ length room.old }
-    ensures { option_map line_shown result ≡ fault_of rest.now }
+/// The line of a refused step, by its number and the name of its cause.
+fn fault_for<'a>(line: u64, name: &[u8], room: &'a mut [u8]) -> Option<Line<'a>>
+    requires { length name.now ≤ length room.old }
+    ensures { option_map line_shown result ≡ fault_for line name.now }
 {
-    let (number, name) = cut(rest)?;
-    let line = number_of(number)?;
     if !is_cause(name) {
         return None;
     }
     let word = &mut room[..name.len()];
     word.copy_from_slice(name);
     Some(Line::FaultLine { line, word })
+}
+
+/// The line of a refused step, behind its first two words.
+fn fault_of<'a>(rest: &[u8], room: &'a mut [u8]) -> Option<Line<'a>>
+    requires { length rest.now ≤ length room.old }
+    ensures { option_map line_shown result ≡ fault_of rest.now }
+{
+    let (number, name) = cut(rest)?;
+    fault_for(number_of(number)?, name, room)
 }
 
 /// The line of a text with a number.
@@ -190,22 +197,22 @@ fn line_of<'a>(text: &[u8], moves: &'a mut [Transfer], bytes: &'a mut [u8]) -> O
     requires bytes { length text.now ≤ length bytes.old }
     ensures { option_map line_shown result ≡ line_of text.now }
 {
-    if text == b"done".as_slice() {
+    if is(text, b"done") {
         return Some(Line::Done);
     }
-    if text == b"fault long".as_slice() {
+    if is(text, b"fault long") {
         return Some(Line::FaultLong);
     }
-    if text == b"usage: vxplay COMMAND".as_slice() {
+    if is(text, b"usage: vxplay COMMAND") {
         return Some(Line::Usage);
     }
-    if text == b"vxtrace 2".as_slice() {
+    if is(text, b"vxtrace 2") {
         return Some(Line::TraceHead);
     }
-    if text == b"srq 0".as_slice() {
+    if is(text, b"srq 0") {
         return Some(Line::Srq { level: false });
     }
-    if text == b"srq 1".as_slice() {
+    if is(text, b"srq 1") {
         return Some(Line::Srq { level: true });
     }
     numbered_of(text, moves, bytes)

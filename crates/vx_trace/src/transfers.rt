@@ -2,7 +2,7 @@
 ghost use Rattle.std.specs.Prelude.{◌≡◌, ◌<◌, ◌≤◌, length, take, MatchOption, option_copied};
 ghost use Rattle.vx_trace.specs.Reading.{of_letter, lettered, transfer_of, moves_of};
 
-use crate::values::{byte_of, cut, small_of};
+use crate::values::{byte_of, cut, is, small_of};
 use vx_488::Transfer;
 
 /// The transfer of a letter and a byte.
@@ -33,19 +33,19 @@ fn lettered(word: &[u8]) -> Option<Transfer>
 fn transfer_of(word: &[u8]) -> Option<Transfer>
     ensures { result ≡ transfer_of word.now }
 {
-    if word == b"ren0".as_slice() {
+    if is(word, b"ren0") {
         return Some(Transfer::Ren(false));
     }
-    if word == b"ren1".as_slice() {
+    if is(word, b"ren1") {
         return Some(Transfer::Ren(true));
     }
-    if word == b"atn0".as_slice() {
+    if is(word, b"atn0") {
         return Some(Transfer::Atn(false));
     }
-    if word == b"atn1".as_slice() {
+    if is(word, b"atn1") {
         return Some(Transfer::Atn(true));
     }
-    if word == b"ifc".as_slice() {
+    if is(word, b"ifc") {
         return Some(Transfer::Ifc);
     }
     match word.strip_prefix(b"own".as_slice()) {

@@ -1,7 +1,15 @@
 //! Words, numbers and bytes as a line writes them.
 ghost use Rattle.std.specs.Prelude.{◌≡◌, ◌^◌, ◌≤◌, ◌==◌, length, position, option_copied, option_map};
 ghost use Rattle.std.specs.List.{list_all, list_any};
+ghost use Rattle.std.specs.Str.{bytes_eq};
 ghost use Rattle.vx_trace.specs.Reading.{cut, is_digit, is_decimal, number_of, is_lower_digit, any_bytes_of, bytes_of, byte_of};
+
+/// Whether a text is this one.
+pub fn is(text: &[u8], this: &'static [u8]) -> bool
+    ensures { result ≡ bytes_eq text.now this.now }
+{
+    text == this
+}
 
 /// What stands before and behind the first space.
 pub fn cut(text: &[u8]) -> Option<(&[u8], &[u8])>

@@ -13,3 +13,8 @@ invariant_of-self g c =
     let order = in-order-push _ one (subst IsInOrder c.self.view_is c.self.invariant.2) c.requires.address c.requires.free in
     let shown = ap (map placed_of) c.push_reserved.ensures.items ∙ map-append placed_of c.self.inside.places.items _ ∙ ap (λ (ps : List Placed). ps ++ one ∷ []) c.self.view_is in
     (omega (arith, ap length c.self.view_is, length-map c.self.inside.places.items placed_of, c.self.inside.places.ok.0), omega arith, subst IsInOrder (sym shown) order)
+
+pub returns : goal.returns
+returns g c =
+    let one : Placed = placed_of (record { at = c.args.at; stand = c.args.stand }) in
+    ap (map placed_of) c.push_reserved.ensures.items ∙ map-append placed_of c.self.inside.places.items _ ∙ ap (λ (ps : List Placed). ps ++ one ∷ []) c.self.view_is

@@ -32,3 +32,9 @@ returns-in-None g c =
     let nobody = nobody-answers c.args.wire.now c.args.self.now (sym c.requires.speaker ∙ c.in-None.is) in
     let held : holds_get c.args.wire.now c.args.self.now ≡ true = ap not nobody in
     absurd (cc)
+
+pub give_at-requires-clause-apart : goal.give_at-requires-clause-apart
+give_at-requires-clause-apart g c = subst (λ ps. AreApart (map placed_of ps)) (sym c.deref_mut.ensures.value) c.self.invariant.2.0
+
+pub give_at-requires-clause-gives : goal.give_at-requires-clause-gives
+give_at-requires-clause-gives g c = ap (holds_get c.args.wire.now) (ap (map placed_of) c.deref_mut.ensures.value ∙ c.self.view_is) ∙ c.requires.gives
