@@ -13,7 +13,7 @@ use Rattle.vx_client.specs.Meaning.{Meaning, Done, Failed, Refused, Bad, meaning
 use Rattle.vx_client.specs.Settled.{answer_of, settled_of, written}
 use Rattle.vx_client.specs.Stream.{IsReply}
 use Rattle.vx_client.specs.Inbox.{InboxState, Gave, last_at, last_of}
-use Rattle.vx_client.specs.Exchange.{Exchange, Idle, Unsent, Unread, Ended, TooLong, Replied, Asks, IsSent, IsCalled, result_of}
+use Rattle.vx_client.specs.Exchange.{Exchange, Idle, Unsent, Unread, Ended, TooLong, Replied, Asks, IsSent, StopsIn, IsCalled, result_of}
 use Rattle.vx_client.specs.Swapped.{Swaps, IsSwapped, returned_by, settled_bad}
 use Rattle.vx_client.specs.Calls.{IsFilled}
 use Rattle.vx_client.specs.declared.answers.ClientErr.{ClientErr}
@@ -191,6 +191,12 @@ pub sent-ok : {L E : Type 0} (stands : L → List ℕ → List ℕ → Type 0) (
     → IsSent stands sends old new text r → Goes stands old new text []
 sent-ok stands sends old new text (Ok done) h sent = sent
 sent-ok stands sends old new text (Err failed) h sent = absurd (cc)
+
+-- a sending that answered an error broke off
+pub sent-err : {L E : Type 0} (stands : L → List ℕ → List ℕ → Type 0) (sends : L → ℕ) (old new : L) (text sent_text : List ℕ) (r : Result (Unit {0}) E) → sent_text ≡ text
+    → is_err r ≡ true → IsSent stands sends old new sent_text r → StopsIn stands sends old new text
+sent-err stands sends old new text sent_text (Ok done) is h sent = absurd (cc)
+sent-err stands sends old new text sent_text (Err failed) is h sent = subst (StopsIn stands sends old new) is sent
 
 -- sending a text and then receiving bytes moves both
 pub swaps-of : {L : Type 0} (stands : L → List ℕ → List ℕ → Type 0) (left : L → Option (List ℕ)) (old mid new : L) (kept text sent got : List ℕ)

@@ -1,5 +1,5 @@
 -- What the calls of a link tell, one after another.
-use Rattle.std.proofs.Common.{◌≡◌, ℕ, ◌+◌, ◌-◌, ◌≤◌, ◌<◌, false, List, length, take, drop, Option, Some, None, IfSome, Result, Ok, Err, is_err, sym, ◌∙◌, subst, arith, length-drop}
+use Rattle.std.proofs.Common.{◌≡◌, ℕ, ◌+◌, ◌-◌, ◌≤◌, ◌<◌, true, false, List, length, take, drop, Option, Some, None, IfSome, Result, Ok, Err, is_err, sym, ◌∙◌, subst, arith, length-drop}
 use Rattle.std.proofs.lemmas.List.{take_all}
 use Rattle.std.specs.Io.KnownBytes.{Keeps}
 use Rattle.vx_io_traits.specs.declared.ReadOut.{ReadOut}
@@ -44,6 +44,12 @@ pub sends-whole : {L E : Type 0} (sends : L → List ℕ → WriteOut → L → 
     → TellsSends sends old new sent_text r → SentFront sends old text new (length text)
 sends-whole sends old new text sent_text (Ok done) is h told = subst (λ xs. SentFront sends old xs new (length xs)) is told
 sends-whole sends old new text sent_text (Err failed) is h told = absurd (cc)
+
+-- one that answered an error told of the break
+pub sends-broken : {L E : Type 0} (sends : L → List ℕ → WriteOut → L → Type 0) (old new : L) (text sent_text : List ℕ) (r : Result (Unit {0}) E) → sent_text ≡ text → is_err r ≡ true
+    → TellsSends sends old new sent_text r → Breaks sends old text new
+sends-broken sends old new text sent_text (Ok done) is h told = absurd (cc)
+sends-broken sends old new text sent_text (Err failed) is h told = subst (λ xs. Breaks sends old xs new) is told
 
 -- what a link had left behind the sends is what it had before them
 pub all-kept : (old mid : Option (List ℕ)) (got : List ℕ) → Keeps old mid → IfSome mid (λ all. all ≡ got) → IfSome old (λ all. all ≡ got)

@@ -1,6 +1,6 @@
 -- How a reply comes out of a stream, piece by piece.
 use Rattle.std.proofs.Common.{◌≡◌, ℕ, zero, suc, ◌+◌, ◌-◌, ◌≤◌, ◌<◌, min, false, List, [], ◌∷◌, ◌++◌, Option, length, take, drop, refl, subst, sym, ap, ◌∙◌, arith, append_assoc, append-nil, length-append, length-drop, take-append-drop}
-use Rattle.std.proofs.lemmas.List.{take_at, take-take, length-take-le, drop-take, length-take}
+use Rattle.std.proofs.lemmas.List.{take_at, take-take, length-take-le, drop_all, drop-take, length-take}
 use Rattle.std.proofs.lemmas.Grind.{common_steps}
 use Rattle.std.proofs.KnownBytes.{Consumes-nil, Consumes-trans, Consumes-kept, Consumes-whole}
 use Rattle.vx_calls.specs.declared.limits.TheConstants.{REPLY_MAX}
@@ -96,6 +96,10 @@ pub record ReadSoFar {L : Type 0} (stands : L → List ℕ → List ℕ → Type
 none-settled : is_settled (records REPLY_MAX []) ≡ false
 unfolding records
 none-settled = refl
+
+-- between two places of which the second isn't behind the first, nothing is kept
+pub none-kept : (from to : ℕ) (items : List ℕ) → to ≤ from → drop from (take to items) ≡ []
+none-kept from to items none = drop_all from (take to items) (omega (arith, none, length-take to items))
 
 -- at first it gave nothing
 pub read-none : {L : Type 0} (stands : L → List ℕ → List ℕ → Type 0) (left : L → Option (List ℕ)) (receives sends : L → ℕ) (l : L) (s : InboxState)
