@@ -6,7 +6,6 @@ use crate::client_tests::{behind, words};
 use crate::client_tools::run_so;
 use std::alloc::{AllocError, Global};
 use std::sync::atomic::{AtomicU64, Ordering};
-use std::test::Fail;
 use vx_client::{Client, call_over, call_run, is_call};
 use vx_io_traits::{Link, ReadOut, Sink, WriteOut};
 use vx_memory::{MemLink, MemReach, MemSink};
@@ -330,25 +329,31 @@ fn sink_of(alloc: Global, row: &Row) -> Result<MemSink, AllocError> {
     Ok(MemSink::new(Vec::new(alloc), fails))
 }
 
-/// Whether a call with these words comes to what a row says, where there is memory for it.
-fn comes_so(alloc: Global, list: &[String], row: &Row) -> Option<bool> {
-    let mut sink = sink_of(alloc, row).ok()?;
-    let reach = reach_of(alloc, row).ok()?;
-    let (reach, is_so) = run_so(alloc, list, reach, &mut sink, row.status, row.text);
-    Some(is_so && reach.tried() == row.dials && took(&reach, row.sent))
+/// Whether a call with these words comes to what a row says over this reach and this output.
+fn comes_so(
+    alloc: Global,
+    list: &[String],
+    reach: MemReach<MemLink>,
+    sink: &mut MemSink,
+    row: &Row,
+) -> bool {
+    let (reach, is_so) = run_so(alloc, list, reach, sink, row.status, row.text);
+    is_so && reach.tried() == row.dials && took(&reach, row.sent)
 }
 
 /// The same for the words of a line.
-fn line_comes_so(alloc: Global, line: &str, row: &Row) -> Option<bool> {
-    let list = line_words(alloc, line).ok()?;
-    comes_so(alloc, list.as_slice(), row)
+fn line_comes_so(alloc: Global, line: &str, row: &Row) -> Result<bool, AllocError> {
+    let list = line_words(alloc, line)?;
+    let mut sink = sink_of(alloc, row)?;
+    let reach = reach_of(alloc, row)?;
+    Ok(comes_so(alloc, list.as_slice(), reach, &mut sink, row))
 }
 
 #[test]
 fn tells_what_came(rt: HostRuntime) {
     for (place, row) in ROWS.iter().enumerate() {
         let is_so = line_comes_so(rt.alloc(), row.line, row);
-        assert!(rt; is_so == Some(true), "row {place}: {}", row.line);
+        assert!(rt; is_so == Ok(true), "row {place}: {}", row.line);
     }
 }
 
@@ -356,7 +361,7 @@ fn tells_what_came(rt: HostRuntime) {
 fn refuses_other_words(rt: HostRuntime) {
     for line in OTHER_LINES {
         let is_so = line_comes_so(rt.alloc(), line, &OTHER);
-        assert!(rt; is_so == Some(true), "{line}");
+        assert!(rt; is_so == Ok(true), "{line}");
     }
 }
 
@@ -374,8 +379,8 @@ fn long_line(alloc: Global, count: u32) -> Result<String, AllocError> {
 static UNMADE: Row = Row { front: &[], ..STB };
 
 /// Whether a call for a device of so many characters comes to what a row says.
-fn long_comes_so(alloc: Global, count: u32, row: &Row) -> Option<bool> {
-    let line = long_line(alloc, count).ok()?;
+fn long_comes_so(alloc: Global, count: u32, row: &Row) -> Result<bool, AllocError> {
+    let line = long_line(alloc, count)?;
     line_comes_so(alloc, line.as_str(), row)
 }
 
@@ -384,20 +389,7 @@ fn long_comes_so(alloc: Global, count: u32, row: &Row) -> Option<bool> {
 fn refuses_a_long_device(rt: HostRuntime) {
     let longest = long_comes_so(rt.alloc(), 255, &UNMADE);
     let longer = long_comes_so(rt.alloc(), 256, &OTHER);
-    assert_eq!(rt; [longest, longer], [Some(true), Some(true)]);
-}
-
-/// Whether a call of these words is done over a client of this link.
-fn is_done(alloc: Global, list: &[String], link: MemLink) -> bool {
-    let mut sink = MemSink::new(Vec::new(alloc), Vec::new(alloc));
-    match Client::new(alloc, link) {
-        Ok(mut client) => {
-            is_call(list)
-                && call_over(alloc, list, &mut client, &mut sink) == 0
-                && sink.bytes() == b"done\n".as_slice()
-        }
-        Err(_) => false,
-    }
+    assert!(rt; longest == Ok(true) && longer == Ok(true));
 }
 
 /// A server that makes the link and is done with a call.
@@ -405,19 +397,6 @@ static DONE: Row = Row {
     gives: &[0x8000001C, 2, 1, 0, 0, 0, 0, 0],
     ..STB
 };
-
-/// Whether a call of the words of a line is done over a client of the link of a row, where there is memory for it.
-fn line_is_done(alloc: Global, line: &str, row: &Row) -> Option<bool> {
-    let list = line_words(alloc, line).ok()?;
-    let link = link_of(alloc, row).ok()?;
-    Some(is_done(alloc, list.as_slice(), link))
-}
-
-#[test]
-fn calls_over_a_client(rt: HostRuntime) {
-    let done = line_is_done(rt.alloc(), "h 9010 gpib0,5 trigger", &DONE);
-    assert!(rt; done == Some(true));
-}
 
 /// A link that counts its sends where others see it.
 #[derive(Drop)]
@@ -448,6 +427,7 @@ impl<'a> Link for Counted<'a> {
 /// An output that keeps how many sends there were at its last write.
 #[derive(Drop)]
 struct Noting<'a> {
+    sink: MemSink,
     sends: &'a AtomicU64,
     seen: u64,
 }
@@ -455,35 +435,52 @@ struct Noting<'a> {
 impl<'a> Sink for Noting<'a> {
     ghost taken = { λ _. None };
 
-    ghost faults = { λ _. 0 };
+    ghost faults = { λ n. n.sink.faults };
 
     fn write(&mut self, from: &[u8]) -> WriteOut {
         self.seen = self.sends.load(Ordering::SeqCst);
-        WriteOut::Took(from.len())
+        self.sink.write(from)
     }
 }
 
-/// How many sends there were as a call of these words printed its line.
-fn sends_at_print(alloc: Global, list: &[String], link: MemLink, sends: &AtomicU64) -> u64 {
-    let mut sink = Noting { sends, seen: 0 };
-    match Client::new(alloc, Counted { link, sends }) {
-        Ok(mut client) => {
-            if is_call(list) {
-                call_over(alloc, list, &mut client, &mut sink);
-            }
-        }
-        Err(_) => {}
+/// Whether a call of these words ends with status 0 over a client of this link.
+fn ends_well(alloc: Global, list: &[String], link: Counted, sink: &mut Noting) -> bool {
+    match Client::new(alloc, link) {
+        Ok(mut client) => is_call(list) && call_over(alloc, list, &mut client, sink) == 0,
+        Err(_) => false,
     }
-    sink.seen
+}
+
+/// Whether a call of these words prints that it is done, and how many sends there were then and in all.
+fn printed(alloc: Global, list: &[String], link: MemLink) -> (bool, [u64; 2]) {
+    let sends = AtomicU64::new(0);
+    let mut sink = Noting {
+        sink: MemSink::new(Vec::new(alloc), Vec::new(alloc)),
+        sends: &sends,
+        seen: 0,
+    };
+    let link = Counted {
+        link,
+        sends: &sends,
+    };
+    let is_done = ends_well(alloc, list, link, &mut sink);
+    let is_told = sink.sink.bytes() == b"done\n".as_slice();
+    (
+        is_done && is_told,
+        [sink.seen, sends.load(Ordering::SeqCst)],
+    )
+}
+
+/// The same for the words of a line.
+fn line_printed(alloc: Global, line: &str, row: &Row) -> Result<(bool, [u64; 2]), AllocError> {
+    let list = line_words(alloc, line)?;
+    let link = link_of(alloc, row)?;
+    Ok(printed(alloc, list.as_slice(), link))
 }
 
 // The create_link, the trigger and the destroy_link were sent before anything was printed, and nothing after that.
 #[test]
-fn prints_behind_its_calls(rt: HostRuntime) -> Result<(), Fail> {
-    let list = line_words(rt.alloc(), "h 9010 gpib0,5 trigger")?;
-    let link = link_of(rt.alloc(), &DONE)?;
-    let sends = AtomicU64::new(0);
-    let seen = sends_at_print(rt.alloc(), list.as_slice(), link, &sends);
-    assert_eq!(rt; [seen, sends.load(Ordering::SeqCst)], [3, 3]);
-    Ok(())
+fn prints_behind_its_calls(rt: HostRuntime) {
+    let came = line_printed(rt.alloc(), "h 9010 gpib0,5 trigger", &DONE);
+    assert!(rt; came == Ok((true, [3, 3])));
 }

@@ -2,7 +2,6 @@
 
 use crate::client_tools::{Answer, Ask, Got, answer};
 use std::alloc::{AllocError, Global};
-use std::test::Fail;
 use vx_client::{CallOpts, Client, ClientErr, LinkMade, ReadEnd};
 use vx_memory::MemLink;
 use vx_rpc::RpcRefusal;
@@ -475,21 +474,27 @@ fn two_pieces(alloc: Global, text: &[u8]) -> Result<Vec<u8>, AllocError> {
     Ok(sent)
 }
 
+/// The replies to two writes, of 65,536 bytes and of 34,464.
+const WRITTEN: [u32; 18] = [
+    0x80000020, 1, 1, 0, 0, 0, 0, 0, 65536, 0x80000020, 2, 1, 0, 0, 0, 0, 0, 34464,
+];
+
+/// Whether a write of this text goes so over a link with those replies.
+fn writes_over(alloc: Global, text: &[u8], sent: &[u8]) -> Option<bool> {
+    let gives = words(alloc, &WRITTEN).ok()?;
+    let client = client_of(alloc, gives, 1000, Vec::new(alloc))?;
+    Some(writes(client, text, sent))
+}
+
+/// Whether 100,000 bytes go in two pieces, where there is memory for them.
+fn writes_long(alloc: Global) -> Option<bool> {
+    let text = vec![in alloc; 0x61u8; 100_000].ok()?;
+    let sent = two_pieces(alloc, text.as_slice()).ok()?;
+    writes_over(alloc, text.as_slice(), sent.as_slice())
+}
+
 // 100,000 bytes in pieces of 65,536: the second piece has 34,464 = 0x86A0, and END alone.
 #[test]
-fn writes_in_pieces(rt: HostRuntime) -> Result<(), Fail> {
-    let alloc = rt.alloc();
-    let gives = [
-        0x80000020, 1, 1, 0, 0, 0, 0, 0, 65536, 0x80000020, 2, 1, 0, 0, 0, 0, 0, 34464,
-    ];
-    let text = vec![in alloc; 0x61u8; 100_000]?;
-    let sent = two_pieces(alloc, text.as_slice())?;
-    let gives = words(alloc, &gives)?;
-    let is_so = client_of(alloc, gives, 1000, Vec::new(alloc)).map(|client| writes(
-        client,
-        text.as_slice(),
-        sent.as_slice(),
-    ));
-    assert!(rt; is_so == Some(true));
-    Ok(())
+fn writes_in_pieces(rt: HostRuntime) {
+    assert!(rt; writes_long(rt.alloc()) == Some(true));
 }

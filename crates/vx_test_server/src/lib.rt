@@ -16,4 +16,6 @@ mod serve_tests;
 #[cfg(test)]
 mod served_tests;
 #[cfg(test)]
+mod thread_tools;
+#[cfg(test)]
 mod words_tests;

@@ -1,22 +1,22 @@
 //! A client over a link to a gateway with an instrument at 5 that gives back what it is sent.
 
 ghost use Rattle.std.specs.Prelude.{◌≡◌, IfSome};
+ghost use Rattle.vx_sim.specs.Means.{first_means};
+ghost use Rattle.vx_core.specs.FineState.{first_fine};
 ghost use Rattle.vx_loop.specs.LoopState.{IsUnconnected};
 
 use crate::client_run_tests::line_words;
 use crate::client_tools::{Answer, Ask, Got, answer, run_so};
 use std::alloc::{AllocError, Global};
-use std::test::Fail;
 use vx_488::Addr;
 use vx_client::{CallOpts, Client, ClientErr, LinkMade, ReadEnd};
 use vx_core::Core;
-use vx_io_traits::{Link, ReadOut, WriteOut};
+use vx_inst::Instrument;
+use vx_io_traits::{Link, Reach, ReadOut, WriteOut};
 use vx_loop::{LoopLink, through_client};
 use vx_memory::{MemReach, MemSink};
 use vx_rack::Echo;
 use vx_sim::SimBus;
-
-type Looped = Client<LoopLink<Echo>>;
 
 const OPTS: CallOpts = CallOpts {
     flags: 8,
@@ -41,41 +41,65 @@ fn hang(alloc: Global, bus: &mut SimBus<Echo>) -> bool
     }
 }
 
-/// A gateway with that instrument.
-fn echoing(alloc: Global) -> Option<Core<SimBus<Echo>>>
-    ensures { IfSome result (λ core. IsUnconnected core.fine) }
+/// A bus with that instrument.
+fn echoing(alloc: Global) -> Option<SimBus<Echo>>
+    ensures { IfSome result (λ bus. bus.means ≡ first_means) }
 {
     let mut bus = SimBus::new(alloc).ok()?;
     if hang(alloc, &mut bus) {
-        Core::start(alloc, bus, 9011).ok()
+        Some(bus)
     } else {
         None
     }
 }
 
-/// A gateway with nothing on its bus that was told the last moment.
-fn late(alloc: Global) -> Option<Core<SimBus<Echo>>>
+/// A new gateway is told the last moment, where it is to be late.
+fn tell<I: Instrument>(core: &mut Core<SimBus<I>>, is_late: bool)
+    requires { core.old.fine ≡ first_fine 9011 }
+    ensures { IsUnconnected core.new.fine }
+{
+    if !is_late {
+        return;
+    }
+    core.sample(u64::MAX);
+}
+
+/// A gateway over a bus.
+fn gateway<I: Instrument>(alloc: Global, bus: SimBus<I>, is_late: bool) -> Option<Core<SimBus<I>>>
+    requires { bus.means ≡ first_means }
     ensures { IfSome result (λ core. IsUnconnected core.fine) }
 {
-    let bus = SimBus::new(alloc).ok()?;
     let mut core = Core::start(alloc, bus, 9011).ok()?;
-    core.sample(u64::MAX);
+    tell(&mut core, is_late);
     Some(core)
 }
 
-/// A link to either.
-fn link(alloc: Global, is_late: bool) -> Option<LoopLink<Echo>> {
-    let core = if is_late { late(alloc) } else { echoing(alloc) };
-    LoopLink::new(alloc, core?).ok()
+/// A link to a gateway over a bus.
+fn link<I: Instrument>(alloc: Global, bus: SimBus<I>, is_late: bool) -> Option<LoopLink<I>>
+    requires { bus.means ≡ first_means }
+{
+    let core = gateway(alloc, bus, is_late)?;
+    LoopLink::new(alloc, core).ok()
 }
 
 /// A client over that.
-fn client(alloc: Global, is_late: bool) -> Option<Looped> {
-    Client::new(alloc, link(alloc, is_late)?).ok()
+fn client<I: Instrument>(
+    alloc: Global,
+    bus: SimBus<I>,
+    is_late: bool,
+) -> Option<Client<LoopLink<I>>>
+    requires { bus.means ≡ first_means }
+{
+    let link = link(alloc, bus, is_late)?;
+    Client::new(alloc, link).ok()
 }
 
 /// Whether a write of these bytes goes through, in two pieces, and is read back.
-fn goes_through(client: &mut Looped, bytes: &[u8], into: &mut [u8]) -> bool {
+fn goes_through<I: Instrument>(
+    client: &mut Client<LoopLink<I>>,
+    bytes: &[u8],
+    into: &mut [u8],
+) -> bool {
     // The last reply is that of call 3, with error 0, and tells the size of the second piece, 34,464.
     let last = [
         0, 0, 0, 3, 0, 0, 0, 1, 0, 0, 0, 0, 0, 0, 0, 0, 0, 0, 0, 0, 0, 0, 0, 0, 0, 0, 0, 0, 0, 0,
@@ -92,9 +116,16 @@ fn goes_through(client: &mut Looped, bytes: &[u8], into: &mut [u8]) -> bool {
     is_made && is_written && is_last && is_read && &*into == bytes
 }
 
-/// The same for a text over a client of its own, where there is memory for that.
-fn text_goes_through(alloc: Global, bytes: &[u8], into: &mut [u8]) -> Option<bool> {
-    let mut client = client(alloc, false)?;
+/// The same for a client of its own over a bus, where there is memory for both.
+fn text_goes_through<I: Instrument>(
+    alloc: Global,
+    bus: Option<SimBus<I>>,
+    bytes: &[u8],
+    into: &mut [u8],
+) -> Option<bool>
+    requires { IfSome bus (λ bus. bus.means ≡ first_means) }
+{
+    let mut client = client(alloc, bus?, false)?;
     Some(goes_through(&mut client, bytes, into))
 }
 
@@ -107,14 +138,16 @@ fn long_text(alloc: Global) -> Result<Vec<u8>, AllocError> {
     Ok(bytes)
 }
 
+/// Whether that text goes through, where there is memory for it.
+fn long_goes_through(alloc: Global) -> Option<bool> {
+    let bytes = long_text(alloc).ok()?;
+    let mut into = vec![in alloc; 0u8; 100_000].ok()?;
+    text_goes_through(alloc, echoing(alloc), bytes.as_slice(), into.as_mut_slice())
+}
+
 #[test]
-fn a_write_goes_through(rt: HostRuntime) -> Result<(), Fail> {
-    let alloc = rt.alloc();
-    let bytes = long_text(alloc)?;
-    let mut into = vec![in alloc; 0u8; 100_000]?;
-    let goes = text_goes_through(alloc, bytes.as_slice(), into.as_mut_slice());
-    assert!(rt; goes == Some(true));
-    Ok(())
+fn a_write_goes_through(rt: HostRuntime) {
+    assert!(rt; long_goes_through(rt.alloc()) == Some(true));
 }
 
 const DONE: Answer = Ok(Got::Done);
@@ -237,7 +270,11 @@ static ROWS: [Row; 5] = [
 ];
 
 /// What a call answers: a command sends the byte 0x3F.
-fn answer_moving(client: &mut Looped, ask: Ask, room: &mut [u8; 2]) -> Answer {
+fn answer_moving<I: Instrument>(
+    client: &mut Client<LoopLink<I>>,
+    ask: Ask,
+    room: &mut [u8; 2],
+) -> Answer {
     match ask {
         Ask::Write(bytes) => through_client(client, &LINK, &OPTS, bytes).map(|_| Got::Done),
         Ask::Docmd(lid) => client
@@ -248,7 +285,7 @@ fn answer_moving(client: &mut Looped, ask: Ask, room: &mut [u8; 2]) -> Answer {
 }
 
 /// Whether the calls of a row are answered as it says.
-fn is_answered(client: &mut Looped, row: &Row) -> bool {
+fn is_answered<I: Instrument>(client: &mut Client<LoopLink<I>>, row: &Row) -> bool {
     let mut room = [0; 2];
     let mut same = true;
     for (ask, want) in row.steps {
@@ -257,32 +294,56 @@ fn is_answered(client: &mut Looped, row: &Row) -> bool {
     same && room == row.room
 }
 
-/// Whether a row holds, where there is memory for its client.
-fn holds(alloc: Global, row: &Row) -> Option<bool> {
-    let mut client = client(alloc, row.is_late)?;
+/// Whether a row holds over a bus, where there is memory for that and its client.
+fn holds<I: Instrument>(alloc: Global, bus: Option<SimBus<I>>, row: &Row) -> Option<bool>
+    requires { IfSome bus (λ bus. bus.means ≡ first_means) }
+{
+    let mut client = client(alloc, bus?, row.is_late)?;
     Some(is_answered(&mut client, row))
 }
 
 #[test]
 fn calls_are_answered(rt: HostRuntime) {
     for (place, row) in ROWS.iter().enumerate() {
-        let is_so = holds(rt.alloc(), row);
+        let is_so = holds(rt.alloc(), echoing(rt.alloc()), row);
         assert!(rt; is_so == Some(true), "row {place}");
     }
 }
 
-/// Whether a command over a link of its own ends with a status and prints a text.
-fn comes_so(alloc: Global, words: &[String], host: String, status: u8, text: &str) -> Option<bool> {
-    let mut sink = MemSink::new(Vec::new(alloc), Vec::new(alloc));
-    let reach = MemReach::new(link(alloc, false)?, host, 9010);
-    Some(run_so(alloc, words, reach, &mut sink, status, text).1)
+/// The host `h`, which answers at port 9010 over a link of its own.
+fn reach<I: Instrument>(alloc: Global, bus: SimBus<I>) -> Option<MemReach<LoopLink<I>>>
+    requires { bus.means ≡ first_means }
+{
+    let link = link(alloc, bus, false)?;
+    let host = String::from_str(alloc, "h").ok()?;
+    Some(MemReach::new(link, host, 9010))
 }
 
-/// The same for the words of a line.
-fn line_comes_so(alloc: Global, line: &str, status: u8, text: &str) -> Option<bool> {
+/// Whether a command over a reach ends with a status and prints a text.
+fn comes_so<R: Reach + Drop>(
+    alloc: Global,
+    words: &[String],
+    reach: R,
+    status: u8,
+    text: &str,
+) -> bool {
+    let mut sink = MemSink::new(Vec::new(alloc), Vec::new(alloc));
+    run_so(alloc, words, reach, &mut sink, status, text).1
+}
+
+/// The same for the words of a line over a link of its own, where there is memory for them.
+fn line_comes_so<I: Instrument>(
+    alloc: Global,
+    bus: Option<SimBus<I>>,
+    line: &str,
+    status: u8,
+    text: &str,
+) -> Option<bool>
+    requires { IfSome bus (λ bus. bus.means ≡ first_means) }
+{
+    let reach = reach(alloc, bus?)?;
     let list = line_words(alloc, line).ok()?;
-    let host = String::from_str(alloc, "h").ok()?;
-    comes_so(alloc, list.as_slice(), host, status, text)
+    Some(comes_so(alloc, list.as_slice(), reach, status, text))
 }
 
 /// Command lines, what each ends with, and what it prints.
@@ -294,7 +355,7 @@ static LINES: [(&str, u8, &str); 2] = [
 #[test]
 fn a_command_is_done(rt: HostRuntime) {
     for (line, status, text) in LINES {
-        let is_so = line_comes_so(rt.alloc(), line, status, text);
+        let is_so = line_comes_so(rt.alloc(), echoing(rt.alloc()), line, status, text);
         assert!(rt; is_so == Some(true), "{line}");
     }
 }
@@ -347,7 +408,7 @@ static ACTS: [&[Act]; 3] = [
 ];
 
 /// Whether a send or a receive is answered so.
-fn acts_so(link: &mut LoopLink<Echo>, act: Act) -> bool {
+fn acts_so<L: Link>(link: &mut L, act: Act) -> bool {
     match act {
         Act::Send(bytes, want) => !bytes.is_empty() && link.send(bytes) == want,
         Act::Receive(most, want, front) => {
@@ -358,24 +419,27 @@ fn acts_so(link: &mut LoopLink<Echo>, act: Act) -> bool {
 }
 
 /// Whether a link answers all of these so.
-fn acts(link: &mut LoopLink<Echo>, list: &[Act]) -> bool {
+fn acts<L: Link + Drop>(link: L, list: &[Act]) -> bool {
+    let mut link = link;
     let mut same = true;
     for act in list {
-        same &= acts_so(link, *act);
+        same &= acts_so(&mut link, *act);
     }
     same
 }
 
-/// The same of a link of its own, where there is memory for that.
-fn link_acts(alloc: Global, list: &[Act]) -> Option<bool> {
-    let mut link = link(alloc, false)?;
-    Some(acts(&mut link, list))
+/// The same of a link of its own over a bus, where there is memory for both.
+fn link_acts<I: Instrument>(alloc: Global, bus: Option<SimBus<I>>, list: &[Act]) -> Option<bool>
+    requires { IfSome bus (λ bus. bus.means ≡ first_means) }
+{
+    let link = link(alloc, bus?, false)?;
+    Some(acts(link, list))
 }
 
 #[test]
 fn records_are_answered(rt: HostRuntime) {
     for (place, list) in ACTS.iter().enumerate() {
-        let is_so = link_acts(rt.alloc(), list);
+        let is_so = link_acts(rt.alloc(), echoing(rt.alloc()), list);
         assert!(rt; is_so == Some(true), "list {place}");
     }
 }

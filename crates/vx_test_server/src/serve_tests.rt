@@ -1,8 +1,8 @@
 //! Servers whose workers never run: the causes of each status, and what is written.
-use crate::served_tests::{Ends, Job, Log, Row, Side, ends_so};
+use crate::served_tests::{Ends, Log, Row, Side, ends_so};
 use std::alloc::Global;
 use std::sync::Wait;
-use vx_io_traits::{Spawner, Started};
+use vx_io_traits::{Spawner, Started, Work};
 use vx_serve::BENCH_MAX;
 
 /// Drops each work. It refuses the one of this number, counted from 1, where it isn't 0.
@@ -13,10 +13,10 @@ struct Idle {
     faults: u64,
 }
 
-impl Spawner<Job> for Idle {
+impl<J: Work + Drop> Spawner<J> for Idle {
     ghost faults = { λ s. s.faults };
 
-    fn start(&mut self, _job: Job) -> Started {
+    fn start(&mut self, _job: J) -> Started {
         self.starts = self.starts.saturating_add(1);
         if self.starts == self.refuses {
             self.faults = self.faults.saturating_add(1);
@@ -349,12 +349,12 @@ static LINKS: [Row; 2] = [
 
 /// Runs the server of a row, whose workers never run.
 fn ends_so_idle<R: Wait>(rt: &R, alloc: Global, row: &Row) -> Option<bool> {
-    let mut spawner = Idle {
+    let spawner = Idle {
         refuses: row.refuses,
         starts: 0,
         faults: 0,
     };
-    ends_so(rt, alloc, row, &mut spawner)
+    ends_so(rt, alloc, row, spawner)
 }
 
 #[test]

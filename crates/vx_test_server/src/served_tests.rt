@@ -2,15 +2,15 @@
 //! composed by hand from their words.
 ghost use Rattle.std.specs.Prelude.{None};
 
+use crate::thread_tools::{Starter, thread_spawner};
 use arrayvec::ArrayString;
 use crossbeam_channel::{Receiver, Sender, unbounded};
 use std::alloc::{AllocError, Global};
 use std::sync::atomic::{AtomicU64, Ordering};
 use std::sync::{Arc, Wait};
 use std::thread::{self, Threads};
-use vx_host::{ThreadSpawner, start_threads};
 use vx_io_traits::{
-    Clock, Dial, DialOut, Handed, Link, Pause, ReadOut, Sink, Spawner, Started, Streams, WriteOut,
+    Clock, Dial, DialOut, Handed, Link, Pause, ReadOut, Sink, Spawner, Streams, WriteOut,
 };
 use vx_memory::{MemNet, MemSink, MemSource};
 use vx_rack::{Asker, Spare};
@@ -76,7 +76,7 @@ pub(crate) struct Counts {
 }
 
 /// Waits until a count is there, and says whether it is.
-fn comes(count: &AtomicU64, most: u64) -> bool {
+pub(crate) fn comes(count: &AtomicU64, most: u64) -> bool {
     for _ in 0..TURNS {
         if count.load(Ordering::SeqCst) >= most {
             return true;
@@ -499,52 +499,41 @@ pub(crate) struct Ends {
     pub bytes: [u64; 3],
 }
 
-/// What a server is run on, beside its workers, its sink and its instruments.
-#[derive(Drop)]
-struct Ground {
-    words: Vec<String>,
-    source: MemSource,
-    net: MemNet<Comparing>,
-    tools: Bag,
-}
-
-fn ground_of(alloc: Global, row: &Row, counts: &Arc<Counts, Global>) -> Option<Ground> {
-    let words = words_of(alloc, row).ok()?;
-    let source = source_of(alloc, row).ok()?;
-    let net = net_of(alloc, row, counts).ok()?;
-    let tools = bag_of(alloc, row, counts).ok()?;
-    Some(Ground {
-        words,
-        source,
-        net,
-        tools,
-    })
-}
-
-/// Runs a server with these ends, and answers its status and the number of its tally.
-fn run_on<R: Wait, W: Spawner<Job>>(
+/// Runs a server over this net, and answers its status and the number of its tally.
+fn run_over<R: Wait, W: Spawner<Job>>(
     rt: &R,
     alloc: Global,
-    ground: &mut Ground,
+    words: &[String],
+    source: &mut MemSource,
+    net: &mut MemNet<Comparing>,
     spawner: &mut W,
+    tools: &mut Bag,
     sink: &mut MemSink,
 ) -> Option<(u8, u64)> {
     let rack = askers(alloc)?;
-    let (status, tally) = serve_run(
-        rt,
-        alloc,
-        ground.words.as_slice(),
-        &mut ground.source,
-        &mut ground.net,
-        spawner,
-        &mut ground.tools,
-        sink,
-        rack,
-    );
+    let (status, tally) = serve_run(rt, alloc, words, source, net, spawner, tools, sink, rack);
     Some((status, tally.number()))
 }
 
-/// The same for the server of a row.
+/// Runs the server of a row with these words and this bench.
+fn run_with<R: Wait, W: Spawner<Job>>(
+    rt: &R,
+    alloc: Global,
+    words: &[String],
+    source: &mut MemSource,
+    row: &Row,
+    counts: &Arc<Counts, Global>,
+    spawner: &mut W,
+    sink: &mut MemSink,
+) -> Option<(u8, u64)> {
+    let mut net = net_of(alloc, row, counts).ok()?;
+    let mut tools = bag_of(alloc, row, counts).ok()?;
+    run_over(
+        rt, alloc, words, source, &mut net, spawner, &mut tools, sink,
+    )
+}
+
+/// Runs the server of a row.
 fn run<R: Wait, W: Spawner<Job>>(
     rt: &R,
     alloc: Global,
@@ -553,8 +542,18 @@ fn run<R: Wait, W: Spawner<Job>>(
     spawner: &mut W,
     sink: &mut MemSink,
 ) -> Option<(u8, u64)> {
-    let mut ground = ground_of(alloc, row, counts)?;
-    run_on(rt, alloc, &mut ground, spawner, sink)
+    let words = words_of(alloc, row).ok()?;
+    let mut source = source_of(alloc, row).ok()?;
+    run_with(
+        rt,
+        alloc,
+        words.as_slice(),
+        &mut source,
+        row,
+        counts,
+        spawner,
+        sink,
+    )
 }
 
 /// Whether each line that is due in the log comes once, and no other was written.
@@ -596,39 +595,26 @@ fn ends_so_by<R: Wait, W: Spawner<Job>>(
 }
 
 /// Whether the server of a row ends as it says, where there is memory for it.
-pub(crate) fn ends_so<R: Wait, W: Spawner<Job>>(
+pub(crate) fn ends_so<R: Wait, W: Spawner<Job> + Drop>(
     rt: &R,
     alloc: Global,
     row: &Row,
-    spawner: &mut W,
+    spawner: W,
 ) -> Option<bool> {
+    let mut spawner = spawner;
     let counts = counts_of(alloc).ok()?;
-    ends_so_by(rt, alloc, row, &counts, spawner)
+    ends_so_by(rt, alloc, row, &counts, &mut spawner)
 }
 
-/// The same with a thread for each worker, over these channels to what starts them.
-fn ends_so_over<R: Threads + Wait + Copy + Send + 'static>(
-    rt: R,
-    alloc: Global,
-    row: &Row,
-    jobs: Sender<Job>,
-    started: Receiver<Started>,
-) -> Option<bool> {
-    let mut spawner = ThreadSpawner::new(rt, jobs, started);
-    ends_so(&rt, alloc, row, &mut spawner)
-}
-
-/// The same until all of the threads have ended.
+/// The same with a thread for each worker, until the thread that starts them has ended.
 fn ends_so_in_threads<R: Threads + Wait + Copy + Send + 'static>(
     rt: R,
     alloc: Global,
     row: &Row,
 ) -> Option<bool> {
-    let (jobs, queue) = unbounded::<Job, Global>(alloc).ok()?;
-    let (answers, started) = unbounded(alloc).ok()?;
-    let starter = thread::spawn(&rt, move || start_threads(rt, queue, answers)).ok()?;
-    let so = ends_so_over(rt, alloc, row, jobs, started);
-    starter.join(&rt);
+    let Starter { spawner, thread } = thread_spawner(rt, alloc)?;
+    let so = ends_so(&rt, alloc, row, spawner);
+    thread.join(&rt);
     so
 }
 

@@ -1,15 +1,16 @@
 //! Words, and what is asked by them, with ample memory.
 
+use crate::client_run_tests::line_words;
 use std::alloc::{AllocError, Global};
 use std::test::Fail;
 use vx_startup::{Asked, Options, read_words};
 
-/// What words ask for that stand between the spaces of a line.
+/// What the words of a line ask for, or no words where it is empty.
 fn asked(alloc: Global, line: &str) -> Result<Asked, AllocError> {
-    let mut words = Vec::new(alloc);
-    for word in line.split(' ').filter(|word| !word.is_empty()) {
-        words.push(String::from_str(alloc, word)?)?;
+    if line.is_empty() {
+        return Ok(read_words(alloc, &[]));
     }
+    let words = line_words(alloc, line)?;
     Ok(read_words(alloc, words.as_slice()))
 }
 
