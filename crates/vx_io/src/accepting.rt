@@ -28,7 +28,7 @@ const EHOSTDOWN: i32 = 112;
 const EHOSTUNREACH: i32 = 113;
 
 /// What an error of a wait was of.
-#[derive(Clone, Copy, PartialEq, Eq)]
+#[derive(Clone, Copy)]
 enum Fault {
     /// Of one peer, whose connection is gone.
     Peer,

@@ -104,7 +104,7 @@ impl Drop for TcpLink {
 }
 
 /// What looks at a stream met that didn't sleep.
-#[derive(Clone, Copy, PartialEq, Eq)]
+#[derive(Clone, Copy)]
 enum Seen {
     /// A read gave so many bytes, 0 at the end.
     Got(usize),

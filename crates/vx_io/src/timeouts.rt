@@ -1,7 +1,7 @@
 //! How long a server bears with peers that say nothing, or take nothing.
 
 /// How long a server's sockets bear with a peer, in seconds each; 0 for without end.
-#[derive(Clone, Copy, PartialEq, Eq)]
+#[derive(Clone, Copy)]
 pub struct Timeouts {
     /// A connection whose host is gone without a word is found out after about so long, and so is a peer that takes nothing of
     /// what is due to it for as long. More than 32,767 s count as so many.
