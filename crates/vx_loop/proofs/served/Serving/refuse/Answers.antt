@@ -1,4 +1,5 @@
-use Rattle.std.proofs.Common.{◌≡◌, ℕ, List, true, take, refl, sym, subst, ◌∙◌}
+use Rattle.std.proofs.Common.{◌≡◌, ◌==◌, ℕ, List, true, length, take, refl, sym, ap, subst, ◌∙◌, arith}
+use Rattle.std.specs.List.{list_any}
 use Rattle.std.specs.Prelude.{is_some}
 use Rattle.std.proofs.lemmas.List.{with_items_is}
 use Rattle.std.specs.Vec.{with_items}
@@ -20,3 +21,14 @@ returns-clause-waits g c =
     subst (λ (x : ServedState). IsKept x → is_some (pending_at x.core.fine.state.tables 1) ≡ true → WaitsTo x (state (with_items c.self.inside.reply c.refuse_dial-self-inside.new.reply).items)) c.self.view_is
     (λ k some. subst (λ xs. WaitsTo s (state xs)) (sym room)
     (refuse-on s c.refuse_dial-self-inside.new.core (take n c.refuse_dial-self-inside.new.reply) k some s.core.fine.state.moment refl c.refuse_dial-self-inside.ensures.replied)) c.requires.kept c.requires.pending
+
+pub refuse_dial-self-inside-requires-clause-dialed : goal.refuse_dial-self-inside-requires-clause-dialed
+refuse_dial-self-inside-requires-clause-dialed g c = subst (λ (s : ServedState). list_any (λ n. n == 1) s.core.fine.dialed ≡ true) (sym c.self.view_is) c.requires.dialed
+
+pub refuse_dial-self-inside-requires-clause-room : goal.refuse_dial-self-inside-requires-clause-room
+refuse_dial-self-inside-requires-clause-room g c = ap length c.deref_mut.ensures.value ∙ c.self.invariant.0
+
+pub invariant_of-self : goal.invariant_of-self
+invariant_of-self g c =
+    let room = with_items_is c.self.inside.reply c.refuse_dial-self-inside.new.reply (c.refuse_dial-self-inside.auto.reply ∙ c.deref_mut.ensures.len) in
+    (ap length room ∙ c.refuse_dial-self-inside.ensures.room, omega arith, c.refuse_dial-self-inside.ensures.within)

@@ -1,9 +1,10 @@
-use Rattle.std.proofs.Common.{◌≡◌, ℕ, List, [], false, inl, inr, take, refl, sym, ap, ◌∙◌, subst}
+use Rattle.std.proofs.Common.{◌≡◌, ◌≤◌, ℕ, List, [], None, true, false, inl, inr, length, take, refl, sym, ap, ◌∙◌, subst, arith}
 use Rattle.std.proofs.lemmas.List.{with_items_is}
 use Rattle.std.specs.Vec.{with_items}
 use Rattle.vx_calls.specs.declared.calls.Role.TheVariants as role
 use Rattle.vx_record.specs.Buffer.{BufState, fresh}
 use Rattle.vx_exchange.specs.Meaning.{meaning}
+use Rattle.vx_rules.specs.State.{pending_at, lives_as}
 use Rattle.vx_loop.specs.Gateway.{gateway_of}
 use Rattle.vx_loop.specs.LoopState.{ServedState}
 use Rattle.vx_loop.specs.Serving.{lives}
@@ -67,3 +68,38 @@ returns-in-TooLong g c =
     (c.restart-in-TooLong.ensures ∙ ap fresh (c.feed-fed.ensures.limit ∙ k.limit)) c.args.from.now free (inl long))
     c.requires.kept (record { alive = c.requires.lives; none = c.requires.idle.0 }) in
     record { took = tt; stays = tt; broke = made.0; cause = made.1; ended = made.2 }
+
+pub answer-served-requires-clause-lives : goal.answer-served-requires-clause-lives
+answer-served-requires-clause-lives g c = subst (λ (s : ServedState). lives_as s.core.fine.state.tables 1 role.Core ≡ true) (sym c.self.view_is) c.requires.lives
+
+pub answer-served-requires-clause-idle : goal.answer-served-requires-clause-idle
+answer-served-requires-clause-idle g c = subst (λ (s : ServedState). pending_at s.core.fine.state.tables 1 ≡ None) (sym c.self.view_is) c.requires.idle.0
+
+pub answer-served-requires-clause-calm : goal.answer-served-requires-clause-calm
+answer-served-requires-clause-calm g c = (subst IsKept (sym c.self.view_is) c.requires.kept).calm (answer-served-requires-clause-idle g c)
+
+pub answer-served-requires-clause-reached : goal.answer-served-requires-clause-reached
+answer-served-requires-clause-reached g c = (subst IsKept (sym c.self.view_is) c.requires.kept).reached
+
+pub answer-served-requires-clause-short : goal.answer-served-requires-clause-short
+answer-served-requires-clause-short g c =
+    subst (λ n. length c.whole-message.result.now ≤ n) (c.feed-fed.ensures.limit ∙ (subst IsKept (sym c.self.view_is) c.requires.kept).limit) c.whole-message.ensures.fits
+
+pub answer-served-requires-clause-room : goal.answer-served-requires-clause-room
+answer-served-requires-clause-room g c = ap length c.deref_mut.ensures.value ∙ c.self.invariant.0
+
+pub whole-message-requires : goal.whole-message-requires
+whole-message-requires g c = sym c.feed-fed.ensures.state ∙ c.in-Whole.is
+
+pub invariant_of-self : goal.invariant_of-self
+invariant_of-self g c = c.self.invariant
+
+pub invariant_of-self-in-Some : goal.invariant_of-self-in-Some
+invariant_of-self-in-Some g c =
+    let room = with_items_is c.self.inside.reply c.answer-served.new.reply (c.answer-served.auto.reply ∙ c.deref_mut.ensures.len) in
+    (ap length room ∙ c.answer-served.ensures.room, omega arith, c.in-Some.ensures.within)
+
+pub invariant_of-self-in-None : goal.invariant_of-self-in-None
+invariant_of-self-in-None g c =
+    let room = with_items_is c.self.inside.reply c.answer-served.new.reply (c.answer-served.auto.reply ∙ c.deref_mut.ensures.len) in
+    (ap length room ∙ c.answer-served.ensures.room, omega arith, omega arith)
