@@ -6,20 +6,12 @@ ghost use Rattle.vx_calls.specs.Reply.{reply_shown};
 ghost use Rattle.vx_codec.specs.Asked.{IsPuttable};
 ghost use Rattle.vx_codec.specs.Answered.{IsPuttableReply};
 
+use crate::word_tools::spelled;
 use arrayvec::ArrayVec;
-use std::alloc::{AllocError, Global};
 use std::test::Fail;
 use vx_calls::{CallRef, ErrorCode, Generic, Handle, Proc, ReplyRef};
 use vx_codec::*;
 use vx_xdr::Full;
-
-fn bytes_of(alloc: Global, words: &[u32]) -> Result<Vec<u8>, AllocError> {
-    let mut bytes = Vec::new(alloc);
-    for word in words {
-        bytes.extend_from_slice(&word.to_be_bytes())?;
-    }
-    Ok(bytes)
-}
 
 /// What a call is: its procedure; its link, flags, io timeout and lock timeout; its other numbers, in the order of the standard;
 /// and its bytes. What it hasn't is 0, or no bytes.
@@ -229,7 +221,7 @@ fn is_call(args: &[u8], want: &Shown<'_>) -> bool {
 #[test]
 fn each_call_both_ways(rt: HostRuntime) -> Result<(), Fail> {
     for (row, (words, want)) in CALLS.iter().enumerate() {
-        let args = bytes_of(rt.alloc(), words)?;
+        let args = spelled(rt.alloc(), words)?;
         assert!(rt; is_call(&args, want), "in row {row}");
     }
     Ok(())

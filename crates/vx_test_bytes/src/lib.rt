@@ -35,4 +35,6 @@ mod text_lines_tests;
 #[cfg(test)]
 mod text_tests;
 #[cfg(test)]
+mod word_tools;
+#[cfg(test)]
 mod xdr_tests;

@@ -2,7 +2,8 @@
 
 ghost use Rattle.std.specs.Prelude.{◌≤◌, length};
 
-use crate::mapper_tools::{ABORT, CORE, both, spelled};
+use crate::mapper_tools::{ABORT, CORE, both};
+use crate::word_tools::spelled;
 use std::alloc::{AllocError, Global};
 use std::test::Fail;
 use vx_portmap::*;

@@ -1,13 +1,11 @@
 //! What becomes of packets.
 
-use crate::mapper_tools::{both, padded, spelled};
-use crate::packet_box_tools::MemPackets;
+use crate::mapper_tools::both;
+use crate::packet_box_tools::{MemPackets, Move};
+use crate::word_tools::all_spelled;
 use std::alloc::{AllocError, Global};
 use std::test::Fail;
 use vx_portmap::*;
-
-// What goes through a box: whether it is given to it, or taken from it, and the packet, as words.
-type Move = (bool, &'static [u32]);
 
 // Packets, as words; the numbers of the box's calls that fail; the limit; how it ends; and what goes through the box.
 struct Row {
@@ -15,7 +13,7 @@ struct Row {
     fails: &'static [u64],
     limit: u32,
     end: PacketEnd,
-    moved: &'static [Move],
+    moved: &'static [Move<'static>],
 }
 
 const GETPORT: &[u32] = &[9, 0, 2, 100000, 2, 3, 0, 0, 0, 0, 0x0607AF, 1, 6, 0];
@@ -107,33 +105,14 @@ static ROWS: [Row; 9] = [
     },
 ];
 
-/// What is to go through a box, as bytes.
-fn moves_of(alloc: Global, moves: &[Move]) -> Result<Vec<(bool, Vec<u8>)>, AllocError> {
-    let mut all = Vec::new(alloc);
-    for (is_given, packet) in moves {
-        all.push((*is_given, spelled(alloc, packet)?))?;
-    }
-    Ok(all)
-}
-
-/// Packets of words, as bytes.
-fn packets_of(alloc: Global, packets: &[&[u32]]) -> Result<Vec<Vec<u8>>, AllocError> {
-    let mut all = Vec::new(alloc);
-    for packet in packets {
-        all.push(spelled(alloc, packet)?)?;
-    }
-    Ok(all)
-}
-
 /// Whether packets are answered as a row says.
 fn is_so(alloc: Global, row: &Row) -> Result<bool, AllocError> {
     let fails = row.fails.to_vec(alloc)?;
-    let packets = packets_of(alloc, row.packets)?;
-    let wanted = moves_of(alloc, row.moved)?;
+    let packets = all_spelled(alloc, row.packets)?;
     let mut packets = MemPackets::new(alloc, packets, fails);
     let end = map_packets(&both(), &mut packets, row.limit);
     let ended = u64::from(row.end == PacketEnd::Ended);
-    Ok(end == row.end && packets.ended() == ended && packets.moved_so(&wanted))
+    Ok(end == row.end && packets.ended() == ended && packets.moved_so(alloc, row.moved)?)
 }
 
 #[test]
@@ -145,22 +124,21 @@ fn packets_are_answered_in_order(rt: HostRuntime) -> Result<(), Fail> {
     Ok(())
 }
 
-/// Whether of a null call with so many zeros behind it 1,024 bytes are read, and it is given this answer alone.
-fn is_cut(alloc: Global, zeros: usize, answer: &[u32]) -> Result<bool, AllocError> {
-    let mut packets = Vec::new(alloc);
-    packets.push(padded(alloc, NULL, zeros)?)?;
-    let mut wanted = Vec::new(alloc);
-    wanted.push((false, padded(alloc, NULL, 984)?))?;
-    wanted.push((true, spelled(alloc, answer)?))?;
+/// Whether of a null call with 2,000 zeros behind it 1,024 bytes are read, and it is given this answer alone.
+fn is_cut(alloc: Global, answer: &[u32]) -> Result<bool, AllocError> {
+    let mut long = [0; 510];
+    long[..10].copy_from_slice(NULL);
+    let packets = all_spelled(alloc, &[&long])?;
     let mut packets = MemPackets::new(alloc, packets, Vec::new(alloc));
     let end = map_packets(&Ports::new(), &mut packets, 1);
-    Ok(end == PacketEnd::Served && packets.moved_so(&wanted))
+    let moved = [(false, &long[..256]), (true, answer)];
+    Ok(end == PacketEnd::Served && packets.moved_so(alloc, &moved)?)
 }
 
 // A packet above 1,024 bytes is answered as its front.
 #[test]
 fn a_long_packet_is_cut(rt: HostRuntime) -> Result<(), Fail> {
-    let is_cut = is_cut(rt.alloc(), 2000, &[7, 1, 0, 0, 0, 4])?;
+    let is_cut = is_cut(rt.alloc(), &[7, 1, 0, 0, 0, 4])?;
     assert!(rt; is_cut);
     Ok(())
 }

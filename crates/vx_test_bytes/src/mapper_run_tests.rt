@@ -1,7 +1,7 @@
 //! What the port mapper's program does, over a net in memory.
 
-use crate::mapper_tools::spelled;
 use crate::packet_box_tools::MemPackets;
+use crate::word_tools::{all_spelled, spelled};
 use std::alloc::{AllocError, Global};
 use std::test::Fail;
 use vx_memory::{MemDoor, MemSink};
@@ -9,13 +9,14 @@ use vx_portmap::{MapHost, map_run};
 
 type Host = MapHost<MemDoor, MemPackets>;
 
-// The words; messages, as words, each of which is the one record of a stream, and a packet; the numbers of the door's calls, of
-// the box's and of the sink's that fail; the status, what is printed, and what the first peer is sent and the first packet that is
-// given, as words; and the ports that the door and the box are opened at.
+// The words; the streams of the door's peers and the box's packets, as words; the numbers of the door's calls, of the box's and of
+// the sink's that fail; the status, what is printed, and what the first peer is sent and the first packet that is given, as words;
+// and the ports that the door and the box are opened at.
 #[derive(Clone, Copy)]
 struct Row {
     words: &'static [&'static str],
-    messages: &'static [&'static [u32]],
+    streams: &'static [&'static [u32]],
+    packets: &'static [&'static [u32]],
     door_fails: &'static [u64],
     box_fails: &'static [u64],
     sink_fails: &'static [u64],
@@ -30,8 +31,12 @@ const GETPORT: &[u32] = &[9, 0, 2, 100000, 2, 3, 0, 0, 0, 0, 0x0607AF, 1, 6, 0];
 
 const PORT: &[u32] = &[9, 1, 0, 0, 0, 0, 9010];
 
-// the same behind its record's mark
-const MARKED: &[u32] = &[0x8000001C, 9, 1, 0, 0, 0, 0, 9010];
+// the same two behind their records' marks
+const MARKED_GETPORT: &[u32] = &[
+    0x80000038, 9, 0, 2, 100000, 2, 3, 0, 0, 0, 0, 0x0607AF, 1, 6, 0,
+];
+
+const MARKED_PORT: &[u32] = &[0x8000001C, 9, 1, 0, 0, 0, 0, 9010];
 
 const STREAM: &[&str] = &["stream", "111", "9010", "9011", "1"];
 
@@ -41,13 +46,14 @@ const USAGE: &str = "usage: vxmap KIND PORT CORE ABORT N\n";
 
 const ROW: Row = Row {
     words: STREAM,
-    messages: &[GETPORT],
+    streams: &[MARKED_GETPORT],
+    packets: &[GETPORT],
     door_fails: &[],
     box_fails: &[],
     sink_fails: &[],
     status: 0,
     text: "mapping 111\nserved 1\n",
-    sent: MARKED,
+    sent: MARKED_PORT,
     given: &[],
     ports: (Some(111), None),
 };
@@ -85,7 +91,8 @@ static ROWS: [Row; 14] = [
         ..ROW
     },
     Row {
-        messages: &[],
+        streams: &[],
+        packets: &[],
         text: "mapping 111\nserved 0\n",
         sent: &[],
         ..ROW
@@ -180,37 +187,11 @@ fn words_of(alloc: Global, words: &[&str]) -> Result<Vec<String>, AllocError> {
     Ok(all)
 }
 
-/// The mark of a record of so many bytes in one fragment; of one that is too long for that, of none.
-fn mark_of(len: usize) -> [u8; 4] {
-    let len = u32::try_from(len).unwrap_or(0);
-    (0x8000_0000u32 | len).to_be_bytes()
-}
-
-/// A message, with the mark of a record in front of it for a stream.
-fn input(alloc: Global, message: &[u32], is_marked: bool) -> Result<Vec<u8>, AllocError> {
-    let message = spelled(alloc, message)?;
-    let mut bytes = Vec::new(alloc);
-    if is_marked {
-        bytes.extend_from_slice(&mark_of(message.len()))?;
-    }
-    bytes.extend_from_slice(&message)?;
-    Ok(bytes)
-}
-
-/// Each of them.
-fn inputs(alloc: Global, messages: &[&[u32]], is_marked: bool) -> Result<Vec<Vec<u8>>, AllocError> {
-    let mut all = Vec::new(alloc);
-    for message in messages {
-        all.push(input(alloc, message, is_marked)?)?;
-    }
-    Ok(all)
-}
-
 /// The net of a row.
 fn host_of(alloc: Global, row: &Row) -> Result<Host, Fail> {
-    let peers = inputs(alloc, row.messages, true)?;
+    let peers = all_spelled(alloc, row.streams)?;
     let door = MemDoor::new(alloc, peers, row.door_fails.to_vec(alloc)?).map_err(|_| "no memory")?;
-    let packets = inputs(alloc, row.messages, false)?;
+    let packets = all_spelled(alloc, row.packets)?;
     Ok(MapHost::new(
         door,
         MemPackets::new(alloc, packets, row.box_fails.to_vec(alloc)?),

@@ -2,7 +2,8 @@
 
 ghost use Rattle.std.specs.Prelude.{◌<◌};
 
-use crate::mapper_tools::{both, padded, spelled};
+use crate::mapper_tools::both;
+use crate::word_tools::spelled;
 use std::alloc::{AllocError, Global};
 use std::test::Fail;
 use vx_memory::MemLink;
@@ -181,7 +182,9 @@ fn a_stream_is_spent_behind_its_last_byte(rt: HostRuntime) -> Result<(), Fail> {
 /// Serves a null call with zeros behind it, in a record of 1,024 bytes; how it ended, and whether it was answered as garbage.
 fn serve_longest(alloc: Global) -> Result<(Option<MapEnd>, bool), AllocError> {
     let garbage = spelled(alloc, &[0x80000018, 6, 1, 0, 0, 0, 4])?;
-    let stream = padded(alloc, &[0x80000400, 6, 0, 2, 100000, 2, 0, 0, 0, 0, 0], 984)?;
+    let mut longest = [0; 257];
+    longest[..6].copy_from_slice(&[0x80000400, 6, 0, 2, 100000, 2]);
+    let stream = spelled(alloc, &longest)?;
     let mut link = MemLink::new(stream, 100, Vec::new(alloc), Vec::new(alloc));
     let end = serve(alloc, &Ports::new(), &mut link);
     Ok((end, link.bytes() == garbage.as_slice()))

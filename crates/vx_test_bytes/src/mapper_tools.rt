@@ -1,6 +1,5 @@
-//! The table of mappings that the tests ask, and messages as words.
+//! The table of mappings that the tests ask.
 
-use std::alloc::{AllocError, Global};
 use vx_portmap::{Mapping, Ports};
 
 /// The core program, at port 9010.
@@ -25,22 +24,4 @@ pub(crate) fn both() -> Ports {
     let _ = ports.add(CORE);
     let _ = ports.add(ABORT);
     ports
-}
-
-/// Words, as bytes.
-pub(crate) fn spelled(alloc: Global, words: &[u32]) -> Result<Vec<u8>, AllocError> {
-    let mut bytes = Vec::new(alloc);
-    for word in words {
-        bytes.extend_from_slice(&word.to_be_bytes())?;
-    }
-    Ok(bytes)
-}
-
-/// Words, as bytes, and so many zeros behind them.
-pub(crate) fn padded(alloc: Global, words: &[u32], zeros: usize) -> Result<Vec<u8>, AllocError> {
-    let mut bytes = spelled(alloc, words)?;
-    for _ in 0..zeros {
-        bytes.push(0)?;
-    }
-    Ok(bytes)
 }

@@ -7,9 +7,13 @@ ghost use Rattle.vx_portmap.specs.Boxes.{Takes, Adds};
 ghost use Rattle.vx_portmap.specs.Moves.{all_taken, all_given};
 ghost use Rattle.vx_test_bytes.specs.Kept.{kept, kept_move, moved_of, given_among};
 
-use std::alloc::Global;
+use crate::word_tools::spelled;
+use std::alloc::{AllocError, Global};
 use vx_io_traits::DialOut;
 use vx_portmap::{Given, Packet, PacketBox, Packets};
+
+/// What goes through a box: whether it is given to it, or taken from it, and the packet, as words.
+pub(crate) type Move<'a> = (bool, &'a [u32]);
 
 /// A packet that was given, or one that was taken, as it was read.
 #[derive(Drop)]
@@ -73,13 +77,14 @@ impl MemPackets {
         }
     }
 
-    /// Whether this went through it and nothing else, in this order: packets, and whether each was given to it or taken.
-    pub(crate) fn moved_so(&self, wanted: &[(bool, Vec<u8>)]) -> bool {
+    /// Whether this went through it and nothing else, in this order.
+    pub(crate) fn moved_so(&self, alloc: Global, wanted: &[Move<'_>]) -> Result<bool, AllocError> {
         let mut same = self.moved.len() == wanted.len();
-        for (moved, (is_given, packet)) in self.moved.iter().zip(wanted.iter()) {
-            same = same && moved.is_given == *is_given && moved.packet == *packet;
+        for (moved, (is_given, words)) in self.moved.iter().zip(wanted.iter()) {
+            let packet = spelled(alloc, words)?;
+            same = same && moved.is_given == *is_given && moved.packet == packet;
         }
-        same
+        Ok(same)
     }
 
     /// The first packet that it was given, or nothing.

@@ -96,6 +96,13 @@ fn play(
     Ok((state, buf.rest()))
 }
 
+/// A buffer of `limit` bytes.
+fn buffer(alloc: Global, limit: usize) -> Result<RecordBuf, Fail>
+    ensures { IfOk result (λ buf. buf.state ≡ Feed.More) }
+{
+    RecordBuf::new(alloc, limit).map_err(|_| "no memory".into())
+}
+
 /// Plays a stream in two pieces through a buffer of `limit` bytes.
 fn played(
     alloc: Global,
@@ -105,7 +112,7 @@ fn played(
     records: &mut Vec<u8>,
 ) -> Result<(Feed, usize), Fail> {
     records.clear();
-    let mut buf = RecordBuf::new(alloc, limit).map_err(|_| "no memory")?;
+    let mut buf = buffer(alloc, limit)?;
     Ok(play(&mut buf, stream, cut, records)?)
 }
 
@@ -181,7 +188,7 @@ fn a_new_stream(rt: HostRuntime) -> Result<(), Fail> {
         took: 7,
         state: Feed::Whole,
     };
-    let mut buf = RecordBuf::new(rt.alloc(), 3).map_err(|_| "no memory")?;
+    let mut buf = buffer(rt.alloc(), 3)?;
     let fed = begun_anew(&mut buf);
     assert!(rt; fed == (long, 0, whole, b"bcd".as_slice()));
     Ok(())

@@ -1,18 +1,10 @@
 //! Headers of calls and replies: the words are those of RFC 5531, section 9.
 
-use std::alloc::{AllocError, Global};
+use crate::word_tools::spelled;
 use std::test::Fail;
 use vx_calls::{Proc, Role};
 use vx_rpc::*;
 use vx_xdr::Full;
-
-fn message(alloc: Global, words: &[u32]) -> Result<Vec<u8>, AllocError> {
-    let mut bytes = Vec::new(alloc);
-    for word in words {
-        bytes.extend_from_slice(&word.to_be_bytes())?;
-    }
-    Ok(bytes)
-}
 
 // The call of a create_link for the text gpib0,5, with xid 1 and client 42, and its arguments.
 const CREATE_LINK: [u32; 16] = [
@@ -131,7 +123,7 @@ static MESSAGES: [(&[u32], Role, Sorted<'static>); 17] = [
 #[test]
 fn sorts_messages(rt: HostRuntime) -> Result<(), Fail> {
     for (row, (words, role, want)) in MESSAGES.iter().enumerate() {
-        let bytes = message(rt.alloc(), words)?;
+        let bytes = spelled(rt.alloc(), words)?;
         assert!(rt; sort_call(&bytes, *role) == *want, "in row {row}");
     }
     Ok(())
@@ -199,12 +191,8 @@ fn put(header: Header, out: &mut [u8]) -> Result<usize, Full> {
 fn written(header: Header, room: usize, words: &[u8]) -> (Result<usize, Full>, bool) {
     let mut out = [0xEE; 44];
     let answer = put(header, &mut out[..room.min(44)]);
-    let stands = out.starts_with(words) && is_left(&out[words.len().min(44)..]);
-    (answer, stands)
-}
-
-fn is_left(out: &[u8]) -> bool {
-    out.iter().all(|byte| *byte == 0xEE)
+    let left = out.strip_prefix(words);
+    (answer, left == Some(&[0xEE; 44][words.len().min(44)..]))
 }
 
 // Headers, the room for them, and their words in it. The last three have a byte too little.
@@ -259,7 +247,7 @@ static HEADERS: [(Header, usize, Result<usize, Full>, &[u32]); 10] = [
 #[test]
 fn writes_headers(rt: HostRuntime) -> Result<(), Fail> {
     for (row, (header, room, answer, words)) in HEADERS.iter().enumerate() {
-        let bytes = message(rt.alloc(), words)?;
+        let bytes = spelled(rt.alloc(), words)?;
         assert!(rt;
             written(*header, *room, &bytes) == (*answer, true),
             "in row {row}"
@@ -268,55 +256,89 @@ fn writes_headers(rt: HostRuntime) -> Result<(), Fail> {
     Ok(())
 }
 
-// Replies in words that refuse a call, and that are none.
-static REFUSALS: [(&[u32], Option<RpcRefusal>); 18] = [
-    (&[5, 1, 0, 0, 0, 1], Some(RpcRefusal::ProgUnavail)),
-    (&[5, 1, 0, 0, 0, 2, 3, 4], Some(RpcRefusal::ProgMismatch)),
-    (&[5, 1, 0, 0, 0, 3], Some(RpcRefusal::ProcUnavail)),
-    (&[5, 1, 0, 0, 0, 4], Some(RpcRefusal::GarbageArgs)),
-    (&[5, 1, 0, 0, 0, 5], Some(RpcRefusal::SystemErr)),
-    (&[5, 1, 1, 0, 2, 3], Some(RpcRefusal::RpcMismatch)),
-    (&[5, 1, 1, 1, 5], Some(RpcRefusal::AuthError)),
-    (&[5, 1], None),
-    (&[5, 0, 0, 0, 0, 0], None),
-    (&[5, 1, 2, 0, 0, 0], None),
-    (&[5, 1, 0, 0, 0], None),
-    (&[5, 1, 0, 0, 401, 0], None),
-    (&[5, 1, 0, 0, 0, 6], None),
-    (&[5, 1, 0, 0, 0, 1, 0], None),
-    (&[5, 1, 0, 0, 0, 2, 3], None),
-    (&[5, 1, 1, 0, 2], None),
-    (&[5, 1, 1, 1], None),
-    (&[5, 1, 1, 2, 0], None),
+// Replies in words that refuse a call, that are none, and that have results.
+static REPLIES: [(&[u32], ReplyRead<'static>); 20] = [
+    (
+        &[5, 1, 0, 0, 0, 1],
+        ReplyRead::Refused {
+            xid: 5,
+            refusal: RpcRefusal::ProgUnavail,
+        },
+    ),
+    (
+        &[5, 1, 0, 0, 0, 2, 3, 4],
+        ReplyRead::Refused {
+            xid: 5,
+            refusal: RpcRefusal::ProgMismatch,
+        },
+    ),
+    (
+        &[5, 1, 0, 0, 0, 3],
+        ReplyRead::Refused {
+            xid: 5,
+            refusal: RpcRefusal::ProcUnavail,
+        },
+    ),
+    (
+        &[5, 1, 0, 0, 0, 4],
+        ReplyRead::Refused {
+            xid: 5,
+            refusal: RpcRefusal::GarbageArgs,
+        },
+    ),
+    (
+        &[5, 1, 0, 0, 0, 5],
+        ReplyRead::Refused {
+            xid: 5,
+            refusal: RpcRefusal::SystemErr,
+        },
+    ),
+    (
+        &[5, 1, 1, 0, 2, 3],
+        ReplyRead::Refused {
+            xid: 5,
+            refusal: RpcRefusal::RpcMismatch,
+        },
+    ),
+    (
+        &[5, 1, 1, 1, 5],
+        ReplyRead::Refused {
+            xid: 5,
+            refusal: RpcRefusal::AuthError,
+        },
+    ),
+    (&[5, 1], ReplyRead::Bad),
+    (&[5, 0, 0, 0, 0, 0], ReplyRead::Bad),
+    (&[5, 1, 2, 0, 0, 0], ReplyRead::Bad),
+    (&[5, 1, 0, 0, 0], ReplyRead::Bad),
+    (&[5, 1, 0, 0, 401, 0], ReplyRead::Bad),
+    (&[5, 1, 0, 0, 0, 6], ReplyRead::Bad),
+    (&[5, 1, 0, 0, 0, 1, 0], ReplyRead::Bad),
+    (&[5, 1, 0, 0, 0, 2, 3], ReplyRead::Bad),
+    (&[5, 1, 1, 0, 2], ReplyRead::Bad),
+    (&[5, 1, 1, 1], ReplyRead::Bad),
+    (&[5, 1, 1, 2, 0], ReplyRead::Bad),
+    (
+        &[5, 1, 0, 0, 0, 0],
+        ReplyRead::Success {
+            xid: 5,
+            results: &[],
+        },
+    ),
+    (
+        &[5, 1, 0, 1, 4, 9, 0, 7],
+        ReplyRead::Success {
+            xid: 5,
+            results: &[0, 0, 0, 7],
+        },
+    ),
 ];
 
-fn refused(refusal: Option<RpcRefusal>) -> ReplyRead<'static> {
-    match refusal {
-        Some(refusal) => ReplyRead::Refused { xid: 5, refusal },
-        None => ReplyRead::Bad,
-    }
-}
-
 #[test]
-fn reads_refusals(rt: HostRuntime) -> Result<(), Fail> {
-    for (row, (words, refusal)) in REFUSALS.iter().enumerate() {
-        let bytes = message(rt.alloc(), words)?;
-        assert!(rt; read_reply(&bytes) == refused(*refusal), "in row {row}");
-    }
-    Ok(())
-}
-
-static SUCCESSES: [(&[u32], &[u8]); 2] = [
-    (&[5, 1, 0, 0, 0, 0], &[]),
-    (&[5, 1, 0, 1, 4, 9, 0, 7], &[0, 0, 0, 7]),
-];
-
-#[test]
-fn reads_successes(rt: HostRuntime) -> Result<(), Fail> {
-    for (row, (words, results)) in SUCCESSES.iter().enumerate() {
-        let bytes = message(rt.alloc(), words)?;
-        let success = ReplyRead::Success { xid: 5, results };
-        assert!(rt; read_reply(&bytes) == success, "in row {row}");
+fn reads_replies(rt: HostRuntime) -> Result<(), Fail> {
+    for (row, (words, read)) in REPLIES.iter().enumerate() {
+        let bytes = spelled(rt.alloc(), words)?;
+        assert!(rt; read_reply(&bytes) == *read, "in row {row}");
     }
     Ok(())
 }

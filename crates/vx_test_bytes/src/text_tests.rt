@@ -77,8 +77,7 @@ fn whole_sinks(rt: HostRuntime) -> Result<(), Fail> {
 
 /// Whether a room of this length has as many bytes, all of them 0.
 fn is_room(alloc: Global, len: usize) -> Result<bool, AllocError> {
-    let room = zeros(alloc, len)?;
-    Ok(room.len() == len && room.iter().all(|byte| *byte == 0))
+    Ok(zeros(alloc, len)? == vec![in alloc; 0u8; len]?)
 }
 
 #[test]

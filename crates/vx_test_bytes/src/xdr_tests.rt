@@ -26,15 +26,19 @@ fn read_head<'a>(r: &mut Reader<'a>) -> Result<Head<'a>, XdrErr> {
     Ok((r.opaque(255)?, r.u32()?, [r.opaque(255)?, r.opaque(5)?]))
 }
 
-// The head, a read of too few bytes, a read of enough, and whether that was all.
+/// A read of the data that takes too few bytes, one that takes enough, and whether that was all.
+fn read_data<'a>(r: &mut Reader<'a>) -> ([Result<&'a [u8], XdrErr>; 2], bool) {
+    ([r.opaque(5), r.opaque(6)], r.at_end())
+}
+
 #[test]
 fn reads_the_file_of_the_standard(rt: HostRuntime) {
     let mut r = Reader::new(&FILE);
-    let head: Head<'_> = (b"sillyprog", 2, [b"lisp", b"john"]);
-    assert!(rt; read_head(&mut r) == Ok(head), "the head");
-    assert!(rt; r.opaque(5) == Err(XdrErr::Long), "too few bytes");
-    assert!(rt; r.opaque(6) == Ok(b"(quit)".as_slice()), "enough");
-    assert!(rt; r.at_end(), "no more");
+    let (head, data) = (read_head(&mut r), read_data(&mut r));
+    let wanted: Head<'_> = (b"sillyprog", 2, [b"lisp", b"john"]);
+    let quit = Ok(b"(quit)".as_slice());
+    assert!(rt; head == Ok(wanted), "the head");
+    assert!(rt; data == ([Err(XdrErr::Long), quit], true), "the data");
 }
 
 #[test]
