@@ -3,78 +3,16 @@
 ghost use Rattle.std.specs.Prelude.{◌≡◌, ◌≤◌, true, []};
 ghost use Rattle.vx_inst.specs.declared.done.Done.TheVariants.{Took};
 ghost use Rattle.vx_inst.specs.Behavior.{after};
-ghost use Rattle.vx_inst.specs.Laws.{takes_byte, Takes, status_byte, IsPolled, IsSound, IsStatus};
+ghost use Rattle.vx_inst.specs.Laws.{takes_byte, Takes, status_byte, IsPolled, IsSound};
 
+use crate::latch_tools::make_latch;
 use crate::row_tools::compare;
+use crate::step_tools::{get, hand};
+use std::alloc::{AllocError, Global};
 use std::test::Fail;
 use vx_bus::{ManyGot, Stop};
 use vx_inst::*;
 use vx_rack::Echo;
-
-/// An instrument that keeps a byte until END comes, and has one byte to give from the beginning.
-#[derive(Drop)]
-struct Latch {
-    taken: Option<u8>,
-    given: Option<u8>,
-    stb: u8,
-    asks: bool,
-    ghost status: { IsStatus stb },
-}
-
-impl Instrument for Latch {
-    ghost use Rattle.std.specs.Prelude.{true, map, is_none};
-    ghost use Rattle.std.specs.Option.{option_to_list};
-    ghost use Rattle.vx_test_bus.specs.Toys.{latch_behavior};
-
-    ghost behaves = { λ latch. latch_behavior (record { inbox = option_to_list latch.taken; out = map (λ b. record { value = b; end = true }) (option_to_list latch.given); stb = latch.stb; rqs = latch.asks; ready = is_none latch.taken }) };
-
-    fn can_take(&self) -> bool {
-        self.taken.is_none()
-    }
-
-    fn take(&mut self, b: u8, end: bool) {
-        self.taken = if end { None } else { Some(b) };
-    }
-
-    fn can_give(&self) -> bool {
-        self.taken.is_none() && self.given.is_some()
-    }
-
-    fn give(&mut self) -> (u8, bool) {
-        match self.given.take() {
-            Some(b) => (b, true),
-            None => (0, true),
-        }
-    }
-
-    fn poll(&mut self) -> u8 {
-        let asked = self.asks;
-        self.asks = false;
-        if asked { self.stb + 64 } else { self.stb }
-    }
-
-    fn requests(&self) -> bool {
-        self.asks
-    }
-
-    fn clear(&mut self) {
-        self.taken = None;
-        self.given = None;
-    }
-
-    fn trigger(&mut self) {
-        self.asks = true;
-    }
-
-    fn local(&mut self) {}
-
-    fn set_status(&mut self, b: u8) {
-        self.stb = b / 128 * 128 + b % 64;
-        self.asks = b / 64 % 2 == 1;
-    }
-
-    fn moment(&mut self, _now: u64) {}
-}
 
 /// An instrument at its place, as a bus keeps it.
 #[derive(Drop)]
@@ -105,18 +43,6 @@ fn ask(placed: &mut Placed) -> u8
     placed.inst.poll()
 }
 
-/// A latch that has 10 to give, with this status byte.
-fn make_latch(stb: u8) -> Latch
-    requires { IsStatus stb }
-{
-    Latch {
-        taken: None,
-        given: Some(10),
-        stb,
-        asks: false,
-    }
-}
-
 /// Gets a byte of a boxed instrument, where it has one.
 fn release(placed: &mut Placed) -> Option<(u8, bool)> {
     if placed.inst.can_give() {
@@ -126,8 +52,11 @@ fn release(placed: &mut Placed) -> Option<(u8, bool)> {
     }
 }
 
+/// Which bytes were taken, and what was got.
+type Offered = ([bool; 4], [Option<(u8, bool)>; 2]);
+
 /// Offers 65 with END, gets two bytes, offers 66 and 67, and 68 behind a clear.
-fn offer_all(placed: &mut Placed) -> ([bool; 4], [Option<(u8, bool)>; 2]) {
+fn offer_all(placed: &mut Placed) -> Offered {
     let first = offer(placed, 65, true);
     let given = [release(placed), release(placed)];
     let second = offer(placed, 66, false);
@@ -148,17 +77,20 @@ fn poll_all(placed: &mut Placed) -> (bool, [u8; 5]) {
     (requests, [idle, asking[0], asking[1], set[0], set[1]])
 }
 
+/// All of that, with a latch in a box at place 5; and its place then.
+fn go_through(alloc: Global) -> Result<(Offered, (bool, [u8; 5]), u8), AllocError> {
+    let inst = Box::new(alloc, make_latch(0, None))?;
+    let mut placed = Placed { at: 5, inst };
+    Ok((offer_all(&mut placed), poll_all(&mut placed), placed.at))
+}
+
 // A caller of boxed instruments names their views, before a call and after it.
 #[test]
 fn boxed(rt: HostRuntime) -> Result<(), Fail> {
-    let inst = Box::new(rt.alloc(), make_latch(0))?;
-    let mut placed = Placed { at: 5, inst };
-    let offered = offer_all(&mut placed);
-    let polled = poll_all(&mut placed);
     compare(
         &rt,
         0,
-        &(offered, polled, placed.at),
+        &go_through(rt.alloc())?,
         &(
             ([true, true, false, true], [Some((10, true)), None]),
             (true, [0, 64, 0, 0xFF, 0xBF]),
@@ -223,35 +155,13 @@ fn body(rt: HostRuntime) -> Result<(), Fail> {
     Ok(())
 }
 
-/// Hands a byte to an instrument of any kind, where it can take one.
-fn hand<I: Instrument>(inst: &mut I, b: u8, end: bool) -> bool
-    ensures can { result ≡ takes_byte (I.behaves inst.old []) }
-    ensures takes { result ≡ true → Takes (I.behaves inst.old []) b end (I.behaves inst.new []) }
-    ensures does { result ≡ true → I.behaves inst.new ≡ after (Took b end) (I.behaves inst.old) }
-{
-    let can = inst.can_take();
-    if can {
-        inst.take(b, end);
-    }
-    can
-}
-
-/// The same of a box: it behaves as the instrument inside.
+/// Hands a byte to one in a box, which behaves as the instrument inside.
 fn hand_boxed(inst: &mut Box<dyn Instrument + Send>, b: u8, end: bool) -> bool
     ensures can { result ≡ takes_byte (behaves inst.old []) }
     ensures takes { result ≡ true → Takes (behaves inst.old []) b end (behaves inst.new []) }
     ensures does { result ≡ true → behaves inst.new ≡ after (Took b end) (behaves inst.old) }
 {
     hand(inst, b, end)
-}
-
-/// Gets a byte of an instrument of any kind, where it has one.
-fn get<I: Instrument>(inst: &mut I) -> Option<(u8, bool)> {
-    if inst.can_give() {
-        Some(inst.give())
-    } else {
-        None
-    }
 }
 
 /// Goes through what else there is to ask of an instrument of any kind, and answers its status bytes.
@@ -266,27 +176,31 @@ fn serve<I: Instrument>(inst: &mut I) -> [u8; 3] {
 }
 
 /// Gets two bytes, hands three, and one behind a clear.
-fn hand_all(inst: &mut Box<dyn Instrument + Send>) -> ([Option<(u8, bool)>; 2], [bool; 4]) {
+fn hand_all(inst: &mut Box<dyn Instrument + Send>) -> Offered {
     let given = [get(inst), get(inst)];
     let first = hand(inst, 65, true);
     let second = hand_boxed(inst, 66, false);
     let third = hand(inst, 67, false);
     inst.clear();
     let cleared = hand_boxed(inst, 68, true);
-    (given, [first, second, third, cleared])
+    ([first, second, third, cleared], given)
+}
+
+/// All of that, with a latch in a box.
+fn serve_boxed(alloc: Global) -> Result<(Offered, [u8; 3]), AllocError> {
+    let mut inst: Box<dyn Instrument + Send> = Box::new(alloc, make_latch(1, None))?;
+    Ok((hand_all(&mut inst), serve(&mut inst)))
 }
 
 // A boxed instrument goes where one of any kind is wanted.
 #[test]
 fn boxed_for_any(rt: HostRuntime) -> Result<(), Fail> {
-    let mut inst: Box<dyn Instrument + Send> = Box::new(rt.alloc(), make_latch(1))?;
-    let found = (hand_all(&mut inst), serve(&mut inst));
     compare(
         &rt,
         0,
-        &found,
+        &serve_boxed(rt.alloc())?,
         &(
-            ([Some((10, true)), None], [true, true, false, true]),
+            ([true, true, false, true], [Some((10, true)), None]),
             [65, 1, 0xFF],
         ),
     );
@@ -353,7 +267,7 @@ fn run_boxed(inst: &mut Box<dyn Instrument + Send>) -> ([usize; 2], (ManyGot, [u
 // So does one of an instrument in a box, which takes the bytes that it can.
 #[test]
 fn boxed_runs(rt: HostRuntime) -> Result<(), Fail> {
-    let mut inst: Box<dyn Instrument + Send> = Box::new(rt.alloc(), make_latch(0))?;
+    let mut inst: Box<dyn Instrument + Send> = Box::new(rt.alloc(), make_latch(0, None))?;
     compare(
         &rt,
         0,

@@ -20,6 +20,8 @@ mod drop_tests;
 #[cfg(test)]
 mod inst_tests;
 #[cfg(test)]
+mod latch_tools;
+#[cfg(test)]
 mod plan_tests;
 #[cfg(test)]
 mod rack_tests;

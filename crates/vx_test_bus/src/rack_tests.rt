@@ -2,6 +2,7 @@
 
 use crate::step_tools::{Step, take_steps};
 use arrayvec::ArrayString;
+use std::process::Abort;
 use std::test::Fail;
 use vx_inst::{INST_MAX, Instrument};
 use vx_rack::*;
@@ -10,7 +11,7 @@ use vx_rack::*;
 type Boxed = Box<dyn Instrument + Send>;
 
 // A message comes back with END on its last byte.
-static ECHO: [Step; 23] = [
+static ECHO: [Step; 34] = [
     Step::Mute,
     Step::Takes(b'A', false),
     Step::Mute,
@@ -34,6 +35,18 @@ static ECHO: [Step; 23] = [
     Step::Polled(0xBF),
     Step::Sent(b"EF"),
     Step::Replies(b"EF"),
+    // A reply that has no room is dropped whole, and one that just fits isn't.
+    Step::Filled(b'x', INST_MAX, false),
+    Step::Hears(false),
+    Step::Mute,
+    Step::Cleared,
+    Step::Filled(b'x', INST_MAX, true),
+    Step::Sent(b"A"),
+    Step::Gives(b'x', false),
+    Step::Sent(b"BC"),
+    Step::Sent(b"D"),
+    Step::Sent(b"E"),
+    Step::Drained(INST_MAX, &[(b'x', false), (b'x', true), (b'D', true)]),
 ];
 
 // Readings are numbered from 1, by message and by trigger.
@@ -59,14 +72,6 @@ static METER: [Step; 20] = [
     Step::Replies(b"6\n"),
     Step::Asks(false),
 ];
-
-#[test]
-fn meter(rt: HostRuntime) -> Result<(), Fail> {
-    let meter = Meter::new(rt.alloc())?;
-    let mut inst: Boxed = Box::new(rt.alloc(), meter)?;
-    take_steps(&rt, "meter", &mut inst, &METER);
-    Ok(())
-}
 
 // After each byte a slow instrument waits for a later moment; a poll and a clear leave that as it is.
 static SLOW: [Step; 29] = [
@@ -101,14 +106,6 @@ static SLOW: [Step; 29] = [
     Step::Hears(false),
 ];
 
-#[test]
-fn slow(rt: HostRuntime) -> Result<(), Fail> {
-    let slow = Slow::new(rt.alloc())?;
-    let mut inst: Boxed = Box::new(rt.alloc(), slow)?;
-    take_steps(&rt, "slow", &mut inst, &SLOW);
-    Ok(())
-}
-
 // The end of a message and a trigger ask for service, and a poll ends the asking.
 static ASKER: [Step; 19] = [
     Step::Asks(false),
@@ -132,38 +129,6 @@ static ASKER: [Step; 19] = [
     Step::Polled(0x01),
 ];
 
-#[test]
-fn asker(rt: HostRuntime) -> Result<(), Fail> {
-    let asker = Asker::new(rt.alloc())?;
-    let mut inst: Boxed = Box::new(rt.alloc(), asker)?;
-    take_steps(&rt, "asker", &mut inst, &ASKER);
-    Ok(())
-}
-
-// A reply that has no room is dropped whole, and one that just fits isn't. This goes on behind the steps above.
-static FULL_ECHO: [Step; 11] = [
-    Step::Filled(b'x', INST_MAX, false),
-    Step::Hears(false),
-    Step::Mute,
-    Step::Cleared,
-    Step::Filled(b'x', INST_MAX, true),
-    Step::Sent(b"A"),
-    Step::Gives(b'x', false),
-    Step::Sent(b"BC"),
-    Step::Sent(b"D"),
-    Step::Sent(b"E"),
-    Step::Drained(INST_MAX, &[(b'x', false), (b'x', true), (b'D', true)]),
-];
-
-#[test]
-fn echo(rt: HostRuntime) -> Result<(), Fail> {
-    let echo = Echo::new(rt.alloc())?;
-    let mut inst: Boxed = Box::new(rt.alloc(), echo)?;
-    take_steps(&rt, "echo", &mut inst, &ECHO);
-    take_steps(&rt, "full echo", &mut inst, &FULL_ECHO);
-    Ok(())
-}
-
 // Readings 1 to 45541 leave room for 4 bytes: the next reading is dropped, and its number isn't given again.
 static FULL_METER: [Step; 4] = [
     Step::TriggeredOften(45542),
@@ -181,27 +146,58 @@ const FULL_METER_ENDS: &[(u8, bool)] = &[
     (b'\n', true),
 ];
 
+/// Does steps with an instrument.
+fn play(rt: &impl Abort, name: &str, mut inst: Boxed, steps: &[Step]) {
+    take_steps(rt, name, &mut inst, steps);
+}
+
+#[test]
+fn echo(rt: HostRuntime) -> Result<(), Fail> {
+    let inst = Box::new(rt.alloc(), Echo::new(rt.alloc())?)?;
+    play(&rt, "echo", inst, &ECHO);
+    Ok(())
+}
+
+#[test]
+fn meter(rt: HostRuntime) -> Result<(), Fail> {
+    let inst = Box::new(rt.alloc(), Meter::new(rt.alloc())?)?;
+    play(&rt, "meter", inst, &METER);
+    Ok(())
+}
+
+#[test]
+fn slow(rt: HostRuntime) -> Result<(), Fail> {
+    let inst = Box::new(rt.alloc(), Slow::new(rt.alloc())?)?;
+    play(&rt, "slow", inst, &SLOW);
+    Ok(())
+}
+
+#[test]
+fn asker(rt: HostRuntime) -> Result<(), Fail> {
+    let inst = Box::new(rt.alloc(), Asker::new(rt.alloc())?)?;
+    play(&rt, "asker", inst, &ASKER);
+    Ok(())
+}
+
 #[test]
 fn full_meter(rt: HostRuntime) -> Result<(), Fail> {
-    let meter = Meter::new(rt.alloc())?;
-    let mut inst: Boxed = Box::new(rt.alloc(), meter)?;
-    take_steps(&rt, "full meter", &mut inst, &FULL_METER);
+    let inst = Box::new(rt.alloc(), Meter::new(rt.alloc())?)?;
+    play(&rt, "full meter", inst, &FULL_METER);
     Ok(())
 }
 
 // A spare has the name that it is plugged in by.
+fn play_spare(rt: &impl Abort, spare: &mut Spare<Boxed>) {
+    let steps = [Step::Sent(b"A"), Step::Replies(b"A")];
+    take_steps(rt, "spare", &mut spare.inst, &steps);
+    assert!(rt; spare.name.as_str() == "echo");
+}
+
 #[test]
 fn spare(rt: HostRuntime) -> Result<(), Fail> {
-    let echo = Echo::new(rt.alloc())?;
     let name = ArrayString::from("echo").map_err(|_| "too long")?;
+    let echo = Echo::new(rt.alloc())?;
     let inst: Boxed = Box::new(rt.alloc(), echo)?;
-    let mut spare = Spare { name, inst };
-    take_steps(
-        &rt,
-        "spare",
-        &mut spare.inst,
-        &[Step::Sent(b"A"), Step::Replies(b"A")],
-    );
-    assert!(rt; spare.name.as_str() == "echo");
+    play_spare(&rt, &mut Spare { name, inst });
     Ok(())
 }

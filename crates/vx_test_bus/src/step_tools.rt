@@ -1,5 +1,10 @@
 //! What a bus asks of an instrument, as data, with the answers that are due.
 
+ghost use Rattle.std.specs.Prelude.{◌≡◌, true, []};
+ghost use Rattle.vx_inst.specs.declared.done.Done.TheVariants.{Took};
+ghost use Rattle.vx_inst.specs.Behavior.{after};
+ghost use Rattle.vx_inst.specs.Laws.{takes_byte, Takes};
+
 use std::process::Abort;
 use vx_inst::Instrument;
 
@@ -37,8 +42,12 @@ pub enum Step {
     Drained(usize, &'static [(u8, bool)]),
 }
 
-/// Hands an instrument a byte. Answers whether it can take it.
-fn hand<I: Instrument>(inst: &mut I, b: u8, end: bool) -> bool {
+/// Hands a byte to an instrument of any kind, where it can take one.
+pub fn hand<I: Instrument>(inst: &mut I, b: u8, end: bool) -> bool
+    ensures can { result ≡ takes_byte (I.behaves inst.old []) }
+    ensures takes { result ≡ true → Takes (I.behaves inst.old []) b end (I.behaves inst.new []) }
+    ensures does { result ≡ true → I.behaves inst.new ≡ after (Took b end) (I.behaves inst.old) }
+{
     let can = inst.can_take();
     if can {
         inst.take(b, end);
@@ -46,8 +55,8 @@ fn hand<I: Instrument>(inst: &mut I, b: u8, end: bool) -> bool {
     can
 }
 
-/// Gets a byte, where it can give one.
-fn get<I: Instrument>(inst: &mut I) -> Option<(u8, bool)> {
+/// Gets a byte of one, where it has one.
+pub fn get<I: Instrument>(inst: &mut I) -> Option<(u8, bool)> {
     if inst.can_give() {
         Some(inst.give())
     } else {
