@@ -1,5 +1,6 @@
 //! Checks of traces whose words, source or sink fail. What is found of worked traces are rows of the program `vx_rows`.
 
+use crate::text_tools::words_of;
 use std::alloc::{AllocError, Global};
 use std::test::Fail;
 use vx_check::{TRACE_MAX, check_run, check_up_to};
@@ -8,9 +9,9 @@ use vx_memory::{MemSink, MemSource};
 /// A trace that is legal.
 const LEGAL: &[u8] = b"vxtrace 2\ndone\n";
 
-/// How many words there are, a trace, the reads and the writes that fail, the status, and what is printed.
+/// The words, a trace, the reads and the writes that fail, the status, and what is printed.
 type Row = (
-    usize,
+    &'static [&'static str],
     &'static [u8],
     &'static [u64],
     &'static [u64],
@@ -19,13 +20,13 @@ type Row = (
 );
 
 static ROWS: [Row; 6] = [
-    (0, LEGAL, &[1], &[], 2, b""),
-    (0, LEGAL, &[3], &[], 2, b""),
-    (0, LEGAL, &[], &[1], 4, b""),
-    (0, b"done\n", &[], &[1], 4, b""),
+    (&[], LEGAL, &[1], &[], 2, b""),
+    (&[], LEGAL, &[3], &[], 2, b""),
+    (&[], LEGAL, &[], &[1], 4, b""),
+    (&[], b"done\n", &[], &[1], 4, b""),
     // where there are words the trace isn't read
-    (1, LEGAL, &[], &[], 1, b"usage: vxcheck\n"),
-    (1, LEGAL, &[1], &[1], 4, b""),
+    (&[""], LEGAL, &[], &[], 1, b"usage: vxcheck\n"),
+    (&[""], LEGAL, &[1], &[1], 4, b""),
 ];
 
 /// The longest trace, a trace, the writes that fail, the status, and what is printed.
@@ -42,19 +43,10 @@ static LONG: [Long; 7] = [
     (0, b"d", &[], 6, b"long\n"),
 ];
 
-/// So many empty words.
-fn words_of(alloc: Global, count: usize) -> Result<Vec<String>, AllocError> {
-    let mut words = Vec::new(alloc);
-    for _ in 0..count {
-        words.push(String::new(alloc))?;
-    }
-    Ok(words)
-}
-
 /// Whether the check of a row's trace, of which four bytes are read at once, ends as it says.
 fn ends_so(alloc: Global, row: &Row) -> Result<bool, AllocError> {
-    let (count, trace, read_fails, write_fails, status, printed) = *row;
-    let words = words_of(alloc, count)?;
+    let (words, trace, read_fails, write_fails, status, printed) = *row;
+    let words = words_of(alloc, words)?;
     let mut source = MemSource::new(trace.to_vec(alloc)?, 4, read_fails.to_vec(alloc)?);
     let mut sink = MemSink::new(Vec::new(alloc), write_fails.to_vec(alloc)?);
     let ended = check_run(alloc, &words, &mut source, &mut sink);

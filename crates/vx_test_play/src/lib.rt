@@ -10,4 +10,6 @@ mod play_tests;
 #[cfg(test)]
 mod script_tests;
 #[cfg(test)]
+mod text_tools;
+#[cfg(test)]
 mod trace_tests;

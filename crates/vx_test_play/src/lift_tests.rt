@@ -1,5 +1,6 @@
 //! Lifts whose sink fails, and lifts of the longest lines. Other scripts are rows of the program `vx_rows`.
 
+use crate::text_tools::{Piece, text_of};
 use std::alloc::{AllocError, Global};
 use std::test::Fail;
 use vx_lift::*;
@@ -40,38 +41,49 @@ fn lifts_whose_sink_fails(rt: HostRuntime) -> Result<(), Fail> {
     Ok(())
 }
 
-/// A line that begins so, and goes on with `#` up to so many bytes.
-fn long_line(alloc: Global, front: &[u8], len: usize) -> Result<Vec<u8>, AllocError> {
-    let mut line = front.to_vec(alloc)?;
-    line.resize(len, b'#')?;
-    Ok(line)
-}
+/// The lengths of lines that begin with `inst 5 ` and go on with `#`, how a lift behind the greatest moment ends, and what is
+/// written.
+static LONG_LINES: [(usize, LiftEnd, &[Piece]); 2] = [
+    (
+        LINE_MAX,
+        LiftEnd::Whole,
+        &[
+            ("vxscript 2\n18446744073709551615 inst 5 ", 1),
+            ("#", LINE_MAX - 7),
+            ("\n18446744073709551615 sample\n", 1),
+        ],
+    ),
+    (
+        LINE_MAX + 1,
+        LiftEnd::Fault { line: 2 },
+        &[("vxscript 2\n", 1)],
+    ),
+];
 
-/// Whether a line that begins so and has this length is lifted behind the greatest moment, or is strange.
-fn is_long_lifted(alloc: Global, len: usize, is_within: bool) -> Result<bool, AllocError> {
-    let line = long_line(alloc, b"inst 5 ", len)?;
-    let mut script = b"at 18446744073709551615\n".to_vec(alloc)?;
-    script.extend_from_slice(&line)?;
-    script.extend_from_slice(b"\nsample\n")?;
-    let mut lifted = b"vxscript 2\n".to_vec(alloc)?;
-    if is_within {
-        lifted.extend_from_slice(b"18446744073709551615 ")?;
-        lifted.extend_from_slice(&line)?;
-        lifted.extend_from_slice(b"\n18446744073709551615 sample\n")?;
-    }
-    let ended = if is_within {
-        LiftEnd::Whole
-    } else {
-        LiftEnd::Fault { line: 2 }
-    };
+/// Whether a line of this length is lifted so.
+fn is_long_lifted(
+    alloc: Global,
+    len: usize,
+    ended: LiftEnd,
+    lifted: &[Piece],
+) -> Result<bool, AllocError> {
+    let script = text_of(
+        alloc,
+        &[
+            ("at 18446744073709551615\ninst 5 ", 1),
+            ("#", len.saturating_sub(7)),
+            ("\nsample\n", 1),
+        ],
+    )?;
+    let lifted = text_of(alloc, lifted)?;
     is_lifted(alloc, &script, &[], ended, &lifted)
 }
 
 #[test]
 fn lifts_of_long_lines(rt: HostRuntime) -> Result<(), Fail> {
-    let is_longest = is_long_lifted(rt.alloc(), LINE_MAX, true)?;
-    assert!(rt; is_longest);
-    let is_above = is_long_lifted(rt.alloc(), LINE_MAX + 1, false)?;
-    assert!(rt; is_above);
+    for (len, ended, lifted) in LONG_LINES {
+        let is_so = is_long_lifted(rt.alloc(), len, ended, lifted)?;
+        assert!(rt; is_so, "of {len} bytes");
+    }
     Ok(())
 }

@@ -1,6 +1,7 @@
 //! Plays whose words, source or sink fail, and scripts that are too long for a file. Other scripts are rows of the program
 //! `vx_rows`. Records are composed by hand from their words; the record's mark stands first.
 
+use crate::text_tools::{Piece, text_of, words_of};
 use arrayvec::ArrayString;
 use std::alloc::{AllocError, Global};
 use std::test::Fail;
@@ -10,9 +11,6 @@ use vx_play::*;
 use vx_rack::{Echo, Spare};
 
 const USAGE: &[u8] = b"usage: vxplay COMMAND\n";
-
-/// A text, so many times.
-type Piece = (&'static str, usize);
 
 /// What a play prints.
 #[derive(Clone, Copy)]
@@ -244,6 +242,15 @@ fn add_spare(alloc: Global, name: &str, rack: &mut Vec<Spare<Echo>>) -> Result<(
     }
 }
 
+/// A rack of spare instruments of these names.
+fn rack_of(alloc: Global, names: &[&str]) -> Result<Vec<Spare<Echo>>, AllocError> {
+    let mut rack = Vec::new(alloc);
+    for name in names {
+        add_spare(alloc, name, &mut rack)?;
+    }
+    Ok(rack)
+}
+
 /// Plays these words with spare instruments of these names, and answers the status.
 fn play(
     alloc: Global,
@@ -252,15 +259,9 @@ fn play(
     source: &mut MemSource,
     sink: &mut MemSink,
 ) -> Result<u8, AllocError> {
-    let mut owned = Vec::new(alloc);
-    for word in words {
-        owned.push(String::from_str(alloc, word)?)?;
-    }
-    let mut rack = Vec::new(alloc);
-    for name in names {
-        add_spare(alloc, name, &mut rack)?;
-    }
-    Ok(play_run(alloc, &owned, source, sink, rack))
+    let words = words_of(alloc, words)?;
+    let rack = rack_of(alloc, names)?;
+    Ok(play_run(alloc, &words, source, sink, rack))
 }
 
 /// Whether the words of a row, which play no script, end so with these spares, and leave the source unread: its first read, which
@@ -343,35 +344,12 @@ fn plays_without_a_script(rt: HostRuntime) -> Result<(), Fail> {
     Ok(())
 }
 
-/// The text of pieces.
-fn text_of(alloc: Global, pieces: &[Piece]) -> Result<Vec<u8>, AllocError> {
-    let mut text = Vec::new(alloc);
-    for (piece, times) in pieces {
-        for _ in 0..*times {
-            text.extend_from_slice(piece.as_bytes())?;
-        }
-    }
-    Ok(text)
-}
-
-/// Whether a text is that of pieces.
-fn is_text_of(text: &[u8], pieces: &[Piece]) -> bool {
-    let mut rest = text;
-    for (piece, times) in pieces {
-        for _ in 0..*times {
-            match rest.strip_prefix(piece.as_bytes()) {
-                Some(behind) => rest = behind,
-                None => return false,
-            }
-        }
-    }
-    rest.is_empty()
-}
-
-fn is_printed(text: &[u8], printed: Printed) -> bool {
+fn is_printed(alloc: Global, text: &[u8], printed: Printed) -> Result<bool, AllocError> {
     match printed {
-        Printed::All(pieces) => is_text_of(text, pieces),
-        Printed::FrontOf(whole) => whole.as_bytes().starts_with(text) && text.len() < whole.len(),
+        Printed::All(pieces) => Ok(text_of(alloc, pieces)?.as_slice() == text),
+        Printed::FrontOf(whole) => {
+            Ok(whole.as_bytes().starts_with(text) && text.len() < whole.len())
+        }
     }
 }
 
@@ -381,7 +359,7 @@ fn is_right(alloc: Global, row: &Row) -> Result<bool, AllocError> {
     let mut source = MemSource::new(script, row.read.max(1), row.read_fails.to_vec(alloc)?);
     let mut sink = MemSink::new(Vec::new(alloc), row.write_fails.to_vec(alloc)?);
     let status = play(alloc, &["echo"], &["run"], &mut source, &mut sink)?;
-    Ok(status == row.status && is_printed(sink.bytes(), row.printed))
+    Ok(status == row.status && is_printed(alloc, sink.bytes(), row.printed)?)
 }
 
 #[test]

@@ -1,5 +1,6 @@
 //! What lines of a script say, and the words of causes. Lines outside the grammar are rows of the program `vx_rows`.
 
+use crate::text_tools::text_of;
 use std::alloc::{AllocError, Global};
 use std::test::Fail;
 use vx_calls::Role;
@@ -247,60 +248,6 @@ fn words(rt: HostRuntime) {
     }
 }
 
-/// A line that begins so, and goes on with `#` up to so many bytes.
-fn long_line(alloc: Global, front: &[u8], len: usize) -> Result<Vec<u8>, AllocError> {
-    let mut line = front.to_vec(alloc)?;
-    line.resize(len, b'#')?;
-    Ok(line)
-}
-
-/// What such a line says where it isn't too long.
-fn said_by(line: &[u8]) -> Read<'_> {
-    match line.strip_prefix(b"inst 5 ".as_slice()) {
-        Some(text) => Ok(Some(Step::Inst {
-            p: 5,
-            s: None,
-            text,
-        })),
-        None => Ok(None),
-    }
-}
-
-/// Whether such a line, with room for its bytes, is read, or is too long.
-fn is_long_line(line: &[u8], room: &mut [u8], is_read: bool) -> bool {
-    let wanted = if is_read {
-        said_by(line)
-    } else {
-        Err(Cause::Form)
-    };
-    line.len() == room.len() && read_step(line, room) == wanted
-}
-
-// The longest line has 1,048,576 bytes; one that is longer is outside the grammar, even where it would be skipped.
-/// The fronts of lines, how long the lines are, and whether they are read.
-static LONG_LINES: [(&[u8], usize, bool); 4] = [
-    (b"#", 1_048_576, true),
-    (b"#", 1_048_577, false),
-    (b"inst 5 ", 1_048_576, true),
-    (b"inst 5 ", 1_048_577, false),
-];
-
-/// Whether a line that begins so and has so many bytes is read, or is too long.
-fn is_long(alloc: Global, front: &[u8], len: usize, is_read: bool) -> Result<bool, AllocError> {
-    let line = long_line(alloc, front, len)?;
-    let mut room = long_line(alloc, b"", len)?;
-    Ok(is_long_line(&line, &mut room, is_read))
-}
-
-#[test]
-fn long_lines(rt: HostRuntime) -> Result<(), Fail> {
-    for (front, len, is_read) in LONG_LINES {
-        let is_so = is_long(rt.alloc(), front, len, is_read)?;
-        assert!(rt; is_so, "{front:?} {len}");
-    }
-    Ok(())
-}
-
 /// Lines of version 2, each with what it says.
 static TIMED_LINES: [(&[u8], Timed<'static>); 34] = [
     (b"", Ok(None)),
@@ -416,7 +363,19 @@ fn versions(rt: HostRuntime) {
     }
 }
 
-/// What a longer line of version 2 says where it isn't too long.
+/// What a long line says where it isn't too long.
+fn said_by(line: &[u8]) -> Read<'_> {
+    match line.strip_prefix(b"inst 5 ".as_slice()) {
+        Some(text) => Ok(Some(Step::Inst {
+            p: 5,
+            s: None,
+            text,
+        })),
+        None => Ok(None),
+    }
+}
+
+/// The same of version 2.
 fn timed_by(line: &[u8]) -> Timed<'_> {
     match line.strip_prefix(b"7 inst 5 ".as_slice()) {
         Some(text) => Ok(Some((
@@ -432,41 +391,48 @@ fn timed_by(line: &[u8]) -> Timed<'_> {
 }
 
 /// Whether such a line, with room for its bytes, is read, or is too long.
-fn is_long_timed_line(line: &[u8], room: &mut [u8], is_read: bool) -> bool {
-    let wanted = if is_read {
-        timed_by(line)
-    } else {
-        Err(Cause::Form)
-    };
-    line.len() == room.len() && read_step2(line, room) == wanted
+fn is_long_line(version: Version, line: &[u8], room: &mut [u8], is_read: bool) -> bool {
+    line.len() == room.len()
+        && match (version, is_read) {
+            (Version::One, true) => read_step(line, room) == said_by(line),
+            (Version::One, false) => read_step(line, room) == Err(Cause::Form),
+            (Version::Two, true) => read_step2(line, room) == timed_by(line),
+            (Version::Two, false) => read_step2(line, room) == Err(Cause::Form),
+        }
 }
 
-// The longest line of version 2 has 1,048,600 bytes, and the step behind its moment no limit of its own.
-/// The fronts of lines of version 2, how long the lines are, and whether they are read.
-static LONG_TIMED_LINES: [(&[u8], usize, bool); 4] = [
-    (b"#", 1_048_600, true),
-    (b"#", 1_048_601, false),
-    (b"7 inst 5 ", 1_048_600, true),
-    (b"7 inst 5 ", 1_048_601, false),
+// The longest line has 1,048,576 bytes, and of version 2 1,048,600, where the step behind its moment has no limit of its own. One
+// that is longer is outside the grammar, even where it would be skipped.
+/// Versions, the fronts of lines that go on with `#`, how long the lines are, and whether they are read.
+static LONG_LINES: [(Version, &str, usize, bool); 8] = [
+    (Version::One, "#", 1_048_576, true),
+    (Version::One, "#", 1_048_577, false),
+    (Version::One, "inst 5 ", 1_048_576, true),
+    (Version::One, "inst 5 ", 1_048_577, false),
+    (Version::Two, "#", 1_048_600, true),
+    (Version::Two, "#", 1_048_601, false),
+    (Version::Two, "7 inst 5 ", 1_048_600, true),
+    (Version::Two, "7 inst 5 ", 1_048_601, false),
 ];
 
-/// Whether a line of version 2 that begins so and has so many bytes is read, or is too long.
-fn is_long_timed(
+/// Whether a line that begins so and has so many bytes is read, or is too long.
+fn is_long(
     alloc: Global,
-    front: &[u8],
+    version: Version,
+    front: &'static str,
     len: usize,
     is_read: bool,
 ) -> Result<bool, AllocError> {
-    let line = long_line(alloc, front, len)?;
-    let mut room = long_line(alloc, b"", len)?;
-    Ok(is_long_timed_line(&line, &mut room, is_read))
+    let line = text_of(alloc, &[(front, 1), ("#", len.saturating_sub(front.len()))])?;
+    let mut room = line.to_vec(alloc)?;
+    Ok(is_long_line(version, &line, &mut room, is_read))
 }
 
 #[test]
-fn long_timed_lines(rt: HostRuntime) -> Result<(), Fail> {
-    for (front, len, is_read) in LONG_TIMED_LINES {
-        let is_so = is_long_timed(rt.alloc(), front, len, is_read)?;
-        assert!(rt; is_so, "{front:?} {len}");
+fn long_lines(rt: HostRuntime) -> Result<(), Fail> {
+    for (row, (version, front, len, is_read)) in LONG_LINES.iter().enumerate() {
+        let is_so = is_long(rt.alloc(), *version, front, *len, *is_read)?;
+        assert!(rt; is_so, "line {row}");
     }
     Ok(())
 }

@@ -145,9 +145,8 @@ fn is_written(line: &Line, text: &[u8]) -> bool {
     line.is_whole()
         && line.is_first()
         && put_line(line, &mut out) == Ok(text.len())
-        && out
-            .strip_prefix(text)
-            .is_some_and(|rest| rest.first() == Some(&b'#'))
+        && out.starts_with(text)
+        && out.get(text.len()) == Some(&b'#')
 }
 
 /// Whether a line has no room in a byte less than its text has.
@@ -541,9 +540,8 @@ fn is_written2(moment: u64, line: &Line, text: &[u8]) -> bool {
     let mut out = [b'#'; 72];
     line.is_whole()
         && put_line2(moment, line, &mut out) == Ok(text.len())
-        && out
-            .strip_prefix(text)
-            .is_some_and(|rest| rest.first() == Some(&b'#'))
+        && out.starts_with(text)
+        && out.get(text.len()) == Some(&b'#')
 }
 
 /// Whether a line has no room in a byte less than its text at this moment has, and leaves that room as it was.
