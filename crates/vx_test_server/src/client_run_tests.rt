@@ -359,7 +359,7 @@ fn tells_what_came(rt: HostRuntime) {
 
 #[test]
 fn refuses_other_words(rt: HostRuntime) {
-    for line in OTHER_LINES {
+    for line in &OTHER_LINES {
         let is_so = line_comes_so(rt.alloc(), line, &OTHER);
         assert!(rt; is_so == Ok(true), "{line}");
     }

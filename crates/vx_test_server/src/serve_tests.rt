@@ -366,7 +366,7 @@ fn servers_end_so(rt: HostRuntime) {
         ("first cause", &TWICE),
         ("links that come back", &LINKS),
     ];
-    for (name, rows) in tables {
+    for (name, rows) in &tables {
         for (place, row) in rows.iter().enumerate() {
             let is_so = ends_so_idle(&rt, rt.alloc(), row);
             assert!(rt; is_so == Some(true), "{name} {place}");

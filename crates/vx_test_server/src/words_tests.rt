@@ -208,7 +208,7 @@ fn is_helped(alloc: Global, line: &str) -> Result<bool, AllocError> {
 
 #[test]
 fn words_are_answered(rt: HostRuntime) -> Result<(), Fail> {
-    for (line, text) in ROWS {
+    for (line, text) in &ROWS {
         let is_so = is_answered(rt.alloc(), line, text)?;
         assert!(rt; is_so, "{line}");
     }
@@ -217,7 +217,7 @@ fn words_are_answered(rt: HostRuntime) -> Result<(), Fail> {
 
 #[test]
 fn help_tells_each_option(rt: HostRuntime) -> Result<(), Fail> {
-    for line in HELPS {
+    for line in &HELPS {
         let is_so = is_helped(rt.alloc(), line)?;
         assert!(rt; is_so, "{line}");
     }
