@@ -1,12 +1,12 @@
 -- What an answer shows.
-use Rattle.std.proofs.Common.{◌≡◌, ℕ, List, [], ◌∷◌, length, take, None, Some, Ok, Err, sym, ap, ◌∙◌}
+use Rattle.std.proofs.Common.{◌≡◌, ℕ, List, [], ◌∷◌, length, take, drop, None, Some, Ok, Err, sym, ap, ◌∙◌}
 use Rattle.std.specs.Prelude.{if◌then◌else◌}
 use Rattle.std.proofs.lemmas.Bool.{ne_eqb}
-use Rattle.std.proofs.lemmas.List.{take_at, nil_from_length}
+use Rattle.std.proofs.lemmas.List.{take_at, drop_at, nil_from_length}
 use Rattle.vx_xdr.specs.declared.fault.XdrErr.{XdrErr}
 use Rattle.vx_xdr.specs.Writing.{WritesFirst}
 use Rattle.vx_rpc.specs.Header.{CallBody}
-use Rattle.vx_rpc.specs.CallMeaning.{Called, call_meaning}
+use Rattle.vx_rpc.specs.CallMeaning.{Called, OfOtherVersion, call_meaning}
 use Rattle.vx_rpc.specs.Wording.{words}
 use Rattle.vx_portmap.specs.declared.table.Mapping.{Mapping}
 use Rattle.vx_portmap.specs.Answering.{mapping_at, one_mapping, answer, reply_numbers, worded, reply}
@@ -14,6 +14,16 @@ use Rattle.vx_portmap.specs.Answering.{mapping_at, one_mapping, answer, reply_nu
 -- a text that was written at the front is there
 pub first-shown : (text old new : List ℕ) (n : ℕ) → WritesFirst text old n new → take n new ≡ text
 first-shown text old new n wrote = ap (take n) wrote.bytes ∙ take_at text _ n (sym wrote.len)
+
+-- and what stood behind it is there still
+pub behind-shown : (text old new : List ℕ) (n : ℕ) → WritesFirst text old n new → drop n new ≡ drop n old
+behind-shown text old new n wrote = ap (drop n) wrote.bytes ∙ drop_at text _ n (sym wrote.len)
+
+-- the reply to a call of another version of RPC
+pub mismatch-shown : (ports : List Mapping) (message old new : List ℕ) (n xid : ℕ) → OfOtherVersion xid ≡ call_meaning message
+    → WritesFirst (words (xid ∷ 1 ∷ 1 ∷ 0 ∷ 2 ∷ 2 ∷ [])) old n new → Some (take n new) ≡ reply ports message
+mismatch-shown ports message old new n xid is wrote =
+    ap Some (first-shown (words (xid ∷ 1 ∷ 1 ∷ 0 ∷ 2 ∷ 2 ∷ [])) old new n wrote) ∙ ap (λ m. worded (reply_numbers ports m)) is
 
 -- the reply to a call
 pub call-shown : (ports : List Mapping) (message old new numbers : List ℕ) (n xid : ℕ) (call : CallBody) → Called xid call ≡ call_meaning message

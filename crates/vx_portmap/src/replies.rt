@@ -13,7 +13,7 @@ use crate::table::{Mapping, Ports};
 use vx_xdr::Writer;
 
 /// What is answered to a call of RPC version 2.
-#[derive(Clone, Copy, PartialEq, Eq)]
+#[derive(Clone, Copy)]
 pub(crate) enum Outcome {
     ProgUnavail,
     ProgMismatch,

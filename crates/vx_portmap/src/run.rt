@@ -31,7 +31,7 @@ const VERSION: u32 = 1;
 const TCP: u32 = 6;
 
 /// How the work ended.
-#[derive(Clone, Copy, PartialEq, Eq)]
+#[derive(Clone, Copy)]
 pub(crate) enum WorkEnd {
     /// As many were served as were asked for, or no more come.
     Done,
@@ -40,7 +40,7 @@ pub(crate) enum WorkEnd {
 }
 
 /// How a run ended, as the program's exit status tells it.
-#[derive(Clone, Copy, PartialEq, Eq)]
+#[derive(Clone, Copy)]
 pub(crate) enum Status {
     /// 0: as many were served as were asked for, or no more come.
     Served,

@@ -7,7 +7,7 @@ ghost use Rattle.vx_portmap.specs.Asked.{kind_word, spelled, IsInRange};
 use itoa::Buffer;
 
 /// What messages come over.
-#[derive(Clone, Copy, PartialEq, Eq)]
+#[derive(Clone, Copy)]
 pub(crate) enum Kind {
     /// Streams of records, one after another, as over TCP.
     Stream,
@@ -16,7 +16,7 @@ pub(crate) enum Kind {
 }
 
 /// What is asked.
-#[derive(Clone, Copy, PartialEq, Eq)]
+#[derive(Clone, Copy)]
 pub(crate) struct Ask {
     pub(crate) kind: Kind,
     /// The port to serve at, 1 to 65,535.
