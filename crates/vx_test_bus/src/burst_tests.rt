@@ -174,7 +174,8 @@ static PUTS: [(u64, usize); 5] = [(1, 0), (2, 1), (3, 2), (4, 3), (5, 4)];
 
 /// Bursts of puts of which each call in turn is held, and fails, and one of which none does.
 fn compare_all_puts(rt: &impl Abort, alloc: Global) -> Option<()> {
-    for (call, moved) in PUTS {
+    for row in &PUTS {
+        let (call, moved) = *row;
         let (held, failed) = (Move::Held, Move::Failed);
         compare_puts(rt, alloc, call, false, Many { moved, last: held })?;
         compare_puts(
@@ -202,7 +203,8 @@ fn bursts_of_puts_are_single_puts(rt: HostRuntime) {
 
 /// The same of gets, with the stop byte 69 where the call fails; and one up to END, and one up to the stop byte 67.
 fn compare_all_gets(rt: &impl Abort, alloc: Global) -> Option<()> {
-    for (call, got) in PUTS {
+    for row in &PUTS {
+        let (call, got) = *row;
         let (held, failed) = (Stop::Held, Stop::Failed);
         compare_gets(rt, alloc, call, false, None, ManyGot { got, stop: held })?;
         compare_gets(

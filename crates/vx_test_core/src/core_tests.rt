@@ -727,7 +727,8 @@ fn made(error: ErrorCode) -> Came {
 
 #[test]
 fn device_texts(rt: HostRuntime) {
-    for (device, error) in DEVICE_TEXTS {
+    for row in &DEVICE_TEXTS {
+        let (device, error) = *row;
         let wrong = device_text(rt.alloc(), device, made(error));
         assert!(rt; wrong == Some(None), "{device:?}");
     }

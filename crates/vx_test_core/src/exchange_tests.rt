@@ -105,7 +105,8 @@ static ANSWERED: [(&str, &[u8], &[u8]); 2] = [
 
 #[test]
 fn answers_without_a_core(rt: HostRuntime) -> Result<(), Fail> {
-    for (name, message, record) in ANSWERED {
+    for row in &ANSWERED {
+        let (name, message, record) = *row;
         let told = answers(rt.alloc(), message, record)?;
         assert!(rt; told == (Some(28), true), "{name}");
     }

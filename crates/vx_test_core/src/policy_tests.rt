@@ -68,7 +68,8 @@ fn read(alloc: Global, text: &[u8], times: usize) -> Option<Known> {
 
 #[test]
 fn texts(rt: HostRuntime) -> Result<(), Fail> {
-    for (text, times, what) in TEXTS {
+    for row in &TEXTS {
+        let (text, times, what) = *row;
         assert!(rt;
             read(rt.alloc(), text, times) == Some(what),
             "{text:?} {times}"
@@ -196,7 +197,8 @@ fn judged(
 
 #[test]
 fn calls(rt: HostRuntime) -> Result<(), Fail> {
-    for (text, peer, proc, at, allow, rule) in CALLS {
+    for row in &CALLS {
+        let (text, peer, proc, at, allow, rule) = *row;
         let verdict = judged(rt.alloc(), text, peer, proc, at);
         assert!(rt;
             verdict == Some(Verdict { allow, rule }),

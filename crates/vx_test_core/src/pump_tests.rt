@@ -193,7 +193,8 @@ static ROWS: [(u32, u64, PumpEnd, &[u32]); 4] = [
 
 #[test]
 fn a_pump_writes_interrupts(rt: HostRuntime) -> Result<(), Fail> {
-    for (chan, fails, end, took) in ROWS {
+    for row in &ROWS {
+        let (chan, fails, end, took) = *row;
         let came = pumped(&rt, rt.alloc(), chan, fails, took)?;
         assert!(rt; came == (Some(end), true), "channel {chan}, call {fails}");
     }

@@ -33,7 +33,8 @@ fn is_lifted(
 
 #[test]
 fn lifts_whose_sink_fails(rt: HostRuntime) -> Result<(), Fail> {
-    for (write_fails, lifted) in FAILURES {
+    for row in &FAILURES {
+        let (write_fails, lifted) = *row;
         let ended = LiftEnd::SinkFailed;
         let is_so = is_lifted(rt.alloc(), THREE_STEPS, write_fails, ended, lifted)?;
         assert!(rt; is_so, "writes {write_fails:?}");
@@ -81,7 +82,8 @@ fn is_long_lifted(
 
 #[test]
 fn lifts_of_long_lines(rt: HostRuntime) -> Result<(), Fail> {
-    for (len, ended, lifted) in LONG_LINES {
+    for row in &LONG_LINES {
+        let (len, ended, lifted) = *row;
         let is_so = is_long_lifted(rt.alloc(), len, ended, lifted)?;
         assert!(rt; is_so, "of {len} bytes");
     }
