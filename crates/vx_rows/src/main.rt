@@ -34,6 +34,9 @@ const READ_WHOLE: usize = 65_536;
 
 const READ_FEW: usize = 7;
 
+/// The same of a script.
+const READ_SCRIPT: usize = 100;
+
 /// The last lines that are written down of a script that is played to its end.
 const PLAYED: &[u8] = b"done\nstatus 0\n";
 
@@ -74,16 +77,27 @@ fn add(rack: &mut Vec<Spare<Boxed>>, name: &str, inst: Boxed) -> Result<(), Allo
     Ok(())
 }
 
+/// A source of these bytes, of which it gives at most so many at once.
+fn source_of(alloc: Global, bytes: &[u8], read: usize) -> Result<MemSource, AllocError>
+    requires { 0 < read }
+{
+    Ok(MemSource::new(bytes.to_vec(alloc)?, read, Vec::new(alloc)))
+}
+
 /// Plays a script with these words, and answers its status. What it prints goes to the sink.
-fn play(alloc: Global, words: &[String], script: &[u8], sink: &mut MemSink) -> Result<u8, Unmade> {
-    let mut source = MemSource::new(script.to_vec(alloc)?, 100, Vec::new(alloc));
+fn play(
+    alloc: Global,
+    words: &[String],
+    script: &mut MemSource,
+    sink: &mut MemSink,
+) -> Result<u8, Unmade> {
     let mut rack = Vec::new(alloc);
     for _ in 0..SPARES {
         add(&mut rack, "echo", Box::new(alloc, Echo::new(alloc)?)?)?;
         add(&mut rack, "slow", Box::new(alloc, Slow::new(alloc)?)?)?;
         add(&mut rack, "asker", Box::new(alloc, Asker::new(alloc)?)?)?;
     }
-    Ok(play_run(alloc, words, &mut source, sink, rack))
+    Ok(play_run(alloc, words, script, sink, rack))
 }
 
 /// Whether a text and a line with the status behind it are what is written down.
@@ -101,14 +115,50 @@ fn words_of(alloc: Global, lines: &str) -> Result<Vec<String>, AllocError> {
     Ok(words)
 }
 
+/// Plays a script with words that stand in lines, and answers its status. What it prints goes to the sink.
+fn play_lines(
+    alloc: Global,
+    words: &str,
+    script: &[u8],
+    sink: &mut MemSink,
+) -> Result<u8, AllocError> {
+    let words = words_of(alloc, words)?;
+    let mut source = source_of(alloc, script, READ_SCRIPT)?;
+    match play(alloc, &words, &mut source, sink) {
+        Ok(status) => Ok(status),
+        Err(Unmade) => Err(AllocError),
+    }
+}
+
 /// Whether a script prints otherwise than is written down, with words that stand in lines.
 fn differs(alloc: Global, words: &str, script: &[u8], written: &[u8]) -> Result<bool, AllocError> {
-    let words = words_of(alloc, words)?;
     let mut sink = MemSink::new(Vec::new(alloc), Vec::new(alloc));
-    let Ok(status) = play(alloc, &words, script, &mut sink) else {
-        return Err(AllocError);
-    };
+    let status = play_lines(alloc, words, script, &mut sink)?;
     Ok(!is_written(alloc, sink.bytes(), status, written)?)
+}
+
+/// Whether a trace is judged otherwise than is written down, where at most so many bytes are read at once.
+fn is_other(alloc: Global, trace: &[u8], read: usize, written: &[u8]) -> Result<bool, AllocError>
+    requires { 0 < read }
+{
+    let mut source = source_of(alloc, trace, read)?;
+    let mut sink = MemSink::new(Vec::new(alloc), Vec::new(alloc));
+    let status = check_run(alloc, &[], &mut source, &mut sink);
+    Ok(!is_written(alloc, sink.bytes(), status, written)?)
+}
+
+/// Whether the trace of a script of version 2 isn't legal.
+fn is_illegal_lifted(alloc: Global, script: &[u8]) -> Result<bool, AllocError> {
+    let mut trace = MemSink::new(Vec::new(alloc), Vec::new(alloc));
+    play_lines(alloc, "run", script, &mut trace)?;
+    is_other(alloc, trace.bytes(), READ_WHOLE, LEGAL)
+}
+
+/// Whether the trace of a script isn't legal. A script that can't be lifted to version 2 is played as it stands.
+fn is_illegal(alloc: Global, script: &[u8]) -> Result<bool, AllocError> {
+    let mut lifted = MemSink::new(Vec::new(alloc), Vec::new(alloc));
+    let status = play_lines(alloc, "lift", script, &mut lifted)?;
+    is_illegal_lifted(alloc, if status == 0 { lifted.bytes() } else { script })
 }
 
 /// How many scripts were played and traces judged, and how many of them print otherwise than is written down; and of how many scripts
@@ -132,106 +182,133 @@ impl Tally {
     }
 }
 
-/// Plays the one script of a file, or does with it what another word says. Where it is played to its end, its trace is judged too.
-fn play_whole<R: Files + Print + AllocGlobal>(
+/// What a file holds.
+#[derive(Clone, Copy)]
+enum Kind {
+    /// A script, and the word that says what is done with it.
+    Script(&'static str),
+    /// A script in each line.
+    Each,
+    /// The words of a call without a script.
+    Words,
+    Trace,
+}
+
+/// The name of a row, and what its file holds, by the ending of the file's name.
+fn kind_of(file: &str) -> Option<(&str, Kind)> {
+    if let Some(name) = file.strip_suffix(".vxs") {
+        Some((name, Kind::Script("run")))
+    } else if let Some(name) = file.strip_suffix(".lift") {
+        Some((name, Kind::Script("lift")))
+    } else if let Some(name) = file.strip_suffix(".each") {
+        Some((name, Kind::Each))
+    } else if let Some(name) = file.strip_suffix(".args") {
+        Some((name, Kind::Words))
+    } else if let Some(name) = file.strip_suffix(".trace") {
+        Some((name, Kind::Trace))
+    } else {
+        None
+    }
+}
+
+/// A row: its name, what its file holds, and what is written down of it.
+#[derive(Clone, Copy)]
+struct Row<'a> {
+    name: &'a str,
+    given: &'a [u8],
+    written: &'a [u8],
+}
+
+/// Plays the one script of a row, or does with it what another word says. Where it is played to its end, its trace is judged too.
+fn play_whole<R: Print + AllocGlobal>(
     rt: &R,
-    file: &str,
-    name: &str,
+    row: Row<'_>,
     word: &str,
     tally: &mut Tally,
 ) -> io::Result<()> {
-    let script = fs::read(rt, file)?;
-    let written = fs::read(rt, format!(in rt.alloc(); "{name}.out")?)?;
-    let differs = differs(rt.alloc(), word, &script, &written)?;
+    let differs = differs(rt.alloc(), word, row.given, row.written)?;
     tally.count(differs);
     if differs {
-        println!(rt; "differs {name}")?;
+        println!(rt; "differs {}", row.name)?;
     }
-    if written.ends_with(PLAYED) {
-        let illegal = is_illegal(rt.alloc(), &script)?;
+    if row.written.ends_with(PLAYED) {
+        let illegal = is_illegal(rt.alloc(), row.given)?;
         tally.judge(illegal);
         if illegal {
-            println!(rt; "illegal {name}")?;
+            println!(rt; "illegal {}", row.name)?;
         }
     }
     Ok(())
 }
 
-/// Plays each line of a file.
-fn play_each<R: Files + Print + AllocGlobal>(
-    rt: &R,
-    name: &str,
-    tally: &mut Tally,
-) -> io::Result<()> {
-    let scripts = fs::read(rt, format!(in rt.alloc(); "{name}.each")?)?;
-    let written = fs::read(rt, format!(in rt.alloc(); "{name}.out")?)?;
-    for (place, script) in scripts.split_inclusive(|b| *b == b'\n').enumerate() {
-        let differs = differs(rt.alloc(), "run", script, &written)?;
+/// Plays each line of a row.
+fn play_each<R: Print + AllocGlobal>(rt: &R, row: Row<'_>, tally: &mut Tally) -> io::Result<()> {
+    for (place, script) in row.given.split_inclusive(|b| *b == b'\n').enumerate() {
+        let differs = differs(rt.alloc(), "run", script, row.written)?;
         tally.count(differs);
         if differs {
-            println!(rt; "differs {name} {place}")?;
+            println!(rt; "differs {} {place}", row.name)?;
         }
     }
     Ok(())
 }
 
-/// Makes the one call of a file of words.
-fn play_words<R: Files + Print + AllocGlobal>(
-    rt: &R,
-    name: &str,
-    tally: &mut Tally,
-) -> io::Result<()> {
-    let words = fs::read_to_string(rt, format!(in rt.alloc(); "{name}.args")?)?;
-    let written = fs::read(rt, format!(in rt.alloc(); "{name}.out")?)?;
-    let differs = differs(rt.alloc(), &words, &[], &written)?;
+/// Makes the one call of a row of words.
+fn play_words<R: Print + AllocGlobal>(rt: &R, row: Row<'_>, tally: &mut Tally) -> io::Result<()> {
+    let Ok(words) = str::from_utf8(row.given) else {
+        return Err(io::Error::from(io::ErrorKind::InvalidData));
+    };
+    let differs = differs(rt.alloc(), words, &[], row.written)?;
     tally.count(differs);
     if differs {
-        println!(rt; "differs {name}")?;
+        println!(rt; "differs {}", row.name)?;
     }
     Ok(())
 }
 
-/// Whether a trace is judged otherwise than is written down, where at most so many bytes are read at once.
-fn is_other(alloc: Global, trace: &[u8], read: usize, written: &[u8]) -> Result<bool, AllocError>
-    requires { 0 < read }
-{
-    let mut source = MemSource::new(trace.to_vec(alloc)?, read, Vec::new(alloc));
-    let mut sink = MemSink::new(Vec::new(alloc), Vec::new(alloc));
-    let status = check_run(alloc, &[], &mut source, &mut sink);
-    Ok(!is_written(alloc, sink.bytes(), status, written)?)
-}
-
-/// Whether the trace of a script isn't legal. A script that can't be lifted to version 2 is played as it stands.
-fn is_illegal(alloc: Global, script: &[u8]) -> Result<bool, AllocError> {
-    let mut lifted = MemSink::new(Vec::new(alloc), Vec::new(alloc));
-    let mut trace = MemSink::new(Vec::new(alloc), Vec::new(alloc));
-    let Ok(status) = play(alloc, &words_of(alloc, "lift")?, script, &mut lifted) else {
-        return Err(AllocError);
-    };
-    let script = if status == 0 { lifted.bytes() } else { script };
-    let Ok(_) = play(alloc, &words_of(alloc, "run")?, script, &mut trace) else {
-        return Err(AllocError);
-    };
-    is_other(alloc, trace.bytes(), READ_WHOLE, LEGAL)
-}
-
-/// Judges the trace of a file.
-fn judge<R: Files + Print + AllocGlobal>(
-    rt: &R,
-    file: &str,
-    name: &str,
-    tally: &mut Tally,
-) -> io::Result<()> {
-    let trace = fs::read(rt, file)?;
-    let written = fs::read(rt, format!(in rt.alloc(); "{name}.verdict")?)?;
-    let whole = is_other(rt.alloc(), &trace, READ_WHOLE, &written)?;
-    let pieces = is_other(rt.alloc(), &trace, READ_FEW, &written)?;
+/// Judges the trace of a row.
+fn judge<R: Print + AllocGlobal>(rt: &R, row: Row<'_>, tally: &mut Tally) -> io::Result<()> {
+    let whole = is_other(rt.alloc(), row.given, READ_WHOLE, row.written)?;
+    let pieces = is_other(rt.alloc(), row.given, READ_FEW, row.written)?;
     tally.count(whole);
     tally.count(pieces);
     if whole || pieces {
-        println!(rt; "differs {name}")?;
+        println!(rt; "differs {}", row.name)?;
     }
     Ok(())
+}
+
+/// What is written down of a row.
+fn written_of<R: Files + AllocGlobal>(rt: &R, name: &str, kind: Kind) -> io::Result<Vec<u8>> {
+    let ending = match kind {
+        Kind::Trace => "verdict",
+        Kind::Script(_) | Kind::Each | Kind::Words => "out",
+    };
+    fs::read(rt, format!(in rt.alloc(); "{name}.{ending}")?)
+}
+
+/// Does what a file is there for.
+fn take_file<R: Files + Print + AllocGlobal>(
+    rt: &R,
+    file: &str,
+    tally: &mut Tally,
+) -> io::Result<()> {
+    let Some((name, kind)) = kind_of(file) else {
+        return Ok(());
+    };
+    let given = fs::read(rt, file)?;
+    let written = written_of(rt, name, kind)?;
+    let row = Row {
+        name,
+        given: &given,
+        written: &written,
+    };
+    match kind {
+        Kind::Script(word) => play_whole(rt, row, word, tally),
+        Kind::Each => play_each(rt, row, tally),
+        Kind::Words => play_words(rt, row, tally),
+        Kind::Trace => judge(rt, row, tally),
+    }
 }
 
 /// The names of the files in the folder, in order.
@@ -247,17 +324,7 @@ fn files_of<R: Files + AllocGlobal + Clone + Drop>(rt: &R) -> io::Result<Vec<Str
 fn main(rt: HostRuntime) -> io::Result<()> {
     let mut tally = Tally::default();
     for file in &files_of(&rt)? {
-        if let Some(name) = file.strip_suffix(".vxs") {
-            play_whole(&rt, file, name, "run", &mut tally)?;
-        } else if let Some(name) = file.strip_suffix(".lift") {
-            play_whole(&rt, file, name, "lift", &mut tally)?;
-        } else if let Some(name) = file.strip_suffix(".each") {
-            play_each(&rt, name, &mut tally)?;
-        } else if let Some(name) = file.strip_suffix(".args") {
-            play_words(&rt, name, &mut tally)?;
-        } else if let Some(name) = file.strip_suffix(".trace") {
-            judge(&rt, file, name, &mut tally)?;
-        }
+        take_file(&rt, file, &mut tally)?;
     }
     let Tally {
         rows,
