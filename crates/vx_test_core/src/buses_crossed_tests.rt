@@ -1,39 +1,31 @@
 //! Two workers on two passes of the four gates, each in a thread: one has a read that waits, and the other tells its abort. The records
 //! are those of RFC 5531, sections 9 and 11, and of VXI-11.
-ghost use Rattle.std.specs.Prelude.{◌≡◌, ◌≤◌, IfSome};
+ghost use Rattle.std.specs.Prelude.{◌≡◌, IfSome};
 ghost use Rattle.vx_calls.specs.declared.calls.Role.TheVariants as role;
 ghost use Rattle.vx_gates.specs.Four.{Each};
-ghost use Rattle.vx_gates.specs.Passing.{passes_shown, IsOf};
+ghost use Rattle.vx_gates.specs.Passing.{passes_shown, IsOf, IsFirst};
 ghost use Rattle.vx_gates.specs.Standing.{gates_shown};
 ghost use Rattle.vx_buses.specs.Holding.{four_of, Holds};
 
-use crate::buses_tools::{Bench, fleet};
+use crate::buses_tools::{Bench, fleet, serve_many};
 use crate::crossing_tools::{Crossing, Flags, Pausing, Ran, Side};
-use crate::record_tools::are_words;
 use std::alloc::Global;
 use std::sync::Wait;
 use std::test::Fail;
 use std::thread::{self, Threads};
-use vx_buses::{BusPass, Buses, many_abort, many_link};
+use vx_bus_traits::Bus;
+use vx_buses::{BusPass, Buses, many_abort};
 use vx_calls::Role;
 use vx_gates::Passes;
-use vx_session::{End, Linked, Room, Still, join};
-
-// link 3; the read ended by the abort, with nothing
-const READER_TOOK: [u32; 21] = [
-    0x80000028, 1, 1, 0, 0, 0, 0, 0, 3, 9011, 262144, 0x80000024, 2, 1, 0, 0, 0, 0, 23, 0, 0,
-];
-
-// done
-const ABORTER_TOOK: [u32; 8] = [0x8000001C, 3, 1, 0, 0, 0, 0, 0];
+use vx_session::{End, Linked, Room, join};
 
 /// An abort connection to each bus, where all come up.
-fn join_aborts<R: Wait>(
+fn join_aborts<R: Wait, B: Bus>(
     rt: &R,
     alloc: Global,
-    buses: &Buses<Bench>,
-    passes: BusPass<Bench>,
-) -> (BusPass<Bench>, Option<[u32; 4]>)
+    buses: &Buses<B>,
+    passes: BusPass<B>,
+) -> (BusPass<B>, Option<[u32; 4]>)
     requires gates { Each IsOf (passes_shown passes) (gates_shown buses.now) }
     ensures gates { Each IsOf (passes_shown result.0) (gates_shown buses.now) }
     ensures held { IfSome result.1 (λ conns. Holds (passes_shown result.0) (gates_shown buses.now) (four_of conns) role.Abort) }
@@ -55,62 +47,58 @@ fn join_aborts<R: Wait>(
 }
 
 /// Serves the link whose read waits.
-fn run_reader<R: Wait>(
+fn run_reader<R: Wait, B: Bus>(
     rt: &R,
     alloc: Global,
-    buses: &Buses<Bench>,
-    passes: BusPass<Bench>,
+    buses: &Buses<B>,
+    passes: BusPass<B>,
     flags: &Flags,
     room: Room,
-) -> (BusPass<Bench>, Ran)
+) -> (BusPass<B>, Ran)
     requires { Each IsOf (passes_shown passes) (gates_shown buses.now) }
     ensures { Each IsOf (passes_shown result.0) (gates_shown buses.now) }
 {
-    let mut room = room;
     let mut link = Crossing::new(alloc, Side::Reader, flags);
-    let mut clock = Still::new();
     let mut pause = Pausing { flags, count: 0 };
-    let (passes, how) = many_link(
-        rt, alloc, buses, passes, &mut link, &mut clock, &mut pause, &mut room,
-    );
+    let (passes, how) = serve_many(rt, alloc, buses, passes, &mut link, &mut pause, room);
     let end = match how {
         Linked::Ended(end) => Some(end),
         Linked::Full | Linked::NoMemory => None,
     };
-    let Crossing { took, .. } = link;
+    let took = link.took_all();
     let pauses = pause.count;
     (passes, Ran { end, took, pauses })
 }
 
 /// Serves the link of the abort.
-fn run_aborter<R: Wait>(
+fn run_aborter<R: Wait, B: Bus>(
     rt: &R,
     alloc: Global,
-    buses: &Buses<Bench>,
-    passes: BusPass<Bench>,
+    buses: &Buses<B>,
+    passes: BusPass<B>,
     flags: &Flags,
     room: Room,
-) -> (BusPass<Bench>, Ran)
+) -> (BusPass<B>, Ran)
     requires { Each IsOf (passes_shown passes) (gates_shown buses.now) }
     ensures { Each IsOf (passes_shown result.0) (gates_shown buses.now) }
 {
     let mut room = room;
     let mut link = Crossing::new(alloc, Side::Aborter, flags);
     let (passes, end) = serve_aborter(rt, alloc, buses, passes, &mut link, &mut room);
-    let Crossing { took, .. } = link;
+    let took = link.took_all();
     let pauses = 0;
     (passes, Ran { end, took, pauses })
 }
 
 /// Serves it on connections of its own.
-fn serve_aborter<R: Wait>(
+fn serve_aborter<R: Wait, B: Bus>(
     rt: &R,
     alloc: Global,
-    buses: &Buses<Bench>,
-    passes: BusPass<Bench>,
+    buses: &Buses<B>,
+    passes: BusPass<B>,
     link: &mut Crossing<'_>,
     room: &mut Room,
-) -> (BusPass<Bench>, Option<End>)
+) -> (BusPass<B>, Option<End>)
     requires { Each IsOf (passes_shown passes) (gates_shown buses.now) }
     ensures { Each IsOf (passes_shown result.0) (gates_shown buses.now) }
 {
@@ -161,19 +149,12 @@ fn cross<R: Threads + Wait + Sync>(
     passes: BusPass<Bench>,
     rooms: (Room, Room),
 ) -> Came
-    requires gates { Each IsOf (passes_shown passes) (gates_shown buses) }
-    requires parts { Each (λ pass gate. 2 ≤ pass.parts) (passes_shown passes) (gates_shown buses) }
+    requires { Each IsFirst (passes_shown passes) (gates_shown buses) }
 {
     let flags = Flags::new();
     let (one, two) = buses.part(passes);
     let (reader, aborter) = run_both(rt, alloc, &buses, one, two, &flags, rooms);
-    (
-        [reader.end, aborter.end],
-        [
-            are_words(&reader.took, &READER_TOOK),
-            are_words(&aborter.took, &ABORTER_TOOK),
-        ],
-    )
+    ([reader.end, aborter.end], [reader.took, aborter.took])
 }
 
 fn cross_anew<R: Threads + Wait + Sync>(rt: &R, alloc: Global) -> Option<Came> {

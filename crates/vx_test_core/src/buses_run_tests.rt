@@ -1,15 +1,10 @@
 //! What the program of four buses does, over a door in memory. The records are those of RFC 5531, sections 9 and 11, and of VXI-11.
-ghost use Rattle.std.specs.Prelude.{◌≡◌, ◌+◌, length, IfSome};
 
-use crate::record_tools::{are_words, words};
-use crate::run_tools::{StillTools, words_of};
-use arrayvec::ArrayString;
+use crate::buses_tools::rack_of;
+use crate::run_tools::{Outside, StillTools, outside_of, went_so};
 use std::alloc::Global;
 use std::sync::Wait;
 use vx_buses::buses_run;
-use vx_inst::Instrument;
-use vx_memory::{MemDoor, MemSink};
-use vx_rack::{Echo, Spare};
 
 // create_link of `gpib2,5` and of `GPIB0,5`; device_write of `A` with END on links 3 and 2; destroy_intr_chan
 const FIRST: [u32; 79] = [
@@ -198,71 +193,15 @@ static OTHER_WORDS: [&[&str]; 10] = [
     &["--help", "1"],
 ];
 
-/// Adds an echo with this status byte to the rack.
-fn add(alloc: Global, rack: &mut Vec<Spare<Echo>>, status: u8) -> Option<()>
-    ensures { IfSome result (λ _. length rack.new.items ≡ length rack.old.items + 1) }
-{
-    let mut inst = Echo::new(alloc).ok()?;
-    inst.set_status(status);
-    let name = ArrayString::new();
-    rack.push(Spare { name, inst }).ok()
-}
-
-/// An echo for each bus, each with a status byte of its own.
-fn rack_of(alloc: Global) -> Option<Vec<Spare<Echo>>>
-    ensures { IfSome result (λ rack. length rack.items ≡ 4) }
-{
-    let mut rack = Vec::new(alloc);
-    add(alloc, &mut rack, 10)?;
-    add(alloc, &mut rack, 11)?;
-    add(alloc, &mut rack, 12)?;
-    add(alloc, &mut rack, 13)?;
-    Some(rack)
-}
-
-/// The door of a row.
-fn door_of(alloc: Global, row: &Row) -> Option<MemDoor> {
-    let fails = row.door_fails.to_vec(alloc).ok()?;
-    let mut peers = Vec::new(alloc);
-    for gives in row.gives {
-        peers.push(words(alloc, gives, &[]).ok()?).ok()?;
-    }
-    MemDoor::new(alloc, peers, fails).ok()
-}
-
-/// Whether the peers that the door met were sent these words, each its own, and no other was met.
-fn were_sent(door: &MemDoor, took: &[&[u32]]) -> bool {
-    let mut same = door.sent(took.len()).is_none();
-    for (place, numbers) in took.iter().enumerate() {
-        let sent = door.sent(place).unwrap_or(&[0]);
-        same = are_words(sent, numbers) && same;
-    }
-    same
-}
-
-/// Whether a row comes out as it is written, with these words, this door and this sink.
-fn comes_out_of<R: Wait>(
-    rt: &R,
-    alloc: Global,
-    row: &Row,
-    words: &[String],
-    door: &mut MemDoor,
-    sink: &mut MemSink,
-) -> Option<bool> {
+/// Whether a row comes out as it is written, where there is memory for it.
+fn comes_out<R: Wait>(rt: &R, alloc: Global, row: &Row) -> Option<bool> {
     let rack = rack_of(alloc)?;
+    let mut outside = outside_of(alloc, row.words, row.gives, row.door_fails, row.sink_fails)?;
+    let Outside { words, door, sink } = &mut outside;
     let mut tools = StillTools { alloc };
     let status = buses_run(rt, alloc, words, door, &mut tools, sink, rack);
-    let as_written = status == row.status && sink.bytes() == row.text.as_bytes();
-    Some(as_written && were_sent(door, row.took) && door.port() == row.port)
-}
-
-/// The same of a row, where there is memory for it.
-fn comes_out<R: Wait>(rt: &R, alloc: Global, row: &Row) -> Option<bool> {
-    let words = words_of(alloc, row.words).ok()?;
-    let fails = row.sink_fails.to_vec(alloc).ok()?;
-    let mut door = door_of(alloc, row)?;
-    let mut sink = MemSink::new(Vec::new(alloc), fails);
-    comes_out_of(rt, alloc, row, &words, &mut door, &mut sink)
+    let is_so = went_so(&outside, row.text.as_bytes(), row.took, row.port);
+    Some(status == row.status && is_so)
 }
 
 #[test]

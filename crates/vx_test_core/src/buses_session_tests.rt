@@ -1,11 +1,10 @@
 //! Links over four buses. The records are those of RFC 5531, sections 9 and 11, and of VXI-11.
 
-use crate::buses_tools::fleet;
+use crate::buses_tools::{fleet, serve_many};
 use crate::record_tools::{are_words, words};
 use std::alloc::Global;
 use std::sync::Wait;
 use std::test::Fail;
-use vx_buses::many_link;
 use vx_memory::MemLink;
 use vx_session::{End, Linked, Room, Still};
 
@@ -40,13 +39,10 @@ const TOOK: [u32; 135] = [
 
 /// Serves a link by four gateways of its own.
 fn serve<R: Wait>(rt: &R, alloc: Global, link: &mut MemLink) -> Option<Linked> {
-    let mut room = Room::new(alloc).ok()?;
+    let room = Room::new(alloc).ok()?;
     let (buses, passes) = fleet(alloc)?;
-    let mut clock = Still::new();
     let mut pause = Still::new();
-    let (_passes, how) = many_link(
-        rt, alloc, &buses, passes, link, &mut clock, &mut pause, &mut room,
-    );
+    let (_passes, how) = serve_many(rt, alloc, &buses, passes, link, &mut pause, room);
     Some(how)
 }
 

@@ -1,47 +1,54 @@
-//! Four gateways, each over a bus with an echo at address 5, which has a status byte of its own.
-ghost use Rattle.std.specs.Prelude.{◌≡◌, ◌≤◌, ◌+◌, [], IfSome, length};
-ghost use Rattle.std.specs.List.{All};
-ghost use Rattle.vx_core.specs.Standing.{Became};
+//! Four buses, each with an echo at address 5, which has a status byte of its own, and links that they serve.
+ghost use Rattle.std.specs.Prelude.{◌≡◌, length, IfSome};
 ghost use Rattle.vx_gates.specs.Four.{Each};
-ghost use Rattle.vx_gates.specs.Passing.{passes_shown, IsOf};
+ghost use Rattle.vx_gates.specs.Passing.{passes_shown, IsOf, IsFirst};
 ghost use Rattle.vx_gates.specs.Standing.{gates_shown};
-ghost use Rattle.vx_sim.specs.SimState.{SimState, Through};
 
-use crate::gateway_tools::echo_core;
+use crate::run_tools::add;
 use std::alloc::Global;
-use vx_buses::{BusPass, Buses};
-use vx_core::Core;
-use vx_rack::Echo;
+use std::sync::Wait;
+use vx_bus_traits::Bus;
+use vx_buses::{BusPass, Buses, many_link, start_buses};
+use vx_io_traits::{Link, Pause};
+use vx_rack::{Echo, Spare};
+use vx_session::{Linked, Room, Still};
 use vx_sim::SimBus;
 
 pub(crate) type Bench = SimBus<Echo>;
 
-/// Adds one of them, whose echo has this status byte.
-fn add(alloc: Global, cores: &mut Vec<Core<Bench>>, status: u8) -> Option<()>
-    requires { All (λ core. Became (λ (s : SimState). s.means) Through core core []) cores.old.items }
-    ensures stand { All (λ core. Became (λ (s : SimState). s.means) Through core core []) cores.new.items }
-    ensures one { IfSome result (λ _. length cores.new.items ≡ length cores.old.items + 1) }
+/// An echo for each bus, each with a status byte of its own.
+pub(crate) fn rack_of(alloc: Global) -> Option<Vec<Spare<Echo>>>
+    ensures { IfSome result (λ rack. length rack.items ≡ 4) }
 {
-    let core = echo_core(alloc, status)?;
-    cores.push(core).ok()
+    let mut rack = Vec::new(alloc);
+    add(alloc, &mut rack, 10)?;
+    add(alloc, &mut rack, 11)?;
+    add(alloc, &mut rack, 12)?;
+    add(alloc, &mut rack, 13)?;
+    Some(rack)
 }
 
-/// Four of them.
-fn cores_of(alloc: Global) -> Option<Vec<Core<Bench>>>
-    ensures { IfSome result (λ cores. (length cores.items ≡ 4) × All (λ core. Became (λ (s : SimState). s.means) Through core core []) cores.items) }
-{
-    let mut cores = Vec::new(alloc);
-    add(alloc, &mut cores, 10)?;
-    add(alloc, &mut cores, 11)?;
-    add(alloc, &mut cores, 12)?;
-    add(alloc, &mut cores, 13)?;
-    Some(cores)
-}
-
-/// Each behind a gate of its own, and their passes.
+/// The four, each behind a gate of its own, and the first pass to each.
 pub(crate) fn fleet(alloc: Global) -> Option<(Buses<Bench>, BusPass<Bench>)>
-    ensures gates { IfSome result (λ r. Each IsOf (passes_shown r.1) (gates_shown r.0)) }
-    ensures parts { IfSome result (λ r. Each (λ pass gate. 2 ≤ pass.parts) (passes_shown r.1) (gates_shown r.0)) }
+    ensures { IfSome result (λ r. Each IsFirst (passes_shown r.1) (gates_shown r.0)) }
 {
-    Buses::start(alloc, cores_of(alloc)?).ok()
+    start_buses(alloc, rack_of(alloc)?)
+}
+
+/// Serves a link, with a clock that tells moment 0.
+pub(crate) fn serve_many<R: Wait, B: Bus, L: Link, P: Pause>(
+    rt: &R,
+    alloc: Global,
+    buses: &Buses<B>,
+    passes: BusPass<B>,
+    link: &mut L,
+    pause: &mut P,
+    room: Room,
+) -> (BusPass<B>, Linked)
+    requires { Each IsOf (passes_shown passes) (gates_shown buses.now) }
+    ensures { Each IsOf (passes_shown result.0) (gates_shown buses.now) }
+{
+    let mut room = room;
+    let mut clock = Still::new();
+    many_link(rt, alloc, buses, passes, link, &mut clock, pause, &mut room)
 }

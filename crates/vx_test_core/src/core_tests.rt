@@ -1,15 +1,11 @@
 //! A gateway by itself, over a bus in memory: what is asked of it, a step at a time, and what comes.
-ghost use Rattle.std.specs.Prelude.{◌≡◌, true};
-ghost use Rattle.vx_calls.specs.Call.{call_shown};
-ghost use Rattle.vx_rules.specs.One.{may_wait};
-ghost use Rattle.vx_rules.specs.Calls.{IsShort};
-
+use crate::asking_tools::{Came, ask, link, poll};
 use crate::gateway_tools::{arrive, mem_core};
 use std::alloc::Global;
 use vx_488::Transfer;
 use vx_bus::MemBus;
-use vx_calls::{CallRef, DEVICE_MAX, ErrorCode, ReplyRef, Role, Taken};
-use vx_core::{Connect, Core, Polled, Settled, Why};
+use vx_calls::{CallRef, ErrorCode, Role, Taken};
+use vx_core::{Connect, Core, Settled, Why};
 
 /// What is asked of a gateway.
 #[derive(Clone, Copy)]
@@ -18,6 +14,8 @@ enum Step {
     Role(u32),
     Pending(u32),
     Channel(u32),
+    /// Whether the last poll began the turn of its call.
+    Began,
     /// Whether the last call made these transfers.
     Made(&'static [Transfer]),
     Connect(Role),
@@ -84,36 +82,6 @@ enum Step {
     },
 }
 
-/// What came.
-#[derive(Clone, Copy, PartialEq, Eq)]
-enum Came {
-    /// The step isn't one that may be made.
-    Nothing,
-    /// It is so, or not.
-    Is(bool),
-    Number(u32),
-    Role(Option<Role>),
-    Connected(Result<u32, Connect>),
-    Channel(Option<u32>),
-    Aborted(ErrorCode),
-    Settled(Settled),
-    /// A reply with this error, and this number beside it: a count of bytes, or a reason.
-    Reply(ErrorCode, u32),
-    /// A reply that has other bytes than are wanted.
-    OtherBytes,
-    Link {
-        error: ErrorCode,
-        lid: u32,
-        abort_port: u32,
-        max: u32,
-    },
-    NotYet(Why),
-    Dial {
-        host: u32,
-        port: u16,
-    },
-}
-
 /// A link of this number is given.
 fn linked(lid: u32) -> Came {
     Came::Link {
@@ -122,69 +90,6 @@ fn linked(lid: u32) -> Came {
         abort_port: 9011,
         max: 262_144,
     }
-}
-
-/// A reply, as tests compare it.
-fn answered(reply: &ReplyRef<'_>, wanted: &[u8]) -> Came {
-    match *reply {
-        ReplyRef::CreateLink {
-            error,
-            lid,
-            abort_port,
-            max,
-        } => Came::Link {
-            error,
-            lid,
-            abort_port,
-            max,
-        },
-        ReplyRef::Write { error, size } => Came::Reply(error, size),
-        ReplyRef::Read {
-            error,
-            reason,
-            bytes,
-        } if bytes == wanted => Came::Reply(error, reason),
-        ReplyRef::Docmd { error, bytes } if bytes == wanted => Came::Reply(error, 0),
-        ReplyRef::Error { error } => Came::Reply(error, 0),
-        _ => Came::OtherBytes,
-    }
-}
-
-/// Polls a connection's call, whose reply is to have these bytes.
-fn poll(core: &mut Core<MemBus>, conn: u32, wanted: &[u8]) -> Came {
-    if !core.pending(conn) {
-        return Came::Nothing;
-    }
-    match core.poll(conn, 0) {
-        Polled::Answer(reply) => answered(&reply, wanted),
-        Polled::NotYet(why) => Came::NotYet(why),
-        Polled::Dial { host, port } => Came::Dial { host, port },
-    }
-}
-
-/// A call comes, and is polled at once.
-fn ask(core: &mut Core<MemBus>, conn: u32, call: &CallRef<'_>, wanted: &[u8]) -> Came
-    requires waits { may_wait (call_shown call.now) ≡ true }
-    requires short { IsShort (call_shown call.now) }
-{
-    if arrive(core, conn, call) {
-        poll(core, conn, wanted)
-    } else {
-        Came::Nothing
-    }
-}
-
-fn link(core: &mut Core<MemBus>, conn: u32, device: &[u8]) -> Came {
-    if device.len() > DEVICE_MAX {
-        return Came::Nothing;
-    }
-    let call = CallRef::CreateLink {
-        client: -1,
-        lock: false,
-        lock_timeout: 0,
-        device,
-    };
-    ask(core, conn, &call, &[])
 }
 
 fn link_all(core: &mut Core<MemBus>, conn: u32, first: u32, last: u32) -> bool {
@@ -317,7 +222,7 @@ fn make(core: &mut Core<MemBus>, alloc: Global, step: Step) -> Came {
             core.sample(6);
             Came::Is(true)
         }
-        Step::Poll(conn) => poll(core, conn, &[]),
+        Step::Poll(conn) => poll(core, conn, 0, &[]),
         _ => ask_tables(core, step),
     }
 }
@@ -329,6 +234,7 @@ fn look_or_make(core: &mut Core<MemBus>, alloc: Global, step: Step) -> Came {
         Step::Role(conn) => Came::Role(core.role(conn)),
         Step::Pending(conn) => Came::Is(core.pending(conn)),
         Step::Channel(conn) => Came::Channel(core.channel(conn)),
+        Step::Began => Came::Is(core.began()),
         Step::Made(moves) => Came::Is(core.moves() == moves),
         _ => make(core, alloc, step),
     }
@@ -571,7 +477,7 @@ const READ_TO_END: &[(Step, Came)] = &[
             request: 10,
             gets: b"AB",
         },
-        Came::Reply(ErrorCode::Ok, 4),
+        Came::Got(ErrorCode::Ok, 4),
     ),
     (
         Step::Made(&[
@@ -601,7 +507,7 @@ const READ_OF_ONE: &[(Step, Came)] = &[
             request: 1,
             gets: b"A",
         },
-        Came::Reply(ErrorCode::Ok, 1),
+        Came::Got(ErrorCode::Ok, 1),
     ),
     (
         Step::Made(&[
@@ -641,6 +547,32 @@ const ADDRESS_TAKEN_MEANWHILE: &[(Step, Came)] = &[
     (Step::Made(&[]), Came::Is(true)),
 ];
 
+// The poll of a link begins no turn, and each first one of a write does. A write makes four transfers: the sixth, which is held, is of
+// the second one, and the poll behind it goes on. A sample changes nothing of what is told.
+const BEGINNINGS: &[(Step, Came)] = &[
+    (Step::Began, Came::Is(false)),
+    (Step::Connect(Role::Core), Came::Connected(Ok(1))),
+    (
+        Step::Link {
+            conn: 1,
+            device: b"gpib0,5",
+        },
+        LINKED_1,
+    ),
+    (Step::Began, Came::Is(false)),
+    (
+        Step::Write { conn: 1, lid: 1 },
+        Came::Reply(ErrorCode::Ok, 1),
+    ),
+    (Step::Began, Came::Is(true)),
+    (Step::Write { conn: 1, lid: 1 }, Came::NotYet(Why::Held)),
+    (Step::Began, Came::Is(true)),
+    (Step::Sample, Came::Is(true)),
+    (Step::Began, Came::Is(true)),
+    (Step::Poll(1), Came::Reply(ErrorCode::Ok, 1)),
+    (Step::Began, Came::Is(false)),
+];
+
 // A dial is asked for, and comes up.
 const DIALS: &[(Step, Came)] = &[
     (Step::Connect(Role::Core), Came::Connected(Ok(1))),
@@ -671,7 +603,7 @@ const DIALS: &[(Step, Came)] = &[
     (Step::NextNumber, Came::Number(3)),
 ];
 
-static PLAYS: [Play<'static>; 8] = [
+static PLAYS: [Play<'static>; 9] = [
     Play {
         name: "connections",
         gets: &[],
@@ -720,6 +652,13 @@ static PLAYS: [Play<'static>; 8] = [
         holds: &[1],
         fails: &[],
         rows: ADDRESS_TAKEN_MEANWHILE,
+    },
+    Play {
+        name: "polls that begin",
+        gets: &[],
+        holds: &[6],
+        fails: &[],
+        rows: BEGINNINGS,
     },
     Play {
         name: "dials",

@@ -35,7 +35,7 @@ fn run_side<R: Wait, B: Bus, T: Turns<Core<B>>>(
     let mut link = Crossing::new(alloc, side, flags);
     let mut pause = Pausing { flags, count: 0 };
     let (pass, end) = serve_side(rt, alloc, turns, pass, &mut link, &mut pause, &mut room);
-    let Crossing { took, .. } = link;
+    let took = link.took_all();
     let pauses = pause.count;
     (pass, Ran { end, took, pauses })
 }
@@ -93,18 +93,9 @@ fn run_both<R: Threads + Wait + Sync>(
     (gate.meet(one, two), first, second)
 }
 
-/// The error of the last reply, its last word, where the link took as many bytes.
-fn last_error(ran: &Ran, len: usize) -> Option<u32> {
-    if ran.took.len() != len {
-        return None;
-    }
-    let last: &[u8; 4] = ran.took.last_chunk()?;
-    Some(u32::from_be_bytes(*last))
-}
-
-/// What came of both sessions: how they ended, the errors of their last replies, whether the first paused, and the roles of
+/// What came of both sessions: how they ended, whether their links took what they should, whether the first paused, and the roles of
 /// connections 1 and 2 then.
-type Came = ([Option<End>; 2], [Option<u32>; 2], bool, [Option<Role>; 2]);
+type Came = ([Option<End>; 2], [bool; 2], bool, [Option<Role>; 2]);
 
 fn cross<R: Threads + Wait + Sync>(
     rt: &R,
@@ -122,8 +113,7 @@ fn cross<R: Threads + Wait + Sync>(
     let (core, _pass) = gate.close(pass);
     (
         [first.end, second.end],
-        // a create_link's reply has 44 bytes, and each other 32
-        [last_error(&first, 76), last_error(&second, 108)],
+        [first.took, second.took],
         first.pauses >= 1 && first.pauses <= TURNS,
         [core.role(1), core.role(2)],
     )
@@ -139,7 +129,7 @@ fn cross_anew<R: Threads + Wait + Sync>(rt: &R, alloc: Global) -> Option<Came> {
 #[test]
 fn crossed_sessions(rt: HostRuntime) -> Result<(), Fail> {
     let closed = Some(End::Closed);
-    let wanted = ([closed, closed], [Some(0), Some(0)], true, [None, None]);
+    let wanted = ([closed, closed], [true, true], true, [None, None]);
     let came = cross_anew(&rt, rt.alloc());
     assert!(rt; came == Some(wanted));
     Ok(())

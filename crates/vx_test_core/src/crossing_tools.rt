@@ -2,6 +2,7 @@
 //! sections 9 and 11, and of VXI-11.
 ghost use Rattle.std.specs.Prelude.{None};
 
+use crate::record_tools::are_words;
 use std::alloc::Global;
 use std::sync::atomic::{AtomicU64, Ordering};
 use std::thread;
@@ -72,6 +73,25 @@ const READ: [u8; 68] =
 const ABORT: [u8; 48] =
     *b"\x80\0\0\x2c\0\0\0\x03\0\0\0\0\0\0\0\x02\0\x06\x07\xb0\0\0\0\x01\0\0\0\x01\0\0\0\0\0\0\0\0\0\0\0\0\0\0\0\0\0\0\0\x03";
 
+// link 1; the lock
+const FIRST_TOOK: [u32; 19] = [
+    0x80000028, 1, 1, 0, 0, 0, 0, 0, 1, 9011, 262144, 0x8000001C, 2, 1, 0, 0, 0, 0, 0,
+];
+
+// link 2; the lock; done
+const SECOND_TOOK: [u32; 27] = [
+    0x80000028, 1, 1, 0, 0, 0, 0, 0, 2, 9011, 262144, 0x8000001C, 2, 1, 0, 0, 0, 0, 0, 0x8000001C,
+    3, 1, 0, 0, 0, 0, 0,
+];
+
+// link 3; the read ended by the abort, with nothing
+const READER_TOOK: [u32; 21] = [
+    0x80000028, 1, 1, 0, 0, 0, 0, 0, 3, 9011, 262144, 0x80000024, 2, 1, 0, 0, 0, 0, 23, 0, 0,
+];
+
+// done
+const ABORTER_TOOK: [u32; 8] = [0x8000001C, 3, 1, 0, 0, 0, 0, 0];
+
 /// Which session.
 #[derive(Clone, Copy)]
 pub(crate) enum Side {
@@ -83,6 +103,16 @@ pub(crate) enum Side {
     Reader,
     /// It aborts that read.
     Aborter,
+}
+
+/// The words that the link of a side is to take.
+fn wanted_of(side: Side) -> &'static [u32] {
+    match side {
+        Side::First => &FIRST_TOOK,
+        Side::Second => &SECOND_TOOK,
+        Side::Reader => &READER_TOOK,
+        Side::Aborter => &ABORTER_TOOK,
+    }
 }
 
 /// The record that a side gives in its step of this number, once it may; none at its end.
@@ -106,7 +136,7 @@ pub(crate) struct Crossing<'a> {
     side: Side,
     flags: &'a Flags,
     gave: u64,
-    pub(crate) took: Vec<u8>,
+    took: Vec<u8>,
     replies: u64,
     faults: u64,
 }
@@ -122,6 +152,11 @@ impl<'a> Crossing<'a> {
             replies: 0,
             faults: 0,
         }
+    }
+
+    /// Whether it took the words that it is to take, and no more.
+    pub(crate) fn took_all(&self) -> bool {
+        are_words(&self.took, wanted_of(self.side))
     }
 }
 
@@ -175,10 +210,10 @@ impl<'a> Pause for Pausing<'a> {
     }
 }
 
-/// How a side's session ended, what its link took, and how often it paused.
-#[derive(Drop)]
+/// How a side's session ended, whether its link took what it should, and how often it paused.
+#[derive(Clone, Copy)]
 pub(crate) struct Ran {
     pub(crate) end: Option<End>,
-    pub(crate) took: Vec<u8>,
+    pub(crate) took: bool,
     pub(crate) pauses: u64,
 }

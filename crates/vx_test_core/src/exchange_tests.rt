@@ -1,16 +1,14 @@
 //! Records byte by byte: the words are those of RFC 5531, section 9, behind a mark of section 11.
-ghost use Rattle.std.specs.Prelude.{◌≡◌, ◌≤◌, true, length};
-ghost use Rattle.vx_calls.specs.Call.{call_shown};
-ghost use Rattle.vx_rules.specs.One.{may_wait};
-ghost use Rattle.vx_rules.specs.Calls.{IsShort};
+ghost use Rattle.std.specs.Prelude.{◌≤◌, length};
 ghost use Rattle.vx_exchange.specs.declared.record.TheConstants.{REPLY_ROOM};
 
+use crate::asking_tools::link;
 use crate::gateway_tools::mem_core;
-use arrayvec::ArrayVec;
-use std::alloc::Global;
+use crate::record_tools::handle;
+use std::alloc::{AllocError, Global};
 use std::test::Fail;
 use vx_bus::MemBus;
-use vx_calls::{CallRef, ErrorCode, Handle, Interrupt, RECORD_MAX, Role};
+use vx_calls::{CallRef, ErrorCode, Interrupt, RECORD_MAX, Role};
 use vx_core::Core;
 use vx_exchange::{Opened, PollEnd, REPLY_ROOM, SRQ_ROOM, come, open, put_srq_record};
 
@@ -18,42 +16,14 @@ use vx_exchange::{Opened, PollEnd, REPLY_ROOM, SRQ_ROOM, come, open, put_srq_rec
 const WRITTEN_RECORD: &[u8] =
     b"\x80\0\0\x20\x01\x02\x03\x04\0\0\0\x01\0\0\0\0\0\0\0\0\0\0\0\0\0\0\0\0\0\0\0\0\0\0\0\x06";
 
-/// A call comes on a connection that waits for nothing: how long its reply's record is, which has no error.
-fn ask(
-    core: &mut Core<MemBus>,
-    conn: u32,
-    xid: u32,
-    call: &CallRef<'_>,
-    reply: &mut [u8],
-) -> Option<usize>
-    requires waits { may_wait (call_shown call.now) ≡ true }
-    requires short { IsShort (call_shown call.now) }
-    requires room { REPLY_ROOM ≤ length reply.old }
-    ensures len { length reply.new ≡ length reply.old }
-{
-    if core.role(conn) != Some(Role::Core) || core.pending(conn) {
-        return None;
-    }
-    match come(core, conn, xid, call, 0, reply) {
-        PollEnd::Replied {
-            len,
-            error: ErrorCode::Ok,
-        } => Some(len),
-        _ => None,
-    }
-}
-
-/// A connection makes a link to device 5, and writes 6 bytes with END: how long the record of the second reply is.
+/// A connection makes a link to device 5, and writes 6 bytes with END: how long the record of the reply is, which has no error.
 fn write_on(core: &mut Core<MemBus>, conn: u32, reply: &mut [u8]) -> Option<usize>
     requires room { REPLY_ROOM ≤ length reply.old }
 {
-    let link = CallRef::CreateLink {
-        client: 42,
-        lock: false,
-        lock_timeout: 0,
-        device: b"gpib0,5",
-    };
-    let _ = ask(core, conn, 1, &link, reply);
+    let _ = link(core, conn, b"gpib0,5");
+    if core.role(conn) != Some(Role::Core) || core.pending(conn) {
+        return None;
+    }
     let write = CallRef::Write {
         lid: 1,
         io_timeout: 1000,
@@ -61,7 +31,13 @@ fn write_on(core: &mut Core<MemBus>, conn: u32, reply: &mut [u8]) -> Option<usiz
         flags: 8,
         bytes: b"*IDN?\n",
     };
-    ask(core, conn, 0x0102_0304, &write, reply)
+    match come(core, conn, 0x0102_0304, &write, 0, reply) {
+        PollEnd::Replied {
+            len,
+            error: ErrorCode::Ok,
+        } => Some(len),
+        _ => None,
+    }
 }
 
 fn written(alloc: Global, reply: &mut [u8]) -> Option<usize>
@@ -111,21 +87,28 @@ fn answered(message: &[u8], reply: &mut [u8]) -> Option<usize>
     }
 }
 
-#[test]
-fn garbage_arguments(rt: HostRuntime) -> Result<(), Fail> {
-    let mut reply = vec![in rt.alloc(); 0u8; REPLY_ROOM]?;
-    let len = answered(GARBAGE, &mut reply);
-    let told = (len, reply.starts_with(GARBAGE_RECORD));
-    assert_eq!(rt; told, (Some(28), true));
-    Ok(())
+/// The same, and whether the reply begins with this record.
+fn answers(
+    alloc: Global,
+    message: &[u8],
+    record: &[u8],
+) -> Result<(Option<usize>, bool), AllocError> {
+    let mut reply = vec![in alloc; 0u8; REPLY_ROOM]?;
+    let len = answered(message, &mut reply);
+    Ok((len, reply.starts_with(record)))
 }
 
+static ANSWERED: [(&str, &[u8], &[u8]); 2] = [
+    ("garbage arguments", GARBAGE, GARBAGE_RECORD),
+    ("another RPC version", MISMATCH, MISMATCH_RECORD),
+];
+
 #[test]
-fn another_rpc_version(rt: HostRuntime) -> Result<(), Fail> {
-    let mut reply = vec![in rt.alloc(); 0u8; REPLY_ROOM]?;
-    let len = answered(MISMATCH, &mut reply);
-    let told = (len, reply.starts_with(MISMATCH_RECORD));
-    assert_eq!(rt; told, (Some(28), true));
+fn answers_without_a_core(rt: HostRuntime) -> Result<(), Fail> {
+    for (name, message, record) in ANSWERED {
+        let told = answers(rt.alloc(), message, record)?;
+        assert!(rt; told == (Some(28), true), "{name}");
+    }
     Ok(())
 }
 
@@ -134,12 +117,6 @@ fn another_rpc_version(rt: HostRuntime) -> Result<(), Fail> {
 const INTERRUPT_RECORD: &[u8] =
     b"\x80\0\0\x34\0\0\0\x03\0\0\0\0\0\0\0\x02\0\x06\x07\xb1\0\0\0\x01\0\0\0\x1e\0\0\0\0\0\0\0\0\0\0\0\0\0\0\0\0\0\0\0\x05\x07\x08\x09\x0a\x0b\0\0\0";
 
-fn handle() -> Handle {
-    let mut bytes = ArrayVec::new();
-    let _ = bytes.try_extend_from_slice(&[7, 8, 9, 10, 11]);
-    Handle { bytes }
-}
-
 #[test]
 fn an_interrupt_call(rt: HostRuntime) {
     let mut record = [0; SRQ_ROOM];
@@ -147,7 +124,7 @@ fn an_interrupt_call(rt: HostRuntime) {
         xid: 3,
         prog: 0x0607B1,
         vers: 1,
-        handle: handle(),
+        handle: handle(&[7, 8, 9, 10, 11]),
     };
     let len = put_srq_record(&interrupt, &mut record);
     assert_eq!(rt; &record[..len], INTERRUPT_RECORD);

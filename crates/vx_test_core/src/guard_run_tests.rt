@@ -1,18 +1,17 @@
 //! What the guard's program does, over a door in memory, each of whose peers is 127.0.0.1.
 ghost use Rattle.std.specs.Prelude.{◌≡◌, IfSome, vec_len};
 
-use crate::record_tools::{are_words, words};
-use crate::run_tools::{StillTools, words_of};
-use arrayvec::ArrayString;
+use crate::guard_tools::{BOTH_DENIED, CREATE_AND_WRITE, CREATED, DENIED, WRITTEN};
+use crate::run_tools::{Outside, StillTools, add, outside_of, went_so};
 use std::alloc::{AllocError, Global};
 use std::sync::Wait;
 use vx_guard::guard_run;
-use vx_memory::{MemDoor, MemSink, MemSource};
+use vx_memory::MemSource;
 use vx_rack::{Echo, Spare};
 
-/// The words; the rules, so many times, and so many `#` behind them; how many peers there are, each of which gives the same; which
-/// reads of the rules fail, which calls of the door, and which writes to the sink; the status, what is printed, how many peers were
-/// met, and what the first of them is sent; and the port that is opened.
+/// The words; the rules, so many times, and so many `#` behind them; what each peer gives; which reads of the rules fail, which calls
+/// of the door, and which writes to the sink; the status, what is printed, and what each peer that was met is sent; and the port that
+/// is opened.
 #[derive(Clone, Copy)]
 struct Row {
     name: &'static str,
@@ -20,32 +19,19 @@ struct Row {
     rules: &'static [u8],
     times: usize,
     pad: usize,
-    peers: usize,
-    gives: &'static [u32],
+    gives: &'static [&'static [u32]],
     source_fails: &'static [u64],
     door_fails: &'static [u64],
     sink_fails: &'static [u64],
     status: u8,
     text: &'static [u8],
-    met: usize,
-    took: &'static [u32],
+    took: &'static [&'static [u32]],
     port: Option<u16>,
 }
 
-/// A create_link: xid 1, client 42, no lock, the device `gpib0,5`; and a device_write: xid 2, link 1, the byte `A` with END.
-const CREATE_AND_WRITE: [u32; 34] = [
-    0x80000040, 1, 0, 2, 0x0607AF, 1, 10, 0, 0, 0, 0, 42, 0, 0, 7, 0x67706962, 0x302C3500,
-    0x80000040, 2, 0, 2, 0x0607AF, 1, 11, 0, 0, 0, 0, 1, 10000, 0, 8, 1, 0x41000000,
-];
-
-/// The replies: error 0, link 1, the abort port, and at most 262,144 bytes a write; and error 3.
-const DENIED: [u32; 20] = [
-    0x80000028, 1, 1, 0, 0, 0, 0, 0, 1, 9011, 262144, 0x80000020, 2, 1, 0, 0, 0, 0, 3, 0,
-];
-
-/// The replies where both are allowed: the second has error 0, and one byte was written.
-const WRITTEN: [u32; 20] = [
-    0x80000028, 1, 1, 0, 0, 0, 0, 0, 1, 9011, 262144, 0x80000020, 2, 1, 0, 0, 0, 0, 0, 1,
+/// The replies to a peer that makes link 2: the write on link 1 has error 4.
+const UNKNOWN: [u32; 20] = [
+    0x80000028, 1, 1, 0, 0, 0, 0, 0, 2, 9011, 262144, 0x80000020, 2, 1, 0, 0, 0, 0, 4, 0,
 ];
 
 const USAGE: &[u8] = b"usage: vxguard PORT N\n";
@@ -56,24 +42,18 @@ const ROW: Row = Row {
     rules: b"deny * write 5\nallow 127.0.0.0/8 * *\n",
     times: 1,
     pad: 0,
-    peers: 1,
-    gives: &CREATE_AND_WRITE,
+    gives: &[&CREATE_AND_WRITE],
     source_fails: &[],
     door_fails: &[],
     sink_fails: &[],
     status: 0,
     text: b"deny 1 1\nserved 1\n",
-    met: 1,
-    took: &DENIED,
+    took: &[&DENIED],
     port: Some(111),
 };
 
 /// No peer is met.
-const EARLY: Row = Row {
-    met: 0,
-    took: &[],
-    ..ROW
-};
+const EARLY: Row = Row { took: &[], ..ROW };
 
 /// The port isn't opened.
 const CLOSED: Row = Row {
@@ -87,31 +67,31 @@ static ROWS: [Row; 27] = [
     // gives back what it is sent, has nothing to give
     Row {
         name: "a device that heard nothing",
-        gives: &[
+        gives: &[&[
             0x80000040, 1, 0, 2, 0x0607AF, 1, 10, 0, 0, 0, 0, 42, 0, 0, 7, 0x67706962, 0x302C3500,
             0x80000040, 2, 0, 2, 0x0607AF, 1, 11, 0, 0, 0, 0, 1, 10000, 0, 8, 1, 0x41000000,
             0x80000040, 3, 0, 2, 0x0607AF, 1, 12, 0, 0, 0, 0, 1, 1, 0, 0, 0, 0,
-        ],
-        took: &[
+        ]],
+        took: &[&[
             0x80000028, 1, 1, 0, 0, 0, 0, 0, 1, 9011, 262144, 0x80000020, 2, 1, 0, 0, 0, 0, 3, 0,
             0x80000024, 3, 1, 0, 0, 0, 0, 15, 0, 0,
-        ],
+        ]],
         ..ROW
     },
     Row {
         name: "a write that a rule allows",
         rules: b"allow 127.0.0.1/32 * *",
         text: b"served 1\n",
-        took: &WRITTEN,
+        took: &[&WRITTEN],
         ..ROW
     },
     // of three; the second makes link 2, so link 1 isn't its own: only a rule for all targets matches, and the core knows no such link
     Row {
         name: "two peers",
         words: &["65535", "2"],
-        peers: 3,
+        gives: &[&CREATE_AND_WRITE, &CREATE_AND_WRITE, &CREATE_AND_WRITE],
         text: b"deny 1 1\nserved 2\n",
-        met: 2,
+        took: &[&DENIED, &UNKNOWN],
         port: Some(65535),
         ..ROW
     },
@@ -123,7 +103,7 @@ static ROWS: [Row; 27] = [
     },
     Row {
         name: "no peer",
-        peers: 0,
+        gives: &[],
         text: b"served 0\n",
         ..EARLY
     },
@@ -131,32 +111,32 @@ static ROWS: [Row; 27] = [
         name: "no rule, and so no call",
         rules: b"",
         text: b"deny 1 0\ndeny 1 0\nserved 1\n",
-        took: &[
-            0x80000028, 1, 1, 0, 0, 0, 0, 3, 0, 0, 0, 0x80000020, 2, 1, 0, 0, 0, 0, 3, 0,
-        ],
+        took: &[&BOTH_DENIED],
         ..ROW
     },
     Row {
         name: "a note whose first write fails: the denied call has no reply, and no further peer is met",
         words: &["111", "2"],
-        peers: 2,
+        gives: &[&CREATE_AND_WRITE, &CREATE_AND_WRITE],
         sink_fails: &[1],
         status: 6,
         text: b"",
-        took: &[0x80000028, 1, 1, 0, 0, 0, 0, 0, 1, 9011, 262144],
+        took: &[&CREATED],
         ..ROW
     },
     Row {
         name: "a note whose second write fails, in the session of the second peer",
         words: &["111", "3"],
         rules: b"deny * create *\nallow * * *",
-        peers: 3,
+        gives: &[&CREATE_AND_WRITE, &CREATE_AND_WRITE, &CREATE_AND_WRITE],
         sink_fails: &[2],
         status: 6,
         text: b"deny 1 1\n",
-        met: 2,
         took: &[
-            0x80000028, 1, 1, 0, 0, 0, 0, 3, 0, 0, 0, 0x80000020, 2, 1, 0, 0, 0, 0, 4, 0,
+            &[
+                0x80000028, 1, 1, 0, 0, 0, 0, 3, 0, 0, 0, 0x80000020, 2, 1, 0, 0, 0, 0, 4, 0,
+            ],
+            &[],
         ],
         ..ROW
     },
@@ -185,7 +165,7 @@ static ROWS: [Row; 27] = [
         name: "a receive that fails ends its session alone",
         door_fails: &[3],
         text: b"served 1\n",
-        took: &[],
+        took: &[&[]],
         ..ROW
     },
     Row {
@@ -216,7 +196,7 @@ static ROWS: [Row; 27] = [
         times: 256,
         pad: 1_045_504,
         text: b"served 1\n",
-        took: &WRITTEN,
+        took: &[&WRITTEN],
         ..ROW
     },
     Row {
@@ -308,51 +288,32 @@ fn text_of(alloc: Global, row: &Row) -> Result<Vec<u8>, AllocError> {
     Ok(text)
 }
 
-/// The door of a row.
-fn door_of(alloc: Global, row: &Row) -> Option<MemDoor> {
-    let mut peers = Vec::new(alloc);
-    for _ in 0..row.peers {
-        peers.push(words(alloc, row.gives, &[]).ok()?).ok()?;
-    }
-    MemDoor::new(alloc, peers, row.door_fails.to_vec(alloc).ok()?).ok()
+/// The source of the rules of a row.
+fn rules_of(alloc: Global, row: &Row) -> Option<MemSource> {
+    let fails = row.source_fails.to_vec(alloc).ok()?;
+    let text = text_of(alloc, row).ok()?;
+    Some(MemSource::new(text, 1_000_000, fails))
 }
 
 /// One instrument, which gives back what it is sent.
 fn rack_of(alloc: Global) -> Option<Vec<Spare<Echo>>>
     ensures { IfSome result (λ rack. vec_len rack ≡ 1) }
 {
-    let Ok(inst) = Echo::new(alloc) else {
-        return None;
-    };
     let mut rack = Vec::new(alloc);
-    let name = ArrayString::new();
-    match rack.push(Spare { name, inst }) {
-        Ok(()) => Some(rack),
-        Err(_) => None,
-    }
-}
-
-/// Whether a door met so many peers, and sent this to the first.
-fn met_so(door: &MemDoor, row: &Row) -> bool {
-    let first = door.sent(0).unwrap_or(&[]);
-    let last = row.met == 0 || door.sent(row.met - 1).is_some();
-    last && door.sent(row.met).is_none() && are_words(first, row.took)
+    add(alloc, &mut rack, 0)?;
+    Some(rack)
 }
 
 /// Runs a row, and answers whether it went as the row says.
 fn went<R: Wait>(rt: &R, alloc: Global, row: &Row) -> Option<bool> {
-    let words = words_of(alloc, row.words).ok()?;
-    let text = text_of(alloc, row).ok()?;
-    let mut rules = MemSource::new(text, 1_000_000, row.source_fails.to_vec(alloc).ok()?);
-    let mut sink = MemSink::new(Vec::new(alloc), row.sink_fails.to_vec(alloc).ok()?);
-    let mut door = door_of(alloc, row)?;
+    let mut rules = rules_of(alloc, row)?;
     let rack = rack_of(alloc)?;
+    let mut outside = outside_of(alloc, row.words, row.gives, row.door_fails, row.sink_fails)?;
+    let Outside { words, door, sink } = &mut outside;
     let mut tools = StillTools { alloc };
-    let status = guard_run(
-        rt, alloc, &words, &mut rules, &mut door, &mut tools, &mut sink, rack,
-    );
-    let as_written = status == row.status && sink.bytes() == row.text;
-    Some(as_written && met_so(&door, row) && door.port() == row.port)
+    let status = guard_run(rt, alloc, words, &mut rules, door, &mut tools, sink, rack);
+    let is_so = went_so(&outside, row.text, row.took, row.port);
+    Some(status == row.status && is_so)
 }
 
 #[test]

@@ -1,12 +1,16 @@
 //! Sessions that are guarded by rules, each by a gateway of its own. The records are those of RFC 5531, sections 9 and 11, and of VXI-11.
+ghost use Rattle.std.specs.Prelude.{◌≡◌};
 
 use crate::gateway_tools::gateway;
+use crate::guard_tools::{BOTH_DENIED, CREATE_AND_WRITE, CREATED, DENIED, WRITTEN};
 use crate::record_tools::{are_words, words};
 use std::alloc::Global;
 use std::sync::Wait;
-use std::test::Fail;
+use vx_bus_traits::Bus;
 use vx_calls::Role;
+use vx_core::Core;
 use vx_door::{Door, Met};
+use vx_gate::{Pass, Turns};
 use vx_guard::{GuardEnd, GuardRoom, guarded_session};
 use vx_memory::{MemDoor, MemSink};
 use vx_policy::Policy;
@@ -26,24 +30,13 @@ struct Row {
 
 const RULES: &[u8] = b"deny * write 5\nallow 127.0.0.0/8 * *";
 
-/// A create_link: xid 1, client 42, no lock, the device `gpib0,5`; and a device_write: xid 2, link 1, the byte `A` with END.
-const CREATE_AND_WRITE: [u32; 34] = [
-    0x80000040, 1, 0, 2, 0x0607AF, 1, 10, 0, 0, 0, 0, 42, 0, 0, 7, 0x67706962, 0x302C3500,
-    0x80000040, 2, 0, 2, 0x0607AF, 1, 11, 0, 0, 0, 0, 1, 10000, 0, 8, 1, 0x41000000,
-];
-
-/// The reply to the create_link: error 0, link 1, the abort port, and at most 262,144 bytes a write.
-const CREATED: [u32; 11] = [0x80000028, 1, 1, 0, 0, 0, 0, 0, 1, 9011, 262144];
-
 const PLAIN: Row = Row {
     name: "a write that a rule denies",
     rules: RULES,
     gives: &CREATE_AND_WRITE,
     note_fails: &[],
     how: GuardEnd::Ended(End::Closed),
-    took: &[
-        0x80000028, 1, 1, 0, 0, 0, 0, 0, 1, 9011, 262144, 0x80000020, 2, 1, 0, 0, 0, 0, 3, 0,
-    ],
+    took: &DENIED,
     note: b"deny 1 1\n",
 };
 
@@ -60,18 +53,14 @@ static ROWS: [Row; 6] = [
     Row {
         name: "a write that a rule allows",
         rules: b"allow 127.0.0.1/32 * *",
-        took: &[
-            0x80000028, 1, 1, 0, 0, 0, 0, 0, 1, 9011, 262144, 0x80000020, 2, 1, 0, 0, 0, 0, 0, 1,
-        ],
+        took: &WRITTEN,
         note: b"",
         ..PLAIN
     },
     Row {
         name: "a create_link that no rule allows, and a link that isn't known",
         rules: b"allow 127.0.0.0/8 * 6\nallow 10.0.0.0/8 * *",
-        took: &[
-            0x80000028, 1, 1, 0, 0, 0, 0, 3, 0, 0, 0, 0x80000020, 2, 1, 0, 0, 0, 0, 3, 0,
-        ],
+        took: &BOTH_DENIED,
         note: b"deny 1 0\ndeny 1 0\n",
         ..PLAIN
     },
@@ -121,44 +110,71 @@ fn policy_of(alloc: Global, rules: &[u8]) -> Option<Policy> {
     Policy::from_text(alloc, rules).ok()
 }
 
-/// Has the session of a peer at a gateway of its own, and answers how it ended.
-fn serve<R: Wait>(
+/// What a session has outside: the door that met its peer, its room, and the note.
+#[derive(Drop)]
+struct Outside {
+    door: MemDoor,
+    room: GuardRoom,
+    note: MemSink,
+}
+
+/// The same of a row.
+fn outside_of(alloc: Global, row: &Row) -> Option<Outside> {
+    let fails = row.note_fails.to_vec(alloc).ok()?;
+    let room = GuardRoom::new(alloc).ok()?;
+    let door = met(alloc, row.gives)?;
+    let note = MemSink::new(Vec::new(alloc), fails);
+    Some(Outside { door, room, note })
+}
+
+/// Has the session of a peer on a connection of this pass, and answers how it ended.
+fn serve_at<R: Wait, B: Bus, T: Turns<Core<B>>>(
     rt: &R,
     alloc: Global,
+    turns: &T,
+    pass: Pass<Core<B>>,
     policy: &Policy,
-    door: &mut MemDoor,
-    room: &mut GuardRoom,
-    note: &mut MemSink,
-) -> Option<GuardEnd> {
-    let (gate, pass) = gateway(alloc, &[])?;
-    let (pass, joined) = join(rt, alloc, &gate, pass, Role::Core);
+    outside: &mut Outside,
+) -> Option<GuardEnd>
+    requires gate { pass.gate ≡ T.gate turns.now }
+{
+    let (pass, joined) = join(rt, alloc, turns, pass, Role::Core);
     let Ok(conn) = joined else {
         return None;
     };
+    let Outside { door, room, note } = outside;
     let mut clock = Still::new();
     let mut pause = Still::new();
     let mut dial = Still::new();
     let (_pass, how) = guarded_session(
-        rt, &gate, pass, conn, policy, door, &mut clock, &mut pause, &mut dial, room, note,
+        rt, turns, pass, conn, policy, door, &mut clock, &mut pause, &mut dial, room, note,
     );
     Some(how)
+}
+
+/// The same at a gateway of its own.
+fn serve<R: Wait>(
+    rt: &R,
+    alloc: Global,
+    policy: &Policy,
+    outside: &mut Outside,
+) -> Option<GuardEnd> {
+    let (gate, pass) = gateway(alloc, &[])?;
+    serve_at(rt, alloc, &gate, pass, policy, outside)
 }
 
 /// Has the session of a row, and answers whether it went as the row says.
 fn went<R: Wait>(rt: &R, alloc: Global, row: &Row) -> Option<bool> {
     let policy = policy_of(alloc, row.rules)?;
-    let mut note = MemSink::new(Vec::new(alloc), row.note_fails.to_vec(alloc).ok()?);
-    let mut room = GuardRoom::new(alloc).ok()?;
-    let mut door = met(alloc, row.gives)?;
-    let how = serve(rt, alloc, &policy, &mut door, &mut room, &mut note);
-    let took = door.sent(0).unwrap_or(&[0]);
-    Some(how == Some(row.how) && are_words(took, row.took) && note.bytes() == row.note)
+    let mut outside = outside_of(alloc, row)?;
+    let how = serve(rt, alloc, &policy, &mut outside);
+    let took = are_words(outside.door.sent(0).unwrap_or(&[0]), row.took);
+    Some(how == Some(row.how) && took && outside.note.bytes() == row.note)
 }
 
 #[test]
-fn sessions(rt: HostRuntime) -> Result<(), Fail> {
-    for row in ROWS {
-        assert!(rt; went(&rt, rt.alloc(), &row) == Some(true), "{}", row.name);
+fn sessions(rt: HostRuntime) {
+    for row in &ROWS {
+        assert!(rt; went(&rt, rt.alloc(), row) == Some(true), "{}", row.name);
     }
-    Ok(())
 }

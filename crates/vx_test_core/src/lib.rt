@@ -2,6 +2,8 @@
 #![tactic(auto)]
 
 #[cfg(test)]
+mod asking_tools;
+#[cfg(test)]
 mod buses_crossed_tests;
 #[cfg(test)]
 mod buses_number_tests;
@@ -26,6 +28,8 @@ mod guard_run_tests;
 #[cfg(test)]
 mod guard_session_tests;
 #[cfg(test)]
+mod guard_tools;
+#[cfg(test)]
 mod pause_tests;
 #[cfg(test)]
 mod policy_tests;
@@ -35,6 +39,8 @@ mod pump_tests;
 mod record_tools;
 #[cfg(test)]
 mod run_tools;
+#[cfg(test)]
+mod serving_tools;
 #[cfg(test)]
 mod session_tests;
 #[cfg(test)]

@@ -1,45 +1,32 @@
 //! How often a session pauses: at each poll behind which its call waits for a lock or the bus, at none behind which the call's
 //! slice of 256 transfers is full, and once behind a call of more than a slice. The records are those of RFC 5531, sections 9 and
 //! 11, and of VXI-11.
-use crate::gateway_tools::{Counting, Pauses, gateway};
+use crate::gateway_tools::Counting;
 use crate::record_tools::{are_words, words};
+use crate::serving_tools::{make_outside, serve};
 use std::alloc::{AllocError, Global};
 use std::sync::Wait;
 use std::test::Fail;
-use vx_memory::{MemDial, MemLink};
-use vx_session::{Room, core_link};
+use vx_memory::MemLink;
 
 /// What came of a link: whether it took the words that it was to take, how often the session asked its clock, which it does once
 /// a poll, and how often it paused.
 type Came = (bool, u64, u64);
 
 /// Serves a link that gives these bytes, by a gateway of its own, of whose bus these moving calls are held.
-fn serve<R: Wait>(
+fn serve_bytes<R: Wait>(
     rt: &R,
     alloc: Global,
     holds: &[u64],
     gives: Vec<u8>,
     took: &[u32],
 ) -> Option<Came> {
-    let mut room = Room::new(alloc).ok()?;
-    let (gate, pass) = gateway(alloc, holds)?;
+    let mut outside = make_outside(alloc, &[])?;
     let link = MemLink::new(gives, 4096, Vec::new(alloc), Vec::new(alloc));
     let mut clock = Counting { told: 0 };
-    let mut pauses = Pauses { count: 0 };
-    let mut dial = MemDial::new(Vec::new(alloc), Vec::new(alloc));
-    let (_pass, done) = core_link(
-        rt,
-        alloc,
-        &gate,
-        pass,
-        link,
-        &mut clock,
-        &mut pauses,
-        &mut dial,
-        &mut room,
-    );
+    let done = serve(rt, alloc, holds, link, &mut clock, &mut outside)?;
     let took = are_words(done.link().bytes(), took);
-    Some((took, clock.told, pauses.count))
+    Some((took, clock.told, outside.pauses.count))
 }
 
 /// Writes of so many bytes each, one behind the other, on a bus of which these moving calls are held; and how many polls and pauses
@@ -129,7 +116,7 @@ fn written(alloc: Global, lens: &[u32]) -> Result<Vec<u32>, AllocError> {
 fn serve_row<R: Wait>(rt: &R, alloc: Global, row: &Row) -> Option<Came> {
     let took = written(alloc, row.lens).ok()?;
     let gives = writes(alloc, row.lens).ok()?;
-    serve(rt, alloc, row.holds, gives, &took)
+    serve_bytes(rt, alloc, row.holds, gives, &took)
 }
 
 #[test]
@@ -156,7 +143,7 @@ fn a_pause_at_each_wait_for_a_lock(rt: HostRuntime) -> Result<(), Fail> {
         262144, 0x8000001C, 3, 1, 0, 0, 0, 0, 0, 0x8000001C, 4, 1, 0, 0, 0, 0, 11,
     ];
     let gives = words(alloc, &gives, &[])?;
-    let came = serve(&rt, alloc, &[], gives, &took);
+    let came = serve_bytes(&rt, alloc, &[], gives, &took);
     assert_eq!(rt; came, Some((true, 3 + 11, 10)));
     Ok(())
 }

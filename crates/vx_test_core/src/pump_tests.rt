@@ -6,41 +6,21 @@ ghost use Rattle.vx_calls.specs.declared.calls.Role.TheVariants as role;
 ghost use Rattle.vx_rules.specs.One.{may_wait};
 ghost use Rattle.vx_rules.specs.Calls.{IsShort};
 ghost use Rattle.vx_exchange.specs.declared.record.TheConstants.{REPLY_ROOM};
-ghost use Rattle.vx_gate.specs.Gates.{gate_of};
 ghost use Rattle.vx_group.specs.Phases.{Idle};
 ghost use Rattle.vx_session.specs.Turning.{phase_at};
 
 use crate::gateway_tools::{Pauses, echo_core, gate_round};
-use crate::record_tools::are_words;
-use arrayvec::ArrayVec;
+use crate::record_tools::{are_words, handle};
 use std::alloc::{AllocError, Global};
 use std::sync::Wait;
 use std::test::Fail;
 use vx_bus_traits::Bus;
-use vx_calls::{CallRef, Handle, Role};
+use vx_calls::{CallRef, Role};
 use vx_core::Core;
 use vx_exchange::{PollEnd, REPLY_ROOM};
-use vx_gate::{Gate, Pass, Turns};
+use vx_gate::{Pass, Turns};
 use vx_memory::{MemClock, MemLink};
-use vx_rack::Echo;
 use vx_session::{PumpEnd, come, join, pump, sample_turn, settle};
-use vx_sim::SimBus;
-
-type Asking = Core<SimBus<Echo>>;
-
-/// A gate round a gateway whose bus has an instrument that asks for service, and its pass.
-fn asking(alloc: Global) -> Option<(Gate<Asking>, Pass<Asking>)>
-    ensures { IfSome result (λ r. r.1.gate ≡ gate_of r.0) }
-{
-    gate_round(alloc, echo_core(alloc, 0x40)?)
-}
-
-/// A handle of one byte.
-fn handle(byte: u8) -> Handle {
-    let mut bytes = ArrayVec::new();
-    let _ = bytes.try_push(byte);
-    Handle { bytes }
-}
 
 /// Has a call answered that waits for nothing.
 fn ask<R: Wait, B: Bus, T: Turns<Core<B>>>(
@@ -121,7 +101,7 @@ fn make_link<R: Wait, B: Bus, T: Turns<Core<B>>>(
     let enable = CallRef::EnableSrq {
         lid,
         enable: true,
-        handle: handle(byte),
+        handle: handle(&[byte]),
     };
     ask(rt, turns, pass, conn, &enable, reply)
 }
@@ -168,7 +148,7 @@ fn pump_enabled<R: Wait, B: Bus, T: Turns<Core<B>>>(
     Some(pump(rt, turns, pass, 1, chan, link, &mut pauses).1)
 }
 
-/// The same at a gate of its own.
+/// The same at a gate of its own, round a gateway whose bus has an instrument that asks for service.
 fn run_pump<R: Wait>(
     rt: &R,
     alloc: Global,
@@ -178,7 +158,8 @@ fn run_pump<R: Wait>(
 ) -> Option<PumpEnd>
     requires room { REPLY_ROOM ≤ length reply.old }
 {
-    let (gate, pass) = asking(alloc)?;
+    let core = echo_core(alloc, 0x40)?;
+    let (gate, pass) = gate_round(alloc, core)?;
     pump_enabled(rt, alloc, &gate, pass, chan, link, reply)
 }
 

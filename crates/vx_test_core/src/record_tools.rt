@@ -1,6 +1,8 @@
-//! Records as their words.
+//! Records as their words, and handles as their bytes.
 
+use arrayvec::ArrayVec;
 use std::alloc::{AllocError, Global};
+use vx_calls::Handle;
 
 /// Numbers as words of a record, and bytes behind them.
 pub(crate) fn words(alloc: Global, numbers: &[u32], rest: &[u8]) -> Result<Vec<u8>, AllocError> {
@@ -20,4 +22,11 @@ pub(crate) fn are_words(bytes: &[u8], numbers: &[u32]) -> bool {
         same = u32::from_be_bytes(*word) == *number && same;
     }
     same
+}
+
+/// A handle of these bytes, of which there are at most 40.
+pub(crate) fn handle(bytes: &[u8]) -> Handle {
+    let mut all = ArrayVec::new();
+    let _ = all.try_extend_from_slice(bytes);
+    Handle { bytes: all }
 }

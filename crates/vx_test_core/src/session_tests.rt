@@ -1,14 +1,15 @@
 //! Links that are served, each by a gateway of its own. The records are those of RFC 5531, sections 9 and 11, and of VXI-11.
 ghost use Rattle.std.specs.Prelude.{◌≡◌};
 
-use crate::gateway_tools::{Pauses, gateway};
+use crate::gateway_tools::gateway;
 use crate::record_tools::{are_words, words};
+use crate::serving_tools::{make_outside, serve};
 use std::alloc::{AllocError, Global};
 use std::sync::Wait;
 use std::test::Fail;
 use vx_io_traits::Rang;
 use vx_memory::{MemClock, MemDial, MemLink};
-use vx_session::{End, LinkDone, Linked, Room, Tally, abort_link, core_link};
+use vx_session::{End, LinkDone, Linked, Room, Tally, abort_link};
 
 /// A link, what is outside of its session, and what is to come of it.
 #[derive(Clone, Copy)]
@@ -245,27 +246,6 @@ fn link_of(
     Ok(MemLink::new(gives, piece.max(1), Vec::new(alloc), fails))
 }
 
-/// What a session has beside its link.
-#[derive(Drop)]
-struct Outside {
-    clock: MemClock,
-    pauses: Pauses,
-    dial: MemDial,
-    room: Room,
-}
-
-fn make_outside(alloc: Global, moments: &[u64], fails: &[u64]) -> Option<Outside> {
-    let moments = moments.to_vec(alloc).ok()?;
-    let fails = fails.to_vec(alloc).ok()?;
-    let room = Room::new(alloc).ok()?;
-    Some(Outside {
-        room,
-        clock: MemClock::new(moments),
-        pauses: Pauses { count: 0 },
-        dial: MemDial::new(Vec::new(alloc), fails),
-    })
-}
-
 /// What came of a link: how it ended, how many links a count counts before and behind it, whether it took these words, and
 /// whether its dial was told these calls.
 type Came = (Linked, [u64; 2], bool, bool);
@@ -280,34 +260,14 @@ fn seen(done: LinkDone<MemLink>, dial: &MemDial, took: &[u32], rang: &[Rang]) ->
     (how, counted, took, dial.calls() == Some(rang))
 }
 
-/// Serves a core link by a gateway of its own.
-fn serve<R: Wait>(
-    rt: &R,
-    alloc: Global,
-    row: &Row,
-    link: MemLink,
-    outside: &mut Outside,
-) -> Option<Came> {
-    let (gate, pass) = gateway(alloc, row.holds)?;
-    let (_pass, done) = core_link(
-        rt,
-        alloc,
-        &gate,
-        pass,
-        link,
-        &mut outside.clock,
-        &mut outside.pauses,
-        &mut outside.dial,
-        &mut outside.room,
-    );
-    Some(seen(done, &outside.dial, row.took, row.rang))
-}
-
 /// Serves the link of a row.
 fn serve_row<R: Wait>(rt: &R, alloc: Global, row: &Row) -> Option<Came> {
-    let mut outside = make_outside(alloc, row.moments, row.dial_fails)?;
+    let moments = row.moments.to_vec(alloc).ok()?;
+    let mut outside = make_outside(alloc, row.dial_fails)?;
     let link = link_of(alloc, row.gives, row.rest, row.piece, row.fails).ok()?;
-    serve(rt, alloc, row, link, &mut outside)
+    let mut clock = MemClock::new(moments);
+    let done = serve(rt, alloc, row.holds, link, &mut clock, &mut outside)?;
+    Some(seen(done, &outside.dial, row.took, row.rang))
 }
 
 #[test]

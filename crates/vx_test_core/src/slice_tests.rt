@@ -1,23 +1,14 @@
 //! Calls of many transfers: a poll makes 256 of them at most, and the next one goes on. The list of a write or a read of a
 //! device has three commands (UNL, and the two addresses), and then one transfer a byte (IEEE 488.1).
+use crate::asking_tools::{Came, link, poll};
 use crate::gateway_tools::{arrive, mem_core};
 use std::alloc::{AllocError, Global};
 use vx_bus::MemBus;
-use vx_calls::{CallRef, ErrorCode, ReplyRef, Role};
-use vx_core::{Core, Polled, Why};
+use vx_calls::{CallRef, ErrorCode, Role};
+use vx_core::{Core, Why};
 
-/// What comes of a poll.
-#[derive(Clone, Copy, PartialEq, Eq)]
-enum Came {
-    NotYet(Why),
-    /// A write is answered with this error and size.
-    Written(ErrorCode, u32),
-    /// A read is answered with this error and reason, and with all bytes that the bus gave.
-    Got(ErrorCode, u32),
-    Other,
-}
-
-/// How many polls had a full slice, one each second; how many transfers the next one made; and what came of it.
+/// How many polls had a full slice, one each second; how many transfers the next one made; and what came of it, of a read with all
+/// bytes that the bus gave.
 type Polls = (u64, usize, Came);
 
 /// A call on device 5, what its bus does, and what is to come of its polls.
@@ -43,7 +34,7 @@ const PLAIN: Row = Row {
     io_timeout: 1000,
     holds: &[],
     fails: &[],
-    wanted: (1, 47, Came::Written(ErrorCode::Ok, 300)),
+    wanted: (1, 47, Came::Reply(ErrorCode::Ok, 300)),
 };
 
 static ROWS: [Row; 12] = [
@@ -51,25 +42,25 @@ static ROWS: [Row; 12] = [
     Row {
         name: "the longest write, of 262,147 transfers",
         len: 262_144,
-        wanted: (1024, 3, Came::Written(ErrorCode::Ok, 262_144)),
+        wanted: (1024, 3, Came::Reply(ErrorCode::Ok, 262_144)),
         ..PLAIN
     },
     Row {
         name: "a write of 256 transfers",
         len: 253,
-        wanted: (0, 256, Came::Written(ErrorCode::Ok, 253)),
+        wanted: (0, 256, Came::Reply(ErrorCode::Ok, 253)),
         ..PLAIN
     },
     Row {
         name: "a write of 257 transfers",
         len: 254,
-        wanted: (1, 1, Came::Written(ErrorCode::Ok, 254)),
+        wanted: (1, 1, Came::Reply(ErrorCode::Ok, 254)),
         ..PLAIN
     },
     Row {
         name: "a write of 512 transfers",
         len: 509,
-        wanted: (1, 256, Came::Written(ErrorCode::Ok, 509)),
+        wanted: (1, 256, Came::Reply(ErrorCode::Ok, 509)),
         ..PLAIN
     },
     // no time ends a poll whose slice is full
@@ -83,14 +74,14 @@ static ROWS: [Row; 12] = [
         name: "a write that has no time, held at transfer 256",
         io_timeout: 0,
         holds: &[256],
-        wanted: (0, 255, Came::Written(ErrorCode::Timeout, 252)),
+        wanted: (0, 255, Came::Reply(ErrorCode::Timeout, 252)),
         ..PLAIN
     },
     Row {
         name: "a write that has no time, held at transfer 257",
         io_timeout: 0,
         holds: &[257],
-        wanted: (1, 0, Came::Written(ErrorCode::Timeout, 253)),
+        wanted: (1, 0, Came::Reply(ErrorCode::Timeout, 253)),
         ..PLAIN
     },
     Row {
@@ -103,7 +94,7 @@ static ROWS: [Row; 12] = [
     Row {
         name: "a write that fails at transfer 257",
         fails: &[257],
-        wanted: (1, 0, Came::Written(ErrorCode::BusFault, 253)),
+        wanted: (1, 0, Came::Reply(ErrorCode::BusFault, 253)),
         ..PLAIN
     },
     Row {
@@ -139,39 +130,6 @@ fn given(alloc: Global, bytes: &[u8]) -> Result<Vec<(u8, bool)>, AllocError> {
     Ok(gets)
 }
 
-/// Polls the call of connection 1, where it has one. A read is to have these bytes.
-fn poll(core: &mut Core<MemBus>, now: u64, wanted: &[u8]) -> Came {
-    if !core.pending(1) {
-        return Came::Other;
-    }
-    match core.poll(1, now) {
-        Polled::NotYet(why) => Came::NotYet(why),
-        Polled::Answer(ReplyRef::Write { error, size }) => Came::Written(error, size),
-        Polled::Answer(
-            ReplyRef::Read {
-                error,
-                reason,
-                bytes,
-            },
-        ) if bytes == wanted => Came::Got(error, reason),
-        _ => Came::Other,
-    }
-}
-
-/// Connection 1 comes up, and makes link 1 to device 5.
-fn link(core: &mut Core<MemBus>, alloc: Global) {
-    let _ = core.connect(alloc, Role::Core);
-    let call = CallRef::CreateLink {
-        client: 42,
-        lock: false,
-        lock_timeout: 0,
-        device: b"gpib0,5",
-    };
-    if arrive(core, 1, &call) {
-        let _ = poll(core, 0, &[]);
-    }
-}
-
 /// The call of a row comes.
 fn ask(core: &mut Core<MemBus>, row: &Row, bytes: &[u8]) -> bool {
     if row.reads {
@@ -201,18 +159,19 @@ fn ask(core: &mut Core<MemBus>, row: &Row, bytes: &[u8]) -> bool {
 /// Polls the call until one isn't a full slice of 256 transfers.
 fn poll_on(core: &mut Core<MemBus>, wanted: &[u8]) -> Polls {
     for full in 0..2000u64 {
-        let came = poll(core, full * 1000, wanted);
+        let came = poll(core, 1, full * 1000, wanted);
         let moved = core.moves().len();
         if came != Came::NotYet(Why::Slice) || moved != 256 {
             return (full, moved, came);
         }
     }
-    (2000, 0, Came::Other)
+    (2000, 0, Came::Nothing)
 }
 
-/// What comes of the call of a row. A write is of these bytes, and a read is to have them.
+/// What comes of the call of a row, on link 1 to device 5 of connection 1. A write is of these bytes, and a read is to have them.
 fn polls(core: &mut Core<MemBus>, alloc: Global, row: &Row, bytes: &[u8]) -> Option<Polls> {
-    link(core, alloc);
+    let _ = core.connect(alloc, Role::Core);
+    let _ = link(core, 1, b"gpib0,5");
     if ask(core, row, bytes) {
         Some(poll_on(core, bytes))
     } else {
