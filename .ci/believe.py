@@ -34,11 +34,11 @@ CALLS = [
 ]
 
 # The record of all that is claimed of a history.
-CLAIMS = ("crates/vx_flow/specs/Headline.antt", "Headline")
+CLAIMS = ("crates/vx_flow/specs/Claims.antt", "Claims")
 
 # Two definitions that a law proves to say the same: the first is read as the second.
 READ_AS = {
-    ("crates/vx_flow/specs/Fine.antt", "fine"): ("crates/vx_flow/specs/Does.antt", "Does"),
+    ("crates/vx_flow/specs/InterleavedStep.antt", "interleaved_step"): ("crates/vx_flow/specs/Does.antt", "Does"),
 }
 
 

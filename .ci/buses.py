@@ -4,33 +4,26 @@
 Each bus has an echo at address 5. Results are composed here from their words, by RFC 4506 and VXI-11. Each case takes its own port.
 What goes wrong, and at last 'N passed, M failed', goes to standard error; the status is 1 where something went wrong.
 """
-import concurrent.futures
-import socket
-import struct
 import subprocess
-import sys
 import time
 
+import cases
 import rpc
-from rpc import CORE, CREATE_LINK, END, LAST, READ, WRITE, Client, record, spelled
-from serving import PATIENCE, Program, free_ports
+from rpc import (BY_END, CORE, CREATE_INTR_CHAN, CREATE_LINK, DESTROY_LINK, END, INTERRUPT, LAST, PATIENCE, READ, READSTB, RECORD_MAX,
+                 WRITE, WRITE_MAX, Client, record, spelled)
+from serving import Counted, free_ports
 
-ABORT_PORT, WRITE_MAX = 9011, 262144  # what a create_link tells
-READSTB, DESTROY_LINK, CREATE_INTR_CHAN = 13, 23, 25
+ABORT_PORT = 9011  # what a create_link tells
 NOT_ACCESSIBLE, NO_LINK, NOT_SUPPORTED, LOCKED = 3, 4, 8, 11  # errors
-BY_END = 4  # the reason of a read that ends with END
 BUSES = range(4)
 SILENCE = 30  # seconds after which a client that says nothing is left
 
 
-class Buses(Program):
+class Buses(Counted):
     """A server of so many links."""
 
-    def __init__(self, program, number):
-        super().__init__(lambda port: [program, str(port), str(number)])
-
     def client(self):
-        return Client(*self.ports, patience=PATIENCE)
+        return Client(*self.ports)
 
 
 def expect(client, procedure, arguments, *due):
@@ -61,7 +54,7 @@ def a_query_on_each_bus(program):
                 write(client, bus + 1, b"*IDN? of bus %d" % bus)
             for bus in reversed(BUSES):
                 read(client, bus + 1, b"*IDN? of bus %d" % bus)
-        buses.expect_end("served 1\n")
+        buses.expect_served(1)
 
 
 def links_of_two_clients(program):
@@ -81,7 +74,7 @@ def links_of_two_clients(program):
             read(client, 11, b"C")
             expect(client, READSTB, (4, 0, 0, 10000), NO_LINK, 0)
             expect(client, DESTROY_LINK, (8,), 0)
-        buses.expect_end("served 2\n")
+        buses.expect_served(2)
 
 
 def calls_of_no_bus(program):
@@ -91,8 +84,8 @@ def calls_of_no_bus(program):
             expect(client, 0, ())
             expect(client, CREATE_LINK, (1, 0, 0, b"gpib4,5"), NOT_ACCESSIBLE, 0, 0, 0)
             expect(client, WRITE, (1, 10000, 0, END, b"A"), NO_LINK, 0)
-            expect(client, CREATE_INTR_CHAN, (0x7F000001, 9012, 0x0607B1, 1, 0), NOT_SUPPORTED)
-        buses.expect_end("served 1\n")
+            expect(client, CREATE_INTR_CHAN, (0x7F000001, 9012, INTERRUPT, 1, 0), NOT_SUPPORTED)
+        buses.expect_served(1)
 
 
 def a_client_that_vanishes(program):
@@ -101,13 +94,13 @@ def a_client_that_vanishes(program):
         with buses.client() as client:
             for bus in (1, 2):
                 make_link(client, b"gpib%d,5" % bus, bus + 1, lock=1)
-            client.peer.setsockopt(socket.SOL_SOCKET, socket.SO_LINGER, struct.pack("ii", 1, 0))
-            client.peer.sendall(rpc.words(LAST | 64, 1))
+            client.send(rpc.words(LAST | 64, 1))
+            client.reset()
         with buses.client() as client:
             for bus in (1, 2):
                 make_link(client, b"gpib%d,5" % bus, bus + 5, lock=1)
                 write(client, bus + 5, b"A")
-        buses.expect_end("served 2\n")
+        buses.expect_served(2)
 
 
 def a_silent_client(program):
@@ -118,20 +111,20 @@ def a_silent_client(program):
             began = time.monotonic()
             make_link(client, b"gpib3,5", 8, lock=1)
             assert SILENCE - 5 < time.monotonic() - began < SILENCE + 30, "the next client is served after another time"
-            assert silent.peer.recv(1) == b"", "the silent client is still connected"
-        buses.expect_end("served 2\n")
+            silent.expect_end()
+        buses.expect_served(2)
 
 
 def replies_before_an_end(program):
     """Calls, a record that is no call or is too long, and a megabyte behind it, in one send: each call is answered."""
     calls = b"".join(record(rpc.call(xid, CORE, 0)) for xid in range(50))
     replies = b"".join(record(rpc.reply(xid)) for xid in range(50))
-    ends = (record(rpc.words(1, 0)), rpc.words(LAST | 263169))
+    ends = (record(rpc.words(1, 0)), rpc.words(LAST | RECORD_MAX + 1))
     with Buses(program, 40) as buses:
         for number in range(40):
             told = rpc.told_to(*buses.ports, calls + ends[number % 2] + bytes(1 << 20))
             assert told == replies, f"{len(told)} of {len(replies)} bytes came"
-        buses.expect_end("served 40\n")
+        buses.expect_served(40)
 
 
 def a_client_that_stays(program):
@@ -139,12 +132,12 @@ def a_client_that_stays(program):
     with Buses(program, 2) as buses:
         with buses.client() as client:
             make_link(client, b"gpib0,5", 1)
-            client.peer.sendall(record(rpc.words(1, 0)))
+            client.send(record(rpc.words(1, 0)))
             began = time.monotonic()
             with buses.client() as other:
                 make_link(other, b"gpib0,5", 5)
             assert time.monotonic() - began < 20, "a client that is gone holds up the next one"
-        buses.expect_end("served 2\n")
+        buses.expect_served(2)
 
 
 def no_run(program):
@@ -162,24 +155,5 @@ CASES = [a_silent_client, a_query_on_each_bus, links_of_two_clients, calls_of_no
          a_client_that_stays, no_run]
 
 
-def passes(case, program):
-    try:
-        case(program)
-        return True
-    except (AssertionError, OSError, subprocess.SubprocessError) as wrong:
-        print(f"{case.__name__}: {wrong!r}", file=sys.stderr)
-        return False
-
-
-def main(programs):
-    if len(programs) != 1:
-        sys.exit("usage: buses.py BUSES")
-    with concurrent.futures.ThreadPoolExecutor(len(CASES)) as pool:
-        outcomes = list(pool.map(lambda case: passes(case, programs[0]), CASES))
-    passed = outcomes.count(True)
-    print(f"{passed} passed, {len(outcomes) - passed} failed", file=sys.stderr)
-    return 0 if passed == len(outcomes) else 1
-
-
 if __name__ == "__main__":
-    sys.exit(main(sys.argv[1:]))
+    cases.at_once(CASES, "buses.py BUSES")

@@ -18,11 +18,11 @@ import subprocess
 import sys
 
 from mapper import MAPPER, Mapper
-from rpc import ABORT, CORE
-from serving import PATIENCE, Program, Taken
+from rpc import ABORT, CORE, HOST, PATIENCE
+from serving import Server, Taken
 
 BENCH = pathlib.Path(__file__).resolve().parent.parent / "examples/bench.txt"
-HOST, PORT = "127.0.0.1", 111
+PORT = 111  # the mapper's
 PYTHONS = (sys.executable, "/usr/bin/python3")  # that of this test, and the system's
 IDENTITY = "ACME,TABLE,1,1.0"  # what the instrument at 5 of that bench says of itself
 
@@ -44,14 +44,9 @@ class WellKnown(Mapper):
             raise LeftOut(f"port {PORT} can't be had here")
 
 
-class Server(Program):
+def serving(server):
     """The server of the example's bench."""
-
-    count, first_line = 2, "listening {} {}\n"
-
-    def __init__(self, program):
-        words = lambda core, abort: [program, "--core", str(core), "--abort", str(abort)]
-        super().__init__(words, BENCH.read_bytes(), stderr=subprocess.DEVNULL)
+    return Server([server], BENCH.read_bytes(), stderr=subprocess.DEVNULL)
 
 
 def installed(program):
@@ -99,7 +94,7 @@ def rpcinfo_lists_the_table(mapper, server):
 def rpcinfo_finds_the_server(mapper, server):
     """It asks over TCP in the versions 4 and 3, which the mapper hasn't, and then over UDP in version 2."""
     rpcinfo = installed("rpcinfo")
-    with Server(server) as served, WellKnown(mapper, "stream", 1000, served.ports), WellKnown(mapper, "packets", 1000, served.ports):
+    with serving(server) as served, WellKnown(mapper, "stream", 1000, served.ports), WellKnown(mapper, "packets", 1000, served.ports):
         for program in (CORE, ABORT):
             said = said_by(rpcinfo, "-t", HOST, str(program), "1")
             assert said == f"program {program} version 1 ready and waiting\n", said
@@ -107,7 +102,7 @@ def rpcinfo_finds_the_server(mapper, server):
 
 def lxi_tools(mapper, server):
     lxi = installed("lxi")
-    with Server(server) as served, WellKnown(mapper, "stream", 1, served.ports) as mapped:
+    with serving(server) as served, WellKnown(mapper, "stream", 1, served.ports) as mapped:
         subprocess.run([lxi, "scpi", "--address", HOST, "*IDN?"], capture_output=True, timeout=PATIENCE)
         mapped.expect_served(1)
 
@@ -121,7 +116,7 @@ device.timeout = 60000
 device.write_termination = device.read_termination = chr(10)
 print(device.query("*IDN?"))
 """
-    with Server(server) as served, WellKnown(mapper, "stream", 1000, served.ports):
+    with serving(server) as served, WellKnown(mapper, "stream", 1000, served.ports):
         assert said_by(python, "-c", asks).strip() == IDENTITY
 
 

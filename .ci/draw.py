@@ -17,6 +17,8 @@ import subprocess
 import sys
 import xml.etree.ElementTree as ET
 
+import rpc
+
 TOP = pathlib.Path(__file__).resolve().parent.parent
 DRAW = TOP / "examples/draw.py"
 SVG = "{http://www.w3.org/2000/svg}"
@@ -79,12 +81,12 @@ def drawn(trace, *verdict):
     return subprocess.run([sys.executable, str(DRAW), *verdict], input=trace, capture_output=True, timeout=60)
 
 
-def call(procedure, arguments, program="000607AF"):
-    return "000000010000000000000002" + program + f"00000001{procedure:08X}" + "0" * 32 + arguments
+def call(procedure, arguments, program=rpc.CORE):
+    return rpc.call(1, program, procedure).hex().upper() + arguments
 
 
 def reply(results):
-    return f"{0x80000018 + len(results) // 2:08X}0000000100000001" + "0" * 32 + results
+    return rpc.record(rpc.reply(1) + bytes.fromhex(results)).hex().upper()
 
 
 def trace_of_all():
@@ -98,10 +100,10 @@ def trace_of_all():
     for status in (1, 2, 3, 4):
         lines += [f"call 1 {call(10, '')}", f"out 1 8000001800000001000000010000000000000000000000000000000{status}"]
     lines += [f"call 1 {call(10, ARGUMENTS[10])}", "out 1 8000001800000001" + "00000001" * 2 + "0" * 8 + "00000002" * 2]
-    lines += [f"call 2 {call(1, '00000007', '000607B0')}", f"out 2 {reply('0' * 8)}", f"call 1 {call(11, ARGUMENTS[11])}"]
+    lines += [f"call 2 {call(1, '00000007', rpc.ABORT)}", f"out 2 {reply('0' * 8)}", f"call 1 {call(11, ARGUMENTS[11])}"]
     lines += [f"bus 1 {transfers}" for transfers in TRANSFERS]
     lines += [f"wait 1 {cause} 3" if "{}" in text else f"wait 1 {cause}" for cause, text in CAUSES.items()]
-    lines += ["dial 1 ok", "dial 1 fail", "srq 1", "srq 0", f"irq 1 80000034{call(30, OPAQUE, '000607B1')}", "irq 1 none", "irq 1 closed"]
+    lines += ["dial 1 ok", "dial 1 fail", "srq 1", "srq 0", f"irq 1 80000034{call(30, OPAQUE, rpc.INTERRUPT)}", "irq 1 none", "irq 1 closed"]
     lines += ["gone 1 down", "call 3 ", "gone 3 junk", "gone 2 long"]
     return "\n".join(["vxtrace 2", *[f"{10 ** (place // 6)} {line}" for place, line in enumerate(lines)], "fault line 90 conn", ""])
 

@@ -5,29 +5,27 @@ Whole messages are composed here from their words, by RFC 5531 and VXI-11. Clien
 and 127.0.0.2. Each case takes its own port. What goes wrong, and at last 'N passed, M failed', goes to standard error; the status is 1
 where something went wrong.
 """
-import concurrent.futures
-import socket
 import struct
 import subprocess
-import sys
 
+import cases
 import rpc
-from rpc import CORE, LAST, TRIGGER, Client, record, words
-from serving import PATIENCE, Program, free_ports
+from rpc import CORE, LAST, PATIENCE, TRIGGER, Client, record, words
+from serving import Counted, free_ports
 
 NULL = 0
 ALLOWED, DENIED, TIMED_OUT = 0, 3, 15
 ONE, OTHER = "127.0.0.1", "127.0.0.2"
 
 
-class Guard(Program):
+class Guard(Counted):
     """A guard by these rules that serves so many links."""
 
     def __init__(self, program, rules, number):
-        super().__init__(lambda port: [program, str(port), str(number)], rules.encode())
+        super().__init__(program, number, rules.encode())
 
     def client(self, address):
-        return Client(*self.ports, address, PATIENCE)
+        return Client(*self.ports, address)
 
 
 def trigger(client, link):
@@ -50,7 +48,7 @@ def one_writes_and_one_reads(program):
             assert client.read(lid, 5) == (ALLOWED, b"hello"), "it reads something else"
             assert client.read(lid, 5, io_timeout=0) == (TIMED_OUT, b""), "the device heard what was denied"
             assert trigger(client, lid) == DENIED, "it may do what no rule allows"
-        guard.expect_end("deny 2 2\ndeny 2 0\nserved 2\n")
+        guard.expect_served(2, "deny 2 2\ndeny 2 0\n")
 
 
 def the_other_way_round(program):
@@ -59,7 +57,7 @@ def the_other_way_round(program):
             with guard.client(address) as client:
                 error, lid = client.create("gpib0,5")
                 assert (error, client.write(lid, b"A")) == (ALLOWED, wanted), f"another answer to {address}"
-        guard.expect_end("deny 1 1\nserved 2\n")
+        guard.expect_served(2, "deny 1 1\n")
 
 
 def no_rule(program):
@@ -67,17 +65,17 @@ def no_rule(program):
         with guard.client(ONE) as client:
             assert client.results(NULL) == b"", "the null procedure is judged"
             assert client.create("gpib0,5") == (DENIED, 0), "a call without a rule is allowed"
-        guard.expect_end("deny 1 0\nserved 1\n")
+        guard.expect_served(1, "deny 1 0\n")
 
 
 def a_peer_that_vanishes(program):
     with Guard(program, "allow * * *\n", 2) as guard:
         with guard.client(ONE) as client:
-            client.peer.setsockopt(socket.SOL_SOCKET, socket.SO_LINGER, struct.pack("ii", 1, 0))
-            client.peer.sendall(words(LAST | 64, 1))
+            client.send(words(LAST | 64, 1))
+            client.reset()
         with guard.client(OTHER) as client:
             assert client.create("gpib0,5")[0] == ALLOWED, "the next peer isn't served"
-        guard.expect_end("served 2\n")
+        guard.expect_served(2)
 
 
 def replies_before_an_end(program):
@@ -88,7 +86,7 @@ def replies_before_an_end(program):
         for _ in range(20):
             told = rpc.told_to(*guard.ports, calls + record(words(1, 0)) + bytes(1 << 20))
             assert told == replies, f"{len(told)} of {len(replies)} bytes came"
-        guard.expect_end("served 20\n")
+        guard.expect_served(20)
 
 
 def ended(program, arguments, rules):
@@ -113,24 +111,5 @@ def no_run(program):
 CASES = [one_writes_and_one_reads, the_other_way_round, no_rule, a_peer_that_vanishes, replies_before_an_end, no_run]
 
 
-def passes(case, program):
-    try:
-        case(program)
-        return True
-    except (AssertionError, OSError, subprocess.SubprocessError) as wrong:
-        print(f"{case.__name__}: {wrong!r}", file=sys.stderr)
-        return False
-
-
-def main(programs):
-    if len(programs) != 1:
-        sys.exit("usage: guard.py GUARD")
-    with concurrent.futures.ThreadPoolExecutor(len(CASES)) as pool:
-        outcomes = list(pool.map(lambda case: passes(case, programs[0]), CASES))
-    passed = outcomes.count(True)
-    print(f"{passed} passed, {len(outcomes) - passed} failed", file=sys.stderr)
-    return 0 if passed == len(outcomes) else 1
-
-
 if __name__ == "__main__":
-    sys.exit(main(sys.argv[1:]))
+    cases.at_once(CASES, "guard.py GUARD")

@@ -13,9 +13,9 @@ import struct
 import subprocess
 import sys
 
-from rpc import ABORT, CORE, LAST, opaque, record, words
+import rpc
+from rpc import ABORT, CORE, LAST, RECORD_MAX, opaque, record, words
 
-RECORD_MAX = 263168
 DEAD = 7  # a link that nobody made
 SEED = 488
 
@@ -66,17 +66,14 @@ ARGUMENTS = {
 EMPTY = {10: 3, 11: 1, 12: 2, 13: 1, 22: 1}
 
 
-def reply(*numbers):
-    return record(words(*numbers))
-
-
 def answer(program, message):
     """The reply to a message of a connection on which nothing was made, or None where the message is junk."""
     if len(message) < 12 or message[4:8] != words(0):
         return None
     xid = struct.unpack(">I", message[:4])[0]
+    accepted = lambda *results, status=0: record(rpc.reply(xid, *results, status=status))
     if message[8:12] != words(2):
-        return reply(xid, 1, 1, 0, 2, 2)
+        return record(rpc.denied(xid))
     reader = Reader(message[12:])
     try:
         named, version, procedure = reader.word(), reader.word(), reader.word()
@@ -86,28 +83,29 @@ def answer(program, message):
     except Unreadable:
         return None
     if named != program:
-        return reply(xid, 1, 0, 0, 0, 1)
+        return accepted(status=1)
     if version != 1:
-        return reply(xid, 1, 0, 0, 0, 2, 1, 1)
+        return accepted(1, 1, status=2)
     if procedure not in ARGUMENTS[program]:
-        return reply(xid, 1, 0, 0, 0, 3)
+        return accepted(status=3)
     try:
         for kind in ARGUMENTS[program][procedure]:
             reader.word() if kind == W else reader.flag() if kind == F else reader.opaque(kind)
     except Unreadable:
-        return reply(xid, 1, 0, 0, 0, 4)
+        return accepted(status=4)
     if reader.data:
-        return reply(xid, 1, 0, 0, 0, 4)
+        return accepted(status=4)
     if procedure == 0:
-        return reply(xid, 1, 0, 0, 0, 0)
+        return accepted()
     if procedure in (10, 25):
         raise ValueError("its answer depends on more than the protocol of records")
     error = 6 if procedure == 26 else 4
-    return reply(xid, 1, 0, 0, 0, 0, error, *[0] * EMPTY.get(procedure, 0))
+    return accepted(error, *[0] * EMPTY.get(procedure, 0))
 
 
-def call(program, procedure, arguments, xid=9, version=1, rpc=2, credential=b"", verifier=b""):
-    return words(xid, 0, rpc, program, version, procedure, 1) + opaque(credential) + words(0) + opaque(verifier) + arguments
+def call(program, procedure, arguments, xid=9, **how):
+    """A call whose arguments are these bytes, with a credential of flavor 1."""
+    return rpc.call(xid, program, procedure, flavor=1, **how) + arguments
 
 
 def write(length, xid=9):

@@ -16,7 +16,8 @@ import shlex
 import subprocess
 import sys
 
-from serving import PATIENCE, Program
+from rpc import HOST, PATIENCE
+from serving import Program
 
 TOP = pathlib.Path(__file__).resolve().parent.parent
 PAGES = ("README.md", "docs/SCRIPT.md", "docs/LAB.md")
@@ -128,7 +129,7 @@ def abort_by_hand():
     """The words of bash in docs/LAB.md end a read of link 1."""
     words = next(line for line in (TOP / "docs/LAB.md").read_text().splitlines() if line.startswith("printf ") and "/dev/tcp/" in line)
     with usual_server(1) as server:
-        call = ["vxcall", "127.0.0.1", str(server.ports[0]), "gpib0,7", "read"]
+        call = ["vxcall", HOST, str(server.ports[0]), "gpib0,7", "read"]
         reading = subprocess.Popen(call, env=WITH_PROGRAMS, stdout=subprocess.PIPE)
         while not select.select([reading.stdout], [], [], 0.5)[0]:
             expect_printed(words, [], server.ports)

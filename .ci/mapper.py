@@ -4,7 +4,6 @@
 Whole messages are composed here from their words, by RFC 1833 and RFC 5531. Each case takes its own port. What goes wrong, and at
 last 'N passed, M failed', goes to standard error; the status is 1 where something went wrong.
 """
-import concurrent.futures
 import select
 import socket
 import struct
@@ -12,9 +11,10 @@ import subprocess
 import sys
 import time
 
+import cases
 import rpc
-from rpc import record, words
-from serving import PATIENCE, Program
+from rpc import HOST, PATIENCE, Peer, record, words
+from serving import Program
 
 MAPPER = 100000
 CORE, ABORT = 9010, 9011  # the ports that it tells
@@ -46,27 +46,13 @@ class Mapper(Program):
     def peer(self):
         peer = socket.socket(type=self.kind)
         peer.settimeout(PATIENCE)
-        peer.connect(("127.0.0.1", *self.ports))
+        peer.connect((HOST, *self.ports))
         return peer
-
-    def expect_served(self, number):
-        self.expect_end(f"served {number}\n")
-
-
-def read_all(peer):
-    """What comes until the other side closes."""
-    parts = []
-    while part := peer.recv(65536):
-        parts.append(part)
-    return b"".join(parts)
 
 
 def asked(mapper, stream):
     """What a peer that sends this, and no more, is sent."""
-    with mapper.peer() as peer:
-        peer.sendall(stream)
-        peer.shutdown(socket.SHUT_WR)
-        return read_all(peer)
+    return rpc.told_to(*mapper.ports, stream, ends=True)
 
 
 GETPORT = call(3, rpc.CORE, 1, 6, 0)
@@ -84,7 +70,7 @@ ANSWERS = [
     (call(5, 1, 2, 3, 4), refused(3)),
     (call(0, version=3), refused(2, 2, 2)),
     (call(0, program=100003), refused(1)),
-    (call(0, rpc_version=3), words(9, 1, 1, 0, 2, 2)),
+    (call(0, rpc_version=3), rpc.denied(9)),
     (call(3, 1, 2), refused(4)),
     (call(4, 0), refused(4)),
 ]
@@ -104,7 +90,7 @@ def byte_by_byte(program):
         for byte in record(GETPORT):
             peer.sendall(bytes([byte]))
         peer.shutdown(socket.SHUT_WR)
-        assert read_all(peer) == record(done(CORE)), "another answer"
+        assert rpc.read_all(peer) == record(done(CORE)), "another answer"
 
 
 def by_packets(program):
@@ -133,7 +119,7 @@ def packets_without_an_answer(program):
 
 
 def hostile_streams(program):
-    streams = [b"", record(b"nothing"), record(done(1)), words(0x80000401), words(1024) + bytes(1024) + words(1), words(0x800003FF)[:3]]
+    streams = [b"", record(b"nothing"), record(done(1)), words(rpc.LAST | 1025), words(1024) + bytes(1024) + words(1), words(rpc.LAST | 1023)[:3]]
     with Mapper(program, "stream", len(streams) + 1) as mapper:
         for stream in streams:
             assert asked(mapper, stream) == b"", "junk is answered"
@@ -153,16 +139,16 @@ def sixteen_mebibytes(program):
                     assert ready, "the mapper reads no more, and doesn't end the stream"
                     sent += peer.send(empty)
             assert sent >= 16 << 20, f"the stream ends behind {sent} bytes"
-            assert read_all(peer) == b"", "fragments of no bytes are answered"
+            assert rpc.read_all(peer) == b"", "fragments of no bytes are answered"
         assert asked(mapper, record(GETPORT)) == record(done(CORE)), "the next peer isn't served"
         mapper.expect_served(2)
 
 
 def a_peer_that_vanishes(program):
     with Mapper(program, "stream", 2) as mapper:
-        with mapper.peer() as peer:
-            peer.setsockopt(socket.SOL_SOCKET, socket.SO_LINGER, struct.pack("ii", 1, 0))
-            peer.sendall(record(GETPORT)[:9])
+        with Peer(*mapper.ports) as peer:
+            peer.send(record(GETPORT)[:9])
+            peer.reset()
         assert asked(mapper, record(GETPORT)) == record(done(CORE)), "the next peer isn't served"
 
 
@@ -179,13 +165,13 @@ def replies_before_an_end(program):
 
 def datagram(source, port, to, data):
     """A whole IPv4 datagram with a UDP header, from this address and port. Its checksums are left to the system, or out."""
-    header = struct.pack(">BBHHHBBH4s4s", 0x45, 0, 28 + len(data), 0, 0, 64, socket.IPPROTO_UDP, 0, source, socket.inet_aton("127.0.0.1"))
+    header = struct.pack(">BBHHHBBH4s4s", 0x45, 0, 28 + len(data), 0, 0, 64, socket.IPPROTO_UDP, 0, source, socket.inet_aton(HOST))
     return header + struct.pack(">4H", port, to, 8 + len(data), 0) + data
 
 
 def forged_packets(program):
     """Packets to whose sources the system sends nothing: port 0, and the addresses of all hosts. The next one is answered still."""
-    sources = (("127.0.0.1", 0), ("255.255.255.255", 9), ("127.255.255.255", 9))
+    sources = ((HOST, 0), ("255.255.255.255", 9), ("127.255.255.255", 9))
     try:
         raw = socket.socket(socket.AF_INET, socket.SOCK_RAW, socket.IPPROTO_RAW)
     except PermissionError:
@@ -193,7 +179,7 @@ def forged_packets(program):
         return
     with raw, Mapper(program, "packets", len(sources) + 1) as mapper, mapper.peer() as peer:
         for address, port in sources:
-            raw.sendto(datagram(socket.inet_aton(address), port, *mapper.ports, GETPORT), ("127.0.0.1", 0))
+            raw.sendto(datagram(socket.inet_aton(address), port, *mapper.ports, GETPORT), (HOST, 0))
         peer.send(GETPORT)
         mapper.expect_served(len(sources) + 1)
         assert peer.recv(65536) == done(CORE), "another answer"
@@ -218,24 +204,5 @@ CASES = [a_silent_peer, on_one_stream, byte_by_byte, by_packets, two_senders, pa
          sixteen_mebibytes, replies_before_an_end, forged_packets, a_peer_that_vanishes, a_taken_port]
 
 
-def passes(case, program):
-    try:
-        case(program)
-        return True
-    except (AssertionError, OSError, subprocess.SubprocessError) as wrong:
-        print(f"{case.__name__}: {wrong!r}", file=sys.stderr)
-        return False
-
-
-def main(programs):
-    if len(programs) != 1:
-        sys.exit("usage: mapper.py MAPPER")
-    with concurrent.futures.ThreadPoolExecutor(len(CASES)) as pool:
-        outcomes = list(pool.map(lambda case: passes(case, programs[0]), CASES))
-    passed = outcomes.count(True)
-    print(f"{passed} passed, {len(outcomes) - passed} failed", file=sys.stderr)
-    return 0 if passed == len(outcomes) else 1
-
-
 if __name__ == "__main__":
-    sys.exit(main(sys.argv[1:]))
+    cases.at_once(CASES, "mapper.py MAPPER")

@@ -24,7 +24,9 @@ import sys
 import tempfile
 
 import rpc
-from serving import PATIENCE, Program, Taken
+import serving
+from rpc import HOST, PATIENCE
+from serving import Program, Taken
 
 TOP = pathlib.Path(__file__).resolve().parent.parent
 NO_MEMORY = 5  # the status of each program for want of memory
@@ -100,15 +102,12 @@ def of_loop(folder, measure):
     return count, counts
 
 
-class Server(Program):
+class Server(serving.Server):
     """A server of the example's bench with an allocation refused; `status` where it didn't come up."""
 
-    count = 2
-
     def __init__(self, folder, server, number):
-        words = lambda core, abort: [server, "--core", str(core), "--abort", str(abort), "--log", "--idle", "600"]
-        bench = (TOP / "examples/bench.txt").read_bytes()
-        super().__init__(words, bench, stderr=subprocess.DEVNULL, env=environment(folder, number))
+        bench, how = (TOP / "examples/bench.txt").read_bytes(), {"stderr": subprocess.DEVNULL, "env": environment(folder, number)}
+        super().__init__([server], bench, "--log", "--idle", "600", **how)
 
     def expect_up(self):
         self.status = None
@@ -119,7 +118,7 @@ class Server(Program):
 
 
 def query(client, port):
-    return [client, "127.0.0.1", str(port), "gpib0,5", "query", "*IDN?"]
+    return [client, HOST, str(port), "gpib0,5", "query", "*IDN?"]
 
 
 def of_client(folder, client, server):
@@ -183,7 +182,7 @@ def of_few(folder, words, ask, source=b"", kind=socket.SOCK_STREAM, first_line=N
             answers = [ask(*served.ports), ask(*served.ports)]
             if True not in answers:
                 raise Wrong("neither peer is served")
-            served.expect_end("served 2\n")
+            served.expect_served(2)
             return ["went on"] if all(answers) else ["went on", "client refused"]
 
     return sweep(folder, run)
@@ -195,10 +194,7 @@ CORE_PORT = rpc.reply(9, 9010)
 
 def maps_stream(port):
     """A stream of one call is answered, and closed."""
-    with socket.create_connection(("127.0.0.1", port), PATIENCE) as peer:
-        peer.sendall(rpc.record(GETPORT))
-        peer.shutdown(socket.SHUT_WR)
-        told = b"".join(iter(lambda: peer.recv(65536), b""))
+    told = rpc.told_to(port, rpc.record(GETPORT), ends=True)
     if told != rpc.record(CORE_PORT):
         raise Wrong(f"the port mapper answers {told[:80]!r}")
     return True
@@ -208,7 +204,7 @@ def maps_packet(port):
     """A packet with a call is answered."""
     with socket.socket(type=socket.SOCK_DGRAM) as peer:
         peer.settimeout(PATIENCE)
-        peer.connect(("127.0.0.1", port))
+        peer.connect((HOST, port))
         peer.send(GETPORT)
         told = peer.recv(65536)
     if told != CORE_PORT:
@@ -218,7 +214,7 @@ def maps_packet(port):
 
 def echoes(port):
     """A client's link is made, and the echo gives back what it is sent; or the client is closed before any answer."""
-    with rpc.Client(port, patience=PATIENCE) as client:
+    with rpc.Client(port) as client:
         try:
             error, link = client.create("gpib0,5")
         except (AssertionError, ConnectionError):

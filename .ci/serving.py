@@ -12,7 +12,8 @@ import tempfile
 import time
 from contextlib import ExitStack, suppress
 
-PATIENCE = 300  # seconds in which whatever is waited for has to come, also on a very busy machine
+from rpc import PATIENCE
+
 TRIES = 20
 PORTS = range(20000, 30000)  # below those that the system gives to clients
 REFUSED = 3  # the status of a program that can't open its port
@@ -140,3 +141,24 @@ class Program:
         assert self.process.wait(PATIENCE) == status, f"it ended with status {self.process.returncode}"
         printed = self.process.stdout.read().decode()
         assert printed == text, f"it printed {printed!r}"
+
+    def expect_served(self, number, told=""):
+        """It comes to end, having told this and how many it has served."""
+        self.expect_end(f"{told}served {number}\n")
+
+
+class Counted(Program):
+    """A program whose words are its port and how many links it serves before it ends."""
+
+    def __init__(self, program, number, source=b"", **how):
+        super().__init__(lambda port: [program, str(port), str(number)], source, **how)
+
+
+class Server(Program):
+    """The server `vxgate`, which these words start, with this bench and these options."""
+
+    count, first_line = 2, "listening {} {}\n"
+
+    def __init__(self, program, bench, *options, ports=None, **how):
+        words = lambda core, abort: [*program, "--core", str(core), "--abort", str(abort), *options]
+        super().__init__(words, bench, ports, **how)
