@@ -1,4 +1,4 @@
--- The flags of a list of addresses are the flags that gave it.
+-- Proofs that an impl owes its model: the flags of a list of addresses are the flags that gave it.
 use Rattle.std.proofs.Common.{◌≡◌, ◌≢◌, ℕ, zero, suc, ◌+◌, ◌%◌, ◌<◌, Bool, true, false, eqb, ◌||◌, List, [], ◌∷◌, length, Option, Some, None, refl, ap, ◌∙◌, subst, arith}
 use Rattle.std.proofs.lemmas.Bool.{eqb-true, eq-eqb, and_parts, and_from, or_from, false_from_ne_true}
 use Rattle.vx_488.specs.declared.transfers.Addr.{Addr}

@@ -5,4 +5,3 @@ pub mod Command
 pub mod Wire
 pub mod Heard
 pub mod Laws
-pub mod ProvedLaws

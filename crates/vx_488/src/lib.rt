@@ -3,13 +3,13 @@
 #![tactic(auto)]
 
 mod commands;
-mod laws;
 mod listeners;
+mod theorems;
 mod transfers;
 mod wire;
 
 pub use commands::{Command, command_of};
-pub use laws::{address_bytes, addressing, heard_appends, reached_appends, wire_appends};
 pub use listeners::{Listeners, is_bus_address};
+pub use theorems::{address_bytes, addressing, heard_appends, reached_appends, wire_appends};
 pub use transfers::{ADDRESS_MAX, Addr, Line, Transfer};
 pub use wire::{Pending, Wire};

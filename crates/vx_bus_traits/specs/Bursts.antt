@@ -1,5 +1,5 @@
 -- Bursts of data bytes: the steps that each is, and why one of gets stopped.
-use Rattle.std.specs.Prelude.{◌≡◌, ◌<◌, ℕ, Bool, true, false, ◌==◌, List, [], ◌∷◌, ◌++◌, map, length, take, drop, Option, None, Some}
+use Rattle.std.specs.Prelude.{◌≡◌, ◌<◌, ◌≤◌, ◌+◌, ℕ, Bool, true, false, ◌==◌, List, [], ◌∷◌, ◌++◌, map, length, take, drop, Option, None, Some}
 use Rattle.std.specs.List.{list_any}
 use Rattle.vx_488.specs.declared.transfers.Transfer.{Transfer}
 use Rattle.vx_488.specs.declared.transfers.Transfer.TheVariants.{Put, Got}
@@ -9,7 +9,9 @@ use Rattle.vx_bus_traits.specs.declared.asks.Move.TheVariants as answer
 use Rattle.vx_bus_traits.specs.declared.bursts.Many.{Many}
 use Rattle.vx_bus_traits.specs.declared.bursts.Stop.{Stop}
 use Rattle.vx_bus_traits.specs.declared.bursts.Stop.TheVariants as stop
+use Rattle.vx_bus_traits.specs.Means.{Means}
 use Rattle.vx_bus_traits.specs.Steps.{Step, Went, Held, Failed, ask_for}
+use Rattle.vx_bus_traits.specs.Walks.{Walk}
 
 -- these bytes as transfers, with END on the last one or not
 abbrev pub ended : (ℕ → Bool → Transfer) → Bool → List ℕ → List Transfer
@@ -27,6 +29,12 @@ refused_put _ _ = []
 -- that was held, or failed.
 abbrev pub puts_steps : List ℕ → Bool → Many → List Step
 puts_steps bytes end m = map Went (take m.moved (ended Put end bytes)) ++ refused_put m.last (drop m.moved (ended Put end bytes))
+
+-- so many of its bytes went, and nothing else was asked
+pub record PutsSoFar {B : Type 0} (means : B → Means) (through : B → Step → B → Type 0) (bytes : List ℕ) (end : Bool) (n : ℕ) (old now : B) : Type 0 where
+  pub walk : Walk means through old (map Went (take n (ended Put end bytes))) now
+  pub asks : (means now).asks ≡ (means old).asks + n
+  pub within : n ≤ length bytes
 
 -- the get that didn't go
 abbrev pub refused_get : Stop → List Step

@@ -2,6 +2,5 @@ pub mod Means
 pub mod Steps
 pub mod Walks
 pub mod Bursts
-pub mod ProvedLaws
 pub use Rattle.vx_io_traits.specs.Faults
 pub use Rattle.vx_488.specs.Wire

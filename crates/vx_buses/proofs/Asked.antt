@@ -5,11 +5,11 @@ use Rattle.vx_bus_traits.specs.declared.bus.Bus.{Ghosts}
 use Rattle.vx_exchange.specs.declared.polls.Aborted.{Aborted}
 use Rattle.vx_core.specs.CoreState.{CoreState}
 use Rattle.vx_gate.specs.PassView.{PassView}
-use Rattle.vx_gates.specs.Four.{Four, at, put, swapped}
+use Rattle.vx_buses.specs.Four.{Four, at, put, swapped}
 use Rattle.vx_group.specs.Event.{Abort}
 use Rattle.vx_group.specs.Groups.{Group}
 use Rattle.vx_session.specs.Origin.{Origin, origin}
-use Rattle.vx_session.specs.Outside.{DialShown}
+use Rattle.vx_session.specs.Dialing.{DialShown}
 use Rattle.vx_session.specs.Placing.{Placed, Makes}
 use Rattle.vx_session.specs.Progress.{AnswersCall, unclocked}
 use Rattle.vx_session.specs.Serving.{IsCalled, IsAborted}
@@ -17,7 +17,7 @@ use Rattle.vx_session.specs.Turning as turning
 use Rattle.vx_buses.specs.Asking.{OnBus}
 use Rattle.vx_buses.specs.Holding.{four_of}
 use Rattle.vx_buses.specs.Origins.{origins, on}
-use Rattle.vx_buses.specs.Serving.{IsAsked, outward}
+use Rattle.vx_buses.specs.Serving.{IsFleetAsked, outward}
 use Rattle.vx_buses.proofs.Fours.{swapped-first, swapped-back, each-number}
 
 -- the connection of a bus
@@ -40,7 +40,7 @@ module _ (passes : Four (PassView Group)) (bus : ℕ) (first : Four (PassView Gr
   -- a call was answered there, and told
   pub asked-on-bus : {B : Type 0} (g : Ghosts B) (firsts : Four (CoreState B)) (core : CoreState B) (clocked : List Placed → Type 0) (told : ℕ) (conns : Four ℕ) (conn xid : ℕ) (asked : Call) (dial dial' : DialShown) (given out : List ℕ) → core ≡ at bus firsts → conn ≡ at bus conns
       → AnswersCall (origin g core) clocked told first.zero_ conn xid asked dial given own dial' → out ≡ outward asked bus given
-      → OnBus clocked told passes bus (λ placed. IsAsked (on bus (origins g firsts)) (at bus passes).number (at bus conns) xid asked bus placed out) last
+      → OnBus clocked told passes bus (λ placed. IsFleetAsked (on bus (origins g firsts)) (at bus passes).number (at bus conns) xid asked bus placed out) last
   asked-on-bus g firsts core clocked told conns conn xid asked dial dial' given out core_is conn_is answers out_is = record {
     own = own;
     is = one-went;
@@ -58,7 +58,7 @@ module _ (passes : Four (PassView Group)) (bus : ℕ) (first : Four (PassView Gr
   }
 
   -- a device_abort was told there
-  pub aborted-on-bus : {B : Type 0} (g : Origin B) (conns : Four ℕ) (conn xid lid : ℕ) (room : List ℕ) (aborted : Aborted) → conn ≡ at bus conns → turning.Aborts g first.zero_ conn lid xid room aborted own
+  pub aborted-on-bus : {B : Type 0} (g : Origin B) (conns : Four ℕ) (conn xid lid : ℕ) (room : List ℕ) (aborted : Aborted) → conn ≡ at bus conns → turning.SessionAborts g first.zero_ conn lid xid room aborted own
       → OnBus unclocked 0 passes bus (λ placed. IsAborted (at bus conns) xid lid placed [] (take aborted.len room)) last
   aborted-on-bus g conns conn xid lid room aborted conn_is aborts = record {
     own = own;

@@ -1,51 +1,43 @@
 -- How a session comes to its end: its stream was served, and then its connections go.
 use Rattle.std.proofs.Common.{◌≡◌, ◌≤◌, ℕ, List, [], ◌∷◌, ◌++◌, Some, sym, ap, ◌∙◌, subst, arith}
 use Rattle.std.proofs.lemmas.Option.{same_Some}
+use Rattle.vx_io_traits.specs.declared.links.Link.{Ghosts}
 use Rattle.vx_calls.specs.declared.calls.Role.{Role}
 use Rattle.vx_calls.specs.declared.limits.TheConstants.{RECORD_MAX}
 use Rattle.vx_bus_traits.specs.Steps.{Cut}
-use Rattle.vx_gate.specs.History.{groups}
 use Rattle.vx_gate.specs.PassView.{PassView}
-use Rattle.vx_gates.specs.Four.{Four, at}
+use Rattle.vx_buses.specs.Four.{Four, at}
 use Rattle.vx_record.specs.Records.{records}
 use Rattle.vx_exchange.specs.Meaning.{meaning, Junk}
 use Rattle.vx_group.specs.Event.{Down}
-use Rattle.vx_group.specs.Groups.{Group, events_of}
-use Rattle.vx_group.specs.Headline.{Headline}
-use Rattle.vx_group.specs.Laws.{HeadlineOfGroupsLaw, OwnedLaw}
-use Rattle.vx_routes.specs.Given.{LinksLaw, OnceLaw}
+use Rattle.vx_group.specs.Groups.{Group}
+use Rattle.vx_group.specs.Laws.{ClaimsOfGroupsLaw, OwnedLaw}
+use Rattle.vx_buses.specs.Given.{LinksLaw, OnceLaw}
 use Rattle.vx_stream.specs.Answered.{replies}
-use Rattle.vx_stream.specs.Calling.{Receives, Sends, InTurn}
-use Rattle.vx_stream.specs.Shown.{LinkShown}
+use Rattle.vx_stream.specs.Calling.{InTurn}
+use Rattle.vx_stream.specs.Shown.{link_shown}
 use Rattle.vx_stream.specs.Stopping.{EndsSo}
 use Rattle.vx_stream.specs.declared.ends.End.{End}
 use Rattle.vx_session.specs.Origin.{Origin}
-use Rattle.vx_session.specs.Placing.{Placed, Makes, IsHistory}
-use Rattle.vx_session.specs.ProvedLaws.{makes-goes, makes-later}
+use Rattle.vx_session.specs.Placing.{Placed, Makes}
+use Rattle.vx_session.proofs.Laws.{makes-goes, makes-later}
+use Rattle.vx_session.proofs.Laws.Finishing.{upholds}
 use Rattle.vx_session.specs.Turning.{Leaves}
 use Rattle.vx_session.specs.Ending.{Upholds}
 use Rattle.vx_buses.specs.Origins.{Origins, on}
 use Rattle.vx_session.specs.Progress.{ClockedAs}
 use Rattle.vx_buses.specs.Serving.{State, placed, placed_on}
-use Rattle.vx_buses.specs.Ending.{LeavesAll, SessionDid, GivesOnce, history_of}
+use Rattle.vx_buses.specs.Ending.{LeavesAll, FleetHolding, SessionDid, GivesOnce, history_of}
 use Rattle.vx_buses.proofs.Fours.{each-number}
 use Rattle.vx_buses.proofs.Progressing.{StreamServed}
-
--- of a history that a pass has seen, all holds that is claimed
-pub upholds : {B : Type 0} (g : Origin B) → HeadlineOfGroupsLaw → OwnedLaw → (pass : PassView Group) → IsHistory g pass.seen → Upholds g pass
-upholds g headline owned pass h = record {
-  history = h;
-  headline = subst (λ port. Headline port (events_of (groups pass.seen))) h.became.port (headline (groups pass.seen) h.core.fine h.became.state);
-  owned = owned pass.seen h.core.fine h.lawful h.became.state;
-}
 
 -- no number is given twice over four histories of which that holds
 pub gives-once : {B : Type 0} (g : Origins B) → OnceLaw → (f : Four (PassView Group)) → Upholds (on 0 g) f.zero_ → Upholds (on 1 g) f.one → Upholds (on 2 g) f.two → Upholds (on 3 g) f.three
     → GivesOnce f
 gives-once g once f zeroth first second third =
-    once g.firsts.zero_.fine.state.tables.abort_port g.firsts.one.fine.state.tables.abort_port g.firsts.two.fine.state.tables.abort_port g.firsts.three.fine.state.tables.abort_port
+    once g.firsts.zero_.interleaved.state.tables.abort_port g.firsts.one.interleaved.state.tables.abort_port g.firsts.two.interleaved.state.tables.abort_port g.firsts.three.interleaved.state.tables.abort_port
     (history_of f.zero_) (history_of f.one) (history_of f.two) (history_of f.three) _ _ _ _
-    zeroth.headline.gathered.legal first.headline.gathered.legal second.headline.gathered.legal third.headline.gathered.legal
+    zeroth.claims.linearized.legal first.claims.linearized.legal second.claims.linearized.legal third.claims.linearized.legal
 
 -- the end of a bus's connection, behind what its pass made
 left : {B : Type 0} (g : Origin B) (told : ℕ) (before mid after : PassView Group) (conn : ℕ) (ps : List Placed) → Makes told before ps mid → (leaves : Leaves g mid conn after)
@@ -54,11 +46,11 @@ left g told before mid after conn ps makes leaves =
     makes-goes told told before mid after ps (leaves.placed ∷ []) (omega arith) makes (makes-later 0 told mid after (leaves.placed ∷ []) (omega arith) leaves.turns.makes)
 
 -- the records of a stream were served, and then the connections went
-pub session-did : {B C L : Type 0} (g : Origins B) (tells : C → ℕ → C → Type 0) (stands : L → List ℕ → List ℕ → Type 0) (receives : Receives L) (sends : Sends L) → HeadlineOfGroupsLaw → OwnedLaw → LinksLaw → OnceLaw → (s s' : State C)
-    (passes mid passes' : Four (PassView Group)) (link link' : L) (seen seen' : LinkShown) (how : End) (told : ℕ) (clock : C) → StreamServed g tells stands receives sends s passes link seen how s' link' seen'
+pub session-did : {B C L : Type 0} (g : Origins B) (tells : C → ℕ → C → Type 0) (ways : Ghosts L) → ClaimsOfGroupsLaw → OwnedLaw → LinksLaw → OnceLaw → (s s' : State C)
+    (passes mid passes' : Four (PassView Group)) (link link' : L) (how : End) (told : ℕ) (clock : C) → StreamServed g tells ways s passes link how s' link'
     → s'.passes ≡ Some mid → s'.told ≡ told → s'.clock ≡ clock → LeavesAll g mid s.conns passes'
-    → SessionDid g stands receives sends (ClockedAs s.role tells s.clock clock) told s.role s.conns passes link seen how passes' link' seen'
-session-did g tells stands receives sends headline owned links once s s' passes mid passes' link link' seen seen' how told clock did has told_is clock_is leaves =
+    → SessionDid g ways (ClockedAs s.role tells s.clock clock) told s.role s.conns (record { passes = passes; link = link }) how (record { passes = passes'; link = link' })
+session-did g tells ways claims owned links once s s' passes mid passes' link link' how told clock did has told_is clock_is leaves =
     let all = did.serves in
     let zeroth = leaves.zero_ in
     let first = leaves.one in
@@ -71,8 +63,8 @@ session-did g tells stands receives sends headline owned links once s s' passes 
     (λ bus h. subst (λ n. Makes n (at bus passes) (placed_on bus all.items) (at bus all.passes')) told_is (all.makes bus h)) in
     let upheld : (bus : ℕ) → bus ≤ 3 → Upholds (on bus g) (at bus passes') =
     each-number (λ bus. Upholds (on bus g) (at bus passes'))
-    (upholds (on 0 g) headline owned passes'.zero_ zeroth.turns.history) (upholds (on 1 g) headline owned passes'.one first.turns.history)
-    (upholds (on 2 g) headline owned passes'.two second.turns.history) (upholds (on 3 g) headline owned passes'.three third.turns.history) in
+    (upholds (on 0 g) claims owned passes'.zero_ zeroth.turns.history) (upholds (on 1 g) claims owned passes'.one first.turns.history)
+    (upholds (on 2 g) claims owned passes'.two second.turns.history) (upholds (on 3 g) claims owned passes'.three third.turns.history) in
     record {
       items = all.items;
       lasts = lasts;
@@ -92,19 +84,19 @@ session-did g tells stands receives sends headline owned links once s s' passes 
       goes = did.goes;
       wrote = ap replies all.are ∙ did.wrote;
       near = did.near;
-      in_turn = subst (λ list. InTurn receives sends RECORD_MAX list link (did.front ++ did.behind) did.written link') (sym all.are) did.in_turn;
-      ended = subst (λ list. EndsSo (λ message. meaning message s.role ≡ Junk) seen list (records RECORD_MAX did.front) did.behind did.unsent seen' (Some how)) (sym all.are) did.ended;
+      in_turn = subst (λ list. InTurn ways RECORD_MAX list link (did.front ++ did.behind) did.written link') (sym all.are) did.in_turn;
+      ended = subst (λ list. EndsSo (λ message. meaning message s.role ≡ Junk) (link_shown ways link) list (records RECORD_MAX did.front) did.behind did.unsent (link_shown ways link') (Some how)) (sym all.are) did.ended;
       asks = subst (λ k. ClockedAs s.role tells s.clock k (placed all.items)) clock_is all.asks;
       upholds = upheld;
-      links = λ bus h. let u = upheld bus h in links (at bus g.firsts).fine.state.tables.abort_port (history_of (at bus passes')) _ u.headline.gathered.legal;
+      links = λ bus h. let u = upheld bus h in links (at bus g.firsts).interleaved.state.tables.abort_port (history_of (at bus passes')) _ u.claims.linearized.legal;
       once = gives-once g once passes' (upheld 0 (omega arith)) (upheld 1 (omega arith)) (upheld 2 (omega arith)) (upheld 3 (omega arith));
     }
 
 -- what a session did, of which less is said of its clock
-pub session-says : {B L : Type 0} (g : Origins B) (stands : L → List ℕ → List ℕ → Type 0) (receives : Receives L) (sends : Sends L) (clocked less : List Placed → Type 0) → ((groups : List Placed) → clocked groups → less groups)
-    → (told : ℕ) (r : Role) (conns : Four ℕ) (passes : Four (PassView Group)) (link : L) (seen : LinkShown) (how : End) (passes' : Four (PassView Group)) (link' : L) (seen' : LinkShown)
-    → SessionDid g stands receives sends clocked told r conns passes link seen how passes' link' seen' → SessionDid g stands receives sends less told r conns passes link seen how passes' link' seen'
-session-says g stands receives sends clocked less so told r conns passes link seen how passes' link' seen' did = record {
+pub session-says : {B L : Type 0} (g : Origins B) (ways : Ghosts L) (clocked less : List Placed → Type 0) → ((groups : List Placed) → clocked groups → less groups)
+    → (told : ℕ) (r : Role) (conns : Four ℕ) (before : FleetHolding L) (how : End) (after : FleetHolding L)
+    → SessionDid g ways clocked told r conns before how after → SessionDid g ways less told r conns before how after
+session-says g ways clocked less so told r conns before how after did = record {
   items = did.items;
   lasts = did.lasts;
   front = did.front;

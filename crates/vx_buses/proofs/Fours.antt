@@ -1,6 +1,6 @@
 -- Four of a kind: one that is put in its place, and one that is brought to the first place and back.
 use Rattle.std.proofs.Common.{◌≡◌, ◌≢◌, ◌≤◌, ℕ, zero, suc, refl, ap, arith}
-use Rattle.vx_gates.specs.Four.{Four, at, put, swapped, Each}
+use Rattle.vx_buses.specs.Four.{Four, at, put, swapped, Each}
 use Rattle.vx_gate.specs.PassView.{PassView}
 use Rattle.vx_group.specs.Groups.{Group}
 use Rattle.vx_buses.specs.Serving.{numbers}

@@ -8,7 +8,7 @@ use Rattle.std.proofs.lemmas.List.Elements.{All-nil, All-cons}
 use Rattle.vx_488.specs.declared.transfers.Addr.{Addr}
 use Rattle.vx_bus_traits.specs.Means.{Means, first_means}
 use Rattle.vx_bus_traits.specs.Steps.{Step}
-use Rattle.vx_flow.specs.FineState.{first_fine}
+use Rattle.vx_flow.specs.InterleavedState.{first_interleaved}
 use Rattle.vx_group.specs.Groups.{StandsFor}
 use Rattle.vx_inst.specs.Behavior.{Behavior}
 use Rattle.vx_rack.specs.declared.Spare.{Spare}
@@ -79,16 +79,16 @@ order-kept P values of (Ok x) o order ok holds = subst (λ p. IfSome p (λ y. P 
 order-kept P values of (Err e) o order ok holds = subst (λ p. IfSome p (λ y. P (of y))) (sym ok) tt
 
 -- a gateway as it starts became what it is by the history without a group
-pub first-became : {B : Type 0} (means : B → Means) (through : B → Step → B → Type 0) (core : CoreState B) (port : ℕ) → ((p : ℕ) → StandsFor (first_fine p) []) → core.fine ≡ first_fine port
+pub first-became : {B : Type 0} (means : B → Means) (through : B → Step → B → Type 0) (core : CoreState B) (port : ℕ) → ((p : ℕ) → StandsFor (first_interleaved p) []) → core.interleaved ≡ first_interleaved port
     → Became means through core core []
-first-became means through core port law fine = record { state = subst (λ f. StandsFor f []) (sym fine) (law port); port = refl; bus = refl }
+first-became means through core port law interleaved = record { state = subst (λ f. StandsFor f []) (sym interleaved) (law port); port = refl; bus = refl }
 
 -- so each of those that are furnished
-pub furnished-stand : (means : SimState → Means) (through : SimState → Step → SimState → Type 0) (insts : List Seated) (cores : List (CoreState SimState)) → ((port : ℕ) → StandsFor (first_fine port) [])
+pub furnished-stand : (means : SimState → Means) (through : SimState → Step → SimState → Type 0) (insts : List Seated) (cores : List (CoreState SimState)) → ((port : ℕ) → StandsFor (first_interleaved port) [])
     → AreFurnished insts cores → All (λ (core : CoreState SimState). Became means through core core []) cores
 furnished-stand means through [] [] law all = All-nil _
 furnished-stand means through [] (core ∷ cores) law all = absurd all
 furnished-stand means through (inst ∷ insts) [] law all = absurd all
 furnished-stand means through (inst ∷ insts) (core ∷ cores) law all =
-    All-cons (λ (core : CoreState SimState). Became means through core core []) core cores (first-became means through core 9011 law all.0.fine)
+    All-cons (λ (core : CoreState SimState). Became means through core core []) core cores (first-became means through core 9011 law all.0.interleaved)
     (furnished-stand means through insts cores law all.1)

@@ -9,3 +9,6 @@ pub mod Furnished
 pub mod Lones
 pub mod Ran
 pub mod Rooms
+pub mod Returning
+pub mod Renumbered
+pub mod Once

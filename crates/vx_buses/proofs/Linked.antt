@@ -1,25 +1,25 @@
 -- A link's connections: what their passes keep, and how they are refused.
 use Rattle.std.proofs.Common.{◌≡◌, ◌≤◌, ℕ, List, Result, Ok, Err, refl, sym, ◌∙◌, subst, arith, []}
+use Rattle.vx_io_traits.specs.declared.links.Link.{Ghosts}
 use Rattle.vx_gate.specs.PassView.{PassView, GateId}
-use Rattle.vx_gates.specs.Four.{Four, at, Each}
-use Rattle.vx_gates.specs.Passing.{IsOf}
+use Rattle.vx_buses.specs.Four.{Four, at, Each}
+use Rattle.vx_buses.specs.Passing.{IsOf}
 use Rattle.vx_group.specs.Groups.{Group}
-use Rattle.vx_group.specs.Laws.{HeadlineOfGroupsLaw, OwnedLaw}
-use Rattle.vx_routes.specs.Given.{OnceLaw}
-use Rattle.vx_tables.specs.declared.tables.Connect.{Connect}
-use Rattle.vx_tables.specs.declared.tables.Connect.TheVariants as connect
-use Rattle.vx_stream.specs.Calling.{Receives, Sends}
-use Rattle.vx_stream.specs.Shown.{LinkShown}
+use Rattle.vx_group.specs.Laws.{ClaimsOfGroupsLaw, OwnedLaw}
+use Rattle.vx_buses.specs.Given.{OnceLaw}
+use Rattle.vx_state.specs.declared.tables.Connect.{Connect}
+use Rattle.vx_state.specs.declared.tables.Connect.TheVariants as connect
 use Rattle.vx_session.specs.Linking.{refused_as}
 use Rattle.vx_session.specs.Origin.{Origin}
 use Rattle.vx_session.specs.Placing.{Placed, Makes, IsHistory}
 use Rattle.vx_session.specs.Ending.{Upholds}
 use Rattle.vx_session.specs.declared.links.Linked.{Linked}
 use Rattle.vx_buses.specs.Origins.{Origins, on}
-use Rattle.vx_buses.specs.Ending.{GivesOnce}
+use Rattle.vx_buses.specs.Ending.{FleetHolding, GivesOnce}
 use Rattle.vx_buses.specs.Joining.{JoinsAll, Undone, UndoneAll, outcome}
 use Rattle.vx_buses.specs.Linking.{LinkDid}
-use Rattle.vx_buses.proofs.Finishing.{upholds, gives-once}
+use Rattle.vx_session.proofs.Laws.Finishing.{upholds}
+use Rattle.vx_buses.proofs.Finishing.{gives-once}
 use Rattle.vx_buses.proofs.Fours.{each-number}
 
 -- passes that made groups are of the gates that they were of
@@ -38,27 +38,27 @@ undone-history g up pass' (Ok conn) h leaves = leaves.turns.history
 undone-history g up pass' (Err why) h same = subst (λ (p : PassView Group). IsHistory g p.seen) (sym same) h
 
 -- so all holds that is claimed of the histories of four
-undone-uphold : {B : Type 0} (g : Origins B) → HeadlineOfGroupsLaw → OwnedLaw → (passes up passes' : Four (PassView Group)) (joined : Four (Result ℕ Connect)) → JoinsAll g passes joined up → UndoneAll g up joined passes'
+undone-uphold : {B : Type 0} (g : Origins B) → ClaimsOfGroupsLaw → OwnedLaw → (passes up passes' : Four (PassView Group)) (joined : Four (Result ℕ Connect)) → JoinsAll g passes joined up → UndoneAll g up joined passes'
     → (bus : ℕ) → bus ≤ 3 → Upholds (on bus g) (at bus passes')
-undone-uphold g headline owned passes up passes' joined joins undone =
+undone-uphold g claims owned passes up passes' joined joins undone =
     each-number (λ b. Upholds (on b g) (at b passes'))
-    (upholds (on 0 g) headline owned passes'.zero_ (undone-history (on 0 g) up.zero_ passes'.zero_ joined.zero_ joins.zero_.turns.history undone.zero_))
-    (upholds (on 1 g) headline owned passes'.one (undone-history (on 1 g) up.one passes'.one joined.one joins.one.turns.history undone.one))
-    (upholds (on 2 g) headline owned passes'.two (undone-history (on 2 g) up.two passes'.two joined.two joins.two.turns.history undone.two))
-    (upholds (on 3 g) headline owned passes'.three (undone-history (on 3 g) up.three passes'.three joined.three joins.three.turns.history undone.three))
+    (upholds (on 0 g) claims owned passes'.zero_ (undone-history (on 0 g) up.zero_ passes'.zero_ joined.zero_ joins.zero_.turns.history undone.zero_))
+    (upholds (on 1 g) claims owned passes'.one (undone-history (on 1 g) up.one passes'.one joined.one joins.one.turns.history undone.one))
+    (upholds (on 2 g) claims owned passes'.two (undone-history (on 2 g) up.two passes'.two joined.two joins.two.turns.history undone.two))
+    (upholds (on 3 g) claims owned passes'.three (undone-history (on 3 g) up.three passes'.three joined.three joins.three.turns.history undone.three))
 
 -- the connections were refused, and their link is told so
-pub link-refused : {B L : Type 0} (g : Origins B) (stands : L → List ℕ → List ℕ → Type 0) (receives : Receives L) (sends : Sends L) → HeadlineOfGroupsLaw → OwnedLaw → OnceLaw → (clocked : List Placed → Type 0) → clocked [] → (told : ℕ) (passes up passes' : Four (PassView Group)) (link : L)
-    (seen : LinkShown) (joined : Four (Result ℕ Connect)) (why : Connect) (how : Linked) → how ≡ refused_as why → JoinsAll g passes joined up → outcome joined ≡ Err why → UndoneAll g up joined passes'
-    → LinkDid g stands receives sends clocked told passes link seen how passes' link seen
-link-refused g stands receives sends headline owned law clocked none told passes up passes' link seen joined why how how_is joins is undone =
-    subst (λ h. LinkDid g stands receives sends clocked told passes link seen h passes' link seen) (sym how_is) (by why is) where
+pub link-refused : {B L : Type 0} (g : Origins B) (ways : Ghosts L) → ClaimsOfGroupsLaw → OwnedLaw → OnceLaw → (clocked : List Placed → Type 0) → clocked [] → (told : ℕ) (passes up passes' : Four (PassView Group)) (link : L)
+    (joined : Four (Result ℕ Connect)) (why : Connect) (how : Linked) → how ≡ refused_as why → JoinsAll g passes joined up → outcome joined ≡ Err why → UndoneAll g up joined passes'
+    → LinkDid g ways clocked told (record { passes = passes; link = link }) how (record { passes = passes'; link = link })
+link-refused g ways claims owned law clocked none told passes up passes' link joined why how how_is joins is undone =
+    subst (λ h. LinkDid g ways clocked told (record { passes = passes; link = link }) h (record { passes = passes'; link = link })) (sym how_is) (by why is) where
       all : (bus : ℕ) → bus ≤ 3 → Upholds (on bus g) (at bus passes')
-      all = undone-uphold g headline owned passes up passes' joined joins undone
+      all = undone-uphold g claims owned passes up passes' joined joins undone
 
       once : GivesOnce passes'
       once = gives-once g law passes' (all 0 (omega arith)) (all 1 (omega arith)) (all 2 (omega arith)) (all 3 (omega arith))
 
-      by : (c : Connect) → outcome joined ≡ Err c → LinkDid g stands receives sends clocked told passes link seen (refused_as c) passes' link seen
+      by : (c : Connect) → outcome joined ≡ Err c → LinkDid g ways clocked told (record { passes = passes; link = link }) (refused_as c) (record { passes = passes'; link = link })
       by connect.Full refused = record { joined = joined; up = up; joins = joins; refused = refused; undone = undone; same = refl; asks = none; upholds = all; once = once }
       by connect.NoMemory refused = record { joined = joined; up = up; joins = joins; refused = refused; undone = undone; same = refl; asks = none; upholds = all; once = once }

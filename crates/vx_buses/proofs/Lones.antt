@@ -4,7 +4,7 @@ use Rattle.std.specs.List.{All}
 use Rattle.std.specs.Prelude.{remove, slice_index_or, IfOk, IfSome}
 use Rattle.std.specs.Result.{result_ok}
 use Rattle.std.proofs.lemmas.List.Elements.{All-head, All-tail}
-use Rattle.vx_flow.specs.FineState.{first_fine}
+use Rattle.vx_flow.specs.InterleavedState.{first_interleaved}
 use Rattle.vx_sim.specs.Attaching.{IsAttached}
 use Rattle.vx_sim.specs.Occupants.{Seated, Boxed}
 use Rattle.vx_sim.specs.SimState.{SimState, first_state}
@@ -21,7 +21,7 @@ taken-all P f xs rest x some first rest_is all =
 
 -- a gateway as it is started over a bus on which an instrument stands
 pub started-furnished : {E : Type 0} (inst : Seated) (r : Result (CoreState SimState) E) (o : Option (CoreState SimState)) (bus : SimState) → IsAttached place (Boxed inst) first_state bus
-    → IfOk r (λ core. core.fine ≡ first_fine 9011) → IfOk r (λ core. core.bus ≡ bus) → o ≡ result_ok r → IfSome o (λ core. IsFurnished inst core)
-started-furnished inst (Ok core) o bus stands fine over ok =
-    subst (λ p. IfSome p (λ core. IsFurnished inst core)) (sym ok) (record { fine = fine; bus = subst (IsAttached place (Boxed inst) first_state) (sym over) stands })
-started-furnished inst (Err e) o bus stands fine over ok = subst (λ p. IfSome p (λ core. IsFurnished inst core)) (sym ok) tt
+    → IfOk r (λ core. core.interleaved ≡ first_interleaved 9011) → IfOk r (λ core. core.bus ≡ bus) → o ≡ result_ok r → IfSome o (λ core. IsFurnished inst core)
+started-furnished inst (Ok core) o bus stands interleaved over ok =
+    subst (λ p. IfSome p (λ core. IsFurnished inst core)) (sym ok) (record { interleaved = interleaved; bus = subst (IsAttached place (Boxed inst) first_state) (sym over) stands })
+started-furnished inst (Err e) o bus stands interleaved over ok = subst (λ p. IfSome p (λ core. IsFurnished inst core)) (sym ok) tt

@@ -5,26 +5,28 @@ use Rattle.std.proofs.lemmas.Bool.{eqb-true, eqb-false}
 use Rattle.std.proofs.lemmas.List.Elements.{All-nil, All-cons}
 use Rattle.std.proofs.lemmas.Option.{same_Some}
 use Rattle.vx_io_traits.specs.Stands.{Goes}
+use Rattle.vx_io_traits.specs.declared.links.Link.{Ghosts as OfLink}
 use Rattle.vx_calls.specs.declared.limits.TheConstants.{RECORD_MAX}
 use Rattle.vx_bus_traits.specs.declared.bus.Bus.{Ghosts}
 use Rattle.vx_core.specs.CoreState.{CoreState}
 use Rattle.vx_gate.specs.PassView.{PassView}
-use Rattle.vx_gates.specs.Four.{Four, at, put}
+use Rattle.vx_buses.specs.Four.{Four, at, put}
 use Rattle.vx_group.specs.Groups.{Group}
 use Rattle.vx_record.specs.Records.{Split, records}
 use Rattle.vx_exchange.specs.Meaning.{meaning, Junk}
-use Rattle.vx_stream.specs.Calling.{Receives, Sends, InTurn}
-use Rattle.vx_stream.specs.Shown.{LinkShown, LinkGoes}
+use Rattle.vx_stream.specs.Calling.{InTurn}
+use Rattle.vx_stream.specs.Shown.{LinkShown, LinkGoes, link_shown}
 use Rattle.vx_stream.specs.Answered.{Answered, AnswersAll, replies}
 use Rattle.vx_stream.specs.Stopping.{EndsSo, IsLeft, StreamAnswered}
 use Rattle.vx_stream.specs.declared.ends.End.{End}
 use Rattle.vx_stream.specs.declared.ends.End.TheVariants as end
 use Rattle.vx_session.specs.Placing.{Placed, Makes}
 use Rattle.vx_session.specs.Progress.{ClockedAs}
-use Rattle.vx_session.specs.ProvedLaws.{makes-none, makes-goes, clockedas-none, clockedas-goes}
+use Rattle.vx_session.proofs.Laws.{makes-none, makes-goes, clockedas-none, clockedas-goes}
+use Rattle.vx_session.proofs.Laws.Progressing.{ends-as, left-so}
 use Rattle.vx_buses.specs.Ending.{at_once}
 use Rattle.vx_buses.specs.Origins.{Origins, origins}
-use Rattle.vx_buses.specs.Serving.{Item, Serves, State, MessageDoes, answered, placed, placed_on, numbers}
+use Rattle.vx_buses.specs.Serving.{Item, FleetServes, State, MessageDoes, answered, placed, placed_on, numbers}
 use Rattle.vx_buses.proofs.Fours.{at-put, at-put-other, numbers-put}
 
 -- what the pass of a bus made where one bus's pass made some groups, and then each bus's made more
@@ -45,7 +47,7 @@ pub record ServesAll {B C : Type 0} (g : Origins B) (tells : C → ℕ → C →
   pub are : answered items ≡ list
   pub has : s'.passes ≡ Some passes'
   pub makes : (bus : ℕ) → bus ≤ 3 → Makes s'.told (at bus passes) (placed_on bus items) (at bus passes')
-  pub each : All (Serves g (numbers passes) s.conns s.role) items
+  pub each : All (FleetServes g (numbers passes) s.conns s.role) items
   pub asks : ClockedAs s.role tells s.clock s'.clock (placed items)
   pub role : s'.role ≡ s.role
   pub conns : s'.conns ≡ s.conns
@@ -67,7 +69,7 @@ serves-none g tells s s' passes had stays = record {
   are = refl;
   has = stays.passes ∙ had;
   makes = λ bus h. makes-none s'.told (at bus passes);
-  each = All-nil (Serves g (numbers passes) s.conns s.role);
+  each = All-nil (FleetServes g (numbers passes) s.conns s.role);
   asks = clockedas-none tells s.role s.clock s'.clock stays.clock;
   role = stays.role;
   conns = stays.conns;
@@ -90,10 +92,10 @@ serves-more g tells s mid s' one more does rest =
       has = rest.has;
       makes = λ b h.
           makes-at mid.told s'.told b first.bus first.passes first.own (at b rest.passes') first.placed (placed_on b rest.items) h first.within later first.makes (rest.makes b h);
-      each = All-cons (Serves g (numbers first.passes) s.conns s.role) item rest.items (record { within = first.within; served = first.served })
-          (subst (λ ns. All (Serves g ns s.conns s.role) rest.items) same
-          (subst (λ cs. All (Serves g (numbers (put first.bus first.own first.passes)) cs s.role) rest.items) does.conns
-          (subst (λ r. All (Serves g (numbers (put first.bus first.own first.passes)) mid.conns r) rest.items) does.role rest.each)));
+      each = All-cons (FleetServes g (numbers first.passes) s.conns s.role) item rest.items (record { within = first.within; served = first.served })
+          (subst (λ ns. All (FleetServes g ns s.conns s.role) rest.items) same
+          (subst (λ cs. All (FleetServes g (numbers (put first.bus first.own first.passes)) cs s.role) rest.items) does.conns
+          (subst (λ r. All (FleetServes g (numbers (put first.bus first.own first.passes)) mid.conns r) rest.items) does.role rest.each)));
       asks = clockedas-goes tells s.role s.clock mid.clock s'.clock item.placed (placed rest.items) first.asks
           (subst (λ r. ClockedAs r tells mid.clock s'.clock (placed rest.items)) does.role rest.asks);
       role = rest.role ∙ does.role;
@@ -103,41 +105,21 @@ serves-more g tells s mid s' one more does rest =
 
 -- ---- the end of its stream
 
--- what holds of a message without a reply, as another fact of it
-ends-as : (P Q : List ℕ → Type 0) → ((message : List ℕ) → P message → Q message) → (seen : LinkShown) (list : List Answered) (looked : Split) (behind unsent : List ℕ) (seen' : LinkShown)
-    (how : End) → EndsSo P seen list looked behind unsent seen' (Some how) → EndsSo Q seen list looked behind unsent seen' (Some how)
-ends-as P Q so seen list looked behind unsent seen' end.Closed ended = ended
-ends-as P Q so seen list looked behind unsent seen' (end.CutShort bytes) ended = ended
-ends-as P Q so seen list looked behind unsent seen' (end.Junk count) ended = (ended.0, ended.1, ended.2, ended.3, so ended.1 ended.4)
-ends-as P Q so seen list looked behind unsent seen' end.TooLong ended = ended
-ends-as P Q so seen list looked behind unsent seen' end.ReadFault ended = ended
-ends-as P Q so seen list looked behind unsent seen' end.WriteFault ended = ended
-
--- what answers messages is left as it was behind the last reply, or as a message without a reply left it
-left-so : {S : Type 0} (does : S → List ℕ → S → Type 0) (last s' : S) (seen : LinkShown) (list : List Answered) (looked : Split) (behind unsent : List ℕ) (seen' : LinkShown) (how : End)
-    → EndsSo (λ junk. does last junk s') seen list looked behind unsent seen' (Some how) → IsLeft (Some how) last s' → (s' ≡ last) ⊎ ((junk : List ℕ) × does last junk s')
-left-so does last s' seen list looked behind unsent seen' end.Closed ended left = inl left
-left-so does last s' seen list looked behind unsent seen' (end.CutShort bytes) ended left = inl left
-left-so does last s' seen list looked behind unsent seen' (end.Junk count) ended left = inr (ended.1, ended.4)
-left-so does last s' seen list looked behind unsent seen' end.TooLong ended left = inl left
-left-so does last s' seen list looked behind unsent seen' end.ReadFault ended left = inl left
-left-so does last s' seen list looked behind unsent seen' end.WriteFault ended left = inl left
-
 -- The records of a session's stream were served, up to its end or to where it is no longer read.
-pub record StreamServed {B C L : Type 0} (g : Origins B) (tells : C → ℕ → C → Type 0) (stands : L → List ℕ → List ℕ → Type 0) (receives : Receives L) (sends : Sends L) (s : State C) (passes : Four (PassView Group)) (link : L) (seen : LinkShown) (how : End)
-    (s' : State C) (link' : L) (seen' : LinkShown) : Type 0 where
+pub record StreamServed {B C L : Type 0} (g : Origins B) (tells : C → ℕ → C → Type 0) (ways : OfLink L) (s : State C) (passes : Four (PassView Group)) (link : L) (how : End)
+    (s' : State C) (link' : L) : Type 0 where
   pub list : List Answered
   pub front : List ℕ
   pub behind : List ℕ
   pub written : List ℕ
   pub unsent : List ℕ
   pub serves : ServesAll g tells s passes list s'
-  pub bytes : Goes stands link link' written (front ++ behind)
-  pub goes : LinkGoes seen (front ++ behind) seen'
+  pub bytes : Goes ways.stands link link' written (front ++ behind)
+  pub goes : LinkGoes (link_shown ways link) (front ++ behind) (link_shown ways link')
   pub wrote : replies list ≡ written ++ unsent
   pub near : length behind < at_once
-  pub in_turn : InTurn receives sends RECORD_MAX list link (front ++ behind) written link'
-  pub ended : EndsSo (λ message. meaning message s.role ≡ Junk) seen list (records RECORD_MAX front) behind unsent seen' (Some how)
+  pub in_turn : InTurn ways RECORD_MAX list link (front ++ behind) written link'
+  pub ended : EndsSo (λ message. meaning message s.role ≡ Junk) (link_shown ways link) list (records RECORD_MAX front) behind unsent (link_shown ways link') (Some how)
 
 -- what answers messages, as a session's state shows it
 module _ {B C S : Type 0} (bus : Ghosts B) (tells : C → ℕ → C → Type 0) (firsts : S → Four (CoreState B)) (does : S → List ℕ → Option (List ℕ) → S → Type 0) (shown : S → State C)
@@ -162,13 +144,13 @@ module _ {B C S : Type 0} (bus : Ghosts B) (tells : C → ℕ → C → Type 0) 
       (all-served all.0 last s' (put did.has.bus did.has.own did.has.passes) more did.has.has all.2 stays)))
 
   -- so the records of its stream were served
-  pub stream-served : {L : Type 0} (stands : L → List ℕ → List ℕ → Type 0) (receives : Receives L) (sends : Sends L) (s s' : S) (passes : Four (PassView Group)) (link link' : L) (seen seen' : LinkShown) (how : End)
-      → (shown s).passes ≡ Some passes → StreamAnswered does stands receives sends RECORD_MAX at_once None s link seen (Some how) s' link' seen'
-      → StreamServed (origins bus (firsts s)) tells stands receives sends (shown s) passes link seen how (shown s') link' seen'
-  stream-served stands receives sends s s' passes link link' seen seen' how had did =
+  pub stream-served : {L : Type 0} (ways : OfLink L) (s s' : S) (passes : Four (PassView Group)) (link link' : L) (how : End)
+      → (shown s).passes ≡ Some passes → StreamAnswered does ways RECORD_MAX at_once None (record { server = s; link = link }) (Some how) (record { server = s'; link = link' })
+      → StreamServed (origins bus (firsts s)) tells ways (shown s) passes link how (shown s') link'
+  stream-served ways s s' passes link link' how had did =
       let last = did.last in
       let looked = records RECORD_MAX did.front in
-      let left = left-so (λ a junk b. does a junk None b) last s' seen did.answered looked did.behind did.unsent seen' how did.ended did.left in
+      let left = left-so (λ a junk b. does a junk None b) last s' (link_shown ways link) did.answered looked did.behind did.unsent (link_shown ways link') how did.ended did.left in
       let all = all-served s last s' passes did.answered had did.progress.answers (left-stays last s' left) in
       record {
         list = did.answered;
@@ -183,23 +165,5 @@ module _ {B C S : Type 0} (bus : Ghosts B) (tells : C → ℕ → C → Type 0) 
         near = did.near;
         in_turn = did.in_turn;
         ended = ends-as (λ message. does last message None s') (λ message. meaning message (shown s).role ≡ Junk)
-            (λ message d. let junk = one last s' message None d in ap (meaning message) (sym all.role ∙ junk.role) ∙ junk.has.0) seen did.answered looked did.behind did.unsent seen' how did.ended;
+            (λ message d. let junk = one last s' message None d in ap (meaning message) (sym all.role ∙ junk.role) ∙ junk.has.0) (link_shown ways link) did.answered looked did.behind did.unsent (link_shown ways link') how did.ended;
       }
-
-module _ {S A : Type 0} (does : S → List ℕ → Option (List ℕ) → S → Type 0) (of : S → A)
-    (one : (s s' : S) (message : List ℕ) (reply : Option (List ℕ)) → does s message reply s' → of s' ≡ of s) where
-  -- what each message keeps is kept by all of them
-  all-keeps : (s s' : S) (list : List Answered) → AnswersAll does s list s' → of s' ≡ of s
-  all-keeps s s' [] all = ap of all
-  all-keeps s s' (first ∷ more) all = all-keeps all.0 s' more all.2 ∙ one s all.0 first.message (Some first.reply) all.1
-
-  -- and to the end of the stream
-  pub stream-keeps : {L : Type 0} (stands : L → List ℕ → List ℕ → Type 0) (receives : Receives L) (sends : Sends L) (s s' : S) (link link' : L) (seen seen' : LinkShown) (limit room : ℕ) (how : End)
-      → StreamAnswered does stands receives sends limit room None s link seen (Some how) s' link' seen' → of s' ≡ of s
-  stream-keeps stands receives sends s s' link link' seen seen' limit room how did =
-      by (left-so (λ a junk b. does a junk None b) did.last s' seen did.answered (records limit did.front) did.behind did.unsent seen' how did.ended did.left)
-      ∙ all-keeps s did.last did.answered did.progress.answers
-    where
-      by : (s' ≡ did.last) ⊎ ((junk : List ℕ) × does did.last junk None s') → of s' ≡ of did.last
-      by (inl same) = ap of same
-      by (inr junk) = one did.last s' junk.0 None junk.1

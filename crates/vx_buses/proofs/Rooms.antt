@@ -3,48 +3,48 @@ use Rattle.std.proofs.Common.{◌≡◌, ◌≤◌, ◌<◌, ◌==◌, ℕ, zero
 use Rattle.std.specs.List.{All}
 use Rattle.std.proofs.lemmas.List.Concat.{flat_map-cons}
 use Rattle.std.proofs.lemmas.List.Elements.{All-head, All-tail}
+use Rattle.vx_io_traits.specs.declared.links.Link.{Ghosts}
 use Rattle.vx_calls.specs.declared.calls.Role.{Role}
 use Rattle.vx_calls.specs.declared.limits.TheConstants.{CONNECTION_LAST}
 use Rattle.vx_calls.specs.declared.calls.Role.TheVariants as role
 use Rattle.vx_gate.specs.PassView.{PassView}
-use Rattle.vx_gates.specs.Four.{Four, at, Each}
+use Rattle.vx_buses.specs.Four.{Four, at, Each}
 use Rattle.vx_group.specs.Groups.{Group}
-use Rattle.vx_tables.specs.declared.tables.Connect.{Connect}
-use Rattle.vx_tables.specs.declared.tables.Connect.TheVariants as connect
-use Rattle.vx_stream.specs.Calling.{Receives, Sends}
-use Rattle.vx_stream.specs.Shown.{LinkShown}
+use Rattle.vx_state.specs.declared.tables.Connect.{Connect}
+use Rattle.vx_state.specs.declared.tables.Connect.TheVariants as connect
 use Rattle.vx_stream.specs.declared.ends.End.{End}
 use Rattle.vx_session.specs.Origin.{Origin}
 use Rattle.vx_session.specs.Placing.{Placed}
 use Rattle.vx_session.specs.Turning.{Joins}
 use Rattle.vx_session.specs.declared.links.Linked.{Linked}
 use Rattle.vx_session.specs.declared.links.Linked.TheVariants as linked
-use Rattle.vx_rooms.specs.Counting.{events_by, IsSteady, ComesAndGoes, IsClear}
-use Rattle.vx_rooms.specs.ProvedLaws.{events_by-append, append-steady, none-steady, called-steady, aborted-steady, came-and-went, none-came, came-undone, never-full}
+use Rattle.vx_session.specs.Counting.{events_by, IsSteady, ComesAndGoes, IsSessionClear}
+use Rattle.vx_session.proofs.Laws.{append-steady, events_by-append, none-steady, called-steady, aborted-steady, came-and-went, none-came, came-undone, never-full}
 use Rattle.vx_buses.specs.Meant.{Meant, Junk, Told, Asks, Aborts, meant}
 use Rattle.vx_buses.specs.Origins.{Origins, on, OnEach}
-use Rattle.vx_buses.specs.Serving.{Item, Serves, IsServed, placed_on, numbers}
+use Rattle.vx_buses.specs.Serving.{Item, FleetServes, IsFleetServed, placed_on, numbers}
+use Rattle.vx_buses.specs.Ending.{FleetHolding}
 use Rattle.vx_buses.specs.Joining.{Undone, outcome}
 use Rattle.vx_buses.specs.Linking.{HadSession, WasRefused, LinkDid}
 
 -- ---- the messages of a session
 
 -- no connection comes up or goes by a message that was served
-served-steady : {B : Type 0} (g : Origins B) (ns conns : Four ℕ) (m : Meant) (bus : ℕ) (ps : List Placed) (out : List ℕ) → IsServed g ns conns m bus ps out → IsSteady (events_by ps)
+served-steady : {B : Type 0} (g : Origins B) (ns conns : Four ℕ) (m : Meant) (bus : ℕ) (ps : List Placed) (out : List ℕ) → IsFleetServed g ns conns m bus ps out → IsSteady (events_by ps)
 served-steady g ns conns Junk bus ps out is = absurd is
 served-steady g ns conns (Told message) bus ps out is = subst (λ qs. IsSteady (events_by qs)) (sym is.0) none-steady
 served-steady g ns conns (Asks b xid there) bus ps out is = called-steady (on bus g) (at bus ns) (at bus conns) xid there ps is.1.calls is.1.given is.1.called
 served-steady g ns conns (Aborts b xid lid) bus ps out is = aborted-steady (at bus conns) xid lid ps [] out is.1
 
 -- nor by those of a session that one bus served
-pub items-steady : {B : Type 0} (g : Origins B) (ns conns : Four ℕ) (r : Role) (bus : ℕ) (items : List Item) → All (Serves g ns conns r) items → IsSteady (events_by (placed_on bus items))
+pub items-steady : {B : Type 0} (g : Origins B) (ns conns : Four ℕ) (r : Role) (bus : ℕ) (items : List Item) → All (FleetServes g ns conns r) items → IsSteady (events_by (placed_on bus items))
 items-steady g ns conns r bus [] all = none-steady
 items-steady g ns conns r bus (i ∷ items) all =
-    let one = All-head (Serves g ns conns r) i items all in
+    let one = All-head (FleetServes g ns conns r) i items all in
     let first = served-steady g ns conns (meant i.answered.message r) i.bus i.placed i.answered.reply one.served in
     subst IsSteady (sym (ap events_by (flat_map-cons (λ (k : Item). cond (k.bus == bus) k.placed []) i items) ∙ events_by-append (cond (i.bus == bus) i.placed []) (placed_on bus items)))
     (append-steady (events_by (cond (i.bus == bus) i.placed [])) (events_by (placed_on bus items)) (chosen (i.bus == bus) first)
-    (items-steady g ns conns r bus items (All-tail (Serves g ns conns r) i items all)))
+    (items-steady g ns conns r bus items (All-tail (FleetServes g ns conns r) i items all)))
   where
     chosen : (b : Bool) → IsSteady (events_by i.placed) → IsSteady (events_by (cond b i.placed []))
     chosen true first = first
@@ -101,41 +101,39 @@ who-refused (Ok x) (Ok y) (Ok z) (Ok w) why h = absurd (cc)
 -- ---- a link
 
 -- a connection of each bus came up, had its session, and went
-had-counts : {B L : Type 0} (g : Origins B) (stands : L → List ℕ → List ℕ → Type 0) (receives : Receives L) (sends : Sends L) (clocked : List Placed → Type 0) (told : ℕ) (passes : Four (PassView Group)) (link : L) (seen : LinkShown) (how : End)
-    (passes' : Four (PassView Group)) (link' : L) (seen' : LinkShown) → HadSession g stands receives sends clocked told passes link seen how passes' link' seen'
-    → (bus : ℕ) → bus ≤ 3 → ComesAndGoes (at bus passes) (at bus passes')
-had-counts g stands receives sends clocked told passes link seen how passes' link' seen' had bus within =
+had-counts : {B L : Type 0} (g : Origins B) (ways : Ghosts L) (clocked : List Placed → Type 0) (told : ℕ) (before : FleetHolding L) (how : End) (after : FleetHolding L)
+    → HadSession g ways clocked told before how after → (bus : ℕ) → bus ≤ 3 → ComesAndGoes (at bus before.passes) (at bus after.passes)
+had-counts g ways clocked told before how after had bus within =
     let did = had.did in
-    let joins = subst (λ o. Joins (on bus g) (at bus passes) role.Core o (at bus had.up)) (each-up had.joined had.conns had.all bus)
-    (each-on (λ o pass answer pass'. Joins o pass role.Core answer pass') g passes had.joined had.up had.joins bus) in
-    came-and-went (on bus g) told (at bus had.conns) role.Core (at bus passes) (at bus had.up) (at bus passes') (placed_on bus did.items) (at bus did.lasts) joins (did.makes bus within)
+    let joins = subst (λ o. Joins (on bus g) (at bus before.passes) role.Core o (at bus had.up)) (each-up had.joined had.conns had.all bus)
+    (each-on (λ o pass answer pass'. Joins o pass role.Core answer pass') g before.passes had.joined had.up had.joins bus) in
+    came-and-went (on bus g) told (at bus had.conns) role.Core (at bus before.passes) (at bus had.up) (at bus after.passes) (placed_on bus did.items) (at bus did.lasts) joins (did.makes bus within)
     (items-steady g (numbers had.up) had.conns role.Core bus did.items did.each) (did.down bus within)
 
 -- one didn't come up, and those that did went again
-refused-counts : {B L : Type 0} (g : Origins B) (clocked : List Placed → Type 0) (passes : Four (PassView Group)) (link : L) (why : Connect) (passes' : Four (PassView Group)) (link' : L) → WasRefused g clocked passes link why passes' link'
-    → (bus : ℕ) → ComesAndGoes (at bus passes) (at bus passes')
-refused-counts g clocked passes link why passes' link' was bus =
-    by (at bus was.joined) (each-on (λ o pass answer pass'. Joins o pass role.Core answer pass') g passes was.joined was.up was.joins bus)
-    (each-on (λ o pass answer pass'. Undone o pass answer pass') g was.up was.joined passes' was.undone bus)
+refused-counts : {B L : Type 0} (g : Origins B) (clocked : List Placed → Type 0) (before : FleetHolding L) (why : Connect) (after : FleetHolding L) → WasRefused g clocked before why after
+    → (bus : ℕ) → ComesAndGoes (at bus before.passes) (at bus after.passes)
+refused-counts g clocked before why after was bus =
+    by (at bus was.joined) (each-on (λ o pass answer pass'. Joins o pass role.Core answer pass') g before.passes was.joined was.up was.joins bus)
+    (each-on (λ o pass answer pass'. Undone o pass answer pass') g was.up was.joined after.passes was.undone bus)
   where
-    by : (o : Result ℕ Connect) → Joins (on bus g) (at bus passes) role.Core o (at bus was.up) → Undone (on bus g) (at bus was.up) o (at bus passes') → ComesAndGoes (at bus passes) (at bus passes')
-    by (Ok conn) joins leaves = came-undone (on bus g) conn role.Core (at bus passes) (at bus was.up) (at bus passes') joins leaves
-    by (Err why) joins same = subst (ComesAndGoes (at bus passes)) (sym same) (none-came (on bus g) role.Core why (at bus passes) (at bus was.up) joins)
+    by : (o : Result ℕ Connect) → Joins (on bus g) (at bus before.passes) role.Core o (at bus was.up) → Undone (on bus g) (at bus was.up) o (at bus after.passes)
+        → ComesAndGoes (at bus before.passes) (at bus after.passes)
+    by (Ok conn) joins leaves = came-undone (on bus g) conn role.Core (at bus before.passes) (at bus was.up) (at bus after.passes) joins leaves
+    by (Err why) joins same = subst (ComesAndGoes (at bus before.passes)) (sym same) (none-came (on bus g) role.Core why (at bus before.passes) (at bus was.up) joins)
 
 -- Whatever became of a link: among the groups that each bus's pass made as many connections came up as went down, and at most one.
-pub link-counts : {B L : Type 0} (g : Origins B) (stands : L → List ℕ → List ℕ → Type 0) (receives : Receives L) (sends : Sends L) (clocked : List Placed → Type 0) (told : ℕ) (passes : Four (PassView Group)) (link : L) (seen : LinkShown) (how : Linked)
-    (passes' : Four (PassView Group)) (link' : L) (seen' : LinkShown) → LinkDid g stands receives sends clocked told passes link seen how passes' link' seen'
-    → (bus : ℕ) → bus ≤ 3 → ComesAndGoes (at bus passes) (at bus passes')
-link-counts g stands receives sends clocked told passes link seen (linked.Ended how) passes' link' seen' did bus within = had-counts g stands receives sends clocked told passes link seen how passes' link' seen' did bus within
-link-counts g stands receives sends clocked told passes link seen linked.Full passes' link' seen' did bus within = refused-counts g clocked passes link connect.Full passes' link' did bus
-link-counts g stands receives sends clocked told passes link seen linked.NoMemory passes' link' seen' did bus within = refused-counts g clocked passes link connect.NoMemory passes' link' did bus
+pub link-counts : {B L : Type 0} (g : Origins B) (ways : Ghosts L) (clocked : List Placed → Type 0) (told : ℕ) (before : FleetHolding L) (how : Linked) (after : FleetHolding L)
+    → LinkDid g ways clocked told before how after → (bus : ℕ) → bus ≤ 3 → ComesAndGoes (at bus before.passes) (at bus after.passes)
+link-counts g ways clocked told before (linked.Ended how) after did bus within = had-counts g ways clocked told before how after did bus within
+link-counts g ways clocked told before linked.Full after did bus within = refused-counts g clocked before connect.Full after did bus
+link-counts g ways clocked told before linked.NoMemory after did bus within = refused-counts g clocked before connect.NoMemory after did bus
 
 -- Where the pass of each bus is clear behind so many links, the next one isn't refused for want of room.
-pub link-never-full : {B L : Type 0} (g : Origins B) (stands : L → List ℕ → List ℕ → Type 0) (receives : Receives L) (sends : Sends L) (clocked : List Placed → Type 0) (told count : ℕ) (passes : Four (PassView Group)) (link : L) (seen : LinkShown)
-    (passes' : Four (PassView Group)) (link' : L) (seen' : LinkShown) → ((bus : ℕ) → bus ≤ 3 → IsClear count (at bus passes)) → count < CONNECTION_LAST
-    → LinkDid g stands receives sends clocked told passes link seen linked.Full passes' link' seen' → ⊥
-link-never-full g stands receives sends clocked told count passes link seen passes' link' seen' clear low was =
+pub link-never-full : {B L : Type 0} (g : Origins B) (ways : Ghosts L) (clocked : List Placed → Type 0) (told count : ℕ) (before after : FleetHolding L)
+    → ((bus : ℕ) → bus ≤ 3 → IsSessionClear count (at bus before.passes)) → count < CONNECTION_LAST → LinkDid g ways clocked told before linked.Full after → ⊥
+link-never-full g ways clocked told count before after clear low was =
     let who = who-refused was.joined.zero_ was.joined.one was.joined.two was.joined.three connect.Full was.refused in
-    never-full (on who.bus g) count (at who.bus passes) (at who.bus was.up) role.Core (clear who.bus who.within) low
-    (subst (λ o. Joins (on who.bus g) (at who.bus passes) role.Core o (at who.bus was.up)) who.answer
-    (each-on (λ o pass answer pass'. Joins o pass role.Core answer pass') g passes was.joined was.up was.joins who.bus))
+    never-full (on who.bus g) count (at who.bus before.passes) (at who.bus was.up) role.Core (clear who.bus who.within) low
+    (subst (λ o. Joins (on who.bus g) (at who.bus before.passes) role.Core o (at who.bus was.up)) who.answer
+    (each-on (λ o pass answer pass'. Joins o pass role.Core answer pass') g before.passes was.joined was.up was.joins who.bus))

@@ -1,7 +1,7 @@
 -- A call that a bus answers, or a device_abort: its bus's pass goes on, and the other three stay as they were.
 use Rattle.std.specs.Prelude.{◌≡◌, ℕ, List}
 use Rattle.vx_gate.specs.PassView.{PassView}
-use Rattle.vx_gates.specs.Four.{Four, at, put}
+use Rattle.vx_buses.specs.Four.{Four, at, put}
 use Rattle.vx_group.specs.Groups.{Group}
 use Rattle.vx_session.specs.Placing.{Placed, Makes}
 

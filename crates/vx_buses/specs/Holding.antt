@@ -2,8 +2,8 @@
 use Rattle.std.specs.Prelude.{◌≡◌, ℕ, List, slice_index}
 use Rattle.vx_calls.specs.declared.calls.Role.{Role}
 use Rattle.vx_gate.specs.PassView.{PassView, GateId}
-use Rattle.vx_gates.specs.Four.{Four, Each}
-use Rattle.vx_gates.specs.Passing.{IsOf}
+use Rattle.vx_buses.specs.Four.{Four, Each}
+use Rattle.vx_buses.specs.Passing.{IsOf}
 use Rattle.vx_group.specs.Groups.{Group}
 use Rattle.vx_group.specs.Phases.{Idle}
 use Rattle.vx_session.specs.Turning.{phase_at}
@@ -17,6 +17,6 @@ abbrev pub AreIdle : Four (PassView Group) → Four ℕ → Role → Type 0
 AreIdle passes conns r = Each (λ pass conn. phase_at pass conn ≡ Idle r) passes conns
 
 -- the passes are of these gates, and have such connections
-pub record Holds (passes : Four (PassView Group)) (gates : Four GateId) (conns : Four ℕ) (r : Role) : Type 0 where
+pub record FleetHolds (passes : Four (PassView Group)) (gates : Four GateId) (conns : Four ℕ) (r : Role) : Type 0 where
   pub of : Each IsOf passes gates
   pub idle : AreIdle passes conns r

@@ -1,21 +1,19 @@
 -- To be believed.
 -- What serves the links of a door over four buses, and what serving one does.
 use Rattle.std.specs.Prelude.{◌≡◌, ◌≢◌, ◌≤◌, ℕ, List, [], Option, Some, None}
-use Rattle.vx_io_traits.specs.declared.ReadOut.{ReadOut}
-use Rattle.vx_io_traits.specs.declared.WriteOut.{WriteOut}
+use Rattle.vx_io_traits.specs.declared.links.Link.{Ghosts as OfLink}
 use Rattle.vx_door.specs.Going.{Went}
 use Rattle.vx_bus_traits.specs.declared.bus.Bus.{Ghosts}
 use Rattle.vx_core.specs.CoreState.{CoreState}
 use Rattle.vx_gate.specs.Seats.{nowhere}
 use Rattle.vx_gate.specs.PassView.{PassView, GateId}
-use Rattle.vx_gates.specs.Four.{Four, at, Each}
-use Rattle.vx_gates.specs.Passing.{IsOf, IsFirst}
+use Rattle.vx_buses.specs.Four.{Four, at, Each}
+use Rattle.vx_buses.specs.Passing.{IsOf, IsFirst}
 use Rattle.vx_group.specs.Groups.{Group}
-use Rattle.vx_stream.specs.Shown.{LinkShown}
 use Rattle.vx_session.specs.declared.links.Linked.{Linked}
 use Rattle.vx_session.specs.declared.links.Linked.TheVariants as linked
 use Rattle.vx_session.specs.Progress.{Clocked}
-use Rattle.vx_rooms.specs.Counting.{IsClear}
+use Rattle.vx_session.specs.Counting.{IsSessionClear}
 use Rattle.vx_buses.specs.Origins.{origins}
 use Rattle.vx_buses.specs.Linking.{LinkDid}
 
@@ -40,26 +38,25 @@ passes_of None = no_passes
 passes_of (Some passes) = passes
 
 -- Its passes are in their place, each of its gate. Each is the only one there, and each of its connections went again, so many at most.
-pub record IsReady (count : ℕ) (held : Option (Four (PassView Group))) (gates : Four GateId) : Type 0 where
+pub record IsFleetReady (count : ℕ) (held : Option (Four (PassView Group))) (gates : Four GateId) : Type 0 where
   pub passes : Four (PassView Group)
   pub has : held ≡ Some passes
   pub of : Each IsOf passes gates
-  pub clear : (bus : ℕ) → bus ≤ 3 → IsClear count (at bus passes)
+  pub clear : (bus : ℕ) → bus ≤ 3 → IsSessionClear count (at bus passes)
 
 -- It begins with the first pass of each of four gates, which has all 4,294,967,296 parts, has seen nothing and made nothing: so each
 -- bus's history begins with nothing, and all of it is made by these passes. `start` tells of the cores that the gates were started
 -- over.
-pub record Begins {B C : Type 0} (start : Four (CoreState B) → Type 0) (server : Hosting B C) : Type 0 where
+pub record FleetBegins {B C : Type 0} (start : Four (CoreState B) → Type 0) (server : Hosting B C) : Type 0 where
   pub gates : Four GateId
   pub first : Each IsFirst server.passes gates
   pub cores : start server.firsts
 
 -- A link was served, at the gates that it had, by receives and sends of the door alone, and none of its connections was refused for
--- want of room. `receives` and `sends` are what one of them does, and `tells` what a call of its clock does.
-pub record PeerDid {B C N : Type 0} (g : Ghosts B) (tells : C → ℕ → C → Type 0) (stands : N → List ℕ → List ℕ → Type 0) (receives : N → List ℕ → ReadOut → List ℕ → N → Type 0) (sends : N → List ℕ → WriteOut → N → Type 0)
-    (shown : N → LinkShown) (server : Hosting B C) (door : N) (how : Linked) (server' : Hosting B C) (door' : N) : Type 0 where
-  pub did : LinkDid (origins g server.firsts) stands receives sends (Clocked tells server.clock server'.clock) server'.told server.passes door (shown door) how server'.passes door' (shown door')
+-- want of room. `tells` is what a call of its clock does.
+pub record PeerDid {B C N : Type 0} (g : Ghosts B) (tells : C → ℕ → C → Type 0) (ways : OfLink N) (server : Hosting B C) (door : N) (how : Linked) (server' : Hosting B C) (door' : N) : Type 0 where
+  pub did : LinkDid (origins g server.firsts) ways (Clocked tells server.clock server'.clock) server'.told (record { passes = server.passes; link = door }) how (record { passes = server'.passes; link = door' })
   pub same : server'.firsts ≡ server.firsts
-  pub went : Went receives sends door door'
+  pub went : Went ways.receives ways.sends door door'
   pub later : server.told ≤ server'.told
   pub room : how ≢ linked.Full

@@ -3,9 +3,9 @@
 use Rattle.std.specs.Prelude.{◌≡◌, ℕ, Result, Ok, Err}
 use Rattle.vx_calls.specs.declared.calls.Role.TheVariants as role
 use Rattle.vx_gate.specs.PassView.{PassView}
-use Rattle.vx_gates.specs.Four.{Four}
+use Rattle.vx_buses.specs.Four.{Four}
 use Rattle.vx_group.specs.Groups.{Group}
-use Rattle.vx_tables.specs.declared.tables.Connect.{Connect}
+use Rattle.vx_state.specs.declared.tables.Connect.{Connect}
 use Rattle.vx_session.specs.Origin.{Origin}
 use Rattle.vx_session.specs.Turning.{Joins, Leaves}
 use Rattle.vx_buses.specs.Origins.{Origins, OnEach}

@@ -8,7 +8,7 @@ use Rattle.vx_rpc.specs.Wording.{success_message}
 use Rattle.vx_codec.specs.Answered.{results}
 use Rattle.vx_exchange.specs.Meaning as one
 use Rattle.vx_exchange.specs.Meaning.{Meaning, meaning}
-use Rattle.vx_routes.specs.Routing.{Way, Refused, Goes, route_of, place_of}
+use Rattle.vx_buses.specs.Routing.{Way, Refused, Goes, route_of, fleet_place_of}
 
 -- No call; a message that says what is answered without a bus; a call to a bus, as it is there, with its xid; or a device_abort of a link
 -- of a bus, with its xid
@@ -28,7 +28,7 @@ abbrev pub by_meaning : Meaning → Meant
 by_meaning one.Junk = Junk
 by_meaning (one.Answered message) = Told message
 by_meaning (one.Asks xid asked) = by_way xid (route_of asked)
-by_meaning (one.Aborts xid lid) = Aborts (place_of lid).0 xid (place_of lid).1
+by_meaning (one.Aborts xid lid) = Aborts (fleet_place_of lid).0 xid (fleet_place_of lid).1
 
 abbrev pub meant : List ℕ → Role → Meant
 meant message role = by_meaning (meaning message role)

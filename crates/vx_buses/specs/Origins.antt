@@ -3,7 +3,7 @@
 use Rattle.std.specs.Prelude.{ℕ}
 use Rattle.vx_bus_traits.specs.declared.bus.Bus.{Ghosts}
 use Rattle.vx_core.specs.CoreState.{CoreState}
-use Rattle.vx_gates.specs.Four.{Four, at}
+use Rattle.vx_buses.specs.Four.{Four, at}
 use Rattle.vx_session.specs.Origin.{Origin, origin}
 
 -- what a bus names of itself, and the cores, each with its bus, that the four gates were started over, by the buses' numbers

@@ -2,15 +2,16 @@
 -- How one record on a connection to four buses is served: the groups that its call adds to one bus's history, and its reply.
 use Rattle.std.specs.Prelude.{◌≡◌, ◌≤◌, ◌==◌, if◌then◌else◌, ℕ, List, [], map, Option, Some, None}
 use Rattle.std.specs.List.{flat_map}
+use Rattle.vx_io_traits.specs.declared.clocks.Clock.{Ghosts as OfClock}
 use Rattle.vx_io_traits.specs.declared.dials.Rang.{Rang}
 use Rattle.vx_calls.specs.declared.calls.Role.{Role}
 use Rattle.vx_calls.specs.Call.{Call}
 use Rattle.vx_calls.specs.Call as call
 use Rattle.vx_record.specs.Fragments.{record_of}
 use Rattle.vx_gate.specs.PassView.{PassView}
-use Rattle.vx_gates.specs.Four.{Four, at, put}
+use Rattle.vx_buses.specs.Four.{Four, at, put}
 use Rattle.vx_group.specs.Groups.{Group}
-use Rattle.vx_routes.specs.Replying.{renumbered}
+use Rattle.vx_buses.specs.Replying.{renumbered}
 use Rattle.vx_stream.specs.Answered.{Answered}
 use Rattle.vx_session.specs.Origin.{Origin}
 use Rattle.vx_session.specs.Placing.{Placed, Makes}
@@ -27,7 +28,7 @@ outward (call.CreateLink client lock lock_timeout device) bus given = renumbered
 outward asked bus given = given
 
 -- A call was answered by its bus, as its session there answers it, and the client was told the reply.
-pub record IsAsked {B : Type 0} (g : Origin B) (number conn xid : ℕ) (asked : Call) (bus : ℕ) (placed : List Placed) (out : List ℕ) : Type 0 where
+pub record IsFleetAsked {B : Type 0} (g : Origin B) (number conn xid : ℕ) (asked : Call) (bus : ℕ) (placed : List Placed) (out : List ℕ) : Type 0 where
   pub calls : List Rang
   pub given : List ℕ
   pub called : IsCalled g number conn xid asked placed calls given
@@ -35,11 +36,11 @@ pub record IsAsked {B : Type 0} (g : Origin B) (number conn xid : ℕ) (asked : 
 
 -- A message that is answered without a bus adds no group; a call adds its groups to its bus's history; junk isn't served. `numbers` are
 -- those of the passes, and `conns` those of the connections, by their buses.
-abbrev pub IsServed : {B : Type 0} → Origins B → (numbers conns : Four ℕ) → Meant → (bus : ℕ) → List Placed → List ℕ → Type 0
-IsServed g numbers conns Junk bus placed out = ⊥
-IsServed g numbers conns (Told message) bus placed out = (placed ≡ []) × (out ≡ record_of message)
-IsServed g numbers conns (Asks b xid there) bus placed out = (bus ≡ b) × IsAsked (on bus g) (at bus numbers) (at bus conns) xid there bus placed out
-IsServed g numbers conns (Aborts b xid lid) bus placed out = (bus ≡ b) × IsAborted (at bus conns) xid lid placed [] out
+abbrev pub IsFleetServed : {B : Type 0} → Origins B → (numbers conns : Four ℕ) → Meant → (bus : ℕ) → List Placed → List ℕ → Type 0
+IsFleetServed g numbers conns Junk bus placed out = ⊥
+IsFleetServed g numbers conns (Told message) bus placed out = (placed ≡ []) × (out ≡ record_of message)
+IsFleetServed g numbers conns (Asks b xid there) bus placed out = (bus ≡ b) × IsFleetAsked (on bus g) (at bus numbers) (at bus conns) xid there bus placed out
+IsFleetServed g numbers conns (Aborts b xid lid) bus placed out = (bus ≡ b) × IsAborted (at bus conns) xid lid placed [] out
 
 -- A record's message and the record of its reply; the bus that it was served by, and the groups that it added to that one's history.
 pub record Item : Type 0 where
@@ -48,9 +49,9 @@ pub record Item : Type 0 where
   pub placed : List Placed
 
 -- it was served so, by one of the four buses
-pub record Serves {B : Type 0} (g : Origins B) (numbers conns : Four ℕ) (r : Role) (item : Item) : Type 0 where
+pub record FleetServes {B : Type 0} (g : Origins B) (numbers conns : Four ℕ) (r : Role) (item : Item) : Type 0 where
   pub within : item.bus ≤ 3
-  pub served : IsServed g numbers conns (meant item.answered.message r) item.bus item.placed item.answered.reply
+  pub served : IsFleetServed g numbers conns (meant item.answered.message r) item.bus item.placed item.answered.reply
 
 -- the messages of these items with their replies
 abbrev pub answered : List Item → List Answered
@@ -79,8 +80,12 @@ pub record State (C : Type 0) : Type 0 where
   pub clock : C
   pub told : ℕ
 
+-- what it is, by what the type of its clock tells
+abbrev pub fleet_state : {C : Type 0} → OfClock C → Role → Four ℕ → Option (Four (PassView Group)) → C → State C
+fleet_state by_clock r conns passes clock = record { role = r; conns = conns; passes = passes; clock = clock; told = by_clock.told clock }
+
 -- A message was served by this reply. Its bus's pass went on; the other three stay as they were.
-pub record IsAnswered {B C : Type 0} (g : Origins B) (tells : C → ℕ → C → Type 0) (s : State C) (message reply : List ℕ) (s' : State C) : Type 0 where
+pub record IsFleetAnswered {B C : Type 0} (g : Origins B) (tells : C → ℕ → C → Type 0) (s : State C) (message reply : List ℕ) (s' : State C) : Type 0 where
   pub passes : Four (PassView Group)
   pub bus : ℕ
   pub within : bus ≤ 3
@@ -90,19 +95,19 @@ pub record IsAnswered {B C : Type 0} (g : Origins B) (tells : C → ℕ → C �
   pub has : s'.passes ≡ Some (put bus own passes)
   pub makes : Makes s'.told (at bus passes) placed own
   pub asks : ClockedAs s.role tells s.clock s'.clock placed
-  pub served : IsServed g (numbers passes) s.conns (meant message s.role) bus placed reply
+  pub served : IsFleetServed g (numbers passes) s.conns (meant message s.role) bus placed reply
 
 -- junk is no call and changes nothing; any other message is served
-abbrev pub HasReply : {B C : Type 0} → Origins B → (C → ℕ → C → Type 0) → State C → List ℕ → Option (List ℕ) → State C → Type 0
-HasReply g tells s message None s' = (meaning message s.role ≡ one.Junk) × (s'.passes ≡ s.passes) × (s'.clock ≡ s.clock)
-HasReply g tells s message (Some reply) s' = IsAnswered g tells s message reply s'
+abbrev pub FleetHasReply : {B C : Type 0} → Origins B → (C → ℕ → C → Type 0) → State C → List ℕ → Option (List ℕ) → State C → Type 0
+FleetHasReply g tells s message None s' = (meaning message s.role ≡ one.Junk) × (s'.passes ≡ s.passes) × (s'.clock ≡ s.clock)
+FleetHasReply g tells s message (Some reply) s' = IsFleetAnswered g tells s message reply s'
 
 -- what a message on the connections does
 pub record MessageDoes {B C : Type 0} (g : Origins B) (tells : C → ℕ → C → Type 0) (s : State C) (message : List ℕ) (reply : Option (List ℕ)) (s' : State C) : Type 0 where
   pub role : s'.role ≡ s.role
   pub conns : s'.conns ≡ s.conns
   pub later : s.told ≤ s'.told
-  pub has : HasReply g tells s message reply s'
+  pub has : FleetHasReply g tells s message reply s'
 
 -- a message of this meaning was served by one of the four buses, or by none
 pub record ServesCall {B : Type 0} (g : Origins B) (clocked : List Placed → Type 0) (told : ℕ) (passes : Four (PassView Group)) (conns : Four ℕ) (m : Meant) (out : List ℕ) (passes' : Four (PassView Group)) : Type 0 where
@@ -113,4 +118,4 @@ pub record ServesCall {B : Type 0} (g : Origins B) (clocked : List Placed → Ty
   pub is : passes' ≡ put bus own passes
   pub makes : Makes told (at bus passes) placed own
   pub asks : clocked placed
-  pub served : IsServed g (numbers passes) conns m bus placed out
+  pub served : IsFleetServed g (numbers passes) conns m bus placed out

@@ -4,14 +4,14 @@ use Rattle.std.specs.Prelude.{◌≡◌, ℕ, List, [], ◌∷◌, ◌++◌, Non
 use Rattle.std.specs.List.{All}
 use Rattle.vx_488.specs.declared.transfers.Addr.{Addr}
 use Rattle.vx_bus_traits.specs.Means.{first_means}
-use Rattle.vx_flow.specs.FineState.{first_fine}
+use Rattle.vx_flow.specs.InterleavedState.{first_interleaved}
 use Rattle.vx_inst.specs.Behavior.{Behavior}
 use Rattle.vx_rack.specs.declared.Spare.{Spare}
 use Rattle.vx_sim.specs.Occupants.{Seated, Boxed, handed_in}
 use Rattle.vx_sim.specs.SimState.{SimState, first_state}
 use Rattle.vx_sim.specs.Attaching.{IsAttached}
 use Rattle.vx_core.specs.CoreState.{CoreState}
-use Rattle.vx_gates.specs.Four.{Four, listed}
+use Rattle.vx_buses.specs.Four.{Four, listed}
 
 -- primary address 5, without a secondary
 abbrev pub place : Addr
@@ -20,7 +20,7 @@ place = record { p = 5; s = None }
 -- a gateway with nothing in it, whose abort channel is at port 9011, over a bus that nobody has asked yet, on which this instrument
 -- stands at primary address 5
 pub record IsFurnished (inst : Seated) (core : CoreState SimState) : Type 0 where
-  pub fine : core.fine ≡ first_fine 9011
+  pub interleaved : core.interleaved ≡ first_interleaved 9011
   pub bus : IsAttached place (Boxed inst) first_state core.bus
 
 -- one for each of these instruments, in their order

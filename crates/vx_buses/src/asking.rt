@@ -3,29 +3,39 @@ ghost use Rattle.std.specs.Prelude.{◌≡◌, ◌≤◌, ◌<◌, true, length,
 ghost use Rattle.vx_calls.specs.declared.calls.Role.TheVariants as role;
 ghost use Rattle.vx_calls.specs.Call.{call_shown};
 ghost use Rattle.vx_exchange.specs.declared.record.TheConstants.{REPLY_ROOM};
-ghost use Rattle.vx_gates.specs.Four.{at, Each};
-ghost use Rattle.vx_gates.specs.Passing.{passes_shown, IsOf};
-ghost use Rattle.vx_gates.specs.Standing.{gates_shown, firsts_shown};
+ghost use Rattle.vx_buses.specs.Four.{at, Each};
+ghost use Rattle.vx_buses.specs.Passing.{passes_shown, IsOf};
+ghost use Rattle.vx_buses.specs.Standing.{gates_shown, firsts_shown};
 ghost use Rattle.vx_group.specs.Phases.{Idle};
 ghost use Rattle.vx_rules.specs.Calls.{IsShort};
-ghost use Rattle.vx_rules.specs.One.{may_wait};
+ghost use Rattle.vx_rules.specs.AtomicStep.{may_wait};
 ghost use Rattle.vx_session.specs.Turning.{phase_at};
 ghost use Rattle.vx_session.specs.Serving.{IsAborted};
 ghost use Rattle.vx_session.specs.Progress.{Clocked, unclocked};
 ghost use Rattle.vx_buses.specs.Origins.{origins, on};
 ghost use Rattle.vx_buses.specs.Asking.{OnBus};
 ghost use Rattle.vx_buses.specs.Holding.{four_of};
-ghost use Rattle.vx_buses.specs.Serving.{IsAsked, outward};
+ghost use Rattle.vx_buses.specs.Serving.{IsFleetAsked, outward};
 ghost use Rattle.std.specs.Prelude.{[]};
 
+use crate::fleet::Passes;
+use crate::routes::renumber;
 use crate::{BusPass, Buses};
 use std::sync::Wait;
 use vx_bus_traits::Bus;
-use vx_calls::CallRef;
-use vx_gates::Passes;
+use vx_calls::{CallRef, Role};
 use vx_io_traits::{Clock, Pause};
-use vx_routes::renumber;
-use vx_session::{Still, abort, answer_call};
+use vx_session::{NoTools, Request, Worker, abort, answer_call};
+
+/// Who takes the turns of the connections of a session, one of each bus, at their gates.
+#[derive(Drop)]
+pub(crate) struct FleetWorker<'a, R, B: Bus> {
+    pub rt: &'a R,
+    pub buses: &'a Buses<B>,
+    /// The connections' numbers, by their buses.
+    pub conns: [u32; 4],
+    pub role: Role,
+}
 
 /// Changes the record of a reply to a call of a bus to the one that the client is told.
 fn tell_outward(call: &CallRef<'_>, bus: u8, bytes: &mut [u8])
@@ -41,27 +51,24 @@ fn tell_outward(call: &CallRef<'_>, bus: u8, bytes: &mut [u8])
 /// Has a call answered by its bus, as a session there does. The record of the reply, as the client is told it, stands at the front of
 /// `reply` then, of so many bytes.
 pub(crate) fn ask_bus<R: Wait, B: Bus, C: Clock, P: Pause>(
-    rt: &R,
-    buses: &Buses<B>,
+    worker: &FleetWorker<'_, R, B>,
     passes: BusPass<B>,
-    conns: &[u32; 4],
     bus: u8,
-    xid: u32,
-    call: &CallRef<'_>,
+    request: &Request<'_>,
     clock: &mut C,
     pause: &mut P,
     reply: &mut [u8],
 ) -> (BusPass<B>, usize)
-    requires gates { Each IsOf (passes_shown passes) (gates_shown buses.now) }
+    requires gates { Each IsOf (passes_shown passes) (gates_shown worker.now.buses.now) }
     requires bus { bus ≤ 3 }
-    requires phase { phase_at (at bus (passes_shown passes)) (at bus (four_of conns.now)) ≡ Idle role.Core }
-    requires waits { may_wait (call_shown call.now) ≡ true }
-    requires short { IsShort (call_shown call.now) }
+    requires phase { phase_at (at bus (passes_shown passes)) (at bus (four_of worker.now.conns)) ≡ Idle role.Core }
+    requires waits { may_wait (call_shown request.now.call.now) ≡ true }
+    requires short { IsShort (call_shown request.now.call.now) }
     requires room { REPLY_ROOM ≤ length reply.old }
     ensures asks { OnBus (Clocked C.tells clock.old clock.new) (C.told clock.new) (passes_shown passes) bus
-        (λ placed. IsAsked (on bus (origins B.Bus (firsts_shown buses.now))) (at bus (passes_shown passes)).number (at bus (four_of conns.now)) xid (call_shown call.now) bus placed (take result.1 reply.new))
+        (λ placed. IsFleetAsked (on bus (origins B.Bus (firsts_shown worker.now.buses.now))) (at bus (passes_shown passes)).number (at bus (four_of worker.now.conns)) request.now.xid (call_shown request.now.call.now) bus placed (take result.1 reply.new))
         (passes_shown result.0) }
-    ensures phase { phase_at (at bus (passes_shown result.0)) (at bus (four_of conns.now)) ≡ Idle role.Core }
+    ensures phase { phase_at (at bus (passes_shown result.0)) (at bus (four_of worker.now.conns)) ≡ Idle role.Core }
     ensures told { C.told clock.old ≤ C.told clock.new }
     ensures within { result.1 ≤ length reply.new }
     ensures len { length reply.new ≡ length reply.old }
@@ -72,20 +79,22 @@ pub(crate) fn ask_bus<R: Wait, B: Bus, C: Clock, P: Pause>(
         two,
         three,
     } = passes.swapped(bus);
-    let conn = conns[bus as usize];
+    let here = Worker {
+        rt: worker.rt,
+        turns: worker.buses.gate(bus),
+        conn: worker.conns[bus as usize],
+        role: worker.role,
+    };
     let (own, len) = answer_call(
-        rt,
-        buses.gate(bus),
+        &here,
         own,
-        conn,
-        xid,
-        call,
+        request,
         clock,
         pause,
-        &mut Still::new(),
+        &mut NoTools::new(),
         reply,
     );
-    tell_outward(call, bus, &mut reply[..len]);
+    tell_outward(request.call, bus, &mut reply[..len]);
     let passes = Passes {
         zero: own,
         one,
@@ -98,21 +107,19 @@ pub(crate) fn ask_bus<R: Wait, B: Bus, C: Clock, P: Pause>(
 /// Has a device_abort of a link of a bus told there (VXI-11, device_abort). The record of the reply stands at the front of `reply` then,
 /// of so many bytes.
 pub(crate) fn abort_on_bus<R: Wait, B: Bus>(
-    rt: &R,
-    buses: &Buses<B>,
+    worker: &FleetWorker<'_, R, B>,
     passes: BusPass<B>,
-    conns: &[u32; 4],
     bus: u8,
     xid: u32,
     lid: u32,
     reply: &mut [u8],
 ) -> (BusPass<B>, usize)
-    requires gates { Each IsOf (passes_shown passes) (gates_shown buses.now) }
+    requires gates { Each IsOf (passes_shown passes) (gates_shown worker.now.buses.now) }
     requires bus { bus ≤ 3 }
-    requires phase { phase_at (at bus (passes_shown passes)) (at bus (four_of conns.now)) ≡ Idle role.Abort }
+    requires phase { phase_at (at bus (passes_shown passes)) (at bus (four_of worker.now.conns)) ≡ Idle role.Abort }
     requires room { REPLY_ROOM ≤ length reply.old }
-    ensures aborts { OnBus unclocked 0 (passes_shown passes) bus (λ placed. IsAborted (at bus (four_of conns.now)) xid lid placed [] (take result.1 reply.new)) (passes_shown result.0) }
-    ensures phase { phase_at (at bus (passes_shown result.0)) (at bus (four_of conns.now)) ≡ Idle role.Abort }
+    ensures aborts { OnBus unclocked 0 (passes_shown passes) bus (λ placed. IsAborted (at bus (four_of worker.now.conns)) xid lid placed [] (take result.1 reply.new)) (passes_shown result.0) }
+    ensures phase { phase_at (at bus (passes_shown result.0)) (at bus (four_of worker.now.conns)) ≡ Idle role.Abort }
     ensures within { result.1 ≤ length reply.new }
     ensures len { length reply.new ≡ length reply.old }
 {
@@ -122,8 +129,16 @@ pub(crate) fn abort_on_bus<R: Wait, B: Bus>(
         two,
         three,
     } = passes.swapped(bus);
-    let conn = conns[bus as usize];
-    let (own, aborted) = abort(rt, buses.gate(bus), own, conn, xid, lid, reply);
+    let conn = worker.conns[bus as usize];
+    let (own, aborted) = abort(
+        worker.rt,
+        worker.buses.gate(bus),
+        own,
+        conn,
+        xid,
+        lid,
+        reply,
+    );
     let passes = Passes {
         zero: own,
         one,

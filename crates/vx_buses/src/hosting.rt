@@ -1,11 +1,11 @@
 //! Four gateways as what serves the links of a door.
 ghost use Rattle.std.specs.Prelude.{◌≡◌, ◌+◌, ◌<◌, option_map, Some};
 ghost use Rattle.vx_calls.specs.declared.limits.TheConstants.{CONNECTION_LAST};
-ghost use Rattle.vx_gates.specs.Passing.{passes_shown};
-ghost use Rattle.vx_gates.specs.Standing.{gates_shown};
-ghost use Rattle.vx_buses.specs.Hosting.{IsReady};
+ghost use Rattle.vx_buses.specs.Passing.{passes_shown};
+ghost use Rattle.vx_buses.specs.Standing.{gates_shown};
+ghost use Rattle.vx_buses.specs.Hosting.{IsFleetReady};
 
-use crate::links::many_link;
+use crate::links::{LinkServer, many_link};
 use crate::{BusPass, Buses};
 use std::alloc::Global;
 use std::sync::Wait;
@@ -46,17 +46,16 @@ impl<'a, R: Wait, N: Door, B: Bus, C: Clock, P: Pause> Serves<N> for Host<'a, R,
     ghost use Rattle.std.specs.Prelude.{◌≡◌, ◌≤◌, ◌⊎◌, true, option_map};
     ghost use Rattle.vx_io_traits.specs.Faults.{Rose};
     ghost use Rattle.vx_door.specs.Serving.{is_cut};
-    ghost use Rattle.vx_gates.specs.Passing.{passes_shown};
-    ghost use Rattle.vx_gates.specs.Standing.{gates_shown, firsts_shown};
-    ghost use Rattle.vx_stream.specs.Shown.{link_shown};
-    ghost use Rattle.vx_buses.specs.Hosting.{IsReady, PeerDid, passes_of};
+    ghost use Rattle.vx_buses.specs.Passing.{passes_shown};
+    ghost use Rattle.vx_buses.specs.Standing.{gates_shown, firsts_shown};
+    ghost use Rattle.vx_buses.specs.Hosting.{IsFleetReady, PeerDid, passes_of};
     ghost use Rattle.vx_buses.specs.Linking.{is_own, is_whole};
 
     type End = Linked;
 
-    ghost can = { λ s. IsReady s.served (option_map passes_shown s.held) (gates_shown s.buses) };
+    ghost can = { λ s. IsFleetReady s.served (option_map passes_shown s.held) (gates_shown s.buses) };
 
-    ghost did = { λ s door how s' door'. PeerDid B.Bus C.tells N.stands N.receives N.sends (link_shown N.left N.peers N.receive_faults N.send_faults)
+    ghost did = { λ s door how s' door'. PeerDid B.Bus C.tells N.Link
         (record { passes = passes_of (option_map passes_shown s.held); firsts = firsts_shown s.buses; clock = s.clock; told = C.told s.clock }) door how
         (record { passes = passes_of (option_map passes_shown s'.held); firsts = firsts_shown s'.buses; clock = s'.clock; told = C.told s'.clock }) door' };
 
@@ -70,10 +69,13 @@ impl<'a, R: Wait, N: Door, B: Bus, C: Clock, P: Pause> Serves<N> for Host<'a, R,
         let Some(passes) = self.held.take() else {
             unreachable!()
         };
+        let server = LinkServer {
+            rt: self.rt,
+            alloc: self.alloc,
+            buses: &self.buses,
+        };
         let (passes, how) = many_link(
-            self.rt,
-            self.alloc,
-            &self.buses,
+            &server,
             passes,
             door,
             &mut self.clock,

@@ -2,9 +2,9 @@
 ghost use Rattle.std.specs.Prelude.{◌≡◌, ◌≤◌, Ok, Err, IfOk, IfErr};
 ghost use Rattle.vx_calls.specs.declared.calls.Role.TheVariants as role;
 ghost use Rattle.vx_gate.specs.Gates.{gate_of, first_of};
-ghost use Rattle.vx_gates.specs.Four.{Each};
-ghost use Rattle.vx_gates.specs.Passing.{passes_shown, IsOf};
-ghost use Rattle.vx_gates.specs.Standing.{gates_shown, firsts_shown};
+ghost use Rattle.vx_buses.specs.Four.{Each};
+ghost use Rattle.vx_buses.specs.Passing.{passes_shown, IsOf};
+ghost use Rattle.vx_buses.specs.Standing.{gates_shown, firsts_shown};
 ghost use Rattle.vx_group.specs.Phases.{Idle};
 ghost use Rattle.vx_session.specs.Origin.{origin};
 ghost use Rattle.vx_session.specs.Turning.{phase_at};
@@ -12,6 +12,7 @@ ghost use Rattle.vx_buses.specs.Holding.{four_of};
 ghost use Rattle.vx_buses.specs.Origins.{origins};
 ghost use Rattle.vx_buses.specs.Joining.{JoinsAll, Undone, UndoneAll, joined_shown, outcome};
 
+use crate::fleet::Passes;
 use crate::{BusPass, Buses};
 use std::alloc::Global;
 use std::sync::Wait;
@@ -19,7 +20,6 @@ use vx_bus_traits::Bus;
 use vx_calls::Role;
 use vx_core::{Connect, Core};
 use vx_gate::{Gate, Pass};
-use vx_gates::Passes;
 use vx_session::{join, leave};
 
 /// What each bus answered that was asked for a connection.

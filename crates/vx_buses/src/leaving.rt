@@ -1,17 +1,17 @@
 //! The end of the connections of a session to four buses.
 ghost use Rattle.std.specs.Prelude.{◌≡◌};
 ghost use Rattle.vx_calls.specs.declared.calls.Role.{Role};
-ghost use Rattle.vx_gates.specs.Four.{Each};
-ghost use Rattle.vx_gates.specs.Passing.{passes_shown, IsOf};
-ghost use Rattle.vx_gates.specs.Standing.{gates_shown, firsts_shown};
+ghost use Rattle.vx_buses.specs.Four.{Each};
+ghost use Rattle.vx_buses.specs.Passing.{passes_shown, IsOf};
+ghost use Rattle.vx_buses.specs.Standing.{gates_shown, firsts_shown};
 ghost use Rattle.vx_buses.specs.Ending.{LeavesAll};
 ghost use Rattle.vx_buses.specs.Origins.{origins};
 ghost use Rattle.vx_buses.specs.Holding.{four_of, AreIdle};
 
+use crate::fleet::Passes;
 use crate::{BusPass, Buses};
 use std::sync::Wait;
 use vx_bus_traits::Bus;
-use vx_gates::Passes;
 use vx_session::leave;
 
 /// The connection of each bus goes.

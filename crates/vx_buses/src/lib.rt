@@ -4,21 +4,23 @@
 
 mod answering;
 mod asking;
+mod fleet;
 mod hosting;
 mod joining;
 mod leaving;
 mod links;
+mod routes;
 mod run;
 mod sessions;
 mod starting;
 
-pub use links::many_link;
+pub use fleet::{Gates, GatesRefused, Passes};
+pub use links::{LinkServer, many_link};
+pub use routes::{global, local};
 pub use run::buses_run;
 pub use sessions::{many_abort, many_session};
 pub use starting::start_buses;
 use vx_core::Core;
-use vx_gates::{Gates, GatesRefused, Passes};
-pub use vx_routes::{global, local};
 
 /// Four gateways, each behind a gate of its own.
 pub type Buses<B> = Gates<Core<B>>;

@@ -1,13 +1,12 @@
 //! All that the program `vxbuses` does: the words, the port, the links that come there, the lines that are printed, and the status.
 ghost use Rattle.std.specs.Prelude.{◌≡◌, length, map, string_bytes};
-ghost use Rattle.vx_door.specs.Shown.{door_shown};
 ghost use Rattle.vx_lone.specs.Lone.{handed, lone};
-ghost use Rattle.vx_gates.specs.Four.{Each};
-ghost use Rattle.vx_gates.specs.Passing.{passes_shown, IsFirst};
-ghost use Rattle.vx_gates.specs.Standing.{gates_shown, firsts_shown};
-ghost use Rattle.vx_stream.specs.Shown.{link_shown};
+ghost use Rattle.vx_buses.specs.Four.{Each};
+ghost use Rattle.vx_buses.specs.Passing.{passes_shown, IsFirst};
+ghost use Rattle.vx_buses.specs.Standing.{gates_shown, firsts_shown};
+ghost use Rattle.vx_text.specs.Ends.{sink_shown};
 ghost use Rattle.vx_buses.specs.Starting.{StandInOrder};
-ghost use Rattle.vx_buses.specs.Outcome.{Hosts, IsAskRun, IsRun, EndsRun};
+ghost use Rattle.vx_buses.specs.Outcome.{Hosts, IsFleetAskRun, IsFleetRun, FleetEndsRun, fleet_shows};
 
 use crate::hosting::Host;
 use crate::starting::start_racked;
@@ -20,36 +19,37 @@ use vx_door::Door;
 use vx_inst::Instrument;
 use vx_io_traits::Sink;
 use vx_lone::Racked;
-use vx_peers::{Ask, Status, ask_of, put_line, serve_peers};
+use vx_peers::{Ask, DoorStatus, ask_of, put_line, serve_peers};
 use vx_rack::Spare;
 use vx_session::{Room, Tools};
+
+/// Four gateways, the passes of their gates, and the room of the sessions to them.
+#[derive(Drop)]
+struct Started<B: Bus> {
+    buses: Buses<B>,
+    passes: BusPass<B>,
+    room: Room,
+}
 
 /// Serves what is asked for by four gateways that nobody has asked yet.
 fn serve_ask<R: Wait, B: Bus + Drop, N: Door, X: Tools, K: Sink>(
     rt: &R,
     alloc: Global,
     ask: &Ask,
-    buses: Buses<B>,
-    passes: BusPass<B>,
-    room: Room,
+    started: Started<B>,
     net: &mut N,
     tools: &mut X,
     sink: &mut K,
-) -> Status
-    requires first { Each IsFirst (passes_shown passes) (gates_shown buses) }
-    ensures { Hosts B.Bus X.C.tells (record {
-      stands = N.stands;
-      receives = N.receives;
-      sends = N.sends;
-      tells = N.tells;
-      waits = N.meets;
-      door = door_shown N.met N.ended N.faults N.receive_faults N.send_faults N.left N.peers;
-      link = link_shown N.left N.peers N.receive_faults N.send_faults;
-      opening = record { opens = N.opens; ready = N.is_ready };
-    }) (λ firsts. firsts ≡ firsts_shown buses) ask.now net.old net.new
-        (record { bytes = K.taken sink.old; faults = K.faults sink.old })
-        (record { bytes = K.taken sink.new; faults = K.faults sink.new }) result }
+) -> DoorStatus
+    requires first { Each IsFirst (passes_shown started.passes) (gates_shown started.buses) }
+    ensures { Hosts B.Bus X.C.tells (fleet_shows N.Link N.Door) (λ firsts. firsts ≡ firsts_shown started.buses) ask.now net.old net.new
+        (sink_shown K.Sink sink.old) (sink_shown K.Sink sink.new) result }
 {
+    let Started {
+        buses,
+        passes,
+        room,
+    } = started;
     let mut host = Host {
         rt,
         alloc,
@@ -72,28 +72,25 @@ fn run_racked<R: Wait, I: Instrument, N: Door, X: Tools, K: Sink, M: Racked>(
     tools: &mut X,
     sink: &mut K,
     rack: Vec<Spare<I>>,
-) -> Status
+) -> DoorStatus
     requires four { length rack.items ≡ 4 }
     requires racked { M.rack ≡ handed (λ i. I.behaves i) (λ i. I.nature i) rack.items }
-    ensures { IsAskRun (lone M.rack) X.C.tells (record {
-      stands = N.stands;
-      receives = N.receives;
-      sends = N.sends;
-      tells = N.tells;
-      waits = N.meets;
-      door = door_shown N.met N.ended N.faults N.receive_faults N.send_faults N.left N.peers;
-      link = link_shown N.left N.peers N.receive_faults N.send_faults;
-      opening = record { opens = N.opens; ready = N.is_ready };
-    }) (StandInOrder M.rack) ask.now net.old net.new
-        (record { bytes = K.taken sink.old; faults = K.faults sink.old })
-        (record { bytes = K.taken sink.new; faults = K.faults sink.new }) result }
+    ensures { IsFleetAskRun (lone M.rack) X.C.tells (fleet_shows N.Link N.Door) (StandInOrder M.rack) ask.now net.old net.new
+        (sink_shown K.Sink sink.old) (sink_shown K.Sink sink.new) result }
 {
     let Ok(room) = Room::new(alloc) else {
-        return Status::NoMemory;
+        return DoorStatus::NoMemory;
     };
     match start_racked::<I, M>(alloc, rack) {
-        Some((buses, passes)) => serve_ask(rt, alloc, ask, buses, passes, room, net, tools, sink),
-        None => Status::NoMemory,
+        Some((buses, passes)) => {
+            let started = Started {
+                buses,
+                passes,
+                room,
+            };
+            serve_ask(rt, alloc, ask, started, net, tools, sink)
+        }
+        None => DoorStatus::NoMemory,
     }
 }
 
@@ -106,20 +103,10 @@ fn run_ask<R: Wait, I: Instrument, N: Door, X: Tools, K: Sink>(
     tools: &mut X,
     sink: &mut K,
     rack: Vec<Spare<I>>,
-) -> Status
+) -> DoorStatus
     requires four { length rack.items ≡ 4 }
-    ensures { IsAskRun (lone (handed (λ i. I.behaves i) (λ i. I.nature i) rack.items)) X.C.tells (record {
-      stands = N.stands;
-      receives = N.receives;
-      sends = N.sends;
-      tells = N.tells;
-      waits = N.meets;
-      door = door_shown N.met N.ended N.faults N.receive_faults N.send_faults N.left N.peers;
-      link = link_shown N.left N.peers N.receive_faults N.send_faults;
-      opening = record { opens = N.opens; ready = N.is_ready };
-    }) (StandInOrder (handed (λ i. I.behaves i) (λ i. I.nature i) rack.items)) ask.now net.old net.new
-        (record { bytes = K.taken sink.old; faults = K.faults sink.old })
-        (record { bytes = K.taken sink.new; faults = K.faults sink.new }) result }
+    ensures { IsFleetAskRun (lone (handed (λ i. I.behaves i) (λ i. I.nature i) rack.items)) X.C.tells (fleet_shows N.Link N.Door) (StandInOrder (handed (λ i. I.behaves i) (λ i. I.nature i) rack.items)) ask.now net.old net.new
+        (sink_shown K.Sink sink.old) (sink_shown K.Sink sink.new) result }
 {
     run_racked::<R, I, N, X, K, Brand>(rt, alloc, ask, net, tools, sink, rack)
 }
@@ -132,24 +119,14 @@ fn run<R: Wait, I: Instrument, N: Door, X: Tools, K: Sink>(
     tools: &mut X,
     sink: &mut K,
     rack: Vec<Spare<I>>,
-) -> Status
+) -> DoorStatus
     requires four { length rack.items ≡ 4 }
-    ensures { IsRun (lone (handed (λ i. I.behaves i) (λ i. I.nature i) rack.items)) X.C.tells (record {
-      stands = N.stands;
-      receives = N.receives;
-      sends = N.sends;
-      tells = N.tells;
-      waits = N.meets;
-      door = door_shown N.met N.ended N.faults N.receive_faults N.send_faults N.left N.peers;
-      link = link_shown N.left N.peers N.receive_faults N.send_faults;
-      opening = record { opens = N.opens; ready = N.is_ready };
-    }) (StandInOrder (handed (λ i. I.behaves i) (λ i. I.nature i) rack.items)) (map string_bytes words.now) net.old net.new
-        (record { bytes = K.taken sink.old; faults = K.faults sink.old })
-        (record { bytes = K.taken sink.new; faults = K.faults sink.new }) result }
+    ensures { IsFleetRun (lone (handed (λ i. I.behaves i) (λ i. I.nature i) rack.items)) X.C.tells (fleet_shows N.Link N.Door) (StandInOrder (handed (λ i. I.behaves i) (λ i. I.nature i) rack.items)) (map string_bytes words.now) net.old net.new
+        (sink_shown K.Sink sink.old) (sink_shown K.Sink sink.new) result }
 {
     match ask_of(words) {
         Some(ask) => run_ask(rt, alloc, &ask, net, tools, sink, rack),
-        None => put_line(sink, b"usage: vxbuses PORT N\n", Status::Usage),
+        None => put_line(sink, b"usage: vxbuses PORT N\n", DoorStatus::Usage),
     }
 }
 
@@ -184,18 +161,8 @@ pub fn buses_run<R: Wait, I: Instrument, N: Door, X: Tools, K: Sink>(
     rack: Vec<Spare<I>>,
 ) -> u8
     requires four { length rack.items ≡ 4 }
-    ensures { EndsRun (lone (handed (λ i. I.behaves i) (λ i. I.nature i) rack.items)) X.C.tells (record {
-      stands = N.stands;
-      receives = N.receives;
-      sends = N.sends;
-      tells = N.tells;
-      waits = N.meets;
-      door = door_shown N.met N.ended N.faults N.receive_faults N.send_faults N.left N.peers;
-      link = link_shown N.left N.peers N.receive_faults N.send_faults;
-      opening = record { opens = N.opens; ready = N.is_ready };
-    }) (StandInOrder (handed (λ i. I.behaves i) (λ i. I.nature i) rack.items)) (map string_bytes words.now) net.old net.new
-        (record { bytes = K.taken sink.old; faults = K.faults sink.old })
-        (record { bytes = K.taken sink.new; faults = K.faults sink.new }) result }
+    ensures { FleetEndsRun (lone (handed (λ i. I.behaves i) (λ i. I.nature i) rack.items)) X.C.tells (fleet_shows N.Link N.Door) (StandInOrder (handed (λ i. I.behaves i) (λ i. I.nature i) rack.items)) (map string_bytes words.now) net.old net.new
+        (sink_shown K.Sink sink.old) (sink_shown K.Sink sink.new) result }
 {
     run(rt, alloc, words, net, tools, sink, rack).number()
 }

@@ -2,60 +2,54 @@
 ghost use Rattle.std.specs.Prelude.{◌≡◌, ◌≤◌};
 ghost use Rattle.vx_calls.specs.declared.calls.Role.TheVariants as role;
 ghost use Rattle.vx_door.specs.Going.{Went};
-ghost use Rattle.vx_gates.specs.Passing.{passes_shown};
-ghost use Rattle.vx_gates.specs.Standing.{gates_shown, firsts_shown};
-ghost use Rattle.vx_stream.specs.Shown.{link_shown};
+ghost use Rattle.vx_buses.specs.Passing.{passes_shown};
+ghost use Rattle.vx_buses.specs.Standing.{gates_shown, firsts_shown};
 ghost use Rattle.vx_session.specs.Progress.{Clocked, ClockedAs, unclocked};
 ghost use Rattle.vx_buses.specs.Origins.{origins};
 ghost use Rattle.vx_buses.specs.Ending.{SessionDid};
-ghost use Rattle.vx_buses.specs.Holding.{four_of, Holds};
+ghost use Rattle.vx_buses.specs.Holding.{four_of, FleetHolds};
 
 use crate::answering::Many;
+use crate::asking::FleetWorker;
 use crate::leaving::leave_all;
+use crate::routes::given_once_law;
 use crate::{BusPass, Buses};
 use std::sync::Wait;
 use vx_bus_traits::Bus;
 use vx_calls::Role;
-use vx_group::{headline_law, owned_law};
+use vx_group::{claims_law, owned_law};
 use vx_io_traits::{Clock, Link, Pause};
-use vx_routes::given_once_law;
-use vx_session::{Room, Still};
+use vx_session::{NoTools, Room};
 use vx_stream::End;
 
 /// A session, in a room: the records of its stream are served, and then the connections go.
 fn run_session<R: Wait, B: Bus, L: Link, C: Clock, P: Pause>(
-    rt: &R,
-    buses: &Buses<B>,
+    worker: &FleetWorker<'_, R, B>,
     pass: BusPass<B>,
-    conns: [u32; 4],
-    role: Role,
     link: &mut L,
     clock: &mut C,
     pause: &mut P,
     room: &mut Room,
 ) -> (BusPass<B>, End)
-    requires holds { Holds (passes_shown pass) (gates_shown buses.now) (four_of conns) role }
-    ensures did { SessionDid (origins B.Bus (firsts_shown buses.now)) L.stands L.receives L.sends (ClockedAs role C.tells clock.old clock.new) (C.told clock.new) role (four_of conns) (passes_shown pass) link.old (link_shown L.left L.peers L.receive_faults L.send_faults link.old)
-        result.1 (passes_shown result.0) link.new (link_shown L.left L.peers L.receive_faults L.send_faults link.new) }
+    requires holds { FleetHolds (passes_shown pass) (gates_shown worker.now.buses.now) (four_of worker.now.conns) worker.now.role }
+    ensures did { SessionDid (origins B.Bus (firsts_shown worker.now.buses.now)) L.Link (ClockedAs worker.now.role C.tells clock.old clock.new) (C.told clock.new) worker.now.role (four_of worker.now.conns) (record { passes = passes_shown pass; link = link.old })
+        result.1 (record { passes = passes_shown result.0; link = link.new }) }
     ensures went { Went L.receives L.sends link.old link.new }
     ensures told { C.told clock.old ≤ C.told clock.new }
 {
-    headline_law();
+    claims_law();
     owned_law();
     given_once_law();
     let mut held = Some(pass);
     let server = Many {
-        rt,
-        buses,
+        worker,
         held: &mut held,
-        conns,
-        role,
         clock,
         pause,
     };
-    let (_, end) = room.answer(rt, server, link);
+    let (_, end) = room.answer(worker.rt, server, link);
     let Some(pass) = held else { unreachable!() };
-    (leave_all(rt, buses, pass, &conns), end)
+    (leave_all(worker.rt, worker.buses, pass, &worker.conns), end)
 }
 
 /// The session of core connections, one of each bus in their order: it reads records from the link, has each whole one answered by its
@@ -72,13 +66,19 @@ pub fn many_session<R: Wait, B: Bus, L: Link, C: Clock, P: Pause>(
     pause: &mut P,
     room: &mut Room,
 ) -> (BusPass<B>, End)
-    requires holds { Holds (passes_shown pass) (gates_shown buses.now) (four_of conns) role.Core }
-    ensures did { SessionDid (origins B.Bus (firsts_shown buses.now)) L.stands L.receives L.sends (Clocked C.tells clock.old clock.new) (C.told clock.new) role.Core (four_of conns) (passes_shown pass) link.old (link_shown L.left L.peers L.receive_faults L.send_faults link.old)
-        result.1 (passes_shown result.0) link.new (link_shown L.left L.peers L.receive_faults L.send_faults link.new) }
+    requires holds { FleetHolds (passes_shown pass) (gates_shown buses.now) (four_of conns) role.Core }
+    ensures did { SessionDid (origins B.Bus (firsts_shown buses.now)) L.Link (Clocked C.tells clock.old clock.new) (C.told clock.new) role.Core (four_of conns) (record { passes = passes_shown pass; link = link.old })
+        result.1 (record { passes = passes_shown result.0; link = link.new }) }
     ensures went { Went L.receives L.sends link.old link.new }
     ensures told { C.told clock.old ≤ C.told clock.new }
 {
-    run_session(rt, buses, pass, conns, Role::Core, link, clock, pause, room)
+    let worker = FleetWorker {
+        rt,
+        buses,
+        conns,
+        role: Role::Core,
+    };
+    run_session(&worker, pass, link, clock, pause, room)
 }
 
 /// The session of abort connections, one of each bus, which waits for nobody but its turns: a device_abort goes to the bus of its link.
@@ -90,20 +90,23 @@ pub fn many_abort<R: Wait, B: Bus, L: Link>(
     link: &mut L,
     room: &mut Room,
 ) -> (BusPass<B>, End)
-    requires holds { Holds (passes_shown pass) (gates_shown buses.now) (four_of conns) role.Abort }
-    ensures did { SessionDid (origins B.Bus (firsts_shown buses.now)) L.stands L.receives L.sends unclocked 0 role.Abort (four_of conns) (passes_shown pass) link.old (link_shown L.left L.peers L.receive_faults L.send_faults link.old)
-        result.1 (passes_shown result.0) link.new (link_shown L.left L.peers L.receive_faults L.send_faults link.new) }
+    requires holds { FleetHolds (passes_shown pass) (gates_shown buses.now) (four_of conns) role.Abort }
+    ensures did { SessionDid (origins B.Bus (firsts_shown buses.now)) L.Link unclocked 0 role.Abort (four_of conns) (record { passes = passes_shown pass; link = link.old })
+        result.1 (record { passes = passes_shown result.0; link = link.new }) }
     ensures went { Went L.receives L.sends link.old link.new }
 {
-    run_session(
+    let worker = FleetWorker {
         rt,
         buses,
-        pass,
         conns,
-        Role::Abort,
+        role: Role::Abort,
+    };
+    run_session(
+        &worker,
+        pass,
         link,
-        &mut Still::new(),
-        &mut Still::new(),
+        &mut NoTools::new(),
+        &mut NoTools::new(),
         room,
     )
 }

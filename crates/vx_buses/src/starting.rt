@@ -1,9 +1,9 @@
 //! The gateways of the program as they start: each over a simulated bus with one instrument.
 ghost use Rattle.std.specs.Prelude.{◌≡◌, ◌<◌, ◌+◌, ◌++◌, ◌∷◌, [], length, map, IfSome, OnSome};
 ghost use Rattle.std.specs.List.{All};
-ghost use Rattle.vx_gates.specs.Four.{Each, listed};
-ghost use Rattle.vx_gates.specs.Passing.{passes_shown, IsFirst};
-ghost use Rattle.vx_gates.specs.Standing.{gates_shown, firsts_shown};
+ghost use Rattle.vx_buses.specs.Four.{Each, listed};
+ghost use Rattle.vx_buses.specs.Passing.{passes_shown, IsFirst};
+ghost use Rattle.vx_buses.specs.Standing.{gates_shown, firsts_shown};
 ghost use Rattle.vx_lone.specs.Lone.{handed, IsOneOf};
 ghost use Rattle.vx_sim.specs.Occupants.{handed_in};
 ghost use Rattle.vx_buses.specs.Starting.{IsFurnished, AreFurnished, AddsCore};

@@ -1,11 +1,12 @@
 -- The tests of two errors and of two replies answer true exactly where they are one. A crate above calls reply_laws.
-use Rattle.std.proofs.Common.{◌≡◌, ℕ, true, ◌&&◌, refl, sym, ◌∙◌, ap}
+pub mod TargetClauses
+use Rattle.std.proofs.Common.{◌≡◌, ◌<◌, ◌^◌, ℕ, true, ◌&&◌, refl, sym, ◌∙◌, ap, arith}
 use Rattle.std.specs.Prelude.{◌==◌, if◌then◌else◌}
 use Rattle.std.proofs.lemmas.Bool.{false≢true, and_parts}
 use Rattle.std.specs.Str.{bytes_eq}
 use Rattle.std.proofs.lemmas.Bool.Decides.{Decides-eqb}
 use Rattle.std.proofs.lemmas.Slice.Eq.{bytes_eq-Decides}
-use Rattle.vx_lemmas.specs.Conditions.{eqb-self, self_bytes}
+use Rattle.vx_lemmas.proofs.Laws.Conditions.{eqb-self, self_bytes}
 use Rattle.vx_calls.specs.declared.codes.ErrorCode.{ErrorCode}
 use Rattle.vx_calls.specs.declared.codes.ErrorCode.TheVariants as code
 use Rattle.vx_calls.specs.ErrorCode.{error_number, same_error}
@@ -53,6 +54,11 @@ same_number a b e = sym (error_of-number a) ∙ ap error_of e ∙ error_of-numbe
 
 same : (m n : ℕ) → (m == n) ≡ true → m ≡ n
 same m n e = (Decides-eqb m n).0 e
+
+-- the number of each error fits a word
+pub number-small : (e : ErrorCode) → error_number e < 2 ^ 32
+number-small code.Ok = omega arith
+number-small _ = omega arith
 
 -- no two errors are the same but those that are one
 pub same_error-is : (a b : ErrorCode) → same_error a b ≡ true → a ≡ b

@@ -1,29 +1,22 @@
 -- What is answered of a trace that its source tells.
-use Rattle.std.proofs.Common.{◌≡◌, ℕ, ◌<◌, ◌≤◌, ◌⊎◌, inl, inr, List, ◌++◌, length, take, Option, Some, None, ap, ◌∙◌, subst, arith, length-append}
+use Rattle.std.proofs.Common.{◌≡◌, ℕ, ◌<◌, ◌≤◌, ◌⊎◌, inl, inr, List, length, take, Option, Some, None, ap, ◌∙◌, subst, arith}
 use Rattle.std.specs.Option.{IfSome}
 use Rattle.std.specs.Io.KnownBytes.{Consumes}
 use Rattle.std.proofs.lemmas.List.{take-append-le}
 use Rattle.vx_text.specs.Ends.{End}
 use Rattle.vx_text.specs.Reading.{GivesAll, GivesTooMuch}
+use Rattle.vx_text.proofs.Laws.Moved.{gives_within}
 use Rattle.vx_history.specs.declared.cause.Cause.{Cause}
-use Rattle.vx_check.specs.declared.run.Status.{Status}
-use Rattle.vx_check.specs.declared.run.Status.TheVariants as status
-use Rattle.vx_history.specs.History.{History, Lawful, Faulty, Walk, Through, Stops, Tells, Begins}
+use Rattle.vx_check.specs.declared.run.CheckStatus.{CheckStatus}
+use Rattle.vx_check.specs.declared.run.CheckStatus.TheVariants as status
+use Rattle.vx_history.specs.History.{History, Lawful, Faulty, Walk, Through, Stops, TraceTells, TraceBegins}
 use Rattle.vx_history.specs.Laws.{OneHistoryLaw, OneFrontLaw}
-use Rattle.vx_check.specs.Outcome.{Ends, Wrote, ReadsSpoiled, ReadsFront, IsOutcome, EndsSo, status_number, spoiled_line}
-use Rattle.vx_check.specs.Verdicts.{IsUndisturbed, RanOut, IsAnswered, Completes, IsFrontAnswered, CompletesLong, EndsFormed}
+use Rattle.vx_check.specs.Outcome.{CheckEnds, Wrote, ReadsSpoiled, ReadsFront, IsOutcome, CheckEndsSo, check_status_number, spoiled_line}
+use Rattle.vx_check.specs.Verdicts.{IsUndisturbed, RanOut, IsCheckAnswered, Completes, IsFrontAnswered, CompletesLong, EndsFormed}
 use Rattle.vx_history.specs.declared.limits.TheConstants.{TRACE_MAX}
 use Rattle.vx_history.specs.Formed.{run_trace, told_events, FormedLaw}
 
 -- ---- what a source gave that tells its bytes
-
--- no more than them
-gave-less : (after : Option (List ℕ)) (all bytes : List ℕ) → Consumes (Some all) after bytes → length bytes ≤ length all
-gave-less None all bytes h = absurd h
-gave-less (Some rest) all bytes h =
-    let whole : length all ≡ length (bytes ++ rest) = ap length h in
-    let both = length-append bytes rest in
-    omega (arith, whole, both)
 
 -- a front of them
 gave-front : (most : ℕ) (after : Option (List ℕ)) (all bytes : List ℕ) → Consumes (Some all) after bytes → most < length bytes → take most all ≡ take most bytes
@@ -37,7 +30,7 @@ gave-all most before after all bytes told read = subst (λ (o : Option (List ℕ
 -- too much only where there is too much
 not-much : (most : ℕ) (before after : End) (all bytes : List ℕ) → before.bytes ≡ Some all → length all ≤ most → GivesTooMuch most before after bytes → ⊥
 not-much most before after all bytes told few read =
-    let less = gave-less after.bytes all bytes (subst (λ o. Consumes o after.bytes bytes) told read.given) in
+    let less = gives_within after.bytes all bytes (subst (λ o. Consumes o after.bytes bytes) told read.given) in
     let above = read.above in
     absurd (omega (arith, less, above, few))
 
@@ -51,24 +44,24 @@ not-whole most before after all bytes told above read =
 -- ---- how a check ends
 
 -- a trace that isn't too long tells one thing, and that is answered
-pub completes : OneHistoryLaw → (most : ℕ) (words : List (List ℕ)) (ends : Ends) (number : ℕ) → EndsSo most words ends number → Completes most words ends number
+pub completes : OneHistoryLaw → (most : ℕ) (words : List (List ℕ)) (ends : CheckEnds) (number : ℕ) → CheckEndsSo most words ends number → Completes most words ends number
 completes one most words ends number (how, is, outcome) bytes told calm few tells = by how is outcome where
-  same : (read : List ℕ) (other : History) → GivesAll most ends.source ends.source_after read → Tells read other → other ≡ told
+  same : (read : List ℕ) (other : History) → GivesAll most ends.source ends.source_after read → TraceTells read other → other ≡ told
   same read other all others =
-      one read other told others (subst (λ b. Tells b told) (gave-all most ends.source ends.source_after bytes read calm.told all) tells)
+      one read other told others (subst (λ b. TraceTells b told) (gave-all most ends.source ends.source_after bytes read calm.told all) tells)
 
-  answered : (other : History) → other ≡ told → IsAnswered ends number other → RanOut ends number ⊎ IsAnswered ends number told
-  answered other e so = inr (subst (IsAnswered ends number) e so)
+  answered : (other : History) → other ≡ told → IsCheckAnswered ends number other → RanOut ends number ⊎ IsCheckAnswered ends number told
+  answered other e so = inr (subst (IsCheckAnswered ends number) e so)
 
   never : (read : List ℕ) → GivesTooMuch most ends.source ends.source_after read → ⊥
   never read much = not-much most ends.source ends.source_after bytes read calm.told few much
 
-  spoiled : (line : ℕ) (why : Cause) → number ≡ status_number status.Spoiled → Wrote ends (spoiled_line line why)
-      → ReadsSpoiled most ends line why ⊎ ReadsFront most ends line why → RanOut ends number ⊎ IsAnswered ends number told
+  spoiled : (line : ℕ) (why : Cause) → number ≡ check_status_number status.Spoiled → Wrote ends (spoiled_line line why)
+      → ReadsSpoiled most ends line why ⊎ ReadsFront most ends line why → RanOut ends number ⊎ IsCheckAnswered ends number told
   spoiled line why e wrote (inl r) = answered (Faulty line why) (same r.bytes (Faulty line why) r.read r.tells) (e, wrote)
   spoiled line why e wrote (inr r) = absurd (never r.bytes r.read)
 
-  by : (how : Status) → number ≡ status_number how → IsOutcome most words ends how → RanOut ends number ⊎ IsAnswered ends number told
+  by : (how : CheckStatus) → number ≡ check_status_number how → IsOutcome most words ends how → RanOut ends number ⊎ IsCheckAnswered ends number told
   by status.Legal e (r, wrote) = answered (Lawful r.events) (same r.bytes (Lawful r.events) r.read r.tells) (e, r.legal, wrote)
   by status.Usage e h = absurd (h.0.some calm.no_words)
   by status.SourceFailed e h = absurd (calm.source_good h.1)
@@ -81,12 +74,12 @@ completes one most words ends number (how, is, outcome) bytes told calm few tell
   by status.TooLong e h = absurd (never h.0.bytes h.0.read)
 
 -- the front of one that is too long tells one thing, and that is answered
-pub completes-long : OneFrontLaw → (most : ℕ) (words : List (List ℕ)) (ends : Ends) (number : ℕ) → EndsSo most words ends number → CompletesLong most words ends number
+pub completes-long : OneFrontLaw → (most : ℕ) (words : List (List ℕ)) (ends : CheckEnds) (number : ℕ) → CheckEndsSo most words ends number → CompletesLong most words ends number
 completes-long one most words ends number (how, is, outcome) bytes far calm above begins = by how is outcome where
-  same : (read : List ℕ) (other : Walk) → GivesTooMuch most ends.source ends.source_after read → Begins (take most read) other → other ≡ far
+  same : (read : List ℕ) (other : Walk) → GivesTooMuch most ends.source ends.source_after read → TraceBegins (take most read) other → other ≡ far
   same read other much others =
       let given = subst (λ o. Consumes o ends.source_after.bytes read) calm.told much.given in
-      one (take most read) other far others (subst (λ b. Begins b far) (gave-front most ends.source_after.bytes bytes read given much.above) begins)
+      one (take most read) other far others (subst (λ b. TraceBegins b far) (gave-front most ends.source_after.bytes bytes read given much.above) begins)
 
   answered : (other : Walk) → other ≡ far → IsFrontAnswered ends number other → RanOut ends number ⊎ IsFrontAnswered ends number far
   answered other e so = inr (subst (IsFrontAnswered ends number) e so)
@@ -94,12 +87,12 @@ completes-long one most words ends number (how, is, outcome) bytes far calm abov
   never : (read : List ℕ) → GivesAll most ends.source ends.source_after read → ⊥
   never read all = not-whole most ends.source ends.source_after bytes read calm.told above all
 
-  spoiled : (line : ℕ) (why : Cause) → number ≡ status_number status.Spoiled → Wrote ends (spoiled_line line why)
+  spoiled : (line : ℕ) (why : Cause) → number ≡ check_status_number status.Spoiled → Wrote ends (spoiled_line line why)
       → ReadsSpoiled most ends line why ⊎ ReadsFront most ends line why → RanOut ends number ⊎ IsFrontAnswered ends number far
   spoiled line why e wrote (inl r) = absurd (never r.bytes r.read)
   spoiled line why e wrote (inr r) = answered (Stops line why) (same r.bytes (Stops line why) r.read r.begins) (e, wrote)
 
-  by : (how : Status) → number ≡ status_number how → IsOutcome most words ends how → RanOut ends number ⊎ IsFrontAnswered ends number far
+  by : (how : CheckStatus) → number ≡ check_status_number how → IsOutcome most words ends how → RanOut ends number ⊎ IsFrontAnswered ends number far
   by status.Legal e (r, wrote) = absurd (never r.bytes r.read)
   by status.Usage e h = absurd (h.0.some calm.no_words)
   by status.SourceFailed e h = absurd (calm.source_good h.1)
@@ -112,13 +105,13 @@ completes-long one most words ends number (how, is, outcome) bytes far calm abov
   by status.TooLong e (r, wrote) = answered (Through r.events r.after) (same r.bytes (Through r.events r.after) r.read r.begins) (e, wrote)
 
 -- where the trace of a formed run is given, a check ends with `legal`, or for want of memory
-pub formed-ends : FormedLaw → OneHistoryLaw → (words : List (List ℕ)) (ends : Ends) (number : ℕ) → EndsSo TRACE_MAX words ends number → EndsFormed words ends number
+pub formed-ends : FormedLaw → OneHistoryLaw → (words : List (List ℕ)) (ends : CheckEnds) (number : ℕ) → CheckEndsSo TRACE_MAX words ends number → EndsFormed words ends number
 formed-ends law one words ends number so r =
     by (completes one TRACE_MAX words ends number so (run_trace r.items) (Lawful (told_events r.items)) calm r.few (law r.items r.formed r.printable))
   where
     calm : IsUndisturbed words ends (run_trace r.items)
     calm = record { no_words = r.no_words; told = r.given; source_good = r.read_well; sink_good = r.written_well }
 
-    by : RanOut ends number ⊎ IsAnswered ends number (Lawful (told_events r.items)) → (number ≡ 0) ⊎ (number ≡ 5)
+    by : RanOut ends number ⊎ IsCheckAnswered ends number (Lawful (told_events r.items)) → (number ≡ 0) ⊎ (number ≡ 5)
     by (inl lacking) = inr lacking.0
     by (inr legal) = inl legal.0

@@ -3,7 +3,7 @@ pub mod Telling
 pub mod Verdicts
 pub use Rattle.vx_rules.specs.Legal
 pub use Rattle.vx_flow.specs.Event
-pub use Rattle.vx_flow.specs.Gather
+pub use Rattle.vx_flow.specs.Linearization
 pub use Rattle.vx_history.specs.CheckState
 pub use Rattle.vx_history.specs.Formed
 pub use Rattle.vx_history.specs.History

@@ -1,25 +1,25 @@
 //! A whole check: the words, the trace, its lines, the line that is printed, and the status.
-ghost use Rattle.std.specs.Prelude.{◌≡◌, ℕ, List, ◌+◌, ◌<◌, ◌^◌, ◌≤◌, ◌++◌, length, map, take, string_bytes};
+ghost use Rattle.std.specs.Prelude.{◌≡◌, ℕ, List, ◌+◌, ◌<◌, ◌^◌, ◌≤◌, length, map, string_bytes};
+ghost use Rattle.vx_text.specs.Ends.{source_shown, sink_shown};
 ghost use Rattle.vx_text.specs.Reading.{GivesUpTo};
 ghost use Rattle.vx_text.specs.TextLines.{lines};
 ghost use Rattle.vx_history.specs.Shown.{whole_lines};
 ghost use Rattle.vx_history.specs.declared.limits.TheConstants.{TRACE_MAX};
-ghost use Rattle.vx_check.specs.Outcome.{EndsSo, IsOutcome, cause_name, status_number, spoiled_line};
+ghost use Rattle.vx_check.specs.Outcome.{CheckEndsSo, IsOutcome, cause_name, check_status_number, spoiled_line};
 ghost use Rattle.vx_check.specs.Verdicts.{Completes, CompletesLong, EndsFormed};
-ghost use Rattle.vx_check.specs.Telling.{PutsLine, IsJudged, IsFrontJudged, IsTold, verdict_of};
+ghost use Rattle.vx_check.specs.Telling.{CheckPutsLine, IsJudged, IsFrontJudged, IsCheckTold, verdict_of};
 
-use itoa::Buffer;
 use std::alloc::Global;
 use vx_history::{
     Cause, Far, TRACE_MAX, Trace, end_lines, formed_runs, lawful_histories, one_history,
     read_trace, walk,
 };
 use vx_io_traits::{Sink, Source};
-use vx_text::put_all;
+use vx_text::{put_all, put_number, put_text};
 
 /// How a check ended, as the program's exit status tells it.
 #[derive(Clone, Copy, PartialEq, Eq)]
-pub(crate) enum Status {
+pub(crate) enum CheckStatus {
     /// 0: the trace's history is legal.
     Legal,
     /// 1: there are words.
@@ -36,19 +36,19 @@ pub(crate) enum Status {
     TooLong,
 }
 
-impl Status {
+impl CheckStatus {
     /// The exit status.
     fn number(self) -> u8
-        ensures { result ≡ status_number self }
+        ensures { result ≡ check_status_number self }
     {
         match self {
-            Status::Legal => 0,
-            Status::Usage => 1,
-            Status::SourceFailed => 2,
-            Status::Spoiled => 3,
-            Status::SinkFailed => 4,
-            Status::NoMemory => 5,
-            Status::TooLong => 6,
+            CheckStatus::Legal => 0,
+            CheckStatus::Usage => 1,
+            CheckStatus::SourceFailed => 2,
+            CheckStatus::Spoiled => 3,
+            CheckStatus::SinkFailed => 4,
+            CheckStatus::NoMemory => 5,
+            CheckStatus::TooLong => 6,
         }
     }
 }
@@ -78,40 +78,26 @@ fn word_of(cause: Cause) -> &'static [u8]
     }
 }
 
-/// Writes a piece behind the first `at` bytes of `text`, and answers where it ends.
-fn put_piece(piece: &[u8], at: usize, text: &mut [u8]) -> usize
-    requires { at + length piece.now ≤ length text.old }
-    ensures text { take result text.new ≡ take at text.old ++ piece.now }
-    ensures end { result ≡ at + length piece.now }
-    ensures len { length text.new ≡ length text.old }
-{
-    let end = at + piece.len();
-    text[at..end].copy_from_slice(piece);
-    end
-}
-
 /// The line that names a line and its cause, at the front of the room.
 fn spoiled_line(line: u64, cause: Cause, room: &mut [u8; LINE_ROOM]) -> &[u8]
     ensures { result.now ≡ spoiled_line line cause }
 {
-    let mut buffer = Buffer::new();
-    let end = put_piece(b"line ", 0, room);
-    let end = put_piece(buffer.format(line).as_bytes(), end, room);
-    let end = put_piece(b" ", end, room);
-    let end = put_piece(word_of(cause), end, room);
-    let end = put_piece(b"\n", end, room);
+    let end = put_text(room, 0, b"line ");
+    let end = put_number(room, end, line);
+    let end = put_text(room, end, b" ");
+    let end = put_text(room, end, word_of(cause));
+    let end = put_text(room, end, b"\n");
     &room[..end]
 }
 
 /// Writes the line of a check that ends so.
-fn put_line<K: Sink>(sink: &mut K, line: &[u8], how: Status) -> Status
-    ensures { PutsLine how line.now
-        (record { bytes = K.taken sink.old; faults = K.faults sink.old })
-        (record { bytes = K.taken sink.new; faults = K.faults sink.new }) result }
+fn put_line<K: Sink>(sink: &mut K, line: &[u8], how: CheckStatus) -> CheckStatus
+    ensures { CheckPutsLine how line.now
+        (sink_shown K.Sink sink.old) (sink_shown K.Sink sink.new) result }
 {
     match put_all(sink, line) {
         Ok(()) => how,
-        Err(_) => Status::SinkFailed,
+        Err(_) => CheckStatus::SinkFailed,
     }
 }
 
@@ -164,19 +150,22 @@ fn judge_front(alloc: Global, trace: &[u8], most: usize) -> Verdict
 }
 
 /// Prints what a trace is.
-fn tell<K: Sink>(sink: &mut K, verdict: Verdict) -> Status
-    ensures { IsTold verdict
-        (record { bytes = K.taken sink.old; faults = K.faults sink.old })
-        (record { bytes = K.taken sink.new; faults = K.faults sink.new }) result }
+fn tell<K: Sink>(sink: &mut K, verdict: Verdict) -> CheckStatus
+    ensures { IsCheckTold verdict
+        (sink_shown K.Sink sink.old) (sink_shown K.Sink sink.new) result }
 {
     match verdict {
-        Verdict::Legal => put_line(sink, b"legal\n", Status::Legal),
+        Verdict::Legal => put_line(sink, b"legal\n", CheckStatus::Legal),
         Verdict::Spoiled { line, cause } => {
             let mut room = [0; LINE_ROOM];
-            put_line(sink, spoiled_line(line, cause, &mut room), Status::Spoiled)
+            put_line(
+                sink,
+                spoiled_line(line, cause, &mut room),
+                CheckStatus::Spoiled,
+            )
         }
-        Verdict::TooLong => put_line(sink, b"long\n", Status::TooLong),
-        Verdict::NoMemory => Status::NoMemory,
+        Verdict::TooLong => put_line(sink, b"long\n", CheckStatus::TooLong),
+        Verdict::NoMemory => CheckStatus::NoMemory,
     }
 }
 
@@ -187,23 +176,23 @@ fn check<S: Source, K: Sink>(
     source: &mut S,
     sink: &mut K,
     most: usize,
-) -> Status
+) -> CheckStatus
     requires { most ≤ TRACE_MAX }
     ensures outcome { IsOutcome most (map string_bytes words.now) (record {
-      source = record { bytes = S.left source.old; faults = S.faults source.old };
-      source_after = record { bytes = S.left source.new; faults = S.faults source.new };
-      sink = record { bytes = K.taken sink.old; faults = K.faults sink.old };
-      sink_after = record { bytes = K.taken sink.new; faults = K.faults sink.new };
+      source = source_shown S.Source source.old;
+      source_after = source_shown S.Source source.new;
+      sink = sink_shown K.Sink sink.old;
+      sink_after = sink_shown K.Sink sink.new;
     }) result }
 {
     if !words.is_empty() {
-        return put_line(sink, b"usage: vxcheck\n", Status::Usage);
+        return put_line(sink, b"usage: vxcheck\n", CheckStatus::Usage);
     }
     match read_trace(alloc, source, most) {
         Trace::Whole(trace) => tell(sink, judge_whole(alloc, trace)),
         Trace::Longer(trace) => tell(sink, judge_front(alloc, &trace, most)),
-        Trace::Failed => Status::SourceFailed,
-        Trace::NoMemory => Status::NoMemory,
+        Trace::Failed => CheckStatus::SourceFailed,
+        Trace::NoMemory => CheckStatus::NoMemory,
     }
 }
 
@@ -216,11 +205,11 @@ pub fn check_up_to<S: Source, K: Sink>(
     most: usize,
 ) -> u8
     requires { most ≤ TRACE_MAX }
-    ensures outcome { EndsSo most (map string_bytes words.now) (record {
-      source = record { bytes = S.left source.old; faults = S.faults source.old };
-      source_after = record { bytes = S.left source.new; faults = S.faults source.new };
-      sink = record { bytes = K.taken sink.old; faults = K.faults sink.old };
-      sink_after = record { bytes = K.taken sink.new; faults = K.faults sink.new };
+    ensures outcome { CheckEndsSo most (map string_bytes words.now) (record {
+      source = source_shown S.Source source.old;
+      source_after = source_shown S.Source source.new;
+      sink = sink_shown K.Sink sink.old;
+      sink_after = sink_shown K.Sink sink.new;
     }) result }
 {
     check(alloc, words, source, sink, most).number()
@@ -230,7 +219,7 @@ pub fn check_up_to<S: Source, K: Sink>(
 /// trace tells is one of the gateway of one thread, and answers the exit status.
 ///
 /// - 0, `legal`: each line tells what can happen at its place, the first is `vxtrace 2` and the last is `done`; the events of the lines
-///   gather to a legal history.
+///   linearize to a legal history.
 /// - 1, `usage: vxcheck`: there are words; the source isn't read.
 /// - 2, nothing printed: the source failed.
 /// - 3, `line N CAUSE`: this line, counted from 1, is the first that has a cause against it: `form`, version 2 has no such line;
@@ -245,43 +234,42 @@ pub fn check_run<S: Source, K: Sink>(
     source: &mut S,
     sink: &mut K,
 ) -> u8
-    ensures outcome { EndsSo TRACE_MAX (map string_bytes words.now) (record {
-      source = record { bytes = S.left source.old; faults = S.faults source.old };
-      source_after = record { bytes = S.left source.new; faults = S.faults source.new };
-      sink = record { bytes = K.taken sink.old; faults = K.faults sink.old };
-      sink_after = record { bytes = K.taken sink.new; faults = K.faults sink.new };
+    ensures outcome { CheckEndsSo TRACE_MAX (map string_bytes words.now) (record {
+      source = source_shown S.Source source.old;
+      source_after = source_shown S.Source source.new;
+      sink = sink_shown K.Sink sink.old;
+      sink_after = sink_shown K.Sink sink.new;
     }) result }
 
     // Whatever comes of it, no more than 1,073,741,825 bytes are read.
     ensures read { GivesUpTo (TRACE_MAX + 1)
-        (record { bytes = S.left source.old; faults = S.faults source.old })
-        (record { bytes = S.left source.new; faults = S.faults source.new }) }
+        (source_shown S.Source source.old) (source_shown S.Source source.new) }
 
     // The other direction: where there are no words, the source tells its bytes and neither count of faults rose, a trace that tells a
     // legal history is answered with 0, one that tells its first line with a cause with 3 and that line; or it is 5.
     ensures complete { Completes TRACE_MAX (map string_bytes words.now) (record {
-      source = record { bytes = S.left source.old; faults = S.faults source.old };
-      source_after = record { bytes = S.left source.new; faults = S.faults source.new };
-      sink = record { bytes = K.taken sink.old; faults = K.faults sink.old };
-      sink_after = record { bytes = K.taken sink.new; faults = K.faults sink.new };
+      source = source_shown S.Source source.old;
+      source_after = source_shown S.Source source.new;
+      sink = sink_shown K.Sink sink.old;
+      sink_after = sink_shown K.Sink sink.new;
     }) result }
 
     // The same of a longer one: 3 and the first line with a cause among those that end within its first 1,073,741,824 bytes, else 6;
     // or it is 5.
     ensures complete_long { CompletesLong TRACE_MAX (map string_bytes words.now) (record {
-      source = record { bytes = S.left source.old; faults = S.faults source.old };
-      source_after = record { bytes = S.left source.new; faults = S.faults source.new };
-      sink = record { bytes = K.taken sink.old; faults = K.faults sink.old };
-      sink_after = record { bytes = K.taken sink.new; faults = K.faults sink.new };
+      source = source_shown S.Source source.old;
+      source_after = source_shown S.Source source.new;
+      sink = sink_shown K.Sink sink.old;
+      sink_after = sink_shown K.Sink sink.new;
     }) result }
 
     // Where there are no words, the source gives the trace of a formed run, which isn't too long, and neither count of faults rose, the
     // status is 0 or 5.
     ensures formed { EndsFormed (map string_bytes words.now) (record {
-      source = record { bytes = S.left source.old; faults = S.faults source.old };
-      source_after = record { bytes = S.left source.new; faults = S.faults source.new };
-      sink = record { bytes = K.taken sink.old; faults = K.faults sink.old };
-      sink_after = record { bytes = K.taken sink.new; faults = K.faults sink.new };
+      source = source_shown S.Source source.old;
+      source_after = source_shown S.Source source.new;
+      sink = sink_shown K.Sink sink.old;
+      sink_after = sink_shown K.Sink sink.new;
     }) result }
 {
     formed_runs();

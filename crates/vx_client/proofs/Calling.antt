@@ -2,8 +2,9 @@
 use Rattle.std.proofs.Common.{◌≡◌, ℕ, ◌≤◌, ◌+◌, true, false, List, [], ◌++◌, Option, length, Result, Ok, Err, is_err, refl, ap, sym, subst, ◌∙◌, append-nil}
 use Rattle.std.specs.Io.KnownBytes.{Keeps}
 use Rattle.std.proofs.KnownBytes.{Consumes-trans}
-use Rattle.vx_lemmas.specs.Options.{keeps-consumes}
-use Rattle.vx_io_traits.specs.Stands.{Goes, Goes-goes}
+use Rattle.vx_lemmas.proofs.Laws.Options.{keeps-consumes}
+use Rattle.vx_io_traits.specs.Stands.{Goes}
+use Rattle.vx_io_traits.proofs.Laws.Goings.{Goes-goes}
 use Rattle.vx_calls.specs.declared.limits.TheConstants.{REPLY_MAX}
 use Rattle.vx_calls.specs.Call.{Call}
 use Rattle.vx_codec.specs.Answered.{Outcome}
@@ -13,14 +14,14 @@ use Rattle.vx_client.specs.Meaning.{Meaning, Done, Failed, Refused, Bad, meaning
 use Rattle.vx_client.specs.Settled.{answer_of, settled_of, written}
 use Rattle.vx_client.specs.Stream.{IsReply}
 use Rattle.vx_client.specs.Inbox.{InboxState, Gave, last_at, last_of}
-use Rattle.vx_client.specs.Exchange.{Exchange, Idle, Unsent, Unread, Ended, TooLong, Replied, Asks, IsSent, StopsIn, IsCalled, result_of}
+use Rattle.vx_client.specs.Exchange.{Exchange, Idle, Unsent, Unread, Ended, TooLong, Replied, ClientAsks, IsClientSent, StopsIn, IsCalled, result_of}
 use Rattle.vx_client.specs.Swapped.{Swaps, IsSwapped, returned_by, settled_bad}
 use Rattle.vx_client.specs.Calls.{IsFilled}
 use Rattle.vx_client.specs.declared.answers.ClientErr.{ClientErr}
 use Rattle.vx_client.specs.declared.answers.ClientErr.TheVariants as err
 use Rattle.vx_client.specs.declared.settling.Answer.{Answer}
 use Rattle.vx_client.specs.declared.settling.Settled.{Settled}
-use Rattle.vx_client.proofs.Meanings.{returned-settled}
+use Rattle.vx_client.proofs.Laws.Meanings.{returned-settled}
 
 -- the client after an exchange, by what that left in the inbox
 pub record Follows {L : Type 0} (receives sends : L → ℕ) (old new : ClientState L) (s : InboxState) : Type 0 where
@@ -34,7 +35,7 @@ pub record Follows {L : Type 0} (receives sends : L → ℕ) (old new : ClientSt
 -- what was swapped is what a call asked
 asks-swapped : {L : Type 0} (stands : L → List ℕ → List ℕ → Type 0) (left : L → Option (List ℕ)) (old new : ClientState L) (call : Call)
     (Came Came' : List ℕ → List ℕ → Type 0) → ((stream got : List ℕ) → Came stream got → Came' stream got)
-    → Swaps stands left old.link new.link old.kept (call_record old.next call) Came → Asks stands left old new call Came'
+    → Swaps stands left old.link new.link old.kept (call_record old.next call) Came → ClientAsks stands left old new call Came'
 asks-swapped stands left old new call Came Came' same swap = record { got = swap.got; moved = swap.moved; came = same (old.kept ++ swap.got) swap.got swap.came }
 
 -- an exchange without a reply is a call that leaves the client spent
@@ -188,13 +189,13 @@ called-error stands left receives sends old new call room view other e result ca
 
 -- a sending that answered no error is whole
 pub sent-ok : {L E : Type 0} (stands : L → List ℕ → List ℕ → Type 0) (sends : L → ℕ) (old new : L) (text : List ℕ) (r : Result (Unit {0}) E) → is_err r ≡ false
-    → IsSent stands sends old new text r → Goes stands old new text []
+    → IsClientSent stands sends old new text r → Goes stands old new text []
 sent-ok stands sends old new text (Ok done) h sent = sent
 sent-ok stands sends old new text (Err failed) h sent = absurd (cc)
 
 -- a sending that answered an error broke off
 pub sent-err : {L E : Type 0} (stands : L → List ℕ → List ℕ → Type 0) (sends : L → ℕ) (old new : L) (text sent_text : List ℕ) (r : Result (Unit {0}) E) → sent_text ≡ text
-    → is_err r ≡ true → IsSent stands sends old new sent_text r → StopsIn stands sends old new text
+    → is_err r ≡ true → IsClientSent stands sends old new sent_text r → StopsIn stands sends old new text
 sent-err stands sends old new text sent_text (Ok done) is h sent = absurd (cc)
 sent-err stands sends old new text sent_text (Err failed) is h sent = subst (StopsIn stands sends old new) is sent
 

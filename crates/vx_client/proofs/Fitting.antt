@@ -10,9 +10,9 @@ use Rattle.vx_client.specs.State.{ClientState}
 use Rattle.vx_client.specs.Meaning.{Meaning, Done, Failed, Refused, Bad, meaning, is_bad, returned, made_of, can_be, error_of}
 use Rattle.vx_client.specs.Exchange.{Exchange, Idle, Unsent, Unread, Ended, TooLong, Replied, Exchanged, IsCalled, result_of}
 use Rattle.vx_client.specs.Calls.{create}
-use Rattle.vx_client.specs.Chunks.{InTurn, IsWritten, WritesPiece, GoesOn, without_end}
+use Rattle.vx_client.specs.Chunks.{InTurn, IsWritten, WritesPiece, ClientGoesOn, without_end}
 use Rattle.vx_client.specs.Parts.{InParts, ReadsPart, behind}
-use Rattle.vx_client.specs.Asked.{Command, Query, Write, Read, Stb, Clear, Trigger}
+use Rattle.vx_client.specs.Asked.{ClientCommand, Query, Write, Read, Stb, Clear, Trigger}
 use Rattle.vx_client.specs.Gaining.{Gain, read_gain, ReadsAll, Behind, SendsLine, Performs, IsAnswer, result_shown}
 use Rattle.vx_client.specs.declared.answers.CallOpts.{CallOpts}
 use Rattle.vx_client.specs.declared.answers.LinkMade as declared
@@ -82,7 +82,7 @@ called_fit stands left receives sends old new c room view result fit called = re
 }
 
 turn_on : {S : Type 0} (fits : S → Type 0) (Ends : S → Result Unit ClientErr → Type 0) (mid new : S) (answer result : Result Unit ClientErr) (Next : Type 0)
-    → Ends mid answer → (answer ≡ Ok tt → Next → Ends new result) → GoesOn answer Next ((new ≡ mid) × (result ≡ answer)) → Ends new result
+    → Ends mid answer → (answer ≡ Ok tt → Next → Ends new result) → ClientGoesOn answer Next ((new ≡ mid) × (result ≡ answer)) → Ends new result
 turn_on fits Ends mid new (Ok tt) result Next here next h = next refl h
 turn_on fits Ends mid new (Err e) result Next here next h = subst (λ s. Ends s result) (sym h.0) (subst (Ends mid) (sym h.1) here)
 
@@ -144,7 +144,7 @@ line_answer stands left receives sends old new made line result Then fit next s 
 
 -- a command over a client that isn't spent doesn't answer that it is
 pub performs-answer : {L : Type 0} (stands : L → List ℕ → List ℕ → Type 0) (left : L → Option (List ℕ)) (receives sends : L → ℕ) (old new : ClientState L) (made : declared.LinkMade)
-    (command : Command) (result : Result Gain ClientErr) → old.spent ≡ false → Performs stands left receives sends old new made command result → IsAnswer result
+    (command : ClientCommand) (result : Result Gain ClientErr) → old.spent ≡ false → Performs stands left receives sends old new made command result → IsAnswer result
 performs-answer stands left receives sends old new made (Query text) result fit s =
     line_answer stands left receives sends old new made _ result _ fit (λ mid after reads. reads_answer stands left receives sends mid new made.lid result after reads) s
 performs-answer stands left receives sends old new made (Write text) result fit s =
@@ -184,11 +184,11 @@ made_takes_at lock lock_timeout room error lid abort_port max device can none =
 made_takes : (xid : ℕ) (lock : Bool) (lock_timeout room : ℕ) (device bytes : List ℕ) (o : Outcome) → meaning xid (create lock lock_timeout device) room bytes ≡ Done o → 1 ≤ (made_of o).max
 made_takes xid lock lock_timeout room device bytes o h =
     let c = create lock lock_timeout device in
-    let fine : Fine c room o = meaning-done xid c room bytes o h in
-    let is : IsMade o = made_data (row_at (results_of LinkMade) fine.text) o fine.answer in
+    let interleaved : Fine c room o = meaning-done xid c room bytes o h in
+    let is : IsMade o = made_data (row_at (results_of LinkMade) interleaved.text) o interleaved.answer in
     subst (λ k. 1 ≤ (made_of k).max) (sym is.whole_is)
     (made_takes_at lock lock_timeout room is.error is.lid is.abort_port is.max device
-    (subst (λ k. can_be c room k ≡ true) is.whole_is fine.can) (subst (λ k. (error_of k == 0) ≡ true) is.whole_is fine.error))
+    (subst (λ k. can_be c room k ≡ true) is.whole_is interleaved.can) (subst (λ k. (error_of k == 0) ≡ true) is.whole_is interleaved.error))
 
 returned_takes : (xid : ℕ) (lock : Bool) (lock_timeout room len : ℕ) (device bytes : List ℕ) (m : Meaning) (made : declared.LinkMade)
     → meaning xid (create lock lock_timeout device) room bytes ≡ m → returned made_of len m ≡ Ok made → 1 ≤ made.max

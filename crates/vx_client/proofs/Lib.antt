@@ -1,10 +1,8 @@
-pub mod Lengths
+pub mod Laws
 pub mod Sending
 pub mod Reading
-pub mod Meanings
 pub mod Calling
 pub mod Ending
-pub mod Chunks
 pub mod Parts
 pub mod Ports
 pub mod Fitting

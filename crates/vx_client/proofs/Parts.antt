@@ -13,7 +13,7 @@ use Rattle.vx_codec.specs.Asked.{proc_of}
 use Rattle.vx_codec.specs.Row.{Contents, row_at, whole}
 use Rattle.vx_codec.specs.Answered.{Outcome, answered, ReadData, results_of, outcome_of}
 use Rattle.vx_codec.specs.Answered as outcome
-use Rattle.vx_client.specs.Meaning.{Meaning, Done, Failed, Refused, Bad, can_be, error_of, len_of, reason_of, results_meaning, reply_says, meaning, returned}
+use Rattle.vx_client.specs.Meaning.{Meaning, Done, Failed, Refused, Bad, can_be, error_of, len_of, client_reason_of, results_meaning, reply_says, meaning, returned}
 use Rattle.vx_client.specs.Settled.{answer_of}
 use Rattle.vx_client.specs.Exchange.{Exchange, Idle, Unsent, Unread, Ended, TooLong, Replied, result_of}
 use Rattle.vx_client.specs.Parts.{InParts, MayEnd, behind}
@@ -79,7 +79,7 @@ read-data (Some ((error, (reason, (bytes, end))), b ∷ bs)) o h = absurd (cc)
 -- what a device_read that gave its results says
 pub record ReadSays (room request : ℕ) (o : Outcome) : Type 0 where
   pub within : len_of o ≤ room
-  pub some : reason_of o ≡ 0 → 0 < request → 0 < len_of o
+  pub some : client_reason_of o ≡ 0 → 0 < request → 0 < len_of o
 
 has-some : (error request reason len : ℕ) → (error == 0) ≡ true → (not (error == 0) || (request == 0) || not (reason == 0) || not (len == 0)) ≡ true
     → reason ≡ 0 → 0 < request → 0 < len
@@ -99,11 +99,11 @@ pub read-says : (xid lid request io_timeout lock_timeout flags term room : ℕ) 
     → meaning xid (call.Read lid request io_timeout lock_timeout flags term) room bytes ≡ Done o → ReadSays room request o
 read-says xid lid request io_timeout lock_timeout flags term room bytes o h =
     let c = call.Read lid request io_timeout lock_timeout flags term in
-    let fine : Fine c room o = meaning-done xid c room bytes o h in
-    let data' : IsReadData o = read-data (row_at (results_of ReadData) fine.text) o fine.answer in
+    let interleaved : Fine c room o = meaning-done xid c room bytes o h in
+    let data' : IsReadData o = read-data (row_at (results_of ReadData) interleaved.text) o interleaved.answer in
     subst (ReadSays room request) (sym data'.whole_is)
     (read_says-at lid request io_timeout lock_timeout flags term room data'.error data'.reason data'.bytes
-    (subst (λ k. can_be c room k ≡ true) data'.whole_is fine.can) (subst (λ k. (error_of k == 0) ≡ true) data'.whole_is fine.error))
+    (subst (λ k. can_be c room k ≡ true) data'.whole_is interleaved.can) (subst (λ k. (error_of k == 0) ≡ true) data'.whole_is interleaved.error))
 
 -- what a call that returned an Ok read
 pub record ReturnsDone (xid : ℕ) (c : Call) (room : ℕ) (a : Answer) : Type 0 where

@@ -6,7 +6,7 @@ use Rattle.std.specs.Result.{result_ok, OkIff}
 use Rattle.std.specs.Str.Parse.{digits_value, ParsesUnsigned}
 use Rattle.std.proofs.lemmas.Bool.{and_parts, le-leb, lt-leb, cases_lt}
 use Rattle.std.proofs.lemmas.Str.Parse.{parse_digits}
-use Rattle.vx_lemmas.specs.Decimal.{own}
+use Rattle.vx_lemmas.proofs.Laws.Decimal.{own}
 use Rattle.vx_calls.specs.Target.{is_digit}
 use Rattle.vx_client.specs.Asked.{is_positive, port_of}
 

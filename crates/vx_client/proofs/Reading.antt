@@ -5,14 +5,14 @@ use Rattle.std.proofs.lemmas.Grind.{common_steps}
 use Rattle.std.proofs.KnownBytes.{Consumes-nil, Consumes-trans, Consumes-kept, Consumes-whole}
 use Rattle.vx_calls.specs.declared.limits.TheConstants.{REPLY_MAX}
 use Rattle.vx_io_traits.specs.Faults.{Rose}
-use Rattle.vx_io_traits.specs.Stands.{Goes-none, Goes-goes, Goes-stays}
+use Rattle.vx_io_traits.proofs.Laws.Goings.{Goes-none, Goes-goes, Goes-stays}
 use Rattle.vx_record.specs.Buffer.{BufState, fresh, step, fed, taken}
 use Rattle.vx_record.specs.Records.{records}
 use Rattle.vx_record.specs.Ends.{is_settled, IsEnd, FeedEnds, EndLaw}
 use Rattle.vx_record.specs.declared.Feed.{Feed}
 use Rattle.vx_record.specs.declared.Feed.TheVariants.{More, Whole, TooLong}
-use Rattle.vx_record.specs.ProvedLaws.{settled-none, fed-append, fed-stopped, taken-stopped, taken-more}
-use Rattle.vx_client.specs.Stream.{by_header, by_length, IsOpen}
+use Rattle.vx_record.proofs.Laws.{settled-none, fed-append, fed-stopped, taken-stopped, taken-more}
+use Rattle.vx_client.specs.Stream.{by_header, by_length, IsClientOpen}
 use Rattle.vx_client.specs.Inbox.{InboxState, Gave, last_at, last_of, Refills, IsBrought}
 use Rattle.vx_client.specs.declared.inbox.TheConstants.{REPLY_STREAM_MAX, PIECE}
 use Rattle.vx_client.specs.declared.inbox.Refill.TheVariants as refill
@@ -299,7 +299,7 @@ read-long_stream stands left receives sends first now before s room so_far none 
 
 -- the stream so far is open
 pub read-open : {L : Type 0} (stands : L → List ℕ → List ℕ → Type 0) (left : L → Option (List ℕ)) (receives sends : L → ℕ) (first now : L)
-    (before : List ℕ) (s : InboxState) (room : ℕ) (so_far : ReadSoFar stands left receives sends first now before s room) → s.kept ≡ [] → IsOpen (before ++ so_far.got)
+    (before : List ℕ) (s : InboxState) (room : ℕ) (so_far : ReadSoFar stands left receives sends first now before s room) → s.kept ≡ [] → IsClientOpen (before ++ so_far.got)
 read-open stands left receives sends first now before s room so_far none =
     let all : before ++ so_far.got ≡ so_far.used = so_far.stream ∙ ap (λ xs. so_far.used ++ xs) none ∙ append-nil so_far.used in
     let len : length (before ++ so_far.got) ≡ length so_far.used = ap length all in

@@ -5,7 +5,8 @@ use Rattle.std.proofs.lemmas.List.{take_all}
 use Rattle.std.specs.Io.KnownBytes.{Keeps}
 use Rattle.std.proofs.KnownBytes.{Keeps-refl, Keeps-trans}
 use Rattle.vx_io_traits.specs.Faults.{Rose}
-use Rattle.vx_io_traits.specs.Stands.{Goes, Takes, Stays, Goes-none, Goes-takes, Goes-stays}
+use Rattle.vx_io_traits.specs.Stands.{Goes, Takes, Stays}
+use Rattle.vx_io_traits.proofs.Laws.Goings.{Goes-none, Goes-takes, Goes-stays}
 use Rattle.vx_client.specs.Exchange.{StopsIn}
 
 -- so far a link took a front of the text

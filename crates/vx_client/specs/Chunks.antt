@@ -27,9 +27,9 @@ abbrev pub write_call : ℕ → CallOpts → ℕ → List ℕ → Call
 write_call lid opts flags piece = call.Write lid opts.io_timeout opts.lock_timeout flags piece
 
 -- a fact on what comes after a call that gave its results, or on where one that failed leaves all
-abbrev pub GoesOn : {E : Type 0} → Result Unit E → Type 0 → Type 0 → Type 0
-GoesOn (Ok done) Next Stopped = Next
-GoesOn (Err e) Next Stopped = Stopped
+abbrev pub ClientGoesOn : {E : Type 0} → Result Unit E → Type 0 → Type 0 → Type 0
+ClientGoesOn (Ok done) Next Stopped = Next
+ClientGoesOn (Err e) Next Stopped = Stopped
 
 -- a call for each piece in turn, up to the first that fails; that for the last piece is another
 abbrev pub InTurn : {S E : Type 0} → (Each Last : S → S → List ℕ → Result Unit E → Type 0) → S → S → List (List ℕ) → Result Unit E → Type 0
@@ -37,7 +37,7 @@ InTurn Each Last old new [] result = ⊥
 InTurn Each Last old new (piece ∷ []) result = Last old new piece result
 InTurn {S = S} {E = E} Each Last old new (piece ∷ next ∷ others) result =
     (mid : S) × (answer : Result Unit E) × Each old mid piece answer
-    × GoesOn answer (InTurn Each Last mid new (next ∷ others) result) ((new ≡ mid) × (result ≡ answer))
+    × ClientGoesOn answer (InTurn Each Last mid new (next ∷ others) result) ((new ≡ mid) × (result ≡ answer))
 
 -- a device_write of a piece with these flags
 abbrev pub WritesPiece : {L : Type 0} → (L → List ℕ → List ℕ → Type 0) → (L → Option (List ℕ)) → (L → ℕ) → (L → ℕ)

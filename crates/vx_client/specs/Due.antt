@@ -28,8 +28,8 @@ line_due (Ok gain) = gain_line gain
 line_due (Err e) = error_line e
 
 -- the lines that are printed where no call is made
-abbrev pub usage_line : List ℕ
-usage_line = codes "usage: vxcall HOST PORT DEVICE COMMAND\n"
+abbrev pub client_usage_line : List ℕ
+client_usage_line = codes "usage: vxcall HOST PORT DEVICE COMMAND\n"
 
 abbrev pub unreachable_line : List ℕ
 unreachable_line = codes "unreachable\n"

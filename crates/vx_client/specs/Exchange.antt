@@ -10,7 +10,7 @@ use Rattle.vx_io_traits.specs.Stands.{Goes}
 use Rattle.vx_client.specs.State.{ClientState, number_after}
 use Rattle.vx_client.specs.Message.{call_record}
 use Rattle.vx_client.specs.Meaning.{meaning, is_bad, returned}
-use Rattle.vx_client.specs.Stream.{IsReply, IsTooLong, IsOpen}
+use Rattle.vx_client.specs.Stream.{IsReply, IsTooLong, IsClientOpen}
 use Rattle.vx_client.specs.Inbox.{IsAll}
 use Rattle.vx_client.specs.declared.answers.ClientErr.{ClientErr}
 use Rattle.vx_client.specs.declared.answers.ClientErr.TheVariants as err
@@ -23,9 +23,9 @@ pub record StopsIn {L : Type 0} (stands : L → List ℕ → List ℕ → Type 0
   pub goes : Goes stands old new (take count text) []
 
 -- what sending a text answers
-abbrev pub IsSent : {L E : Type 0} → (L → List ℕ → List ℕ → Type 0) → (L → ℕ) → L → L → List ℕ → Result Unit E → Type 0
-IsSent stands faults old new text (Ok done) = Goes stands old new text []
-IsSent stands faults old new text (Err failed) = StopsIn stands faults old new text
+abbrev pub IsClientSent : {L E : Type 0} → (L → List ℕ → List ℕ → Type 0) → (L → ℕ) → L → L → List ℕ → Result Unit E → Type 0
+IsClientSent stands faults old new text (Ok done) = Goes stands old new text []
+IsClientSent stands faults old new text (Err failed) = StopsIn stands faults old new text
 
 -- the link took these bytes and gave those
 pub record Moved {L : Type 0} (stands : L → List ℕ → List ℕ → Type 0) (left : L → Option (List ℕ)) (old new : L) (sent got : List ℕ) : Type 0 where
@@ -62,7 +62,7 @@ pub record KeepsReply {L : Type 0} (old new : ClientState L) (call : Call) (room
   pub next : new.next ≡ number_after old.next
 
 -- the bytes that a call moved: its record, and what came, which stands behind what the client had kept
-pub record Asks {L : Type 0} (stands : L → List ℕ → List ℕ → Type 0) (left : L → Option (List ℕ)) (old new : ClientState L) (call : Call)
+pub record ClientAsks {L : Type 0} (stands : L → List ℕ → List ℕ → Type 0) (left : L → Option (List ℕ)) (old new : ClientState L) (call : Call)
     (Came : List ℕ → List ℕ → Type 0) : Type 0 where
   pub got : List ℕ
   pub moved : Moved stands left old.link new.link (call_record old.next call) got
@@ -75,13 +75,13 @@ Exchanged stands left receives sends old new call room Idle = (old.spent ≡ tru
 Exchanged stands left receives sends old new call room Unsent =
     LeavesSpent old new × StopsIn stands sends old.link new.link (call_record old.next call) × Keeps (left old.link) (left new.link)
 Exchanged stands left receives sends old new call room Unread =
-    LeavesSpent old new × Asks stands left old new call (λ stream got. IsOpen stream × Rose (receives old.link) (receives new.link))
+    LeavesSpent old new × ClientAsks stands left old new call (λ stream got. IsClientOpen stream × Rose (receives old.link) (receives new.link))
 Exchanged stands left receives sends old new call room Ended =
-    LeavesSpent old new × Asks stands left old new call (λ stream got. IsOpen stream × IsAll left old.link got)
+    LeavesSpent old new × ClientAsks stands left old new call (λ stream got. IsClientOpen stream × IsAll left old.link got)
 Exchanged stands left receives sends old new call room TooLong =
-    LeavesSpent old new × Asks stands left old new call (λ stream got. IsTooLong stream)
+    LeavesSpent old new × ClientAsks stands left old new call (λ stream got. IsTooLong stream)
 Exchanged stands left receives sends old new call room (Replied reply) =
-    KeepsReply old new call room reply × Asks stands left old new call (λ stream got. IsReply stream reply new.kept)
+    KeepsReply old new call room reply × ClientAsks stands left old new call (λ stream got. IsReply stream reply new.kept)
 
 -- what a call returns at each end, where `view` takes what it returns from the results
 abbrev pub result_of : {X : Type 0} → (Outcome → X) → ℕ → Call → ℕ → Exchange → Result X ClientErr

@@ -9,7 +9,7 @@ use Rattle.vx_client.specs.Meaning.{made_of, stb_of, nothing_of}
 use Rattle.vx_client.specs.Calls.{generic, create}
 use Rattle.vx_client.specs.Chunks.{chunks, IsWritten}
 use Rattle.vx_client.specs.Parts.{IsRead}
-use Rattle.vx_client.specs.Asked.{Command, Query, Write, Read, Stb, Clear, Trigger, line_sent}
+use Rattle.vx_client.specs.Asked.{ClientCommand, Query, Write, Read, Stb, Clear, Trigger, line_sent}
 use Rattle.vx_client.specs.declared.answers.CallOpts.{CallOpts}
 use Rattle.vx_client.specs.declared.answers.LinkMade.{LinkMade}
 use Rattle.vx_client.specs.declared.answers.ReadEnd.{ReadEnd}
@@ -66,7 +66,7 @@ pub record SendsLine {L : Type 0} (stands : L → List ℕ → List ℕ → Type
 
 -- a command over a link that was made
 abbrev pub Performs : {L : Type 0} → (L → List ℕ → List ℕ → Type 0) → (L → Option (List ℕ)) → (L → ℕ) → (L → ℕ)
-    → ClientState L → ClientState L → LinkMade → Command → Result Gain ClientErr → Type 0
+    → ClientState L → ClientState L → LinkMade → ClientCommand → Result Gain ClientErr → Type 0
 Performs stands left receives sends old new made (Query text) result =
     SendsLine stands left receives sends old new made (line_sent (Query text)) result (λ mid. ReadsAll stands left receives sends mid new made.lid result)
 Performs stands left receives sends old new made (Write text) result =
@@ -82,7 +82,7 @@ Performs stands left receives sends old new made Trigger result =
 -- the command over the link that was made, and then a destroy_link of it, which sends nothing where the client is spent, and whose
 -- answer counts for nothing
 pub record UsesLink {L : Type 0} (stands : L → List ℕ → List ℕ → Type 0) (left : L → Option (List ℕ)) (receives sends : L → ℕ)
-    (old new : ClientState L) (made : LinkMade) (command : Command) (result : Result Gain ClientErr) : Type 0 where
+    (old new : ClientState L) (made : LinkMade) (command : ClientCommand) (result : Result Gain ClientErr) : Type 0 where
   pub mid : ClientState L
   pub gone : Result Unit ClientErr
   pub performed : Performs stands left receives sends old mid made command result
@@ -90,14 +90,14 @@ pub record UsesLink {L : Type 0} (stands : L → List ℕ → List ℕ → Type 
 
 -- what follows a create_link: the use of the link that it made; nothing where it made none
 abbrev pub OnLink : {L : Type 0} → (L → List ℕ → List ℕ → Type 0) → (L → Option (List ℕ)) → (L → ℕ) → (L → ℕ)
-    → Result LinkMade ClientErr → ClientState L → ClientState L → Command → Result Gain ClientErr → Type 0
+    → Result LinkMade ClientErr → ClientState L → ClientState L → ClientCommand → Result Gain ClientErr → Type 0
 OnLink stands left receives sends (Ok made) mid new command result = UsesLink stands left receives sends mid new made command result
 OnLink stands left receives sends (Err e) mid new command result = (new ≡ mid) × (result ≡ Err e)
 
 -- the calls for what is asked of a device, in order, up to the first that gives no results: a create_link without a lock, the
 -- command, and the destroy_link
-pub record Asks {L : Type 0} (stands : L → List ℕ → List ℕ → Type 0) (left : L → Option (List ℕ)) (receives sends : L → ℕ)
-    (old new : ClientState L) (device : List ℕ) (command : Command) (result : Result Gain ClientErr) : Type 0 where
+pub record ClientAsks {L : Type 0} (stands : L → List ℕ → List ℕ → Type 0) (left : L → Option (List ℕ)) (receives sends : L → ℕ)
+    (old new : ClientState L) (device : List ℕ) (command : ClientCommand) (result : Result Gain ClientErr) : Type 0 where
   pub mid : ClientState L
   pub answer : Result LinkMade ClientErr
   pub created : IsCalled stands left receives sends old mid (create false 0 device) 0 made_of answer
@@ -114,9 +114,9 @@ IsAnswer (Ok x) = Unit {0}
 IsAnswer (Err e) = IsError e
 
 -- the bytes that were read are in a room of so many
-abbrev pub IsWithin : ℕ → declared.Gained → Type 0
-IsWithin room (seen.Bytes len) = len ≤ room
-IsWithin room _ = Unit {0}
+abbrev pub IsClientWithin : ℕ → declared.Gained → Type 0
+IsClientWithin room (seen.Bytes len) = len ≤ room
+IsClientWithin room _ = Unit {0}
 
 -- what the code's own value shows, whose bytes stand at the front of this room
 abbrev pub gain_shown : List ℕ → declared.Gained → Gain

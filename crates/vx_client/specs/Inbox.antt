@@ -8,7 +8,7 @@ use Rattle.vx_io_traits.specs.Stands.{Goes, Stays}
 use Rattle.vx_record.specs.Buffer.{BufState, fresh}
 use Rattle.vx_record.specs.declared.Feed.{Feed}
 use Rattle.vx_record.specs.declared.Feed.TheVariants as feed
-use Rattle.vx_client.specs.Stream.{IsReply, IsTooLong, IsOpen}
+use Rattle.vx_client.specs.Stream.{IsReply, IsTooLong, IsClientOpen}
 use Rattle.vx_client.specs.declared.inbox.Refill.{Refill}
 use Rattle.vx_client.specs.declared.inbox.Refill.TheVariants as refill
 use Rattle.vx_client.specs.declared.inbox.Brought.{Brought}
@@ -35,8 +35,8 @@ IsReadyAt feed.More s = s ≡ fresh REPLY_MAX
 IsReadyAt feed.Whole s = Unit {0}
 IsReadyAt feed.TooLong s = ⊥
 
-abbrev pub IsReady : BufState → Type 0
-IsReady s = IsReadyAt s.state s
+abbrev pub IsClientReady : BufState → Type 0
+IsClientReady s = IsReadyAt s.state s
 
 -- a link gave these bytes, and took none
 pub record Gave {L : Type 0} (stands : L → List ℕ → List ℕ → Type 0) (left : L → Option (List ℕ)) (old new : L) (got : List ℕ) : Type 0 where
@@ -58,8 +58,8 @@ Refills stands left faults old new before after refill.Failed = (before ≡ []) 
 abbrev pub Brings : {L : Type 0} → (L → Option (List ℕ)) → (L → ℕ) → L → L → List ℕ → List ℕ → InboxState → Brought → Type 0
 Brings left faults old new stream got s brought.Record = IsReply stream s.reply.kept s.kept × (s.reply.state ≡ feed.Whole)
 Brings left faults old new stream got s brought.TooLong = IsTooLong stream × (last_of s.reply ≡ [])
-Brings left faults old new stream got s brought.End = IsOpen stream × IsAll left old got × (last_of s.reply ≡ [])
-Brings left faults old new stream got s brought.Failed = IsOpen stream × Rose (faults old) (faults new) × (last_of s.reply ≡ [])
+Brings left faults old new stream got s brought.End = IsClientOpen stream × IsAll left old got × (last_of s.reply ≡ [])
+Brings left faults old new stream got s brought.Failed = IsClientOpen stream × Rose (faults old) (faults new) × (last_of s.reply ≡ [])
 
 abbrev pub IsBrought : {L : Type 0} → (L → List ℕ → List ℕ → Type 0) → (L → Option (List ℕ)) → (L → ℕ) → L → L → List ℕ → InboxState → Brought → Type 0
 IsBrought stands left faults old new before s answer =

@@ -35,14 +35,14 @@ error_of (outcome.Docmd error bytes) = error
 error_of (outcome.Error error) = error
 
 -- the bytes of results
-abbrev pub bytes_of : Outcome → List ℕ
-bytes_of (outcome.Read error reason bytes) = bytes
-bytes_of (outcome.Docmd error bytes) = bytes
-bytes_of _ = []
+abbrev pub client_bytes_of : Outcome → List ℕ
+client_bytes_of (outcome.Read error reason bytes) = bytes
+client_bytes_of (outcome.Docmd error bytes) = bytes
+client_bytes_of _ = []
 
 -- so many bytes as results have
 abbrev pub len_of : Outcome → ℕ
-len_of o = length (bytes_of o)
+len_of o = length (client_bytes_of o)
 
 -- a size is that of the bytes that a write sent
 abbrev pub is_size : Call → ℕ → Bool
@@ -111,9 +111,9 @@ stb_of (outcome.Stb error stb) = stb
 stb_of _ = 0
 
 -- why a read ended
-abbrev pub reason_of : Outcome → ℕ
-reason_of (outcome.Read error reason bytes) = reason
-reason_of _ = 0
+abbrev pub client_reason_of : Outcome → ℕ
+client_reason_of (outcome.Read error reason bytes) = reason
+client_reason_of _ = 0
 
 -- nothing
 abbrev pub nothing_of : Outcome → Unit {0}

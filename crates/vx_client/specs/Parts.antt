@@ -5,7 +5,7 @@ use Rattle.vx_calls.specs.Call.{Call}
 use Rattle.vx_calls.specs.Call as call
 use Rattle.vx_codec.specs.Answered.{Outcome}
 use Rattle.vx_client.specs.State.{ClientState}
-use Rattle.vx_client.specs.Meaning.{meaning, len_of, reason_of}
+use Rattle.vx_client.specs.Meaning.{meaning, len_of, client_reason_of}
 use Rattle.vx_client.specs.Exchange.{IsCalled}
 use Rattle.vx_client.specs.Calls.{IsFilled}
 use Rattle.vx_client.specs.declared.answers.CallOpts.{CallOpts}
@@ -14,7 +14,7 @@ use Rattle.vx_client.specs.declared.answers.ClientErr.{ClientErr}
 
 -- how many bytes came and why they ended
 abbrev pub end_of : Outcome → ReadEnd
-end_of o = record { len = len_of o; reason = reason_of o }
+end_of o = record { len = len_of o; reason = client_reason_of o }
 
 -- a device_read that asks for all that a room of so many bytes holds, or for as many as it can
 abbrev pub read_call : ℕ → CallOpts → ℕ → ℕ → Call

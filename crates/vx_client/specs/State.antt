@@ -25,8 +25,8 @@ abbrev pub over_link : {L : Type 0} → L → TalkState → ClientState L
 over_link link talk = record { link = link; next = talk.next; spent = talk.spent; last = talk.last; kept = talk.kept }
 
 -- a client with another link in place of its own
-abbrev pub with_link : {L K : Type 0} → ClientState L → K → ClientState K
-with_link c link = record { link = link; next = c.next; spent = c.spent; last = c.last; kept = c.kept }
+abbrev pub client_with_link : {L K : Type 0} → ClientState L → K → ClientState K
+client_with_link c link = record { link = link; next = c.next; spent = c.spent; last = c.last; kept = c.kept }
 
 -- calls are numbered modulo 2^32 (RFC 5531, section 9, xid)
 abbrev pub number_after : ℕ → ℕ

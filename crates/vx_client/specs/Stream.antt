@@ -26,6 +26,6 @@ pub data IsTooLong (stream : List ℕ) : Type 0 where
       → length stream ≤ REPLY_STREAM_MAX + PIECE → IsTooLong stream
 
 -- the stream has no reply yet, and may still bring one
-pub record IsOpen (stream : List ℕ) : Type 0 where
+pub record IsClientOpen (stream : List ℕ) : Type 0 where
   pub unsettled : is_settled (records REPLY_MAX stream) ≡ false
   pub within : length stream ≤ REPLY_STREAM_MAX

@@ -6,7 +6,7 @@ use Rattle.vx_io_traits.specs.Faults.{Rose}
 use Rattle.vx_record.specs.declared.Feed.TheVariants as feed
 use Rattle.vx_client.specs.Exchange.{StopsIn, Moved}
 use Rattle.vx_client.specs.Inbox.{InboxState, IsAll, last_of}
-use Rattle.vx_client.specs.Stream.{IsReply, IsTooLong, IsOpen}
+use Rattle.vx_client.specs.Stream.{IsReply, IsTooLong, IsClientOpen}
 use Rattle.vx_client.specs.declared.answers.ClientErr.{ClientErr}
 use Rattle.vx_client.specs.declared.answers.ClientErr.TheVariants as err
 use Rattle.vx_client.specs.declared.settling.Answer.{Answer}
@@ -28,9 +28,9 @@ IsSwapped stands left receives sends old new kept s text (Ok done) =
 IsSwapped stands left receives sends old new kept s text (Err err.WriteFault) =
     StopsIn stands sends old new text × Keeps (left old) (left new) × (last_of s.reply ≡ [])
 IsSwapped stands left receives sends old new kept s text (Err err.ReadFault) =
-    Swaps stands left old new kept text (λ stream got. IsOpen stream × Rose (receives old) (receives new)) × (last_of s.reply ≡ [])
+    Swaps stands left old new kept text (λ stream got. IsClientOpen stream × Rose (receives old) (receives new)) × (last_of s.reply ≡ [])
 IsSwapped stands left receives sends old new kept s text (Err err.Closed) =
-    Swaps stands left old new kept text (λ stream got. IsOpen stream × IsAll left old got) × (last_of s.reply ≡ [])
+    Swaps stands left old new kept text (λ stream got. IsClientOpen stream × IsAll left old got) × (last_of s.reply ≡ [])
 IsSwapped stands left receives sends old new kept s text (Err (err.BadReply n)) =
     (n ≡ REPLY_MAX + 1) × Swaps stands left old new kept text (λ stream got. IsTooLong stream) × (last_of s.reply ≡ [])
 IsSwapped stands left receives sends old new kept s text (Err err.Spent) = ⊥

@@ -4,7 +4,7 @@ ghost use Rattle.std.specs.Prelude.{◌≡◌, ◌≤◌, ◌<◌, ◌^◌, fals
 ghost use Rattle.vx_calls.specs.Call.{call_shown};
 ghost use Rattle.vx_record.specs.Buffer.{fresh};
 ghost use Rattle.vx_calls.specs.declared.limits.TheConstants.{PIECE_MAX};
-ghost use Rattle.vx_client.specs.State.{over_link, with_link};
+ghost use Rattle.vx_client.specs.State.{over_link, client_with_link};
 ghost use Rattle.vx_client.specs.Message.{call_record, IsSendable};
 ghost use Rattle.vx_client.specs.Chunks.{write_call};
 ghost use Rattle.vx_client.specs.Meaning.{meaning, nothing_of};
@@ -40,7 +40,7 @@ impl Model for Talk {
     ghost Value = { TalkState };
 
     ghost use Rattle.std.specs.Prelude.{◌≡◌, false, vec_len};
-    ghost use Rattle.vx_client.specs.Inbox.{IsReady, last_of};
+    ghost use Rattle.vx_client.specs.Inbox.{IsClientReady, last_of};
     ghost use Rattle.vx_client.specs.declared.outbox.TheConstants.{CALL_ROOM};
 
     ghost view = { λ t. record {
@@ -50,7 +50,7 @@ impl Model for Talk {
       kept = t.inbox.kept;
     } };
 
-    ghost invariant = { λ t. (t.spent ≡ false → IsReady t.inbox.reply) × (vec_len t.room ≡ CALL_ROOM) };
+    ghost invariant = { λ t. (t.spent ≡ false → IsClientReady t.inbox.reply) × (vec_len t.room ≡ CALL_ROOM) };
 }
 
 /// A client of a VXI-11 server over a link, on the core channel. Contracts see its link, the number of its next call,
@@ -192,7 +192,7 @@ impl<L: Link> Client<L> {
 
     /// The record that the last call got, without its marks: its reply, or what came in place of one. It is empty
     /// where that call got none, where its record was longer than `REPLY_MAX` bytes, and before the first call. A
-    /// call that answered `Spent` leaves it as it was.
+    /// call that answered `Spent` leaves it was.
     pub fn last(&self) -> &[u8]
         ensures { result.now ≡ self.now.last }
     {
@@ -231,7 +231,7 @@ impl<L: Link> Client<L> {
 impl<L> Client<L> {
     /// Goes over this link from now on, and gives the one that it went over.
     pub fn swap_link(&mut self, link: &mut L)
-        ensures over { self.new ≡ with_link self.old link.old }
+        ensures over { self.new ≡ client_with_link self.old link.old }
         ensures given { link.new ≡ self.old.link }
     {
         swap(&mut self.link, link);
@@ -248,7 +248,7 @@ impl<L> Client<L> {
         bytes: &[u8],
     ) -> Result<(), ClientErr>
         requires { length bytes.now ≤ PIECE_MAX }
-        ensures called { IsCalled K.stands K.left K.receive_faults K.send_faults (with_link self.old link.old) (with_link self.new link.new)
+        ensures called { IsCalled K.stands K.left K.receive_faults K.send_faults (client_with_link self.old link.old) (client_with_link self.new link.new)
             (write_call lid opts.now flags bytes.now) 0 nothing_of result }
         ensures last { TellsEnd K.receives K.sends link.new result }
         ensures told { TellsCalls K.receives K.sends link.old link.new (call_record self.old.next (write_call lid opts.now flags bytes.now)) result }

@@ -2,7 +2,7 @@
 
 ghost use Rattle.std.specs.Prelude.{◌≡◌, ◌≤◌, false, length, IfOk};
 ghost use Rattle.vx_client.specs.Asked.{line_sent, command_shown};
-ghost use Rattle.vx_client.specs.Gaining.{ReadsAll, Performs, Asks, result_shown, IsWithin, IsAnswer};
+ghost use Rattle.vx_client.specs.Gaining.{ReadsAll, Performs, ClientAsks, result_shown, IsClientWithin, IsAnswer};
 
 use crate::answers::{CallOpts, ClientErr, LinkMade};
 use crate::client::Client;
@@ -42,7 +42,7 @@ pub(crate) enum Gained {
 fn read<L: Link>(client: &mut Client<L>, lid: u32, room: &mut [u8]) -> Result<Gained, ClientErr>
     requires { length room.old ≡ GAIN_MAX }
     ensures read { ReadsAll L.stands L.left L.receive_faults L.send_faults client.old client.new lid (result_shown room.new result) }
-    ensures within { IfOk result (IsWithin (length room.new)) }
+    ensures within { IfOk result (IsClientWithin (length room.new)) }
 {
     let end = client.read(lid, &PLAIN, 0, room)?;
     Ok(Gained::Bytes(end.len))
@@ -60,7 +60,7 @@ fn perform<L: Link>(
     requires line { line.now ≡ line_sent (command_shown command) }
     requires room { length room.old ≡ GAIN_MAX }
     ensures performed { Performs L.stands L.left L.receive_faults L.send_faults client.old client.new made.now (command_shown command.entry) (result_shown room.new result) }
-    ensures within { IfOk result (IsWithin (length room.new)) }
+    ensures within { IfOk result (IsClientWithin (length room.new)) }
 {
     match command {
         Command::Query(_) => {
@@ -95,8 +95,8 @@ pub(crate) fn make_calls<L: Link>(
     requires line { line.now ≡ line_sent (command_shown ask.now.command) }
     requires room { length room.old ≡ GAIN_MAX }
     requires fit { client.old.spent ≡ false }
-    ensures asked { Asks L.stands L.left L.receive_faults L.send_faults client.old client.new ask.now.device.now (command_shown ask.now.command) (result_shown room.new result) }
-    ensures within { IfOk result (IsWithin (length room.new)) }
+    ensures asked { ClientAsks L.stands L.left L.receive_faults L.send_faults client.old client.new ask.now.device.now (command_shown ask.now.command) (result_shown room.new result) }
+    ensures within { IfOk result (IsClientWithin (length room.new)) }
     ensures unspent { IsAnswer result }
 {
     let made = client.create_link(false, 0, ask.device)?;

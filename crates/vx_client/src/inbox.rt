@@ -2,7 +2,7 @@
 
 ghost use Rattle.std.specs.Prelude.{◌≡◌, ◌+◌, ◌≤◌, ◌<◌, ◌++◌, [], length, take, drop, min, IfOk};
 ghost use Rattle.vx_record.specs.Buffer.{fresh, fed, taken};
-ghost use Rattle.vx_client.specs.Inbox.{IsReady, last_of, Refills, IsBrought};
+ghost use Rattle.vx_client.specs.Inbox.{IsClientReady, last_of, Refills, IsBrought};
 ghost use Rattle.vx_client.specs.Ending.{TellsRefill, TellsBrought};
 ghost use Rattle.vx_client.specs.declared.inbox.TheConstants.{PIECE};
 
@@ -93,7 +93,7 @@ impl Inbox {
 
     /// Lets the record of the last reply go.
     pub(crate) fn begin(&mut self)
-        requires { IsReady self.old.reply }
+        requires { IsClientReady self.old.reply }
         ensures kept { self.new.kept ≡ self.old.kept }
         ensures reply { self.new.reply ≡ fresh REPLY_MAX }
     {

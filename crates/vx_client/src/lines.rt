@@ -1,13 +1,13 @@
 //! The line that is printed for what a command came to.
 
-ghost use Rattle.std.specs.Prelude.{◌≡◌, ◌+◌, ◌*◌, ◌≤◌, ◌<◌, ◌++◌, [], ◌∷◌, length, codes, decimal, IfOk};
+ghost use Rattle.std.specs.Prelude.{◌≡◌, ◌+◌, ◌*◌, ◌≤◌, ◌<◌, ◌++◌, length, codes, decimal, IfOk};
 ghost use Rattle.hex.specs.Hex.{encode_upper};
-ghost use Rattle.vx_client.specs.Gaining.{IsWithin, IsAnswer, IsError, gain_shown, result_shown};
+ghost use Rattle.vx_client.specs.Gaining.{IsClientWithin, IsAnswer, IsError, gain_shown, result_shown};
 ghost use Rattle.vx_client.specs.Due.{error_line, gain_line, line_due};
 
 use crate::answers::ClientErr;
 use crate::gains::{GAIN_MAX, Gained};
-use itoa::Buffer;
+use vx_text::number_line;
 
 /// The longest line, its LF included: that of `GAIN_MAX` bytes.
 pub(crate) const LINE_ROOM: usize = 2 * GAIN_MAX + 1;
@@ -32,13 +32,7 @@ fn device_line(error: u32, out: &mut [u8]) -> &[u8]
     requires { LINE_ROOM ≤ length out.old }
     ensures { result.now ≡ codes "error " ++ decimal error ++ codes "\n" }
 {
-    let mut buffer = Buffer::new();
-    let digits = buffer.format(error).as_bytes();
-    let end = 6 + digits.len();
-    out[..6].copy_from_slice(b"error ");
-    out[6..end].copy_from_slice(digits);
-    out[end] = b'\n';
-    &out[..end + 1]
+    number_line(b"error ", u64::from(error), out)
 }
 
 /// An error of a call.
@@ -60,7 +54,7 @@ fn error_line(error: ClientErr, out: &mut [u8]) -> &[u8]
 
 /// What was gained; bytes that were read stand at the front of the room.
 fn gain_line<'a>(gained: Gained, room: &[u8], out: &'a mut [u8]) -> &'a [u8]
-    requires within { IsWithin (length room.now) gained }
+    requires within { IsClientWithin (length room.now) gained }
     requires read { length room.now ≤ GAIN_MAX }
     requires room { LINE_ROOM ≤ length out.old }
     ensures { result.now ≡ gain_line (gain_shown room.now gained) }
@@ -78,7 +72,7 @@ pub(crate) fn line_of<'a>(
     room: &[u8],
     out: &'a mut [u8],
 ) -> &'a [u8]
-    requires within { IfOk came (IsWithin (length room.now)) }
+    requires within { IfOk came (IsClientWithin (length room.now)) }
     requires answer { IsAnswer came }
     requires read { length room.now ≤ GAIN_MAX }
     requires room { LINE_ROOM ≤ length out.old }

@@ -7,7 +7,7 @@ ghost use Rattle.vx_codec.specs.Asked.{proc_of};
 ghost use Rattle.vx_rpc.specs.Procedure.{proc_number};
 ghost use Rattle.vx_client.specs.Message.{message, call_record, IsSendable};
 ghost use Rattle.vx_record.specs.Fragments.{record_of};
-ghost use Rattle.vx_client.specs.Exchange.{IsSent};
+ghost use Rattle.vx_client.specs.Exchange.{IsClientSent};
 ghost use Rattle.vx_client.specs.Ending.{TellsSends};
 
 use vx_calls::{CallRef, PIECE_MAX, Proc};
@@ -123,7 +123,7 @@ pub(crate) struct SendFailed;
 
 /// Sends all of a text.
 pub(crate) fn send_all<L: Link>(link: &mut L, text: &[u8]) -> Result<(), SendFailed>
-    ensures sent { IsSent L.stands L.send_faults link.old link.new text.now result }
+    ensures sent { IsClientSent L.stands L.send_faults link.old link.new text.now result }
     ensures told { TellsSends L.sends link.old link.new text.now result }
     ensures left { Keeps (L.left link.old) (L.left link.new) }
     ensures receives { L.receive_faults link.new ≡ L.receive_faults link.old }

@@ -1,9 +1,10 @@
 //! All that the program `vxcall` does: the words, the server, the calls, the line that is printed, and the status.
 
 ghost use Rattle.std.specs.Prelude.{◌≡◌, ◌≤◌, ◌++◌, length, map, string_bytes, is_some, IsSome, IfOk};
+ghost use Rattle.vx_text.specs.Ends.{sink_shown};
 ghost use Rattle.vx_client.specs.Asked.{command_shown, ask_shown, ask_of, line_sent};
 ghost use Rattle.vx_client.specs.Gaining.{IsAnswer};
-ghost use Rattle.vx_client.specs.Outcome.{IsUncalled, IsOver, IsServed, IsAskRun, IsRun, EndsOver, EndsRun, PutsLine, result_status, status_number};
+ghost use Rattle.vx_client.specs.Outcome.{IsUncalled, IsOver, IsClientServed, IsClientAskRun, IsClientRun, EndsOver, ClientEndsRun, ClientPutsLine, result_status, client_status_number};
 
 use crate::answers::ClientErr;
 use crate::client::Client;
@@ -17,7 +18,7 @@ use vx_text::put_all;
 
 /// How a call ended, as the program's exit status tells it.
 #[derive(Clone, Copy)]
-pub(crate) enum Status {
+pub(crate) enum ClientStatus {
     /// 0: each call gave its results.
     Done,
     /// 1: the words have another form.
@@ -34,31 +35,31 @@ pub(crate) enum Status {
     SinkFailed,
 }
 
-impl Status {
+impl ClientStatus {
     /// The exit status.
     fn number(self) -> u8
-        ensures { result ≡ status_number self }
+        ensures { result ≡ client_status_number self }
     {
         match self {
-            Status::Done => 0,
-            Status::Usage => 1,
-            Status::Unreachable => 2,
-            Status::Refused => 3,
-            Status::Broken => 4,
-            Status::NoMemory => 5,
-            Status::SinkFailed => 6,
+            ClientStatus::Done => 0,
+            ClientStatus::Usage => 1,
+            ClientStatus::Unreachable => 2,
+            ClientStatus::Refused => 3,
+            ClientStatus::Broken => 4,
+            ClientStatus::NoMemory => 5,
+            ClientStatus::SinkFailed => 6,
         }
     }
 }
 
 /// The status of what a command came to.
-fn status_of(came: Result<Gained, ClientErr>) -> Status
+fn status_of(came: Result<Gained, ClientErr>) -> ClientStatus
     ensures { result ≡ result_status came }
 {
     match came {
-        Ok(_) => Status::Done,
-        Err(ClientErr::Device(_)) => Status::Refused,
-        Err(_) => Status::Broken,
+        Ok(_) => ClientStatus::Done,
+        Err(ClientErr::Device(_)) => ClientStatus::Refused,
+        Err(_) => ClientStatus::Broken,
     }
 }
 
@@ -77,14 +78,13 @@ fn sent_line(alloc: Global, command: Command<'_>) -> Result<Vec<u8>, AllocError>
 }
 
 /// Writes the line of a call that ends so.
-fn put_line<K: Sink>(sink: &mut K, line: &[u8], how: Status) -> Status
-    ensures { PutsLine how line.now
-        (record { bytes = K.taken sink.old; faults = K.faults sink.old })
-        (record { bytes = K.taken sink.new; faults = K.faults sink.new }) result }
+fn put_line<K: Sink>(sink: &mut K, line: &[u8], how: ClientStatus) -> ClientStatus
+    ensures { ClientPutsLine how line.now
+        (sink_shown K.Sink sink.old) (sink_shown K.Sink sink.new) result }
 {
     match put_all(sink, line) {
         Ok(()) => how,
-        Err(_) => Status::SinkFailed,
+        Err(_) => ClientStatus::SinkFailed,
     }
 }
 
@@ -97,15 +97,14 @@ fn tell<L: Link, K: Sink>(
     room: &mut [u8],
     out: &mut [u8],
     sink: &mut K,
-) -> Status
+) -> ClientStatus
     requires device { length ask.now.device.now ≤ DEVICE_MAX }
     requires client { IsUncalled client.old }
     requires line { line.now ≡ line_sent (command_shown ask.now.command) }
     requires room { length room.old ≡ GAIN_MAX }
     requires out { LINE_ROOM ≤ length out.old }
     ensures { IsOver L.stands L.left L.receive_faults L.send_faults (ask_shown ask.now) client.old client.new
-        (record { bytes = K.taken sink.old; faults = K.faults sink.old })
-        (record { bytes = K.taken sink.new; faults = K.faults sink.new }) result }
+        (sink_shown K.Sink sink.old) (sink_shown K.Sink sink.new) result }
 {
     let came = make_calls(client, ask, line, room);
     let told = line_of(came, room, out);
@@ -118,21 +117,20 @@ fn over<L: Link, K: Sink>(
     ask: &Ask<'_>,
     client: &mut Client<L>,
     sink: &mut K,
-) -> Status
+) -> ClientStatus
     requires device { length ask.now.device.now ≤ DEVICE_MAX }
     requires client { IsUncalled client.old }
     ensures { IsOver L.stands L.left L.receive_faults L.send_faults (ask_shown ask.now) client.old client.new
-        (record { bytes = K.taken sink.old; faults = K.faults sink.old })
-        (record { bytes = K.taken sink.new; faults = K.faults sink.new }) result }
+        (sink_shown K.Sink sink.old) (sink_shown K.Sink sink.new) result }
 {
     let Ok(line) = sent_line(alloc, ask.command) else {
-        return Status::NoMemory;
+        return ClientStatus::NoMemory;
     };
     let Ok(mut room) = vec![in alloc; 0; GAIN_MAX] else {
-        return Status::NoMemory;
+        return ClientStatus::NoMemory;
     };
     let Ok(mut out) = vec![in alloc; 0; LINE_ROOM] else {
-        return Status::NoMemory;
+        return ClientStatus::NoMemory;
     };
     tell(
         client,
@@ -164,8 +162,7 @@ pub fn call_over<L: Link, K: Sink>(
     requires words { IsSome (ask_of (map string_bytes words.now)) }
     requires client { IsUncalled client.old }
     ensures { EndsOver L.stands L.left L.receive_faults L.send_faults (map string_bytes words.now) client.old client.new
-        (record { bytes = K.taken sink.old; faults = K.faults sink.old })
-        (record { bytes = K.taken sink.new; faults = K.faults sink.new }) result }
+        (sink_shown K.Sink sink.old) (sink_shown K.Sink sink.new) result }
 {
     match ask_of(words) {
         Some(ask) => over(alloc, &ask, client, sink).number(),
@@ -174,20 +171,22 @@ pub fn call_over<L: Link, K: Sink>(
 }
 
 /// Makes a client over a reach that has reached the server, and does what is asked.
-fn serve<R: Reach, K: Sink>(alloc: Global, ask: &Ask<'_>, reach: R, sink: &mut K) -> (Status, R)
+fn serve<R: Reach, K: Sink>(
+    alloc: Global,
+    ask: &Ask<'_>,
+    reach: R,
+    sink: &mut K,
+) -> (ClientStatus, R)
     requires device { length ask.now.device.now ≤ DEVICE_MAX }
-    ensures { IsServed
-        (record { stands = R.stands; left = R.left; receives = R.receive_faults; sends = R.send_faults; refused = R.refused; place = R.place; tries = R.tries })
-        (ask_shown ask.now) reach result.1
-        (record { bytes = K.taken sink.old; faults = K.faults sink.old })
-        (record { bytes = K.taken sink.new; faults = K.faults sink.new }) result.0 }
+    ensures { IsClientServed R.Reach (ask_shown ask.now) reach result.1
+        (sink_shown K.Sink sink.old) (sink_shown K.Sink sink.new) result.0 }
 {
     match Client::new(alloc, reach) {
         Ok(mut client) => {
             let status = over(alloc, ask, &mut client, sink);
             (status, client.into_link())
         }
-        Err(refused) => (Status::NoMemory, refused.link),
+        Err(refused) => (ClientStatus::NoMemory, refused.link),
     }
 }
 
@@ -197,37 +196,36 @@ fn reach_and_serve<R: Reach, K: Sink>(
     ask: &Ask<'_>,
     reach: R,
     sink: &mut K,
-) -> (Status, R)
+) -> (ClientStatus, R)
     requires device { length ask.now.device.now ≤ DEVICE_MAX }
-    ensures { IsAskRun
-        (record { stands = R.stands; left = R.left; receives = R.receive_faults; sends = R.send_faults; refused = R.refused; place = R.place; tries = R.tries })
-        (ask_shown ask.now) reach result.1
-        (record { bytes = K.taken sink.old; faults = K.faults sink.old })
-        (record { bytes = K.taken sink.new; faults = K.faults sink.new }) result.0 }
+    ensures { IsClientAskRun R.Reach (ask_shown ask.now) reach result.1
+        (sink_shown K.Sink sink.old) (sink_shown K.Sink sink.new) result.0 }
 {
     let mut reach = reach;
     match reach.reach(ask.host, ask.port) {
         DialOut::Up => serve(alloc, ask, reach, sink),
         DialOut::Failed => {
-            let status = put_line(sink, b"unreachable\n", Status::Unreachable);
+            let status = put_line(sink, b"unreachable\n", ClientStatus::Unreachable);
             (status, reach)
         }
     }
 }
 
 /// Does what the words ask.
-fn run<R: Reach, K: Sink>(alloc: Global, words: &[String], reach: R, sink: &mut K) -> (Status, R)
-    ensures { IsRun
-        (record { stands = R.stands; left = R.left; receives = R.receive_faults; sends = R.send_faults; refused = R.refused; place = R.place; tries = R.tries })
-        (map string_bytes words.now) reach result.1
-        (record { bytes = K.taken sink.old; faults = K.faults sink.old })
-        (record { bytes = K.taken sink.new; faults = K.faults sink.new }) result.0 }
+fn run<R: Reach, K: Sink>(
+    alloc: Global,
+    words: &[String],
+    reach: R,
+    sink: &mut K,
+) -> (ClientStatus, R)
+    ensures { IsClientRun R.Reach (map string_bytes words.now) reach result.1
+        (sink_shown K.Sink sink.old) (sink_shown K.Sink sink.new) result.0 }
 {
     match ask_of(words) {
         Some(ask) => reach_and_serve(alloc, &ask, reach, sink),
         None => {
             let usage = b"usage: vxcall HOST PORT DEVICE COMMAND\n";
-            let status = put_line(sink, usage, Status::Usage);
+            let status = put_line(sink, usage, ClientStatus::Usage);
             (status, reach)
         }
     }
@@ -256,11 +254,8 @@ pub fn call_run<R: Reach, K: Sink>(
     reach: R,
     sink: &mut K,
 ) -> (u8, R)
-    ensures { EndsRun
-        (record { stands = R.stands; left = R.left; receives = R.receive_faults; sends = R.send_faults; refused = R.refused; place = R.place; tries = R.tries })
-        (map string_bytes words.now) reach result.1
-        (record { bytes = K.taken sink.old; faults = K.faults sink.old })
-        (record { bytes = K.taken sink.new; faults = K.faults sink.new }) result.0 }
+    ensures { ClientEndsRun R.Reach (map string_bytes words.now) reach result.1
+        (sink_shown K.Sink sink.old) (sink_shown K.Sink sink.new) result.0 }
 {
     let (status, reach) = run(alloc, words, reach, sink);
     (status.number(), reach)

@@ -3,7 +3,7 @@
 ghost use Rattle.std.specs.Prelude.{◌≡◌, length};
 ghost use Rattle.vx_calls.specs.Call.{call_shown};
 ghost use Rattle.vx_codec.specs.Answered.{results_shown};
-ghost use Rattle.vx_client.specs.Meaning.{is_size, is_read, is_due, can_be, error_of, bytes_of, made_of, stb_of, reason_of, judged, meaning};
+ghost use Rattle.vx_client.specs.Meaning.{is_size, is_read, is_due, can_be, error_of, client_bytes_of, made_of, stb_of, client_reason_of, judged, meaning};
 ghost use Rattle.vx_client.specs.Settled.{settled_of, written};
 
 use crate::answers::LinkMade;
@@ -85,7 +85,7 @@ fn error(results: &Results<'_>) -> u32
 
 /// The bytes of results.
 fn bytes<'a>(results: Results<'a>) -> &'a [u8]
-    ensures { result.now ≡ bytes_of (results_shown results.entry) }
+    ensures { result.now ≡ client_bytes_of (results_shown results.entry) }
 {
     match results {
         Results::Read { bytes, .. } => bytes,
@@ -129,7 +129,7 @@ fn stb(results: &Results<'_>) -> u8
 
 /// Why a read ended.
 fn reason(results: &Results<'_>) -> u32
-    ensures { result ≡ reason_of (results_shown results.now) }
+    ensures { result ≡ client_reason_of (results_shown results.now) }
 {
     match results {
         Results::Read { reason, .. } => *reason,

@@ -3,7 +3,7 @@
 ghost use Rattle.std.specs.Prelude.{◌≡◌, ◌≤◌, length, map, option_map, string_bytes, IfSome};
 ghost use Rattle.std.specs.List.{list_all};
 ghost use Rattle.vx_calls.specs.Target.{is_digit};
-ghost use Rattle.vx_client.specs.Asked.{is_positive, port_of, bare_command, text_command, command_of, ask_at, ask_of, command_shown, ask_shown};
+ghost use Rattle.vx_client.specs.Asked.{is_positive, port_of, bare_command, text_command, client_command_of, ask_at, ask_of, command_shown, ask_shown};
 
 use vx_calls::DEVICE_MAX;
 
@@ -94,7 +94,7 @@ fn text_command<'a>(word: &[u8], text: &'a [u8]) -> Option<Command<'a>>
 
 /// The command of the words behind the device.
 fn command_of(words: &[String]) -> Option<Command<'_>>
-    ensures { option_map command_shown result ≡ command_of (map string_bytes words.now) }
+    ensures { option_map command_shown result ≡ client_command_of (map string_bytes words.now) }
 {
     match words {
         [word] => bare_command(word.as_bytes()),

@@ -1,4 +1,3 @@
+pub mod Laws
 pub mod Texts
-pub mod Rows
-pub mod Written
 pub mod Puttable

@@ -2,7 +2,6 @@ pub mod Row
 pub mod Asked
 pub mod Answered
 pub mod Text
-pub mod ProvedLaws
 pub use Rattle.vx_xdr.specs.Spelling
 pub use Rattle.vx_calls.specs.Call
 pub use Rattle.vx_calls.specs.ErrorCode

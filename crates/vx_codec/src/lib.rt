@@ -5,11 +5,11 @@
 
 mod arguments;
 mod fields;
-mod laws;
 mod results;
+mod theorems;
 
 pub use arguments::{put_args, put_srq, read_args};
-pub use laws::{
+pub use results::{Results, put_results, read_results};
+pub use theorems::{
     answered_again, answered_is_spelled, asked_again, asked_is_spelled, no_prefix, one_spelling,
 };
-pub use results::{Results, put_results, read_results};

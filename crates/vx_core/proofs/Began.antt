@@ -7,10 +7,10 @@ use Rattle.vx_488.specs.declared.transfers.Transfer.{Transfer}
 use Rattle.vx_rules.specs.Lists.{along}
 use Rattle.vx_rules.specs.State.{Pending, pending_at}
 use Rattle.vx_flow.specs.Event.{Begin, Move}
-use Rattle.vx_flow.specs.FineState.{Turn, FineState, turn_of}
-use Rattle.vx_flow.specs.Fine.{fine, may_begin, is_passed}
+use Rattle.vx_flow.specs.InterleavedState.{Turn, InterleavedState, turn_of}
+use Rattle.vx_flow.specs.InterleavedStep.{interleaved_step, may_begin, is_passed}
 use Rattle.vx_flow.specs.Does.{Moves}
-use Rattle.vx_flow.specs.ProvedLaws.{fine-does}
+use Rattle.vx_flow.proofs.Laws.{interleaved-does}
 use Rattle.vx_flow.specs.Poll.{Ending, Polls, RanTo, begins, moved_events, lines_at, runs, is_run, ran_of}
 use Rattle.vx_flow.specs.declared.progress.Ran.{Ran}
 use Rattle.vx_core.specs.declared.running.Running.{Running}
@@ -36,22 +36,22 @@ no-and true = refl
 no-and false = refl
 
 -- a poll that begins its call's turn goes on with it
-begun-run : (f b : FineState) (conn now : ℕ) (p : Pending) (moves : List Transfer) (ran : Ran) → pending_at f.state.tables conn ≡ Some p
-    → along fine (fine f (Begin conn now)) (moved_events conn moves) ≡ Some b → RanTo b conn now p moves ran → is_run ran ≡ true
+begun-run : (f b : InterleavedState) (conn now : ℕ) (p : Pending) (moves : List Transfer) (ran : Ran) → pending_at f.state.tables conn ≡ Some p
+    → along interleaved_step (interleaved_step f (Begin conn now)) (moved_events conn moves) ≡ Some b → RanTo b conn now p moves ran → is_run ran ≡ true
 begun-run f b conn now p moves ran.Still at x h =
-    let so = begun-so f b conn now (sym (ap (λ ts. along fine (fine f (Begin conn now)) (moved_events conn ts)) h.1) ∙ x) in
+    let so = begun-so f b conn now (sym (ap (λ ts. along interleaved_step (interleaved_step f (Begin conn now)) (moved_events conn ts)) h.1) ∙ x) in
     absurd (true≢false (sym (begun-runs f conn now p at so.1) ∙ ap (λ g. runs g conn now p) so.2 ∙ h.0))
 begun-run f b conn now p moves _ at x h = refl
 
 -- where no turn is under way, one that doesn't begin it moves nothing
-unmoved : (f b : FineState) (conn : ℕ) (moves : List Transfer) → f.turn ≡ None → along fine (Some f) (moved_events conn moves) ≡ Some b → b.turn ≡ None
-unmoved f b conn [] none x = ap (λ (g : FineState). g.turn) (sym (same_Some f b x)) ∙ none
+unmoved : (f b : InterleavedState) (conn : ℕ) (moves : List Transfer) → f.turn ≡ None → along interleaved_step (Some f) (moved_events conn moves) ≡ Some b → b.turn ≡ None
+unmoved f b conn [] none x = ap (λ (g : InterleavedState). g.turn) (sym (same_Some f b x)) ∙ none
 unmoved f b conn (t ∷ ts) none x =
-    let made : Moves f conn (t ∷ ts) b = (fine-does f b (Move conn (t ∷ ts)) x).step in absurd (none-some made.turn (sym none ∙ made.under_way))
+    let made : Moves f conn (t ∷ ts) b = (interleaved-does f b (Move conn (t ∷ ts)) x).step in absurd (none-some made.turn (sym none ∙ made.under_way))
 
 -- and doesn't go on
-unbegun-run : (f b : FineState) (conn now : ℕ) (p : Pending) (moves : List Transfer) (ran : Ran) → f.turn ≡ None
-    → along fine (Some f) (moved_events conn moves) ≡ Some b → RanTo b conn now p moves ran → is_run ran ≡ false
+unbegun-run : (f b : InterleavedState) (conn now : ℕ) (p : Pending) (moves : List Transfer) (ran : Ran) → f.turn ≡ None
+    → along interleaved_step (Some f) (moved_events conn moves) ≡ Some b → RanTo b conn now p moves ran → is_run ran ≡ false
 unbegun-run f b conn now p moves far none x = by far where
   off : runs b conn now p ≡ false
   off = ap (λ t. is_passed (lines_at b conn now p) && is_some (turn_of t conn)) (unmoved f b conn moves none x) ∙ no-and (is_passed (lines_at b conn now p))
@@ -60,16 +60,16 @@ unbegun-run f b conn now p moves far none x = by far where
   by ran.Still h = refl
   by _ h = absurd (true≢false (sym h.0 ∙ off))
 
-unbegun : (f b : FineState) (conn now : ℕ) (p : Pending) (moves : List Transfer) (ran : Ran) (turn : Option Turn) → f.turn ≡ turn
-    → along fine (Some f) (moved_events conn moves) ≡ Some b → RanTo b conn now p moves ran → false ≡ (is_none turn && is_run ran)
+unbegun : (f b : InterleavedState) (conn now : ℕ) (p : Pending) (moves : List Transfer) (ran : Ran) (turn : Option Turn) → f.turn ≡ turn
+    → along interleaved_step (Some f) (moved_events conn moves) ≡ Some b → RanTo b conn now p moves ran → false ≡ (is_none turn && is_run ran)
 unbegun f b conn now p moves ran None is x h = sym (unbegun-run f b conn now p moves ran is x h)
 unbegun f b conn now p moves ran (Some u) is x h = refl
 
 -- A poll began its call's turn exactly where none was under way and it went on with one.
-pub polls-began : (f g : FineState) (conn now : ℕ) (moves : List Transfer) (ending : Ending) → Polls f conn now moves ending g
+pub polls-began : (f g : InterleavedState) (conn now : ℕ) (moves : List Transfer) (ending : Ending) → Polls f conn now moves ending g
     → begins f conn now ≡ (is_none f.turn && is_run (ran_of ending))
 polls-began f g conn now moves ending polls = by (begins f conn now) refl polls.runs_to where
-  by : (b : Bool) → begins f conn now ≡ b → along fine (Some f) (cond b (Begin conn now ∷ []) [] ++ moved_events conn moves) ≡ Some polls.behind
+  by : (b : Bool) → begins f conn now ≡ b → along interleaved_step (Some f) (cond b (Begin conn now ∷ []) [] ++ moved_events conn moves) ≡ Some polls.behind
       → b ≡ (is_none f.turn && is_run (ran_of ending))
   by true is x =
       sym (ap (λ b. b && is_run (ran_of ending)) (and_parts (is_none f.turn) (may_begin f.state conn now (pending_at f.state.tables conn)) is).0
@@ -77,7 +77,7 @@ polls-began f g conn now moves ending polls = by (begins f conn now) refl polls.
   by false is x = unbegun f polls.behind conn now polls.asked moves (ran_of ending) f.turn refl x polls.ran
 
 -- so a kernel tells it
-pub began-so : (f g : FineState) (conn now : ℕ) (moves : List Transfer) (o : Option Running) (made : List Transfer) (e : Ended) (room : List ℕ)
+pub began-so : (f g : InterleavedState) (conn now : ℕ) (moves : List Transfer) (o : Option Running) (made : List Transfer) (e : Ended) (room : List ℕ)
     → f.turn ≡ turn_shown o made → Polls f conn now moves (ended_shown e room) g → (not (is_some o) && has_run e) ≡ begins f conn now
 began-so f g conn now moves o made e room turn polls =
     ap (λ b. b && has_run e) (free-shown o made ∙ ap is_none (sym turn))

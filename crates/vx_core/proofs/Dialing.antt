@@ -6,9 +6,9 @@ use Rattle.std.proofs.lemmas.Bool.{false≢true, eqb-true}
 use Rattle.std.proofs.lemmas.Bool.Decides.{nat_tests}
 use Rattle.std.proofs.lemmas.Option.{same_Some}
 use Rattle.std.proofs.lemmas.List.Elements.{All-filter, All-push, All-weaker}
-use Rattle.vx_lemmas.specs.Conditions.{passes}
-use Rattle.vx_lemmas.specs.Options.{nothing}
-use Rattle.vx_lemmas.specs.Lists.{found_passes, found_holds, found_among, All-kept}
+use Rattle.vx_lemmas.proofs.Laws.Conditions.{passes}
+use Rattle.vx_lemmas.proofs.Laws.Options.{nothing}
+use Rattle.vx_lemmas.proofs.Laws.Lists.{found_passes, found_holds, found_among, All-kept}
 use Rattle.vx_bus_traits.specs.Means.{Means}
 use Rattle.vx_calls.specs.declared.calls.Role.TheVariants as role
 use Rattle.vx_calls.specs.declared.codes.ErrorCode.{ErrorCode}
@@ -29,24 +29,24 @@ use Rattle.vx_rules.specs.Dials.{dials_to}
 use Rattle.vx_rules.specs.Lines.{lets_pass}
 use Rattle.vx_rules.specs.PassLaws.{PassedLets}
 use Rattle.vx_rules.specs.Effects as effects
-use Rattle.vx_lemmas.specs.Lists.{found_holds, found_among, All-kept}
-use Rattle.vx_flow.specs.Fine.{wire_for, without_dial}
-use Rattle.vx_flow.specs.ProvedLaws.{admit}
+use Rattle.vx_lemmas.proofs.Laws.Lists.{found_holds, found_among, All-kept}
+use Rattle.vx_flow.specs.InterleavedStep.{wire_for, without_dial}
+use Rattle.vx_flow.proofs.Laws.{admit}
 use Rattle.vx_core.specs.Given.{reply_bytes}
 use Rattle.vx_core.specs.KernelState.{KernelState}
-use Rattle.vx_core.specs.Shown.{fine_of, own_of}
+use Rattle.vx_core.specs.Shown.{interleaved_of, own_of}
 use Rattle.vx_core.specs.Keeping.{IsDialable, IsDialed, KeepsDials}
 use Rattle.vx_core.specs.Turning.{HasPassed}
-use Rattle.vx_core.specs.ProvedLaws.{the_pending, own-is, distinct-filter}
-use Rattle.vx_core.specs.ProvedLaws.Counting.{distinct_numbers, distinct-moved}
-use Rattle.vx_flow.specs.Fine.{busy_with}
+use Rattle.vx_core.proofs.Laws.{the_pending, own-is, distinct-filter}
+use Rattle.vx_core.proofs.Laws.Counting.{distinct_numbers, distinct-moved}
+use Rattle.vx_flow.specs.InterleavedStep.{busy_with}
 
 -- a call that the first lines let pass has neither a check nor a lock against it
 pub passed-lets : {B : Type 0} (means : B → Means) (k : KernelState B) (conn : ℕ) → PassedLets → HasPassed means k conn
     → (p : Pending) → pending_at k.tables conn ≡ Some p → lets_pass k.tables (own_of means k conn) conn p ≡ true
 passed-lets means k conn law passed p at =
     subst (λ own. lets_pass k.tables own conn p ≡ true) (sym (own-is means k conn))
-    (law k.tables (busy_with (fine_of means k).turn) (wire_for (fine_of means k) conn).own conn k.moment p (passed p at))
+    (law k.tables (busy_with (interleaved_of means k).turn) (wire_for (interleaved_of means k) conn).own conn k.moment p (passed p at))
 
 -- a call whose check is passed over, with the rest
 no_refusal : (b : Bool) (error : ErrorCode) (rest : Option ErrorCode) → cond b (Some error) rest ≡ None → (b ≡ false) × (rest ≡ None)
@@ -96,8 +96,8 @@ pub passed_dial : {B : Type 0} (means : B → Means) (k : KernelState B) (conn :
     → ((p : Pending) → pending_at k.tables conn ≡ Some p → asks_dial p.call ≡ true) → PassedDial k.tables conn
 passed_dial means k conn pending passed dials =
     let p = the_pending (pending_at k.tables conn) pending in
-    let own : ℕ = (wire_for (fine_of means k) conn).own in
-    let clear = admit k.tables (busy_with (fine_of means k).turn) own conn false p.0 k.moment (passed p.0 p.1) in
+    let own : ℕ = (wire_for (interleaved_of means k) conn).own in
+    let clear = admit k.tables (busy_with (interleaved_of means k).turn) own conn false p.0 k.moment (passed p.0 p.1) in
     record { asked = p.0; call_at = p.1; unmarked = clear.unmarked; may = checked_dial k.tables own conn p.0.call (dials p.0 p.1) clear.checked }
 
 -- such a call is one of which a dial may be asked for

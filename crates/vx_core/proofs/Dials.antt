@@ -3,16 +3,16 @@ use Rattle.std.proofs.Common.{◌≡◌, ◌≢◌, ◌≤◌, ◌<◌, ◌+◌,
 use Rattle.std.specs.Prelude.{option_and_then}
 use Rattle.std.specs.Option.{option_map}
 use Rattle.std.specs.List.{filter, list_any}
-use Rattle.std.proofs.lemmas.Bool.{false≢true, eqb-true, ne_eqb}
+use Rattle.std.proofs.lemmas.Bool.{false≢true}
 use Rattle.std.proofs.lemmas.Option.{none-some}
 use Rattle.std.proofs.lemmas.List.Elements.{All-weaker}
 use Rattle.std.proofs.lemmas.List.Filters.{length-filter_both}
-use Rattle.vx_lemmas.specs.Conditions.{other-number}
-use Rattle.std.proofs.lemmas.Bool.{false≢true, eqb-true, ne_eqb}
+use Rattle.vx_lemmas.proofs.Laws.Conditions.{other-number}
+use Rattle.std.proofs.lemmas.Bool.{false≢true}
 use Rattle.std.proofs.lemmas.Option.{none-some}
 use Rattle.std.proofs.lemmas.List.Filters.{length-filter_both}
-use Rattle.vx_lemmas.specs.Conditions.{other-number}
-use Rattle.vx_lemmas.specs.Lists.{found_passes, All-kept, find_map-same}
+use Rattle.vx_lemmas.proofs.Laws.Conditions.{other-number}
+use Rattle.vx_lemmas.proofs.Laws.Lists.{All-kept}
 use Rattle.vx_calls.specs.declared.calls.Role.{Role}
 use Rattle.vx_calls.specs.declared.calls.Role.TheVariants as role
 use Rattle.vx_calls.specs.declared.codes.ErrorCode.{ErrorCode}
@@ -24,29 +24,30 @@ use Rattle.vx_calls.specs.Call as call
 use Rattle.vx_calls.specs.Reply.{Reply}
 use Rattle.vx_rules.specs.Table.{Link, is_live}
 use Rattle.vx_rules.specs.Locks.{holds, with_lock}
-use Rattle.vx_rules.specs.SrqState.{SrqState, ChannelSlot, Channel, slot_at, channel_at, slot_with, with_channel, with_new_channel, without_slot, queued_on, handles_of, risen_slot, is_rise, sampled, taken_from, taken}
-use Rattle.vx_rules.specs.ProvedLaws.Slots.{slot_with-stays, sampled-next}
+use Rattle.vx_rules.specs.SrqState.{SrqState, Channel, channel_at, with_new_channel, without_slot, queued_on, handles_of, risen_slot, is_rise, sampled, taken_from, taken}
+use Rattle.vx_rules.proofs.Laws.Slots.{sampled-next}
 use Rattle.vx_rules.specs.State.{Pending, Connection, Tables, same_role, pending_at, count_of, with_pending, with_connection, without_connection}
-use Rattle.vx_rules.specs.CountLaws.{count-called, count-marks, count-down, count-up}
+use Rattle.vx_rules.proofs.Laws.Counting.{count-called, count-marks, count-down, count-up}
 use Rattle.vx_rules.specs.Calls.{link_named}
 use Rattle.vx_rules.specs.Checks.{NamedLink, NoLink, DeadLink, OnLink, named_link}
 use Rattle.vx_rules.specs.Effects.{create, locked, effect_on, effect}
-use Rattle.vx_rules.specs.Decide.{Outside}
-use Rattle.vx_rules.specs.One.{arrived, names, mark_call, marked, abort_tables}
+use Rattle.vx_rules.specs.Decide.{BusInput}
+use Rattle.vx_rules.specs.AtomicStep.{arrived, names, mark_call, marked, abort_tables}
 use Rattle.vx_rules.specs.State.{Pending, Connection, Tables, same_role, pending_at, count_of, with_pending, with_connection, without_connection}
 use Rattle.vx_rules.specs.Calls.{link_named}
 use Rattle.vx_rules.specs.Effects.{create, locked, effect_on, effect}
-use Rattle.vx_rules.specs.Decide.{Outside}
-use Rattle.vx_rules.specs.One.{arrived, names, mark_call, marked, abort_tables}
-use Rattle.vx_rules.specs.ProvedLaws.{up-next, pending-same}
-use Rattle.vx_rules.specs.RowLaws.{pending-other, pending-up, pending-others, pending-marked}
+use Rattle.vx_rules.specs.Decide.{BusInput}
+use Rattle.vx_rules.specs.AtomicStep.{arrived, names, mark_call, marked, abort_tables}
+use Rattle.vx_rules.proofs.Laws.{up-next, pending-same}
+use Rattle.vx_rules.proofs.Laws.Rows.{pending-other, pending-up, pending-others, pending-marked}
 use Rattle.vx_flow.specs.Event.{Event, Up, Down, Arrive, Answer, Abort, Sample, Take, Begin, Move, Dial}
-use Rattle.vx_flow.specs.FineState.{FineState}
-use Rattle.vx_flow.specs.Fine.{wire_for, outside, without_dial, fine}
+use Rattle.vx_flow.specs.InterleavedState.{InterleavedState}
+use Rattle.vx_flow.specs.InterleavedStep.{wire_for, bus_input, without_dial, interleaved_step}
 use Rattle.vx_flow.specs.Does.{AnsweredBy, ByAbort, ByNoLink, ByCheck, ByBar, ByDialUp, ByDialDown, ByEffect, ByNoRole, ByFault, ByWhole, ByTimeout, Step}
-use Rattle.vx_flow.specs.ProvedLaws.{fine-does, line-leaves, channel_of, channel-risen, channel-up, channel-down, channel-taken}
+use Rattle.vx_flow.proofs.Laws.{interleaved-does, line-leaves, channel-risen, channel-up, channel-down, channel-taken}
+use Rattle.vx_flow.proofs.Laws.Interrupts.{channel-other}
 use Rattle.vx_core.specs.Keeping.{IsDialable, IsDialed, KeepsDials}
-use Rattle.vx_core.specs.ProvedLaws.{distinct-filter}
+use Rattle.vx_core.proofs.Laws.{distinct-filter}
 
 -- the event is neither the beginning nor a move of a turn, nor asks for a dial
 abbrev pub is_still : Event → Bool
@@ -206,18 +207,6 @@ same-numbers t u conn dialed same others = record { others = others; numbers = o
 same-channels : (t u : Tables) (conn : ℕ) (dialed : List ℕ) → u ≡ t → LeavesChannels t u conn dialed
 same-channels t u conn dialed e = subst (λ (x : Tables). LeavesChannels t x conn dialed) (sym e) (same-numbers t t conn dialed refl (λ n ne. refl))
 
--- another connection's channel stays where one is put or closed
-channel-other : (d : SrqState) (conn n : ℕ) (channel : Option Channel) → conn ≢ n → channel_at (with_channel d conn channel) n ≡ channel_at d n
-channel-other d conn n channel ne =
-    ap channel_of (find_map-same (λ p. p.connection == n) (slot_with conn channel) (λ p. ap (λ m. m == n) (slot_with-stays conn channel p)) d.slots)
-    ∙ by (slot_at d n) refl
-  where
-    by : (o : Option ChannelSlot) → slot_at d n ≡ o → channel_of (option_map (slot_with conn channel) o) ≡ channel_of o
-    by None is = refl
-    by (Some p) is =
-        ap (λ b. (cond b (record p { channel = channel }) p).channel)
-        (ne_eqb p.connection conn (λ f. ne (sym f ∙ eqb-true p.connection n (found_passes (λ q. q.connection == n) d.slots p is))))
-
 -- what an effect leaves
 abbrev FoundLeaves : Tables → ℕ → List ℕ → Option (Reply × Tables) → Type 0
 FoundLeaves t conn dialed None = Unit {0}
@@ -261,7 +250,7 @@ dial-leaves t conn program version dialed wanted = record {
 }
 
 -- so does every answer, by whichever line
-line-channels : (f : FineState) (conn now : ℕ) (p : Pending) (o : Outside) (told : Reply) (after : Tables) → AnsweredBy f conn now p o told after
+line-channels : (f : InterleavedState) (conn now : ℕ) (p : Pending) (o : BusInput) (told : Reply) (after : Tables) → AnsweredBy f conn now p o told after
     → LeavesChannels f.state.tables after conn f.dialed
 line-channels f conn now p o told after (ByAbort marked still stops) = same-channels f.state.tables after conn f.dialed stops.same
 line-channels f conn now p o told after (ByNoLink unmarked dead still stops) = same-channels f.state.tables after conn f.dialed stops.same
@@ -290,21 +279,21 @@ count-marked t lid = by (is_live t.links lid) where
 -- ---- events
 
 -- the dials of a state
-abbrev HasDials : FineState → Type 0
+abbrev HasDials : InterleavedState → Type 0
 HasDials f = KeepsDials f.state.tables f.dialed
 
 -- no more core connections live than may
-abbrev IsFew : FineState → Type 0
+abbrev IsFew : InterleavedState → Type 0
 IsFew f = count_of f.state.tables role.Core ≤ ROLE_MAX
 
 -- by event: the dials
-dials-step : (e : Event) (f g : FineState) → is_still e ≡ true → HasDials f → Step f e g → HasDials g
+dials-step : (e : Event) (f g : InterleavedState) → is_still e ≡ true → HasDials f → Step f e g → HasDials g
 dials-step (Up conn r) f g still k d = subst HasDials (sym d.leads) (up-dials f.state.tables r f.dialed k)
 dials-step (Down conn) f g still k d = subst HasDials (sym d.leads) (down-dials f.state.tables conn f.dialed k)
 dials-step (Arrive conn asked now) f g still k d =
     subst HasDials (sym d.leads) (arrive-dials f.state.tables conn (Some (arrived asked now)) f.dialed d.idle k)
 dials-step (Answer conn now failed dialed level told) f g still k d =
-    let o : Outside = outside f conn failed dialed level in
+    let o : BusInput = bus_input f conn failed dialed level in
     let leaves = line-leaves f conn now d.asked o told d.after d.line in
     subst HasDials (sym d.leads)
     (answered-dials f.state.tables d.after conn f.dialed leaves.connections (line-channels f conn now d.asked o told d.after d.line) k)
@@ -316,8 +305,8 @@ dials-step (Move conn moves) f g still k d = absurd (false≢true still)
 dials-step (Dial conn now) f g still k d = absurd (false≢true still)
 
 -- a channel number is left for each dial, and each is asked for once, by a call that its checks let pass
-pub dials-after : (f g : FineState) (e : Event) → is_still e ≡ true → KeepsDials f.state.tables f.dialed → fine f e ≡ Some g → KeepsDials g.state.tables g.dialed
-dials-after f g e still k h = dials-step e f g still k (fine-does f g e h).step
+pub dials-after : (f g : InterleavedState) (e : Event) → is_still e ≡ true → KeepsDials f.state.tables f.dialed → interleaved_step f e ≡ Some g → KeepsDials g.state.tables g.dialed
+dials-after f g e still k h = dials-step e f g still k (interleaved-does f g e h).step
 
 -- where the count stays
 few-same : (t u : Tables) → count_of u role.Core ≡ count_of t role.Core → count_of t role.Core ≤ ROLE_MAX → count_of u role.Core ≤ ROLE_MAX
@@ -329,14 +318,14 @@ few-answered t u conn same few =
     few-same t (with_pending u conn None) (count-called u conn None ∙ ap (λ cs. count_by (λ (c : Connection). same_role c.role role.Core) cs) same) few
 
 -- by event: the count
-few-step : (e : Event) (f g : FineState) → IsFew f → Step f e g → IsFew g
+few-step : (e : Event) (f g : InterleavedState) → IsFew f → Step f e g → IsFew g
 few-step (Up conn r) f g few d = subst IsFew (sym d.leads) (count-up f.state.tables r d.room few)
 few-step (Down conn) f g few d = subst IsFew (sym d.leads) (omega (arith, few, count-down f.state.tables conn))
 few-step (Arrive conn asked now) f g few d =
     let t = f.state.tables in
     subst IsFew (sym d.leads) (few-same t (with_pending t conn (Some (arrived asked now))) (count-called t conn (Some (arrived asked now))) few)
 few-step (Answer conn now failed dialed level told) f g few d =
-    let leaves = line-leaves f conn now d.asked (outside f conn failed dialed level) told d.after d.line in
+    let leaves = line-leaves f conn now d.asked (bus_input f conn failed dialed level) told d.after d.line in
     subst IsFew (sym d.leads) (few-answered f.state.tables d.after conn leaves.connections few)
 few-step (Abort conn lid told) f g few d =
     subst IsFew (sym d.leads) (few-same f.state.tables (abort_tables f.state.tables lid) (count-marked f.state.tables lid) few)
@@ -347,5 +336,5 @@ few-step (Move conn moves) f g few d = subst IsFew (sym d.leads) few
 few-step (Dial conn now) f g few d = subst IsFew (sym d.leads) few
 
 -- and no more core connections live than may
-pub few-after : (f g : FineState) (e : Event) → count_of f.state.tables role.Core ≤ ROLE_MAX → fine f e ≡ Some g → count_of g.state.tables role.Core ≤ ROLE_MAX
-few-after f g e few h = few-step e f g few (fine-does f g e h).step
+pub few-after : (f g : InterleavedState) (e : Event) → count_of f.state.tables role.Core ≤ ROLE_MAX → interleaved_step f e ≡ Some g → count_of g.state.tables role.Core ≤ ROLE_MAX
+few-after f g e few h = few-step e f g few (interleaved-does f g e h).step

@@ -10,17 +10,17 @@ use Rattle.vx_488.specs.Wire.{wire_after}
 use Rattle.vx_plan.specs.Plan.{Stand, Whole, Part, Off}
 use Rattle.vx_bus_traits.specs.Means.{Means}
 use Rattle.vx_ctrl.specs.Turns.{TurnState, HasMade}
-use Rattle.vx_ctrl.specs.Goes.{Begins, HoldsBytes}
+use Rattle.vx_ctrl.specs.Goes.{TurnBegins, HoldsBytes}
 use Rattle.vx_rules.specs.State.{pending_at}
 use Rattle.vx_rules.specs.Decide.{stand_on, stand_of_job}
 use Rattle.vx_flow.specs.Event.{Event, Answer}
-use Rattle.vx_flow.specs.FineState.{Turn, FineState, turn_after}
-use Rattle.vx_flow.specs.Fine.{fine, is_answer_of, turn_stand, call_stand}
+use Rattle.vx_flow.specs.InterleavedState.{Turn, InterleavedState, turn_after}
+use Rattle.vx_flow.specs.InterleavedStep.{interleaved_step, is_answer_of, turn_stand, call_stand}
 use Rattle.vx_flow.specs.Sound.{Stands, TurnStands, IsSound}
-use Rattle.vx_flow.specs.ProvedLaws.{fine-does, fine-frame, later-stands, turn-stand, stays_sound-law, call_stays-law}
+use Rattle.vx_flow.proofs.Laws.{interleaved-does, interleaved-frame, later-stands, turn-stand, stays_sound-law, call_stays-law}
 use Rattle.vx_core.specs.declared.running.Running.{Running}
 use Rattle.vx_core.specs.KernelState.{KernelState}
-use Rattle.vx_core.specs.Shown.{fine_of, turn_shown, before_shown}
+use Rattle.vx_core.specs.Shown.{interleaved_of, turn_shown, before_shown}
 use Rattle.vx_core.specs.Keeping.{RunsTurn, Holds, Keeps}
 use Rattle.vx_core.proofs.Dials.{is_still, dials-after, few-after}
 
@@ -33,9 +33,9 @@ own-gone (Answer conn now failed dialed level told) u h =
 own-gone _ u h = absurd (false≢true h)
 
 -- so a turn that is left wasn't whole
-left-open : (f g : FineState) (e : Event) (u : Turn) → fine f e ≡ Some g → f.turn ≡ Some u → g.turn ≡ Some u → turn_stand f u u.moves ≢ Whole
+left-open : (f g : InterleavedState) (e : Event) (u : Turn) → interleaved_step f e ≡ Some g → f.turn ≡ Some u → g.turn ≡ Some u → turn_stand f u u.moves ≢ Whole
 left-open f g e u h is after whole =
-    none-some u (sym (own-gone e u ((fine-does f g e h).in_turn u is whole)) ∙ ap (λ t. turn_after t e) (sym is) ∙ sym (fine-frame f g e h).turn_is ∙ after)
+    none-some u (sym (own-gone e u ((interleaved-does f g e h).in_turn u is whole)) ∙ ap (λ t. turn_after t e) (sym is) ∙ sym (interleaved-frame f g e h).turn_is ∙ after)
 
 -- what keeps to a plan and isn't whole is a part
 part-of : (s : Stand) → s ≢ Off → s ≢ Whole → s ≡ Part
@@ -44,7 +44,7 @@ part-of Part on more = refl
 part-of Off on more = absurd (on refl)
 
 -- and it is a part of its job still: that doesn't depend on whether its call is marked
-stays-part : (f g : FineState) (e : Event) (u : Turn) → IsSound f → fine f e ≡ Some g → f.turn ≡ Some u → g.turn ≡ Some u → g.before ≡ f.before
+stays-part : (f g : InterleavedState) (e : Event) (u : Turn) → IsSound f → interleaved_step f e ≡ Some g → f.turn ≡ Some u → g.turn ≡ Some u → g.before ≡ f.before
     → turn_stand g u u.moves ≡ Part
 stays-part f g e u sound h is after same =
     let stands : Stands f.state.tables f.before f.state.wire f.state.moment u =
@@ -71,7 +71,7 @@ pub record LeavesTurn {B : Type 0} (means : B → Means) (old new : KernelState 
 
 -- a turn that has made a list has made it, whatever else the bus means
 begins-same : (turn : TurnState) (w w' : Wire) (bytes : List ℕ) (made made' : List Transfer) (m m' : Means) → w' ≡ w → made' ≡ made → m'.wire ≡ m.wire
-    → Begins turn w bytes made m → Begins turn w' bytes made' m'
+    → TurnBegins turn w bytes made m → TurnBegins turn w' bytes made' m'
 begins-same turn w w' bytes made made' m m' before moves wire b = record {
   left = b.left;
   had_made =
@@ -82,17 +82,17 @@ begins-same turn w w' bytes made made' m m' before moves wire b = record {
 
 -- the turn of a core, as events know it
 shown-turn : {B : Type 0} (means : B → Means) (k : KernelState B) (r : Running) (made : List Transfer) → k.running ≡ Some r → k.made ≡ made
-    → (fine_of means k).turn ≡ Some (record { connection = r.conn; begun = r.turn.begun; moves = made })
+    → (interleaved_of means k).turn ≡ Some (record { connection = r.conn; begun = r.turn.begun; moves = made })
 shown-turn means k r made is same = ap (λ x. turn_shown x k.made) is ∙ ap (turn_shown (Some r)) same
 
 -- the turn that an event leaves runs on
 leaves-runs : {B : Type 0} (means : B → Means) (old new : KernelState B) (e : Event) → Holds means old → new.running ≡ old.running → new.room ≡ old.room
-    → LeavesTurn means old new → fine (fine_of means old) e ≡ Some (fine_of means new) → (r : Running) → new.running ≡ Some r → RunsTurn means new r
+    → LeavesTurn means old new → interleaved_step (interleaved_of means old) e ≡ Some (interleaved_of means new) → (r : Running) → new.running ≡ Some r → RunsTurn means new r
 leaves-runs means old new e holds running room leaves h r is =
     let was : old.running ≡ Some r = sym running ∙ is in
     let runs = holds.runs r was in
     let u : Turn = record { connection = r.conn; begun = r.turn.begun; moves = old.made } in
-    let call = call_stays-law (fine_of means old) (fine_of means new) e u runs.asked holds.sound h (shown-turn means old r old.made was refl)
+    let call = call_stays-law (interleaved_of means old) (interleaved_of means new) e u runs.asked holds.sound h (shown-turn means old r old.made was refl)
     (shown-turn means new r old.made is leaves.made) runs.call_at in
     record {
       asked = record runs.asked { aborted = call.0 };
@@ -110,7 +110,7 @@ leaves-runs means old new e holds running room leaves h r is =
 
 -- the bus before the turn is as it was
 leaves-before : {B : Type 0} (means : B → Means) (old new : KernelState B) → new.running ≡ old.running → LeavesTurn means old new
-    → (fine_of means new).before ≡ (fine_of means old).before
+    → (interleaved_of means new).before ≡ (interleaved_of means old).before
 leaves-before means old new running leaves =
     ap (λ x. before_shown x new.before (means new.bus).wire) running
     ∙ ap (λ x. before_shown old.running x (means new.bus).wire) leaves.before
@@ -118,7 +118,7 @@ leaves-before means old new running leaves =
 
 -- what a core keeps it keeps behind such an event
 pub keeps-after : {B : Type 0} (means : B → Means) (old new : KernelState B) (e : Event) → is_still e ≡ true → Holds means old
-    → LeavesTurn means old new → fine (fine_of means old) e ≡ Some (fine_of means new) → Keeps means new
+    → LeavesTurn means old new → interleaved_step (interleaved_of means old) e ≡ Some (interleaved_of means new) → Keeps means new
 keeps-after {B} means old new e still holds leaves h = record {
   holds = record {
     sound = stays_sound-law f g e holds.sound h;
@@ -130,20 +130,20 @@ keeps-after {B} means old new e still holds leaves h = record {
   is_part = part leaves.running;
 }
   where
-    f : FineState
-    f = fine_of means old
+    f : InterleavedState
+    f = interleaved_of means old
 
-    g : FineState
-    g = fine_of means new
+    g : InterleavedState
+    g = interleaved_of means new
 
     runs : (new.running ≡ old.running) × (new.room ≡ old.room) ⊎ (new.running ≡ None) → (r : Running) → new.running ≡ Some r → RunsTurn means new r
     runs (inl same) r is = leaves-runs means old new e holds same.0 same.1 leaves h r is
     runs (inr over) r is = absurd (none-some r (sym over ∙ is))
 
-    part : (new.running ≡ old.running) × (new.room ≡ old.room) ⊎ (new.running ≡ None) → (u : Turn) → (fine_of means new).turn ≡ Some u
-        → turn_stand (fine_of means new) u u.moves ≡ Part
+    part : (new.running ≡ old.running) × (new.room ≡ old.room) ⊎ (new.running ≡ None) → (u : Turn) → (interleaved_of means new).turn ≡ Some u
+        → turn_stand (interleaved_of means new) u u.moves ≡ Part
     part (inl same) u is =
-        stays-part (fine_of means old) (fine_of means new) e u holds.sound h
+        stays-part (interleaved_of means old) (interleaved_of means new) e u holds.sound h
         (ap (λ x. turn_shown x old.made) (sym same.0) ∙ ap (turn_shown new.running) (sym leaves.made) ∙ is) is (leaves-before means old new same.0 leaves)
     part (inr over) u is = absurd (none-some u (sym (ap (λ x. turn_shown x new.made) over) ∙ is))
 
@@ -156,7 +156,7 @@ keeps-later {B} means k bus moment wire le keeps = record {
   holds = record {
     sound = record {
       turn_stands = subst TurnOn (sym wire)
-          (later-stands k.tables (fine_of means k).before (means k.bus).wire k.moment moment (fine_of means k).turn le keeps.holds.sound.turn_stands);
+          (later-stands k.tables (interleaved_of means k).before (means k.bus).wire k.moment moment (interleaved_of means k).turn le keeps.holds.sound.turn_stands);
       have_come = λ conn p at. let came = keeps.holds.sound.have_come conn p at in omega (arith, came, le);
       tables = keeps.holds.sound.tables;
     };

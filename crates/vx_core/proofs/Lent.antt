@@ -10,14 +10,14 @@ use Rattle.vx_flow.specs.Poll.{begins, ran_of, FitsSlice}
 use Rattle.vx_flow.specs.declared.progress.Ran.{Ran}
 use Rattle.vx_flow.specs.declared.progress.Ran.TheVariants as ran
 use Rattle.vx_core.specs.declared.ended.Ended.{Ended}
-use Rattle.vx_core.specs.declared.ended.Given.{Given}
-use Rattle.vx_core.specs.declared.ended.Given.TheVariants as given
+use Rattle.vx_core.specs.declared.ended.StoredReply.{StoredReply}
+use Rattle.vx_core.specs.declared.ended.StoredReply.TheVariants as given
 use Rattle.vx_core.specs.KernelState.{KernelState}
-use Rattle.vx_core.specs.CoreState.{CoreState, core_of}
-use Rattle.vx_core.specs.Shown.{fine_of}
+use Rattle.vx_core.specs.CoreState.{CoreState}
+use Rattle.vx_core.specs.Shown.{core_of, interleaved_of}
 use Rattle.vx_core.specs.Given.{given_reply, given_len, reply_bytes}
 use Rattle.vx_core.specs.Ending.{ended_shown}
-use Rattle.vx_core.specs.Polling.{Leaves}
+use Rattle.vx_core.specs.Leaving.{Leaves}
 use Rattle.vx_core.specs.declared.polled.Polled.{Polled}
 use Rattle.vx_core.specs.Lending.{Shows, PollLeaves}
 
@@ -36,7 +36,7 @@ few-so ran.Sliced moved h = omega (arith, h)
 -- a core leaves what its kernel does
 pub core-leaves : {B : Type 0} (means : B → Means) (through : B → Step → B → Type 0) (srq ndac : B → Bool) (old : CoreState B) (k new : KernelState B) (conn now : ℕ)
     (ended told : Ended) (result : Polled) → core_of means k ≡ old → new.last ≡ Some ended
-    → new.began ≡ begins (fine_of means k) conn (max k.moment now) → Leaves means through srq ndac k conn now ended new → ended ≡ told
+    → new.began ≡ begins (interleaved_of means k) conn (max k.moment now) → Leaves means through srq ndac k conn now ended new → ended ≡ told
     → Shows result (ended_shown told new.room) → PollLeaves means through srq ndac old conn now result (core_of means new)
 core-leaves {B} means through srq ndac old k new conn now ended told result view last began leaves is shows =
     let P : CoreState B → Type 0 = λ s. PollLeaves means through srq ndac s conn now result (core_of means new) in
@@ -53,7 +53,7 @@ take-few : (n : ℕ) (xs : List ℕ) → length (take n xs) ≤ n
 take-few n xs = omega (arith, length-take n xs)
 
 -- a reply has no more bytes than it is said to have
-given-few : (g : Given) (room : List ℕ) → length (reply_bytes (given_reply g room)) ≤ given_len g
+given-few : (g : StoredReply) (room : List ℕ) → length (reply_bytes (given_reply g room)) ≤ given_len g
 given-few (given.Read error reason len) room = take-few len room
 given-few (given.Docmd error len) room = take-few len room
 given-few given.Null room = omega arith
@@ -62,5 +62,5 @@ given-few (given.Write error size) room = omega arith
 given-few (given.Stb error stb) room = omega arith
 given-few (given.Error error) room = omega arith
 
-pub lent-fits : (g : Given) (room : List ℕ) (reply : Reply) → reply ≡ given_reply g room → given_len g ≤ READ_MAX → length (reply_bytes reply) ≤ READ_MAX
+pub lent-fits : (g : StoredReply) (room : List ℕ) (reply : Reply) → reply ≡ given_reply g room → given_len g ≤ READ_MAX → length (reply_bytes reply) ≤ READ_MAX
 lent-fits g room reply e within = omega (arith, ap (λ r. length (reply_bytes r)) e, given-few g room, within)

@@ -1,3 +1,4 @@
+pub mod Laws
 pub mod Leaving
 pub mod Replying
 pub mod Turning

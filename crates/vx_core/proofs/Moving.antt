@@ -19,8 +19,8 @@ use Rattle.vx_plan.specs.declared.tasks.Task.TheVariants as task
 use Rattle.vx_plan.specs.Plan.{Slot, Plan, Reading, Part, stand_of, stand, left_after, next_slot}
 use Rattle.vx_plan.specs.Results.{whole_reply}
 use Rattle.vx_plan.specs.Tasks.{plan, IsPlainTask}
-use Rattle.vx_plan.specs.ProvedLaws.{left_after-none, left_after-append, left-on}
-use Rattle.vx_flow.specs.ProvedLaws.{OwnHas, own-after, finished_law-holds, broken_law-holds, timeout_law-holds, held_law-holds, sliced_law-holds}
+use Rattle.vx_plan.proofs.Laws.{left_after-none, left_after-append, left-on}
+use Rattle.vx_flow.proofs.Laws.{OwnHas, own-after, finished_law-holds, broken_law-holds, timeout_law-holds, held_law-holds, sliced_law-holds}
 use Rattle.vx_bus_traits.specs.Means.{Means}
 use Rattle.vx_bus_traits.specs.Steps.{Step, Went}
 use Rattle.vx_bus_traits.specs.Walks.{Walk}
@@ -33,8 +33,8 @@ use Rattle.vx_rules.specs.Calls.{bytes_of, is_big, io_timeout_of, has_passed}
 use Rattle.vx_rules.specs.Effects.{stopped_reply}
 use Rattle.vx_rules.specs.Decide.{stand_of_job, level_fits}
 use Rattle.vx_flow.specs.Event.{Event, Answer}
-use Rattle.vx_flow.specs.FineState.{Turn, FineState, turn_of, moves_of}
-use Rattle.vx_flow.specs.Fine.{fine, job_of, turn_stand, call_stand}
+use Rattle.vx_flow.specs.InterleavedState.{Turn, InterleavedState, turn_of, moves_of}
+use Rattle.vx_flow.specs.InterleavedStep.{interleaved_step, job_of, turn_stand, call_stand}
 use Rattle.vx_flow.specs.Sound.{IsSound}
 use Rattle.vx_flow.specs.Poll.{Ending, Answered, Waited, Polls, is_broken, ran_of, run_events}
 use Rattle.vx_flow.specs.declared.progress.Ran.{Ran}
@@ -45,15 +45,15 @@ use Rattle.vx_flow.specs.declared.progress.Why.TheVariants as why
 use Rattle.vx_core.specs.declared.ended.Ended.{Ended}
 use Rattle.vx_core.specs.declared.ended.Ended.TheVariants as ended
 use Rattle.vx_core.specs.Ending.{ended_shown, ended_len}
-use Rattle.vx_core.specs.Replying.{level_told}
+use Rattle.vx_core.specs.Polling.{level_told, wanted, wanted_by, refused_ask, level_of, IsTold, PollOnBus}
 use Rattle.vx_core.specs.KernelState.{KernelState}
-use Rattle.vx_core.specs.Shown.{fine_of, turn_shown, before_shown, running_of, running_without, closed}
+use Rattle.vx_core.specs.Shown.{interleaved_of, turn_shown, before_shown, running_of, running_without, closed}
 use Rattle.vx_core.specs.Keeping.{RunsTurn, KeepsDials, Holds}
 use Rattle.vx_core.specs.Turning.{HasTurn, WentOn}
-use Rattle.vx_core.specs.ProvedLaws.{running-own}
-use Rattle.vx_core.specs.Polling.{wanted, wanted_by, refused_ask, level_of, IsTold, PollsOver, EndsFrom}
+use Rattle.vx_core.proofs.Laws.{running-own}
+use Rattle.vx_core.specs.Leaving.{EndsFrom}
 use Rattle.vx_core.proofs.Keeping.{keeps-after}
-use Rattle.vx_core.proofs.Ends.{behind-own, sound-along, answer-ends, fine-closed}
+use Rattle.vx_core.proofs.Ends.{behind-own, sound-along, answer-ends, interleaved-closed}
 
 -- ---- plans
 
@@ -86,7 +86,7 @@ on-plan turn w bytes made left h =
     ∙ h.reaches.goes
 
 -- where transfers of a connection's turn stand, by its call and its job
-stands-so : (f : FineState) (u : Turn) (p : Pending) (job : Task) (moves : List Transfer) → pending_at f.state.tables u.connection ≡ Some p
+stands-so : (f : InterleavedState) (u : Turn) (p : Pending) (job : Task) (moves : List Transfer) → pending_at f.state.tables u.connection ≡ Some p
     → job_of f.state.tables u.connection p ≡ Some job → turn_stand f u moves ≡ stand (plan job (bytes_of p.call) f.before.polling f.before.own) moves
 stands-so f u p job moves at has_job =
     ap (call_stand f.state.tables f.before u.connection moves) at ∙ ap (stand_of_job f.before p.call moves) has_job
@@ -100,29 +100,29 @@ turn_by k r = record { connection = r.conn; begun = r.turn.begun; moves = k.made
 -- what a poll knows of its call's turn once that went on by the bus's transfers, to this outcome
 pub record HasGone {B : Type 0} (means : B → Means) (through : B → Step → B → Type 0) (k : KernelState B) (conn : ℕ) (r : Running) (outcome : Outcome) (m : KernelState B) : Type 0 where
   pub asked : Pending
-  pub goes : GoesOnBy (fine_of means k) conn k.moment asked (turn_by k r) r.turn.task
-  pub from : (turn_stand (fine_of means k) (turn_by k r) k.made ≡ Part) ⊎ ((means m.bus).moves ≡ [])
-  pub to : turn_stand (fine_of means k) (turn_by k r) (k.made ++ (means m.bus).moves) ≡ outcome_stand outcome
+  pub goes : GoesOnBy (interleaved_of means k) conn k.moment asked (turn_by k r) r.turn.task
+  pub from : (turn_stand (interleaved_of means k) (turn_by k r) k.made ≡ Part) ⊎ ((means m.bus).moves ≡ [])
+  pub to : turn_stand (interleaved_of means k) (turn_by k r) (k.made ++ (means m.bus).moves) ≡ outcome_stand outcome
   pub few : FitsSlice outcome (length (means m.bus).moves)
-  pub after : fine_of means m ≡ moved_on (fine_of means k) (turn_by k r) (means m.bus).moves
+  pub after : interleaved_of means m ≡ moved_on (interleaved_of means k) (turn_by k r) (means m.bus).moves
   pub own : (means m.bus).wire.own ≤ ADDRESS_MAX
   pub runs : (s : Running) → m.running ≡ Some s → RunsTurn means m s
   pub tables : m.tables ≡ k.tables
   pub dialed : m.dialed ≡ k.dialed
   pub moment : m.moment ≡ k.moment
-  pub before : (fine_of means k).before ≡ m.before
+  pub before : (interleaved_of means k).before ≡ m.before
   pub task : (s : Running) → m.running ≡ Some s → (s.turn.task ≡ r.turn.task) × (s.turn.begun ≡ r.turn.begun)
   pub over_then : running_without m.running conn ≡ None
   pub made : m.made ≡ k.made ++ (means m.bus).moves
   pub left : Plan
-  pub is_left : left_after (Some (plan r.turn.task (bytes_of asked.call) (fine_of means k).before.polling (fine_of means k).before.own)) (k.made ++ (means m.bus).moves) ≡ Some left
+  pub is_left : left_after (Some (plan r.turn.task (bytes_of asked.call) (interleaved_of means k).before.polling (interleaved_of means k).before.own)) (k.made ++ (means m.bus).moves) ≡ Some left
   pub walk : Walk means through k.bus (go_steps (means m.bus).moves outcome left) m.bus
 
 has-gone : {B : Type 0} (means : B → Means) (through : B → Step → B → Type 0) (k : KernelState B) (conn : ℕ) (outcome : Outcome) (m : KernelState B)
     → (has : HasTurn means k conn) → WentOn means through k has.running outcome m → HasGone means through k conn has.running outcome m
 has-gone {B} means through k conn outcome m has went =
     let r = has.running in
-    let f : FineState = fine_of means k in
+    let f : InterleavedState = interleaved_of means k in
     let moves : List Transfer = (means m.bus).moves in
     let own = running-own k.running conn r has.is_own in
     let old = has.holds.runs r own.0 in
@@ -144,7 +144,7 @@ has-gone {B} means through k conn outcome m has went =
     let stands : (ts : List Transfer) → turn_stand f (turn_by k r) ts ≡ stand (plan_at k.before p r.turn.task) ts =
     λ ts. stands-so f (turn_by k r) p r.turn.task ts here job_here ∙ ap (λ w. stand (plan_at w p r.turn.task) ts) before in
     let from : ((turn_stand f (turn_by k r) k.made ≡ Part) ⊎ (moves ≡ [])) = elim stood [ inl part ↦ inl (stands k.made ∙ ap stand_of first ∙ part) | inr none ↦ inr none ] in
-    let M : Wire → ℕ → Wire → FineState = λ wire begun before. record {
+    let M : Wire → ℕ → Wire → InterleavedState = λ wire begun before. record {
       state = record { tables = k.tables; wire = wire; moment = k.moment };
       turn = Some (record { connection = r.conn; begun = begun; moves = k.made ++ moves });
       before = before;
@@ -169,7 +169,7 @@ has-gone {B} means through k conn outcome m has went =
       to = stands (k.made ++ moves) ∙ ap stand_of later ∙ went.goes.stands;
       few = went.goes.few;
       after =
-          ap (fine_of means) went.kept
+          ap (interleaved_of means) went.kept
           ∙ ap (λ w. M w went.turn.begun k.before) went.wire
           ∙ ap (λ b. M (wire_after (means k.bus).wire moves) b k.before) went.begun
           ∙ ap (M (wire_after (means k.bus).wire moves) r.turn.begun) (sym before);
@@ -199,7 +199,7 @@ gone means through k conn result outcome m has went is =
     has-gone means through k conn outcome m has (subst (λ o. WentOn means through k has.running o m) is (went has.running has.is_own))
 
 -- a turn that isn't whole was a part before
-part-before : (f : FineState) (u : Turn) (moves : List Transfer) → (turn_stand f u u.moves ≡ Part) ⊎ (moves ≡ []) → turn_stand f u (u.moves ++ moves) ≡ Part
+part-before : (f : InterleavedState) (u : Turn) (moves : List Transfer) → (turn_stand f u u.moves ≡ Part) ⊎ (moves ≡ []) → turn_stand f u (u.moves ++ moves) ≡ Part
     → turn_stand f u u.moves ≡ Part
 part-before f u moves (inl part) to = part
 part-before f u moves (inr none) to =
@@ -207,11 +207,11 @@ part-before f u moves (inr none) to =
 
 -- what holds between events holds behind the transfers
 gone-sound : {B : Type 0} (means : B → Means) (through : B → Step → B → Type 0) (k : KernelState B) (conn : ℕ) (r : Running) (outcome : Outcome) (m : KernelState B)
-    → HasGone means through k conn r outcome m → IsSound (fine_of means m)
+    → HasGone means through k conn r outcome m → IsSound (interleaved_of means m)
 gone-sound {B} means through k conn r outcome m gone =
     subst IsSound (sym gone.after) (by outcome gone.to gone.few) where
-      f : FineState
-      f = fine_of means k
+      f : InterleavedState
+      f = interleaved_of means k
 
       u : Turn
       u = turn_by k r
@@ -219,7 +219,7 @@ gone-sound {B} means through k conn r outcome m gone =
       moves : List Transfer
       moves = (means m.bus).moves
 
-      along_polls : (ending : Ending) (g : FineState) → Polls f conn k.moment moves ending g → IsSound (moved_on f u moves)
+      along_polls : (ending : Ending) (g : InterleavedState) → Polls f conn k.moment moves ending g → IsSound (moved_on f u moves)
       along_polls ending g polls =
           subst IsSound (behind-own f polls.behind conn k.moment u moves gone.goes.own polls.runs_to)
           (sound-along (run_events f conn k.moment moves) f polls.behind gone.goes.sound polls.runs_to)
@@ -247,7 +247,7 @@ gone-holds means through k conn r outcome m holds gone = record {
 -- ---- the steps of the bus
 
 -- what the plan wants behind the transfers
-wanted-next : (f : FineState) (conn : ℕ) (p : Pending) (u : Turn) (job : Task) (moves : List Transfer) (left : Plan) → u.connection ≡ conn
+wanted-next : (f : InterleavedState) (conn : ℕ) (p : Pending) (u : Turn) (job : Task) (moves : List Transfer) (left : Plan) → u.connection ≡ conn
     → job_of f.state.tables conn p ≡ Some job
     → left_after (Some (plan job (bytes_of p.call) f.before.polling f.before.own)) (u.moves ++ moves) ≡ Some left
     → wanted (moved_on f u moves) conn p ≡ next_slot left
@@ -259,13 +259,13 @@ wanted-next f conn p u job moves left of_call has_job is_left =
 
 -- a poll that went on with its call's turn, with the steps of the bus
 pub gone-over : {B : Type 0} (means : B → Means) (through : B → Step → B → Type 0) (srq ndac : B → Bool) (k : KernelState B) (conn : ℕ) (r : Running) (outcome : Outcome)
-    (m : KernelState B) (ending : Ending) (g : FineState) → (gone : HasGone means through k conn r outcome m)
+    (m : KernelState B) (ending : Ending) (g : InterleavedState) → (gone : HasGone means through k conn r outcome m)
     → ((slot : Option Slot) → refused_steps outcome slot ≡ refused_ask (ran_of ending) slot)
-    → IsTold (moved_on (fine_of means k) (turn_by k r) (means m.bus).moves) conn gone.asked (srq m.bus) (ndac m.bus) ending
-    → Polls (fine_of means k) conn k.moment (means m.bus).moves ending g
-    → PollsOver means through srq ndac (fine_of means k) k.bus conn k.moment [] ending g m.bus
+    → IsTold (moved_on (interleaved_of means k) (turn_by k r) (means m.bus).moves) conn gone.asked (srq m.bus) (ndac m.bus) ending
+    → Polls (interleaved_of means k) conn k.moment (means m.bus).moves ending g
+    → PollOnBus means through srq ndac (interleaved_of means k) k.bus conn k.moment [] ending g m.bus
 gone-over {B} means through srq ndac k conn r outcome m ending g gone refused told polls =
-    let f : FineState = fine_of means k in
+    let f : InterleavedState = interleaved_of means k in
     let u : Turn = turn_by k r in
     let moves : List Transfer = (means m.bus).moves in
     let behind : polls.behind ≡ moved_on f u moves = behind-own f polls.behind conn k.moment u moves gone.goes.own polls.runs_to in
@@ -286,12 +286,12 @@ gone-over {B} means through srq ndac k conn r outcome m ending g gone refused to
 
 -- the list of the turn under way stands as the outcome says
 pub gone-stands : {B : Type 0} (means : B → Means) (through : B → Step → B → Type 0) (k : KernelState B) (conn : ℕ) (r : Running) (outcome : Outcome) (m : KernelState B)
-    → HasGone means through k conn r outcome m → (u : Turn) → (fine_of means m).turn ≡ Some u → turn_stand (fine_of means m) u u.moves ≡ outcome_stand outcome
+    → HasGone means through k conn r outcome m → (u : Turn) → (interleaved_of means m).turn ≡ Some u → turn_stand (interleaved_of means m) u u.moves ≡ outcome_stand outcome
 gone-stands {B} means through k conn r outcome m gone =
-    let f : FineState = fine_of means k in
+    let f : InterleavedState = interleaved_of means k in
     let moves : List Transfer = (means m.bus).moves in
     let v : Turn = record (turn_by k r) { moves = k.made ++ moves } in
-    let P : FineState → Type 0 = λ s. (u : Turn) → s.turn ≡ Some u → turn_stand s u u.moves ≡ outcome_stand outcome in
+    let P : InterleavedState → Type 0 = λ s. (u : Turn) → s.turn ≡ Some u → turn_stand s u u.moves ≡ outcome_stand outcome in
     let Q : Turn → Type 0 = λ u. turn_stand (moved_on f (turn_by k r) moves) u u.moves ≡ outcome_stand outcome in
     subst P (sym gone.after) (λ u e. subst Q (same_Some v u e) gone.to)
 
@@ -309,33 +309,33 @@ pub gone-ends : {B : Type 0} (means : B → Means) (through : B → Step → B �
     (m new : KernelState B) (ended : Ended) (ran : Ran) (level : Bool) (told : Reply) → Holds means k → (gone : HasGone means through k conn r outcome m)
     → new ≡ record (closed m conn) { room = new.room }
     → ((slot : Option Slot) → refused_steps outcome slot ≡ refused_ask ran slot)
-    → IsTold (moved_on (fine_of means k) (turn_by k r) (means m.bus).moves) conn gone.asked (srq m.bus) (ndac m.bus) (Answered ran level told)
-    → Polls (fine_of means k) conn k.moment (means m.bus).moves (Answered ran level told)
-    (over (moved_on (fine_of means k) (turn_by k r) (means m.bus).moves) conn k.moment k.tables)
+    → IsTold (moved_on (interleaved_of means k) (turn_by k r) (means m.bus).moves) conn gone.asked (srq m.bus) (ndac m.bus) (Answered ran level told)
+    → Polls (interleaved_of means k) conn k.moment (means m.bus).moves (Answered ran level told)
+    (over (moved_on (interleaved_of means k) (turn_by k r) (means m.bus).moves) conn k.moment k.tables)
     → ended_shown ended new.room ≡ Answered ran level told → ended_len ended ≤ READ_MAX
     → EndsFrom means through srq ndac k conn ended new
 gone-ends {B} means through srq ndac k conn r outcome m new ended ran level told holds gone kept refused is_told polls shown within =
-    let f : FineState = fine_of means k in
+    let f : InterleavedState = interleaved_of means k in
     let u : Turn = turn_by k r in
     let moves : List Transfer = (means m.bus).moves in
     let N : KernelState B = record (closed m conn) { room = new.room } in
     let e : Event = Answer conn k.moment (is_broken ran) None level told in
-    let leads : over (moved_on f u moves) conn k.moment k.tables ≡ fine_of means N =
+    let leads : over (moved_on f u moves) conn k.moment k.tables ≡ interleaved_of means N =
     ap (λ t. over (moved_on f u moves) conn k.moment t) (sym gone.tables)
     ∙ ap (λ n. over (moved_on f u moves) conn n m.tables) (sym gone.moment)
     ∙ ap (λ s. over s conn m.moment m.tables) (sym gone.after)
-    ∙ sym (fine-closed means m conn m.tables) in
-    let left : Polls f conn k.moment moves (Answered ran level told) (fine_of means N) = subst (Polls f conn k.moment moves (Answered ran level told)) leads polls in
-    let behind : left.behind ≡ fine_of means m = behind-own f left.behind conn k.moment u moves gone.goes.own left.runs_to ∙ sym gone.after in
-    let goes : fine (fine_of means m) e ≡ Some (fine_of means N) =
-    ap (λ b. fine b e) (sym behind) ∙ answer-ends f (fine_of means N) conn k.moment moves ran level told left in
-    let P : Ending → Type 0 = λ ending. PollsOver means through srq ndac f k.bus conn k.moment [] ending (fine_of means N) m.bus in
+    ∙ sym (interleaved-closed means m conn m.tables) in
+    let left : Polls f conn k.moment moves (Answered ran level told) (interleaved_of means N) = subst (Polls f conn k.moment moves (Answered ran level told)) leads polls in
+    let behind : left.behind ≡ interleaved_of means m = behind-own f left.behind conn k.moment u moves gone.goes.own left.runs_to ∙ sym gone.after in
+    let goes : interleaved_step (interleaved_of means m) e ≡ Some (interleaved_of means N) =
+    ap (λ b. interleaved_step b e) (sym behind) ∙ answer-ends f (interleaved_of means N) conn k.moment moves ran level told left in
+    let P : Ending → Type 0 = λ ending. PollOnBus means through srq ndac f k.bus conn k.moment [] ending (interleaved_of means N) m.bus in
     let done : EndsFrom means through srq ndac k conn ended N = record {
       keeps = keeps-after means m N e refl (gone-holds means through k conn r outcome m holds gone)
           (record { running = inr gone.over_then; before = refl; made = refl; wire = refl }) goes;
       moment = gone.moment;
       within = within;
-      over = subst P (sym shown) (gone-over means through srq ndac k conn r outcome m (Answered ran level told) (fine_of means N) gone refused is_told left);
+      over = subst P (sym shown) (gone-over means through srq ndac k conn r outcome m (Answered ran level told) (interleaved_of means N) gone refused is_told left);
     } in
     subst (EndsFrom means through srq ndac k conn ended) (sym kept) done
 
@@ -362,7 +362,7 @@ pub gone-finished : {B : Type 0} (means : B → Means) (through : B → Step →
     (whole_reply s.turn.task (bytes_of p.call) m.before (is_big p.call) (level_told s.turn.task (srq m.bus) (ndac m.bus)) m.made))
     → ended_len ended ≤ READ_MAX → EndsFrom means through srq ndac k conn ended new
 gone-finished {B} means through srq ndac k conn r s m new ended holds gone running kept reply within =
-    let f : FineState = fine_of means k in
+    let f : InterleavedState = interleaved_of means k in
     let u : Turn = turn_by k r in
     let moves : List Transfer = (means m.bus).moves in
     let p : Pending = gone.asked in
@@ -384,7 +384,7 @@ stop-told : {B : Type 0} (means : B → Means) (through : B → Step → B → T
     → stopped_reply gone.asked.call error (moves_of (turn_of (turn_shown m.running m.made) conn)) ≡ stopped_reply gone.asked.call error (k.made ++ (means m.bus).moves)
 stop-told {B} means through k conn r outcome m error gone =
     let v : Turn = record (turn_by k r) { moves = k.made ++ (means m.bus).moves } in
-    ap (λ (s : FineState). stopped_reply gone.asked.call error (moves_of (turn_of s.turn conn))) gone.after
+    ap (λ (s : InterleavedState). stopped_reply gone.asked.call error (moves_of (turn_of s.turn conn))) gone.after
     ∙ ap (λ b. stopped_reply gone.asked.call error (moves_of (cond b (Some v) None))) (eq-eqb r.conn conn gone.goes.of_call)
 
 -- the bus failed
@@ -394,7 +394,7 @@ pub gone-broken : {B : Type 0} (means : B → Means) (through : B → Step → B
     → ended_shown ended new.room ≡ Answered ran.Broken false (stopped_reply p.call code.BusFault (moves_of (turn_of (turn_shown m.running m.made) conn))))
     → ended_len ended ≤ READ_MAX → EndsFrom means through srq ndac k conn ended new
 gone-broken {B} means through srq ndac k conn r m new ended holds gone kept reply within =
-    let f : FineState = fine_of means k in
+    let f : InterleavedState = interleaved_of means k in
     let u : Turn = turn_by k r in
     let moves : List Transfer = (means m.bus).moves in
     gone-ends means through srq ndac k conn r went.Broken m new ended ran.Broken false (stopped_reply gone.asked.call code.BusFault (k.made ++ moves)) holds gone
@@ -420,7 +420,7 @@ pub gone-timeout : {B : Type 0} (means : B → Means) (through : B → Step → 
     → ended_shown ended new.room ≡ Answered ran.Paused false (stopped_reply p.call code.Timeout (moves_of (turn_of (turn_shown m.running m.made) conn))))
     → ended_len ended ≤ READ_MAX → EndsFrom means through srq ndac k conn ended new
 gone-timeout {B} means through srq ndac k conn r s m new ended holds gone running late kept reply within =
-    let f : FineState = fine_of means k in
+    let f : InterleavedState = interleaved_of means k in
     let u : Turn = turn_by k r in
     let moves : List Transfer = (means m.bus).moves in
     let at = gone-at means through k conn r went.Held m gone in
@@ -439,14 +439,14 @@ pub gone-held : {B : Type 0} (means : B → Means) (through : B → Step → B �
     → ((p : Pending) → pending_at m.tables conn ≡ Some p → has_passed (io_timeout_of p.call) s.turn.begun m.moment ≡ false)
     → EndsFrom means through srq ndac k conn (ended.Waited why.Held) m
 gone-held {B} means through srq ndac k conn r s m holds gone running late =
-    let f : FineState = fine_of means k in
+    let f : InterleavedState = interleaved_of means k in
     let u : Turn = turn_by k r in
     let moves : List Transfer = (means m.bus).moves in
     let at = gone-at means through k conn r went.Held m gone in
     let in_time : has_passed (io_timeout_of gone.asked.call) r.turn.begun k.moment ≡ false =
     ap (λ n. has_passed (io_timeout_of gone.asked.call) r.turn.begun n) (sym gone.moment)
     ∙ ap (λ n. has_passed (io_timeout_of gone.asked.call) n m.moment) (sym (gone.task s running).1) ∙ late gone.asked at in
-    let polls : Polls f conn k.moment moves (Waited why.Held) (fine_of means m) =
+    let polls : Polls f conn k.moment moves (Waited why.Held) (interleaved_of means m) =
     subst (Polls f conn k.moment moves (Waited why.Held)) (sym gone.after)
     (held_law-holds f conn k.moment gone.asked u r.turn.task moves gone.goes (part-before f u moves gone.from gone.to) gone.to gone.few in_time) in
     record {
@@ -456,7 +456,7 @@ gone-held {B} means through srq ndac k conn r s m holds gone running late =
       };
       moment = gone.moment;
       within = omega arith;
-      over = gone-over means through srq ndac k conn r went.Held m (Waited why.Held) (fine_of means m) gone held-refuses tt polls;
+      over = gone-over means through srq ndac k conn r went.Held m (Waited why.Held) (interleaved_of means m) gone held-refuses tt polls;
     }
 
 -- a full slice: the bus was asked for its transfers alone
@@ -467,10 +467,10 @@ slice-refuses (Some slot) = refl
 pub gone-sliced : {B : Type 0} (means : B → Means) (through : B → Step → B → Type 0) (srq ndac : B → Bool) (k : KernelState B) (conn : ℕ) (r : Running)
     (m : KernelState B) → Holds means k → (gone : HasGone means through k conn r went.Slice m) → EndsFrom means through srq ndac k conn (ended.Waited why.Slice) m
 gone-sliced {B} means through srq ndac k conn r m holds gone =
-    let f : FineState = fine_of means k in
+    let f : InterleavedState = interleaved_of means k in
     let u : Turn = turn_by k r in
     let moves : List Transfer = (means m.bus).moves in
-    let polls : Polls f conn k.moment moves (Waited why.Slice) (fine_of means m) =
+    let polls : Polls f conn k.moment moves (Waited why.Slice) (interleaved_of means m) =
     subst (Polls f conn k.moment moves (Waited why.Slice)) (sym gone.after)
     (sliced_law-holds f conn k.moment gone.asked u r.turn.task moves gone.goes (part-before f u moves gone.from gone.to) gone.to gone.few) in
     record {
@@ -480,5 +480,5 @@ gone-sliced {B} means through srq ndac k conn r m holds gone =
       };
       moment = gone.moment;
       within = omega arith;
-      over = gone-over means through srq ndac k conn r went.Slice m (Waited why.Slice) (fine_of means m) gone slice-refuses tt polls;
+      over = gone-over means through srq ndac k conn r went.Slice m (Waited why.Slice) (interleaved_of means m) gone slice-refuses tt polls;
     }

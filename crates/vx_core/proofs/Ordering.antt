@@ -21,50 +21,51 @@ use Rattle.vx_rules.specs.Checks.{named_link}
 use Rattle.vx_rules.specs.Dials.{dials_to}
 use Rattle.vx_rules.specs.Lines as lines
 use Rattle.vx_rules.specs.Lines.{first_lines_in, first_lines, lock_request}
-use Rattle.vx_tables.specs.Shown.{bar_shown, lines_shown}
-use Rattle.vx_tables.specs.declared.tables.lines.Bar.{Bar}
-use Rattle.vx_tables.specs.declared.tables.lines.Bar.TheVariants as bar
-use Rattle.vx_tables.specs.declared.tables.lines.Admission.{Admission}
+use Rattle.vx_state.specs.Shown.{bar_shown, lines_shown}
+use Rattle.vx_state.specs.declared.tables.lines.Bar.{Bar}
+use Rattle.vx_state.specs.declared.tables.lines.Bar.TheVariants as bar
+use Rattle.vx_state.specs.declared.tables.lines.Admission.{Admission}
 use Rattle.vx_rules.specs.Effects.{stopped_reply, effect}
 use Rattle.vx_flow.specs.Event.{Begin}
-use Rattle.vx_flow.specs.FineState.{Turn, FineState, turn_of, moves_of}
-use Rattle.vx_flow.specs.Fine.{busy_with, fine, job_of, wire_for, waits_for, waits_for_turn, on_conflict, turn_target, may_begin, without_dial}
+use Rattle.vx_flow.specs.InterleavedState.{Turn, InterleavedState, turn_of, moves_of}
+use Rattle.vx_flow.specs.InterleavedStep.{busy_with, interleaved_step, job_of, wire_for, waits_for, waits_for_turn, on_conflict, turn_target, may_begin, without_dial}
 use Rattle.vx_flow.specs.Poll.{Ending, Answered, Dialed, NotYet, Polls, ran_before, lines_at, moved_events, run_events}
 use Rattle.vx_flow.specs.declared.progress.Why.{Why}
 use Rattle.vx_flow.specs.declared.progress.Ran.TheVariants as ran
 use Rattle.vx_flow.specs.Ways.{IsPolled, over, begun_now}
-use Rattle.vx_flow.specs.ProvedLaws.{stays_sound-law, refused_law-holds, waits_law-holds, no_role_law-holds, effect_law-holds, dial_law-holds, begun_law-holds, busy-passes}
+use Rattle.vx_flow.proofs.Laws.{stays_sound-law, refused_law-holds, waits_law-holds, no_role_law-holds, effect_law-holds, dial_law-holds, begun_law-holds, busy-passes}
 use Rattle.vx_core.specs.declared.running.Running.{Running}
 use Rattle.vx_flow.specs.declared.progress.Why.TheVariants as why
 use Rattle.vx_core.specs.declared.ended.Ended.{Ended}
 use Rattle.vx_core.specs.declared.ended.Ended.TheVariants as ended
 use Rattle.vx_core.specs.KernelState.{KernelState}
-use Rattle.vx_core.specs.Shown.{busy_of, fine_of, turn_shown, running_of, own_of, closed}
+use Rattle.vx_core.specs.Shown.{busy_of, interleaved_of, turn_shown, running_of, own_of, closed}
 use Rattle.vx_core.specs.Ending.{ended_shown, ended_len, why_barred}
 use Rattle.vx_core.specs.Keeping.{RunsTurn, KeepsDials, Holds}
 use Rattle.vx_core.specs.Turning.{HasHeard, HasPassed, IsFree, HasTurn, BeginsTurn, turn_waited}
-use Rattle.vx_core.specs.Polling.{PollsOver, EndsFrom}
-use Rattle.vx_core.specs.ProvedLaws.{own-is, busy-is, the_pending}
+use Rattle.vx_core.specs.Polling.{PollOnBus}
+use Rattle.vx_core.specs.Leaving.{EndsFrom}
+use Rattle.vx_core.proofs.Laws.{own-is, busy-is, the_pending}
 use Rattle.vx_core.proofs.Ends.{begun-so, still-ends, waits-ends, dials-ends}
 
 -- ---- a call that is polled
 
 pub polled : {B : Type 0} (means : B → Means) (k : KernelState B) (conn : ℕ) (p : Pending) → HasHeard means k conn → pending_at k.tables conn ≡ Some p
-    → IsPolled (fine_of means k) conn k.moment p
+    → IsPolled (interleaved_of means k) conn k.moment p
 polled means k conn p heard at = record { sound = heard.keeps.holds.sound; call_at = at; late = omega arith; is_part = heard.keeps.is_part }
 
 -- what the first lines say, by what the tables say
 pub lines-so : {B : Type 0} (means : B → Means) (k : KernelState B) (conn : ℕ) (said told : Admission) (p : Pending)
     → ((p : Pending) → pending_at k.tables conn ≡ Some p → lines_shown said ≡ first_lines_in k.tables (busy_of k) (own_of means k conn) conn false p k.moment)
-    → said ≡ told → pending_at k.tables conn ≡ Some p → lines_at (fine_of means k) conn k.moment p ≡ lines_shown told
+    → said ≡ told → pending_at k.tables conn ≡ Some p → lines_at (interleaved_of means k) conn k.moment p ≡ lines_shown told
 lines-so means k conn said told p h is at =
-    ap (λ own. first_lines_in k.tables (busy_with (fine_of means k).turn) own conn false p k.moment) (sym (own-is means k conn))
+    ap (λ own. first_lines_in k.tables (busy_with (interleaved_of means k).turn) own conn false p k.moment) (sym (own-is means k conn))
     ∙ ap (λ busy. first_lines_in k.tables busy (own_of means k conn) conn false p k.moment) (sym (busy-is means k)) ∙ sym (h p at) ∙ ap lines_shown is
 
 -- a call that is answered where no transfer was made, with the state that it leaves
 still-so : {B : Type 0} (means : B → Means) (through : B → Step → B → Type 0) (srq ndac : B → Bool) (k new : KernelState B) (conn : ℕ) (after : Tables)
     (given : Reply) (ended : Ended) → HasHeard means k conn → new ≡ closed (record k { tables = after }) conn
-    → Polls (fine_of means k) conn k.moment [] (Answered ran.Still false given) (over (fine_of means k) conn k.moment after)
+    → Polls (interleaved_of means k) conn k.moment [] (Answered ran.Still false given) (over (interleaved_of means k) conn k.moment after)
     → ended_shown ended new.room ≡ Answered ran.Still false given → ended_len ended ≤ READ_MAX
     → EndsFrom means through srq ndac k conn ended new
 still-so {B} means through srq ndac k new conn after given ended heard kept polls shown within =
@@ -76,7 +77,7 @@ still-so {B} means through srq ndac k new conn after given ended heard kept poll
 -- the first lines refuse it
 pub refused-ends : {B : Type 0} (means : B → Means) (through : B → Step → B → Type 0) (srq ndac : B → Bool) (k new : KernelState B) (conn : ℕ) (error : ErrorCode)
     (ended : Ended) → HasHeard means k conn
-    → ((p : Pending) → pending_at k.tables conn ≡ Some p → lines_at (fine_of means k) conn k.moment p ≡ lines.Refused error)
+    → ((p : Pending) → pending_at k.tables conn ≡ Some p → lines_at (interleaved_of means k) conn k.moment p ≡ lines.Refused error)
     → new ≡ closed k conn
     → ((p : Pending) → pending_at k.tables conn ≡ Some p
     → ended_shown ended new.room ≡ Answered ran.Still false (stopped_reply p.call error (moves_of (turn_of (turn_shown k.running k.made) conn))))
@@ -84,20 +85,20 @@ pub refused-ends : {B : Type 0} (means : B → Means) (through : B → Step → 
 refused-ends means through srq ndac k new conn error ended heard says kept reply within =
     let p = the_pending (pending_at k.tables conn) heard.pending in
     still-so means through srq ndac k new conn k.tables _ ended heard kept
-    (refused_law-holds (fine_of means k) conn k.moment p.0 error (polled means k conn p.0 heard p.1) (says p.0 p.1)) (reply p.0 p.1) within
+    (refused_law-holds (interleaved_of means k) conn k.moment p.0 error (polled means k conn p.0 heard p.1) (says p.0 p.1)) (reply p.0 p.1) within
 
 -- it waits, and no turn of its own goes on
 waiting-ends : {B : Type 0} (means : B → Means) (through : B → Step → B → Type 0) (srq ndac : B → Bool) (k : KernelState B) (conn : ℕ) (w : Why)
-    → HasHeard means k conn → ((p : Pending) → pending_at k.tables conn ≡ Some p → NotYet (fine_of means k) conn k.moment p w) → ran_before w ≡ ran.Still
+    → HasHeard means k conn → ((p : Pending) → pending_at k.tables conn ≡ Some p → NotYet (interleaved_of means k) conn k.moment p w) → ran_before w ≡ ran.Still
     → EndsFrom means through srq ndac k conn (ended.Waited w) k
 waiting-ends means through srq ndac k conn w heard says still =
     let p = the_pending (pending_at k.tables conn) heard.pending in
     waits-ends means through srq ndac k conn w (ended.Waited w) heard.keeps heard.cut still
-    (waits_law-holds (fine_of means k) conn k.moment p.0 w (polled means k conn p.0 heard p.1) (says p.0 p.1) still) refl (omega arith)
+    (waits_law-holds (interleaved_of means k) conn k.moment p.0 w (polled means k conn p.0 heard p.1) (says p.0 p.1) still) refl (omega arith)
 
 -- for what keeps it off: a link's lock, or a call that stands in line before it
 pub barred-ends : {B : Type 0} (means : B → Means) (through : B → Step → B → Type 0) (srq ndac : B → Bool) (k : KernelState B) (conn : ℕ) (b : Bar)
-    → HasHeard means k conn → ((p : Pending) → pending_at k.tables conn ≡ Some p → lines_at (fine_of means k) conn k.moment p ≡ lines.Waiting (bar_shown b))
+    → HasHeard means k conn → ((p : Pending) → pending_at k.tables conn ≡ Some p → lines_at (interleaved_of means k) conn k.moment p ≡ lines.Waiting (bar_shown b))
     → EndsFrom means through srq ndac k conn (ended.Waited (why_barred b)) k
 barred-ends means through srq ndac k conn (bar.HeldBy link) heard says = waiting-ends means through srq ndac k conn (why.Locked link) heard says refl
 barred-ends means through srq ndac k conn (bar.Behind other) heard says = waiting-ends means through srq ndac k conn (why.Behind other) heard says refl
@@ -105,7 +106,7 @@ barred-ends means through srq ndac k conn (bar.Behind other) heard says = waitin
 -- ---- a call that the first lines let pass
 
 -- the turn that a call waits for
-turn-waits : (f : FineState) (conn : ℕ) (p : Pending) (turn : Option Turn) (by : ℕ) → turn_waited f conn p turn ≡ Some by
+turn-waits : (f : InterleavedState) (conn : ℕ) (p : Pending) (turn : Option Turn) (by : ℕ) → turn_waited f conn p turn ≡ Some by
     → (u : Turn) × (turn ≡ Some u) × (u.connection ≡ by) × (waits_for f.state.tables (wire_for f conn).own conn p u ≡ true)
 turn-waits f conn p None by h = cc
 turn-waits f conn p (Some u) by h = so (waits_for f.state.tables (wire_for f conn).own conn p u) refl h where
@@ -115,7 +116,7 @@ turn-waits f conn p (Some u) by h = so (waits_for f.state.tables (wire_for f con
   so false e x = cc
 
 -- it waits for none
-waits-none : (f : FineState) (conn : ℕ) (p : Pending) (turn : Option Turn) → turn_waited f conn p turn ≡ None
+waits-none : (f : InterleavedState) (conn : ℕ) (p : Pending) (turn : Option Turn) → turn_waited f conn p turn ≡ None
     → waits_for_turn f.state.tables (wire_for f conn).own conn p turn ≡ false
 waits-none f conn p None h = refl
 waits-none f conn p (Some u) h = so (waits_for f.state.tables (wire_for f conn).own conn p u) h where
@@ -126,10 +127,10 @@ waits-none f conn p (Some u) h = so (waits_for f.state.tables (wire_for f conn).
 -- it waits for another connection's turn
 pub in-turn-ends : {B : Type 0} (means : B → Means) (through : B → Step → B → Type 0) (srq ndac : B → Bool) (k : KernelState B) (conn by : ℕ)
     → HasHeard means k conn → HasPassed means k conn
-    → ((p : Pending) → pending_at k.tables conn ≡ Some p → turn_waited (fine_of means k) conn p (fine_of means k).turn ≡ Some by)
+    → ((p : Pending) → pending_at k.tables conn ≡ Some p → turn_waited (interleaved_of means k) conn p (interleaved_of means k).turn ≡ Some by)
     → EndsFrom means through srq ndac k conn (ended.Waited (why.Turn by)) k
 in-turn-ends means through srq ndac k conn by heard passed waits =
-    let f : FineState = fine_of means k in
+    let f : InterleavedState = interleaved_of means k in
     waiting-ends means through srq ndac k conn (why.Turn by) heard (λ p at. let u = turn-waits f conn p f.turn by (waits p at) in (passed p at, u.0, u.1, u.2, u.3)) refl
 
 -- a dial is asked for
@@ -140,7 +141,7 @@ pub dialed-ends : {B : Type 0} (means : B → Means) (through : B → Step → B
     → ((p : Pending) → pending_at k.tables conn ≡ Some p → ended_shown ended new.room ≡ Dialed (dials_to p.call).0 (dials_to p.call).1)
     → ended_len ended ≡ 0 → KeepsDials new.tables new.dialed → EndsFrom means through srq ndac k conn ended new
 dialed-ends {B} means through srq ndac k new conn ended heard passed asks kept shown none dials =
-    let f : FineState = fine_of means k in
+    let f : InterleavedState = interleaved_of means k in
     let p = the_pending (pending_at k.tables conn) heard.pending in
     let room : new.room ≡ k.room = ap (λ (s : KernelState B). s.room) kept in
     let host : ℕ = (dials_to p.0.call).0 in
@@ -154,14 +155,14 @@ dialed-ends {B} means through srq ndac k new conn ended heard passed asks kept s
 -- a call that needs neither the bus nor a dial has its effect
 pub effect-ends : {B : Type 0} (means : B → Means) (through : B → Step → B → Type 0) (srq ndac : B → Bool) (k new : KernelState B) (conn : ℕ) (ended : Ended)
     → HasHeard means k conn → HasPassed means k conn
-    → ((p : Pending) → pending_at k.tables conn ≡ Some p → turn_waited (fine_of means k) conn p (fine_of means k).turn ≡ None)
+    → ((p : Pending) → pending_at k.tables conn ≡ Some p → turn_waited (interleaved_of means k) conn p (interleaved_of means k).turn ≡ None)
     → ((p : Pending) → pending_at k.tables conn ≡ Some p → (is_bus_call p.call ≡ false) × (asks_dial p.call ≡ false))
     → ((p : Pending) → pending_at k.tables conn ≡ Some p → (given : Reply) × (after : Tables)
     × (effect k.tables (own_of means k conn) conn (named_link k.tables conn p.call) p.call ≡ Some (given, after))
     × (ended_shown ended new.room ≡ Answered ran.Still false given) × (new ≡ closed (record k { tables = after }) conn))
     → ended_len ended ≤ READ_MAX → EndsFrom means through srq ndac k conn ended new
 effect-ends {B} means through srq ndac k new conn ended heard passed free kinds has_effect within =
-    let f : FineState = fine_of means k in
+    let f : InterleavedState = interleaved_of means k in
     let p = the_pending (pending_at k.tables conn) heard.pending in
     let e = has_effect p.0 p.1 in
     let kind = kinds p.0 p.1 in
@@ -175,13 +176,13 @@ effect-ends {B} means through srq ndac k new conn ended heard passed free kinds 
 
 -- where a turn is under way, a bus call that waits for none has its own
 own-turn : {B : Type 0} (means : B → Means) (k : KernelState B) (conn : ℕ) (p : Pending) (o : Option Running) → k.running ≡ o → is_some o ≡ true
-    → turn_waited (fine_of means k) conn p (turn_shown o k.made) ≡ None → is_bus_call p.call ≡ true
+    → turn_waited (interleaved_of means k) conn p (turn_shown o k.made) ≡ None → is_bus_call p.call ≡ true
     → (r : Running) × (running_of k.running conn ≡ Some r)
 own-turn means k conn p None e h w bus = cc
 own-turn means k conn p (Some r) e h w bus =
     (r, ap (λ o. running_of o conn) e ∙ by (r.conn == conn) refl (sym (ap (λ b. cond (not (r.conn == conn) && (b || more)) (Some r.conn) None) bus) ∙ w)) where
       more : Bool
-      more = is_lock_call p.call && on_conflict (lock_request (wire_for (fine_of means k) conn).own (named_link k.tables conn p.call) p.call)
+      more = is_lock_call p.call && on_conflict (lock_request (wire_for (interleaved_of means k) conn).own (named_link k.tables conn p.call) p.call)
           (turn_target k.tables (record { connection = r.conn; begun = r.turn.begun; moves = k.made }))
 
       by : (b : Bool) → (r.conn == conn) ≡ b → cond (not b && (true || more)) (Some r.conn) None ≡ None → cond b (Some r) None ≡ Some r
@@ -209,7 +210,7 @@ pub no-role-ends : {B : Type 0} (means : B → Means) (through : B → Step → 
     → ended_shown ended new.room ≡ Answered ran.Still false (stopped_reply p.call code.BusFault (moves_of (turn_of (turn_shown same.running same.made) conn))))
     → ended_len ended ≤ READ_MAX → EndsFrom means through srq ndac k conn ended new
 no-role-ends {B} means through srq ndac k same new conn has ended heard passed none job lacks is kept reply within =
-    let f : FineState = fine_of means k in
+    let f : InterleavedState = interleaved_of means k in
     let p = the_pending (pending_at k.tables conn) heard.pending in
     let j = job p.0 p.1 in
     let running : k.running ≡ None = none-running k.running none in
@@ -228,7 +229,7 @@ pub record HasBegun {B : Type 0} (means : B → Means) (k : KernelState B) (conn
   pub call_at : pending_at k.tables conn ≡ Some asked
   pub same_bus : new.bus ≡ k.bus
   pub same_moment : new.moment ≡ k.moment
-  pub leads : fine (fine_of means k) (Begin conn k.moment) ≡ Some (fine_of means new)
+  pub leads : interleaved_step (interleaved_of means k) (Begin conn k.moment) ≡ Some (interleaved_of means new)
   pub turn : HasTurn means new conn
 
 pub has-begun : {B : Type 0} (means : B → Means) (k new : KernelState B) (conn : ℕ) (has : Bool)
@@ -236,21 +237,21 @@ pub has-begun : {B : Type 0} (means : B → Means) (k new : KernelState B) (conn
     → ((p : Pending) → pending_at k.tables conn ≡ Some p → (job : Task) × (job_of k.tables conn p ≡ Some job) × (has ≡ has_role job (means k.bus).wire))
     → has ≡ true → BeginsTurn means k conn new → HasBegun means k conn new
 has-begun {B} means k new conn has heard passed none job has_it begins =
-    let f : FineState = fine_of means k in
+    let f : InterleavedState = interleaved_of means k in
     let p = the_pending (pending_at k.tables conn) heard.pending in
     let j = job p.0 p.1 in
     let running : k.running ≡ None = none-running k.running none in
     let turn : f.turn ≡ None = ap (λ o. turn_shown o k.made) running in
     let r : Running = begins.running in
     let N : KernelState B = record k { running = Some r; before = (means k.bus).wire; made = [] } in
-    let T : ℕ → ℕ → FineState = λ n begun. record f { turn = Some (record { connection = n; begun = begun; moves = [] }); before = f.state.wire } in
-    let shown : fine_of means new ≡ begun_now f conn k.moment = ap (fine_of means) begins.kept ∙ ap (λ n. T n r.turn.begun) begins.of_call ∙ ap (T conn) begins.now in
-    let leads : fine f (Begin conn k.moment) ≡ Some (fine_of means new) =
+    let T : ℕ → ℕ → InterleavedState = λ n begun. record f { turn = Some (record { connection = n; begun = begun; moves = [] }); before = f.state.wire } in
+    let shown : interleaved_of means new ≡ begun_now f conn k.moment = ap (interleaved_of means) begins.kept ∙ ap (λ n. T n r.turn.begun) begins.of_call ∙ ap (T conn) begins.now in
+    let leads : interleaved_step f (Begin conn k.moment) ≡ Some (interleaved_of means new) =
     begun_law-holds f conn k.moment p.0 j.0 (polled means k conn p.0 heard p.1) (passed p.0 p.1) turn j.1 (sym j.2 ∙ has_it) ∙ ap Some (sym shown) in
     let is : new.running ≡ Some r = ap (λ (s : KernelState B). s.running) begins.kept in
     let bus : new.bus ≡ k.bus = ap (λ (s : KernelState B). s.bus) begins.kept in
     let holds : Holds means new = record {
-      sound = stays_sound-law f (fine_of means new) (Begin conn k.moment) heard.keeps.holds.sound leads;
+      sound = stays_sound-law f (interleaved_of means new) (Begin conn k.moment) heard.keeps.holds.sound leads;
       own = subst (λ b. (means b).wire.own ≤ ADDRESS_MAX) (sym bus) heard.keeps.holds.own;
       runs = λ s at. subst (RunsTurn means new) (same_Some r s (sym is ∙ at)) begins.runs;
       dials = subst (λ (s : KernelState B). KeepsDials s.tables s.dialed) (sym begins.kept) heard.keeps.holds.dials;
@@ -279,16 +280,16 @@ has-begun {B} means k new conn has heard passed none job has_it begins =
     }
 
 -- a poll from the state with the turn is one from the state before
-begins-over : {B : Type 0} (means : B → Means) (through : B → Step → B → Type 0) (srq ndac : B → Bool) (f g h : FineState) (bus after : B) (conn now : ℕ) (ending : Ending)
-    → f.state.moment ≤ now → f.state.tables ≡ g.state.tables → fine f (Begin conn now) ≡ Some g → PollsOver means through srq ndac g bus conn now [] ending h after
-    → PollsOver means through srq ndac f bus conn now [] ending h after
+begins-over : {B : Type 0} (means : B → Means) (through : B → Step → B → Type 0) (srq ndac : B → Bool) (f g h : InterleavedState) (bus after : B) (conn now : ℕ) (ending : Ending)
+    → f.state.moment ≤ now → f.state.tables ≡ g.state.tables → interleaved_step f (Begin conn now) ≡ Some g → PollOnBus means through srq ndac g bus conn now [] ending h after
+    → PollOnBus means through srq ndac f bus conn now [] ending h after
 begins-over {B} means through srq ndac f g h bus after conn now ending late tables leads o =
     let moves : List Transfer = (means after).moves in
     let so = begun-so f g conn now leads in
     let begun : (is_none f.turn && may_begin f.state conn now (pending_at f.state.tables conn)) ≡ true =
     ap (λ b. b && may_begin f.state conn now (pending_at f.state.tables conn)) so.0 ∙ so.1 in
-    let never : along fine (Some g) (run_events g conn now moves) ≡ along fine (Some g) (moved_events conn moves) =
-    ap (λ (s : FineState). along fine (Some g) (cond (is_none s.turn && may_begin g.state conn now (pending_at g.state.tables conn)) (Begin conn now ∷ []) [] ++ moved_events conn moves)) (sym so.2) in
+    let never : along interleaved_step (Some g) (run_events g conn now moves) ≡ along interleaved_step (Some g) (moved_events conn moves) =
+    ap (λ (s : InterleavedState). along interleaved_step (Some g) (cond (is_none s.turn && may_begin g.state conn now (pending_at g.state.tables conn)) (Begin conn now ∷ []) [] ++ moved_events conn moves)) (sym so.2) in
     record {
       polls = record {
         asked = o.polls.asked;
@@ -296,8 +297,8 @@ begins-over {B} means through srq ndac f g h bus after conn now ending late tabl
         late = late;
         behind = o.polls.behind;
         runs_to =
-            ap (λ b. along fine (Some f) (cond b (Begin conn now ∷ []) [] ++ moved_events conn moves)) begun
-            ∙ ap (λ s. along fine s (moved_events conn moves)) leads
+            ap (λ b. along interleaved_step (Some f) (cond b (Begin conn now ∷ []) [] ++ moved_events conn moves)) begun
+            ∙ ap (λ s. along interleaved_step s (moved_events conn moves)) leads
             ∙ sym never
             ∙ o.polls.runs_to;
         ran = o.polls.ran;
@@ -307,7 +308,7 @@ begins-over {B} means through srq ndac f g h bus after conn now ending late tabl
         ended = o.polls.ended;
         at_now = o.polls.at_now;
       };
-      wire = o.wire ∙ sym (ap (λ (s : FineState). s.state.wire) so.2);
+      wire = o.wire ∙ sym (ap (λ (s : InterleavedState). s.state.wire) so.2);
       walk = o.walk;
       told = o.told;
     }
@@ -316,15 +317,15 @@ begins-over {B} means through srq ndac f g h bus after conn now ending late tabl
 pub begun-ends : {B : Type 0} (means : B → Means) (through : B → Step → B → Type 0) (srq ndac : B → Bool) (k mid new : KernelState B) (conn : ℕ) (ended : Ended)
     → HasBegun means k conn mid → EndsFrom means through srq ndac mid conn ended new → EndsFrom means through srq ndac k conn ended new
 begun-ends {B} means through srq ndac k mid new conn ended begun ends =
-    let f : FineState = fine_of means k in
-    let g : FineState = fine_of means mid in
-    let At : ℕ → B → Type 0 = λ now bus. PollsOver means through srq ndac g bus conn now [] (ended_shown ended new.room) (fine_of means new) new.bus in
+    let f : InterleavedState = interleaved_of means k in
+    let g : InterleavedState = interleaved_of means mid in
+    let At : ℕ → B → Type 0 = λ now bus. PollOnBus means through srq ndac g bus conn now [] (ended_shown ended new.room) (interleaved_of means new) new.bus in
     let so = begun-so f g conn k.moment begun.leads in
     record {
       keeps = ends.keeps;
       moment = ends.moment ∙ begun.same_moment;
       within = ends.within;
-      over = begins-over means through srq ndac f g (fine_of means new) k.bus new.bus conn k.moment (ended_shown ended new.room) (omega arith)
-          (ap (λ (s : FineState). s.state.tables) so.2) begun.leads
+      over = begins-over means through srq ndac f g (interleaved_of means new) k.bus new.bus conn k.moment (ended_shown ended new.room) (omega arith)
+          (ap (λ (s : InterleavedState). s.state.tables) so.2) begun.leads
           (subst (At k.moment) begun.same_bus (subst (λ now. At now mid.bus) begun.same_moment ends.over));
     }

@@ -23,20 +23,20 @@ use Rattle.vx_plan.specs.Whole.{Fill, IsWhole}
 use Rattle.vx_plan.specs.Tasks.{spd, unt, plan, poll_plan, most_bytes, IsPlainTask, IsDevice}
 use Rattle.vx_plan.specs.Results.{gots, bytes_got, puts_made, last_of, two_bytes, read_reason, whole_reply}
 use Rattle.vx_plan.specs.Places.{Reaches}
-use Rattle.vx_plan.specs.ProvedLaws.{whole-law}
+use Rattle.vx_plan.proofs.Laws.{whole-law}
 use Rattle.vx_ctrl.specs.Turns.{TurnState, GetsBytes, moved_by, reason_by}
 use Rattle.vx_ctrl.specs.Goes.{HoldsBytes}
-use Rattle.vx_ctrl.specs.ProvedLaws.{most_puts, most_gets, fares, length-gots, length-bytes_got, moved-got}
+use Rattle.vx_ctrl.proofs.Laws.{most_puts, most_gets, fares, length-gots, length-bytes_got, moved-got}
 use Rattle.vx_rules.specs.Effects.{stopped_reply}
 use Rattle.vx_bus_traits.specs.Means.{Means}
 use Rattle.vx_rules.specs.Calls.{bytes_of}
 use Rattle.vx_rules.specs.Decide.{stand_of_job}
-use Rattle.vx_flow.specs.FineState.{Turn, turn_of, moves_of}
-use Rattle.vx_flow.specs.Fine.{call_stand, turn_stand}
+use Rattle.vx_flow.specs.InterleavedState.{Turn, turn_of, moves_of}
+use Rattle.vx_flow.specs.InterleavedStep.{call_stand, turn_stand}
 use Rattle.vx_core.specs.declared.running.Running.{Running}
 use Rattle.vx_core.specs.KernelState.{KernelState}
 use Rattle.vx_core.specs.Keeping.{RunsTurn}
-use Rattle.vx_core.specs.Shown.{running_of, turn_shown, before_shown, fine_of}
+use Rattle.vx_core.specs.Shown.{running_of, turn_shown, before_shown, interleaved_of}
 use Rattle.vx_core.specs.Given.{reply_bytes}
 
 -- ---- what a list put and got
@@ -275,18 +275,18 @@ some-of (Some a) h = (a, refl)
 
 -- the turn of a running one, which is whole, has nothing left
 pub whole-left : {B : Type 0} (means : B → Means) (k : KernelState B) (r : Running) (runs : RunsTurn means k r) → k.running ≡ Some r
-    → ((u : Turn) → (fine_of means k).turn ≡ Some u → turn_stand (fine_of means k) u u.moves ≡ Whole)
+    → ((u : Turn) → (interleaved_of means k).turn ≡ Some u → turn_stand (interleaved_of means k) u u.moves ≡ Whole)
     → stand_of (Some runs.begins.left) ≡ Whole
 whole-left means k r runs e whole =
     let u : Turn = record { connection = r.conn; begun = r.turn.begun; moves = k.made } in
     let bytes = bytes_of runs.asked.call in
     let has = runs.begins.had_made in
     let before : before_shown k.running k.before (means k.bus).wire ≡ k.before = ap (λ q. before_shown q k.before (means k.bus).wire) e in
-    let stands : turn_stand (fine_of means k) u k.made ≡ Whole = whole u (ap (λ q. turn_shown q k.made) e) in
-    let called : call_stand k.tables (fine_of means k).before r.conn k.made (Some runs.asked) ≡ Whole =
-    sym (ap (λ p. call_stand k.tables (fine_of means k).before r.conn k.made p) runs.call_at) ∙ stands in
-    let job : stand_of_job (fine_of means k).before runs.asked.call k.made (Some r.turn.task) ≡ Whole =
-    sym (ap (λ j. stand_of_job (fine_of means k).before runs.asked.call k.made j) runs.job_is) ∙ called in
+    let stands : turn_stand (interleaved_of means k) u k.made ≡ Whole = whole u (ap (λ q. turn_shown q k.made) e) in
+    let called : call_stand k.tables (interleaved_of means k).before r.conn k.made (Some runs.asked) ≡ Whole =
+    sym (ap (λ p. call_stand k.tables (interleaved_of means k).before r.conn k.made p) runs.call_at) ∙ stands in
+    let job : stand_of_job (interleaved_of means k).before runs.asked.call k.made (Some r.turn.task) ≡ Whole =
+    sym (ap (λ j. stand_of_job (interleaved_of means k).before runs.asked.call k.made j) runs.job_is) ∙ called in
     let on : stand (plan r.turn.task bytes k.before.polling k.before.own) k.made ≡ Whole =
     sym (ap (λ (w : Wire). stand (plan r.turn.task bytes w.polling w.own) k.made) before) ∙ job in
     sym (ap stand_of has.reaches.goes)

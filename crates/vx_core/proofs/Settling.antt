@@ -24,17 +24,17 @@ use Rattle.vx_rules.specs.Checks.{check_channel, check, named_link}
 use Rattle.vx_rules.specs.Lines.{lock_request, holder_against}
 use Rattle.vx_rules.specs.Effects.{settle}
 use Rattle.vx_flow.specs.Event.{Answer}
-use Rattle.vx_flow.specs.FineState.{Turn, FineState}
-use Rattle.vx_flow.specs.Fine.{outside, wire_for, waits_for_turn, on_conflict, turn_target}
+use Rattle.vx_flow.specs.InterleavedState.{Turn, InterleavedState}
+use Rattle.vx_flow.specs.InterleavedStep.{bus_input, wire_for, waits_for_turn, on_conflict, turn_target}
 use Rattle.vx_flow.specs.Does.{IsClear, AnsweredBy, ByDialUp, ByDialDown}
 use Rattle.vx_core.specs.KernelState.{KernelState}
-use Rattle.vx_core.specs.CoreState.{CoreState, core_of}
-use Rattle.vx_core.specs.Shown.{cut_means, fine_of, closed}
+use Rattle.vx_core.specs.CoreState.{CoreState}
+use Rattle.vx_core.specs.Shown.{core_of, cut_means, interleaved_of, closed}
 use Rattle.vx_core.specs.Keeping.{IsDialable, IsDialed, KeepsDials, Keeps}
 use Rattle.vx_core.proofs.Keeping.{keeps-later}
 use Rattle.vx_core.proofs.CoreCalls.{Steps, Leads, ends, cut-wire, led}
 use Rattle.vx_rules.specs.Lines.{ahead_of}
-use Rattle.vx_flow.specs.Fine.{busy_with}
+use Rattle.vx_flow.specs.InterleavedStep.{busy_with}
 
 -- ---- a call of which a dial was asked for
 
@@ -91,7 +91,7 @@ waits-not t own conn p host port prog vers family (Some u) is =
     ∙ and-false (not (u.connection == conn))
 
 -- the lines let it pass: it names no link, and is under no lock
-clear : (f : FineState) (conn now : ℕ) (p : Pending) (host port prog vers family : ℕ) → p.aborted ≡ false → channel_at f.state.tables.srq_state conn ≡ None
+clear : (f : InterleavedState) (conn now : ℕ) (p : Pending) (host port prog vers family : ℕ) → p.aborted ≡ false → channel_at f.state.tables.srq_state conn ≡ None
     → has_number f.state.tables.srq_state ≡ true → p.call ≡ call.CreateIntr host port prog vers family → IsDialable (call.CreateIntr host port prog vers family)
     → IsClear f conn true p now
 clear f conn now p host port prog vers family unmarked free left is able =
@@ -110,10 +110,10 @@ clear f conn now p host port prog vers family unmarked free left is able =
     }
 
 -- the line that answers a call whose dial was made
-dial-line : (f : FineState) (conn now : ℕ) (p : Pending) (up : Bool) (told : Reply) (after : Tables) → p.aborted ≡ false
+dial-line : (f : InterleavedState) (conn now : ℕ) (p : Pending) (up : Bool) (told : Reply) (after : Tables) → p.aborted ≡ false
     → channel_at f.state.tables.srq_state conn ≡ None → has_number f.state.tables.srq_state ≡ true → list_any (λ n. n == conn) f.dialed ≡ true
     → (asked : Call) → p.call ≡ asked → IsDialable asked → settle f.state.tables conn asked up ≡ Some (told, after)
-    → AnsweredBy f conn now p (outside f conn false (Some up) false) told after
+    → AnsweredBy f conn now p (bus_input f conn false (Some up) false) told after
 dial-line f conn now p true told after unmarked free left dialing (call.CreateIntr host port prog vers family) is able settles =
     let made = same_Some (reply.Error code.Ok, record f.state.tables { srq_state = with_new_channel f.state.tables.srq_state conn prog vers }) (told, after) settles in
     ByDialUp (clear f conn now p host port prog vers family unmarked free left is able)
@@ -142,7 +142,7 @@ settles {B} means k bus conn now up told after keeps cut dialing d is =
       call_at = d.call_at;
       after = after;
       line =
-          dial-line (fine_of means k) conn (max k.moment now) d.asked up told after d.unmarked d.free (number_left k.tables k.dialed conn keeps.holds.dials dialing) dialing
+          dial-line (interleaved_of means k) conn (max k.moment now) d.asked up told after d.unmarked d.free (number_left k.tables k.dialed conn keeps.holds.dials dialing) dialing
           d.asked.call refl d.dialable is;
       leads = refl;
     })
@@ -157,12 +157,12 @@ told-later means k mid now keeps is cut =
 
 -- a dial was asked for, as callers see it and as the kernel has it
 dialing-here : {B : Type 0} (means : B → Means) (k : KernelState B) (old : CoreState B) (conn : ℕ) → core_of means k ≡ old
-    → list_any (λ n. n == conn) old.fine.dialed ≡ true → list_any (λ n. n == conn) k.dialed ≡ true
-dialing-here {B} means k old conn view h = subst (λ (o : CoreState B). list_any (λ n. n == conn) o.fine.dialed ≡ true) (sym view) h
+    → list_any (λ n. n == conn) old.interleaved.dialed ≡ true → list_any (λ n. n == conn) k.dialed ≡ true
+dialing-here {B} means k old conn view h = subst (λ (o : CoreState B). list_any (λ n. n == conn) o.interleaved.dialed ≡ true) (sym view) h
 
 -- the call is dialed still, once the moment was told
 pub dialed-still : {B : Type 0} (means : B → Means) (k mid : KernelState B) (old : CoreState B) (conn moment : ℕ) → core_of means k ≡ old → Keeps means k
-    → list_any (λ n. n == conn) old.fine.dialed ≡ true → mid ≡ record k { bus = mid.bus; moment = moment } → IsDialed mid.tables conn
+    → list_any (λ n. n == conn) old.interleaved.dialed ≡ true → mid ≡ record k { bus = mid.bus; moment = moment } → IsDialed mid.tables conn
 dialed-still {B} means k mid old conn moment view keeps dialing is =
     subst (λ (x : KernelState B). IsDialed x.tables conn) (sym is)
     (is_dialed k.tables k.dialed conn keeps.holds.dials (dialing-here means k old conn view dialing))
@@ -174,14 +174,14 @@ SettlesSo mid conn up error new = (p : Pending) → pending_at mid.tables conn �
 
 -- a moment is told, and then the dial is settled
 pub settles-so : {B : Type 0} (means : B → Means) (k mid new : KernelState B) (old : CoreState B) (conn now : ℕ) (up : Bool) (error : ErrorCode) → core_of means k ≡ old → Keeps means k
-    → list_any (λ n. n == conn) old.fine.dialed ≡ true → mid ≡ record k { bus = mid.bus; moment = max k.moment now } → means mid.bus ≡ cut_means (means k.bus)
+    → list_any (λ n. n == conn) old.interleaved.dialed ≡ true → mid ≡ record k { bus = mid.bus; moment = max k.moment now } → means mid.bus ≡ cut_means (means k.bus)
     → SettlesSo mid conn up error new
-    → Leads means old.fine (Answer conn (max old.fine.state.moment now) false (Some up) false (reply.Error error)) new
+    → Leads means old.interleaved (Answer conn (max old.interleaved.state.moment now) false (Some up) false (reply.Error error)) new
 settles-so {B} means k mid new old conn now up error view keeps dialing is cut so = subst Seen view by dialing
   where
     Seen : CoreState B → Type 0
-    Seen o = list_any (λ n. n == conn) o.fine.dialed ≡ true
-        → Leads means o.fine (Answer conn (max o.fine.state.moment now) false (Some up) false (reply.Error error)) new
+    Seen o = list_any (λ n. n == conn) o.interleaved.dialed ≡ true
+        → Leads means o.interleaved (Answer conn (max o.interleaved.state.moment now) false (Some up) false (reply.Error error)) new
 
     by : Seen (core_of means k)
     by dialing =
@@ -194,19 +194,19 @@ settles-so {B} means k mid new old conn now up error view keeps dialing is cut s
 
 -- the bus is as it was once it was told the moment
 pub settles-walk : {B : Type 0} (means : B → Means) (through : B → Step → B → Type 0) (k mid new : KernelState B) (old : CoreState B) (conn now : ℕ) (up : Bool) (error : ErrorCode)
-    → core_of means k ≡ old → Keeps means k → list_any (λ n. n == conn) old.fine.dialed ≡ true → mid ≡ record k { bus = mid.bus; moment = max k.moment now }
+    → core_of means k ≡ old → Keeps means k → list_any (λ n. n == conn) old.interleaved.dialed ≡ true → mid ≡ record k { bus = mid.bus; moment = max k.moment now }
     → SettlesSo mid conn up error new → Walk means through k.bus (Cut ∷ Told (max k.moment now) ∷ []) mid.bus
-    → Walk means through old.bus (Cut ∷ Told (max old.fine.state.moment now) ∷ []) new.bus
+    → Walk means through old.bus (Cut ∷ Told (max old.interleaved.state.moment now) ∷ []) new.bus
 settles-walk {B} means through k mid new old conn now up error view keeps dialing is so walk =
     let d = dialed-still means k mid old conn (max k.moment now) view keeps dialing is in
     let made = so d.asked d.call_at in
     let same : new.bus ≡ mid.bus = ap (λ (x : KernelState B). x.bus) made.2 in
-    subst (λ (o : CoreState B). Walk means through o.bus (Cut ∷ Told (max o.fine.state.moment now) ∷ []) new.bus) view
+    subst (λ (o : CoreState B). Walk means through o.bus (Cut ∷ Told (max o.interleaved.state.moment now) ∷ []) new.bus) view
     (subst (λ (b : B). Walk means through k.bus (Cut ∷ Told (max k.moment now) ∷ []) b) (sym same) walk)
 
 -- and so is what it tells of the last poll
 pub settles-began : {B : Type 0} (means : B → Means) (k mid new : KernelState B) (old : CoreState B) (conn now : ℕ) (up : Bool) (error : ErrorCode)
-    → core_of means k ≡ old → Keeps means k → list_any (λ n. n == conn) old.fine.dialed ≡ true → mid ≡ record k { bus = mid.bus; moment = max k.moment now }
+    → core_of means k ≡ old → Keeps means k → list_any (λ n. n == conn) old.interleaved.dialed ≡ true → mid ≡ record k { bus = mid.bus; moment = max k.moment now }
     → SettlesSo mid conn up error new → new.began ≡ old.began
 settles-began {B} means k mid new old conn now up error view keeps dialing is so =
     let d = dialed-still means k mid old conn (max k.moment now) view keeps dialing is in

@@ -25,8 +25,8 @@ use Rattle.vx_plan.specs.Laws.{BoundLaw}
 use Rattle.vx_rules.specs.Table.{Link}
 use Rattle.vx_ctrl.specs.declared.turn.Went.{Went}
 use Rattle.vx_ctrl.specs.declared.turn.Went.TheVariants as went
-use Rattle.vx_ctrl.specs.Turns.{TurnState, HasMade, HasRoom, GetsBytes}
-use Rattle.vx_ctrl.specs.Goes.{Begins, Goes, HoldsBytes, outcome_stand}
+use Rattle.vx_ctrl.specs.Turns.{TurnState, HasMade, TurnHasRoom, GetsBytes}
+use Rattle.vx_ctrl.specs.Goes.{TurnBegins, TurnGoes, HoldsBytes, outcome_stand}
 use Rattle.vx_rules.specs.State.{Pending, Tables, pending_at, link_of}
 use Rattle.vx_rules.specs.Calls.{link_named, bytes_of, is_bus_call, is_lock_call}
 use Rattle.vx_rules.specs.Docmd.{Command, command_of, command_task}
@@ -35,21 +35,21 @@ use Rattle.vx_rules.specs.Lines.{LockRequest, lock_request, created_request, let
 use Rattle.vx_rules.specs.Effects.{task_on, task_of}
 use Rattle.vx_rules.specs.Serving.{IsDoable}
 use Rattle.vx_rules.specs.PassLaws.{PassedLets}
-use Rattle.vx_tables.specs.declared.tables.lines.Request.{Request}
-use Rattle.vx_tables.specs.Shown.{request_shown}
-use Rattle.vx_rules.specs.ProvedLaws.{bus-job}
-use Rattle.vx_rules.specs.ProvedLaws.Passing.{lets-says}
-use Rattle.vx_flow.specs.FineState.{Turn}
-use Rattle.vx_flow.specs.Fine.{job_of, wire_for, target_on, call_target, turn_target, on_conflict, waits_for}
+use Rattle.vx_state.specs.declared.tables.lines.Request.{Request}
+use Rattle.vx_state.specs.Shown.{request_shown}
+use Rattle.vx_rules.proofs.Laws.{bus-job}
+use Rattle.vx_rules.proofs.Laws.Passing.{lets-says}
+use Rattle.vx_flow.specs.InterleavedState.{Turn}
+use Rattle.vx_flow.specs.InterleavedStep.{job_of, wire_for, target_on, call_target, turn_target, on_conflict, waits_for}
 use Rattle.vx_flow.specs.Sound.{Stands, TurnStands}
 use Rattle.vx_core.specs.declared.running.Running.{Running}
 use Rattle.vx_core.specs.declared.ended.Ended.{Ended}
 use Rattle.vx_core.specs.KernelState.{KernelState}
-use Rattle.vx_core.specs.Shown.{fine_of, own_of, running_of, turn_shown}
+use Rattle.vx_core.specs.Shown.{interleaved_of, own_of, running_of, turn_shown}
 use Rattle.vx_core.specs.Keeping.{RunsTurn, Holds}
 use Rattle.vx_core.specs.Turning.{HasPassed, HasTurn, BeginsTurn, WentOn, turn_waited}
-use Rattle.vx_core.specs.ProvedLaws.{running-own, own-is, few-bytes}
-use Rattle.vx_flow.specs.Fine.{busy_with}
+use Rattle.vx_core.proofs.Laws.{running-own, own-is, few-bytes}
+use Rattle.vx_flow.specs.InterleavedStep.{busy_with}
 
 -- ---- what the first lines' letting pass says
 
@@ -57,7 +57,7 @@ use Rattle.vx_flow.specs.Fine.{busy_with}
 pub passes : {B : Type 0} (means : B → Means) (k : KernelState B) (conn : ℕ) → PassedLets → HasPassed means k conn
     → (p : Pending) → pending_at k.tables conn ≡ Some p → (own : ℕ) × (lets_pass k.tables own conn p ≡ true)
 passes means k conn law passed p at =
-    ((wire_for (fine_of means k) conn).own, law k.tables (busy_with (fine_of means k).turn) (wire_for (fine_of means k) conn).own conn k.moment p (passed p at))
+    ((wire_for (interleaved_of means k) conn).own, law k.tables (busy_with (interleaved_of means k).turn) (wire_for (interleaved_of means k) conn).own conn k.moment p (passed p at))
 
 -- the job of a call that may be served, where it has one
 pub doable-some : (o : Option Task) (job : Task) (bytes : List ℕ) → IfSome o (λ task. IsDoable task bytes) → o ≡ Some job → IsDoable job bytes
@@ -168,7 +168,7 @@ own-running r s conn h =
     (ap (λ (x : Running). x.conn) same ∙ own.1, same)
 
 -- its room is long enough
-has-room : (job : Task) (n : ℕ) → n ≡ READ_MAX → HasRoom job n
+has-room : (job : Task) (n : ℕ) → n ≡ READ_MAX → TurnHasRoom job n
 has-room (Read t max stop) n e = omega arith
 has-room (Stb t) n e = omega arith
 has-room _ n e = tt
@@ -199,8 +199,8 @@ may-go {B} means k now conn r law view turn at =
 
 -- the turn begins again with these bytes, which are its call's
 pub begun-with : {B : Type 0} (means : B → Means) (k : KernelState B) (r : Running) (bytes : List ℕ) → (runs : RunsTurn means k r) → bytes ≡ bytes_of runs.asked.call
-    → Begins r.turn k.before bytes k.made (means k.bus)
-begun-with means k r bytes runs same = subst (λ (bs : List ℕ). Begins r.turn k.before bs k.made (means k.bus)) (sym same) runs.begins
+    → TurnBegins r.turn k.before bytes k.made (means k.bus)
+begun-with means k r bytes runs same = subst (λ (bs : List ℕ). TurnBegins r.turn k.before bs k.made (means k.bus)) (sym same) runs.begins
 
 pub few-with : {B : Type 0} (means : B → Means) (k : KernelState B) (conn : ℕ) (r : Running) (bytes : List ℕ) → (m : MayGo means k conn r) → bytes ≡ bytes_of m.runs.asked.call
     → length bytes ≤ WRITE_MAX
@@ -218,7 +218,7 @@ stands-on went.Broken left e = λ off. cc
 stands-on went.Slice left e = λ off. cc
 
 pub few-made : {B : Type 0} (means : B → Means) (through : B → Step → B → Type 0) (turn : TurnState) (w : Wire) (bytes : List ℕ) (made moves : List Transfer)
-    (outcome : Went) (bus after : B) → BoundLaw → length bytes ≤ WRITE_MAX → Goes means through turn w bytes made moves outcome bus after
+    (outcome : Went) (bus after : B) → BoundLaw → length bytes ≤ WRITE_MAX → TurnGoes means through turn w bytes made moves outcome bus after
     → length made + length moves ≤ TURN_MAX
 few-made means through turn w bytes made moves outcome bus after law few goes =
     let reaches = goes.has_made.reaches in
@@ -230,10 +230,10 @@ few-made means through turn w bytes made moves outcome bus after law few goes =
 -- the turn of a call goes on, with the bus's transfers as its own
 pub went-on : {B : Type 0} (means : B → Means) (through : B → Step → B → Type 0) (k : KernelState B) (r : Running) (bus : B) (room bytes : List ℕ) (turn : TurnState) (outcome : Went)
     → (runs : RunsTurn means k r) → bytes ≡ bytes_of runs.asked.call
-    → ((w : Wire) (made : List Transfer) → Begins r.turn w bytes made (means k.bus) → Goes means through turn w bytes made (means bus).moves outcome k.bus bus)
-    → ((w : Wire) (made : List Transfer) → Begins r.turn w bytes made (means k.bus) → Begins turn w bytes (made ++ (means bus).moves) (means bus))
+    → ((w : Wire) (made : List Transfer) → TurnBegins r.turn w bytes made (means k.bus) → TurnGoes means through turn w bytes made (means bus).moves outcome k.bus bus)
+    → ((w : Wire) (made : List Transfer) → TurnBegins r.turn w bytes made (means k.bus) → TurnBegins turn w bytes (made ++ (means bus).moves) (means bus))
     → turn.task ≡ r.turn.task → turn.begun ≡ r.turn.begun → (means bus).wire ≡ wire_after (means k.bus).wire (means bus).moves
-    → ((w : Wire) (made : List Transfer) → Begins r.turn w bytes made (means k.bus)
+    → ((w : Wire) (made : List Transfer) → TurnBegins r.turn w bytes made (means k.bus)
     → GetsBytes r.turn.task → HoldsBytes r.turn made k.room → HoldsBytes turn (made ++ (means bus).moves) room)
     → WentOn means through k r outcome (record k { bus = bus; running = Some (record r { turn = turn }); made = k.made ++ (means bus).moves; room = room })
 went-on {B} means through k r bus room bytes turn outcome runs same goes goes_on task begun wire holds =
@@ -248,7 +248,7 @@ went-on {B} means through k r bus room bytes turn outcome runs same goes goes_on
       sent = subst (λ x. HasBytes x (bytes_of asked.call)) (sym task) runs.sent;
       few = subst (λ x. length (bytes_of asked.call) ≤ most_bytes x) (sym task) runs.few;
       own = runs.own;
-      begins = subst (λ (bs : List ℕ). Begins turn k.before bs (k.made ++ (means bus).moves) (means bus)) same (goes_on k.before k.made b);
+      begins = subst (λ (bs : List ℕ). TurnBegins turn k.before bs (k.made ++ (means bus).moves) (means bus)) same (goes_on k.before k.made b);
       holds = λ gets. let g = subst GetsBytes task gets in holds k.before k.made b g (runs.holds g);
     } in
     record {
@@ -258,7 +258,7 @@ went-on {B} means through k r bus room bytes turn outcome runs same goes goes_on
       begun = begun;
       job = task;
       runs = next;
-      goes = subst (λ (bs : List ℕ). Goes means through turn k.before bs k.made (means bus).moves outcome k.bus bus) same (goes k.before k.made b);
+      goes = subst (λ (bs : List ℕ). TurnGoes means through turn k.before bs k.made (means bus).moves outcome k.bus bus) same (goes k.before k.made b);
     }
 
 -- a room that was lent whole comes back as it was left
@@ -338,33 +338,33 @@ waits-on-lock t before now moment own anywhere conn p q u asked held s at other 
     ∙ conflicts-so asked held m.0 (h ∙ m.2)
 
 -- the turn under way stands
-pub turn-stands : {B : Type 0} (means : B → Means) (k : KernelState B) (u : Turn) → Holds means k → (fine_of means k).turn ≡ Some u
-    → Stands k.tables (fine_of means k).before (means k.bus).wire k.moment u
+pub turn-stands : {B : Type 0} (means : B → Means) (k : KernelState B) (u : Turn) → Holds means k → (interleaved_of means k).turn ≡ Some u
+    → Stands k.tables (interleaved_of means k).before (means k.bus).wire k.moment u
 turn-stands means k u holds e =
-    let P : Option Turn → Type 0 = λ o. TurnStands k.tables (fine_of means k).before (means k.bus).wire k.moment o in
+    let P : Option Turn → Type 0 = λ o. TurnStands k.tables (interleaved_of means k).before (means k.bus).wire k.moment o in
     subst P e holds.sound.turn_stands
 
 -- whether a call other than a bus call waits, by the two requests
 pub waits-for-is : {B : Type 0} (means : B → Means) (k : KernelState B) (conn other : ℕ) (p q : Pending) (u : Turn) (own anywhere : ℕ) (asked held : Option Request)
-    → Holds means k → ((v : Turn) × ((fine_of means k).turn ≡ Some v) × (v.connection ≡ other) × (not (other == conn) ≡ true))
-    → (fine_of means k).turn ≡ Some u → pending_at k.tables other ≡ Some q → is_bus_call p.call ≡ false → own ≡ own_of means k conn
+    → Holds means k → ((v : Turn) × ((interleaved_of means k).turn ≡ Some v) × (v.connection ≡ other) × (not (other == conn) ≡ true))
+    → (interleaved_of means k).turn ≡ Some u → pending_at k.tables other ≡ Some q → is_bus_call p.call ≡ false → own ≡ own_of means k conn
     → option_map request_shown asked ≡ lock_request own (named_link k.tables conn p.call) p.call
     → option_map request_shown held ≡ lock_request anywhere (named_link k.tables other q.call) q.call
-    → waits_for k.tables (wire_for (fine_of means k) conn).own conn p u ≡ conflicting asked held
+    → waits_for k.tables (wire_for (interleaved_of means k) conn).own conn p u ≡ conflicting asked held
 waits-for-is means k conn other p q u own anywhere asked held holds turn e at bus is a h =
     let on : u.connection ≡ other = ap (λ (x : Turn). x.connection) (same_Some u turn.0 (sym e ∙ turn.1)) ∙ turn.2 in
     let Other : ℕ → Type 0 = λ n. not (n == conn) ≡ true in
     let At : ℕ → Type 0 = λ n. pending_at k.tables n ≡ Some q in
     let Held : ℕ → Type 0 = λ n. option_map request_shown held ≡ lock_request anywhere (named_link k.tables n q.call) q.call in
     let Asked : ℕ → Type 0 = λ n. option_map request_shown asked ≡ lock_request n (named_link k.tables conn p.call) p.call in
-    waits-on-lock k.tables (fine_of means k).before (means k.bus).wire k.moment (wire_for (fine_of means k) conn).own anywhere conn p q u asked held
+    waits-on-lock k.tables (interleaved_of means k).before (means k.bus).wire k.moment (wire_for (interleaved_of means k) conn).own anywhere conn p q u asked held
     (turn-stands means k u holds e) (subst At (sym on) at) (subst Other (sym on) turn.3) bus (subst Asked (is ∙ own-is means k conn) a) (subst Held (sym on) h)
 
 -- the connection that a call waits for, where a turn is under way
 pub waited : {B : Type 0} (means : B → Means) (k : KernelState B) (conn : ℕ) (p : Pending) (r : Running) (b : Bool) → k.running ≡ Some r
-    → ((u : Turn) → (fine_of means k).turn ≡ Some u → b ≡ waits_for k.tables (wire_for (fine_of means k) conn).own conn p u)
-    → turn_waited (fine_of means k) conn p (fine_of means k).turn ≡ cond b (Some r.conn) None
+    → ((u : Turn) → (interleaved_of means k).turn ≡ Some u → b ≡ waits_for k.tables (wire_for (interleaved_of means k) conn).own conn p u)
+    → turn_waited (interleaved_of means k) conn p (interleaved_of means k).turn ≡ cond b (Some r.conn) None
 waited means k conn p r b at h =
     let u : Turn = record { connection = r.conn; begun = r.turn.begun; moves = k.made } in
-    let e : (fine_of means k).turn ≡ Some u = ap (λ o. turn_shown o k.made) at in
-    ap (turn_waited (fine_of means k) conn p) e ∙ ap (λ x. cond x (Some r.conn) None) (sym (h u e))
+    let e : (interleaved_of means k).turn ≡ Some u = ap (λ o. turn_shown o k.made) at in
+    ap (turn_waited (interleaved_of means k) conn p) e ∙ ap (λ x. cond x (Some r.conn) None) (sym (h u e))

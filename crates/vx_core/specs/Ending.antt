@@ -1,7 +1,7 @@
 -- How a poll ended, as events know it.
 use Rattle.std.specs.Prelude.{ℕ, Bool, false, List}
-use Rattle.vx_tables.specs.declared.tables.lines.Bar.{Bar}
-use Rattle.vx_tables.specs.declared.tables.lines.Bar.TheVariants as bar
+use Rattle.vx_state.specs.declared.tables.lines.Bar.{Bar}
+use Rattle.vx_state.specs.declared.tables.lines.Bar.TheVariants as bar
 use Rattle.vx_flow.specs.declared.progress.Why.{Why}
 use Rattle.vx_flow.specs.declared.progress.Why.TheVariants as why
 use Rattle.vx_flow.specs.Poll as poll

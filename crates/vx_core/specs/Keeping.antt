@@ -11,15 +11,15 @@ use Rattle.vx_plan.specs.Tasks.{IsPlainTask, HasBytes, most_bytes}
 use Rattle.vx_plan.specs.Plan.{Part}
 use Rattle.vx_bus_traits.specs.Means.{Means}
 use Rattle.vx_ctrl.specs.Turns.{GetsBytes}
-use Rattle.vx_ctrl.specs.Goes.{Begins, HoldsBytes}
+use Rattle.vx_ctrl.specs.Goes.{TurnBegins, HoldsBytes}
 use Rattle.vx_rules.specs.State.{Pending, Tables, pending_at, count_of}
 use Rattle.vx_rules.specs.Calls.{bytes_of}
-use Rattle.vx_flow.specs.FineState.{Turn}
-use Rattle.vx_flow.specs.Fine.{job_of, turn_stand}
+use Rattle.vx_flow.specs.InterleavedState.{Turn}
+use Rattle.vx_flow.specs.InterleavedStep.{job_of, turn_stand}
 use Rattle.vx_flow.specs.Sound.{IsSound}
 use Rattle.vx_core.specs.declared.running.Running.{Running}
 use Rattle.vx_core.specs.KernelState.{KernelState}
-use Rattle.vx_core.specs.Shown.{fine_of}
+use Rattle.vx_core.specs.Shown.{interleaved_of}
 
 -- The turn under way is that of its connection's call: it has made its list on the bus as that was when it began, and the
 -- room has the bytes that it got.
@@ -31,7 +31,7 @@ pub record RunsTurn {B : Type 0} (means : B → Means) (k : KernelState B) (r : 
   pub sent : HasBytes r.turn.task (bytes_of asked.call)
   pub few : length (bytes_of asked.call) ≤ most_bytes r.turn.task
   pub own : k.before.own ≤ ADDRESS_MAX
-  pub begins : Begins r.turn k.before (bytes_of asked.call) k.made (means k.bus)
+  pub begins : TurnBegins r.turn k.before (bytes_of asked.call) k.made (means k.bus)
   pub holds : GetsBytes r.turn.task → HoldsBytes r.turn k.made k.room
 
 -- a create_intr_chan of a TCP channel at a port that there is
@@ -56,7 +56,7 @@ pub record KeepsDials (t : Tables) (dialed : List ℕ) : Type 0 where
 
 -- what a core keeps at each moment of a call
 pub record Holds {B : Type 0} (means : B → Means) (k : KernelState B) : Type 0 where
-  pub sound : IsSound (fine_of means k)
+  pub sound : IsSound (interleaved_of means k)
   pub own : (means k.bus).wire.own ≤ ADDRESS_MAX
   pub runs : (r : Running) → k.running ≡ Some r → RunsTurn means k r
   pub dials : KeepsDials k.tables k.dialed
@@ -65,4 +65,4 @@ pub record Holds {B : Type 0} (means : B → Means) (k : KernelState B) : Type 0
 -- and between its calls: the list of the turn under way isn't whole
 pub record Keeps {B : Type 0} (means : B → Means) (k : KernelState B) : Type 0 where
   pub holds : Holds means k
-  pub is_part : (u : Turn) → (fine_of means k).turn ≡ Some u → turn_stand (fine_of means k) u u.moves ≡ Part
+  pub is_part : (u : Turn) → (interleaved_of means k).turn ≡ Some u → turn_stand (interleaved_of means k) u u.moves ≡ Part

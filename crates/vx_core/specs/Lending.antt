@@ -11,7 +11,7 @@ use Rattle.vx_bus_traits.specs.declared.bus.Bus.{Ghosts}
 use Rattle.vx_flow.specs.Poll.{Ending, Answered, Waited, Dialed, begins}
 use Rattle.vx_core.specs.CoreState.{CoreState}
 use Rattle.vx_core.specs.Given.{reply_bytes}
-use Rattle.vx_core.specs.Polling.{PollsOver}
+use Rattle.vx_core.specs.Polling.{PollOnBus}
 use Rattle.vx_core.specs.declared.polled.Polled.{Polled}
 use Rattle.vx_core.specs.declared.polled.Polled.TheVariants as polled
 use Rattle.vx_core.specs.contracts.shared.Core.{the_row}
@@ -35,11 +35,11 @@ pub record PollLeaves {B : Type 0} (means : B → Means) (through : B → Step �
   pub last : new.last ≡ Some ending
   pub shows : Shows result ending
   -- it began its call's turn where none was under way and the call's might begin
-  pub began : new.began ≡ begins old.fine conn (max old.fine.state.moment now)
+  pub began : new.began ≡ begins old.interleaved conn (max old.interleaved.state.moment now)
   -- no more transfers than a slice may have
   pub few : length (means new.bus).moves ≤ SLICE_MAX
-  pub over : PollsOver means through srq ndac old.fine old.bus conn (max old.fine.state.moment now) (Cut ∷ Told (max old.fine.state.moment now) ∷ [])
-      ending new.fine new.bus
+  pub over : PollOnBus means through srq ndac old.interleaved old.bus conn (max old.interleaved.state.moment now) (Cut ∷ Told (max old.interleaved.state.moment now) ∷ [])
+      ending new.interleaved new.bus
 
 -- the core rests so
 abbrev pub PollRests : (T : RattleType) (g : Ghosts T.Denot) → MutBor (CoreState T.Denot) → ℕ → ℕ → Polled → Fml

@@ -5,9 +5,11 @@ use Rattle.vx_488.specs.declared.transfers.Transfer.{Transfer}
 use Rattle.vx_488.specs.declared.wire.Wire.{Wire}
 use Rattle.vx_bus_traits.specs.Means.{Means}
 use Rattle.vx_rules.specs.State.{with_pending}
-use Rattle.vx_flow.specs.FineState.{Turn, FineState}
+use Rattle.vx_flow.specs.InterleavedState.{Turn, InterleavedState}
 use Rattle.vx_core.specs.declared.running.Running.{Running}
 use Rattle.vx_core.specs.KernelState.{KernelState}
+use Rattle.vx_core.specs.CoreState.{CoreState}
+use Rattle.vx_core.specs.Ending.{ended_shown}
 
 -- a bus whose list is cut
 abbrev pub cut_means : Means → Means
@@ -24,13 +26,17 @@ before_shown None before now = now
 before_shown (Some r) before now = before
 
 -- the state between interleaved events that a core stands for
-abbrev pub fine_of : {B : Type 0} → (B → Means) → KernelState B → FineState
-fine_of means k = record {
+abbrev pub interleaved_of : {B : Type 0} → (B → Means) → KernelState B → InterleavedState
+interleaved_of means k = record {
   state = record { tables = k.tables; wire = (means k.bus).wire; moment = k.moment };
   turn = turn_shown k.running k.made;
   before = before_shown k.running k.before (means k.bus).wire;
   dialed = k.dialed;
 }
+
+-- the core that its callers see
+abbrev pub core_of : {B : Type 0} → (B → Means) → KernelState B → CoreState B
+core_of means k = record { interleaved = interleaved_of means k; bus = k.bus; last = option_map (λ e. ended_shown e k.room) k.last; began = k.began }
 
 -- the turn, where it is of this connection
 abbrev pub running_of : Option Running → ℕ → Option Running

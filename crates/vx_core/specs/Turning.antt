@@ -5,16 +5,16 @@ use Rattle.vx_bus_traits.specs.Means.{Means}
 use Rattle.vx_bus_traits.specs.Steps.{Step}
 use Rattle.vx_ctrl.specs.declared.turn.Went.{Went}
 use Rattle.vx_ctrl.specs.Turns.{TurnState}
-use Rattle.vx_ctrl.specs.Goes.{Goes}
+use Rattle.vx_ctrl.specs.Goes.{TurnGoes}
 use Rattle.vx_rules.specs.State.{Pending, pending_at}
 use Rattle.vx_rules.specs.Calls.{bytes_of}
 use Rattle.vx_rules.specs.Lines.{Passed}
-use Rattle.vx_flow.specs.FineState.{Turn, FineState}
-use Rattle.vx_flow.specs.Fine.{wire_for, waits_for}
+use Rattle.vx_flow.specs.InterleavedState.{Turn, InterleavedState}
+use Rattle.vx_flow.specs.InterleavedStep.{wire_for, waits_for}
 use Rattle.vx_flow.specs.Poll.{lines_at}
 use Rattle.vx_core.specs.declared.running.Running.{Running}
 use Rattle.vx_core.specs.KernelState.{KernelState}
-use Rattle.vx_core.specs.Shown.{fine_of, running_of}
+use Rattle.vx_core.specs.Shown.{interleaved_of, running_of}
 use Rattle.vx_core.specs.Keeping.{RunsTurn, Holds, Keeps}
 
 -- the core was told the moment of a poll of a call that has come, and the bus's list is cut
@@ -26,17 +26,17 @@ pub record HasHeard {B : Type 0} (means : B → Means) (k : KernelState B) (conn
 
 -- the first lines let the call pass
 abbrev pub HasPassed : {B : Type 0} → (B → Means) → KernelState B → ℕ → Type 0
-HasPassed means k conn = (p : Pending) → pending_at k.tables conn ≡ Some p → lines_at (fine_of means k) conn k.moment p ≡ Passed
+HasPassed means k conn = (p : Pending) → pending_at k.tables conn ≡ Some p → lines_at (interleaved_of means k) conn k.moment p ≡ Passed
 
 -- the connection whose turn a call waits for
-abbrev pub turn_waited : FineState → ℕ → Pending → Option Turn → Option ℕ
+abbrev pub turn_waited : InterleavedState → ℕ → Pending → Option Turn → Option ℕ
 turn_waited f conn p None = None
 turn_waited f conn p (Some u) = if waits_for f.state.tables (wire_for f conn).own conn p u then Some u.connection else None
 
 -- the call waits for nobody's turn
 abbrev pub IsFree : {B : Type 0} → (B → Means) → KernelState B → ℕ → Type 0
 IsFree means k conn =
-    (p : Pending) → pending_at k.tables conn ≡ Some p → turn_waited (fine_of means k) conn p (fine_of means k).turn ≡ None
+    (p : Pending) → pending_at k.tables conn ≡ Some p → turn_waited (interleaved_of means k) conn p (interleaved_of means k).turn ≡ None
 
 -- the call's turn is under way, and may go on
 pub record HasTurn {B : Type 0} (means : B → Means) (k : KernelState B) (conn : ℕ) : Type 0 where
@@ -68,4 +68,4 @@ pub record WentOn {B : Type 0} (means : B → Means) (through : B → Step → B
   pub begun : turn.begun ≡ r.turn.begun
   pub job : turn.task ≡ r.turn.task
   pub runs : RunsTurn means new (record r { turn = turn })
-  pub goes : Goes means through turn old.before (bytes_of runs.asked.call) old.made (means new.bus).moves outcome old.bus new.bus
+  pub goes : TurnGoes means through turn old.before (bytes_of runs.asked.call) old.made (means new.bus).moves outcome old.bus new.bus

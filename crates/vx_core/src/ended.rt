@@ -10,11 +10,18 @@ use vx_flow::{Ran, Why};
 #[derive(Clone, Copy)]
 pub enum Ended {
     /// With a reply; the level is what a bus status was told.
-    Answered { ran: Ran, level: bool, given: Given },
+    Answered {
+        ran: Ran,
+        level: bool,
+        given: StoredReply,
+    },
     /// Without one.
     Waited(Why),
     /// With a dial that is asked for.
-    Dialed { host: u32, port: u16 },
+    Dialed {
+        host: u32,
+        port: u16,
+    },
 }
 
 impl Ended {
@@ -48,7 +55,7 @@ pub struct Settled {
 
 /// A reply. A read's bytes, and those of a device_docmd, are so many at the front of the room.
 #[derive(Clone, Copy)]
-pub enum Given {
+pub enum StoredReply {
     Null,
     CreateLink {
         error: ErrorCode,
@@ -76,42 +83,42 @@ pub enum Given {
     Error(ErrorCode),
 }
 
-impl Given {
+impl StoredReply {
     /// A reply without its bytes, which stand at the front of the room.
-    pub fn of(reply: &ReplyRef<'_>) -> Given
+    pub fn of(reply: &ReplyRef<'_>) -> StoredReply
         ensures reply { (room : List ℕ) → take (length (reply_bytes (reply_shown reply.now))) room ≡ reply_bytes (reply_shown reply.now)
             → given_reply result room ≡ reply_shown reply.now }
         ensures len { given_len result ≡ length (reply_bytes (reply_shown reply.now)) }
     {
         match *reply {
-            ReplyRef::Null => Given::Null,
+            ReplyRef::Null => StoredReply::Null,
             ReplyRef::CreateLink {
                 error,
                 lid,
                 abort_port,
                 max,
-            } => Given::CreateLink {
+            } => StoredReply::CreateLink {
                 error,
                 lid,
                 abort_port,
                 max,
             },
-            ReplyRef::Write { error, size } => Given::Write { error, size },
+            ReplyRef::Write { error, size } => StoredReply::Write { error, size },
             ReplyRef::Read {
                 error,
                 reason,
                 bytes,
-            } => Given::Read {
+            } => StoredReply::Read {
                 error,
                 reason,
                 len: bytes.len(),
             },
-            ReplyRef::Stb { error, stb } => Given::Stb { error, stb },
-            ReplyRef::Docmd { error, bytes } => Given::Docmd {
+            ReplyRef::Stb { error, stb } => StoredReply::Stb { error, stb },
+            ReplyRef::Docmd { error, bytes } => StoredReply::Docmd {
                 error,
                 len: bytes.len(),
             },
-            ReplyRef::Error { error } => Given::Error(error),
+            ReplyRef::Error { error } => StoredReply::Error(error),
         }
     }
 
@@ -121,8 +128,8 @@ impl Given {
         ensures { reply_shown result ≡ given_reply self.now room.entry.now }
     {
         match *self {
-            Given::Null => ReplyRef::Null,
-            Given::CreateLink {
+            StoredReply::Null => ReplyRef::Null,
+            StoredReply::CreateLink {
                 error,
                 lid,
                 abort_port,
@@ -133,18 +140,18 @@ impl Given {
                 abort_port,
                 max,
             },
-            Given::Write { error, size } => ReplyRef::Write { error, size },
-            Given::Read { error, reason, len } => ReplyRef::Read {
+            StoredReply::Write { error, size } => ReplyRef::Write { error, size },
+            StoredReply::Read { error, reason, len } => ReplyRef::Read {
                 error,
                 reason,
                 bytes: &room[..len],
             },
-            Given::Stb { error, stb } => ReplyRef::Stb { error, stb },
-            Given::Docmd { error, len } => ReplyRef::Docmd {
+            StoredReply::Stb { error, stb } => ReplyRef::Stb { error, stb },
+            StoredReply::Docmd { error, len } => ReplyRef::Docmd {
                 error,
                 bytes: &room[..len],
             },
-            Given::Error(error) => ReplyRef::Error { error },
+            StoredReply::Error(error) => ReplyRef::Error { error },
         }
     }
 }

@@ -5,17 +5,17 @@
 mod ended;
 mod kept;
 mod kernel;
-mod laws;
 mod moves;
 mod order;
 mod polled;
 mod replies;
 mod running;
 mod shared;
+mod theorems;
 
 pub use ended::Settled;
-pub use laws::became_law;
 pub use polled::Polled;
 pub use shared::{Core, StartRefused};
+pub use theorems::became_law;
 pub use vx_flow::{Ran, Why};
-pub use vx_tables::Connect;
+pub use vx_state::Connect;

@@ -16,20 +16,20 @@ ghost use Rattle.vx_rules.specs.Calls as calls;
 ghost use Rattle.vx_rules.specs.Checks.{named_link};
 ghost use Rattle.vx_rules.specs.Dials.{dials_to};
 ghost use Rattle.vx_rules.specs.Effects as effects;
-ghost use Rattle.vx_flow.specs.FineState as flow;
-ghost use Rattle.vx_flow.specs.FineState.{turn_of, moves_of};
-ghost use Rattle.vx_flow.specs.Fine as fine;
-ghost use Rattle.vx_flow.specs.Fine.{job_of, turn_stand, without_dial};
+ghost use Rattle.vx_flow.specs.InterleavedState as flow;
+ghost use Rattle.vx_flow.specs.InterleavedState.{turn_of, moves_of};
+ghost use Rattle.vx_flow.specs.InterleavedStep as interleaved;
+ghost use Rattle.vx_flow.specs.InterleavedStep.{job_of, turn_stand, without_dial};
 ghost use Rattle.vx_flow.specs.declared.progress.Ran.TheVariants as ran;
 ghost use Rattle.vx_flow.specs.Poll as poll;
 ghost use Rattle.vx_flow.specs.Poll.{Answered};
-ghost use Rattle.vx_core.specs.Shown.{fine_of, own_of, running_of, turn_shown, closed};
+ghost use Rattle.vx_core.specs.Shown.{interleaved_of, own_of, running_of, turn_shown, closed};
 ghost use Rattle.vx_core.specs.Ending.{ended_shown, ended_len};
 ghost use Rattle.vx_core.specs.Keeping.{Holds, KeepsDials, IsDialed};
-ghost use Rattle.vx_core.specs.Replying.{level_told};
+ghost use Rattle.vx_core.specs.Polling.{level_told};
 ghost use Rattle.vx_core.specs.Turning.{HasPassed, HasTurn, BeginsTurn, WentOn, turn_waited};
 
-use crate::ended::{Ended, Given, Settled};
+use crate::ended::{Ended, Settled, StoredReply};
 use crate::kernel::Kernel;
 use crate::replies::{finished, level_told, moved_by};
 use crate::running::Running;
@@ -46,7 +46,7 @@ impl<B: Bus> Kernel<B> {
     pub fn turn_against(&self, conn: u32) -> Option<u32>
         requires pending { IsSome (pending_at self.now.tables conn) }
         requires holds { Holds B.means self.now }
-        ensures { (p : Pending) → pending_at self.now.tables conn ≡ Some p → result ≡ turn_waited (fine_of B.means self.now) conn p (fine_of B.means self.now).turn }
+        ensures { (p : Pending) → pending_at self.now.tables conn ≡ Some p → result ≡ turn_waited (interleaved_of B.means self.now) conn p (interleaved_of B.means self.now).turn }
     {
         match self.running {
             Some(running) if running.conn != conn && self.waits_for(conn, running.conn) => {
@@ -60,10 +60,10 @@ impl<B: Bus> Kernel<B> {
     fn waits_for(&self, conn: u32, other: u32) -> bool
         requires pending { IsSome (pending_at self.now.tables conn) }
         requires under { IsSome (pending_at self.now.tables other) }
-        requires turn { (u : flow.Turn) × ((fine_of B.means self.now).turn ≡ Some u) × (u.connection ≡ other) × (not (other == conn) ≡ true) }
+        requires turn { (u : flow.Turn) × ((interleaved_of B.means self.now).turn ≡ Some u) × (u.connection ≡ other) × (not (other == conn) ≡ true) }
         requires holds { Holds B.means self.now }
-        ensures { (p : Pending) (u : flow.Turn) → pending_at self.now.tables conn ≡ Some p → (fine_of B.means self.now).turn ≡ Some u
-            → result ≡ fine.waits_for self.now.tables (fine.wire_for (fine_of B.means self.now) conn).own conn p u }
+        ensures { (p : Pending) (u : flow.Turn) → pending_at self.now.tables conn ≡ Some p → (interleaved_of B.means self.now).turn ≡ Some u
+            → result ≡ interleaved.waits_for self.now.tables (interleaved.wire_for (interleaved_of B.means self.now) conn).own conn p u }
     {
         if self.tables.is_bus_call(conn) {
             return true;
@@ -90,7 +90,7 @@ impl<B: Bus> Kernel<B> {
         ensures dials { KeepsDials self.new.tables self.new.dialed }
     {
         passed_calls();
-        self.tables.is_sound();
+        self.tables.sound_law();
         let (host, port) = self.tables.dials_to(conn);
         self.dialed.retain(|dialed| *dialed != conn);
         self.dialed.push_reserved(conn);
@@ -112,7 +112,7 @@ impl<B: Bus> Kernel<B> {
     {
         passed_calls();
         let own = self.own_for(conn);
-        let given = Given::of(&self.tables.effect(conn, own));
+        let given = StoredReply::of(&self.tables.effect(conn, own));
         self.close(conn);
         Ended::Answered {
             ran: Ran::Still,
@@ -190,7 +190,7 @@ impl<B: Bus> Kernel<B> {
     pub fn finish(&mut self, conn: u32, turn: &Turn) -> Ended
         requires holds { Holds B.means self.old }
         requires turn { self.old.running ≡ Some (record { conn = conn; turn = turn.now }) }
-        requires whole { (u : flow.Turn) → (fine_of B.means self.old).turn ≡ Some u → turn_stand (fine_of B.means self.old) u u.moves ≡ Whole }
+        requires whole { (u : flow.Turn) → (interleaved_of B.means self.old).turn ≡ Some u → turn_stand (interleaved_of B.means self.old) u u.moves ≡ Whole }
         ensures kept { self.new ≡ record (closed self.old conn) { room = self.new.room } }
         ensures reply { (p : Pending) → pending_at self.old.tables conn ≡ Some p → ended_shown result self.new.room ≡ Answered ran.Finished
             (level_told turn.now.task (B.srq_level self.old.bus) (B.ndac_level self.old.bus))
@@ -223,7 +223,7 @@ impl<B: Bus> Kernel<B> {
             Some(running) => moved_by(&running.turn),
             None => (0, 0),
         };
-        let given = Given::of(&self.tables.stopped(conn, error, puts, &self.room[..got]));
+        let given = StoredReply::of(&self.tables.stopped(conn, error, puts, &self.room[..got]));
         self.close(conn);
         Ended::Answered {
             ran,

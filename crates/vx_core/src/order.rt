@@ -4,10 +4,10 @@ ghost use Rattle.vx_calls.specs.declared.limits.TheConstants.{READ_MAX};
 ghost use Rattle.vx_rules.specs.State.{Pending, pending_at};
 ghost use Rattle.vx_rules.specs.Calls as calls;
 ghost use Rattle.vx_flow.specs.Poll.{begins};
-ghost use Rattle.vx_core.specs.Shown.{fine_of};
+ghost use Rattle.vx_core.specs.Shown.{interleaved_of};
 ghost use Rattle.vx_core.specs.Ending.{ended_len, has_run, why_barred};
 ghost use Rattle.vx_core.specs.Keeping.{Keeps};
-ghost use Rattle.vx_core.specs.Polling.{Leaves, EndsFrom};
+ghost use Rattle.vx_core.specs.Leaving.{Leaves, EndsFrom};
 ghost use Rattle.vx_core.specs.Turning.{HasHeard, HasPassed, HasTurn, IsFree};
 
 use crate::ended::Ended;
@@ -16,7 +16,7 @@ use vx_bus_traits::Bus;
 use vx_calls::ErrorCode;
 use vx_ctrl::Went;
 use vx_flow::{Ran, Why};
-use vx_tables::{Admission, Bar};
+use vx_state::{Admission, Bar};
 
 /// Answers the call of a connection by the first line of the order of answers that holds, or says why it isn't answered.
 pub(crate) fn poll<B: Bus>(kernel: &mut Kernel<B>, conn: u32, now: u64) -> Ended
@@ -24,7 +24,7 @@ pub(crate) fn poll<B: Bus>(kernel: &mut Kernel<B>, conn: u32, now: u64) -> Ended
     requires keeps { Keeps B.means kernel.old }
     ensures keeps { Keeps B.means kernel.new }
     ensures last { kernel.new.last ≡ Some result }
-    ensures began { kernel.new.began ≡ begins (fine_of B.means kernel.old) conn (max kernel.old.moment now) }
+    ensures began { kernel.new.began ≡ begins (interleaved_of B.means kernel.old) conn (max kernel.old.moment now) }
     ensures within { ended_len result ≤ READ_MAX }
     ensures leaves { Leaves B.means B.through B.srq_level B.ndac_level kernel.old conn now result kernel.new }
 {

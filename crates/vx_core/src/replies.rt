@@ -9,9 +9,9 @@ ghost use Rattle.vx_plan.specs.Results.{whole_reply, status_number, two_bytes, b
 ghost use Rattle.vx_ctrl.specs.Turns.{HasMade, GetsBytes};
 ghost use Rattle.vx_ctrl.specs.Goes.{HoldsBytes};
 ghost use Rattle.vx_core.specs.Given.{given_reply, given_len};
-ghost use Rattle.vx_core.specs.Replying.{level_told};
+ghost use Rattle.vx_core.specs.Polling.{level_told};
 
-use crate::ended::Given;
+use crate::ended::StoredReply;
 use vx_488::Wire;
 use vx_bus_traits::Bus;
 use vx_calls::ErrorCode;
@@ -72,7 +72,7 @@ pub fn finished(
     is_big: bool,
     level: bool,
     room: &mut [u8],
-) -> Given
+) -> StoredReply
     requires plain { IsPlainTask turn.now.task }
     requires sent { HasBytes turn.now.task bytes.now }
     requires short { length bytes.now ≤ most_bytes turn.now.task }
@@ -85,26 +85,26 @@ pub fn finished(
 {
     let error = ErrorCode::Ok;
     match turn.task() {
-        Task::Write { len, .. } => Given::Write { error, size: len },
-        Task::Read { .. } => Given::Read {
+        Task::Write { len, .. } => StoredReply::Write { error, size: len },
+        Task::Read { .. } => StoredReply::Read {
             error,
             reason: turn.reason(),
             len: turn.moved() as usize,
         },
-        Task::Stb { .. } => Given::Stb {
+        Task::Stb { .. } => StoredReply::Stb {
             error,
             stb: room[0],
         },
         Task::Clear { .. } | Task::Trigger { .. } | Task::Remote { .. } | Task::Local { .. } => {
-            Given::Error(error)
+            StoredReply::Error(error)
         }
         Task::Status { selector } => {
             put_status(status_of(selector, wire, level), is_big, room);
-            Given::Docmd { error, len: 2 }
+            StoredReply::Docmd { error, len: 2 }
         }
         _ => {
             put_bytes(bytes, room);
-            Given::Docmd {
+            StoredReply::Docmd {
                 error,
                 len: bytes.len(),
             }

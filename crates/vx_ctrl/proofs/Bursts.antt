@@ -7,27 +7,20 @@ use Rattle.std.proofs.lemmas.Bool.{or_parts, eq-eqb}
 use Rattle.std.proofs.lemmas.Bool.Decides.{nat_tests}
 use Rattle.std.proofs.lemmas.List.Folds.{list_any-append}
 use Rattle.std.proofs.lemmas.List.Sums.{sum_by-cons}
+use Rattle.std.proofs.Math.Bool.{and-true, and-false}
 use Rattle.vx_488.specs.declared.transfers.Transfer.{Transfer}
 use Rattle.vx_488.specs.declared.transfers.Transfer.TheVariants.{Put, Got}
 use Rattle.vx_bus_traits.specs.declared.bursts.Stop.{Stop}
 use Rattle.vx_bus_traits.specs.declared.bursts.Stop.TheVariants as why
 use Rattle.vx_bus_traits.specs.Bursts.{ended, is_end, is_char, IsClear, StopsAt}
-use Rattle.vx_bus_traits.specs.ProvedLaws.Gets.{ended-behind}
+use Rattle.vx_bus_traits.proofs.Laws.Gets.{ended-behind}
 use Rattle.vx_plan.specs.declared.tasks.Task.{Task}
 use Rattle.vx_plan.specs.Plan.{Reading, Plan, is_stop, read_left, left_after}
 use Rattle.vx_plan.specs.Tasks.{puts, just}
 use Rattle.vx_plan.specs.Results.{gots, bytes_got, last_of}
 use Rattle.vx_plan.specs.Places.{carries_data}
-use Rattle.vx_plan.specs.ProvedLaws.{left_after-append}
-use Rattle.vx_plan.specs.ProvedLaws.Fitting.{same_transfer-refl}
-
-and-true : (e : Bool) → (e && true) ≡ e
-and-true true = refl
-and-true false = refl
-
-and-false : (e : Bool) → (e && false) ≡ false
-and-false true = refl
-and-false false = refl
+use Rattle.vx_plan.proofs.Laws.{left_after-append}
+use Rattle.vx_plan.proofs.Laws.Fitting.{same_transfer-refl}
 
 -- ---- puts
 

@@ -27,14 +27,15 @@ use Rattle.vx_ctrl.specs.declared.turn.Went.{Went as Outcome}
 use Rattle.vx_ctrl.specs.declared.turn.Went.TheVariants as went
 use Rattle.vx_ctrl.specs.declared.turn.Advance.{Advance}
 use Rattle.vx_ctrl.specs.declared.turn.Advance.TheVariants.{Made, Stopped}
-use Rattle.vx_ctrl.specs.declared.asking.Asked.TheVariants as asked
-use Rattle.vx_ctrl.specs.Turns.{TurnState, HasMade, HasRoom, GetsBytes, with_bytes}
-use Rattle.vx_ctrl.specs.Goes.{Begins, Goes, FitsSlice, refused_steps, go_steps, outcome_stand, HoldsBytes}
-use Rattle.vx_ctrl.specs.Asking.{Asks, IsPlainNext}
-use Rattle.vx_ctrl.specs.Runs.{behind_slice_of, EndsRun, Runs}
-use Rattle.vx_ctrl.specs.ProvedLaws.Sizes.{most_gets}
-use Rattle.vx_ctrl.specs.ProvedLaws.Fares.{fares, own-short, moved-got, room-left, gets-bytes, length-gots, length-bytes_got, bytes_got-append}
-use Rattle.vx_ctrl.proofs.Walking.{path-append, walk-went}
+use Rattle.vx_ctrl.specs.declared.asking.BusAnswer.TheVariants as asked
+use Rattle.vx_ctrl.specs.Turns.{TurnState, HasMade, TurnHasRoom, GetsBytes, with_bytes}
+use Rattle.vx_ctrl.specs.Goes.{TurnBegins, TurnGoes, FitsSlice, refused_steps, go_steps, outcome_stand, HoldsBytes}
+use Rattle.vx_ctrl.specs.Asking.{TurnAsks, IsPlainNext}
+use Rattle.vx_ctrl.specs.Runs.{behind_slice_of, TurnEndsRun, Runs}
+use Rattle.vx_ctrl.proofs.Laws.Sizes.{most_gets}
+use Rattle.vx_ctrl.proofs.Laws.Fares.{fares, own-short, moved-got, room-left, gets-bytes, length-gots, length-bytes_got, bytes_got-append}
+use Rattle.vx_bus_traits.proofs.Laws.Puts.{path-append}
+use Rattle.vx_ctrl.proofs.Walking.{walk-went}
 use Rattle.vx_ctrl.proofs.Rooms.{with-more, with-none, take-with}
 
 -- what an ask that made no transfer says: the bus has the same list and wire, and went through the one ask that didn't go, if any
@@ -44,7 +45,7 @@ pub record Stops {B : Type 0} (means : B → Means) (through : B → Step → B 
   pub walk : Walk means through now (refused_steps outcome slot) after
 
 pub stops : {B : Type 0} (means : B → Means) (through : B → Step → B → Type 0) (slot : Option Slot) (outcome : Outcome) (now after : B)
-    → Asks means through slot (asked.Stopped outcome) now after → Stops means through slot outcome now after
+    → TurnAsks means through slot (asked.Stopped outcome) now after → Stops means through slot outcome now after
 stops means through (Some slot) went.Held now after asks = record {
   moves = ap (λ (m : Means). m.moves) asks.0;
   wire = ap (λ (m : Means). m.wire) asks.0;
@@ -68,7 +69,7 @@ stops means through None went.Slice now after asks = absurd asks
 
 -- a turn that the bus stops is within its slice
 fits-stops : {B : Type 0} (means : B → Means) (through : B → Step → B → Type 0) (slot : Option Slot) (outcome : Outcome) (n : ℕ) (now after : B)
-    → Asks means through slot (asked.Stopped outcome) now after → n < SLICE_MAX → FitsSlice outcome n
+    → TurnAsks means through slot (asked.Stopped outcome) now after → n < SLICE_MAX → FitsSlice outcome n
 fits-stops means through slot went.Finished n now after asks h = omega (arith, h)
 fits-stops means through slot went.Held n now after asks h = h
 fits-stops means through slot went.Broken n now after asks h = h
@@ -77,7 +78,7 @@ fits-stops means through None went.Slice n now after asks h = absurd asks
 
 -- a plan is whole exactly where nothing is wanted
 stand-stops : {B : Type 0} (means : B → Means) (through : B → Step → B → Type 0) (slots : List Slot) (reading : Option Reading) (outcome : Outcome) (now after : B)
-    → Asks means through (next_slot (record { front = slots; reading = reading })) (asked.Stopped outcome) now after
+    → TurnAsks means through (next_slot (record { front = slots; reading = reading })) (asked.Stopped outcome) now after
     → stand_of (Some (record { front = slots; reading = reading })) ≡ outcome_stand outcome
 stand-stops means through [] None went.Finished now after asks = refl
 stand-stops means through [] None went.Held now after asks = absurd asks
@@ -150,8 +151,8 @@ goes-on means through turn w bytes made left left' before now after run law u go
 pub goes-so-far : {B : Type 0} (means : B → Means) (through : B → Step → B → Type 0) (turn : TurnState) (w : Wire) (bytes : List ℕ)
     (made : List Transfer) (left : Plan) (before now after : B) (outcome : Outcome)
     → UnderWay means through turn w bytes made left before now → length (means now).moves < SLICE_MAX
-    → Asks means through (next_slot left) (asked.Stopped outcome) now after
-    → Goes means through turn w bytes made (means after).moves outcome before after
+    → TurnAsks means through (next_slot left) (asked.Stopped outcome) now after
+    → TurnGoes means through turn w bytes made (means after).moves outcome before after
 goes-so-far means through turn w bytes made left before now after outcome u few asked =
     let stop = stops means through (next_slot left) outcome now after asked in
     let H : List Transfer → Type 0 = λ ts. HasMade turn w bytes (made ++ ts) left in
@@ -170,7 +171,7 @@ goes-so-far means through turn w bytes made left before now after outcome u few 
 pub goes-slice : {B : Type 0} (means : B → Means) (through : B → Step → B → Type 0) (turn : TurnState) (w : Wire) (bytes : List ℕ)
     (made : List Transfer) (left : Plan) (before now : B) (outcome : Outcome)
     → UnderWay means through turn w bytes made left before now → length (means now).moves ≡ SLICE_MAX → outcome ≡ behind_slice_of (next_slot left)
-    → Goes means through turn w bytes made (means now).moves outcome before now
+    → TurnGoes means through turn w bytes made (means now).moves outcome before now
 goes-slice means through turn w bytes made left before now outcome u full is =
     let moves = (means now).moves in
     let slot = next_slot left in
@@ -194,7 +195,7 @@ pub record Going {B : Type 0} (means : B → Means) (through : B → Step → B 
   pub slice : length (means now).moves + rest ≡ SLICE_MAX
   pub wire : (means now).wire ≡ wire_after (means before).wire (means now).moves
   pub stored : room ≡ with_bytes first.place.moved (bytes_got (means now).moves) begun
-  pub under_way : (w : Wire) (made : List Transfer) → Begins first w bytes made (means before)
+  pub under_way : (w : Wire) (made : List Transfer) → TurnBegins first w bytes made (means before)
       → (left : Plan) × UnderWay means through turn w bytes made left before now
 
 -- what a caller of a turn that goes keeps to
@@ -202,10 +203,10 @@ pub record Ready (first : TurnState) (bytes room : List ℕ) (means : Means) : T
   pub plain : IsPlainTask first.task
   pub own : first.place.own ≤ ADDRESS_MAX
   pub short : length bytes ≤ WRITE_MAX
-  pub has_room : HasRoom first.task (length room)
+  pub has_room : TurnHasRoom first.task (length room)
   pub cut : means.moves ≡ []
   pub none_asked : means.asks ≡ 0
-  pub begins : (w : Wire) × (made : List Transfer) × Begins first w bytes made means
+  pub begins : (w : Wire) × (made : List Transfer) × TurnBegins first w bytes made means
 
 pub begins-going : {B : Type 0} (means : B → Means) (through : B → Step → B → Type 0) (first : TurnState) (bytes room : List ℕ) (before : B)
     → Ready first bytes room (means before) → Going means through first first bytes room room before before SLICE_MAX
@@ -246,7 +247,7 @@ room-on at xs (y ∷ ys) begun place h = let both = h (λ none. cc) in with-more
 -- behind a list that got bytes the data bytes that the turn moved are those of the list and of what it got since
 moved-since : {B : Type 0} (means : B → Means) (through : B → Step → B → Type 0) (first turn : TurnState) (w : Wire) (bytes : List ℕ)
     (made : List Transfer) (left : Plan) (before now : B) → turn.task ≡ first.task → IsPlainTask first.task → GetsBytes first.task
-    → Begins first w bytes made (means before) → UnderWay means through turn w bytes made left before now
+    → TurnBegins first w bytes made (means before) → UnderWay means through turn w bytes made left before now
     → turn.place.moved ≡ first.place.moved + length (bytes_got (means now).moves)
 moved-since means through first turn w bytes made left before now same plain gets b u =
     let moves = (means now).moves in
@@ -265,7 +266,7 @@ moved-since means through first turn w bytes made left before now same plain get
 -- the room of a turn that gets bytes still has all that it got
 pub still-holds : {B : Type 0} (means : B → Means) (through : B → Step → B → Type 0) (first turn : TurnState) (bytes begun room : List ℕ)
     (before now : B) (rest : ℕ) (w : Wire) (made : List Transfer) → IsPlainTask first.task → Going means through first turn bytes begun room before now rest
-    → Begins first w bytes made (means before) → GetsBytes first.task → HoldsBytes first made begun
+    → TurnBegins first w bytes made (means before) → GetsBytes first.task → HoldsBytes first made begun
     → HoldsBytes turn (made ++ (means now).moves) room
 still-holds means through first turn bytes begun room before now rest w made plain going b gets held =
     let moves = (means now).moves in
@@ -285,7 +286,7 @@ some-long (x ∷ xs) some = omega arith
 
 module _ {B : Type 0} (means : B → Means) (through : B → Step → B → Type 0) (first turn : TurnState) (bytes begun room : List ℕ) (before now : B) (rest : ℕ)
     (plain : IsPlainTask first.task) (short : length bytes ≤ WRITE_MAX)
-    (begins : (w : Wire) × (made : List Transfer) × Begins first w bytes made (means before))
+    (begins : (w : Wire) × (made : List Transfer) × TurnBegins first w bytes made (means before))
     (going : Going means through first turn bytes begun room before now rest) (long-room : length room ≡ length begun) where
   left : Plan
   left = (going.under_way begins.0 begins.1 begins.2).0
@@ -313,18 +314,18 @@ module _ {B : Type 0} (means : B → Means) (through : B → Step → B → Type
   pub own-in : first.place.own ≤ ADDRESS_MAX → turn.place.own ≤ ADDRESS_MAX
   own-in h = omega (arith, under.has_made.own, begins.2.had_made.own)
 
-  pub room-in : HasRoom first.task (length begun) → HasRoom turn.task (length room)
-  room-in h = subst (λ (k : Task). HasRoom k (length room)) (sym same-task) (subst (λ (n : ℕ). HasRoom first.task n) (sym long-room) h)
+  pub room-in : TurnHasRoom first.task (length begun) → TurnHasRoom turn.task (length room)
+  room-in h = subst (λ (k : Task). TurnHasRoom k (length room)) (sym same-task) (subst (λ (n : ℕ). TurnHasRoom first.task n) (sym long-room) h)
 
   pub is-reached : IsReached turn.task turn.place
   is-reached = (bytes, begins.1 ++ (means now).moves, left, under.has_made.reaches)
 
   -- a run from here
   module _ (new : TurnState) (room' : List ℕ) (advance : Advance) (after : B) (runs : Runs means through turn bytes room new room' rest advance now after)
-      (law : RunLaw) (wire_law : WireAppendsLaw) (has_room : HasRoom first.task (length begun)) where
+      (law : RunLaw) (wire_law : WireAppendsLaw) (has_room : TurnHasRoom first.task (length begun)) where
     on : (w : Wire) (made : List Transfer) (left : Plan) → UnderWay means through turn w bytes made left before now
         → (left' : Plan) × UnderWay means through new w bytes made left' before runs.between
-        × EndsRun means through (next_slot left') runs.run rest advance runs.between after
+        × TurnEndsRun means through (next_slot left') runs.run rest advance runs.between after
     on w made left u =
         let next = runs.goes (made ++ (means now).moves) left u.has_made.reaches in
         let N : TurnState → Type 0 = λ s. UnderWay means through s w bytes made next.0 before runs.between in
@@ -342,7 +343,7 @@ module _ {B : Type 0} (means : B → Means) (through : B → Step → B → Type
         let f = fares turn.task bytes (so_far ++ runs.run) next.0 (place_behind turn.task turn.place runs.run) plain-now r in
         let one_more : count_by is_got so_far + 1 ≤ most_gets turn.task =
         omega (arith, f.gets, sum_by-append (λ t. cond (is_got t) 1 0) so_far runs.run, length-gots runs.run, length-bytes_got runs.run, some-long (bytes_got runs.run) some) in
-        let R : Task → Type 0 = λ task. HasRoom task (length begun) in
+        let R : Task → Type 0 = λ task. TurnHasRoom task (length begun) in
         let within = room-left turn.task bytes so_far left turn.place plain-now under.has_made.reaches (length begun) (subst R (sym same-task) has_room) one_more in (
           moved-since means through first turn begins.0 bytes begins.1 left before now same-task plain
               (subst GetsBytes same-task (gets-bytes turn.task (omega (arith, one_more)))) begins.2 under,
@@ -372,7 +373,7 @@ module _ {B : Type 0} (means : B → Means) (through : B → Step → B → Type
 
   -- a run behind which the turn goes on at once
   module _ (new : TurnState) (room' : List ℕ) (n : ℕ) (after : B) (runs : Runs means through turn bytes room new room' rest (Made n) now after)
-      (law : RunLaw) (wire_law : WireAppendsLaw) (has_room : HasRoom first.task (length begun)) where
+      (law : RunLaw) (wire_law : WireAppendsLaw) (has_room : TurnHasRoom first.task (length begun)) where
     ends : (after ≡ runs.between) × (n ≡ length runs.run) × (0 < n) × (n ≤ rest)
     ends = (on new room' (Made n) after runs law wire_law has_room begins.0 begins.1 left under).2
 
@@ -390,7 +391,7 @@ module _ {B : Type 0} (means : B → Means) (through : B → Step → B → Type
 
   -- a run behind which it stops
   module _ (new : TurnState) (room' : List ℕ) (outcome : Outcome) (after : B) (runs : Runs means through turn bytes room new room' rest (Stopped outcome) now after)
-      (law : RunLaw) (wire_law : WireAppendsLaw) (has_room : HasRoom first.task (length begun)) where
+      (law : RunLaw) (wire_law : WireAppendsLaw) (has_room : TurnHasRoom first.task (length begun)) where
     fewer : length runs.run < rest
     fewer = (on new room' (Stopped outcome) after runs law wire_law has_room begins.0 begins.1 left under).2.1
 
@@ -405,8 +406,8 @@ module _ {B : Type 0} (means : B → Means) (through : B → Step → B → Type
     pub same-turn : new ≡ record first { place = new.place }
     same-turn = far.same
 
-    pub goes-stops : (w : Wire) (made : List Transfer) → Begins first w bytes made (means before)
-        → Goes means through new w bytes made (means after).moves outcome before after
+    pub goes-stops : (w : Wire) (made : List Transfer) → TurnBegins first w bytes made (means before)
+        → TurnGoes means through new w bytes made (means after).moves outcome before after
     goes-stops w made b =
         let u = going.under_way w made b in
         let next = on new room' (Stopped outcome) after runs law wire_law has_room w made u.0 u.1 in
@@ -418,14 +419,14 @@ module _ {B : Type 0} (means : B → Means) (through : B → Step → B → Type
     pub got-stops : room' ≡ with_bytes first.place.moved (bytes_got (means after).moves) begun
     got-stops = far.stored ∙ ap (λ ts. with_bytes first.place.moved (bytes_got ts) begun) (sym stop.1.moves)
 
-    pub holds-stops : (w : Wire) (made : List Transfer) → Begins first w bytes made (means before) → GetsBytes first.task → HoldsBytes first made begun
+    pub holds-stops : (w : Wire) (made : List Transfer) → TurnBegins first w bytes made (means before) → GetsBytes first.task → HoldsBytes first made begun
         → HoldsBytes new (made ++ (means after).moves) room'
     holds-stops w made b gets held =
         let P : List Transfer → Type 0 = λ ts. HoldsBytes new (made ++ ts) room' in
         subst P (sym stop.1.moves) (still-holds means through first new bytes begun room' before runs.between (rest - length runs.run) w made plain far b gets held)
 
-    pub begins-again : (w : Wire) (made : List Transfer) → Begins first w bytes made (means before)
-        → Begins new w bytes (made ++ (means after).moves) (means after)
+    pub begins-again : (w : Wire) (made : List Transfer) → TurnBegins first w bytes made (means before)
+        → TurnBegins new w bytes (made ++ (means after).moves) (means after)
     begins-again w made b =
         let u = far.under_way w made b in
         let H : List Transfer → Type 0 = λ ts. HasMade new w bytes (made ++ ts) u.0 in
@@ -439,19 +440,19 @@ module _ {B : Type 0} (means : B → Means) (through : B → Step → B → Type
   module _ (full : rest ≡ 0) where
     pub goes-full : (outcome : Outcome)
         → ((bytes : List ℕ) (ts : List Transfer) (left : Plan) → Reaches turn.task bytes ts left turn.place → outcome ≡ behind_slice_of (next_slot left))
-        → (w : Wire) (made : List Transfer) → Begins first w bytes made (means before)
-        → Goes means through turn w bytes made (means now).moves outcome before now
+        → (w : Wire) (made : List Transfer) → TurnBegins first w bytes made (means before)
+        → TurnGoes means through turn w bytes made (means now).moves outcome before now
     goes-full outcome is w made b =
         let u = going.under_way w made b in
         goes-slice means through turn w bytes made u.0 before now outcome u.1 (omega (arith, going.slice, full))
         (is bytes (made ++ (means now).moves) u.0 u.1.has_made.reaches)
 
-  pub holds-full : (w : Wire) (made : List Transfer) → Begins first w bytes made (means before) → GetsBytes first.task → HoldsBytes first made begun
+  pub holds-full : (w : Wire) (made : List Transfer) → TurnBegins first w bytes made (means before) → GetsBytes first.task → HoldsBytes first made begun
       → HoldsBytes turn (made ++ (means now).moves) room
   holds-full w made b gets held = still-holds means through first turn bytes begun room before now rest w made plain going b gets held
 
-  pub begins-full : WireAppendsLaw → (w : Wire) (made : List Transfer) → Begins first w bytes made (means before)
-      → Begins turn w bytes (made ++ (means now).moves) (means now)
+  pub begins-full : WireAppendsLaw → (w : Wire) (made : List Transfer) → TurnBegins first w bytes made (means before)
+      → TurnBegins turn w bytes (made ++ (means now).moves) (means now)
   begins-full wire_law w made b =
       let u = going.under_way w made b in
       record {

@@ -1,3 +1,4 @@
+pub mod Laws
 pub mod Answered
 pub mod Walking
 pub mod Rooms

@@ -27,15 +27,15 @@ use Rattle.vx_plan.specs.Transfers.{is_got}
 use Rattle.vx_plan.specs.Places.{carries_data, place_after, Reaches}
 use Rattle.vx_plan.specs.Runs.{DataLeft, IsDataLeft, place_behind}
 use Rattle.vx_plan.specs.Laws.{FitsNext, PlaceGoesOnLaw}
-use Rattle.vx_plan.specs.ProvedLaws.Counts.{length-puts}
+use Rattle.vx_plan.proofs.Laws.Counts.{length-puts}
 use Rattle.vx_ctrl.specs.declared.turn.Went.{Went as Outcome}
 use Rattle.vx_ctrl.specs.declared.turn.Went.TheVariants as went
 use Rattle.vx_ctrl.specs.declared.turn.Advance.{Advance}
 use Rattle.vx_ctrl.specs.declared.turn.Advance.TheVariants.{Made, Stopped}
-use Rattle.vx_ctrl.specs.declared.asking.Asked.TheVariants as asked
+use Rattle.vx_ctrl.specs.declared.asking.BusAnswer.TheVariants as asked
 use Rattle.vx_ctrl.specs.Turns.{TurnState, with_bytes, stored, moved_on}
-use Rattle.vx_ctrl.specs.Asking.{Asks}
-use Rattle.vx_ctrl.specs.Runs.{behind_puts_of, behind_gets_of, EndsRun, Runs}
+use Rattle.vx_ctrl.specs.Asking.{TurnAsks}
+use Rattle.vx_ctrl.specs.Runs.{behind_puts_of, behind_gets_of, TurnEndsRun, Runs}
 use Rattle.vx_ctrl.proofs.Walking.{path-split}
 use Rattle.vx_ctrl.proofs.Rooms.{with-none, with-one-more, drop-seam}
 use Rattle.vx_ctrl.proofs.Bursts.{ended-puts, front-puts, just-goes, IsData, data-put, no-gots, reading_left, gets-on, Goes, goes-end, goes-char, goes-filled, data-got, bytes-ended, length-ended}
@@ -51,13 +51,13 @@ behind-data task place run n last d e =
 -- ---- a burst of puts
 
 put-held : {B : Type 0} (means : B → Means) (through : B → Step → B → Type 0) (rest : List Transfer) (n : ℕ) (between after : B) → rest ≢ [] → 0 < n
-    → Walk means through between (refused_put move.Held (take n rest)) after → Asks means through (next_slot (just rest)) (asked.Stopped went.Held) between after
+    → Walk means through between (refused_put move.Held (take n rest)) after → TurnAsks means through (next_slot (just rest)) (asked.Stopped went.Held) between after
 put-held means through [] n between after some more path = absurd (some refl)
 put-held means through (t ∷ ts) zero between after some more path = absurd (omega arith)
 put-held means through (t ∷ ts) (suc n) between after some more path = subst (λ b. StepsTo means through between (Held (ask_for t)) b) (sym path.2) path.1
 
 put-failed : {B : Type 0} (means : B → Means) (through : B → Step → B → Type 0) (rest : List Transfer) (n : ℕ) (between after : B) → rest ≢ [] → 0 < n
-    → Walk means through between (refused_put move.Failed (take n rest)) after → Asks means through (next_slot (just rest)) (asked.Stopped went.Broken) between after
+    → Walk means through between (refused_put move.Failed (take n rest)) after → TurnAsks means through (next_slot (just rest)) (asked.Stopped went.Broken) between after
 put-failed means through [] n between after some more path = absurd (some refl)
 put-failed means through (t ∷ ts) zero between after some more path = absurd (omega arith)
 put-failed means through (t ∷ ts) (suc n) between after some more path = subst (λ b. StepsTo means through between (Failed (ask_for t)) b) (sym path.2) path.1
@@ -122,7 +122,7 @@ module _ {B : Type 0} (means : B → Means) (through : B → Step → B → Type
       ap (λ k. drop m (take k all)) sum ∙ drop-take m (many - m) all
 
   -- whichever it ended with, it is a run
-  by-end : EndsRun means through (next_slot (just (drop m all))) run many (behind_puts_of m last) parts.0 after
+  by-end : TurnEndsRun means through (next_slot (just (drop m all))) run many (behind_puts_of m last) parts.0 after
       → Runs means through turn bytes room new room many (behind_puts_of m last) bus after
   by-end ends = record {
     run = run;
@@ -134,13 +134,13 @@ module _ {B : Type 0} (means : B → Means) (through : B → Step → B → Type
     goes = λ ts left r. (just (drop m all), ap (λ l. left_after (Some l) run) (shape ts left r) ∙ just-goes all m, ends);
   }
 
-  ends-went : last ≡ move.Went → EndsRun means through (next_slot (just (drop m all))) run many (Made m) parts.0 after
+  ends-went : last ≡ move.Went → TurnEndsRun means through (next_slot (just (drop m all))) run many (Made m) parts.0 after
   ends-went e =
       let P : Move → Type 0 = λ l. Walk means through parts.0 (refused_put l (drop m (take many all))) after in
       let all-went = whole.0 e in
       (subst P e parts.2, sym length-run, omega (arith, all-went, some), within)
 
-  ends-held : last ≡ move.Held → EndsRun means through (next_slot (just (drop m all))) run many (Stopped went.Held) parts.0 after
+  ends-held : last ≡ move.Held → TurnEndsRun means through (next_slot (just (drop m all))) run many (Stopped went.Held) parts.0 after
   ends-held e =
       let P : Move → Type 0 = λ l. Walk means through parts.0 (refused_put l (drop m (take many all))) after in
       let Q : List Transfer → Type 0 = λ ts. Walk means through parts.0 (refused_put move.Held ts) after in
@@ -149,7 +149,7 @@ module _ {B : Type 0} (means : B → Means) (through : B → Step → B → Type
         omega (arith, less, length-run),
       )
 
-  ends-failed : last ≡ move.Failed → EndsRun means through (next_slot (just (drop m all))) run many (Stopped went.Broken) parts.0 after
+  ends-failed : last ≡ move.Failed → TurnEndsRun means through (next_slot (just (drop m all))) run many (Stopped went.Broken) parts.0 after
   ends-failed e =
       let P : Move → Type 0 = λ l. Walk means through parts.0 (refused_put l (drop m (take many all))) after in
       let Q : List Transfer → Type 0 = λ ts. Walk means through parts.0 (refused_put move.Failed ts) after in
@@ -158,7 +158,7 @@ module _ {B : Type 0} (means : B → Means) (through : B → Step → B → Type
         omega (arith, less, length-run),
       )
 
-  ends-put : (l : Move) → last ≡ l → EndsRun means through (next_slot (just (drop m all))) run many (behind_puts_of m l) parts.0 after
+  ends-put : (l : Move) → last ≡ l → TurnEndsRun means through (next_slot (just (drop m all))) run many (behind_puts_of m l) parts.0 after
   ends-put move.Went e = ends-went e
   ends-put move.Held e = ends-held e
   ends-put move.Failed e = ends-failed e
@@ -190,11 +190,11 @@ part-stored at many n room part fits within long kept =
     ∙ ap (λ k. take at room ++ take n part ++ drop (at + k) room) (sym count)
 
 get-held : {B : Type 0} (means : B → Means) (through : B → Step → B → Type 0) (between after : B)
-    → Walk means through between (refused_get why.Held) after → Asks means through (Some AnyByte) (asked.Stopped went.Held) between after
+    → Walk means through between (refused_get why.Held) after → TurnAsks means through (Some AnyByte) (asked.Stopped went.Held) between after
 get-held means through between after path = subst (λ b. StepsTo means through between (Held ask.Get) b) (sym path.2) path.1
 
 get-failed : {B : Type 0} (means : B → Means) (through : B → Step → B → Type 0) (between after : B)
-    → Walk means through between (refused_get why.Failed) after → Asks means through (Some AnyByte) (asked.Stopped went.Broken) between after
+    → Walk means through between (refused_get why.Failed) after → TurnAsks means through (Some AnyByte) (asked.Stopped went.Broken) between after
 get-failed means through between after path = subst (λ b. StepsTo means through between (Failed ask.Get) b) (sym path.2) path.1
 
 module _ {B : Type 0} (means : B → Means) (through : B → Step → B → Type 0) (turn new : TurnState) (bytes room room' : List ℕ) (stop : Option ℕ) (n many : ℕ) (got : List ℕ) (bus after : B)
@@ -209,7 +209,7 @@ module _ {B : Type 0} (means : B → Means) (through : B → Step → B → Type
   by-stop : (e : Bool) (advance : Advance) (between : B)
       → new ≡ record turn { place = record turn.place { moved = turn.place.moved + length got; last = last_of turn.place.last (gots (ended Got e got)) } }
       → Walk means through bus (map Went (ended Got e got)) between
-      → (left' : Plan) × (left_after (Some (reading_left n stop)) (ended Got e got) ≡ Some left') × EndsRun means through (next_slot left') (ended Got e got) many advance between after
+      → (left' : Plan) × (left_after (Some (reading_left n stop)) (ended Got e got) ≡ Some left') × TurnEndsRun means through (next_slot left') (ended Got e got) many advance between after
       → Runs means through turn bytes room new room' many advance bus after
   by-stop e advance between moved walk goes = record {
     run = ended Got e got;
@@ -231,7 +231,7 @@ module _ {B : Type 0} (means : B → Means) (through : B → Step → B → Type
   -- it stopped before the next one
   by-none : (outcome : Outcome) (between : B)
       → new ≡ record turn { place = record turn.place { moved = turn.place.moved + length got; last = last_of turn.place.last (gots (ended Got false got)) } }
-      → Walk means through bus (map Went (ended Got false got)) between → Asks means through (Some AnyByte) (asked.Stopped outcome) between after
+      → Walk means through bus (map Went (ended Got false got)) between → TurnAsks means through (Some AnyByte) (asked.Stopped outcome) between after
       → (length got < many) × IsClear stop got → Runs means through turn bytes room new room' many (Stopped outcome) bus after
   by-none outcome between moved walk asks stops =
       by-stop false (Stopped outcome) between moved walk (
@@ -295,14 +295,14 @@ stored-one at t room h = sym (with-none at room)
 
 -- what an ask that made a transfer says
 pub made-fits : {B : Type 0} (means : B → Means) (through : B → Step → B → Type 0) (slot : Option Slot) (t : Transfer) (now after : B)
-    → Asks means through slot (asked.Moved t) now after → FitsNext slot t × StepsTo means through now (Went t) after
+    → TurnAsks means through slot (asked.Moved t) now after → FitsNext slot t × StepsTo means through now (Went t) after
 made-fits means through (Some slot) t now after asks = asks
 made-fits means through None t now after asks = absurd asks
 
 -- an ask that made a transfer is a run of one
 pub one-runs : {B : Type 0} (means : B → Means) (through : B → Step → B → Type 0) (turn : TurnState) (bytes room : List ℕ) (t : Transfer) (bus after : B) → PlaceGoesOnLaw
     → (ts : List Transfer) (left : Plan) → Reaches turn.task bytes ts left turn.place
-    → ((ts : List Transfer) (left : Plan) → Reaches turn.task bytes ts left turn.place → Asks means through (next_slot left) (asked.Moved t) bus after)
+    → ((ts : List Transfer) (left : Plan) → Reaches turn.task bytes ts left turn.place → TurnAsks means through (next_slot left) (asked.Moved t) bus after)
     → (is_got t ≡ true → turn.place.moved < length room)
     → Runs means through turn bytes room (moved_on turn t) (stored turn.place.moved t room) 1 (Made 1) bus after
 one-runs means through turn bytes room t bus after law ts left r asks fits = record {
@@ -318,7 +318,7 @@ one-runs means through turn bytes room t bus after law ts left r asks fits = rec
 
 -- and one that made none a run of none, where some might have been made
 pub none-runs : {B : Type 0} (means : B → Means) (through : B → Step → B → Type 0) (turn : TurnState) (bytes room : List ℕ) (outcome : Outcome) (bus after : B)
-    → ((ts : List Transfer) (left : Plan) → Reaches turn.task bytes ts left turn.place → Asks means through (next_slot left) (asked.Stopped outcome) bus after)
+    → ((ts : List Transfer) (left : Plan) → Reaches turn.task bytes ts left turn.place → TurnAsks means through (next_slot left) (asked.Stopped outcome) bus after)
     → Runs means through turn bytes room turn room 1 (Stopped outcome) bus after
 none-runs means through turn bytes room outcome bus after asks = record {
   run = [];
@@ -331,7 +331,7 @@ none-runs means through turn bytes room outcome bus after asks = record {
 
 -- a run of at most so many is one of at most as many, or more
 ends-within : {B : Type 0} (means : B → Means) (through : B → Step → B → Type 0) (slot : Option Slot) (run : List Transfer) (few most : ℕ) (advance : Advance) (between after : B)
-    → few ≤ most → EndsRun means through slot run few advance between after → EndsRun means through slot run most advance between after
+    → few ≤ most → TurnEndsRun means through slot run few advance between after → TurnEndsRun means through slot run most advance between after
 ends-within means through slot run few most (Made n) between after h ends = (ends.0, ends.1, ends.2, omega (arith, h, ends.3))
 ends-within means through slot run few most (Stopped outcome) between after h ends = (ends.0, omega (arith, h, ends.1))
 

@@ -1,20 +1,13 @@
 -- Walks of a bus: one list of steps and then another.
-use Rattle.std.proofs.Common.{◌≡◌, List, [], ◌∷◌, ◌++◌, refl, sym, ap, ◌∙◌, subst, arith, append_assoc, add-zero, ◌+◌, length}
+use Rattle.std.proofs.Common.{◌≡◌, List, [], ◌∷◌, ◌++◌, refl, sym, ap, ◌∙◌, arith, append_assoc, add-zero, ◌+◌, length}
 use Rattle.std.proofs.lemmas.List.{append-nil}
 use Rattle.vx_488.specs.Wire.{wire_after}
 use Rattle.vx_bus_traits.specs.Means.{Means}
 use Rattle.vx_bus_traits.specs.Steps.{Step, Path}
+use Rattle.vx_bus_traits.proofs.Laws.Puts.{path-append}
 use Rattle.vx_ctrl.specs.Laws.{WentLaw}
 
--- a path over one list, and one over another from there on, is a path over both
-pub path-append : {B : Type 0} (through : B → Step → B → Type 0) (old next new : B) (xs ys : List Step)
-    → Path through old xs next → Path through next ys new → Path through old (xs ++ ys) new
-path-append through old next new [] ys front rest =
-    subst (λ at. Path through at ys new) front rest
-path-append through old next new (s ∷ xs) ys front rest =
-    (front.0, front.1, path-append through front.0 next new xs ys front.2 rest)
-
--- and the other way round
+-- a path over two lists is a path over one, and one over the other from there on
 pub path-split : {B : Type 0} (through : B → Step → B → Type 0) (old new : B) (xs ys : List Step)
     → Path through old (xs ++ ys) new → (next : B) × Path through old xs next × Path through next ys new
 path-split through old new [] ys path = (old, refl, path)

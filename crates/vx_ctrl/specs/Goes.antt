@@ -45,7 +45,7 @@ FitsSlice _ moved = moved < SLICE_MAX
 -- A turn that had made a list goes on by these transfers, a slice of its plan: together they are a list of that plan, whole
 -- where it is finished, and a part where the plan's next ask was held or failed, or the slice is full. The bus was asked for
 -- these transfers, in order, and for the one that was held or failed, and for nothing else.
-pub record Goes {B : Type 0} (means : B → Means) (through : B → Step → B → Type 0) (new : TurnState) (w : Wire)
+pub record TurnGoes {B : Type 0} (means : B → Means) (through : B → Step → B → Type 0) (new : TurnState) (w : Wire)
     (bytes : List ℕ) (made moves : List Transfer) (outcome : Outcome) (bus after : B) : Type 0 where
   pub left : Plan
   pub has_made : HasMade new w bytes (made ++ moves) left
@@ -54,7 +54,7 @@ pub record Goes {B : Type 0} (means : B → Means) (through : B → Step → B �
   pub walk : Walk means through bus (go_steps moves outcome left) after
 
 -- the turn had made this list, and the bus is where the list left it
-pub record Begins (turn : TurnState) (w : Wire) (bytes : List ℕ) (made : List Transfer) (means : Means) : Type 0 where
+pub record TurnBegins (turn : TurnState) (w : Wire) (bytes : List ℕ) (made : List Transfer) (means : Means) : Type 0 where
   pub left : Plan
   pub had_made : HasMade turn w bytes made left
   pub bus : means.wire ≡ wire_after w made

@@ -3,7 +3,6 @@ pub mod Goes
 pub mod Asking
 pub mod Runs
 pub mod Laws
-pub mod ProvedLaws
 pub use Rattle.vx_488.specs.Wire
 pub use Rattle.vx_bus_traits.specs.Means
 pub use Rattle.vx_bus_traits.specs.Steps

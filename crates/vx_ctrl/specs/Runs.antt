@@ -16,9 +16,9 @@ use Rattle.vx_ctrl.specs.declared.turn.Went.{Went as Outcome}
 use Rattle.vx_ctrl.specs.declared.turn.Went.TheVariants as went
 use Rattle.vx_ctrl.specs.declared.turn.Advance.{Advance}
 use Rattle.vx_ctrl.specs.declared.turn.Advance.TheVariants.{Made, Stopped}
-use Rattle.vx_ctrl.specs.declared.asking.Asked.TheVariants as asked
+use Rattle.vx_ctrl.specs.declared.asking.BusAnswer.TheVariants as asked
 use Rattle.vx_ctrl.specs.Turns.{TurnState, with_bytes}
-use Rattle.vx_ctrl.specs.Asking.{Asks}
+use Rattle.vx_ctrl.specs.Asking.{TurnAsks}
 
 -- what a burst came to of which so many bytes went
 abbrev pub behind_puts_of : ℕ → Move → Advance
@@ -38,9 +38,9 @@ behind_slice_of (Some slot) = went.Slice
 
 -- Behind a run that made some transfers, at most so many, the turn goes on at once; or it stops at the ask for what is
 -- wanted then, and made fewer.
-abbrev pub EndsRun : {B : Type 0} → (B → Means) → (B → Step → B → Type 0) → Option Slot → List Transfer → ℕ → Advance → B → B → Type 0
-EndsRun means through slot run most (Made n) between after = (after ≡ between) × (n ≡ length run) × (0 < n) × (n ≤ most)
-EndsRun means through slot run most (Stopped outcome) between after = Asks means through slot (asked.Stopped outcome) between after × (length run < most)
+abbrev pub TurnEndsRun : {B : Type 0} → (B → Means) → (B → Step → B → Type 0) → Option Slot → List Transfer → ℕ → Advance → B → B → Type 0
+TurnEndsRun means through slot run most (Made n) between after = (after ≡ between) × (n ≡ length run) × (0 < n) × (n ≤ most)
+TurnEndsRun means through slot run most (Stopped outcome) between after = TurnAsks means through slot (asked.Stopped outcome) between after × (length run < most)
 
 -- The bus made these transfers, one after the other and at most so many, all of which the plan wants, and the turn has made
 -- them.
@@ -52,4 +52,4 @@ pub record Runs {B : Type 0} (means : B → Means) (through : B → Step → B �
   pub moved : new ≡ record turn { place = place_behind turn.task turn.place run }
   pub stored : room' ≡ with_bytes turn.place.moved (bytes_got run) room
   pub goes : (ts : List Transfer) (left : Plan) → Reaches turn.task bytes ts left turn.place
-      → (left' : Plan) × (left_after (Some left) run ≡ Some left') × EndsRun means through (next_slot left') run most advance between after
+      → (left' : Plan) × (left_after (Some left) run ≡ Some left') × TurnEndsRun means through (next_slot left') run most advance between after

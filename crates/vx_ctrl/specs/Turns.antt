@@ -24,10 +24,10 @@ pub record HasMade (turn : TurnState) (w : Wire) (bytes : List ℕ) (made : List
   pub reaches : Reaches turn.task bytes made left turn.place
 
 -- a read wants room for all the bytes that it may get, a serial poll for one
-abbrev pub HasRoom : Task → ℕ → Type 0
-HasRoom (Read t max stop) room = min max READ_MAX ≤ room
-HasRoom (Stb t) room = 1 ≤ room
-HasRoom _ room = ⊤
+abbrev pub TurnHasRoom : Task → ℕ → Type 0
+TurnHasRoom (Read t max stop) room = min max READ_MAX ≤ room
+TurnHasRoom (Stb t) room = 1 ≤ room
+TurnHasRoom _ room = ⊤
 
 -- the room with these bytes from a place on
 abbrev pub with_bytes : ℕ → List ℕ → List ℕ → List ℕ

@@ -2,7 +2,7 @@
 ghost use Rattle.std.specs.Prelude.{◌≡◌, ◌<◌, slice_index};
 ghost use Rattle.vx_bus_traits.specs.declared.asks.TheConstants.{ASK_MAX};
 ghost use Rattle.vx_plan.specs.Places.{slot_wanted};
-ghost use Rattle.vx_ctrl.specs.Asking.{sent_as, got_as, Asks, IsPlainNext};
+ghost use Rattle.vx_ctrl.specs.Asking.{sent_as, got_as, TurnAsks, IsPlainNext};
 
 use crate::turn::Went;
 use vx_488::{Line, Transfer};
@@ -11,7 +11,7 @@ use vx_plan::Next;
 
 /// What an ask came to.
 #[derive(Clone, Copy, PartialEq, Eq)]
-pub enum Asked {
+pub enum BusAnswer {
     /// The bus made this transfer.
     Moved(Transfer),
     /// The turn stops, for this reason.
@@ -19,24 +19,24 @@ pub enum Asked {
 }
 
 /// What an ask for this transfer came to.
-fn sent(t: Transfer, answer: Move) -> Asked
+fn sent(t: Transfer, answer: Move) -> BusAnswer
     ensures { result ≡ sent_as t answer }
 {
     match answer {
-        Move::Went => Asked::Moved(t),
-        Move::Held => Asked::Stopped(Went::Held),
-        Move::Failed => Asked::Stopped(Went::Broken),
+        Move::Went => BusAnswer::Moved(t),
+        Move::Held => BusAnswer::Stopped(Went::Held),
+        Move::Failed => BusAnswer::Stopped(Went::Broken),
     }
 }
 
 /// What a get came to.
-fn got(answer: GetOut) -> Asked
+fn got(answer: GetOut) -> BusAnswer
     ensures { result ≡ got_as answer }
 {
     match answer {
-        GetOut::Byte { b, end } => Asked::Moved(Transfer::Got { b, end }),
-        GetOut::Held => Asked::Stopped(Went::Held),
-        GetOut::Failed => Asked::Stopped(Went::Broken),
+        GetOut::Byte { b, end } => BusAnswer::Moved(Transfer::Got { b, end }),
+        GetOut::Held => BusAnswer::Stopped(Went::Held),
+        GetOut::Failed => BusAnswer::Stopped(Went::Broken),
     }
 }
 
@@ -48,10 +48,10 @@ fn byte_at(bytes: &[u8], at: u32) -> u8
 }
 
 /// Asks a bus for what a job wants next, which has sent so many of its bytes.
-pub fn ask<B: Bus>(bus: &mut B, next: Next, bytes: &[u8], moved: u32) -> Asked
+pub fn ask<B: Bus>(bus: &mut B, next: Next, bytes: &[u8], moved: u32) -> BusAnswer
     requires asks { (B.means bus.old).asks < ASK_MAX }
     requires own { IsPlainNext next }
-    ensures { Asks B.means B.through (slot_wanted next bytes.now moved) result bus.old bus.new }
+    ensures { TurnAsks B.means B.through (slot_wanted next bytes.now moved) result bus.old bus.new }
 {
     match next {
         Next::Command(b) => sent(Transfer::Cmd(b), bus.command(b)),
@@ -68,6 +68,6 @@ pub fn ask<B: Bus>(bus: &mut B, next: Next, bytes: &[u8], moved: u32) -> Asked
         Next::Atn(on) => sent(Transfer::Atn(on), bus.line(Line::Atn, on)),
         Next::Ifc => sent(Transfer::Ifc, bus.ifc()),
         Next::Own(address) => sent(Transfer::Own(address), bus.own(address)),
-        Next::Finished => Asked::Stopped(Went::Finished),
+        Next::Finished => BusAnswer::Stopped(Went::Finished),
     }
 }

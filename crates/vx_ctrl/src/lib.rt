@@ -2,8 +2,8 @@
 #![tactic(auto)]
 
 mod asking;
-mod laws;
+mod theorems;
 mod turn;
 
-pub use laws::{walk_appends, walk_went};
+pub use theorems::{walk_appends, walk_went};
 pub use turn::{Turn, Went};

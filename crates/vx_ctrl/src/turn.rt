@@ -15,12 +15,12 @@ ghost use Rattle.vx_plan.specs.Tasks.{plan, IsPlainTask, HasBytes};
 ghost use Rattle.vx_plan.specs.Results.{bytes_got, gots, last_of, reason_of};
 ghost use Rattle.vx_488.specs.declared.transfers.Transfer.TheVariants.{Got};
 ghost use Rattle.vx_bus_traits.specs.Bursts.{ended, is_end};
-ghost use Rattle.vx_ctrl.specs.Turns.{HasMade, HasRoom, GetsBytes, with_bytes, stored, moved_on, turn_reason, moved_by, reason_by};
-ghost use Rattle.vx_ctrl.specs.Asking.{Asks};
+ghost use Rattle.vx_ctrl.specs.Turns.{HasMade, TurnHasRoom, GetsBytes, with_bytes, stored, moved_on, turn_reason, moved_by, reason_by};
+ghost use Rattle.vx_ctrl.specs.Asking.{TurnAsks};
 ghost use Rattle.vx_ctrl.specs.Runs.{Runs, behind_puts_of, behind_gets_of, behind_slice_of};
-ghost use Rattle.vx_ctrl.specs.Goes.{Goes, Begins, HoldsBytes};
+ghost use Rattle.vx_ctrl.specs.Goes.{TurnGoes, TurnBegins, HoldsBytes};
 
-use crate::asking::{Asked, ask};
+use crate::asking::{BusAnswer, ask};
 use std::marker::Model;
 use vx_488::{Transfer, Wire, wire_appends};
 use vx_bus_traits::{Bus, Move, Stop};
@@ -96,21 +96,21 @@ impl Turn {
         requires plain { IsPlainTask self.old.task }
         requires own { self.old.place.own ≤ ADDRESS_MAX }
         requires short { length bytes.now ≤ WRITE_MAX }
-        requires room { HasRoom self.old.task (length room.old) }
+        requires room { TurnHasRoom self.old.task (length room.old) }
         requires cut { (B.means bus.old).moves ≡ [] }
         requires asks { (B.means bus.old).asks ≡ 0 }
-        requires begun { (w : Wire) × (made : List Transfer) × Begins self.old w bytes.now made (B.means bus.old) }
+        requires begun { (w : Wire) × (made : List Transfer) × TurnBegins self.old w bytes.now made (B.means bus.old) }
         // with what it made before it makes one list of its plan
-        ensures goes { (w : Wire) (made : List Transfer) → Begins self.old w bytes.now made (B.means bus.old)
-            → Goes B.means B.through self.new w bytes.now made (B.means bus.new).moves result bus.old bus.new }
+        ensures goes { (w : Wire) (made : List Transfer) → TurnBegins self.old w bytes.now made (B.means bus.old)
+            → TurnGoes B.means B.through self.new w bytes.now made (B.means bus.new).moves result bus.old bus.new }
         // and may go on from there
-        ensures goes_on { (w : Wire) (made : List Transfer) → Begins self.old w bytes.now made (B.means bus.old)
-            → Begins self.new w bytes.now (made ++ (B.means bus.new).moves) (B.means bus.new) }
+        ensures goes_on { (w : Wire) (made : List Transfer) → TurnBegins self.old w bytes.now made (B.means bus.old)
+            → TurnBegins self.new w bytes.now (made ++ (B.means bus.new).moves) (B.means bus.new) }
         ensures task { self.new.task ≡ self.old.task }
         ensures begun { self.new.begun ≡ self.old.begun }
         ensures wire { (B.means bus.new).wire ≡ wire_after (B.means bus.old).wire (B.means bus.new).moves }
         ensures got { room.new ≡ with_bytes self.old.place.moved (bytes_got (B.means bus.new).moves) room.old }
-        ensures holds { (w : Wire) (made : List Transfer) → Begins self.old w bytes.now made (B.means bus.old)
+        ensures holds { (w : Wire) (made : List Transfer) → TurnBegins self.old w bytes.now made (B.means bus.old)
             → GetsBytes self.old.task → HoldsBytes self.old made room.old
             → HoldsBytes self.new (made ++ (B.means bus.new).moves) room.new }
     {
@@ -147,7 +147,7 @@ impl Turn {
         requires plain { IsPlainTask self.old.task }
         requires own { self.old.place.own ≤ ADDRESS_MAX }
         requires short { length bytes.now ≤ WRITE_MAX }
-        requires room { HasRoom self.old.task (length room.old) }
+        requires room { TurnHasRoom self.old.task (length room.old) }
         requires reached { (ts : List Transfer) × (left : Plan) × Reaches self.old.task bytes.now ts left self.old.place }
         requires asks { (B.means bus.old).asks + most ≤ ASK_MAX }
         ensures { Runs B.means B.through self.old bytes.now room.old self.new room.new most result bus.old bus.new }
@@ -168,7 +168,7 @@ impl Turn {
         requires plain { IsPlainTask self.old.task }
         requires own { self.old.place.own ≤ ADDRESS_MAX }
         requires short { length bytes.now ≤ WRITE_MAX }
-        requires room { HasRoom self.old.task (length room.old) }
+        requires room { TurnHasRoom self.old.task (length room.old) }
         requires reached { (ts : List Transfer) × (left : Plan) × Reaches self.old.task bytes.now ts left self.old.place }
         requires asks { (B.means bus.old).asks < ASK_MAX }
         ensures { Runs B.means B.through self.old bytes.now room.old self.new room.new 1 result bus.old bus.new }
@@ -176,11 +176,11 @@ impl Turn {
         few_transfers();
         place_goes_on();
         match self.ask(bus, bytes) {
-            Asked::Moved(t) => {
+            BusAnswer::Moved(t) => {
                 self.made(t, room);
                 Advance::Made(1)
             }
-            Asked::Stopped(went) => Advance::Stopped(went),
+            BusAnswer::Stopped(went) => Advance::Stopped(went),
         }
     }
 
@@ -227,13 +227,13 @@ impl Turn {
     }
 
     /// Asks the bus for what its job wants next.
-    fn ask<B: Bus>(&self, bus: &mut B, bytes: &[u8]) -> Asked
+    fn ask<B: Bus>(&self, bus: &mut B, bytes: &[u8]) -> BusAnswer
         requires plain { IsPlainTask self.now.task }
         requires own { self.now.place.own ≤ ADDRESS_MAX }
         requires reached { (ts : List Transfer) × (left : Plan) × Reaches self.now.task bytes.now ts left self.now.place }
         requires asks { (B.means bus.old).asks < ASK_MAX }
         ensures { (ts : List Transfer) (left : Plan) → Reaches self.now.task bytes.now ts left self.now.place
-            → Asks B.means B.through (next_slot left) result bus.old bus.new }
+            → TurnAsks B.means B.through (next_slot left) result bus.old bus.new }
     {
         let next = next_move(&self.task, &self.place);
         ask(bus, next, bytes, self.place.moved)

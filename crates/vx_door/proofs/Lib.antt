@@ -1,1 +1,1 @@
-pub mod Goings
+pub mod Laws

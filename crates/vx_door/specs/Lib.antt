@@ -5,7 +5,6 @@ pub mod Opening
 pub mod Serving
 pub mod Running
 pub mod Going
-pub mod ProvedLaws
 pub use Rattle.vx_io_traits.specs.Faults
 pub use Rattle.vx_io_traits.specs.Rung
 pub use Rattle.vx_io_traits.specs.Stands

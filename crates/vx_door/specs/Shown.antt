@@ -4,7 +4,12 @@ use Rattle.std.specs.Prelude.{◌≡◌, ℕ, ◌≤◌, Bool, true, List, [], �
 use Rattle.std.specs.Io.KnownBytes.{Appends, Keeps}
 use Rattle.vx_io_traits.specs.Faults.{one_more}
 use Rattle.vx_io_traits.specs.Stands.{Stays}
+use Rattle.vx_io_traits.specs.declared.ReadOut.{ReadOut}
+use Rattle.vx_io_traits.specs.declared.WriteOut.{WriteOut}
+use Rattle.vx_io_traits.specs.declared.dials.DialOut.{DialOut}
+use Rattle.vx_io_traits.specs.declared.links.Link.{Ghosts as LinkTold}
 use Rattle.vx_door.specs.Meeting.{ended_after}
+use Rattle.vx_door.specs.declared.doors.Door.{Ghosts as OwnTold}
 use Rattle.vx_door.specs.declared.doors.Met.{Met}
 use Rattle.vx_door.specs.declared.doors.Met.TheVariants.{Peer}
 
@@ -18,15 +23,54 @@ pub record DoorShown : Type 0 where
   pub left : Option (List ℕ)
   pub peers : Option (List ℕ)
 
-abbrev pub door_shown : {N : Type 0} → (N → ℕ) → (N → ℕ) → (N → ℕ) → (N → ℕ) → (N → ℕ) → (N → Option (List ℕ)) → (N → Option (List ℕ)) → N → DoorShown
-door_shown met ended faults receives sends left peers d = record {
-  met = met d;
-  ended = ended d;
-  faults = faults d;
-  receive_faults = receives d;
-  send_faults = sends d;
-  left = left d;
-  peers = peers d;
+-- all that a door's trait tells, that of its link with it
+abbrev pub DoorTold : Type 0 → Type 1
+DoorTold N = record {
+  stands : N → List ℕ → List ℕ → Type 0;
+  left : N → Option (List ℕ);
+  receive_faults : N → ℕ;
+  send_faults : N → ℕ;
+  peers : N → Option (List ℕ);
+  is_ready : N → Bool;
+  receives : N → List ℕ → ReadOut → List ℕ → N → Type 0;
+  sends : N → List ℕ → WriteOut → N → Type 0;
+  met : N → ℕ;
+  ended : N → ℕ;
+  faults : N → ℕ;
+  tells : Bool;
+  opens : N → ℕ → DialOut → N → Type 0;
+  meets : N → Met → N → Type 0;
+}
+
+-- the same of what its two traits tell, each by itself
+abbrev pub door_told : {N : Type 0} → LinkTold N → OwnTold N → DoorTold N
+door_told link door = record {
+  stands = link.stands;
+  left = link.left;
+  receive_faults = link.receive_faults;
+  send_faults = link.send_faults;
+  peers = link.peers;
+  is_ready = link.is_ready;
+  receives = link.receives;
+  sends = link.sends;
+  met = door.met;
+  ended = door.ended;
+  faults = door.faults;
+  tells = door.tells;
+  opens = door.opens;
+  meets = door.meets;
+}
+
+-- what a door shows of that
+abbrev pub door_shown : {N : Type 0} → DoorTold N → N → DoorShown
+door_shown told d = record {
+  met = told.met d;
+  ended = told.ended d;
+  faults = told.faults d;
+  receive_faults = told.receive_faults d;
+  send_faults = told.send_faults d;
+  left = told.left d;
+  peers = told.peers d;
 }
 
 -- The door met another peer, of which it has taken and given nothing. `waits` is what one wait does.

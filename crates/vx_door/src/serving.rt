@@ -51,15 +51,13 @@ pub trait Serves<N: Door> {
 }
 
 /// Waits for the next peer, and serves it where one comes.
-#[tactic(auto, using(crate::proofs::Goings::one_rose))]
+#[tactic(auto, using(crate::proofs::Laws::Goings::one_rose))]
 fn serve_next<N: Door, S: Serves<N>>(door: &mut N, server: &mut S) -> Met
     requires can { S.can server.old }
     ensures can { S.can server.new }
-    ensures met { IfMet result (ServesOne N.stands N.tells N.meets
-        (door_shown N.met N.ended N.faults N.receive_faults N.send_faults N.left N.peers)
+    ensures met { IfMet result (ServesOne N.stands N.tells N.meets (door_shown N.Door)
         S.did S.is_own S.is_whole server.old door.old server.new door.new) }
-    ensures none { ServesNone N.stands N.meets
-        (door_shown N.met N.ended N.faults N.receive_faults N.send_faults N.left N.peers)
+    ensures none { ServesNone N.stands N.meets (door_shown N.Door)
         server.old door.old result server.new door.new }
 {
     match door.next() {
@@ -77,8 +75,7 @@ fn serve_next<N: Door, S: Serves<N>>(door: &mut N, server: &mut S) -> Met
 pub fn serve_door<N: Door, S: Serves<N>>(door: &mut N, server: &mut S, limit: u32) -> (DoorEnd, u32)
     requires can { S.can server.old }
     ensures can { S.can server.new }
-    ensures served { ServesPeers N.stands N.tells N.meets
-        (door_shown N.met N.ended N.faults N.receive_faults N.send_faults N.left N.peers)
+    ensures served { ServesPeers N.stands N.tells N.meets (door_shown N.Door)
         S.did S.is_own S.is_whole server.old door.old limit result.0 result.1 server.new door.new }
 {
     let mut number = 0;

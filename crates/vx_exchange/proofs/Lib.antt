@@ -1,3 +1,4 @@
+pub mod Laws
 pub mod ByProcedure
 pub mod Coming
 pub mod Recorded

@@ -44,7 +44,7 @@ module _ {B : Type 0} (g : Ghosts B) (old new : CoreState B) (conn now xid : ℕ
 
   -- and with what is said of it
   abbrev pub Leads : PollEnd → Type 0
-  Leads = λ said. doing.Polled g old conn (max old.fine.state.moment now) xid room said new
+  Leads = λ said. doing.Polled g old conn (max old.interleaved.state.moment now) xid room said new
 
   polled-so : (given : Polled) (said : PollEnd) (leaves : Leaves given) → Says xid room said leaves.ending → Leads said
   polled-so given said leaves says = record {

@@ -12,10 +12,10 @@ use Rattle.vx_bus_traits.specs.Walks.{Walk}
 use Rattle.vx_bus_traits.specs.declared.bus.Bus.{Ghosts}
 use Rattle.vx_rules.specs.SrqState.{channel_at}
 use Rattle.vx_flow.specs.Event.{Arrive, Answer, Abort}
-use Rattle.vx_flow.specs.Fine.{fine}
+use Rattle.vx_flow.specs.InterleavedStep.{interleaved_step}
 use Rattle.vx_flow.specs.Poll.{Ending, Answered, Waited, Dialed, begins}
 use Rattle.vx_core.specs.CoreState.{CoreState}
-use Rattle.vx_core.specs.Polling.{PollsOver}
+use Rattle.vx_core.specs.Polling.{PollOnBus}
 use Rattle.vx_exchange.specs.Meaning.{reply_record}
 use Rattle.vx_exchange.specs.Opening.{Stands}
 use Rattle.vx_exchange.specs.declared.polls.PollEnd.{PollEnd}
@@ -45,27 +45,27 @@ pub record Polled {B : Type 0} (g : Ghosts B) (before : CoreState B) (conn now x
   pub ending : Ending
   pub last : after.last ≡ Some ending
   pub says : Says xid room end ending
-  pub began : after.began ≡ begins before.fine conn now
+  pub began : after.began ≡ begins before.interleaved conn now
   pub few : length (g.means after.bus).moves ≤ SLICE_MAX
-  pub over : PollsOver g.means g.through g.srq_level g.ndac_level before.fine before.bus conn now (Cut ∷ Told now ∷ []) ending after.fine after.bus
+  pub over : PollOnBus g.means g.through g.srq_level g.ndac_level before.interleaved before.bus conn now (Cut ∷ Told now ∷ []) ending after.interleaved after.bus
 
 -- A call came on a connection at this moment, and was polled.
 pub record Came {B : Type 0} (g : Ghosts B) (before : CoreState B) (conn : ℕ) (call : Call) (now xid : ℕ) (room : List ℕ) (end : PollEnd) (after : CoreState B) : Type 0 where
   pub come : CoreState B
-  pub arrives : fine before.fine (Arrive conn call now) ≡ Some come.fine
+  pub arrives : interleaved_step before.interleaved (Arrive conn call now) ≡ Some come.interleaved
   pub walk : Walk g.means g.through before.bus (Cut ∷ Told now ∷ []) come.bus
   pub polled : Polled g come conn now xid room end after
 
 -- A call of which a dial was asked for was answered at this moment: the dial came up, or failed.
 pub record Settles {B : Type 0} (g : Ghosts B) (before : CoreState B) (conn now xid : ℕ) (up : Bool) (room : List ℕ) (answered : DialAnswered) (after : CoreState B) : Type 0 where
   pub error_is : answered.error ≡ (if up then code.Ok else code.NoChannel)
-  pub chan_is : answered.chan ≡ (if up then option_map (λ c. c.number) (channel_at after.fine.state.tables.srq_state conn) else None)
-  pub answers : fine before.fine (Answer conn now false (Some up) false (reply.Error answered.error)) ≡ Some after.fine
+  pub chan_is : answered.chan ≡ (if up then option_map (λ c. c.number) (channel_at after.interleaved.state.tables.srq_state conn) else None)
+  pub answers : interleaved_step before.interleaved (Answer conn now false (Some up) false (reply.Error answered.error)) ≡ Some after.interleaved
   pub walk : Walk g.means g.through before.bus (Cut ∷ Told now ∷ []) after.bus
   pub stands : Stands (reply_record xid (reply.Error answered.error)) answered.len room
 
 -- A device_abort of a link came, and was answered.
 pub record Aborts {B : Type 0} (g : Ghosts B) (before : CoreState B) (conn lid xid : ℕ) (room : List ℕ) (answered : Aborted) (after : CoreState B) : Type 0 where
-  pub aborts : fine before.fine (Abort conn lid answered.error) ≡ Some after.fine
+  pub aborts : interleaved_step before.interleaved (Abort conn lid answered.error) ≡ Some after.interleaved
   pub walk : Walk g.means g.through before.bus (Cut ∷ []) after.bus
   pub stands : Stands (reply_record xid (reply.Error answered.error)) answered.len room

@@ -1,7 +1,6 @@
 pub mod Meaning
 pub mod Opening
 pub mod Doing
-pub mod ProvedLaws
 pub use Rattle.vx_rules.specs.SrqState
 pub use Rattle.vx_srq.specs.Shown
 pub use Rattle.vx_calls.specs.Call

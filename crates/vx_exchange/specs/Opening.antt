@@ -6,7 +6,7 @@ use Rattle.vx_calls.specs.Call.{Call, call_shown}
 use Rattle.vx_calls.specs.Call as call
 use Rattle.vx_record.specs.Fragments.{record_of}
 use Rattle.vx_rules.specs.Calls.{IsShort}
-use Rattle.vx_rules.specs.One.{may_wait}
+use Rattle.vx_rules.specs.AtomicStep.{may_wait}
 use Rattle.vx_exchange.specs.Meaning.{Meaning, Junk, Answered, Asks, Aborts}
 use Rattle.vx_exchange.specs.declared.opened.Opened.{Opened}
 use Rattle.vx_exchange.specs.declared.opened.Opened.TheVariants as opened

@@ -5,7 +5,7 @@ ghost use Rattle.vx_calls.specs.declared.calls.Role.TheVariants as role;
 ghost use Rattle.vx_calls.specs.Call.{call_shown};
 ghost use Rattle.vx_calls.specs.Reply.{reply_shown};
 ghost use Rattle.vx_rules.specs.State.{pending_at, is_idle, lives_as};
-ghost use Rattle.vx_rules.specs.One.{may_wait};
+ghost use Rattle.vx_rules.specs.AtomicStep.{may_wait};
 ghost use Rattle.vx_rules.specs.Calls.{IsShort};
 ghost use Rattle.vx_exchange.specs.declared.record.TheConstants.{REPLY_ROOM};
 ghost use Rattle.vx_exchange.specs.Doing.{reply_error, Came, Settles, Aborts};
@@ -72,11 +72,11 @@ pub fn come<B: Bus>(
     now: u64,
     reply: &mut [u8],
 ) -> PollEnd
-    requires idle { is_idle core.old.fine.state.tables conn ≡ true }
+    requires idle { is_idle core.old.interleaved.state.tables conn ≡ true }
     requires waits { may_wait (call_shown call.now) ≡ true }
     requires short { IsShort (call_shown call.now) }
     requires room { REPLY_ROOM ≤ length reply.old }
-    ensures came { Came B.Bus core.old conn (call_shown call.now) (max core.old.fine.state.moment now) xid reply.new result core.new }
+    ensures came { Came B.Bus core.old conn (call_shown call.now) (max core.old.interleaved.state.moment now) xid reply.new result core.new }
     ensures len { length reply.new ≡ length reply.old }
 {
     core.arrive(conn, call, now);
@@ -85,9 +85,9 @@ pub fn come<B: Bus>(
 
 /// Polls the call of a connection, of this xid, at this moment.
 pub fn again<B: Bus>(core: &mut Core<B>, conn: u32, xid: u32, now: u64, reply: &mut [u8]) -> PollEnd
-    requires pending { IsSome (pending_at core.old.fine.state.tables conn) }
+    requires pending { IsSome (pending_at core.old.interleaved.state.tables conn) }
     requires room { REPLY_ROOM ≤ length reply.old }
-    ensures polled { doing.Polled B.Bus core.old conn (max core.old.fine.state.moment now) xid reply.new result core.new }
+    ensures polled { doing.Polled B.Bus core.old conn (max core.old.interleaved.state.moment now) xid reply.new result core.new }
     ensures len { length reply.new ≡ length reply.old }
 {
     match core.poll(conn, now) {
@@ -109,9 +109,9 @@ pub fn settle<B: Bus>(
     now: u64,
     reply: &mut [u8],
 ) -> DialAnswered
-    requires dialed { list_any (λ n. n == conn) core.old.fine.dialed ≡ true }
+    requires dialed { list_any (λ n. n == conn) core.old.interleaved.dialed ≡ true }
     requires room { REPLY_ROOM ≤ length reply.old }
-    ensures settles { Settles B.Bus core.old conn (max core.old.fine.state.moment now) xid up reply.new result core.new }
+    ensures settles { Settles B.Bus core.old conn (max core.old.interleaved.state.moment now) xid up reply.new result core.new }
     ensures len { length reply.new ≡ length reply.old }
 {
     let settled = core.settle(conn, up, now);
@@ -125,7 +125,7 @@ pub fn settle<B: Bus>(
 
 /// Answers a device_abort of a link, of this xid, that came on an abort connection (VXI-11, device_abort).
 pub fn abort<B: Bus>(core: &mut Core<B>, conn: u32, xid: u32, lid: u32, reply: &mut [u8]) -> Aborted
-    requires lives { lives_as core.old.fine.state.tables conn role.Abort ≡ true }
+    requires lives { lives_as core.old.interleaved.state.tables conn role.Abort ≡ true }
     requires room { REPLY_ROOM ≤ length reply.old }
     ensures aborts { Aborts B.Bus core.old conn lid xid reply.new result core.new }
     ensures len { length reply.new ≡ length reply.old }

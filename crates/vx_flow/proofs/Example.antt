@@ -9,7 +9,7 @@ use Rattle.vx_calls.specs.Call as call
 use Rattle.vx_calls.specs.Reply as reply
 use Rattle.vx_488.specs.declared.transfers.Transfer.TheVariants.{Cmd, Put}
 use Rattle.vx_flow.specs.Event.{Event, Up, Arrive, Answer, Abort, Begin, Move}
-use Rattle.vx_flow.specs.Laws.{fine_along}
+use Rattle.vx_flow.specs.Laws.{interleaved_along}
 
 -- gpib0,5 and gpib0,7
 abbrev text : ℕ → List ℕ
@@ -23,5 +23,5 @@ events =
     ∷ Arrive 2 (call.CreateLink (pos 2) true 0 (text 55)) 30 ∷ Answer 2 30 false None false (reply.CreateLink code.Ok 2 9011 WRITE_MAX)
     ∷ Move 1 (Cmd 0x40 ∷ Cmd 0x25 ∷ Put 65 false ∷ []) ∷ Abort 3 1 code.Ok ∷ Answer 1 40 false None false (reply.Write code.Abort 1) ∷ []
 
-are-allowed : is_some (fine_along 9011 events) ≡ true
+are-allowed : is_some (interleaved_along 9011 events) ≡ true
 are-allowed = refl

@@ -21,17 +21,17 @@ use Rattle.vx_rules.specs.Calls.{is_bus_call, asks_dial, io_timeout_of, bytes_of
 use Rattle.vx_rules.specs.Checks.{DeadLink, named_link, check}
 use Rattle.vx_rules.specs.Lines.{Bar, waits_at, holder_against, ahead_of, bar_against}
 use Rattle.vx_rules.specs.Effects.{stopped_reply, effect}
-use Rattle.vx_rules.specs.Decide.{Outside, stand_on, level_fits}
-use Rattle.vx_rules.specs.One.{may_wait, arrived, abort_reply, abort_tables}
+use Rattle.vx_rules.specs.Decide.{BusInput, stand_on, level_fits}
+use Rattle.vx_rules.specs.AtomicStep.{may_wait, arrived, abort_reply, abort_tables}
 use Rattle.vx_flow.specs.Event.{Event, Up, Down, Arrive, Answer, Abort, Sample, Take, Begin, Move, Dial}
-use Rattle.vx_flow.specs.FineState.{Turn, FineState}
-use Rattle.vx_flow.specs.Fine.{job_of, busy_with, turn_stand, is_answer_of, waits_for_turn, wire_for, wire_before, outside, without_dial, fine}
+use Rattle.vx_flow.specs.InterleavedState.{Turn, InterleavedState}
+use Rattle.vx_flow.specs.InterleavedStep.{job_of, busy_with, turn_stand, is_answer_of, waits_for_turn, wire_for, wire_before, bus_input, without_dial, interleaved_step}
 use Rattle.vx_flow.specs.Ways.{turn_left_by, over, moved_on, begun_now}
 
 -- ---- the state behind an event
 
 -- these tables at this moment, and these dialed connections; the turn under way and the bus stay
-abbrev pub beside : FineState → Tables → ℕ → List ℕ → FineState
+abbrev pub beside : InterleavedState → Tables → ℕ → List ℕ → InterleavedState
 beside f t moment dialed = record {
   state = record { tables = t; wire = f.state.wire; moment = moment };
   turn = f.turn;
@@ -40,7 +40,7 @@ beside f t moment dialed = record {
 }
 
 -- the connection is gone, with its turn and its dial; the bus stays as its turn left it
-abbrev pub gone_down : FineState → ℕ → FineState
+abbrev pub gone_down : InterleavedState → ℕ → InterleavedState
 gone_down f conn = record {
   state = record f.state { tables = without_connection f.state.tables conn };
   turn = turn_left_by f.turn conn;
@@ -60,23 +60,23 @@ pub record IsAdmitted (t : Tables) (busy : Option ℕ) (own conn : ℕ) (settlin
   pub first : ahead_of t busy own now conn (named_link t conn p.call) p.call ≡ None
 
 -- they do, on the bus that the call is measured on, and it waits for no other connection's turn
-pub record IsClear (f : FineState) (conn : ℕ) (settling : Bool) (p : Pending) (now : ℕ) : Type 0 where
+pub record IsClear (f : InterleavedState) (conn : ℕ) (settling : Bool) (p : Pending) (now : ℕ) : Type 0 where
   pub admitted : IsAdmitted f.state.tables (busy_with f.turn) (wire_for f conn).own conn settling p now
   pub alone : waits_for_turn f.state.tables (wire_for f conn).own conn p f.turn ≡ false
 
 -- nothing comes from outside: the bus didn't fail, no dial was made, no level is told
-pub record IsStill (o : Outside) : Type 0 where
+pub record IsStill (o : BusInput) : Type 0 where
   pub held : o.failed ≡ false
   pub undialed : o.dialed ≡ None
   pub untold : o.level ≡ false
 
 -- the answer is this error, with what the call's turn, where one was under way, has made; the tables stay
-pub record Stops (f : FineState) (p : Pending) (o : Outside) (error : ErrorCode) (told : Reply) (after : Tables) : Type 0 where
+pub record Stops (f : InterleavedState) (p : Pending) (o : BusInput) (error : ErrorCode) (told : Reply) (after : Tables) : Type 0 where
   pub reply_is : told ≡ stopped_reply p.call error o.moves
   pub same : after ≡ f.state.tables
 
 -- a dial was made for the call, a create_intr_chan, for which one was asked; it came up or not
-pub record IsDialed (f : FineState) (conn : ℕ) (p : Pending) (o : Outside) (up : Bool) : Type 0 where
+pub record IsDialed (f : InterleavedState) (conn : ℕ) (p : Pending) (o : BusInput) (up : Bool) : Type 0 where
   pub host : ℕ
   pub port : ℕ
   pub program : ℕ
@@ -89,7 +89,7 @@ pub record IsDialed (f : FineState) (conn : ℕ) (p : Pending) (o : Outside) (up
   pub untold : o.level ≡ false
 
 -- the call's own turn is under way, for whose job the gateway had the role as it began
-pub record HasTurn (f : FineState) (conn : ℕ) (p : Pending) : Type 0 where
+pub record HasTurn (f : InterleavedState) (conn : ℕ) (p : Pending) : Type 0 where
   pub turn : Turn
   pub under_way : f.turn ≡ Some turn
   pub of_call : turn.connection ≡ conn
@@ -98,7 +98,7 @@ pub record HasTurn (f : FineState) (conn : ℕ) (p : Pending) : Type 0 where
   pub in_role : has_role job f.before ≡ true
 
 -- the transfers that it has made are all of its job
-pub record IsDone (f : FineState) (conn : ℕ) (p : Pending) (o : Outside) (told : Reply) (after : Tables) : Type 0 where
+pub record IsDone (f : InterleavedState) (conn : ℕ) (p : Pending) (o : BusInput) (told : Reply) (after : Tables) : Type 0 where
   pub own : HasTurn f conn p
   pub whole : stand_on f.before p.call own.job own.turn.moves ≡ Whole
   pub held : o.failed ≡ false
@@ -108,7 +108,7 @@ pub record IsDone (f : FineState) (conn : ℕ) (p : Pending) (o : Outside) (told
   pub same : after ≡ f.state.tables
 
 -- they are a part of its job's, and the bus failed
-pub record IsBroken (f : FineState) (conn : ℕ) (p : Pending) (o : Outside) : Type 0 where
+pub record IsBroken (f : InterleavedState) (conn : ℕ) (p : Pending) (o : BusInput) : Type 0 where
   pub own : HasTurn f conn p
   pub part : stand_on f.before p.call own.job own.turn.moves ≡ Part
   pub failed : o.failed ≡ true
@@ -116,14 +116,14 @@ pub record IsBroken (f : FineState) (conn : ℕ) (p : Pending) (o : Outside) : T
   pub untold : o.level ≡ false
 
 -- they are a part, the bus held, and the turn's time has passed
-pub record IsOverdue (f : FineState) (conn now : ℕ) (p : Pending) (o : Outside) : Type 0 where
+pub record IsOverdue (f : InterleavedState) (conn now : ℕ) (p : Pending) (o : BusInput) : Type 0 where
   pub own : HasTurn f conn p
   pub part : stand_on f.before p.call own.job own.turn.moves ≡ Part
   pub still : IsStill o
   pub passed : has_passed (io_timeout_of p.call) own.turn.begun now ≡ true
 
 -- The line of the order of answers that gives a call this reply, and these tables behind it.
-pub data AnsweredBy (f : FineState) (conn now : ℕ) (p : Pending) (o : Outside) (told : Reply) (after : Tables) : Type 0 where
+pub data AnsweredBy (f : InterleavedState) (conn now : ℕ) (p : Pending) (o : BusInput) (told : Reply) (after : Tables) : Type 0 where
   -- a device_abort has marked the call
   ByAbort : p.aborted ≡ true → IsStill o → Stops f p o code.Abort told after → AnsweredBy f conn now p o told after
   -- the link that it names isn't there
@@ -162,18 +162,18 @@ pub data AnsweredBy (f : FineState) (conn now : ℕ) (p : Pending) (o : Outside)
 -- ---- what each event does
 
 -- the number is the next one, and there is room
-pub record ComesUp (f : FineState) (conn : ℕ) (r : Role) (g : FineState) : Type 0 where
+pub record ComesUp (f : InterleavedState) (conn : ℕ) (r : Role) (g : InterleavedState) : Type 0 where
   pub number : conn ≡ f.state.tables.next_connection
   pub room : has_room f.state.tables r ≡ true
   pub leads : g ≡ beside f (with_connection f.state.tables r) f.state.moment f.dialed
 
 -- the connection lives
-pub record GoesDown (f : FineState) (conn : ℕ) (g : FineState) : Type 0 where
+pub record GoesDown (f : InterleavedState) (conn : ℕ) (g : InterleavedState) : Type 0 where
   pub lives : IsSome (connection_at f.state.tables conn)
   pub leads : g ≡ gone_down f conn
 
 -- a call that may wait comes on a core connection without one
-pub record Comes (f : FineState) (conn : ℕ) (asked : Call) (now : ℕ) (g : FineState) : Type 0 where
+pub record Comes (f : InterleavedState) (conn : ℕ) (asked : Call) (now : ℕ) (g : InterleavedState) : Type 0 where
   pub late : f.state.moment ≤ now
   pub core : role_at f.state.tables conn ≡ Some role.Core
   pub idle : pending_at f.state.tables conn ≡ None
@@ -181,7 +181,7 @@ pub record Comes (f : FineState) (conn : ℕ) (asked : Call) (now : ℕ) (g : Fi
   pub leads : g ≡ beside f (with_pending f.state.tables conn (Some (arrived asked now))) now f.dialed
 
 -- the connection's call is answered by a line; its turn and its dial are gone, and the bus stays
-pub record IsAnswered (f : FineState) (conn now : ℕ) (o : Outside) (told : Reply) (g : FineState) : Type 0 where
+pub record IsAnswered (f : InterleavedState) (conn now : ℕ) (o : BusInput) (told : Reply) (g : InterleavedState) : Type 0 where
   pub late : f.state.moment ≤ now
   pub asked : Pending
   pub call_at : pending_at f.state.tables conn ≡ Some asked
@@ -190,24 +190,24 @@ pub record IsAnswered (f : FineState) (conn now : ℕ) (o : Outside) (told : Rep
   pub leads : g ≡ over f conn now after
 
 -- a device_abort comes on an abort connection: the calls that name the link are marked
-pub record Aborts (f : FineState) (conn lid : ℕ) (told : ErrorCode) (g : FineState) : Type 0 where
+pub record Aborts (f : InterleavedState) (conn lid : ℕ) (told : ErrorCode) (g : InterleavedState) : Type 0 where
   pub role_is : role_at f.state.tables conn ≡ Some role.Abort
   pub reply_is : told ≡ abort_reply f.state.tables lid
   pub leads : g ≡ beside f (abort_tables f.state.tables lid) f.state.moment f.dialed
 
 -- the level of the SRQ line is sampled
-pub record Samples (f : FineState) (now : ℕ) (srq : Bool) (g : FineState) : Type 0 where
+pub record Samples (f : InterleavedState) (now : ℕ) (srq : Bool) (g : InterleavedState) : Type 0 where
   pub late : f.state.moment ≤ now
   pub leads : g ≡ beside f (record f.state.tables { srq_state = sampled f.state.tables.srq_state srq }) now f.dialed
 
 -- an interrupt is asked for, on a connection that lives
-pub record Takes (f : FineState) (conn chan : ℕ) (told : Given) (g : FineState) : Type 0 where
+pub record Takes (f : InterleavedState) (conn chan : ℕ) (told : Given) (g : InterleavedState) : Type 0 where
   pub lives : IsSome (connection_at f.state.tables conn)
   pub given_is : told ≡ given f.state.tables.srq_state conn chan
   pub leads : g ≡ beside f (record f.state.tables { srq_state = taken f.state.tables.srq_state conn chan }) f.state.moment f.dialed
 
 -- where no turn is under way that of a call with a job begins, which the first lines let pass, and for which the gateway has the role
-pub record Begins (f : FineState) (conn now : ℕ) (g : FineState) : Type 0 where
+pub record Begins (f : InterleavedState) (conn now : ℕ) (g : InterleavedState) : Type 0 where
   pub late : f.state.moment ≤ now
   pub no_turn : f.turn ≡ None
   pub asked : Pending
@@ -219,7 +219,7 @@ pub record Begins (f : FineState) (conn now : ℕ) (g : FineState) : Type 0 wher
   pub leads : g ≡ begun_now f conn now
 
 -- the turn is the connection's, nothing has come against its call, and the transfers are of its job
-pub record Moves (f : FineState) (conn : ℕ) (moves : List Transfer) (g : FineState) : Type 0 where
+pub record Moves (f : InterleavedState) (conn : ℕ) (moves : List Transfer) (g : InterleavedState) : Type 0 where
   pub turn : Turn
   pub under_way : f.turn ≡ Some turn
   pub of_call : turn.connection ≡ conn
@@ -230,7 +230,7 @@ pub record Moves (f : FineState) (conn : ℕ) (moves : List Transfer) (g : FineS
   pub leads : g ≡ moved_on f turn moves
 
 -- a dial is asked for, by a create_intr_chan that the first lines let pass
-pub record Dials (f : FineState) (conn now : ℕ) (g : FineState) : Type 0 where
+pub record Dials (f : InterleavedState) (conn now : ℕ) (g : InterleavedState) : Type 0 where
   pub late : f.state.moment ≤ now
   pub asked : Pending
   pub call_at : pending_at f.state.tables conn ≡ Some asked
@@ -239,11 +239,11 @@ pub record Dials (f : FineState) (conn now : ℕ) (g : FineState) : Type 0 where
   pub leads : g ≡ beside f f.state.tables now (without_dial f.dialed conn ++ conn ∷ [])
 
 -- what each event does, by its kind
-abbrev pub Step : FineState → Event → FineState → Type 0
+abbrev pub Step : InterleavedState → Event → InterleavedState → Type 0
 Step f (Up conn r) g = ComesUp f conn r g
 Step f (Down conn) g = GoesDown f conn g
 Step f (Arrive conn asked now) g = Comes f conn asked now g
-Step f (Answer conn now failed dialed level told) g = IsAnswered f conn now (outside f conn failed dialed level) told g
+Step f (Answer conn now failed dialed level told) g = IsAnswered f conn now (bus_input f conn failed dialed level) told g
 Step f (Abort conn lid told) g = Aborts f conn lid told g
 Step f (Sample now srq) g = Samples f now srq g
 Step f (Take conn chan told) g = Takes f conn chan told g
@@ -253,10 +253,10 @@ Step f (Dial conn now) g = Dials f conn now g
 
 -- The event leads from the one state to the other. Once the transfers of the turn under way are whole nothing comes before its
 -- answer.
-pub record Does (f : FineState) (e : Event) (g : FineState) : Type 0 where
+pub record Does (f : InterleavedState) (e : Event) (g : InterleavedState) : Type 0 where
   pub in_turn : (u : Turn) → f.turn ≡ Some u → turn_stand f u u.moves ≡ Whole → is_answer_of u.connection e ≡ true
   pub step : Step f e g
 
 -- exactly these events are allowed, and lead there
 abbrev pub DoesLaw : Type 0
-DoesLaw = (f g : FineState) (e : Event) → (fine f e ≡ Some g → Does f e g) × (Does f e g → fine f e ≡ Some g)
+DoesLaw = (f g : InterleavedState) (e : Event) → (interleaved_step f e ≡ Some g → Does f e g) × (Does f e g → interleaved_step f e ≡ Some g)

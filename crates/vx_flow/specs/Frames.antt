@@ -9,10 +9,10 @@ use Rattle.vx_rules.specs.SrqState.{taken, sampled}
 use Rattle.vx_rules.specs.Table.{is_live}
 use Rattle.vx_rules.specs.Locks.{holds}
 use Rattle.vx_rules.specs.State.{Pending, Tables, role_at, pending_at, link_of, with_pending, with_connection, without_connection}
-use Rattle.vx_rules.specs.One.{arrived, mark_call, abort_tables}
+use Rattle.vx_rules.specs.AtomicStep.{arrived, mark_call, abort_tables}
 use Rattle.vx_flow.specs.Event.{Event, Up, Down, Arrive, Answer, Abort, Sample, Take, Begin, Move, Dial}
-use Rattle.vx_flow.specs.FineState.{FineState, turn_after}
-use Rattle.vx_flow.specs.Fine.{wire_before, without_dial, fine}
+use Rattle.vx_flow.specs.InterleavedState.{InterleavedState, turn_after}
+use Rattle.vx_flow.specs.InterleavedStep.{wire_before, without_dial, interleaved_step}
 
 -- ---- what an event changes
 
@@ -31,7 +31,7 @@ moves_by (Move conn moves) = moves
 moves_by _ = []
 
 -- the bus before the turn that is under way behind it
-abbrev pub before_after : FineState → Event → FineState → Wire
+abbrev pub before_after : InterleavedState → Event → InterleavedState → Wire
 before_after f (Begin conn now) g = f.state.wire
 before_after f _ g = wire_before g.turn g.state.wire f.before
 
@@ -113,7 +113,7 @@ TablesAfter t (Dial conn now) u = u ≡ t
 -- but of the connection that comes or goes; calls stay, but for marks and that of the connection whose call comes or goes, and where
 -- no call comes or goes the arrivals stay; links and locks stay, but for those of the connection whose call is answered, or which
 -- goes. No number comes again.
-pub record Frame (f : FineState) (e : Event) (g : FineState) : Type 0 where
+pub record Frame (f : InterleavedState) (e : Event) (g : InterleavedState) : Type 0 where
   pub late : f.state.moment ≤ g.state.moment
   pub moment_is : g.state.moment ≡ moment_after f.state.moment e
   pub turn_is : g.turn ≡ turn_after f.turn e
@@ -137,4 +137,4 @@ pub record Frame (f : FineState) (e : Event) (g : FineState) : Type 0 where
 
 -- each event that is allowed changes this alone
 abbrev pub FrameLaw : Type 0
-FrameLaw = (f g : FineState) (e : Event) → fine f e ≡ Some g → Frame f e g
+FrameLaw = (f g : InterleavedState) (e : Event) → interleaved_step f e ≡ Some g → Frame f e g

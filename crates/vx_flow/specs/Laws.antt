@@ -21,24 +21,24 @@ use Rattle.vx_rules.specs.State.{Pending, State, first, pending_at, link_of}
 use Rattle.vx_rules.specs.Calls.{link_named, sets_end}
 use Rattle.vx_rules.specs.Checks.{OnLink, named_link}
 use Rattle.vx_rules.specs.Entry.{Entry, Answer, Down, Sample, Take}
-use Rattle.vx_rules.specs.One.{one}
+use Rattle.vx_rules.specs.AtomicStep.{atomic_step}
 use Rattle.vx_rules.specs.Legal.{legal_state, queued_along}
 use Rattle.vx_flow.specs.Event.{Event, Move}
-use Rattle.vx_flow.specs.FineState.{Turn, FineState, first_fine, before_turn}
-use Rattle.vx_flow.specs.Fine.{fine, job_of, turn_stand, is_whole}
+use Rattle.vx_flow.specs.InterleavedState.{Turn, InterleavedState, first_interleaved, before_turn}
+use Rattle.vx_flow.specs.InterleavedStep.{interleaved_step, job_of, turn_stand, is_whole}
 use Rattle.vx_flow.specs.Sound.{IsSound}
 use Rattle.vx_flow.specs.Poll.{at_moment}
-use Rattle.vx_flow.specs.Gather.{gather}
+use Rattle.vx_flow.specs.Linearization.{linearization}
 
 -- the state after a list of events of a gateway with this abort port, or none where one of them isn't allowed at its place
-abbrev pub fine_along : ℕ → List Event → Option FineState
-fine_along abort_port h = along fine (Some (first_fine abort_port)) h
+abbrev pub interleaved_along : ℕ → List Event → Option InterleavedState
+interleaved_along abort_port h = along interleaved_step (Some (first_interleaved abort_port)) h
 
--- Interleaved events gather to a history of the gateway of one thread. Its state is theirs before the turn under way, at that
+-- Interleaved events linearize to a history of the gateway of one thread. Its state is theirs before the turn under way, at that
 -- moment or an earlier one.
-abbrev pub GatherLaw : Type 0
-GatherLaw = (abort_port : ℕ) (h : List Event) (f : FineState) → fine_along abort_port h ≡ Some f
-    → (moment : ℕ) × (legal_state abort_port (gather h) ≡ Some (before_turn f moment)) × (moment ≤ f.state.moment)
+abbrev pub LinearizationLaw : Type 0
+LinearizationLaw = (abort_port : ℕ) (h : List Event) (f : InterleavedState) → interleaved_along abort_port h ≡ Some f
+    → (moment : ℕ) × (legal_state abort_port (linearization h) ≡ Some (before_turn f moment)) × (moment ≤ f.state.moment)
 
 -- an address as what a lock may be on
 abbrev pub at_address : Addr → Target
@@ -55,8 +55,8 @@ link_called s conn = option_and_then (λ p. link_named p.call) (pending_at s.tab
 
 -- the transfers of a turn reach no address that another link's lock keeps
 abbrev pub MovesFreelyLaw : Type 0
-MovesFreelyLaw = (abort_port : ℕ) (h : List Event) (f g : FineState) (conn : ℕ) (moves : List Transfer)
-    → fine_along abort_port h ≡ Some f → fine f (Move conn moves) ≡ Some g
+MovesFreelyLaw = (abort_port : ℕ) (h : List Event) (f g : InterleavedState) (conn : ℕ) (moves : List Transfer)
+    → interleaved_along abort_port h ≡ Some f → interleaved_step f (Move conn moves) ≡ Some g
     → AreFree (link_called f.state conn) f.state.tables.locks (reached f.state.wire moves)
 
 -- the connection and the transfers of an answer, and of the end of a connection
@@ -68,7 +68,7 @@ ReachesFreely s _ = Unit {0}
 -- so it is at each entry of a history of the gateway of one thread
 abbrev pub EntriesFreeLaw : Type 0
 EntriesFreeLaw = (abort_port : ℕ) (earlier : List Entry) (e : Entry) (s t : State)
-    → legal_state abort_port earlier ≡ Some s → one s e ≡ Some t → ReachesFreely s e
+    → legal_state abort_port earlier ≡ Some s → atomic_step s e ≡ Some t → ReachesFreely s e
 
 -- the bytes of a write, with END on the last one where it is asked for
 abbrev pub marked_bytes : Bool → List ℕ → List Byte
@@ -84,7 +84,7 @@ HeardLaw = (abort_port : ℕ) (earlier : List Entry) (s t : State) (conn now beg
     → legal_state abort_port earlier ≡ Some s
     → pending_at s.tables conn ≡ Some (record { call = call.Write lid io_timeout lock_timeout flags bytes; arrival = arrival; aborted = aborted })
     → link_of s.tables conn lid ≡ Some l → l.target ≡ Device p secondary
-    → one s (Answer conn now begun moves failed dialed level (reply.Write code.Ok size)) ≡ Some t
+    → atomic_step s (Answer conn now begun moves failed dialed level (reply.Write code.Ok size)) ≡ Some t
     → (heard (record { p = p; s = secondary }) s.wire moves ≡ marked_bytes (sets_end flags) bytes)
     × ((a : Addr) → a ≢ record { p = p; s = secondary } → heard a s.wire moves ≡ [])
 
@@ -95,7 +95,7 @@ HeardOnInterfaceLaw = (abort_port : ℕ) (earlier : List Entry) (s t : State) (c
     → legal_state abort_port earlier ≡ Some s
     → pending_at s.tables conn ≡ Some (record { call = call.Write lid io_timeout lock_timeout flags bytes; arrival = arrival; aborted = aborted })
     → link_of s.tables conn lid ≡ Some l → l.target ≡ Interface
-    → one s (Answer conn now begun moves failed dialed level (reply.Write code.Ok size)) ≡ Some t
+    → atomic_step s (Answer conn now begun moves failed dialed level (reply.Write code.Ok size)) ≡ Some t
     → (a : Addr) → heard a s.wire moves ≡ (if has_address s.wire.listeners a then marked_bytes (sets_end flags) bytes else [])
 
 -- the interrupt calls that an entry takes from a channel of a connection
@@ -120,22 +120,22 @@ QueuedLaw = (abort_port : ℕ) (history : List Entry) (s : State) (conn : ℕ) (
 -- A rise closes exactly the channels whose outbox would have more than 1,024 entries, and queues nothing for them.
 abbrev pub ClosedLaw : Type 0
 ClosedLaw = (s t : State) (now conn : ℕ) (c : Channel) → s.tables.srq_state.level ≡ false → channel_at s.tables.srq_state conn ≡ Some c
-    → one s (Sample now true) ≡ Some t → channel_at t.tables.srq_state conn ≡ queued_on (handles_of s.tables.srq_state.enables conn) c
+    → atomic_step s (Sample now true) ≡ Some t → channel_at t.tables.srq_state conn ≡ queued_on (handles_of s.tables.srq_state.enables conn) c
 
 -- what holds between events holds at the start, and behind each event that is allowed
 abbrev pub FirstSoundLaw : Type 0
-FirstSoundLaw = (abort_port : ℕ) → IsSound (first_fine abort_port)
+FirstSoundLaw = (abort_port : ℕ) → IsSound (first_interleaved abort_port)
 
 abbrev pub StaysSoundLaw : Type 0
-StaysSoundLaw = (f g : FineState) (e : Event) → IsSound f → fine f e ≡ Some g → IsSound g
+StaysSoundLaw = (f g : InterleavedState) (e : Event) → IsSound f → interleaved_step f e ≡ Some g → IsSound g
 
 -- and at a later moment
 abbrev pub LaterSoundLaw : Type 0
-LaterSoundLaw = (f : FineState) (now : ℕ) → IsSound f → f.state.moment ≤ now → IsSound (at_moment f now)
+LaterSoundLaw = (f : InterleavedState) (now : ℕ) → IsSound f → f.state.moment ≤ now → IsSound (at_moment f now)
 
 -- an event that leaves the turn under way leaves its call, which may be marked, and the call's job
 abbrev pub CallStaysLaw : Type 0
-CallStaysLaw = (f g : FineState) (e : Event) (u : Turn) (p : Pending) → IsSound f → fine f e ≡ Some g → f.turn ≡ Some u → g.turn ≡ Some u
+CallStaysLaw = (f g : InterleavedState) (e : Event) (u : Turn) (p : Pending) → IsSound f → interleaved_step f e ≡ Some g → f.turn ≡ Some u → g.turn ≡ Some u
     → pending_at f.state.tables u.connection ≡ Some p
     → (aborted : Bool) × (pending_at g.state.tables u.connection ≡ Some (record p { aborted = aborted }))
     × (job_of g.state.tables u.connection p ≡ job_of f.state.tables u.connection p)
@@ -146,7 +146,7 @@ CallStaysLaw = (f g : FineState) (e : Event) (u : Turn) (p : Pending) → IsSoun
 -- live links: what each is to can be reached from the address that the gateway had as the turn began, so that none is to a device at
 -- that address. Where the turn's list isn't whole the gateway has this address still, and so they can be reached from the address
 -- that it has now.
-pub record IsTurnFree (f : FineState) (u : Turn) (l : Link) : Type 0 where
+pub record IsTurnFree (f : InterleavedState) (u : Turn) (l : Link) : Type 0 where
   pub unlocked : holder_of f.state.tables.locks l.number l.target ≡ None
   pub began : u.begun ≤ f.state.moment
   pub first : holds f.state.tables.locks l.number ≡ false → (at : ℕ) → u.begun ≤ at → ahead f.state.tables None at u.connection l.target ≡ []
@@ -157,12 +157,12 @@ pub record IsTurnFree (f : FineState) (u : Turn) (l : Link) : Type 0 where
   pub all_reachable_now : is_whole (turn_stand f u u.moves) ≡ false → All (λ k. IsReachable f.state.wire.own k.target) f.state.tables.links.links
 
 abbrev pub TurnFreeLaw : Type 0
-TurnFreeLaw = (abort_port : ℕ) (h : List Event) (f : FineState) (u : Turn) (p : Pending) (l : Link)
-    → fine_along abort_port h ≡ Some f → f.turn ≡ Some u → pending_at f.state.tables u.connection ≡ Some p
+TurnFreeLaw = (abort_port : ℕ) (h : List Event) (f : InterleavedState) (u : Turn) (p : Pending) (l : Link)
+    → interleaved_along abort_port h ≡ Some f → f.turn ≡ Some u → pending_at f.state.tables u.connection ≡ Some p
     → named_link f.state.tables u.connection p.call ≡ OnLink l → IsTurnFree f u l
 
 -- Events that are allowed from a state at a later moment are allowed at the earlier one, where what holds between events holds, and
 -- lead to the same state, but for its moment, which is no later.
 abbrev pub EarlierLaw : Type 0
-EarlierLaw = (f g : FineState) (now : ℕ) (h : List Event) → IsSound f → f.state.moment ≤ now → along fine (Some (at_moment f now)) h ≡ Some g
-    → (moment : ℕ) × (along fine (Some f) h ≡ Some (at_moment g moment)) × (moment ≤ g.state.moment)
+EarlierLaw = (f g : InterleavedState) (now : ℕ) (h : List Event) → IsSound f → f.state.moment ≤ now → along interleaved_step (Some (at_moment f now)) h ≡ Some g
+    → (moment : ℕ) × (along interleaved_step (Some f) h ≡ Some (at_moment g moment)) × (moment ≤ g.state.moment)

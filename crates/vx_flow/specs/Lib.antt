@@ -1,15 +1,14 @@
 pub mod Event
-pub mod FineState
-pub mod Fine
+pub mod InterleavedState
+pub mod InterleavedStep
 pub mod Sound
 pub mod Poll
-pub mod Gather
+pub mod Linearization
 pub mod Ways
 pub mod Does
 pub mod Frames
 pub mod Laws
-pub mod Headline
-pub mod ProvedLaws
+pub mod Claims
 pub use Rattle.vx_calls.specs.Call
 pub use Rattle.vx_calls.specs.Reply
 pub use Rattle.vx_calls.specs.Target
@@ -30,6 +29,6 @@ pub use Rattle.vx_rules.specs.Legal
 pub use Rattle.vx_rules.specs.Lines
 pub use Rattle.vx_rules.specs.Lists
 pub use Rattle.vx_rules.specs.Locks
-pub use Rattle.vx_rules.specs.One
+pub use Rattle.vx_rules.specs.AtomicStep
 pub use Rattle.vx_rules.specs.State
 pub use Rattle.vx_rules.specs.Table

@@ -15,8 +15,8 @@ use Rattle.vx_rules.specs.State.{Pending, Tables, pending_at}
 use Rattle.vx_rules.specs.Checks.{OnLink, named_link, check_on}
 use Rattle.vx_rules.specs.Effects.{task_on}
 use Rattle.vx_rules.specs.Decide.{is_nothing, stand_on}
-use Rattle.vx_flow.specs.FineState.{Turn, FineState}
-use Rattle.vx_flow.specs.Fine.{is_whole}
+use Rattle.vx_flow.specs.InterleavedState.{Turn, InterleavedState}
+use Rattle.vx_flow.specs.InterleavedStep.{is_whole}
 
 -- a bus call on a link passes its own checks, and no other link's lock keeps it off
 pub record Passes (t : Tables) (own : ℕ) (l : Link) (asked : Call) : Type 0 where
@@ -57,7 +57,7 @@ abbrev pub HaveCome : Tables → ℕ → Type 0
 HaveCome t moment = (conn : ℕ) (p : Pending) → pending_at t conn ≡ Some p → p.arrival ≤ moment
 
 -- with what holds of the tables of every gateway
-pub record IsSound (f : FineState) : Type 0 where
+pub record IsSound (f : InterleavedState) : Type 0 where
   pub turn_stands : TurnStands f.state.tables f.before f.state.wire f.state.moment f.turn
   pub have_come : HaveCome f.state.tables f.state.moment
   pub tables : rules.IsSound f.state.tables

@@ -18,9 +18,9 @@ use Rattle.vx_rules.specs.Dials.{dials_to}
 use Rattle.vx_rules.specs.Lines.{Refused, Passed}
 use Rattle.vx_rules.specs.Effects.{stopped_reply, effect}
 use Rattle.vx_rules.specs.Decide.{level_fits}
-use Rattle.vx_flow.specs.FineState.{Turn, FineState, turn_of, moves_of, turn_without}
+use Rattle.vx_flow.specs.InterleavedState.{Turn, InterleavedState, turn_of, moves_of, turn_without}
 use Rattle.vx_flow.specs.Event.{Begin}
-use Rattle.vx_flow.specs.Fine.{job_of, fine, wire_for, wire_before, waits_for_turn, turn_stand, without_dial}
+use Rattle.vx_flow.specs.InterleavedStep.{job_of, interleaved_step, wire_for, wire_before, waits_for_turn, turn_stand, without_dial}
 use Rattle.vx_flow.specs.Sound.{IsSound}
 use Rattle.vx_flow.specs.Poll.{Answered, Waited, Dialed, Ending, NotYet, Polls, lines_at, ran_before, at_moment}
 use Rattle.vx_flow.specs.declared.progress.Why.{Why}
@@ -28,7 +28,7 @@ use Rattle.vx_flow.specs.declared.progress.Ran.TheVariants as ran
 use Rattle.vx_flow.specs.declared.progress.Why.TheVariants as why
 
 -- A connection's call is polled at this moment: the call is pending, and the list of the turn under way isn't whole.
-pub record IsPolled (f : FineState) (conn now : ℕ) (p : Pending) : Type 0 where
+pub record IsPolled (f : InterleavedState) (conn now : ℕ) (p : Pending) : Type 0 where
   pub sound : IsSound f
   pub call_at : pending_at f.state.tables conn ≡ Some p
   pub late : f.state.moment ≤ now
@@ -40,7 +40,7 @@ turn_left_by None conn = None
 turn_left_by (Some u) conn = turn_without u conn
 
 -- the call is over, with these tables: its turn and its dial are gone, and the bus stays as it is
-abbrev pub over : FineState → ℕ → ℕ → Tables → FineState
+abbrev pub over : InterleavedState → ℕ → ℕ → Tables → InterleavedState
 over f conn now t = record {
   state = record { tables = with_pending t conn None; wire = f.state.wire; moment = now };
   turn = turn_left_by f.turn conn;
@@ -49,14 +49,14 @@ over f conn now t = record {
 }
 
 -- the turn has made these transfers more
-abbrev pub moved_on : FineState → Turn → List Transfer → FineState
+abbrev pub moved_on : InterleavedState → Turn → List Transfer → InterleavedState
 moved_on f u moves = record f {
   state = record f.state { wire = wire_after f.state.wire moves };
   turn = Some (record u { moves = u.moves ++ moves });
 }
 
 -- the call's turn begins
-abbrev pub begun_now : FineState → ℕ → ℕ → FineState
+abbrev pub begun_now : InterleavedState → ℕ → ℕ → InterleavedState
 begun_now f conn now = record f {
   state = record f.state { moment = now };
   turn = Some (record { connection = conn; begun = now; moves = [] });
@@ -65,34 +65,34 @@ begun_now f conn now = record f {
 
 -- the first lines refuse the call
 abbrev pub RefusedLaw : Type 0
-RefusedLaw = (f : FineState) (conn now : ℕ) (p : Pending) (error : ErrorCode) → IsPolled f conn now p → lines_at f conn now p ≡ Refused error
+RefusedLaw = (f : InterleavedState) (conn now : ℕ) (p : Pending) (error : ErrorCode) → IsPolled f conn now p → lines_at f conn now p ≡ Refused error
     → Polls f conn now [] (Answered ran.Still false (stopped_reply p.call error (moves_of (turn_of f.turn conn)))) (over f conn now f.state.tables)
 
 -- the call waits, and no turn of its own goes on: for a link's lock, say, or for another connection's turn
 abbrev pub WaitsLaw : Type 0
-WaitsLaw = (f : FineState) (conn now : ℕ) (p : Pending) (w : Why) → IsPolled f conn now p → NotYet f conn now p w → ran_before w ≡ ran.Still
+WaitsLaw = (f : InterleavedState) (conn now : ℕ) (p : Pending) (w : Why) → IsPolled f conn now p → NotYet f conn now p w → ran_before w ≡ ran.Still
     → Polls f conn now [] (Waited w) (at_moment f now)
 
 -- the gateway hasn't the role that the call's job needs
 abbrev pub NoRoleLaw : Type 0
-NoRoleLaw = (f : FineState) (conn now : ℕ) (p : Pending) (job : Task) → IsPolled f conn now p → lines_at f conn now p ≡ Passed → f.turn ≡ None
+NoRoleLaw = (f : InterleavedState) (conn now : ℕ) (p : Pending) (job : Task) → IsPolled f conn now p → lines_at f conn now p ≡ Passed → f.turn ≡ None
     → job_of f.state.tables conn p ≡ Some job → has_role job f.state.wire ≡ false
     → Polls f conn now [] (Answered ran.Still false (stopped_reply p.call code.BusFault [])) (over f conn now f.state.tables)
 
 -- a call that needs neither the bus nor a dial has its effect
 abbrev pub EffectLaw : Type 0
-EffectLaw = (f : FineState) (conn now : ℕ) (p : Pending) (given : Reply) (after : Tables) → IsPolled f conn now p → lines_at f conn now p ≡ Passed
+EffectLaw = (f : InterleavedState) (conn now : ℕ) (p : Pending) (given : Reply) (after : Tables) → IsPolled f conn now p → lines_at f conn now p ≡ Passed
     → (is_bus_call p.call || asks_dial p.call) ≡ false → waits_for_turn f.state.tables (wire_for f conn).own conn p f.turn ≡ false
     → effect f.state.tables (wire_for f conn).own conn (named_link f.state.tables conn p.call) p.call ≡ Some (given, after)
     → Polls f conn now [] (Answered ran.Still false given) (over f conn now after)
 
 -- a call asks for a dial
 abbrev pub DialLaw : Type 0
-DialLaw = (f : FineState) (conn now : ℕ) (p : Pending) → IsPolled f conn now p → lines_at f conn now p ≡ Passed → asks_dial p.call ≡ true
+DialLaw = (f : InterleavedState) (conn now : ℕ) (p : Pending) → IsPolled f conn now p → lines_at f conn now p ≡ Passed → asks_dial p.call ≡ true
     → Polls f conn now [] (Dialed (dials_to p.call).0 (dials_to p.call).1) (record (at_moment f now) { dialed = without_dial f.dialed conn ++ conn ∷ [] })
 
 -- The call's own turn goes on by these transfers.
-pub record GoesOnBy (f : FineState) (conn now : ℕ) (p : Pending) (u : Turn) (job : Task) : Type 0 where
+pub record GoesOnBy (f : InterleavedState) (conn now : ℕ) (p : Pending) (u : Turn) (job : Task) : Type 0 where
   pub sound : IsSound f
   pub call_at : pending_at f.state.tables conn ≡ Some p
   pub late : f.state.moment ≤ now
@@ -103,42 +103,42 @@ pub record GoesOnBy (f : FineState) (conn now : ℕ) (p : Pending) (u : Turn) (j
 
 -- it is whole then, at the last transfer of a slice or before
 abbrev pub FinishedLaw : Type 0
-FinishedLaw = (f : FineState) (conn now : ℕ) (p : Pending) (u : Turn) (job : Task) (moves : List Transfer) (level : Bool) → GoesOnBy f conn now p u job
+FinishedLaw = (f : InterleavedState) (conn now : ℕ) (p : Pending) (u : Turn) (job : Task) (moves : List Transfer) (level : Bool) → GoesOnBy f conn now p u job
     → turn_stand f u u.moves ≡ Part ⊎ moves ≡ [] → turn_stand f u (u.moves ++ moves) ≡ Whole → length moves ≤ SLICE_MAX → level_fits job level ≡ true
     → Polls f conn now moves (Answered ran.Finished level (whole_reply job (bytes_of p.call) f.before (is_big p.call) level (u.moves ++ moves)))
     (over (moved_on f u moves) conn now f.state.tables)
 
 -- the bus failed
 abbrev pub BrokenLaw : Type 0
-BrokenLaw = (f : FineState) (conn now : ℕ) (p : Pending) (u : Turn) (job : Task) (moves : List Transfer) → GoesOnBy f conn now p u job
+BrokenLaw = (f : InterleavedState) (conn now : ℕ) (p : Pending) (u : Turn) (job : Task) (moves : List Transfer) → GoesOnBy f conn now p u job
     → turn_stand f u u.moves ≡ Part → turn_stand f u (u.moves ++ moves) ≡ Part → length moves < SLICE_MAX
     → Polls f conn now moves (Answered ran.Broken false (stopped_reply p.call code.BusFault (u.moves ++ moves))) (over (moved_on f u moves) conn now f.state.tables)
 
 -- the bus held, and the turn's time has passed
 abbrev pub TimeoutLaw : Type 0
-TimeoutLaw = (f : FineState) (conn now : ℕ) (p : Pending) (u : Turn) (job : Task) (moves : List Transfer) → GoesOnBy f conn now p u job
+TimeoutLaw = (f : InterleavedState) (conn now : ℕ) (p : Pending) (u : Turn) (job : Task) (moves : List Transfer) → GoesOnBy f conn now p u job
     → turn_stand f u u.moves ≡ Part → turn_stand f u (u.moves ++ moves) ≡ Part → length moves < SLICE_MAX → has_passed (io_timeout_of p.call) u.begun now ≡ true
     → Polls f conn now moves (Answered ran.Paused false (stopped_reply p.call code.Timeout (u.moves ++ moves))) (over (moved_on f u moves) conn now f.state.tables)
 
 -- the bus held, and it hasn't
 abbrev pub HeldLaw : Type 0
-HeldLaw = (f : FineState) (conn now : ℕ) (p : Pending) (u : Turn) (job : Task) (moves : List Transfer) → GoesOnBy f conn now p u job
+HeldLaw = (f : InterleavedState) (conn now : ℕ) (p : Pending) (u : Turn) (job : Task) (moves : List Transfer) → GoesOnBy f conn now p u job
     → turn_stand f u u.moves ≡ Part → turn_stand f u (u.moves ++ moves) ≡ Part → length moves < SLICE_MAX → has_passed (io_timeout_of p.call) u.begun now ≡ false
     → Polls f conn now moves (Waited why.Held) (at_moment (moved_on f u moves) now)
 
 -- the slice is full, whatever the turn's time
 abbrev pub SlicedLaw : Type 0
-SlicedLaw = (f : FineState) (conn now : ℕ) (p : Pending) (u : Turn) (job : Task) (moves : List Transfer) → GoesOnBy f conn now p u job
+SlicedLaw = (f : InterleavedState) (conn now : ℕ) (p : Pending) (u : Turn) (job : Task) (moves : List Transfer) → GoesOnBy f conn now p u job
     → turn_stand f u u.moves ≡ Part → turn_stand f u (u.moves ++ moves) ≡ Part → length moves ≡ SLICE_MAX
     → Polls f conn now moves (Waited why.Slice) (at_moment (moved_on f u moves) now)
 
 -- the call's turn begins, where the gateway has the role that its job needs
 abbrev pub BegunLaw : Type 0
-BegunLaw = (f : FineState) (conn now : ℕ) (p : Pending) (job : Task) → IsPolled f conn now p → lines_at f conn now p ≡ Passed → f.turn ≡ None
-    → job_of f.state.tables conn p ≡ Some job → has_role job f.state.wire ≡ true → fine f (Begin conn now) ≡ Some (begun_now f conn now)
+BegunLaw = (f : InterleavedState) (conn now : ℕ) (p : Pending) (job : Task) → IsPolled f conn now p → lines_at f conn now p ≡ Passed → f.turn ≡ None
+    → job_of f.state.tables conn p ≡ Some job → has_role job f.state.wire ≡ true → interleaved_step f (Begin conn now) ≡ Some (begun_now f conn now)
 
 -- and what the poll leaves from there it leaves
 abbrev pub BeginsLaw : Type 0
-BeginsLaw = (f g : FineState) (conn now : ℕ) (p : Pending) (job : Task) (moves : List Transfer) (ending : Ending) → IsPolled f conn now p
+BeginsLaw = (f g : InterleavedState) (conn now : ℕ) (p : Pending) (job : Task) (moves : List Transfer) (ending : Ending) → IsPolled f conn now p
     → lines_at f conn now p ≡ Passed → f.turn ≡ None → job_of f.state.tables conn p ≡ Some job → has_role job f.state.wire ≡ true
     → Polls (begun_now f conn now) conn now moves ending g → Polls f conn now moves ending g

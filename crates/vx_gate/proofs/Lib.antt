@@ -1,5 +1,5 @@
+pub mod Laws
 pub mod Lists
-pub mod Histories
 pub mod Rules
 pub mod Keeps
 pub mod Outcomes

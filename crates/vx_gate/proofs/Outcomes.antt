@@ -22,7 +22,7 @@ use Rattle.vx_gate.specs.Steps.{at_stage, first_view, fresh, longer, shorter, me
 use Rattle.vx_gate.specs.Places.{IsSame, Ran}
 use Rattle.vx_gate.specs.Seats.{gate_at, Rests, pass_view, IsPass}
 use Rattle.vx_gate.proofs.Lists.{prefix_refl, prefix_more, prefix_both}
-use Rattle.vx_gate.proofs.Histories.{made_by_mine, Lawful_more}
+use Rattle.vx_gate.proofs.Laws.Histories.{made_by_mine, Lawful_more}
 use Rattle.vx_gate.proofs.Rules as rules
 
 at_rest : (z y : GateId) (st : Stage) → Rests st → gate_at z st ≡ y → y.words ≡ 64 → (st ≡ Idle) × (z ≡ y)

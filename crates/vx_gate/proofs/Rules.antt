@@ -17,7 +17,7 @@ use Rattle.vx_gate.specs.History.{made, groups, made_by, Lawful}
 use Rattle.vx_gate.specs.Rule.{has, drawn, holding, counted, Live, weight, Holds, Knows, has_ticket, is_out, holds_turn, has_counted, parts_of, SeenWhole, Fair}
 use Rattle.vx_gate.specs.Steps.{at_stage, first_view, fresh, with_group, longer, shorter, met, spent}
 use Rattle.vx_gate.proofs.Lists.{at_below, at_end, prefix_refl, prefix_more, prefix_both, prefix_whole, sum_set, sum_at, sum_two, sum_none, sum_within}
-use Rattle.vx_gate.proofs.Histories.{made_by_mine, made_by_other, made_by_none, made_by_between, front_none, below_more, below_with, Lawful_more}
+use Rattle.vx_gate.proofs.Laws.Histories.{made_by_mine, made_by_other, made_by_none, made_by_between, front_none, below_more, below_with, Lawful_more}
 
 cond_le : (b : Bool) → cond b 1 0 ≤ 1
 cond_le true = omega arith

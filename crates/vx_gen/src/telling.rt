@@ -3,7 +3,7 @@ ghost use Rattle.std.specs.Prelude.{◌≡◌, ◌≤◌, ◌+◌, ◌++◌, len
 ghost use Rattle.vx_gen.specs.SummaryText.{title_text, summary_text};
 
 use crate::words::Ask;
-use itoa::Buffer;
+use vx_text::{put_number, put_text};
 
 /// What is counted of a run.
 #[derive(Clone, Copy, Default, PartialEq, Eq)]
@@ -29,29 +29,16 @@ pub const TITLE_ROOM: usize = 2 * NUMBER_ROOM + 1;
 /// Room for the lines that tell the counts of a run, and for its last line, in bytes.
 pub const SUMMARY_ROOM: usize = 5 * NUMBER_ROOM + 6;
 
-/// Writes a text behind the first `at` bytes of `out`, and answers where it ends.
-fn put_text(text: &[u8], at: usize, out: &mut [u8]) -> usize
-    requires { at + length text.now ≤ length out.old }
-    ensures text { take result out.new ≡ take at out.old ++ text.now }
-    ensures end { result ≡ at + length text.now }
-    ensures len { length out.new ≡ length out.old }
-{
-    let end = at + text.len();
-    out[at..end].copy_from_slice(text);
-    end
-}
-
-/// Writes a text of at most 12 bytes and a number in decimal digits in the same way.
-fn put_number(text: &[u8], number: u64, at: usize, out: &mut [u8]) -> usize
+/// Writes a text of at most 12 bytes and a number in decimal digits behind the first `at` bytes of `out`, and answers where it ends.
+fn put_told(text: &[u8], number: u64, at: usize, out: &mut [u8]) -> usize
     requires text { length text.now ≤ 12 }
     requires room { at + NUMBER_ROOM ≤ length out.old }
     ensures text { take result out.new ≡ take at out.old ++ (text.now ++ decimal number) }
     ensures end { result ≤ at + NUMBER_ROOM }
     ensures len { length out.new ≡ length out.old }
 {
-    let end = put_text(text, at, out);
-    let mut buffer = Buffer::new();
-    put_text(buffer.format(number).as_bytes(), end, out)
+    let end = put_text(out, at, text);
+    put_number(out, end, number)
 }
 
 /// The first line of a run, written at the front of `out`.
@@ -59,9 +46,9 @@ pub fn title<'a>(ask: Ask, out: &'a mut [u8]) -> &'a [u8]
     requires { TITLE_ROOM ≤ length out.old }
     ensures { result.now ≡ title_text ask }
 {
-    let end = put_number(b"gen ", u64::from(ask.seed), 0, out);
-    let end = put_number(b" ", u64::from(ask.steps), end, out);
-    let end = put_text(b"\n", end, out);
+    let end = put_told(b"gen ", u64::from(ask.seed), 0, out);
+    let end = put_told(b" ", u64::from(ask.steps), end, out);
+    let end = put_text(out, end, b"\n");
     &out[..end]
 }
 
@@ -70,11 +57,11 @@ pub fn summary<'a>(counts: &Counts, out: &'a mut [u8]) -> &'a [u8]
     requires { SUMMARY_ROOM ≤ length out.old }
     ensures { result.now ≡ summary_text counts.now }
 {
-    let end = put_number(b"answers ", counts.answers, 0, out);
-    let end = put_number(b" errors ", counts.errors, end, out);
-    let end = put_number(b"\ntransfers ", counts.transfers, end, out);
-    let end = put_number(b"\ninterrupts ", counts.interrupts, end, out);
-    let end = put_number(b"\nwaits ", counts.waits, end, out);
-    let end = put_text(b"\ndone\n", end, out);
+    let end = put_told(b"answers ", counts.answers, 0, out);
+    let end = put_told(b" errors ", counts.errors, end, out);
+    let end = put_told(b"\ntransfers ", counts.transfers, end, out);
+    let end = put_told(b"\ninterrupts ", counts.interrupts, end, out);
+    let end = put_told(b"\nwaits ", counts.waits, end, out);
+    let end = put_text(out, end, b"\ndone\n");
     &out[..end]
 }

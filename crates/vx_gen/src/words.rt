@@ -3,7 +3,7 @@ ghost use Rattle.std.specs.Prelude.{◌≡◌, ◌≢◌, ◌≤◌, ℕ, map, s
 ghost use Rattle.vx_gen.specs.declared.words.Ask.{Ask};
 ghost use Rattle.vx_gen.specs.Asked.{IsInRange, spelled};
 
-use itoa::Buffer;
+use vx_text::number_within;
 
 /// The number that a run is made from, 0 to 2147483647, and how many steps are drawn, 1 to 1,000,000.
 #[derive(Clone, Copy, PartialEq, Eq)]
@@ -18,21 +18,12 @@ const SEED_LAST: u32 = 2_147_483_647;
 /// The most steps that are drawn.
 const STEPS_MAX: u32 = 1_000_000;
 
-/// The number, `least` to `most`, that a text is in decimal digits, without a leading zero.
-fn number_within(text: &str, least: u32, most: u32) -> Option<u32>
+/// A number of so many, `least` to `most`, in decimal digits without a leading zero.
+fn word_within(text: &str, least: u32, most: u32) -> Option<u32>
     ensures some { IfSome result (λ n. (least ≤ n) × (n ≤ most) × (text.now ≡ decimal n)) }
     ensures none { result ≡ None → (n : ℕ) → least ≤ n → n ≤ most → text.now ≢ decimal n }
 {
-    let Ok(n) = text.parse::<u32>() else {
-        return None;
-    };
-    let mut buffer = Buffer::new();
-    let is_printed = buffer.format(n).as_bytes() == text.as_bytes();
-    if is_printed && least <= n && n <= most {
-        Some(n)
-    } else {
-        None
-    }
+    Some(number_within(text.as_bytes(), u64::from(least), u64::from(most))? as u32)
 }
 
 /// Whether a word is that of the command.
@@ -55,7 +46,7 @@ pub fn ask_of(words: &[String]) -> Option<Ask>
     if !is_gen(command.as_bytes()) {
         return None;
     }
-    let seed = number_within(seed.as_str(), 0, SEED_LAST)?;
-    let steps = number_within(steps.as_str(), 1, STEPS_MAX)?;
+    let seed = word_within(seed.as_str(), 0, SEED_LAST)?;
+    let steps = word_within(steps.as_str(), 1, STEPS_MAX)?;
     Some(Ask { seed, steps })
 }

@@ -7,16 +7,16 @@ use Rattle.std.proofs.lemmas.Option.{none-some, same_Some}
 use Rattle.std.proofs.lemmas.List.Elements.{Contains-append_left, Contains-push, Contains-push_cases}
 use Rattle.vx_calls.specs.declared.calls.Role.{Role}
 use Rattle.vx_flow.specs.Event.{Event, Up, Down, Arrive, Answer, Abort, Sample, Take, Begin, Move, Dial}
-use Rattle.vx_flow.specs.FineState.{FineState}
-use Rattle.vx_flow.specs.Fine.{fine}
-use Rattle.vx_flow.specs.ProvedLaws.{fine-does}
+use Rattle.vx_flow.specs.InterleavedState.{InterleavedState}
+use Rattle.vx_flow.specs.InterleavedStep.{interleaved_step}
+use Rattle.vx_flow.proofs.Laws.{interleaved-does}
 use Rattle.vx_group.specs.Phases.{Phase, Absent, Idle, Asked, phase_after, phase_by, is_up, HasPhase}
 use Rattle.vx_group.specs.MadeLinks.{numbers_by, HasLinks}
 use Rattle.vx_group.specs.Owning.{owner_of, may_make}
-use Rattle.vx_group.proofs.Onward.{fine-onward}
-use Rattle.vx_group.proofs.Plainly.{Plainly, fine-plainly}
-use Rattle.vx_group.proofs.Rows.{changes, fine-keeps}
-use Rattle.vx_group.specs.ProvedLaws.{phase-append}
+use Rattle.vx_group.proofs.Laws.Onward.{interleaved-onward}
+use Rattle.vx_group.proofs.Plainly.{Plainly, interleaved-plainly}
+use Rattle.vx_group.proofs.Rows.{changes, interleaved-keeps}
+use Rattle.vx_group.proofs.Laws.{phase-append}
 use Rattle.vx_group.proofs.Phasing.{phase-other, keeps-phase, changes-or, made-phase}
 use Rattle.vx_group.proofs.Linking.{AreFree, links-keep, links-free, keeps-links, made-links}
 
@@ -30,7 +30,7 @@ HasRaised es conn = (r : Role) × Contains es (Up conn r)
 
 -- What is known: each connection, with its links, is as the events of each pass tell; one whose number isn't given has no link; one that a pass had come up has a number that was given, and
 -- no other pass had it come up; and one that is up by a pass's events, or of which a pass made an event, that pass had come up.
-pub record Known (own : Own) (f : FineState) : Type 0 where
+pub record Known (own : Own) (f : InterleavedState) : Type 0 where
   pub plain : Plainly f
   pub phases : (n conn : ℕ) → HasPhase f conn (phase_by conn (own n))
   pub links : (n conn : ℕ) → HasLinks f conn (phase_by conn (own n)) (numbers_by conn (own n))
@@ -77,21 +77,21 @@ made-raised (Sample now srq) own conn may h = absurd (none-some conn h)
 made-raised (Take c chan given) own conn may h = absurd (none-some conn h)
 
 -- of a connection that isn't up a phase tells nothing
-absent-phase : (phase : Phase) (g : FineState) (conn : ℕ) → is_up phase ≡ false → HasPhase g conn phase
+absent-phase : (phase : Phase) (g : InterleavedState) (conn : ℕ) → is_up phase ≡ false → HasPhase g conn phase
 absent-phase Absent g conn h = tt
 absent-phase (Idle r) g conn h = cc
 absent-phase (Asked call dialed) g conn h = cc
 
 -- a connection that comes up has the number that comes next, which is used up
-record UsesNext (f g : FineState) (conn : ℕ) : Type 0 where
+record UsesNext (f g : InterleavedState) (conn : ℕ) : Type 0 where
   is : conn ≡ f.state.tables.next_connection
   after : g.state.tables.next_connection ≡ conn + 1
 
 -- so it is where it is allowed to come up
-up-uses : (f g : FineState) (e : Event) (conn : ℕ) (r : Role) → e ≡ Up conn r → fine f e ≡ Some g → UsesNext f g conn
+up-uses : (f g : InterleavedState) (e : Event) (conn : ℕ) (r : Role) → e ≡ Up conn r → interleaved_step f e ≡ Some g → UsesNext f g conn
 up-uses f g e conn r is h =
-    let d = (fine-does f g (Up conn r) (subst (λ x. fine f x ≡ Some g) is h)).step in
-    record { is = d.number; after = ap (λ (x : FineState). x.state.tables.next_connection) d.leads ∙ ap (λ n. n + 1) (sym d.number) }
+    let d = (interleaved-does f g (Up conn r) (subst (λ x. interleaved_step f x ≡ Some g) is h)).step in
+    record { is = d.number; after = ap (λ (x : InterleavedState). x.state.tables.next_connection) d.leads ∙ ap (λ n. n + 1) (sym d.number) }
 
 -- ---- one event more
 
@@ -119,7 +119,7 @@ stood-in own new n e more k x h = by (cases_eq k n) where
   by (inl is) = at is (Contains-push_cases (own n) e x (subst (λ es. Contains es x) (ap new is ∙ more.here) h))
   by (inr ne) = inl (subst (λ es. Contains es x) (more.there k ne) h)
 
-module _ (own new : Own) (n : ℕ) (e : Event) (f g : FineState) (more : OneMore own new n e) (known : Known own f) (may : may_make (own n) e ≡ true) (h : fine f e ≡ Some g) where
+module _ (own new : Own) (n : ℕ) (e : Event) (f g : InterleavedState) (more : OneMore own new n e) (known : Known own f) (may : may_make (own n) e ≡ true) (h : interleaved_step f e ≡ Some g) where
   -- what a pass had come up stays among its events
   raised-still : (k conn : ℕ) → HasRaised (own k) conn → HasRaised (new k) conn
   raised-still k conn raised = (raised.0, stays-in own new n e more k (Up conn raised.0) raised.1)
@@ -139,7 +139,7 @@ module _ (own new : Own) (n : ℕ) (e : Event) (f g : FineState) (more : OneMore
   more-given : (k conn : ℕ) (r : Role) → Contains (new k) (Up conn r) → conn < g.state.tables.next_connection
   more-given k conn r in_new = by (stood-in own new n e more k (Up conn r) in_new) where
     by : Contains (own k) (Up conn r) ⊎ ((k ≡ n) × (e ≡ Up conn r)) → conn < g.state.tables.next_connection
-    by (inl before) = omega (arith, known.given k conn r before, (fine-onward e f g h).next)
+    by (inl before) = omega (arith, known.given k conn r before, (interleaved-onward e f g h).next)
     by (inr now) = let uses = up-uses f g e conn r now.1 h in omega (arith, uses.after)
 
   -- a connection that comes up now wasn't had come up before
@@ -189,7 +189,7 @@ module _ (own new : Own) (n : ℕ) (e : Event) (f g : FineState) (more : OneMore
   other-phase k conn ne = by (changes-or e conn) (cases_Bool (is_up (phase_by conn (own k)))) where
     by : (changes e ≡ Some conn) ⊎ (changes e ≡ Some conn → ⊥) → (is_up (phase_by conn (own k)) ≡ true) ⊎ (is_up (phase_by conn (own k)) ≡ false)
         → HasPhase g conn (phase_by conn (own k))
-    by (inr other) up = keeps-phase (phase_by conn (own k)) f g conn (fine-keeps e f g conn other h) (known.phases k conn)
+    by (inr other) up = keeps-phase (phase_by conn (own k)) f g conn (interleaved-keeps e f g conn other h) (known.phases k conn)
     by (inl is) (inl up) = absurd (not-another k conn ne (changes-owner e conn is) up)
     by (inl is) (inr down) = absent-phase (phase_by conn (own k)) g conn down
 
@@ -220,7 +220,7 @@ module _ (own new : Own) (n : ℕ) (e : Event) (f g : FineState) (more : OneMore
   -- all of it is known behind one event more, which the pass may make
   pub known-more : Known new g
   known-more = record {
-    plain = fine-plainly e f g known.plain h;
+    plain = interleaved-plainly e f g known.plain h;
     phases = more-phases;
     links = more-links;
     free = links-free e f g known.plain known.free h;

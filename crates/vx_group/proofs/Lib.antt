@@ -1,4 +1,4 @@
-pub mod Onward
+pub mod Laws
 pub mod Standing
 pub mod Plainly
 pub mod Rows

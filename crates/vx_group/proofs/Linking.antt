@@ -6,35 +6,34 @@ use Rattle.std.proofs.lemmas.Bool.{false≢true, eqb-true, eq-eqb, ne_eqb, cond-
 use Rattle.std.proofs.lemmas.Option.{none-some, same_Some}
 use Rattle.std.proofs.lemmas.List.{map-append}
 use Rattle.std.proofs.lemmas.List.Elements.{filter-append}
-use Rattle.vx_lemmas.specs.Lists.{found_passes}
+use Rattle.vx_lemmas.proofs.Laws.Lists.{found_passes}
 use Rattle.vx_calls.specs.declared.limits.TheConstants.{WRITE_MAX}
 use Rattle.vx_calls.specs.declared.codes.ErrorCode.{ErrorCode}
 use Rattle.vx_calls.specs.declared.codes.ErrorCode.TheVariants as code
 use Rattle.vx_calls.specs.declared.targets.Target.{Target}
-use Rattle.vx_calls.specs.declared.targets.Target.TheVariants.{Interface, Device}
-use Rattle.vx_calls.specs.ErrorCode.{error_number}
-use Rattle.vx_calls.specs.Target.{is_name, is_number, is_address, is_gateway, number_value, comma_parts, device_at, behind, target_of_parts, target}
+use Rattle.vx_calls.specs.Target.{comma_parts, target}
 use Rattle.vx_calls.specs.Call.{Call}
 use Rattle.vx_calls.specs.Call as call
 use Rattle.vx_calls.specs.Reply.{Reply}
 use Rattle.vx_calls.specs.Reply as reply
-use Rattle.vx_rules.specs.Table.{Link, Table, is_full, with_link}
+use Rattle.vx_rules.specs.Table.{Link, Table, with_link}
 use Rattle.vx_rules.specs.Locks.{holds, with_lock}
 use Rattle.vx_rules.specs.State.{Pending, Tables, link_of}
-use Rattle.vx_rules.specs.Checks.{NamedLink, NoLink, DeadLink, OnLink, named_link, check_create, check}
+use Rattle.vx_rules.specs.Checks.{NamedLink, NoLink, DeadLink, OnLink, named_link, check}
 use Rattle.vx_rules.specs.Effects.{task_of, stopped_reply, create, locked, effect_on, effect}
-use Rattle.vx_rules.specs.Decide.{Outside}
+use Rattle.vx_rules.specs.Decide.{BusInput}
+use Rattle.vx_rules.proofs.Laws.Naming.{IsError, parts-well, ChecksWell, create-checks}
 use Rattle.vx_flow.specs.Event.{Event, Up, Down, Arrive, Answer, Abort, Sample, Take, Begin, Move, Dial}
-use Rattle.vx_flow.specs.FineState.{FineState}
-use Rattle.vx_flow.specs.Fine.{wire_for, outside, fine}
+use Rattle.vx_flow.specs.InterleavedState.{InterleavedState}
+use Rattle.vx_flow.specs.InterleavedStep.{wire_for, bus_input, interleaved_step}
 use Rattle.vx_flow.specs.Does.{AnsweredBy, ByAbort, ByNoLink, ByCheck, ByBar, ByDialUp, ByDialDown, ByEffect, ByNoRole, ByFault, ByWhole, ByTimeout, IsAnswered}
-use Rattle.vx_flow.specs.ProvedLaws.{fine-does, fine-frame, another}
-use Rattle.vx_flow.specs.ProvedLaws.Kept.{found_is}
-use Rattle.vx_group.specs.Phases.{Phase, Absent, Idle, Asked, phase_after, phase_along, phase_by, is_up, HasPhase}
-use Rattle.vx_group.specs.MadeLinks.{numbers_in, numbers_of, numbers_after, answered_numbers, numbers_next, numbers_along, numbers_by, HasLinks}
+use Rattle.vx_flow.proofs.Laws.{interleaved-does, interleaved-frame, another}
+use Rattle.vx_flow.proofs.Laws.Kept.{found_is}
+use Rattle.vx_group.specs.Phases.{Phase, Absent, Idle, Asked, phase_after, phase_by, is_up, HasPhase}
+use Rattle.vx_group.specs.MadeLinks.{numbers_in, numbers_of, numbers_after, answered_numbers, numbers_next, numbers_by, HasLinks}
 use Rattle.vx_group.specs.Owning.{may_make}
-use Rattle.vx_group.specs.ProvedLaws.{phase-append}
-use Rattle.vx_group.proofs.Onward.{fine-onward}
+use Rattle.vx_group.proofs.Laws.{phase-append, numbers-append}
+use Rattle.vx_group.proofs.Laws.Onward.{interleaved-onward}
 use Rattle.vx_group.proofs.Plainly.{Plainly, asked-below}
 use Rattle.vx_group.proofs.Rows.{changes}
 use Rattle.vx_group.proofs.Phasing.{phase-other, changes-or}
@@ -120,17 +119,13 @@ stays t u conn asked told same tells = record {
   others = λ m ne. ap (λ (x : Table). numbers_in x.links m) same;
 }
 
--- what isn't the code for no error
-abbrev IsError : ErrorCode → Type 0
-IsError e = (error_number e == 0) ≡ false
-
 abbrev is_about_links : Call → Bool
 is_about_links (call.CreateLink client lock lock_timeout device) = true
 is_about_links (call.DestroyLink lid) = true
 is_about_links _ = false
 
 -- the reply of a call that ends with an error tells of none
-stopped-tells : (asked : Call) (error : ErrorCode) (o : Outside) (numbers : List ℕ) → (is_about_links asked ≡ true → IsError error)
+stopped-tells : (asked : Call) (error : ErrorCode) (o : BusInput) (numbers : List ℕ) → (is_about_links asked ≡ true → IsError error)
     → numbers_after asked (stopped_reply asked error o.moves) numbers ≡ Some numbers
 stopped-tells (call.CreateLink client lock lock_timeout device) error o numbers h = ap (λ b. Some (cond b (numbers ++ 0 ∷ []) numbers)) (h refl)
 stopped-tells (call.DestroyLink lid) error o numbers h = ap (λ b. Some (cond b (filter (λ n. not (n == lid)) numbers) numbers)) (h refl)
@@ -147,46 +142,6 @@ job-tells (call.DestroyLink lid) (OnLink l) told numbers h = absurd (false≢tru
 job-tells _ about told numbers h = refl
 
 -- ---- what refuses one of these calls is an error
-
--- a device text that names nothing
-abbrev NamesWell : Result Target ErrorCode → Type 0
-NamesWell (Ok named) = Unit {0}
-NamesWell (Err e) = IsError e
-
-named-if : (b : Bool) (found : Result Target ErrorCode) (e : ErrorCode) → NamesWell found → IsError e → NamesWell (cond b found (Err e))
-named-if true found e well is = well
-named-if false found e well is = is
-
-device-well : (own p : ℕ) (second : Option ℕ) → NamesWell (device_at own p second)
-device-well own p None = named-if (is_address p && not (p == own)) (Ok (Device p None)) code.InvalidAddress tt refl
-device-well own p (Some s) = named-if (is_address p && not (p == own) && is_address s) (Ok (Device p (Some s))) code.InvalidAddress tt refl
-
-behind-well : (name : List ℕ) (found : Result Target ErrorCode) → NamesWell found → NamesWell (behind name found)
-behind-well name found well = named-if (is_gateway name) found code.NotAccessible well refl
-
-parts-well : (own : ℕ) (parts : List (List ℕ)) → NamesWell (target_of_parts own parts)
-parts-well own [] = refl
-parts-well own (name ∷ []) = named-if (is_name name) (behind name (Ok Interface)) code.Syntax (behind-well name (Ok Interface) tt) refl
-parts-well own (name ∷ p ∷ []) =
-    let found = device_at own (number_value p) None in
-    named-if (is_name name && is_number p) (behind name found) code.Syntax (behind-well name found (device-well own (number_value p) None)) refl
-parts-well own (name ∷ p ∷ s ∷ []) =
-    let found = device_at own (number_value p) (Some (number_value s)) in
-    named-if (is_name name && is_number p && is_number s) (behind name found) code.Syntax
-    (behind-well name found (device-well own (number_value p) (Some (number_value s)))) refl
-parts-well own (name ∷ p ∷ s ∷ q ∷ more) = refl
-
--- a check that refuses
-abbrev ChecksWell : Option ErrorCode → Type 0
-ChecksWell None = Unit {0}
-ChecksWell (Some e) = IsError e
-
-create-checks : (t : Tables) (named : Result Target ErrorCode) → NamesWell named → ChecksWell (check_create t named)
-create-checks t (Err e) well = well
-create-checks t (Ok named) well = by (is_full t.links) where
-  by : (b : Bool) → ChecksWell (cond b (Some code.NoResources) None)
-  by true = refl
-  by false = tt
 
 checks-well : (t : Tables) (own conn : ℕ) (settling : Bool) (about : NamedLink) (asked : Call) → is_about_links asked ≡ true → ChecksWell (check t own conn settling about asked)
 checks-well t own conn settling DeadLink asked h = refl
@@ -263,7 +218,7 @@ effect-goes t own conn DeadLink asked is = tt
 -- ---- an answer, by whichever line
 
 -- with an error, and the tables stay
-stopped-goes : (t after : Tables) (conn : ℕ) (asked : Call) (error : ErrorCode) (told : Reply) (o : Outside) → told ≡ stopped_reply asked error o.moves → after ≡ t
+stopped-goes : (t after : Tables) (conn : ℕ) (asked : Call) (error : ErrorCode) (told : Reply) (o : BusInput) → told ≡ stopped_reply asked error o.moves → after ≡ t
     → (is_about_links asked ≡ true → IsError error) → Goes t conn asked told after
 stopped-goes t after conn asked error told o is same h =
     stays t after conn asked told (ap (λ (x : Tables). x.links) same)
@@ -275,7 +230,7 @@ dialed-goes : (t after : Tables) (conn : ℕ) (asked : Call) (host port program 
 dialed-goes t after conn asked host port program version family told is same =
     stays t after conn asked told same (ap (λ c. numbers_after c told (numbers_of t conn)) is)
 
-line-goes : (f : FineState) (conn now : ℕ) (p : Pending) (o : Outside) (told : Reply) (after : Tables) → AnsweredBy f conn now p o told after
+line-goes : (f : InterleavedState) (conn now : ℕ) (p : Pending) (o : BusInput) (told : Reply) (after : Tables) → AnsweredBy f conn now p o told after
     → Goes f.state.tables conn p.call told after
 line-goes f conn now p o told after (ByAbort marked still stops) = stopped-goes f.state.tables after conn p.call code.Abort told o stops.reply_is stops.same (λ h. refl)
 line-goes f conn now p o told after (ByNoLink unmarked dead still stops) = stopped-goes f.state.tables after conn p.call code.InvalidLink told o stops.reply_is stops.same (λ h. refl)
@@ -299,70 +254,70 @@ line-goes f conn now p o told after (ByTimeout clear overdue stops) = stopped-go
 -- ---- each event
 
 -- the answer of a connection's call
-answer-goes : (f g : FineState) (conn now : ℕ) (o : Outside) (told : Reply) → (d : IsAnswered f conn now o told g) → Goes f.state.tables conn d.asked.call told g.state.tables
+answer-goes : (f g : InterleavedState) (conn now : ℕ) (o : BusInput) (told : Reply) → (d : IsAnswered f conn now o told g) → Goes f.state.tables conn d.asked.call told g.state.tables
 answer-goes f g conn now o told d =
     let goes = line-goes f conn now d.asked o told d.after d.line in
-    let same : (m : ℕ) → numbers_of g.state.tables m ≡ numbers_of d.after m = λ m. ap (λ (x : FineState). numbers_of x.state.tables m) d.leads in
+    let same : (m : ℕ) → numbers_of g.state.tables m ≡ numbers_of d.after m = λ m. ap (λ (x : InterleavedState). numbers_of x.state.tables m) d.leads in
     record { own = goes.own ∙ ap Some (sym (same conn)); others = λ m ne. same m ∙ goes.others m ne }
 
 -- an event keeps the links of a connection that it doesn't change
-pub links-keep : (e : Event) (f g : FineState) (conn : ℕ) → (changes e ≡ Some conn → ⊥) → fine f e ≡ Some g → numbers_of g.state.tables conn ≡ numbers_of f.state.tables conn
+pub links-keep : (e : Event) (f g : InterleavedState) (conn : ℕ) → (changes e ≡ Some conn → ⊥) → interleaved_step f e ≡ Some g → numbers_of g.state.tables conn ≡ numbers_of f.state.tables conn
 links-keep e f g conn other h = by e refl other where
   same : g.state.tables.links ≡ f.state.tables.links → numbers_of g.state.tables conn ≡ numbers_of f.state.tables conn
   same is = ap (λ (x : Table). numbers_in x.links conn) is
 
-  allowed : (x : Event) → e ≡ x → fine f x ≡ Some g
-  allowed x is = subst (λ y. fine f y ≡ Some g) is h
+  allowed : (x : Event) → e ≡ x → interleaved_step f x ≡ Some g
+  allowed x is = subst (λ y. interleaved_step f y ≡ Some g) is h
 
   by : (x : Event) → e ≡ x → (changes x ≡ Some conn → ⊥) → numbers_of g.state.tables conn ≡ numbers_of f.state.tables conn
   by (Down c) is other =
-      ap (λ (x : FineState). numbers_of x.state.tables conn) (fine-does f g (Down c) (allowed (Down c) is)).step.leads
+      ap (λ (x : InterleavedState). numbers_of x.state.tables conn) (interleaved-does f g (Down c) (allowed (Down c) is)).step.leads
       ∙ numbers-kept (λ l. not (l.connection == c)) conn (λ l of_it. ap not (ne_eqb l.connection c (λ same. other (ap Some (sym same ∙ eqb-true l.connection conn of_it))))) f.state.tables.links.links
   by (Answer c now failed dialed level told) is other =
-      (answer-goes f g c now (outside f c failed dialed level) told (fine-does f g (Answer c now failed dialed level told) (allowed (Answer c now failed dialed level told) is)).step).others conn
+      (answer-goes f g c now (bus_input f c failed dialed level) told (interleaved-does f g (Answer c now failed dialed level told) (allowed (Answer c now failed dialed level told) is)).step).others conn
       (another c conn other)
-  by (Up c r) is other = same ((fine-frame f g (Up c r) (allowed (Up c r) is)).all_links refl)
-  by (Arrive c asked now) is other = same ((fine-frame f g (Arrive c asked now) (allowed (Arrive c asked now) is)).all_links refl)
-  by (Abort c lid told) is other = same ((fine-frame f g (Abort c lid told) (allowed (Abort c lid told) is)).all_links refl)
-  by (Sample now srq) is other = same ((fine-frame f g (Sample now srq) (allowed (Sample now srq) is)).all_links refl)
-  by (Take c chan given) is other = same ((fine-frame f g (Take c chan given) (allowed (Take c chan given) is)).all_links refl)
-  by (Begin c now) is other = same ((fine-frame f g (Begin c now) (allowed (Begin c now) is)).all_links refl)
-  by (Move c moves) is other = same ((fine-frame f g (Move c moves) (allowed (Move c moves) is)).all_links refl)
-  by (Dial c now) is other = same ((fine-frame f g (Dial c now) (allowed (Dial c now) is)).all_links refl)
+  by (Up c r) is other = same ((interleaved-frame f g (Up c r) (allowed (Up c r) is)).all_links refl)
+  by (Arrive c asked now) is other = same ((interleaved-frame f g (Arrive c asked now) (allowed (Arrive c asked now) is)).all_links refl)
+  by (Abort c lid told) is other = same ((interleaved-frame f g (Abort c lid told) (allowed (Abort c lid told) is)).all_links refl)
+  by (Sample now srq) is other = same ((interleaved-frame f g (Sample now srq) (allowed (Sample now srq) is)).all_links refl)
+  by (Take c chan given) is other = same ((interleaved-frame f g (Take c chan given) (allowed (Take c chan given) is)).all_links refl)
+  by (Begin c now) is other = same ((interleaved-frame f g (Begin c now) (allowed (Begin c now) is)).all_links refl)
+  by (Move c moves) is other = same ((interleaved-frame f g (Move c moves) (allowed (Move c moves) is)).all_links refl)
+  by (Dial c now) is other = same ((interleaved-frame f g (Dial c now) (allowed (Dial c now) is)).all_links refl)
 
 -- a connection whose number isn't given yet has no link
-abbrev pub AreFree : FineState → Type 0
+abbrev pub AreFree : InterleavedState → Type 0
 AreFree f = (conn : ℕ) → f.state.tables.next_connection ≤ conn → numbers_of f.state.tables conn ≡ []
 
 -- so it stays
-pub links-free : (e : Event) (f g : FineState) → Plainly f → AreFree f → fine f e ≡ Some g → AreFree g
+pub links-free : (e : Event) (f g : InterleavedState) → Plainly f → AreFree f → interleaved_step f e ≡ Some g → AreFree g
 links-free e f g plain free h conn low = at (changes-or e conn) where
   before : numbers_of f.state.tables conn ≡ []
-  before = free conn (omega (arith, low, (fine-onward e f g h).next))
+  before = free conn (omega (arith, low, (interleaved-onward e f g h).next))
 
-  allowed : (x : Event) → e ≡ x → fine f x ≡ Some g
-  allowed x is = subst (λ y. fine f y ≡ Some g) is h
+  allowed : (x : Event) → e ≡ x → interleaved_step f x ≡ Some g
+  allowed x is = subst (λ y. interleaved_step f y ≡ Some g) is h
 
   same : g.state.tables.links ≡ f.state.tables.links → numbers_of g.state.tables conn ≡ []
   same is = ap (λ (x : Table). numbers_in x.links conn) is ∙ before
 
   by : (x : Event) → e ≡ x → changes x ≡ Some conn → numbers_of g.state.tables conn ≡ []
   by (Up c r) is own =
-      let d = (fine-does f g (Up c r) (allowed (Up c r) is)).step in
-      let after : g.state.tables.next_connection ≡ f.state.tables.next_connection + 1 = ap (λ (x : FineState). x.state.tables.next_connection) d.leads in
+      let d = (interleaved-does f g (Up c r) (allowed (Up c r) is)).step in
+      let after : g.state.tables.next_connection ≡ f.state.tables.next_connection + 1 = ap (λ (x : InterleavedState). x.state.tables.next_connection) d.leads in
       let mine = same_Some c conn own in
       absurd (omega (arith, low, after, mine, d.number))
   by (Down c) is own =
-      ap (λ (x : FineState). numbers_of x.state.tables conn) (fine-does f g (Down c) (allowed (Down c) is)).step.leads
+      ap (λ (x : InterleavedState). numbers_of x.state.tables conn) (interleaved-does f g (Down c) (allowed (Down c) is)).step.leads
       ∙ ap (λ n. numbers_in (filter (λ l. not (l.connection == n)) f.state.tables.links.links) conn) (same_Some c conn own)
       ∙ numbers-gone conn f.state.tables.links.links
   by (Answer c now failed dialed level told) is own =
-      let d = (fine-does f g (Answer c now failed dialed level told) (allowed (Answer c now failed dialed level told) is)).step in
+      let d = (interleaved-does f g (Answer c now failed dialed level told) (allowed (Answer c now failed dialed level told) is)).step in
       let given = asked-below f.state.tables c d.asked plain.numbers d.call_at in
       let mine = same_Some c conn own in
-      absurd (omega (arith, low, given, mine, (fine-onward e f g h).next))
-  by (Arrive c asked now) is own = same ((fine-frame f g (Arrive c asked now) (allowed (Arrive c asked now) is)).all_links refl)
-  by (Dial c now) is own = same ((fine-frame f g (Dial c now) (allowed (Dial c now) is)).all_links refl)
+      absurd (omega (arith, low, given, mine, (interleaved-onward e f g h).next))
+  by (Arrive c asked now) is own = same ((interleaved-frame f g (Arrive c asked now) (allowed (Arrive c asked now) is)).all_links refl)
+  by (Dial c now) is own = same ((interleaved-frame f g (Dial c now) (allowed (Dial c now) is)).all_links refl)
   by (Abort c lid told) is own = absurd (none-some conn own)
   by (Sample now srq) is own = absurd (none-some conn own)
   by (Take c chan given) is own = absurd (none-some conn own)
@@ -374,12 +329,6 @@ links-free e f g plain free h conn low = at (changes-or e conn) where
   at (inr other) = links-keep e f g conn other h ∙ before
 
 -- ---- what the events tell
-
--- the numbers behind one list of events, and then another
-numbers-append : (conn : ℕ) (phase : Phase) (numbers : Option (List ℕ)) (xs ys : List Event)
-    → numbers_along conn phase numbers (xs ++ ys) ≡ numbers_along conn (phase_along conn phase xs) (numbers_along conn phase numbers xs) ys
-numbers-append conn phase numbers [] ys = refl
-numbers-append conn phase numbers (x ∷ xs) ys = numbers-append conn (phase_after conn phase x) (numbers_next conn phase numbers x) xs ys
 
 -- a choice by another connection's number, and by its own
 other-way : (c conn : ℕ) (x y : Option (List ℕ)) → (Some c ≡ Some conn → ⊥) → cond (c == conn) x y ≡ y
@@ -395,7 +344,7 @@ next-other (Answer c now failed dialed level told) conn phase numbers other = ot
 next-other _ conn phase numbers other = refl
 
 -- the answer of a connection that is up tells what becomes of its links
-answered-links : (phase : Phase) (f g : FineState) (conn now : ℕ) (o : Outside) (told : Reply) (numbers : Option (List ℕ)) → is_up phase ≡ true → HasPhase f conn phase
+answered-links : (phase : Phase) (f g : InterleavedState) (conn now : ℕ) (o : BusInput) (told : Reply) (numbers : Option (List ℕ)) → is_up phase ≡ true → HasPhase f conn phase
     → numbers ≡ Some (numbers_of f.state.tables conn) → IsAnswered f conn now o told g → answered_numbers phase told numbers ≡ Some (numbers_of g.state.tables conn)
 answered-links Absent f g conn now o told numbers up phases has d = absurd (false≢true up)
 answered-links (Idle r) f g conn now o told numbers up phases has d = absurd (none-some d.asked (sym phases.1 ∙ d.call_at))
@@ -407,27 +356,27 @@ answered-links (Asked asked dialed) f g conn now o told numbers up phases has d 
     ∙ (answer-goes f g conn now o told d).own
 
 -- each of its own events that a pass may make tells so
-own-links : (e : Event) (own : List Event) (f g : FineState) (conn : ℕ) → changes e ≡ Some conn → may_make own e ≡ true → AreFree f → HasPhase f conn (phase_by conn own)
-    → HasLinks f conn (phase_by conn own) (numbers_by conn own) → fine f e ≡ Some g → HasLinks g conn (phase_after conn (phase_by conn own) e) (numbers_next conn (phase_by conn own) (numbers_by conn own) e)
+own-links : (e : Event) (own : List Event) (f g : InterleavedState) (conn : ℕ) → changes e ≡ Some conn → may_make own e ≡ true → AreFree f → HasPhase f conn (phase_by conn own)
+    → HasLinks f conn (phase_by conn own) (numbers_by conn own) → interleaved_step f e ≡ Some g → HasLinks g conn (phase_after conn (phase_by conn own) e) (numbers_next conn (phase_by conn own) (numbers_by conn own) e)
 own-links (Up c r) own f g conn is may free phases links h up =
-    let d = (fine-does f g (Up c r) h).step in
+    let d = (interleaved-does f g (Up c r) h).step in
     let mine = same_Some c conn is in
     own-way c conn (Some []) (numbers_by conn own) is
-    ∙ ap Some (sym (ap (λ (x : FineState). numbers_of x.state.tables conn) d.leads ∙ free conn (omega (arith, mine, d.number))))
+    ∙ ap Some (sym (ap (λ (x : InterleavedState). numbers_of x.state.tables conn) d.leads ∙ free conn (omega (arith, mine, d.number))))
 own-links (Down c) own f g conn is may free phases links h up =
     absurd (false≢true (sym (ap is_up (cond-true (c == conn) Absent (phase_by conn own) (eq-eqb c conn (same_Some c conn is)))) ∙ up))
 own-links (Arrive c asked now) own f g conn is may free phases links h up =
     links (subst (λ k. is_up (phase_by k own) ≡ true) (same_Some c conn is) may)
-    ∙ ap (λ (x : Table). Some (numbers_in x.links conn)) (sym ((fine-frame f g (Arrive c asked now) h).all_links refl))
+    ∙ ap (λ (x : Table). Some (numbers_in x.links conn)) (sym ((interleaved-frame f g (Arrive c asked now) h).all_links refl))
 own-links (Dial c now) own f g conn is may free phases links h up =
     links (subst (λ k. is_up (phase_by k own) ≡ true) (same_Some c conn is) may)
-    ∙ ap (λ (x : Table). Some (numbers_in x.links conn)) (sym ((fine-frame f g (Dial c now) h).all_links refl))
+    ∙ ap (λ (x : Table). Some (numbers_in x.links conn)) (sym ((interleaved-frame f g (Dial c now) h).all_links refl))
 own-links (Answer c now failed dialed level told) own f g conn is may free phases links h up =
     let same = same_Some c conn is in
     let was = subst (λ k. is_up (phase_by k own) ≡ true) same may in
     own-way c conn (answered_numbers (phase_by conn own) told (numbers_by conn own)) (numbers_by conn own) is
-    ∙ answered-links (phase_by conn own) f g conn now (outside f conn failed dialed level) told (numbers_by conn own) was phases (links was)
-    (subst (λ k. IsAnswered f k now (outside f k failed dialed level) told g) same (fine-does f g (Answer c now failed dialed level told) h).step)
+    ∙ answered-links (phase_by conn own) f g conn now (bus_input f conn failed dialed level) told (numbers_by conn own) was phases (links was)
+    (subst (λ k. IsAnswered f k now (bus_input f k failed dialed level) told g) same (interleaved-does f g (Answer c now failed dialed level told) h).step)
 own-links (Abort c lid told) own f g conn is may free phases links h up = absurd (none-some conn is)
 own-links (Sample now srq) own f g conn is may free phases links h up = absurd (none-some conn is)
 own-links (Take c chan given) own f g conn is may free phases links h up = absurd (none-some conn is)
@@ -435,13 +384,13 @@ own-links (Begin c now) own f g conn is may free phases links h up = absurd (non
 own-links (Move c moves) own f g conn is may free phases links h up = absurd (none-some conn is)
 
 -- what the state has of a connection's links it has behind an event that leaves them
-pub keeps-links : (f g : FineState) (conn : ℕ) (phase : Phase) (numbers : Option (List ℕ)) → numbers_of g.state.tables conn ≡ numbers_of f.state.tables conn
+pub keeps-links : (f g : InterleavedState) (conn : ℕ) (phase : Phase) (numbers : Option (List ℕ)) → numbers_of g.state.tables conn ≡ numbers_of f.state.tables conn
     → HasLinks f conn phase numbers → HasLinks g conn phase numbers
 keeps-links f g conn phase numbers same links up = links up ∙ ap Some (sym same)
 
 -- behind an event that the pass may make the state has the links of each connection as the pass's own events tell
-pub made-links : (e : Event) (own : List Event) (f g : FineState) (conn : ℕ) → may_make own e ≡ true → AreFree f → HasPhase f conn (phase_by conn own)
-    → HasLinks f conn (phase_by conn own) (numbers_by conn own) → fine f e ≡ Some g → HasLinks g conn (phase_by conn (own ++ e ∷ [])) (numbers_by conn (own ++ e ∷ []))
+pub made-links : (e : Event) (own : List Event) (f g : InterleavedState) (conn : ℕ) → may_make own e ≡ true → AreFree f → HasPhase f conn (phase_by conn own)
+    → HasLinks f conn (phase_by conn own) (numbers_by conn own) → interleaved_step f e ≡ Some g → HasLinks g conn (phase_by conn (own ++ e ∷ [])) (numbers_by conn (own ++ e ∷ []))
 made-links e own f g conn may free phases links h up =
     numbers-append conn Absent (Some []) own (e ∷ []) ∙ by (changes-or e conn) (sym (ap is_up (phase-append conn Absent own (e ∷ []))) ∙ up)
   where

@@ -10,7 +10,7 @@ use Rattle.vx_gate.specs.History.{groups}
 use Rattle.vx_calls.specs.declared.limits.TheConstants.{LINK_LAST}
 use Rattle.vx_rules.specs.Table.{Link}
 use Rattle.vx_flow.specs.Event.{Event, Up}
-use Rattle.vx_flow.specs.FineState.{FineState}
+use Rattle.vx_flow.specs.InterleavedState.{InterleavedState}
 use Rattle.vx_group.specs.Groups.{Group, events_of}
 use Rattle.vx_group.specs.Phases.{HasPhase, phase_by}
 use Rattle.vx_group.specs.MadeLinks.{numbers_of}
@@ -29,7 +29,7 @@ phases-hold log f number conn law stands =
 -- and the links that it has as they tell
 pub links-hold : LinksLaw
 links-hold log f number conn law stands up =
-    (history-known log f law stands).links number conn up ∙ ap (λ (s : FineState). Some (numbers_of s.state.tables conn)) (sym stands.same)
+    (history-known log f law stands).links number conn up ∙ ap (λ (s : InterleavedState). Some (numbers_of s.state.tables conn)) (sym stands.same)
 
 -- they are among the live links, of which there are at most 1,024
 pub few_links-hold : FewLinksLaw

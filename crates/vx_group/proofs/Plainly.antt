@@ -4,29 +4,29 @@ use Rattle.std.specs.List.{All, find, list_any}
 use Rattle.std.proofs.lemmas.Bool.{eqb-true, ne_eqb, cond-false}
 use Rattle.std.proofs.lemmas.List.Elements.{All-nil, All-head, All-tail, All-push, All-weaker, All-filter, All-map}
 use Rattle.std.proofs.lemmas.List.Folds.{list_any_none}
-use Rattle.vx_lemmas.specs.Options.{gone_on}
-use Rattle.vx_lemmas.specs.Lists.{found_passes, found_holds}
+use Rattle.vx_lemmas.proofs.Laws.Options.{gone_on}
+use Rattle.vx_lemmas.proofs.Laws.Lists.{found_passes, found_holds}
 use Rattle.vx_rules.specs.Table.{is_live}
 use Rattle.vx_rules.specs.State.{Pending, Connection, Tables, connection_at, pending_at, with_pending, with_connection, without_connection}
-use Rattle.vx_rules.specs.One.{arrived, mark_on, marked, abort_tables}
-use Rattle.vx_rules.specs.ListLaws.{All-update}
+use Rattle.vx_rules.specs.AtomicStep.{arrived, mark_on, marked, abort_tables}
+use Rattle.vx_rules.proofs.Laws.Lists.{All-update}
 use Rattle.vx_flow.specs.Event.{Event, Up, Down, Arrive, Answer, Abort, Sample, Take, Begin, Move, Dial}
-use Rattle.vx_flow.specs.FineState.{FineState, first_fine}
-use Rattle.vx_flow.specs.Fine.{without_dial, fine}
+use Rattle.vx_flow.specs.InterleavedState.{InterleavedState, first_interleaved}
+use Rattle.vx_flow.specs.InterleavedStep.{without_dial, interleaved_step}
 use Rattle.vx_flow.specs.Frames.{dialed_after, TablesAfter}
-use Rattle.vx_flow.specs.ProvedLaws.{fine-does, fine-frame}
+use Rattle.vx_flow.proofs.Laws.{interleaved-does, interleaved-frame}
 
 -- each connection has a number below this one
 abbrev pub Below : ℕ → List Connection → Type 0
 Below next connections = All (λ c. c.number < next) connections
 
 -- so has each connection that lives, and each one by whose call a dial was asked for
-pub record Plainly (f : FineState) : Type 0 where
+pub record Plainly (f : InterleavedState) : Type 0 where
   pub numbers : Below f.state.tables.next_connection f.state.tables.connections
   pub dials : All (λ n. n < f.state.tables.next_connection) f.dialed
 
 -- so it is of a gateway as it starts
-pub first-plainly : (port : ℕ) → Plainly (first_fine port)
+pub first-plainly : (port : ℕ) → Plainly (first_interleaved port)
 first-plainly port = record { numbers = All-nil (λ c. c.number < 1); dials = All-nil (λ n. n < 1) }
 
 -- numbers below one are below a greater one
@@ -92,9 +92,9 @@ dials-after (Dial conn now) n dialed asks below =
 dials-after _ n dialed asks below = below
 
 -- it stays so behind each event that is allowed
-pub fine-plainly : (e : Event) (f g : FineState) → Plainly f → fine f e ≡ Some g → Plainly g
-fine-plainly e f g plain h =
-    let frame = fine-frame f g e h in
+pub interleaved-plainly : (e : Event) (f g : InterleavedState) → Plainly f → interleaved_step f e ≡ Some g → Plainly g
+interleaved-plainly e f g plain h =
+    let frame = interleaved-frame f g e h in
     let t = f.state.tables in
     record {
       numbers = numbers-after e t g.state.tables frame.tables plain.numbers;
@@ -105,7 +105,7 @@ fine-plainly e f g plain h =
   where
     asks : (conn now : ℕ) → e ≡ Dial conn now → conn < f.state.tables.next_connection
     asks conn now is =
-        let d = (fine-does f g (Dial conn now) (subst (λ x. fine f x ≡ Some g) is h)).step in asked-below f.state.tables conn d.asked plain.numbers d.call_at
+        let d = (interleaved-does f g (Dial conn now) (subst (λ x. interleaved_step f x ≡ Some g) is h)).step in asked-below f.state.tables conn d.asked plain.numbers d.call_at
 
 -- ---- what isn't given yet
 

@@ -8,13 +8,13 @@ use Rattle.std.proofs.lemmas.Option.{none-some}
 use Rattle.std.proofs.lemmas.List.Folds.{list_any-append}
 use Rattle.vx_calls.specs.declared.calls.Role.{Role}
 use Rattle.vx_calls.specs.Call.{Call}
-use Rattle.vx_lemmas.specs.Lists.{find_append-none}
+use Rattle.vx_lemmas.proofs.Laws.Lists.{find_append-none}
 use Rattle.vx_rules.specs.State.{Pending, Connection, Tables, role_at, pending_at, with_connection}
 use Rattle.vx_flow.specs.Event.{Event, Up, Down, Arrive, Answer, Abort, Sample, Take, Begin, Move, Dial}
-use Rattle.vx_flow.specs.FineState.{FineState}
-use Rattle.vx_flow.specs.Fine.{without_dial, fine}
+use Rattle.vx_flow.specs.InterleavedState.{InterleavedState}
+use Rattle.vx_flow.specs.InterleavedStep.{without_dial, interleaved_step}
 use Rattle.vx_flow.specs.Frames.{dialed_after, lives_by, calls_by, mark_by}
-use Rattle.vx_flow.specs.ProvedLaws.{fine-frame, mark-call, another}
+use Rattle.vx_flow.proofs.Laws.{interleaved-frame, mark-call, another}
 use Rattle.vx_group.proofs.Plainly.{Below, none-below}
 
 -- ---- roles
@@ -97,7 +97,7 @@ changes (Begin conn now) = None
 changes (Move conn moves) = None
 
 -- the connection's role and call, and whether a dial was asked for by it, are the same
-pub record Keeps (f g : FineState) (conn : ℕ) : Type 0 where
+pub record Keeps (f g : InterleavedState) (conn : ℕ) : Type 0 where
   pub row : SameRow f.state.tables g.state.tables conn
   pub dialed : is_dialed conn g.dialed ≡ is_dialed conn f.dialed
 
@@ -128,9 +128,9 @@ dials-keep (Dial c now) conn dialed other =
 dials-keep _ conn dialed other = refl
 
 -- an event keeps each connection that it doesn't change
-pub fine-keeps : (e : Event) (f g : FineState) (conn : ℕ) → (changes e ≡ Some conn → ⊥) → fine f e ≡ Some g → Keeps f g conn
-fine-keeps e f g conn other h =
-    let frame = fine-frame f g e h in
+pub interleaved-keeps : (e : Event) (f g : InterleavedState) (conn : ℕ) → (changes e ≡ Some conn → ⊥) → interleaved_step f e ≡ Some g → Keeps f g conn
+interleaved-keeps e f g conn other h =
+    let frame = interleaved-frame f g e h in
     let t = f.state.tables in
     record {
       row = record {

@@ -4,15 +4,15 @@ use Rattle.std.proofs.lemmas.Bool.{cases_eq, and_parts, eq-eqb, ne_eqb, cond-tru
 use Rattle.std.proofs.lemmas.Option.{none-some, same_Some}
 use Rattle.vx_gate.specs.declared.views.Logged.{Logged}
 use Rattle.vx_gate.specs.History.{groups, made_by, Lawful}
-use Rattle.vx_gate.proofs.Histories.{made_by_mine, made_by_other}
+use Rattle.vx_gate.proofs.Laws.Histories.{made_by_mine, made_by_other}
 use Rattle.vx_rules.specs.Lists.{along}
-use Rattle.vx_rules.specs.ListLaws.{along-none, along-append}
+use Rattle.vx_rules.proofs.Laws.Lists.{along-none, along-append}
 use Rattle.vx_flow.specs.Event.{Event}
-use Rattle.vx_flow.specs.FineState.{FineState, first_fine}
-use Rattle.vx_flow.specs.Fine.{fine}
+use Rattle.vx_flow.specs.InterleavedState.{InterleavedState, first_interleaved}
+use Rattle.vx_flow.specs.InterleavedStep.{interleaved_step}
 use Rattle.vx_group.specs.Groups.{Group, events_of, StandsFor}
 use Rattle.vx_group.specs.Owning.{may_make, may_make_all, MayAdd}
-use Rattle.vx_group.specs.ProvedLaws.{events-more}
+use Rattle.vx_group.proofs.Laws.{events-more}
 use Rattle.vx_group.proofs.Plainly.{first-plainly}
 use Rattle.vx_group.proofs.Knowing.{Own, Known, OneMore, known-more}
 
@@ -51,20 +51,20 @@ rest-more own new n e es more = record {
 }
 
 -- all is known behind the events of a group that the pass may make
-known-events : (es : List Event) (own new : Own) (n : ℕ) (f g : FineState) → More own new n es → Known own f → may_make_all (own n) es ≡ true
-    → along fine (Some f) es ≡ Some g → Known new g
+known-events : (es : List Event) (own new : Own) (n : ℕ) (f g : InterleavedState) → More own new n es → Known own f → may_make_all (own n) es ≡ true
+    → along interleaved_step (Some f) es ≡ Some g → Known new g
 known-events [] own new n f g more known may h = subst (λ o. Known o g) (more-none own new n more) (subst (Known own) (same_Some f g h) known)
-known-events (e ∷ es) own new n f g more known may h = by (fine f e) refl h (known-events es) where
+known-events (e ∷ es) own new n f g more known may h = by (interleaved_step f e) refl h (known-events es) where
   mid_own : Own
   mid_own = with_event own n e
 
   tests : (may_make (own n) e ≡ true) × (may_make_all (own n ++ e ∷ []) es ≡ true)
   tests = and_parts (may_make (own n) e) (may_make_all (own n ++ e ∷ []) es) may
 
-  by : (o : Option FineState) → fine f e ≡ o → along fine o es ≡ Some g
-      → ((own new : Own) (n : ℕ) (f g : FineState) → More own new n es → Known own f → may_make_all (own n) es ≡ true → along fine (Some f) es ≡ Some g → Known new g)
+  by : (o : Option InterleavedState) → interleaved_step f e ≡ o → along interleaved_step o es ≡ Some g
+      → ((own new : Own) (n : ℕ) (f g : InterleavedState) → More own new n es → Known own f → may_make_all (own n) es ≡ true → along interleaved_step (Some f) es ≡ Some g → Known new g)
       → Known new g
-  by None is h rest = absurd (none-some g (sym (along-none fine es) ∙ h))
+  by None is h rest = absurd (none-some g (sym (along-none interleaved_step es) ∙ h))
   by (Some mid) is h rest =
       rest mid_own new n mid g (rest-more own new n e es more)
       (known-more own mid_own n e f mid (first-more own n e) known tests.0 is)
@@ -84,28 +84,28 @@ group-more log m = record {
 }
 
 -- all is known behind the groups of a lawful history
-known-groups : (rest before : List (Logged Group)) (f g : FineState) → Lawful MayAdd (before ++ rest) → Known (own_of before) f
-    → along fine (Some f) (events_of (groups rest)) ≡ Some g → Known (own_of (before ++ rest)) g
+known-groups : (rest before : List (Logged Group)) (f g : InterleavedState) → Lawful MayAdd (before ++ rest) → Known (own_of before) f
+    → along interleaved_step (Some f) (events_of (groups rest)) ≡ Some g → Known (own_of (before ++ rest)) g
 known-groups [] before f g law known h =
     subst (λ log. Known (own_of log) g) (sym (append-nil before)) (subst (Known (own_of before)) (same_Some f g h) known)
 known-groups (m ∷ rest) before f g law known h =
-    by (along fine (Some f) m.group.events) refl (sym (along-append fine (Some f) m.group.events (events_of (groups rest))) ∙ h) (known-groups rest)
+    by (along interleaved_step (Some f) m.group.events) refl (sym (along-append interleaved_step (Some f) m.group.events (events_of (groups rest))) ∙ h) (known-groups rest)
   where
     split : (before ++ m ∷ []) ++ rest ≡ before ++ m ∷ rest
     split = append_assoc before (m ∷ []) rest
 
-    by : (o : Option FineState) → along fine (Some f) m.group.events ≡ o → along fine o (events_of (groups rest)) ≡ Some g
-        → ((before : List (Logged Group)) (f g : FineState) → Lawful MayAdd (before ++ rest) → Known (own_of before) f
-        → along fine (Some f) (events_of (groups rest)) ≡ Some g → Known (own_of (before ++ rest)) g)
+    by : (o : Option InterleavedState) → along interleaved_step (Some f) m.group.events ≡ o → along interleaved_step o (events_of (groups rest)) ≡ Some g
+        → ((before : List (Logged Group)) (f g : InterleavedState) → Lawful MayAdd (before ++ rest) → Known (own_of before) f
+        → along interleaved_step (Some f) (events_of (groups rest)) ≡ Some g → Known (own_of (before ++ rest)) g)
         → Known (own_of (before ++ m ∷ rest)) g
-    by None is h more = absurd (none-some g (sym (along-none fine (events_of (groups rest))) ∙ h))
+    by None is h more = absurd (none-some g (sym (along-none interleaved_step (events_of (groups rest))) ∙ h))
     by (Some mid) is h more =
         subst (λ log. Known (own_of log) g) split
         (more (before ++ m ∷ []) mid g (subst (Lawful MayAdd) (sym split) law)
         (known-events m.group.events (own_of before) (own_of (before ++ m ∷ [])) m.by f mid (group-more before m) known (law before rest m refl) is) h)
 
 -- it is known of a gateway as it starts
-first-known : (port : ℕ) → Known (own_of []) (first_fine port)
+first-known : (port : ℕ) → Known (own_of []) (first_interleaved port)
 first-known port = record {
   plain = first-plainly port;
   phases = λ n conn. tt;
@@ -118,7 +118,7 @@ first-known port = record {
 }
 
 -- and of every history for which a state stands
-pub history-known : (log : List (Logged Group)) (f : FineState) → Lawful MayAdd log → (stands : StandsFor f (groups log)) → Known (own_of log) stands.last
+pub history-known : (log : List (Logged Group)) (f : InterleavedState) → Lawful MayAdd log → (stands : StandsFor f (groups log)) → Known (own_of log) stands.last
 history-known log f law stands =
     let port = f.state.tables.abort_port in
-    known-groups log [] (first_fine port) stands.last law (first-known port) stands.allowed
+    known-groups log [] (first_interleaved port) stands.last law (first-known port) stands.allowed

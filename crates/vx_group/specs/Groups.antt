@@ -4,9 +4,9 @@ use Rattle.std.specs.Prelude.{◌≡◌, ◌≤◌, ℕ, List, [], ◌∷◌, Op
 use Rattle.std.specs.List.{All, flat_map}
 use Rattle.vx_bus_traits.specs.Steps.{Step}
 use Rattle.vx_flow.specs.Event.{Event, Up, Down, Arrive, Answer, Abort, Sample, Take, Begin, Move, Dial}
-use Rattle.vx_flow.specs.FineState.{FineState}
+use Rattle.vx_flow.specs.InterleavedState.{InterleavedState}
 use Rattle.vx_flow.specs.Poll.{at_moment}
-use Rattle.vx_flow.specs.Laws.{fine_along}
+use Rattle.vx_flow.specs.Laws.{interleaved_along}
 
 -- A group: the events of one turn, in order, of which there may be none; the steps that it had the bus make, in order; the
 -- gateway's greatest moment after it, in milliseconds; and the port of the gateway's abort channel, which is the same in all
@@ -58,9 +58,9 @@ MomentsRise moment (g ∷ groups) = (moment ≤ g.moment) × All (IsBy g.moment)
 
 -- A state stands for a history: its events, each allowed at its place, lead to it, but for its moment, which is the one that
 -- the last group keeps.
-pub record StandsFor (f : FineState) (log : List Group) : Type 0 where
-  pub last : FineState
-  pub allowed : fine_along f.state.tables.abort_port (events_of log) ≡ Some last
+pub record StandsFor (f : InterleavedState) (log : List Group) : Type 0 where
+  pub last : InterleavedState
+  pub allowed : interleaved_along f.state.tables.abort_port (events_of log) ≡ Some last
   pub same : f ≡ at_moment last f.state.moment
   pub later : last.state.moment ≤ f.state.moment
   pub moment : f.state.moment ≡ last_moment log

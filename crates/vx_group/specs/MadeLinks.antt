@@ -8,7 +8,7 @@ use Rattle.vx_calls.specs.Reply as reply
 use Rattle.vx_rules.specs.Table.{Link}
 use Rattle.vx_rules.specs.State.{Tables}
 use Rattle.vx_flow.specs.Event.{Event, Up, Answer}
-use Rattle.vx_flow.specs.FineState.{FineState}
+use Rattle.vx_flow.specs.InterleavedState.{InterleavedState}
 use Rattle.vx_group.specs.Phases.{Phase, Absent, Asked, phase_after, is_up}
 
 -- the numbers of a connection's links among these
@@ -50,5 +50,5 @@ abbrev pub numbers_by : ℕ → List Event → Option (List ℕ)
 numbers_by conn events = numbers_along conn Absent (Some []) events
 
 -- these are the numbers of the connection's links in the state; of one that isn't up nothing is told
-abbrev pub HasLinks : FineState → ℕ → Phase → Option (List ℕ) → Type 0
+abbrev pub HasLinks : InterleavedState → ℕ → Phase → Option (List ℕ) → Type 0
 HasLinks f conn phase numbers = is_up phase ≡ true → numbers ≡ Some (numbers_of f.state.tables conn)

@@ -7,7 +7,7 @@ use Rattle.vx_calls.specs.declared.calls.Role.TheVariants as role
 use Rattle.vx_calls.specs.Call.{Call}
 use Rattle.vx_flow.specs.State.{Pending, role_at, pending_at}
 use Rattle.vx_flow.specs.Event.{Event, Up, Down, Arrive, Answer, Abort, Sample, Take, Begin, Move, Dial}
-use Rattle.vx_flow.specs.FineState.{FineState}
+use Rattle.vx_flow.specs.InterleavedState.{InterleavedState}
 
 -- The events have the connection not up; up in this role, with no call; or up as a core connection with this call, of which a
 -- dial was asked for or not.
@@ -50,14 +50,14 @@ is_up (Idle r) = true
 is_up (Asked call dialed) = true
 
 -- the connection's call without an answer is this one, and a dial was asked for by it or not
-pub record IsAsked (f : FineState) (conn : ℕ) (call : Call) (dialed : Bool) : Type 0 where
+pub record IsAsked (f : InterleavedState) (conn : ℕ) (call : Call) (dialed : Bool) : Type 0 where
   pub pending : Pending
   pub call_at : pending_at f.state.tables conn ≡ Some pending
   pub call_is : pending.call ≡ call
   pub dialed_is : list_any (λ n. n == conn) f.dialed ≡ dialed
 
 -- the state has the connection as this phase tells; of one that isn't up it tells nothing
-abbrev pub HasPhase : FineState → ℕ → Phase → Type 0
+abbrev pub HasPhase : InterleavedState → ℕ → Phase → Type 0
 HasPhase f conn Absent = Unit {0}
 HasPhase f conn (Idle r) =
     (role_at f.state.tables conn ≡ Some r) × (pending_at f.state.tables conn ≡ None) × (list_any (λ n. n == conn) f.dialed ≡ false)

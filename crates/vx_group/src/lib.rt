@@ -4,10 +4,10 @@
 //! A group is plain data of contracts; no value of it is made when a program runs.
 #![tactic(auto)]
 
-mod laws;
+mod theorems;
 
-pub use laws::{first_law, headline_law, links_law, owned_law, phase_law, stands_law};
 use std::marker::Model;
+pub use theorems::{claims_law, first_law, links_law, owned_law, phase_law, stands_law};
 
 /// The type of a group of events.
 #[derive(Drop)]

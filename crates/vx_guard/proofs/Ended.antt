@@ -14,29 +14,29 @@ use Rattle.vx_text.specs.Writing.{StopsIn}
 use Rattle.vx_record.specs.Records.{Split, records}
 use Rattle.vx_group.specs.Groups.{Group}
 use Rattle.vx_group.specs.Phases.{Idle}
-use Rattle.vx_group.specs.Laws.{HeadlineOfGroupsLaw, OwnedLaw, LinksLaw}
+use Rattle.vx_group.specs.Laws.{ClaimsOfGroupsLaw, OwnedLaw, LinksLaw}
 use Rattle.vx_exchange.specs.Meaning.{meaning, Junk}
 use Rattle.vx_io_traits.specs.Stands.{Goes}
-use Rattle.vx_stream.specs.Calling.{Receives, Sends, InTurn}
-use Rattle.vx_stream.specs.Shown.{LinkShown, LinkGoes}
+use Rattle.vx_io_traits.specs.declared.links.Link.{Ghosts as OfLink}
+use Rattle.vx_stream.specs.Calling.{InTurn}
+use Rattle.vx_stream.specs.Shown.{LinkShown, LinkGoes, link_shown}
 use Rattle.vx_stream.specs.Answered.{Answered, messages, replies}
 use Rattle.vx_stream.specs.Stopping.{EndsSo, IsLeft, StreamAnswered}
 use Rattle.vx_stream.specs.declared.ends.End.{End}
 use Rattle.vx_stream.specs.declared.ends.End.TheVariants as end
 use Rattle.vx_session.specs.Placing.{Makes}
 use Rattle.vx_session.specs.Turning.{Leaves, phase_at}
-use Rattle.vx_session.specs.Outside.{DialShown}
+use Rattle.vx_session.specs.Dialing.{DialShown}
 use Rattle.vx_session.specs.Progress.{Rings, Clocked, answered, placed, calls}
-use Rattle.vx_session.specs.ProvedLaws.{makes-goes, makes-later}
-use Rattle.vx_session.proofs.Finishing.{upholds}
-use Rattle.vx_rooms.specs.LinkLaws.{CalledLinksLaw}
+use Rattle.vx_session.proofs.Laws.{makes-goes, makes-later}
+use Rattle.vx_session.proofs.Laws.Finishing.{upholds}
+use Rattle.vx_session.specs.LinkLaws.{CalledLinksLaw}
 use Rattle.vx_policy.specs.Laws.{MadeRead, DoneRead, NamedAlike}
 use Rattle.vx_policy.specs.Texts.{deny_line}
-use Rattle.vx_guard.specs.declared.sessions.TheConstants.{PIECE}
 use Rattle.vx_guard.specs.declared.sessions.GuardEnd.{GuardEnd}
 use Rattle.vx_guard.specs.Judged.{Guards, denial, notes, served}
 use Rattle.vx_guard.specs.Stages.{GuardState, GuardDoes, IsUnasked, NoteFails}
-use Rattle.vx_guard.specs.Wholes.{GuardDid, GuardEndsSo, NoteStops, guard_end}
+use Rattle.vx_guard.specs.Wholes.{PIECE, GuardDid, GuardEndsSo, NoteStops, guard_end}
 use Rattle.vx_guard.proofs.Goings.{GuardsAll, all-guarded}
 use Rattle.vx_guard.proofs.Known.{knows-links}
 
@@ -52,8 +52,8 @@ pub record StreamEnds {C : Type 0} (last s' : GuardState C) (seen : LinkShown) (
   pub why : WhyEnded last s' seen list looked behind unsent seen' how
 
 -- the records of a guarded session's stream were answered, up to its end or to where it is no longer read
-pub record StreamGuarded {B C L : Type 0} (g : Origin B) (tells : C → ℕ → C → Type 0) (stands : L → List ℕ → List ℕ → Type 0) (receives : Receives L) (sends : Sends L) (s : GuardState C) (pass : PassView Group) (link : L) (seen : LinkShown) (how : End)
-    (s' : GuardState C) (link' : L) (seen' : LinkShown) : Type 0 where
+pub record StreamGuarded {B C L : Type 0} (g : Origin B) (tells : C → ℕ → C → Type 0) (ways : OfLink L) (s : GuardState C) (pass : PassView Group) (link : L) (how : End)
+    (s' : GuardState C) (link' : L) : Type 0 where
   pub last : GuardState C
   pub list : List Answered
   pub front : List ℕ
@@ -61,12 +61,12 @@ pub record StreamGuarded {B C L : Type 0} (g : Origin B) (tells : C → ℕ → 
   pub written : List ℕ
   pub unsent : List ℕ
   pub guards : GuardsAll g tells s pass list last
-  pub bytes : Goes stands link link' written (front ++ behind)
-  pub goes : LinkGoes seen (front ++ behind) seen'
+  pub bytes : Goes ways.stands link link' written (front ++ behind)
+  pub goes : LinkGoes (link_shown ways link) (front ++ behind) (link_shown ways link')
   pub wrote : replies list ≡ written ++ unsent
   pub near : length behind < PIECE
-  pub in_turn : InTurn receives sends RECORD_MAX list link (front ++ behind) written link'
-  pub ends : StreamEnds last s' seen list (records RECORD_MAX front) behind unsent seen' how
+  pub in_turn : InTurn ways RECORD_MAX list link (front ++ behind) written link'
+  pub ends : StreamEnds last s' (link_shown ways link) list (records RECORD_MAX front) behind unsent (link_shown ways link') how
 
 -- a session that is as it was when its stream ended
 ended-same : {C : Type 0} (last s' : GuardState C) (seen : LinkShown) (list : List Answered) (looked : Split) (behind unsent : List ℕ) (seen' : LinkShown) (how : End) → s' ≡ last → last.failed ≡ false
@@ -108,10 +108,10 @@ module _ {B C S : Type 0} (bus : Ghosts B) (tells : C → ℕ → C → Type 0) 
   stream-ends last s' seen list looked behind unsent seen' end.WriteFault sound ended left =
       ended-same (shown last) (shown s') seen list looked behind unsent seen' end.WriteFault (ap shown left) sound ended
 
-  pub stream-guarded : {L : Type 0} (stands : L → List ℕ → List ℕ → Type 0) (receives : Receives L) (sends : Sends L) (s s' : S) (pass : PassView Group) (link link' : L) (seen seen' : LinkShown) (limit room : ℕ) (how : End)
-      → (shown s).session.pass ≡ Some pass → (shown s).failed ≡ false → limit ≡ RECORD_MAX → room ≡ PIECE → StreamAnswered does stands receives sends limit room None s link seen (Some how) s' link' seen'
-      → StreamGuarded (origin bus (first s)) tells stands receives sends (shown s) pass link seen how (shown s') link' seen'
-  stream-guarded stands receives sends s s' pass link link' seen seen' limit room how had sound limit_is room_is did =
+  pub stream-guarded : {L : Type 0} (ways : OfLink L) (s s' : S) (pass : PassView Group) (link link' : L) (limit room : ℕ) (how : End)
+      → (shown s).session.pass ≡ Some pass → (shown s).failed ≡ false → limit ≡ RECORD_MAX → room ≡ PIECE → StreamAnswered does ways limit room None (record { server = s; link = link }) (Some how) (record { server = s'; link = link' })
+      → StreamGuarded (origin bus (first s)) tells ways (shown s) pass link how (shown s') link'
+  stream-guarded ways s s' pass link link' limit room how had sound limit_is room_is did =
       let all = all-guarded bus tells first does shown one same core s did.last pass did.answered had did.progress.answers in
       record {
         last = shown did.last;
@@ -125,9 +125,9 @@ module _ {B C S : Type 0} (bus : Ghosts B) (tells : C → ℕ → C → Type 0) 
         goes = did.progress.goes;
         wrote = did.wrote;
         near = subst (λ n. length did.behind < n) room_is did.near;
-        in_turn = subst (λ n. InTurn receives sends n did.answered link (did.front ++ did.behind) did.written link') limit_is did.in_turn;
-        ends = subst (λ n. StreamEnds (shown did.last) (shown s') seen did.answered (records n did.front) did.behind did.unsent seen' how) limit_is
-            (stream-ends did.last s' seen did.answered (records limit did.front) did.behind did.unsent seen' how (all.failed ∙ sound) did.ended did.left);
+        in_turn = subst (λ n. InTurn ways n did.answered link (did.front ++ did.behind) did.written link') limit_is did.in_turn;
+        ends = subst (λ n. StreamEnds (shown did.last) (shown s') (link_shown ways link) did.answered (records n did.front) did.behind did.unsent (link_shown ways link') how) limit_is
+            (stream-ends did.last s' (link_shown ways link) did.answered (records limit did.front) did.behind did.unsent (link_shown ways link') how (all.failed ∙ sound) did.ended did.left);
       }
 
 -- how the session ended, by whether its note failed
@@ -157,26 +157,27 @@ ends-guarded g tells s last s' pass list all seen looked behind unsent seen' how
     subst (λ f. GuardEndsSo s.rules s.peer s.session.conn last.made seen list lines looked behind unsent seen' s.note s'.note (guard_end f how)) (sym why.0) stops
 
 -- its clock doesn't go back
-pub guarded-later : {B C L : Type 0} (g : Origin B) (tells : C → ℕ → C → Type 0) (stands : L → List ℕ → List ℕ → Type 0) (receives : Receives L) (sends : Sends L) (s s' : GuardState C) (pass : PassView Group) (link link' : L) (seen seen' : LinkShown) (how : End)
-    → StreamGuarded g tells stands receives sends s pass link seen how s' link' seen' → s.session.told ≤ s'.session.told
-guarded-later g tells stands receives sends s s' pass link link' seen seen' how did =
+pub guarded-later : {B C L : Type 0} (g : Origin B) (tells : C → ℕ → C → Type 0) (ways : OfLink L) (s s' : GuardState C) (pass : PassView Group) (link link' : L) (how : End)
+    → StreamGuarded g tells ways s pass link how s' link' → s.session.told ≤ s'.session.told
+guarded-later g tells ways s s' pass link link' how did =
     let first = did.guards.later in
     let second = did.ends.later in
     omega arith
 
 -- behind its stream the session has the pass, of the same gate
-pub guarded-pass : {B C L : Type 0} (g : Origin B) (tells : C → ℕ → C → Type 0) (stands : L → List ℕ → List ℕ → Type 0) (receives : Receives L) (sends : Sends L) (s s' : GuardState C) (pass : PassView Group) (link link' : L) (seen seen' : LinkShown) (how : End)
-    → StreamGuarded g tells stands receives sends s pass link seen how s' link' seen' → (pass' : PassView Group) × (s'.session.pass ≡ Some pass') × (pass'.gate ≡ pass.gate)
-guarded-pass g tells stands receives sends s s' pass link link' seen seen' how did = (did.guards.pass', did.ends.unasked.pass ∙ did.guards.has, did.guards.makes.gate)
+pub guarded-pass : {B C L : Type 0} (g : Origin B) (tells : C → ℕ → C → Type 0) (ways : OfLink L) (s s' : GuardState C) (pass : PassView Group) (link link' : L) (how : End)
+    → StreamGuarded g tells ways s pass link how s' link' → (pass' : PassView Group) × (s'.session.pass ≡ Some pass') × (pass'.gate ≡ pass.gate)
+guarded-pass g tells ways s s' pass link link' how did = (did.guards.pass', did.ends.unasked.pass ∙ did.guards.has, did.guards.makes.gate)
 
 -- the messages of a stream were judged and answered, and then the connection went; the session began without a link that it knew
-pub guard-did : {B C L : Type 0} (g : Origin B) (tells : C → ℕ → C → Type 0) (stands : L → List ℕ → List ℕ → Type 0) (receives : Receives L) (sends : Sends L) → HeadlineOfGroupsLaw → OwnedLaw → LinksLaw → CalledLinksLaw g → MadeRead → DoneRead → NamedAlike
+pub guard-did : {B C L : Type 0} (g : Origin B) (tells : C → ℕ → C → Type 0) (ways : OfLink L) → ClaimsOfGroupsLaw → OwnedLaw → LinksLaw → CalledLinksLaw g → MadeRead → DoneRead → NamedAlike
     → (s s' : GuardState C) (pass mid pass' : PassView Group)
-    (link link' : L) (seen seen' : LinkShown) (how : End) (end' : GuardEnd) (told : ℕ) (dial : DialShown) (note : Ends) (clock : C) → StreamGuarded g tells stands receives sends s pass link seen how s' link' seen' → s.made ≡ []
+    (link link' : L) (how : End) (end' : GuardEnd) (told : ℕ) (dial : DialShown) (note : Ends) (clock : C) → StreamGuarded g tells ways s pass link how s' link' → s.made ≡ []
     → s'.session.pass ≡ Some mid → s'.session.told ≡ told → s'.session.dial ≡ dial → s'.note ≡ note → s'.session.clock ≡ clock → end' ≡ guard_end s'.failed how → Leaves g mid s.session.conn pass'
     → made_by pass.number pass.seen ≡ pass.own → phase_at pass s.session.conn ≡ Idle role.Core
-    → GuardDid g stands receives sends (Clocked tells s.session.clock clock) told s.rules s.peer s.session.conn pass link seen s.session.dial s.note end' pass' link' seen' dial note
-guard-did g tells stands receives sends headline owned links called read_made read_done alike s s' pass mid pass' link link' seen seen' how end' told dial note clock did fresh has told_is dial_is note_is clock_is end_is leaves order idle =
+    → GuardDid g ways (Clocked tells s.session.clock clock) told s.rules s.peer s.session.conn (record { pass = pass; link = link; dial = s.session.dial; note = s.note })
+    end' (record { pass = pass'; link = link'; dial = dial; note = note })
+guard-did g tells ways claims owned links called read_made read_done alike s s' pass mid pass' link link' how end' told dial note clock did fresh has told_is dial_is note_is clock_is end_is leaves order idle =
     let last = leaves.placed in
     let all = did.guards in
     let ends = did.ends in
@@ -185,6 +186,8 @@ guard-did g tells stands receives sends headline owned links called read_made re
     let same : all.pass' ≡ mid = same_Some all.pass' mid (sym all.has ∙ sym ends.unasked.pass ∙ has) in
     let within : did.last.session.told ≤ told = subst (λ n. did.last.session.told ≤ n) told_is later in
     let lines = notes s.session.conn all.items in
+    let seen = link_shown ways link in
+    let seen' = link_shown ways link' in
     let makes : Makes told pass (judged ++ last ∷ []) pass' =
     makes-goes told told pass mid pass' judged (last ∷ []) (omega arith)
     (subst (λ p. Makes told pass judged p) same (makes-later did.last.session.told told pass all.pass' judged within all.makes))
@@ -206,12 +209,12 @@ guard-did g tells stands receives sends headline owned links called read_made re
       goes = did.goes;
       wrote = ap replies all.are ∙ did.wrote;
       near = did.near;
-      in_turn = subst (λ list. InTurn receives sends RECORD_MAX list link (did.front ++ did.behind) did.written link') (sym all.are) did.in_turn;
+      in_turn = subst (λ list. InTurn ways RECORD_MAX list link (did.front ++ did.behind) did.written link') (sym all.are) did.in_turn;
       ended = subst (λ e. GuardEndsSo s.rules s.peer s.session.conn did.last.made seen (answered (served all.items)) lines (records RECORD_MAX did.front) did.behind did.unsent seen' s.note note e) (sym end_is)
           (subst (λ n. GuardEndsSo s.rules s.peer s.session.conn did.last.made seen (answered (served all.items)) lines (records RECORD_MAX did.front) did.behind did.unsent seen' s.note n (guard_end s'.failed how)) note_is
           (subst (λ list. GuardEndsSo s.rules s.peer s.session.conn did.last.made seen list lines (records RECORD_MAX did.front) did.behind did.unsent seen' s.note s'.note (guard_end s'.failed how)) (sym all.are)
           (ends-guarded g tells s did.last s' pass did.list all seen (records RECORD_MAX did.front) did.behind did.unsent seen' how ends.why)));
       asks = subst (λ k. Clocked tells s.session.clock k judged) (sym ends.unasked.clock ∙ clock_is) all.asks;
       rings = subst (λ d. Rings s.session.dial judged (calls (served all.items)) d) (sym ends.unasked.dial ∙ dial_is) all.rings;
-      upholds = upholds g headline owned pass' leaves.turns.history;
+      upholds = upholds g claims owned pass' leaves.turns.history;
     }

@@ -14,11 +14,11 @@ use Rattle.vx_exchange.specs.Meaning as meant
 use Rattle.vx_stream.specs.Answered.{Answered, AnswersAll}
 use Rattle.vx_session.specs.Placing.{Makes}
 use Rattle.vx_session.specs.Progress.{Rings, Clocked, ClockedAs, ServesRecord, answered, placed, calls}
-use Rattle.vx_session.specs.ProvedLaws.{makes-none, makes-goes, clocked-goes, clockedas-none}
-use Rattle.vx_session.proofs.Progressing.{rings-none, rings-goes}
+use Rattle.vx_session.proofs.Laws.{makes-none, makes-goes, clocked-goes, clockedas-none}
+use Rattle.vx_session.proofs.Laws.Progressing.{rings-none, rings-goes}
 use Rattle.vx_policy.specs.declared.made.MadeLink.{MadeLink}
 use Rattle.vx_guard.specs.Judged.{Judged, IsDenied, IsGuarded, Guards, note_of, notes, served}
-use Rattle.vx_guard.specs.Stages.{GuardState, GuardDoes, HasReply, IsDenial, denial_at}
+use Rattle.vx_guard.specs.Stages.{GuardState, GuardDoes, GuardHasReply, IsDenial, denial_at}
 
 -- one message of a session, whose pass was this one, was answered so
 record Step {B C : Type 0} (g : Origin B) (tells : C → ℕ → C → Type 0) (s : GuardState C) (pass : PassView Group) (one : Answered) (mid : GuardState C) : Type 0 where
@@ -43,7 +43,7 @@ denied-so (meant.Asks xid call) made made' one h same = (refl, refl, h, same)
 denied-so (meant.Aborts xid lid) made made' one h same = absurd h
 
 step : {B C : Type 0} (g : Origin B) (tells : C → ℕ → C → Type 0) (s mid : GuardState C) (pass : PassView Group) (one : Answered) → s.session.pass ≡ Some pass → s.session.role ≡ role.Core
-    → (d : Option ℕ) → denial_at s one.message ≡ d → HasReply g tells s one.message one.reply mid d → Step g tells s pass one mid
+    → (d : Option ℕ) → denial_at s one.message ≡ d → GuardHasReply g tells s one.message one.reply mid d → Step g tells s pass one mid
 step g tells s mid pass one had core None is has =
     let answers = has.0 in
     let serves = subst (λ r. ServesRecord g (ClockedAs r tells s.session.clock mid.session.clock) mid.session.told r pass s.session.conn one.message s.session.dial one.reply answers.pass' mid.session.dial) core

@@ -22,14 +22,14 @@ use Rattle.vx_group.specs.Phases.{Idle, is_up, phase_by}
 use Rattle.vx_group.specs.MadeLinks.{HasLinks, numbers_of, numbers_after, numbers_by}
 use Rattle.vx_group.specs.Laws.{LinksLaw, FewLinksLaw}
 use Rattle.vx_session.specs.Origin.{Origin}
-use Rattle.vx_session.specs.Outside.{DialShown}
+use Rattle.vx_session.specs.Dialing.{DialShown}
 use Rattle.vx_session.specs.Placing.{Placed, IsHistory}
 use Rattle.vx_session.specs.Progress.{AnswersCall}
 use Rattle.vx_session.specs.Turning.{phase_at}
-use Rattle.vx_rooms.specs.LinkLaws.{TellsLinks, CalledTells, CalledLinksLaw}
+use Rattle.vx_session.specs.LinkLaws.{TellsLinks, CalledTells, CalledLinksLaw}
 use Rattle.vx_policy.specs.declared.made.MadeLink.{MadeLink}
 use Rattle.vx_policy.specs.Laws.{MadeRead, DoneRead, NamedAlike}
-use Rattle.vx_policy.specs.Targets.{link_made, is_done, text_target, with_link, made_after}
+use Rattle.vx_policy.specs.Targets.{link_made, is_done, text_target, policy_with_link, made_after}
 use Rattle.vx_guard.specs.Known.{numbers_known}
 use Rattle.vx_guard.specs.Knowing.{KnowsOwn}
 
@@ -46,7 +46,7 @@ known-without lid (m ∷ made) = by (m.lid == lid) (known-without lid made) wher
   by false rest = ap (λ ns. m.lid ∷ ns) rest
 
 -- one link more
-known-with : (made : List MadeLink) (lid : ℕ) (to : Target) → numbers_known (with_link made (Some lid) (Some to)) ≡ numbers_known made ++ lid ∷ []
+known-with : (made : List MadeLink) (lid : ℕ) (to : Target) → numbers_known (policy_with_link made (Some lid) (Some to)) ≡ numbers_known made ++ lid ∷ []
 known-with made lid to = map-append (λ (m : MadeLink). m.lid) made (record { lid = lid; target = to } ∷ [])
 
 -- a session that knows none knows them, whatever links its connection has
@@ -78,17 +78,17 @@ module _ (read_made : MadeRead) (read_done : DoneRead) (alike : NamedAlike) (xid
     all : List ℕ
     all = before ++ numbers_known made
 
-    by : (b : Bool) → (error_number error == 0) ≡ b → Some (cond (error_number error == 0) (all ++ lid ∷ []) all) ≡ Some (before ++ numbers_known (with_link made (link_made text) to))
+    by : (b : Bool) → (error_number error == 0) ≡ b → Some (cond (error_number error == 0) (all ++ lid ∷ []) all) ≡ Some (before ++ numbers_known (policy_with_link made (link_made text) to))
     by true none =
         let named = tells none in
         let low = named.0 in
         let read : link_made text ≡ Some lid = read_made text error lid abort_port max refl (λ _. omega arith) ∙ ap (λ b. cond b (Some lid) None) none in
         ap (λ b. Some (cond b (all ++ lid ∷ []) all)) none
         ∙ ap Some (append_assoc before (numbers_known made) (lid ∷ []) ∙ ap (λ ns. before ++ ns) (sym (known-with made lid named.2)))
-        ∙ sym (ap (λ o. Some (before ++ numbers_known (with_link made o to))) read ∙ ap (λ o. Some (before ++ numbers_known (with_link made (Some lid) o))) (alike device named.1 named.2 named.3))
+        ∙ sym (ap (λ o. Some (before ++ numbers_known (policy_with_link made o to))) read ∙ ap (λ o. Some (before ++ numbers_known (policy_with_link made (Some lid) o))) (alike device named.1 named.2 named.3))
     by false some =
         let read : link_made text ≡ None = read_made text error lid abort_port max refl (λ none. absurd (false≢true (sym some ∙ none))) ∙ ap (λ b. cond b (Some lid) None) some in
-        ap (λ b. Some (cond b (all ++ lid ∷ []) all)) some ∙ sym (ap (λ o. Some (before ++ numbers_known (with_link made o to))) read)
+        ap (λ b. Some (cond b (all ++ lid ∷ []) all)) some ∙ sym (ap (λ o. Some (before ++ numbers_known (policy_with_link made o to))) read)
 
   -- by that of a destroy_link, whose link is known no longer
   destroyed : (lid : ℕ) (error : ErrorCode) → IsLearned made before (call.DestroyLink lid) (reply.Error error) (made_after made (call.DestroyLink lid) (reply_record xid (reply.Error error)))
@@ -140,16 +140,16 @@ pub learns : {B : Type 0} (g : Origin B) → LinksLaw → FewLinksLaw → Called
 learns g links few called read_made read_done alike clocked told pass pass' conn xid asked dial dial' out made made' answers history order idle knows keeps =
     by (numbers_by conn (events_of pass.own)) refl where
       numbers : List ℕ
-      numbers = numbers_of history.core.fine.state.tables conn
+      numbers = numbers_of history.core.interleaved.state.tables conn
 
       -- the connection's links are those that the own groups tell
       are : numbers_by conn (events_of pass'.own) ≡ Some numbers
       are =
-          subst (λ own. HasLinks history.core.fine conn (phase_by conn (events_of own)) (numbers_by conn (events_of own))) order
-          (links pass'.seen history.core.fine pass'.number conn history.lawful history.became.state) (ap is_up idle)
+          subst (λ own. HasLinks history.core.interleaved conn (phase_by conn (events_of own)) (numbers_by conn (events_of own))) order
+          (links pass'.seen history.core.interleaved pass'.number conn history.lawful history.became.state) (ap is_up idle)
 
       most : length numbers ≤ LINK_MAX
-      most = (few (groups pass'.seen) history.core.fine conn history.became.state).0
+      most = (few (groups pass'.seen) history.core.interleaved conn history.became.state).0
 
       tells : CalledTells pass.number conn xid asked answers.placed out
       tells = called pass.number conn xid asked answers.placed answers.rung out answers.holding

@@ -9,24 +9,24 @@ use Rattle.vx_calls.specs.declared.calls.Role.TheVariants as role
 use Rattle.vx_gate.specs.declared.views.Logged.{Logged}
 use Rattle.vx_gate.specs.History.{groups, made_by, Lawful}
 use Rattle.vx_gate.specs.PassView.{PassView}
-use Rattle.vx_gate.proofs.Histories.{Lawful_front}
+use Rattle.vx_gate.proofs.Laws.Histories.{Lawful_front}
 use Rattle.vx_exchange.specs.Meaning as meant
 use Rattle.vx_exchange.specs.Meaning.{Meaning, meaning}
 use Rattle.vx_group.specs.Event.{Up, Abort}
-use Rattle.vx_group.specs.FineState.{FineState}
+use Rattle.vx_group.specs.InterleavedState.{InterleavedState}
 use Rattle.vx_group.specs.Groups.{Group, events_of, StandsFor}
 use Rattle.vx_group.specs.Phases.{Absent, Idle, phase_by, is_up}
 use Rattle.vx_group.specs.MadeLinks.{HasLinks, numbers_after, numbers_by}
 use Rattle.vx_group.specs.Owning.{MayAdd}
 use Rattle.vx_group.specs.Laws.{LinksLaw}
-use Rattle.vx_group.specs.ProvedLaws.{events-more, phase-append}
+use Rattle.vx_group.proofs.Laws.{events-more, phase-append, numbers-append}
 use Rattle.vx_session.specs.Origin.{Origin}
 use Rattle.vx_session.specs.Placing.{Placed, Chain, behind}
 use Rattle.vx_session.specs.Progress.{placed}
-use Rattle.vx_session.specs.Serving.{Item, IsAborted, IsServed}
+use Rattle.vx_session.specs.Serving.{Item, IsAborted, IsSessionServed}
 use Rattle.vx_session.specs.Turning.{Joins, phase_at}
-use Rattle.vx_rooms.specs.LinkLaws.{CalledLinksLaw}
-use Rattle.vx_rooms.specs.ProvedLaws.{numbers-append, chain-begins}
+use Rattle.vx_session.specs.LinkLaws.{CalledLinksLaw}
+use Rattle.vx_session.proofs.Laws.{chain-begins}
 use Rattle.vx_policy.specs.declared.made.MadeLink.{MadeLink}
 use Rattle.vx_policy.specs.declared.rules.Rule.{Rule}
 use Rattle.vx_policy.specs.Laws.{MadeRead, DoneRead, NamedAlike}
@@ -73,7 +73,7 @@ knows-aborted conn xid lid own made ps calls out is knows =
 
 module _ {B : Type 0} (g : Origin B) (called : CalledLinksLaw g) (read_made : MadeRead) (read_done : DoneRead) (alike : NamedAlike) (number conn : ℕ) where
   -- a message that was served
-  knows-served : (m : Meaning) (item : Item) (own : List Group) (made : List MadeLink) (seen seen' : List (Logged Group)) → IsServed g number conn m item.placed item.calls item.answered.reply
+  knows-served : (m : Meaning) (item : Item) (own : List Group) (made : List MadeLink) (seen seen' : List (Logged Group)) → IsSessionServed g number conn m item.placed item.calls item.answered.reply
       → Chain number seen item.placed seen' → Lawful MayAdd seen' → Knows conn own made → Knows conn (own ++ map (λ p. p.group) item.placed) (learned made m item.answered.reply)
   knows-served meant.Junk item own made seen seen' is chain lawful knows = absurd is
   knows-served (meant.Answered message) item own made seen seen' is chain lawful knows = knows-same conn own made made item.placed is.0 refl knows
@@ -119,7 +119,7 @@ module _ {B : Type 0} (g : Origin B) (called : CalledLinksLaw g) (read_made : Ma
 -- ---- the whole session
 
 -- what the groups tell of a connection's links is so in each state that stands for the history
-had-so : LinksLaw → (number conn : ℕ) (own : List Group) (log : List (Logged Group)) (f : FineState) → Lawful MayAdd log → StandsFor f (groups log) → made_by number log ≡ own
+had-so : LinksLaw → (number conn : ℕ) (own : List Group) (log : List (Logged Group)) (f : InterleavedState) → Lawful MayAdd log → StandsFor f (groups log) → made_by number log ≡ own
     → phase_by conn (events_of own) ≡ Idle role.Core → numbers_by conn (events_of own) ≡ Some (numbers_had f conn)
 had-so links number conn own log f lawful stands are idle =
     subst (λ o. HasLinks f conn (phase_by conn (events_of o)) (numbers_by conn (events_of o))) are (links log f number conn lawful stands) (ap is_up idle)
@@ -127,7 +127,7 @@ had-so links number conn own log f lawful stands are idle =
 -- a session on a connection that had no link knows exactly those that the connection has, at each moment between two messages
 pub knows-links : {B : Type 0} (g : Origin B) → LinksLaw → CalledLinksLaw g → MadeRead → DoneRead → NamedAlike → (conn : ℕ) (rules : List Rule) (peer : ℕ) (pass : PassView Group) (seen' : List (Logged Group))
     (items : List Judged) (last : Placed) → made_by pass.number pass.seen ≡ pass.own → phase_at pass conn ≡ Idle role.Core → Chain pass.number pass.seen (placed (served items) ++ last ∷ []) seen'
-    → Lawful MayAdd seen' → (first : FineState) → StandsFor first (groups pass.seen) → numbers_had first conn ≡ [] → KnowsLinks g pass.number conn rules peer pass.own items seen'
+    → Lawful MayAdd seen' → (first : InterleavedState) → StandsFor first (groups pass.seen) → numbers_had first conn ≡ [] → KnowsLinks g pass.number conn rules peer pass.own items seen'
 knows-links g links called read_made read_done alike conn rules peer pass seen' items last order idle chain lawful first stands none front later made log f are each at =
     let of : Item → List Placed = λ i. i.placed in
     let groups_are : placed (served items) ++ last ∷ [] ≡ placed (served front) ++ (placed (served later) ++ last ∷ []) =
@@ -148,14 +148,14 @@ knows-links g links called read_made read_done alike conn rules peer pass seen' 
 
 -- a connection that just came up has no link
 pub joined-none : {B : Type 0} (g : Origin B) → LinksLaw → (pass up : PassView Group) (conn : ℕ) (j : Joins g pass role.Core (Ok conn) up) → made_by up.number up.seen ≡ up.own
-    → numbers_had j.turns.history.core.fine conn ≡ []
+    → numbers_had j.turns.history.core.interleaved conn ≡ []
 joined-none g links pass up conn j order =
     let history = j.turns.history in
     let phase = phase_by conn (events_of pass.own) in
     let before = numbers_by conn (events_of pass.own) in
     let events : events_of up.own ≡ events_of pass.own ++ Up conn role.Core ∷ [] = ap events_of j.turns.makes.own ∙ events-more pass.own j.placed.group ∙ ap (λ es. events_of pass.own ++ es) j.events in
-    same_Some (numbers_had history.core.fine conn) []
-    (sym (had-so links up.number conn up.own up.seen history.core.fine history.lawful history.became.state order j.come)
+    same_Some (numbers_had history.core.interleaved conn) []
+    (sym (had-so links up.number conn up.own up.seen history.core.interleaved history.lawful history.became.state order j.come)
     ∙ ap (numbers_by conn) events
     ∙ numbers-append conn Absent (Some []) (events_of pass.own) (Up conn role.Core ∷ [])
     ∙ cond-true (conn == conn) (Some []) before (eq-eqb conn conn refl))

@@ -1,28 +1,24 @@
 -- What a guarded link adds to how many connections its pass has had come up and go down.
 use Rattle.std.proofs.Common.{◌<◌, ℕ, List, [], ◌∷◌, Option, None, Some, sym, ap, ◌∙◌, subst}
 use Rattle.std.proofs.lemmas.List.Concat.{flat_map-cons}
+use Rattle.vx_io_traits.specs.declared.links.Link.{Ghosts}
 use Rattle.vx_calls.specs.declared.calls.Role.TheVariants as role
 use Rattle.vx_calls.specs.declared.limits.TheConstants.{CONNECTION_LAST}
 use Rattle.vx_session.specs.Origin.{Origin}
-use Rattle.vx_gate.specs.PassView.{PassView}
-use Rattle.vx_text.specs.Ends.{End}
-use Rattle.vx_tables.specs.declared.tables.Connect.TheVariants as connect
+use Rattle.vx_state.specs.declared.tables.Connect.TheVariants as connect
 use Rattle.vx_exchange.specs.Meaning.{Meaning, Asks, meaning}
-use Rattle.vx_group.specs.Groups.{Group}
-use Rattle.vx_stream.specs.Calling.{Receives, Sends}
-use Rattle.vx_stream.specs.Shown.{LinkShown}
-use Rattle.vx_session.specs.Outside.{DialShown}
 use Rattle.vx_session.specs.Placing.{Placed}
 use Rattle.vx_session.specs.Serving.{Item}
 use Rattle.vx_session.specs.Progress.{placed}
 use Rattle.vx_policy.specs.declared.made.MadeLink.{MadeLink}
 use Rattle.vx_policy.specs.declared.rules.Rule.{Rule}
-use Rattle.vx_rooms.specs.Counting.{events_by, IsSteady, ComesAndGoes, IsClear}
-use Rattle.vx_rooms.specs.ProvedLaws.{events_by-append, append-steady, none-steady, served-steady, came-and-went, none-came, never-full}
+use Rattle.vx_session.specs.Counting.{events_by, IsSteady, ComesAndGoes, IsSessionClear}
+use Rattle.vx_session.proofs.Laws.{events_by-append, append-steady, none-steady, served-steady, came-and-went, none-came, never-full}
 use Rattle.vx_guard.specs.declared.links.Guarded.{Guarded}
 use Rattle.vx_guard.specs.declared.links.Guarded.TheVariants as guarded
 use Rattle.vx_guard.specs.Judged.{Judged, IsDenied, IsGuarded, Guards, served}
 use Rattle.vx_guard.specs.Linking.{GuardLinkDid}
+use Rattle.vx_guard.specs.Wholes.{GuardHolding}
 
 -- a call that a rule denied adds no group
 denied-steady : (made made' : List MadeLink) (m : Meaning) (item : Item) → IsDenied made m item made' → IsSteady (events_by item.placed)
@@ -45,18 +41,16 @@ items-steady g number conn rules peer made (j ∷ later) made' all =
     (append-steady (events_by j.served.placed) (events_by (placed (served later))) one (items-steady g number conn rules peer all.1 later made' all.3))
 
 -- Whatever became of a guarded link: among the groups that its pass made as many connections came up as went down, and at most one.
-pub link-counts : {B L : Type 0} (g : Origin B) (stands : L → List ℕ → List ℕ → Type 0) (receives : Receives L) (sends : Sends L) (clocked : List Placed → Type 0) (told : ℕ) (rules : List Rule) (pass : PassView Group) (link : L) (seen : LinkShown) (dial : DialShown)
-    (note : End) (how : Guarded) (pass' : PassView Group) (link' : L) (seen' : LinkShown) (dial' : DialShown) (note' : End)
-    → GuardLinkDid g stands receives sends clocked told rules pass link seen dial note how pass' link' seen' dial' note' → ComesAndGoes pass pass'
-link-counts g stands receives sends clocked told rules pass link seen dial note (guarded.Ended how) pass' link' seen' dial' note' had =
+pub link-counts : {B L : Type 0} (g : Origin B) (ways : Ghosts L) (clocked : List Placed → Type 0) (told : ℕ) (rules : List Rule) (before : GuardHolding L) (how : Guarded) (after : GuardHolding L)
+    → GuardLinkDid g ways clocked told rules before how after → ComesAndGoes before.pass after.pass
+link-counts g ways clocked told rules before (guarded.Ended how) after had =
     let did = had.did in
-    came-and-went g told had.conn role.Core pass had.up pass' (placed (served did.items)) did.last had.joins did.makes
+    came-and-went g told had.conn role.Core before.pass had.up after.pass (placed (served did.items)) did.last had.joins did.makes
     (items-steady g had.up.number had.conn rules had.peer [] did.items did.made did.each) did.down
-link-counts g stands receives sends clocked told rules pass link seen dial note guarded.Full pass' link' seen' dial' note' had = none-came g role.Core connect.Full pass pass' had.0
-link-counts g stands receives sends clocked told rules pass link seen dial note guarded.NoMemory pass' link' seen' dial' note' had = none-came g role.Core connect.NoMemory pass pass' had.0
+link-counts g ways clocked told rules before guarded.Full after had = none-came g role.Core connect.Full before.pass after.pass had.0
+link-counts g ways clocked told rules before guarded.NoMemory after had = none-came g role.Core connect.NoMemory before.pass after.pass had.0
 
 -- Where the pass is clear behind so many links, the next one isn't refused for want of room.
-pub link-never-full : {B L : Type 0} (g : Origin B) (stands : L → List ℕ → List ℕ → Type 0) (receives : Receives L) (sends : Sends L) (clocked : List Placed → Type 0) (told count : ℕ) (rules : List Rule) (pass : PassView Group) (link : L) (seen : LinkShown)
-    (dial : DialShown) (note : End) (pass' : PassView Group) (link' : L) (seen' : LinkShown) (dial' : DialShown) (note' : End) → IsClear count pass → count < CONNECTION_LAST
-    → GuardLinkDid g stands receives sends clocked told rules pass link seen dial note guarded.Full pass' link' seen' dial' note' → ⊥
-link-never-full g stands receives sends clocked told count rules pass link seen dial note pass' link' seen' dial' note' clear low had = never-full g count pass pass' role.Core clear low had.0
+pub link-never-full : {B L : Type 0} (g : Origin B) (ways : Ghosts L) (clocked : List Placed → Type 0) (told count : ℕ) (rules : List Rule) (before after : GuardHolding L) → IsSessionClear count before.pass → count < CONNECTION_LAST
+    → GuardLinkDid g ways clocked told rules before guarded.Full after → ⊥
+link-never-full g ways clocked told count rules before after clear low had = never-full g count before.pass after.pass role.Core clear low had.0

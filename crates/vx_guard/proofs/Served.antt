@@ -12,9 +12,9 @@ use Rattle.vx_text.specs.Ends.{End}
 use Rattle.vx_group.specs.Groups.{Group}
 use Rattle.vx_rules.specs.Calls.{proc_of}
 use Rattle.vx_exchange.specs.Meaning.{Meaning, Junk, Answered, Asks, meaning}
-use Rattle.vx_session.specs.Outside.{DialShown}
+use Rattle.vx_session.specs.Dialing.{DialShown}
 use Rattle.vx_session.specs.Progress.{Clocked, ServesRecord, AnswersCall}
-use Rattle.vx_session.proofs.Recorded.{asks-does}
+use Rattle.vx_session.proofs.Laws.Recorded.{asks-does}
 use Rattle.vx_policy.specs.declared.made.MadeLink.{MadeLink}
 use Rattle.vx_policy.specs.declared.policy.Verdict.{Verdict}
 use Rattle.vx_policy.specs.declared.rules.Rule.{Rule}
@@ -22,7 +22,7 @@ use Rattle.vx_policy.specs.Judging.{judged}
 use Rattle.vx_policy.specs.Targets.{call_target, made_after}
 use Rattle.vx_guard.specs.Judged.{denied_by, denial, learned}
 use Rattle.vx_guard.specs.Noting.{IsNoted}
-use Rattle.vx_guard.specs.Stages.{GuardState, GuardDoes, HasReply, IsDenial, denial_at}
+use Rattle.vx_guard.specs.Stages.{GuardState, GuardDoes, GuardHasReply, IsDenial, denial_at}
 
 allows : (v : Verdict) → v.allow ≡ true → denied_by v ≡ None
 allows v h = rw h refl
@@ -75,7 +75,7 @@ module _ {B C : Type 0} (g : Origin B) (tells : C → ℕ → C → Type 0) (con
         peer = refl;
         later = omega arith;
         has = (
-          subst (HasReply g tells before message reply before) (sym unjudged)
+          subst (GuardHasReply g tells before message reply before) (sym unjudged)
               (record { pass = pass; pass' = pass; had = refl; has = refl; serves = serves }, sym (ap (λ (m : Meaning). learned made m reply) is), refl),
           refl,
         );
@@ -94,7 +94,7 @@ module _ {B C : Type 0} (g : Origin B) (tells : C → ℕ → C → Type 0) (con
         peer = refl;
         later = later;
         has = (
-          subst (HasReply g tells before message reply (state pass' clock' told' dial' made' note failed)) (sym (judge ∙ allows v allow)) (
+          subst (GuardHasReply g tells before message reply (state pass' clock' told' dial' made' note failed)) (sym (judge ∙ allows v allow)) (
             record { pass = pass; pass' = pass'; had = refl; has = refl; serves = asks-does g told' role.Core pass conn message dial tells clock clock' refl xid call reply pass' dial' is answers },
             learns ∙ sym (ap (λ (m : Meaning). learned made m reply) is),
             refl,
@@ -128,7 +128,7 @@ module _ {B C : Type 0} (g : Origin B) (tells : C → ℕ → C → Type 0) (con
         peer = refl;
         later = omega arith;
         has = (
-          subst (HasReply g tells before message (take n room) (state pass clock told dial made note' (failed || false))) (sym (judge ∙ denies v deny))
+          subst (GuardHasReply g tells before message (take n room) (state pass clock told dial made note' (failed || false))) (sym (judge ∙ denies v deny))
               (record { pass = refl; clock = refl; dial = refl; made = refl }, subst (λ (m : Meaning). IsDenial m (take n room)) (sym is) noted.0, noted.1, noted.2),
           stays failed,
         );

@@ -9,7 +9,7 @@ use Rattle.vx_session.specs.Origin.{Origin}
 use Rattle.vx_rules.specs.Calls.{proc_of}
 use Rattle.vx_rules.specs.Effects.{stopped_reply}
 use Rattle.vx_exchange.specs.Meaning.{Meaning, Asks, meaning, reply_record}
-use Rattle.vx_session.specs.Serving.{Item, IsServed}
+use Rattle.vx_session.specs.Serving.{Item, IsSessionServed}
 use Rattle.vx_policy.specs.declared.made.MadeLink.{MadeLink}
 use Rattle.vx_policy.specs.declared.policy.Verdict.{Verdict}
 use Rattle.vx_policy.specs.declared.rules.Rule.{Rule}
@@ -48,7 +48,7 @@ served items = map (λ j. j.served) items
 -- a message that no rule denied was served as each session serves it, and the session knows what it made by it
 abbrev pub IsAllowed : {B : Type 0} → Origin B → (number conn : ℕ) → List MadeLink → Meaning → Item → List MadeLink → Type 0
 IsAllowed g number conn made m item made' =
-    IsServed g number conn m item.placed item.calls item.answered.reply × (made' ≡ learned made m item.answered.reply)
+    IsSessionServed g number conn m item.placed item.calls item.answered.reply × (made' ≡ learned made m item.answered.reply)
 
 -- a call that a rule denied has no group, and its reply says so
 abbrev pub IsDenied : List MadeLink → Meaning → Item → List MadeLink → Type 0

@@ -4,7 +4,7 @@ use Rattle.std.specs.Prelude.{◌≡◌, ◌==◌, ℕ, List, [], ◌++◌, map,
 use mathlib.Core.List.{IsPrefix}
 use Rattle.vx_gate.specs.declared.views.Logged.{Logged}
 use Rattle.vx_gate.specs.History.{groups, made_by}
-use Rattle.vx_group.specs.FineState.{FineState}
+use Rattle.vx_group.specs.InterleavedState.{InterleavedState}
 use Rattle.vx_group.specs.Groups.{Group, StandsFor}
 use Rattle.vx_session.specs.Origin.{Origin}
 use Rattle.vx_session.specs.Progress.{placed}
@@ -17,12 +17,12 @@ abbrev pub numbers_known : List MadeLink → List ℕ
 numbers_known made = map (λ m. m.lid) made
 
 -- the numbers of the links that a connection has in this state
-abbrev pub numbers_had : FineState → ℕ → List ℕ
+abbrev pub numbers_had : InterleavedState → ℕ → List ℕ
 numbers_had f conn = map (λ l. l.number) (filter (λ l. l.connection == conn) f.state.tables.links.links)
 
 -- A moment of a history: `log` is the part before it, for which this state stands. The pass of this number had made its groups before
 -- the session, `own`, and those of these messages, and no more.
-pub record IsMoment (seen : List (Logged Group)) (number : ℕ) (own : List Group) (items : List Judged) (log : List (Logged Group)) (f : FineState) : Type 0 where
+pub record IsMoment (seen : List (Logged Group)) (number : ℕ) (own : List Group) (items : List Judged) (log : List (Logged Group)) (f : InterleavedState) : Type 0 where
   pub begins : IsPrefix log seen
   pub made : made_by number log ≡ own ++ map (λ p. p.group) (placed (served items))
   pub stands : StandsFor f (groups log)
@@ -31,5 +31,5 @@ pub record IsMoment (seen : List (Logged Group)) (number : ℕ) (own : List Grou
 -- that the connection has: `front` are the messages before, `made` the links that it knows by them.
 abbrev pub KnowsLinks : {B : Type 0} → Origin B → (number conn : ℕ) → List Rule → (peer : ℕ) → (own : List Group) → List Judged → (seen : List (Logged Group)) → Type 0
 KnowsLinks g number conn rules peer own items seen =
-    (front later : List Judged) (made : List MadeLink) (log : List (Logged Group)) (f : FineState) → items ≡ front ++ later → Guards g number conn rules peer [] front made
+    (front later : List Judged) (made : List MadeLink) (log : List (Logged Group)) (f : InterleavedState) → items ≡ front ++ later → Guards g number conn rules peer [] front made
     → IsMoment seen number own front log f → numbers_had f conn ≡ numbers_known made

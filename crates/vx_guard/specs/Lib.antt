@@ -28,7 +28,7 @@ pub use Rattle.vx_group.specs.Phases
 pub use Rattle.vx_record.specs.Records
 pub use Rattle.vx_text.specs.Ends
 pub use Rattle.vx_text.specs.Writing
-pub use Rattle.vx_session.specs.Outside
+pub use Rattle.vx_session.specs.Dialing
 pub use Rattle.vx_session.specs.Placing
 pub use Rattle.vx_session.specs.Serving
 pub use Rattle.vx_session.specs.Progress

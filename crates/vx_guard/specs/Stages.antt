@@ -6,7 +6,7 @@ use Rattle.vx_session.specs.Origin.{Origin}
 use Rattle.vx_text.specs.Ends.{End}
 use Rattle.vx_text.specs.Writing.{StopsIn}
 use Rattle.vx_exchange.specs.Meaning.{Meaning, Junk, Asks, meaning}
-use Rattle.vx_session.specs.Progress.{SessionState, IsAnswered}
+use Rattle.vx_session.specs.Progress.{SessionState, IsSessionAnswered}
 use Rattle.vx_policy.specs.declared.made.MadeLink.{MadeLink}
 use Rattle.vx_policy.specs.declared.rules.Rule.{Rule}
 use Rattle.vx_policy.specs.Texts.{deny_line}
@@ -51,16 +51,16 @@ IsDenial (Asks xid call) reply = reply ≡ denied_record xid call
 IsDenial _ reply = ⊥
 
 -- a message with a reply: it was served as each session serves it, or denied, and the line of that went to the note before
-abbrev pub HasReply : {B C : Type 0} → Origin B → (C → ℕ → C → Type 0) → GuardState C → List ℕ → List ℕ → GuardState C → Option ℕ → Type 0
-HasReply g tells s message reply s' None =
-    IsAnswered g tells s.session message reply s'.session × (s'.made ≡ learned s.made (meaning message role.Core) reply) × (s'.note ≡ s.note)
-HasReply g tells s message reply s' (Some rule) =
+abbrev pub GuardHasReply : {B C : Type 0} → Origin B → (C → ℕ → C → Type 0) → GuardState C → List ℕ → List ℕ → GuardState C → Option ℕ → Type 0
+GuardHasReply g tells s message reply s' None =
+    IsSessionAnswered g tells s.session message reply s'.session × (s'.made ≡ learned s.made (meaning message role.Core) reply) × (s'.note ≡ s.note)
+GuardHasReply g tells s message reply s' (Some rule) =
     IsUnasked s s' × IsDenial (meaning message role.Core) reply × Appends s.note.bytes s'.note.bytes (deny_line s.session.conn rule)
     × (s.note.faults ≤ s'.note.faults)
 
 abbrev pub Has : {B C : Type 0} → Origin B → (C → ℕ → C → Type 0) → GuardState C → List ℕ → Option (List ℕ) → GuardState C → Type 0
 Has g tells s message None s' = HasNone s message s'
-Has g tells s message (Some reply) s' = HasReply g tells s message reply s' (denial_at s message) × (s'.failed ≡ s.failed)
+Has g tells s message (Some reply) s' = GuardHasReply g tells s message reply s' (denial_at s message) × (s'.failed ≡ s.failed)
 
 -- what a message on the connection does
 pub record GuardDoes {B C : Type 0} (g : Origin B) (tells : C → ℕ → C → Type 0) (s : GuardState C) (message : List ℕ) (reply : Option (List ℕ)) (s' : GuardState C) : Type 0 where

@@ -12,6 +12,6 @@ mod sessions;
 mod starting;
 mod status;
 
-pub use links::{Guarded, guarded_link};
+pub use links::{Gateway, Guarded, Kit, guarded_link};
 pub use run::guard_run;
 pub use sessions::{GuardEnd, GuardRoom, NoMemory, guarded_session};

@@ -2,8 +2,8 @@
 ghost use Rattle.std.specs.Prelude.{◌≡◌, ◌≤◌};
 ghost use Rattle.vx_session.specs.Origin.{origin};
 ghost use Rattle.vx_door.specs.Going.{Went};
-ghost use Rattle.vx_stream.specs.Shown.{link_shown};
-ghost use Rattle.vx_session.specs.Outside.{dial_shown};
+ghost use Rattle.vx_text.specs.Ends.{sink_shown};
+ghost use Rattle.vx_session.specs.Dialing.{dial_shown};
 ghost use Rattle.vx_session.specs.Progress.{Clocked};
 ghost use Rattle.vx_guard.specs.Linking.{GuardLinkDid, refused_as};
 
@@ -15,10 +15,27 @@ use vx_calls::Role;
 use vx_core::{Connect, Core};
 use vx_door::Peered;
 use vx_gate::{Pass, Turns};
-use vx_group::{headline_law, links_law, owned_law};
+use vx_group::{claims_law, links_law, owned_law};
 use vx_io_traits::{Clock, Dial, Pause, Sink};
 use vx_policy::Policy;
 use vx_session::join;
+
+/// What a gateway's links are served by: the runtime, the memory, and the turns at its gate.
+#[derive(Drop)]
+pub struct Gateway<'a, R, T> {
+    pub rt: &'a R,
+    pub alloc: Global,
+    pub turns: &'a T,
+}
+
+/// What a guard uses for one link after another.
+#[derive(Drop)]
+pub struct Kit<C: Clock + Drop, P: Pause + Drop, D: Dial + Drop> {
+    pub clock: C,
+    pub pause: P,
+    pub dial: D,
+    pub room: GuardRoom,
+}
 
 /// How a guarded link's work ended.
 #[derive(Clone, Copy, PartialEq, Eq)]
@@ -48,42 +65,51 @@ pub fn guarded_link<
     B: Bus,
     T: Turns<Core<B>>,
     L: Peered,
-    C: Clock,
-    P: Pause,
-    D: Dial,
+    C: Clock + Drop,
+    P: Pause + Drop,
+    D: Dial + Drop,
     K: Sink,
 >(
-    rt: &R,
-    alloc: Global,
-    turns: &T,
+    gateway: &Gateway<'_, R, T>,
     pass: Pass<Core<B>>,
     policy: &Policy,
     link: &mut L,
-    clock: &mut C,
-    pause: &mut P,
-    dial: &mut D,
-    room: &mut GuardRoom,
+    kit: &mut Kit<C, P, D>,
     note: &mut K,
 ) -> (Pass<Core<B>>, Guarded)
-    requires gate { pass.gate ≡ T.gate turns.now }
-    ensures did { GuardLinkDid (origin B.Bus (T.first turns.now)) L.stands L.receives L.sends (Clocked C.tells clock.old clock.new) (C.told clock.new) policy.now pass link.old
-        (link_shown L.left L.peers L.receive_faults L.send_faults link.old) (dial_shown D.calls D.faults dial.old)
-        (record { bytes = K.taken note.old; faults = K.faults note.old }) result.1 result.0 link.new
-        (link_shown L.left L.peers L.receive_faults L.send_faults link.new) (dial_shown D.calls D.faults dial.new)
-        (record { bytes = K.taken note.new; faults = K.faults note.new }) }
-    ensures told { C.told clock.old ≤ C.told clock.new }
+    requires gate { pass.gate ≡ T.gate gateway.now.turns.now }
+    ensures did { GuardLinkDid (origin B.Bus (T.first gateway.now.turns.now)) L.Link (Clocked C.tells kit.old.clock kit.new.clock) (C.told kit.new.clock) policy.now
+        (record { pass = pass; link = link.old; dial = dial_shown D.Dial kit.old.dial; note = sink_shown K.Sink note.old }) result.1
+        (record { pass = result.0; link = link.new; dial = dial_shown D.Dial kit.new.dial; note = sink_shown K.Sink note.new }) }
+    ensures told { C.told kit.old.clock ≤ C.told kit.new.clock }
     ensures went { Went L.receives L.sends link.old link.new }
 {
-    headline_law();
+    claims_law();
     owned_law();
     links_law();
-    let (pass, joined) = join(rt, alloc, turns, pass, Role::Core);
+    let (pass, joined) = join(gateway.rt, gateway.alloc, gateway.turns, pass, Role::Core);
     match joined {
         Err(why) => (pass, refused(why)),
         Ok(conn) => {
             pass.order();
+            let Kit {
+                clock,
+                pause,
+                dial,
+                room,
+            } = kit;
             let (pass, end) = guarded_session(
-                rt, turns, pass, conn, policy, link, clock, pause, dial, room, note,
+                gateway.rt,
+                gateway.turns,
+                pass,
+                conn,
+                policy,
+                link,
+                clock,
+                pause,
+                dial,
+                room,
+                note,
             );
             (pass, Guarded::Ended(end))
         }

@@ -1,19 +1,19 @@
 //! All that the program `vxguard` does: the words, the rules, the port, the links that come there, the lines that are printed, and the
 //! status.
 ghost use Rattle.std.specs.Prelude.{◌≡◌, [], map, string_bytes, vec_len};
-ghost use Rattle.vx_door.specs.Shown.{door_shown};
-ghost use Rattle.vx_peers.specs.Asked.{IsInRange};
-ghost use Rattle.vx_stream.specs.Shown.{link_shown};
+ghost use Rattle.vx_peers.specs.Asked.{IsPeerInRange};
+ghost use Rattle.vx_text.specs.Ends.{sink_shown};
 ghost use Rattle.vx_session.specs.Origin.{origin};
 ghost use Rattle.vx_lone.specs.Lone.{handed, lone};
-ghost use Rattle.vx_guard.specs.Outcome.{IsEnd, Works, IsPortRun, IsRuledRun, IsAskRun, IsRun, EndsRun};
-ghost use Rattle.vx_guard.specs.Peers.{CanServe};
+ghost use Rattle.vx_guard.specs.Outcome.{IsEnd, Works, IsPortRun, IsRuledRun, IsGuardAskRun, IsGuardRun, GuardEndsRun, guard_ends};
+ghost use Rattle.vx_guard.specs.Peers.{CanServe, guard_shown};
 
+use crate::links::{Gateway, Kit};
 use crate::reading::{put_line, rules_of};
-use crate::serving::{Kit, Stop, serve_links};
+use crate::serving::{WhyStopped, serve_links};
 use crate::sessions::GuardRoom;
 use crate::starting::start;
-use crate::status::Status;
+use crate::status::GuardStatus;
 use std::alloc::Global;
 use std::marker::Brand;
 use std::sync::Wait;
@@ -29,17 +29,23 @@ use vx_policy::{LINE_ROOM, Policy, served_line};
 use vx_rack::Spare;
 use vx_session::Tools;
 
+/// The runtime of a run, and its memory.
+#[derive(Drop)]
+struct System<'a, R> {
+    rt: &'a R,
+    alloc: Global,
+}
+
 /// Tells how many links were served, where neither the door nor the note failed.
-fn tell<K: Sink>(sink: &mut K, stop: Stop, number: u32) -> Status
-    ensures { IsEnd stop number (record { bytes = K.taken sink.old; faults = K.faults sink.old })
-        (record { bytes = K.taken sink.new; faults = K.faults sink.new }) result }
+fn tell<K: Sink>(sink: &mut K, stop: WhyStopped, number: u32) -> GuardStatus
+    ensures { IsEnd stop number (sink_shown K.Sink sink.old) (sink_shown K.Sink sink.new) result }
 {
     match stop {
-        Stop::Note => Status::SinkFailed,
-        Stop::Door(DoorEnd::Failed) => Status::NetFailed,
-        Stop::Door(DoorEnd::Served | DoorEnd::Ended) => {
+        WhyStopped::Note => GuardStatus::SinkFailed,
+        WhyStopped::Door(DoorEnd::Failed) => GuardStatus::NetFailed,
+        WhyStopped::Door(DoorEnd::Served | DoorEnd::Ended) => {
             let mut out = [0u8; LINE_ROOM];
-            put_line(sink, served_line(number, &mut out), Status::Served)
+            put_line(sink, served_line(number, &mut out), GuardStatus::Served)
         }
     }
 }
@@ -55,34 +61,21 @@ fn serve_open<
     D: Dial + Drop,
     K: Sink,
 >(
-    rt: &R,
-    alloc: Global,
-    turns: &T,
+    gateway: &Gateway<'_, R, T>,
     pass: Pass<Core<B>>,
     policy: &Policy,
     ask: &Ask,
     net: &mut N,
     kit: &mut Kit<C, P, D>,
     sink: &mut K,
-) -> Status
-    requires range { IsInRange ask.now }
-    requires can { CanServe (T.gate turns.now) pass }
+) -> GuardStatus
+    requires range { IsPeerInRange ask.now }
+    requires can { CanServe (T.gate gateway.now.turns.now) pass }
     requires fresh { (pass.seen ≡ []) × (pass.own ≡ []) }
-    ensures { Works (record {
-      bus = origin B.Bus (T.first turns.now);
-      clock = C.tells;
-      stands = N.stands;
-      receives = N.receives;
-      sends = N.sends;
-      tells = N.tells;
-      waits = N.meets;
-      door = door_shown N.met N.ended N.faults N.receive_faults N.send_faults N.left N.peers;
-      link = link_shown N.left N.peers N.receive_faults N.send_faults;
-    }) policy.now ask.now net.old net.new
-        (record { bytes = K.taken sink.old; faults = K.faults sink.old })
-        (record { bytes = K.taken sink.new; faults = K.faults sink.new }) result }
+    ensures { Works (guard_shown (origin B.Bus (T.first gateway.now.turns.now)) C.Clock N.Link N.Door) policy.now ask.now net.old net.new
+        (sink_shown K.Sink sink.old) (sink_shown K.Sink sink.new) result }
 {
-    let (_, stop, number) = serve_links(rt, alloc, turns, pass, policy, ask.number, net, kit, sink);
+    let (_, stop, number) = serve_links(gateway, pass, policy, ask.number, net, kit, sink);
     tell(sink, stop, number)
 }
 
@@ -98,36 +91,23 @@ fn run_gate<
     D: Dial + Drop,
     K: Sink,
 >(
-    rt: &R,
-    alloc: Global,
-    turns: &T,
+    gateway: &Gateway<'_, R, T>,
     pass: Pass<Core<B>>,
     policy: &Policy,
     ask: &Ask,
     net: &mut N,
     kit: &mut Kit<C, P, D>,
     sink: &mut K,
-) -> Status
-    requires range { IsInRange ask.now }
-    requires can { CanServe (T.gate turns.now) pass }
+) -> GuardStatus
+    requires range { IsPeerInRange ask.now }
+    requires can { CanServe (T.gate gateway.now.turns.now) pass }
     requires fresh { (pass.seen ≡ []) × (pass.own ≡ []) }
-    ensures { IsPortRun (record {
-      bus = origin B.Bus (T.first turns.now);
-      clock = C.tells;
-      stands = N.stands;
-      receives = N.receives;
-      sends = N.sends;
-      tells = N.tells;
-      waits = N.meets;
-      door = door_shown N.met N.ended N.faults N.receive_faults N.send_faults N.left N.peers;
-      link = link_shown N.left N.peers N.receive_faults N.send_faults;
-    }) policy.now (record { opens = N.opens; ready = N.is_ready }) ask.now net.old net.new
-        (record { bytes = K.taken sink.old; faults = K.faults sink.old })
-        (record { bytes = K.taken sink.new; faults = K.faults sink.new }) result }
+    ensures { IsPortRun (guard_shown (origin B.Bus (T.first gateway.now.turns.now)) C.Clock N.Link N.Door) policy.now (record { opens = N.opens; ready = N.is_ready }) ask.now net.old net.new
+        (sink_shown K.Sink sink.old) (sink_shown K.Sink sink.new) result }
 {
     match net.open(ask.port) {
-        DialOut::Failed => Status::NetFailed,
-        DialOut::Up => serve_open(rt, alloc, turns, pass, policy, ask, net, kit, sink),
+        DialOut::Failed => GuardStatus::NetFailed,
+        DialOut::Up => serve_open(gateway, pass, policy, ask, net, kit, sink),
     }
 }
 
@@ -147,140 +127,92 @@ fn kit_of<X: Tools>(alloc: Global, tools: &mut X) -> Option<Kit<X::C, X::P, X::D
 /// Does what is asked by these rules. All memory but that for a connection is taken before the port is opened. `M` names the rack.
 #[tactic(auto, using(crate::proofs::Runs::ruled_run))]
 fn run_racked<R: Wait, N: Door + Peered, X: Tools, K: Sink, I: Instrument, M: Racked>(
-    rt: &R,
-    alloc: Global,
+    system: &System<'_, R>,
     ask: &Ask,
     policy: &Policy,
     net: &mut N,
     tools: &mut X,
     sink: &mut K,
     rack: Vec<Spare<I>>,
-) -> Status
-    requires range { IsInRange ask.now }
+) -> GuardStatus
+    requires range { IsPeerInRange ask.now }
     requires rack { vec_len rack ≡ 1 }
     requires racked { M.rack ≡ handed (λ i. I.behaves i) (λ i. I.nature i) rack.items }
-    ensures { IsRuledRun (λ first. record {
-      bus = origin (lone M.rack) first;
-      clock = X.C.tells;
-      stands = N.stands;
-      receives = N.receives;
-      sends = N.sends;
-      tells = N.tells;
-      waits = N.meets;
-      door = door_shown N.met N.ended N.faults N.receive_faults N.send_faults N.left N.peers;
-      link = link_shown N.left N.peers N.receive_faults N.send_faults;
-    }) policy.now (record { opens = N.opens; ready = N.is_ready }) ask.now net.old net.new
-        (record { bytes = K.taken sink.old; faults = K.faults sink.old })
-        (record { bytes = K.taken sink.new; faults = K.faults sink.new }) result }
+    ensures { IsRuledRun (λ first. guard_shown (origin (lone M.rack) first) X.C.Clock N.Link N.Door) policy.now (record { opens = N.opens; ready = N.is_ready }) ask.now net.old net.new
+        (sink_shown K.Sink sink.old) (sink_shown K.Sink sink.new) result }
 {
-    let Some(mut kit) = kit_of(alloc, tools) else {
-        return Status::NoMemory;
+    let Some(mut kit) = kit_of(system.alloc, tools) else {
+        return GuardStatus::NoMemory;
     };
-    match start::<I, M>(alloc, rack) {
-        Some((gate, pass)) => run_gate(rt, alloc, &gate, pass, policy, ask, net, &mut kit, sink),
-        None => Status::NoMemory,
+    match start::<I, M>(system.alloc, rack) {
+        Some((gate, pass)) => {
+            let gateway = Gateway {
+                rt: system.rt,
+                alloc: system.alloc,
+                turns: &gate,
+            };
+            run_gate(&gateway, pass, policy, ask, net, &mut kit, sink)
+        }
+        None => GuardStatus::NoMemory,
     }
 }
 
 /// Does what is asked by these rules, over a bus with the spare of the rack.
 fn run_ruled<R: Wait, N: Door + Peered, X: Tools, K: Sink, I: Instrument>(
-    rt: &R,
-    alloc: Global,
+    system: &System<'_, R>,
     ask: &Ask,
     policy: &Policy,
     net: &mut N,
     tools: &mut X,
     sink: &mut K,
     rack: Vec<Spare<I>>,
-) -> Status
-    requires range { IsInRange ask.now }
+) -> GuardStatus
+    requires range { IsPeerInRange ask.now }
     requires rack { vec_len rack ≡ 1 }
-    ensures { IsRuledRun (λ first. record {
-      bus = origin (lone (handed (λ i. I.behaves i) (λ i. I.nature i) rack.items)) first;
-      clock = X.C.tells;
-      stands = N.stands;
-      receives = N.receives;
-      sends = N.sends;
-      tells = N.tells;
-      waits = N.meets;
-      door = door_shown N.met N.ended N.faults N.receive_faults N.send_faults N.left N.peers;
-      link = link_shown N.left N.peers N.receive_faults N.send_faults;
-    }) policy.now (record { opens = N.opens; ready = N.is_ready }) ask.now net.old net.new
-        (record { bytes = K.taken sink.old; faults = K.faults sink.old })
-        (record { bytes = K.taken sink.new; faults = K.faults sink.new }) result }
+    ensures { IsRuledRun (λ first. guard_shown (origin (lone (handed (λ i. I.behaves i) (λ i. I.nature i) rack.items)) first) X.C.Clock N.Link N.Door) policy.now (record { opens = N.opens; ready = N.is_ready }) ask.now net.old net.new
+        (sink_shown K.Sink sink.old) (sink_shown K.Sink sink.new) result }
 {
-    run_racked::<R, N, X, K, I, Brand>(rt, alloc, ask, policy, net, tools, sink, rack)
+    run_racked::<R, N, X, K, I, Brand>(system, ask, policy, net, tools, sink, rack)
 }
 
 /// Reads the rules, and does what is asked by them.
 fn run_ask<R: Wait, N: Door + Peered, X: Tools, S: Source, K: Sink, I: Instrument>(
-    rt: &R,
-    alloc: Global,
+    system: &System<'_, R>,
     ask: &Ask,
     rules: &mut S,
     net: &mut N,
     tools: &mut X,
     sink: &mut K,
     rack: Vec<Spare<I>>,
-) -> Status
-    requires range { IsInRange ask.now }
+) -> GuardStatus
+    requires range { IsPeerInRange ask.now }
     requires rack { vec_len rack ≡ 1 }
-    ensures { IsAskRun (λ first. record {
-      bus = origin (lone (handed (λ i. I.behaves i) (λ i. I.nature i) rack.items)) first;
-      clock = X.C.tells;
-      stands = N.stands;
-      receives = N.receives;
-      sends = N.sends;
-      tells = N.tells;
-      waits = N.meets;
-      door = door_shown N.met N.ended N.faults N.receive_faults N.send_faults N.left N.peers;
-      link = link_shown N.left N.peers N.receive_faults N.send_faults;
-    }) (record { opens = N.opens; ready = N.is_ready }) ask.now net.old net.new
-        (record {
-          source = record { bytes = S.left rules.old; faults = S.faults rules.old };
-          source_after = record { bytes = S.left rules.new; faults = S.faults rules.new };
-          sink = record { bytes = K.taken sink.old; faults = K.faults sink.old };
-          sink_after = record { bytes = K.taken sink.new; faults = K.faults sink.new };
-        }) result }
+    ensures { IsGuardAskRun (λ first. guard_shown (origin (lone (handed (λ i. I.behaves i) (λ i. I.nature i) rack.items)) first) X.C.Clock N.Link N.Door) (record { opens = N.opens; ready = N.is_ready }) ask.now net.old net.new
+        (guard_ends S.Source K.Sink rules.old rules.new sink.old sink.new) result }
 {
-    match rules_of(alloc, rules, sink) {
-        Ok(policy) => run_ruled(rt, alloc, ask, &policy, net, tools, sink, rack),
+    match rules_of(system.alloc, rules, sink) {
+        Ok(policy) => run_ruled(system, ask, &policy, net, tools, sink, rack),
         Err(how) => how,
     }
 }
 
+/// Does what the words ask.
 fn run<R: Wait, N: Door + Peered, X: Tools, S: Source, K: Sink, I: Instrument>(
-    rt: &R,
-    alloc: Global,
+    system: &System<'_, R>,
     words: &[String],
     rules: &mut S,
     net: &mut N,
     tools: &mut X,
     sink: &mut K,
     rack: Vec<Spare<I>>,
-) -> Status
+) -> GuardStatus
     requires rack { vec_len rack ≡ 1 }
-    ensures { IsRun (λ first. record {
-      bus = origin (lone (handed (λ i. I.behaves i) (λ i. I.nature i) rack.items)) first;
-      clock = X.C.tells;
-      stands = N.stands;
-      receives = N.receives;
-      sends = N.sends;
-      tells = N.tells;
-      waits = N.meets;
-      door = door_shown N.met N.ended N.faults N.receive_faults N.send_faults N.left N.peers;
-      link = link_shown N.left N.peers N.receive_faults N.send_faults;
-    }) (record { opens = N.opens; ready = N.is_ready }) (map string_bytes words.now) net.old net.new
-        (record {
-          source = record { bytes = S.left rules.old; faults = S.faults rules.old };
-          source_after = record { bytes = S.left rules.new; faults = S.faults rules.new };
-          sink = record { bytes = K.taken sink.old; faults = K.faults sink.old };
-          sink_after = record { bytes = K.taken sink.new; faults = K.faults sink.new };
-        }) result }
+    ensures { IsGuardRun (λ first. guard_shown (origin (lone (handed (λ i. I.behaves i) (λ i. I.nature i) rack.items)) first) X.C.Clock N.Link N.Door) (record { opens = N.opens; ready = N.is_ready }) (map string_bytes words.now) net.old net.new
+        (guard_ends S.Source K.Sink rules.old rules.new sink.old sink.new) result }
 {
     match ask_of(words) {
-        Some(ask) => run_ask(rt, alloc, &ask, rules, net, tools, sink, rack),
-        None => put_line(sink, b"usage: vxguard PORT N\n", Status::Usage),
+        Some(ask) => run_ask(system, &ask, rules, net, tools, sink, rack),
+        None => put_line(sink, b"usage: vxguard PORT N\n", GuardStatus::Usage),
     }
 }
 
@@ -316,23 +248,9 @@ pub fn guard_run<R: Wait, N: Door + Peered, X: Tools, S: Source, K: Sink, I: Ins
     rack: Vec<Spare<I>>,
 ) -> u8
     requires rack { vec_len rack ≡ 1 }
-    ensures { EndsRun (λ first. record {
-      bus = origin (lone (handed (λ i. I.behaves i) (λ i. I.nature i) rack.items)) first;
-      clock = X.C.tells;
-      stands = N.stands;
-      receives = N.receives;
-      sends = N.sends;
-      tells = N.tells;
-      waits = N.meets;
-      door = door_shown N.met N.ended N.faults N.receive_faults N.send_faults N.left N.peers;
-      link = link_shown N.left N.peers N.receive_faults N.send_faults;
-    }) (record { opens = N.opens; ready = N.is_ready }) (map string_bytes words.now) net.old net.new
-        (record {
-          source = record { bytes = S.left rules.old; faults = S.faults rules.old };
-          source_after = record { bytes = S.left rules.new; faults = S.faults rules.new };
-          sink = record { bytes = K.taken sink.old; faults = K.faults sink.old };
-          sink_after = record { bytes = K.taken sink.new; faults = K.faults sink.new };
-        }) result }
+    ensures { GuardEndsRun (λ first. guard_shown (origin (lone (handed (λ i. I.behaves i) (λ i. I.nature i) rack.items)) first) X.C.Clock N.Link N.Door) (record { opens = N.opens; ready = N.is_ready }) (map string_bytes words.now) net.old net.new
+        (guard_ends S.Source K.Sink rules.old rules.new sink.old sink.new) result }
 {
-    run(rt, alloc, words, rules, net, tools, sink, rack).number()
+    let system = System { rt, alloc };
+    run(&system, words, rules, net, tools, sink, rack).number()
 }

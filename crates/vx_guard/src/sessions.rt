@@ -5,9 +5,9 @@ ghost use Rattle.vx_door.specs.Going.{Went};
 ghost use Rattle.vx_calls.specs.declared.calls.Role.TheVariants as role;
 ghost use Rattle.vx_group.specs.Phases.{Idle};
 ghost use Rattle.vx_session.specs.Turning.{phase_at};
-ghost use Rattle.vx_session.specs.Outside.{dial_shown};
-ghost use Rattle.vx_stream.specs.Shown.{link_shown};
+ghost use Rattle.vx_session.specs.Dialing.{dial_shown};
 ghost use Rattle.vx_door.specs.Peering.{IsPeer};
+ghost use Rattle.vx_text.specs.Ends.{sink_shown};
 ghost use Rattle.vx_session.specs.Progress.{Clocked};
 ghost use Rattle.vx_guard.specs.Wholes.{GuardDid, guard_end};
 
@@ -16,18 +16,15 @@ use std::alloc::Global;
 use std::marker::Model;
 use std::sync::Wait;
 use vx_bus_traits::Bus;
-use vx_calls::RECORD_MAX;
+use vx_calls::Role;
 use vx_core::Core;
 use vx_door::Peered;
-use vx_exchange::REPLY_ROOM;
 use vx_gate::{Pass, Turns};
-use vx_group::{headline_law, links_law, owned_law};
+use vx_group::{claims_law, links_law, owned_law};
 use vx_io_traits::{Clock, Dial, Pause, Sink};
-use vx_policy::{Made, Policy, replies_read, texts_name};
-use vx_record::RecordBuf;
-use vx_rooms::called_law;
-use vx_session::leave;
-use vx_stream::{End, answer_stream};
+use vx_policy::{KnownLinks, Policy, replies_read, texts_name};
+use vx_session::{Room, Worker, called_law, leave};
+use vx_stream::End;
 
 /// There was no memory for the room.
 #[derive(Clone, Copy, Debug, PartialEq, Eq)]
@@ -42,54 +39,33 @@ pub enum GuardEnd {
     NoteFault,
 }
 
-/// How many bytes are received at once, at most.
-const PIECE: usize = 4096;
-
 /// The room of one guarded session at a time, which may be used again by the next: for the record that comes in, a piece of the
 /// stream, a reply, and the links that the session made. A session takes no memory besides.
 #[derive(Drop)]
 pub struct GuardRoom {
-    incoming: RecordBuf,
-    piece: Vec<u8>,
-    reply: Vec<u8>,
-    made: Made,
+    room: Room,
+    made: KnownLinks,
 }
 
 impl Model for GuardRoom {
-    ghost use Rattle.std.specs.Prelude.{◌≡◌, ⊤, length};
-    ghost use Rattle.vx_calls.specs.declared.limits.TheConstants.{RECORD_MAX};
-    ghost use Rattle.vx_exchange.specs.declared.record.TheConstants.{REPLY_ROOM};
-    ghost use Rattle.vx_guard.specs.declared.sessions.TheConstants.{PIECE};
+    ghost use Rattle.std.specs.Prelude.{⊤};
 
     // nothing of it matters to who uses it
     ghost Value = { ⊤ };
 
     ghost view = { λ _. tt };
-
-    ghost invariant = { λ r. (r.incoming.limit ≡ RECORD_MAX) × (length r.piece.items ≡ PIECE) × (length r.reply.items ≡ REPLY_ROOM) };
 }
 
 impl GuardRoom {
     /// Makes the room of a session.
     pub fn new(alloc: Global) -> Result<GuardRoom, NoMemory> {
-        let Ok(incoming) = RecordBuf::new(alloc, RECORD_MAX) else {
+        let Ok(room) = Room::new(alloc) else {
             return Err(NoMemory);
         };
-        let Ok(piece) = vec![in alloc; 0; PIECE] else {
+        let Ok(made) = KnownLinks::new(alloc) else {
             return Err(NoMemory);
         };
-        let Ok(reply) = vec![in alloc; 0; REPLY_ROOM] else {
-            return Err(NoMemory);
-        };
-        let Ok(made) = Made::new(alloc) else {
-            return Err(NoMemory);
-        };
-        Ok(GuardRoom {
-            incoming,
-            piece,
-            reply,
-            made,
-        })
+        Ok(GuardRoom { room, made })
     }
 }
 
@@ -133,36 +109,32 @@ pub fn guarded_session<
 ) -> (Pass<Core<B>>, GuardEnd)
     requires gate { pass.gate ≡ T.gate turns.now }
     requires phase { phase_at pass conn ≡ Idle role.Core }
-    ensures did { (peer : ℕ) × IsPeer (L.peers link.old) peer × GuardDid (origin B.Bus (T.first turns.now)) L.stands L.receives L.sends (Clocked C.tells clock.old clock.new) (C.told clock.new) policy.now peer conn pass link.old
-        (link_shown L.left L.peers L.receive_faults L.send_faults link.old) (dial_shown D.calls D.faults dial.old)
-        (record { bytes = K.taken note.old; faults = K.faults note.old }) result.1 result.0 link.new
-        (link_shown L.left L.peers L.receive_faults L.send_faults link.new) (dial_shown D.calls D.faults dial.new)
-        (record { bytes = K.taken note.new; faults = K.faults note.new }) }
+    ensures did { (peer : ℕ) × IsPeer (L.peers link.old) peer × GuardDid (origin B.Bus (T.first turns.now)) L.Link (Clocked C.tells clock.old clock.new) (C.told clock.new) policy.now peer conn
+        (record { pass = pass; link = link.old; dial = dial_shown D.Dial dial.old; note = sink_shown K.Sink note.old }) result.1
+        (record { pass = result.0; link = link.new; dial = dial_shown D.Dial dial.new; note = sink_shown K.Sink note.new }) }
     ensures told { C.told clock.old ≤ C.told clock.new }
     ensures went { Went L.receives L.sends link.old link.new }
 {
-    headline_law();
+    claims_law();
     owned_law();
     links_law();
     called_law::<B>();
     replies_read();
     texts_name();
     pass.order();
-    let GuardRoom {
-        incoming,
-        piece,
-        reply,
-        made,
-    } = room;
-    incoming.restart();
+    let GuardRoom { room, made } = room;
     made.clear();
+    let worker = Worker {
+        rt,
+        turns,
+        conn,
+        role: Role::Core,
+    };
     let peer = link.peer();
     let mut held = Some(pass);
     let server = Guarding {
-        rt,
-        turns,
+        worker: &worker,
         held: &mut held,
-        conn,
         policy,
         peer,
         made,
@@ -172,14 +144,7 @@ pub fn guarded_session<
         note,
         failed: false,
     };
-    let (Guarding { failed, .. }, end) = answer_stream(
-        rt,
-        server,
-        link,
-        incoming,
-        piece.as_mut_slice(),
-        reply.as_mut_slice(),
-    );
+    let (Guarding { failed, .. }, end) = room.answer(rt, server, link);
     let how = guard_end(failed, end);
     let Some(pass) = held else { unreachable!() };
     (leave(rt, turns, pass, conn), how)

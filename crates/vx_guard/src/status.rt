@@ -1,10 +1,10 @@
 //! How a run of a guard ends.
 ghost use Rattle.std.specs.Prelude.{◌≡◌};
-ghost use Rattle.vx_guard.specs.Outcome.{status_number};
+ghost use Rattle.vx_guard.specs.Outcome.{guard_status_number};
 
 /// How a run ended, as the program's exit status tells it.
 #[derive(Clone, Copy, PartialEq, Eq)]
-pub(crate) enum Status {
+pub(crate) enum GuardStatus {
     /// 0: as many links were served as were asked for, or no more come.
     Served,
     /// 1: the words have another form.
@@ -21,19 +21,19 @@ pub(crate) enum Status {
     SourceFailed,
 }
 
-impl Status {
+impl GuardStatus {
     /// The exit status.
     pub(crate) fn number(self) -> u8
-        ensures { result ≡ status_number self }
+        ensures { result ≡ guard_status_number self }
     {
         match self {
-            Status::Served => 0,
-            Status::Usage => 1,
-            Status::PolicyFault => 2,
-            Status::NetFailed => 3,
-            Status::NoMemory => 5,
-            Status::SinkFailed => 6,
-            Status::SourceFailed => 7,
+            GuardStatus::Served => 0,
+            GuardStatus::Usage => 1,
+            GuardStatus::PolicyFault => 2,
+            GuardStatus::NetFailed => 3,
+            GuardStatus::NoMemory => 5,
+            GuardStatus::SinkFailed => 6,
+            GuardStatus::SourceFailed => 7,
         }
     }
 }

@@ -2,7 +2,8 @@
 use Rattle.std.proofs.Common.{◌≡◌, ◌≢◌, ℕ, suc, ◌+◌, ◌-◌, ◌<◌, ◌≤◌, ◌==◌, nat_lt, Bool, true, false, cond, not, List, [], ◌∷◌, ◌++◌, length, take, drop, get_or, Some, None, refl, sym, ap, ◌∙◌, subst, arith, length-drop, length-take}
 use Rattle.std.proofs.lemmas.Bool.{ltb-true, ltb-false, eqb-true, ne_eqb}
 use Rattle.std.specs.List.{onto_first, position, position_or_len}
-use Rattle.vx_lemmas.specs.Conditions.{unchosen}
+use Rattle.std.proofs.lemmas.Option.{same_Some}
+use Rattle.vx_lemmas.proofs.Laws.Conditions.{chosen, unchosen}
 use Rattle.vx_text.specs.TextLines.{lines}
 use Rattle.vx_history.specs.Shown.{onto_whole, whole_lines}
 use Rattle.vx_history.specs.Walking.{IsFirstLine}
@@ -43,16 +44,11 @@ lines_none : (xs : List ℕ) → length xs ≤ end_or_len xs → whole_lines xs 
 lines_none [] le = refl
 lines_none (x ∷ xs) le = none_more x xs (x == 10) (end_or_len xs) refl (lines_none xs) le
 
--- the value of a choice that is there
-chosen : (b : Bool) (m n : ℕ) → cond b (Some m) None ≡ Some n → (b ≡ true) × (m ≡ n)
-chosen true m n e = (refl, cc)
-chosen false m n e = absurd (cc)
-
 -- the first line of a text with an LF
 pub lines-found : (xs : List ℕ) (n : ℕ) → position (λ byte. byte == 10) xs ≡ Some n → IsCut xs n
 lines-found xs n e =
-    let at = chosen (nat_lt (end_or_len xs) (length xs)) (end_or_len xs) n e in
-    subst (IsCut xs) at.1 (lines_found xs (ltb-true _ _ at.0))
+    let at = chosen (nat_lt (end_or_len xs) (length xs)) (Some (end_or_len xs)) n e in
+    subst (IsCut xs) (same_Some (end_or_len xs) n at.1) (lines_found xs (ltb-true _ _ at.0))
 
 -- a text without an LF
 pub lines-none : (xs : List ℕ) → position (λ byte. byte == 10) xs ≡ None → whole_lines xs ≡ []

@@ -6,7 +6,7 @@ use Rattle.std.proofs.lemmas.Bool.{false≢true, and_parts, and_left, and_right}
 use Rattle.std.proofs.lemmas.Option.{same_Some, some_pair_parts}
 use Rattle.std.proofs.lemmas.List.Elements.{All-head, All-tail}
 use Rattle.std.proofs.lemmas.List.Sums.{count_by-le-length}
-use Rattle.vx_lemmas.specs.Conditions.{passes}
+use Rattle.vx_lemmas.proofs.Laws.Conditions.{passes}
 use Rattle.vx_calls.specs.declared.limits.TheConstants.{WRITE_MAX}
 use Rattle.vx_calls.specs.declared.codes.ErrorCode.{ErrorCode}
 use Rattle.vx_calls.specs.declared.codes.ErrorCode.TheVariants as code
@@ -17,6 +17,7 @@ use Rattle.vx_calls.specs.Call.{Call}
 use Rattle.vx_calls.specs.Call as call
 use Rattle.vx_calls.specs.Reply.{Reply}
 use Rattle.vx_calls.specs.Reply as reply
+use Rattle.vx_calls.proofs.Laws.{number-small}
 use Rattle.vx_488.specs.declared.transfers.Transfer.{Transfer}
 use Rattle.vx_488.specs.declared.transfers.Transfer.TheVariants as transfer
 use Rattle.vx_488.specs.declared.wire.Wire.{Wire}
@@ -27,7 +28,7 @@ use Rattle.vx_plan.specs.declared.tasks.TheConstants.{TURN_MAX}
 use Rattle.vx_plan.specs.Roles.{has_role}
 use Rattle.vx_plan.specs.Transfers.{got_of}
 use Rattle.vx_plan.specs.Results.{gots, bytes_got, last_of, last_got, puts_made, is_put, status_got, status_number, flag_number, two_bytes, read_reason, whole_reply}
-use Rattle.vx_plan.specs.ProvedLaws.{bound-law}
+use Rattle.vx_plan.proofs.Laws.{bound-law}
 use Rattle.vx_trace.specs.Text.{IsByteTransfer}
 use Rattle.vx_rules.specs.Table.{Link}
 use Rattle.vx_rules.specs.State.{Pending, Tables, pending_at}
@@ -35,15 +36,15 @@ use Rattle.vx_rules.specs.Calls.{proc_of, is_bus_call, asks_dial, bytes_of, is_b
 use Rattle.vx_rules.specs.Docmd.{Command, BusStatus, command_of, command_task, number_in, takes_input, takes_number, SendCommand, AtnControl, RenControl, PassControl, BusAddress, IfcControl}
 use Rattle.vx_rules.specs.Checks.{NamedLink, NoLink, DeadLink, OnLink, named_link, is_interface, check_command, check_on, check}
 use Rattle.vx_rules.specs.Effects.{task_on, task_of, stopped_reply, create, effect}
-use Rattle.vx_rules.specs.Decide.{Outside, is_nothing, level_fits}
-use Rattle.vx_rules.specs.ProvedLaws.{bus-job, few_bytes}
-use Rattle.vx_flow.specs.FineState.{Turn, FineState, turn_of, moves_of}
-use Rattle.vx_flow.specs.Fine.{job_of, wire_for, outside}
+use Rattle.vx_rules.specs.Decide.{BusInput, is_nothing, level_fits}
+use Rattle.vx_rules.proofs.Laws.{bus-job, few_bytes}
+use Rattle.vx_flow.specs.InterleavedState.{Turn, InterleavedState, turn_of, moves_of}
+use Rattle.vx_flow.specs.InterleavedStep.{job_of, wire_for, bus_input}
 use Rattle.vx_flow.specs.Sound.{Stands, TurnStands, IsSound}
 use Rattle.vx_flow.specs.Does.{IsStill, Stops, IsClear, IsDialed, HasTurn, IsDone, AnsweredBy, ByAbort, ByNoLink, ByCheck, ByBar, ByDialUp, ByDialDown, ByEffect, ByNoRole, ByFault, ByWhole, ByTimeout}
-use Rattle.vx_flow.specs.ProvedLaws.{turn-is, turn-own}
-use Rattle.vx_flow.specs.ProvedLaws.Jobs.{job-link}
-use Rattle.vx_flow.specs.ProvedLaws.Making.{nothing-is}
+use Rattle.vx_flow.proofs.Laws.{turn-is, turn-own}
+use Rattle.vx_flow.proofs.Laws.Jobs.{job-link}
+use Rattle.vx_flow.proofs.Laws.Making.{nothing-is}
 use Rattle.vx_exchange.specs.Doing.{reply_error}
 use Rattle.vx_history.specs.CheckState.{tells_level, bus_status, selects_level}
 use Rattle.vx_history.specs.Saying.{ends_turn, level_in}
@@ -78,10 +79,6 @@ status-small ts bytes = by (last_got ts) (last-small None ts tt bytes) where
   by (Some g) h = h
 
 -- ---- errors
-
-pub number-small : (e : ErrorCode) → error_number e < 2 ^ 32
-number-small code.Ok = omega arith
-number-small _ = omega arith
 
 -- an error that neither a fault of the bus nor the time of a turn gives
 record Plain (e : ErrorCode) : Type 0 where
@@ -371,27 +368,27 @@ effect-says t own conn NoLink _ told after next port is = cc
 -- ---- the turn of a connection's own call
 
 -- whether it is under way
-abbrev pub has_own : FineState → ℕ → Bool
+abbrev pub has_own : InterleavedState → ℕ → Bool
 has_own f conn = is_some (turn_of f.turn conn)
 
--- what holds of a fine state, with the transfers of its turn, which are bytes, and its port
-pub record IsBounded (f : FineState) : Type 0 where
+-- what holds of an interleaved state, with the transfers of its turn, which are bytes, and its port
+pub record IsBounded (f : InterleavedState) : Type 0 where
   pub sound : IsSound f
   pub bytes : (u : Turn) → f.turn ≡ Some u → All IsByteTransfer u.moves
   pub port : f.state.tables.abort_port < 2 ^ 32
 
-own-turn : (f : FineState) (conn : ℕ) → has_own f conn ≡ true → (u : Turn) × (turn_of f.turn conn ≡ Some u)
+own-turn : (f : InterleavedState) (conn : ℕ) → has_own f conn ≡ true → (u : Turn) × (turn_of f.turn conn ≡ Some u)
 own-turn f conn h = by (turn_of f.turn conn) refl h where
   by : (o : Option Turn) → turn_of f.turn conn ≡ o → is_some o ≡ true → (u : Turn) × (turn_of f.turn conn ≡ Some u)
   by None e h = absurd (false≢true h)
   by (Some u) e h = (u, e)
 
 -- what holds of it
-pub stands-own : (f : FineState) (u : Turn) → IsSound f → f.turn ≡ Some u → Stands f.state.tables f.before f.state.wire f.state.moment u
+pub stands-own : (f : InterleavedState) (u : Turn) → IsSound f → f.turn ≡ Some u → Stands f.state.tables f.before f.state.wire f.state.moment u
 stands-own f u sound is = subst (TurnStands f.state.tables f.before f.state.wire f.state.moment) is sound.turn_stands
 
 -- it is that of a bus call
-pub own-bus : (f : FineState) (conn : ℕ) (p : Pending) → IsSound f → pending_at f.state.tables conn ≡ Some p → has_own f conn ≡ true → is_bus_call p.call ≡ true
+pub own-bus : (f : InterleavedState) (conn : ℕ) (p : Pending) → IsSound f → pending_at f.state.tables conn ≡ Some p → has_own f conn ≡ true → is_bus_call p.call ≡ true
 own-bus f conn p sound at h =
     let own = own-turn f conn h in
     let parts = turn-is f.turn conn own.0 own.1 in
@@ -407,7 +404,7 @@ turn-few t before now m u st = by (is_nothing u.moves) refl where
       bound-law st.job (bytes_of st.asked.call) before.polling before.own u.moves
       (few_bytes t before.own st.link st.asked.call (st.passes e).checked) st.on_plan
 
-moves-few : (f : FineState) (conn : ℕ) → IsSound f → length (moves_of (turn_of f.turn conn)) < 2 ^ 32
+moves-few : (f : InterleavedState) (conn : ℕ) → IsSound f → length (moves_of (turn_of f.turn conn)) < 2 ^ 32
 moves-few f conn sound = by (turn_of f.turn conn) refl where
   by : (o : Option Turn) → turn_of f.turn conn ≡ o → length (moves_of o) < 2 ^ 32
   by None e = omega arith
@@ -418,7 +415,7 @@ moves-few f conn sound = by (turn_of f.turn conn) refl where
 -- ---- answers
 
 -- what an answer tells of itself
-pub record TellsOf (f : FineState) (conn : ℕ) (p : Pending) (failed : Bool) (dialed : Option Bool) (level : Bool) (told : Reply) : Type 0 where
+pub record TellsOf (f : InterleavedState) (conn : ℕ) (p : Pending) (failed : Bool) (dialed : Option Bool) (level : Bool) (told : Reply) : Type 0 where
   pub form : form_of (proc_of p.call) ≡ reply_form told
   pub fits : ReplyFits told
   pub failed_is : (same_error (reply_error told) code.BusFault && has_own f conn) ≡ failed
@@ -435,7 +432,7 @@ turn-with c e ts own h = by (is_bus_call c) refl where
   by true is = ap (λ r. ends_turn (error_number r) && not own) (stopped-error c e ts is) ∙ h is
 
 -- a call that was stopped
-stopped-tells : (f : FineState) (conn : ℕ) (p : Pending) (failed : Bool) (e : ErrorCode) (ts : List Transfer) → length ts < 2 ^ 32
+stopped-tells : (f : InterleavedState) (conn : ℕ) (p : Pending) (failed : Bool) (e : ErrorCode) (ts : List Transfer) → length ts < 2 ^ 32
     → (same_error (reply_error (stopped_reply p.call e ts)) code.BusFault && has_own f conn) ≡ failed
     → (is_bus_call p.call ≡ true → (ends_turn (error_number e) && not (has_own f conn)) ≡ false)
     → TellsOf f conn p failed None false (stopped_reply p.call e ts)
@@ -449,7 +446,7 @@ stopped-tells f conn p failed e ts few fails ends = record {
 }
 
 -- a call that was refused, with an error that a turn doesn't give
-refused-tells : (f : FineState) (conn : ℕ) (p : Pending) (e : ErrorCode) (ts : List Transfer) → IsSound f → pending_at f.state.tables conn ≡ Some p → length ts < 2 ^ 32
+refused-tells : (f : InterleavedState) (conn : ℕ) (p : Pending) (e : ErrorCode) (ts : List Transfer) → IsSound f → pending_at f.state.tables conn ≡ Some p → length ts < 2 ^ 32
     → (is_bus_call p.call ≡ true → Plain e) → TellsOf f conn p false None false (stopped_reply p.call e ts)
 refused-tells f conn p e ts sound at few plain =
     stopped-tells f conn p false e ts few (by (has_own f conn) refl) (λ bus. and_left _ _ (plain bus).not_end)
@@ -459,7 +456,7 @@ refused-tells f conn p e ts sound at few plain =
     by true is = and_left _ true (stopped-fault p.call e ts (plain (own-bus f conn p sound at is)).not_fault)
 
 -- a still answer is told as one
-still-tells : (f : FineState) (conn : ℕ) (p : Pending) (o : Outside) (told : Reply) → IsStill o → TellsOf f conn p false None false told
+still-tells : (f : InterleavedState) (conn : ℕ) (p : Pending) (o : BusInput) (told : Reply) → IsStill o → TellsOf f conn p false None false told
     → TellsOf f conn p o.failed o.dialed o.level told
 still-tells f conn p o told still h =
     subst (λ failed. TellsOf f conn p failed o.dialed o.level told) (sym still.held)
@@ -467,7 +464,7 @@ still-tells f conn p o told still h =
     (subst (λ level. TellsOf f conn p false None level told) (sym still.untold) h))
 
 -- a dial that was settled
-dial-tells : (f : FineState) (conn : ℕ) (p : Pending) (o : Outside) (up : Bool) (e : ErrorCode) → IsDialed f conn p o up
+dial-tells : (f : InterleavedState) (conn : ℕ) (p : Pending) (o : BusInput) (up : Bool) (e : ErrorCode) → IsDialed f conn p o up
     → same_error e code.BusFault ≡ false → TellsOf f conn p o.failed o.dialed o.level (reply.Error e)
 dial-tells f conn p o up e d fault =
     subst (λ failed. TellsOf f conn p failed o.dialed o.level (reply.Error e)) (sym d.held)
@@ -481,20 +478,20 @@ dial-tells f conn p o up e d fault =
     }))
 
 -- the check of a call that is clear to go on, on its link
-clear-check : (f : FineState) (conn now : ℕ) (p : Pending) (l : Link) → IsClear f conn false p now → named_link f.state.tables conn p.call ≡ OnLink l
+clear-check : (f : InterleavedState) (conn now : ℕ) (p : Pending) (l : Link) → IsClear f conn false p now → named_link f.state.tables conn p.call ≡ OnLink l
     → check_on f.state.tables (wire_for f conn).own l p.call ≡ None
 clear-check f conn now p l clear on =
     subst (λ about. check f.state.tables (wire_for f conn).own conn false about p.call ≡ None) on clear.admitted.checked
 
 -- the own turn is under way
-has-turn : (f : FineState) (conn : ℕ) (p : Pending) (h : HasTurn f conn p) → turn_of f.turn conn ≡ Some h.turn
+has-turn : (f : InterleavedState) (conn : ℕ) (p : Pending) (h : HasTurn f conn p) → turn_of f.turn conn ≡ Some h.turn
 has-turn f conn p h = turn-own f.turn conn h.turn h.under_way h.of_call
 
 -- the bus that the call is measured on is that of its turn's beginning
-own-wire : (f : FineState) (conn : ℕ) → has_own f conn ≡ true → wire_for f conn ≡ f.before
+own-wire : (f : InterleavedState) (conn : ℕ) → has_own f conn ≡ true → wire_for f conn ≡ f.before
 own-wire f conn h = ap (λ own. cond own f.before f.state.wire) h
 
-whole-tells : (f : FineState) (conn now : ℕ) (p : Pending) (o : Outside) (told : Reply) (after : Tables) → IsBounded f → IsClear f conn false p now
+whole-tells : (f : InterleavedState) (conn now : ℕ) (p : Pending) (o : BusInput) (told : Reply) (after : Tables) → IsBounded f → IsClear f conn false p now
     → (d : IsDone f conn p o told after) → TellsOf f conn p o.failed o.dialed o.level told
 whole-tells f conn now p o told after b clear d =
     let t = f.state.tables in
@@ -514,7 +511,7 @@ whole-tells f conn now p o told after b clear d =
       dialed_so = λ up h. cc (d.undialed, h);
     }))
 
-effect-tells : (f : FineState) (conn : ℕ) (p : Pending) (o : Outside) (told : Reply) (after : Tables) → IsBounded f → is_bus_call p.call ≡ false → IsStill o
+effect-tells : (f : InterleavedState) (conn : ℕ) (p : Pending) (o : BusInput) (told : Reply) (after : Tables) → IsBounded f → is_bus_call p.call ≡ false → IsStill o
     → effect f.state.tables (wire_for f conn).own conn (named_link f.state.tables conn p.call) p.call ≡ Some (told, after)
     → TellsOf f conn p o.failed o.dialed o.level told
 effect-tells f conn p o told after b bus still h =
@@ -530,7 +527,7 @@ effect-tells f conn p o told after b bus still h =
     })
 
 -- the gateway hasn't the role, and so no turn of the call is under way
-roleless : (f : FineState) (conn : ℕ) (p : Pending) (job : Task) → IsSound f → pending_at f.state.tables conn ≡ Some p → job_of f.state.tables conn p ≡ Some job
+roleless : (f : InterleavedState) (conn : ℕ) (p : Pending) (job : Task) → IsSound f → pending_at f.state.tables conn ≡ Some p → job_of f.state.tables conn p ≡ Some job
     → has_role job (wire_for f conn) ≡ false → has_own f conn ≡ false
 roleless f conn p job sound at is out = by (has_own f conn) refl where
   by : (b : Bool) → has_own f conn ≡ b → b ≡ false
@@ -546,14 +543,14 @@ roleless f conn p job sound at is out = by (has_own f conn) refl where
       absurd (false≢true (sym out ∙ ap (has_role job) (own-wire f conn e) ∙ ap (λ j. has_role j f.before) one ∙ st.in_role))
 
 -- each line's answer tells so much of itself
-pub answer-tells : (f : FineState) (conn now : ℕ) (p : Pending) (failed : Bool) (dialed : Option Bool) (level : Bool) (told : Reply) (after : Tables) → IsBounded f
-    → pending_at f.state.tables conn ≡ Some p → AnsweredBy f conn now p (outside f conn failed dialed level) told after → TellsOf f conn p failed dialed level told
+pub answer-tells : (f : InterleavedState) (conn now : ℕ) (p : Pending) (failed : Bool) (dialed : Option Bool) (level : Bool) (told : Reply) (after : Tables) → IsBounded f
+    → pending_at f.state.tables conn ≡ Some p → AnsweredBy f conn now p (bus_input f conn failed dialed level) told after → TellsOf f conn p failed dialed level told
 answer-tells f conn now p failed dialed level told after b at line = by line where
   t : Tables
   t = f.state.tables
 
-  o : Outside
-  o = outside f conn failed dialed level
+  o : BusInput
+  o = bus_input f conn failed dialed level
 
   few : length o.moves < 2 ^ 32
   few = moves-few f conn b.sound

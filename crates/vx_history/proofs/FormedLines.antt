@@ -4,16 +4,15 @@ use Rattle.std.specs.List.{All}
 use Rattle.std.proofs.lemmas.Bool.{and_right, and_from, cond-true, cond-false, le-ltb}
 use Rattle.std.proofs.lemmas.Option.{same_Some, cond_some}
 use Rattle.std.proofs.lemmas.List.Elements.{All-cons, All-nil}
-use Rattle.vx_lemmas.specs.Conditions.{eqb-self}
-use Rattle.vx_lemmas.specs.Options.{mapped, gone_on}
-use Rattle.vx_lemmas.specs.Lists.{found_passes}
+use Rattle.vx_lemmas.proofs.Laws.Conditions.{eqb-self}
+use Rattle.vx_lemmas.proofs.Laws.Options.{mapped, gone_on}
+use Rattle.vx_lemmas.proofs.Laws.Lists.{found_passes}
 use Rattle.vx_calls.specs.declared.codes.ErrorCode.{ErrorCode}
 use Rattle.vx_calls.specs.ErrorCode.{error_number}
 use Rattle.vx_calls.specs.Call.{Call}
 use Rattle.vx_calls.specs.Reply.{Reply}
 use Rattle.vx_calls.specs.Reply as reply
 use Rattle.vx_488.specs.declared.transfers.Transfer.{Transfer}
-use Rattle.vx_488.specs.declared.wire.Wire.{Wire}
 use Rattle.vx_record.specs.Fragments.{record_of, last_header}
 use Rattle.vx_rpc.specs.Wording.{success_message}
 use Rattle.vx_codec.specs.Answered.{Outcome}
@@ -21,15 +20,15 @@ use Rattle.vx_codec.specs.Answered as told
 use Rattle.vx_trace.specs.Output.{Output}
 use Rattle.vx_trace.specs.Output as line
 use Rattle.vx_trace.specs.Text.{IsByteTransfer, is_timed}
-use Rattle.vx_rules.specs.State.{Pending, Tables, pending_at}
+use Rattle.vx_rules.specs.State.{Pending, pending_at}
 use Rattle.vx_rules.specs.Calls.{proc_of, is_bus_call, asks_dial}
 use Rattle.vx_flow.specs.Event.{Event, Arrive, Answer, Begin, Move, Dial}
-use Rattle.vx_flow.specs.FineState.{Turn, FineState, before_turn, turn_of}
-use Rattle.vx_flow.specs.Fine.{fine, wire_before}
-use Rattle.vx_flow.specs.Sound.{TurnStands}
+use Rattle.vx_flow.specs.InterleavedState.{Turn, InterleavedState, before_turn, turn_of}
+use Rattle.vx_flow.specs.InterleavedStep.{interleaved_step}
 use Rattle.vx_flow.specs.Does.{IsAnswered}
 use Rattle.vx_flow.specs.Poll.{at_moment}
-use Rattle.vx_flow.specs.ProvedLaws.{fine-does, fine-frame, later-sound, turn-own}
+use Rattle.vx_flow.proofs.Laws.Kept.{same-before}
+use Rattle.vx_flow.proofs.Laws.{interleaved-does, interleaved-frame, later-sound, turn-own}
 use Rattle.vx_exchange.specs.Meaning.{reply_record}
 use Rattle.vx_exchange.specs.Doing.{reply_error}
 use Rattle.vx_history.specs.Shown.{Timed}
@@ -48,7 +47,7 @@ abbrev pub line_at : ℕ → Output → Timed
 line_at now line = record { moment = now; line = line }
 
 -- a line whose moment isn't before that of an earlier one is taken as what it says
-pub takes-line : (f : FineState) (k : ℕ) (kept : List Kept) (m : ℕ) (next : Next) (now : ℕ) (line : Output) → is_timed line ≡ true → m ≤ now
+pub takes-line : (f : InterleavedState) (k : ℕ) (kept : List Kept) (m : ℕ) (next : Next) (now : ℕ) (line : Output) → is_timed line ≡ true → m ≤ now
     → takes (here f k kept m next) (Some (line_at now line)) ≡ taken_so (here f k kept now next) (says (here f k kept now next) next line)
 takes-line f k kept m next now line has past =
     cond-false (is_timed line && nat_lt now m) _ _ (and_right (is_timed line) (nat_lt now m) (le-ltb now m past))
@@ -58,8 +57,8 @@ same-moment : (now : ℕ) → now ≤ now
 same-moment now = omega arith
 
 -- an event of a line happens
-pub event-led : (f g : FineState) (k : ℕ) (kept : List Kept) (m now : ℕ) (xids later : ℕ → ℕ) (line : Output) (e : Event) → StandsFor f xids now k kept m → IsOwn line
-    → free_says (here f k kept now Free) line ≡ Happens e → fine f e ≡ Some g → MovesBytes e → KeptSo g (kept_after kept e) later
+pub event-led : (f g : InterleavedState) (k : ℕ) (kept : List Kept) (m now : ℕ) (xids later : ℕ → ℕ) (line : Output) (e : Event) → StandsFor f xids now k kept m → IsOwn line
+    → free_says (here f k kept now Free) line ≡ Happens e → interleaved_step f e ≡ Some g → MovesBytes e → KeptSo g (kept_after kept e) later
     → Led f k kept m now later (line ∷ []) (e ∷ []) g
 event-led f g k kept m now xids later line e st own said h moved so =
     let hap = happened f g k (kept_after kept e) now e st.fit.bounded.sound st.early h in
@@ -75,8 +74,8 @@ event-led f g k kept m now xids later line e st own said h moved so =
     }
 
 -- a line says that a call comes
-pub comes-led : (f g : FineState) (k : ℕ) (kept : List Kept) (m now : ℕ) (xids later : ℕ → ℕ) (line : Output) (conn xid : ℕ) (asked : Call) → StandsFor f xids now k kept m
-    → IsOwn line → free_says (here f k kept now Free) line ≡ Comes conn xid asked → fine f (Arrive conn asked now) ≡ Some g
+pub comes-led : (f g : InterleavedState) (k : ℕ) (kept : List Kept) (m now : ℕ) (xids later : ℕ → ℕ) (line : Output) (conn xid : ℕ) (asked : Call) → StandsFor f xids now k kept m
+    → IsOwn line → free_says (here f k kept now Free) line ≡ Comes conn xid asked → interleaved_step f (Arrive conn asked now) ≡ Some g
     → KeptSo g (kept_with kept (kept_of conn xid asked)) later → Led f k kept m now later (line ∷ []) (Arrive conn asked now ∷ []) g
 comes-led f g k kept m now xids later line conn xid asked st own said h so =
     let now_kept = kept_with kept (kept_of conn xid asked) in
@@ -94,7 +93,7 @@ comes-led f g k kept m now xids later line conn xid asked st own said h so =
     }
 
 -- a line says nothing that happens
-pub quiet-led : (f : FineState) (k : ℕ) (kept : List Kept) (m now : ℕ) (xids : ℕ → ℕ) (line : Output) → StandsFor f xids now k kept m → IsOwn line
+pub quiet-led : (f : InterleavedState) (k : ℕ) (kept : List Kept) (m now : ℕ) (xids : ℕ → ℕ) (line : Output) → StandsFor f xids now k kept m → IsOwn line
     → free_says (here f k kept now Free) line ≡ Quiet Free → Led f k kept m now xids (line ∷ []) [] f
 quiet-led f k kept m now xids line st own said = record {
   earlier = k;
@@ -108,8 +107,8 @@ quiet-led f k kept m now xids line st own said = record {
 }
 
 -- a line asks something of the line behind it, of which an event happens
-pub pair-led : (f g : FineState) (k : ℕ) (kept : List Kept) (m now : ℕ) (xids later : ℕ → ℕ) (first second : Output) (next : Next) (e : Event) → StandsFor f xids now k kept m
-    → IsOwn first → IsOwn second → free_says (here f k kept now Free) first ≡ Quiet next → says (here f k kept now next) next second ≡ Happens e → fine f e ≡ Some g
+pub pair-led : (f g : InterleavedState) (k : ℕ) (kept : List Kept) (m now : ℕ) (xids later : ℕ → ℕ) (first second : Output) (next : Next) (e : Event) → StandsFor f xids now k kept m
+    → IsOwn first → IsOwn second → free_says (here f k kept now Free) first ≡ Quiet next → says (here f k kept now next) next second ≡ Happens e → interleaved_step f e ≡ Some g
     → MovesBytes e → KeptSo g (kept_after kept e) later → Led f k kept m now later (first ∷ second ∷ []) (e ∷ []) g
 pair-led f g k kept m now xids later first second next e st own also asks said h moved so =
     let hap = happened f g k (kept_after kept e) now e st.fit.bounded.sound st.early h in
@@ -132,7 +131,7 @@ pair-led f g k kept m now xids later first second next e st own also asks said h
     }
 
 -- or of which nothing happens
-pub pair-quiet : (f : FineState) (k : ℕ) (kept : List Kept) (m now : ℕ) (xids : ℕ → ℕ) (first second : Output) (next : Next) → StandsFor f xids now k kept m
+pub pair-quiet : (f : InterleavedState) (k : ℕ) (kept : List Kept) (m now : ℕ) (xids : ℕ → ℕ) (first second : Output) (next : Next) → StandsFor f xids now k kept m
     → IsOwn first → IsOwn second → free_says (here f k kept now Free) first ≡ Quiet next → says (here f k kept now next) next second ≡ Quiet Free
     → Led f k kept m now xids (first ∷ second ∷ []) [] f
 pair-quiet f k kept m now xids first second next st own also asks said = record {
@@ -153,7 +152,7 @@ pair-quiet f k kept m now xids first second next st own also asks said = record 
 }
 
 -- what leads to a state leads to one that only differs in its moment and its dials
-pub led-same : (f g h : FineState) (k : ℕ) (kept : List Kept) (m now : ℕ) (xids : ℕ → ℕ) (lines : List Output) (es : List Event)
+pub led-same : (f g h : InterleavedState) (k : ℕ) (kept : List Kept) (m now : ℕ) (xids : ℕ → ℕ) (lines : List Output) (es : List Event)
     → (first : Led f k kept m now xids lines es g) → before_turn g first.earlier ≡ before_turn h first.earlier → g.turn ≡ h.turn
     → StandsFor h xids now first.earlier first.later_kept first.seen → Led f k kept m now xids lines es h
 led-same f g h k kept m now xids lines es first state turn stands = record {
@@ -170,7 +169,7 @@ led-same f g h k kept m now xids lines es first state turn stands = record {
 }
 
 -- a state stands at a later moment of the gateway
-pub stands-later : (f : FineState) (xids : ℕ → ℕ) (now k : ℕ) (kept : List Kept) (m at : ℕ) → f.state.moment ≤ at → StandsFor f xids now k kept m
+pub stands-later : (f : InterleavedState) (xids : ℕ → ℕ) (now k : ℕ) (kept : List Kept) (m at : ℕ) → f.state.moment ≤ at → StandsFor f xids now k kept m
     → StandsFor (at_moment f at) xids now k kept m
 stands-later f xids now k kept m at late st =
     let early = st.early in
@@ -237,7 +236,7 @@ reply-error xid bytes outcome r h =
     told-error outcome found.0 found.1 ∙ ap (λ x. error_number (reply_error x)) same.1
 
 -- the record of a reply is read as the answer that it is
-pub answer-reads : ReplyLaw → (f : FineState) (k : ℕ) (kept : List Kept) (now : ℕ) (next : Next) (conn xid : ℕ) (p : Pending) (failed : Bool) (dialed : Option Bool)
+pub answer-reads : ReplyLaw → (f : InterleavedState) (k : ℕ) (kept : List Kept) (now : ℕ) (next : Next) (conn xid : ℕ) (p : Pending) (failed : Bool) (dialed : Option Bool)
     (level : Bool) (r : Reply) → pending_at f.state.tables conn ≡ Some p → xid_at kept conn ≡ xid → level_at kept conn ≡ tells_level p.call
     → TellsOf f conn p failed dialed level r
     → answer_says (here f k kept now next) conn dialed (reply_record xid r) (pending_at f.state.tables conn) ≡ Happens (Answer conn now failed dialed level r)
@@ -258,11 +257,11 @@ answer-reads law f k kept now next conn xid p failed dialed level r at xid_is le
     ∙ ap (λ b. Happens (Answer conn now failed dialed b r)) tells.level_is
 
 -- the answer to a call, of which no dial was made
-pub out-led : ReplyLaw → (f g : FineState) (k : ℕ) (kept : List Kept) (m now : ℕ) (xids : ℕ → ℕ) (conn : ℕ) (failed level : Bool) (r : Reply)
-    → StandsFor f xids now k kept m → fine f (Answer conn now failed None level r) ≡ Some g
+pub out-led : ReplyLaw → (f g : InterleavedState) (k : ℕ) (kept : List Kept) (m now : ℕ) (xids : ℕ → ℕ) (conn : ℕ) (failed level : Bool) (r : Reply)
+    → StandsFor f xids now k kept m → interleaved_step f (Answer conn now failed None level r) ≡ Some g
     → Led f k kept m now xids (line.Out conn (reply_record (xids conn) r) ∷ []) (Answer conn now failed None level r ∷ []) g
 out-led law f g k kept m now xids conn failed level r st h =
-    let a : IsAnswered f conn now _ r g = (fine-does f g (Answer conn now failed None level r) h).step in
+    let a : IsAnswered f conn now _ r g = (interleaved-does f g (Answer conn now failed None level r) h).step in
     let tells = answer-tells f conn now a.asked failed None level r a.after st.fit.bounded a.call_at a.line in
     let so = st.kept_so conn a.asked a.call_at in
     event-led f g k kept m now xids xids (line.Out conn (reply_record (xids conn) r)) (Answer conn now failed None level r) st (reply-own conn (xids conn) r)
@@ -270,11 +269,11 @@ out-led law f g k kept m now xids conn failed level r st h =
     (kept-answer f g conn now failed None level r kept xids h st.kept_so)
 
 -- the answer to a call of which a dial was made
-pub dial-led : ReplyLaw → (f g : FineState) (k : ℕ) (kept : List Kept) (m now : ℕ) (xids : ℕ → ℕ) (conn : ℕ) (failed up level : Bool) (r : Reply)
-    → StandsFor f xids now k kept m → fine f (Answer conn now failed (Some up) level r) ≡ Some g
+pub dial-led : ReplyLaw → (f g : InterleavedState) (k : ℕ) (kept : List Kept) (m now : ℕ) (xids : ℕ → ℕ) (conn : ℕ) (failed up level : Bool) (r : Reply)
+    → StandsFor f xids now k kept m → interleaved_step f (Answer conn now failed (Some up) level r) ≡ Some g
     → Led f k kept m now xids (line.DialDone conn up ∷ line.Out conn (reply_record (xids conn) r) ∷ []) (Answer conn now failed (Some up) level r ∷ []) g
 dial-led law f g k kept m now xids conn failed up level r st h =
-    let a : IsAnswered f conn now _ r g = (fine-does f g (Answer conn now failed (Some up) level r) h).step in
+    let a : IsAnswered f conn now _ r g = (interleaved-does f g (Answer conn now failed (Some up) level r) h).step in
     let tells = answer-tells f conn now a.asked failed (Some up) level r a.after st.fit.bounded a.call_at a.line in
     let so = st.kept_so conn a.asked a.call_at in
     pair-led f g k kept m now xids xids (line.DialDone conn up) (line.Out conn (reply_record (xids conn) r)) (Dialed conn up) (Answer conn now failed (Some up) level r) st
@@ -286,36 +285,32 @@ dial-led law f g k kept m now xids conn failed up level r st h =
 -- ---- turns
 
 -- a turn begins
-pub begin-led : (f g : FineState) (k : ℕ) (kept : List Kept) (m now : ℕ) (xids : ℕ → ℕ) (conn : ℕ) → StandsFor f xids now k kept m → fine f (Begin conn now) ≡ Some g
+pub begin-led : (f g : InterleavedState) (k : ℕ) (kept : List Kept) (m now : ℕ) (xids : ℕ → ℕ) (conn : ℕ) → StandsFor f xids now k kept m → interleaved_step f (Begin conn now) ≡ Some g
     → Led f k kept m now xids (line.Begin conn ∷ []) (Begin conn now ∷ []) g
 begin-led f g k kept m now xids conn st h =
-    let b = (fine-does f g (Begin conn now) h).step in
+    let b = (interleaved-does f g (Begin conn now) h).step in
     event-led f g k kept m now xids xids (line.Begin conn) (Begin conn now) st (record { whole = tt; is_timed = refl })
     (happens-so (is_some (pending_at f.state.tables conn) && is_none f.turn) (Begin conn now)
     (and_from _ _ (ap is_some b.call_at) (ap (λ (t : Option Turn). is_none t) b.no_turn))) h tt
     (kept-same f g (Begin conn now) kept xids h refl st.kept_so)
 
 -- it makes transfers
-pub move-led : (f g : FineState) (k : ℕ) (kept : List Kept) (m now : ℕ) (xids : ℕ → ℕ) (conn : ℕ) (moves : List Transfer) → StandsFor f xids now k kept m
-    → fine f (Move conn moves) ≡ Some g → 0 < length moves → All IsByteTransfer moves → Led f k kept m now xids (line.Bus conn moves ∷ []) (Move conn moves ∷ []) g
+pub move-led : (f g : InterleavedState) (k : ℕ) (kept : List Kept) (m now : ℕ) (xids : ℕ → ℕ) (conn : ℕ) (moves : List Transfer) → StandsFor f xids now k kept m
+    → interleaved_step f (Move conn moves) ≡ Some g → 0 < length moves → All IsByteTransfer moves → Led f k kept m now xids (line.Bus conn moves ∷ []) (Move conn moves ∷ []) g
 move-led f g k kept m now xids conn moves st h some bytes =
-    let b = (fine-does f g (Move conn moves) h).step in
+    let b = (interleaved-does f g (Move conn moves) h).step in
     event-led f g k kept m now xids xids (line.Bus conn moves) (Move conn moves) st (record { whole = some; is_timed = refl })
     (happens-so (is_some (turn_of f.turn conn)) (Move conn moves) (ap is_some (turn-own f.turn conn b.turn b.under_way b.of_call))) h bytes
     (kept-same f g (Move conn moves) kept xids h refl st.kept_so)
 
 -- ---- dials that are asked for
 
-before-same : (t : Tables) (before now : Wire) (m : ℕ) (turn : Option Turn) → TurnStands t before now m turn → wire_before turn now before ≡ before
-before-same t before now m None st = sym st
-before-same t before now m (Some u) st = refl
-
 -- a call waits for a dial: nothing is told of it, and the gateway of one thread stays
-pub wait_dial-led : (f g : FineState) (k : ℕ) (kept : List Kept) (m now : ℕ) (xids : ℕ → ℕ) (conn : ℕ) → StandsFor f xids now k kept m → fine f (Dial conn now) ≡ Some g
+pub wait_dial-led : (f g : InterleavedState) (k : ℕ) (kept : List Kept) (m now : ℕ) (xids : ℕ → ℕ) (conn : ℕ) → StandsFor f xids now k kept m → interleaved_step f (Dial conn now) ≡ Some g
     → Led f k kept m now xids (line.WaitDial conn ∷ []) [] g
 wait_dial-led f g k kept m now xids conn st h =
-    let d = (fine-does f g (Dial conn now) h).step in
-    let frame = fine-frame f g (Dial conn now) h in
+    let d = (interleaved-does f g (Dial conn now) h).step in
+    let frame = interleaved-frame f g (Dial conn now) h in
     let late = frame.late in
     let own : IsOwn (line.WaitDial conn) = record { whole = tt; is_timed = refl } in
     let said : free_says (here f k kept now Free) (line.WaitDial conn) ≡ Quiet Free = quiet-so (is_some (pending_at f.state.tables conn)) (ap is_some d.call_at) in
@@ -324,8 +319,8 @@ wait_dial-led f g k kept m now xids conn st h =
     let soon = fits.early in
     led-same f f g k kept m now xids (line.WaitDial conn ∷ []) [] first
     (ap (λ w. record { tables = f.state.tables; wire = w; moment = first.earlier })
-    (sym (before-same f.state.tables f.before f.state.wire f.state.moment f.turn st.fit.bounded.sound.turn_stands))
-    ∙ ap (λ (x : FineState). before_turn x first.earlier) (sym d.leads)) (sym frame.turn_is)
+    (sym (same-before f.state.tables f.before f.state.wire f.state.moment f.turn st.fit.bounded.sound.turn_stands))
+    ∙ ap (λ (x : InterleavedState). before_turn x first.earlier) (sym d.leads)) (sym frame.turn_is)
     (record {
       fit = fit-step f g (Dial conn now) st.fit h tt;
       early = omega (arith, soon, late);

@@ -7,15 +7,15 @@ use Rattle.vx_488.specs.declared.transfers.Transfer.{Transfer}
 use Rattle.vx_trace.specs.Output.{Output}
 use Rattle.vx_trace.specs.Text.{HasRanges}
 use Rattle.vx_rules.specs.Lists.{along}
-use Rattle.vx_rules.specs.ListLaws.{along-none, along-append}
+use Rattle.vx_rules.proofs.Laws.Lists.{along-none, along-append}
 use Rattle.vx_rules.specs.State.{pending_at}
 use Rattle.vx_flow.specs.Event.{Event, Answer, Begin, Move, Dial}
-use Rattle.vx_flow.specs.FineState.{FineState}
-use Rattle.vx_flow.specs.Fine.{fine}
+use Rattle.vx_flow.specs.InterleavedState.{InterleavedState}
+use Rattle.vx_flow.specs.InterleavedStep.{interleaved_step}
 use Rattle.vx_flow.specs.Poll.{Ending, Answered, Waited, Dialed, begins, moved_events, end_events, is_broken, at_moment}
 use Rattle.vx_flow.specs.declared.progress.Why.{Why}
 use Rattle.vx_flow.specs.declared.progress.Why.TheVariants as why
-use Rattle.vx_flow.specs.ProvedLaws.{fine-frame}
+use Rattle.vx_flow.proofs.Laws.{interleaved-frame}
 use Rattle.vx_run.specs.Item.{noted}
 use Rattle.vx_run.specs.RunText.{event_lines}
 use Rattle.vx_run.specs.Notes.{poll_line, wait_line}
@@ -36,12 +36,12 @@ abbrev pub told_of : List Event → List Event
 told_of es = filter is_told es
 
 -- a walk along two lists of events, one behind the other
-pub split-along : (f g : FineState) (xs ys : List Event) → along fine (Some f) (xs ++ ys) ≡ Some g
-    → (mid : FineState) × (along fine (Some f) xs ≡ Some mid) × (along fine (Some mid) ys ≡ Some g)
-split-along f g xs ys h = by (along fine (Some f) xs) refl (sym (along-append fine (Some f) xs ys) ∙ h) where
-  by : (o : Option FineState) → along fine (Some f) xs ≡ o → along fine o ys ≡ Some g
-      → (mid : FineState) × (along fine (Some f) xs ≡ Some mid) × (along fine (Some mid) ys ≡ Some g)
-  by None e k = absurd (none-some g (sym (along-none fine ys) ∙ k))
+pub split-along : (f g : InterleavedState) (xs ys : List Event) → along interleaved_step (Some f) (xs ++ ys) ≡ Some g
+    → (mid : InterleavedState) × (along interleaved_step (Some f) xs ≡ Some mid) × (along interleaved_step (Some mid) ys ≡ Some g)
+split-along f g xs ys h = by (along interleaved_step (Some f) xs) refl (sym (along-append interleaved_step (Some f) xs ys) ∙ h) where
+  by : (o : Option InterleavedState) → along interleaved_step (Some f) xs ≡ o → along interleaved_step o ys ≡ Some g
+      → (mid : InterleavedState) × (along interleaved_step (Some f) xs ≡ Some mid) × (along interleaved_step (Some mid) ys ≡ Some g)
+  by None e k = absurd (none-some g (sym (along-none interleaved_step ys) ∙ k))
   by (Some mid) e k = (mid, e, k)
 
 -- what holds of each of two lists
@@ -64,33 +64,33 @@ some-more : (t : Transfer) (ts : List Transfer) → 0 < length (t ∷ ts)
 some-more t ts = omega arith
 
 -- a part of a poll: its lines, and what it leaves
-record Part (f : FineState) (k : ℕ) (kept : List Kept) (m now : ℕ) (xids : ℕ → ℕ) (lines : List Output) (es : List Event) (g : FineState) : Type 0 where
+record Part (f : InterleavedState) (k : ℕ) (kept : List Kept) (m now : ℕ) (xids : ℕ → ℕ) (lines : List Output) (es : List Event) (g : InterleavedState) : Type 0 where
   led : Led f k kept m now xids lines es g
   same : g.state.tables ≡ f.state.tables
   late : g.state.moment ≤ now
 
 -- nothing happens
-nothing-part : (f g : FineState) (k : ℕ) (kept : List Kept) (m now : ℕ) (xids : ℕ → ℕ) → StandsFor f xids now k kept m → f.state.moment ≤ now → f ≡ g
+nothing-part : (f g : InterleavedState) (k : ℕ) (kept : List Kept) (m now : ℕ) (xids : ℕ → ℕ) → StandsFor f xids now k kept m → f.state.moment ≤ now → f ≡ g
     → Part f k kept m now xids [] [] g
 nothing-part f g k kept m now xids st late same =
     subst (Part f k kept m now xids [] []) same (record { led = led-none f k kept m now xids st; same = refl; late = late })
 
 -- the turn begins, where it does
-begun-part : (f g : FineState) (k : ℕ) (kept : List Kept) (m now : ℕ) (xids : ℕ → ℕ) (conn : ℕ) (b : Bool) → StandsFor f xids now k kept m → f.state.moment ≤ now
-    → along fine (Some f) (cond b (Begin conn now ∷ []) []) ≡ Some g
+begun-part : (f g : InterleavedState) (k : ℕ) (kept : List Kept) (m now : ℕ) (xids : ℕ → ℕ) (conn : ℕ) (b : Bool) → StandsFor f xids now k kept m → f.state.moment ≤ now
+    → along interleaved_step (Some f) (cond b (Begin conn now ∷ []) []) ≡ Some g
     → Part f k kept m now xids (lines_of (cond b (Begin conn now ∷ []) [])) (told_of (cond b (Begin conn now ∷ []) [])) g
 begun-part f g k kept m now xids conn true st late h =
-    let frame = fine-frame f g (Begin conn now) h in
+    let frame = interleaved-frame f g (Begin conn now) h in
     record { led = begin-led f g k kept m now xids conn st h; same = frame.tables; late = same-now g.state.moment now frame.moment_is }
 begun-part f g k kept m now xids conn false st late h = nothing-part f g k kept m now xids st late (same_Some f g h)
 
 -- it makes transfers, where it makes any
-moved-part : (f g : FineState) (k : ℕ) (kept : List Kept) (m now : ℕ) (xids : ℕ → ℕ) (conn : ℕ) (moves : List Transfer) → StandsFor f xids now k kept m
-    → f.state.moment ≤ now → along fine (Some f) (moved_events conn moves) ≡ Some g → Each HasRanges (lines_of (moved_events conn moves))
+moved-part : (f g : InterleavedState) (k : ℕ) (kept : List Kept) (m now : ℕ) (xids : ℕ → ℕ) (conn : ℕ) (moves : List Transfer) → StandsFor f xids now k kept m
+    → f.state.moment ≤ now → along interleaved_step (Some f) (moved_events conn moves) ≡ Some g → Each HasRanges (lines_of (moved_events conn moves))
     → Part f k kept m now xids (lines_of (moved_events conn moves)) (told_of (moved_events conn moves)) g
 moved-part f g k kept m now xids conn [] st late h ranges = nothing-part f g k kept m now xids st late (same_Some f g h)
 moved-part f g k kept m now xids conn (t ∷ ts) st late h ranges =
-    let frame = fine-frame f g (Move conn (t ∷ ts)) h in
+    let frame = interleaved-frame f g (Move conn (t ∷ ts)) h in
     record {
       led = move-led f g k kept m now xids conn (t ∷ ts) st h (some-more t ts) ranges.0.1;
       same = frame.tables;
@@ -104,7 +104,7 @@ wait-own conn (why.Turn by) = record { whole = tt; is_timed = refl }
 wait-own conn why.Held = record { whole = tt; is_timed = refl }
 wait-own conn why.Slice = record { whole = tt; is_timed = refl }
 
-wait-says : (f : FineState) (k : ℕ) (kept : List Kept) (now conn : ℕ) (w : Why) → is_some (pending_at f.state.tables conn) ≡ true
+wait-says : (f : InterleavedState) (k : ℕ) (kept : List Kept) (now conn : ℕ) (w : Why) → is_some (pending_at f.state.tables conn) ≡ true
     → free_says (here f k kept now Free) (wait_line conn w) ≡ Quiet Free
 wait-says f k kept now conn (why.Locked link) has = quiet-so (is_some (pending_at f.state.tables conn)) has
 wait-says f k kept now conn (why.Behind by) has = quiet-so (is_some (pending_at f.state.tables conn)) has
@@ -113,23 +113,23 @@ wait-says f k kept now conn why.Held has = quiet-so (is_some (pending_at f.state
 wait-says f k kept now conn why.Slice has = quiet-so (is_some (pending_at f.state.tables conn)) has
 
 -- the end of a poll
-record EndPart (f : FineState) (k : ℕ) (kept : List Kept) (m now : ℕ) (xids : ℕ → ℕ) (lines : List Output) (es : List Event) (g : FineState) : Type 0 where
+record EndPart (f : InterleavedState) (k : ℕ) (kept : List Kept) (m now : ℕ) (xids : ℕ → ℕ) (lines : List Output) (es : List Event) (g : InterleavedState) : Type 0 where
   led : Led f k kept m now xids lines es g
   late : g.state.moment ≤ now
 
-end-part : ReplyLaw → (f g : FineState) (k : ℕ) (kept : List Kept) (m now : ℕ) (xids : ℕ → ℕ) (conn : ℕ) (ending : Ending) → StandsFor f xids now k kept m
-    → f.state.moment ≤ now → is_some (pending_at f.state.tables conn) ≡ true → along fine (Some f) (end_events conn now ending) ≡ Some g
+end-part : ReplyLaw → (f g : InterleavedState) (k : ℕ) (kept : List Kept) (m now : ℕ) (xids : ℕ → ℕ) (conn : ℕ) (ending : Ending) → StandsFor f xids now k kept m
+    → f.state.moment ≤ now → is_some (pending_at f.state.tables conn) ≡ true → along interleaved_step (Some f) (end_events conn now ending) ≡ Some g
     → EndPart f k kept m now xids (lines_of (end_events conn now ending) ++ poll_line conn (xids conn) ending ∷ []) (told_of (end_events conn now ending)) g
 end-part law f g k kept m now xids conn (Answered ran level r) st late has h =
     record {
       led = out-led law f g k kept m now xids conn (is_broken ran) level r st h;
-      late = same-now g.state.moment now (fine-frame f g (Answer conn now (is_broken ran) None level r) h).moment_is;
+      late = same-now g.state.moment now (interleaved-frame f g (Answer conn now (is_broken ran) None level r) h).moment_is;
     }
 end-part law f g k kept m now xids conn (Waited w) st late has h =
     subst (EndPart f k kept m now xids (wait_line conn w ∷ []) []) (same_Some f g h)
     (record { led = quiet-led f k kept m now xids (wait_line conn w) st (wait-own conn w) (wait-says f k kept now conn w has); late = late })
 end-part law f g k kept m now xids conn (Dialed host port) st late has h =
-    record { led = wait_dial-led f g k kept m now xids conn st h; late = same-now g.state.moment now (fine-frame f g (Dial conn now) h).moment_is }
+    record { led = wait_dial-led f g k kept m now xids conn st h; late = same-now g.state.moment now (interleaved-frame f g (Dial conn now) h).moment_is }
 
 -- three lists of events and a line behind them, put together
 lines-joined : (b mv e : List Event) (l : Output) → lines_of b ++ (lines_of mv ++ (lines_of e ++ l ∷ [])) ≡ lines_of ((b ++ mv) ++ e) ++ l ∷ []
@@ -152,7 +152,7 @@ middle-each b mv e more h =
     (split-all HasRanges (lines_of b) (lines_of mv) (subst (Each HasRanges) (flat_map-append event_lines b mv) run)).1
 
 -- the parts of a poll, put together
-joined-led : (f mid behind last : FineState) (k : ℕ) (kept : List Kept) (m now : ℕ) (xids : ℕ → ℕ) (b mv e : List Event) (l : Output)
+joined-led : (f mid behind last : InterleavedState) (k : ℕ) (kept : List Kept) (m now : ℕ) (xids : ℕ → ℕ) (b mv e : List Event) (l : Output)
     → (first : Led f k kept m now xids (lines_of b) (told_of b) mid)
     → (second : Led mid first.earlier first.later_kept first.seen now xids (lines_of mv) (told_of mv) behind)
     → Led behind second.earlier second.later_kept second.seen now xids (lines_of e ++ l ∷ []) (told_of e) last
@@ -164,16 +164,16 @@ joined-led f mid behind last k kept m now xids b mv e l first second third =
     (led-append mid behind last first.earlier first.later_kept first.seen now xids xids (lines_of mv) (lines_of e ++ l ∷ []) (told_of mv) (told_of e) second third)))
 
 -- what a later moment of the gateway leaves
-later-led : (f last : FineState) (k : ℕ) (kept : List Kept) (m now : ℕ) (xids : ℕ → ℕ) (lines : List Output) (es : List Event) → last.state.moment ≤ now
+later-led : (f last : InterleavedState) (k : ℕ) (kept : List Kept) (m now : ℕ) (xids : ℕ → ℕ) (lines : List Output) (es : List Event) → last.state.moment ≤ now
     → Led f k kept m now xids lines es last → Led f k kept m now xids lines es (at_moment last now)
 later-led f last k kept m now xids lines es late led =
     led-same f last (at_moment last now) k kept m now xids lines es led refl refl (stands-later last xids now led.earlier led.later_kept led.seen now late led.stands)
 
 -- a poll, by the beginning of its turn, its transfers and its end
-parts-led : ReplyLaw → (f mid behind last : FineState) (k : ℕ) (kept : List Kept) (m now : ℕ) (xids : ℕ → ℕ) (conn : ℕ) (starts : Bool) (moves : List Transfer) (ending : Ending)
+parts-led : ReplyLaw → (f mid behind last : InterleavedState) (k : ℕ) (kept : List Kept) (m now : ℕ) (xids : ℕ → ℕ) (conn : ℕ) (starts : Bool) (moves : List Transfer) (ending : Ending)
     → StandsFor f xids now k kept m → f.state.moment ≤ now → is_some (pending_at f.state.tables conn) ≡ true
-    → along fine (Some f) (cond starts (Begin conn now ∷ []) []) ≡ Some mid → along fine (Some mid) (moved_events conn moves) ≡ Some behind
-    → along fine (Some behind) (end_events conn now ending) ≡ Some last
+    → along interleaved_step (Some f) (cond starts (Begin conn now ∷ []) []) ≡ Some mid → along interleaved_step (Some mid) (moved_events conn moves) ≡ Some behind
+    → along interleaved_step (Some behind) (end_events conn now ending) ≡ Some last
     → Each HasRanges (lines_of ((cond starts (Begin conn now ∷ []) [] ++ moved_events conn moves) ++ end_events conn now ending) ++ poll_line conn (xids conn) ending ∷ [])
     → Led f k kept m now xids (lines_of ((cond starts (Begin conn now ∷ []) [] ++ moved_events conn moves) ++ end_events conn now ending) ++ poll_line conn (xids conn) ending ∷ [])
     (told_of ((cond starts (Begin conn now ∷ []) [] ++ moved_events conn moves) ++ end_events conn now ending)) (at_moment last now)
@@ -188,7 +188,7 @@ parts-led law f mid behind last k kept m now xids conn starts moves ending st la
     (poll_line conn (xids conn) ending) first.led second.led third.led)
 
 -- a whole poll
-pub poll-led : ReplyLaw → (f g : FineState) (k : ℕ) (kept : List Kept) (m now : ℕ) (xids : ℕ → ℕ) (conn : ℕ) (group : List Event) (shown : Option Output)
+pub poll-led : ReplyLaw → (f g : InterleavedState) (k : ℕ) (kept : List Kept) (m now : ℕ) (xids : ℕ → ℕ) (conn : ℕ) (group : List Event) (shown : Option Output)
     → StandsFor f xids now k kept m → PollGives f conn now (xids conn) group shown g → Each HasRanges (lines_of group ++ noted shown)
     → Led f k kept m now xids (lines_of group ++ noted shown) (told_of group) g
 poll-led law f g k kept m now xids conn group shown st gives ranges =

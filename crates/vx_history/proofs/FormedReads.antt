@@ -7,7 +7,7 @@ use Rattle.vx_text.specs.TextLines.{lines}
 use Rattle.vx_trace.specs.Text.{IsLine, is_timed, line_text2}
 use Rattle.vx_trace.specs.Laws.{OneEnd2Law}
 use Rattle.vx_flow.specs.Event.{Event}
-use Rattle.vx_history.specs.Shown.{Timed, Shows}
+use Rattle.vx_history.specs.Shown.{Timed, TraceShows}
 use Rattle.vx_history.specs.CheckState.{CheckState}
 use Rattle.vx_history.specs.Taking.{Taken, takes}
 use Rattle.vx_history.specs.History.{Through, WalksBy, Walks}
@@ -60,7 +60,7 @@ texts_of ts = flat_map (λ t. line_text2 t.moment t.line) ts
 -- each of these texts is that of its line
 abbrev pub ShowAll : List (List ℕ) → List Timed → Type 0
 ShowAll [] [] = Unit {0}
-ShowAll (text ∷ texts) (t ∷ ts) = Shows text (Some t) × ShowAll texts ts
+ShowAll (text ∷ texts) (t ∷ ts) = TraceShows text (Some t) × ShowAll texts ts
 ShowAll _ _ = ⊥
 
 -- a text whose first line is known

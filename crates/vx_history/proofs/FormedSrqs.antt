@@ -7,9 +7,9 @@ use Rattle.std.proofs.lemmas.Bool.{le-ltb, cond-true}
 use Rattle.std.proofs.lemmas.Option.{none-some, same_Some, some_pair_parts, cond_some}
 use Rattle.std.proofs.lemmas.List.{length-append}
 use Rattle.std.proofs.lemmas.List.Elements.{All-append, All-cons, All-head, All-map, All-nil, All-tail}
-use Rattle.vx_lemmas.specs.Conditions.{self_bytes}
-use Rattle.vx_lemmas.specs.Options.{mapped, gone_on}
-use Rattle.vx_lemmas.specs.Lists.{All-kept}
+use Rattle.vx_lemmas.proofs.Laws.Conditions.{self_bytes}
+use Rattle.vx_lemmas.proofs.Laws.Options.{mapped, gone_on}
+use Rattle.vx_lemmas.proofs.Laws.Lists.{All-kept}
 use Rattle.vx_calls.specs.declared.calls.Role.{Role}
 use Rattle.vx_calls.specs.declared.calls.Role.TheVariants as role
 use Rattle.vx_calls.specs.declared.calls.Proc.{Proc}
@@ -20,11 +20,11 @@ use Rattle.vx_calls.specs.Target.{target}
 use Rattle.vx_calls.specs.Call.{Call}
 use Rattle.vx_calls.specs.Call as call
 use Rattle.vx_calls.specs.Reply.{Reply}
-use Rattle.vx_xdr.specs.declared.fault.XdrErr.{XdrErr}
 use Rattle.vx_xdr.specs.Spelling.{AreBytes, Word, Opaque, word, opaque}
 use Rattle.vx_xdr.specs.Reading.{◌>>=◌, reading}
-use Rattle.vx_xdr.specs.ProvedLaws.{number-word, reading-again, IsWord-lt}
+use Rattle.vx_xdr.proofs.Laws.{number-word, reading-again, IsWord-lt}
 use Rattle.vx_record.specs.Fragments.{last_header}
+use Rattle.vx_rpc.proofs.Laws.Sorted.{bind-is, call_body-steps}
 use Rattle.vx_rpc.specs.Header.{number_at, behind_auth, CallBody, call_body}
 use Rattle.vx_rpc.specs.CallMeaning.{Called, call_meaning}
 use Rattle.vx_rpc.specs.Sorting.{Sorting, sorted}
@@ -40,20 +40,17 @@ use Rattle.vx_rules.specs.SrqState.{SrqState, Channel, Enable, Srq, Front, Gone,
 use Rattle.vx_rules.specs.State.{Pending, Tables, first_tables, pending_at, with_link, with_connection}
 use Rattle.vx_rules.specs.Checks.{NamedLink, NoLink, DeadLink, OnLink, named_link}
 use Rattle.vx_rules.specs.Effects.{locked_link, create, effect}
-use Rattle.vx_rules.specs.One.{marked}
+use Rattle.vx_rules.specs.AtomicStep.{marked}
 use Rattle.vx_flow.specs.Event.{Event, Up, Down, Arrive, Answer, Abort, Sample, Take, Begin, Move, Dial}
-use Rattle.vx_flow.specs.FineState.{FineState}
-use Rattle.vx_flow.specs.Fine.{wire_for, fine, outside}
+use Rattle.vx_flow.specs.InterleavedState.{InterleavedState}
+use Rattle.vx_flow.specs.InterleavedStep.{wire_for, interleaved_step, bus_input}
 use Rattle.vx_flow.specs.Does.{Does, AnsweredBy, ByAbort, ByNoLink, ByCheck, ByBar, ByDialUp, ByDialDown, ByEffect, ByNoRole, ByFault, ByWhole, ByTimeout}
-use Rattle.vx_flow.specs.ProvedLaws.{fine-does, channel-risen, channel-up, channel-down, channel-put, channel-taken}
+use Rattle.vx_flow.proofs.Laws.{interleaved-does, channel-risen, channel-up, channel-down, channel-put, channel-taken}
 use Rattle.vx_exchange.specs.Meaning.{Asks as Means, meaning, by_call, by_arguments, by_sorting, srq_record, intr_srq}
 use Rattle.vx_history.specs.Replies.{srq_with, srq_told, if_srq_spelled, srq_in}
 use Rattle.vx_history.proofs.FormedStands.{CameFrom, Was, Came, call-from}
 
 -- ---- an interrupt call's record is read as that call
-
-bind-is : {A B : Type 0} (r : Result A XdrErr) (f : A → Result B XdrErr) (x : A) (y : Result B XdrErr) → r ≡ Ok x → f x ≡ y → (r >>= f) ≡ y
-bind-is {A} {B} r f x y e h = ap (λ (q : Result A XdrErr). q >>= f) e ∙ h
 
 -- no credential, and no verifier
 none-read : (rest : List ℕ) → behind_auth (word 0 ++ (opaque [] ++ rest)) ≡ Ok rest
@@ -61,10 +58,6 @@ none-read rest =
     bind-is (reading Word (word 0 ++ (opaque [] ++ rest))) (λ flavor. reading (Opaque 400) flavor.1 >>= λ body. Ok body.1) (0, opaque [] ++ rest) (Ok rest)
     (reading-again Word 0 (opaque [] ++ rest) (lit< tt))
     (bind-is (reading (Opaque 400) (opaque [] ++ rest)) (λ body. Ok body.1) ([], rest) (Ok rest) (reading-again (Opaque 400) [] rest (omega arith, omega arith)) refl)
-
-body-steps : (bytes a b c d e : List ℕ) (p v n : ℕ) → reading Word bytes ≡ Ok (p, a) → reading Word a ≡ Ok (v, b) → reading Word b ≡ Ok (n, c)
-    → behind_auth c ≡ Ok d → behind_auth d ≡ Ok e → call_body bytes ≡ Ok (record { program = p; version = v; procedure = n; args = e })
-body-steps bytes a b c d e p v n h₁ h₂ h₃ h₄ h₅ = rw (h₁, h₂, h₃, h₄, h₅) refl
 
 meaning-steps : (message : List ℕ) (xid : ℕ) (body : CallBody) → 12 ≤ length message → number_at 0 message ≡ xid → number_at 1 message ≡ 0 → number_at 2 message ≡ 2
     → call_body (drop 12 message) ≡ Ok body → call_meaning message ≡ Called xid body
@@ -81,7 +74,7 @@ call-read xid prog vers number args hx hp hv hn =
     let b = word number ++ c in
     let a = word vers ++ b in
     let three = word prog ++ a in
-    let body = body-steps three a b c d args prog vers number
+    let body = call_body-steps three a b c d args prog vers number
     (reading-again Word prog a hp) (reading-again Word vers b hv) (reading-again Word number c hn) (none-read d) (none-read args) in
     let front = words (xid ∷ 0 ∷ 2 ∷ prog ∷ vers ∷ number ∷ []) in
     let long : 12 ≤ length (front ++ c) = omega (arith, length-append front c) in
@@ -342,13 +335,13 @@ effect-served t own conn NoLink call.DestroyIntr told after s sends is = by-tabl
 effect-served t own conn NoLink _ told after s sends is = cc
 
 -- an answer
-answer-served : (f : FineState) (conn now : ℕ) (p : Pending) (failed : Bool) (dialed : Option Bool) (level : Bool) (told : Reply) (after : Tables)
-    → IsServed f.state.tables.srq_state → IsSendable p.call → AnsweredBy f conn now p (outside f conn failed dialed level) told after → IsServed after.srq_state
+answer-served : (f : InterleavedState) (conn now : ℕ) (p : Pending) (failed : Bool) (dialed : Option Bool) (level : Bool) (told : Reply) (after : Tables)
+    → IsServed f.state.tables.srq_state → IsSendable p.call → AnsweredBy f conn now p (bus_input f conn failed dialed level) told after → IsServed after.srq_state
 answer-served f conn now p failed dialed level told after s sends line = by line where
   same : after ≡ f.state.tables → IsServed after.srq_state
   same e = subst (λ (u : Tables). IsServed u.srq_state) (sym e) s
 
-  by : AnsweredBy f conn now p (outside f conn failed dialed level) told after → IsServed after.srq_state
+  by : AnsweredBy f conn now p (bus_input f conn failed dialed level) told after → IsServed after.srq_state
   by (ByAbort marked still stops) = same stops.same
   by (ByNoLink unmarked dead still stops) = same stops.same
   by (ByCheck e unmarked live checked still stops) = same stops.same
@@ -371,32 +364,32 @@ BringsSendable (Arrive conn asked now) = IsSendable asked
 BringsSendable _ = Unit {0}
 
 -- what is served stays so
-served-step : (e : Event) (f g : FineState) → IsReady f.state.tables → Does f e g → IsServed g.state.tables.srq_state
-served-step (Up conn r) f g ready does = subst (λ (x : FineState). IsServed x.state.tables.srq_state) (sym does.step.leads) (up-served f.state.tables r ready.served)
+served-step : (e : Event) (f g : InterleavedState) → IsReady f.state.tables → Does f e g → IsServed g.state.tables.srq_state
+served-step (Up conn r) f g ready does = subst (λ (x : InterleavedState). IsServed x.state.tables.srq_state) (sym does.step.leads) (up-served f.state.tables r ready.served)
 served-step (Down conn) f g ready does =
-    subst (λ (x : FineState). IsServed x.state.tables.srq_state) (sym does.step.leads) (down-served f.state.tables.srq_state conn ready.served)
-served-step (Arrive conn asked now) f g ready does = subst (λ (x : FineState). IsServed x.state.tables.srq_state) (sym does.step.leads) ready.served
+    subst (λ (x : InterleavedState). IsServed x.state.tables.srq_state) (sym does.step.leads) (down-served f.state.tables.srq_state conn ready.served)
+served-step (Arrive conn asked now) f g ready does = subst (λ (x : InterleavedState). IsServed x.state.tables.srq_state) (sym does.step.leads) ready.served
 served-step (Answer conn now failed dialed level told) f g ready does =
     let a = does.step in
-    subst (λ (x : FineState). IsServed x.state.tables.srq_state) (sym a.leads)
+    subst (λ (x : InterleavedState). IsServed x.state.tables.srq_state) (sym a.leads)
     (answer-served f conn now a.asked failed dialed level told a.after ready.served (ready.calls conn a.asked a.call_at) a.line)
 served-step (Abort conn lid told) f g ready does =
-    subst (λ (x : FineState). IsServed x.state.tables.srq_state) (sym does.step.leads) (by (is_live f.state.tables.links lid))
+    subst (λ (x : InterleavedState). IsServed x.state.tables.srq_state) (sym does.step.leads) (by (is_live f.state.tables.links lid))
   where
     by : (b : Bool) → IsServed (cond b (marked f.state.tables lid) f.state.tables).srq_state
     by true = ready.served
     by false = ready.served
 served-step (Sample now level) f g ready does =
-    subst (λ (x : FineState). IsServed x.state.tables.srq_state) (sym does.step.leads) (sampled-served f.state.tables.srq_state level ready.served)
+    subst (λ (x : InterleavedState). IsServed x.state.tables.srq_state) (sym does.step.leads) (sampled-served f.state.tables.srq_state level ready.served)
 served-step (Take conn chan told) f g ready does =
-    subst (λ (x : FineState). IsServed x.state.tables.srq_state) (sym does.step.leads) (taken-served f.state.tables.srq_state conn chan ready.served)
-served-step (Begin conn now) f g ready does = subst (λ (x : FineState). IsServed x.state.tables.srq_state) (sym does.step.leads) ready.served
-served-step (Move conn moves) f g ready does = subst (λ (x : FineState). IsServed x.state.tables.srq_state) (sym does.step.leads) ready.served
-served-step (Dial conn now) f g ready does = subst (λ (x : FineState). IsServed x.state.tables.srq_state) (sym does.step.leads) ready.served
+    subst (λ (x : InterleavedState). IsServed x.state.tables.srq_state) (sym does.step.leads) (taken-served f.state.tables.srq_state conn chan ready.served)
+served-step (Begin conn now) f g ready does = subst (λ (x : InterleavedState). IsServed x.state.tables.srq_state) (sym does.step.leads) ready.served
+served-step (Move conn moves) f g ready does = subst (λ (x : InterleavedState). IsServed x.state.tables.srq_state) (sym does.step.leads) ready.served
+served-step (Dial conn now) f g ready does = subst (λ (x : InterleavedState). IsServed x.state.tables.srq_state) (sym does.step.leads) ready.served
 
-pub ready-step : (f g : FineState) (e : Event) → IsReady f.state.tables → BringsSendable e → fine f e ≡ Some g → IsReady g.state.tables
+pub ready-step : (f g : InterleavedState) (e : Event) → IsReady f.state.tables → BringsSendable e → interleaved_step f e ≡ Some g → IsReady g.state.tables
 ready-step f g e ready brings h = record {
-  served = served-step e f g ready (fine-does f g e h);
+  served = served-step e f g ready (interleaved-does f g e h);
   calls = λ m p at. by m p (call-from e f g h m p at);
 } where
   by : (m : ℕ) (p : Pending) → CameFrom f e m p → IsSendable p.call

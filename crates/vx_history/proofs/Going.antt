@@ -4,7 +4,7 @@ use Rattle.std.proofs.lemmas.List.Elements.{All-tail}
 use Rattle.vx_flow.specs.Event.{Event}
 use Rattle.vx_history.specs.declared.cause.Cause.{Cause}
 use Rattle.vx_history.specs.declared.cause.Stop.TheVariants as stop
-use Rattle.vx_history.specs.Shown.{Timed, Shows, whole_lines}
+use Rattle.vx_history.specs.Shown.{Timed, TraceShows, whole_lines}
 use Rattle.vx_history.specs.CheckState.{CheckState, beginning}
 use Rattle.vx_history.specs.Taking.{Taken, takes}
 use Rattle.vx_history.specs.History.{Walk, Through, Stops, WalksBy, Walks, behind, is_over}
@@ -35,7 +35,7 @@ begun text s is = record {
 
 -- a line is taken
 walks-on : (n : ℕ) (s : CheckState) (text : List ℕ) (texts : List (List ℕ)) (shown : Option Timed) (events : List Event) (now : CheckState) (far : Walk)
-    → Shows text shown → takes s shown ≡ Taken events now → Walks (n + 1) now texts far → Walks n s (text ∷ texts) (behind events far)
+    → TraceShows text shown → takes s shown ≡ Taken events now → Walks (n + 1) now texts far → Walks n s (text ∷ texts) (behind events far)
 walks-on n s text texts shown events now far shows took walks =
     (shown, shows, subst (WalksBy n (λ after later. Walks (n + 1) after texts later) (behind events far)) (sym took) (far, walks, refl))
 

@@ -2,13 +2,13 @@
 use Rattle.std.proofs.Common.{◌≡◌, ℕ, ◌+◌, Bool, true, false, if◌then◌else◌, List, [], ◌∷◌, ◌++◌, Option, Some, None, IsSome, length, refl, sym, ap, ◌∙◌, subst}
 use Rattle.vx_text.specs.TextLines.{lines}
 use Rattle.vx_rules.specs.Lists.{along}
-use Rattle.vx_rules.specs.ListLaws.{along-append}
+use Rattle.vx_rules.proofs.Laws.Lists.{along-append}
 use Rattle.vx_rules.specs.State.{State}
-use Rattle.vx_rules.specs.One.{one}
+use Rattle.vx_rules.specs.AtomicStep.{atomic_step}
 use Rattle.vx_flow.specs.Event.{Event}
 use Rattle.vx_flow.specs.Event as event
-use Rattle.vx_flow.specs.FineState.{Turn, turn_after}
-use Rattle.vx_flow.specs.Gather.{gathered, gather_from}
+use Rattle.vx_flow.specs.InterleavedState.{Turn, turn_after}
+use Rattle.vx_flow.specs.Linearization.{linearized, linearization_from}
 use Rattle.vx_history.specs.declared.cause.Cause.{Cause}
 use Rattle.vx_history.specs.declared.cause.Cause.TheVariants as cause
 use Rattle.vx_history.specs.Shown.{Timed}
@@ -26,8 +26,8 @@ turn_along turn (e ∷ es) = turn_along (turn_after turn e) es
 
 -- events lead from one state of a trace to another
 pub record Leads (s : CheckState) (es : List Event) (t : CheckState) : Type 0 where
-  pub gateway : along one (Some s.gateway) (gather_from s.turn es) ≡ Some t.gateway
-  pub turn : (others : List Event) → gather_from s.turn (es ++ others) ≡ gather_from s.turn es ++ gather_from t.turn others
+  pub gateway : along atomic_step (Some s.gateway) (linearization_from s.turn es) ≡ Some t.gateway
+  pub turn : (others : List Event) → linearization_from s.turn (es ++ others) ≡ linearization_from s.turn es ++ linearization_from t.turn others
 
 -- ---- what was taken
 
@@ -45,17 +45,17 @@ through-state a b s t same = cc
 
 -- no event leads to where the gateway and the turn are the same
 still : (s t : CheckState) → s.gateway ≡ t.gateway → s.turn ≡ t.turn → Leads s [] t
-still s t gateway turn = record { gateway = ap Some gateway; turn = λ others. ap (λ u. gather_from u others) turn }
+still s t gateway turn = record { gateway = ap Some gateway; turn = λ others. ap (λ u. linearization_from u others) turn }
 
--- one event leads on, where the gateway takes what it is gathered to
+-- one event leads on, where the gateway takes what it linearizes to
 leads-one : (s : CheckState) (kept : List Kept) (e : Event) (found : Option State) (es : List Event) (t : CheckState)
-    → along one (Some s.gateway) (gathered s.turn e) ≡ found → led s kept e found ≡ Taken es t → Leads s es t
+    → along atomic_step (Some s.gateway) (linearized s.turn e) ≡ found → led s kept e found ≡ Taken es t → Leads s es t
 leads-one s kept e None es t at same = cc
 leads-one s kept e (Some g) es t at same =
     let to : CheckState = record { gateway = g; turn = turn_after s.turn e; kept = kept; moment = s.moment; next = Free } in
     let whole : Leads s (e ∷ []) to = record {
-      gateway = along-append one (Some s.gateway) (gathered s.turn e) [] ∙ at;
-      turn = λ others. sym (appended (gathered s.turn e) (gather_from (turn_after s.turn e) others));
+      gateway = along-append atomic_step (Some s.gateway) (linearized s.turn e) [] ∙ at;
+      turn = λ others. sym (appended (linearized s.turn e) (linearization_from (turn_after s.turn e) others));
     } in
     subst (λ x. Leads s x t) (taken-events (e ∷ []) es to t same) (subst (λ x. Leads s (e ∷ []) x) (taken-state (e ∷ []) es to t same) whole)
   where
@@ -68,9 +68,9 @@ so-leads : (s : CheckState) (said : Said) (es : List Event) (t : CheckState) →
 so-leads s (saying.Quiet next) es t same =
     let to : CheckState = record s { next = next } in
     subst (λ x. Leads s x t) (taken-events [] es to t same) (subst (λ x. Leads s [] x) (taken-state [] es to t same) (still s to refl refl))
-so-leads s (saying.Happens e) es t same = leads-one s (kept_after s.kept e) e (along one (Some s.gateway) (gathered s.turn e)) es t refl same
+so-leads s (saying.Happens e) es t same = leads-one s (kept_after s.kept e) e (along atomic_step (Some s.gateway) (linearized s.turn e)) es t refl same
 so-leads s (saying.Comes conn xid asked) es t same =
-    leads-one s (kept_with s.kept (kept_of conn xid asked)) (event.Arrive conn asked s.moment) (along one (Some s.gateway) (gathered s.turn (event.Arrive conn asked s.moment))) es t refl same
+    leads-one s (kept_with s.kept (kept_of conn xid asked)) (event.Arrive conn asked s.moment) (along atomic_step (Some s.gateway) (linearized s.turn (event.Arrive conn asked s.moment))) es t refl same
 so-leads s (saying.Faulty why) es t same = cc
 
 -- the same of a line, early or not
@@ -94,27 +94,27 @@ line-leads s (Some x) es t same =
 -- a line was taken, and those behind it lead on
 by-took : (n : ℕ) (s : CheckState) (texts : List (List ℕ)) (events : List Event) (after : CheckState) (took : Took)
     → ((es : List Event) (t : CheckState) → took ≡ Taken es t → Leads s es t)
-    → ((t : CheckState) (others : List Event) (last : CheckState) → Walks (n + 1) t texts (Through others last) → along one (Some t.gateway) (gather_from t.turn others) ≡ Some last.gateway)
+    → ((t : CheckState) (others : List Event) (last : CheckState) → Walks (n + 1) t texts (Through others last) → along atomic_step (Some t.gateway) (linearization_from t.turn others) ≡ Some last.gateway)
     → WalksBy n (λ later w. Walks (n + 1) later texts w) (Through events after) took
-    → along one (Some s.gateway) (gather_from s.turn events) ≡ Some after.gateway
+    → along atomic_step (Some s.gateway) (linearization_from s.turn events) ≡ Some after.gateway
 by-took n s texts events after (Spoiled why) leads later by = cc
 by-took n s texts events after (Taken es t) leads later (Stops line why, walks, same) = cc
 by-took n s texts events after (Taken es t) leads later (Through others last, walks, same) =
     let lead : Leads s es t = leads es t refl in
     let is : events ≡ es ++ others = through-events events (es ++ others) after last same in
     let end : after ≡ last = through-state events (es ++ others) after last same in
-    ap (λ xs. along one (Some s.gateway) (gather_from s.turn xs)) is
-    ∙ ap (along one (Some s.gateway)) (lead.turn others)
-    ∙ along-append one (Some s.gateway) (gather_from s.turn es) (gather_from t.turn others)
-    ∙ ap (λ o. along one o (gather_from t.turn others)) lead.gateway
+    ap (λ xs. along atomic_step (Some s.gateway) (linearization_from s.turn xs)) is
+    ∙ ap (along atomic_step (Some s.gateway)) (lead.turn others)
+    ∙ along-append atomic_step (Some s.gateway) (linearization_from s.turn es) (linearization_from t.turn others)
+    ∙ ap (λ o. along atomic_step o (linearization_from t.turn others)) lead.gateway
     ∙ later t others last walks
     ∙ ap (λ (x : CheckState). Some x.gateway) (sym end)
 
 -- lines that are all taken lead on
 pub all-lead : (n : ℕ) (s : CheckState) (texts : List (List ℕ)) (events : List Event) (after : CheckState)
-    → Walks n s texts (Through events after) → along one (Some s.gateway) (gather_from s.turn events) ≡ Some after.gateway
+    → Walks n s texts (Through events after) → along atomic_step (Some s.gateway) (linearization_from s.turn events) ≡ Some after.gateway
 all-lead n s [] events after same =
-    ap (λ xs. along one (Some s.gateway) (gather_from s.turn xs)) (through-events events [] after s same)
+    ap (λ xs. along atomic_step (Some s.gateway) (linearization_from s.turn xs)) (through-events events [] after s same)
     ∙ ap (λ (x : CheckState). Some x.gateway) (sym (through-state events [] after s same))
 all-lead n s (text ∷ texts) events after (shown, shows, by) =
     by-took n s texts events after (takes s shown) (λ es t same. line-leads s shown es t same) (λ t others last walks. all-lead (n + 1) t texts others last walks) by

@@ -1,7 +1,7 @@
 -- The bytes that a line holds are no more than those of its text.
 use Rattle.std.proofs.Common.{◌≡◌, ℕ, ◌<◌, ◌≤◌, ◌^◌, Bool, true, false, cond, List, ◌++◌, length, Option, Some, None, IfSome, codes, decimal, ap, arith, length-append}
 use Rattle.hex.specs.Hex.{encode_upper}
-use Rattle.vx_lemmas.specs.Hexadecimal.{length_upper}
+use Rattle.vx_lemmas.proofs.Laws.Hexadecimal.{length_upper}
 use Rattle.vx_trace.specs.declared.lines.Line.{Line}
 use Rattle.vx_trace.specs.Output.{Output, Out, Irq, Call, line_shown}
 use Rattle.vx_trace.specs.Text.{IsLine, is_timed, line_text, line_text2}

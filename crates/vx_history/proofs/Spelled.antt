@@ -2,7 +2,7 @@
 use Rattle.std.proofs.Common.{◌≡◌, ℕ, cond, List, ◌++◌, length, drop, Option, Some, None, option_and_then, option_map, refl, ap, ◌∙◌, subst}
 use Rattle.std.specs.Str.{bytes_eq}
 use Rattle.std.proofs.lemmas.Option.{same_Some}
-use Rattle.vx_lemmas.specs.Conditions.{self_bytes, same_bytes, chosen}
+use Rattle.vx_lemmas.proofs.Laws.Conditions.{self_bytes, same_bytes, chosen}
 use Rattle.vx_calls.specs.declared.calls.Proc.{Proc}
 use Rattle.vx_calls.specs.declared.codes.ErrorCode.{ErrorCode}
 use Rattle.vx_calls.specs.declared.codes.ErrorCode.TheVariants as code

@@ -17,12 +17,12 @@ use Rattle.vx_calls.specs.Reply.{Reply}
 use Rattle.vx_rules.specs.Lists.{along}
 use Rattle.vx_rules.specs.SrqState.{Given, Channel}
 use Rattle.vx_rules.specs.State.{State}
-use Rattle.vx_rules.specs.One.{one}
+use Rattle.vx_rules.specs.AtomicStep.{atomic_step}
 use Rattle.vx_488.specs.declared.transfers.Transfer.{Transfer}
 use Rattle.vx_rules.specs.Entry as entry
 use Rattle.vx_flow.specs.Event.{Event, Up, Down, Arrive, Answer, Abort, Sample, Take, Move, Begin}
-use Rattle.vx_flow.specs.FineState.{Turn, turn_after, turn_of}
-use Rattle.vx_flow.specs.Gather.{gathered}
+use Rattle.vx_flow.specs.InterleavedState.{Turn, turn_after, turn_of}
+use Rattle.vx_flow.specs.Linearization.{linearized}
 use Rattle.vx_history.specs.declared.cause.Stop.{Stop}
 use Rattle.vx_history.specs.declared.cause.Stop.TheVariants as stop
 use Rattle.vx_history.specs.declared.checker.Begun.{Begun}
@@ -34,7 +34,7 @@ use Rattle.vx_history.specs.Stepping.{EndsTake, EndsStep, turn_behind, turn_show
 
 -- the gateway takes it
 pub taken : (s : CheckState) (kept : List Kept) (e : Event) (g : State) (turn : Option Turn)
-    → along one (Some s.gateway) (gathered s.turn e) ≡ Some g → turn_after s.turn e ≡ turn
+    → along atomic_step (Some s.gateway) (linearized s.turn e) ≡ Some g → turn_after s.turn e ≡ turn
     → (events : List Event) × (happens s kept e ≡ Taken events (record { gateway = g; turn = turn; kept = kept; moment = s.moment; next = Free }))
 taken s kept e g turn led_to turned = (
   e ∷ [],
@@ -44,7 +44,7 @@ taken s kept e g turn led_to turned = (
 
 -- it doesn't
 pub stopped : (s : CheckState) (kept : List Kept) (e : Event) (found : Option State) (why : Stop) (g : State) (now : CheckState)
-    → along one (Some s.gateway) (gathered s.turn e) ≡ found → EndsStep found (Err why) g → EndsTake (happens s kept e) (Err why) now
+    → along atomic_step (Some s.gateway) (linearized s.turn e) ≡ found → EndsStep found (Err why) g → EndsTake (happens s kept e) (Err why) now
 stopped s kept e found (stop.Spoiled why) g now led_to ends = ap (led s kept e) (led_to ∙ ends.0) ∙ ap Spoiled (sym ends.1)
 stopped s kept e found stop.NoMemory g now led_to ends = tt
 
@@ -82,15 +82,15 @@ turn-answer (Some u) conn now failed dialed level r = refl
 -- ---- what comes to an entry
 
 pub answer-same : (g : State) (conn now b c : ℕ) (ms ns : List Transfer) (f h : Bool) (dialed : Option Bool) (l m : Bool) (r : Reply) → b ≡ c → ms ≡ ns → f ≡ h → l ≡ m
-    → one g (entry.Answer conn now c ns h dialed m r) ≡ one g (entry.Answer conn now b ms f dialed l r)
+    → atomic_step g (entry.Answer conn now c ns h dialed m r) ≡ atomic_step g (entry.Answer conn now b ms f dialed l r)
 answer-same g conn now b c ms ns f h dialed l m r bs mss fs ls =
-    ap (λ x. one g (entry.Answer conn now x ns h dialed m r)) (sym bs)
-    ∙ ap (λ x. one g (entry.Answer conn now b x h dialed m r)) (sym mss)
-    ∙ ap (λ x. one g (entry.Answer conn now b ms x dialed m r)) (sym fs)
-    ∙ ap (λ x. one g (entry.Answer conn now b ms f dialed x r)) (sym ls)
+    ap (λ x. atomic_step g (entry.Answer conn now x ns h dialed m r)) (sym bs)
+    ∙ ap (λ x. atomic_step g (entry.Answer conn now b x h dialed m r)) (sym mss)
+    ∙ ap (λ x. atomic_step g (entry.Answer conn now b ms x dialed m r)) (sym fs)
+    ∙ ap (λ x. atomic_step g (entry.Answer conn now b ms f dialed x r)) (sym ls)
 
-pub down-same : (g : State) (conn : ℕ) (ms ns : List Transfer) → ms ≡ ns → one g (entry.Down conn ns) ≡ one g (entry.Down conn ms)
-down-same g conn ms ns same = ap (λ x. one g (entry.Down conn x)) (sym same)
+pub down-same : (g : State) (conn : ℕ) (ms ns : List Transfer) → ms ≡ ns → atomic_step g (entry.Down conn ns) ≡ atomic_step g (entry.Down conn ms)
+down-same g conn ms ns same = ap (λ x. atomic_step g (entry.Down conn x)) (sym same)
 
 -- a turn makes transfers
 pub turn-move : (turn : Option Begun) (moves more : List Transfer) (conn : ℕ) → is_some (turn_of (turn_shown turn moves) conn) ≡ true
@@ -106,10 +106,6 @@ here s holds e is = ap (λ b. taken_so s (happens_if b e)) is
 pub turn-begin : (turn : Option Turn) (conn now : ℕ) → turn_after turn (Begin conn now) ≡ Some (record { connection = conn; begun = now; moves = [] })
 turn-begin None conn now = refl
 turn-begin (Some u) conn now = refl
-
-pub both-hold : (a b : Bool) → a ≡ true → b ≡ true → (a && b) ≡ true
-both-hold true b is so = so
-both-hold false b is so = cc
 
 pub none-shown : (turn : Option Begun) (moves : List Transfer) → is_some turn ≡ false → is_none (turn_shown turn moves) ≡ true
 none-shown None moves is = refl

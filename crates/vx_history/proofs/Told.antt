@@ -3,9 +3,10 @@ use Rattle.std.proofs.Common.{◌≡◌, ℕ, Bool, true, false, ◌&&◌, ◌++
 use Rattle.vx_codec.specs.Answered.{Outcome, Form, Nothing, LinkMade, Written, ReadData, Status, CommandData, ErrorAlone, Answers, results_shown}
 use Rattle.vx_codec.specs.declared.results.Results.{Results}
 use Rattle.std.specs.Str.{bytes_eq}
+use Rattle.std.proofs.lemmas.Bool.{and_from}
 use Rattle.std.proofs.lemmas.Slice.Eq.{bytes_eq-Decides}
 use Rattle.std.proofs.lemmas.List.{take-append-drop}
-use Rattle.vx_lemmas.specs.Conditions.{same_bytes}
+use Rattle.vx_lemmas.proofs.Laws.Conditions.{same_bytes}
 use Rattle.vx_history.specs.Spelling.{IsPuttableOutcome}
 
 -- results that bytes spell can be written
@@ -34,10 +35,6 @@ and-both : (p q : Bool) → (p && q) ≡ true → (p ≡ true) × (q ≡ true)
 and-both true q is = (refl, is)
 and-both false q is = cc
 
-both-and : (p q : Bool) → p ≡ true → q ≡ true → (p && q) ≡ true
-both-and true q is so = so
-both-and false q is so = cc
-
 -- bytes are a record where their front is its mark and what is behind that is its message
 pub record-test : (a b c d : ℕ) (message bytes : List ℕ)
     → (bytes_eq (a ∷ b ∷ c ∷ d ∷ []) (take 4 bytes) && bytes_eq message (drop 4 bytes)) ≡ bytes_eq (a ∷ b ∷ c ∷ d ∷ message) bytes
@@ -51,7 +48,7 @@ record-test a b c d message bytes =
     (bytes_eq-Decides (a ∷ b ∷ c ∷ d ∷ message) bytes).1 (ap (λ xs. xs ++ message) front ∙ ap (λ xs. take 4 bytes ++ xs) behind ∙ take-append-drop 4 bytes))
     (λ is.
     let same : a ∷ b ∷ c ∷ d ∷ message ≡ bytes = same_bytes (a ∷ b ∷ c ∷ d ∷ message) bytes is in
-    both-and (bytes_eq mark (take 4 bytes)) (bytes_eq message (drop 4 bytes))
+    and_from (bytes_eq mark (take 4 bytes)) (bytes_eq message (drop 4 bytes))
     ((bytes_eq-Decides mark (take 4 bytes)).1 (ap (take 4) same)) ((bytes_eq-Decides message (drop 4 bytes)).1 (ap (drop 4) same)))
 
 -- a longer text is another

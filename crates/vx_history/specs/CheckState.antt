@@ -6,7 +6,7 @@ use Rattle.vx_calls.specs.Call.{Call}
 use Rattle.vx_calls.specs.Call as call
 use Rattle.vx_rules.specs.Docmd.{number_in}
 use Rattle.vx_rules.specs.State.{State, first}
-use Rattle.vx_flow.specs.FineState.{Turn}
+use Rattle.vx_flow.specs.InterleavedState.{Turn}
 
 -- what a line asks of the line behind it
 pub data Next : Type 0 where

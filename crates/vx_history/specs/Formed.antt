@@ -8,12 +8,12 @@ use Rattle.vx_trace.specs.Text.{line_text}
 use Rattle.vx_rules.specs.Legal.{IsLegal}
 use Rattle.vx_flow.specs.Event.{Event}
 use Rattle.vx_flow.specs.Event as event
-use Rattle.vx_flow.specs.Gather.{gather}
+use Rattle.vx_flow.specs.Linearization.{linearization}
 use Rattle.vx_run.specs.Item.{Item, events}
 use Rattle.vx_run.specs.RunText.{IsPrintable, text}
 use Rattle.vx_run.specs.Forming.{IsFormed}
 use Rattle.vx_history.specs.CheckState.{abort_port}
-use Rattle.vx_history.specs.History.{Lawful, Tells}
+use Rattle.vx_history.specs.History.{Lawful, TraceTells}
 
 -- the bytes of the trace of a run
 abbrev pub run_trace : List Item → List ℕ
@@ -30,12 +30,12 @@ told_events items = filter is_told (events items)
 
 -- the trace of a formed run tells its events
 abbrev pub FormedLaw : Type 0
-FormedLaw = (items : List Item) → IsFormed abort_port items → All IsPrintable items → Tells (run_trace items) (Lawful (told_events items))
+FormedLaw = (items : List Item) → IsFormed abort_port items → All IsPrintable items → TraceTells (run_trace items) (Lawful (told_events items))
 
--- those events gather to the same history of one thread as all events of the run
+-- those events linearize to the same history of one thread as all events of the run
 abbrev pub ToldLaw : Type 0
-ToldLaw = (items : List Item) → gather (told_events items) ≡ gather (events items)
+ToldLaw = (items : List Item) → linearization (told_events items) ≡ linearization (events items)
 
--- so all events of a formed run gather to a legal history
+-- so all events of a formed run linearize to a legal history
 abbrev pub FormedLegalLaw : Type 0
-FormedLegalLaw = (items : List Item) → IsFormed abort_port items → All IsPrintable items → IsLegal abort_port (gather (events items))
+FormedLegalLaw = (items : List Item) → IsFormed abort_port items → All IsPrintable items → IsLegal abort_port (linearization (events items))

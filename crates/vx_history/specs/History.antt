@@ -5,7 +5,7 @@ use Rattle.vx_text.specs.TextLines.{lines}
 use Rattle.vx_flow.specs.Event.{Event}
 use Rattle.vx_history.specs.declared.cause.Cause.{Cause}
 use Rattle.vx_history.specs.declared.cause.Cause.TheVariants as cause
-use Rattle.vx_history.specs.Shown.{Timed, Shows, whole_lines}
+use Rattle.vx_history.specs.Shown.{Timed, TraceShows, whole_lines}
 use Rattle.vx_history.specs.CheckState.{CheckState, Next, Nothing, beginning}
 use Rattle.vx_history.specs.Taking.{Took, Taken, Spoiled, takes}
 
@@ -27,7 +27,7 @@ WalksBy n Later w (Spoiled why) = w ≡ Stops n why
 -- how far these texts are taken as lines, of which the first has this number, behind what is known of those before them
 abbrev pub Walks : ℕ → CheckState → List (List ℕ) → Walk → Type 0
 Walks n s [] w = w ≡ Through [] s
-Walks n s (text ∷ texts) w = (shown : Option Timed) × Shows text shown × WalksBy n (λ after later. Walks (n + 1) after texts later) w (takes s shown)
+Walks n s (text ∷ texts) w = (shown : Option Timed) × TraceShows text shown × WalksBy n (λ after later. Walks (n + 1) after texts later) w (takes s shown)
 
 -- the events of a whole trace, or its first line that has a cause against it
 pub data History : Type 0 where
@@ -45,11 +45,11 @@ ended count (Through events after) = if is_over after.next then Lawful events el
 ended count (Stops line why) = Faulty line why
 
 -- The bytes of a trace tell this. Its lines are cut at LF, a last piece without LF is a line too, and they are counted from 1.
-pub record Tells (bytes : List ℕ) (told : History) : Type 0 where
+pub record TraceTells (bytes : List ℕ) (told : History) : Type 0 where
   pub far : Walk
   pub walks : Walks 1 beginning (lines bytes) far
   pub told_is : told ≡ ended (length (lines bytes)) far
 
 -- so far are the whole lines taken of bytes that a longer trace begins with
-abbrev pub Begins : List ℕ → Walk → Type 0
-Begins bytes far = Walks 1 beginning (whole_lines bytes) far
+abbrev pub TraceBegins : List ℕ → Walk → Type 0
+TraceBegins bytes far = Walks 1 beginning (whole_lines bytes) far

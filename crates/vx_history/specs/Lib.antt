@@ -17,10 +17,10 @@ pub use Rattle.vx_codec.specs.Answered
 pub use Rattle.vx_exchange.specs.Meaning
 pub use Rattle.vx_rules.specs.Entry
 pub use Rattle.vx_rules.specs.Legal
-pub use Rattle.vx_rules.specs.One
+pub use Rattle.vx_rules.specs.AtomicStep
 pub use Rattle.vx_rules.specs.State
 pub use Rattle.vx_flow.specs.Event
-pub use Rattle.vx_flow.specs.FineState
-pub use Rattle.vx_flow.specs.Gather
+pub use Rattle.vx_flow.specs.InterleavedState
+pub use Rattle.vx_flow.specs.Linearization
 pub use Rattle.vx_trace.specs.Output
 pub use Rattle.vx_trace.specs.Text

@@ -17,6 +17,6 @@ message_shown (seen.Asks xid asked) = meant.Asks xid (call_shown asked)
 message_shown (seen.Aborts xid lid) = meant.Aborts xid lid
 
 -- a refusal is one that may be sent
-abbrev pub IsSent : Message → Type 0
-IsSent (seen.Refused xid refusal) = IsTrue (is_sent refusal)
-IsSent _ = ⊤
+abbrev pub IsTraceSent : Message → Type 0
+IsTraceSent (seen.Refused xid refusal) = IsTrue (is_sent refusal)
+IsTraceSent _ = ⊤

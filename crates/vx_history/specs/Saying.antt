@@ -19,7 +19,7 @@ use Rattle.vx_rules.specs.State.{Pending, role_at, pending_at}
 use Rattle.vx_rules.specs.Calls.{proc_of, is_bus_call, asks_dial}
 use Rattle.vx_flow.specs.Event.{Event}
 use Rattle.vx_flow.specs.Event as event
-use Rattle.vx_flow.specs.FineState.{turn_of}
+use Rattle.vx_flow.specs.InterleavedState.{turn_of}
 use Rattle.vx_exchange.specs.Meaning.{Meaning, meaning}
 use Rattle.vx_exchange.specs.Meaning as meant
 use Rattle.vx_exchange.specs.Doing.{reply_error}

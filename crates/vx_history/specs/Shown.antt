@@ -17,9 +17,9 @@ pub record IsText (text : List ℕ) (t : Timed) : Type 0 where
   pub untimed : is_timed t.line ≡ false → t.moment ≡ 0
 
 -- a text shows the line that it is that of, or none where version 2 has no line of this text
-abbrev pub Shows : List ℕ → Option Timed → Type 0
-Shows text (Some t) = IsText text t
-Shows text None = (t : Timed) → IsText text t → ⊥
+abbrev pub TraceShows : List ℕ → Option Timed → Type 0
+TraceShows text (Some t) = IsText text t
+TraceShows text None = (t : Timed) → IsText text t → ⊥
 
 -- a byte in front of the first line that ends at an LF; where no line does, it stands behind the last LF
 abbrev pub onto_whole : ℕ → List (List ℕ) → List (List ℕ)

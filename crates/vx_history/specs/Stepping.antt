@@ -7,7 +7,7 @@ use Rattle.vx_trace.specs.declared.lines.Line.{Line}
 use Rattle.vx_trace.specs.Output.{Output, Out, Irq, Call, line_shown}
 use Rattle.vx_rules.specs.State.{State}
 use Rattle.vx_flow.specs.Event.{Event}
-use Rattle.vx_flow.specs.FineState.{Turn, turn_without}
+use Rattle.vx_flow.specs.InterleavedState.{Turn, turn_without}
 use Rattle.vx_history.specs.declared.cause.Cause.TheVariants as cause
 use Rattle.vx_history.specs.declared.cause.Stop.{Stop}
 use Rattle.vx_history.specs.declared.cause.Stop.TheVariants as stop

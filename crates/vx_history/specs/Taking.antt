@@ -4,11 +4,11 @@ use Rattle.std.specs.Prelude.{Bool, ◌&&◌, if◌then◌else◌, nat_lt, List,
 use Rattle.vx_trace.specs.Text.{is_timed}
 use Rattle.vx_rules.specs.Lists.{along}
 use Rattle.vx_rules.specs.State.{State}
-use Rattle.vx_rules.specs.One.{one}
+use Rattle.vx_rules.specs.AtomicStep.{atomic_step}
 use Rattle.vx_flow.specs.Event.{Event}
 use Rattle.vx_flow.specs.Event as event
-use Rattle.vx_flow.specs.FineState.{turn_after}
-use Rattle.vx_flow.specs.Gather.{gathered}
+use Rattle.vx_flow.specs.InterleavedState.{turn_after}
+use Rattle.vx_flow.specs.Linearization.{linearized}
 use Rattle.vx_history.specs.declared.cause.Cause.{Cause}
 use Rattle.vx_history.specs.declared.cause.Cause.TheVariants as cause
 use Rattle.vx_history.specs.Shown.{Timed}
@@ -34,7 +34,7 @@ led s kept e (Some gateway) =
 
 -- an event happens: the gateway of one thread takes the entry that it is, with all that the turn did, where it is one
 abbrev pub happens : CheckState → List Kept → Event → Took
-happens s kept e = led s kept e (along one (Some s.gateway) (gathered s.turn e))
+happens s kept e = led s kept e (along atomic_step (Some s.gateway) (linearized s.turn e))
 
 abbrev pub taken_so : CheckState → Said → Took
 taken_so s (Quiet next) = Taken [] (record s { next = next })

@@ -5,7 +5,7 @@ use Rattle.vx_flow.specs.Event.{Event}
 use Rattle.vx_history.specs.declared.lines.Far.{Far}
 use Rattle.vx_history.specs.declared.lines.Far.TheVariants as far
 use Rattle.vx_history.specs.declared.cause.Stop.{Stop}
-use Rattle.vx_history.specs.Shown.{Timed, Shows, whole_lines}
+use Rattle.vx_history.specs.Shown.{Timed, TraceShows, whole_lines}
 use Rattle.vx_history.specs.Taking.{takes}
 use Rattle.vx_history.specs.Stepping.{EndsTake}
 use Rattle.vx_history.specs.CheckState.{CheckState, beginning}
@@ -24,7 +24,7 @@ AllWithin most texts = All (λ line. length line + 1 ≤ most) texts
 
 -- a text was taken as the line that it shows, or as none
 abbrev pub TakesText : CheckState → List ℕ → Result Unit Stop → CheckState → Type 0
-TakesText s text result now = (shown : Option Timed) × Shows text shown × EndsTake (takes s shown) result now
+TakesText s text result now = (shown : Option Timed) × TraceShows text shown × EndsTake (takes s shown) result now
 
 -- all these lines were taken, and the line behind them has this number
 pub record GoesThrough (texts : List (List ℕ)) (next : ℕ) (over : Bool) : Type 0 where

@@ -14,12 +14,12 @@ ghost use Rattle.vx_trace.specs.Text.{is_timed};
 ghost use Rattle.vx_rules.specs.SrqState.{Channel};
 ghost use Rattle.vx_rules.specs.State.{Pending};
 ghost use Rattle.vx_rules.specs.Calls.{proc_of};
-ghost use Rattle.vx_rules.specs.One.{one};
+ghost use Rattle.vx_rules.specs.AtomicStep.{atomic_step};
 ghost use Rattle.vx_model.specs.EntryShown.{entry_shown};
 ghost use Rattle.vx_flow.specs.Event as event;
-ghost use Rattle.vx_flow.specs.FineState.{moves_of, begun_of, turn_of};
+ghost use Rattle.vx_flow.specs.InterleavedState.{moves_of, begun_of, turn_of};
 ghost use Rattle.vx_exchange.specs.Doing.{reply_error};
-ghost use Rattle.vx_history.specs.Messages.{IsSent, message_shown};
+ghost use Rattle.vx_history.specs.Messages.{IsTraceSent, message_shown};
 ghost use Rattle.vx_history.specs.Replies.{abort_in, reply_of, results_told, srq_in};
 ghost use Rattle.vx_history.specs.Spelling.{IsPuttableOutcome};
 ghost use Rattle.vx_history.specs.Stepping.{EndsTake, EndsSaid, EndsStep, IsShortLine, checker_shown, kept_shown, needs_bus, needs_dial, next_shown, timed_shown, turn_behind, turn_shown};
@@ -86,7 +86,7 @@ pub(crate) struct Checker {
 
 /// The gateway of one thread takes the entry, or it is the cause.
 fn step(plain: &mut Plain, entry: &EntryRef<'_>) -> Result<(), Stop>
-    ensures { EndsStep (one plain.old (entry_shown entry.now)) result plain.new }
+    ensures { EndsStep (atomic_step plain.old (entry_shown entry.now)) result plain.new }
 {
     match plain.step(entry) {
         Ok(true) => Ok(()),
@@ -421,7 +421,7 @@ impl Checker {
 
     /// A message of this meaning comes on a connection.
     fn message(&mut self, conn: u32, message: Message<'_>) -> Result<(), Stop>
-        requires { IsSent message }
+        requires { IsTraceSent message }
         ensures { EndsSaid self.old (saying.message_says conn (message_shown message.entry)) result self.new }
     {
         match message {

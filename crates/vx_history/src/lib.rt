@@ -6,16 +6,16 @@ mod cause;
 mod checker;
 mod formed;
 mod kept;
-mod laws;
 mod limits;
 mod lines;
 mod message;
 mod replies;
+mod theorems;
 mod trace;
 
 pub use cause::Cause;
 pub use formed::formed_runs;
-pub use laws::{lawful_histories, one_history, replies_are_read};
 pub use limits::TRACE_MAX;
 pub use lines::{Far, end_lines, walk};
+pub use theorems::{lawful_histories, one_history, replies_are_read};
 pub use trace::{Trace, read_trace};

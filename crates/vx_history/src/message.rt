@@ -5,7 +5,7 @@ ghost use Rattle.vx_rpc.specs.Wording.{success_message, refusal_message};
 ghost use Rattle.vx_rpc.specs.Sorting.{is_sent};
 ghost use Rattle.vx_exchange.specs.Meaning.{meaning, by_call};
 ghost use Rattle.vx_calls.specs.Call.{call_shown};
-ghost use Rattle.vx_history.specs.Messages.{message_shown, IsSent};
+ghost use Rattle.vx_history.specs.Messages.{message_shown, IsTraceSent};
 
 use vx_calls::{CallRef, Role};
 use vx_codec::read_args;
@@ -31,7 +31,7 @@ pub(crate) enum Message<'a> {
 /// What a call means.
 fn called<'a>(xid: u32, call: CallRef<'a>) -> Message<'a>
     ensures meaning { message_shown result ≡ by_call xid (call_shown call.entry) }
-    ensures sent { IsSent result }
+    ensures sent { IsTraceSent result }
 {
     match call {
         CallRef::Null => Message::Null { xid },
@@ -43,7 +43,7 @@ fn called<'a>(xid: u32, call: CallRef<'a>) -> Message<'a>
 /// What a message on a connection of this role means (RFC 5531, section 9).
 pub(crate) fn meaning_of<'a>(message: &'a [u8], role: Role) -> Message<'a>
     ensures meaning { message_shown result ≡ meaning message.now role }
-    ensures sent { IsSent result }
+    ensures sent { IsTraceSent result }
 {
     match sort_call(message, role) {
         Sorted::Junk => Message::Junk,

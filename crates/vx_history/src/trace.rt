@@ -1,5 +1,6 @@
 //! A trace read from its source.
 ghost use Rattle.std.specs.Prelude.{◌≤◌, ◌<◌, length};
+ghost use Rattle.vx_text.specs.Ends.{source_shown};
 ghost use Rattle.vx_history.specs.Reading.{IsTrace, IsPiece};
 ghost use Rattle.vx_history.specs.declared.limits.TheConstants.{TRACE_MAX};
 
@@ -35,8 +36,7 @@ pub(crate) enum Piece {
 fn read_piece<S: Source>(source: &mut S, room: &mut [u8], bytes: &mut Vec<u8>) -> Piece
     requires { 0 < length room.old }
     ensures read { IsPiece (length room.old) bytes.old.items bytes.new.items
-        (record { bytes = S.left source.old; faults = S.faults source.old })
-        (record { bytes = S.left source.new; faults = S.faults source.new }) result }
+        (source_shown S.Source source.old) (source_shown S.Source source.new) result }
     ensures counted { S.faults source.old ≤ S.faults source.new }
 {
     match source.read(room) {
@@ -53,8 +53,7 @@ fn read_piece<S: Source>(source: &mut S, room: &mut [u8], bytes: &mut Vec<u8>) -
 pub fn read_trace<S: Source>(alloc: Global, source: &mut S, most: usize) -> Trace
     requires { most ≤ TRACE_MAX }
     ensures read { IsTrace most
-        (record { bytes = S.left source.old; faults = S.faults source.old })
-        (record { bytes = S.left source.new; faults = S.faults source.new }) result }
+        (source_shown S.Source source.old) (source_shown S.Source source.new) result }
     ensures counted { S.faults source.old ≤ S.faults source.new }
 {
     let mut bytes = Vec::new(alloc);

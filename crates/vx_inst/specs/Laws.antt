@@ -34,25 +34,25 @@ IsStatus stb = (stb < 256) × (rqs_bit stb ≡ false)
 
 -- What holds of an instrument at every moment: its inbox and what it has to give are within their room, and bit 6 of its
 -- status byte is zero.
-abbrev pub IsSound : View → Type 0
-IsSound v = (length v.inbox ≤ INST_MAX) × (length v.out ≤ INST_MAX) × IsStatus v.stb
+abbrev pub IsInstSound : View → Type 0
+IsInstSound v = (length v.inbox ≤ INST_MAX) × (length v.out ≤ INST_MAX) × IsStatus v.stb
 
 -- A byte that it takes joins its inbox; with END its message is whole, the inbox is empty, and a reply may be appended.
-abbrev pub Takes : View → ℕ → Bool → View → Type 0
-Takes old b false new = (new.inbox ≡ old.inbox ++ b ∷ []) × (new.out ≡ old.out)
-Takes old b true new = (new.inbox ≡ []) × IsLonger old.out new.out
+abbrev pub InstTakes : View → ℕ → Bool → View → Type 0
+InstTakes old b false new = (new.inbox ≡ old.inbox ++ b ∷ []) × (new.out ≡ old.out)
+InstTakes old b true new = (new.inbox ≡ []) × IsLonger old.out new.out
 
 -- It gives the front of what it has to give.
-abbrev pub Gives : View → Byte → View → Type 0
-Gives old b new = (old.out ≡ b ∷ new.out) × (new.inbox ≡ old.inbox)
+abbrev pub InstGives : View → Byte → View → Type 0
+InstGives old b new = (old.out ≡ b ∷ new.out) × (new.inbox ≡ old.inbox)
 
 -- its status byte, with bit 6 where it asks for service
 abbrev pub status_byte : View → ℕ
 status_byte v = v.stb + (if v.rqs then 64 else 0)
 
 -- A serial poll ends its asking for service. All else but its readiness is as before.
-abbrev pub IsPolled : View → View → Type 0
-IsPolled old new = new ≡ record old { rqs = false; ready = new.ready }
+abbrev pub IsInstPolled : View → View → Type 0
+IsInstPolled old new = new ≡ record old { rqs = false; ready = new.ready }
 
 -- A clear empties what it took and what it has to give.
 abbrev pub IsCleared : View → View → Type 0
@@ -62,8 +62,8 @@ IsCleared old new = (new.inbox ≡ []) × (new.out ≡ []) × (new.stb ≡ old.s
 abbrev pub IsTriggered : View → View → Type 0
 IsTriggered old new = (new.inbox ≡ old.inbox) × IsLonger old.out new.out
 
-abbrev pub IsTold : View → View → Type 0
-IsTold old new = (new.inbox ≡ old.inbox) × IsLonger old.out new.out
+abbrev pub IsInstTold : View → View → Type 0
+IsInstTold old new = (new.inbox ≡ old.inbox) × IsLonger old.out new.out
 
 -- the view with a status byte that is set
 abbrev pub with_status : View → ℕ → View

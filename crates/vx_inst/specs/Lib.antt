@@ -5,5 +5,4 @@ pub mod Reply
 pub mod Shared
 pub mod Behavior
 pub mod Runs
-pub mod ProvedLaws
 pub use Rattle.vx_488.specs.Heard

@@ -7,11 +7,11 @@ use Rattle.vx_bus_traits.specs.Steps.{Step, Went, Held}
 use Rattle.vx_inst.specs.declared.done.Done.{Done}
 use Rattle.vx_inst.specs.declared.done.Done.TheVariants.{Took, Gave}
 use Rattle.vx_inst.specs.Behavior.{Behavior, seen, after}
-use Rattle.vx_inst.specs.Laws.{takes_byte, gives_byte, IsSound, Takes, Gives}
+use Rattle.vx_inst.specs.Laws.{takes_byte, gives_byte, IsInstSound, InstTakes, InstGives}
 
 -- It takes a byte, which it can take, as every instrument does, and behaves as it does after just this call.
 abbrev pub TakesNext : ℕ → Bool → Behavior → Behavior → Type 0
-TakesNext b end old new = (takes_byte (seen old) ≡ true) × Takes (seen old) b end (seen new) × (new ≡ after (Took b end) old) × IsSound (seen new)
+TakesNext b end old new = (takes_byte (seen old) ≡ true) × InstTakes (seen old) b end (seen new) × (new ≡ after (Took b end) old) × IsInstSound (seen new)
 
 -- It takes the bytes of these puts, one after the other.
 abbrev pub TakesRun : List Transfer → Behavior → Behavior → Type 0
@@ -22,7 +22,7 @@ TakesRun (_ ∷ puts) old new = ⊥
 -- It gives a byte for each get that goes, and has none where a get is held.
 abbrev pub GivesNext : Behavior → Step → Behavior → Type 0
 GivesNext old (Went (Got b end)) new =
-    (gives_byte (seen old) ≡ true) × Gives (seen old) (record { value = b; end = end }) (seen new) × (new ≡ after Gave old) × IsSound (seen new)
+    (gives_byte (seen old) ≡ true) × InstGives (seen old) (record { value = b; end = end }) (seen new) × (new ≡ after Gave old) × IsInstSound (seen new)
 GivesNext old (Held ask.Get) new = (gives_byte (seen old) ≡ false) × (new ≡ old)
 GivesNext old _ new = ⊥
 

@@ -2,7 +2,7 @@
 
 ghost use Rattle.std.specs.Prelude.{◌≡◌, ◌≤◌, ◌+◌, ◌++◌, true, length, map, IfOk};
 ghost use Rattle.vx_inst.specs.declared.TheConstants.{INST_MAX};
-ghost use Rattle.vx_inst.specs.Laws.{takes_byte, gives_byte, Takes, Gives, status_byte, IsSound, with_status};
+ghost use Rattle.vx_inst.specs.Laws.{takes_byte, gives_byte, InstTakes, InstGives, status_byte, IsInstSound, with_status};
 ghost use Rattle.std.specs.VecDeque.{deque_len, deque_capacity};
 ghost use Rattle.vx_inst.specs.Reply.{unmarked, reply_appended};
 ghost use Rattle.vx_inst.specs.Shared.{fresh, with_byte, without_message, replied, echoed, echo_after_take, after_give, after_poll, after_clear};
@@ -73,7 +73,7 @@ impl Body {
     /// Whether its inbox has room for a byte.
     pub fn can_take(&self) -> bool
         ensures can { result ≡ takes_byte self.now }
-        ensures sound { IsSound self.now }
+        ensures sound { IsInstSound self.now }
     {
         self.inbox.len() < INST_MAX
     }
@@ -81,7 +81,7 @@ impl Body {
     /// Whether it has a byte to give.
     pub fn can_give(&self) -> bool
         ensures can { result ≡ gives_byte self.now }
-        ensures sound { IsSound self.now }
+        ensures sound { IsInstSound self.now }
     {
         !self.out.is_empty()
     }
@@ -89,7 +89,7 @@ impl Body {
     /// Whether it asks for service.
     pub fn requests(&self) -> bool
         ensures asks { result ≡ self.now.rqs }
-        ensures sound { IsSound self.now }
+        ensures sound { IsInstSound self.now }
     {
         self.rqs
     }
@@ -105,7 +105,7 @@ impl Body {
     pub fn keep(&mut self, b: u8)
         requires { takes_byte self.old ≡ true }
         ensures kept { self.new ≡ with_byte self.old b }
-        ensures sound { IsSound self.new }
+        ensures sound { IsInstSound self.new }
     {
         self.inbox.push_reserved(b);
     }
@@ -113,7 +113,7 @@ impl Body {
     /// Empties the inbox.
     pub fn forget(&mut self)
         ensures forgotten { self.new ≡ without_message self.old }
-        ensures sound { IsSound self.new }
+        ensures sound { IsInstSound self.new }
     {
         self.inbox.clear();
     }
@@ -121,7 +121,7 @@ impl Body {
     /// Appends a reply, where there is room for all of it.
     pub fn reply(&mut self, reply: &[u8])
         ensures replied { self.new ≡ replied self.old reply.now }
-        ensures sound { IsSound self.new }
+        ensures sound { IsInstSound self.new }
     {
         append(&mut self.out, reply);
     }
@@ -130,8 +130,8 @@ impl Body {
     pub fn take_echoing(&mut self, b: u8, end: bool)
         requires { takes_byte self.old ≡ true }
         ensures takes { self.new ≡ echo_after_take self.old b end }
-        ensures longer { Takes self.old b end self.new }
-        ensures sound { IsSound self.new }
+        ensures longer { InstTakes self.old b end self.new }
+        ensures sound { IsInstSound self.new }
     {
         self.keep(b);
         if end {
@@ -143,7 +143,7 @@ impl Body {
     #[inline(never)]
     fn echo(&mut self)
         ensures echoed { self.new ≡ echoed self.old }
-        ensures sound { IsSound self.new }
+        ensures sound { IsInstSound self.new }
     {
         append(&mut self.out, self.inbox.as_slice());
         self.inbox.clear();
@@ -152,9 +152,9 @@ impl Body {
     /// Gives the next byte, and whether END stands on it.
     pub fn give(&mut self) -> (u8, bool)
         requires { gives_byte self.old ≡ true }
-        ensures gives { Gives self.old (record { value = result.0; end = result.1 }) self.new }
+        ensures gives { InstGives self.old (record { value = result.0; end = result.1 }) self.new }
         ensures given { self.new ≡ after_give self.old }
-        ensures sound { IsSound self.new }
+        ensures sound { IsInstSound self.new }
     {
         match self.out.pop_front() {
             Some(marked) => (marked.byte, marked.end),
@@ -166,7 +166,7 @@ impl Body {
     pub fn poll(&mut self) -> u8
         ensures status { result ≡ status_byte self.old }
         ensures polled { self.new ≡ after_poll self.old }
-        ensures sound { IsSound self.new }
+        ensures sound { IsInstSound self.new }
     {
         let status = if self.rqs { self.stb + RQS } else { self.stb };
         self.rqs = false;
@@ -176,7 +176,7 @@ impl Body {
     /// Empties both lists.
     pub fn clear(&mut self)
         ensures cleared { self.new ≡ after_clear self.old }
-        ensures sound { IsSound self.new }
+        ensures sound { IsInstSound self.new }
     {
         self.inbox.clear();
         self.out.clear();
@@ -185,7 +185,7 @@ impl Body {
     /// Sets its status byte; bit 6 says whether it asks for service.
     pub fn set_status(&mut self, b: u8)
         ensures set { self.new ≡ with_status self.old b }
-        ensures sound { IsSound self.new }
+        ensures sound { IsInstSound self.new }
     {
         self.rqs = b / RQS % 2 == 1;
         self.stb = b / (2 * RQS) * (2 * RQS) + b % RQS;
@@ -193,7 +193,7 @@ impl Body {
 
     /// Changes nothing. A call that has nothing to do learns by it that its view is sound.
     pub fn stay(&self)
-        ensures { IsSound self.now }
+        ensures { IsInstSound self.now }
     {
         let _ = &self.stb;
     }

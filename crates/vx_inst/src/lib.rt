@@ -12,7 +12,7 @@ ghost use Rattle.vx_bus_traits.specs.Bursts.{ended, gets_steps, StopsAt};
 ghost use Rattle.vx_bus_traits.specs.Steps.{Path};
 ghost use Rattle.vx_inst.specs.declared.done.Done.TheVariants.{Took, Gave, Polled, Cleared, Triggered, ToLocal, StatusSet, Told};
 ghost use Rattle.vx_inst.specs.Behavior.{Behavior, seen, after};
-ghost use Rattle.vx_inst.specs.Laws.{takes_byte, gives_byte, IsSound, Takes, Gives, status_byte, IsPolled, IsCleared, IsTriggered, IsTold, with_status};
+ghost use Rattle.vx_inst.specs.Laws.{takes_byte, gives_byte, IsInstSound, InstTakes, InstGives, status_byte, IsInstPolled, IsCleared, IsTriggered, IsInstTold, with_status};
 ghost use Rattle.vx_inst.specs.Runs.{TakesRun, GivesNext};
 
 pub use body::Body;
@@ -40,14 +40,14 @@ pub trait Instrument: Drop {
     /// Whether it can take a byte: it is ready, and its inbox has room.
     fn can_take(&self) -> bool
         ensures can { result ≡ takes_byte (seen (behaves self.now)) }
-        ensures sound { IsSound (seen (behaves self.now)) };
+        ensures sound { IsInstSound (seen (behaves self.now)) };
 
     /// Takes a byte, with END on it or not. With END its message is whole, and it may have a reply to give.
     fn take(&mut self, b: u8, end: bool)
         requires { takes_byte (seen (behaves self.old)) ≡ true }
-        ensures takes { Takes (seen (behaves self.old)) b end (seen (behaves self.new)) }
+        ensures takes { InstTakes (seen (behaves self.old)) b end (seen (behaves self.new)) }
         ensures does { behaves self.new ≡ after (Took b end) (behaves self.old) }
-        ensures sound { IsSound (seen (behaves self.new)) };
+        ensures sound { IsInstSound (seen (behaves self.new)) };
 
     /// Takes bytes, one after the other, until it can't take one or there is none left, with END on the last of all or not.
     /// Answers how many it took.
@@ -70,14 +70,14 @@ pub trait Instrument: Drop {
     /// Whether it can give a byte: it is ready, and has one.
     fn can_give(&self) -> bool
         ensures can { result ≡ gives_byte (seen (behaves self.now)) }
-        ensures sound { IsSound (seen (behaves self.now)) };
+        ensures sound { IsInstSound (seen (behaves self.now)) };
 
     /// Gives the next byte, and whether END stands on it.
     fn give(&mut self) -> (u8, bool)
         requires { gives_byte (seen (behaves self.old)) ≡ true }
-        ensures gives { Gives (seen (behaves self.old)) (record { value = result.0; end = result.1 }) (seen (behaves self.new)) }
+        ensures gives { InstGives (seen (behaves self.old)) (record { value = result.0; end = result.1 }) (seen (behaves self.new)) }
         ensures does { behaves self.new ≡ after Gave (behaves self.old) }
-        ensures sound { IsSound (seen (behaves self.new)) };
+        ensures sound { IsInstSound (seen (behaves self.new)) };
 
     /// Gives bytes, one after the other, into a room: until one has END, or is the stop byte, or fills the room, or until it has
     /// none to give. Of these it tells the first; that one failed it never tells.
@@ -122,42 +122,42 @@ pub trait Instrument: Drop {
     /// (IEEE 488.1, 2.7).
     fn poll(&mut self) -> u8
         ensures status { result ≡ status_byte (seen (behaves self.old)) }
-        ensures polled { IsPolled (seen (behaves self.old)) (seen (behaves self.new)) }
+        ensures polled { IsInstPolled (seen (behaves self.old)) (seen (behaves self.new)) }
         ensures does { behaves self.new ≡ after Polled (behaves self.old) }
-        ensures sound { IsSound (seen (behaves self.new)) };
+        ensures sound { IsInstSound (seen (behaves self.new)) };
 
     /// Whether it asks for service.
     fn requests(&self) -> bool
         ensures asks { result ≡ (seen (behaves self.now)).rqs }
-        ensures sound { IsSound (seen (behaves self.now)) };
+        ensures sound { IsInstSound (seen (behaves self.now)) };
 
     /// Forgets what it took and what it has to give (IEEE 488.1, 2.10, device clear).
     fn clear(&mut self)
         ensures cleared { IsCleared (seen (behaves self.old)) (seen (behaves self.new)) }
         ensures does { behaves self.new ≡ after Cleared (behaves self.old) }
-        ensures sound { IsSound (seen (behaves self.new)) };
+        ensures sound { IsInstSound (seen (behaves self.new)) };
 
     /// Does what its trigger does (IEEE 488.1, 2.11).
     fn trigger(&mut self)
         ensures triggered { IsTriggered (seen (behaves self.old)) (seen (behaves self.new)) }
         ensures does { behaves self.new ≡ after Triggered (behaves self.old) }
-        ensures sound { IsSound (seen (behaves self.new)) };
+        ensures sound { IsInstSound (seen (behaves self.new)) };
 
     /// Goes to local control (IEEE 488.1, 2.8).
     fn local(&mut self)
         ensures same { seen (behaves self.new) ≡ seen (behaves self.old) }
         ensures does { behaves self.new ≡ after ToLocal (behaves self.old) }
-        ensures sound { IsSound (seen (behaves self.new)) };
+        ensures sound { IsInstSound (seen (behaves self.new)) };
 
     /// Sets its status byte; bit 6 says whether it asks for service.
     fn set_status(&mut self, b: u8)
         ensures set { seen (behaves self.new) ≡ with_status (seen (behaves self.old)) b }
         ensures does { behaves self.new ≡ after (StatusSet b) (behaves self.old) }
-        ensures sound { IsSound (seen (behaves self.new)) };
+        ensures sound { IsInstSound (seen (behaves self.new)) };
 
     /// Tells it a moment, in milliseconds.
     fn moment(&mut self, now: u64)
-        ensures told { IsTold (seen (behaves self.old)) (seen (behaves self.new)) }
+        ensures told { IsInstTold (seen (behaves self.old)) (seen (behaves self.new)) }
         ensures does { behaves self.new ≡ after (Told now) (behaves self.old) }
-        ensures sound { IsSound (seen (behaves self.new)) };
+        ensures sound { IsInstSound (seen (behaves self.new)) };
 }

@@ -5,4 +5,3 @@ pub mod Rung
 pub mod Accepts
 pub mod Handing
 pub mod Reached
-pub mod ProvedLaws

@@ -3,22 +3,23 @@ use Rattle.std.proofs.Common.{◌≡◌, ℕ, List, [], ◌++◌, Option, Some, 
 use Rattle.std.specs.Prelude.{is_some, ◌≤◌, length}
 use Rattle.std.specs.Io.KnownBytes.{Appends}
 use Rattle.std.proofs.lemmas.Bool.{false≢true}
-use Rattle.vx_bench.specs.Rack.{SpareShown}
+use Rattle.vx_setup.specs.Rack.{SpareShown}
 use Rattle.vx_rules.specs.Legal.{IsLegal}
 use Rattle.vx_run.specs.Item.{last_line}
 use Rattle.vx_run.specs.RunText.{text}
 use Rattle.vx_play.specs.declared.run.Order.TheVariants as order
-use Rattle.vx_play.specs.declared.run.Status.{Status}
-use Rattle.vx_play.specs.declared.run.Status.TheVariants as status
+use Rattle.vx_play.specs.declared.run.PlayStatus.{PlayStatus}
+use Rattle.vx_play.specs.declared.run.PlayStatus.TheVariants as status
 use Rattle.vx_play.specs.Ended.{version_in}
 use Rattle.vx_play.specs.Outcome as player
-use Rattle.vx_play.specs.Outcome.{order_of, status_number, IsOutcome, MakesRun}
+use Rattle.vx_play.specs.Outcome.{order_of, play_status_number, IsOutcome, MakesRun}
+use Rattle.vx_play.proofs.Laws.{one_order}
 use Rattle.vx_history.specs.CheckState.{abort_port}
 use Rattle.vx_history.specs.declared.limits.TheConstants.{TRACE_MAX}
 use Rattle.vx_history.specs.History.{Lawful}
 use Rattle.vx_history.specs.Formed.{FormedLaw, FormedLegalLaw, ToldLaw, run_trace, told_events}
 use Rattle.vx_check.specs.Outcome.{Wrote, legal_line}
-use Rattle.vx_check.specs.Verdicts.{IsUndisturbed, RanOut, IsAnswered}
+use Rattle.vx_check.specs.Verdicts.{IsUndisturbed, RanOut, IsCheckAnswered}
 use Rattle.vx_legal.specs.Joined.{WritesLegal, PlaysLegal, PlaysAreLegal, RunsAreLegal, PlaysAreAnswered}
 
 -- the play of a script of version 2 is a formed run that can be printed
@@ -32,19 +33,15 @@ plays-legal tells told legal t rack before after (items, played, written) two = 
   all = told items;
 }
 
--- words that ask for a play ask for no lift and for no run
-no_lift : (words : List (List ℕ)) → order_of words ≡ Some order.Play → order_of words ≡ Some order.Lift → ⊥
-no_lift words play lift = absurd (cc)
-
-no_run : (words : List (List ℕ)) (rack : List SpareShown) (ends : player.Ends) (how : Status) → order_of words ≡ Some order.Play → MakesRun words rack ends how → ⊥
+no_run : (words : List (List ℕ)) (rack : List SpareShown) (ends : player.PlayEnds) (how : PlayStatus) → order_of words ≡ Some order.Play → MakesRun words rack ends how → ⊥
 no_run words rack ends how command made = false≢true (ap (λ (ws : List (List ℕ)). is_some (order_of ws)) (sym made.words_are) ∙ ap is_some command)
 
 -- a play that ended with 0
 pub runs-legal : PlaysAreLegal → RunsAreLegal
 runs-legal law words rack ends (how, is, outcome) command = by how is outcome where
-  by : (how : Status) → 0 ≡ status_number how → IsOutcome words rack ends how → PlaysLegal rack ends
+  by : (how : PlayStatus) → 0 ≡ play_status_number how → IsOutcome words rack ends how → PlaysLegal rack ends
   by status.Done is (inl out) = record { script_text = out.bytes; read = out.read; legal = law out.bytes rack ends.sink ends.sink_after out.ended }
-  by status.Done is (inr (inl lift)) = absurd (no_lift words command lift.command)
+  by status.Done is (inr (inl lift)) = absurd (one_order words command lift.command)
   by status.Done is (inr (inr made)) = absurd (no_run words rack ends status.Done command made)
   by status.Usage is outcome = let e : 0 ≡ 1 = is in absurd (omega arith)
   by status.SourceFailed is outcome = let e : 0 ≡ 2 = is in absurd (omega arith)
@@ -80,6 +77,6 @@ plays-answered law words rack played checked number h ended completes =
     few : length (run_trace wrote.items) ≤ TRACE_MAX
     few = subst (λ xs. length xs ≤ TRACE_MAX) trace_is h.few
 
-    by : RanOut checked number ⊎ IsAnswered checked number (Lawful (told_events wrote.items)) → RanOut checked number ⊎ ((number ≡ 0) × Wrote checked legal_line)
+    by : RanOut checked number ⊎ IsCheckAnswered checked number (Lawful (told_events wrote.items)) → RanOut checked number ⊎ ((number ≡ 0) × Wrote checked legal_line)
     by (inl lacking) = inl lacking
     by (inr legal) = inr (legal.0, legal.2)

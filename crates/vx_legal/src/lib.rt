@@ -2,6 +2,6 @@
 //! that the checker calls legal. There is no code in it.
 #![tactic(auto)]
 
-mod laws;
+mod theorems;
 
-pub use laws::plays_are_legal;
+pub use theorems::plays_are_legal;

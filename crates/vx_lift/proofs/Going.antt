@@ -1,10 +1,9 @@
 -- A lift, line by line.
 use Rattle.std.proofs.Common.{◌≡◌, ℕ, ◌+◌, ◌≤◌, le_trans, List, [], ◌∷◌, ◌++◌, length, Option, Some, None, codes, refl, ap, sym, subst, ◌∙◌, arith, length-append, append-nil, append_assoc}
-use Rattle.std.proofs.Math.Seq.{take-append-add}
 use Rattle.std.proofs.lemmas.List.{take-append-le}
 use Rattle.std.specs.Io.KnownBytes.{Appends}
 use Rattle.std.proofs.KnownBytes.{Appends-trans}
-use Rattle.vx_io_traits.specs.ProvedLaws.{rose_earlier}
+use Rattle.vx_text.proofs.Laws.Moved.{stops-behind}
 use Rattle.vx_text.specs.Ends.{End}
 use Rattle.vx_text.specs.TextLines.{lines}
 use Rattle.vx_text.specs.Writing.{StopsIn}
@@ -22,18 +21,6 @@ pub record UnderWay (script rest : List ℕ) (count moment : ℕ) (before after 
   pub counted : before.faults ≤ after.faults
 
 -- ---- what was written
-
--- the sink failed in a text behind one that it took
-stops-behind : (before mid after : End) (xs ys : List ℕ) → Appends before.bytes mid.bytes xs → before.faults ≤ mid.faults → StopsIn mid after ys → StopsIn before after (xs ++ ys)
-stops-behind before mid after xs ys taken counted stops =
-    let len = length-append xs ys in
-    let within : stops.count ≤ length ys = stops.within in
-    record {
-      rose = rose_earlier before.faults mid.faults after.faults counted stops.rose;
-      count = length xs + stops.count;
-      within = omega arith;
-      taken = subst (Appends before.bytes after.bytes) (sym (take-append-add xs ys stops.count)) (Appends-trans before.bytes mid.bytes after.bytes _ _ taken stops.taken);
-    }
 
 -- the sink failed in a text, and so in one that goes on behind it
 pub stops-within : (before after : End) (xs ys : List ℕ) → StopsIn before after xs → StopsIn before after (xs ++ ys)

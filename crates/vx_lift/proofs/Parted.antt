@@ -4,13 +4,14 @@ use Rattle.std.specs.Prelude.{not, ◌==◌}
 use Rattle.std.specs.List.{list_all, onto_first}
 use Rattle.std.proofs.lemmas.Bool.{cond-false, and_parts, and_from, not-true, not_from_false, ne_eqb}
 use Rattle.std.proofs.lemmas.Fmt.{digits_decimal}
-use Rattle.vx_lemmas.specs.Decimal.{is_digit, own, tells}
+use Rattle.vx_lemmas.proofs.Laws.Decimal.{is_digit, own, tells}
 use Rattle.vx_text.specs.TextLines.{lines}
 use Rattle.vx_script.specs.Command.{At}
 use Rattle.vx_script.specs.Grammar.{Reading, Skipped, Does, Outside, reading}
 use Rattle.vx_script.specs.Laws.{ReadingLaw}
 use Rattle.vx_lift.specs.Lifted.{lifted_line, lifted_by, lifted_from, moment_behind}
 use Rattle.vx_lift.specs.LiftedLines.{step_line, lines_by, lifted_lines, LiftedLinesLaw}
+use Rattle.vx_lift.proofs.Laws.{stays-small}
 
 -- no byte of a text is LF
 abbrev lacks_lf : List ℕ → Bool
@@ -67,13 +68,6 @@ parted-by moment line Skipped behind after small lacks rest = rest
 parted-by moment line (Does (At later)) behind after small lacks rest = rest
 parted-by moment line (Does _) behind after small lacks rest = lifted-cut moment line behind small lacks ∙ ap (λ ls. step_line moment line ∷ ls) rest
 parted-by moment line Outside behind after small lacks rest = refl
-
--- a moment stays below 2^64
-stays-small : ReadingLaw → (moment : ℕ) (line : List ℕ) (said : Reading) → reading line ≡ said → moment < 2 ^ 64 → moment_behind moment said < 2 ^ 64
-stays-small law moment line (Does (At later)) says small =
-    let within : later < 2 ^ 64 = ((law line (Does (At later))).0 says).1.0 in
-    omega arith
-stays-small law moment line _ says small = small
 
 parted-from : ReadingLaw → (moment : ℕ) (ls : List (List ℕ)) → moment < 2 ^ 64 → list_all lacks_lf ls ≡ true → lines (lifted_from moment ls) ≡ lifted_lines moment ls
 parted-from law moment [] small lacks = refl

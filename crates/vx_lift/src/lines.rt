@@ -1,13 +1,13 @@
 //! One line: what it is to a lift, and the line of version 2 that it is lifted to.
-ghost use Rattle.std.specs.Prelude.{◌≡◌, ◌≤◌, ◌+◌, ◌++◌, length, take};
+ghost use Rattle.std.specs.Prelude.{◌≡◌, ◌≤◌, ◌+◌, length};
+ghost use Rattle.vx_text.specs.Ends.{sink_shown};
 ghost use Rattle.vx_script.specs.Grammar.{reading};
 ghost use Rattle.vx_lift.specs.Lifted.{lifted_line};
 ghost use Rattle.vx_lift.specs.LineLifted.{IsSaid, EndsLine};
 
-use itoa::Buffer;
 use vx_io_traits::Sink;
 use vx_script::{LINE_MAX, Step, read_step};
-use vx_text::put_all;
+use vx_text::{put_all, put_number, put_text};
 
 /// Room for a moment of at most 20 digits, a space and LF.
 const MOMENT_ROOM: usize = 22;
@@ -51,28 +51,15 @@ fn said_of(line: &[u8], room: &mut [u8]) -> Said
     }
 }
 
-/// Writes a piece behind the first `at` bytes of `text`, and answers where it ends.
-fn put_piece(piece: &[u8], at: usize, text: &mut [u8]) -> usize
-    requires { at + length piece.now ≤ length text.old }
-    ensures text { take result text.new ≡ take at text.old ++ piece.now }
-    ensures end { result ≡ at + length piece.now }
-    ensures len { length text.new ≡ length text.old }
-{
-    let end = at + piece.len();
-    text[at..end].copy_from_slice(piece);
-    end
-}
-
 /// The line that a step's line is lifted to at a moment, in milliseconds, written at the front of `text`.
 fn lift_step<'a>(moment: u64, line: &[u8], text: &'a mut [u8]) -> &'a [u8]
     requires { length line.now + MOMENT_ROOM ≤ length text.old }
     ensures { result.now ≡ lifted_line moment line.now }
 {
-    let mut buffer = Buffer::new();
-    let end = put_piece(buffer.format(moment).as_bytes(), 0, text);
-    let end = put_piece(b" ", end, text);
-    let end = put_piece(line, end, text);
-    let end = put_piece(b"\n", end, text);
+    let end = put_number(text, 0, moment);
+    let end = put_text(text, end, b" ");
+    let end = put_text(text, end, line);
+    let end = put_text(text, end, b"\n");
     &text[..end]
 }
 
@@ -88,8 +75,7 @@ pub fn lift_line<K: Sink>(
     requires room { LINE_MAX ≤ length room.old }
     requires text { TEXT_ROOM ≤ length text.old }
     ensures ended { EndsLine moment line.now (reading line.now)
-        (record { bytes = K.taken sink.old; faults = K.faults sink.old })
-        (record { bytes = K.taken sink.new; faults = K.faults sink.new }) result }
+        (sink_shown K.Sink sink.old) (sink_shown K.Sink sink.new) result }
     ensures counted { K.faults sink.old ≤ K.faults sink.new }
 {
     if line.len() > LINE_MAX {

@@ -1,5 +1,6 @@
 //! A whole script: the head, and what its lines are lifted to, one after the other.
 ghost use Rattle.std.specs.Prelude.{◌≤◌, length};
+ghost use Rattle.vx_text.specs.Ends.{sink_shown};
 ghost use Rattle.vx_lift.specs.Lifting.{EndsLift, EndsLiftScript};
 
 use crate::lines::{LineEnd, TEXT_ROOM, lift_line};
@@ -38,8 +39,7 @@ pub fn lift_lines<K: Sink>(script: &[u8], room: &mut [u8], text: &mut [u8], sink
     requires room { LINE_MAX ≤ length room.old }
     requires text { TEXT_ROOM ≤ length text.old }
     ensures ended { EndsLift script.now
-        (record { bytes = K.taken sink.old; faults = K.faults sink.old })
-        (record { bytes = K.taken sink.new; faults = K.faults sink.new }) result }
+        (sink_shown K.Sink sink.old) (sink_shown K.Sink sink.new) result }
     ensures counted { K.faults sink.old ≤ K.faults sink.new }
 {
     let Ok(()) = put_all(sink, b"vxscript 2\n") else {
@@ -65,8 +65,7 @@ pub fn lift_lines<K: Sink>(script: &[u8], room: &mut [u8], text: &mut [u8], sink
 /// that it makes.
 pub fn lift_script<K: Sink>(alloc: Global, script: &[u8], sink: &mut K) -> LiftEnd
     ensures ended { EndsLiftScript script.now
-        (record { bytes = K.taken sink.old; faults = K.faults sink.old })
-        (record { bytes = K.taken sink.new; faults = K.faults sink.new }) result }
+        (sink_shown K.Sink sink.old) (sink_shown K.Sink sink.new) result }
     ensures counted { K.faults sink.old ≤ K.faults sink.new }
 {
     let Ok(mut room) = zeros(alloc, LINE_MAX) else {

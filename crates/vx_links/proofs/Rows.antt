@@ -3,16 +3,16 @@ use Rattle.std.proofs.Common.{◌≡◌, ◌==◌, ℕ, Bool, ◌<◌, ◌≤◌
 use Rattle.std.specs.List.{find, filter, list_any, remove, All, AllPairs, HoldsAt}
 use Rattle.std.specs.Option.{option_map, IfSome}
 use Rattle.std.proofs.lemmas.List.{map-append, get_or-map, length-map}
-use Rattle.vx_lemmas.specs.Lists.{find-map, filter-map, list_any-map, is_some-find}
+use Rattle.vx_lemmas.proofs.Laws.Lists.{find-map, filter-map, list_any-map, is_some-find}
 use Rattle.vx_calls.specs.declared.targets.Target.{Target}
 use Rattle.vx_links.specs.declared.links.LinkRow.{LinkRow}
 use Rattle.vx_links.specs.declared.links.Links.TheInside.{Inside}
 use Rattle.vx_rules.specs.Table.{Link, Table, IsNumbered, link_at, is_live, first_link_of, with_link, without_link}
 use Rattle.vx_links.specs.Shown.{link_shown}
-use Rattle.vx_links.specs.Inside.{table_of, IsKept}
-use Rattle.vx_lemmas.specs.Filters.{filter-all}
-use Rattle.vx_links.specs.Places.{Rising, filter-place, none_equals}
-use Rattle.vx_rules.specs.ProvedLaws.Numbers.{Rises, found_is, found_given, owned_is, smallest_first}
+use Rattle.vx_links.specs.Inside.{table_of, IsLinkKept}
+use Rattle.vx_lemmas.proofs.Laws.Filters.{filter-all}
+use Rattle.vx_links.proofs.Laws.Places.{Rising, filter-place, none_equals}
+use Rattle.vx_rules.proofs.Laws.Numbers.{Rises, found_is, found_given, owned_is, smallest_first}
 
 -- a fact on the link that is shown is one on the row
 IfSome-shown : (P : Link → Type 0) (o : Option LinkRow) → IfSome (option_map link_shown o) P → IfSome o (λ r. P (link_shown r))
@@ -36,7 +36,7 @@ module _ (t : Table) (inside : Inside) (rows : List LinkRow) (view : table_of in
   pub any-shown : (q : Link → Bool) (b : Bool) → b ≡ list_any (λ r. q (link_shown r)) rows → b ≡ list_any q t.links
   any-shown q b passes = passes ∙ list_any-map link_shown q rows ∙ ap (list_any q) rows_show
 
-pub numbered_is : (t : Table) (inside : Inside) → table_of inside ≡ t → IsKept inside → IsNumbered t
+pub numbered_is : (t : Table) (inside : Inside) → table_of inside ≡ t → IsLinkKept inside → IsNumbered t
 numbered_is t inside view kept = subst IsNumbered view kept.numbered
 
 -- what `find` says of the row that it found
@@ -79,7 +79,7 @@ rows_rise rows rising i j d before h =
     omega (arith, near, far, rising i j (link_shown d) before (omega arith))
 
 -- the rows stand in order of number
-pub rows_rising : (inside : Inside) (rows : List LinkRow) → rows ≡ inside.rows.items → IsKept inside → Rising (λ r. r.lid) rows
+pub rows_rising : (inside : Inside) (rows : List LinkRow) → rows ≡ inside.rows.items → IsLinkKept inside → Rising (λ r. r.lid) rows
 rows_rising inside rows here kept = subst (Rising (λ r. r.lid)) (sym here) (rows_rise inside.rows.items kept.numbered.rising)
 
 -- the rows with one pushed, of the next number, show the links with one added
@@ -93,7 +93,7 @@ added_is t inside rows conn target view pushed =
     ∙ ap (λ u. with_link u conn target) view
 
 -- the rows without the one at the place of a number are those without the number
-pub taken_away : (inside : Inside) (rows left : List LinkRow) (lid place : ℕ) → rows ≡ inside.rows.items → IsKept inside
+pub taken_away : (inside : Inside) (rows left : List LinkRow) (lid place : ℕ) → rows ≡ inside.rows.items → IsLinkKept inside
     → place < length rows → HoldsAt (λ r. r.lid ≡ lid) rows place → left ≡ remove inside.rows.items place
     → left ≡ filter (λ r. not (r.lid == lid)) inside.rows.items
 taken_away inside rows left lid place here kept within has taken =

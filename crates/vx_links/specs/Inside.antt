@@ -9,6 +9,6 @@ abbrev pub table_of : Inside → Table
 table_of t = record { links = map link_shown t.rows.items; next = t.next }
 
 -- the room of all rows stands, and the numbers are in order
-pub record IsKept (t : Inside) : Type 0 where
+pub record IsLinkKept (t : Inside) : Type 0 where
   pub room : LINK_MAX ≤ vec_capacity t.rows
   pub numbered : IsNumbered (table_of t)

@@ -40,11 +40,11 @@ impl Model for Links {
 
     ghost Value = { Table };
 
-    ghost use Rattle.vx_links.specs.Inside.{table_of, IsKept};
+    ghost use Rattle.vx_links.specs.Inside.{table_of, IsLinkKept};
 
     ghost view = { table_of };
 
-    ghost invariant = { IsKept };
+    ghost invariant = { IsLinkKept };
 }
 
 impl Links {

@@ -10,8 +10,8 @@ use Rattle.std.proofs.lemmas.List.{get_or-set_same, get_or-set_other}
 use Rattle.std.proofs.lemmas.List.Elements.{All-cons, All-filter, filter_passes}
 use Rattle.std.proofs.lemmas.List.Folds.{find-append, list_any_none}
 use Rattle.std.proofs.lemmas.Option.{none-some, same_Some}
-use Rattle.vx_lemmas.specs.Lists.{is_some-find, IfSome-find, found_passes}
-use Rattle.vx_lemmas.specs.Options.{nothing}
+use Rattle.vx_lemmas.proofs.Laws.Lists.{is_some-find, IfSome-find, found_passes}
+use Rattle.vx_lemmas.proofs.Laws.Options.{nothing}
 use Rattle.vx_calls.specs.declared.targets.Target.{Target}
 use Rattle.vx_calls.specs.declared.targets.Target.TheVariants.{Interface, Device}
 use Rattle.vx_calls.specs.Target.{conflict}
@@ -19,18 +19,11 @@ use Rattle.vx_locks.specs.declared.locks.TheConstants.{PLACES}
 use Rattle.vx_rules.specs.Locks.{Lock, IsApart, holds, keeps_off, is_blocked, holder_of, with_lock, without_lock}
 use Rattle.vx_locks.specs.Places.{place, holder_at}
 use Rattle.vx_locks.specs.Inside.{TellsHolders}
-use Rattle.vx_lemmas.specs.Filters.{each_fails, find-kept}
-use Rattle.vx_rules.specs.ProvedLaws.Apart.{Apart, no_conflict}
-
--- two targets conflict whichever is named first
-conflict-sym : (a b : Target) → conflict a b ≡ conflict b a
-conflict-sym Interface Interface = refl
-conflict-sym Interface (Device q t) = refl
-conflict-sym (Device p s) Interface = refl
-conflict-sym (Device p s) (Device q t) = nat_eq_equiv.symm p q
+use Rattle.vx_lemmas.proofs.Laws.Filters.{each_fails, find-kept}
+use Rattle.vx_rules.proofs.Laws.Apart.{Apart, conflict-turned, no_conflict}
 
 Apart-sym : (a b : Lock) → Apart a b → Apart b a
-Apart-sym a b apart = (λ same. apart.0 (sym same), conflict-sym b.target a.target ∙ apart.1)
+Apart-sym a b apart = (λ same. apart.0 (sym same), conflict-turned b.target a.target ∙ apart.1)
 
 -- targets of one place conflict
 one_place : (a b : Target) → place a ≡ place b → conflict a b ≡ true

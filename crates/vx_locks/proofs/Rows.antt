@@ -6,7 +6,7 @@ use Rattle.std.specs.Prelude.{option_and_then, if◌then◌else◌}
 use Rattle.std.specs.Option.{option_map, option_or, IfSome}
 use Rattle.std.proofs.lemmas.List.{map-append}
 use Rattle.std.proofs.lemmas.List.Folds.{list_any_at}
-use Rattle.vx_lemmas.specs.Lists.{find-map, filter-map, list_any-map, is_some-find, IfSome-find}
+use Rattle.vx_lemmas.proofs.Laws.Lists.{find-map, filter-map, list_any-map, is_some-find, IfSome-find}
 use Rattle.vx_calls.specs.declared.targets.Target.{Target}
 use Rattle.vx_locks.specs.declared.locks.LockRow.{LockRow}
 use Rattle.vx_calls.specs.declared.targets.Target.TheVariants.{Interface, Device}
@@ -14,7 +14,7 @@ use Rattle.vx_locks.specs.declared.locks.TheConstants.{PLACES}
 use Rattle.vx_rules.specs.Locks.{Lock, IsApart, holds, keeps_off, is_blocked, holder_of, with_lock, without_lock}
 use Rattle.vx_locks.specs.Places.{place}
 use Rattle.vx_locks.specs.Inside.{lock_shown, TellsHolders}
-use Rattle.vx_rules.specs.ProvedLaws.Apart.{other_number}
+use Rattle.vx_rules.proofs.Laws.Apart.{other_number}
 use Rattle.vx_locks.proofs.Places.{holder_first, holder_near, tells_taken, tells_freed}
 
 -- whether a row passes is whether a lock does

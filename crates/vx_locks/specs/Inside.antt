@@ -19,7 +19,7 @@ abbrev pub TellsHolders : List (Option ℕ) → List Lock → Type 0
 TellsHolders holders locks = (n : ℕ) (d : Option ℕ) → n < PLACES → slice_index_or holders n d ≡ holder_at locks n
 
 -- the room of all locks stands, they are apart, and each place tells its holder
-pub record IsKept (t : Inside) : Type 0 where
+pub record IsLockKept (t : Inside) : Type 0 where
   pub room : LINK_MAX ≤ vec_capacity t.rows
   pub apart : IsApart (locks_of t)
   pub few : length (locks_of t) ≤ LINK_MAX

@@ -46,11 +46,11 @@ impl Model for Locks {
 
     ghost Value = { List Lock };
 
-    ghost use Rattle.vx_locks.specs.Inside.{locks_of, IsKept};
+    ghost use Rattle.vx_locks.specs.Inside.{locks_of, IsLockKept};
 
     ghost view = { locks_of };
 
-    ghost invariant = { IsKept };
+    ghost invariant = { IsLockKept };
 }
 
 impl Locks {

@@ -11,7 +11,7 @@ use Rattle.vx_bus_traits.specs.Walks.{Walk}
 use Rattle.vx_inst.specs.View.{View}
 use Rattle.vx_inst.specs.declared.done.Done.{Done}
 use Rattle.vx_inst.specs.declared.done.Done.TheVariants as done
-use Rattle.vx_inst.specs.Laws.{Takes, Gives, IsPolled, IsCleared, IsTriggered, IsTold, with_status}
+use Rattle.vx_inst.specs.Laws.{InstTakes, InstGives, IsInstPolled, IsCleared, IsTriggered, IsInstTold, with_status}
 use Rattle.vx_sim.specs.declared.signals.Signal.{Signal}
 use Rattle.vx_sim.specs.declared.signals.Signal.TheVariants as signal
 use Rattle.vx_sim.specs.Bench.{OccupantWhere, BenchWhere, BenchAfter, BenchAfterCommand, TalkerGives, listens, talks, everyone}
@@ -44,13 +44,13 @@ receives-that : (what : Signal) (s : Seated) (o : Occupant) → Receives what (B
 receives-that signal.Clear s o h = becomes-that done.Cleared IsCleared s o h
 receives-that signal.Trigger s o h = becomes-that done.Triggered IsTriggered s o h
 receives-that signal.Local s o h = becomes-that done.ToLocal (λ v w. w ≡ v) s o h
-receives-that (signal.Moment now) s o h = becomes-that (done.Told now) IsTold s o h
+receives-that (signal.Moment now) s o h = becomes-that (done.Told now) IsInstTold s o h
 receives-that (signal.Status b) s o h = becomes-that (done.StatusSet b) (λ v w. w ≡ with_status v b) s o h
 
 -- nor that it gives a byte
 gives-that : (w : Wire) (b : ℕ) (end polling : Bool) (s : Seated) (o : Occupant) → TalkerGives polling (record { value = b; end = end }) (Boxed s) o → IsThat s o
-gives-that w b end true s o h = becomes-that done.Polled IsPolled s o h.1
-gives-that w b end false s o h = becomes-that done.Gave (λ v x. Gives v (record { value = b; end = end }) x) s o h.1
+gives-that w b end true s o h = becomes-that done.Polled IsInstPolled s o h.1
+gives-that w b end false s o h = becomes-that done.Gave (λ v x. InstGives v (record { value = b; end = end }) x) s o h.1
 
 -- a bench of one
 abbrev alone-there : Occupant → List Placed
@@ -104,7 +104,7 @@ command-stays rack w command.NoMeaning old new stands h = same-stays rack old ne
 
 transfer-stays : (rack : List Seated) (w : Wire) (t : Transfer) (old new : List Placed) → StandsAlone rack old → BenchAfter w t old new → StandsAlone rack new
 transfer-stays rack w (Cmd b) old new stands h = command-stays rack w (command_of b) old new stands h
-transfer-stays rack w (Put b end) old new stands h = where-stays (listens w) (TakesByte b end) (λ s o. becomes-that (done.Took b end) (λ v x. Takes v b end x) s o) rack old new stands h
+transfer-stays rack w (Put b end) old new stands h = where-stays (listens w) (TakesByte b end) (λ s o. becomes-that (done.Took b end) (λ v x. InstTakes v b end x) s o) rack old new stands h
 transfer-stays rack w (Got b end) old new stands h = where-stays (talks w) (TalkerGives w.polling (record { value = b; end = end })) (gives-that w b end w.polling) rack old new stands h
 transfer-stays rack w (Ren true) old new stands h = same-stays rack old new stands h
 transfer-stays rack w (Ren false) old new stands h = where-stays everyone (Receives signal.Local) (receives-that signal.Local) rack old new stands h

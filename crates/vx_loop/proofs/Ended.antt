@@ -15,26 +15,26 @@ use Rattle.vx_record.specs.Ends.{is_settled}
 use Rattle.vx_record.specs.Buffer.{BufState, fed}
 use Rattle.vx_rules.specs.Calls.{sets_end}
 use Rattle.vx_flow.specs.Laws.{marked_bytes}
-use Rattle.vx_record.specs.ProvedLaws.{fed-append}
+use Rattle.vx_record.proofs.Laws.{fed-append}
 use Rattle.vx_codec.specs.Asked.{CallFits}
 use Rattle.vx_exchange.specs.Meaning.{Junk, Asks as MeansAsks, meaning}
 use Rattle.vx_client.specs.State.{ClientState}
 use Rattle.vx_client.specs.Message.{message}
-use Rattle.vx_client.specs.Stream.{IsOpen as IsOpenStream}
+use Rattle.vx_client.specs.Stream.{IsClientOpen as IsOpenStream}
 use Rattle.vx_client.specs.Inbox.{IsAll}
 use Rattle.vx_client.specs.Meaning as said
 use Rattle.vx_client.specs.Meaning.{returned, nothing_of}
-use Rattle.vx_client.specs.Exchange.{Exchange, Ended, Replied, Asks as Asked, Exchanged, result_of, IsCalled}
+use Rattle.vx_client.specs.Exchange.{Exchange, Ended, Replied, ClientAsks as Asked, Exchanged, result_of, IsCalled}
 use Rattle.vx_client.specs.Ending.{SentFront, Not_yet, And_then, Received, None_yet, And_more, TellsCalls}
 use Rattle.vx_client.specs.declared.answers.ClientErr.{ClientErr}
 use Rattle.vx_client.specs.declared.answers.ClientErr.TheVariants as err
-use Rattle.vx_client.proofs.Lengths.{arguments-short}
+use Rattle.vx_client.proofs.Laws.Lengths.{arguments-short}
 use Rattle.vx_loop.specs.Gateway.{Gateway, gateway_of}
 use Rattle.vx_loop.specs.LoopState.{ServedState, LoopState}
 use Rattle.vx_loop.specs.Exchanges as exchange
 use Rattle.vx_loop.specs.Exchanges.{Exchanges, streams_of, replies_of}
 use Rattle.vx_loop.specs.Serving.{lives}
-use Rattle.vx_loop.specs.Standing.{IsNoCall, IsOpen, IsAt, Went, Since, MarkedStands, IsKept, IsDrained, IsReady, IsUnanswered, IsRefused, LivesAlike, LivesOn}
+use Rattle.vx_loop.specs.Standing.{IsNoCall, IsLoopOpen, IsAt, Went, Since, MarkedStands, IsLoopKept, IsDrained, IsLoopReady, IsUnanswered, IsLoopRefused, LivesAlike, LivesOn}
 use Rattle.vx_loop.specs.Heard.{IsResting, IsHeard}
 use Rattle.vx_loop.specs.Telling.{IsReceive, IsSend, FindsEnded, OnClosed, OnReadFault, OnWriteFault}
 use Rattle.vx_loop.proofs.Streams.{first_buffer, record-is-whole, record-whole, open-front, front-more}
@@ -45,7 +45,7 @@ use Rattle.vx_loop.proofs.Exchanged.{reply-settled, one-record, message-asks, go
 
 -- what a link is that took a part of a record since this start, and whose connection lives: it is ready for the rest
 record IsFront (u : ServedState) (front : List ℕ) : Type 0 where
-  ready : IsReady u
+  ready : IsLoopReady u
   held : u.buffer ≡ fed first_buffer front
 
 module _ (start : Gateway) (u : ServedState) (text : List ℕ) (n : ℕ) (short : length text ≤ RECORD_MAX) (less : n < length (record_of text))
@@ -53,7 +53,7 @@ module _ (start : Gateway) (u : ServedState) (text : List ℕ) (n : ℕ) (short 
   open_part : (fed first_buffer (take n (record_of text))).state ≡ feed.More
   open_part = front-more (record_of text) text n (record-whole text short) less
 
-  open-at : (replied part : List ℕ) → take n (record_of text) ≡ part → IsAt w.reached u replied part → IsOpen w.reached u part
+  open-at : (replied part : List ℕ) → take n (record_of text) ≡ part → IsAt w.reached u replied part → IsLoopOpen w.reached u part
   open-at replied part is (inl o) = o
   open-at replied part is (inr (inl h)) =
       absurd (open-front part [] (take n (record_of text)) h.come.message (record-is-whole part h.come.message h.come.whole) open_part (is ∙ sym (append-nil part)))
@@ -121,7 +121,7 @@ ended-asks stands left receives sends old new c (Replied reply) h is = absurd (b
 ended-asks stands left receives sends old new c _ h is = absurd (cc)
 
 -- A link took a whole record since this start, and is drained, and what it gave is no whole record: its connection has ended.
-module _ (start : Gateway) (t : ServedState) (text got : List ℕ) (short : length text ≤ RECORD_MAX) (w : Went start t (record_of text) got) (k : IsKept t) (d : IsDrained t)
+module _ (start : Gateway) (t : ServedState) (text got : List ℕ) (short : length text ≤ RECORD_MAX) (w : Went start t (record_of text) got) (k : IsLoopKept t) (d : IsDrained t)
     (unsettled : is_settled (records REPLY_MAX got) ≡ false) where
   down-at : (replied part : List ℕ) → record_of text ≡ part → IsAt w.reached t replied part → lives (gateway_of t.core) ≡ false
   down-at replied part is (inl o) =
@@ -169,18 +169,18 @@ module _ (old new : ClientState LoopState) (lid io_timeout lock_timeout flags : 
       (subst IsLive (sym rests.serves) alive) front
 
   -- where it gave its results, this was heard
-  pub piece-heard : (r : Result (Unit {0}) ClientErr) → IfSome old.link.served IsKept → Called r → Told r
+  pub piece-heard : (r : Result (Unit {0}) ClientErr) → IfSome old.link.served IsLoopKept → Called r → Told r
       → OnOk r ((s : ServedState) → IsResting old s → IsHeard old new lid (marked_bytes (sets_end flags) bytes) s)
   piece-heard (Err e) kept called told = tt
   piece-heard (Ok done) kept called told = λ s rests.
       (let g = got-reply (MarkedStands old.link) (λ l. None) (λ l. l.receive_faults) (λ l. l.send_faults) old new asked_now called.how done called.exchanged (sym called.answer) in
-      reply-heard old new lid io_timeout lock_timeout flags bytes numbered fits small s (subst (λ o. IfSome o IsKept) rests.serves kept) rests g new.link.served refl
+      reply-heard old new lid io_timeout lock_timeout flags bytes numbered fits small s (subst (λ o. IfSome o IsLoopKept) rests.serves kept) rests g new.link.served refl
       ((marked-from old.link new.link (record_of text) g.asks.got g.asks.moved.goes).1 s rests.serves rests.idle)
       (λ alive. receives-alive told.mid new.link told.received (whole-alive s told.mid rests told.whole alive)))
 
   -- where it ended as closed, it began where the connection had ended
   closed-by : (s : ServedState) (got : List ℕ) (o : Option ServedState) → new.link.served ≡ o → is_settled (records REPLY_MAX got) ≡ false
-      → Since (gateway_of s.core) o (record_of text) got → IfSome o IsKept → IfSome o IsDrained → (lives (gateway_of s.core) ≡ true → IsLive o) → FindsEnded new s
+      → Since (gateway_of s.core) o (record_of text) got → IfSome o IsLoopKept → IfSome o IsDrained → (lives (gateway_of s.core) ≡ true → IsLive o) → FindsEnded new s
   closed-by s got None serves unsettled since kept drained lives_on = absurd since
   closed-by s got (Some t) serves unsettled since kept drained lives_on =
       let down = has-ended (gateway_of s.core) t text got text-short since kept drained unsettled in
@@ -191,7 +191,7 @@ module _ (old new : ClientState LoopState) (lid io_timeout lock_timeout flags : 
         now = down;
       }
 
-  pub piece-closed : (r : Result (Unit {0}) ClientErr) → IfSome new.link.served IsKept → Called r → Told r → OnClosed r ((s : ServedState) → IsResting old s → FindsEnded new s)
+  pub piece-closed : (r : Result (Unit {0}) ClientErr) → IfSome new.link.served IsLoopKept → Called r → Told r → OnClosed r ((s : ServedState) → IsResting old s → FindsEnded new s)
   piece-closed (Err err.Closed) kept called told = λ s rests.
       (let asks = ended-asks (MarkedStands old.link) (λ l. None) (λ l. l.receive_faults) (λ l. l.send_faults) old new asked_now called.how called.exchanged (sym called.answer) in
       let last = told.ends.last.told in
@@ -215,7 +215,7 @@ module _ (old new : ClientState LoopState) (lid io_timeout lock_timeout flags : 
       cc
 
   sent-by : (start : Gateway) (o : Option ServedState) (done : ℕ) → done < length (record_of text) → Since start o (take done (record_of text)) []
-      → IfSome o (λ u. IsRefused u (drop done (record_of text)) × (lives (gateway_of u.core) ≡ true)) → ⊥
+      → IfSome o (λ u. IsLoopRefused u (drop done (record_of text)) × (lives (gateway_of u.core) ≡ true)) → ⊥
   sent-by start None done less since last = absurd since
   sent-by start (Some u) done less w last =
       is-call (subst IsNoCall (ap (λ b. fed b (drop done (record_of text))) (is-front start u text done text-short less w last.1).held

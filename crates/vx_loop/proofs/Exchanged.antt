@@ -21,16 +21,16 @@ use Rattle.vx_record.specs.Ends.{is_settled}
 use Rattle.vx_record.specs.Buffer.{fed}
 use Rattle.vx_488.specs.Heard.{heard}
 use Rattle.vx_rules.specs.Calls.{sets_end}
-use Rattle.vx_flow.specs.FineState.{FineState}
+use Rattle.vx_flow.specs.InterleavedState.{InterleavedState}
 use Rattle.vx_flow.specs.Laws.{marked_bytes}
 use Rattle.vx_rpc.specs.Wording.{success_message}
 use Rattle.vx_rpc.specs.ReplyMeaning.{Success, reply_meaning}
-use Rattle.vx_rpc.proofs.LawLemmas.{served-sorted, success-read}
+use Rattle.vx_rpc.proofs.Laws.Sorted.{served-sorted, success-read}
 use Rattle.vx_codec.specs.Row.{Contents, row_at, whole}
 use Rattle.vx_codec.specs.Asked.{number, arguments, CallFits}
 use Rattle.vx_codec.specs.Answered.{Outcome, Written, outcome_of, answered, results}
-use Rattle.vx_codec.proofs.Rows.{field-again, field-written}
-use Rattle.vx_codec.proofs.Written.{asked-again}
+use Rattle.vx_codec.proofs.Laws.Rows.{field-again, field-written}
+use Rattle.vx_codec.proofs.Laws.Written.{asked-again}
 use Rattle.vx_record.specs.Fragments.{record_of}
 use Rattle.vx_exchange.specs.Meaning.{Meaning, Asks, by_sorting, by_arguments, meaning}
 use Rattle.vx_exchange.specs.Meaning as meant
@@ -39,18 +39,18 @@ use Rattle.vx_client.specs.Message.{message, call_record}
 use Rattle.vx_client.specs.Stream.{IsReply}
 use Rattle.vx_client.specs.Meaning as said
 use Rattle.vx_client.specs.Meaning.{error_of, is_bad, judged, can_be, results_meaning, returned, nothing_of}
-use Rattle.vx_client.specs.Exchange.{Exchange, Replied, KeepsReply, Asks as Asked, Exchanged, result_of}
-use Rattle.vx_client.proofs.Lengths.{arguments-short}
-use Rattle.vx_client.proofs.Meanings.{success-meaning}
+use Rattle.vx_client.specs.Exchange.{Exchange, Replied, KeepsReply, ClientAsks as Asked, Exchanged, result_of}
+use Rattle.vx_client.proofs.Laws.Lengths.{arguments-short}
+use Rattle.vx_client.proofs.Laws.Meanings.{success-meaning}
 use Rattle.vx_flow.specs.Event.{Event, Down}
 use Rattle.vx_bus_traits.specs.Steps.{Step, Cut}
 use Rattle.vx_loop.specs.Gateway.{Gateway, gateway_of}
 use Rattle.vx_flow.specs.Frames.{moves_by}
 use Rattle.vx_loop.specs.LoopState.{ServedState, LoopState, IsIdle}
 use Rattle.vx_loop.specs.Exchanges as exchange
-use Rattle.vx_loop.specs.Exchanges.{Adds, IsRecord, Replies, IsExchange, Exchanges, streams_of, replies_of}
+use Rattle.vx_loop.specs.Exchanges.{LoopAdds, IsRecord, Replies, IsExchange, Exchanges, streams_of, replies_of}
 use Rattle.vx_loop.specs.Serving.{lives}
-use Rattle.vx_loop.specs.Standing.{GoesDown, EndsBy, never, refused, waited, unread, IsAt, Went, Since, MarkedStands, IsKept}
+use Rattle.vx_loop.specs.Standing.{GoesDown, EndsBy, never, refused, waited, unread, IsAt, Went, Since, MarkedStands, IsLoopKept}
 use Rattle.vx_loop.specs.Heard.{IsResting, IsHeard}
 use Rattle.vx_loop.proofs.Streams.{first_buffer, IsWhole, whole-by, record-is-whole, whole-some, whole-wider, record-whole, record-settled, whole-unique, none-yet}
 use Rattle.vx_loop.proofs.Happening.{adds-none, adds-append, happens-adds, reached-sound}
@@ -109,7 +109,7 @@ one-record x xs mid last text part short is_whole more taken_is =
 pub record IsStill (before : Gateway) (s : ServedState) : Type 0 where
   pub group : List Event
   pub steps : List Step
-  pub adds : Adds before group steps (gateway_of s.core)
+  pub adds : LoopAdds before group steps (gateway_of s.core)
   pub still : flat_map moves_by group ≡ []
   pub same : lives (gateway_of s.core) ≡ true → gateway_of s.core ≡ before
 
@@ -125,7 +125,7 @@ pub record IsExchanged (start : Gateway) (s : ServedState) (text reply behind : 
   pub after : IsStill mid s
 
 still-same : (mid : Gateway) (s : ServedState) → gateway_of s.core ≡ mid → IsStill mid s
-still-same mid s same = record { group = []; steps = []; adds = subst (λ g. Adds mid [] [] g) (sym same) (adds-none mid); still = refl; same = λ alive. same }
+still-same mid s same = record { group = []; steps = []; adds = subst (λ g. LoopAdds mid [] [] g) (sym same) (adds-none mid); still = refl; same = λ alive. same }
 
 pub still-by : (mid : Gateway) (s : ServedState) (replied part : List ℕ) → part ≡ [] → s.left ≡ [] → IsAt mid s replied part → IsIdle s × IsStill mid s
 still-by mid s replied part none nothing (inl o) = (
@@ -251,7 +251,7 @@ got-reply stands left receives sends old new c _ done h is = absurd (cc)
 -- ---- one write
 
 module _ (old new : ClientState LoopState) (lid io_timeout lock_timeout flags : ℕ) (bytes : List ℕ) (numbered : old.next < 2 ^ 32)
-    (fits : CallFits (call.Write lid io_timeout lock_timeout flags bytes)) (small : length bytes ≤ PIECE_MAX) (s : ServedState) (k : IsKept s) (rests : IsResting old s) where
+    (fits : CallFits (call.Write lid io_timeout lock_timeout flags bytes)) (small : length bytes ≤ PIECE_MAX) (s : ServedState) (k : IsLoopKept s) (rests : IsResting old s) where
   abbrev asked_now : Call
   asked_now = call.Write lid io_timeout lock_timeout flags bytes
 
@@ -268,12 +268,12 @@ module _ (old new : ClientState LoopState) (lid io_timeout lock_timeout flags : 
       let e = one-exchange (gateway_of s.core) t (message old.next asked_now) g.asks.got g.reply new.kept message-short w came in
       let is : meaning e.x.message role.Core ≡ Asks old.next asked_now =
       ap (λ m. meaning m role.Core) e.message_is ∙ message-asks old.next lid io_timeout lock_timeout flags bytes numbered fits in
-      let came = s.core.fine.state.moment in
-      let now = e.mid.fine.state.moment in
+      let came = s.core.interleaved.state.moment in
+      let now = e.mid.interleaved.state.moment in
       let replies : Replies (Asks old.next asked_now) came now e.x.group e.x.steps e.x.reply = subst (λ m. Replies m came now e.x.group e.x.steps e.x.reply) is e.exchanged.replies in
       let told = replies.0 in
-      let one = one-call s.core.fine asked_now told came now e.x.group e.x.steps e.exchanged.adds.last k.reached (k.calm rests.idle.answered) replies.1 e.exchanged.adds.events in
-      let kind = call-replies s.core.fine e.exchanged.adds.last e.x.group lid io_timeout lock_timeout flags bytes told one in
+      let one = one-call s.core.interleaved asked_now told came now e.x.group e.x.steps e.exchanged.adds.last k.reached (k.calm rests.idle.answered) replies.1 e.exchanged.adds.events in
+      let kind = call-replies s.core.interleaved e.exchanged.adds.last e.x.group lid io_timeout lock_timeout flags bytes told one in
       let text = success_message old.next ++ results told in
       let short = e.exchanged.short in
       let len = ap (λ (ys : List ℕ). length ys) replies.2 in
@@ -287,7 +287,7 @@ module _ (old new : ClientState LoopState) (lid io_timeout lock_timeout flags : 
       let read : answered proc.Write (word (error_number error) ++ word size) ≡ Some had.0 = ap (λ (r : Reply). answered proc.Write (results r)) (sym kind.0.2) ∙ had.1 in
       let zero = (code-number error).1 (sym (written-error (error_number error) size had.0 (code-number error).0 read) ∙ had.2) in
       let ok : told ≡ reply.Write code.Ok size = kind.0.2 ∙ ap (λ c. reply.Write c size) zero in
-      let one_ok = subst (λ r. IsOneCall s.core.fine asked_now r e.x.group e.exchanged.adds.last) ok one in
+      let one_ok = subst (λ r. IsOneCall s.core.interleaved asked_now r e.x.group e.exchanged.adds.last) ok one in
       let moves : flat_map moves_by (e.x.group ++ e.after.group) ≡ flat_map moves_by e.x.group =
       flat_map-append moves_by e.x.group e.after.group ∙ ap (λ ms. flat_map moves_by e.x.group ++ ms) e.after.still ∙ append-nil (flat_map moves_by e.x.group) in
       record {
@@ -301,14 +301,14 @@ module _ (old new : ClientState LoopState) (lid io_timeout lock_timeout flags : 
         before = one.lives;
         alive = lives_on one.lives;
         links =
-            ap (λ (h : Gateway). h.fine.state.tables.links) (e.after.same (lives_on one.lives)) ∙ ap (λ (f : FineState). f.state.tables.links) e.exchanged.adds.at_now ∙ kind.1;
+            ap (λ (h : Gateway). h.interleaved.state.tables.links) (e.after.same (lives_on one.lives)) ∙ ap (λ (f : InterleavedState). f.state.tables.links) e.exchanged.adds.at_now ∙ kind.1;
         hears = λ a device.
-            (let heard_now = call-heard s.core.fine e.exchanged.adds.last e.x.group lid io_timeout lock_timeout flags size bytes a device.link one_ok device.live device.target in
+            (let heard_now = call-heard s.core.interleaved e.exchanged.adds.last e.x.group lid io_timeout lock_timeout flags size bytes a device.link one_ok device.live device.target in
             record {
               group = e.x.group ++ e.after.group;
               steps = e.x.steps ++ e.after.steps;
-              adds = adds-append (gateway_of s.core) e.mid (gateway_of t.core) e.x.group e.after.group e.x.steps e.after.steps (reached-sound s.core.fine k.reached) e.exchanged.adds e.after.adds;
-              here = ap (heard a s.core.fine.state.wire) moves ∙ heard_now.0;
-              elsewhere = λ b ne. ap (heard b s.core.fine.state.wire) moves ∙ heard_now.1 b ne;
+              adds = adds-append (gateway_of s.core) e.mid (gateway_of t.core) e.x.group e.after.group e.x.steps e.after.steps (reached-sound s.core.interleaved k.reached) e.exchanged.adds e.after.adds;
+              here = ap (heard a s.core.interleaved.state.wire) moves ∙ heard_now.0;
+              elsewhere = λ b ne. ap (heard b s.core.interleaved.state.wire) moves ∙ heard_now.1 b ne;
             });
       }

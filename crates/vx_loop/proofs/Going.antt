@@ -13,23 +13,23 @@ use Rattle.vx_calls.specs.declared.calls.Role.TheVariants as role
 use Rattle.vx_calls.specs.declared.limits.TheConstants.{RECORD_MAX}
 use Rattle.vx_record.specs.declared.Feed.TheVariants as feed
 use Rattle.vx_record.specs.Buffer.{BufState, fresh, fed, taken}
-use Rattle.vx_record.specs.ProvedLaws.{fed-append}
+use Rattle.vx_record.proofs.Laws.{fed-append}
 use Rattle.vx_sim.specs.SimState.{SimState}
 use Rattle.vx_exchange.specs.Meaning.{Meaning, Junk, Asks, Aborts, meaning}
 use Rattle.vx_exchange.specs.Meaning as meant
-use Rattle.vx_lemmas.specs.Lists.{find_filter-gone}
+use Rattle.vx_lemmas.proofs.Laws.Lists.{find_filter-gone}
 use Rattle.vx_rules.specs.State.{Pending, Connection, Tables, connection_at, pending_at, lives_as, has_role_of}
 use Rattle.vx_flow.specs.Event.{Event, Arrive, Answer, Down}
-use Rattle.vx_flow.specs.FineState.{FineState, Turn, turn_after}
-use Rattle.vx_flow.specs.Fine.{fine}
+use Rattle.vx_flow.specs.InterleavedState.{InterleavedState, Turn, turn_after}
+use Rattle.vx_flow.specs.InterleavedStep.{interleaved_step}
 use Rattle.vx_flow.specs.Sound.{IsSound}
-use Rattle.vx_flow.specs.ProvedLaws.{fine-frame}
+use Rattle.vx_flow.proofs.Laws.{interleaved-frame}
 use Rattle.vx_core.specs.CoreState.{CoreState}
 use Rattle.vx_loop.specs.Gateway.{Gateway, gateway_of, BusGoes, told_by, moments, moments_from}
 use Rattle.vx_loop.specs.LoopState.{ServedState}
-use Rattle.vx_loop.specs.Exchanges.{Exchange, Adds, IsRecord, IsAnswered, Replies, IsExchange, Exchanges, of_turn, again, streams_of, replies_of}
-use Rattle.vx_loop.specs.Standing.{IsOpen, HasCome, IsWaiting, IsNoCall, GoesDown, EndsBy, never, refused, waited, unread, IsEnded, IsAt, Went, IsReached, IsKept, TakesTo, WaitsTo, IsReady, IsRefused}
-use Rattle.vx_loop.specs.Serving.{lives, IsReplied, IsLeft, Continues, CallsOn, Serves, IsFit}
+use Rattle.vx_loop.specs.Exchanges.{Exchange, LoopAdds, IsRecord, IsLoopAnswered, Replies, IsExchange, Exchanges, of_turn, again, streams_of, replies_of}
+use Rattle.vx_loop.specs.Standing.{IsLoopOpen, HasCome, IsWaiting, IsNoCall, GoesDown, EndsBy, never, refused, waited, unread, IsEnded, IsAt, Went, IsReached, IsLoopKept, TakesTo, WaitsTo, IsLoopReady, IsLoopRefused}
+use Rattle.vx_loop.specs.Serving.{lives, IsReplied, IsLeft, Continues, CallsOn, LoopServes, IsFit}
 use Rattle.vx_loop.proofs.Streams.{first_buffer, ends-record, taken-within, fed-taken, whole-some, record-is-whole}
 use Rattle.vx_loop.proofs.Happening.{adds-none, adds-append, happens-adds, reached-more, reached-sound}
 use Rattle.vx_loop.proofs.Turns.{life-stays}
@@ -68,14 +68,14 @@ come-some reached part xid polls after h none = whole-some part h.message (recor
 -- connection 1 lives, and no call of it waits
 pub record IsFree (s : ServedState) : Type 0 where
   pub alive : lives (gateway_of s.core) ≡ true
-  pub none : pending_at s.core.fine.state.tables 1 ≡ None
+  pub none : pending_at s.core.interleaved.state.tables 1 ≡ None
 
-open-of : (reached : Gateway) (s : ServedState) (replied part : List ℕ) → IsFree s → IsAt reached s replied part → IsOpen reached s part
+open-of : (reached : Gateway) (s : ServedState) (replied part : List ℕ) → IsFree s → IsAt reached s replied part → IsLoopOpen reached s part
 open-of reached s replied part free (inl is_open) = is_open
 open-of reached s replied part free (inr (inl waits)) = absurd (apart _ waits.pending free.none)
 open-of reached s replied part free (inr (inr ended)) = absurd (false≢true (sym ended.down ∙ free.alive))
 
-waiting-of : (reached : Gateway) (s : ServedState) (replied part : List ℕ) → is_some (pending_at s.core.fine.state.tables 1) ≡ true → IsAt reached s replied part
+waiting-of : (reached : Gateway) (s : ServedState) (replied part : List ℕ) → is_some (pending_at s.core.interleaved.state.tables 1) ≡ true → IsAt reached s replied part
     → IsWaiting reached s part
 waiting-of reached s replied part some (inl is_open) = absurd (apart _ some is_open.answered)
 waiting-of reached s replied part some (inr (inl waits)) = waits
@@ -119,7 +119,7 @@ record IsSoFar (start reached : Gateway) (done : List Exchange) (stream bytes gi
 
 module _ (start reached : Gateway) (done : List Exchange) (stream bytes given : List ℕ) (so_far : IsSoFar start reached done stream bytes given) (core : CoreState SimState) (xid : ℕ) (left : List ℕ) where
   -- one exchange more
-  exchanged-on : (x : Exchange) → IsExchange reached x (gateway_of core) → x.stream ≡ stream → x.reply ≡ left → pending_at core.fine.state.tables 1 ≡ None
+  exchanged-on : (x : Exchange) → IsExchange reached x (gateway_of core) → x.stream ≡ stream → x.reply ≡ left → pending_at core.interleaved.state.tables 1 ≡ None
       → Went start (behind core xid left) bytes given
   exchanged-on x more stream_is reply_is answered = record {
     done = done ++ x ∷ [];
@@ -134,9 +134,9 @@ module _ (start reached : Gateway) (done : List Exchange) (stream bytes given : 
     stands = inl (record { same = refl; answered = answered; held = refl });
   }
 
-  module _ (sound : IsSound reached.fine) (before : Gateway) (polls : ℕ) (come : HasCome reached stream xid polls before) where
+  module _ (sound : IsSound reached.interleaved) (before : Gateway) (polls : ℕ) (come : HasCome reached stream xid polls before) where
     abbrev came : ℕ
-    came = reached.fine.state.moment
+    came = reached.interleaved.state.moment
 
     both-turn : (more : List Event) → list_all of_turn more ≡ true → list_all of_turn (come.turn ++ more) ≡ true
     both-turn more is = list_all-append of_turn come.turn more ∙ and_from (list_all of_turn come.turn) (list_all of_turn more) come.turn_is is
@@ -156,9 +156,9 @@ module _ (start reached : Gateway) (done : List Exchange) (stream bytes given : 
         (record {
           whole = come.whole;
           adds = adds-append reached before (gateway_of core) _ _ come.steps r.steps sound come.adds r.adds;
-          replies = subst (λ n. Replies n came core.fine.state.moment group steps left) (sym come.asks) (
+          replies = subst (λ n. Replies n came core.interleaved.state.moment group steps left) (sym come.asks) (
             r.told,
-            subst (λ m. IsAnswered come.asked r.told came m group steps) (sym r.moment)
+            subst (λ m. IsLoopAnswered come.asked r.told came m group steps) (sym r.moment)
                 (record {
                   turn = come.turn ++ r.turn;
                   turn_is = both-turn r.turn r.turn_is;
@@ -225,8 +225,8 @@ pub record Ends (s : ServedState) (piece message : List ℕ) : Type 0 where
   pub kept : (fed s.buffer piece).kept ≡ message
 
 module _ (start : Gateway) (given bytes : List ℕ) (s : ServedState) (core : CoreState SimState) (xid : ℕ) (left piece message : List ℕ) (w : Went start s bytes given)
-    (sound : IsSound s.core.fine) (free : IsFree s) (nothing : s.left ≡ []) (e : Ends s piece message) where
-  abbrev is_open_now : IsOpen w.reached s w.open_part
+    (sound : IsSound s.core.interleaved) (free : IsFree s) (nothing : s.left ≡ []) (e : Ends s piece message) where
+  abbrev is_open_now : IsLoopOpen w.reached s w.open_part
   is_open_now = open-of w.reached s (replies_of w.done) w.open_part free w.stands
 
   stream_whole : IsRecord (w.open_part ++ piece) message
@@ -239,13 +239,13 @@ module _ (start : Gateway) (given bytes : List ℕ) (s : ServedState) (core : Co
     given_is = sym (append-nil given) ∙ ap (λ bs. given ++ bs) (sym nothing) ∙ w.given_is;
   }
 
-  served-by : (m : Meaning) → meaning message role.Core ≡ m → Serves (gateway_of s.core) m xid (gateway_of core) left
+  served-by : (m : Meaning) → meaning message role.Core ≡ m → LoopServes (gateway_of s.core) m xid (gateway_of core) left
       → Went start (behind core xid left) (bytes ++ piece) given
   served-by (Asks number asked) is h =
       let here : gateway_of s.core ≡ w.reached = is_open_now.same in
       let calls : CallsOn w.reached number asked (gateway_of core) left = subst (λ g. CallsOn g number asked (gateway_of core) left) here h.1 in
-      let now = w.reached.fine.state.moment in
-      polled-on start w.reached w.done (w.open_part ++ piece) (bytes ++ piece) given so_far_now core xid left (subst (λ (g : Gateway). IsSound g.fine) here sound) calls.come 0
+      let now = w.reached.interleaved.state.moment in
+      polled-on start w.reached w.done (w.open_part ++ piece) (bytes ++ piece) given so_far_now core xid left (subst (λ (g : Gateway). IsSound g.interleaved) here sound) calls.come 0
       (record {
         message = message;
         asked = asked;
@@ -260,20 +260,20 @@ module _ (start : Gateway) (given bytes : List ℕ) (s : ServedState) (core : Co
   served-by (meant.Answered text) is h =
       let x : Exchange = record { stream = w.open_part ++ piece; message = message; group = []; steps = []; reply = left } in
       let here : gateway_of core ≡ w.reached = h.0 ∙ is_open_now.same in
-      let now : core.fine.state.moment ≡ w.reached.fine.state.moment = ap (λ (g : Gateway). g.fine.state.moment) here in
+      let now : core.interleaved.state.moment ≡ w.reached.interleaved.state.moment = ap (λ (g : Gateway). g.interleaved.state.moment) here in
       exchanged-on start w.reached w.done (w.open_part ++ piece) (bytes ++ piece) given so_far_now core xid left x
       (record {
         whole = stream_whole;
-        adds = subst (λ g. Adds w.reached [] [] g) (sym here) (adds-none w.reached);
-        replies = subst (λ n. Replies n w.reached.fine.state.moment core.fine.state.moment [] [] left) (sym is) (refl, refl, now, h.1);
+        adds = subst (λ g. LoopAdds w.reached [] [] g) (sym here) (adds-none w.reached);
+        replies = subst (λ n. Replies n w.reached.interleaved.state.moment core.interleaved.state.moment [] [] left) (sym is) (refl, refl, now, h.1);
         short = h.2;
-      }) refl refl (ap (λ (g : Gateway). pending_at g.fine.state.tables 1) h.0 ∙ free.none)
+      }) refl refl (ap (λ (g : Gateway). pending_at g.interleaved.state.tables 1) h.0 ∙ free.none)
   served-by _ is h = absurd h
 
 -- ---- a call that is polled again
 
 module _ (start : Gateway) (given bytes : List ℕ) (s : ServedState) (core : CoreState SimState) (left : List ℕ) (w : Went start s bytes given)
-    (some : is_some (pending_at s.core.fine.state.tables 1) ≡ true) where
+    (some : is_some (pending_at s.core.interleaved.state.tables 1) ≡ true) where
   abbrev waits_now : IsWaiting w.reached s w.open_part
   waits_now = waiting-of w.reached s (replies_of w.done) w.open_part some w.stands
 
@@ -291,13 +291,13 @@ module _ (start : Gateway) (given bytes : List ℕ) (s : ServedState) (core : Co
   with-buffer h = subst (λ b. Went start (record polled { buffer = b }) bytes given) (sym waits_now.fresh_is) h
 
   -- a millisecond later
-  went-polled : (now : ℕ) → now ≡ s.core.fine.state.moment + 1 → Continues (gateway_of s.core) s.xid now (gateway_of core) left → Went start polled bytes given
+  went-polled : (now : ℕ) → now ≡ s.core.interleaved.state.moment + 1 → Continues (gateway_of s.core) s.xid now (gateway_of core) left → Went start polled bytes given
   went-polled now next h =
       let last = waits_now.last_is in
       with-buffer (polled-on start w.reached w.done w.open_part bytes given so_far_waits core s.xid left waits_now.sound (gateway_of s.core) waits_now.polls waits_now.come now (omega arith) h)
 
   -- its dial fails
-  went-refused : (now : ℕ) → now ≡ s.core.fine.state.moment → IsReplied (gateway_of s.core) s.xid now (Some false) (gateway_of core) left → Went start polled bytes given
+  went-refused : (now : ℕ) → now ≡ s.core.interleaved.state.moment → IsReplied (gateway_of s.core) s.xid now (Some false) (gateway_of core) left → Went start polled bytes given
   went-refused now same r =
       let last = waits_now.last_is in
       with-buffer (replied-on start w.reached w.done w.open_part bytes given so_far_waits core s.xid left waits_now.sound (gateway_of s.core) waits_now.polls waits_now.come now waits_now.polls (Some false) r
@@ -328,21 +328,21 @@ went-gave start bytes given s piece rest cut w = record {
 
 -- what holds of it between calls of the link
 pub record IsKeptGateway (g : Gateway) : Type 0 where
-  pub reached : IsReached g.fine
-  pub own : (u : Turn) → g.fine.turn ≡ Some u → u.connection ≡ 1
-  pub calm : pending_at g.fine.state.tables 1 ≡ None → g.fine.turn ≡ None
+  pub reached : IsReached g.interleaved
+  pub own : (u : Turn) → g.interleaved.turn ≡ Some u → u.connection ≡ 1
+  pub calm : pending_at g.interleaved.state.tables 1 ≡ None → g.interleaved.turn ≡ None
 
-pub kept-gateway : (s : ServedState) → IsKept s → IsKeptGateway (gateway_of s.core)
+pub kept-gateway : (s : ServedState) → IsLoopKept s → IsKeptGateway (gateway_of s.core)
 kept-gateway s k = record { reached = k.reached; own = k.own; calm = k.calm }
 
 -- a link that has nothing of the next record is kept where its gateway is
-fresh-kept : (s : ServedState) → IsKeptGateway (gateway_of s.core) → s.buffer ≡ fresh RECORD_MAX → IsKept s
+fresh-kept : (s : ServedState) → IsKeptGateway (gateway_of s.core) → s.buffer ≡ fresh RECORD_MAX → IsLoopKept s
 fresh-kept s k is = record { limit = ap (λ (b : BufState). b.limit) is; waits = ap (λ (b : BufState). b.state) is; reached = k.reached; own = k.own; calm = k.calm }
 
-pub fit-kept : (s : ServedState) → IsKept s → IsFit (gateway_of s.core)
-fit-kept s k = record { sound = reached-sound s.core.fine k.reached; own = k.own }
+pub fit-kept : (s : ServedState) → IsLoopKept s → IsFit (gateway_of s.core)
+fit-kept s k = record { sound = reached-sound s.core.interleaved k.reached; own = k.own }
 
-replied-kept : (before after : Gateway) (xid now : ℕ) (dialed : Option Bool) (left : List ℕ) → IsReached before.fine → IsReplied before xid now dialed after left
+replied-kept : (before after : Gateway) (xid now : ℕ) (dialed : Option Bool) (left : List ℕ) → IsReached before.interleaved → IsReplied before xid now dialed after left
     → IsKeptGateway after
 replied-kept before after xid now dialed left reached r = record {
   reached = reached-more before after _ r.steps reached r.adds;
@@ -350,7 +350,7 @@ replied-kept before after xid now dialed left reached r = record {
   calm = λ none. r.over;
 }
 
-continues-kept : (before after : Gateway) (xid now : ℕ) (left : List ℕ) → IsReached before.fine → Continues before xid now after left → IsKeptGateway after
+continues-kept : (before after : Gateway) (xid now : ℕ) (left : List ℕ) → IsReached before.interleaved → Continues before xid now after left → IsKeptGateway after
 continues-kept before after xid now left reached (inl r) = replied-kept before after xid now None left reached r
 continues-kept before after xid now left reached (inr l) = record {
   reached = reached-more before after _ l.steps reached l.adds;
@@ -368,15 +368,15 @@ record IsServed (m : Meaning) (before after : Gateway) : Type 0 where
   call : m ≢ Junk
   lives_on : lives after ≡ lives before
 
-serves-kept : (m : Meaning) (before after : Gateway) (xid : ℕ) (left : List ℕ) → IsKeptGateway before → Serves before m xid after left → IsServed m before after
+serves-kept : (m : Meaning) (before after : Gateway) (xid : ℕ) (left : List ℕ) → IsKeptGateway before → LoopServes before m xid after left → IsServed m before after
 serves-kept (meant.Answered text) before after xid left k h = record { kept = subst IsKeptGateway (sym h.0) k; call = λ is. cc; lives_on = ap lives h.0 }
 serves-kept (Asks number asked) before after xid left k h =
-    let now = before.fine.state.moment in
+    let now = before.interleaved.state.moment in
     let adds = happens-adds before h.1.come (Arrive 1 asked now ∷ []) (Cut ∷ Told now ∷ []) h.1.arrives refl in
     record {
       kept = continues-kept h.1.come after number now left (reached-more before h.1.come (Arrive 1 asked now ∷ []) (Cut ∷ Told now ∷ []) k.reached adds) h.1.continues;
       call = λ is. cc;
-      lives_on = continues-lives h.1.come after number now left h.1.continues ∙ life-stays before.fine h.1.come.fine (Arrive 1 asked now) refl h.1.arrives.events;
+      lives_on = continues-lives h.1.come after number now left h.1.continues ∙ life-stays before.interleaved h.1.come.interleaved (Arrive 1 asked now) refl h.1.arrives.events;
     }
 serves-kept _ before after xid left k h = absurd h
 
@@ -384,10 +384,10 @@ serves-kept _ before after xid left k h = absurd h
 
 -- a link that is ready lives on, and the bytes end no record that is refused
 abbrev pub IsGood : ServedState → List ℕ → ServedState → Type 0
-IsGood s bytes t = IsReady s → (IsRefused s bytes → ⊥) × (lives (gateway_of t.core) ≡ true)
+IsGood s bytes t = IsLoopReady s → (IsLoopRefused s bytes → ⊥) × (lives (gateway_of t.core) ≡ true)
 
 -- bytes were fed, and no record ended
-pub take-more : (s : ServedState) (piece : List ℕ) (took : ℕ) (b : BufState) → IsKept s → IsFree s → took ≡ length piece
+pub take-more : (s : ServedState) (piece : List ℕ) (took : ℕ) (b : BufState) → IsLoopKept s → IsFree s → took ≡ length piece
     → b ≡ fed s.buffer piece → b.state ≡ feed.More → b.limit ≡ s.buffer.limit
     → TakesTo s (record s { buffer = b }) (take took piece) × IsGood s piece (record s { buffer = b })
 take-more s piece took b k free all fed_is waits limit = (
@@ -400,14 +400,14 @@ take-more s piece took b k free all fed_is waits limit = (
   λ ready. (not-ended (ap (λ (c : BufState). c.state) (sym fed_is) ∙ waits), free.alive),
 )
   where
-    not-ended : (fed s.buffer piece).state ≡ feed.More → IsRefused s piece → ⊥
+    not-ended : (fed s.buffer piece).state ≡ feed.More → IsLoopRefused s piece → ⊥
     not-ended more (inl long) = let both : feed.More ≡ feed.TooLong = sym more ∙ long in cc
     not-ended more (inr junk) = let both : feed.More ≡ feed.Whole = sym more ∙ junk.0 in cc
 
 -- they ended a record, which was served
-pub take-whole : (s : ServedState) (piece message : List ℕ) (took : ℕ) (b : BufState) (core : CoreState SimState) (xid : ℕ) (left : List ℕ) → IsKept s
+pub take-whole : (s : ServedState) (piece message : List ℕ) (took : ℕ) (b : BufState) (core : CoreState SimState) (xid : ℕ) (left : List ℕ) → IsLoopKept s
     → IsFree s → s.left ≡ [] → took ≡ taken s.buffer piece → 0 < took → (fed s.buffer piece).state ≡ feed.Whole
-    → message ≡ (fed s.buffer piece).kept → b ≡ fresh RECORD_MAX → Serves (gateway_of s.core) (meaning message role.Core) xid (gateway_of core) left
+    → message ≡ (fed s.buffer piece).kept → b ≡ fresh RECORD_MAX → LoopServes (gateway_of s.core) (meaning message role.Core) xid (gateway_of core) left
     → TakesTo s (record { core = core; buffer = b; xid = xid; left = left }) (take took piece)
     × IsGood s piece (record { core = core; buffer = b; xid = xid; left = left })
 take-whole s piece message took b core xid left k free nothing took_is some whole kept fresh_is h =
@@ -431,21 +431,21 @@ take-whole s piece message took b core xid left k free nothing took_is some whol
         went = λ start bytes given w.
             subst (λ c. Went start (new c) (bytes ++ take took piece) given) (sym fresh_is)
             (subst (λ n. Went start (new (fresh RECORD_MAX)) (bytes ++ take n piece) given) (sym took_is)
-            (served-by start given bytes s core xid left part message w (reached-sound s.core.fine k.reached) free nothing e (meaning message role.Core) refl h));
+            (served-by start given bytes s core xid left part message w (reached-sound s.core.interleaved k.reached) free nothing e (meaning message role.Core) refl h));
       },
       λ ready. (not-refused (ap (λ m. meaning m role.Core) kept) g.call, g.lives_on ∙ free.alive),
     )
   where
-    not-refused : meaning message role.Core ≡ meaning (fed s.buffer piece).kept role.Core → meaning message role.Core ≢ Junk → IsRefused s piece → ⊥
+    not-refused : meaning message role.Core ≡ meaning (fed s.buffer piece).kept role.Core → meaning message role.Core ≢ Junk → IsLoopRefused s piece → ⊥
     not-refused same live (inl long) = let both : feed.Whole ≡ feed.TooLong = sym whole ∙ long in cc
     not-refused same live (inr junk) = live (same ∙ junk.1)
 
-module _ (s : ServedState) (core : CoreState SimState) (left : List ℕ) (k : IsKept s) (some : is_some (pending_at s.core.fine.state.tables 1) ≡ true) where
-  kept-on : IsKeptGateway (gateway_of core) → IsKept (record s { core = core; left = left })
+module _ (s : ServedState) (core : CoreState SimState) (left : List ℕ) (k : IsLoopKept s) (some : is_some (pending_at s.core.interleaved.state.tables 1) ≡ true) where
+  kept-on : IsKeptGateway (gateway_of core) → IsLoopKept (record s { core = core; left = left })
   kept-on g = record { limit = k.limit; waits = k.waits; reached = g.reached; own = g.own; calm = g.calm }
 
   -- a call was polled
-  pub wait-on : (now : ℕ) → now ≡ s.core.fine.state.moment + 1 → Continues (gateway_of s.core) s.xid now (gateway_of core) left → WaitsTo s (record s { core = core; left = left })
+  pub wait-on : (now : ℕ) → now ≡ s.core.interleaved.state.moment + 1 → Continues (gateway_of s.core) s.xid now (gateway_of core) left → WaitsTo s (record s { core = core; left = left })
   wait-on now next h = record {
     kept = kept-on (continues-kept (gateway_of s.core) (gateway_of core) s.xid now left k.reached h);
     went = λ start bytes given w. went-polled start given bytes s core left w some now next h;
@@ -453,7 +453,7 @@ module _ (s : ServedState) (core : CoreState SimState) (left : List ℕ) (k : Is
   }
 
   -- its dial failed
-  pub refuse-on : (now : ℕ) → now ≡ s.core.fine.state.moment → IsReplied (gateway_of s.core) s.xid now (Some false) (gateway_of core) left
+  pub refuse-on : (now : ℕ) → now ≡ s.core.interleaved.state.moment → IsReplied (gateway_of s.core) s.xid now (Some false) (gateway_of core) left
       → WaitsTo s (record s { core = core; left = left })
   refuse-on now same r = record {
     kept = kept-on (replied-kept (gateway_of s.core) (gateway_of core) s.xid now (Some false) left k.reached r);
@@ -462,7 +462,7 @@ module _ (s : ServedState) (core : CoreState SimState) (left : List ℕ) (k : Is
   }
 
 -- nothing was done, or several things one after the other
-pub waits-none : (s : ServedState) → IsKept s → WaitsTo s s
+pub waits-none : (s : ServedState) → IsLoopKept s → WaitsTo s s
 waits-none s k = record { kept = k; went = λ start bytes given w. w; lives_on = refl }
 
 pub waits-trans : (a b c : ServedState) → WaitsTo a b → WaitsTo b c → WaitsTo a c
@@ -492,16 +492,16 @@ gives s from to count items into left_is copied within order start bytes given w
 -- ---- a connection that ends
 
 -- what holds of the gateway behind its end
-module _ (f g : FineState) (own : (u : Turn) → f.turn ≡ Some u → u.connection ≡ 1) (h : fine f (Down 1) ≡ Some g) where
+module _ (f g : InterleavedState) (own : (u : Turn) → f.turn ≡ Some u → u.connection ≡ 1) (h : interleaved_step f (Down 1) ≡ Some g) where
   down-turn : g.turn ≡ None
-  down-turn = (fine-frame f g (Down 1) h).turn_is ∙ by f.turn own where
+  down-turn = (interleaved-frame f g (Down 1) h).turn_is ∙ by f.turn own where
     by : (turn : Option Turn) → ((u : Turn) → turn ≡ Some u → u.connection ≡ 1) → turn_after turn (Down 1) ≡ None
     by None own = refl
     by (Some u) own = let one : (u.connection == 1) ≡ true = ap (λ n. n == 1) (own u refl) in ap (λ b. cond b None (Some u)) one
 
   down-gone : connection_at g.state.tables 1 ≡ None
   down-gone =
-      ap (λ (t : Tables). connection_at t 1) (fine-frame f g (Down 1) h).tables
+      ap (λ (t : Tables). connection_at t 1) (interleaved-frame f g (Down 1) h).tables
       ∙ find_filter-gone (λ (c : Connection). c.number == 1) (λ c. not (c.number == 1)) (λ c e. ap not e) f.state.tables.connections
 
   down-none : pending_at g.state.tables 1 ≡ None
@@ -524,7 +524,7 @@ went-ended start s new bytes given gone w left_is e = record {
 }
 
 -- the end of the connection over a core that nothing happened to
-pub down-of : (old mid core : CoreState SimState) → mid ≡ old → fine mid.fine (Down 1) ≡ Some core.fine → BusGoes mid.bus (Cut ∷ []) core.bus
+pub down-of : (old mid core : CoreState SimState) → mid ≡ old → interleaved_step mid.interleaved (Down 1) ≡ Some core.interleaved → BusGoes mid.bus (Cut ∷ []) core.bus
     → GoesDown (gateway_of old) (gateway_of core)
 down-of old mid core same led bus =
     subst (λ (g : CoreState SimState). GoesDown (gateway_of g) (gateway_of core)) same (record { events = led; bus = bus })
@@ -533,14 +533,14 @@ down-of old mid core same led bus =
 abbrev pub gone_state : CoreState SimState → BufState → ℕ → List ℕ → ServedState
 gone_state core buffer xid left = record { core = core; buffer = buffer; xid = xid; left = left }
 
-module _ (s : ServedState) (core : CoreState SimState) (buffer : BufState) (xid : ℕ) (left : List ℕ) (k : IsKept s) (left_is : left ≡ s.left)
+module _ (s : ServedState) (core : CoreState SimState) (buffer : BufState) (xid : ℕ) (left : List ℕ) (k : IsLoopKept s) (left_is : left ≡ s.left)
     (down : GoesDown (gateway_of s.core) (gateway_of core)) (fresh_is : buffer ≡ fresh RECORD_MAX) where
   abbrev new_state : ServedState
   new_state = gone_state core buffer xid left
 
-  gone-kept : IsKept new_state
+  gone-kept : IsLoopKept new_state
   gone-kept =
-      let none = down-turn s.core.fine core.fine k.own down.events in
+      let none = down-turn s.core.interleaved core.interleaved k.own down.events in
       let adds = happens-adds (gateway_of s.core) (gateway_of core) (Down 1 ∷ []) (Cut ∷ []) down refl in
       fresh-kept new_state
       (record {
@@ -555,8 +555,8 @@ module _ (s : ServedState) (core : CoreState SimState) (buffer : BufState) (xid 
     gone = gone;
     cut = refl;
     by_cause = why;
-    down = down-lives s.core.fine core.fine k.own down.events;
-    answered = down-none s.core.fine core.fine k.own down.events;
+    down = down-lives s.core.interleaved core.interleaved k.own down.events;
+    answered = down-none s.core.interleaved core.interleaved k.own down.events;
     fresh_is = λ none. fresh_is;
   }
 
@@ -564,7 +564,7 @@ module _ (s : ServedState) (core : CoreState SimState) (buffer : BufState) (xid 
   down-from reached same = subst (λ g. GoesDown g (gateway_of core)) same down
 
   -- the bytes of a send that failed ended a record that is too long, or that is no call
-  pub refused-to : (piece : List ℕ) → IsFree s → IsRefused s piece → TakesTo s new_state [] × IsRefused s piece × (lives (gateway_of core) ≡ false)
+  pub refused-to : (piece : List ℕ) → IsFree s → IsLoopRefused s piece → TakesTo s new_state [] × IsLoopRefused s piece × (lives (gateway_of core) ≡ false)
   refused-to piece free refuses = (
     record {
       kept = gone-kept;
@@ -575,25 +575,25 @@ module _ (s : ServedState) (core : CoreState SimState) (buffer : BufState) (xid 
           (ended-by w.reached (replies_of w.done) w.open_part [] (refused piece (subst IsNoCall at refuses) (down-from w.reached o.same))));
     },
     refuses,
-    down-lives s.core.fine core.fine k.own down.events,
+    down-lives s.core.interleaved core.interleaved k.own down.events,
   )
 
   -- bytes came too early
-  pub early-to : (gone : List ℕ) → (pending_at s.core.fine.state.tables 1 ≡ None → lives (gateway_of s.core) ≡ true) → 0 < length gone → is_some (pending_at s.core.fine.state.tables 1) ≡ true ⊎ 0 < length s.left
+  pub early-to : (gone : List ℕ) → (pending_at s.core.interleaved.state.tables 1 ≡ None → lives (gateway_of s.core) ≡ true) → 0 < length gone → is_some (pending_at s.core.interleaved.state.tables 1) ≡ true ⊎ 0 < length s.left
       → TakesTo s new_state gone × (lives (gateway_of core) ≡ false)
   early-to gone alive some busy = (
     record {
       kept = gone-kept;
       went = λ start bytes given w. went-ended start s new_state bytes given gone w left_is (by w.reached w.open_part (replies_of w.done) given w.given_is busy w.stands);
     },
-    down-lives s.core.fine core.fine k.own down.events,
+    down-lives s.core.interleaved core.interleaved k.own down.events,
   )
     where
-      reply-left : is_some (pending_at s.core.fine.state.tables 1) ≡ true ⊎ 0 < length s.left → pending_at s.core.fine.state.tables 1 ≡ None → 0 < length s.left
+      reply-left : is_some (pending_at s.core.interleaved.state.tables 1) ≡ true ⊎ 0 < length s.left → pending_at s.core.interleaved.state.tables 1 ≡ None → 0 < length s.left
       reply-left (inl pending) none = absurd (apart _ pending none)
       reply-left (inr some) none = some
 
-      by : (reached : Gateway) (part replied given : List ℕ) → given ++ s.left ≡ replied → is_some (pending_at s.core.fine.state.tables 1) ≡ true ⊎ 0 < length s.left
+      by : (reached : Gateway) (part replied given : List ℕ) → given ++ s.left ≡ replied → is_some (pending_at s.core.interleaved.state.tables 1) ≡ true ⊎ 0 < length s.left
           → IsAt reached s replied part → IsEnded reached new_state replied (part ++ gone)
       by reached part replied given is busy (inl o) =
           ended-by reached replied part gone (unread given s.left (sym is) (reply-left busy o.answered) some (down-from reached o.same))
@@ -610,7 +610,7 @@ more-gone reached replied came gone more now (unread given left is some early do
     let len = length-append gone more in unread given left is some (omega arith) down
 
 -- behind its end bytes are let go
-gone-by : (reached : Gateway) (s : ServedState) (replied part more : List ℕ) → lives (gateway_of s.core) ≡ false → pending_at s.core.fine.state.tables 1 ≡ None
+gone-by : (reached : Gateway) (s : ServedState) (replied part more : List ℕ) → lives (gateway_of s.core) ≡ false → pending_at s.core.interleaved.state.tables 1 ≡ None
     → IsAt reached s replied part → IsEnded reached s replied (part ++ more)
 gone-by reached s replied part more gone none (inl o) = record {
   came = part;
@@ -633,7 +633,7 @@ gone-by reached s replied part more gone none (inr (inr e)) = record {
 }
 
 -- a link with a call that waits, or with bytes left to give, isn't ready
-pub not-ready : (s : ServedState) → is_some (pending_at s.core.fine.state.tables 1) ≡ true ⊎ 0 < length s.left → IsReady s → ⊥
+pub not-ready : (s : ServedState) → is_some (pending_at s.core.interleaved.state.tables 1) ≡ true ⊎ 0 < length s.left → IsLoopReady s → ⊥
 not-ready s (inl pending) ready = apart _ pending ready.drained.answered
 not-ready s (inr some) ready = let len = ap (λ (xs : List ℕ). length xs) ready.drained.none_left in absurd (omega arith)
 
@@ -641,7 +641,7 @@ not-ready s (inr some) ready = let len = ap (λ (xs : List ℕ). length xs) read
 pub left-some : (from to : ℕ) (items : List ℕ) → from < to → to ≤ length items → 0 < length (drop from (take to items))
 left-some from to items some within = let front = length-take to items in let rest = length-drop from (take to items) in omega arith
 
-pub gone-on : (s : ServedState) (more : List ℕ) → IsKept s → lives (gateway_of s.core) ≡ false → pending_at s.core.fine.state.tables 1 ≡ None → TakesTo s s more
+pub gone-on : (s : ServedState) (more : List ℕ) → IsLoopKept s → lives (gateway_of s.core) ≡ false → pending_at s.core.interleaved.state.tables 1 ≡ None → TakesTo s s more
 gone-on s more k gone none = record {
   kept = k;
   went = λ start bytes given w. went-ended start s s bytes given more w refl (gone-by w.reached s (replies_of w.done) w.open_part more gone none w.stands);

@@ -7,15 +7,15 @@ use Rattle.vx_sim.specs.SimState.{SimState}
 use Rattle.vx_sim.specs.Laws.{transfers}
 use Rattle.vx_rules.specs.Lists.{along}
 use Rattle.vx_flow.specs.Event.{Event}
-use Rattle.vx_flow.specs.FineState.{FineState, first_fine}
-use Rattle.vx_flow.specs.Fine.{fine}
+use Rattle.vx_flow.specs.InterleavedState.{InterleavedState, first_interleaved}
+use Rattle.vx_flow.specs.InterleavedStep.{interleaved_step}
 use Rattle.vx_flow.specs.Poll.{at_moment}
 use Rattle.vx_flow.specs.Sound.{IsSound}
-use Rattle.vx_flow.specs.ProvedLaws.{later-stands, earlier_law-holds, fine-gathers, gathers}
-use Rattle.vx_rules.specs.ListLaws.{along-append}
+use Rattle.vx_flow.proofs.Laws.{later-stands, earlier_law-holds, interleaved-linearizes, linearizes}
+use Rattle.vx_rules.proofs.Laws.Lists.{along-append}
 use Rattle.vx_loop.specs.Gateway.{Gateway, BusGoes, Happens}
 use Rattle.vx_flow.specs.Frames.{moves_by}
-use Rattle.vx_loop.specs.Exchanges.{Adds}
+use Rattle.vx_loop.specs.Exchanges.{LoopAdds}
 use Rattle.vx_loop.specs.Standing.{IsReached}
 
 -- the transfers of one list of steps and then another
@@ -30,29 +30,29 @@ bus-append a b c [] ys first second = subst (λ s. BusGoes s ys c) first second
 bus-append a b c (x ∷ xs) ys first second = (first.0, first.1, bus-append first.0 b c xs ys first.2 second)
 
 -- nothing happens
-pub adds-none : (g : Gateway) → Adds g [] [] g
-adds-none g = record { last = g.fine; events = refl; late = omega arith; at_now = refl; bus = refl; moves = refl }
+pub adds-none : (g : Gateway) → LoopAdds g [] [] g
+adds-none g = record { last = g.interleaved; events = refl; late = omega arith; at_now = refl; bus = refl; moves = refl }
 
 -- what happened without a transfer
-pub happens-adds : (a b : Gateway) (group : List Event) (steps : List Step) → Happens a group steps b → transfers steps ≡ flat_map moves_by group → Adds a group steps b
-happens-adds a b group steps h moves = record { last = b.fine; events = h.events; late = omega arith; at_now = refl; bus = h.bus; moves = moves }
+pub happens-adds : (a b : Gateway) (group : List Event) (steps : List Step) → Happens a group steps b → transfers steps ≡ flat_map moves_by group → LoopAdds a group steps b
+happens-adds a b group steps h moves = record { last = b.interleaved; events = h.events; late = omega arith; at_now = refl; bus = h.bus; moves = moves }
 
 -- events that are allowed behind a state at a later moment
-pub along-later : (first last : FineState) (f g : FineState) (xs ys : List Event) → along fine (Some first) xs ≡ Some last → last.state.moment ≤ f.state.moment
-    → f ≡ at_moment last f.state.moment → IsSound last → along fine (Some f) ys ≡ Some g
-    → (moment : ℕ) × (along fine (Some first) (xs ++ ys) ≡ Some (at_moment g moment)) × (moment ≤ g.state.moment)
+pub along-later : (first last : InterleavedState) (f g : InterleavedState) (xs ys : List Event) → along interleaved_step (Some first) xs ≡ Some last → last.state.moment ≤ f.state.moment
+    → f ≡ at_moment last f.state.moment → IsSound last → along interleaved_step (Some f) ys ≡ Some g
+    → (moment : ℕ) × (along interleaved_step (Some first) (xs ++ ys) ≡ Some (at_moment g moment)) × (moment ≤ g.state.moment)
 along-later first last f g xs ys led late at sound goes =
-    let more = earlier_law-holds last g f.state.moment ys sound late (ap (λ x. along fine (Some x) ys) (sym at) ∙ goes) in
-    (more.0, along-append fine (Some first) xs ys ∙ ap (λ o. along fine o ys) led ∙ more.1, more.2)
+    let more = earlier_law-holds last g f.state.moment ys sound late (ap (λ x. along interleaved_step (Some x) ys) (sym at) ∙ goes) in
+    (more.0, along-append interleaved_step (Some first) xs ys ∙ ap (λ o. along interleaved_step o ys) led ∙ more.1, more.2)
 
 -- what holds between events holds behind what happened
-adds-sound : (a b : Gateway) (xs : List Event) (ss : List Step) → IsSound a.fine → (adds : Adds a xs ss b) → IsSound adds.last
-adds-sound a b xs ss sound adds = (gathers xs a.fine adds.last a.fine.state.moment sound (omega arith) adds.events).sound
+adds-sound : (a b : Gateway) (xs : List Event) (ss : List Step) → IsSound a.interleaved → (adds : LoopAdds a xs ss b) → IsSound adds.last
+adds-sound a b xs ss sound adds = (linearizes xs a.interleaved adds.last a.interleaved.state.moment sound (omega arith) adds.events).sound
 
 -- one part and then another
-pub adds-append : (a b c : Gateway) (xs ys : List Event) (ss ts : List Step) → IsSound a.fine → Adds a xs ss b → Adds b ys ts c → Adds a (xs ++ ys) (ss ++ ts) c
+pub adds-append : (a b c : Gateway) (xs ys : List Event) (ss ts : List Step) → IsSound a.interleaved → LoopAdds a xs ss b → LoopAdds b ys ts c → LoopAdds a (xs ++ ys) (ss ++ ts) c
 adds-append a b c xs ys ss ts sound first second =
-    let led = along-later a.fine first.last b.fine second.last xs ys first.events first.late first.at_now (adds-sound a b xs ss sound first) second.events in
+    let led = along-later a.interleaved first.last b.interleaved second.last xs ys first.events first.late first.at_now (adds-sound a b xs ss sound first) second.events in
     let late = second.late in
     let early = led.2 in
     record {
@@ -67,10 +67,10 @@ adds-append a b c xs ys ss ts sound first second =
     }
 
 -- a state with a history has one behind what happens
-pub reached-more : (a b : Gateway) (xs : List Event) (ss : List Step) → IsReached a.fine → Adds a xs ss b → IsReached b.fine
+pub reached-more : (a b : Gateway) (xs : List Event) (ss : List Step) → IsReached a.interleaved → LoopAdds a xs ss b → IsReached b.interleaved
 reached-more a b xs ss r h =
-    let sound = (fine-gathers r.abort_port r.history r.last r.allowed).sound in
-    let led = along-later (first_fine r.abort_port) r.last a.fine h.last r.history xs r.allowed r.late r.at_now sound h.events in
+    let sound = (interleaved-linearizes r.abort_port r.history r.last r.allowed).sound in
+    let led = along-later (first_interleaved r.abort_port) r.last a.interleaved h.last r.history xs r.allowed r.late r.at_now sound h.events in
     let late = h.late in
     let early = led.2 in
     record {
@@ -82,9 +82,9 @@ reached-more a b xs ss r h =
       at_now = h.at_now;
     }
 
-pub reached-sound : (f : FineState) → IsReached f → IsSound f
+pub reached-sound : (f : InterleavedState) → IsReached f → IsSound f
 reached-sound f r =
-    let sound = (fine-gathers r.abort_port r.history r.last r.allowed).sound in
+    let sound = (interleaved-linearizes r.abort_port r.history r.last r.allowed).sound in
     let late = r.late in
     subst IsSound (sym r.at_now) (record {
       turn_stands = later-stands r.last.state.tables r.last.before r.last.state.wire r.last.state.moment f.state.moment r.last.turn late sound.turn_stands;

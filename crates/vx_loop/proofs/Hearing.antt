@@ -26,25 +26,25 @@ use Rattle.vx_rules.specs.State.{Pending, Tables, State, pending_at, with_pendin
 use Rattle.vx_rules.specs.Calls.{sets_end, bytes_of, is_big}
 use Rattle.vx_rules.specs.Checks.{link_found}
 use Rattle.vx_rules.specs.Effects.{task_of}
-use Rattle.vx_rules.specs.Decide.{Outside}
+use Rattle.vx_rules.specs.Decide.{BusInput}
 use Rattle.vx_rules.specs.Entry as entry
 use Rattle.vx_rules.specs.Entry.{Entry}
-use Rattle.vx_rules.specs.One.{one, may_wait, arrived}
+use Rattle.vx_rules.specs.AtomicStep.{atomic_step, may_wait, arrived}
 use Rattle.vx_rules.specs.Legal.{legal_state}
 use Rattle.vx_flow.specs.Event.{Event, Arrive, Answer}
-use Rattle.vx_flow.specs.FineState.{FineState, Turn, before_turn, begun_of, turn_of, turn_after}
-use Rattle.vx_flow.specs.Fine.{fine}
-use Rattle.vx_flow.specs.Gather.{gather, gather_from}
+use Rattle.vx_flow.specs.InterleavedState.{InterleavedState, Turn, before_turn, begun_of, turn_of, turn_after}
+use Rattle.vx_flow.specs.InterleavedStep.{interleaved_step}
+use Rattle.vx_flow.specs.Linearization.{linearization, linearization_from}
 use Rattle.vx_flow.specs.Sound.{TurnStands, IsSound}
 use Rattle.vx_flow.specs.Laws.{marked_bytes}
 use Rattle.vx_flow.specs.Does.{AnsweredBy, ByAbort, ByNoLink, ByCheck, ByBar, ByDialUp, ByDialDown, ByEffect, ByNoRole, ByFault, ByWhole, ByTimeout, Stops, Comes}
-use Rattle.vx_rules.specs.ListLaws.{along-none, along-append}
-use Rattle.vx_rules.specs.RowLaws.{pending-put}
-use Rattle.vx_rules.specs.ProvedLaws.{role-lives}
-use Rattle.vx_flow.specs.ProvedLaws.{fine-does, fine-frame, gather_law-holds, gathers, device-holds}
-use Rattle.vx_flow.specs.ProvedLaws.Gathering.{fine-goes}
+use Rattle.vx_rules.proofs.Laws.Lists.{along-none, along-append}
+use Rattle.vx_rules.proofs.Laws.Rows.{pending-put}
+use Rattle.vx_rules.proofs.Laws.{role-lives}
+use Rattle.vx_flow.proofs.Laws.{interleaved-does, interleaved-frame, linearization_law-holds, linearizes, device-holds}
+use Rattle.vx_flow.proofs.Laws.Linearizing.{interleaved-goes}
 use Rattle.vx_flow.specs.Frames.{moves_by}
-use Rattle.vx_loop.specs.Exchanges.{IsAnswered}
+use Rattle.vx_loop.specs.Exchanges.{IsLoopAnswered}
 use Rattle.vx_loop.specs.Standing.{IsReached}
 use Rattle.vx_loop.proofs.Happening.{reached-sound}
 use Rattle.vx_loop.proofs.Turns.{made_by, turn-run, TurnRun}
@@ -58,7 +58,7 @@ record IsWriteReply (t : Tables) (told : Reply) (after : Tables) : Type 0 where
   is : told ≡ reply.Write error size
   same : after ≡ t
 
-module _ (f : FineState) (conn now lid io_timeout lock_timeout flags : ℕ) (bytes : List ℕ) (arrival : ℕ) (o : Outside) (told : Reply) (after : Tables) where
+module _ (f : InterleavedState) (conn now lid io_timeout lock_timeout flags : ℕ) (bytes : List ℕ) (arrival : ℕ) (o : BusInput) (told : Reply) (after : Tables) where
   abbrev waiting : Pending
   waiting = record { call = call.Write lid io_timeout lock_timeout flags bytes; arrival = arrival; aborted = false }
 
@@ -103,7 +103,7 @@ along-split {S = S} step o z xs ys h = by (along step o xs) refl (sym (along-app
   by (Some mid) is rest = (mid, is, rest)
 
 -- the entries of a call that came and was answered, and the states of one thread behind each; and the line that answered it
-pub record IsOneCall (f : FineState) (asked : Call) (told : Reply) (group : List Event) (last : FineState) : Type 0 where
+pub record IsOneCall (f : InterleavedState) (asked : Call) (told : Reply) (group : List Event) (last : InterleavedState) : Type 0 where
   pub port : ℕ
   pub earlier : List Entry
   pub come : State
@@ -112,32 +112,32 @@ pub record IsOneCall (f : FineState) (asked : Call) (told : Reply) (group : List
   pub wire : come.wire ≡ f.state.wire
   pub links : come.tables.links ≡ f.state.tables.links
   pub now : ℕ
-  pub o : Outside
+  pub o : BusInput
   pub moves : o.moves ≡ flat_map moves_by group
   pub done : State
-  pub answers : one come (entry.Answer 1 now o.begun o.moves o.failed o.dialed o.level told) ≡ Some done
+  pub answers : atomic_step come (entry.Answer 1 now o.begun o.moves o.failed o.dialed o.level told) ≡ Some done
   pub lives : lives_as f.state.tables 1 role.Core ≡ true
-  pub at_end : FineState
+  pub at_end : InterleavedState
   pub links_left : at_end.state.tables.links ≡ f.state.tables.links
   pub after : Tables
   pub line : AnsweredBy at_end 1 now (record { call = asked; arrival = come.moment; aborted = false }) o told after
   pub links_after : last.state.tables.links ≡ after.links
 
-module _ (f : FineState) (asked : Call) (told : Reply) (came now : ℕ) (group : List Event) (steps : List Step) (last : FineState) (reached : IsReached f) (calm : f.turn ≡ None)
-    (a : IsAnswered asked told came now group steps)
-    (led : along fine (Some f) group ≡ Some last) where
+module _ (f : InterleavedState) (asked : Call) (told : Reply) (came now : ℕ) (group : List Event) (steps : List Step) (last : InterleavedState) (reached : IsReached f) (calm : f.turn ≡ None)
+    (a : IsLoopAnswered asked told came now group steps)
+    (led : along interleaved_step (Some f) group ≡ Some last) where
   sound_f : IsSound f
   sound_f = reached-sound f reached
 
-  gathered_f : (moment : ℕ) × (legal_state reached.abort_port (gather reached.history) ≡ Some (before_turn f moment)) × (moment ≤ f.state.moment)
-  gathered_f =
-      let made = gather_law-holds reached.abort_port reached.history reached.last reached.allowed in
+  linearized_f : (moment : ℕ) × (legal_state reached.abort_port (linearization reached.history) ≡ Some (before_turn f moment)) × (moment ≤ f.state.moment)
+  linearized_f =
+      let made = linearization_law-holds reached.abort_port reached.history reached.last reached.allowed in
       let late = reached.late in
       let early = made.2 in
-      (made.0, made.1 ∙ ap (λ (x : FineState). Some (before_turn x made.0)) (sym reached.at_now), omega arith)
+      (made.0, made.1 ∙ ap (λ (x : InterleavedState). Some (before_turn x made.0)) (sym reached.at_now), omega arith)
 
-  abbrev start_one : State
-  start_one = before_turn f gathered_f.0
+  abbrev start_atomic : State
+  start_atomic = before_turn f linearized_f.0
 
   wire-is : f.before ≡ f.state.wire
   wire-is = by f.turn calm sound_f.turn_stands where
@@ -148,23 +148,23 @@ module _ (f : FineState) (asked : Call) (told : Reply) (came now : ℕ) (group :
   abbrev the_answer : Event
   the_answer = Answer 1 now a.failed a.dialed a.level told
 
-  led_parts : along fine (Some f) ((Arrive 1 asked came ∷ []) ++ (a.turn ++ the_answer ∷ [])) ≡ Some last
-  led_parts = ap (along fine (Some f)) (sym a.events) ∙ led
+  led_parts : along interleaved_step (Some f) ((Arrive 1 asked came ∷ []) ++ (a.turn ++ the_answer ∷ [])) ≡ Some last
+  led_parts = ap (along interleaved_step (Some f)) (sym a.events) ∙ led
 
-  come_parts : (mid : FineState) × (along fine (Some f) (Arrive 1 asked came ∷ []) ≡ Some mid) × (along fine (Some mid) (a.turn ++ the_answer ∷ []) ≡ Some last)
-  come_parts = along-split fine (Some f) last (Arrive 1 asked came ∷ []) (a.turn ++ the_answer ∷ []) led_parts
+  come_parts : (mid : InterleavedState) × (along interleaved_step (Some f) (Arrive 1 asked came ∷ []) ≡ Some mid) × (along interleaved_step (Some mid) (a.turn ++ the_answer ∷ []) ≡ Some last)
+  come_parts = along-split interleaved_step (Some f) last (Arrive 1 asked came ∷ []) (a.turn ++ the_answer ∷ []) led_parts
 
-  turn_parts : (mid : FineState) × (along fine (Some come_parts.0) a.turn ≡ Some mid) × (along fine (Some mid) (the_answer ∷ []) ≡ Some last)
-  turn_parts = along-split fine (Some come_parts.0) last a.turn (the_answer ∷ []) come_parts.2
+  turn_parts : (mid : InterleavedState) × (along interleaved_step (Some come_parts.0) a.turn ≡ Some mid) × (along interleaved_step (Some mid) (the_answer ∷ []) ≡ Some last)
+  turn_parts = along-split interleaved_step (Some come_parts.0) last a.turn (the_answer ∷ []) come_parts.2
 
   come-turn : come_parts.0.turn ≡ None
-  come-turn = (fine-frame f come_parts.0 (Arrive 1 asked came) come_parts.1).turn_is ∙ ap (λ turn. turn_after turn (Arrive 1 asked came)) calm
+  come-turn = (interleaved-frame f come_parts.0 (Arrive 1 asked came) come_parts.1).turn_is ∙ ap (λ turn. turn_after turn (Arrive 1 asked came)) calm
 
   ran : TurnRun come_parts.0 turn_parts.0 a.turn
   ran =
-      turn-run a.turn come_parts.0 turn_parts.0 (fine-goes (Arrive 1 asked came) f come_parts.0 f.state.moment sound_f (omega arith) come_parts.1).sound a.turn_is turn_parts.1
+      turn-run a.turn come_parts.0 turn_parts.0 (interleaved-goes (Arrive 1 asked came) f come_parts.0 f.state.moment sound_f (omega arith) come_parts.1).sound a.turn_is turn_parts.1
 
-  abbrev outside_of : Outside
+  abbrev outside_of : BusInput
   outside_of = record {
     begun = begun_of (turn_of turn_parts.0.turn 1);
     moves = made_by turn_parts.0.turn;
@@ -174,26 +174,26 @@ module _ (f : FineState) (asked : Call) (told : Reply) (came now : ℕ) (group :
   }
 
   comes : Comes f 1 asked came come_parts.0
-  comes = (fine-does f come_parts.0 (Arrive 1 asked came) come_parts.1).step
+  comes = (interleaved-does f come_parts.0 (Arrive 1 asked came) come_parts.1).step
 
   -- behind its turn the call is pending, and the links are as they were
   waits : pending_at turn_parts.0.state.tables 1 ≡ Some (arrived asked came)
   waits =
-      ap (λ (t : Tables). pending_at t 1) ran.tables ∙ ap (λ (x : FineState). pending_at x.state.tables 1) comes.leads
+      ap (λ (t : Tables). pending_at t 1) ran.tables ∙ ap (λ (x : InterleavedState). pending_at x.state.tables 1) comes.leads
       ∙ pending-put f.state.tables 1 (Some (arrived asked came)) role.Core comes.core
 
   links-left : turn_parts.0.state.tables.links ≡ f.state.tables.links
-  links-left = ap (λ (t : Tables). t.links) ran.tables ∙ ap (λ (x : FineState). x.state.tables.links) comes.leads
+  links-left = ap (λ (t : Tables). t.links) ran.tables ∙ ap (λ (x : InterleavedState). x.state.tables.links) comes.leads
 
   abbrev entries_of : List Entry
   entries_of =
       entry.Arrive 1 asked came ∷ entry.Answer 1 now outside_of.begun outside_of.moves a.failed a.dialed a.level told ∷ []
 
-  gather-is : gather_from f.turn group ≡ entries_of
-  gather-is =
-      ap (gather_from f.turn) a.events ∙ ap (λ turn. gather_from turn (Arrive 1 asked came ∷ (a.turn ++ the_answer ∷ []))) calm
+  linearization-is : linearization_from f.turn group ≡ entries_of
+  linearization-is =
+      ap (linearization_from f.turn) a.events ∙ ap (λ turn. linearization_from turn (Arrive 1 asked came ∷ (a.turn ++ the_answer ∷ []))) calm
       ∙ ap (λ es. entry.Arrive 1 asked came ∷ es)
-      (ap (λ turn. gather_from turn (a.turn ++ the_answer ∷ [])) (sym come-turn) ∙ ran.gathered (the_answer ∷ []))
+      (ap (λ turn. linearization_from turn (a.turn ++ the_answer ∷ [])) (sym come-turn) ∙ ran.linearized (the_answer ∷ []))
 
   moves-are : made_by turn_parts.0.turn ≡ flat_map moves_by group
   moves-are =
@@ -202,22 +202,22 @@ module _ (f : FineState) (asked : Call) (told : Reply) (came now : ℕ) (group :
 
   pub one-call : IsOneCall f asked told group last
   one-call =
-      let made = gathers group f last gathered_f.0 sound_f gathered_f.2 led in
-      let reaches : along one (Some start_one) entries_of ≡ Some (before_turn last made.moment) = ap (along one (Some start_one)) (sym gather-is) ∙ made.reaches in
-      let parts = along-split one (Some start_one) (before_turn last made.moment) (entry.Arrive 1 asked came ∷ [])
+      let made = linearizes group f last linearized_f.0 sound_f linearized_f.2 led in
+      let reaches : along atomic_step (Some start_atomic) entries_of ≡ Some (before_turn last made.moment) = ap (along atomic_step (Some start_atomic)) (sym linearization-is) ∙ made.reaches in
+      let parts = along-split atomic_step (Some start_atomic) (before_turn last made.moment) (entry.Arrive 1 asked came ∷ [])
       (entry.Answer 1 now outside_of.begun outside_of.moves a.failed a.dialed a.level told ∷ []) reaches in
-      let next : State = record start_one { tables = with_pending f.state.tables 1 (Some (arrived asked came)); moment = came } in
-      let arrives = cond_some (nat_le gathered_f.0 came && is_idle f.state.tables 1 && may_wait asked) next parts.0 parts.1 in
-      let ended = (fine-does turn_parts.0 last the_answer turn_parts.2).step in
-      subst (λ (s : State). one s (entry.Answer 1 now outside_of.begun outside_of.moves a.failed a.dialed a.level told) ≡ Some (before_turn last made.moment)
+      let next : State = record start_atomic { tables = with_pending f.state.tables 1 (Some (arrived asked came)); moment = came } in
+      let arrives = cond_some (nat_le linearized_f.0 came && is_idle f.state.tables 1 && may_wait asked) next parts.0 parts.1 in
+      let ended = (interleaved-does turn_parts.0 last the_answer turn_parts.2).step in
+      subst (λ (s : State). atomic_step s (entry.Answer 1 now outside_of.begun outside_of.moves a.failed a.dialed a.level told) ≡ Some (before_turn last made.moment)
       → IsOneCall f asked told group last) arrives.1
       (λ answers. record {
         port = reached.abort_port;
-        earlier = gather reached.history ++ entry.Arrive 1 asked came ∷ [];
+        earlier = linearization reached.history ++ entry.Arrive 1 asked came ∷ [];
         come = next;
         legal =
-            along-append one (legal_state reached.abort_port []) (gather reached.history) (entry.Arrive 1 asked came ∷ [])
-            ∙ ap (λ o. along one o (entry.Arrive 1 asked came ∷ [])) gathered_f.1 ∙ parts.1 ∙ ap Some (sym arrives.1);
+            along-append atomic_step (legal_state reached.abort_port []) (linearization reached.history) (entry.Arrive 1 asked came ∷ [])
+            ∙ ap (λ o. along atomic_step o (entry.Arrive 1 asked came ∷ [])) linearized_f.1 ∙ parts.1 ∙ ap Some (sym arrives.1);
         call_at = pending-put f.state.tables 1 (Some (arrived asked came)) role.Core comes.core;
         wire = wire-is;
         links = refl;
@@ -231,13 +231,13 @@ module _ (f : FineState) (asked : Call) (told : Reply) (came now : ℕ) (group :
         links_left = links-left;
         after = ended.after;
         line = subst (λ p. AnsweredBy turn_parts.0 1 now p outside_of told ended.after) (same_Some ended.asked (arrived asked came) (sym ended.call_at ∙ waits)) ended.line;
-        links_after = ap (λ (x : FineState). x.state.tables.links) ended.leads;
+        links_after = ap (λ (x : InterleavedState). x.state.tables.links) ended.leads;
       }) parts.2
 
 -- ---- what is heard
 
 -- a write to a device that was answered without an error is heard by it alone
-pub call-heard : (f last : FineState) (group : List Event) (lid io_timeout lock_timeout flags size : ℕ) (bytes : List ℕ) (a : Addr) (l : Link)
+pub call-heard : (f last : InterleavedState) (group : List Event) (lid io_timeout lock_timeout flags size : ℕ) (bytes : List ℕ) (a : Addr) (l : Link)
     → IsOneCall f (call.Write lid io_timeout lock_timeout flags bytes) (reply.Write code.Ok size) group last → link_of f.state.tables 1 lid ≡ Some l → l.target ≡ Device a.p a.s
     → (heard a f.state.wire (flat_map moves_by group) ≡ marked_bytes (sets_end flags) bytes)
     × ((b : Addr) → b ≢ a → heard b f.state.wire (flat_map moves_by group) ≡ [])
@@ -250,7 +250,7 @@ call-heard f last group lid io_timeout lock_timeout flags size bytes a l c at ta
     (same a ∙ holds.0, λ b ne. same b ∙ holds.1 b ne)
 
 -- its reply, and what it leaves of the links
-pub call-replies : (f last : FineState) (group : List Event) (lid io_timeout lock_timeout flags : ℕ) (bytes : List ℕ) (told : Reply)
+pub call-replies : (f last : InterleavedState) (group : List Event) (lid io_timeout lock_timeout flags : ℕ) (bytes : List ℕ) (told : Reply)
     → IsOneCall f (call.Write lid io_timeout lock_timeout flags bytes) told group last
     → ((e : ErrorCode) × (n : ℕ) × (told ≡ reply.Write e n)) × (last.state.tables.links ≡ f.state.tables.links)
 call-replies f last group lid io_timeout lock_timeout flags bytes told c =

@@ -5,11 +5,12 @@ use Rattle.vx_io_traits.specs.declared.ReadOut.TheVariants.{Got, End, Failed}
 use Rattle.vx_io_traits.specs.declared.WriteOut.{WriteOut}
 use Rattle.vx_io_traits.specs.declared.WriteOut.TheVariants.{Took, Failed as Refused}
 use Rattle.vx_io_traits.specs.Outs.{IfGot, IfTook, OnEnd, OnReadFailed, OnWriteFailed}
-use Rattle.vx_io_traits.specs.Stands.{Gives, Takes, Stays, Goes, Goes-goes}
+use Rattle.vx_io_traits.specs.Stands.{Gives, Takes, Stays, Goes}
+use Rattle.vx_io_traits.proofs.Laws.Goings.{Goes-goes}
 use Rattle.vx_loop.specs.Gateway.{Gateway, gateway_of}
 use Rattle.vx_loop.specs.LoopState.{ServedState, LoopState}
 use Rattle.vx_loop.specs.Serving.{lives}
-use Rattle.vx_loop.specs.Standing.{Went, Since, StandsFor, GoesOn, MarkedStands, TakesTo, WaitsTo, LivesAlike}
+use Rattle.vx_loop.specs.Standing.{Went, Since, LoopStandsFor, LoopGoesOn, MarkedStands, TakesTo, WaitsTo, LivesAlike}
 
 -- what a call did, in the words of every link
 module _ (stands : LoopState → List ℕ → List ℕ → Type 0) (old new : LoopState) where
@@ -23,13 +24,13 @@ module _ (stands : LoopState → List ℕ → List ℕ → Type 0) (old new : Lo
   goes-stays h taken given s = subst (stands new taken) (append-nil given) (goes-gives [] h taken given s)
 
 -- a link stands for it
-pub stands-goes : (old new : LoopState) (sent got : List ℕ) → GoesOn old new sent got → Goes StandsFor old new sent got
+pub stands-goes : (old new : LoopState) (sent got : List ℕ) → LoopGoesOn old new sent got → Goes LoopStandsFor old new sent got
 stands-goes old new sent got h taken given (start, begins, since) = (start, begins, h (gateway_of start.core) taken given since)
 
 -- and so does one that is looked at
-pub marked-goes : (start old new : LoopState) (sent got : List ℕ) → GoesOn old new sent got → Goes (MarkedStands start) old new sent got
+pub marked-goes : (start old new : LoopState) (sent got : List ℕ) → LoopGoesOn old new sent got → Goes (MarkedStands start) old new sent got
 marked-goes start old new sent got h taken given marked =
-    (Goes-goes StandsFor start old new taken given sent got marked.0 (stands-goes old new sent got h), λ s is idle. h (gateway_of s.core) taken given (marked.1 s is idle))
+    (Goes-goes LoopStandsFor start old new taken given sent got marked.0 (stands-goes old new sent got h), λ s is idle. h (gateway_of s.core) taken given (marked.1 s is idle))
 
 -- ---- facts of both answers of a call
 
@@ -57,20 +58,20 @@ failed-both _ P Q R p q f = tt
 
 -- a link whose gateway took bytes went on so
 pub takes-goes : (old : LoopState) (s new : ServedState) (receives sends : ℕ) (bytes : List ℕ) → old.served ≡ Some s → TakesTo s new bytes
-    → GoesOn old (record { served = Some new; receive_faults = receives; send_faults = sends }) bytes []
+    → LoopGoesOn old (record { served = Some new; receive_faults = receives; send_faults = sends }) bytes []
 takes-goes old s new receives sends bytes is t start taken given since =
     subst (Went start new (taken ++ bytes)) (sym (append-nil given)) (t.went start taken given (subst (λ o. Since start o taken given) is since))
 
 -- one whose gateway gave bytes once a call no longer waited went on so
 pub gives-goes : (old : LoopState) (s mid new : ServedState) (receives sends : ℕ) (bytes : List ℕ) → old.served ≡ Some s → WaitsTo s mid
     → ((start : Gateway) (taken given : List ℕ) → Went start mid taken given → Went start new taken (given ++ bytes))
-    → GoesOn old (record { served = Some new; receive_faults = receives; send_faults = sends }) [] bytes
+    → LoopGoesOn old (record { served = Some new; receive_faults = receives; send_faults = sends }) [] bytes
 gives-goes old s mid new receives sends bytes is w g start taken given since =
     subst (λ ts. Went start new ts (given ++ bytes)) (sym (append-nil taken)) (g start taken given (w.went start taken given (subst (λ o. Since start o taken given) is since)))
 
 -- one whose call waits on gave nothing
 pub waits-goes : (old : LoopState) (s new : ServedState) (receives sends : ℕ) → old.served ≡ Some s → WaitsTo s new
-    → GoesOn old (record { served = Some new; receive_faults = receives; send_faults = sends }) [] []
+    → LoopGoesOn old (record { served = Some new; receive_faults = receives; send_faults = sends }) [] []
 waits-goes old s new receives sends is w =
     gives-goes old s new new receives sends [] is w (λ start taken given went. subst (Went start new taken) (sym (append-nil given)) went)
 
@@ -79,5 +80,5 @@ pub waits-alike : (old : Option ServedState) (s mid new : ServedState) → old �
 waits-alike old s mid new is w same = subst (λ o. LivesAlike o (Some new)) (sym is) (ap (λ c. lives (gateway_of c)) same ∙ w.lives_on)
 
 -- a link without a gateway stands for nothing
-pub vacant-goes : (old new : LoopState) (sent got : List ℕ) → old.served ≡ None → GoesOn old new sent got
+pub vacant-goes : (old new : LoopState) (sent got : List ℕ) → old.served ≡ None → LoopGoesOn old new sent got
 vacant-goes old new sent got is start taken given since = absurd (subst (λ o. Since start o taken given) is since)

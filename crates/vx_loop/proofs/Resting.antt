@@ -8,14 +8,14 @@ use Rattle.vx_client.specs.State.{ClientState}
 use Rattle.vx_client.specs.Message.{message, call_record, IsSendable}
 use Rattle.vx_client.specs.Stream.{IsReply}
 use Rattle.vx_client.specs.Exchange as ends
-use Rattle.vx_client.specs.Exchange.{Exchange, Replied, Asks, Exchanged}
-use Rattle.vx_client.proofs.Lengths.{arguments-short}
+use Rattle.vx_client.specs.Exchange.{Exchange, Replied, ClientAsks, Exchanged}
+use Rattle.vx_client.proofs.Laws.Lengths.{arguments-short}
 use Rattle.vx_loop.specs.Gateway.{Gateway, gateway_of}
 use Rattle.vx_loop.specs.LoopState.{ServedState, LoopState, IsIdle}
 use Rattle.vx_loop.specs.Exchanges as exchange
 use Rattle.vx_loop.specs.Exchanges.{Exchanges, streams_of, replies_of}
-use Rattle.vx_loop.specs.Standing.{Since, StandsFor}
-use Rattle.vx_loop.specs.Resting.{Sent, streams, IsAnswered, FirstLaw, CallLaw, RestLaw}
+use Rattle.vx_loop.specs.Standing.{Since, LoopStandsFor}
+use Rattle.vx_loop.specs.Resting.{Sent, streams, IsLoopAnswered, FirstLaw, CallLaw, RestLaw}
 use Rattle.vx_loop.proofs.Streams.{record-is-whole, whole-is-record, whole-some, record-whole, whole-unique}
 use Rattle.vx_loop.proofs.Calling.{idle-since}
 use Rattle.vx_loop.proofs.Going.{none-parts, flat-snoc}
@@ -60,7 +60,7 @@ pub record IsEven (l : LoopState) (tail : List ℕ) : Type 0 where
   pub idle : IsIdle s
   pub none : tail ≡ []
 
-pub even-idle : (l : LoopState) (taken given tail : List ℕ) (calls replies : List Sent) → StandsFor l taken given → taken ≡ streams calls → given ≡ streams replies ++ tail
+pub even-idle : (l : LoopState) (taken given tail : List ℕ) (calls replies : List Sent) → LoopStandsFor l taken given → taken ≡ streams calls → given ≡ streams replies ++ tail
     → length calls ≡ length replies → IsEven l tail
 even-idle l taken given tail calls replies (start, begins, since) taken_is given_is even = by l.served refl since where
   by : (o : Option ServedState) → l.served ≡ o → Since (gateway_of start.core) o taken given → IsEven l tail
@@ -96,7 +96,7 @@ first-holds c s serves begins fit none = record {
   none_kept = none;
 }
 
-module _ (old new : ClientState LoopState) (asked : Call) (room : ℕ) (sendable : IsSendable asked) (h : IsAnswered old) (fit : new.spent ≡ false) where
+module _ (old new : ClientState LoopState) (asked : Call) (room : ℕ) (sendable : IsSendable asked) (h : IsLoopAnswered old) (fit : new.spent ≡ false) where
   abbrev call_text : List ℕ
   call_text = message old.next asked
 
@@ -110,14 +110,14 @@ module _ (old new : ClientState LoopState) (asked : Call) (room : ℕ) (sendable
     whole = whole-is-record (call_record old.next asked) call_text (record-whole call_text text-short);
   }
 
-  replied-on : (reply : List ℕ) → Asks StandsFor (λ l. None) old new asked (λ stream got. IsReply stream reply new.kept) → IsAnswered new
+  replied-on : (reply : List ℕ) → ClientAsks LoopStandsFor (λ l. None) old new asked (λ stream got. IsReply stream reply new.kept) → IsLoopAnswered new
   replied-on reply a =
       let came : IsReply a.got reply new.kept = subst (λ xs. IsReply (xs ++ a.got) reply new.kept) h.none_kept a.came in
       let front = reply-whole came.front reply came.whole came.shortest in
       let r : Sent = record { stream = came.front; message = reply; whole = whole-is-record came.front reply front } in
       let taken = h.taken ++ call_record old.next asked in
       let given = h.given ++ a.got in
-      let stands : StandsFor new.link taken given = a.moved.goes h.taken h.given h.stands in
+      let stands : LoopStandsFor new.link taken given = a.moved.goes h.taken h.given h.stands in
       let calls = h.calls ++ the_call ∷ [] in
       let replies = h.replies ++ r ∷ [] in
       let taken_is : taken ≡ streams calls = ap (λ bs. bs ++ call_record old.next asked) h.taken_is ∙ sym (flat-snoc (λ (x : Sent). x.stream) h.calls the_call) in
@@ -142,7 +142,7 @@ module _ (old new : ClientState LoopState) (asked : Call) (room : ℕ) (sendable
         none_kept = none;
       }
 
-  called-on : (how : Exchange) → Exchanged StandsFor (λ l. None) (λ l. l.receive_faults) (λ l. l.send_faults) old new asked room how → IsAnswered new
+  called-on : (how : Exchange) → Exchanged LoopStandsFor (λ l. None) (λ l. l.receive_faults) (λ l. l.send_faults) old new asked room how → IsLoopAnswered new
   called-on ends.Idle e = absurd (true≢false (sym e.0 ∙ h.fit))
   called-on (Replied reply) e = replied-on reply e.1
   called-on _ e = absurd (true≢false (sym e.0.spent ∙ fit))

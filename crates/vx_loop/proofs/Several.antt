@@ -10,17 +10,17 @@ use Rattle.std.proofs.lemmas.Grind.{flat_map-append}
 use Rattle.vx_488.specs.declared.transfers.Addr.{Addr}
 use Rattle.vx_488.specs.Wire.{wire_after}
 use Rattle.vx_488.specs.Heard.{Byte, heard}
-use Rattle.vx_488.specs.ProvedLaws.{wire_after-append, heard-append}
+use Rattle.vx_488.proofs.Laws.{wire_after-append, heard-append}
 use Rattle.vx_rules.specs.Table.{Link, Table}
 use Rattle.vx_rules.specs.Lists.{along}
 use Rattle.vx_rules.specs.Calls.{sets_end}
 use Rattle.vx_flow.specs.Event.{Event}
-use Rattle.vx_flow.specs.FineState.{FineState}
-use Rattle.vx_flow.specs.Fine.{fine}
+use Rattle.vx_flow.specs.InterleavedState.{InterleavedState}
+use Rattle.vx_flow.specs.InterleavedStep.{interleaved_step}
 use Rattle.vx_flow.specs.Sound.{IsSound}
 use Rattle.vx_flow.specs.Laws.{marked_bytes}
-use Rattle.vx_flow.specs.ProvedLaws.{fine-frame}
-use Rattle.vx_rules.specs.ListLaws.{along-none}
+use Rattle.vx_flow.proofs.Laws.{interleaved-frame}
+use Rattle.vx_rules.proofs.Laws.Lists.{along-none}
 use Rattle.vx_loop.specs.Gateway.{Gateway, gateway_of}
 use Rattle.vx_flow.specs.Frames.{moves_by}
 use Rattle.vx_client.specs.State.{ClientState}
@@ -32,33 +32,33 @@ use Rattle.vx_loop.proofs.Happening.{adds-append}
 
 -- ---- the bus behind events
 
-wire-along : (es : List Event) (f g : FineState) → along fine (Some f) es ≡ Some g → g.state.wire ≡ wire_after f.state.wire (flat_map moves_by es)
-wire-along [] f g h = ap (λ (x : FineState). x.state.wire) (sym (same_Some f g h))
-wire-along (e ∷ es) f g h = by (fine f e) refl h (λ mid x. wire-along es mid g x) where
-  by : (o : Option FineState) → fine f e ≡ o → along fine o es ≡ Some g
-      → ((mid : FineState) → along fine (Some mid) es ≡ Some g → g.state.wire ≡ wire_after mid.state.wire (flat_map moves_by es))
+wire-along : (es : List Event) (f g : InterleavedState) → along interleaved_step (Some f) es ≡ Some g → g.state.wire ≡ wire_after f.state.wire (flat_map moves_by es)
+wire-along [] f g h = ap (λ (x : InterleavedState). x.state.wire) (sym (same_Some f g h))
+wire-along (e ∷ es) f g h = by (interleaved_step f e) refl h (λ mid x. wire-along es mid g x) where
+  by : (o : Option InterleavedState) → interleaved_step f e ≡ o → along interleaved_step o es ≡ Some g
+      → ((mid : InterleavedState) → along interleaved_step (Some mid) es ≡ Some g → g.state.wire ≡ wire_after mid.state.wire (flat_map moves_by es))
       → g.state.wire ≡ wire_after f.state.wire (moves_by e ++ flat_map moves_by es)
-  by None is x rest = absurd (none-some g (sym (along-none fine es) ∙ x))
+  by None is x rest = absurd (none-some g (sym (along-none interleaved_step es) ∙ x))
   by (Some mid) is x rest =
-      rest mid x ∙ ap (λ w. wire_after w (flat_map moves_by es)) (fine-frame f mid e is).wire_is ∙ sym (wire_after-append f.state.wire (moves_by e) (flat_map moves_by es))
+      rest mid x ∙ ap (λ w. wire_after w (flat_map moves_by es)) (interleaved-frame f mid e is).wire_is ∙ sym (wire_after-append f.state.wire (moves_by e) (flat_map moves_by es))
 
 -- ---- one part and then another
 
-hears-append : (f g h : Gateway) (a : Addr) (xs ys : List Byte) → IsSound f.fine → Hears f g a xs → Hears g h a ys → Hears f h a (xs ++ ys)
+hears-append : (f g h : Gateway) (a : Addr) (xs ys : List Byte) → IsSound f.interleaved → Hears f g a xs → Hears g h a ys → Hears f h a (xs ++ ys)
 hears-append f g h a xs ys sound first second =
-    let wire : g.fine.state.wire ≡ wire_after f.fine.state.wire (flat_map moves_by first.group) =
-    ap (λ (x : FineState). x.state.wire) first.adds.at_now ∙ wire-along first.group f.fine first.adds.last first.adds.events in
-    let both : (b : Addr) → heard b f.fine.state.wire (flat_map moves_by (first.group ++ second.group))
-    ≡ heard b f.fine.state.wire (flat_map moves_by first.group) ++ heard b g.fine.state.wire (flat_map moves_by second.group) =
-    λ b. ap (heard b f.fine.state.wire) (flat_map-append moves_by first.group second.group)
-    ∙ heard-append b f.fine.state.wire (flat_map moves_by first.group) (flat_map moves_by second.group)
-    ∙ ap (λ w. heard b f.fine.state.wire (flat_map moves_by first.group) ++ heard b w (flat_map moves_by second.group)) (sym wire) in
+    let wire : g.interleaved.state.wire ≡ wire_after f.interleaved.state.wire (flat_map moves_by first.group) =
+    ap (λ (x : InterleavedState). x.state.wire) first.adds.at_now ∙ wire-along first.group f.interleaved first.adds.last first.adds.events in
+    let both : (b : Addr) → heard b f.interleaved.state.wire (flat_map moves_by (first.group ++ second.group))
+    ≡ heard b f.interleaved.state.wire (flat_map moves_by first.group) ++ heard b g.interleaved.state.wire (flat_map moves_by second.group) =
+    λ b. ap (heard b f.interleaved.state.wire) (flat_map-append moves_by first.group second.group)
+    ∙ heard-append b f.interleaved.state.wire (flat_map moves_by first.group) (flat_map moves_by second.group)
+    ∙ ap (λ w. heard b f.interleaved.state.wire (flat_map moves_by first.group) ++ heard b w (flat_map moves_by second.group)) (sym wire) in
     record {
       group = first.group ++ second.group;
       steps = first.steps ++ second.steps;
       adds = adds-append f g h first.group second.group first.steps second.steps sound first.adds second.adds;
-      here = both a ∙ ap (λ bs. bs ++ heard a g.fine.state.wire (flat_map moves_by second.group)) first.here ∙ ap (λ bs. xs ++ bs) second.here;
-      elsewhere = λ b ne. both b ∙ ap (λ bs. bs ++ heard b g.fine.state.wire (flat_map moves_by second.group)) (first.elsewhere b ne) ∙ second.elsewhere b ne;
+      here = both a ∙ ap (λ bs. bs ++ heard a g.interleaved.state.wire (flat_map moves_by second.group)) first.here ∙ ap (λ bs. xs ++ bs) second.here;
+      elsewhere = λ b ne. both b ∙ ap (λ bs. bs ++ heard b g.interleaved.state.wire (flat_map moves_by second.group)) (first.elsewhere b ne) ∙ second.elsewhere b ne;
     }
 
 -- bytes without END, and others behind them
@@ -78,7 +78,7 @@ no-end flags =
 -- ---- a write so far
 
 -- the device that the link is to
-device-now : (s t : ServedState) (lid : ℕ) (a : Addr) → t.core.fine.state.tables.links ≡ s.core.fine.state.tables.links → IsToDevice s lid a → IsToDevice t lid a
+device-now : (s t : ServedState) (lid : ℕ) (a : Addr) → t.core.interleaved.state.tables.links ≡ s.core.interleaved.state.tables.links → IsToDevice s lid a → IsToDevice t lid a
 device-now s t lid a same d = record {
   link = d.link;
   live = ap (λ (ls : Table). find (λ (k : Link). (k.number == lid) && (k.connection == 1)) ls.links) same ∙ d.live;
@@ -86,7 +86,7 @@ device-now s t lid a same d = record {
 }
 
 -- one write behind another
-both-heard : (first now next : ClientState LoopState) (lid : ℕ) (xs ys : List Byte) (s : ServedState) → IsSound s.core.fine → (p : IsHeard first now lid xs s) → IsHeard now next lid ys p.then_served
+both-heard : (first now next : ClientState LoopState) (lid : ℕ) (xs ys : List Byte) (s : ServedState) → IsSound s.core.interleaved → (p : IsHeard first now lid xs s) → IsHeard now next lid ys p.then_served
     → IsHeard first next lid (xs ++ ys) s
 both-heard first now next lid xs ys s sound p q = record {
   then_served = q.then_served;
@@ -104,7 +104,7 @@ pub record HasBegun (first now : ClientState LoopState) (lid : ℕ) (all rest : 
   pub sent : List ℕ
   pub cut : sent ++ rest ≡ all
   pub more : 0 < length rest
-  pub sound : (s : ServedState) → IsResting first s → IsSound s.core.fine
+  pub sound : (s : ServedState) → IsResting first s → IsSound s.core.interleaved
   pub heard : (s : ServedState) → IsResting first s → IsHeard first now lid (marked_bytes false sent) s
 
 -- before the first piece, or behind one
@@ -128,12 +128,12 @@ module _ (first now next : ClientState LoopState) (lid : ℕ) (all rest : List �
   )
 
   -- the gateway was sound before the first piece where it is before this one
-  sound-first : ((s : ServedState) → IsResting now s → IsSound s.core.fine) → HeardSoFar first now lid all rest → (s : ServedState) → IsResting first s → IsSound s.core.fine
+  sound-first : ((s : ServedState) → IsResting now s → IsSound s.core.interleaved) → HeardSoFar first now lid all rest → (s : ServedState) → IsResting first s → IsSound s.core.interleaved
   sound-first sound (inl (same, whole)) s rests = sound s (subst (λ c. IsResting c s) (sym same) rests)
   sound-first sound (inr h) s rests = h.sound s rests
 
   -- a piece that others follow
-  pub heard-more : (n : ℕ) (later : List ℕ) (flags : ℕ) → 1 ≤ n → n < length rest → later ≡ take (length rest - n) (drop n rest) → ((s : ServedState) → IsResting now s → IsSound s.core.fine) → HeardSoFar first now lid all rest
+  pub heard-more : (n : ℕ) (later : List ℕ) (flags : ℕ) → 1 ≤ n → n < length rest → later ≡ take (length rest - n) (drop n rest) → ((s : ServedState) → IsResting now s → IsSound s.core.interleaved) → HeardSoFar first now lid all rest
       → ((s : ServedState) → IsResting now s → IsHeard now next lid (marked_bytes (sets_end (without_end flags)) (take n rest)) s) → HeardSoFar first next lid all later
   heard-more n later flags some more later_is sound h piece =
       let len = length-drop n rest in

@@ -12,17 +12,17 @@ use Rattle.vx_rules.specs.SrqState as srq_state
 use Rattle.vx_rules.specs.Lists.{along}
 use Rattle.vx_rules.specs.State.{State, pending_at}
 use Rattle.vx_flow.specs.Event.{Up, Sample}
-use Rattle.vx_flow.specs.FineState.{FineState, first_fine}
-use Rattle.vx_flow.specs.Fine.{fine, fine_after}
+use Rattle.vx_flow.specs.InterleavedState.{InterleavedState, first_interleaved}
+use Rattle.vx_flow.specs.InterleavedStep.{interleaved_step, interleaved_after}
 use Rattle.std.specs.Option.{option_map}
 use Rattle.std.proofs.lemmas.Bool.Decides.{nat_tests}
-use Rattle.vx_flow.specs.Laws.{fine_along}
+use Rattle.vx_flow.specs.Laws.{interleaved_along}
 use Rattle.vx_flow.specs.Does.{ComesUp}
-use Rattle.vx_flow.specs.ProvedLaws.{fine-does}
+use Rattle.vx_flow.proofs.Laws.{interleaved-does}
 use Rattle.vx_core.specs.CoreState.{CoreState}
 use Rattle.vx_loop.specs.Gateway.{gateway_of, BusGoes}
 use Rattle.vx_loop.specs.LoopState.{unconnected, IsUnconnected, OnlyComesUp, IsBeginning}
-use Rattle.vx_loop.specs.Standing.{IsReached, IsKept}
+use Rattle.vx_loop.specs.Standing.{IsReached, IsLoopKept}
 
 -- what holds of a failed result, and of one that didn't fail
 pub on-err : {A E : Type 0} (r : Result A E) (P : Type 0) → is_err r ≡ true → OnErr r P → P
@@ -40,54 +40,54 @@ if-ok (Err e) P h p = absurd (true≢false h)
 -- the gateway before is one that was sampled, once
 abbrev sampled_state : ℕ → Bool → ℕ → State
 sampled_state port level moment =
-    let s = (first_fine port).state in record s { tables = record s.tables { srq_state = srq_state.sampled s.tables.srq_state level }; moment = moment }
+    let s = (first_interleaved port).state in record s { tables = record s.tables { srq_state = srq_state.sampled s.tables.srq_state level }; moment = moment }
 
 abbrev Samples : ℕ → Bool → ℕ → Bool → Type 0
 Samples port level moment b =
-    option_map (fine_after (first_fine port) (Sample moment level) []) (cond b (Some (sampled_state port level moment)) None) ≡ Some (unconnected port level moment)
+    option_map (interleaved_after (first_interleaved port) (Sample moment level) []) (cond b (Some (sampled_state port level moment)) None) ≡ Some (unconnected port level moment)
 
-sampled-first : (port : ℕ) (level : Bool) (moment : ℕ) → fine_along port (Sample moment level ∷ []) ≡ Some (unconnected port level moment)
+sampled-first : (port : ℕ) (level : Bool) (moment : ℕ) → interleaved_along port (Sample moment level ∷ []) ≡ Some (unconnected port level moment)
 sampled-first port true moment = let early : nat_le 0 moment ≡ true = grind (arith, nat_tests) in subst (Samples port true moment) (sym early) refl
 sampled-first port false moment = let early : nat_le 0 moment ≡ true = grind (arith, nat_tests) in subst (Samples port false moment) (sym early) refl
 
 -- a connection that comes up on it
-module _ (old core : CoreState SimState) (conn : ℕ) (alone : IsUnconnected old.fine) (up : fine old.fine (Up conn role.Core) ≡ Some core.fine) where
-  abbrev start_fine : FineState
-  start_fine = unconnected old.fine.state.tables.abort_port old.fine.state.tables.srq_state.level old.fine.state.moment
+module _ (old core : CoreState SimState) (conn : ℕ) (alone : IsUnconnected old.interleaved) (up : interleaved_step old.interleaved (Up conn role.Core) ≡ Some core.interleaved) where
+  abbrev start_interleaved : InterleavedState
+  start_interleaved = unconnected old.interleaved.state.tables.abort_port old.interleaved.state.tables.srq_state.level old.interleaved.state.moment
 
   -- what comes up on the gateway comes up on that state
-  from-start : (n : ℕ) → fine old.fine (Up n role.Core) ≡ Some core.fine → fine start_fine (Up n role.Core) ≡ Some core.fine
-  from-start n h = subst (λ (x : FineState). fine x (Up n role.Core) ≡ Some core.fine) alone h
+  from-start : (n : ℕ) → interleaved_step old.interleaved (Up n role.Core) ≡ Some core.interleaved → interleaved_step start_interleaved (Up n role.Core) ≡ Some core.interleaved
+  from-start n h = subst (λ (x : InterleavedState). interleaved_step x (Up n role.Core) ≡ Some core.interleaved) alone h
 
-  comes-up : ComesUp start_fine conn role.Core core.fine
-  comes-up = (fine-does start_fine core.fine (Up conn role.Core) (from-start conn up)).step
+  comes-up : ComesUp start_interleaved conn role.Core core.interleaved
+  comes-up = (interleaved-does start_interleaved core.interleaved (Up conn role.Core) (from-start conn up)).step
 
   -- has number 1
-  up-fine : fine old.fine (Up 1 role.Core) ≡ Some core.fine
-  up-fine = subst (λ n. fine old.fine (Up n role.Core) ≡ Some core.fine) comes-up.number up
+  up-interleaved : interleaved_step old.interleaved (Up 1 role.Core) ≡ Some core.interleaved
+  up-interleaved = subst (λ n. interleaved_step old.interleaved (Up n role.Core) ≡ Some core.interleaved) comes-up.number up
 
-  up-turn : core.fine.turn ≡ None
-  up-turn = ap (λ (f : FineState). f.turn) comes-up.leads
+  up-turn : core.interleaved.turn ≡ None
+  up-turn = ap (λ (f : InterleavedState). f.turn) comes-up.leads
 
-  up-reached : IsReached core.fine
+  up-reached : IsReached core.interleaved
   up-reached = record {
-    abort_port = old.fine.state.tables.abort_port;
-    history = Sample old.fine.state.moment old.fine.state.tables.srq_state.level ∷ Up 1 role.Core ∷ [];
-    last = core.fine;
+    abort_port = old.interleaved.state.tables.abort_port;
+    history = Sample old.interleaved.state.moment old.interleaved.state.tables.srq_state.level ∷ Up 1 role.Core ∷ [];
+    last = core.interleaved;
     allowed =
-        ap (λ o. along fine o (Up 1 role.Core ∷ [])) (sampled-first old.fine.state.tables.abort_port old.fine.state.tables.srq_state.level old.fine.state.moment)
-        ∙ from-start 1 up-fine;
+        ap (λ o. along interleaved_step o (Up 1 role.Core ∷ [])) (sampled-first old.interleaved.state.tables.abort_port old.interleaved.state.tables.srq_state.level old.interleaved.state.moment)
+        ∙ from-start 1 up-interleaved;
     late = omega arith;
     at_now = refl;
   }
 
   -- nothing but connection 1 has come
   pub new-up : BusGoes old.bus (Cut ∷ []) core.bus → OnlyComesUp (gateway_of old) (gateway_of core)
-  new-up bus = record { events = up-fine; bus = bus }
+  new-up bus = record { events = up-interleaved; bus = bus }
 
   -- the link is kept as it is made, and has just begun
   module _ (buffer : BufState) (xid : ℕ) (left : List ℕ) (fresh_is : buffer ≡ fresh RECORD_MAX) where
-    pub new-kept : IsKept (record { core = core; buffer = buffer; xid = xid; left = left })
+    pub new-kept : IsLoopKept (record { core = core; buffer = buffer; xid = xid; left = left })
     new-kept = record {
       limit = ap (λ (b : BufState). b.limit) fresh_is;
       waits = ap (λ (b : BufState). b.state) fresh_is;
@@ -98,7 +98,7 @@ module _ (old core : CoreState SimState) (conn : ℕ) (alone : IsUnconnected old
 
     pub new-begins : BusGoes old.bus (Cut ∷ []) core.bus → left ≡ [] → IsBeginning (record { core = core; buffer = buffer; xid = xid; left = left })
     new-begins bus none = record {
-      idle = record { answered = ap (λ (f : FineState). pending_at f.state.tables 1) comes-up.leads; fresh_is = fresh_is; given = none };
+      idle = record { answered = ap (λ (f : InterleavedState). pending_at f.state.tables 1) comes-up.leads; fresh_is = fresh_is; given = none };
       before = gateway_of old;
       alone = alone;
       up = new-up bus;

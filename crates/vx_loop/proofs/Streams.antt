@@ -12,10 +12,10 @@ use Rattle.vx_record.specs.Fragments.{fragment_length, is_last, last_header, rec
 use Rattle.vx_record.specs.Records.{Split, records}
 use Rattle.vx_record.specs.Buffer.{BufState, fresh, counted, closed, opened, header_byte, body_bytes, step_at, step, fed, one_more_at, taken}
 use Rattle.vx_record.specs.Ends.{is_settled, IsEnd, FeedEnds}
-use Rattle.vx_record.specs.ProvedLaws.{step-limit, fed-stopped, taken-more, taken-stopped, fed-append}
-use Rattle.vx_record.proofs.Ends.{feed-ends}
-use Rattle.vx_record.proofs.Headers.{fragment_length-last_header}
-use Rattle.vx_record.proofs.Spelling.{records-finished, records-open}
+use Rattle.vx_record.proofs.Laws.{step-limit, fed-stopped, taken-more, taken-stopped, fed-append}
+use Rattle.vx_record.proofs.Laws.Ends.{feed-ends}
+use Rattle.vx_record.proofs.Laws.Headers.{fragment_length-last_header}
+use Rattle.vx_record.proofs.Laws.Spelling.{records-finished, records-open}
 use Rattle.vx_loop.specs.Exchanges.{IsRecord}
 
 -- the buffer that begins a record

@@ -16,19 +16,19 @@ use Rattle.vx_exchange.specs.Meaning as meant
 use Rattle.vx_exchange.specs.declared.record.TheConstants.{REPLY_ROOM}
 use Rattle.vx_rules.specs.Lists.{along}
 use Rattle.vx_flow.specs.Event.{Event, Arrive, Answer, Begin, Move, Dial}
-use Rattle.vx_flow.specs.FineState.{FineState}
-use Rattle.vx_flow.specs.Fine.{fine}
+use Rattle.vx_flow.specs.InterleavedState.{InterleavedState}
+use Rattle.vx_flow.specs.InterleavedStep.{interleaved_step}
 use Rattle.vx_flow.specs.Frames.{moves_by}
 use Rattle.vx_flow.specs.Poll.{at_moment}
 use Rattle.vx_loop.specs.Gateway.{Gateway, BusGoes, moments, moments_from}
 
 -- What happened in a gateway: these events, of which each is allowed at its place, lead from the one state to the other, but
 -- for a later moment; and its bus went through these steps, whose transfers are those of the turns' moves.
-pub record Adds (before : Gateway) (group : List Event) (steps : List Step) (after : Gateway) : Type 0 where
-  pub last : FineState
-  pub events : along fine (Some before.fine) group ≡ Some last
-  pub late : last.state.moment ≤ after.fine.state.moment
-  pub at_now : after.fine ≡ at_moment last after.fine.state.moment
+pub record LoopAdds (before : Gateway) (group : List Event) (steps : List Step) (after : Gateway) : Type 0 where
+  pub last : InterleavedState
+  pub events : along interleaved_step (Some before.interleaved) group ≡ Some last
+  pub late : last.state.moment ≤ after.interleaved.state.moment
+  pub at_now : after.interleaved ≡ at_moment last after.interleaved.state.moment
   pub bus : BusGoes before.bus steps after.bus
   pub moves : transfers steps ≡ flat_map moves_by group
 
@@ -60,7 +60,7 @@ again (Some up) now = now ∷ []
 
 -- A call came at this moment, its turn went on, and it was answered so at that one. It was polled at the moment of its arrival,
 -- and then a millisecond later each time; a dial that it asked for failed. The bus was told these moments alone.
-pub record IsAnswered (asked : Call) (told : Reply) (came now : ℕ) (group : List Event) (steps : List Step) : Type 0 where
+pub record IsLoopAnswered (asked : Call) (told : Reply) (came now : ℕ) (group : List Event) (steps : List Step) : Type 0 where
   pub turn : List Event
   pub turn_is : list_all of_turn turn ≡ true
   pub failed : Bool
@@ -77,13 +77,13 @@ pub record IsAnswered (asked : Call) (told : Reply) (came now : ℕ) (group : Li
 abbrev pub Replies : Meaning → (came now : ℕ) → List Event → List Step → List ℕ → Type 0
 Replies Junk came now group steps reply = ⊥
 Replies (meant.Answered message) came now group steps reply = (group ≡ []) × (steps ≡ []) × (now ≡ came) × (reply ≡ record_of message)
-Replies (Asks xid asked) came now group steps reply = (told : Reply) × IsAnswered asked told came now group steps × (reply ≡ reply_record xid told)
+Replies (Asks xid asked) came now group steps reply = (told : Reply) × IsLoopAnswered asked told came now group steps × (reply ≡ reply_record xid told)
 Replies (Aborts xid lid) came now group steps reply = ⊥
 
 pub record IsExchange (before : Gateway) (x : Exchange) (after : Gateway) : Type 0 where
   pub whole : IsRecord x.stream x.message
-  pub adds : Adds before x.group x.steps after
-  pub replies : Replies (meaning x.message role.Core) before.fine.state.moment after.fine.state.moment x.group x.steps x.reply
+  pub adds : LoopAdds before x.group x.steps after
+  pub replies : Replies (meaning x.message role.Core) before.interleaved.state.moment after.interleaved.state.moment x.group x.steps x.reply
   pub short : length x.reply ≤ REPLY_ROOM
 
 -- these, one after the other

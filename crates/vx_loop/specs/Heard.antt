@@ -13,7 +13,7 @@ use Rattle.vx_loop.specs.Gateway.{Gateway, gateway_of}
 use Rattle.vx_flow.specs.Frames.{moves_by}
 use Rattle.vx_client.specs.State.{ClientState}
 use Rattle.vx_loop.specs.LoopState.{ServedState, LoopState, IsIdle}
-use Rattle.vx_loop.specs.Exchanges.{Adds}
+use Rattle.vx_loop.specs.Exchanges.{LoopAdds}
 use Rattle.vx_loop.specs.Serving.{lives}
 
 -- What happened in a gateway let an address hear these bytes, in order, and every other one none: of the transfers of the turns'
@@ -21,9 +21,9 @@ use Rattle.vx_loop.specs.Serving.{lives}
 pub record Hears (before after : Gateway) (a : Addr) (bytes : List Byte) : Type 0 where
   pub group : List Event
   pub steps : List Step
-  pub adds : Adds before group steps after
-  pub here : heard a before.fine.state.wire (flat_map moves_by group) ≡ bytes
-  pub elsewhere : (b : Addr) → b ≢ a → heard b before.fine.state.wire (flat_map moves_by group) ≡ []
+  pub adds : LoopAdds before group steps after
+  pub here : heard a before.interleaved.state.wire (flat_map moves_by group) ≡ bytes
+  pub elsewhere : (b : Addr) → b ≢ a → heard b before.interleaved.state.wire (flat_map moves_by group) ≡ []
 
 -- a client whose link is to this gateway, between calls: it keeps no byte behind the last reply, and isn't spent
 pub record IsResting (c : ClientState LoopState) (s : ServedState) : Type 0 where
@@ -35,7 +35,7 @@ pub record IsResting (c : ClientState LoopState) (s : ServedState) : Type 0 wher
 -- a live link of connection 1 to a device
 pub record IsToDevice (s : ServedState) (lid : ℕ) (a : Addr) : Type 0 where
   pub link : Link
-  pub live : link_of s.core.fine.state.tables 1 lid ≡ Some link
+  pub live : link_of s.core.interleaved.state.tables 1 lid ≡ Some link
   pub target : link.target ≡ Device a.p a.s
 
 -- Over a client between calls a write, in one piece or several, did this to the device that its link is to; and the client is between
@@ -45,5 +45,5 @@ pub record IsHeard (old new : ClientState LoopState) (lid : ℕ) (bytes : List B
   pub rests : IsResting new then_served
   pub before : lives (gateway_of s.core) ≡ true
   pub alive : lives (gateway_of then_served.core) ≡ true
-  pub links : then_served.core.fine.state.tables.links ≡ s.core.fine.state.tables.links
+  pub links : then_served.core.interleaved.state.tables.links ≡ s.core.interleaved.state.tables.links
   pub hears : (a : Addr) → IsToDevice s lid a → Hears (gateway_of s.core) (gateway_of then_served.core) a bytes

@@ -20,8 +20,8 @@ pub use Rattle.vx_rules.specs.Lists
 pub use Rattle.vx_rules.specs.SrqState
 pub use Rattle.vx_rules.specs.Table
 pub use Rattle.vx_flow.specs.Event
-pub use Rattle.vx_flow.specs.Fine
-pub use Rattle.vx_flow.specs.FineState
+pub use Rattle.vx_flow.specs.InterleavedStep
+pub use Rattle.vx_flow.specs.InterleavedState
 pub use Rattle.vx_flow.specs.Frames
 pub use Rattle.vx_flow.specs.Poll
 pub use Rattle.vx_flow.specs.Sound

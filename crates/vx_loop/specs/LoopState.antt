@@ -9,7 +9,7 @@ use Rattle.vx_sim.specs.SimState.{SimState}
 use Rattle.vx_rules.specs.SrqState as srq_state
 use Rattle.vx_rules.specs.State.{pending_at, first_tables, first}
 use Rattle.vx_flow.specs.Event.{Up}
-use Rattle.vx_flow.specs.FineState.{FineState, first_fine}
+use Rattle.vx_flow.specs.InterleavedState.{InterleavedState, first_interleaved}
 use Rattle.vx_core.specs.CoreState.{CoreState}
 use Rattle.vx_loop.specs.Gateway.{Gateway, gateway_of, Happens}
 
@@ -32,20 +32,20 @@ pub record LoopState : Type 0 where
 
 -- no call is pending, no part of a record has come, and no byte of a reply is left to give
 pub record IsIdle (s : ServedState) : Type 0 where
-  pub answered : pending_at s.core.fine.state.tables 1 ≡ None
+  pub answered : pending_at s.core.interleaved.state.tables 1 ≡ None
   pub fresh_is : s.buffer ≡ fresh RECORD_MAX
   pub given : s.left ≡ []
 
 -- a gateway on which no connection was ever made: it may have sampled the SRQ line
-abbrev pub unconnected : (abort_port : ℕ) (level : Bool) (moment : ℕ) → FineState
-unconnected abort_port level moment = record (first_fine abort_port) {
+abbrev pub unconnected : (abort_port : ℕ) (level : Bool) (moment : ℕ) → InterleavedState
+unconnected abort_port level moment = record (first_interleaved abort_port) {
   state = record (first abort_port) {
     tables = record (first_tables abort_port) { srq_state = record srq_state.empty { level = level } };
     moment = moment;
   };
 }
 
-abbrev pub IsUnconnected : FineState → Type 0
+abbrev pub IsUnconnected : InterleavedState → Type 0
 IsUnconnected f = f ≡ unconnected f.state.tables.abort_port f.state.tables.srq_state.level f.state.moment
 
 -- connection 1 came up on this gateway, and nothing else happened on it
@@ -56,5 +56,5 @@ OnlyComesUp before after = Happens before (Up 1 role.Core ∷ []) (Cut ∷ []) a
 pub record IsBeginning (s : ServedState) : Type 0 where
   pub idle : IsIdle s
   pub before : Gateway
-  pub alone : IsUnconnected before.fine
+  pub alone : IsUnconnected before.interleaved
   pub up : OnlyComesUp before (gateway_of s.core)

@@ -14,15 +14,15 @@ use Rattle.vx_exchange.specs.declared.polls.PollEnd.{PollEnd}
 use Rattle.vx_exchange.specs.declared.polls.PollEnd.TheVariants as end
 use Rattle.vx_rules.specs.State.{pending_at, lives_as}
 use Rattle.vx_flow.specs.Event.{Event, Arrive, Answer}
-use Rattle.vx_flow.specs.FineState.{Turn}
+use Rattle.vx_flow.specs.InterleavedState.{Turn}
 use Rattle.vx_flow.specs.Sound.{IsSound}
 use Rattle.vx_loop.specs.Gateway.{Gateway, Happens, moments}
-use Rattle.vx_loop.specs.Exchanges.{Adds, of_turn}
+use Rattle.vx_loop.specs.Exchanges.{LoopAdds, of_turn}
 
 -- what is needed of a gateway before a poll of connection 1's call
 pub record IsFit (g : Gateway) : Type 0 where
-  pub sound : IsSound g.fine
-  pub own : (u : Turn) → g.fine.turn ≡ Some u → u.connection ≡ 1
+  pub sound : IsSound g.interleaved
+  pub own : (u : Turn) → g.interleaved.turn ≡ Some u → u.connection ≡ 1
 
 -- how long the reply is that a poll wrote; 0 where it wrote none
 abbrev pub reply_len : PollEnd → ℕ
@@ -31,7 +31,7 @@ reply_len _ = 0
 
 -- whether connection 1 lives
 abbrev pub lives : Gateway → Bool
-lives g = lives_as g.fine.state.tables 1 role.Core
+lives g = lives_as g.interleaved.state.tables 1 role.Core
 
 -- a pending call's turn went on at this moment, and the call was answered: no turn is left
 pub record IsReplied (before : Gateway) (xid now : ℕ) (dialed : Option Bool) (after : Gateway) (left : List ℕ) : Type 0 where
@@ -41,13 +41,13 @@ pub record IsReplied (before : Gateway) (xid now : ℕ) (dialed : Option Bool) (
   pub level : Bool
   pub told : Reply
   pub turn_is : list_all of_turn turn ≡ true
-  pub adds : Adds before (turn ++ Answer 1 now failed dialed level told ∷ []) steps after
-  pub moment : after.fine.state.moment ≡ now
+  pub adds : LoopAdds before (turn ++ Answer 1 now failed dialed level told ∷ []) steps after
+  pub moment : after.interleaved.state.moment ≡ now
   pub told_is : moments steps ≡ now ∷ []
   pub left_is : left ≡ reply_record xid told
   pub short : length left ≤ REPLY_ROOM
-  pub answered : pending_at after.fine.state.tables 1 ≡ None
-  pub over : after.fine.turn ≡ None
+  pub answered : pending_at after.interleaved.state.tables 1 ≡ None
+  pub over : after.interleaved.turn ≡ None
   pub lives_on : lives after ≡ lives before
 
 -- or it waits: a turn that is left is its own
@@ -55,12 +55,12 @@ pub record IsLeft (before : Gateway) (now : ℕ) (after : Gateway) (left : List 
   pub turn : List Event
   pub steps : List Step
   pub turn_is : list_all of_turn turn ≡ true
-  pub adds : Adds before turn steps after
-  pub moment : after.fine.state.moment ≡ now
+  pub adds : LoopAdds before turn steps after
+  pub moment : after.interleaved.state.moment ≡ now
   pub told_is : moments steps ≡ now ∷ []
   pub none_left : left ≡ []
-  pub pending : is_some (pending_at after.fine.state.tables 1) ≡ true
-  pub own : (u : Turn) → after.fine.turn ≡ Some u → u.connection ≡ 1
+  pub pending : is_some (pending_at after.interleaved.state.tables 1) ≡ true
+  pub own : (u : Turn) → after.interleaved.turn ≡ Some u → u.connection ≡ 1
   pub lives_on : lives after ≡ lives before
 
 -- a poll at this moment did either
@@ -70,12 +70,12 @@ Continues before xid now after left = IsReplied before xid now None after left �
 -- a call came, and was polled, at the gateway's moment
 pub record CallsOn (before : Gateway) (xid : ℕ) (asked : Call) (after : Gateway) (left : List ℕ) : Type 0 where
   pub come : Gateway
-  pub arrives : Happens before (Arrive 1 asked before.fine.state.moment ∷ []) (Cut ∷ Told before.fine.state.moment ∷ []) come
-  pub continues : Continues come xid before.fine.state.moment after left
+  pub arrives : Happens before (Arrive 1 asked before.interleaved.state.moment ∷ []) (Cut ∷ Told before.interleaved.state.moment ∷ []) come
+  pub continues : Continues come xid before.interleaved.state.moment after left
 
 -- what a message leaves: a call comes; another that has a reply is answered without the gateway
-abbrev pub Serves : Gateway → Meaning → ℕ → Gateway → List ℕ → Type 0
-Serves before Junk xid after left = ⊥
-Serves before (meant.Answered message) xid after left = (after ≡ before) × (left ≡ record_of message) × (length left ≤ REPLY_ROOM)
-Serves before (Asks number asked) xid after left = (xid ≡ number) × CallsOn before number asked after left
-Serves before (Aborts number lid) xid after left = ⊥
+abbrev pub LoopServes : Gateway → Meaning → ℕ → Gateway → List ℕ → Type 0
+LoopServes before Junk xid after left = ⊥
+LoopServes before (meant.Answered message) xid after left = (after ≡ before) × (left ≡ record_of message) × (length left ≤ REPLY_ROOM)
+LoopServes before (Asks number asked) xid after left = (xid ≡ number) × CallsOn before number asked after left
+LoopServes before (Aborts number lid) xid after left = ⊥

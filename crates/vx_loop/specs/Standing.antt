@@ -13,19 +13,19 @@ use Rattle.vx_record.specs.declared.Feed.TheVariants as feed
 use Rattle.vx_exchange.specs.Meaning.{Asks, Junk, meaning}
 use Rattle.vx_rules.specs.State.{pending_at}
 use Rattle.vx_flow.specs.Event.{Event, Arrive, Down}
-use Rattle.vx_flow.specs.FineState.{FineState, Turn}
-use Rattle.vx_flow.specs.Laws.{fine_along}
+use Rattle.vx_flow.specs.InterleavedState.{InterleavedState, Turn}
+use Rattle.vx_flow.specs.Laws.{interleaved_along}
 use Rattle.vx_flow.specs.Poll.{at_moment}
 use Rattle.vx_flow.specs.Sound.{IsSound}
 use Rattle.vx_loop.specs.Gateway.{Gateway, gateway_of, Happens, moments, moments_from}
 use Rattle.vx_loop.specs.LoopState.{ServedState, LoopState, IsIdle, IsBeginning}
-use Rattle.vx_loop.specs.Exchanges.{Exchange, Adds, IsRecord, Exchanges, of_turn, streams_of, replies_of}
+use Rattle.vx_loop.specs.Exchanges.{Exchange, LoopAdds, IsRecord, Exchanges, of_turn, streams_of, replies_of}
 use Rattle.vx_loop.specs.Serving.{lives}
 
 -- no call waits: this has come of the next record
-pub record IsOpen (reached : Gateway) (s : ServedState) (part : List ℕ) : Type 0 where
+pub record IsLoopOpen (reached : Gateway) (s : ServedState) (part : List ℕ) : Type 0 where
   pub same : gateway_of s.core ≡ reached
-  pub answered : pending_at s.core.fine.state.tables 1 ≡ None
+  pub answered : pending_at s.core.interleaved.state.tables 1 ≡ None
   pub held : s.buffer ≡ fed (fresh RECORD_MAX) part
 
 -- A call of this xid has come as this record, and was polled so many times: at the moment of its arrival, and then a millisecond
@@ -37,17 +37,17 @@ pub record HasCome (reached : Gateway) (stream : List ℕ) (xid polls : ℕ) (af
   pub steps : List Step
   pub whole : IsRecord stream message
   pub asks : meaning message role.Core ≡ Asks xid asked
-  pub adds : Adds reached (Arrive 1 asked reached.fine.state.moment ∷ turn) steps after
+  pub adds : LoopAdds reached (Arrive 1 asked reached.interleaved.state.moment ∷ turn) steps after
   pub turn_is : list_all of_turn turn ≡ true
-  pub told_is : moments steps ≡ reached.fine.state.moment ∷ moments_from reached.fine.state.moment polls
+  pub told_is : moments steps ≡ reached.interleaved.state.moment ∷ moments_from reached.interleaved.state.moment polls
 
 -- a call waits, which came as this record to a gateway of which holds what does between events
 pub record IsWaiting (reached : Gateway) (s : ServedState) (stream : List ℕ) : Type 0 where
-  pub sound : IsSound reached.fine
+  pub sound : IsSound reached.interleaved
   pub polls : ℕ
   pub come : HasCome reached stream s.xid polls (gateway_of s.core)
-  pub last_is : s.core.fine.state.moment + 1 ≡ reached.fine.state.moment + polls
-  pub pending : is_some (pending_at s.core.fine.state.tables 1) ≡ true
+  pub last_is : s.core.interleaved.state.moment + 1 ≡ reached.interleaved.state.moment + polls
+  pub pending : is_some (pending_at s.core.interleaved.state.tables 1) ≡ true
   pub fresh_is : s.buffer ≡ fresh RECORD_MAX
   pub none_left : s.left ≡ []
 
@@ -77,12 +77,12 @@ pub record IsEnded (reached : Gateway) (s : ServedState) (replied part : List �
   pub cut : part ≡ came ++ gone
   pub by_cause : EndsBy reached replied came gone (gateway_of s.core)
   pub down : lives (gateway_of s.core) ≡ false
-  pub answered : pending_at s.core.fine.state.tables 1 ≡ None
+  pub answered : pending_at s.core.interleaved.state.tables 1 ≡ None
   pub fresh_is : part ≡ [] → s.buffer ≡ fresh RECORD_MAX
 
 -- one of the three
 abbrev pub IsAt : Gateway → ServedState → (replied part : List ℕ) → Type 0
-IsAt reached s replied part = IsOpen reached s part ⊎ IsWaiting reached s part ⊎ IsEnded reached s replied part
+IsAt reached s replied part = IsLoopOpen reached s part ⊎ IsWaiting reached s part ⊎ IsEnded reached s replied part
 
 -- since it was idle in this gateway the link took and gave these bytes: those of exchanges, and of one that is under way
 pub record Went (start : Gateway) (s : ServedState) (taken given : List ℕ) : Type 0 where
@@ -100,65 +100,65 @@ Since start None taken given = ⊥
 Since start (Some s) taken given = Went start s taken given
 
 -- a link stands for the bytes that it took and gave since it was made
-abbrev pub StandsFor : LoopState → List ℕ → List ℕ → Type 0
-StandsFor l taken given = (start : ServedState) × IsBeginning start × Since (gateway_of start.core) l.served taken given
+abbrev pub LoopStandsFor : LoopState → List ℕ → List ℕ → Type 0
+LoopStandsFor l taken given = (start : ServedState) × IsBeginning start × Since (gateway_of start.core) l.served taken given
 
 -- what a call of a link did, whatever it stood for before
-abbrev pub GoesOn : LoopState → LoopState → List ℕ → List ℕ → Type 0
-GoesOn old new sent got =
+abbrev pub LoopGoesOn : LoopState → LoopState → List ℕ → List ℕ → Type 0
+LoopGoesOn old new sent got =
     (start : Gateway) (taken given : List ℕ) → Since start old.served taken given → Since start new.served (taken ++ sent) (given ++ got)
 
 -- A link that is looked at from a start on: it goes on from there as the link itself does, and where the start is idle it
 -- stands for the bytes that it took and gave since then.
 abbrev pub MarkedStands : LoopState → LoopState → List ℕ → List ℕ → Type 0
 MarkedStands start l taken given =
-    Goes StandsFor start l taken given
+    Goes LoopStandsFor start l taken given
     × ((s : ServedState) → start.served ≡ Some s → IsIdle s → Since (gateway_of s.core) l.served taken given)
 
 -- there is a history of the gateway of which this is the state, but for a later moment
-pub record IsReached (f : FineState) : Type 0 where
+pub record IsReached (f : InterleavedState) : Type 0 where
   pub abort_port : ℕ
   pub history : List Event
-  pub last : FineState
-  pub allowed : fine_along abort_port history ≡ Some last
+  pub last : InterleavedState
+  pub allowed : interleaved_along abort_port history ≡ Some last
   pub late : last.state.moment ≤ f.state.moment
   pub at_now : f ≡ at_moment last f.state.moment
 
 -- What holds of a gateway that serves a link, between calls of the link. A turn that is under way is connection 1's.
-pub record IsKept (s : ServedState) : Type 0 where
+pub record IsLoopKept (s : ServedState) : Type 0 where
   pub limit : s.buffer.limit ≡ RECORD_MAX
   pub waits : s.buffer.state ≡ More
-  pub reached : IsReached s.core.fine
-  pub own : (u : Turn) → s.core.fine.turn ≡ Some u → u.connection ≡ 1
-  pub calm : pending_at s.core.fine.state.tables 1 ≡ None → s.core.fine.turn ≡ None
+  pub reached : IsReached s.core.interleaved
+  pub own : (u : Turn) → s.core.interleaved.turn ≡ Some u → u.connection ≡ 1
+  pub calm : pending_at s.core.interleaved.state.tables 1 ≡ None → s.core.interleaved.turn ≡ None
 
 -- these bytes came
 pub record TakesTo (old new : ServedState) (bytes : List ℕ) : Type 0 where
-  pub kept : IsKept new
+  pub kept : IsLoopKept new
   pub went : (start : Gateway) (taken given : List ℕ) → Went start old taken given → Went start new (taken ++ bytes) given
 
 -- no byte came or went, and the connection lives as before
 pub record WaitsTo (old new : ServedState) : Type 0 where
-  pub kept : IsKept new
+  pub kept : IsLoopKept new
   pub went : (start : Gateway) (taken given : List ℕ) → Went start old taken given → Went start new taken given
   pub lives_on : lives (gateway_of new.core) ≡ lives (gateway_of old.core)
 
 -- a call waits at the last moment
 pub record IsUnanswered (s : ServedState) : Type 0 where
-  pub last : 2 ^ 64 - 1 ≤ s.core.fine.state.moment
-  pub pending : is_some (pending_at s.core.fine.state.tables 1) ≡ true
+  pub last : 2 ^ 64 - 1 ≤ s.core.interleaved.state.moment
+  pub pending : is_some (pending_at s.core.interleaved.state.tables 1) ≡ true
 
 -- no call waits, and nothing of a reply is left
 pub record IsDrained (s : ServedState) : Type 0 where
-  pub answered : pending_at s.core.fine.state.tables 1 ≡ None
+  pub answered : pending_at s.core.interleaved.state.tables 1 ≡ None
   pub none_left : s.left ≡ []
 
 -- these bytes end a record that is too long, or that is no call
-abbrev pub IsRefused : ServedState → List ℕ → Type 0
-IsRefused s bytes = IsNoCall (fed s.buffer bytes)
+abbrev pub IsLoopRefused : ServedState → List ℕ → Type 0
+IsLoopRefused s bytes = IsNoCall (fed s.buffer bytes)
 
 -- the connection lives, no call waits, and nothing of a reply is left
-pub record IsReady (s : ServedState) : Type 0 where
+pub record IsLoopReady (s : ServedState) : Type 0 where
   pub alive : lives (gateway_of s.core) ≡ true
   pub drained : IsDrained s
 
@@ -170,7 +170,7 @@ LivesAlike _ _ = ⊥
 
 -- where the link is ready these bytes end no record that is too long or no call, and the connection lives on
 abbrev pub LivesOn : Option ServedState → Option ServedState → List ℕ → Type 0
-LivesOn (Some s) (Some t) bytes = IsReady s → (IsRefused s bytes → ⊥) × (lives (gateway_of t.core) ≡ true)
+LivesOn (Some s) (Some t) bytes = IsLoopReady s → (IsLoopRefused s bytes → ⊥) × (lives (gateway_of t.core) ≡ true)
 LivesOn None None bytes = Unit {0}
 LivesOn _ _ bytes = ⊥
 
@@ -181,6 +181,6 @@ HasEnded None = ⊥
 
 -- where the link isn't ready the connection doesn't live
 abbrev pub EndsEarly : Option ServedState → Option ServedState → Type 0
-EndsEarly (Some s) (Some t) = (IsReady s → ⊥) → lives (gateway_of t.core) ≡ false
+EndsEarly (Some s) (Some t) = (IsLoopReady s → ⊥) → lives (gateway_of t.core) ≡ false
 EndsEarly None None = Unit {0}
 EndsEarly _ _ = ⊥

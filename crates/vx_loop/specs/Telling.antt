@@ -10,7 +10,7 @@ use Rattle.vx_client.specs.declared.answers.ClientErr.TheVariants as err
 use Rattle.vx_loop.specs.Gateway.{gateway_of}
 use Rattle.vx_loop.specs.LoopState.{ServedState, LoopState}
 use Rattle.vx_loop.specs.Serving.{lives}
-use Rattle.vx_loop.specs.Standing.{GoesOn, IsUnanswered, IsDrained, IsRefused, LivesAlike, LivesOn, HasEnded, EndsEarly}
+use Rattle.vx_loop.specs.Standing.{LoopGoesOn, IsUnanswered, IsDrained, IsLoopRefused, LivesAlike, LivesOn, HasEnded, EndsEarly}
 
 -- A receive ends no connection. It comes to the end only where no call waits and nothing of a reply is left, and fails only where
 -- a call waits at the last moment.
@@ -22,8 +22,8 @@ IsReceive old slice answer written new =
 -- connection lives and its bytes end a record that is too long, or that is no call; the connection has ended then.
 abbrev pub IsSend : LoopState → List ℕ → WriteOut → LoopState → Type 0
 IsSend old bytes answer new =
-    IfTook answer (λ n. GoesOn old new (take n bytes) [] × LivesOn old.served new.served bytes × EndsEarly old.served new.served)
-    × OnWriteFailed answer (IfSome old.served (λ s. IsRefused s bytes × (lives (gateway_of s.core) ≡ true)) × HasEnded new.served)
+    IfTook answer (λ n. LoopGoesOn old new (take n bytes) [] × LivesOn old.served new.served bytes × EndsEarly old.served new.served)
+    × OnWriteFailed answer (IfSome old.served (λ s. IsLoopRefused s bytes × (lives (gateway_of s.core) ≡ true)) × HasEnded new.served)
 
 -- A call over a client found the connection ended: it didn't live as the call began, and doesn't live now.
 pub record FindsEnded (new : ClientState LoopState) (s : ServedState) : Type 0 where

@@ -3,12 +3,12 @@
 //! let the instruments hear is proved from the one end to the other, and so is why one gets no reply.
 #![tactic(auto)]
 
-mod laws;
 mod link;
 mod marked;
 mod served;
+mod theorems;
 mod through;
 
-pub use laws::resting_law;
 pub use link::{LoopLink, LoopRefused};
+pub use theorems::resting_law;
 pub use through::through_client;

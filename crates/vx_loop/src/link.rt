@@ -3,7 +3,7 @@
 ghost use Rattle.std.specs.Prelude.{◌≡◌, Some, None, IfOk, IfErr, IfSome};
 ghost use Rattle.vx_loop.specs.Gateway.{gateway_of};
 ghost use Rattle.vx_loop.specs.LoopState.{ServedState, IsUnconnected, IsBeginning, OnlyComesUp};
-ghost use Rattle.vx_loop.specs.Standing.{IsKept};
+ghost use Rattle.vx_loop.specs.Standing.{IsLoopKept};
 
 use crate::served::Serving;
 use std::alloc::Global;
@@ -37,7 +37,7 @@ pub struct LoopLink<I: Instrument> {
 impl<I: Instrument> Model for LoopLink<I> {
     ghost use Rattle.std.specs.Prelude.{IfSome};
     ghost use Rattle.vx_loop.specs.LoopState.{LoopState};
-    ghost use Rattle.vx_loop.specs.Standing.{IsKept};
+    ghost use Rattle.vx_loop.specs.Standing.{IsLoopKept};
 
     ghost Value = { LoopState };
 
@@ -47,13 +47,13 @@ impl<I: Instrument> Model for LoopLink<I> {
       send_faults = l.send_faults;
     } };
 
-    ghost invariant = { λ l. IfSome l.served IsKept };
+    ghost invariant = { λ l. IfSome l.served IsLoopKept };
 }
 
 impl<I: Instrument> LoopLink<I> {
     /// A link to a gateway on which no connection was ever made. All memory is taken here.
     pub fn new(alloc: Global, core: Core<SimBus<I>>) -> Result<LoopLink<I>, LoopRefused<I>>
-        requires unconnected { IsUnconnected core.fine }
+        requires unconnected { IsUnconnected core.interleaved }
         ensures made { IfOk result (λ l. (s : ServedState) × (l ≡ record { served = Some s; receive_faults = 0; send_faults = 0 }) × IsBeginning s
             × OnlyComesUp (gateway_of core) (gateway_of s.core)) }
         ensures refused { IfErr result (λ r. r.core ≡ core) }
@@ -70,7 +70,7 @@ impl<I: Instrument> LoopLink<I> {
 
     /// What holds of every link: its gateway is kept. It does nothing when it runs.
     pub(crate) fn is_kept(&self)
-        ensures { IfSome self.now.served IsKept }
+        ensures { IfSome self.now.served IsLoopKept }
     {
         let _is_there = self.served.is_some();
     }
@@ -94,12 +94,12 @@ impl<I: Instrument> Link for LoopLink<I> {
     ghost use Rattle.vx_io_traits.specs.Outs.{IfGot, IfTook, OnEnd, OnReadFailed, OnWriteFailed};
     ghost use Rattle.vx_io_traits.specs.Stands.{Gives, Takes, Stays};
     ghost use Rattle.std.specs.Prelude.{IfSome};
-    ghost use Rattle.vx_loop.specs.Standing.{StandsFor, GoesOn, IsUnanswered, IsDrained, IsRefused, LivesAlike, LivesOn, HasEnded, EndsEarly};
+    ghost use Rattle.vx_loop.specs.Standing.{LoopStandsFor, LoopGoesOn, IsUnanswered, IsDrained, IsLoopRefused, LivesAlike, LivesOn, HasEnded, EndsEarly};
     ghost use Rattle.vx_loop.specs.Gateway.{gateway_of};
     ghost use Rattle.vx_loop.specs.Serving.{lives};
     ghost use Rattle.vx_loop.specs.Telling.{IsReceive, IsSend};
 
-    ghost stands = { StandsFor };
+    ghost stands = { LoopStandsFor };
 
     ghost left = { λ _. None };
 
@@ -116,9 +116,9 @@ impl<I: Instrument> Link for LoopLink<I> {
         requires { 0 < length into.old }
 
         // What it did, whatever the link stood for before.
-        ensures went { IfGot result (λ n. GoesOn self.old self.new [] (take n into.new)) }
-        ensures stayed { OnEnd result (GoesOn self.old self.new [] []) }
-        ensures broke { OnReadFailed result (GoesOn self.old self.new [] []) }
+        ensures went { IfGot result (λ n. LoopGoesOn self.old self.new [] (take n into.new)) }
+        ensures stayed { OnEnd result (LoopGoesOn self.old self.new [] []) }
+        ensures broke { OnReadFailed result (LoopGoesOn self.old self.new [] []) }
 
         // It fails only where the last moment comes before the answer, and ends only where nothing is left to give.
         ensures last { OnReadFailed result (IfSome self.new.served IsUnanswered) }
@@ -133,10 +133,10 @@ impl<I: Instrument> Link for LoopLink<I> {
         ensures receives { IsReceive self.old into.old result into.new self.new }
         ensures peers { Keeps None None }
         ensures got { IfGot result (λ n. (0 < n) × (n ≤ length into.new) × Consumes None None (take n into.new)
-            × Gives StandsFor self.old self.new (take n into.new)) }
-        ensures end { OnEnd result (IsAtEnd None × Keeps None None × Stays StandsFor self.old self.new) }
+            × Gives LoopStandsFor self.old self.new (take n into.new)) }
+        ensures end { OnEnd result (IsAtEnd None × Keeps None None × Stays LoopStandsFor self.old self.new) }
         ensures failed { OnReadFailed result (Rose self.old.receive_faults self.new.receive_faults
-            × Keeps None None × Stays StandsFor self.old self.new) }
+            × Keeps None None × Stays LoopStandsFor self.old self.new) }
     {
         let Some(served) = &mut self.served else {
             return ReadOut::End;
@@ -156,13 +156,13 @@ impl<I: Instrument> Link for LoopLink<I> {
         requires { 0 < length from.now }
 
         // What it did, whatever the link stood for before.
-        ensures went { IfTook result (λ n. GoesOn self.old self.new (take n from.now) []) }
-        ensures broke { OnWriteFailed result (GoesOn self.old self.new [] []) }
+        ensures went { IfTook result (λ n. LoopGoesOn self.old self.new (take n from.now) []) }
+        ensures broke { OnWriteFailed result (LoopGoesOn self.old self.new [] []) }
 
         // It fails only where the connection lives and the bytes end a record that is no call, or is too long, and the connection
         // has ended then. Where no call waits and nothing of a reply is left besides, it fails in each such case, and the connection
         // lives on in every other. Where a call waits or something is left the connection ends, and an ended one stays so.
-        ensures cause { OnWriteFailed result (IfSome self.old.served (λ s. IsRefused s from.now)) }
+        ensures cause { OnWriteFailed result (IfSome self.old.served (λ s. IsLoopRefused s from.now)) }
         ensures alive { OnWriteFailed result (IfSome self.old.served (λ s. lives (gateway_of s.core) ≡ true)) }
         ensures refused { IfTook result (λ _. LivesOn self.old.served self.new.served from.now) }
         ensures ended { OnWriteFailed result (HasEnded self.new.served) }
@@ -174,8 +174,8 @@ impl<I: Instrument> Link for LoopLink<I> {
         ensures sends { IsSend self.old from.now result self.new }
         ensures peers { Keeps None None }
         ensures left { Keeps None None }
-        ensures took { IfTook result (λ n. (0 < n) × (n ≤ length from.now) × Takes StandsFor self.old self.new (take n from.now)) }
-        ensures failed { OnWriteFailed result (Rose self.old.send_faults self.new.send_faults × Stays StandsFor self.old self.new) }
+        ensures took { IfTook result (λ n. (0 < n) × (n ≤ length from.now) × Takes LoopStandsFor self.old self.new (take n from.now)) }
+        ensures failed { OnWriteFailed result (Rose self.old.send_faults self.new.send_faults × Stays LoopStandsFor self.old self.new) }
     {
         let Some(served) = &mut self.served else {
             return WriteOut::Took(from.len());

@@ -9,8 +9,8 @@ ghost use Rattle.vx_exchange.specs.declared.record.TheConstants.{REPLY_ROOM};
 ghost use Rattle.vx_exchange.specs.Meaning.{meaning, Junk};
 ghost use Rattle.vx_loop.specs.Gateway.{Gateway, gateway_of};
 ghost use Rattle.vx_loop.specs.LoopState.{IsBeginning, IsUnconnected, OnlyComesUp};
-ghost use Rattle.vx_loop.specs.Standing.{IsKept, IsReached, IsRefused, IsReady, Went, TakesTo, WaitsTo};
-ghost use Rattle.vx_loop.specs.Serving.{lives, reply_len, Serves, Continues, IsReplied, IsFit};
+ghost use Rattle.vx_loop.specs.Standing.{IsLoopKept, IsReached, IsLoopRefused, IsLoopReady, Went, TakesTo, WaitsTo};
+ghost use Rattle.vx_loop.specs.Serving.{lives, reply_len, LoopServes, Continues, IsReplied, IsFit};
 
 use std::alloc::Global;
 use std::marker::Model;
@@ -69,15 +69,15 @@ fn answer<I: Instrument>(
     xid: &mut u32,
     reply: &mut [u8],
 ) -> Option<usize>
-    requires lives { lives_as core.old.fine.state.tables 1 role.Core ≡ true }
-    requires idle { pending_at core.old.fine.state.tables 1 ≡ None }
-    requires calm { core.old.fine.turn ≡ None }
-    requires reached { IsReached core.old.fine }
+    requires lives { lives_as core.old.interleaved.state.tables 1 role.Core ≡ true }
+    requires idle { pending_at core.old.interleaved.state.tables 1 ≡ None }
+    requires calm { core.old.interleaved.turn ≡ None }
+    requires reached { IsReached core.old.interleaved }
     requires short { length message.now ≤ RECORD_MAX }
     requires room { length reply.old ≡ REPLY_ROOM }
     ensures junk { IfNone result (core.new ≡ core.old) }
     ensures means { IfNone result (meaning message.now role.Core ≡ Junk) }
-    ensures served { IfSome result (λ len. Serves (gateway_of core.old) (meaning message.now role.Core) xid.new (gateway_of core.new) (take len reply.new)) }
+    ensures served { IfSome result (λ len. LoopServes (gateway_of core.old) (meaning message.now role.Core) xid.new (gateway_of core.new) (take len reply.new)) }
     ensures within { IfSome result (λ len. len ≤ REPLY_ROOM) }
     ensures room { length reply.new ≡ REPLY_ROOM }
 {
@@ -96,8 +96,8 @@ fn answer<I: Instrument>(
 /// Polls the pending call of this xid, and answers how long its reply is, 0 where there is none yet.
 fn poll<I: Instrument>(core: &mut Core<SimBus<I>>, xid: u32, now: u64, reply: &mut [u8]) -> usize
     requires fit { IsFit (gateway_of core.old) }
-    requires pending { is_some (pending_at core.old.fine.state.tables 1) ≡ true }
-    requires late { core.old.fine.state.moment ≤ now }
+    requires pending { is_some (pending_at core.old.interleaved.state.tables 1) ≡ true }
+    requires late { core.old.interleaved.state.moment ≤ now }
     requires room { length reply.old ≡ REPLY_ROOM }
     ensures continues { Continues (gateway_of core.old) xid now (gateway_of core.new) (take result reply.new) }
     ensures within { result ≤ REPLY_ROOM }
@@ -109,9 +109,9 @@ fn poll<I: Instrument>(core: &mut Core<SimBus<I>>, xid: u32, now: u64, reply: &m
 /// Has the dial fail that the pending call of this xid asked for, and answers how long its reply is.
 fn refuse_dial<I: Instrument>(core: &mut Core<SimBus<I>>, xid: u32, reply: &mut [u8]) -> usize
     requires fit { IsFit (gateway_of core.old) }
-    requires dialed { list_any (λ n. n == 1) core.old.fine.dialed ≡ true }
+    requires dialed { list_any (λ n. n == 1) core.old.interleaved.dialed ≡ true }
     requires room { length reply.old ≡ REPLY_ROOM }
-    ensures replied { IsReplied (gateway_of core.old) xid core.old.fine.state.moment (Some false) (gateway_of core.new) (take result reply.new) }
+    ensures replied { IsReplied (gateway_of core.old) xid core.old.interleaved.state.moment (Some false) (gateway_of core.new) (take result reply.new) }
     ensures within { result ≤ REPLY_ROOM }
     ensures room { length reply.new ≡ REPLY_ROOM }
 {
@@ -134,8 +134,8 @@ impl<I: Instrument> Serving<I> {
     /// Has connection 1 come up on a gateway that had none. All memory is taken here; where there is none, the gateway
     /// comes back.
     pub(crate) fn new(alloc: Global, core: Core<SimBus<I>>) -> Result<Serving<I>, Core<SimBus<I>>>
-        requires unconnected { IsUnconnected core.fine }
-        ensures kept { IfOk result IsKept }
+        requires unconnected { IsUnconnected core.interleaved }
+        ensures kept { IfOk result IsLoopKept }
         ensures begins { IfOk result IsBeginning }
         ensures up { IfOk result (λ s. OnlyComesUp (gateway_of core) (gateway_of s.core)) }
         ensures refused { IfErr result (λ back. back ≡ core) }
@@ -162,19 +162,19 @@ impl<I: Instrument> Serving<I> {
 
     /// Whether connection 1 doesn't live.
     fn is_down(&self) -> bool
-        ensures gone { result ≡ true → (lives_as self.now.core.fine.state.tables 1 role.Core ≡ false) × (pending_at self.now.core.fine.state.tables 1 ≡ None) }
-        ensures there { result ≡ false → IsSome (connection_at self.now.core.fine.state.tables 1) }
-        ensures lives { result ≡ false → pending_at self.now.core.fine.state.tables 1 ≡ None → lives_as self.now.core.fine.state.tables 1 role.Core ≡ true }
+        ensures gone { result ≡ true → (lives_as self.now.core.interleaved.state.tables 1 role.Core ≡ false) × (pending_at self.now.core.interleaved.state.tables 1 ≡ None) }
+        ensures there { result ≡ false → IsSome (connection_at self.now.core.interleaved.state.tables 1) }
+        ensures lives { result ≡ false → pending_at self.now.core.interleaved.state.tables 1 ≡ None → lives_as self.now.core.interleaved.state.tables 1 role.Core ≡ true }
     {
         !self.core.pending(CONN) && !matches!(self.core.role(CONN), Some(Role::Core))
     }
 
     /// Whether the connection has ended.
     fn is_gone(&self) -> bool
-        ensures ended { result ≡ true → IsKept self.now → (more : List ℕ) → TakesTo self.now self.now more }
+        ensures ended { result ≡ true → IsLoopKept self.now → (more : List ℕ) → TakesTo self.now self.now more }
         ensures gone { result ≡ true → lives (gateway_of self.now.core) ≡ false }
-        ensures there { result ≡ false → IsSome (connection_at self.now.core.fine.state.tables 1) }
-        ensures lives { result ≡ false → pending_at self.now.core.fine.state.tables 1 ≡ None → lives_as self.now.core.fine.state.tables 1 role.Core ≡ true }
+        ensures there { result ≡ false → IsSome (connection_at self.now.core.interleaved.state.tables 1) }
+        ensures lives { result ≡ false → pending_at self.now.core.interleaved.state.tables 1 ≡ None → lives_as self.now.core.interleaved.state.tables 1 role.Core ≡ true }
     {
         self.is_down()
     }
@@ -182,11 +182,11 @@ impl<I: Instrument> Serving<I> {
     /// Ends the connection, since these bytes come while a call or its reply is under way. What is left of a reply may still be
     /// given.
     fn end_early(&mut self, from: &[u8])
-        requires kept { IsKept self.old }
+        requires kept { IsLoopKept self.old }
         requires some { 0 < length from.now }
-        requires there { IsSome (connection_at self.old.core.fine.state.tables 1) }
-        requires alive { pending_at self.old.core.fine.state.tables 1 ≡ None → lives (gateway_of self.old.core) ≡ true }
-        requires busy { is_some (pending_at self.old.core.fine.state.tables 1) ≡ true ⊎ 0 < length self.old.left }
+        requires there { IsSome (connection_at self.old.core.interleaved.state.tables 1) }
+        requires alive { pending_at self.old.core.interleaved.state.tables 1 ≡ None → lives (gateway_of self.old.core) ≡ true }
+        requires busy { is_some (pending_at self.old.core.interleaved.state.tables 1) ≡ true ⊎ 0 < length self.old.left }
         ensures takes { TakesTo self.old self.new from.now }
         ensures ended { lives (gateway_of self.new.core) ≡ false }
     {
@@ -204,8 +204,8 @@ impl<I: Instrument> Serving<I> {
 
     /// Whether a call has no answer yet, or bytes of a reply are left to give.
     fn is_busy(&self) -> bool
-        ensures idle { result ≡ false → (pending_at self.now.core.fine.state.tables 1 ≡ None) × (self.now.left ≡ []) }
-        ensures busy { result ≡ true → is_some (pending_at self.now.core.fine.state.tables 1) ≡ true ⊎ 0 < length self.now.left }
+        ensures idle { result ≡ false → (pending_at self.now.core.interleaved.state.tables 1 ≡ None) × (self.now.left ≡ []) }
+        ensures busy { result ≡ true → is_some (pending_at self.now.core.interleaved.state.tables 1) ≡ true ⊎ 0 < length self.now.left }
     {
         self.core.pending(CONN) || self.has_left()
     }
@@ -214,13 +214,13 @@ impl<I: Instrument> Serving<I> {
     /// record that is no call, or is too long: the connection has ended then.
     fn take(&mut self, from: &[u8]) -> Option<usize>
         requires some { 0 < length from.now }
-        requires kept { IsKept self.old }
-        requires lives { lives_as self.old.core.fine.state.tables 1 role.Core ≡ true }
-        requires idle { (pending_at self.old.core.fine.state.tables 1 ≡ None) × (self.old.left ≡ []) }
+        requires kept { IsLoopKept self.old }
+        requires lives { lives_as self.old.core.interleaved.state.tables 1 role.Core ≡ true }
+        requires idle { (pending_at self.old.core.interleaved.state.tables 1 ≡ None) × (self.old.left ≡ []) }
         ensures took { IfSome result (λ n. (0 < n) × (n ≤ length from.now) × TakesTo self.old self.new (take n from.now)) }
-        ensures stays { IfSome result (λ n. IsReady self.old → (IsRefused self.old from.now → ⊥) × (lives (gateway_of self.new.core) ≡ true)) }
+        ensures stays { IfSome result (λ n. IsLoopReady self.old → (IsLoopRefused self.old from.now → ⊥) × (lives (gateway_of self.new.core) ≡ true)) }
         ensures broke { IfNone result (TakesTo self.old self.new []) }
-        ensures cause { IfNone result (IsRefused self.old from.now) }
+        ensures cause { IfNone result (IsLoopRefused self.old from.now) }
         ensures ended { IfNone result (lives (gateway_of self.new.core) ≡ false) }
     {
         let fed = self.buffer.feed(from);
@@ -255,14 +255,14 @@ impl<I: Instrument> Serving<I> {
     /// it ends now, since a call or its reply is under way.
     pub(crate) fn accept(&mut self, from: &[u8]) -> Option<usize>
         requires some { 0 < length from.now }
-        requires kept { IsKept self.old }
+        requires kept { IsLoopKept self.old }
         ensures took { IfSome result (λ n. (0 < n) × (n ≤ length from.now) × TakesTo self.old self.new (take n from.now)) }
-        ensures stays { IfSome result (λ n. IsReady self.old → (IsRefused self.old from.now → ⊥) × (lives (gateway_of self.new.core) ≡ true)) }
+        ensures stays { IfSome result (λ n. IsLoopReady self.old → (IsLoopRefused self.old from.now → ⊥) × (lives (gateway_of self.new.core) ≡ true)) }
         ensures broke { IfNone result (TakesTo self.old self.new []) }
-        ensures cause { IfNone result (IsRefused self.old from.now) }
+        ensures cause { IfNone result (IsLoopRefused self.old from.now) }
         ensures ended { IfNone result (lives (gateway_of self.new.core) ≡ false) }
         ensures alive { IfNone result (lives (gateway_of self.old.core) ≡ true) }
-        ensures early { IfSome result (λ _. (IsReady self.old → ⊥) → lives (gateway_of self.new.core) ≡ false) }
+        ensures early { IfSome result (λ _. (IsLoopReady self.old → ⊥) → lives (gateway_of self.new.core) ≡ false) }
     {
         if self.is_gone() {
             return Some(from.len());
@@ -276,25 +276,25 @@ impl<I: Instrument> Serving<I> {
 
     /// Whether a call has no answer yet.
     fn is_waiting(&self) -> bool
-        ensures { result ≡ is_some (pending_at self.now.core.fine.state.tables 1) }
+        ensures { result ≡ is_some (pending_at self.now.core.interleaved.state.tables 1) }
     {
         self.core.pending(CONN)
     }
 
     /// Whether the last poll of the pending call asked for a dial.
     fn is_dialing(&self) -> bool
-        ensures { result ≡ list_any (λ n. n == 1) self.now.core.fine.dialed }
+        ensures { result ≡ list_any (λ n. n == 1) self.now.core.interleaved.dialed }
     {
         self.core.dialing(CONN)
     }
 
     /// Has the dial fail that the pending call asked for.
     fn refuse(&mut self)
-        requires kept { IsKept self.old }
-        requires pending { is_some (pending_at self.old.core.fine.state.tables 1) ≡ true }
-        requires dialed { list_any (λ n. n == 1) self.old.core.fine.dialed ≡ true }
+        requires kept { IsLoopKept self.old }
+        requires pending { is_some (pending_at self.old.core.interleaved.state.tables 1) ≡ true }
+        requires dialed { list_any (λ n. n == 1) self.old.core.interleaved.dialed ≡ true }
         ensures waits { WaitsTo self.old self.new }
-        ensures settled { pending_at self.new.core.fine.state.tables 1 ≡ None }
+        ensures settled { pending_at self.new.core.interleaved.state.tables 1 ≡ None }
     {
         self.from = 0;
         self.to = refuse_dial(&mut self.core, self.xid, &mut self.reply);
@@ -302,11 +302,11 @@ impl<I: Instrument> Serving<I> {
 
     /// Has the pending call polled a millisecond later, where there is a later moment.
     fn poll(&mut self) -> bool
-        requires kept { IsKept self.old }
-        requires pending { is_some (pending_at self.old.core.fine.state.tables 1) ≡ true }
+        requires kept { IsLoopKept self.old }
+        requires pending { is_some (pending_at self.old.core.interleaved.state.tables 1) ≡ true }
         ensures waits { WaitsTo self.old self.new }
-        ensures last { result ≡ false → (2 ^ 64 - 1 ≤ self.new.core.fine.state.moment) × (is_some (pending_at self.new.core.fine.state.tables 1) ≡ true) }
-        ensures later { result ≡ true → (self.old.core.fine.state.moment < self.new.core.fine.state.moment) × (self.new.core.fine.state.moment < 2 ^ 64) }
+        ensures last { result ≡ false → (2 ^ 64 - 1 ≤ self.new.core.interleaved.state.moment) × (is_some (pending_at self.new.core.interleaved.state.tables 1) ≡ true) }
+        ensures later { result ≡ true → (self.old.core.interleaved.state.moment < self.new.core.interleaved.state.moment) × (self.new.core.interleaved.state.moment < 2 ^ 64) }
     {
         let now = self.core.moment();
         if now == u64::MAX {
@@ -320,10 +320,10 @@ impl<I: Instrument> Serving<I> {
     /// Has the pending call polled, with a moment one greater each time, until it is answered; a dial that it asks for fails.
     /// It isn't answered, where the last moment comes first.
     pub(crate) fn wait(&mut self) -> bool
-        requires kept { IsKept self.old }
+        requires kept { IsLoopKept self.old }
         ensures waits { WaitsTo self.old self.new }
-        ensures last { result ≡ false → (2 ^ 64 - 1 ≤ self.new.core.fine.state.moment) × (is_some (pending_at self.new.core.fine.state.tables 1) ≡ true) }
-        ensures answered { result ≡ true → pending_at self.new.core.fine.state.tables 1 ≡ None }
+        ensures last { result ≡ false → (2 ^ 64 - 1 ≤ self.new.core.interleaved.state.moment) × (is_some (pending_at self.new.core.interleaved.state.tables 1) ≡ true) }
+        ensures answered { result ≡ true → pending_at self.new.core.interleaved.state.tables 1 ≡ None }
     {
         while self.is_waiting() {
             if self.is_dialing() {
@@ -340,8 +340,8 @@ impl<I: Instrument> Serving<I> {
     /// Gives the next bytes of the reply, and answers how many.
     pub(crate) fn give(&mut self, into: &mut [u8]) -> usize
         requires some { 0 < length into.old }
-        requires kept { IsKept self.old }
-        ensures kept { IsKept self.new }
+        requires kept { IsLoopKept self.old }
+        ensures kept { IsLoopKept self.new }
         ensures count { result ≡ min (length self.old.left) (length into.old) }
         ensures same { (self.new.core ≡ self.old.core) × (self.new.left ≡ drop result self.old.left) }
         ensures within { result ≤ length into.new }

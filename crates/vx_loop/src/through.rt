@@ -4,14 +4,14 @@ ghost use Rattle.std.specs.Prelude.{◌≡◌, ◌≤◌, ◌<◌, ◌^◌, min,
 ghost use Rattle.vx_rules.specs.Calls.{sets_end};
 ghost use Rattle.vx_flow.specs.Laws.{marked_bytes};
 ghost use Rattle.vx_flow.specs.Sound.{IsSound};
-ghost use Rattle.vx_client.specs.State.{with_link};
+ghost use Rattle.vx_client.specs.State.{client_with_link};
 ghost use Rattle.vx_client.specs.Message.{call_record};
 ghost use Rattle.vx_client.specs.Exchange.{IsCalled};
 ghost use Rattle.vx_client.specs.Ending.{TellsCalls};
 ghost use Rattle.vx_client.specs.Meaning.{nothing_of};
 ghost use Rattle.vx_client.specs.Chunks.{chunks, write_call, IsWritten};
 ghost use Rattle.vx_loop.specs.LoopState.{ServedState, LoopState};
-ghost use Rattle.vx_loop.specs.Standing.{StandsFor, MarkedStands, IsUnanswered};
+ghost use Rattle.vx_loop.specs.Standing.{LoopStandsFor, MarkedStands, IsUnanswered};
 ghost use Rattle.vx_loop.specs.Telling.{IsReceive, IsSend, FindsEnded, OnClosed, OnReadFault, OnWriteFault};
 ghost use Rattle.vx_loop.specs.Heard.{IsResting, IsHeard};
 
@@ -45,7 +45,7 @@ fn write_marked<I: Instrument, M: Mark>(
     requires short { length bytes.now ≤ PIECE_MAX }
     requires start { M.start ≡ link.old }
     ensures called { IsCalled (MarkedStands link.old) (λ _. None) (λ l. l.receive_faults) (λ l. l.send_faults)
-        (with_link client.old link.old) (with_link client.new link.new) (write_call lid opts.now flags bytes.now) 0 nothing_of result }
+        (client_with_link client.old link.old) (client_with_link client.new link.new) (write_call lid opts.now flags bytes.now) 0 nothing_of result }
     ensures told { TellsCalls IsReceive IsSend link.old link.new (call_record client.old.next (write_call lid opts.now flags bytes.now)) result }
     ensures own { client.new.link ≡ client.old.link }
     ensures number { client.old.next < 2 ^ 32 }
@@ -70,9 +70,9 @@ fn write_piece<I: Instrument>(
     bytes: &[u8],
 ) -> Result<(), ClientErr>
     requires short { length bytes.now ≤ PIECE_MAX }
-    ensures called { IsCalled StandsFor (λ _. None) (λ l. l.receive_faults) (λ l. l.send_faults) client.old client.new
+    ensures called { IsCalled LoopStandsFor (λ _. None) (λ l. l.receive_faults) (λ l. l.send_faults) client.old client.new
         (write_call lid opts.now flags bytes.now) 0 nothing_of result }
-    ensures sound { (s : ServedState) → IsResting client.old s → IsSound s.core.fine }
+    ensures sound { (s : ServedState) → IsResting client.old s → IsSound s.core.interleaved }
     ensures heard { OnOk result ((s : ServedState) → IsResting client.old s → IsHeard client.old client.new lid (marked_bytes (sets_end flags) bytes.now) s) }
     ensures closed { OnClosed result ((s : ServedState) → IsResting client.old s → FindsEnded client.new s) }
     ensures fault { OnReadFault result (IfSome client.new.link.served IsUnanswered) }
@@ -105,7 +105,7 @@ pub fn through_client<I: Instrument>(
     bytes: &[u8],
 ) -> Result<(), ClientErr>
     requires { 1 ≤ made.now.max }
-    ensures written { IsWritten StandsFor (λ _. None) (λ l. l.receive_faults) (λ l. l.send_faults) client.old client.new made.now.lid opts.now
+    ensures written { IsWritten LoopStandsFor (λ _. None) (λ l. l.receive_faults) (λ l. l.send_faults) client.old client.new made.now.lid opts.now
         (chunks (min made.now.max PIECE_MAX) bytes.now) result }
     ensures heard { OnOk result ((s : ServedState) → IsResting client.old s → IsHeard client.old client.new made.now.lid (marked_bytes (sets_end opts.now.flags) bytes.now) s) }
     ensures closed { OnClosed result ((s : ServedState) → IsResting client.old s → FindsEnded client.new s) }

@@ -25,7 +25,7 @@ const OPTS: CallOpts = CallOpts {
 
 /// A gateway with an instrument at 5 that gives back what it is sent.
 fn gateway(alloc: Global) -> Option<Core<SimBus<Echo>>>
-    ensures { IfSome result (λ core. IsUnconnected core.fine) }
+    ensures { IfSome result (λ core. IsUnconnected core.interleaved) }
 {
     let echo = Echo::new(alloc).ok()?;
     let mut bus = SimBus::new(alloc).ok()?;
@@ -35,7 +35,7 @@ fn gateway(alloc: Global) -> Option<Core<SimBus<Echo>>>
 
 /// A link to a gateway; where it is refused, one to the gateway that came back.
 fn link(alloc: Global, core: Core<SimBus<Echo>>) -> Option<LoopLink<Echo>>
-    requires { IsUnconnected core.fine }
+    requires { IsUnconnected core.interleaved }
 {
     match LoopLink::new(alloc, core) {
         Ok(link) => Some(link),

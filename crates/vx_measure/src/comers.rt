@@ -1,8 +1,8 @@
 //! Links that come to a port, and are served by four buses.
 ghost use Rattle.std.specs.Prelude.{IfSome};
-ghost use Rattle.vx_gates.specs.Four.{Each};
-ghost use Rattle.vx_gates.specs.Passing.{passes_shown, IsFirst};
-ghost use Rattle.vx_gates.specs.Standing.{gates_shown};
+ghost use Rattle.vx_buses.specs.Four.{Each};
+ghost use Rattle.vx_buses.specs.Passing.{passes_shown, IsFirst};
+ghost use Rattle.vx_buses.specs.Standing.{gates_shown};
 
 use crate::racks::rack_of;
 use crate::serving::{Bench, Comer, serve, serve_both};

@@ -1,14 +1,14 @@
 //! Links that are served at once, each by a pass of its own to each bus.
 ghost use Rattle.std.specs.Prelude.{◌≡◌, ◌≤◌};
-ghost use Rattle.vx_gates.specs.Four.{Each};
-ghost use Rattle.vx_gates.specs.Passing.{passes_shown, IsOf, IsFirst};
-ghost use Rattle.vx_gates.specs.Standing.{gates_shown};
+ghost use Rattle.vx_buses.specs.Four.{Each};
+ghost use Rattle.vx_buses.specs.Passing.{passes_shown, IsOf, IsFirst};
+ghost use Rattle.vx_buses.specs.Standing.{gates_shown};
 
 use std::alloc::Global;
 use std::rt::Clock as SystemClock;
 use std::sync::Wait;
 use std::thread::{self, Threads};
-use vx_buses::{BusPass, Buses, many_link};
+use vx_buses::{BusPass, Buses, LinkServer, many_link};
 use vx_io::{StdClock, StdPause, TcpLink};
 use vx_rack::Echo;
 use vx_session::{End, Linked, Room};
@@ -37,8 +37,9 @@ pub(crate) fn serve<R: SystemClock + Wait + Copy>(
     let Comer { mut link, mut room } = comer;
     let mut clock = StdClock::new(*rt);
     let mut pause = StdPause::new(*rt);
+    let server = LinkServer { rt, alloc, buses };
     let (passes, how) = many_link(
-        rt, alloc, buses, passes, &mut link, &mut clock, &mut pause, &mut room,
+        &server, passes, &mut link, &mut clock, &mut pause, &mut room,
     );
     (passes, matches!(how, Linked::Ended(End::Closed)))
 }

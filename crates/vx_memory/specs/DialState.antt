@@ -22,8 +22,8 @@ told_calls true calls = Some calls
 told_calls false calls = None
 
 -- it tells one more call, or none from here on, and nothing else changes
-abbrev pub Tells : DialState → DialState → Rang → Type 0
-Tells old new call = AddsCalls old.calls new.calls (call ∷ []) × (new ≡ record old { calls = new.calls })
+abbrev pub MemoryTells : DialState → DialState → Rang → Type 0
+MemoryTells old new call = AddsCalls old.calls new.calls (call ∷ []) × (new ≡ record old { calls = new.calls })
 
 -- what the next dial answers
 abbrev pub dial_answer : DialState → DialOut

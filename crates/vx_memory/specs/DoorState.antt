@@ -144,8 +144,8 @@ abbrev pub IsSend : DoorState → List ℕ → WriteOut → DoorState → Type 0
 IsSend old bytes answer new = IsSendAnswer old (length bytes) answer × (new ≡ after_send old bytes answer)
 
 -- an opening: its answer, and the door after it
-abbrev pub IsOpen : DoorState → ℕ → DialOut → DoorState → Type 0
-IsOpen old port answer new = (answer ≡ open_answer old) × (new ≡ after_open old port answer)
+abbrev pub IsMemoryOpen : DoorState → ℕ → DialOut → DoorState → Type 0
+IsMemoryOpen old port answer new = (answer ≡ open_answer old) × (new ≡ after_open old port answer)
 
 -- a wait: its answer, and the door after it
 abbrev pub IsNext : DoorState → Met → DoorState → Type 0

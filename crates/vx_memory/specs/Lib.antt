@@ -4,9 +4,9 @@ pub mod LinkState
 pub mod NetState
 pub mod ReachState
 pub mod DoorState
+pub mod KeepingCounts
 pub mod ClockState
 pub mod DialState
-pub mod ProvedLaws
 pub use Rattle.vx_io_traits.specs.Accepts
 pub use Rattle.vx_io_traits.specs.Faults
 pub use Rattle.vx_io_traits.specs.Handing

@@ -26,8 +26,8 @@ pub record LinkState : Type 0 where
   pub send_faults : ℕ
 
 -- a link over memory stands for the bytes in its room and those that it gave
-abbrev pub StandsFor : LinkState → List ℕ → List ℕ → Type 0
-StandsFor s taken given = (taken ≡ s.taken) × (given ≡ s.given)
+abbrev pub MemoryStandsFor : LinkState → List ℕ → List ℕ → Type 0
+MemoryStandsFor s taken given = (taken ≡ s.taken) × (given ≡ s.given)
 
 -- the source that it is to a receive
 abbrev pub incoming : LinkState → SourceState

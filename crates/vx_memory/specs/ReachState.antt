@@ -25,8 +25,8 @@ pub record ReachState (L : Type 0) : Type 0 where
   pub early_sends : ℕ
 
 -- the one host and port
-abbrev pub place_of : {L : Type 0} → ReachState L → Option (List ℕ × ℕ)
-place_of s = Some (s.host, s.port)
+abbrev pub memory_place_of : {L : Type 0} → ReachState L → Option (List ℕ × ℕ)
+memory_place_of s = Some (s.host, s.port)
 
 -- a count of the reach's own with that of its link: a `u64` that stays at its greatest value
 abbrev pub with_early : ℕ → ℕ → ℕ

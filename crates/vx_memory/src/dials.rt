@@ -32,7 +32,7 @@ impl Model for MemDial {
 
 impl MemDial {
     ghost use Rattle.std.specs.Prelude.{◌≡◌, None, Some, MatchOption};
-    ghost use Rattle.vx_memory.specs.DialState.{Tells};
+    ghost use Rattle.vx_memory.specs.DialState.{MemoryTells};
 
     /// A dial that tells `calls` and those that follow. The dials whose numbers, counted from 1 over the object, stand in
     /// `fails` fail.
@@ -64,7 +64,7 @@ impl MemDial {
 
     /// Adds a call to the list, or tells no more.
     fn tell(&mut self, call: Rang)
-        ensures { Tells self.old self.new call }
+        ensures { MemoryTells self.old self.new call }
     {
         if self.tells && self.calls.push(call).is_err() {
             self.tells = false;

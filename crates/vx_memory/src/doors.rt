@@ -312,8 +312,8 @@ impl Door for MemDoor {
     ghost use Rattle.vx_io_traits.specs.Rung.{OnDialFailed};
     ghost use Rattle.vx_io_traits.specs.Stands.{Stays};
     ghost use Rattle.vx_door.specs.Meeting.{IfMet, UnlessMet, OnMeetFailed, is_met, met_after, ended_after, MeetsAt, IsFresh};
-    ghost use Rattle.vx_memory.specs.DoorState.{StandsForPeer, is_at_peer, peer_left, addresses, open_answer, after_open, IsOpen, IsNext, next_answer, after_next};
-    ghost use Rattle.vx_memory.specs.ProvedLaws.{receive_keeps_counts, send_keeps_counts};
+    ghost use Rattle.vx_memory.specs.DoorState.{StandsForPeer, is_at_peer, peer_left, addresses, open_answer, after_open, IsMemoryOpen, IsNext, next_answer, after_next};
+    ghost use Rattle.vx_memory.specs.KeepingCounts.{receive_keeps_counts, send_keeps_counts};
 
     ghost met = { λ s. s.met };
 
@@ -323,7 +323,7 @@ impl Door for MemDoor {
 
     ghost tells = { true };
 
-    ghost opens = { IsOpen };
+    ghost opens = { IsMemoryOpen };
 
     ghost meets = { IsNext };
 

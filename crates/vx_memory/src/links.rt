@@ -80,9 +80,9 @@ impl Link for MemLink {
     ghost use Rattle.vx_io_traits.specs.Faults.{Rose};
     ghost use Rattle.vx_io_traits.specs.Outs.{IfGot, IfTook, OnEnd, OnReadFailed, OnWriteFailed};
     ghost use Rattle.vx_io_traits.specs.Stands.{Gives, Takes, Stays};
-    ghost use Rattle.vx_memory.specs.LinkState.{StandsFor, IsReceive, IsSend, receive_answer, receive_slice, after_receive, IsSendAnswer, after_send};
+    ghost use Rattle.vx_memory.specs.LinkState.{MemoryStandsFor, IsReceive, IsSend, receive_answer, receive_slice, after_receive, IsSendAnswer, after_send};
 
-    ghost stands = { StandsFor };
+    ghost stands = { MemoryStandsFor };
 
     ghost left = { λ s. Some s.left };
 
@@ -110,11 +110,11 @@ impl Link for MemLink {
         ensures peers { Keeps None None }
         ensures got { IfGot result (λ n. (0 < n) × (n ≤ length into.new)
             × Consumes (Some self.old.left) (Some self.new.left) (take n into.new)
-            × Gives StandsFor self.old self.new (take n into.new)) }
+            × Gives MemoryStandsFor self.old self.new (take n into.new)) }
         ensures end { OnEnd result (IsAtEnd (Some self.old.left)
-            × Keeps (Some self.old.left) (Some self.new.left) × Stays StandsFor self.old self.new) }
+            × Keeps (Some self.old.left) (Some self.new.left) × Stays MemoryStandsFor self.old self.new) }
         ensures failed { OnReadFailed result (Rose self.old.receive_faults self.new.receive_faults
-            × Keeps (Some self.old.left) (Some self.new.left) × Stays StandsFor self.old self.new) }
+            × Keeps (Some self.old.left) (Some self.new.left) × Stays MemoryStandsFor self.old self.new) }
     {
         self.calls = self.calls.saturating_add(1);
         if self.fails.contains(&self.calls) {
@@ -144,9 +144,9 @@ impl Link for MemLink {
         ensures peers { Keeps None None }
         ensures left { Keeps (Some self.old.left) (Some self.new.left) }
         ensures took { IfTook result (λ n. (0 < n) × (n ≤ length from.now)
-            × Takes StandsFor self.old self.new (take n from.now)) }
+            × Takes MemoryStandsFor self.old self.new (take n from.now)) }
         ensures failed { OnWriteFailed result (Rose self.old.send_faults self.new.send_faults
-            × Stays StandsFor self.old self.new) }
+            × Stays MemoryStandsFor self.old self.new) }
     {
         self.calls = self.calls.saturating_add(1);
         if self.fails.contains(&self.calls) || self.room.extend_from_slice(from).is_err() {

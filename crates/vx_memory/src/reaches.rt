@@ -175,11 +175,11 @@ impl<L: Link> Reach for MemReach<L> {
     ghost use Rattle.vx_io_traits.specs.Rung.{OnDialFailed};
     ghost use Rattle.vx_io_traits.specs.Stands.{Stays};
     ghost use Rattle.vx_io_traits.specs.Reached.{AnswersAt};
-    ghost use Rattle.vx_memory.specs.ReachState.{place_of, with_early, after_reach, IsReach};
+    ghost use Rattle.vx_memory.specs.ReachState.{memory_place_of, with_early, after_reach, IsReach};
 
     ghost refused = { λ s. s.refused };
 
-    ghost place = { place_of };
+    ghost place = { memory_place_of };
 
     ghost tries = { λ old host port answer new. IsReach old answer new };
 
@@ -190,8 +190,8 @@ impl<L: Link> Reach for MemReach<L> {
 
         // What every reach says.
         ensures counted { self.old.refused ≤ self.new.refused }
-        ensures place { place_of self.new ≡ place_of self.old }
-        ensures answers { AnswersAt (place_of self.old) host.now port result }
+        ensures place { memory_place_of self.new ≡ memory_place_of self.old }
+        ensures answers { AnswersAt (memory_place_of self.old) host.now port result }
         ensures failed { OnDialFailed result (Rose self.old.refused self.new.refused) }
         ensures receives { with_early self.new.early_receives (L.receive_faults self.new.link)
             ≡ with_early self.old.early_receives (L.receive_faults self.old.link) }

@@ -24,13 +24,13 @@ use Rattle.vx_rules.specs.Calls.{is_bus_call, asks_dial}
 use Rattle.vx_rules.specs.Checks.{NamedLink, NoLink, DeadLink, OnLink, named_link, check}
 use Rattle.vx_rules.specs.Lines.{Bar, Admission, Refused, Waiting, Passed, holder_against, checks_pass, later_lines, is_first}
 use Rattle.vx_rules.specs.Effects.{task_on, task_of, stopped_reply, create, effect, settle}
-use Rattle.vx_rules.specs.Decide.{Outside, is_quiet, settles, may_tell, may_have_made, is_nothing, begun_between, has_job_role, is_part_of, bus_answer, dialed_answer, by_lines, passed_fits, lines_fit, stand_on, turn_answer}
+use Rattle.vx_rules.specs.Decide.{BusInput, is_quiet, settles, may_tell, may_have_made, is_nothing, begun_between, has_job_role, is_part_of, bus_answer, dialed_answer, by_lines, passed_fits, lines_fit, stand_on, turn_answer}
 use Rattle.vx_rules.specs.Entry.{Answer}
-use Rattle.vx_rules.specs.One.{one, call_fits, answer_to, if_reply}
+use Rattle.vx_rules.specs.AtomicStep.{atomic_step, call_fits, answer_to, if_reply}
 use Rattle.vx_rules.specs.Serving.{served_reply}
-use Rattle.vx_rules.specs.ProvedLaws.{no-job, dial-no-bus}
-use Rattle.vx_rules.specs.ProvedLaws.Walks.{passed-says}
-use Rattle.vx_model.specs.Stepping.{Goes, closed, ended, answer_at, stopped_at, refusal_fits, open_job, lines_at, stood_at, turn_at}
+use Rattle.vx_rules.proofs.Laws.{no-job, dial-no-bus}
+use Rattle.vx_rules.proofs.Laws.Walks.{passed-says}
+use Rattle.vx_model.specs.Stepping.{ModelGoes, closed, ended, answer_at, stopped_at, refusal_fits, open_job, lines_at, stood_at, turn_at}
 
 -- ---- the reply that is told
 
@@ -53,31 +53,31 @@ some_pending None h = absurd (false≢true h)
 some_pending (Some x) h = (x, refl)
 
 -- the state after an answer, by whether its moment is due and by the call that is pending
-abbrev by_pending : State → ℕ → ℕ → Outside → Reply → Bool → Option Pending → Option State
+abbrev by_pending : State → ℕ → ℕ → BusInput → Reply → Bool → Option Pending → Option State
 by_pending s conn now o told due p =
     cond (due && call_fits s conn now o p) (option_and_then (if_reply told) (option_and_then (answer_to s conn now o) p)) None
 
 -- at a due moment the answer is that to the pending call
-pub answer_is : (s : State) (conn now : ℕ) (o : Outside) (told : Reply) (p : Pending) → pending_at s.tables conn ≡ Some p → nat_le s.moment now ≡ true
-    → one s (Answer conn now o.begun o.moves o.failed o.dialed o.level told) ≡ answer_at s conn now o told p
+pub answer_is : (s : State) (conn now : ℕ) (o : BusInput) (told : Reply) (p : Pending) → pending_at s.tables conn ≡ Some p → nat_le s.moment now ≡ true
+    → atomic_step s (Answer conn now o.begun o.moves o.failed o.dialed o.level told) ≡ answer_at s conn now o told p
 answer_is s conn now o told p here due =
     ap (λ b. by_pending s conn now o told b (pending_at s.tables conn)) due ∙ ap (by_pending s conn now o told true) here
 
 -- before its moment there is no answer
-pub answer_early : (s : State) (conn now : ℕ) (o : Outside) (told : Reply) → nat_le s.moment now ≡ false
-    → one s (Answer conn now o.begun o.moves o.failed o.dialed o.level told) ≡ None
+pub answer_early : (s : State) (conn now : ℕ) (o : BusInput) (told : Reply) → nat_le s.moment now ≡ false
+    → atomic_step s (Answer conn now o.begun o.moves o.failed o.dialed o.level told) ≡ None
 answer_early s conn now o told early = ap (λ b. by_pending s conn now o told b (pending_at s.tables conn)) early
 
 -- without a call there is none either
-pub answer_idle : (s : State) (conn now : ℕ) (o : Outside) (told : Reply) → nat_le s.moment now ≡ true → pending_at s.tables conn ≡ None
-    → one s (Answer conn now o.begun o.moves o.failed o.dialed o.level told) ≡ None
+pub answer_idle : (s : State) (conn now : ℕ) (o : BusInput) (told : Reply) → nat_le s.moment now ≡ true → pending_at s.tables conn ≡ None
+    → atomic_step s (Answer conn now o.begun o.moves o.failed o.dialed o.level told) ≡ None
 answer_idle s conn now o told due idle =
     ap (λ b. by_pending s conn now o told b (pending_at s.tables conn)) due ∙ ap (by_pending s conn now o told true) idle
 
 -- ---- by the first lines
 
 -- an answer by the lines that decide it and by whether what came from outside fits
-abbrev by_fits : State → ℕ → ℕ → Outside → Reply → Pending → Bool → Admission → Option State
+abbrev by_fits : State → ℕ → ℕ → BusInput → Reply → Pending → Bool → Admission → Option State
 by_fits s conn now o told p fits lines = cond fits (ended s conn now o.moves told (by_lines s.tables s.wire conn p now o lines)) None
 
 -- three tests, in either grouping
@@ -85,7 +85,7 @@ all_three : (a b d : Bool) → (a && b && d) ≡ (a && (b && d))
 all_three true b d = refl
 all_three false b d = refl
 
-module _ (t : Tables) (w : Wire) (conn now : ℕ) (p : Pending) (o : Outside) where
+module _ (t : Tables) (w : Wire) (conn now : ℕ) (p : Pending) (o : BusInput) where
   -- whether what came from outside fits, by the mark and by the lines behind it
   abbrev fits_at : Bool → Admission → Bool
   fits_at aborted later = cond aborted (may_tell p now o.begun && may_have_made t w conn p o.moves && (is_nothing o.moves || is_first t w.own conn p now)) (lines_fit t w conn p now o later)
@@ -112,7 +112,7 @@ module _ (t : Tables) (w : Wire) (conn now : ℕ) (p : Pending) (o : Outside) wh
   passed_at false (Waiting bar) h = cc
   passed_at false Passed h = refl
 
-module _ (s : State) (conn now : ℕ) (o : Outside) (told : Reply) (p : Pending) where
+module _ (s : State) (conn now : ℕ) (o : BusInput) (told : Reply) (p : Pending) where
   -- a call that waits has no answer
   pub waiting-is : (bar : Bar) → lines_at s conn now o p ≡ Waiting bar → answer_at s conn now o told p ≡ None
   waiting-is bar lines =
@@ -178,13 +178,13 @@ open_at t own conn settling (OnLink l) asked holder c h =
     ap (λ k. cond (checks_pass k holder) (task_on l.target asked) None) c ∙ ap (λ k. cond (checks_pass None k) (task_on l.target asked) None) h
 
 -- the job of a call that the first lines let pass is its open job
-pub open_is : (s : State) (conn now : ℕ) (o : Outside) (p : Pending) → lines_at s conn now o p ≡ Passed
+pub open_is : (s : State) (conn now : ℕ) (o : BusInput) (p : Pending) → lines_at s conn now o p ≡ Passed
     → open_job s.tables s.wire conn p ≡ task_of (named_link s.tables conn p.call) p.call
 open_is s conn now o p lines =
     let says = passed-says p now p.aborted _ _ _ lines in
     open_at s.tables s.wire.own conn (settles o) (named_link s.tables conn p.call) p.call (holder_against s.tables s.wire.own (named_link s.tables conn p.call) p.call) says.checks says.locks
 
-module _ (s : State) (conn now : ℕ) (o : Outside) (told : Reply) (p : Pending) where
+module _ (s : State) (conn now : ℕ) (o : BusInput) (told : Reply) (p : Pending) where
   -- a reply with the tables as they are
   abbrev paired : Option Reply → Option (Reply × Tables)
   paired found = option_map (λ given. (given, s.tables)) found
@@ -353,7 +353,7 @@ settle-reply t conn _ up r u h = cc
 
 -- ---- calls that have their effect
 
-module _ (s : State) (conn now : ℕ) (o : Outside) (told : Reply) (p : Pending) where
+module _ (s : State) (conn now : ℕ) (o : BusInput) (told : Reply) (p : Pending) where
   -- a dial that is told with its reply is settled
   pub dial-taken : (up : Bool) (r : Reply) (t : Tables) → lines_at s conn now o p ≡ Passed → asks_dial p.call ≡ true → bare s conn now o told p ≡ true
       → o.dialed ≡ Some up → o.failed ≡ false → o.level ≡ false → settle s.tables conn p.call up ≡ Some (r, t)
@@ -414,27 +414,27 @@ module _ (s : State) (conn now : ℕ) (o : Outside) (told : Reply) (p : Pending)
 -- a state that is found for each pending call, and is the same as another
 pub goes_as : {E : Type 0} (r : Result Bool E) (asked : Option Pending) (found other : Pending → Option State) (old now : State)
     → ((p : Pending) → asked ≡ Some p → other p ≡ found p)
-    → IfOk r (λ yes. (p : Pending) → asked ≡ Some p → Goes (found p) old yes now) → IfOk r (λ yes. (p : Pending) → asked ≡ Some p → Goes (other p) old yes now)
-goes_as (Ok done) asked found other old now same h = λ p here. subst (λ f. Goes f old done now) (sym (same p here)) (h p here)
+    → IfOk r (λ yes. (p : Pending) → asked ≡ Some p → ModelGoes (found p) old yes now) → IfOk r (λ yes. (p : Pending) → asked ≡ Some p → ModelGoes (other p) old yes now)
+goes_as (Ok done) asked found other old now same h = λ p here. subst (λ f. ModelGoes f old done now) (sym (same p here)) (h p here)
 goes_as (Err e) asked found other old now same h = tt
 
 -- the same of the one pending call
 pub goes_at : {E : Type 0} (r : Result Bool E) (asked : Option Pending) (found : Pending → Option State) (other : Option State) (old now : State) (p : Pending)
     → asked ≡ Some p → other ≡ found p
-    → IfOk r (λ yes. (q : Pending) → asked ≡ Some q → Goes (found q) old yes now) → IfOk r (λ yes. Goes other old yes now)
-goes_at (Ok done) asked found other old now p here same h = subst (λ f. Goes f old done now) (sym same) (h p here)
+    → IfOk r (λ yes. (q : Pending) → asked ≡ Some q → ModelGoes (found q) old yes now) → IfOk r (λ yes. ModelGoes other old yes now)
+goes_at (Ok done) asked found other old now p here same h = subst (λ f. ModelGoes f old done now) (sym same) (h p here)
 goes_at (Err e) asked found other old now p here same h = tt
 
 -- ---- the public clauses
 
 -- the answer says whether the entry is allowed
-pub yes_is : {E : Type 0} (r : Result Bool E) (found : Option State) (old now : State) → IfOk r (λ yes. Goes found old yes now) → IfOk r (λ yes. yes ≡ is_some found)
+pub yes_is : {E : Type 0} (r : Result Bool E) (found : Option State) (old now : State) → IfOk r (λ yes. ModelGoes found old yes now) → IfOk r (λ yes. yes ≡ is_some found)
 yes_is (Ok true) found old now h = sym (ap is_some h)
 yes_is (Ok false) found old now h = sym (ap is_some h.0)
 yes_is (Err e) found old now h = tt
 
 -- and the state is the one behind it, or the one before
-pub state_is : {E : Type 0} (r : Result Bool E) (found : Option State) (old now : State) → IfOk r (λ yes. Goes found old yes now) → OnOk r (now ≡ unwrap_or found old)
+pub state_is : {E : Type 0} (r : Result Bool E) (found : Option State) (old now : State) → IfOk r (λ yes. ModelGoes found old yes now) → OnOk r (now ≡ unwrap_or found old)
 state_is (Ok true) found old now h = sym (ap (λ o. unwrap_or o old) h)
 state_is (Ok false) found old now h = h.1 ∙ sym (ap (λ o. unwrap_or o old) h.0)
 state_is (Err e) found old now h = tt
@@ -447,7 +447,7 @@ part_open w asked moves false job = refl
 
 -- what a result says for every job it says for one
 pub goes_any : {E : Type 0} (r : Result Bool E) (asked : Option Pending) (found : Pending → Task → Option State) (old now : State) (job : Task)
-    → IfOk r (λ yes. (p : Pending) (k : Task) → asked ≡ Some p → Goes (found p k) old yes now) → IfOk r (λ yes. (p : Pending) → asked ≡ Some p → Goes (found p job) old yes now)
+    → IfOk r (λ yes. (p : Pending) (k : Task) → asked ≡ Some p → ModelGoes (found p k) old yes now) → IfOk r (λ yes. (p : Pending) → asked ≡ Some p → ModelGoes (found p job) old yes now)
 goes_any (Ok done) asked found old now job h = λ p here. h p job here
 goes_any (Err e) asked found old now job h = tt
 

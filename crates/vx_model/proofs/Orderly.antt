@@ -12,7 +12,7 @@ use Rattle.vx_plan.specs.declared.tasks.Task.TheVariants as task
 use Rattle.vx_plan.specs.Transfers.{same_transfer}
 use Rattle.vx_plan.specs.Plan.{Plan, Stand, Whole, Part, Off, done, left_after, stand_of, stand}
 use Rattle.vx_plan.specs.Tasks.{plan, is_own_task, IsPlainTask}
-use Rattle.vx_plan.specs.ProvedLaws.{left_after-none, most_bytes-within, own-job, same_transfer-is, bound-law, own_stays-law}
+use Rattle.vx_plan.proofs.Laws.{left_after-none, most_bytes-within, own-job, same_transfer-is, bound-law, own_stays-law}
 use Rattle.vx_rules.specs.Serving.{IsDoable}
 use Rattle.vx_model.specs.Stepping.{IsOrderly}
 

@@ -9,7 +9,7 @@ use Rattle.vx_plan.specs.declared.tasks.Next.TheVariants as next
 use Rattle.vx_plan.specs.Plan.{Slot, AnyByte, Reading, Plan, Whole, Part, Off, fits, reading_left, front_left, left_after_one, left_after, stand_of, stand, next_slot}
 use Rattle.vx_plan.specs.Places.{slot_wanted}
 use Rattle.vx_plan.specs.Laws.{FitsNext}
-use Rattle.vx_plan.specs.ProvedLaws.{left_after-none, left_after-append, Fits-from_fits}
+use Rattle.vx_plan.proofs.Laws.{left_after-none, left_after-append, Fits-from_fits}
 use Rattle.vx_model.specs.Stepping.{fits_next}
 
 -- a transfer that fits is what is wanted next

@@ -19,6 +19,6 @@ pub use Rattle.vx_rules.specs.Decide
 pub use Rattle.vx_rules.specs.Effects
 pub use Rattle.vx_rules.specs.Entry
 pub use Rattle.vx_rules.specs.Lines
-pub use Rattle.vx_rules.specs.One
+pub use Rattle.vx_rules.specs.AtomicStep
 pub use Rattle.vx_rules.specs.Serving
 pub use Rattle.vx_rules.specs.State

@@ -7,4 +7,4 @@ mod plain;
 
 pub use entry::EntryRef;
 pub use plain::Plain;
-pub use vx_tables::NoMemory;
+pub use vx_state::NoMemory;

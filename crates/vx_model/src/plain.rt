@@ -11,8 +11,8 @@ ghost use Rattle.vx_rules.specs.State as state;
 ghost use Rattle.vx_rules.specs.Calls.{proc_of};
 ghost use Rattle.vx_rules.specs.Entry as entry;
 ghost use Rattle.vx_model.specs.EntryShown.{entry_shown};
-ghost use Rattle.vx_rules.specs.One.{one};
-ghost use Rattle.vx_model.specs.Stepping.{Goes, closed, IsOrderly};
+ghost use Rattle.vx_rules.specs.AtomicStep.{atomic_step};
+ghost use Rattle.vx_model.specs.Stepping.{ModelGoes, closed, IsOrderly};
 
 mod answering;
 mod replies;
@@ -25,7 +25,7 @@ use std::alloc::Global;
 use std::marker::Model;
 use vx_488::{Transfer, Wire};
 use vx_calls::{CallRef, ErrorCode, Proc, Role, Taken};
-use vx_tables::{Connect, NoMemory, Tables, may_wait};
+use vx_state::{Connect, NoMemory, Tables, may_wait};
 
 /// The gateway of one thread. A contract sees it as its `State`: the tables, the bus and the greatest moment handed in so
 /// far, in milliseconds.
@@ -68,8 +68,8 @@ impl Plain {
     ///
     /// `NoMemory`; then nothing changed.
     pub fn step(&mut self, entry: &EntryRef<'_>) -> Result<bool, NoMemory>
-        ensures yes { IfOk result (λ yes. yes ≡ is_some (one self.old (entry_shown entry.now))) }
-        ensures state { OnOk result (self.new ≡ unwrap_or (one self.old (entry_shown entry.now)) self.old) }
+        ensures yes { IfOk result (λ yes. yes ≡ is_some (atomic_step self.old (entry_shown entry.now))) }
+        ensures state { OnOk result (self.new ≡ unwrap_or (atomic_step self.old (entry_shown entry.now)) self.old) }
         ensures err { OnErr result (self.new ≡ self.old) }
     {
         self.go(entry)
@@ -77,7 +77,7 @@ impl Plain {
 
     /// The same, by kinds of entries.
     fn go(&mut self, entry: &EntryRef<'_>) -> Result<bool, NoMemory>
-        ensures ok { IfOk result (λ yes. Goes (one self.old (entry_shown entry.now)) self.old yes self.new) }
+        ensures ok { IfOk result (λ yes. ModelGoes (atomic_step self.old (entry_shown entry.now)) self.old yes self.new) }
         ensures err { OnErr result (self.new ≡ self.old) }
     {
         match entry {
@@ -111,7 +111,7 @@ impl Plain {
 
     /// A connection comes up: the number is the next one, and there is room.
     fn up(&mut self, conn: u32, role: Role) -> Result<bool, NoMemory>
-        ensures ok { IfOk result (λ yes. Goes (one self.old (entry.Up conn role)) self.old yes self.new) }
+        ensures ok { IfOk result (λ yes. ModelGoes (atomic_step self.old (entry.Up conn role)) self.old yes self.new) }
         ensures err { OnErr result (self.new ≡ self.old) }
     {
         if conn != self.tables.next_number() {
@@ -126,7 +126,7 @@ impl Plain {
 
     /// A connection goes down: it lives, and its call may have made these transfers.
     fn down(&mut self, conn: u32, moves: &[Transfer]) -> bool
-        ensures { Goes (one self.old (entry.Down conn moves.now)) self.old result self.new }
+        ensures { ModelGoes (atomic_step self.old (entry.Down conn moves.now)) self.old result self.new }
     {
         if self.tables.role(conn).is_none() || !self.may_leave(conn, moves) {
             return false;
@@ -138,7 +138,7 @@ impl Plain {
 
     /// A call comes: the connection is a live core one without a call.
     fn arrive(&mut self, conn: u32, call: &CallRef<'_>, now: u64) -> Result<bool, NoMemory>
-        ensures ok { IfOk result (λ yes. Goes (one self.old (entry.Arrive conn (call_shown call.now) now)) self.old yes self.new) }
+        ensures ok { IfOk result (λ yes. ModelGoes (atomic_step self.old (entry.Arrive conn (call_shown call.now) now)) self.old yes self.new) }
         ensures err { OnErr result (self.new ≡ self.old) }
     {
         if now < self.moment || !self.tables.is_idle(conn) || !may_wait(call) {
@@ -151,7 +151,7 @@ impl Plain {
 
     /// A device_abort: the connection is a live abort one, and this is the reply.
     fn abort(&mut self, conn: u32, lid: u32, reply: ErrorCode) -> bool
-        ensures { Goes (one self.old (entry.Abort conn lid reply)) self.old result self.new }
+        ensures { ModelGoes (atomic_step self.old (entry.Abort conn lid reply)) self.old result self.new }
     {
         if self.tables.role(conn) != Some(Role::Abort)
             || self.tables.abort_reply(lid).number() != reply.number()
@@ -164,7 +164,7 @@ impl Plain {
 
     /// A sample of the SRQ line.
     fn sample(&mut self, now: u64, srq: bool) -> bool
-        ensures { Goes (one self.old (entry.Sample now srq)) self.old result self.new }
+        ensures { ModelGoes (atomic_step self.old (entry.Sample now srq)) self.old result self.new }
     {
         if now < self.moment {
             return false;
@@ -176,7 +176,7 @@ impl Plain {
 
     /// A take: the connection lives, and this is what the take gives.
     fn take(&mut self, conn: u32, chan: u32, taken: &Taken) -> bool
-        ensures { Goes (one self.old (entry.Take conn chan (given_shown taken.now))) self.old result self.new }
+        ensures { ModelGoes (atomic_step self.old (entry.Take conn chan (given_shown taken.now))) self.old result self.new }
     {
         if self.tables.role(conn).is_none() || !same_taken(&self.tables.given(conn, chan), taken) {
             return false;

@@ -3,5 +3,5 @@
 use Rattle.std.specs.Prelude.{ℕ, List, ◌++◌, codes, decimal}
 
 -- so many peers were served
-abbrev pub served_line : ℕ → List ℕ
-served_line number = codes "served " ++ decimal number ++ codes "\n"
+abbrev pub peer_served_line : ℕ → List ℕ
+peer_served_line number = codes "served " ++ decimal number ++ codes "\n"

@@ -1,7 +1,6 @@
 pub mod Asked
 pub mod Due
 pub mod Outcome
-pub mod ProvedLaws
 pub use Rattle.vx_door.specs.Opening
 pub use Rattle.vx_door.specs.Serving
 pub use Rattle.vx_door.specs.Running

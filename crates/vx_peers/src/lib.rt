@@ -2,9 +2,8 @@
 //! serves a peer is a `Serves` of the program at hand.
 #![tactic(auto)]
 
-mod lines;
 mod serving;
 mod words;
 
-pub use serving::{Status, put_line, serve_peers};
+pub use serving::{DoorStatus, put_line, serve_peers};
 pub use words::{Ask, ask_of};

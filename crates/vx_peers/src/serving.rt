@@ -1,17 +1,20 @@
 //! The peers of a door, served, and told.
 ghost use Rattle.std.specs.Prelude.{◌≡◌};
 ghost use Rattle.vx_door.specs.Shown.{door_shown};
-ghost use Rattle.vx_peers.specs.Outcome.{IsOpenServed, IsServed, PutsLine, status_number};
+ghost use Rattle.vx_text.specs.Ends.{sink_shown};
+ghost use Rattle.vx_peers.specs.Outcome.{IsOpenServed, IsPeerServed, PeerPutsLine, peer_status_number};
 
-use crate::lines::{LINE_ROOM, number_line};
 use crate::words::Ask;
 use vx_door::{Door, DoorEnd, Serves, serve_door};
 use vx_io_traits::{DialOut, Sink};
-use vx_text::put_all;
+use vx_text::{DIGITS_MAX, number_line, put_all};
+
+/// Room for the line that is printed, its LF included.
+const LINE_ROOM: usize = 7 + DIGITS_MAX + 1;
 
 /// How a run ended, as the program's exit status tells it.
 #[derive(Clone, Copy, Debug, PartialEq, Eq)]
-pub enum Status {
+pub enum DoorStatus {
     /// 0: as many were served as were asked for, or no more come.
     Served,
     /// 1: the words have another form.
@@ -24,30 +27,29 @@ pub enum Status {
     SinkFailed,
 }
 
-impl Status {
+impl DoorStatus {
     /// The exit status.
     pub fn number(self) -> u8
-        ensures { result ≡ status_number self }
+        ensures { result ≡ peer_status_number self }
     {
         match self {
-            Status::Served => 0,
-            Status::Usage => 1,
-            Status::NetFailed => 3,
-            Status::NoMemory => 5,
-            Status::SinkFailed => 6,
+            DoorStatus::Served => 0,
+            DoorStatus::Usage => 1,
+            DoorStatus::NetFailed => 3,
+            DoorStatus::NoMemory => 5,
+            DoorStatus::SinkFailed => 6,
         }
     }
 }
 
 /// Writes a line of a run that ends so.
-pub fn put_line<K: Sink>(sink: &mut K, line: &[u8], how: Status) -> Status
-    ensures { PutsLine how line.now
-        (record { bytes = K.taken sink.old; faults = K.faults sink.old })
-        (record { bytes = K.taken sink.new; faults = K.faults sink.new }) result }
+pub fn put_line<K: Sink>(sink: &mut K, line: &[u8], how: DoorStatus) -> DoorStatus
+    ensures { PeerPutsLine how line.now
+        (sink_shown K.Sink sink.old) (sink_shown K.Sink sink.new) result }
 {
     match put_all(sink, line) {
         Ok(()) => how,
-        Err(_) => Status::SinkFailed,
+        Err(_) => DoorStatus::SinkFailed,
     }
 }
 
@@ -57,26 +59,25 @@ fn serve_open<N: Door, S: Serves<N>, K: Sink>(
     server: &mut S,
     net: &mut N,
     sink: &mut K,
-) -> Status
+) -> DoorStatus
     requires can { S.can server.old }
     ensures { IsOpenServed (record {
       stands = N.stands;
       tells = N.tells;
       waits = N.meets;
-      door = door_shown N.met N.ended N.faults N.receive_faults N.send_faults N.left N.peers;
+      door = door_shown N.Door;
       did = S.did;
       own = S.is_own;
       whole = S.is_whole;
     }) ask.now server.old net.old server.new net.new
-        (record { bytes = K.taken sink.old; faults = K.faults sink.old })
-        (record { bytes = K.taken sink.new; faults = K.faults sink.new }) result }
+        (sink_shown K.Sink sink.old) (sink_shown K.Sink sink.new) result }
 {
     match serve_door(net, server, ask.number) {
-        (DoorEnd::Failed, _) => Status::NetFailed,
+        (DoorEnd::Failed, _) => DoorStatus::NetFailed,
         (DoorEnd::Served | DoorEnd::Ended, number) => {
             let mut out = [0u8; LINE_ROOM];
-            let line = number_line(b"served ", number, &mut out);
-            put_line(sink, line, Status::Served)
+            let line = number_line(b"served ", u64::from(number), &mut out);
+            put_line(sink, line, DoorStatus::Served)
         }
     }
 }
@@ -88,22 +89,21 @@ pub fn serve_peers<N: Door, S: Serves<N>, K: Sink>(
     server: &mut S,
     net: &mut N,
     sink: &mut K,
-) -> Status
+) -> DoorStatus
     requires can { S.can server.old }
-    ensures { IsServed (record {
+    ensures { IsPeerServed (record {
       stands = N.stands;
       tells = N.tells;
       waits = N.meets;
-      door = door_shown N.met N.ended N.faults N.receive_faults N.send_faults N.left N.peers;
+      door = door_shown N.Door;
       did = S.did;
       own = S.is_own;
       whole = S.is_whole;
     }) (record { opens = N.opens; ready = N.is_ready }) ask.now server.old net.old server.new net.new
-        (record { bytes = K.taken sink.old; faults = K.faults sink.old })
-        (record { bytes = K.taken sink.new; faults = K.faults sink.new }) result }
+        (sink_shown K.Sink sink.old) (sink_shown K.Sink sink.new) result }
 {
     match net.open(ask.port) {
-        DialOut::Failed => Status::NetFailed,
+        DialOut::Failed => DoorStatus::NetFailed,
         DialOut::Up => serve_open(ask, server, net, sink),
     }
 }

@@ -1,9 +1,9 @@
 //! What the words of a user ask.
 ghost use Rattle.std.specs.Prelude.{◌≡◌, ◌≢◌, ◌≤◌, ℕ, map, string_bytes, decimal, IfSome, None};
 ghost use Rattle.vx_peers.specs.declared.words.Ask.{Ask};
-ghost use Rattle.vx_peers.specs.Asked.{spelled, IsInRange};
+ghost use Rattle.vx_peers.specs.Asked.{spelled, IsPeerInRange};
 
-use itoa::Buffer;
+use vx_text::number_within;
 
 /// What is asked.
 #[derive(Clone, Copy, PartialEq, Eq)]
@@ -15,43 +15,34 @@ pub struct Ask {
 }
 
 /// The most peers.
-const NUMBER_MAX: u32 = 1_000_000;
-
-/// The number, 1 to `most`, that a text is in decimal digits, without a leading zero.
-fn number_to(text: &str, most: u32) -> Option<u32>
-    ensures some { IfSome result (λ n. (1 ≤ n) × (n ≤ most) × (text.now ≡ decimal n)) }
-    ensures none { result ≡ None → (n : ℕ) → 1 ≤ n → n ≤ most → text.now ≢ decimal n }
-{
-    let Ok(n) = text.parse::<u32>() else {
-        return None;
-    };
-    let mut buffer = Buffer::new();
-    let is_printed = buffer.format(n).as_bytes() == text.as_bytes();
-    if is_printed && 1 <= n && n <= most {
-        Some(n)
-    } else {
-        None
-    }
-}
+const NUMBER_MAX: u64 = 1_000_000;
 
 /// A port.
 fn port_of(text: &str) -> Option<u16>
     ensures some { IfSome result (λ n. (1 ≤ n) × (n ≤ 65535) × (text.now ≡ decimal n)) }
     ensures none { result ≡ None → (n : ℕ) → 1 ≤ n → n ≤ 65535 → text.now ≢ decimal n }
 {
-    Some(number_to(text, 65535)? as u16)
+    Some(number_within(text.as_bytes(), 1, 65535)? as u16)
+}
+
+/// A number of peers.
+fn number_of(text: &str) -> Option<u32>
+    ensures some { IfSome result (λ n. (1 ≤ n) × (n ≤ NUMBER_MAX) × (text.now ≡ decimal n)) }
+    ensures none { result ≡ None → (n : ℕ) → 1 ≤ n → n ≤ NUMBER_MAX → text.now ≢ decimal n }
+{
+    Some(number_within(text.as_bytes(), 1, NUMBER_MAX)? as u32)
 }
 
 /// What words ask: `PORT N`, with a port 1 to 65,535 and N 1 to 1,000,000, in decimal digits without a leading zero. It is none where
 /// they have another form.
 pub fn ask_of(words: &[String]) -> Option<Ask>
-    ensures some { IfSome result (λ ask. IsInRange ask × (map string_bytes words.now ≡ spelled ask)) }
-    ensures none { result ≡ None → (ask : Ask) → IsInRange ask → map string_bytes words.now ≢ spelled ask }
+    ensures some { IfSome result (λ ask. IsPeerInRange ask × (map string_bytes words.now ≡ spelled ask)) }
+    ensures none { result ≡ None → (ask : Ask) → IsPeerInRange ask → map string_bytes words.now ≢ spelled ask }
 {
     let [port, number] = words else {
         return None;
     };
     let port = port_of(port.as_str())?;
-    let number = number_to(number.as_str(), NUMBER_MAX)?;
+    let number = number_of(number.as_str())?;
     Some(Ask { port, number })
 }

@@ -13,9 +13,9 @@ use Rattle.vx_plan.specs.Transfers.{same_transfer, got_of, is_got}
 use Rattle.vx_plan.specs.Plan.{Slot, This, AnyByte, Reading, Plan, done, is_stop, ends_with, fits, left_after, next_slot}
 use Rattle.vx_plan.specs.Results.{gots, last_of}
 use Rattle.vx_plan.specs.Places.{carries_data}
-use Rattle.vx_plan.specs.ProvedLaws.{same_transfer-is}
-use Rattle.vx_plan.specs.ProvedLaws.Walks.{off-stays}
-use Rattle.vx_plan.specs.ProvedLaws.Counts.{count-front-yes, count-front-no}
+use Rattle.vx_plan.proofs.Laws.{same_transfer-is}
+use Rattle.vx_plan.proofs.Laws.Walks.{off-stays}
+use Rattle.vx_plan.proofs.Laws.Counts.{count-front-yes, count-front-no}
 
 -- how many transfers of a list have no data byte, and how many have one
 abbrev pub steps : Task → List Transfer → ℕ

@@ -5,6 +5,7 @@ use Rattle.std.specs.List.{list_all}
 use Rattle.std.specs.Option.{option_map}
 use Rattle.std.proofs.lemmas.List.{map-append}
 use Rattle.std.proofs.lemmas.Bool.{false≢true, true≢false, and_from, and_parts, ne_eqb}
+use Rattle.std.proofs.Math.Bool.{and-true, and-false}
 use Rattle.std.proofs.lemmas.Bool.Decides.{nat_tests}
 use Rattle.std.proofs.lemmas.Option.{slice_get-map, slice_get_within, slice_get_past, slice_get-get_or, same_Some}
 use Rattle.vx_calls.specs.declared.limits.TheConstants.{READ_MAX}
@@ -24,7 +25,7 @@ use Rattle.vx_plan.specs.Tasks.{ended_poll, secondary_part, spd, unt, unl, mta, 
 use Rattle.vx_plan.specs.Results.{last_of, last_got}
 use Rattle.vx_plan.specs.Places.{carries_data, Reaches, IsNextMove, slot_wanted}
 use Rattle.vx_plan.specs.Moves.{IsStep, IsMoveAt, move_at, is_read_over, poll_tail, tail_after}
-use Rattle.vx_plan.specs.ProvedLaws.Walks.{off-stays}
+use Rattle.vx_plan.proofs.Laws.Walks.{off-stays}
 use Rattle.vx_plan.proofs.Fronts.{steps, moves, all_fixed, Within, Beyond, walk-front, walk-done, is_data, walk-data, walk-read, steps-data, moves-data}
 
 -- ---- transfers without data bytes
@@ -181,23 +182,15 @@ next-pass p place move is bytes ts left r =
 
 -- ---- data bytes
 
-and-true : (b : Bool) → b ≡ (b && true)
-and-true true = refl
-and-true false = refl
-
-and-false : (b : Bool) → false ≡ (b && false)
-and-false true = refl
-and-false false = refl
-
 -- the byte at each place of a write, with END on the last one or not
 pub puts-at : (end : Bool) (bytes : List ℕ) (n : ℕ) → n < length bytes
     → slice_get (puts end bytes) n ≡ Some (Put (slice_index bytes n) (end && (n + 1 == length bytes)))
 puts-at end [] n h = absurd (omega arith)
-puts-at end (b ∷ []) zero h = ap (λ e. Some (Put b e)) (and-true end)
+puts-at end (b ∷ []) zero h = ap (λ e. Some (Put b e)) (sym (and-true end))
 puts-at end (b ∷ []) (suc n) h = absurd (omega arith)
 puts-at end (b ∷ c ∷ bs) zero h =
     let more : (1 == suc (suc (length bs))) ≡ false = grind (arith, nat_tests) in
-    ap (λ e. Some (Put b e)) (and-false end ∙ ap (λ e. end && e) (sym more))
+    ap (λ e. Some (Put b e)) (sym (and-false end) ∙ ap (λ e. end && e) (sym more))
 puts-at end (b ∷ c ∷ bs) (suc n) h =
     let same : (n + 1 == suc (length bs)) ≡ (suc n + 1 == suc (suc (length bs))) = grind (arith, nat_tests) in
     puts-at end (c ∷ bs) n (omega arith) ∙ ap (λ e. Some (Put (slice_index (c ∷ bs) n) (end && e))) same

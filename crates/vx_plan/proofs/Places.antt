@@ -16,7 +16,7 @@ use Rattle.vx_plan.specs.declared.tasks.Place.{Place}
 use Rattle.vx_plan.specs.Plan.{Slot, This, AnyByte, Reading, Plan, ends_with, fits, left_after_one, left_after, stand_of}
 use Rattle.vx_plan.specs.Tasks.{ended_poll, secondary_part, unl, mla, mta, listener, talker, puts, just, reading, command_list, remote_list, plan}
 use Rattle.vx_plan.specs.Places.{carries_data}
-use Rattle.vx_plan.specs.ProvedLaws.Walks.{off-stays}
+use Rattle.vx_plan.proofs.Laws.Walks.{off-stays}
 use Rattle.std.specs.List.{list_all}
 use Rattle.std.proofs.lemmas.List.Sums.{sum_by-append, count_by-le-length}
 use Rattle.std.proofs.lemmas.List.{map-append}
@@ -25,11 +25,11 @@ use Rattle.vx_plan.specs.Results.{gots, is_put, puts_made}
 use Rattle.vx_plan.specs.Transfers.{is_got}
 use Rattle.vx_plan.specs.Plan.{next_slot, Whole}
 use Rattle.vx_plan.specs.Laws.{WantsNothingLaw, SmallPlaceLaw, ReadMovedLaw, WriteMovedLaw}
-use Rattle.vx_plan.specs.ProvedLaws.{same_transfer-is}
-use Rattle.vx_plan.specs.ProvedLaws.Counts.{count-front, count-front-yes, count-front-no, length-puts}
+use Rattle.vx_plan.proofs.Laws.{same_transfer-is}
+use Rattle.vx_plan.proofs.Laws.Counts.{count-front, count-front-yes, count-front-no, length-puts}
 use Rattle.vx_plan.proofs.Fronts.{steps, moves, moves-data, moves-other, got-data, all_fixed, is_data}
 use Rattle.vx_plan.proofs.Nexts.{is_line, all_lines, is_raw, lines-fixed, lines-front, lines-command, lines-remote, puts-data, raw-data}
-use Rattle.vx_plan.specs.ProvedLaws.Turns.{Clean, slot_bad, clean-left, clean-append, IsSome, most_of, room-one, room-plan, length-ended, length-secondary}
+use Rattle.vx_plan.proofs.Laws.Turns.{Clean, slot_bad, clean-left, clean-append, IsSome, most_of, room-one, room-plan, length-ended, length-secondary}
 
 -- ---- what is moved
 

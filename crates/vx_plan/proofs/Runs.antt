@@ -26,10 +26,10 @@ use Rattle.vx_plan.specs.Places.{carries_data, Reaches, IsNextMove}
 use Rattle.vx_plan.specs.Runs.{wants_put, wants_get, DataLeft, IsDataLeft}
 use Rattle.vx_plan.specs.Moves.{puts_left, gets_left}
 use Rattle.vx_plan.specs.Laws.{RunLaw, DataBoundLaw}
-use Rattle.vx_plan.specs.ProvedLaws.{left_after-append}
-use Rattle.vx_plan.specs.ProvedLaws.Walks.{off-stays}
-use Rattle.vx_plan.specs.ProvedLaws.Counts.{length-puts}
-use Rattle.vx_plan.specs.ProvedLaws.Turns.{room, room-left, room-plan}
+use Rattle.vx_plan.proofs.Laws.{left_after-append}
+use Rattle.vx_plan.proofs.Laws.Walks.{off-stays}
+use Rattle.vx_plan.proofs.Laws.Counts.{length-puts}
+use Rattle.vx_plan.proofs.Laws.Turns.{room, room-left, room-plan}
 use Rattle.vx_plan.proofs.Fronts.{steps, moves, Within, Beyond, walk-front, walk-done, is_data, fits-data, moves-data, front_after, one_less, byte_after}
 use Rattle.vx_plan.proofs.Nexts.{is_line, all_lines, front, lines-fixed, lines-front, moves-of, puts-data, reading_of, reading-some}
 

@@ -8,7 +8,6 @@ pub mod Runs
 pub mod Roles
 pub mod Moves
 pub mod Laws
-pub mod ProvedLaws
 pub use Rattle.vx_calls.specs.Reply
 pub use Rattle.vx_calls.specs.Target
 pub use Rattle.vx_488.specs.Heard

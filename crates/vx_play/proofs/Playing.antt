@@ -15,44 +15,45 @@ use Rattle.vx_script.specs.declared.Step.{Step}
 use Rattle.vx_script.specs.Grammar.{reading}
 use Rattle.vx_script.specs.Timed.{Timed, Blank, DoesAt, Strange, timed}
 use Rattle.vx_script.specs.Reads.{Reads, ReadsAt}
-use Rattle.vx_bench.specs.Script.{commands, commands_read, commands_timed}
-use Rattle.vx_bench.proofs.Scripts.{doing}
+use Rattle.vx_setup.specs.Script.{commands, commands_read, commands_timed}
+use Rattle.vx_setup.proofs.Laws.Scripts.{doing}
 use Rattle.vx_trace.specs.Text.{HasRanges, line_text, line_text2}
-use Rattle.vx_bench.specs.declared.stops.Stop.{Stop}
-use Rattle.vx_bench.specs.declared.stops.Stop.TheVariants as stops
+use Rattle.vx_setup.specs.declared.stops.Refusal.{Refusal}
+use Rattle.vx_setup.specs.declared.stops.Refusal.TheVariants as stops
 use Rattle.vx_text.specs.Ends.{End}
 use Rattle.vx_text.specs.Writing.{StopsIn}
 use Rattle.vx_run.specs.Item.{Item}
 use Rattle.vx_run.specs.RunText.{IsPrintable, item_text}
-use Rattle.vx_player.specs.declared.note.Made.{Made}
+use Rattle.vx_player.specs.declared.note.StepMade.{StepMade}
 use Rattle.vx_play.specs.declared.run.LineEnd.{LineEnd}
 use Rattle.vx_play.specs.declared.run.LineEnd.TheVariants as line_end
 use Rattle.vx_player.specs.Stage.{Stage, refusal}
-use Rattle.vx_player.specs.Play.{Takes}
+use Rattle.vx_player.specs.Play.{PlayerTakes}
 use Rattle.vx_player.specs.PlayerState.{PlayerState}
 use Rattle.vx_player.specs.Printing.{made_text, HasMadeRanges}
 use Rattle.vx_player.specs.Upholding.{ArePrintable}
-use Rattle.vx_player.specs.Standing.{Stands, TakesTo, StopsFor, WantsMemory, made_lines2}
+use Rattle.vx_player.specs.Standing.{PlayerStands, TakesTo, made_lines2}
+use Rattle.vx_player.specs.Wanting.{StopsFor, WantsMemory}
 use Rattle.vx_play.specs.StepPlayed.{IsTaken, IsWritten, IsCutShort, EndsStep}
-use Rattle.vx_play.specs.LinePlayed.{TakesAll, IsFrontOf, EndsLine}
+use Rattle.vx_play.specs.LinePlayed.{TakesAll, IsFrontOf, PlayEndsLine}
 
 -- ---- one step
 
 -- the text of what a step made is that of its item
-text-of : (v : Version) (stage : Stage) (command : Command) (made : Made) (player : PlayerState) → (t : TakesTo stage command made player)
+text-of : (v : Version) (stage : Stage) (command : Command) (made : StepMade) (player : PlayerState) → (t : TakesTo stage command made player)
     → made_text v player made ≡ item_text v t.item
 text-of version.One stage command made player t = ap (flat_map line_text) (sym t.lines_are)
 text-of version.Two stage command made player t =
     ap (λ m. flat_map (line_text2 m) (made_lines2 player made)) (sym t.moment_is) ∙ ap (flat_map (line_text2 t.item.moment)) (sym t.lines2_are)
 
 -- the item of a step whose lines are in their ranges can be printed
-item-printable : (stage : Stage) (command : Command) (made : Made) (player : PlayerState) (t : TakesTo stage command made player) → HasMadeRanges player made
+item-printable : (stage : Stage) (command : Command) (made : StepMade) (player : PlayerState) (t : TakesTo stage command made player) → HasMadeRanges player made
     → All IsPrintable (t.item ∷ [])
 item-printable stage command made player t ranges =
     All-cons IsPrintable t.item []
     (record { moment = subst (λ m. m < 2 ^ 64) (sym t.moment_is) ranges.moment; lines = subst (All HasRanges) (sym t.lines2_are) ranges.lines }) (All-nil IsPrintable)
 
-abbrev taken : (v : Version) (stage : Stage) (command : Command) (made : Made) (player : PlayerState) → TakesTo stage command made player
+abbrev taken : (v : Version) (stage : Stage) (command : Command) (made : StepMade) (player : PlayerState) → TakesTo stage command made player
     → (v ≡ version.Two → HasMadeRanges player made) → IsTaken v stage command
 taken v stage command made player t ranges = record {
   item = t.item;
@@ -63,7 +64,7 @@ taken v stage command made player t ranges = record {
 }
 
 -- a step that was taken, and its text written
-pub step-written : (v : Version) (stage : Stage) (command : Command) (made : Made) (player : PlayerState) (before after : End) → TakesTo stage command made player
+pub step-written : (v : Version) (stage : Stage) (command : Command) (made : StepMade) (player : PlayerState) (before after : End) → TakesTo stage command made player
     → (v ≡ version.Two → HasMadeRanges player made) → Appends before.bytes after.bytes (made_text v player made) → IsWritten v stage command player before after
 step-written v stage command made player before after t ranges put = record {
   taken = taken v stage command made player t ranges;
@@ -72,7 +73,7 @@ step-written v stage command made player before after t ranges put = record {
 }
 
 -- and one at whose text the sink failed
-pub step-cut : (v : Version) (stage : Stage) (command : Command) (made : Made) (player : PlayerState) (before after : End) → TakesTo stage command made player
+pub step-cut : (v : Version) (stage : Stage) (command : Command) (made : StepMade) (player : PlayerState) (before after : End) → TakesTo stage command made player
     → (v ≡ version.Two → HasMadeRanges player made) → StopsIn before after (made_text v player made) → IsCutShort v stage command before after
 step-cut v stage command made player before after t ranges put = record {
   taken = taken v stage command made player t ranges;
@@ -80,11 +81,11 @@ step-cut v stage command made player before after t ranges put = record {
 }
 
 -- one that is refused, and one that wants memory
-pub step-refused : (stage : Stage) (command : Command) (stop : Stop) (why : Cause) (bytes : Option (List ℕ)) → StopsFor stage command stop → stop ≡ stops.Refused why
+pub step-refused : (stage : Stage) (command : Command) (stop : Refusal) (why : Cause) (bytes : Option (List ℕ)) → StopsFor stage command stop → stop ≡ stops.Refused why
     → (refusal stage command ≡ Some why) × Appends bytes bytes []
 step-refused stage command stop why bytes h is = (subst (StopsFor stage command) is h, Appends-nil bytes)
 
-pub step-wants : (stage : Stage) (command : Command) (stop : Stop) (bytes : Option (List ℕ)) → StopsFor stage command stop → stop ≡ stops.NoMemory
+pub step-wants : (stage : Stage) (command : Command) (stop : Refusal) (bytes : Option (List ℕ)) → StopsFor stage command stop → stop ≡ stops.NoMemory
     → WantsMemory stage command × Appends bytes bytes []
 step-wants stage command stop bytes h is = (subst (StopsFor stage command) is h, Appends-nil bytes)
 
@@ -97,11 +98,11 @@ one-text v item = sym (append-nil (item_text v item))
 -- Commands in front that make no text, and the step behind them.
 module _ (v : Version) (said : Option (List Command)) (front : List Command) (command : Command) (says : said ≡ Some (front ++ command ∷ [])) (stage mid : Stage) (quiet : List Item)
     (took : TakesAll stage front quiet mid) (silent : flat_map (item_text v) quiet ≡ []) (plain : ArePrintable v quiet) where
-  all-taken : (item : Item) (after : Stage) → item.command ≡ command → Takes mid item after → TakesAll stage (front ++ command ∷ []) (quiet ++ item ∷ []) after
+  all-taken : (item : Item) (after : Stage) → item.command ≡ command → PlayerTakes mid item after → TakesAll stage (front ++ command ∷ []) (quiet ++ item ∷ []) after
   all-taken item after is takes = by stage front quiet took where
     by : (before : Stage) (front : List Command) (quiet : List Item) → TakesAll before front quiet mid
         → TakesAll before (front ++ command ∷ []) (quiet ++ item ∷ []) after
-    by before [] [] same = (is, after, subst (λ s. Takes s item after) same takes, refl)
+    by before [] [] same = (is, after, subst (λ s. PlayerTakes s item after) same takes, refl)
     by before [] (i ∷ items) h = absurd h
     by before (c ∷ commands) [] h = absurd h
     by before (c ∷ commands) (i ∷ items) (first, next, took, rest) = (first, next, took, by next commands items rest)
@@ -116,7 +117,7 @@ module _ (v : Version) (said : Option (List Command)) (front : List Command) (co
     text-behind v (i ∷ items) item = ap (λ xs. item_text v i ++ xs) (text-behind v items item) ∙ sym (append_assoc (item_text v i) (flat_map (item_text v) items) (item_text v item))
 
   pub line-ended : (player : PlayerState) (before after : End) (result : LineEnd) → EndsStep v command mid player before after result
-      → EndsLine v said stage player before after result
+      → PlayEndsLine v said stage player before after result
   line-ended player before after line_end.Played h = record {
     commands = front ++ command ∷ [];
     said_is = says;
@@ -164,14 +165,14 @@ module _ (v : Version) (said : Option (List Command)) (front : List Command) (co
 
 -- a line of one step
 pub plain-ended : (said : Option (List Command)) (command : Command) (stage : Stage) (player : PlayerState) (before after : End) (result : LineEnd)
-    → said ≡ Some (command ∷ []) → EndsStep version.One command stage player before after result → EndsLine version.One said stage player before after result
+    → said ≡ Some (command ∷ []) → EndsStep version.One command stage player before after result → PlayEndsLine version.One said stage player before after result
 plain-ended said command stage player before after result says ends =
     line-ended version.One said [] command says stage stage [] refl refl (λ is. All-nil IsPrintable) player before after result ends
 
 -- a line of a moment and a step
-pub timed-ended : (said : Option (List Command)) (moment : ℕ) (command : Command) (made : Made) (stage : Stage) (mid player : PlayerState) (before after : End) (result : LineEnd)
+pub timed-ended : (said : Option (List Command)) (moment : ℕ) (command : Command) (made : StepMade) (stage : Stage) (mid player : PlayerState) (before after : End) (result : LineEnd)
     → said ≡ Some (At moment ∷ command ∷ []) → TakesTo stage (At moment) made mid → made_lines2 mid made ≡ [] → mid.moment < 2 ^ 64
-    → ((s : Stage) → Stands mid s → EndsStep version.Two command s player before after result) → EndsLine version.Two said stage player before after result
+    → ((s : Stage) → PlayerStands mid s → EndsStep version.Two command s player before after result) → PlayEndsLine version.Two said stage player before after result
 timed-ended said moment command made stage mid player before after result says t quiet timely ends =
     line-ended version.Two said (At moment ∷ []) command says stage t.after (t.item ∷ []) (t.command_is, t.after, t.takes, refl)
     (append-nil (item_text version.Two t.item) ∙ ap (flat_map (line_text2 t.item.moment)) (t.lines2_are ∙ quiet))
@@ -179,8 +180,8 @@ timed-ended said moment command made stage mid player before after result says t
     player before after result (ends t.after t.stands)
 
 -- a line that says nothing
-pub nothing-ended : (v : Version) (said : Option (List Command)) (stage : Stage) (player : PlayerState) (ends : End) → said ≡ Some [] → Stands player stage
-    → EndsLine v said stage player ends ends line_end.Played
+pub nothing-ended : (v : Version) (said : Option (List Command)) (stage : Stage) (player : PlayerState) (ends : End) → said ≡ Some [] → PlayerStands player stage
+    → PlayEndsLine v said stage player ends ends line_end.Played
 nothing-ended v said stage player ends says stands = record {
   commands = [];
   said_is = says;
@@ -191,7 +192,7 @@ nothing-ended v said stage player ends says stands = record {
 
 -- a line outside the grammar
 pub outside-ended : (v : Version) (said : Option (List Command)) (stage : Stage) (player : PlayerState) (ends : End) → said ≡ None
-    → EndsLine v said stage player ends ends (line_end.Refused cause.Form)
+    → PlayEndsLine v said stage player ends ends (line_end.Refused cause.Form)
 outside-ended v said stage player ends says = inl (record { outside = says; form = refl; unwritten = Appends-nil ends.bytes })
 
 -- ---- what was read of a line
@@ -212,9 +213,9 @@ timed-said line found moment step reads some =
 
 -- a line of version 2 that is refused is outside the grammar
 pub strange-ended : (line : List ℕ) (why : Cause) (stage : Stage) (player : PlayerState) (ends : End) → ReadsAt (timed line) (Err why)
-    → EndsLine version.Two (commands version.Two line) stage player ends ends (line_end.Refused why)
+    → PlayEndsLine version.Two (commands version.Two line) stage player ends ends (line_end.Refused why)
 strange-ended line why stage player ends reads = by (timed line) reads where
-  by : (says : Timed) → ReadsAt says (Err why) → EndsLine version.Two (commands_timed says) stage player ends ends (line_end.Refused why)
+  by : (says : Timed) → ReadsAt says (Err why) → PlayEndsLine version.Two (commands_timed says) stage player ends ends (line_end.Refused why)
   by Blank reads = absurd reads
   by (DoesAt moment command) reads = absurd reads
   by Strange reads = inl (record { outside = refl; form = reads; unwritten = Appends-nil ends.bytes })

@@ -6,9 +6,9 @@ use Rattle.vx_script.specs.declared.Cause.{Cause}
 use Rattle.vx_script.specs.Cause.{cause_word}
 use Rattle.vx_trace.specs.Output.{FaultLine}
 use Rattle.vx_trace.specs.Text.{line_text}
-use Rattle.vx_bench.specs.declared.stops.Stop.{Stop}
-use Rattle.vx_bench.specs.declared.stops.Stop.TheVariants as stop
-use Rattle.vx_bench.specs.Rack.{SpareShown}
+use Rattle.vx_setup.specs.declared.stops.Refusal.{Refusal}
+use Rattle.vx_setup.specs.declared.stops.Refusal.TheVariants as stop
+use Rattle.vx_setup.specs.Rack.{SpareShown}
 use Rattle.vx_text.specs.Ends.{End}
 use Rattle.vx_text.specs.Writing.{StopsIn}
 use Rattle.vx_gen.specs.declared.steps.TheConstants.{HEAD_STEPS}
@@ -16,30 +16,30 @@ use Rattle.vx_gen.specs.declared.telling.Counts.{Counts}
 use Rattle.vx_gen.specs.declared.words.Ask.{Ask}
 use Rattle.vx_gen.specs.SummaryText.{title_text, summary_text}
 use Rattle.vx_player.specs.declared.made_run.Halt.{Halt}
-use Rattle.vx_play.specs.declared.run.Status.{Status}
-use Rattle.vx_play.specs.declared.run.Status.TheVariants as status
+use Rattle.vx_play.specs.declared.run.PlayStatus.{PlayStatus}
+use Rattle.vx_play.specs.declared.run.PlayStatus.TheVariants as status
 use Rattle.vx_run.specs.Item.{Fault, last_line}
 use Rattle.vx_player.specs.Stage.{refusal}
 use Rattle.vx_player.specs.PlayerState.{PlayerState}
-use Rattle.vx_player.specs.Standing.{StopsFor}
-use Rattle.vx_player.specs.Generated.{IsRun, IsHalted, counts_of}
+use Rattle.vx_player.specs.Wanting.{StopsFor}
+use Rattle.vx_player.specs.Generated.{IsPlayerRun, IsHalted, counts_of}
 use Rattle.vx_gen.specs.Asked.{IsInRange, spelled}
 use Rattle.vx_play.specs.Ended.{PutsLast}
-use Rattle.vx_play.specs.Outcome.{Ends, IsUnread, IsOutcome, usage_line}
-use Rattle.vx_play.specs.RunEnded.{EndsRun}
+use Rattle.vx_play.specs.Outcome.{PlayEnds, IsUnread, IsOutcome, play_usage_line}
+use Rattle.vx_play.specs.RunEnded.{PlayEndsRun}
 use Rattle.vx_play.specs.StepsEnded.{EndsSteps}
 use Rattle.vx_player.specs.Counting.{Running, HaltsIn}
-use Rattle.vx_player.proofs.Halting.{driven-halts}
-use Rattle.vx_player.proofs.Upholding.{plays-uphold}
-use Rattle.vx_play.proofs.WholePlay.{stops-behind}
+use Rattle.vx_player.proofs.Laws.Halting.{driven-halts}
+use Rattle.vx_player.proofs.Laws.Upholding.{plays-uphold}
+use Rattle.vx_text.proofs.Laws.Moved.{stops-behind}
 
 -- ---- how a run ends
 
 -- a run that was made whole
 pub run-whole : (ask : Ask) (own rack : List SpareShown) (count : ℕ) (player : PlayerState) (counts : Counts) → own ≡ rack
-    → (r : Running ask.seed own (HEAD_STEPS + 2 * ask.steps) player counts) → IsRun ask rack r.items × (counts ≡ counts_of r.items)
+    → (r : Running ask.seed own (HEAD_STEPS + 2 * ask.steps) player counts) → IsPlayerRun ask rack r.items × (counts ≡ counts_of r.items)
 run-whole ask own rack count player counts alike r = (
-  subst (λ x. IsRun ask x r.items) alike
+  subst (λ x. IsPlayerRun ask x r.items) alike
       (record { end = r.stage; front = r.front; upholds = plays-uphold own r.front.steps r.items r.stage r.front.driven }),
   r.counted,
 )
@@ -66,12 +66,12 @@ run-refused ask own rack halt fault alike h is line =
     })
 
 -- its last lines are written, or the sink failed in them
-pub whole-put : (ask : Ask) (own rack : List SpareShown) (player : PlayerState) (counts : Counts) (line : List ℕ) (before after : End) (result : Status) → own ≡ rack
+pub whole-put : (ask : Ask) (own rack : List SpareShown) (player : PlayerState) (counts : Counts) (line : List ℕ) (before after : End) (result : PlayStatus) → own ≡ rack
     → Running ask.seed own (HEAD_STEPS + 2 * ask.steps) player counts → line ≡ summary_text counts → PutsLast status.Done line before after result
     → EndsSteps ask rack before after result
 whole-put ask own rack player counts line before after result alike r line_is put = ending put
   where
-    whole : IsRun ask rack r.items × (counts ≡ counts_of r.items)
+    whole : IsPlayerRun ask rack r.items × (counts ≡ counts_of r.items)
     whole = run-whole ask own rack 0 player counts alike r
 
     text_is : line ≡ summary_text (counts_of r.items)
@@ -81,7 +81,7 @@ whole-put ask own rack player counts line before after result alike r line_is pu
     ending (inl (is, taken)) = subst (EndsSteps ask rack before after) (sym is) (r.items, whole.0, subst (Appends before.bytes after.bytes) text_is taken)
     ending (inr (is, stops)) = subst (EndsSteps ask rack before after) (sym is) (inl (r.items, whole.0, subst (StopsIn before after) text_is stops))
 
-pub fault-put : (ask : Ask) (own rack : List SpareShown) (halt : Halt) (fault : Fault) (before after : End) (result : Status) → own ≡ rack
+pub fault-put : (ask : Ask) (own rack : List SpareShown) (halt : Halt) (fault : Fault) (before after : End) (result : PlayStatus) → own ≡ rack
     → HaltsIn ask.seed own halt → halt.stop ≡ stop.Refused fault.cause → fault.line ≡ halt.number
     → PutsLast status.Fault (last_line (Some fault)) before after result → EndsSteps ask rack before after result
 fault-put ask own rack halt fault before after result alike h is line put = ending put
@@ -94,7 +94,7 @@ fault-put ask own rack halt fault before after result alike h is line put = endi
     ending (inr (is, stops)) = subst (EndsSteps ask rack before after) (sym is) (inr (h.items, fault, halted, stops))
 
 -- a step that isn't taken ends the run
-pub stop-put : (ask : Ask) (own rack : List SpareShown) (number : ℕ) (why : Stop) (before after : End) (result : Status) → own ≡ rack
+pub stop-put : (ask : Ask) (own rack : List SpareShown) (number : ℕ) (why : Refusal) (before after : End) (result : PlayStatus) → own ≡ rack
     → HaltsIn ask.seed own (record { number = number; stop = why })
     → ((cause : Cause) → why ≡ stop.Refused cause → PutsLast status.Fault (last_line (Some (record { line = number; cause = cause }))) before after result)
     → (why ≡ stop.NoMemory → (result ≡ status.NoMemory) × (after ≡ before)) → EndsSteps ask rack before after result
@@ -105,15 +105,15 @@ stop-put ask own rack number stop.NoMemory before after result alike h refused m
     subst (EndsSteps ask rack before after) (sym ended.0) ended.1
 
 -- the line of a step that is refused
-pub refused-line : (why : Stop) (found cause : Cause) (number : ℕ) (line word : List ℕ) → why ≡ stop.Refused found → why ≡ stop.Refused cause → word ≡ cause_word found
+pub refused-line : (why : Refusal) (found cause : Cause) (number : ℕ) (line word : List ℕ) → why ≡ stop.Refused found → why ≡ stop.Refused cause → word ≡ cause_word found
     → line ≡ line_text (FaultLine number word) → line ≡ last_line (Some (record { line = number; cause = cause }))
 refused-line why found cause number line word first second word_is line_is =
     let same : found ≡ cause = cc in
     line_is ∙ ap (λ w. line_text (FaultLine number w)) (word_is ∙ ap cause_word same)
 
 -- behind its first line a run ends so
-pub run-ended : (ask : Ask) (rack : List SpareShown) (before mid after : End) (result : Status) → Appends before.bytes mid.bytes (title_text ask) → before.faults ≤ mid.faults
-    → EndsSteps ask rack mid after result → EndsRun ask rack before after result
+pub run-ended : (ask : Ask) (rack : List SpareShown) (before mid after : End) (result : PlayStatus) → Appends before.bytes mid.bytes (title_text ask) → before.faults ≤ mid.faults
+    → EndsSteps ask rack mid after result → PlayEndsRun ask rack before after result
 run-ended ask rack before mid after status.Done title counted (items, run, taken) =
     (items, run, Appends-trans before.bytes mid.bytes after.bytes _ _ title taken)
 run-ended ask rack before mid after status.Fault title counted (items, fault, halted, taken) =
@@ -131,8 +131,8 @@ run-ended ask rack before mid after status.TooLong title counted h = absurd h
 -- ---- how the program ends
 
 -- words that ask for a run
-pub run-outcome : (words : List (List ℕ)) (rack : List SpareShown) (ends : Ends) (ask : Ask) (how : Status) → IsInRange ask → words ≡ spelled ask
-    → ends.source_after ≡ ends.source → EndsRun ask rack ends.sink ends.sink_after how → IsOutcome words rack ends how
+pub run-outcome : (words : List (List ℕ)) (rack : List SpareShown) (ends : PlayEnds) (ask : Ask) (how : PlayStatus) → IsInRange ask → words ≡ spelled ask
+    → ends.source_after ≡ ends.source → PlayEndsRun ask rack ends.sink ends.sink_after how → IsOutcome words rack ends how
 run-outcome words rack ends ask status.Done range are unread ended = inr (inr (record { ask = ask; in_range = range; words_are = are; unread = unread; ended = ended }))
 run-outcome words rack ends ask status.Fault range are unread ended = inr (inr (record { ask = ask; in_range = range; words_are = are; unread = unread; ended = ended }))
 run-outcome words rack ends ask status.SinkFailed range are unread ended =
@@ -144,7 +144,7 @@ run-outcome words rack ends ask status.SourceFailed range are unread ended = abs
 run-outcome words rack ends ask status.TooLong range are unread ended = absurd ended
 
 -- words of no command
-pub usage-outcome : (words : List (List ℕ)) (rack : List SpareShown) (ends : Ends) (result : Status) → IsUnread words ends
-    → PutsLast status.Usage usage_line ends.sink ends.sink_after result → IsOutcome words rack ends result
+pub usage-outcome : (words : List (List ℕ)) (rack : List SpareShown) (ends : PlayEnds) (result : PlayStatus) → IsUnread words ends
+    → PutsLast status.Usage play_usage_line ends.sink ends.sink_after result → IsOutcome words rack ends result
 usage-outcome words rack ends result unread (inl (is, taken)) = subst (IsOutcome words rack ends) (sym is) (unread, taken)
 usage-outcome words rack ends result unread (inr (is, stops)) = subst (IsOutcome words rack ends) (sym is) (inl (unread, stops))

@@ -1,39 +1,40 @@
 -- Steps of playing a script line by line.
-use Rattle.std.proofs.Common.{◌≡◌, ℕ, ◌+◌, ◌≤◌, map, List, [], ◌∷◌, ◌++◌, length, Option, Some, None, IsSome, refl, ap, sym, subst, ◌∙◌, inl, inr, ◌⊎◌, arith, length-append, append-nil}
+use Rattle.std.proofs.Common.{◌≡◌, ℕ, ◌+◌, ◌≤◌, map, List, [], ◌∷◌, ◌++◌, Option, Some, None, IsSome, refl, ap, sym, subst, ◌∙◌, inl, inr, ◌⊎◌, arith, append-nil}
 use Rattle.std.specs.List.{flat_map}
 use Rattle.std.proofs.lemmas.List.{append_assoc}
 use Rattle.std.proofs.lemmas.List.Elements.{All-append, All-nil}
 use Rattle.std.proofs.lemmas.Grind.{flat_map-append}
-use Rattle.std.proofs.Math.Seq.{take-append-add}
 use Rattle.std.specs.Io.KnownBytes.{Appends}
 use Rattle.std.proofs.KnownBytes.{Appends-trans}
-use Rattle.vx_io_traits.specs.ProvedLaws.{rose_earlier}
+use Rattle.vx_text.proofs.Laws.Moved.{stops-behind}
 use Rattle.vx_script.specs.declared.Cause.{Cause}
 use Rattle.vx_script.specs.declared.Version.{Version}
 use Rattle.vx_script.specs.Command.{Command}
 use Rattle.vx_play.specs.declared.run.TheConstants.{SCRIPT_MAX}
-use Rattle.vx_play.specs.declared.run.Status.{Status}
-use Rattle.vx_play.specs.declared.run.Status.TheVariants as status
+use Rattle.vx_play.specs.declared.run.PlayStatus.{PlayStatus}
+use Rattle.vx_play.specs.declared.run.PlayStatus.TheVariants as status
 use Rattle.vx_text.specs.Ends.{End}
 use Rattle.vx_text.specs.Reading.{GivesAll, GivesTooMuch}
 use Rattle.vx_text.specs.Writing.{StopsIn}
-use Rattle.vx_bench.specs.Script.{Step, Script, script, script_by, script_from, commands, behind_steps}
+use Rattle.vx_setup.specs.Script.{Step, Script, script, script_by, script_from, commands, behind_steps}
 use Rattle.vx_text.specs.TextLines.{lines}
 use Rattle.vx_run.specs.Item.{Item, Fault, last_line}
 use Rattle.vx_run.specs.RunText.{IsPrintable, item_text, head_text, text}
-use Rattle.vx_bench.specs.Rack.{SpareShown}
+use Rattle.vx_setup.specs.Rack.{SpareShown}
 use Rattle.vx_player.specs.Stage.{Stage, beginning, refusal}
 use Rattle.vx_player.specs.Play.{Plays}
 use Rattle.vx_player.specs.Upholding.{ArePrintable}
 use Rattle.vx_player.specs.PlayerState.{PlayerState}
-use Rattle.vx_player.specs.Standing.{Stands, WantsMemory}
-use Rattle.vx_play.specs.LinePlayed.{TakesAll, IsPlayed, IsCut, IsBad, IsFrontOf, IsTurnedDown, IsWanting}
+use Rattle.vx_player.specs.Standing.{PlayerStands}
+use Rattle.vx_player.specs.Wanting.{WantsMemory}
+use Rattle.vx_play.specs.LinePlayed.{TakesAll, IsPlayed, IsCut, IsPlayBad, IsFrontOf, IsTurnedDown, IsWanting}
 use Rattle.vx_play.specs.Ended as ended
-use Rattle.vx_play.specs.Ended.{UnderWay, IsFront, IsShort, PutsLast, EndsScript, version_in}
-use Rattle.vx_play.specs.Outcome.{Ends, IsOutcome, ReadsTooMuch, EndsLifted, order_of, form_line, long_line}
+use Rattle.vx_play.specs.Ended.{IsFront, IsShort, PutsLast, EndsScript, version_in}
+use Rattle.vx_play.specs.UnderWay.{PlayUnderWay}
+use Rattle.vx_play.specs.Outcome.{PlayEnds, IsOutcome, ReadsTooMuch, EndsLifted, order_of, form_line, play_long_line}
 use Rattle.vx_play.specs.declared.run.Order.TheVariants as order
 use Rattle.vx_lift.specs.Lifted.{lifted, strange_line}
-use Rattle.vx_player.proofs.Upholding.{plays-uphold}
+use Rattle.vx_player.proofs.Laws.Upholding.{plays-uphold}
 
 -- the text of more items
 text_more : (v : Version) (items more : List Item) → text v (items ++ more) ≡ text v items ++ flat_map (item_text v) more
@@ -77,26 +78,14 @@ next_line t rest line behind v count steps said front cut says =
     front ∙ ap (λ ls. behind_steps steps (script_from v (count + 1) ls)) cut
     ∙ ap (λ o. behind_steps steps (script_by (count + 1) o (script_from v (count + 1 + 1) (lines behind)))) says
 
--- the sink failed in a text behind one that it took
-pub stops-behind : (before mid after : End) (xs ys : List ℕ) → Appends before.bytes mid.bytes xs → before.faults ≤ mid.faults → StopsIn mid after ys → StopsIn before after (xs ++ ys)
-stops-behind before mid after xs ys taken counted stops =
-    let len = length-append xs ys in
-    let within : stops.count ≤ length ys = stops.within in
-    record {
-      rose = rose_earlier before.faults mid.faults after.faults counted stops.rose;
-      count = length xs + stops.count;
-      within = omega arith;
-      taken = subst (Appends before.bytes after.bytes) (sym (take-append-add xs ys stops.count)) (Appends-trans before.bytes mid.bytes after.bytes _ _ taken stops.taken);
-    }
-
 -- nothing more was written
 kept : (before mid after : Option (List ℕ)) (xs : List ℕ) → Appends before mid xs → Appends mid after [] → Appends before after xs
 kept before mid after xs taken none = subst (Appends before after) (append-nil xs) (Appends-trans before mid after _ _ taken none)
 
 -- a play begins
 pub begun : (t rest : List ℕ) (rack : List SpareShown) (v : Version) (count : ℕ) (player : PlayerState) (before after : End) → v ≡ version_in t
-    → script t ≡ script_from v (count + 1) (lines rest) → Stands player (beginning rack) → Appends before.bytes after.bytes (head_text v) → before.faults ≤ after.faults
-    → UnderWay t rack v rest count player before after
+    → script t ≡ script_from v (count + 1) (lines rest) → PlayerStands player (beginning rack) → Appends before.bytes after.bytes (head_text v) → before.faults ≤ after.faults
+    → PlayUnderWay t rack v rest count player before after
 begun t rest rack v count player before after is front stands put counted = record {
   steps = [];
   items = [];
@@ -127,9 +116,9 @@ head-cut t rack v before after is stops = (
 
 -- a play goes on behind a line that was played
 pub goes-on : (t : List ℕ) (rack : List SpareShown) (v : Version) (rest line behind : List ℕ) (count : ℕ) (player next : PlayerState) (before mid after : End)
-    → UnderWay t rack v rest count player before mid → lines rest ≡ line ∷ lines behind
-    → ((stage : Stage) → Stands player stage → IsPlayed v (commands v line) stage next mid after)
-    → mid.faults ≤ after.faults → UnderWay t rack v behind (count + 1) next before after
+    → PlayUnderWay t rack v rest count player before mid → lines rest ≡ line ∷ lines behind
+    → ((stage : Stage) → PlayerStands player stage → IsPlayed v (commands v line) stage next mid after)
+    → mid.faults ≤ after.faults → PlayUnderWay t rack v behind (count + 1) next before after
 goes-on t rack v rest line behind count player next before mid after u cut how more =
     let k = how u.stage u.stands in
     let steps = numbered (count + 1) k.commands in
@@ -150,7 +139,7 @@ goes-on t rack v rest line behind count player next before mid after u cut how m
 
 -- at the end of a text its script was played
 pub whole-played : (t : List ℕ) (rack : List SpareShown) (v : Version) (rest : List ℕ) (count : ℕ) (player : PlayerState) (before after : End)
-    → UnderWay t rack v rest count player before after → rest ≡ []
+    → PlayUnderWay t rack v rest count player before after → rest ≡ []
     → (items : List Item) × ended.IsPlayed t rack items None × Appends before.bytes after.bytes (text (version_in t) items)
 whole-played t rack v rest count player before after u at_end =
     let all : script t ≡ behind_steps u.steps (record { steps = []; bad = None }) = u.is_front ∙ ap (λ xs. behind_steps u.steps (script_from v (count + 1) (lines xs))) at_end in (
@@ -170,7 +159,7 @@ whole-played t rack v rest count player before after u at_end =
 
 -- some first commands of a line were taken behind a play
 module _ (t : List ℕ) (rack : List SpareShown) (v : Version) (rest line behind : List ℕ) (count : ℕ) (player : PlayerState) (before mid after : End)
-    (u : UnderWay t rack v rest count player before mid) (cut : lines rest ≡ line ∷ lines behind) (k : IsFrontOf v (commands v line) u.stage mid after) where
+    (u : PlayUnderWay t rack v rest count player before mid) (cut : lines rest ≡ line ∷ lines behind) (k : IsFrontOf v (commands v line) u.stage mid after) where
   abbrev front_steps : List Step
   front_steps = u.steps ++ numbered (count + 1) k.commands
 
@@ -242,12 +231,12 @@ module _ (t : List ℕ) (rack : List SpareShown) (v : Version) (rest line behind
 
 -- at a line that is refused its script was played to its first fault
 pub fault-played : (t : List ℕ) (rack : List SpareShown) (v : Version) (rest line behind : List ℕ) (count : ℕ) (player : PlayerState) (before mid after : End) (why : Cause)
-    → UnderWay t rack v rest count player before mid → lines rest ≡ line ∷ lines behind
-    → ((stage : Stage) → Stands player stage → IsBad (commands v line) why mid after ⊎ IsTurnedDown v (commands v line) stage why mid after)
+    → PlayUnderWay t rack v rest count player before mid → lines rest ≡ line ∷ lines behind
+    → ((stage : Stage) → PlayerStands player stage → IsPlayBad (commands v line) why mid after ⊎ IsTurnedDown v (commands v line) stage why mid after)
     → (items : List Item) × ended.IsPlayed t rack items (Some (record { line = count + 1; cause = why })) × Appends before.bytes after.bytes (text (version_in t) items)
 fault-played t rack v rest line behind count player before mid after why u cut how = stopping (how u.stage u.stands)
   where
-    stopping : IsBad (commands v line) why mid after ⊎ IsTurnedDown v (commands v line) u.stage why mid after
+    stopping : IsPlayBad (commands v line) why mid after ⊎ IsTurnedDown v (commands v line) u.stage why mid after
         → (items : List Item) × ended.IsPlayed t rack items (Some (record { line = count + 1; cause = why })) × Appends before.bytes after.bytes (text (version_in t) items)
     stopping (inl k) =
         let all = next_line t rest line behind v count u.steps None u.is_front cut k.outside in (
@@ -268,8 +257,8 @@ fault-played t rack v rest line behind count player before mid after why u cut h
 
 -- at a line at which the sink failed a front of the script was played, and of its text a front was written
 pub cut-played : (t : List ℕ) (rack : List SpareShown) (v : Version) (rest line behind : List ℕ) (count : ℕ) (player : PlayerState) (before mid after : End)
-    → UnderWay t rack v rest count player before mid → lines rest ≡ line ∷ lines behind
-    → ((stage : Stage) → Stands player stage → IsCut v (commands v line) stage mid after)
+    → PlayUnderWay t rack v rest count player before mid → lines rest ≡ line ∷ lines behind
+    → ((stage : Stage) → PlayerStands player stage → IsCut v (commands v line) stage mid after)
     → (items : List Item) × IsFront t rack items × StopsIn before after (text (version_in t) items)
 cut-played t rack v rest line behind count player before mid after u cut how =
     let k = how u.stage u.stands in
@@ -291,15 +280,15 @@ cut-played t rack v rest line behind count player before mid after u cut how =
 
 -- at a line that wants memory the steps in front of it were played
 pub short-played : (t : List ℕ) (rack : List SpareShown) (v : Version) (rest line behind : List ℕ) (count : ℕ) (player : PlayerState) (before mid after : End)
-    → UnderWay t rack v rest count player before mid → lines rest ≡ line ∷ lines behind
-    → ((stage : Stage) → Stands player stage → IsWanting v (commands v line) stage mid after)
+    → PlayUnderWay t rack v rest count player before mid → lines rest ≡ line ∷ lines behind
+    → ((stage : Stage) → PlayerStands player stage → IsWanting v (commands v line) stage mid after)
     → (items : List Item) × IsShort t rack items × Appends before.bytes after.bytes (text (version_in t) items)
 short-played t rack v rest line behind count player before mid after u cut how =
     let k = how u.stage u.stands in
     wants-at t rack v rest line behind count player before mid after u cut k.at k.wants
 
 -- behind the text of a whole script comes the last line, or the sink fails in it
-pub last-written : (t : List ℕ) (own rack : List SpareShown) (how : Status) (fault : Option Fault) (line : List ℕ) (before mid after : End) (result : Status) → own ≡ rack
+pub last-written : (t : List ℕ) (own rack : List SpareShown) (how : PlayStatus) (fault : Option Fault) (line : List ℕ) (before mid after : End) (result : PlayStatus) → own ≡ rack
     → (((items : List Item) × ended.IsPlayed t rack items fault × Appends before.bytes after.bytes (text (version_in t) items ++ last_line fault)) → EndsScript t rack before after how)
     → ((items : List Item) × ended.IsPlayed t own items fault × Appends before.bytes mid.bytes (text (version_in t) items)) → before.faults ≤ mid.faults → line ≡ last_line fault
     → PutsLast how line mid after result → EndsScript t rack before after result
@@ -327,7 +316,7 @@ pub short-ended : (t : List ℕ) (own rack : List SpareShown) (before after : En
 short-ended t own rack before after alike (items, short, written) = inr (items, subst (λ r. IsShort t r items) alike short, written)
 
 -- what was read is played: what the script's end says is the outcome
-read_ended : (words : List (List ℕ)) (rack : List SpareShown) (ends : Ends) (bytes : List ℕ) (how : Status) → order_of words ≡ Some order.Play
+read_ended : (words : List (List ℕ)) (rack : List SpareShown) (ends : PlayEnds) (bytes : List ℕ) (how : PlayStatus) → order_of words ≡ Some order.Play
     → GivesAll SCRIPT_MAX ends.source ends.source_after bytes → EndsScript bytes rack ends.sink ends.sink_after how → IsOutcome words rack ends how
 read_ended words rack ends bytes status.Done command read how = inl (record { command = command; bytes = bytes; read = read; ended = how })
 read_ended words rack ends bytes status.Usage command read how = absurd how
@@ -338,7 +327,7 @@ read_ended words rack ends bytes status.NoMemory command read how = inr (inl (re
 read_ended words rack ends bytes status.TooLong command read how = absurd how
 
 -- and what was read is lifted
-lift_ended : (words : List (List ℕ)) (rack : List SpareShown) (ends : Ends) (bytes : List ℕ) (how : Status) → order_of words ≡ Some order.Lift
+lift_ended : (words : List (List ℕ)) (rack : List SpareShown) (ends : PlayEnds) (bytes : List ℕ) (how : PlayStatus) → order_of words ≡ Some order.Lift
     → GivesAll SCRIPT_MAX ends.source ends.source_after bytes → EndsLifted bytes ends.sink ends.sink_after how → IsOutcome words rack ends how
 lift_ended words rack ends bytes status.Done command read how = inr (inl (record { command = command; bytes = bytes; read = read; ended = how }))
 lift_ended words rack ends bytes status.Usage command read how = absurd how
@@ -349,18 +338,18 @@ lift_ended words rack ends bytes status.NoMemory command read how = inr (inr (in
 lift_ended words rack ends bytes status.TooLong command read how = absurd how
 
 -- a script that was read ended so
-pub script-ended : (words : List (List ℕ)) (rack : List SpareShown) (ends : Ends) (bytes script_text : List ℕ) (how : Status) → order_of words ≡ Some order.Play
+pub script-ended : (words : List (List ℕ)) (rack : List SpareShown) (ends : PlayEnds) (bytes script_text : List ℕ) (how : PlayStatus) → order_of words ≡ Some order.Play
     → GivesAll SCRIPT_MAX ends.source ends.source_after bytes → script_text ≡ bytes → EndsScript script_text rack ends.sink ends.sink_after how → IsOutcome words rack ends how
 script-ended words rack ends bytes script_text how command read same ended =
     read_ended words rack ends bytes how command read (subst (λ t. EndsScript t rack ends.sink ends.sink_after how) same ended)
 
-pub lift-ended : (words : List (List ℕ)) (rack : List SpareShown) (ends : Ends) (bytes script_text : List ℕ) (how : Status) → order_of words ≡ Some order.Lift
+pub lift-ended : (words : List (List ℕ)) (rack : List SpareShown) (ends : PlayEnds) (bytes script_text : List ℕ) (how : PlayStatus) → order_of words ≡ Some order.Lift
     → GivesAll SCRIPT_MAX ends.source ends.source_after bytes → script_text ≡ bytes → EndsLifted script_text ends.sink ends.sink_after how → IsOutcome words rack ends how
 lift-ended words rack ends bytes script_text how command read same ended =
     lift_ended words rack ends bytes how command read (subst (λ t. EndsLifted t ends.sink ends.sink_after how) same ended)
 
 -- behind what was lifted comes the line of the fault, or the sink fails in it
-pub form-written : (t line_text : List ℕ) (line : ℕ) (before mid after : End) (result : Status) → strange_line t ≡ Some line → Appends before.bytes mid.bytes (lifted t)
+pub form-written : (t line_text : List ℕ) (line : ℕ) (before mid after : End) (result : PlayStatus) → strange_line t ≡ Some line → Appends before.bytes mid.bytes (lifted t)
     → before.faults ≤ mid.faults → line_text ≡ form_line line → PutsLast status.Fault line_text mid after result → EndsLifted t before after result
 form-written t line_text line before mid after result strange written counted same put = ending put
   where
@@ -373,13 +362,13 @@ form-written t line_text line before mid after result strange written counted sa
         (inr (line, strange, subst (λ l. StopsIn before after (lifted t ++ l)) same (stops-behind before mid after (lifted t) line_text written counted stops)))
 
 -- a script that is too long ended so
-pub long-ended : (words : List (List ℕ)) (rack : List SpareShown) (ends : Ends) (result : Status) → IsSome (order_of words)
-    → ((bytes : List ℕ) × GivesTooMuch SCRIPT_MAX ends.source ends.source_after bytes) → PutsLast status.TooLong long_line ends.sink ends.sink_after result → IsOutcome words rack ends result
+pub long-ended : (words : List (List ℕ)) (rack : List SpareShown) (ends : PlayEnds) (result : PlayStatus) → IsSome (order_of words)
+    → ((bytes : List ℕ) × GivesTooMuch SCRIPT_MAX ends.source ends.source_after bytes) → PutsLast status.TooLong play_long_line ends.sink ends.sink_after result → IsOutcome words rack ends result
 long-ended words rack ends result command (bytes, read) put = ending put
   where
     much : ReadsTooMuch words ends
     much = record { command = command; bytes = bytes; read = read }
 
-    ending : PutsLast status.TooLong long_line ends.sink ends.sink_after result → IsOutcome words rack ends result
+    ending : PutsLast status.TooLong play_long_line ends.sink ends.sink_after result → IsOutcome words rack ends result
     ending (inl (is, taken)) = subst (IsOutcome words rack ends) (sym is) (much, taken)
     ending (inr (is, stops)) = subst (IsOutcome words rack ends) (sym is) (inr (inl (much, stops)))

@@ -1,24 +1,23 @@
 -- To be believed.
 -- How the play of a script ends: at its end, at its first fault, or where the sink fails or memory runs out.
-use Rattle.std.specs.Prelude.{◌≡◌, ℕ, ◌+◌, ◌≤◌, List, ◌∷◌, ◌++◌, Option, Some, None, ◌⊎◌}
+use Rattle.std.specs.Prelude.{◌≡◌, ℕ, List, ◌∷◌, ◌++◌, Option, Some, None, ◌⊎◌}
 use Rattle.std.specs.Io.KnownBytes.{Appends}
 use Rattle.vx_play.specs.declared.run.Ending.{Ending}
 use Rattle.vx_play.specs.declared.run.Ending.TheVariants as ending
-use Rattle.vx_play.specs.declared.run.Status.{Status}
-use Rattle.vx_play.specs.declared.run.Status.TheVariants as status
+use Rattle.vx_play.specs.declared.run.PlayStatus.{PlayStatus}
+use Rattle.vx_play.specs.declared.run.PlayStatus.TheVariants as status
 use Rattle.vx_text.specs.Ends.{End}
 use Rattle.vx_text.specs.Writing.{StopsIn}
-use Rattle.vx_bench.specs.Script.{Step, script, script_from, behind_steps, version_of_lines}
+use Rattle.vx_setup.specs.Script.{Step, script, version_of_lines}
 use Rattle.vx_text.specs.TextLines.{lines}
 use Rattle.vx_run.specs.Item.{Item, Fault, last_line}
 use Rattle.vx_run.specs.RunText.{text}
 use Rattle.vx_script.specs.declared.Version.{Version}
-use Rattle.vx_bench.specs.Rack.{SpareShown}
-use Rattle.vx_player.specs.Stage.{Stage, beginning}
-use Rattle.vx_player.specs.Play.{Plays, PlaysFront, IsPlay}
+use Rattle.vx_setup.specs.Rack.{SpareShown}
+use Rattle.vx_player.specs.Stage.{Stage}
+use Rattle.vx_player.specs.Play.{PlaysFront, IsPlay}
 use Rattle.vx_player.specs.Upholding.{Upholds, ArePrintable}
-use Rattle.vx_player.specs.PlayerState.{PlayerState}
-use Rattle.vx_player.specs.Standing.{Stands, WantsMemory}
+use Rattle.vx_player.specs.Wanting.{WantsMemory}
 
 -- the version of a script's text
 abbrev pub version_in : List ℕ → Version
@@ -50,19 +49,6 @@ pub record IsShort (script_text : List ℕ) (rack : List SpareShown) (items : Li
   pub front : IsFront script_text rack items
   pub wants : WantsAtStep script_text front.steps front.stage
 
--- a play of a script of this version under way: so many lines are played, and this text is what is left
-pub record UnderWay (script_text : List ℕ) (rack : List SpareShown) (v : Version) (rest : List ℕ) (count : ℕ) (player : PlayerState) (before after : End) : Type 0 where
-  pub steps : List Step
-  pub items : List Item
-  pub stage : Stage
-  pub version_is : version_in script_text ≡ v
-  pub is_front : script script_text ≡ behind_steps steps (script_from v (count + 1) (lines rest))
-  pub played : Plays (beginning rack) steps items stage
-  pub stands : Stands player stage
-  pub printable : ArePrintable v items
-  pub written : Appends before.bytes after.bytes (text v items)
-  pub counted : before.faults ≤ after.faults
-
 -- how the play of a script's lines ends, and what was written
 abbrev pub EndsLines : List ℕ → List SpareShown → End → End → Ending → Type 0
 EndsLines script_text rack before after ending.Whole =
@@ -75,14 +61,14 @@ EndsLines script_text rack before after ending.NoMemory =
     (items : List Item) × IsShort script_text rack items × Appends before.bytes after.bytes (text (version_in script_text) items)
 
 -- the last line was written, or the sink failed in it
-abbrev pub PutsLast : Status → List ℕ → End → End → Status → Type 0
+abbrev pub PutsLast : PlayStatus → List ℕ → End → End → PlayStatus → Type 0
 PutsLast how line before after result =
     ((result ≡ how) × Appends before.bytes after.bytes line) ⊎ ((result ≡ status.SinkFailed) × StopsIn before after line)
 
 -- How the play of a script ends, its last line with it. Where the sink failed, a front was written of the text of some first
 -- steps, or of the whole play and its last line. Where memory ran out, nothing was written, as the play began, or the text of
 -- the steps in front of the one that wants it.
-abbrev pub EndsScript : List ℕ → List SpareShown → End → End → Status → Type 0
+abbrev pub EndsScript : List ℕ → List SpareShown → End → End → PlayStatus → Type 0
 EndsScript script_text rack before after status.Done =
     (items : List Item) × IsPlayed script_text rack items None × Appends before.bytes after.bytes (text (version_in script_text) items ++ last_line None)
 EndsScript script_text rack before after status.Fault =

@@ -1,10 +1,12 @@
 pub mod StepPlayed
 pub mod LinePlayed
 pub mod Ended
+pub mod UnderWay
 pub mod StepsEnded
 pub mod RunEnded
 pub mod Outcome
 pub mod Laws
+pub mod LiftLaw
 pub use Rattle.vx_io_traits.specs.Faults
 pub use Rattle.vx_lift.specs.Lifted
 pub use Rattle.vx_run.specs.Item
@@ -20,9 +22,9 @@ pub use Rattle.vx_trace.specs.Output
 pub use Rattle.vx_trace.specs.Text
 pub use Rattle.vx_gen.specs.Asked
 pub use Rattle.vx_gen.specs.SummaryText
-pub use Rattle.vx_bench.specs.Rack
-pub use Rattle.vx_bench.specs.Script
-pub use Rattle.vx_bench.specs.Spares
+pub use Rattle.vx_setup.specs.Rack
+pub use Rattle.vx_setup.specs.Script
+pub use Rattle.vx_setup.specs.Spares
 pub use Rattle.vx_player.specs.Generated
 pub use Rattle.vx_player.specs.Play
 pub use Rattle.vx_player.specs.PlayerState
@@ -30,3 +32,5 @@ pub use Rattle.vx_player.specs.Printing
 pub use Rattle.vx_player.specs.Stage
 pub use Rattle.vx_player.specs.Standing
 pub use Rattle.vx_player.specs.Upholding
+pub use Rattle.vx_player.specs.Wanting
+pub use Rattle.vx_flow.specs.Event

@@ -13,16 +13,17 @@ use Rattle.vx_text.specs.Writing.{StopsIn}
 use Rattle.vx_run.specs.Item.{Item}
 use Rattle.vx_run.specs.RunText.{item_text}
 use Rattle.vx_player.specs.Stage.{Stage, refusal}
-use Rattle.vx_player.specs.Play.{Takes}
+use Rattle.vx_player.specs.Play.{PlayerTakes}
 use Rattle.vx_player.specs.Upholding.{ArePrintable}
 use Rattle.vx_player.specs.PlayerState.{PlayerState}
-use Rattle.vx_player.specs.Standing.{Stands, WantsMemory}
+use Rattle.vx_player.specs.Standing.{PlayerStands}
+use Rattle.vx_player.specs.Wanting.{WantsMemory}
 
 -- these commands, one item each, take a play from one stage to another
 abbrev pub TakesAll : Stage → List Command → List Item → Stage → Type 0
 TakesAll before [] [] after = after ≡ before
 TakesAll before (command ∷ commands) (item ∷ items) after =
-    (item.command ≡ command) × (next : Stage) × Takes before item next × TakesAll next commands items after
+    (item.command ≡ command) × (next : Stage) × PlayerTakes before item next × TakesAll next commands items after
 TakesAll before [] (item ∷ items) after = ⊥
 TakesAll before (command ∷ commands) [] after = ⊥
 
@@ -38,7 +39,7 @@ pub record IsPlayed (v : Version) (said : Option (List Command)) (stage : Stage)
   pub commands : List Command
   pub said_is : said ≡ Some commands
   pub front : TakesFront v stage commands
-  pub stands : Stands player front.after
+  pub stands : PlayerStands player front.after
   pub written : Appends before.bytes after.bytes (flat_map (item_text v) front.items)
 
 -- a line's commands were taken, and the sink failed at their text
@@ -49,7 +50,7 @@ pub record IsCut (v : Version) (said : Option (List Command)) (stage : Stage) (b
   pub stops : StopsIn before after (flat_map (item_text v) front.items)
 
 -- a line outside the grammar
-pub record IsBad (said : Option (List Command)) (why : Cause) (before after : End) : Type 0 where
+pub record IsPlayBad (said : Option (List Command)) (why : Cause) (before after : End) : Type 0 where
   pub outside : said ≡ None
   pub form : why ≡ cause.Form
   pub unwritten : Appends before.bytes after.bytes []
@@ -73,8 +74,8 @@ pub record IsWanting (v : Version) (said : Option (List Command)) (stage : Stage
   pub at : IsFrontOf v said stage before after
   pub wants : WantsMemory at.front.after at.command
 
-abbrev pub EndsLine : Version → Option (List Command) → Stage → PlayerState → End → End → LineEnd → Type 0
-EndsLine v said stage player before after line_end.Played = IsPlayed v said stage player before after
-EndsLine v said stage player before after (line_end.Refused why) = IsBad said why before after ⊎ IsTurnedDown v said stage why before after
-EndsLine v said stage player before after line_end.SinkFailed = IsCut v said stage before after
-EndsLine v said stage player before after line_end.NoMemory = IsWanting v said stage before after
+abbrev pub PlayEndsLine : Version → Option (List Command) → Stage → PlayerState → End → End → LineEnd → Type 0
+PlayEndsLine v said stage player before after line_end.Played = IsPlayed v said stage player before after
+PlayEndsLine v said stage player before after (line_end.Refused why) = IsPlayBad said why before after ⊎ IsTurnedDown v said stage why before after
+PlayEndsLine v said stage player before after line_end.SinkFailed = IsCut v said stage before after
+PlayEndsLine v said stage player before after line_end.NoMemory = IsWanting v said stage before after

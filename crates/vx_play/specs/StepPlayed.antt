@@ -10,23 +10,24 @@ use Rattle.vx_text.specs.Writing.{StopsIn}
 use Rattle.vx_run.specs.Item.{Item}
 use Rattle.vx_run.specs.RunText.{item_text}
 use Rattle.vx_player.specs.Stage.{Stage, refusal}
-use Rattle.vx_player.specs.Play.{Takes}
+use Rattle.vx_player.specs.Play.{PlayerTakes}
 use Rattle.vx_player.specs.Upholding.{ArePrintable}
 use Rattle.vx_player.specs.PlayerState.{PlayerState}
-use Rattle.vx_player.specs.Standing.{Stands, WantsMemory}
+use Rattle.vx_player.specs.Standing.{PlayerStands}
+use Rattle.vx_player.specs.Wanting.{WantsMemory}
 
 -- a command was taken, and its lines can be printed
 pub record IsTaken (v : Version) (stage : Stage) (command : Command) : Type 0 where
   pub item : Item
   pub after : Stage
   pub command_is : item.command ≡ command
-  pub takes : Takes stage item after
+  pub takes : PlayerTakes stage item after
   pub printable : ArePrintable v (item ∷ [])
 
 -- its text was written
 pub record IsWritten (v : Version) (stage : Stage) (command : Command) (player : PlayerState) (before after : End) : Type 0 where
   pub taken : IsTaken v stage command
-  pub stands : Stands player taken.after
+  pub stands : PlayerStands player taken.after
   pub written : Appends before.bytes after.bytes (item_text v taken.item)
 
 -- the sink failed in its text

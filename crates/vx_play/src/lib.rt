@@ -2,5 +2,7 @@
 #![tactic(auto)]
 
 mod run;
+mod theorems;
 
 pub use run::play_run;
+pub use theorems::plays_of_lifts;

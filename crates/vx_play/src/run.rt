@@ -5,38 +5,41 @@ ghost use Rattle.vx_script.specs.declared.Version.{Version};
 ghost use Rattle.vx_script.specs.declared.Version.TheVariants as version;
 ghost use Rattle.vx_script.specs.declared.Version.TheVariants.{Two};
 ghost use Rattle.vx_script.specs.Command.{step_shown};
-ghost use Rattle.vx_bench.specs.Script.{commands, script, script_from, version_of_lines};
+ghost use Rattle.vx_setup.specs.Script.{commands, script, script_from, version_of_lines};
+ghost use Rattle.vx_text.specs.Ends.{source_shown, sink_shown};
 ghost use Rattle.vx_text.specs.TextLines.{lines};
 ghost use Rattle.vx_run.specs.RunText.{head_text};
 ghost use Rattle.vx_player.specs.Stage.{Stage, beginning};
-ghost use Rattle.vx_bench.specs.Rack.{SpareShown};
+ghost use Rattle.vx_setup.specs.Rack.{SpareShown};
 ghost use Rattle.vx_sim.specs.Occupants.{handed_in};
-ghost use Rattle.vx_bench.specs.Spares.{spare_shown};
+ghost use Rattle.vx_setup.specs.Spares.{spare_shown};
 ghost use Rattle.vx_text.specs.Reading.{GivesUpTo};
 ghost use Rattle.vx_text.specs.Writing.{IsPut};
-ghost use Rattle.vx_player.specs.Standing.{IsReady, Stands, HasLineRoom};
+ghost use Rattle.vx_player.specs.Standing.{IsPlayerReady, PlayerStands, HasLineRoom};
 ghost use Rattle.vx_player.specs.Printing.{made_text, HasMadeRanges};
 ghost use Rattle.vx_play.specs.StepPlayed.{EndsStep};
-ghost use Rattle.vx_play.specs.LinePlayed.{EndsLine};
+ghost use Rattle.vx_play.specs.LinePlayed.{PlayEndsLine};
 ghost use Rattle.vx_play.specs.Ended.{EndsLines, EndsScript, PutsLast};
-ghost use Rattle.vx_play.specs.RunEnded.{EndsRun};
+ghost use Rattle.vx_play.specs.RunEnded.{PlayEndsRun};
 ghost use Rattle.vx_play.specs.StepsEnded.{EndsSteps};
 ghost use Rattle.vx_run.specs.Item.{last_line};
-ghost use Rattle.vx_play.specs.Outcome.{EndsSo, EndsLifted, IsOutcome, order_of, status_number};
+ghost use Rattle.vx_play.specs.Outcome.{PlayEndsSo, EndsLifted, IsOutcome, order_of, play_status_number};
 ghost use Rattle.vx_play.specs.Laws.{Completes, CompletesLift, CompletesRun};
 ghost use Rattle.vx_play.specs.declared.run.TheConstants.{FAULT_ROOM};
 ghost use Rattle.vx_script.specs.declared.Cause.TheVariants as cause;
 ghost use Rattle.vx_script.specs.Plain.{IsPlainStep};
 
 use std::alloc::Global;
-use vx_bench::Stop;
 use vx_gen::{Ask, Counts, RECORD_ROOM, SUMMARY_ROOM, TITLE_ROOM, ask_of, summary, title};
 use vx_inst::Instrument;
 use vx_io_traits::{Sink, Source};
 use vx_lift::{LiftEnd, lift_script};
-use vx_player::{Made, Player, Printer, begun_line, intake_line, moves_line, note_line, take_all};
+use vx_player::{
+    Player, Printer, StepMade, begun_line, intake_line, moves_line, note_line, take_all,
+};
 use vx_rack::Spare;
 use vx_script::{Cause, LINE_MAX, LINE2_MAX, Step, Version, read_step, read_step2, version_of};
+use vx_setup::Refusal;
 use vx_text::{Input, SinkFailed, first_line, put_all, read_all, zeros};
 use vx_trace::{Line, put_line};
 
@@ -48,7 +51,7 @@ const FAULT_ROOM: usize = 39;
 
 /// How a play ended, as the program's exit status tells it.
 #[derive(Clone, Copy, PartialEq, Eq)]
-pub enum Status {
+pub enum PlayStatus {
     /// 0: the script was played to its end.
     Done,
     /// 1: the words aren't a command.
@@ -65,19 +68,19 @@ pub enum Status {
     TooLong,
 }
 
-impl Status {
+impl PlayStatus {
     /// The exit status.
     fn number(self) -> u8
-        ensures { result ≡ status_number self }
+        ensures { result ≡ play_status_number self }
     {
         match self {
-            Status::Done => 0,
-            Status::Usage => 1,
-            Status::SourceFailed => 2,
-            Status::Fault => 3,
-            Status::SinkFailed => 4,
-            Status::NoMemory => 5,
-            Status::TooLong => 6,
+            PlayStatus::Done => 0,
+            PlayStatus::Usage => 1,
+            PlayStatus::SourceFailed => 2,
+            PlayStatus::Fault => 3,
+            PlayStatus::SinkFailed => 4,
+            PlayStatus::NoMemory => 5,
+            PlayStatus::TooLong => 6,
         }
     }
 }
@@ -103,15 +106,14 @@ pub enum LineEnd {
 /// Writes the lines of a step that was taken.
 fn put_made<I: Instrument, K: Sink>(
     player: &Player<I>,
-    made: Made,
+    made: StepMade,
     version: Version,
     printer: &mut Printer,
     sink: &mut K,
 ) -> Result<(), SinkFailed>
     requires { HasLineRoom player.now made }
     ensures put { IsPut
-        (record { bytes = K.taken sink.old; faults = K.faults sink.old })
-        (record { bytes = K.taken sink.new; faults = K.faults sink.new }) (made_text version player.now made) result }
+        (sink_shown K.Sink sink.old) (sink_shown K.Sink sink.new) (made_text version player.now made) result }
     ensures printable { version ≡ Two → HasMadeRanges player.now made }
     ensures counted { K.faults sink.old ≤ K.faults sink.new }
 {
@@ -138,10 +140,9 @@ fn play_step<I: Instrument, K: Sink>(
     sink: &mut K,
 ) -> LineEnd
     requires plain { IsPlainStep step.now }
-    requires ready { IsReady player.old }
-    ensures ended { (stage : Stage) → Stands player.old stage → EndsStep version (step_shown step.now) stage player.new
-        (record { bytes = K.taken sink.old; faults = K.faults sink.old })
-        (record { bytes = K.taken sink.new; faults = K.faults sink.new }) result }
+    requires ready { IsPlayerReady player.old }
+    ensures ended { (stage : Stage) → PlayerStands player.old stage → EndsStep version (step_shown step.now) stage player.new
+        (sink_shown K.Sink sink.old) (sink_shown K.Sink sink.new) result }
     ensures counted { K.faults sink.old ≤ K.faults sink.new }
 {
     match player.step(alloc, step) {
@@ -149,8 +150,8 @@ fn play_step<I: Instrument, K: Sink>(
             Ok(()) => LineEnd::Played,
             Err(_) => LineEnd::SinkFailed,
         },
-        Err(Stop::Refused(cause)) => LineEnd::Refused(cause),
-        Err(Stop::NoMemory) => LineEnd::NoMemory,
+        Err(Refusal::Refused(cause)) => LineEnd::Refused(cause),
+        Err(Refusal::NoMemory) => LineEnd::NoMemory,
     }
 }
 
@@ -164,10 +165,9 @@ fn play_plain<I: Instrument, K: Sink>(
     sink: &mut K,
 ) -> LineEnd
     requires room { LINE_MAX ≤ length room.old }
-    requires ready { IsReady player.old }
-    ensures ended { (stage : Stage) → Stands player.old stage → EndsLine version.One (commands version.One line.now) stage player.new
-        (record { bytes = K.taken sink.old; faults = K.faults sink.old })
-        (record { bytes = K.taken sink.new; faults = K.faults sink.new }) result }
+    requires ready { IsPlayerReady player.old }
+    ensures ended { (stage : Stage) → PlayerStands player.old stage → PlayEndsLine version.One (commands version.One line.now) stage player.new
+        (sink_shown K.Sink sink.old) (sink_shown K.Sink sink.new) result }
     ensures counted { K.faults sink.old ≤ K.faults sink.new }
 {
     if line.len() > LINE_MAX {
@@ -191,10 +191,9 @@ fn play_timed<I: Instrument, K: Sink>(
     sink: &mut K,
 ) -> LineEnd
     requires room { LINE2_MAX ≤ length room.old }
-    requires ready { IsReady player.old }
-    ensures ended { (stage : Stage) → Stands player.old stage → EndsLine version.Two (commands version.Two line.now) stage player.new
-        (record { bytes = K.taken sink.old; faults = K.faults sink.old })
-        (record { bytes = K.taken sink.new; faults = K.faults sink.new }) result }
+    requires ready { IsPlayerReady player.old }
+    ensures ended { (stage : Stage) → PlayerStands player.old stage → PlayEndsLine version.Two (commands version.Two line.now) stage player.new
+        (sink_shown K.Sink sink.old) (sink_shown K.Sink sink.new) result }
     ensures counted { K.faults sink.old ≤ K.faults sink.new }
 {
     if line.len() > LINE2_MAX {
@@ -221,10 +220,9 @@ fn play_line<I: Instrument, K: Sink>(
     sink: &mut K,
 ) -> LineEnd
     requires room { LINE2_MAX ≤ length room.old }
-    requires ready { IsReady player.old }
-    ensures ended { (stage : Stage) → Stands player.old stage → EndsLine version (commands version line.now) stage player.new
-        (record { bytes = K.taken sink.old; faults = K.faults sink.old })
-        (record { bytes = K.taken sink.new; faults = K.faults sink.new }) result }
+    requires ready { IsPlayerReady player.old }
+    ensures ended { (stage : Stage) → PlayerStands player.old stage → PlayEndsLine version (commands version line.now) stage player.new
+        (sink_shown K.Sink sink.old) (sink_shown K.Sink sink.new) result }
     ensures counted { K.faults sink.old ≤ K.faults sink.new }
 {
     match version {
@@ -262,8 +260,7 @@ fn put_head<K: Sink>(
     sink: &mut K,
 ) -> Result<(), SinkFailed>
     ensures put { IsPut
-        (record { bytes = K.taken sink.old; faults = K.faults sink.old })
-        (record { bytes = K.taken sink.new; faults = K.faults sink.new }) (head_text version) result }
+        (sink_shown K.Sink sink.old) (sink_shown K.Sink sink.new) (head_text version) result }
     ensures counted { K.faults sink.old ≤ K.faults sink.new }
 {
     match version {
@@ -282,10 +279,9 @@ fn play_lines<I: Instrument, K: Sink>(
     sink: &mut K,
 ) -> Ending
     requires room { LINE2_MAX ≤ length room.old }
-    requires begins { Stands player.old (beginning player.old.rack) }
+    requires begins { PlayerStands player.old (beginning player.old.rack) }
     ensures ended { EndsLines script.now player.old.rack
-        (record { bytes = K.taken sink.old; faults = K.faults sink.old })
-        (record { bytes = K.taken sink.new; faults = K.faults sink.new }) result }
+        (sink_shown K.Sink sink.old) (sink_shown K.Sink sink.new) result }
     ensures counted { K.faults sink.old ≤ K.faults sink.new }
 {
     let version = version_in(script);
@@ -308,15 +304,14 @@ fn play_lines<I: Instrument, K: Sink>(
 }
 
 /// Writes the last line of a play that ends so.
-fn put_last<K: Sink>(sink: &mut K, line: &[u8], how: Status) -> Status
+fn put_last<K: Sink>(sink: &mut K, line: &[u8], how: PlayStatus) -> PlayStatus
     ensures put { PutsLast how line.now
-        (record { bytes = K.taken sink.old; faults = K.faults sink.old })
-        (record { bytes = K.taken sink.new; faults = K.faults sink.new }) result }
+        (sink_shown K.Sink sink.old) (sink_shown K.Sink sink.new) result }
     ensures counted { K.faults sink.old ≤ K.faults sink.new }
 {
     match put_all(sink, line) {
         Ok(()) => how,
-        Err(_) => Status::SinkFailed,
+        Err(_) => PlayStatus::SinkFailed,
     }
 }
 
@@ -328,25 +323,24 @@ fn play_over<I: Instrument, K: Sink>(
     printer: &mut Printer,
     room: &mut [u8],
     sink: &mut K,
-) -> Status
+) -> PlayStatus
     requires room { LINE2_MAX ≤ length room.old }
-    requires begins { Stands player.old (beginning player.old.rack) }
+    requires begins { PlayerStands player.old (beginning player.old.rack) }
     ensures ended { (rack : List SpareShown) → player.old.rack ≡ rack → EndsScript script.now rack
-        (record { bytes = K.taken sink.old; faults = K.faults sink.old })
-        (record { bytes = K.taken sink.new; faults = K.faults sink.new }) result }
+        (sink_shown K.Sink sink.old) (sink_shown K.Sink sink.new) result }
 {
     match play_lines(alloc, script, player, printer, room, sink) {
-        Ending::Whole => put_last(sink, printer.line(&Line::Done), Status::Done),
+        Ending::Whole => put_last(sink, printer.line(&Line::Done), PlayStatus::Done),
         Ending::Fault { line, cause } => {
             let word = cause.word();
             put_last(
                 sink,
                 printer.line(&Line::FaultLine { line, word }),
-                Status::Fault,
+                PlayStatus::Fault,
             )
         }
-        Ending::SinkFailed => Status::SinkFailed,
-        Ending::NoMemory => Status::NoMemory,
+        Ending::SinkFailed => PlayStatus::SinkFailed,
+        Ending::NoMemory => PlayStatus::NoMemory,
     }
 }
 
@@ -356,17 +350,16 @@ fn play_in_room<I: Instrument, K: Sink>(
     script: &[u8],
     player: &mut Player<I>,
     sink: &mut K,
-) -> Status
-    requires begins { Stands player.old (beginning player.old.rack) }
+) -> PlayStatus
+    requires begins { PlayerStands player.old (beginning player.old.rack) }
     ensures ended { (rack : List SpareShown) → player.old.rack ≡ rack → EndsScript script.now rack
-        (record { bytes = K.taken sink.old; faults = K.faults sink.old })
-        (record { bytes = K.taken sink.new; faults = K.faults sink.new }) result }
+        (sink_shown K.Sink sink.old) (sink_shown K.Sink sink.new) result }
 {
     let Ok(mut printer) = Printer::new(alloc) else {
-        return Status::NoMemory;
+        return PlayStatus::NoMemory;
     };
     let Ok(mut room) = zeros(alloc, LINE2_MAX) else {
-        return Status::NoMemory;
+        return PlayStatus::NoMemory;
     };
     play_over(alloc, script, player, &mut printer, &mut room, sink)
 }
@@ -377,33 +370,31 @@ fn play_script<I: Instrument, K: Sink>(
     script: &[u8],
     sink: &mut K,
     rack: Vec<Spare<I>>,
-) -> Status
+) -> PlayStatus
     ensures ended { EndsScript script.now (map (spare_shown (handed_in (λ i. I.behaves i) (λ i. I.nature i))) rack.items)
-        (record { bytes = K.taken sink.old; faults = K.faults sink.old })
-        (record { bytes = K.taken sink.new; faults = K.faults sink.new }) result }
+        (sink_shown K.Sink sink.old) (sink_shown K.Sink sink.new) result }
 {
     match Player::new(alloc, rack) {
         Ok(mut player) => play_in_room(alloc, script, &mut player, sink),
-        Err(_) => Status::NoMemory,
+        Err(_) => PlayStatus::NoMemory,
     }
 }
 
 /// Writes the last line of a run of which the step of this number isn't taken.
-fn put_stop<K: Sink>(sink: &mut K, printer: &mut Printer, number: u64, stop: Stop) -> Status
-    ensures refused { (cause : Cause) → stop ≡ Stop.Refused cause → PutsLast Status.Fault (last_line (Some (record { line = number; cause = cause })))
-        (record { bytes = K.taken sink.old; faults = K.faults sink.old })
-        (record { bytes = K.taken sink.new; faults = K.faults sink.new }) result }
-    ensures memory { stop ≡ Stop.NoMemory → (result ≡ Status.NoMemory) × (sink.new ≡ sink.old) }
+fn put_stop<K: Sink>(sink: &mut K, printer: &mut Printer, number: u64, stop: Refusal) -> PlayStatus
+    ensures refused { (cause : Cause) → stop ≡ Refusal.Refused cause → PutsLast PlayStatus.Fault (last_line (Some (record { line = number; cause = cause })))
+        (sink_shown K.Sink sink.old) (sink_shown K.Sink sink.new) result }
+    ensures memory { stop ≡ Refusal.NoMemory → (result ≡ PlayStatus.NoMemory) × (sink.new ≡ sink.old) }
 {
     match stop {
-        Stop::Refused(cause) => {
+        Refusal::Refused(cause) => {
             let line = Line::FaultLine {
                 line: number,
                 word: cause.word(),
             };
-            put_last(sink, printer.line(&line), Status::Fault)
+            put_last(sink, printer.line(&line), PlayStatus::Fault)
         }
-        Stop::NoMemory => Status::NoMemory,
+        Refusal::NoMemory => PlayStatus::NoMemory,
     }
 }
 
@@ -414,16 +405,19 @@ fn make_over<I: Instrument, K: Sink>(
     player: &mut Player<I>,
     printer: &mut Printer,
     sink: &mut K,
-) -> Status
-    requires begins { Stands player.old (beginning player.old.rack) }
+) -> PlayStatus
+    requires begins { PlayerStands player.old (beginning player.old.rack) }
     requires steps { ask.steps ≤ 1000000 }
     ensures ended { (rack : List SpareShown) → player.old.rack ≡ rack → EndsSteps ask rack
-        (record { bytes = K.taken sink.old; faults = K.faults sink.old })
-        (record { bytes = K.taken sink.new; faults = K.faults sink.new }) result }
+        (sink_shown K.Sink sink.old) (sink_shown K.Sink sink.new) result }
 {
     let mut counts = Counts::default();
     match take_all(alloc, ask, player, &mut [0; RECORD_ROOM], &mut counts) {
-        Ok(()) => put_last(sink, summary(&counts, &mut [0; SUMMARY_ROOM]), Status::Done),
+        Ok(()) => put_last(
+            sink,
+            summary(&counts, &mut [0; SUMMARY_ROOM]),
+            PlayStatus::Done,
+        ),
         Err(halt) => put_stop(sink, printer, halt.number, halt.stop),
     }
 }
@@ -434,18 +428,17 @@ fn make_steps<I: Instrument, K: Sink>(
     ask: Ask,
     sink: &mut K,
     rack: Vec<Spare<I>>,
-) -> Status
+) -> PlayStatus
     requires steps { ask.steps ≤ 1000000 }
     ensures ended { EndsSteps ask (map (spare_shown (handed_in (λ i. I.behaves i) (λ i. I.nature i))) rack.items)
-        (record { bytes = K.taken sink.old; faults = K.faults sink.old })
-        (record { bytes = K.taken sink.new; faults = K.faults sink.new }) result }
+        (sink_shown K.Sink sink.old) (sink_shown K.Sink sink.new) result }
 {
     let Ok(mut printer) = Printer::new(alloc) else {
-        return Status::NoMemory;
+        return PlayStatus::NoMemory;
     };
     match Player::new(alloc, rack) {
         Ok(mut player) => make_over(alloc, ask, &mut player, &mut printer, sink),
-        Err(_) => Status::NoMemory,
+        Err(_) => PlayStatus::NoMemory,
     }
 }
 
@@ -455,15 +448,14 @@ fn make_run<I: Instrument, K: Sink>(
     ask: Ask,
     sink: &mut K,
     rack: Vec<Spare<I>>,
-) -> Status
+) -> PlayStatus
     requires steps { ask.steps ≤ 1000000 }
-    ensures ended { EndsRun ask (map (spare_shown (handed_in (λ i. I.behaves i) (λ i. I.nature i))) rack.items)
-        (record { bytes = K.taken sink.old; faults = K.faults sink.old })
-        (record { bytes = K.taken sink.new; faults = K.faults sink.new }) result }
+    ensures ended { PlayEndsRun ask (map (spare_shown (handed_in (λ i. I.behaves i) (λ i. I.nature i))) rack.items)
+        (sink_shown K.Sink sink.old) (sink_shown K.Sink sink.new) result }
 {
     match put_all(sink, title(ask, &mut [0; TITLE_ROOM])) {
         Ok(()) => make_steps(alloc, ask, sink, rack),
-        Err(_) => Status::SinkFailed,
+        Err(_) => PlayStatus::SinkFailed,
     }
 }
 
@@ -488,19 +480,18 @@ fn order_of(words: &[String]) -> Option<Order>
 }
 
 /// Lifts a script, and writes the line of its fault, where it has one.
-fn lift<K: Sink>(alloc: Global, script: &[u8], sink: &mut K) -> Status
+fn lift<K: Sink>(alloc: Global, script: &[u8], sink: &mut K) -> PlayStatus
     ensures ended { EndsLifted script.now
-        (record { bytes = K.taken sink.old; faults = K.faults sink.old })
-        (record { bytes = K.taken sink.new; faults = K.faults sink.new }) result }
+        (sink_shown K.Sink sink.old) (sink_shown K.Sink sink.new) result }
 {
     match lift_script(alloc, script, sink) {
-        LiftEnd::Whole => Status::Done,
+        LiftEnd::Whole => PlayStatus::Done,
         LiftEnd::Fault { line } => {
             let mut room = [0; FAULT_ROOM];
-            put_last(sink, form_line(line, &mut room), Status::Fault)
+            put_last(sink, form_line(line, &mut room), PlayStatus::Fault)
         }
-        LiftEnd::SinkFailed => Status::SinkFailed,
-        LiftEnd::NoMemory => Status::NoMemory,
+        LiftEnd::SinkFailed => PlayStatus::SinkFailed,
+        LiftEnd::NoMemory => PlayStatus::NoMemory,
     }
 }
 
@@ -526,12 +517,12 @@ fn play<S: Source, K: Sink, I: Instrument>(
     source: &mut S,
     sink: &mut K,
     rack: Vec<Spare<I>>,
-) -> Status
+) -> PlayStatus
     ensures outcome { IsOutcome (map string_bytes words.now) (map (spare_shown (handed_in (λ i. I.behaves i) (λ i. I.nature i))) rack.items) (record {
-      source = record { bytes = S.left source.old; faults = S.faults source.old };
-      source_after = record { bytes = S.left source.new; faults = S.faults source.new };
-      sink = record { bytes = K.taken sink.old; faults = K.faults sink.old };
-      sink_after = record { bytes = K.taken sink.new; faults = K.faults sink.new };
+      source = source_shown S.Source source.old;
+      source_after = source_shown S.Source source.new;
+      sink = sink_shown K.Sink sink.old;
+      sink_after = sink_shown K.Sink sink.new;
     }) result }
 {
     match order_of(words) {
@@ -540,13 +531,13 @@ fn play<S: Source, K: Sink, I: Instrument>(
                 Order::Play => play_script(alloc, &script, sink, rack),
                 Order::Lift => lift(alloc, &script, sink),
             },
-            Input::TooLong => put_last(sink, b"fault long\n", Status::TooLong),
-            Input::Failed => Status::SourceFailed,
-            Input::NoMemory => Status::NoMemory,
+            Input::TooLong => put_last(sink, b"fault long\n", PlayStatus::TooLong),
+            Input::Failed => PlayStatus::SourceFailed,
+            Input::NoMemory => PlayStatus::NoMemory,
         },
         None => match ask_of(words) {
             Some(ask) => make_run(alloc, ask, sink, rack),
-            None => put_last(sink, b"usage: vxplay COMMAND\n", Status::Usage),
+            None => put_last(sink, b"usage: vxplay COMMAND\n", PlayStatus::Usage),
         },
     }
 }
@@ -584,41 +575,40 @@ pub fn play_run<S: Source, K: Sink, I: Instrument>(
     sink: &mut K,
     rack: Vec<Spare<I>>,
 ) -> u8
-    ensures outcome { EndsSo (map string_bytes words.now) (map (spare_shown (handed_in (λ i. I.behaves i) (λ i. I.nature i))) rack.items) (record {
-      source = record { bytes = S.left source.old; faults = S.faults source.old };
-      source_after = record { bytes = S.left source.new; faults = S.faults source.new };
-      sink = record { bytes = K.taken sink.old; faults = K.faults sink.old };
-      sink_after = record { bytes = K.taken sink.new; faults = K.faults sink.new };
+    ensures outcome { PlayEndsSo (map string_bytes words.now) (map (spare_shown (handed_in (λ i. I.behaves i) (λ i. I.nature i))) rack.items) (record {
+      source = source_shown S.Source source.old;
+      source_after = source_shown S.Source source.new;
+      sink = sink_shown K.Sink sink.old;
+      sink_after = sink_shown K.Sink sink.new;
     }) result }
 
     // Whatever comes of it, no more than 67,108,865 bytes are read.
     ensures read { GivesUpTo (SCRIPT_MAX + 1)
-        (record { bytes = S.left source.old; faults = S.faults source.old })
-        (record { bytes = S.left source.new; faults = S.faults source.new }) }
+        (source_shown S.Source source.old) (source_shown S.Source source.new) }
 
     // A script that the source tells is played whole, or memory is wanting, where neither the source nor the sink fails.
     ensures complete { Completes (map string_bytes words.now) (map (spare_shown (handed_in (λ i. I.behaves i) (λ i. I.nature i))) rack.items) (record {
-      source = record { bytes = S.left source.old; faults = S.faults source.old };
-      source_after = record { bytes = S.left source.new; faults = S.faults source.new };
-      sink = record { bytes = K.taken sink.old; faults = K.faults sink.old };
-      sink_after = record { bytes = K.taken sink.new; faults = K.faults sink.new };
+      source = source_shown S.Source source.old;
+      source_after = source_shown S.Source source.new;
+      sink = sink_shown K.Sink sink.old;
+      sink_after = sink_shown K.Sink sink.new;
     }) result }
 
     // A script that the source tells is lifted whole, or up to its first line outside the grammar, or memory is wanting, where neither
     // the source nor the sink fails.
     ensures lifts { CompletesLift (map string_bytes words.now) (record {
-      source = record { bytes = S.left source.old; faults = S.faults source.old };
-      source_after = record { bytes = S.left source.new; faults = S.faults source.new };
-      sink = record { bytes = K.taken sink.old; faults = K.faults sink.old };
-      sink_after = record { bytes = K.taken sink.new; faults = K.faults sink.new };
+      source = source_shown S.Source source.old;
+      source_after = source_shown S.Source source.new;
+      sink = sink_shown K.Sink sink.old;
+      sink_after = sink_shown K.Sink sink.new;
     }) result }
 
     // A run is made whole or up to a step that is refused, or memory is wanting, where the sink doesn't fail.
     ensures made { CompletesRun (map string_bytes words.now) (map (spare_shown (handed_in (λ i. I.behaves i) (λ i. I.nature i))) rack.items) (record {
-      source = record { bytes = S.left source.old; faults = S.faults source.old };
-      source_after = record { bytes = S.left source.new; faults = S.faults source.new };
-      sink = record { bytes = K.taken sink.old; faults = K.faults sink.old };
-      sink_after = record { bytes = K.taken sink.new; faults = K.faults sink.new };
+      source = source_shown S.Source source.old;
+      source_after = source_shown S.Source source.new;
+      sink = sink_shown K.Sink sink.old;
+      sink_after = sink_shown K.Sink sink.new;
     }) result }
 {
     play(alloc, words, source, sink, rack).number()

@@ -1,6 +1,6 @@
 -- A poll of a call that needs no bus: it makes no transfers, and ends with an answer, or with a dial where the call asks for one.
 use Rattle.std.proofs.Common.{◌≡◌, ◌≤◌, ℕ, Bool, true, false, cond, List, [], ◌∷◌, ◌++◌, Option, Some, None, refl, sym, ap, ◌∙◌, subst, arith}
-use Rattle.std.specs.Prelude.{is_none, not, ◌&&◌, ◌||◌, ◌==◌}
+use Rattle.std.specs.Prelude.{not, ◌&&◌, ◌||◌, ◌==◌}
 use Rattle.std.specs.Option.{option_and_then}
 use Rattle.std.proofs.lemmas.Bool.{false≢true, true≢false}
 use Rattle.std.proofs.lemmas.Option.{none-some, same_Some}
@@ -16,20 +16,21 @@ use Rattle.vx_rules.specs.Lists.{along}
 use Rattle.vx_rules.specs.State.{Pending, Tables, pending_at}
 use Rattle.vx_rules.specs.Calls.{is_bus_call, is_lock_call, asks_dial}
 use Rattle.vx_rules.specs.Checks.{NamedLink, NoLink, DeadLink, OnLink, named_link, check}
-use Rattle.vx_rules.specs.Decide.{Outside, has_job_role}
-use Rattle.vx_rules.specs.Lines.{LockRequest, lock_request, first_ahead, Bar, HeldBy, Behind, bar_by, bar_against, Refused, Waiting, checked_lines, first_lines_in, first_lines}
+use Rattle.vx_rules.specs.Decide.{BusInput}
+use Rattle.vx_rules.specs.Lines.{LockRequest, lock_request, first_ahead, Bar, HeldBy, Behind, bar_by, bar_against, Refused, Waiting, checked_lines, first_lines_in}
 use Rattle.vx_rules.specs.Locks.{holder_of}
-use Rattle.vx_rules.specs.ProvedLaws.{bus-job, no-job}
+use Rattle.vx_rules.proofs.Laws.{no-job}
 use Rattle.vx_flow.specs.Event.{Event, Answer, Begin, Move, Dial}
-use Rattle.vx_flow.specs.FineState.{Turn, FineState, turn_of}
-use Rattle.vx_flow.specs.Fine.{fine, busy_with, wire_for, job_of, is_passed, may_begin, waits_for, outside}
+use Rattle.vx_flow.specs.InterleavedState.{Turn, InterleavedState, turn_of}
+use Rattle.vx_flow.specs.InterleavedStep.{interleaved_step, busy_with, wire_for, job_of, waits_for, bus_input}
 use Rattle.vx_flow.specs.Frames.{moment_after}
-use Rattle.vx_flow.specs.Sound.{Stands, TurnStands, IsSound}
-use Rattle.vx_flow.specs.Poll.{Ending, Answered, Waited, Dialed, is_broken, at_moment, begins, moved_events, run_events, end_events, NotYet, EndsBy, Polls}
+use Rattle.vx_flow.specs.Sound.{IsSound}
+use Rattle.vx_flow.specs.Poll.{Ending, Answered, Waited, Dialed, is_broken, at_moment, moved_events, run_events, end_events, NotYet, EndsBy, Polls}
 use Rattle.vx_flow.specs.declared.progress.Why.{Why}
 use Rattle.vx_flow.specs.declared.progress.Why.TheVariants as why
 use Rattle.vx_flow.specs.Does.{IsAnswered, AnsweredBy, ByAbort, ByNoLink, ByCheck, ByBar, ByDialUp, ByDialDown, ByEffect, ByNoRole, ByFault, ByWhole, ByTimeout}
-use Rattle.vx_flow.specs.ProvedLaws.{fine-does, fine-frame, stays_sound-law, turn-is, turn-own}
+use Rattle.vx_flow.proofs.Laws.Ways.{no-own-turn, table-begins}
+use Rattle.vx_flow.proofs.Laws.{interleaved-does, interleaved-frame, stays_sound-law, turn-own}
 
 -- a call that needs no bus and takes no lock
 pub record IsBrief (asked : Call) : Type 0 where
@@ -38,42 +39,21 @@ pub record IsBrief (asked : Call) : Type 0 where
 
 -- ---- nothing is under way for it
 
--- it has no turn
-pub no-turn : (f : FineState) (conn : ℕ) (p : Pending) → IsSound f → pending_at f.state.tables conn ≡ Some p → is_bus_call p.call ≡ false → turn_of f.turn conn ≡ None
-no-turn f conn p sound at no_bus = by (turn_of f.turn conn) refl where
-  by : (o : Option Turn) → turn_of f.turn conn ≡ o → o ≡ None
-  by None is = refl
-  by (Some u) is =
-      let own = turn-is f.turn conn u is in
-      let stands : Stands f.state.tables f.before f.state.wire f.state.moment u =
-      subst (TurnStands f.state.tables f.before f.state.wire f.state.moment) own.0 sound.turn_stands in
-      let same : stands.asked ≡ p =
-      same_Some stands.asked p (sym stands.call_at ∙ ap (pending_at f.state.tables) own.1 ∙ at) in
-      absurd (false≢true (sym no_bus ∙ ap (λ (q : Pending). is_bus_call q.call) (sym same) ∙ bus-job stands.link.target stands.asked.call stands.job stands.has_job))
-
--- none begins
-no-begin : (f : FineState) (conn now : ℕ) (p : Pending) → pending_at f.state.tables conn ≡ Some p → is_bus_call p.call ≡ false → begins f conn now ≡ false
-no-begin f conn now p at no_bus =
-    ap (λ o. is_none f.turn && may_begin f.state conn now o) at
-    ∙ ap (λ j. is_none f.turn && (is_passed (first_lines f.state.tables f.state.wire.own conn false p now) && has_job_role f.state.wire j))
-    (no-job (named_link f.state.tables conn p.call) p.call no_bus)
-    ∙ ap (λ b. is_none f.turn && b) (and-false (is_passed (first_lines f.state.tables f.state.wire.own conn false p now))) ∙ and-false (is_none f.turn)
-
 -- no transfers are made
-no-move : (f g : FineState) (conn : ℕ) (moves : List Transfer) → turn_of f.turn conn ≡ None → fine f (Move conn moves) ≡ Some g → ⊥
+no-move : (f g : InterleavedState) (conn : ℕ) (moves : List Transfer) → turn_of f.turn conn ≡ None → interleaved_step f (Move conn moves) ≡ Some g → ⊥
 no-move f g conn moves none h =
-    let d = (fine-does f g (Move conn moves) h).step in
+    let d = (interleaved-does f g (Move conn moves) h).step in
     none-some d.turn (sym none ∙ turn-own f.turn conn d.turn d.under_way d.of_call)
 
 -- so the state stays up to the poll's end
-pub stays-put : (f behind : FineState) (conn now : ℕ) (p : Pending) (moves : List Transfer) → IsSound f → pending_at f.state.tables conn ≡ Some p
-    → is_bus_call p.call ≡ false → along fine (Some f) (run_events f conn now moves) ≡ Some behind → behind ≡ f
+pub stays-put : (f behind : InterleavedState) (conn now : ℕ) (p : Pending) (moves : List Transfer) → IsSound f → pending_at f.state.tables conn ≡ Some p
+    → is_bus_call p.call ≡ false → along interleaved_step (Some f) (run_events f conn now moves) ≡ Some behind → behind ≡ f
 stays-put f behind conn now p moves sound at no_bus h =
-    by moves (ap (λ b. along fine (Some f) (cond b (Begin conn now ∷ []) [] ++ moved_events conn moves)) (sym (no-begin f conn now p at no_bus)) ∙ h)
+    by moves (ap (λ b. along interleaved_step (Some f) (cond b (Begin conn now ∷ []) [] ++ moved_events conn moves)) (sym (table-begins f conn now p at no_bus)) ∙ h)
   where
-    by : (moves : List Transfer) → along fine (Some f) (moved_events conn moves) ≡ Some behind → behind ≡ f
+    by : (moves : List Transfer) → along interleaved_step (Some f) (moved_events conn moves) ≡ Some behind → behind ≡ f
     by [] h = sym (same_Some f behind h)
-    by (t ∷ ts) h = absurd (no-move f behind conn (t ∷ ts) (no-turn f conn p sound at no_bus) h)
+    by (t ∷ ts) h = absurd (no-move f behind conn (t ∷ ts) (no-own-turn f conn p sound at no_bus) h)
 
 -- ---- nothing keeps it off
 
@@ -117,7 +97,7 @@ no-turn-wait t own conn p u brief h =
     neither a b c ha hb = rw (ha, hb) refl
 
 -- it doesn't wait
-pub no-wait : (f : FineState) (conn now : ℕ) (p : Pending) (w : Why) → IsBrief p.call → turn_of f.turn conn ≡ None → NotYet f conn now p w → ⊥
+pub no-wait : (f : InterleavedState) (conn now : ℕ) (p : Pending) (w : Why) → IsBrief p.call → turn_of f.turn conn ≡ None → NotYet f conn now p w → ⊥
 no-wait f conn now p (why.Locked link) brief none waits = no-bar-wait f.state.tables (busy_with f.turn) (wire_for f conn).own conn p now (HeldBy link) brief waits
 no-wait f conn now p (why.Behind other) brief none waits = no-bar-wait f.state.tables (busy_with f.turn) (wire_for f conn).own conn p now (Behind other) brief waits
 no-wait f conn now p (why.Turn other) brief none (passed, u, under_way, of_other, waits) =
@@ -128,10 +108,10 @@ no-wait f conn now p why.Slice brief none (passed, u, own) = none-some u (sym no
 -- ---- how its poll ends
 
 -- a call was answered in a poll, without a dial
-pub record IsAnsweredNow (f : FineState) (conn now : ℕ) (g : FineState) : Type 0 where
-  pub from_outside : Outside
+pub record IsAnsweredNow (f : InterleavedState) (conn now : ℕ) (g : InterleavedState) : Type 0 where
+  pub from_outside : BusInput
   pub told : Reply
-  pub last : FineState
+  pub last : InterleavedState
   pub answered : IsAnswered f conn now from_outside told last
   pub undialed : from_outside.dialed ≡ None
   pub sound : IsSound last
@@ -139,20 +119,20 @@ pub record IsAnsweredNow (f : FineState) (conn now : ℕ) (g : FineState) : Type
   pub at_now : g ≡ at_moment last now
 
 -- a dial was asked for
-pub record IsDialedNow (f : FineState) (conn now : ℕ) (g : FineState) : Type 0 where
-  pub last : FineState
-  pub dials : fine f (Dial conn now) ≡ Some last
+pub record IsDialedNow (f : InterleavedState) (conn now : ℕ) (g : InterleavedState) : Type 0 where
+  pub last : InterleavedState
+  pub dials : interleaved_step f (Dial conn now) ≡ Some last
   pub late : last.state.moment ≤ now
   pub at_now : g ≡ at_moment last now
 
 -- such a poll doesn't wait
-abbrev EndsNow : FineState → ℕ → ℕ → FineState → Ending → Type 0
+abbrev EndsNow : InterleavedState → ℕ → ℕ → InterleavedState → Ending → Type 0
 EndsNow f conn now g (Answered ran level reply) = IsAnsweredNow f conn now g
 EndsNow f conn now g (Waited why) = ⊥
 EndsNow f conn now g (Dialed host port) = IsDialedNow f conn now g
 
 -- so it ends
-ends-now : (f g : FineState) (conn now : ℕ) (p : Pending) (moves : List Transfer) (ending : Ending) → IsSound f → pending_at f.state.tables conn ≡ Some p
+ends-now : (f g : InterleavedState) (conn now : ℕ) (p : Pending) (moves : List Transfer) (ending : Ending) → IsSound f → pending_at f.state.tables conn ≡ Some p
     → IsBrief p.call → Polls f conn now moves ending g → EndsNow f conn now g ending
 ends-now f g conn now p moves ending sound at brief polls = by ending polls.ends_by polls.ended where
   put : polls.behind ≡ f
@@ -161,45 +141,45 @@ ends-now f g conn now p moves ending sound at brief polls = by ending polls.ends
   same : polls.asked ≡ p
   same = same_Some polls.asked p (sym polls.call_at ∙ at)
 
-  now-late : (f last : FineState) (e : Event) → fine f e ≡ Some last → moment_after f.state.moment e ≡ now → last.state.moment ≤ now
+  now-late : (f last : InterleavedState) (e : Event) → interleaved_step f e ≡ Some last → moment_after f.state.moment e ≡ now → last.state.moment ≤ now
   now-late f last e h is =
-      let same = (fine-frame f last e h).moment_is in
+      let same = (interleaved-frame f last e h).moment_is in
       omega arith
 
-  by : (ending : Ending) → EndsBy polls.behind conn now polls.asked ending → along fine (Some polls.behind) (end_events conn now ending) ≡ Some polls.last
+  by : (ending : Ending) → EndsBy polls.behind conn now polls.asked ending → along interleaved_step (Some polls.behind) (end_events conn now ending) ≡ Some polls.last
       → EndsNow f conn now g ending
   by (Answered ran level reply) ends h =
       let e = Answer conn now (is_broken ran) None level reply in
-      let from_here : fine f e ≡ Some polls.last = subst (λ x. fine x e ≡ Some polls.last) put h in
+      let from_here : interleaved_step f e ≡ Some polls.last = subst (λ x. interleaved_step x e ≡ Some polls.last) put h in
       record {
-        from_outside = outside f conn (is_broken ran) None level;
+        from_outside = bus_input f conn (is_broken ran) None level;
         told = reply;
         last = polls.last;
-        answered = (fine-does f polls.last e from_here).step;
+        answered = (interleaved-does f polls.last e from_here).step;
         undialed = refl;
         sound = stays_sound-law f polls.last e sound from_here;
         late = now-late f polls.last e from_here refl;
         at_now = polls.at_now;
       }
   by (Waited w) ends h =
-      no-wait f conn now p w brief (no-turn f conn p sound at brief.no_bus) (subst (λ x. NotYet x conn now p w) put (subst (λ q. NotYet polls.behind conn now q w) same ends))
+      no-wait f conn now p w brief (no-own-turn f conn p sound at brief.no_bus) (subst (λ x. NotYet x conn now p w) put (subst (λ q. NotYet polls.behind conn now q w) same ends))
   by (Dialed host port) ends h =
-      let from_here : fine f (Dial conn now) ≡ Some polls.last = subst (λ x. fine x (Dial conn now) ≡ Some polls.last) put h in
+      let from_here : interleaved_step f (Dial conn now) ≡ Some polls.last = subst (λ x. interleaved_step x (Dial conn now) ≡ Some polls.last) put h in
       record { last = polls.last; dials = from_here; late = now-late f polls.last (Dial conn now) from_here refl; at_now = polls.at_now }
 
 -- one that asks for no dial is answered
-pub answered-now : (f g : FineState) (conn now : ℕ) (p : Pending) (moves : List Transfer) (ending : Ending) → IsSound f → pending_at f.state.tables conn ≡ Some p
+pub answered-now : (f g : InterleavedState) (conn now : ℕ) (p : Pending) (moves : List Transfer) (ending : Ending) → IsSound f → pending_at f.state.tables conn ≡ Some p
     → IsBrief p.call → asks_dial p.call ≡ false → Polls f conn now moves ending g → IsAnsweredNow f conn now g
 answered-now f g conn now p moves ending sound at brief no_dial polls = by ending (ends-now f g conn now p moves ending sound at brief polls) where
   by : (ending : Ending) → EndsNow f conn now g ending → IsAnsweredNow f conn now g
   by (Answered ran level reply) h = h
   by (Waited w) h = absurd h
   by (Dialed host port) h =
-      let d = (fine-does f h.last (Dial conn now) h.dials).step in
+      let d = (interleaved-does f h.last (Dial conn now) h.dials).step in
       absurd (false≢true (sym no_dial ∙ ap (λ (q : Pending). asks_dial q.call) (same_Some p d.asked (sym at ∙ d.call_at)) ∙ d.asks))
 
 -- a create_intr_chan that its own checks let pass isn't answered without a dial
-unanswered : (f : FineState) (conn now : ℕ) (p : Pending) (o : Outside) (told : Reply) (after : Tables) → p.aborted ≡ false → asks_dial p.call ≡ true → IsBrief p.call
+unanswered : (f : InterleavedState) (conn now : ℕ) (p : Pending) (o : BusInput) (told : Reply) (after : Tables) → p.aborted ≡ false → asks_dial p.call ≡ true → IsBrief p.call
     → named_link f.state.tables conn p.call ≡ NoLink → check f.state.tables (wire_for f conn).own conn false (named_link f.state.tables conn p.call) p.call ≡ None
     → o.dialed ≡ None → AnsweredBy f conn now p o told after → ⊥
 unanswered f conn now p o told after unmarked dial brief free checked undialed = by where
@@ -223,7 +203,7 @@ unanswered f conn now p o told after unmarked dial brief free checked undialed =
   by (ByTimeout clear overdue stops) = no_job overdue.own.job overdue.own.has_job
 
 -- so its dial is asked for
-pub dialed-now : (f g : FineState) (conn now : ℕ) (p : Pending) (moves : List Transfer) (ending : Ending) → IsSound f → pending_at f.state.tables conn ≡ Some p
+pub dialed-now : (f g : InterleavedState) (conn now : ℕ) (p : Pending) (moves : List Transfer) (ending : Ending) → IsSound f → pending_at f.state.tables conn ≡ Some p
     → IsBrief p.call → p.aborted ≡ false → asks_dial p.call ≡ true → named_link f.state.tables conn p.call ≡ NoLink
     → check f.state.tables (wire_for f conn).own conn false (named_link f.state.tables conn p.call) p.call ≡ None → Polls f conn now moves ending g → IsDialedNow f conn now g
 dialed-now f g conn now p moves ending sound at brief unmarked dial free checked polls = by ending (ends-now f g conn now p moves ending sound at brief polls) where

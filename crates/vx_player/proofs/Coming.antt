@@ -9,49 +9,49 @@ use Rattle.vx_rules.specs.Lists.{along}
 use Rattle.vx_rules.specs.SrqState.{channel_at}
 use Rattle.vx_rules.specs.State.{role_at, pending_at, has_room, with_connection}
 use Rattle.vx_flow.specs.Event as event
-use Rattle.vx_flow.specs.FineState.{FineState, first_fine}
-use Rattle.vx_flow.specs.Fine.{fine}
+use Rattle.vx_flow.specs.InterleavedState.{InterleavedState, first_interleaved}
+use Rattle.vx_flow.specs.InterleavedStep.{interleaved_step}
 use Rattle.vx_flow.specs.Does.{beside}
 use Rattle.vx_flow.specs.Sound.{IsSound}
-use Rattle.vx_flow.specs.ProvedLaws.{fine-does, stays_sound-law, first-sound}
+use Rattle.vx_flow.proofs.Laws.{interleaved-does, stays_sound-law, first-sound}
 use Rattle.vx_player.specs.Gateway.{abort_port}
 use Rattle.vx_run.specs.Item.{Item}
 use Rattle.vx_player.specs.Stage.{Stage, refusal}
-use Rattle.vx_player.specs.Play.{Takes}
+use Rattle.vx_player.specs.Play.{PlayerTakes}
 use Rattle.vx_player.proofs.Idle.{idle-stays}
 use Rattle.vx_player.proofs.Room.{HasRoom}
 use Rattle.vx_player.proofs.Resting.{IsResting}
 use Rattle.vx_player.proofs.Served.{IsCore, IsServed, made, streams-left}
 
 -- the gateway with one connection more
-abbrev pub up : FineState → Role → FineState
+abbrev pub up : InterleavedState → Role → InterleavedState
 up f r = beside f (with_connection f.state.tables r) f.state.moment f.dialed
 
 -- Connections came up to such a gateway, and nothing else came.
-pub record HasComeUp (f : FineState) (s : Stage) : Type 0 where
-  pub fine : s.gateway.fine ≡ f
-  pub sound : IsSound s.gateway.fine
-  pub idle : (n : ℕ) → pending_at s.gateway.fine.state.tables n ≡ None
+pub record HasComeUp (f : InterleavedState) (s : Stage) : Type 0 where
+  pub interleaved : s.gateway.interleaved ≡ f
+  pub sound : IsSound s.gateway.interleaved
+  pub idle : (n : ℕ) → pending_at s.gateway.interleaved.state.tables n ≡ None
   pub streams : (conn : ℕ) → s.streams conn ≡ []
 
 -- why a connection doesn't come up
-abbrev pub up_refused : FineState → ℕ → Role → Option Cause
+abbrev pub up_refused : InterleavedState → ℕ → Role → Option Cause
 up_refused f conn r =
     cond (not (conn == f.state.tables.next_connection)) (Some cause.Number) (cond (has_room f.state.tables r) None (Some cause.Full))
 
 -- one that may come up isn't refused
-pub up-allowed : (f : FineState) (s : Stage) (conn : ℕ) (r : Role) → HasComeUp f s → up_refused f conn r ≡ None → refusal s (Up conn r) ≡ None
-up-allowed f s conn r came free = ap (λ g. up_refused g conn r) came.fine ∙ free
+pub up-allowed : (f : InterleavedState) (s : Stage) (conn : ℕ) (r : Role) → HasComeUp f s → up_refused f conn r ≡ None → refusal s (Up conn r) ≡ None
+up-allowed f s conn r came free = ap (λ g. up_refused g conn r) came.interleaved ∙ free
 
 -- and leaves this
-pub up-leads : (f : FineState) (s t : Stage) (item : Item) (conn : ℕ) (r : Role) → HasComeUp f s → item.command ≡ Up conn r → Takes s item t → HasComeUp (up f r) t
+pub up-leads : (f : InterleavedState) (s t : Stage) (item : Item) (conn : ℕ) (r : Role) → HasComeUp f s → item.command ≡ Up conn r → PlayerTakes s item t → HasComeUp (up f r) t
 up-leads f s t item conn r came is takes =
     let m = made s t item (Up conn r) is takes in
-    let h : fine s.gateway.fine (event.Up conn r) ≡ Some t.gateway.fine = subst (λ es. along fine (Some s.gateway.fine) es ≡ Some t.gateway.fine) m.0 m.1.events in
+    let h : interleaved_step s.gateway.interleaved (event.Up conn r) ≡ Some t.gateway.interleaved = subst (λ es. along interleaved_step (Some s.gateway.interleaved) es ≡ Some t.gateway.interleaved) m.0 m.1.events in
     record {
-      fine = (fine-does s.gateway.fine t.gateway.fine (event.Up conn r) h).step.leads ∙ ap (λ g. up g r) came.fine;
-      sound = stays_sound-law s.gateway.fine t.gateway.fine (event.Up conn r) came.sound h;
-      idle = λ n. idle-stays n s.gateway.fine t.gateway.fine (event.Up conn r) refl h (came.idle n);
+      interleaved = (interleaved-does s.gateway.interleaved t.gateway.interleaved (event.Up conn r) h).step.leads ∙ ap (λ g. up g r) came.interleaved;
+      sound = stays_sound-law s.gateway.interleaved t.gateway.interleaved (event.Up conn r) came.sound h;
+      idle = λ n. idle-stays n s.gateway.interleaved t.gateway.interleaved (event.Up conn r) refl h (came.idle n);
       streams = streams-left s t item (Up conn r) is takes (λ n. left n (n == conn));
     }
   where
@@ -61,30 +61,30 @@ up-leads f s t item conn r came is takes =
 
 -- ---- the five of the head
 
-abbrev pub up_0 : FineState
-up_0 = first_fine abort_port
+abbrev pub up_0 : InterleavedState
+up_0 = first_interleaved abort_port
 
-abbrev pub up_1 : FineState
+abbrev pub up_1 : InterleavedState
 up_1 = up up_0 role.Core
 
-abbrev pub up_2 : FineState
+abbrev pub up_2 : InterleavedState
 up_2 = up up_1 role.Core
 
-abbrev pub up_3 : FineState
+abbrev pub up_3 : InterleavedState
 up_3 = up up_2 role.Core
 
-abbrev pub up_4 : FineState
+abbrev pub up_4 : InterleavedState
 up_4 = up up_3 role.Core
 
-abbrev pub up_5 : FineState
+abbrev pub up_5 : InterleavedState
 up_5 = up up_4 role.Abort
 
 -- none is up at first
-pub none-up : (s : Stage) → s.gateway.fine ≡ up_0 → ((conn : ℕ) → s.streams conn ≡ []) → HasComeUp up_0 s
+pub none-up : (s : Stage) → s.gateway.interleaved ≡ up_0 → ((conn : ℕ) → s.streams conn ≡ []) → HasComeUp up_0 s
 none-up s is anew = record {
-  fine = is;
+  interleaved = is;
   sound = subst IsSound (sym is) (first-sound abort_port);
-  idle = λ n. ap (λ (f : FineState). pending_at f.state.tables n) is;
+  idle = λ n. ap (λ (f : InterleavedState). pending_at f.state.tables n) is;
   streams = anew;
 }
 
@@ -92,8 +92,8 @@ none-up s is anew = record {
 pub up-served : (s : Stage) → HasComeUp up_5 s → IsServed s
 up-served s came = record {
   serving = record {
-    core = λ n is. ap (λ (f : FineState). role_at f.state.tables n) came.fine ∙ core n is;
-    abort = ap (λ (f : FineState). role_at f.state.tables 5) came.fine;
+    core = λ n is. ap (λ (f : InterleavedState). role_at f.state.tables n) came.interleaved ∙ core n is;
+    abort = ap (λ (f : InterleavedState). role_at f.state.tables 5) came.interleaved;
     idle = came.idle 5;
   };
   streams = came.streams;
@@ -110,10 +110,10 @@ abbrev pub GetsChannel : ℕ → Type 0
 GetsChannel n = (n ≡ 1) ⊎ (n ≡ 4)
 
 -- and rests
-pub up-rests : (s : Stage) → HasComeUp up_5 s → IsResting 1 GetsChannel s.gateway.fine
+pub up-rests : (s : Stage) → HasComeUp up_5 s → IsResting 1 GetsChannel s.gateway.interleaved
 up-rests s came = record {
   sound = came.sound;
-  room = subst (λ (f : FineState). HasRoom 1 GetsChannel f.state.tables) (sym came.fine) (record { few = omega arith; numbers = omega arith; free = free });
+  room = subst (λ (f : InterleavedState). HasRoom 1 GetsChannel f.state.tables) (sym came.interleaved) (record { few = omega arith; numbers = omega arith; free = free });
   idle = came.idle;
 }
   where

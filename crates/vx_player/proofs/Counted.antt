@@ -17,7 +17,7 @@ use Rattle.vx_exchange.specs.Meaning as meant
 use Rattle.vx_rules.specs.State.{role_at}
 use Rattle.vx_flow.specs.Event.{Event}
 use Rattle.vx_flow.specs.Event as event
-use Rattle.vx_flow.specs.FineState.{FineState}
+use Rattle.vx_flow.specs.InterleavedState.{InterleavedState}
 use Rattle.vx_flow.specs.Poll.{Ending, Waited, moved_events, run_events, end_events}
 use Rattle.vx_gen.specs.declared.telling.Counts.{Counts}
 use Rattle.vx_player.specs.Gateway.{Gateway}
@@ -26,7 +26,7 @@ use Rattle.vx_run.specs.Item.{Item, bus_lines, noted, item_lines, events, answer
 use Rattle.vx_player.specs.Stage.{Stage, tables_of}
 use Rattle.vx_player.specs.Making.{PollMakes, MessageMakes, RecordMakes, PieceMakes, ChannelMakes, Makes}
 use Rattle.vx_run.specs.Notes.{is_wait, poll_line, take_line}
-use Rattle.vx_player.specs.Play.{Takes}
+use Rattle.vx_player.specs.Play.{PlayerTakes}
 use Rattle.vx_player.specs.Generated.{interrupts, is_failure, errors, notes, counts_of}
 use Rattle.vx_player.specs.Counting.{is_interrupt, counts_behind}
 use Rattle.vx_player.proofs.PollEvents.{poll-gives}
@@ -43,7 +43,7 @@ tells group given output shown group_is output_is h =
     ap (λ g. length (flat_map interrupts g)) group_is ∙ h ∙ sym (ap (λ o. count_by is_interrupt (noted o)) output_is)
 
 -- a poll takes no interrupt, and its note tells none
-poll-none : (f : FineState) (conn now : ℕ) (moves : List Transfer) (ending : Ending)
+poll-none : (f : InterleavedState) (conn now : ℕ) (moves : List Transfer) (ending : Ending)
     → flat_map interrupts (run_events f conn now moves ++ end_events conn now ending) ≡ []
 poll-none f conn now moves ending = poll-gives interrupts f conn now moves ending refl ∙ by moves ending where
   by : (moves : List Transfer) (ending : Ending) → flat_map interrupts (moved_events conn moves) ++ flat_map interrupts (end_events conn now ending) ≡ []
@@ -59,7 +59,7 @@ line-none conn xid _ = refl
 poll-tells : (before after : Gateway) (conn now xid : ℕ) (group : List Event) (output : Option Output) → PollMakes before conn now xid group output after → Tells group output
 poll-tells before after conn now xid group output h =
     tells group _ output _ h.events h.told
-    (ap length (poll-none before.fine conn now after.bus.means.moves h.ending) ∙ line-none conn xid h.ending)
+    (ap length (poll-none before.interleaved conn now after.bus.means.moves h.ending) ∙ line-none conn xid h.ending)
 
 -- a message
 message-tells : (g : Gateway) (conn now : ℕ) (m : Meaning) (group : List Event) (output : Option Output) (after : Gateway)
@@ -80,7 +80,7 @@ record-tells g conn now message (Some r) group output after h = message-tells g 
 piece-tells : (g : Gateway) (conn now : ℕ) (b : Brought) (group : List Event) (output : Option Output) (after : Gateway)
     → PieceMakes g conn now b group output after → Tells group output
 piece-tells g conn now NoEnd group output after h = tells group [] output None h.0.none h.1 refl
-piece-tells g conn now (Whole message) group output after h = record-tells g conn now message (role_at g.fine.state.tables conn) group output after h
+piece-tells g conn now (Whole message) group output after h = record-tells g conn now message (role_at g.interleaved.state.tables conn) group output after h
 piece-tells g conn now TooLong group output after h = tells group (event.Down conn ∷ []) output (Some (GoneLong conn)) h.events h.told refl
 piece-tells g conn now After group output after h = absurd h
 
@@ -156,7 +156,7 @@ same-counts a e t i w a2 e2 t2 i2 w2 ha he ht hi hw =
     ∙ ap (λ n. counts_with a2 e2 t2 n w) hi ∙ ap (λ n. counts_with a2 e2 t2 i2 n) hw
 
 -- the counts with a step that was taken
-pub counts-more : (before after : Stage) (items : List Item) (item : Item) (lines : List Output) (answered : Option ErrorCode) → Takes before item after
+pub counts-more : (before after : Stage) (items : List Item) (item : Item) (lines : List Output) (answered : Option ErrorCode) → PlayerTakes before item after
     → item_lines item ≡ lines → flat_map answer_errors item.group ≡ errors_of answered
     → counts_of (items ++ item ∷ []) ≡ counts_behind (counts_of items) answered lines
 counts-more before after items item lines answered takes lines_are answered_is =

@@ -4,7 +4,7 @@ use Rattle.std.proofs.lemmas.Bool.{false≢true}
 use Rattle.vx_rules.specs.State.{pending_at}
 use Rattle.vx_gen.specs.Drawing.{kind, connection}
 use Rattle.vx_gen.specs.Generating.{call_of, drawn}
-use Rattle.vx_gen.proofs.Spelled.{either, call-spelled}
+use Rattle.vx_gen.proofs.Laws.Spelled.{either, call-spelled}
 use Rattle.vx_exchange.specs.Meaning.{Asks, by_call}
 use Rattle.vx_player.specs.Stage.{Stage, tables_of}
 use Rattle.vx_player.specs.Generated.{has_call}

@@ -12,25 +12,26 @@ use Rattle.vx_script.specs.Command.{Command, At}
 use Rattle.std.specs.Prelude.{◌^◌, suc, Result, Ok, Err, IfErr}
 use Rattle.vx_trace.specs.Output.{Output, Bus}
 use Rattle.vx_rules.specs.State.{pending_at}
-use Rattle.vx_bench.specs.Rack.{SpareShown}
-use Rattle.vx_bench.specs.Script.{Step}
+use Rattle.vx_setup.specs.Rack.{SpareShown}
+use Rattle.vx_setup.specs.Script.{Step}
 use Rattle.vx_gen.specs.declared.steps.TheConstants.{HEAD_STEPS}
 use Rattle.vx_gen.specs.declared.telling.Counts.{Counts}
 use Rattle.vx_gen.specs.Drawing.{next, draw, connection}
 use Rattle.vx_gen.specs.Generating.{head, drawn}
 use Rattle.vx_player.specs.declared.made_run.Halt.{Halt}
-use Rattle.vx_player.specs.declared.note.Made.{Made}
+use Rattle.vx_player.specs.declared.note.StepMade.{StepMade}
 use Rattle.vx_player.specs.declared.note.Note.{Note}
 use Rattle.vx_player.specs.declared.note.Note.TheVariants as note
 use Rattle.vx_player.specs.Gateway.{Gateway}
 use Rattle.vx_run.specs.Item.{Item, noted, errors_of, shown_moves}
 use Rattle.vx_player.specs.Stage.{Stage, beginning}
-use Rattle.vx_player.specs.Play.{Takes, Plays}
+use Rattle.vx_player.specs.Play.{PlayerTakes, Plays}
 use Rattle.vx_player.specs.PlayerState.{PlayerState}
-use Rattle.vx_player.specs.Standing.{Stands, TakesTo, StopsFor, note_line, moves_lines, made_lines}
+use Rattle.vx_player.specs.Standing.{PlayerStands, TakesTo, note_line, moves_lines, made_lines}
+use Rattle.vx_player.specs.Wanting.{StopsFor}
 use Rattle.vx_run.specs.Notes.{is_wait}
 use Rattle.vx_player.specs.Generated.{is_failure, has_call, IsGenerated, AreGenerated, IsDriven}
-use Rattle.vx_player.specs.Counting.{no_counts, is_interrupt, has_error, tells_interrupt, tells_wait, counts_made, counts_behind, IsWithin, TakesCounted, Running, HaltsIn}
+use Rattle.vx_player.specs.Counting.{no_counts, is_interrupt, has_error, tells_interrupt, tells_wait, counts_made, counts_behind, IsPlayerWithin, TakesCounted, Running, HaltsIn}
 use Rattle.vx_player.specs.declared.note.Gone.TheVariants as gone
 use Rattle.vx_player.proofs.Shown.{waits}
 use Rattle.vx_player.proofs.Counted.{counts-more, same-counts}
@@ -79,7 +80,7 @@ lines-none p never None moves = refl
 lines-none p never (Some conn) [] = refl
 lines-none p never (Some conn) (t ∷ ts) = ap (λ b. 0 + cond b 1 0) (never conn (t ∷ ts))
 
-lines-count : (p : Output → Bool) → ((conn : ℕ) (moves : List Transfer) → p (Bus conn moves) ≡ false) → (player : PlayerState) (made : Made)
+lines-count : (p : Output → Bool) → ((conn : ℕ) (moves : List Transfer) → p (Bus conn moves) ≡ false) → (player : PlayerState) (made : StepMade)
     → count_by p (made_lines player made) ≡ count_by p (noted (note_line player.reply made.note))
 lines-count p never player made =
     let front = moves_lines made.polled player.core.bus.means.moves in
@@ -88,7 +89,7 @@ lines-count p never player made =
     let none : count_by p front ≡ 0 = lines-none p never made.polled player.core.bus.means.moves in
     omega arith
 
-lines-shown-moves : (player : PlayerState) (made : Made)
+lines-shown-moves : (player : PlayerState) (made : StepMade)
     → cond (is_some made.polled) (length player.core.bus.means.moves) 0 ≡ length (flat_map shown_moves (made_lines player made))
 lines-shown-moves player made =
     let front = moves_lines made.polled player.core.bus.means.moves in
@@ -96,7 +97,7 @@ lines-shown-moves player made =
     sym (ap length (flat_map-append shown_moves front back ∙ ap (λ xs. flat_map shown_moves front ++ xs) (note-moves player.reply made.note) ∙ append-nil (flat_map shown_moves front))
     ∙ lines-moves made.polled player.core.bus.means.moves)
 
-made-counts : (player : PlayerState) (made : Made) (c : Counts)
+made-counts : (player : PlayerState) (made : StepMade) (c : Counts)
     → counts_made c made (length player.core.bus.means.moves) ≡ counts_behind c made.answered (made_lines player made)
 made-counts player made c =
     same-counts _ _ _ _ _ _ _ _ _ _
@@ -107,7 +108,7 @@ made-counts player made c =
     (ap (λ n. c.waits + n) (note-waits player.reply made.note ∙ sym (lines-count is_wait (λ conn moves. refl) player made)))
 
 -- a step that was taken, and counted so
-pub taken-counted : (stage : Stage) (command : Command) (old new : Counts) (player : PlayerState) (made : Made) (moves : List Transfer)
+pub taken-counted : (stage : Stage) (command : Command) (old new : Counts) (player : PlayerState) (made : StepMade) (moves : List Transfer)
     → TakesTo stage command made player → new ≡ counts_made old made (length moves) → moves ≡ player.core.bus.means.moves
     → TakesCounted stage command old player new
 taken-counted stage command old new player made moves takes counted moves_are = record {
@@ -120,8 +121,8 @@ taken-counted stage command old new player made moves takes counted moves_are = 
 
 -- one more step of a play
 abbrev pub plays_more : (before mid after : Stage) (steps : List Step) (items : List Item) (step : Step) (item : Item) → Plays before steps items mid → item.command ≡ step.command
-    → Takes mid item after → Plays before (steps ++ step ∷ []) (items ++ item ∷ []) after
-plays_more before mid after [] [] step item played same takes = (same, after, subst (λ s. Takes s item after) played takes, refl)
+    → PlayerTakes mid item after → Plays before (steps ++ step ∷ []) (items ++ item ∷ []) after
+plays_more before mid after [] [] step item played same takes = (same, after, subst (λ s. PlayerTakes s item after) played takes, refl)
 plays_more before mid after [] (i ∷ items) step item played same takes = absurd played
 plays_more before mid after (s ∷ steps) [] step item played same takes = absurd played
 plays_more before mid after (s ∷ steps) (i ∷ items) step item (first, next, took, rest) same takes =
@@ -129,7 +130,7 @@ plays_more before mid after (s ∷ steps) (i ∷ items) step item (first, next, 
 
 -- the place of the next step is as far as the steps go
 generated-more : (seed place n : ℕ) (before mid after : Stage) (steps : List Step) (items : List Item) (step : Step) (item : Item) (played : Plays before steps items mid)
-    → AreGenerated seed place before steps items mid played → (same : item.command ≡ step.command) → (takes : Takes mid item after)
+    → AreGenerated seed place before steps items mid played → (same : item.command ≡ step.command) → (takes : PlayerTakes mid item after)
     → n ≡ place + length steps → step.line ≡ n + 1 → IsGenerated seed n mid step.command
     → AreGenerated seed place before (steps ++ step ∷ []) (items ++ item ∷ []) after (plays_more before mid after steps items step item played same takes)
 generated-more seed place n before mid after [] [] step item played made same takes count line is =
@@ -141,7 +142,7 @@ generated-more seed place n before mid after (s ∷ steps) (i ∷ items) step it
     (numbered, made, generated-more seed (place + 1) n next mid after steps items step item rest more same takes (omega arith) line is)
 
 driven-more : (seed : ℕ) (rack : List SpareShown) (count : ℕ) (items : List Item) (mid after : Stage) (item : Item) → (d : IsDriven seed rack count items mid)
-    → IsGenerated seed count mid item.command → Takes mid item after → IsDriven seed rack (count + 1) (items ++ item ∷ []) after
+    → IsGenerated seed count mid item.command → PlayerTakes mid item after → IsDriven seed rack (count + 1) (items ++ item ∷ []) after
 driven-more seed rack count items mid after item d is takes =
     let step : Step = record { line = count + 1; command = item.command } in
     let number = d.number in
@@ -154,7 +155,7 @@ driven-more seed rack count items mid after item d is takes =
     }
 
 -- a run begins
-pub run-begins : (seed : ℕ) (rack : List SpareShown) (player : PlayerState) (counts : Counts) → Stands player (beginning rack) → counts ≡ no_counts
+pub run-begins : (seed : ℕ) (rack : List SpareShown) (player : PlayerState) (counts : Counts) → PlayerStands player (beginning rack) → counts ≡ no_counts
     → Running seed rack 0 player counts
 run-begins seed rack player counts stands none = record {
   items = [];
@@ -162,15 +163,15 @@ run-begins seed rack player counts stands none = record {
   front = record { steps = []; driven = refl; generated = tt; number = refl };
   stands = stands;
   counted = none;
-  few = subst (IsWithin 0) (sym none) (record { answers = omega arith; errors = omega arith; transfers = omega arith; interrupts = omega arith; waits = omega arith });
+  few = subst (IsPlayerWithin 0) (sym none) (record { answers = omega arith; errors = omega arith; transfers = omega arith; interrupts = omega arith; waits = omega arith });
 }
 
 -- a bound that is another
-within-same : (n m : ℕ) (c : Counts) → n ≡ m → IsWithin n c → IsWithin m c
-within-same n m c same h = subst (λ k. IsWithin k c) same h
+within-same : (n m : ℕ) (c : Counts) → n ≡ m → IsPlayerWithin n c → IsPlayerWithin m c
+within-same n m c same h = subst (λ k. IsPlayerWithin k c) same h
 
 -- a larger bound
-pub within-more : (n m : ℕ) (c : Counts) → n ≤ m → IsWithin n c → IsWithin m c
+pub within-more : (n m : ℕ) (c : Counts) → n ≤ m → IsPlayerWithin n c → IsPlayerWithin m c
 within-more n m c more h =
     let a = h.answers in
     let e = h.errors in
@@ -181,13 +182,13 @@ within-more n m c more h =
 
 -- the counts of a run are small
 pub run-small : (seed : ℕ) (rack : List SpareShown) (count : ℕ) (player : PlayerState) (counts : Counts) → Running seed rack count player counts → count ≤ 4000000
-    → IsWithin (2 ^ 62) counts
+    → IsPlayerWithin (2 ^ 62) counts
 run-small seed rack count player counts r few = within-more (count * SLICE_MAX) (2 ^ 62) counts (omega arith) r.few
 
 -- a run goes on
 pub run-goes-on : (seed : ℕ) (rack : List SpareShown) (count : ℕ) (player next : PlayerState) (counts more : Counts) (command : Command)
     → (r : Running seed rack count player counts) → IsGenerated seed count r.stage command → TakesCounted r.stage command counts next more
-    → ((most : ℕ) → IsWithin most counts → IsWithin (most + SLICE_MAX) more) → Running seed rack (count + 1) next more
+    → ((most : ℕ) → IsPlayerWithin most counts → IsPlayerWithin (most + SLICE_MAX) more) → Running seed rack (count + 1) next more
 run-goes-on seed rack count player next counts more command r is t grown = record {
   items = r.items ++ t.takes.item ∷ [];
   stage = t.takes.after;
@@ -225,11 +226,11 @@ pub moment-next : (seed k place : ℕ) (s : Stage) → place ≡ HEAD_STEPS + 2 
 moment-next seed k place s at = inr (inl (k, at, refl))
 
 -- a drawn step
-pub drawn-next : (seed k place x : ℕ) (is_pending : Bool) (player : PlayerState) (s : Stage) (command : Command) → place ≡ HEAD_STEPS + 2 * k + 1 → Stands player s
-    → x ≡ draw seed (k + 1) → is_pending ≡ is_some (pending_at player.core.fine.state.tables (connection x)) → command ≡ drawn (k + 1) x is_pending
+pub drawn-next : (seed k place x : ℕ) (is_pending : Bool) (player : PlayerState) (s : Stage) (command : Command) → place ≡ HEAD_STEPS + 2 * k + 1 → PlayerStands player s
+    → x ≡ draw seed (k + 1) → is_pending ≡ is_some (pending_at player.core.interleaved.state.tables (connection x)) → command ≡ drawn (k + 1) x is_pending
     → IsGenerated seed place s command
 drawn-next seed k place x is_pending player s command at stands x_is pending_is command_is =
-    let here : is_pending ≡ has_call s (connection x) = pending_is ∙ ap (λ (g : Gateway). is_some (pending_at g.fine.state.tables (connection x))) stands.gateway in
+    let here : is_pending ≡ has_call s (connection x) = pending_is ∙ ap (λ (g : Gateway). is_some (pending_at g.interleaved.state.tables (connection x))) stands.gateway in
     let says : command ≡ drawn (k + 1) x (has_call s (connection x)) = command_is ∙ ap (drawn (k + 1) x) here in
     inr (inr (k, at, says ∙ ap (λ y. drawn (k + 1) y (has_call s (connection y))) x_is))
 
@@ -239,22 +240,22 @@ run_at seed n m rack player counts same r = subst (λ k. Running seed rack k pla
 
 -- a moment was taken, or wasn't
 pub moment-goes-on : (seed k moment : ℕ) (rack : List SpareShown) (player next : PlayerState) (counts more : Counts) → moment ≡ k + 1 → Running seed rack (HEAD_STEPS + 2 * k) player counts
-    → ((stage : Stage) → Stands player stage → TakesCounted stage (At moment) counts next more) → ((most : ℕ) → IsWithin most counts → IsWithin (most + SLICE_MAX) more)
+    → ((stage : Stage) → PlayerStands player stage → TakesCounted stage (At moment) counts next more) → ((most : ℕ) → IsPlayerWithin most counts → IsPlayerWithin (most + SLICE_MAX) more)
     → Running seed rack (HEAD_STEPS + 2 * k + 1) next more
 moment-goes-on seed k moment rack player next counts more is r takes grown =
     run-goes-on seed rack (HEAD_STEPS + 2 * k) player next counts more (At moment) r
     (subst (λ m. IsGenerated seed (HEAD_STEPS + 2 * k) r.stage (At m)) (sym is) (moment-next seed k (HEAD_STEPS + 2 * k) r.stage refl)) (takes r.stage r.stands) grown
 
 pub moment-halts : (seed k moment : ℕ) (rack : List SpareShown) (player : PlayerState) (counts : Counts) (halt : Halt) → moment ≡ k + 1 → Running seed rack (HEAD_STEPS + 2 * k) player counts
-    → ((stage : Stage) → Stands player stage → StopsFor stage (At moment) halt.stop) → halt.number ≡ HEAD_STEPS + 2 * k + 1 → HaltsIn seed rack halt
+    → ((stage : Stage) → PlayerStands player stage → StopsFor stage (At moment) halt.stop) → halt.number ≡ HEAD_STEPS + 2 * k + 1 → HaltsIn seed rack halt
 moment-halts seed k moment rack player counts halt is r stops number =
     run-halts seed rack (HEAD_STEPS + 2 * k) player counts (At moment) halt r
     (subst (λ m. IsGenerated seed (HEAD_STEPS + 2 * k) r.stage (At m)) (sym is) (moment-next seed k (HEAD_STEPS + 2 * k) r.stage refl)) (stops r.stage r.stands) number
 
 -- a drawn step was taken, or wasn't
 pub drawn-goes-on : (seed k x : ℕ) (is_pending : Bool) (command : Command) (rack : List SpareShown) (player next : PlayerState) (counts more : Counts) → x ≡ draw seed (k + 1)
-    → is_pending ≡ is_some (pending_at player.core.fine.state.tables (connection x)) → command ≡ drawn (k + 1) x is_pending → Running seed rack (HEAD_STEPS + 2 * k + 1) player counts
-    → ((stage : Stage) → Stands player stage → TakesCounted stage command counts next more) → ((most : ℕ) → IsWithin most counts → IsWithin (most + SLICE_MAX) more)
+    → is_pending ≡ is_some (pending_at player.core.interleaved.state.tables (connection x)) → command ≡ drawn (k + 1) x is_pending → Running seed rack (HEAD_STEPS + 2 * k + 1) player counts
+    → ((stage : Stage) → PlayerStands player stage → TakesCounted stage command counts next more) → ((most : ℕ) → IsPlayerWithin most counts → IsPlayerWithin (most + SLICE_MAX) more)
     → Running seed rack (HEAD_STEPS + 2 * (k + 1)) next more
 drawn-goes-on seed k x is_pending command rack player next counts more x_is pending_is command_is r takes grown =
     run_at seed (HEAD_STEPS + 2 * k + 1 + 1) (HEAD_STEPS + 2 * (k + 1)) rack next more (omega arith)
@@ -262,8 +263,8 @@ drawn-goes-on seed k x is_pending command rack player next counts more x_is pend
     (drawn-next seed k (HEAD_STEPS + 2 * k + 1) x is_pending player r.stage command refl r.stands x_is pending_is command_is) (takes r.stage r.stands) grown)
 
 pub drawn-halts : (seed k x : ℕ) (is_pending : Bool) (command : Command) (rack : List SpareShown) (player : PlayerState) (counts : Counts) (halt : Halt) → x ≡ draw seed (k + 1)
-    → is_pending ≡ is_some (pending_at player.core.fine.state.tables (connection x)) → command ≡ drawn (k + 1) x is_pending → Running seed rack (HEAD_STEPS + 2 * k + 1) player counts
-    → ((stage : Stage) → Stands player stage → StopsFor stage command halt.stop) → halt.number ≡ HEAD_STEPS + 2 * k + 1 + 1 → HaltsIn seed rack halt
+    → is_pending ≡ is_some (pending_at player.core.interleaved.state.tables (connection x)) → command ≡ drawn (k + 1) x is_pending → Running seed rack (HEAD_STEPS + 2 * k + 1) player counts
+    → ((stage : Stage) → PlayerStands player stage → StopsFor stage command halt.stop) → halt.number ≡ HEAD_STEPS + 2 * k + 1 + 1 → HaltsIn seed rack halt
 drawn-halts seed k x is_pending command rack player counts halt x_is pending_is command_is r stops number =
     run-halts seed rack (HEAD_STEPS + 2 * k + 1) player counts command halt r
     (drawn-next seed k (HEAD_STEPS + 2 * k + 1) x is_pending player r.stage command refl r.stands x_is pending_is command_is) (stops r.stage r.stands) number

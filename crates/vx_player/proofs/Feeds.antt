@@ -7,7 +7,7 @@ use Rattle.vx_calls.specs.declared.limits.TheConstants.{RECORD_MAX}
 use Rattle.vx_record.specs.Buffer.{fresh, fed, taken}
 use Rattle.vx_record.specs.declared.Fed.{Fed}
 use Rattle.vx_record.specs.declared.Feed.{Feed}
-use Rattle.vx_record.specs.ProvedLaws.{fed-limit}
+use Rattle.vx_record.proofs.Laws.{fed-limit}
 use Rattle.vx_script.specs.declared.Cause.TheVariants as cause
 use Rattle.vx_bus_traits.specs.Steps.{Cut}
 use Rattle.vx_sim.specs.SimState.{SimState}
@@ -16,14 +16,14 @@ use Rattle.vx_core.specs.CoreState.{CoreState}
 use Rattle.vx_player.specs.declared.note.Gone.TheVariants as gone
 use Rattle.vx_player.specs.declared.note.Note.TheVariants as note
 use Rattle.vx_player.specs.declared.note.Intake.TheVariants as intake
-use Rattle.vx_player.specs.declared.note.Made.{Made}
-use Rattle.vx_bench.specs.declared.stops.Stop.TheVariants as stop
+use Rattle.vx_player.specs.declared.note.StepMade.{StepMade}
+use Rattle.vx_setup.specs.declared.stops.Refusal.TheVariants as stop
 use Rattle.vx_player.specs.declared.pieces.Incoming.{Incoming}
 use Rattle.vx_player.specs.Gateway.{Gateway, gateway_of, Happens}
 use Rattle.vx_exchange.specs.Meaning.{Meaning, Junk, meaning, xid_by}
 use Rattle.vx_player.specs.Making.{MessageMakes}
 use Rattle.vx_player.specs.declared.serve.Served.{Served}
-use Rattle.vx_player.specs.Serving.{MadeBy, Serves, given_lines}
+use Rattle.vx_player.specs.Serving.{MadeBy, PlayerServes, given_lines}
 use Rattle.vx_player.specs.Standing.{begun_lines, moves_lines}
 use Rattle.vx_trace.specs.Output.{Output}
 use Rattle.vx_flow.specs.Event.{Event}
@@ -42,7 +42,7 @@ kept-behind Junk kept live = absurd (live refl)
 kept-behind _ kept live = refl
 
 -- what gave the gateway a message made the same events and lines
-told-message : (StepMakes : List Event → Option Output → Gateway → Type 0) (room : List ℕ) (made : Made) (conn : ℕ) (after : CoreState SimState) → made.intake ≡ intake.Nothing
+told-message : (StepMakes : List Event → Option Output → Gateway → Type 0) (room : List ℕ) (made : StepMade) (conn : ℕ) (after : CoreState SimState) → made.intake ≡ intake.Nothing
     → MadeBy StepMakes room made after → MadeBy StepMakes room (record made { intake = intake.Message conn }) after
 told-message StepMakes room made conn after quiet m = record {
   group = m.group;
@@ -56,7 +56,7 @@ told-message StepMakes room made conn after quiet m = record {
 
 -- a whole record that isn't junk
 pub record-served : (g : Gateway) (after : CoreState SimState) (conn now : ℕ) (r : Role) (was kept : Incoming) (room message : List ℕ) (after_kept : Option Incoming) (served : Served)
-    → was ≡ kept → Serves g conn now was.xid (meaning was.buffer.kept r) room served after → message ≡ was.buffer.kept
+    → was ≡ kept → PlayerServes g conn now was.xid (meaning was.buffer.kept r) room served after → message ≡ was.buffer.kept
     → after_kept ≡ Some (record was { buffer = fresh was.buffer.limit; xid = served.xid })
     → AnswersRecord g conn now r kept room message after_kept (record served.made { intake = intake.Message conn }) after
 record-served g after conn now r was kept room message after_kept served same serves is_message is =
@@ -74,7 +74,7 @@ pub record-junk : (before mid after : CoreState SimState) (conn now : ℕ) (r : 
     → AnswersRecord (gateway_of before) conn now r kept room message after_kept
     (record { intake = intake.Message conn; polled = None; note = note.Ended conn gone.Junk; answered = None }) after
 record-junk before mid after conn now r was kept room message after_kept same junk is_message stays went none =
-    let made : Made = record { intake = intake.Message conn; polled = None; note = note.Ended conn gone.Junk; answered = None } in
+    let made : StepMade = record { intake = intake.Message conn; polled = None; note = note.Ended conn gone.Junk; answered = None } in
     let P : Incoming → Type 0 = λ k. AnswersRecord (gateway_of before) conn now r k room message after_kept made after in
     let Q : Meaning → Type 0 = λ m. MadeBy (MessageMakes (gateway_of before) conn now m) room made after in
     let from : Happens (gateway_of before) (event.Down conn ∷ []) (Cut ∷ []) (gateway_of after) =
@@ -110,7 +110,7 @@ fed-whole old new kept piece result state f was all is =
     subst (λ k. IsFedWhole k piece new state) same (record { whole = sym f.took ∙ took; is = f.is; state_is = sym f.state ∙ is })
 
 -- what stands in the buffer then was answered so
-pub feeds-piece : (g : Gateway) (conn now : ℕ) (r : Role) (kept : Incoming) (piece room message : List ℕ) (new after_kept : Option Incoming) (made : Made)
+pub feeds-piece : (g : Gateway) (conn now : ℕ) (r : Role) (kept : Incoming) (piece room message : List ℕ) (new after_kept : Option Incoming) (made : StepMade)
     (after : CoreState SimState) (state : Feed) → IsFedWhole kept piece new state
     → FeedMakes g conn now r (record kept { buffer = fed kept.buffer piece }) room message after_kept made after state
     → FeedsPiece g conn now r kept piece room message after_kept made after

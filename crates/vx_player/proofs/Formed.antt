@@ -12,10 +12,10 @@ use Rattle.vx_rules.specs.Lists.{along}
 use Rattle.vx_rules.specs.State.{role_at, has_room}
 use Rattle.vx_flow.specs.Event.{Event}
 use Rattle.vx_flow.specs.Event as event
-use Rattle.vx_flow.specs.FineState.{FineState}
-use Rattle.vx_flow.specs.Fine.{fine}
-use Rattle.vx_bench.specs.Script.{Step}
-use Rattle.vx_bench.specs.Rack.{SpareShown}
+use Rattle.vx_flow.specs.InterleavedState.{InterleavedState}
+use Rattle.vx_flow.specs.InterleavedStep.{interleaved_step}
+use Rattle.vx_setup.specs.Script.{Step}
+use Rattle.vx_setup.specs.Rack.{SpareShown}
 use Rattle.vx_run.specs.Stream.{Brought, NoEnd, Whole, TooLong, After, brought}
 use Rattle.vx_run.specs.Item.{Item}
 use Rattle.vx_run.specs.Position.{Position}
@@ -24,79 +24,79 @@ use Rattle.vx_run.specs.Forming.{gateway_refusal, Forms, FormsAll, IsFormed}
 use Rattle.vx_player.specs.Gateway.{Gateway, abort_port}
 use Rattle.vx_player.specs.Stage.{Stage, tables_of, beginning, refusal}
 use Rattle.vx_player.specs.Making.{IsQuiet, EndMakes, PollMakes, Tweaks, MessageMakes, RecordMakes, PieceMakes, ChannelMakes, Makes}
-use Rattle.vx_player.specs.Play.{Takes, Plays}
+use Rattle.vx_player.specs.Play.{PlayerTakes, Plays}
 
 -- where a play stands in the gateway
 abbrev pub position : Stage → Position
-position s = record { fine = s.gateway.fine; streams = s.streams; xids = s.xids; moment = s.moment }
+position s = record { interleaved = s.gateway.interleaved; streams = s.streams; xids = s.xids; moment = s.moment }
 
 -- ---- what a step makes
 
-given : (f g : FineState) (events group : List Event) (line shown : Option Output) → group ≡ events → shown ≡ line → along fine (Some f) group ≡ Some g
+given : (f g : InterleavedState) (events group : List Event) (line shown : Option Output) → group ≡ events → shown ≡ line → along interleaved_step (Some f) group ≡ Some g
     → Gives f events line group shown g
 given f g events group line shown events_are told happens = record {
   events = events_are;
   told = told;
-  happens = subst (λ es. along fine (Some f) es ≡ Some g) events_are happens;
+  happens = subst (λ es. along interleaved_step (Some f) es ≡ Some g) events_are happens;
 }
 
 -- nothing happens
-quiet : (before after : Gateway) (group : List Event) (line shown : Option Output) → IsQuiet before group after → shown ≡ line → Gives before.fine [] line group shown after.fine
-quiet before after group line shown h told = record { events = h.none; told = told; happens = ap (λ (g : Gateway). Some g.fine) (sym h.same) }
+quiet : (before after : Gateway) (group : List Event) (line shown : Option Output) → IsQuiet before group after → shown ≡ line → Gives before.interleaved [] line group shown after.interleaved
+quiet before after group line shown h told = record { events = h.none; told = told; happens = ap (λ (g : Gateway). Some g.interleaved) (sym h.same) }
 
 tweaked : (before after : Gateway) (Change : SimState → SimState → Type 0) (group : List Event) (shown : Option Output) → Tweaks before Change group shown after
-    → Gives before.fine [] None group shown after.fine
-tweaked before after Change group shown h = record { events = h.none; told = h.told; happens = ap (λ f. Some f) (sym h.fine) }
+    → Gives before.interleaved [] None group shown after.interleaved
+tweaked before after Change group shown h = record { events = h.none; told = h.told; happens = ap (λ f. Some f) (sym h.interleaved) }
 
 polled : (before after : Gateway) (conn now xid : ℕ) (group : List Event) (shown : Option Output) → PollMakes before conn now xid group shown after
-    → PollGives before.fine conn now xid group shown after.fine
+    → PollGives before.interleaved conn now xid group shown after.interleaved
 polled before after conn now xid group shown h =
     record { moves = after.bus.means.moves; ending = h.ending; polls = h.over.polls; events = h.events; told = h.told }
 
 ended : (before after : Gateway) (conn : ℕ) (line : Output) (group : List Event) (shown : Option Output) → (h : EndMakes before conn line group shown after)
-    → Gives before.fine (event.Down conn ∷ []) (Some line) group shown after.fine
-ended before after conn line group shown h = given before.fine after.fine (event.Down conn ∷ []) group (Some line) shown h.events h.told h.happens.events
+    → Gives before.interleaved (event.Down conn ∷ []) (Some line) group shown after.interleaved
+ended before after conn line group shown h = given before.interleaved after.interleaved (event.Down conn ∷ []) group (Some line) shown h.events h.told h.happens.events
 
 message-gives : (g : Gateway) (conn now : ℕ) (m : Meaning) (group : List Event) (shown : Option Output) (after : Gateway)
-    → MessageMakes g conn now m group shown after → MessageGives g.fine conn now m group shown after.fine
+    → MessageMakes g conn now m group shown after → MessageGives g.interleaved conn now m group shown after.interleaved
 message-gives g conn now Junk group shown after h = ended g after conn _ group shown h
 message-gives g conn now (meant.Answered message) group shown after h = quiet g after group _ shown h.0 h.1
 message-gives g conn now (Asks xid asked) group shown after h = record {
-  come = h.come.fine;
+  come = h.come.interleaved;
   comes = h.comes.events;
   rest = h.rest;
   polled = polled h.come after conn now xid h.rest shown h.polled;
   events = h.events;
 }
-message-gives g conn now (Aborts xid lid) group shown after h = (h.error, given g.fine after.fine _ group _ shown h.events h.told h.happens.events)
+message-gives g conn now (Aborts xid lid) group shown after h = (h.error, given g.interleaved after.interleaved _ group _ shown h.events h.told h.happens.events)
 
 record-gives : (g : Gateway) (conn now : ℕ) (message : List ℕ) (r : Option Role) (group : List Event) (shown : Option Output) (after : Gateway)
-    → RecordMakes g conn now message r group shown after → RecordGives g.fine conn now message r group shown after.fine
+    → RecordMakes g conn now message r group shown after → RecordGives g.interleaved conn now message r group shown after.interleaved
 record-gives g conn now message None group shown after h = absurd h
 record-gives g conn now message (Some r) group shown after h = message-gives g conn now (meaning message r) group shown after h
 
 piece-gives : (g : Gateway) (conn now : ℕ) (b : Brought) (group : List Event) (shown : Option Output) (after : Gateway)
-    → PieceMakes g conn now b group shown after → PieceGives g.fine conn now b group shown after.fine
+    → PieceMakes g conn now b group shown after → PieceGives g.interleaved conn now b group shown after.interleaved
 piece-gives g conn now NoEnd group shown after h = quiet g after group _ shown h.0 h.1
-piece-gives g conn now (Whole message) group shown after h = record-gives g conn now message (role_at g.fine.state.tables conn) group shown after h
+piece-gives g conn now (Whole message) group shown after h = record-gives g conn now message (role_at g.interleaved.state.tables conn) group shown after h
 piece-gives g conn now TooLong group shown after h = ended g after conn _ group shown h
 piece-gives g conn now After group shown after h = absurd h
 
 channel-gives : (g : Gateway) (conn : ℕ) (c : Option Channel) (group : List Event) (shown : Option Output) (after : Gateway)
-    → ChannelMakes g conn c group shown after → ChannelGives g.fine conn c group shown after.fine
+    → ChannelMakes g conn c group shown after → ChannelGives g.interleaved conn c group shown after.interleaved
 channel-gives g conn None group shown after h = quiet g after group _ shown h.0 h.1
-channel-gives g conn (Some c) group shown after h = (h.given, given g.fine after.fine _ group _ shown h.events h.told h.happens.events)
+channel-gives g conn (Some c) group shown after h = (h.given, given g.interleaved after.interleaved _ group _ shown h.events h.told h.happens.events)
 
 makes-gives : (s : Stage) (command : Command) (group : List Event) (shown : Option Output) (after : Gateway) → Makes s command group shown after
-    → StepGives (position s) command group shown after.fine
-makes-gives s (Up conn r) group shown after h = given s.gateway.fine after.fine _ group _ shown h.0 h.2 h.1.events
+    → StepGives (position s) command group shown after.interleaved
+makes-gives s (Up conn r) group shown after h = given s.gateway.interleaved after.interleaved _ group _ shown h.0 h.2 h.1.events
 makes-gives s (In conn bytes) group shown after h = piece-gives s.gateway conn s.moment (brought (s.streams conn) bytes) group shown after h
 makes-gives s (Down conn) group shown after h = ended s.gateway after conn _ group shown h
 makes-gives s (At moment) group shown after h = quiet s.gateway after group _ shown h.0 h.1
 makes-gives s (Poll conn) group shown after h = polled s.gateway after conn s.moment (s.xids conn) group shown h
-makes-gives s Sample group shown after h = (_, given s.gateway.fine after.fine _ group _ shown h.events h.told h.happens.events)
+makes-gives s Sample group shown after h = (_, given s.gateway.interleaved after.interleaved _ group _ shown h.events h.told h.happens.events)
 makes-gives s (Take conn) group shown after h = channel-gives s.gateway conn (channel_at (tables_of s).srq_state conn) group shown after h
-makes-gives s (Dial conn up) group shown after h = (h.error, given s.gateway.fine after.fine _ group _ shown h.events h.told h.happens.events)
+makes-gives s (Dial conn up) group shown after h = (h.error, given s.gateway.interleaved after.interleaved _ group _ shown h.events h.told h.happens.events)
 makes-gives s (Inst p secondary text) group shown after h = tweaked s.gateway after _ group shown h
 makes-gives s (Plug p secondary name) group shown after h = tweaked s.gateway after _ group shown h
 makes-gives s (Pull p secondary) group shown after h = tweaked s.gateway after _ group shown h
@@ -120,7 +120,7 @@ allowed s _ h = refl
 
 -- ---- all steps
 
-forms : (before after : Stage) (item : Item) → Takes before item after → Forms (position before) item (position after)
+forms : (before after : Stage) (item : Item) → PlayerTakes before item after → Forms (position before) item (position after)
 forms before after item t = record {
   allowed = allowed before item.command t.allowed;
   gives = makes-gives before item.command item.group item.note after.gateway t.makes;

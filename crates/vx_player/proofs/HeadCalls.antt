@@ -5,12 +5,12 @@ use Rattle.vx_calls.specs.Reply as reply
 use Rattle.vx_script.specs.Command.{Command, Dial}
 use Rattle.vx_rules.specs.Lists.{along}
 use Rattle.vx_rules.specs.Calls.{asks_dial}
-use Rattle.vx_flow.specs.Fine.{fine}
+use Rattle.vx_flow.specs.InterleavedStep.{interleaved_step}
 use Rattle.vx_gen.specs.Generating.{on_core, channel_made}
-use Rattle.vx_gen.proofs.Spelled.{channel-spelled}
+use Rattle.vx_gen.proofs.Laws.Spelled.{channel-spelled}
 use Rattle.vx_run.specs.Item.{Item}
 use Rattle.vx_player.specs.Stage.{Stage, refusal}
-use Rattle.vx_player.specs.Play.{Takes}
+use Rattle.vx_player.specs.Play.{PlayerTakes}
 use Rattle.vx_player.proofs.Brief.{IsBrief}
 use Rattle.vx_player.proofs.Resting.{IsResting, IsDialing, called-rests, called-dials, dial-rests}
 use Rattle.vx_player.proofs.Served.{IsCore, IsServed, IsCoreCall, made, asks-made, goes-asking, goes-dial}
@@ -18,17 +18,17 @@ use Rattle.vx_player.proofs.Served.{IsCore, IsServed, IsCoreCall, made, asks-mad
 -- A command isn't refused at such stages, and leads to such others.
 pub record Passes (P : Stage → Type 0) (command : Command) (Q : Stage → Type 0) : Type 0 where
   pub allowed : (s : Stage) → P s → refusal s command ≡ None
-  pub leads : (s t : Stage) (item : Item) → P s → item.command ≡ command → Takes s item t → Q t
+  pub leads : (s t : Stage) (item : Item) → P s → item.command ≡ command → PlayerTakes s item t → Q t
 
 -- a stage between the calls of the head
 pub record AtCall (most : ℕ) (Free : ℕ → Type 0) (s : Stage) : Type 0 where
   pub served : IsServed s
-  pub rests : IsResting most Free s.gateway.fine
+  pub rests : IsResting most Free s.gateway.interleaved
 
 -- one at which the dial of a connection's call was asked for
 pub record AtDial (most : ℕ) (Free : ℕ → Type 0) (conn : ℕ) (s : Stage) : Type 0 where
   pub served : IsServed s
-  pub dials : IsDialing most Free conn s.gateway.fine
+  pub dials : IsDialing most Free conn s.gateway.interleaved
 
 -- a call that needs neither the bus, nor a lock, nor a dial
 pub call-passes : (most : ℕ) (Free : ℕ → Type 0) (conn xid : ℕ) (asked : Call) → IsCore conn → IsCoreCall asked → IsBrief asked → asks_dial asked ≡ false
@@ -39,7 +39,7 @@ call-passes most Free conn xid asked is_core is_call brief no_dial = record {
       let m = asks-made s t item conn xid asked at.served is_core is_call is takes in
       record {
         served = (goes-asking s conn xid asked is_core is_call (at.rests.idle conn) at.served).leads item t is takes;
-        rests = called-rests most Free conn s.moment asked t.gateway.bus.means.moves m.polled.ending s.gateway.fine m.come.fine t.gateway.fine at.rests brief no_dial
+        rests = called-rests most Free conn s.moment asked t.gateway.bus.means.moves m.polled.ending s.gateway.interleaved m.come.interleaved t.gateway.interleaved at.rests brief no_dial
             m.comes.events m.polled.over.polls;
       };
 }
@@ -55,7 +55,7 @@ channel-passes most Free conn xid is_core small free =
           let m = asks-made s t item conn xid channel_made at.served is_core is_call is takes in
           record {
             served = (goes-asking s conn xid channel_made is_core is_call (at.rests.idle conn) at.served).leads item t is takes;
-            dials = called-dials most Free conn s.moment 0x7F000001 0x0607B1 1 t.gateway.bus.means.moves m.polled.ending s.gateway.fine m.come.fine t.gateway.fine at.rests small free
+            dials = called-dials most Free conn s.moment 0x7F000001 0x0607B1 1 t.gateway.bus.means.moves m.polled.ending s.gateway.interleaved m.come.interleaved t.gateway.interleaved at.rests small free
                 m.comes.events m.polled.over.polls;
           };
     }
@@ -68,7 +68,7 @@ dial-passes most Free conn is_core = record {
       let m = made s t item (Dial conn true) is takes in
       record {
         served = (goes-dial s conn true is_core at.dials.wanted at.served).leads item t is takes;
-        rests = dial-rests most Free conn s.moment (Some true) (reply.Error m.error) s.gateway.fine t.gateway.fine at.dials
-            (subst (λ es. along fine (Some s.gateway.fine) es ≡ Some t.gateway.fine) m.events m.happens.events);
+        rests = dial-rests most Free conn s.moment (Some true) (reply.Error m.error) s.gateway.interleaved t.gateway.interleaved at.dials
+            (subst (λ es. along interleaved_step (Some s.gateway.interleaved) es ≡ Some t.gateway.interleaved) m.events m.happens.events);
       };
 }

@@ -13,7 +13,7 @@ use Rattle.vx_488.specs.declared.transfers.TheConstants.{ADDRESS_MAX}
 use Rattle.vx_488.specs.declared.transfers.Transfer.{Transfer}
 use Rattle.vx_488.specs.declared.wire.Wire.{Wire}
 use Rattle.vx_488.specs.Heard.{heard}
-use Rattle.vx_488.proofs.AddressCommands.{listen_byte, talk_byte, secondary_byte}
+use Rattle.vx_488.proofs.Laws.AddressCommands.{listen_byte, talk_byte, secondary_byte}
 use Rattle.vx_plan.specs.Plan.{Slot, Off, stand}
 use Rattle.vx_plan.specs.Tasks.{unl, mta, listener, ended_poll, puts, just, write_plan, IsTargetPlain, IsSecondaryPlain}
 use Rattle.vx_rules.specs.Table.{Link}
@@ -21,8 +21,8 @@ use Rattle.vx_bus_traits.specs.Steps.{Step, Went, Told, Cut}
 use Rattle.vx_sim.specs.Bench.{some_asks, some_refuses}
 use Rattle.vx_sim.specs.SimState.{Through}
 use Rattle.vx_sim.specs.Laws.{is_quiet, only_puts, TakesAll}
-use Rattle.vx_sim.specs.ProvedLaws.{steps-moves}
-use Rattle.vx_sim.proofs.Hears.{heard-taken}
+use Rattle.vx_sim.proofs.Laws.{steps-moves}
+use Rattle.vx_sim.proofs.Laws.Hears.{heard-taken}
 use Rattle.vx_rules.specs.Lists.{along}
 use Rattle.vx_rules.specs.State.{Pending, Tables, pending_at, link_of}
 use Rattle.vx_rules.specs.Calls.{sets_end}
@@ -31,18 +31,18 @@ use Rattle.vx_rules.specs.Effects.{task_of}
 use Rattle.vx_rules.specs.Serving.{IsPlainLink}
 use Rattle.vx_rules.specs.Decide.{stand_of_job}
 use Rattle.vx_flow.specs.Event.{Begin, Move}
-use Rattle.vx_flow.specs.FineState.{FineState}
-use Rattle.vx_flow.specs.Fine.{call_stand, fine}
+use Rattle.vx_flow.specs.InterleavedState.{InterleavedState}
+use Rattle.vx_flow.specs.InterleavedStep.{call_stand, interleaved_step}
 use Rattle.vx_flow.specs.Poll.{Ending, ran_of, begins, run_events}
 use Rattle.vx_flow.specs.declared.progress.Ran.{Ran}
 use Rattle.vx_flow.specs.declared.progress.Ran.TheVariants as ran
 use Rattle.vx_flow.specs.Sound.{TurnStands, IsSound}
-use Rattle.vx_flow.specs.ProvedLaws.{fine-does, just-front}
-use Rattle.vx_flow.specs.ProvedLaws.Plain.{found-has}
-use Rattle.vx_core.specs.Polling.{PollsOver, wanted, refused_ask}
+use Rattle.vx_flow.proofs.Laws.{interleaved-does, just-front}
+use Rattle.vx_flow.proofs.Laws.Plain.{found-has}
+use Rattle.vx_core.specs.Polling.{PollOnBus, wanted, refused_ask}
 use Rattle.vx_player.specs.Gateway.{Gateway}
 use Rattle.vx_player.specs.Hearing.{is_write, TakesHeard}
-use Rattle.vx_player.specs.ProvedLaws.{refused-none}
+use Rattle.vx_player.proofs.Laws.{refused-none}
 
 -- ---- transfers that change instruments at most by a byte that is put
 
@@ -112,22 +112,22 @@ call-quiet t w conn _ ts plain small is on = absurd (false≢true is)
 -- ---- the transfers of a poll
 
 -- what holds of every core: it is sound, and the addresses of links, and the own one as the turn began, are at most 30
-pub record IsSteady (f : FineState) : Type 0 where
+pub record IsSteady (f : InterleavedState) : Type 0 where
   pub sound : IsSound f
   pub links : All IsPlainLink f.state.tables.links.links
   pub own : f.before.own ≤ ADDRESS_MAX
 
 -- the call of a connection is a write; the addresses of links, and the own one as its turn began, are at most 30
-record Writes (f : FineState) (conn : ℕ) (p : Pending) : Type 0 where
+record Writes (f : InterleavedState) (conn : ℕ) (p : Pending) : Type 0 where
   call_at : pending_at f.state.tables conn ≡ Some p
   writes : is_write p.call ≡ true
   links : All IsPlainLink f.state.tables.links.links
   own : f.before.own ≤ ADDRESS_MAX
 
 -- its turn goes on by these transfers
-moved-quiet : (f next : FineState) (conn : ℕ) (p : Pending) (moves : List Transfer) → Writes f conn p → fine f (Move conn moves) ≡ Some next → all_quiet moves ≡ true
+moved-quiet : (f next : InterleavedState) (conn : ℕ) (p : Pending) (moves : List Transfer) → Writes f conn p → interleaved_step f (Move conn moves) ≡ Some next → all_quiet moves ≡ true
 moved-quiet f next conn p moves w h =
-    let d = (fine-does f next (Move conn moves) h).step in
+    let d = (interleaved-does f next (Move conn moves) h).step in
     let t = f.state.tables in
     let made = d.turn.moves ++ moves in
     let here : call_stand t f.before conn made (pending_at t conn) ≢ Off = subst (λ n. call_stand t f.before n made (pending_at t n) ≢ Off) d.of_call d.on_plan in
@@ -135,27 +135,27 @@ moved-quiet f next conn p moves w h =
     (call-quiet t f.before conn p.call made w.links w.own w.writes (subst (λ o. call_stand t f.before conn made o ≢ Off) w.call_at here))).1
 
 -- where no turn is under way the bus as it began is the bus as it is
-wire-is : (f : FineState) → IsSound f → f.turn ≡ None → f.before ≡ f.state.wire
+wire-is : (f : InterleavedState) → IsSound f → f.turn ≡ None → f.before ≡ f.state.wire
 wire-is f sound none = subst (TurnStands f.state.tables f.before f.state.wire f.state.moment) none sound.turn_stands
 
 -- the turn of a write begins
-begun-writes : (f mid : FineState) (conn now : ℕ) (p : Pending) → IsSound f → Writes f conn p → fine f (Begin conn now) ≡ Some mid → Writes mid conn p
+begun-writes : (f mid : InterleavedState) (conn now : ℕ) (p : Pending) → IsSound f → Writes f conn p → interleaved_step f (Begin conn now) ≡ Some mid → Writes mid conn p
 begun-writes f mid conn now p sound w h =
-    let d = (fine-does f mid (Begin conn now) h).step in
+    let d = (interleaved-does f mid (Begin conn now) h).step in
     let small : f.state.wire.own ≤ ADDRESS_MAX = subst (λ (v : Wire). v.own ≤ ADDRESS_MAX) (wire-is f sound d.no_turn) w.own in
     subst (λ m. Writes m conn p) (sym d.leads) (record { call_at = w.call_at; writes = w.writes; links = w.links; own = small })
 
 -- the transfers of a poll of a write
-run-quiet : (f behind : FineState) (conn now : ℕ) (p : Pending) (moves : List Transfer) → IsSound f → Writes f conn p
-    → along fine (Some f) (run_events f conn now moves) ≡ Some behind → all_quiet moves ≡ true
+run-quiet : (f behind : InterleavedState) (conn now : ℕ) (p : Pending) (moves : List Transfer) → IsSound f → Writes f conn p
+    → along interleaved_step (Some f) (run_events f conn now moves) ≡ Some behind → all_quiet moves ≡ true
 run-quiet f behind conn now p [] sound w h = refl
 run-quiet f behind conn now p (t ∷ ts) sound w h = by (begins f conn now) h where
-  begun : (o : Option FineState) → fine f (Begin conn now) ≡ o → option_and_then (λ s. fine s (Move conn (t ∷ ts))) o ≡ Some behind → all_quiet (t ∷ ts) ≡ true
+  begun : (o : Option InterleavedState) → interleaved_step f (Begin conn now) ≡ o → option_and_then (λ s. interleaved_step s (Move conn (t ∷ ts))) o ≡ Some behind → all_quiet (t ∷ ts) ≡ true
   begun None e h = cc
   begun (Some mid) e h = moved-quiet mid behind conn p (t ∷ ts) (begun-writes f mid conn now p sound w e) h
 
-  by : (b : Bool) → along fine (Some f) (cond b (Begin conn now ∷ []) [] ++ Move conn (t ∷ ts) ∷ []) ≡ Some behind → all_quiet (t ∷ ts) ≡ true
-  by true h = begun (fine f (Begin conn now)) refl h
+  by : (b : Bool) → along interleaved_step (Some f) (cond b (Begin conn now ∷ []) [] ++ Move conn (t ∷ ts) ∷ []) ≡ Some behind → all_quiet (t ∷ ts) ≡ true
+  by true h = begun (interleaved_step f (Begin conn now)) refl h
   by false h = moved-quiet f behind conn p (t ∷ ts) w h
 
 -- ---- the steps of a poll
@@ -180,13 +180,13 @@ steps-quiet (t ∷ ts) rest h k =
 -- In a poll of a write the instruments are told the moment, and then each takes, in order, the bytes that its address hears
 -- of the poll's transfers, and no others.
 pub write-taken : (before after : Gateway) (conn now : ℕ) (ending : Ending)
-    → PollsOver (λ s. s.means) Through (λ s. some_asks s.bench) (λ s. some_refuses s.means.wire s.bench) before.fine before.bus conn now (Cut ∷ Told now ∷ []) ending after.fine after.bus
-    → IsSteady before.fine
-    → (p : Pending) → pending_at before.fine.state.tables conn ≡ Some p → is_write p.call ≡ true → TakesHeard before.bus now after.bus.means.moves after.bus
+    → PollOnBus (λ s. s.means) Through (λ s. some_asks s.bench) (λ s. some_refuses s.means.wire s.bench) before.interleaved before.bus conn now (Cut ∷ Told now ∷ []) ending after.interleaved after.bus
+    → IsSteady before.interleaved
+    → (p : Pending) → pending_at before.interleaved.state.tables conn ≡ Some p → is_write p.call ≡ true → TakesHeard before.bus now after.bus.means.moves after.bus
 write-taken before after conn now ending over steady p at is =
     let moves = after.bus.means.moves in
-    let writes : Writes before.fine conn p = record { call_at = at; writes = is; links = steady.links; own = steady.own } in
-    let quiet = run-quiet before.fine over.polls.behind conn now p moves steady.sound writes over.polls.runs_to in
+    let writes : Writes before.interleaved conn p = record { call_at = at; writes = is; links = steady.links; own = steady.own } in
+    let quiet = run-quiet before.interleaved over.polls.behind conn now p moves steady.sound writes over.polls.runs_to in
     let ran = ran_of ending in
     let slot = wanted over.polls.behind conn over.polls.asked in
     let told = over.walk.2.0 in

@@ -1,16 +1,13 @@
+pub mod Laws
 pub mod Stepping
 pub mod Feeds
-pub mod Connections
 pub mod Roles
 pub mod Shown
-pub mod Upholding
 pub mod Hearing
 pub mod Tweaked
 pub mod Calling
 pub mod PollEvents
 pub mod PollMade
-pub mod Ready
-pub mod Printed
 pub mod Both
 pub mod Counted
 pub mod Spelled
@@ -23,6 +20,5 @@ pub mod Served
 pub mod Drawn
 pub mod Coming
 pub mod HeadCalls
-pub mod Halting
 pub mod Driving
 pub mod Formed

@@ -6,7 +6,7 @@ use Rattle.std.proofs.lemmas.List.{map-append}
 use Rattle.std.proofs.lemmas.List.Quantifiers.{position-Some}
 use Rattle.std.proofs.lemmas.Option.{none-some, same_Some}
 use Rattle.std.specs.Str.{bytes_eq}
-use Rattle.vx_lemmas.specs.Conditions.{same_bytes}
+use Rattle.vx_lemmas.proofs.Laws.Conditions.{same_bytes}
 use Rattle.vx_488.specs.declared.transfers.Addr.{Addr}
 use Rattle.vx_488.specs.declared.wire.Wire.{Wire}
 use Rattle.vx_488.specs.Wire.{first_wire}
@@ -20,15 +20,15 @@ use Rattle.vx_sim.specs.Occupants.{Placed}
 use Rattle.vx_sim.specs.SimState.{SimState}
 use Rattle.vx_sim.specs.Attaching.{clashes, taken_or_full, IsAttached}
 use Rattle.vx_sim.specs.Attaching as attaching
-use Rattle.vx_bench.specs.Rack.{SpareShown, spare_at, without_at, without_spare}
-use Rattle.vx_bench.specs.Refusing.{address, cause_of, spare_refused}
-use Rattle.vx_bench.specs.Attaches.{AttachesSpare}
-use Rattle.vx_flow.specs.FineState.{first_fine}
+use Rattle.vx_setup.specs.Rack.{SpareShown, spare_at, without_at, without_spare}
+use Rattle.vx_setup.specs.Refusing.{address, cause_of, spare_refused}
+use Rattle.vx_setup.specs.Attaches.{AttachesSpare}
+use Rattle.vx_flow.specs.InterleavedState.{first_interleaved}
 use Rattle.vx_player.specs.Gateway.{BusGoes, abort_port}
 use Rattle.vx_run.specs.Item.{Item}
 use Rattle.vx_player.specs.Stage.{Stage, refusal}
 use Rattle.vx_player.specs.Making.{Tweaks, Makes}
-use Rattle.vx_player.specs.Play.{Takes, stream_after, rack_after}
+use Rattle.vx_player.specs.Play.{PlayerTakes, stream_after, rack_after}
 use Rattle.vx_player.proofs.Tweaked.{cut-same}
 
 -- ---- the bus
@@ -93,7 +93,7 @@ spare-apart rack gone name apart = by (position (λ spare. bytes_eq spare.name g
 -- Behind some `plug` commands: the gateway is as it began, instruments stand at these addresses, and the rack has each spare of a name that
 -- is left as it had it first.
 pub record IsPlugged (rack : List SpareShown) (places : List Addr) (IsLeft : List ℕ → Type 0) (s : Stage) : Type 0 where
-  pub fine : s.gateway.fine ≡ first_fine abort_port
+  pub interleaved : s.gateway.interleaved ≡ first_interleaved abort_port
   pub streams : (conn : ℕ) → s.streams conn ≡ []
   pub bus : HasPlaces places s.gateway.bus
   pub spares : (name : List ℕ) → IsLeft name → spare_at s.rack name ≡ spare_at rack name
@@ -115,13 +115,13 @@ plug-refused rack places IsLeft s p name why plugged free left h = by (spare_at 
 
 -- and leaves this
 pub plug-leads : (rack : List SpareShown) (places : List Addr) (IsLeft Later : List ℕ → Type 0) (s t : Stage) (item : Item) (p : ℕ) (name : List ℕ)
-    → IsPlugged rack places IsLeft s → item.command ≡ Plug p None name → Takes s item t → ((other : List ℕ) → Later other → IsLeft other × (bytes_eq name other ≡ false))
+    → IsPlugged rack places IsLeft s → item.command ≡ Plug p None name → PlayerTakes s item t → ((other : List ℕ) → Later other → IsLeft other × (bytes_eq name other ≡ false))
     → IsPlugged rack (places ++ address p None ∷ []) Later t
 plug-leads rack places IsLeft Later s t item p name plugged is takes fewer =
     let made : Tweaks s.gateway (AttachesSpare (address p None) (spare_at s.rack name)) item.group item.note t.gateway =
     subst (λ c. Makes s c item.group item.note t.gateway) is takes.makes in
     record {
-      fine = made.fine ∙ plugged.fine;
+      interleaved = made.interleaved ∙ plugged.interleaved;
       streams = λ conn. takes.streams conn ∙ ap (λ c. stream_after s c conn) is ∙ plugged.streams conn;
       bus = place-more places s.gateway.bus made.cut t.gateway.bus (address p None) (spare_at s.rack name) plugged.bus made.bus made.change;
       spares = λ other later.

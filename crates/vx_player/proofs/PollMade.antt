@@ -15,11 +15,11 @@ use Rattle.vx_sim.specs.SimState.{SimState, Through}
 use Rattle.vx_rules.specs.Serving.{IsPlainLink}
 use Rattle.vx_flow.specs.Event.{Event, Arrive, Begin}
 use Rattle.vx_flow.specs.Event as event
-use Rattle.vx_flow.specs.FineState.{FineState}
-use Rattle.vx_flow.specs.Fine.{fine}
+use Rattle.vx_flow.specs.InterleavedState.{InterleavedState}
+use Rattle.vx_flow.specs.InterleavedStep.{interleaved_step}
 use Rattle.vx_flow.specs.Poll.{Ending, Answered, Waited, Dialed, begins, run_events, moved_events, end_events}
-use Rattle.vx_flow.specs.ProvedLaws.{fine-does, fine-frame, stays_sound-law}
-use Rattle.vx_flow.specs.ProvedLaws.Kept.{same-before}
+use Rattle.vx_flow.proofs.Laws.{interleaved-does, interleaved-frame, stays_sound-law}
+use Rattle.vx_flow.proofs.Laws.Kept.{same-before}
 use Rattle.vx_core.specs.CoreState.{CoreState}
 use Rattle.vx_trace.specs.Output.{Output, Out}
 use Rattle.vx_exchange.specs.declared.polls.PollEnd.{PollEnd}
@@ -32,14 +32,14 @@ use Rattle.vx_exchange.specs.Opening.{Stands}
 use Rattle.vx_exchange.specs.Doing.{reply_error, Says, Polled, Came, Aborts}
 use Rattle.vx_player.specs.declared.note.Intake.{Intake}
 use Rattle.vx_player.specs.declared.note.Intake.TheVariants as intake
-use Rattle.vx_player.specs.declared.note.Made.{Made}
+use Rattle.vx_player.specs.declared.note.StepMade.{StepMade}
 use Rattle.vx_player.specs.declared.note.Note.TheVariants as note
 use Rattle.vx_player.specs.Gateway.{Gateway, gateway_of}
 use Rattle.vx_run.specs.Item.{bus_lines, answer_errors, errors_of}
 use Rattle.vx_run.specs.RunText.{event_lines}
 use Rattle.vx_player.specs.Making.{PollMakes, MessageMakes}
 use Rattle.vx_run.specs.Notes.{poll_line, wait_line}
-use Rattle.vx_player.specs.Serving.{MadeBy, Serves, given_lines, poll_made}
+use Rattle.vx_player.specs.Serving.{MadeBy, PlayerServes, given_lines, poll_made}
 use Rattle.vx_player.specs.Standing.{note_line, moves_lines, begun_lines, NoteWithin}
 use Rattle.vx_player.proofs.Hearing.{IsSteady, write-taken}
 use Rattle.vx_player.proofs.PollEvents.{poll-gives}
@@ -51,7 +51,7 @@ sim = record { means = λ s. s.means; srq_level = λ s. some_asks s.bench; ndac_
 -- ---- the lines and the errors of a poll's events
 
 -- the lines are those of its transfers
-poll-lines : (f : FineState) (conn now : ℕ) (moves : List Transfer) (ending : Ending)
+poll-lines : (f : InterleavedState) (conn now : ℕ) (moves : List Transfer) (ending : Ending)
     → flat_map bus_lines (run_events f conn now moves ++ end_events conn now ending) ≡ moves_lines (Some conn) moves
 poll-lines f conn now moves ending = poll-gives bus_lines f conn now moves ending refl ∙ by moves ending where
   by : (moves : List Transfer) (ending : Ending)
@@ -62,7 +62,7 @@ poll-lines f conn now moves ending = poll-gives bus_lines f conn now moves endin
   by (t ∷ ts) _ = refl
 
 -- and in version 2 those of its turn's beginning and of its transfers
-poll-lines2 : (f : FineState) (conn now : ℕ) (moves : List Transfer) (ending : Ending)
+poll-lines2 : (f : InterleavedState) (conn now : ℕ) (moves : List Transfer) (ending : Ending)
     → flat_map event_lines (run_events f conn now moves ++ end_events conn now ending) ≡ begun_lines (Some conn) (begins f conn now) ++ moves_lines (Some conn) moves
 poll-lines2 f conn now moves ending = by (begins f conn now) moves ending where
   by : (b : Bool) (moves : List Transfer) (ending : Ending)
@@ -82,7 +82,7 @@ abbrev ending_errors : Ending → List ErrorCode
 ending_errors (Answered ran level given) = reply_error given ∷ []
 ending_errors _ = []
 
-poll-errors : (f : FineState) (conn now : ℕ) (moves : List Transfer) (ending : Ending)
+poll-errors : (f : InterleavedState) (conn now : ℕ) (moves : List Transfer) (ending : Ending)
     → flat_map answer_errors (run_events f conn now moves ++ end_events conn now ending) ≡ ending_errors ending
 poll-errors f conn now moves ending = poll-gives answer_errors f conn now moves ending refl ∙ by moves ending where
   by : (moves : List Transfer) (ending : Ending)
@@ -117,12 +117,12 @@ pub quiet-poll : (conn : ℕ) (told : PollEnd) → (poll_made conn told).intake 
 quiet-poll conn told = refl
 
 -- A poll makes its events, the line of its note, and the error of its answer.
-pub poll-made : (old new : CoreState SimState) (conn now xid : ℕ) (room : List ℕ) (told : PollEnd) → IsSteady old.fine → Polled sim old conn now xid room told new
+pub poll-made : (old new : CoreState SimState) (conn now xid : ℕ) (room : List ℕ) (told : PollEnd) → IsSteady old.interleaved → Polled sim old conn now xid room told new
     → MadeBy (PollMakes (gateway_of old) conn now xid) room (poll_made conn told) new
 poll-made old new conn now xid room told steady polled =
     let t = tells conn xid room told polled.ending polled.says in
     record {
-      group = run_events old.fine conn now new.bus.means.moves ++ end_events conn now polled.ending;
+      group = run_events old.interleaved conn now new.bus.means.moves ++ end_events conn now polled.ending;
       makes = record {
         ending = polled.ending;
         over = polled.over;
@@ -130,10 +130,10 @@ poll-made old new conn now xid room told steady polled =
         told = t.line;
         taken = write-taken (gateway_of old) (gateway_of new) conn now polled.ending polled.over steady;
       };
-      lines = poll-lines old.fine conn now new.bus.means.moves polled.ending;
-      lines2 = poll-lines2 old.fine conn now new.bus.means.moves polled.ending
+      lines = poll-lines old.interleaved conn now new.bus.means.moves polled.ending;
+      lines2 = poll-lines2 old.interleaved conn now new.bus.means.moves polled.ending
           ∙ ap (λ b. begun_lines (Some conn) b ++ moves_lines (Some conn) new.bus.means.moves) (sym polled.began);
-      answered = poll-errors old.fine conn now new.bus.means.moves polled.ending ∙ t.errors;
+      answered = poll-errors old.interleaved conn now new.bus.means.moves polled.ending ∙ t.errors;
       note = t.within;
       few = λ h. polled.few;
     }
@@ -141,20 +141,20 @@ poll-made old new conn now xid room told steady polled =
 -- ---- a call that comes
 
 -- what holds of every core holds of one to which a call came
-come-steady : (f g : FineState) (conn now : ℕ) (asked : Call) → fine f (Arrive conn asked now) ≡ Some g → IsSteady f → IsSteady g
+come-steady : (f g : InterleavedState) (conn now : ℕ) (asked : Call) → interleaved_step f (Arrive conn asked now) ≡ Some g → IsSteady f → IsSteady g
 come-steady f g conn now asked h steady = record {
   sound = stays_sound-law f g (Arrive conn asked now) steady.sound h;
-  links = subst (λ l. All IsPlainLink l.links) (sym ((fine-frame f g (Arrive conn asked now) h).all_links refl)) steady.links;
+  links = subst (λ l. All IsPlainLink l.links) (sym ((interleaved-frame f g (Arrive conn asked now) h).all_links refl)) steady.links;
   own = subst (λ (w : Wire). w.own ≤ ADDRESS_MAX)
-      (sym (ap (λ (x : FineState). x.before) (fine-does f g (Arrive conn asked now) h).step.leads
+      (sym (ap (λ (x : InterleavedState). x.before) (interleaved-does f g (Arrive conn asked now) h).step.leads
       ∙ same-before f.state.tables f.before f.state.wire f.state.moment f.turn steady.sound.turn_stands)) steady.own;
 }
 
 -- a call that came, and was polled
-pub call-made : (before after : CoreState SimState) (conn now xid : ℕ) (asked : Call) (room : List ℕ) (told : PollEnd) → IsSteady before.fine
+pub call-made : (before after : CoreState SimState) (conn now xid : ℕ) (asked : Call) (room : List ℕ) (told : PollEnd) → IsSteady before.interleaved
     → Came sim before conn asked now xid room told after → MadeBy (MessageMakes (gateway_of before) conn now (meant.Asks xid asked)) room (poll_made conn told) after
 call-made before after conn now xid asked room told steady came =
-    let polled = poll-made came.come after conn now xid room told (come-steady before.fine came.come.fine conn now asked came.arrives steady) came.polled in
+    let polled = poll-made came.come after conn now xid room told (come-steady before.interleaved came.come.interleaved conn now asked came.arrives steady) came.polled in
     record {
       group = Arrive conn asked now ∷ polled.group;
       makes = record {
@@ -188,14 +188,14 @@ record-made StepMakes group told room conn len i answered after makes none given
 }
 
 -- what a message made that means this, and isn't junk
-serves : (before : Gateway) (conn now last : ℕ) (m shown : Meaning) (room : List ℕ) (made : Made) (xid : ℕ) (after : CoreState SimState) → m ≡ shown → shown ≢ Junk
-    → xid ≡ xid_by shown last → made.intake ≡ intake.Nothing → MadeBy (MessageMakes before conn now shown) room made after → Serves before conn now last m room (record { made = made; xid = xid }) after
+serves : (before : Gateway) (conn now last : ℕ) (m shown : Meaning) (room : List ℕ) (made : StepMade) (xid : ℕ) (after : CoreState SimState) → m ≡ shown → shown ≢ Junk
+    → xid ≡ xid_by shown last → made.intake ≡ intake.Nothing → MadeBy (MessageMakes before conn now shown) room made after → PlayerServes before conn now last m room (record { made = made; xid = xid }) after
 serves before conn now last m shown room made xid after is live xid_is quiet made_by =
-    subst (λ k. Serves before conn now last k room (record { made = made; xid = xid }) after) (sym is) (record { call = live; xid_is = xid_is; quiet = quiet; made_by = made_by })
+    subst (λ k. PlayerServes before conn now last k room (record { made = made; xid = xid }) after) (sym is) (record { call = live; xid_is = xid_is; quiet = quiet; made_by = made_by })
 
 -- one that is answered without the core
 pub answered-serves : (core : CoreState SimState) (conn now last len : ℕ) (m : Meaning) (message room : List ℕ) → m ≡ meant.Answered message → Stands (record_of message) len room
-    → Serves (gateway_of core) conn now last m room (record { made = record { intake = intake.Nothing; polled = None; note = note.Replied conn len; answered = None }; xid = last }) core
+    → PlayerServes (gateway_of core) conn now last m room (record { made = record { intake = intake.Nothing; polled = None; note = note.Replied conn len; answered = None }; xid = last }) core
 answered-serves core conn now last len m message room is stands =
     serves (gateway_of core) conn now last m (meant.Answered message) room _ last core is (λ junk. absurd (cc)) refl refl
     (record-made (MessageMakes (gateway_of core) conn now (meant.Answered message)) [] (record_of message) room conn len intake.Nothing None core
@@ -204,7 +204,7 @@ answered-serves core conn now last len m message room is stands =
 -- a device_abort
 pub aborted-serves : (before after : CoreState SimState) (conn now last xid lid : ℕ) (m : Meaning) (room : List ℕ) (answered : Aborted) → m ≡ meant.Aborts xid lid
     → Aborts sim before conn lid xid room answered after
-    → Serves (gateway_of before) conn now last m room (record { made = record { intake = intake.Nothing; polled = None; note = note.Replied conn answered.len; answered = None }; xid = last }) after
+    → PlayerServes (gateway_of before) conn now last m room (record { made = record { intake = intake.Nothing; polled = None; note = note.Replied conn answered.len; answered = None }; xid = last }) after
 aborted-serves before after conn now last xid lid m room answered is done =
     serves (gateway_of before) conn now last m (meant.Aborts xid lid) room _ last after is (λ junk. absurd (cc)) refl refl
     (record-made (MessageMakes (gateway_of before) conn now (meant.Aborts xid lid)) (event.Abort conn lid answered.error ∷ []) (reply_record xid (reply.Error answered.error)) room
@@ -212,8 +212,8 @@ aborted-serves before after conn now last xid lid m room answered is done =
 
 -- a call to the core
 pub called-serves : (before after : CoreState SimState) (conn now last xid : ℕ) (m : Meaning) (asked : Call) (room : List ℕ) (told : PollEnd) → m ≡ meant.Asks xid asked
-    → IsSteady before.fine → before.fine.state.moment ≤ now → Came sim before conn asked (max before.fine.state.moment now) xid room told after
-    → Serves (gateway_of before) conn now last m room (record { made = poll_made conn told; xid = xid }) after
+    → IsSteady before.interleaved → before.interleaved.state.moment ≤ now → Came sim before conn asked (max before.interleaved.state.moment now) xid room told after
+    → PlayerServes (gateway_of before) conn now last m room (record { made = poll_made conn told; xid = xid }) after
 called-serves before after conn now last xid m asked room told is steady late came =
     serves (gateway_of before) conn now last m (meant.Asks xid asked) room (poll_made conn told) xid after is (λ junk. absurd (cc)) refl (quiet-poll conn told)
     (call-made before after conn now xid asked room told steady (subst (λ n. Came sim before conn asked n xid room told after) (max-eq_right late) came))

@@ -14,31 +14,31 @@ use Rattle.vx_calls.specs.Reply.{Reply}
 use Rattle.vx_488.specs.declared.transfers.Transfer.{Transfer}
 use Rattle.vx_rules.specs.SrqState.{channel_at}
 use Rattle.vx_rules.specs.State.{Pending, Connection, Tables, pending_at, with_pending}
-use Rattle.vx_rules.specs.RowLaws.{pending-put, pending-over, pending-other}
-use Rattle.vx_rules.specs.ProvedLaws.{pending-same}
+use Rattle.vx_rules.proofs.Laws.Rows.{pending-put, pending-over, pending-other}
+use Rattle.vx_rules.proofs.Laws.{pending-same}
 use Rattle.vx_rules.specs.Calls.{asks_dial}
 use Rattle.vx_rules.specs.Checks.{asks_channel, numbers_asked, has_channel_number, check_channel}
-use Rattle.vx_rules.specs.Decide.{Outside}
-use Rattle.vx_rules.specs.One.{arrived}
+use Rattle.vx_rules.specs.Decide.{BusInput}
+use Rattle.vx_rules.specs.AtomicStep.{arrived}
 use Rattle.vx_flow.specs.Event.{Arrive, Answer, Dial}
-use Rattle.vx_flow.specs.FineState.{FineState}
-use Rattle.vx_flow.specs.Fine.{fine, without_dial, outside}
+use Rattle.vx_flow.specs.InterleavedState.{InterleavedState}
+use Rattle.vx_flow.specs.InterleavedStep.{interleaved_step, without_dial, bus_input}
 use Rattle.vx_flow.specs.Sound.{IsSound}
 use Rattle.vx_flow.specs.Poll.{Ending, Polls}
 use Rattle.vx_flow.specs.Does.{IsAnswered}
-use Rattle.vx_flow.specs.ProvedLaws.{fine-does, stays_sound-law, later-sound, line-leaves}
+use Rattle.vx_flow.proofs.Laws.{interleaved-does, stays_sound-law, later-sound, line-leaves}
 use Rattle.vx_player.proofs.Idle.{idle-stays}
 use Rattle.vx_player.proofs.Brief.{IsBrief, answered-now, dialed-now}
 use Rattle.vx_player.proofs.Room.{HasRoom, room-called, room-answered}
 
 -- a gateway between the calls of a head: no call is pending
-pub record IsResting (most : ℕ) (Free : ℕ → Type 0) (f : FineState) : Type 0 where
+pub record IsResting (most : ℕ) (Free : ℕ → Type 0) (f : InterleavedState) : Type 0 where
   pub sound : IsSound f
   pub room : HasRoom most Free f.state.tables
   pub idle : (n : ℕ) → pending_at f.state.tables n ≡ None
 
 -- one of which the dial of a connection's call was asked for
-pub record IsDialing (most : ℕ) (Free : ℕ → Type 0) (conn : ℕ) (f : FineState) : Type 0 where
+pub record IsDialing (most : ℕ) (Free : ℕ → Type 0) (conn : ℕ) (f : InterleavedState) : Type 0 where
   pub sound : IsSound f
   pub room : HasRoom most Free f.state.tables
   pub others : (n : ℕ) → conn ≢ n → pending_at f.state.tables n ≡ None
@@ -47,7 +47,7 @@ pub record IsDialing (most : ℕ) (Free : ℕ → Type 0) (conn : ℕ) (f : Fine
 -- ---- a call comes
 
 -- it is pending, and no other is
-record HasCome (most : ℕ) (Free : ℕ → Type 0) (conn now : ℕ) (asked : Call) (f : FineState) : Type 0 where
+record HasCome (most : ℕ) (Free : ℕ → Type 0) (conn now : ℕ) (asked : Call) (f : InterleavedState) : Type 0 where
   sound : IsSound f
   room : HasRoom most Free f.state.tables
   others : (n : ℕ) → conn ≢ n → pending_at f.state.tables n ≡ None
@@ -58,29 +58,29 @@ not-same : (n m : ℕ) → n ≢ m → not (n == m) ≡ true
 not-same n m ne = ap not (ne_eqb n m ne)
 
 -- so it is where no call was pending
-comes : (most : ℕ) (Free : ℕ → Type 0) (conn now : ℕ) (asked : Call) (f come : FineState) → IsResting most Free f → fine f (Arrive conn asked now) ≡ Some come
+comes : (most : ℕ) (Free : ℕ → Type 0) (conn now : ℕ) (asked : Call) (f come : InterleavedState) → IsResting most Free f → interleaved_step f (Arrive conn asked now) ≡ Some come
     → HasCome most Free conn now asked come
 comes most Free conn now asked f come rests h =
-    let d = (fine-does f come (Arrive conn asked now) h).step in
+    let d = (interleaved-does f come (Arrive conn asked now) h).step in
     record {
       sound = stays_sound-law f come (Arrive conn asked now) rests.sound h;
-      room = subst (λ (x : FineState). HasRoom most Free x.state.tables) (sym d.leads)
+      room = subst (λ (x : InterleavedState). HasRoom most Free x.state.tables) (sym d.leads)
           (room-called most Free f.state.tables conn (Some (arrived asked now)) rests.room);
       others = λ n ne. idle-stays n f come (Arrive conn asked now) (not-same conn n ne) h (rests.idle n);
-      here = ap (λ (x : FineState). pending_at x.state.tables conn) d.leads ∙ pending-put f.state.tables conn (Some (arrived asked now)) _ d.core;
+      here = ap (λ (x : InterleavedState). pending_at x.state.tables conn) d.leads ∙ pending-put f.state.tables conn (Some (arrived asked now)) _ d.core;
     }
 
 -- ---- it is answered
 
 -- behind an answer no call is pending
-answered : (most : ℕ) (Free Left : ℕ → Type 0) (conn now : ℕ) (o : Outside) (told : Reply) (f g : FineState) → IsSound g → HasRoom most Free f.state.tables
+answered : (most : ℕ) (Free Left : ℕ → Type 0) (conn now : ℕ) (o : BusInput) (told : Reply) (f g : InterleavedState) → IsSound g → HasRoom most Free f.state.tables
     → ((n : ℕ) → conn ≢ n → pending_at f.state.tables n ≡ None) → ((n : ℕ) → Left n → Free n) → (a : IsAnswered f conn now o told g)
     → (asks_dial a.asked.call ≡ true → (n : ℕ) → Left n → conn ≢ n) → IsResting (most + 1) Left g
 answered most Free Left conn now o told f g sound room others fewer a apart = record {
   sound = sound;
-  room = subst (λ (x : FineState). HasRoom (most + 1) Left x.state.tables) (sym a.leads)
+  room = subst (λ (x : InterleavedState). HasRoom (most + 1) Left x.state.tables) (sym a.leads)
       (room-called (most + 1) Left a.after conn None (room-answered most Free Left f conn now a.asked o told a.after fewer apart a.line room));
-  idle = λ n. ap (λ (x : FineState). pending_at x.state.tables n) a.leads ∙ by n (cases_eq conn n);
+  idle = λ n. ap (λ (x : InterleavedState). pending_at x.state.tables n) a.leads ∙ by n (cases_eq conn n);
 }
   where
     by : (n : ℕ) → (conn ≡ n) ⊎ (conn ≡ n → ⊥) → pending_at (with_pending a.after conn None) n ≡ None
@@ -91,8 +91,8 @@ answered most Free Left conn now o told f g sound room others fewer a apart = re
 -- ---- a call that needs neither the bus, nor a lock, nor a dial
 
 -- behind its poll no call is pending
-pub called-rests : (most : ℕ) (Free : ℕ → Type 0) (conn now : ℕ) (asked : Call) (moves : List Transfer) (ending : Ending) (f come g : FineState) → IsResting most Free f
-    → IsBrief asked → asks_dial asked ≡ false → fine f (Arrive conn asked now) ≡ Some come → Polls come conn now moves ending g → IsResting (most + 1) Free g
+pub called-rests : (most : ℕ) (Free : ℕ → Type 0) (conn now : ℕ) (asked : Call) (moves : List Transfer) (ending : Ending) (f come g : InterleavedState) → IsResting most Free f
+    → IsBrief asked → asks_dial asked ≡ false → interleaved_step f (Arrive conn asked now) ≡ Some come → Polls come conn now moves ending g → IsResting (most + 1) Free g
 called-rests most Free conn now asked moves ending f come g rests brief no_dial h polls =
     let c = comes most Free conn now asked f come rests h in
     let a = answered-now come g conn now (arrived asked now) moves ending c.sound c.here brief no_dial polls in
@@ -121,21 +121,21 @@ channel-checked most Free t conn room small free =
     ∙ cond-true (has_channel_number t conn false) None (Some code.NoResources) (number-left most Free t conn room small)
 
 -- its dial is asked for at once
-pub called-dials : (most : ℕ) (Free : ℕ → Type 0) (conn now host program version : ℕ) (moves : List Transfer) (ending : Ending) (f come g : FineState)
-    → IsResting most Free f → most ≤ 1000 → Free conn → fine f (Arrive conn (call.CreateIntr host 9012 program version 0) now) ≡ Some come → Polls come conn now moves ending g
+pub called-dials : (most : ℕ) (Free : ℕ → Type 0) (conn now host program version : ℕ) (moves : List Transfer) (ending : Ending) (f come g : InterleavedState)
+    → IsResting most Free f → most ≤ 1000 → Free conn → interleaved_step f (Arrive conn (call.CreateIntr host 9012 program version 0) now) ≡ Some come → Polls come conn now moves ending g
     → IsDialing most Free conn g
 called-dials most Free conn now host program version moves ending f come g rests small free h polls =
     let asked = call.CreateIntr host 9012 program version 0 in
     let c = comes most Free conn now asked f come rests h in
     let a = dialed-now come g conn now (arrived asked now) moves ending c.sound c.here (record { no_bus = refl; no_lock = refl }) refl refl refl
     (channel-checked most Free come.state.tables conn c.room small free) polls in
-    let d = (fine-does come a.last (Dial conn now) a.dials).step in
+    let d = (interleaved-does come a.last (Dial conn now) a.dials).step in
     subst (IsDialing most Free conn) (sym a.at_now)
     (record {
       sound = later-sound a.last now (stays_sound-law come a.last (Dial conn now) c.sound a.dials) a.late;
-      room = subst (λ (x : FineState). HasRoom most Free x.state.tables) (sym d.leads) c.room;
+      room = subst (λ (x : InterleavedState). HasRoom most Free x.state.tables) (sym d.leads) c.room;
       others = λ n ne. idle-stays n come a.last (Dial conn now) refl a.dials (c.others n ne);
-      wanted = ap (λ (x : FineState). list_any (λ n. n == conn) x.dialed) d.leads ∙ last-wanted (without_dial come.dialed conn);
+      wanted = ap (λ (x : InterleavedState). list_any (λ n. n == conn) x.dialed) d.leads ∙ last-wanted (without_dial come.dialed conn);
     })
   where
     last-wanted : (xs : List ℕ) → list_any (λ n. n == conn) (xs ++ conn ∷ []) ≡ true
@@ -143,9 +143,9 @@ called-dials most Free conn now host program version moves ending f come g rests
     last-wanted (x ∷ xs) = or_right (x == conn) (list_any (λ n. n == conn) (xs ++ conn ∷ [])) (last-wanted xs)
 
 -- and where it was made its call is answered
-pub dial-rests : (most : ℕ) (Free : ℕ → Type 0) (conn now : ℕ) (dialed : Option Bool) (told : Reply) (f g : FineState) → IsDialing most Free conn f
-    → fine f (Answer conn now false dialed false told) ≡ Some g → IsResting (most + 1) (λ n. Free n × (conn ≢ n)) g
+pub dial-rests : (most : ℕ) (Free : ℕ → Type 0) (conn now : ℕ) (dialed : Option Bool) (told : Reply) (f g : InterleavedState) → IsDialing most Free conn f
+    → interleaved_step f (Answer conn now false dialed false told) ≡ Some g → IsResting (most + 1) (λ n. Free n × (conn ≢ n)) g
 dial-rests most Free conn now dialed told f g dials h =
-    answered most Free (λ n. Free n × (conn ≢ n)) conn now (outside f conn false dialed false) told f g
+    answered most Free (λ n. Free n × (conn ≢ n)) conn now (bus_input f conn false dialed false) told f g
     (stays_sound-law f g (Answer conn now false dialed false told) dials.sound h) dials.room dials.others (λ n is. is.0)
-    (fine-does f g (Answer conn now false dialed false told) h).step (λ dial n is. is.1)
+    (interleaved-does f g (Answer conn now false dialed false told) h).step (λ dial n is. is.1)

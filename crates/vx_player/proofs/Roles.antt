@@ -4,19 +4,19 @@ use Rattle.std.specs.Option.{option_map}
 use Rattle.std.specs.List.{list_all}
 use Rattle.std.proofs.lemmas.Bool.{false≢true, and_parts, eq-eqb}
 use Rattle.std.proofs.lemmas.Option.{none-some, same_Some}
-use Rattle.vx_lemmas.specs.Options.{mapped}
-use Rattle.vx_lemmas.specs.Lists.{find_append-some, find_append-none, find_filter-gone}
+use Rattle.vx_lemmas.proofs.Laws.Options.{mapped}
+use Rattle.vx_lemmas.proofs.Laws.Lists.{find_append-some, find_append-none, find_filter-gone}
 use Rattle.vx_calls.specs.declared.calls.Role.{Role}
 use Rattle.vx_488.specs.declared.transfers.Transfer.{Transfer}
 use Rattle.vx_rules.specs.Lists.{along}
 use Rattle.vx_rules.specs.State.{Connection, Tables, connection_at, role_at, with_connection, without_connection}
-use Rattle.vx_rules.specs.ListLaws.{along-none}
+use Rattle.vx_rules.proofs.Laws.Lists.{along-none}
 use Rattle.vx_flow.specs.Event.{Event, Up, Down}
-use Rattle.vx_flow.specs.FineState.{FineState}
-use Rattle.vx_flow.specs.Fine.{fine}
+use Rattle.vx_flow.specs.InterleavedState.{InterleavedState}
+use Rattle.vx_flow.specs.InterleavedStep.{interleaved_step}
 use Rattle.vx_flow.specs.Frames.{lives_by}
 use Rattle.vx_flow.specs.Poll.{Ending, Waited, Polls, run_events, end_events}
-use Rattle.vx_flow.specs.ProvedLaws.{fine-does, fine-frame}
+use Rattle.vx_flow.proofs.Laws.{interleaved-does, interleaved-frame}
 use Rattle.vx_player.proofs.PollEvents.{poll-all, along-both}
 
 -- the event is neither a connection that comes up nor one that ends
@@ -65,29 +65,29 @@ no-life (Down conn) n stays = absurd (false≢true stays)
 no-life _ n stays = λ is. none-some n is
 
 -- an event that is neither leaves who lives in which role
-pub roles-stay : (f g : FineState) (e : Event) (conn : ℕ) → leaves_roles e ≡ true → fine f e ≡ Some g → role_at g.state.tables conn ≡ role_at f.state.tables conn
-roles-stay f g e conn stays h = (fine-frame f g e h).roles conn (no-life e conn stays)
+pub roles-stay : (f g : InterleavedState) (e : Event) (conn : ℕ) → leaves_roles e ≡ true → interleaved_step f e ≡ Some g → role_at g.state.tables conn ≡ role_at f.state.tables conn
+roles-stay f g e conn stays h = (interleaved-frame f g e h).roles conn (no-life e conn stays)
 
 -- and so do such events, one after the other
-pub roles-along : (f g : FineState) (es : List Event) (conn : ℕ) → list_all leaves_roles es ≡ true → along fine (Some f) es ≡ Some g
+pub roles-along : (f g : InterleavedState) (es : List Event) (conn : ℕ) → list_all leaves_roles es ≡ true → along interleaved_step (Some f) es ≡ Some g
     → role_at g.state.tables conn ≡ role_at f.state.tables conn
-roles-along f g [] conn stay h = ap (λ (x : FineState). role_at x.state.tables conn) (sym (same_Some f g h))
+roles-along f g [] conn stay h = ap (λ (x : InterleavedState). role_at x.state.tables conn) (sym (same_Some f g h))
 roles-along f g (e ∷ es) conn stay h =
     let stays = and_parts (leaves_roles e) (list_all leaves_roles es) stay in
-    by (fine f e) refl h (λ mid is. roles-stay f mid e conn stays.0 is) (λ mid x. roles-along mid g es conn stays.1 x)
+    by (interleaved_step f e) refl h (λ mid is. roles-stay f mid e conn stays.0 is) (λ mid x. roles-along mid g es conn stays.1 x)
   where
-    by : (o : Option FineState) → fine f e ≡ o → along fine o es ≡ Some g
-        → ((mid : FineState) → fine f e ≡ Some mid → role_at mid.state.tables conn ≡ role_at f.state.tables conn)
-        → ((mid : FineState) → along fine (Some mid) es ≡ Some g → role_at g.state.tables conn ≡ role_at mid.state.tables conn)
+    by : (o : Option InterleavedState) → interleaved_step f e ≡ o → along interleaved_step o es ≡ Some g
+        → ((mid : InterleavedState) → interleaved_step f e ≡ Some mid → role_at mid.state.tables conn ≡ role_at f.state.tables conn)
+        → ((mid : InterleavedState) → along interleaved_step (Some mid) es ≡ Some g → role_at g.state.tables conn ≡ role_at mid.state.tables conn)
         → role_at g.state.tables conn ≡ role_at f.state.tables conn
-    by None is x first rest = absurd (none-some g (sym (along-none fine es) ∙ x))
+    by None is x first rest = absurd (none-some g (sym (along-none interleaved_step es) ∙ x))
     by (Some mid) is x first rest = rest mid x ∙ first mid is
 
 -- a poll leaves who lives in which role
-pub polls-roles : (old : FineState) (conn now : ℕ) (moves : List Transfer) (ending : Ending) (new : FineState) (n : ℕ) → Polls old conn now moves ending new
+pub polls-roles : (old : InterleavedState) (conn now : ℕ) (moves : List Transfer) (ending : Ending) (new : InterleavedState) (n : ℕ) → Polls old conn now moves ending new
     → role_at new.state.tables n ≡ role_at old.state.tables n
 polls-roles old conn now moves ending new n polls =
-    ap (λ (x : FineState). role_at x.state.tables n) polls.at_now
+    ap (λ (x : InterleavedState). role_at x.state.tables n) polls.at_now
     ∙ roles-along old polls.last (run_events old conn now moves ++ end_events conn now ending) n
     (poll-all leaves_roles old conn now moves ending refl refl (end-stay ending)) (along-both old polls.behind (Some polls.last) (run_events old conn now moves) (end_events conn now ending) polls.runs_to polls.ended)
   where
@@ -98,31 +98,31 @@ polls-roles old conn now moves ending new n polls =
 -- ---- a connection that comes up, or ends
 
 -- where no connection of its number lived, it has its role
-pub up-roles : (f g : FineState) (conn : ℕ) (r : Role) → role_at f.state.tables conn ≡ None → fine f (Up conn r) ≡ Some g → role_at g.state.tables conn ≡ Some r
+pub up-roles : (f g : InterleavedState) (conn : ℕ) (r : Role) → role_at f.state.tables conn ≡ None → interleaved_step f (Up conn r) ≡ Some g → role_at g.state.tables conn ≡ Some r
 up-roles f g conn r none h =
-    let came = (fine-does f g (Up conn r) h).step in
-    ap (λ (x : FineState). role_at x.state.tables conn) came.leads ∙ role-new f.state.tables r conn none
+    let came = (interleaved-does f g (Up conn r) h).step in
+    ap (λ (x : InterleavedState). role_at x.state.tables conn) came.leads ∙ role-new f.state.tables r conn none
     ∙ ap (λ m. cond (m == conn) (Some r) None) (sym came.number) ∙ ap (λ b. cond b (Some r) None) (eq-eqb conn conn refl)
 
 -- it lives in any case: where an earlier one of its number lived, in that one's role
-pub up-lives : (f g : FineState) (conn : ℕ) (r : Role) → fine f (Up conn r) ≡ Some g → (known : Role) × (role_at g.state.tables conn ≡ Some known)
+pub up-lives : (f g : InterleavedState) (conn : ℕ) (r : Role) → interleaved_step f (Up conn r) ≡ Some g → (known : Role) × (role_at g.state.tables conn ≡ Some known)
 up-lives f g conn r h = by (role_at f.state.tables conn) refl where
   by : (o : Option Role) → role_at f.state.tables conn ≡ o → (known : Role) × (role_at g.state.tables conn ≡ Some known)
   by None is = (r, up-roles f g conn r is h)
   by (Some old) is = (
     old,
-    ap (λ (x : FineState). role_at x.state.tables conn) (fine-does f g (Up conn r) h).step.leads ∙ role-kept f.state.tables r old conn is,
+    ap (λ (x : InterleavedState). role_at x.state.tables conn) (interleaved-does f g (Up conn r) h).step.leads ∙ role-kept f.state.tables r old conn is,
   )
 
 -- and others are as before
-pub up-others : (f g : FineState) (conn : ℕ) (r : Role) (n : ℕ) → conn ≢ n → fine f (Up conn r) ≡ Some g → role_at g.state.tables n ≡ role_at f.state.tables n
-up-others f g conn r n ne h = (fine-frame f g (Up conn r) h).roles n (λ is. ne (same_Some conn n is))
+pub up-others : (f g : InterleavedState) (conn : ℕ) (r : Role) (n : ℕ) → conn ≢ n → interleaved_step f (Up conn r) ≡ Some g → role_at g.state.tables n ≡ role_at f.state.tables n
+up-others f g conn r n ne h = (interleaved-frame f g (Up conn r) h).roles n (λ is. ne (same_Some conn n is))
 
 -- one that ended lives no more
-pub down-roles : (f g : FineState) (conn : ℕ) → fine f (Down conn) ≡ Some g → role_at g.state.tables conn ≡ None
+pub down-roles : (f g : InterleavedState) (conn : ℕ) → interleaved_step f (Down conn) ≡ Some g → role_at g.state.tables conn ≡ None
 down-roles f g conn h =
-    ap (λ (x : FineState). role_at x.state.tables conn) (fine-does f g (Down conn) h).step.leads ∙ role-gone f.state.tables conn
+    ap (λ (x : InterleavedState). role_at x.state.tables conn) (interleaved-does f g (Down conn) h).step.leads ∙ role-gone f.state.tables conn
 
 -- and others are as before
-pub down-others : (f g : FineState) (conn n : ℕ) → conn ≢ n → fine f (Down conn) ≡ Some g → role_at g.state.tables n ≡ role_at f.state.tables n
-down-others f g conn n ne h = (fine-frame f g (Down conn) h).roles n (λ is. ne (same_Some conn n is))
+pub down-others : (f g : InterleavedState) (conn n : ℕ) → conn ≢ n → interleaved_step f (Down conn) ≡ Some g → role_at g.state.tables n ≡ role_at f.state.tables n
+down-others f g conn n ne h = (interleaved-frame f g (Down conn) h).roles n (λ is. ne (same_Some conn n is))

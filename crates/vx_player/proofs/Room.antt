@@ -1,9 +1,6 @@
 -- What an answer leaves of the interrupt channels: which connections have none, and how many numbers were given out.
 use Rattle.std.proofs.Common.{◌≡◌, ◌≢◌, ◌==◌, ◌≤◌, ◌+◌, ℕ, suc, Bool, true, false, cond, List, [], ◌∷◌, length, Option, Some, None, ◌⊎◌, inl, inr, refl, sym, ap, ◌∙◌, subst, arith}
-use Rattle.std.specs.Option.{option_map, option_and_then}
 use Rattle.std.specs.Prelude.{Result, Ok, Err}
-use Rattle.std.proofs.lemmas.Bool.{eqb-true, ne_eqb}
-use Rattle.vx_lemmas.specs.Lists.{find_map-same, found_passes}
 use Rattle.vx_calls.specs.declared.codes.ErrorCode.{ErrorCode}
 use Rattle.vx_calls.specs.declared.targets.Target.{Target}
 use Rattle.vx_calls.specs.Target.{target}
@@ -12,17 +9,18 @@ use Rattle.vx_calls.specs.Call as call
 use Rattle.vx_calls.specs.Reply.{Reply}
 use Rattle.vx_rules.specs.Table.{Link}
 use Rattle.vx_rules.specs.Locks.{holds, with_lock}
-use Rattle.vx_rules.specs.SrqState.{SrqState, Channel, ChannelSlot, slot_at, channel_at, slot_with, with_channel, new_channel}
+use Rattle.vx_rules.specs.SrqState.{SrqState, channel_at, with_channel, new_channel}
 use Rattle.vx_rules.specs.State.{Pending, Connection, Tables, with_pending}
 use Rattle.vx_rules.specs.Lists.{update_first}
 use Rattle.vx_rules.specs.Calls.{asks_dial}
 use Rattle.vx_rules.specs.Checks.{NamedLink, NoLink, DeadLink, OnLink, named_link}
 use Rattle.vx_rules.specs.Effects.{locked, create, effect_on, effect}
-use Rattle.vx_rules.specs.Decide.{Outside}
-use Rattle.vx_flow.specs.FineState.{FineState}
-use Rattle.vx_flow.specs.Fine.{wire_for}
+use Rattle.vx_rules.specs.Decide.{BusInput}
+use Rattle.vx_flow.specs.InterleavedState.{InterleavedState}
+use Rattle.vx_flow.specs.InterleavedStep.{wire_for}
 use Rattle.vx_flow.specs.Does.{AnsweredBy, ByAbort, ByNoLink, ByCheck, ByBar, ByDialUp, ByDialDown, ByEffect, ByNoRole, ByFault, ByWhole, ByTimeout}
-use Rattle.vx_flow.specs.ProvedLaws.{channel-put, line-leaves}
+use Rattle.vx_flow.proofs.Laws.{channel-put, line-leaves}
+use Rattle.vx_flow.proofs.Laws.Interrupts.{channel-other}
 
 -- ---- what one change leaves
 
@@ -34,25 +32,6 @@ pub record KeepsFree (Free : ℕ → Type 0) (old new : SrqState) : Type 0 where
 -- so it is where nothing changed
 same-free : (Free : ℕ → Type 0) (d : SrqState) → KeepsFree Free d d
 same-free Free d = record { free = λ n is none. none; numbers = omega arith }
-
--- each other connection's channel stays where one is put
-channel-other : (d : SrqState) (conn n : ℕ) (channel : Option Channel) → conn ≢ n → channel_at (with_channel d conn channel) n ≡ channel_at d n
-channel-other d conn n channel ne =
-    ap (option_and_then (λ (p : ChannelSlot). p.channel)) (find_map-same (λ p. p.connection == n) (slot_with conn channel) same d.slots) ∙ by (slot_at d n) refl
-  where
-    at : (p : ChannelSlot) (b : Bool) → (cond b (record p { channel = channel }) p).connection ≡ p.connection
-    at p true = refl
-    at p false = refl
-
-    same : (p : ChannelSlot) → ((slot_with conn channel p).connection == n) ≡ (p.connection == n)
-    same p = ap (λ m. m == n) (at p (p.connection == conn))
-
-    by : (o : Option ChannelSlot) → slot_at d n ≡ o
-        → option_and_then (λ (p : ChannelSlot). p.channel) (option_map (slot_with conn channel) o) ≡ option_and_then (λ (p : ChannelSlot). p.channel) o
-    by None is = refl
-    by (Some p) is =
-        ap (λ b. (cond b (record p { channel = channel }) p).channel)
-        (ne_eqb p.connection conn (λ e. ne (sym e ∙ eqb-true p.connection n (found_passes (λ (q : ChannelSlot). q.connection == n) d.slots p is))))
 
 -- a channel that goes leaves none in its place
 channel-gone : (d : SrqState) (conn n : ℕ) → channel_at d n ≡ None → channel_at (with_channel d conn None) n ≡ None
@@ -100,7 +79,7 @@ effect-keeps Free t own conn DeadLink asked = tt
 -- ---- what an answer leaves
 
 -- a call that asks for a dial gives no other connection a channel
-pub line-keeps : (Free : ℕ → Type 0) (f : FineState) (conn now : ℕ) (p : Pending) (o : Outside) (told : Reply) (after : Tables)
+pub line-keeps : (Free : ℕ → Type 0) (f : InterleavedState) (conn now : ℕ) (p : Pending) (o : BusInput) (told : Reply) (after : Tables)
     → (asks_dial p.call ≡ true → (n : ℕ) → Free n → conn ≢ n) → AnsweredBy f conn now p o told after → KeepsFree Free f.state.tables.srq_state after.srq_state
 line-keeps Free f conn now p o told after apart = by where
   same : after ≡ f.state.tables → KeepsFree Free f.state.tables.srq_state after.srq_state
@@ -151,7 +130,7 @@ room-called most Free t conn p room =
     record { few = omega arith; numbers = room.numbers; free = room.free }
 
 -- an answer takes at most one number
-pub room-answered : (most : ℕ) (Free Left : ℕ → Type 0) (f : FineState) (conn now : ℕ) (p : Pending) (o : Outside) (told : Reply) (after : Tables)
+pub room-answered : (most : ℕ) (Free Left : ℕ → Type 0) (f : InterleavedState) (conn now : ℕ) (p : Pending) (o : BusInput) (told : Reply) (after : Tables)
     → ((n : ℕ) → Left n → Free n) → (asks_dial p.call ≡ true → (n : ℕ) → Left n → conn ≢ n) → AnsweredBy f conn now p o told after → HasRoom most Free f.state.tables
     → HasRoom (most + 1) Left after
 room-answered most Free Left f conn now p o told after fewer apart line room =

@@ -12,23 +12,23 @@ use Rattle.vx_script.specs.declared.Cause.TheVariants as cause
 use Rattle.vx_script.specs.Command.{Command, In, At, Poll, Sample, Take, Dial}
 use Rattle.vx_rules.specs.Lists.{along}
 use Rattle.vx_rules.specs.State.{role_at, pending_at, lives_as}
-use Rattle.vx_rules.specs.ProvedLaws.{role-lives}
+use Rattle.vx_rules.proofs.Laws.{role-lives}
 use Rattle.vx_flow.specs.Event.{Event}
 use Rattle.vx_flow.specs.Event as event
-use Rattle.vx_flow.specs.FineState.{FineState}
-use Rattle.vx_flow.specs.Fine.{fine}
+use Rattle.vx_flow.specs.InterleavedState.{InterleavedState}
+use Rattle.vx_flow.specs.InterleavedStep.{interleaved_step}
 use Rattle.vx_flow.specs.Poll.{Ending, Answered, Waited, Dialed, Polls, run_events, end_events}
 use Rattle.vx_exchange.specs.SrqState.{Channel, channel_at}
 use Rattle.vx_exchange.specs.Meaning.{Meaning, Asks, Aborts, by_call}
 use Rattle.vx_gen.specs.Generating.{asking, on_core}
-use Rattle.vx_gen.proofs.Spelled.{IsSpelled, message, abort-spelled}
+use Rattle.vx_gen.proofs.Laws.Spelled.{IsSpelled, message, abort-spelled}
 use Rattle.vx_player.specs.Gateway.{Gateway}
 use Rattle.vx_run.specs.Item.{Item}
 use Rattle.vx_run.specs.Stream.{Whole, brought, kept_after}
 use Rattle.vx_player.specs.Stage.{Stage, tables_of, refusal}
 use Rattle.vx_run.specs.Forming.{refused_by}
 use Rattle.vx_player.specs.Making.{CallMakes, AbortMakes, MessageMakes, RecordMakes, PieceMakes, ChannelMakes, Makes}
-use Rattle.vx_player.specs.Play.{Takes, stream_after}
+use Rattle.vx_player.specs.Play.{PlayerTakes, stream_after}
 use Rattle.vx_player.proofs.PollEvents.{poll-all, along-both}
 use Rattle.vx_player.proofs.Roles.{leaves_roles, roles-stay}
 use Rattle.vx_player.proofs.Idle.{along-keeps, spares_call, idle-stays}
@@ -48,7 +48,7 @@ core-not n (inr (inr (inr e))) = ap (λ m. not (m == 5)) e
 -- ---- the gateway
 
 -- connections 1 to 4 are core ones, and connection 5 is an abort one, which has no call
-pub record IsServing (f : FineState) : Type 0 where
+pub record IsServing (f : InterleavedState) : Type 0 where
   pub core : (n : ℕ) → IsCore n → role_at f.state.tables n ≡ Some role.Core
   pub abort : role_at f.state.tables 5 ≡ Some role.Abort
   pub idle : pending_at f.state.tables 5 ≡ None
@@ -58,7 +58,7 @@ abbrev leaves_all : Event → Bool
 leaves_all e = leaves_roles e && spares_call 5 e
 
 -- such an event leaves the connections so
-serving-stays : (f g : FineState) (e : Event) → leaves_all e ≡ true → fine f e ≡ Some g → IsServing f → IsServing g
+serving-stays : (f g : InterleavedState) (e : Event) → leaves_all e ≡ true → interleaved_step f e ≡ Some g → IsServing f → IsServing g
 serving-stays f g e leaves h s =
     let parts = and_parts (leaves_roles e) (spares_call 5 e) leaves in
     record {
@@ -68,13 +68,13 @@ serving-stays f g e leaves h s =
     }
 
 -- such events, one after the other
-happens-serving : (before after : Gateway) (e : Event) (group : List Event) → group ≡ e ∷ [] → along fine (Some before.fine) group ≡ Some after.fine → leaves_all e ≡ true
-    → IsServing before.fine → IsServing after.fine
+happens-serving : (before after : Gateway) (e : Event) (group : List Event) → group ≡ e ∷ [] → along interleaved_step (Some before.interleaved) group ≡ Some after.interleaved → leaves_all e ≡ true
+    → IsServing before.interleaved → IsServing after.interleaved
 happens-serving before after e group is h leaves s =
-    serving-stays before.fine after.fine e leaves (subst (λ es. along fine (Some before.fine) es ≡ Some after.fine) is h) s
+    serving-stays before.interleaved after.interleaved e leaves (subst (λ es. along interleaved_step (Some before.interleaved) es ≡ Some after.interleaved) is h) s
 
 -- a poll on another connection than that
-polls-serving : (old new : FineState) (conn now : ℕ) (moves : List Transfer) (ending : Ending) → not (conn == 5) ≡ true → Polls old conn now moves ending new
+polls-serving : (old new : InterleavedState) (conn now : ℕ) (moves : List Transfer) (ending : Ending) → not (conn == 5) ≡ true → Polls old conn now moves ending new
     → IsServing old → IsServing new
 polls-serving old new conn now moves ending other polls s =
     subst IsServing (sym polls.at_now)
@@ -94,20 +94,20 @@ polls-serving old new conn now moves ending other polls s =
 
 -- the gateway is so, and each stream begins anew
 pub record IsServed (s : Stage) : Type 0 where
-  pub serving : IsServing s.gateway.fine
+  pub serving : IsServing s.gateway.interleaved
   pub streams : (conn : ℕ) → s.streams conn ≡ []
 
 -- a command isn't refused at a stage, and leaves one that is so
 pub record Goes (s : Stage) (command : Command) : Type 0 where
   pub allowed : refusal s command ≡ None
-  pub leads : (item : Item) (t : Stage) → item.command ≡ command → Takes s item t → IsServed t
+  pub leads : (item : Item) (t : Stage) → item.command ≡ command → PlayerTakes s item t → IsServed t
 
 -- what a command made
-pub made : (s t : Stage) (item : Item) (command : Command) → item.command ≡ command → Takes s item t → Makes s command item.group item.note t.gateway
+pub made : (s t : Stage) (item : Item) (command : Command) → item.command ≡ command → PlayerTakes s item t → Makes s command item.group item.note t.gateway
 made s t item command is takes = subst (λ c. Makes s c item.group item.note t.gateway) is takes.makes
 
 -- the streams behind it
-pub streams-left : (s t : Stage) (item : Item) (command : Command) → item.command ≡ command → Takes s item t → ((conn : ℕ) → stream_after s command conn ≡ [])
+pub streams-left : (s t : Stage) (item : Item) (command : Command) → item.command ≡ command → PlayerTakes s item t → ((conn : ℕ) → stream_after s command conn ≡ [])
     → (conn : ℕ) → t.streams conn ≡ []
 streams-left s t item command is takes left conn = takes.streams conn ∙ ap (λ c. stream_after s c conn) is ∙ left conn
 
@@ -118,7 +118,7 @@ pub goes-at : (s : Stage) (moment : ℕ) → IsServed s → Goes s (At moment)
 goes-at s moment served = record {
   allowed = refl;
   leads = λ item t is takes. record {
-    serving = subst (λ (g : Gateway). IsServing g.fine) (sym (made s t item (At moment) is takes).0.same) served.serving;
+    serving = subst (λ (g : Gateway). IsServing g.interleaved) (sym (made s t item (At moment) is takes).0.same) served.serving;
     streams = streams-left s t item (At moment) is takes served.streams;
   };
 }
@@ -145,8 +145,8 @@ goes-take s conn is_core served = record {
   };
 }
   where
-    by : (o : Option Channel) (item : Item) (t : Stage) → ChannelMakes s.gateway conn o item.group item.note t.gateway → IsServing t.gateway.fine
-    by None item t (quiet, line) = subst (λ (g : Gateway). IsServing g.fine) (sym quiet.same) served.serving
+    by : (o : Option Channel) (item : Item) (t : Stage) → ChannelMakes s.gateway conn o item.group item.note t.gateway → IsServing t.gateway.interleaved
+    by None item t (quiet, line) = subst (λ (g : Gateway). IsServing g.interleaved) (sym quiet.same) served.serving
     by (Some c) item t m = happens-serving s.gateway t.gateway _ item.group m.events m.happens.events refl served.serving
 
 -- a poll of a call that is pending
@@ -158,7 +158,7 @@ goes-poll s conn is_core some served = record {
   leads = λ item t is takes.
       let m = made s t item (Poll conn) is takes in
       record {
-        serving = polls-serving s.gateway.fine t.gateway.fine conn s.moment t.gateway.bus.means.moves m.ending (core-not conn is_core) m.over.polls served.serving;
+        serving = polls-serving s.gateway.interleaved t.gateway.interleaved conn s.moment t.gateway.bus.means.moves m.ending (core-not conn is_core) m.over.polls served.serving;
         streams = streams-left s t item (Poll conn) is takes served.streams;
       };
 }
@@ -194,7 +194,7 @@ pub record IsCoreCall (asked : Call) : Type 0 where
 
 -- what a record of a call makes, by what it means
 message-made : (s t : Stage) (item : Item) (r : Role) (conn xid : ℕ) (asked : Call) (m : Meaning) → IsServed s → role_at (tables_of s) conn ≡ Some r → IsSpelled r asked
-    → by_call (xid % 2 ^ 32) asked ≡ m → item.command ≡ asking r conn xid asked → Takes s item t → MessageMakes s.gateway conn s.moment m item.group item.note t.gateway
+    → by_call (xid % 2 ^ 32) asked ≡ m → item.command ≡ asking r conn xid asked → PlayerTakes s item t → MessageMakes s.gateway conn s.moment m item.group item.note t.gateway
 message-made s t item r conn xid asked m served live spelled means is takes =
     let text = message r xid asked in
     let whole : brought (s.streams conn) (record_of text) ≡ Whole text = ap (λ k. brought k (record_of text)) (served.streams conn) ∙ message-brought r xid asked spelled in
@@ -205,7 +205,7 @@ message-made s t item r conn xid asked m served live spelled means is takes =
     subst (λ k. MessageMakes s.gateway conn s.moment k item.group item.note t.gateway) (message-means r xid asked spelled ∙ means) recorded
 
 -- a call to the core comes and is polled
-pub asks-made : (s t : Stage) (item : Item) (conn xid : ℕ) (asked : Call) → IsServed s → IsCore conn → IsCoreCall asked → item.command ≡ on_core conn xid asked → Takes s item t
+pub asks-made : (s t : Stage) (item : Item) (conn xid : ℕ) (asked : Call) → IsServed s → IsCore conn → IsCoreCall asked → item.command ≡ on_core conn xid asked → PlayerTakes s item t
     → CallMakes s.gateway conn s.moment (xid % 2 ^ 32) asked item.group item.note t.gateway
 asks-made s t item conn xid asked served is_core is_call is takes =
     message-made s t item role.Core conn xid asked (Asks (xid % 2 ^ 32) asked) served (served.serving.core conn is_core) is_call.spelled (is_call.asks (xid % 2 ^ 32)) is takes
@@ -219,9 +219,9 @@ goes-asking s conn xid asked is_core is_call idle served =
       allowed = in-allowed s conn (record_of text) text role.Core (served.serving.core conn is_core) idle (served.streams conn) whole;
       leads = λ item t is takes.
           let m = asks-made s t item conn xid asked served is_core is_call is takes in
-          let come = serving-stays s.gateway.fine m.come.fine (event.Arrive conn asked s.moment) (core-not conn is_core) m.comes.events served.serving in
+          let come = serving-stays s.gateway.interleaved m.come.interleaved (event.Arrive conn asked s.moment) (core-not conn is_core) m.comes.events served.serving in
           record {
-            serving = polls-serving m.come.fine t.gateway.fine conn s.moment t.gateway.bus.means.moves m.polled.ending (core-not conn is_core) m.polled.over.polls come;
+            serving = polls-serving m.come.interleaved t.gateway.interleaved conn s.moment t.gateway.bus.means.moves m.polled.ending (core-not conn is_core) m.polled.over.polls come;
             streams = streams-left s t item (on_core conn xid asked) is takes (in-streams s conn (record_of text) text served whole);
           };
     }
@@ -247,11 +247,11 @@ goes-aborting s xid lid small served =
 -- ---- the dial of a call
 
 -- one that was asked for isn't refused
-pub goes-dial : (s : Stage) (conn : ℕ) (up : Bool) → IsCore conn → list_any (λ n. n == conn) s.gateway.fine.dialed ≡ true → IsServed s → Goes s (Dial conn up)
+pub goes-dial : (s : Stage) (conn : ℕ) (up : Bool) → IsCore conn → list_any (λ n. n == conn) s.gateway.interleaved.dialed ≡ true → IsServed s → Goes s (Dial conn up)
 goes-dial s conn up is_core wanted served = record {
   allowed =
       cond-false (not (lives_as (tables_of s) conn role.Core)) (Some cause.Conn) _ (ap not (role-lives (tables_of s) conn role.Core (served.serving.core conn is_core)))
-      ∙ cond-true (list_any (λ n. n == conn) s.gateway.fine.dialed) None (Some cause.Idle) wanted;
+      ∙ cond-true (list_any (λ n. n == conn) s.gateway.interleaved.dialed) None (Some cause.Idle) wanted;
   leads = λ item t is takes.
       let m = made s t item (Dial conn up) is takes in
       record {

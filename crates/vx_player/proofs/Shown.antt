@@ -16,7 +16,7 @@ use Rattle.vx_flow.specs.Poll.{Ending, Waited}
 use Rattle.vx_flow.specs.declared.progress.Why.{Why}
 use Rattle.vx_flow.specs.declared.progress.Why.TheVariants as why
 use Rattle.vx_player.specs.Gateway.{Gateway}
-use Rattle.vx_bench.specs.Script.{Step}
+use Rattle.vx_setup.specs.Script.{Step}
 use Rattle.vx_exchange.specs.Meaning.{Meaning, Junk, Asks, Aborts, meaning}
 use Rattle.vx_exchange.specs.Meaning as meant
 use Rattle.vx_run.specs.Stream.{Brought, NoEnd, Whole, TooLong, After, brought}
@@ -81,7 +81,7 @@ piece-plain : (g : Gateway) (conn now : ℕ) (b : Brought) (group : List Event) 
     → PieceMakes g conn now b group output after → IsPlain output
 piece-plain g conn now NoEnd group output after h = plain-none output h.1
 piece-plain g conn now (Whole message) group output after h =
-    record-plain g conn now message (role_at g.fine.state.tables conn) group output after h
+    record-plain g conn now message (role_at g.interleaved.state.tables conn) group output after h
 piece-plain g conn now TooLong group output after h = plain-line output _ h.told refl
 piece-plain g conn now After group output after h = absurd h
 

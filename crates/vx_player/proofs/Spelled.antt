@@ -7,11 +7,11 @@ use Rattle.vx_calls.specs.Call.{Call}
 use Rattle.vx_record.specs.Fragments.{last_header, record_of}
 use Rattle.vx_record.specs.Records.{Split, records}
 use Rattle.vx_record.specs.Ends.{is_settled}
-use Rattle.vx_record.specs.ProvedLaws.{settled-none}
-use Rattle.vx_record.proofs.Headers.{fragment_length-last_header}
-use Rattle.vx_record.proofs.Spelling.{records-finished, records-open}
+use Rattle.vx_record.proofs.Laws.{settled-none}
+use Rattle.vx_record.proofs.Laws.Headers.{fragment_length-last_header}
+use Rattle.vx_record.proofs.Laws.Spelling.{records-finished, records-open}
 use Rattle.vx_exchange.specs.Meaning.{by_call, by_arguments, by_sorting, meaning}
-use Rattle.vx_gen.proofs.Spelled.{IsSpelled, message, message-sorted, message-read, message-short}
+use Rattle.vx_gen.proofs.Laws.Spelled.{IsSpelled, message, message-sorted, message-read, message-short}
 use Rattle.vx_run.specs.Stream.{Whole, After, by_split, brought}
 
 -- ---- a record on a stream that begins anew

@@ -10,7 +10,7 @@ use Rattle.vx_core.specs.CoreState.{CoreState}
 use Rattle.vx_rules.specs.State.{role_at}
 use Rattle.vx_player.specs.declared.note.Intake.{Intake}
 use Rattle.vx_player.specs.declared.note.Intake.TheVariants as intake
-use Rattle.vx_player.specs.declared.note.Made.{Made}
+use Rattle.vx_player.specs.declared.note.StepMade.{StepMade}
 use Rattle.vx_player.specs.Gateway.{Gateway, gateway_of}
 use Rattle.vx_run.specs.Item.{noted}
 use Rattle.vx_run.specs.RunText.{event_lines, message_lines}
@@ -20,16 +20,16 @@ use Rattle.vx_player.specs.Play.{stream_after, xid_after, rack_after, message_of
 use Rattle.vx_run.specs.Position.{moment_after}
 use Rattle.vx_player.specs.PlayerState.{PlayerState, incoming_at}
 use Rattle.vx_player.specs.Serving.{MadeBy, given_lines}
-use Rattle.vx_player.specs.Standing.{Stands, Holds, TakesTo, note_line, intake_lines, begun_lines, moves_lines}
+use Rattle.vx_player.specs.Standing.{PlayerStands, PlayerHolds, TakesTo, note_line, intake_lines, begun_lines, moves_lines}
 
 -- what is kept of each connection behind a command
 abbrev pub HoldsBehind : Stage → Command → PlayerState → Type 0
 HoldsBehind before command new =
-    (conn : ℕ) → Holds (role_at new.core.fine.state.tables conn) (incoming_at new.incoming conn) (stream_after before command conn) (xid_after before command conn)
+    (conn : ℕ) → PlayerHolds (role_at new.core.interleaved.state.tables conn) (incoming_at new.incoming conn) (stream_after before command conn) (xid_after before command conn)
 
 -- what was made in the player's gateway, at its moment, was made at the stage
-pub made-there : (StepMakes : Gateway → ℕ → List Event → Option Output → Gateway → Type 0) (p : PlayerState) (stage : Stage) (room : List ℕ) (made : Made)
-    (core : CoreState SimState) → Stands p stage → MadeBy (StepMakes (gateway_of p.core) p.moment) room made core
+pub made-there : (StepMakes : Gateway → ℕ → List Event → Option Output → Gateway → Type 0) (p : PlayerState) (stage : Stage) (room : List ℕ) (made : StepMade)
+    (core : CoreState SimState) → PlayerStands p stage → MadeBy (StepMakes (gateway_of p.core) p.moment) room made core
     → MadeBy (StepMakes stage.gateway stage.moment) room made core
 made-there StepMakes p stage room made core stands h =
     subst (λ m. MadeBy (StepMakes stage.gateway m) room made core) stands.moment
@@ -53,9 +53,9 @@ lines2 message i called evs begun moves told a b =
       by (intake.Sampled level) = refl
 
 -- a command that isn't refused, what it made, and what the player keeps behind it
-pub takes-to : (before : Stage) (command : Command) (new : PlayerState) (made : Made) → refusal before command ≡ None
+pub takes-to : (before : Stage) (command : Command) (new : PlayerState) (made : StepMade) → refusal before command ≡ None
     → MadeBy (Makes before command) new.reply made new.core → message_lines command (message_of before command) ≡ call_lines new.message made.intake
-    → new.core.fine.state.moment ≤ new.moment
+    → new.core.interleaved.state.moment ≤ new.moment
     → new.moment ≡ moment_after before.moment command → new.rack ≡ rack_after before.rack command → HoldsBehind before command new
     → TakesTo before command made new
 takes-to before command new made allowed made_by called late moment rack incoming =

@@ -22,27 +22,28 @@ use Rattle.vx_script.specs.declared.Cause.{Cause}
 use Rattle.vx_script.specs.declared.Cause.TheVariants as cause
 use Rattle.vx_script.specs.Command.{Command, Inst, Plug, Pull, Set, Fail}
 use Rattle.vx_rules.specs.State.{role_at}
-use Rattle.vx_flow.specs.FineState.{FineState}
+use Rattle.vx_flow.specs.InterleavedState.{InterleavedState}
 use Rattle.vx_core.specs.CoreState.{CoreState}
 use Rattle.vx_player.specs.declared.note.Intake.TheVariants as intake
-use Rattle.vx_player.specs.declared.note.Made.{Made}
+use Rattle.vx_player.specs.declared.note.StepMade.{StepMade}
 use Rattle.vx_player.specs.declared.note.Note.TheVariants as note
-use Rattle.vx_bench.specs.declared.stops.Stop.{Stop}
-use Rattle.vx_bench.specs.declared.stops.Stop.TheVariants as stopped
+use Rattle.vx_setup.specs.declared.stops.Refusal.{Refusal}
+use Rattle.vx_setup.specs.declared.stops.Refusal.TheVariants as stopped
 use Rattle.vx_player.specs.Gateway.{Gateway, gateway_of, BusGoes}
-use Rattle.vx_bench.specs.Rack.{SpareShown, spare_at}
+use Rattle.vx_setup.specs.Rack.{SpareShown, spare_at}
 use Rattle.vx_player.specs.Stage.{Stage, tables_of, absent_at, refusal}
-use Rattle.vx_bench.specs.Refusing.{address, cause_of, rules_in, table_refused, spare_refused}
+use Rattle.vx_setup.specs.Refusing.{address, cause_of, rules_in, table_refused, spare_refused}
 use Rattle.vx_player.specs.Making.{Tweaks, Makes}
-use Rattle.vx_bench.specs.Attaches.{AttachesTable, AttachesSpare}
+use Rattle.vx_setup.specs.Attaches.{AttachesTable, AttachesSpare}
 use Rattle.vx_player.specs.Play.{stream_after, xid_after, rack_after, message_of}
 use Rattle.vx_run.specs.Position.{moment_after}
 use Rattle.vx_run.specs.RunText.{message_lines}
 use Rattle.vx_player.specs.PlayerState.{PlayerState, incoming_at}
-use Rattle.vx_bench.specs.Spares.{spare_shown}
-use Rattle.vx_player.specs.Standing.{Stands, Holds, TakesTo, StopsFor}
+use Rattle.vx_setup.specs.Spares.{spare_shown}
+use Rattle.vx_player.specs.Standing.{PlayerStands, PlayerHolds, TakesTo}
+use Rattle.vx_player.specs.Wanting.{StopsFor}
 use Rattle.vx_player.specs.Tweaking.{AttachChanges, AttachesOne, ChangesAt}
-use Rattle.vx_bench.proofs.Found.{spare-found, spare-missing, rack-left}
+use Rattle.vx_setup.proofs.Laws.Found.{spare-found, spare-missing, rack-left}
 use Rattle.vx_player.proofs.Stepping.{takes-to}
 
 -- ---- a cut
@@ -79,44 +80,44 @@ record Leaves (stage : Stage) (command : Command) : Type 0 where
   called : message_lines command (message_of stage command) ≡ []
 
 -- nothing is told of a change
-abbrev pub quiet : Made
+abbrev pub quiet : StepMade
 quiet = record { intake = intake.Nothing; polled = None; note = note.Nothing; answered = None }
 
 -- a change that isn't refused takes the player to the next stage
 tweak-takes : (stage : Stage) (command : Command) (Change : SimState → SimState → Type 0) (old now : PlayerState) (core : CoreState SimState) (rack : List SpareShown)
-    (cut : SimState) → old ≡ now → Stands now stage → core.fine ≡ old.core.fine → BusGoes old.core.bus (Cut ∷ []) cut → Change cut core.bus
+    (cut : SimState) → old ≡ now → PlayerStands now stage → core.interleaved ≡ old.core.interleaved → BusGoes old.core.bus (Cut ∷ []) cut → Change cut core.bus
     → rack ≡ rack_after old.rack command → (Same stage.gateway.bus cut → stage.rack ≡ old.rack → refusal stage command ≡ None)
     → (stage.rack ≡ old.rack → (after : Gateway) → Tweaks stage.gateway Change [] None after → Makes stage command [] None after)
     → Leaves stage command → TakesTo stage command quiet (record old { core = core; rack = rack })
-tweak-takes stage command Change old now core rack cut seen stands_now fine_kept went change rack_is allowed makes leaves =
-    let stands : Stands old stage = subst (λ (p : PlayerState). Stands p stage) (sym seen) stands_now in
+tweak-takes stage command Change old now core rack cut seen stands_now interleaved_kept went change rack_is allowed makes leaves =
+    let stands : PlayerStands old stage = subst (λ (p : PlayerState). PlayerStands p stage) (sym seen) stands_now in
     let through : BusGoes stage.gateway.bus (Cut ∷ []) cut = subst (λ (g : Gateway). BusGoes g.bus (Cut ∷ []) cut) stands.gateway went in
     let shown : stage.rack ≡ old.rack = sym stands.rack in
-    let fine_is : core.fine ≡ stage.gateway.fine = fine_kept ∙ ap (λ (g : Gateway). g.fine) stands.gateway in
+    let interleaved_is : core.interleaved ≡ stage.gateway.interleaved = interleaved_kept ∙ ap (λ (g : Gateway). g.interleaved) stands.gateway in
     let new : PlayerState = record old { core = core; rack = rack } in
     takes-to stage command new quiet (allowed (cut-same stage.gateway.bus cut through) shown)
     (record {
       group = [];
-      makes = makes shown (gateway_of core) (record { none = refl; fine = fine_is; cut = cut; bus = through; change = change; told = refl });
+      makes = makes shown (gateway_of core) (record { none = refl; interleaved = interleaved_is; cut = cut; bus = through; change = change; told = refl });
       lines = refl;
       lines2 = refl;
       answered = refl;
       note = tt;
       few = λ some. absurd (false≢true some);
     }) leaves.called
-    (subst (λ (f : FineState). f.state.moment ≤ old.moment) (sym fine_kept) stands.late)
+    (subst (λ (f : InterleavedState). f.state.moment ≤ old.moment) (sym interleaved_kept) stands.late)
     (stands.moment ∙ sym leaves.moment)
     (rack_is ∙ ap (λ (r : List SpareShown). rack_after r command) stands.rack)
     (λ conn.
-    subst (λ (f : FineState). Holds (role_at f.state.tables conn) (incoming_at old.incoming conn) (stream_after stage command conn) (xid_after stage command conn))
-    (sym fine_is)
-    (subst (λ (x : List ℕ). Holds (role_at (tables_of stage) conn) (incoming_at old.incoming conn) x (xid_after stage command conn)) (sym (leaves.streams conn))
-    (subst (λ (k : ℕ). Holds (role_at (tables_of stage) conn) (incoming_at old.incoming conn) (stage.streams conn) k) (sym (leaves.xids conn))
+    subst (λ (f : InterleavedState). PlayerHolds (role_at f.state.tables conn) (incoming_at old.incoming conn) (stream_after stage command conn) (xid_after stage command conn))
+    (sym interleaved_is)
+    (subst (λ (x : List ℕ). PlayerHolds (role_at (tables_of stage) conn) (incoming_at old.incoming conn) x (xid_after stage command conn)) (sym (leaves.streams conn))
+    (subst (λ (k : ℕ). PlayerHolds (role_at (tables_of stage) conn) (incoming_at old.incoming conn) (stage.streams conn) k) (sym (leaves.xids conn))
     (stands.incoming conn))))
 
 -- ---- a failing call, a status byte, an instrument taken off
 
-pub fail-takes : (stage : Stage) (n m : ℕ) (old now : PlayerState) (core : CoreState SimState) → m ≡ n → old ≡ now → Stands now stage → core.fine ≡ old.core.fine
+pub fail-takes : (stage : Stage) (n m : ℕ) (old now : PlayerState) (core : CoreState SimState) → m ≡ n → old ≡ now → PlayerStands now stage → core.interleaved ≡ old.core.interleaved
     → ((cut : SimState) × BusGoes old.core.bus (Cut ∷ []) cut × (core.bus ≡ record cut { failing = Some m }))
     → TakesTo stage (Fail n) quiet (record old { core = core })
 fail-takes stage n m old now core e seen stands kept changes =
@@ -125,8 +126,8 @@ fail-takes stage n m old now core e seen stands kept changes =
     (changes.2 ∙ ap (λ (k : ℕ). record cut { failing = Some k }) e) refl (λ same shown. refl) (λ shown after t. t)
     (record { streams = λ conn. refl; xids = λ conn. refl; moment = refl; called = refl })
 
-pub set-takes : (stage : Stage) (p : ℕ) (s : Option ℕ) (b : ℕ) (answer : Bool) (old now : PlayerState) (core : CoreState SimState) → old ≡ now → Stands now stage
-    → core.fine ≡ old.core.fine → ((cut : SimState) × BusGoes old.core.bus (Cut ∷ []) cut × ChangesAt (address p s) (IsSet (address p s) b) cut answer core.bus)
+pub set-takes : (stage : Stage) (p : ℕ) (s : Option ℕ) (b : ℕ) (answer : Bool) (old now : PlayerState) (core : CoreState SimState) → old ≡ now → PlayerStands now stage
+    → core.interleaved ≡ old.core.interleaved → ((cut : SimState) × BusGoes old.core.bus (Cut ∷ []) cut × ChangesAt (address p s) (IsSet (address p s) b) cut answer core.bus)
     → answer ≡ true → TakesTo stage (Set p s b) quiet (record old { core = core })
 set-takes stage p s b answer old now core seen stands kept changes reached =
     let change = changes.2 in
@@ -135,7 +136,7 @@ set-takes stage p s b answer old now core seen stands kept changes reached =
     (record { streams = λ conn. refl; xids = λ conn. refl; moment = refl; called = refl })
 
 pub pull-takes : (stage : Stage) (p : ℕ) (s : Option ℕ) (place : Addr) (answer : Bool) (old now : PlayerState) (core : CoreState SimState) → place ≡ address p s
-    → old ≡ now → Stands now stage → core.fine ≡ old.core.fine
+    → old ≡ now → PlayerStands now stage → core.interleaved ≡ old.core.interleaved
     → ((cut : SimState) × BusGoes old.core.bus (Cut ∷ []) cut × ChangesAt place (λ o n. n ≡ without_place place o) cut answer core.bus)
     → answer ≡ true → TakesTo stage (Pull p s) quiet (record old { core = core })
 pull-takes stage p s place answer old now core e seen stands kept changes reached =
@@ -160,16 +161,16 @@ attach-allowed bus cut a free same = ap (λ (o : Option Attach). cause_of o) (sy
 
 pub inst-takes : (stage : Stage) (p : ℕ) (s : Option ℕ) (text : List ℕ) (inst : TableState) (place : Addr) (kept : Option TableState) (old now : PlayerState)
     (core : CoreState SimState) → ((rules : List Rule) × (rules_in text ≡ Some (Ok rules)) × (inst ≡ fresh_table rules)) → place ≡ address p s → kept ≡ Some inst
-    → old ≡ now → Stands now stage → core.fine ≡ old.core.fine
+    → old ≡ now → PlayerStands now stage → core.interleaved ≡ old.core.interleaved
     → ((cut : SimState) × BusGoes old.core.bus (Cut ∷ []) cut × AttachesOne place (option_map (λ t. Table t) kept) cut None core.bus)
     → TakesTo stage (Inst p s text) quiet (record old { core = core })
-inst-takes stage p s text inst place kept old now core table place_is kept_is seen stands fine_kept changes =
+inst-takes stage p s text inst place kept old now core table place_is kept_is seen stands interleaved_kept changes =
     let cut : SimState = changes.0 in
     let a : Addr = address p s in
     let came : AttachChanges a (Table inst) cut None core.bus =
     attached a place (Table inst) (option_map (λ t. Table t) kept) cut core.bus None place_is (ap (λ (o : Option TableState). option_map (λ t. Table t) o) kept_is) changes.2 in
     let change : IsAttached a (Table (fresh_table table.0)) cut core.bus = subst (λ (t : TableState). IsAttached a (Table t) cut core.bus) table.2 came.1 in
-    tweak-takes stage (Inst p s text) (IsAttached a (Table (fresh_table table.0))) old now core old.rack cut seen stands fine_kept changes.1 change refl
+    tweak-takes stage (Inst p s text) (IsAttached a (Table (fresh_table table.0))) old now core old.rack cut seen stands interleaved_kept changes.1 change refl
     (λ same shown.
     ap (λ (r : Option (Result (List Rule) TableErr)). table_refused stage.gateway.bus a r) table.1 ∙ attach-allowed stage.gateway.bus cut a came.0 same)
     (λ shown after t.
@@ -179,29 +180,29 @@ inst-takes stage p s text inst place kept old now core table place_is kept_is se
 -- ---- a spare attached
 
 -- why a step isn't taken
-stops-for : (stage : Stage) (command : Command) (why : Option Cause) (ended : Stop) → refusal stage command ≡ why
+stops-for : (stage : Stage) (command : Command) (why : Option Cause) (ended : Refusal) → refusal stage command ≡ why
     → Some ended ≡ option_map (λ k. stopped.Refused k) why → StopsFor stage command ended
 stops-for stage command None ended e told = absurd (cc)
 stops-for stage command (Some why) ended e told =
-    subst (λ (t : Stop). StopsFor stage command t) (sym (same_Some ended (stopped.Refused why) told)) e
+    subst (λ (t : Refusal). StopsFor stage command t) (sym (same_Some ended (stopped.Refused why) told)) e
 
 module _ {I : Type 0} (seat : I → Seated) (name : List ℕ) where
   -- where there is no spare of the name, the step is refused
   pub spare-stops : (stage : Stage) (p : ℕ) (s : Option ℕ) (rack : List (Spare I)) (old now : PlayerState) → None ≡ position (λ (x : Spare I). bytes_eq x.name.bytes name) rack
-      → old ≡ now → Stands now stage → old.rack ≡ map (spare_shown seat) rack → refusal stage (Plug p s name) ≡ Some cause.Spare
+      → old ≡ now → PlayerStands now stage → old.rack ≡ map (spare_shown seat) rack → refusal stage (Plug p s name) ≡ Some cause.Spare
   spare-stops stage p s rack old now e seen stands_now shown =
-      let stands : Stands old stage = subst (λ (x : PlayerState). Stands x stage) (sym seen) stands_now in
+      let stands : PlayerStands old stage = subst (λ (x : PlayerState). PlayerStands x stage) (sym seen) stands_now in
       ap (λ (o : Option SpareShown). spare_refused stage.gateway.bus (address p s) o)
       (ap (λ (r : List SpareShown). spare_at r name) (sym stands.rack ∙ shown) ∙ spare-missing seat name rack e)
 
   -- where the bus refuses it, the step is refused
   pub plug-stops : (stage : Stage) (p : ℕ) (s : Option ℕ) (rack : List (Spare I)) (at_place : ℕ) (spare : Spare I) (place : Addr) (kept : Option I) (why : Attach)
-      (ended : Stop) (old now : PlayerState) (after : SimState) → Some at_place ≡ position (λ (x : Spare I). bytes_eq x.name.bytes name) rack → spare ≡ get_or rack at_place spare
-      → place ≡ address p s → kept ≡ Some spare.inst → old ≡ now → Stands now stage → old.rack ≡ map (spare_shown seat) rack
+      (ended : Refusal) (old now : PlayerState) (after : SimState) → Some at_place ≡ position (λ (x : Spare I). bytes_eq x.name.bytes name) rack → spare ≡ get_or rack at_place spare
+      → place ≡ address p s → kept ≡ Some spare.inst → old ≡ now → PlayerStands now stage → old.rack ≡ map (spare_shown seat) rack
       → ((cut : SimState) × BusGoes old.core.bus (Cut ∷ []) cut × AttachesOne place (option_map (λ i. Boxed (seat i)) kept) cut (Some why) after)
       → Some ended ≡ option_map (λ k. stopped.Refused k) (cause_of (Some why)) → StopsFor stage (Plug p s name) ended
   plug-stops stage p s rack at_place spare place kept why ended old now after e is place_is kept_is seen stands_now shown changes told =
-      let stands : Stands old stage = subst (λ (x : PlayerState). Stands x stage) (sym seen) stands_now in
+      let stands : PlayerStands old stage = subst (λ (x : PlayerState). PlayerStands x stage) (sym seen) stands_now in
       let cut : SimState = changes.0 in
       let a : Addr = address p s in
       let through : BusGoes stage.gateway.bus (Cut ∷ []) cut = subst (λ (g : Gateway). BusGoes g.bus (Cut ∷ []) cut) stands.gateway changes.1 in
@@ -217,11 +218,11 @@ module _ {I : Type 0} (seat : I → Seated) (name : List ℕ) where
 
   pub plug-takes : (stage : Stage) (p : ℕ) (s : Option ℕ) (rack rest : List (Spare I)) (at_place : ℕ) (spare : Spare I) (place : Addr) (kept : Option I)
       (old now : PlayerState) (core : CoreState SimState) → Some at_place ≡ position (λ (x : Spare I). bytes_eq x.name.bytes name) rack → spare ≡ get_or rack at_place spare
-      → rest ≡ take at_place rack ++ drop (suc at_place) rack → place ≡ address p s → kept ≡ Some spare.inst → old ≡ now → Stands now stage
-      → old.rack ≡ map (spare_shown seat) rack → core.fine ≡ old.core.fine
+      → rest ≡ take at_place rack ++ drop (suc at_place) rack → place ≡ address p s → kept ≡ Some spare.inst → old ≡ now → PlayerStands now stage
+      → old.rack ≡ map (spare_shown seat) rack → core.interleaved ≡ old.core.interleaved
       → ((cut : SimState) × BusGoes old.core.bus (Cut ∷ []) cut × AttachesOne place (option_map (λ i. Boxed (seat i)) kept) cut None core.bus)
       → TakesTo stage (Plug p s name) quiet (record old { core = core; rack = map (spare_shown seat) rest })
-  plug-takes stage p s rack rest at_place spare place kept old now core e is rest_is place_is kept_is seen stands shown fine_kept changes =
+  plug-takes stage p s rack rest at_place spare place kept old now core e is rest_is place_is kept_is seen stands shown interleaved_kept changes =
       let cut : SimState = changes.0 in
       let a : Addr = address p s in
       let came : AttachChanges a (Boxed (seat spare.inst)) cut None core.bus =
@@ -231,7 +232,7 @@ module _ {I : Type 0} (seat : I → Seated) (name : List ℕ) where
       rack-left seat name rack rest at_place e rest_is ∙ ap (λ (r : List SpareShown). rack_after r (Plug p s name)) (sym shown) in
       let there : spare_at old.rack name ≡ Some (spare_shown seat spare) =
       ap (λ (r : List SpareShown). spare_at r name) shown ∙ spare-found seat name rack at_place spare e is in
-      tweak-takes stage (Plug p s name) (IsAttached a (Boxed (seat spare.inst))) old now core (map (spare_shown seat) rest) cut seen stands fine_kept changes.1 came.1 rack_is
+      tweak-takes stage (Plug p s name) (IsAttached a (Boxed (seat spare.inst))) old now core (map (spare_shown seat) rest) cut seen stands interleaved_kept changes.1 came.1 rack_is
       (λ same known.
       ap (λ (o : Option SpareShown). spare_refused stage.gateway.bus a o) (ap (λ (r : List SpareShown). spare_at r name) known ∙ there)
       ∙ attach-allowed stage.gateway.bus cut a came.0 same)

@@ -6,16 +6,17 @@ use Rattle.vx_calls.specs.declared.codes.ErrorCode.{ErrorCode}
 use Rattle.vx_calls.specs.declared.limits.TheConstants.{SLICE_MAX}
 use Rattle.vx_script.specs.Command.{Command}
 use Rattle.vx_trace.specs.Output.{Output, Irq}
-use Rattle.vx_bench.specs.Rack.{SpareShown}
+use Rattle.vx_setup.specs.Rack.{SpareShown}
 use Rattle.vx_gen.specs.declared.telling.Counts.{Counts}
 use Rattle.vx_player.specs.declared.made_run.Halt.{Halt}
-use Rattle.vx_player.specs.declared.note.Made.{Made}
+use Rattle.vx_player.specs.declared.note.StepMade.{StepMade}
 use Rattle.vx_player.specs.declared.note.Note.{Note}
 use Rattle.vx_player.specs.declared.note.Note.TheVariants as note
 use Rattle.vx_run.specs.Item.{Item, errors_of, shown_moves}
 use Rattle.vx_player.specs.Stage.{Stage}
 use Rattle.vx_player.specs.PlayerState.{PlayerState}
-use Rattle.vx_player.specs.Standing.{Stands, TakesTo, StopsFor, made_lines}
+use Rattle.vx_player.specs.Standing.{PlayerStands, TakesTo, made_lines}
+use Rattle.vx_player.specs.Wanting.{StopsFor}
 use Rattle.vx_run.specs.Notes.{is_wait}
 use Rattle.vx_player.specs.Generated.{IsGenerated, IsDriven, counts_of, is_failure}
 
@@ -54,7 +55,7 @@ tells_wait (note.Dialing conn) = true
 tells_wait _ = false
 
 -- the counts with a step that made this, after so many transfers
-abbrev pub counts_made : Counts → Made → ℕ → Counts
+abbrev pub counts_made : Counts → StepMade → ℕ → Counts
 counts_made c made moved = record {
   answers = c.answers + from_bool (is_some made.answered);
   errors = c.errors + from_bool (has_error made.answered);
@@ -64,7 +65,7 @@ counts_made c made moved = record {
 }
 
 -- none of the counts is above a bound
-pub record IsWithin (most : ℕ) (c : Counts) : Type 0 where
+pub record IsPlayerWithin (most : ℕ) (c : Counts) : Type 0 where
   pub answers : c.answers ≤ most
   pub errors : c.errors ≤ most
   pub transfers : c.transfers ≤ most
@@ -73,7 +74,7 @@ pub record IsWithin (most : ℕ) (c : Counts) : Type 0 where
 
 -- a step was taken and counted
 pub record TakesCounted (before : Stage) (command : Command) (old : Counts) (player : PlayerState) (new : Counts) : Type 0 where
-  pub made : Made
+  pub made : StepMade
   pub takes : TakesTo before command made player
   pub counted : new ≡ counts_behind old made.answered (made_lines player made)
 
@@ -82,9 +83,9 @@ pub record Running (seed : ℕ) (rack : List SpareShown) (count : ℕ) (player :
   pub items : List Item
   pub stage : Stage
   pub front : IsDriven seed rack count items stage
-  pub stands : Stands player stage
+  pub stands : PlayerStands player stage
   pub counted : counts ≡ counts_of items
-  pub few : IsWithin (count * SLICE_MAX) counts
+  pub few : IsPlayerWithin (count * SLICE_MAX) counts
 
 -- the next step of a run isn't taken
 pub record HaltsIn (seed : ℕ) (rack : List SpareShown) (halt : Halt) : Type 0 where

@@ -13,9 +13,9 @@ use Rattle.vx_flow.specs.Event as event
 use Rattle.vx_player.specs.declared.note.Gone.TheVariants as gone
 use Rattle.vx_player.specs.declared.note.Intake.TheVariants as intake
 use Rattle.vx_player.specs.declared.note.Note.TheVariants as note
-use Rattle.vx_player.specs.declared.note.Made.{Made}
-use Rattle.vx_bench.specs.declared.stops.Stop.{Stop}
-use Rattle.vx_bench.specs.declared.stops.Stop.TheVariants as stop
+use Rattle.vx_player.specs.declared.note.StepMade.{StepMade}
+use Rattle.vx_setup.specs.declared.stops.Refusal.{Refusal}
+use Rattle.vx_setup.specs.declared.stops.Refusal.TheVariants as stop
 use Rattle.vx_player.specs.declared.pieces.Incoming.{Incoming}
 use Rattle.vx_player.specs.Gateway.{Gateway, gateway_of, Happens}
 use Rattle.vx_exchange.specs.Meaning.{Meaning, Junk, meaning, xid_by}
@@ -37,7 +37,7 @@ kept_behind Junk kept = None
 kept_behind m kept = Some (record { buffer = fresh kept.buffer.limit; xid = xid_by m kept.xid })
 
 -- what a whole record in a connection's buffer made, whose message is kept
-pub record AnswersRecord (before : Gateway) (conn now : ℕ) (r : Role) (kept : Incoming) (room message : List ℕ) (after_kept : Option Incoming) (made : Made)
+pub record AnswersRecord (before : Gateway) (conn now : ℕ) (r : Role) (kept : Incoming) (room message : List ℕ) (after_kept : Option Incoming) (made : StepMade)
     (after : CoreState SimState) : Type 0 where
   pub made_by : MadeBy (MessageMakes before conn now (meaning kept.buffer.kept r)) room made after
   pub intake_is : made.intake ≡ intake.Message conn
@@ -45,7 +45,7 @@ pub record AnswersRecord (before : Gateway) (conn now : ℕ) (r : Role) (kept : 
   pub kept_is : after_kept ≡ kept_behind (meaning kept.buffer.kept r) kept
 
 -- what a piece of a stream made, by the state in which it leaves the buffer, all of it taken
-abbrev pub FeedMakes : Gateway → ℕ → ℕ → Role → Incoming → List ℕ → List ℕ → Option Incoming → Made → CoreState SimState → Feed → Type 0
+abbrev pub FeedMakes : Gateway → ℕ → ℕ → Role → Incoming → List ℕ → List ℕ → Option Incoming → StepMade → CoreState SimState → Feed → Type 0
 FeedMakes before conn now r fed_kept room message after_kept made after feed.More =
     (gateway_of after ≡ before) × (after_kept ≡ Some fed_kept) × (made ≡ record { intake = intake.Nothing; polled = None; note = note.Nothing; answered = None })
 FeedMakes before conn now r fed_kept room message after_kept made after feed.Whole = AnswersRecord before conn now r fed_kept room message after_kept made after
@@ -54,12 +54,12 @@ FeedMakes before conn now r fed_kept room message after_kept made after feed.Too
     × (made ≡ record { intake = intake.Nothing; polled = None; note = note.Ended conn gone.Long; answered = None })
 
 -- the buffer takes the whole piece, and what stands in it then is answered
-pub record FeedsPiece (before : Gateway) (conn now : ℕ) (r : Role) (kept : Incoming) (piece room message : List ℕ) (after_kept : Option Incoming) (made : Made)
+pub record FeedsPiece (before : Gateway) (conn now : ℕ) (r : Role) (kept : Incoming) (piece room message : List ℕ) (after_kept : Option Incoming) (made : StepMade)
     (after : CoreState SimState) : Type 0 where
   pub whole : taken kept.buffer piece ≡ length piece
   pub makes : FeedMakes before conn now r (record kept { buffer = fed kept.buffer piece }) room message after_kept made after (fed kept.buffer piece).state
 
 -- bytes follow a record
-abbrev pub StopsPiece : Incoming → List ℕ → Stop → Type 0
+abbrev pub StopsPiece : Incoming → List ℕ → Refusal → Type 0
 StopsPiece kept piece (stop.Refused why) = (why ≡ cause.After) × (taken kept.buffer piece < length piece)
 StopsPiece kept piece stop.NoMemory = ⊥

@@ -10,8 +10,8 @@ use Rattle.vx_trace.specs.Output.{Output}
 use Rattle.vx_exchange.specs.SrqState.{Srq, Front}
 use Rattle.vx_rules.specs.State.{pending_at}
 use Rattle.vx_flow.specs.Event.{Event, Take}
-use Rattle.vx_bench.specs.Script.{Step}
-use Rattle.vx_bench.specs.Rack.{SpareShown, spare_at}
+use Rattle.vx_setup.specs.Script.{Step}
+use Rattle.vx_setup.specs.Rack.{SpareShown, spare_at}
 use Rattle.vx_gen.specs.declared.telling.Counts.{Counts}
 use Rattle.vx_gen.specs.declared.words.Ask.{Ask}
 use Rattle.vx_gen.specs.Drawing.{draw, connection}
@@ -89,7 +89,7 @@ pub record IsDriven (seed : ℕ) (rack : List SpareShown) (count : ℕ) (items :
   pub number : length steps ≡ count
 
 -- a whole run: the head, and a moment and a step for each draw
-pub record IsRun (ask : Ask) (rack : List SpareShown) (items : List Item) : Type 0 where
+pub record IsPlayerRun (ask : Ask) (rack : List SpareShown) (items : List Item) : Type 0 where
   pub end : Stage
   pub front : IsDriven ask.seed rack (length head + 2 * ask.steps) items end
   pub upholds : Upholds items

@@ -5,6 +5,7 @@ pub mod Making
 pub mod Play
 pub mod Upholding
 pub mod PlayerState
+pub mod Wanting
 pub mod Standing
 pub mod Serving
 pub mod Feeding
@@ -12,7 +13,6 @@ pub mod Tweaking
 pub mod Printing
 pub mod Generated
 pub mod Counting
-pub mod ProvedLaws
 pub use Rattle.vx_run.specs.Stream
 pub use Rattle.vx_run.specs.Item
 pub use Rattle.vx_run.specs.RunText
@@ -38,12 +38,12 @@ pub use Rattle.vx_exchange.specs.Meaning
 pub use Rattle.vx_exchange.specs.SrqState
 pub use Rattle.vx_rules.specs.Calls
 pub use Rattle.vx_rules.specs.Lists
-pub use Rattle.vx_rules.specs.One
+pub use Rattle.vx_rules.specs.AtomicStep
 pub use Rattle.vx_rules.specs.State
 pub use Rattle.vx_flow.specs.Event
-pub use Rattle.vx_flow.specs.Fine
-pub use Rattle.vx_flow.specs.FineState
-pub use Rattle.vx_flow.specs.Headline
+pub use Rattle.vx_flow.specs.InterleavedStep
+pub use Rattle.vx_flow.specs.InterleavedState
+pub use Rattle.vx_flow.specs.Claims
 pub use Rattle.vx_flow.specs.Poll
 pub use Rattle.vx_core.specs.CoreState
 pub use Rattle.vx_core.specs.Polling
@@ -55,8 +55,8 @@ pub use Rattle.vx_trace.specs.Output
 pub use Rattle.vx_trace.specs.Text
 pub use Rattle.vx_gen.specs.Drawing
 pub use Rattle.vx_gen.specs.Generating
-pub use Rattle.vx_bench.specs.Attaches
-pub use Rattle.vx_bench.specs.Rack
-pub use Rattle.vx_bench.specs.Refusing
-pub use Rattle.vx_bench.specs.Script
-pub use Rattle.vx_bench.specs.Spares
+pub use Rattle.vx_setup.specs.Attaches
+pub use Rattle.vx_setup.specs.Rack
+pub use Rattle.vx_setup.specs.Refusing
+pub use Rattle.vx_setup.specs.Script
+pub use Rattle.vx_setup.specs.Spares

@@ -16,7 +16,7 @@ use Rattle.vx_rules.specs.State.{Pending, role_at, pending_at}
 use Rattle.vx_flow.specs.Event.{Event}
 use Rattle.vx_flow.specs.Event as event
 use Rattle.vx_flow.specs.Poll.{Ending, run_events, end_events}
-use Rattle.vx_core.specs.Polling.{PollsOver}
+use Rattle.vx_core.specs.Polling.{PollOnBus}
 use Rattle.vx_run.specs.Notes.{poll_line, take_line}
 use Rattle.vx_player.specs.Gateway.{Gateway, BusGoes, Happens}
 use Rattle.vx_player.specs.Hearing.{is_write, TakesHeard}
@@ -24,10 +24,10 @@ use Rattle.vx_record.specs.Fragments.{record_of}
 use Rattle.vx_exchange.specs.Meaning.{Meaning, Junk, Asks, Aborts, meaning, reply_record}
 use Rattle.vx_exchange.specs.Meaning as meant
 use Rattle.vx_run.specs.Stream.{Brought, NoEnd, Whole, TooLong, After, brought}
-use Rattle.vx_bench.specs.Rack.{spare_at}
+use Rattle.vx_setup.specs.Rack.{spare_at}
 use Rattle.vx_player.specs.Stage.{Stage, tables_of}
-use Rattle.vx_bench.specs.Refusing.{address, rules_in}
-use Rattle.vx_bench.specs.Attaches.{AttachesTable, AttachesSpare}
+use Rattle.vx_setup.specs.Refusing.{address, rules_in}
+use Rattle.vx_setup.specs.Attaches.{AttachesTable, AttachesSpare}
 
 -- nothing happens in the gateway
 pub record IsQuiet (before : Gateway) (group : List Event) (after : Gateway) : Type 0 where
@@ -37,12 +37,12 @@ pub record IsQuiet (before : Gateway) (group : List Event) (after : Gateway) : T
 -- a connection's call is polled at this moment
 pub record PollMakes (before : Gateway) (conn now xid : ℕ) (group : List Event) (note : Option Output) (after : Gateway) : Type 0 where
   pub ending : Ending
-  pub over : PollsOver (λ s. s.means) Through (λ s. some_asks s.bench) (λ s. some_refuses s.means.wire s.bench) before.fine before.bus conn now
-      (Cut ∷ Told now ∷ []) ending after.fine after.bus
-  pub events : group ≡ run_events before.fine conn now after.bus.means.moves ++ end_events conn now ending
+  pub over : PollOnBus (λ s. s.means) Through (λ s. some_asks s.bench) (λ s. some_refuses s.means.wire s.bench) before.interleaved before.bus conn now
+      (Cut ∷ Told now ∷ []) ending after.interleaved after.bus
+  pub events : group ≡ run_events before.interleaved conn now after.bus.means.moves ++ end_events conn now ending
   pub told : note ≡ Some (poll_line conn xid ending)
   -- the bytes of a write are taken by whoever is addressed, each once
-  pub taken : (p : Pending) → pending_at before.fine.state.tables conn ≡ Some p → is_write p.call ≡ true
+  pub taken : (p : Pending) → pending_at before.interleaved.state.tables conn ≡ Some p → is_write p.call ≡ true
       → TakesHeard before.bus now after.bus.means.moves after.bus
 
 -- a call comes at this moment, and is polled
@@ -81,7 +81,7 @@ RecordMakes g conn now message (Some r) group line after = MessageMakes g conn n
 -- what a piece of a stream makes
 abbrev pub PieceMakes : Gateway → ℕ → ℕ → Brought → List Event → Option Output → Gateway → Type 0
 PieceMakes g conn now NoEnd group line after = IsQuiet g group after × (line ≡ None)
-PieceMakes g conn now (Whole message) group line after = RecordMakes g conn now message (role_at g.fine.state.tables conn) group line after
+PieceMakes g conn now (Whole message) group line after = RecordMakes g conn now message (role_at g.interleaved.state.tables conn) group line after
 PieceMakes g conn now TooLong group line after = EndMakes g conn (GoneLong conn) group line after
 PieceMakes g conn now After group line after = ⊥
 
@@ -113,7 +113,7 @@ pub record SampleMakes (before : Gateway) (now : ℕ) (group : List Event) (note
 -- what hangs on the bus is changed so, behind a cut of its list
 pub record Tweaks (before : Gateway) (Change : SimState → SimState → Type 0) (group : List Event) (note : Option Output) (after : Gateway) : Type 0 where
   pub none : group ≡ []
-  pub fine : after.fine ≡ before.fine
+  pub interleaved : after.interleaved ≡ before.interleaved
   pub cut : SimState
   pub bus : BusGoes before.bus (Cut ∷ []) cut
   pub change : Change cut after.bus

@@ -4,10 +4,10 @@ use Rattle.std.specs.Prelude.{◌≡◌, ℕ, List, [], ◌∷◌, ◌++◌, pos
 use Rattle.std.specs.Str.{bytes_eq}
 use Rattle.vx_script.specs.declared.Cause.TheVariants as cause
 use Rattle.vx_script.specs.Command.{Command, Plug}
-use Rattle.vx_bench.specs.Script.{Step, script}
+use Rattle.vx_setup.specs.Script.{Step, script}
 use Rattle.vx_run.specs.Position.{streams_after, xids_after, moment_after, message_after}
 use Rattle.vx_run.specs.Item.{Item, Fault}
-use Rattle.vx_bench.specs.Rack.{SpareShown, without_at}
+use Rattle.vx_setup.specs.Rack.{SpareShown, without_at}
 use Rattle.vx_player.specs.Stage.{Stage, tables_of, beginning, refusal}
 use Rattle.vx_player.specs.Making.{Makes}
 
@@ -29,7 +29,7 @@ rack_after rack (Plug p secondary name) = without_at rack (position (λ spare. b
 rack_after rack _ = rack
 
 -- an item takes a play from one stage to the next: its command isn't refused, and it made what it should
-pub record Takes (before : Stage) (item : Item) (after : Stage) : Type 0 where
+pub record PlayerTakes (before : Stage) (item : Item) (after : Stage) : Type 0 where
   pub allowed : refusal before item.command ≡ None
   pub makes : Makes before item.command item.group item.note after.gateway
   pub message : item.message ≡ message_of before item.command
@@ -43,7 +43,7 @@ pub record Takes (before : Stage) (item : Item) (after : Stage) : Type 0 where
 abbrev pub Plays : Stage → List Step → List Item → Stage → Type 0
 Plays before [] [] after = after ≡ before
 Plays before (step ∷ steps) (item ∷ items) after =
-    (item.command ≡ step.command) × (next : Stage) × Takes before item next × Plays next steps items after
+    (item.command ≡ step.command) × (next : Stage) × PlayerTakes before item next × Plays next steps items after
 Plays before [] (item ∷ items) after = ⊥
 Plays before (step ∷ steps) [] after = ⊥
 
@@ -54,7 +54,7 @@ pub record PlaysFront (script_text : List ℕ) (rack : List SpareShown) (steps :
   pub played : Plays (beginning rack) steps items end
 
 -- the next step is refused for its cause
-pub record IsRefused (script_text : List ℕ) (steps : List Step) (end : Stage) (fault : Fault) : Type 0 where
+pub record IsPlayerRefused (script_text : List ℕ) (steps : List Step) (end : Stage) (fault : Fault) : Type 0 where
   pub step : Step
   pub later : List Step
   pub next : (script script_text).steps ≡ steps ++ step ∷ later
@@ -62,20 +62,20 @@ pub record IsRefused (script_text : List ℕ) (steps : List Step) (end : Stage) 
   pub refused : refusal end step.command ≡ Some fault.cause
 
 -- each step was taken, and the line behind them is outside the grammar
-pub record IsOutside (script_text : List ℕ) (steps : List Step) (fault : Fault) : Type 0 where
+pub record IsPlayerOutside (script_text : List ℕ) (steps : List Step) (fault : Fault) : Type 0 where
   pub all : (script script_text).steps ≡ steps
   pub bad : (script script_text).bad ≡ Some fault.line
   pub form : fault.cause ≡ cause.Form
 
 -- each line was played
-pub record IsWhole (script_text : List ℕ) (steps : List Step) : Type 0 where
+pub record IsPlayerWhole (script_text : List ℕ) (steps : List Step) : Type 0 where
   pub all : (script script_text).steps ≡ steps
   pub none_bad : (script script_text).bad ≡ None
 
 -- how a play ends behind these steps: at the end of the script, or at its first fault
 abbrev pub EndsBehind : List ℕ → List Step → Stage → Option Fault → Type 0
-EndsBehind script_text steps end None = IsWhole script_text steps
-EndsBehind script_text steps end (Some fault) = IsRefused script_text steps end fault ⊎ IsOutside script_text steps fault
+EndsBehind script_text steps end None = IsPlayerWhole script_text steps
+EndsBehind script_text steps end (Some fault) = IsPlayerRefused script_text steps end fault ⊎ IsPlayerOutside script_text steps fault
 
 -- the play of a script: its items, and the fault at which it ends
 pub record IsPlay (script_text : List ℕ) (rack : List SpareShown) (items : List Item) (fault : Option Fault) : Type 0 where

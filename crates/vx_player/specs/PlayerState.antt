@@ -6,7 +6,7 @@ use Rattle.std.specs.BTreeMap.{is_at}
 use Rattle.vx_sim.specs.SimState.{SimState}
 use Rattle.vx_core.specs.CoreState.{CoreState}
 use Rattle.vx_player.specs.declared.pieces.Incoming.{Incoming}
-use Rattle.vx_bench.specs.Rack.{SpareShown}
+use Rattle.vx_setup.specs.Rack.{SpareShown}
 
 -- the core; of each connection what has come of a record, and the xid of the last call that it kept; the room for a reply's
 -- record; the message of the last whole record; the spare instruments that are left; and the moment of the next steps, in milliseconds

@@ -6,7 +6,7 @@ use Rattle.vx_script.specs.declared.Version.TheVariants as version
 use Rattle.vx_trace.specs.declared.lines.Line.{Line}
 use Rattle.vx_trace.specs.Output.{Output, line_shown}
 use Rattle.vx_trace.specs.Text.{HasRanges, line_text, line_text2, text_room, IsWhole, is_first, is_timed}
-use Rattle.vx_player.specs.declared.note.Made.{Made}
+use Rattle.vx_player.specs.declared.note.StepMade.{StepMade}
 use Rattle.vx_player.specs.declared.printer.TheConstants.{STAMP_ROOM, INTAKE_ROOM, BEGUN_ROOM, MOVES_ROOM, NOTE_ROOM}
 use Rattle.vx_player.specs.PlayerState.{PlayerState}
 use Rattle.vx_player.specs.Standing.{made_lines, made_lines2}
@@ -46,11 +46,11 @@ outputs_of None = []
 outputs_of (Some line) = line_shown line ∷ []
 
 -- the text of a step that made this
-abbrev pub made_text : Version → PlayerState → Made → List ℕ
+abbrev pub made_text : Version → PlayerState → StepMade → List ℕ
 made_text version.One player made = flat_map line_text (made_lines player made)
 made_text version.Two player made = flat_map (line_text2 player.moment) (made_lines2 player made)
 
 -- the moment of a step that made this, and the numbers and bytes of its lines in version 2, are such as lines hold
-pub record HasMadeRanges (player : PlayerState) (made : Made) : Type 0 where
+pub record HasMadeRanges (player : PlayerState) (made : StepMade) : Type 0 where
   pub moment : player.moment < 2 ^ 64
   pub lines : All HasRanges (made_lines2 player made)

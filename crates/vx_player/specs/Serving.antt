@@ -12,7 +12,7 @@ use Rattle.vx_exchange.specs.declared.polls.PollEnd.TheVariants as end
 use Rattle.vx_exchange.specs.Meaning.{Meaning, Junk, xid_by}
 use Rattle.vx_player.specs.declared.note.Intake.{Intake}
 use Rattle.vx_player.specs.declared.note.Intake.TheVariants as intake
-use Rattle.vx_player.specs.declared.note.Made.{Made}
+use Rattle.vx_player.specs.declared.note.StepMade.{StepMade}
 use Rattle.vx_player.specs.declared.note.Note.{Note}
 use Rattle.vx_player.specs.declared.note.Note.TheVariants as note
 use Rattle.vx_player.specs.declared.serve.Served.{Served}
@@ -33,7 +33,7 @@ poll_error (end.Replied len error) = Some error
 poll_error _ = None
 
 -- what a poll of the connection's call makes, that ended so
-abbrev pub poll_made : ℕ → PollEnd → Made
+abbrev pub poll_made : ℕ → PollEnd → StepMade
 poll_made conn told = record { intake = intake.Nothing; polled = Some conn; note = poll_note conn told; answered = poll_error told }
 
 -- the lines of the events that what a step gave the gateway is
@@ -45,7 +45,7 @@ given_lines _ = []
 
 -- A step made this: events and a line such as the step makes, with the lines of its transfers, and of all events, with room for both, and with the
 -- error of the one answer among the events, where there is one
-pub record MadeBy (StepMakes : List Event → Option Output → Gateway → Type 0) (room : List ℕ) (made : Made) (after : CoreState SimState) : Type 0 where
+pub record MadeBy (StepMakes : List Event → Option Output → Gateway → Type 0) (room : List ℕ) (made : StepMade) (after : CoreState SimState) : Type 0 where
   pub group : List Event
   pub makes : StepMakes group (note_line room made.note) (gateway_of after)
   pub lines : flat_map bus_lines group ≡ moves_lines made.polled after.bus.means.moves
@@ -55,7 +55,7 @@ pub record MadeBy (StepMakes : List Event → Option Output → Gateway → Type
   pub few : IsSome made.polled → length after.bus.means.moves ≤ SLICE_MAX
 
 -- What a message of this meaning made, which isn't junk, and the xid of the last call that its connection kept, which was `last`.
-pub record Serves (before : Gateway) (conn now last : ℕ) (m : Meaning) (room : List ℕ) (served : Served) (after : CoreState SimState) : Type 0 where
+pub record PlayerServes (before : Gateway) (conn now last : ℕ) (m : Meaning) (room : List ℕ) (served : Served) (after : CoreState SimState) : Type 0 where
   pub call : m ≢ Junk
   pub xid_is : served.xid ≡ xid_by m last
   pub quiet : served.made.intake ≡ intake.Nothing

@@ -10,8 +10,8 @@ use Rattle.vx_script.specs.Command.{Command, Up, In, Down, At, Poll, Sample, Tak
 use Rattle.vx_sim.specs.Bench.{stands_at}
 use Rattle.vx_sim.specs.SimState.{SimState}
 use Rattle.vx_rules.specs.State.{Tables, role_at, lives_as, pending_at, has_room}
-use Rattle.vx_bench.specs.Rack.{SpareShown, spare_at}
-use Rattle.vx_bench.specs.Refusing.{address, rules_in, table_refused, spare_refused}
+use Rattle.vx_setup.specs.Rack.{SpareShown, spare_at}
+use Rattle.vx_setup.specs.Refusing.{address, rules_in, table_refused, spare_refused}
 use Rattle.vx_player.specs.Gateway.{Gateway, first_gateway}
 use Rattle.vx_run.specs.Stream.{brought}
 use Rattle.vx_run.specs.Forming.{refused_by}
@@ -30,7 +30,7 @@ abbrev pub beginning : List SpareShown → Stage
 beginning rack = record { gateway = first_gateway; streams = λ conn. []; xids = λ conn. 0; rack = rack; moment = 0 }
 
 abbrev pub tables_of : Stage → Tables
-tables_of s = s.gateway.fine.state.tables
+tables_of s = s.gateway.interleaved.state.tables
 
 -- nobody stands at the address
 abbrev pub absent_at : SimState → Addr → Option Cause
@@ -56,7 +56,7 @@ refusal s Sample = None
 refusal s (Take conn) = if lives_as (tables_of s) conn role.Core then None else Some cause.Conn
 refusal s (Dial conn up) =
     if not (lives_as (tables_of s) conn role.Core) then Some cause.Conn
-    else if list_any (λ n. n == conn) s.gateway.fine.dialed then None
+    else if list_any (λ n. n == conn) s.gateway.interleaved.dialed then None
     else Some cause.Idle
 refusal s (Inst p secondary text) = table_refused s.gateway.bus (address p secondary) (rules_in text)
 refusal s (Plug p secondary name) = spare_refused s.gateway.bus (address p secondary) (spare_at s.rack name)

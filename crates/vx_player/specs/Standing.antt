@@ -1,4 +1,3 @@
--- To be believed.
 -- A player that stands at a stage of a play, and what a step leaves of it.
 use Rattle.std.specs.Prelude.{◌≡◌, ◌≤◌, ◌<◌, ℕ, Bool, true, List, [], ◌∷◌, ◌++◌, length, take, Option, Some, None, IfSome, IsSome}
 use Rattle.std.specs.List.{flat_map}
@@ -8,8 +7,7 @@ use Rattle.vx_488.specs.declared.transfers.Transfer.{Transfer}
 use Rattle.vx_calls.specs.declared.limits.TheConstants.{SLICE_MAX}
 use Rattle.vx_record.specs.Buffer.{fresh, fed}
 use Rattle.vx_record.specs.declared.Feed.TheVariants.{More}
-use Rattle.vx_script.specs.Command.{Command, Inst}
-use Rattle.vx_script.specs.Command as command
+use Rattle.vx_script.specs.Command.{Command}
 use Rattle.vx_trace.specs.Output.{Output, Up, Call, Begin, DialDone, Srq, Bus, Out, Irq, IrqNone, IrqClosed, WaitDial, GoneDown, GoneJunk, GoneLong}
 use Rattle.vx_rules.specs.State.{role_at}
 use Rattle.vx_player.specs.declared.pieces.Incoming.{Incoming}
@@ -19,15 +17,13 @@ use Rattle.vx_player.specs.declared.note.Gone.{Gone}
 use Rattle.vx_player.specs.declared.note.Gone.TheVariants as gone
 use Rattle.vx_player.specs.declared.note.Note.{Note}
 use Rattle.vx_player.specs.declared.note.Note.TheVariants as note
-use Rattle.vx_player.specs.declared.note.Made.{Made}
-use Rattle.vx_bench.specs.declared.stops.Stop.{Stop}
-use Rattle.vx_bench.specs.declared.stops.Stop.TheVariants as stop
+use Rattle.vx_player.specs.declared.note.StepMade.{StepMade}
 use Rattle.vx_player.specs.Gateway.{gateway_of}
 use Rattle.vx_run.specs.Item.{Item, item_lines, noted, answer_errors, errors_of}
 use Rattle.vx_run.specs.RunText.{item_lines2}
-use Rattle.vx_player.specs.Stage.{Stage, tables_of, refusal}
+use Rattle.vx_player.specs.Stage.{Stage, tables_of}
 use Rattle.vx_run.specs.Notes.{wait_line}
-use Rattle.vx_player.specs.Play.{Takes}
+use Rattle.vx_player.specs.Play.{PlayerTakes}
 use Rattle.vx_player.specs.PlayerState.{PlayerState, incoming_at}
 
 -- what is kept of a connection that lives: its buffer holds the stream since its last whole record and waits for more of it,
@@ -37,24 +33,24 @@ pub record HoldsStream (kept : Incoming) (stream : List ℕ) (xid : ℕ) : Type 
   pub waits : kept.buffer.state ≡ More
   pub called : kept.xid ≡ xid
 
-abbrev pub Holds : Option Role → Option Incoming → List ℕ → ℕ → Type 0
-Holds None kept stream xid = kept ≡ None
-Holds (Some role) None stream xid = ⊥
-Holds (Some role) (Some kept) stream xid = HoldsStream kept stream xid
+abbrev pub PlayerHolds : Option Role → Option Incoming → List ℕ → ℕ → Type 0
+PlayerHolds None kept stream xid = kept ≡ None
+PlayerHolds (Some role) None stream xid = ⊥
+PlayerHolds (Some role) (Some kept) stream xid = HoldsStream kept stream xid
 
 -- the player is at the stage
-pub record Stands (player : PlayerState) (stage : Stage) : Type 0 where
+pub record PlayerStands (player : PlayerState) (stage : Stage) : Type 0 where
   pub gateway : gateway_of player.core ≡ stage.gateway
-  pub late : player.core.fine.state.moment ≤ player.moment
+  pub late : player.core.interleaved.state.moment ≤ player.moment
   pub moment : player.moment ≡ stage.moment
   pub rack : player.rack ≡ stage.rack
-  pub incoming : (conn : ℕ) → Holds (role_at (tables_of stage) conn) (incoming_at player.incoming conn) (stage.streams conn) (stage.xids conn)
+  pub incoming : (conn : ℕ) → PlayerHolds (role_at (tables_of stage) conn) (incoming_at player.incoming conn) (stage.streams conn) (stage.xids conn)
 
 -- a step may be taken: each buffer waits for more, of a record up to the limit, and the core was told no later moment
-pub record IsReady (player : PlayerState) : Type 0 where
+pub record IsPlayerReady (player : PlayerState) : Type 0 where
   pub waits : (conn : ℕ) → IfSome (incoming_at player.incoming conn) (λ kept. kept.buffer.state ≡ More)
   pub limits : (conn : ℕ) → IfSome (incoming_at player.incoming conn) (λ kept. kept.buffer.limit ≡ RECORD_MAX)
-  pub late : player.core.fine.state.moment ≤ player.moment
+  pub late : player.core.interleaved.state.moment ≤ player.moment
 
 abbrev pub gone_line : ℕ → Gone → Output
 gone_line conn gone.Down = GoneDown conn
@@ -79,7 +75,7 @@ moves_lines (Some conn) [] = []
 moves_lines (Some conn) (t ∷ ts) = Bus conn (t ∷ ts) ∷ []
 
 -- the lines of a step that made this
-abbrev pub made_lines : PlayerState → Made → List Output
+abbrev pub made_lines : PlayerState → StepMade → List Output
 made_lines player made = moves_lines made.polled player.core.bus.means.moves ++ noted (note_line player.reply made.note)
 
 -- the line of what a step gave the gateway, where the last whole record has this message
@@ -96,7 +92,7 @@ begun_lines (Some conn) true = Begin conn ∷ []
 begun_lines _ _ = []
 
 -- the lines of a step that made this, in version 2
-abbrev pub made_lines2 : PlayerState → Made → List Output
+abbrev pub made_lines2 : PlayerState → StepMade → List Output
 made_lines2 player made =
     intake_lines player.message made.intake ++ begun_lines made.polled player.core.began
     ++ moves_lines made.polled player.core.bus.means.moves ++ noted (note_line player.reply made.note)
@@ -108,13 +104,13 @@ NoteWithin room (note.Interrupt conn len) = (0 < len) × (len ≤ room)
 NoteWithin room _ = Unit {0}
 
 -- there is room for the lines of a step that made this
-pub record HasLineRoom (player : PlayerState) (made : Made) : Type 0 where
+pub record HasLineRoom (player : PlayerState) (made : StepMade) : Type 0 where
   pub note : NoteWithin (length player.reply) made.note
   pub few : IsSome made.polled → length player.core.bus.means.moves ≤ SLICE_MAX
 
 -- a command was taken and made this, with its lines in both versions, and with the error of the one answer to a call, where there is
 -- one: the player stands at the next stage
-pub record TakesTo (before : Stage) (command : Command) (made : Made) (player : PlayerState) : Type 0 where
+pub record TakesTo (before : Stage) (command : Command) (made : StepMade) (player : PlayerState) : Type 0 where
   pub item : Item
   pub after : Stage
   pub command_is : item.command ≡ command
@@ -122,16 +118,5 @@ pub record TakesTo (before : Stage) (command : Command) (made : Made) (player : 
   pub lines2_are : item_lines2 item ≡ made_lines2 player made
   pub moment_is : item.moment ≡ player.moment
   pub answered_is : flat_map answer_errors item.group ≡ errors_of made.answered
-  pub takes : Takes before item after
-  pub stands : Stands player after
-
--- where memory may be wanted: a connection comes up that isn't refused, or a table instrument is made
-abbrev pub WantsMemory : Stage → Command → Type 0
-WantsMemory s (command.Up conn r) = refusal s (command.Up conn r) ≡ None
-WantsMemory s (Inst p secondary text) = Unit {0}
-WantsMemory s _ = ⊥
-
--- why a command isn't taken
-abbrev pub StopsFor : Stage → Command → Stop → Type 0
-StopsFor stage command (stop.Refused cause) = refusal stage command ≡ Some cause
-StopsFor stage command stop.NoMemory = WantsMemory stage command
+  pub takes : PlayerTakes before item after
+  pub stands : PlayerStands player after

@@ -4,16 +4,16 @@ use Rattle.std.specs.Prelude.{◌≡◌, List}
 use Rattle.std.specs.List.{All, flat_map}
 use Rattle.vx_script.specs.declared.Version.{Version}
 use Rattle.vx_script.specs.declared.Version.TheVariants as version
-use Rattle.vx_flow.specs.Headline.{Headline}
+use Rattle.vx_flow.specs.Claims.{Claims}
 use Rattle.vx_player.specs.Gateway.{abort_port}
 use Rattle.vx_run.specs.Item.{Item, outputs, events, moved, shown_moves}
 use Rattle.vx_run.specs.RunText.{IsPrintable}
 use Rattle.vx_run.specs.Forming.{IsFormed}
 
--- The headline holds of the events; the transfers that the lines of the bus show are those of the turns' moves, in order; and the run is
+-- All claims hold of the events; the transfers that the lines of the bus show are those of the turns' moves, in order; and the run is
 -- formed.
 pub record Upholds (items : List Item) : Type 0 where
-  pub headline : Headline abort_port (events items)
+  pub claims : Claims abort_port (events items)
   pub shown : flat_map shown_moves (outputs items) ≡ flat_map moved (events items)
   pub formed : IsFormed abort_port items
 

@@ -14,6 +14,6 @@ mod serve;
 
 pub use lines::{begun_line, intake_line, moves_line, note_line};
 pub use made_run::{Halt, take_all};
-pub use note::{Gone, Intake, Made, Note};
+pub use note::{Gone, Intake, Note, StepMade};
 pub use player::Player;
 pub use printer::Printer;

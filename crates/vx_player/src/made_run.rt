@@ -3,27 +3,28 @@ ghost use Rattle.std.specs.Prelude.{◌≡◌, ◌≤◌, ◌<◌, ℕ, ◌+◌,
 ghost use Rattle.vx_calls.specs.declared.limits.TheConstants.{SLICE_MAX};
 ghost use Rattle.vx_script.specs.Command.{step_shown};
 ghost use Rattle.vx_script.specs.Plain.{IsPlainStep};
-ghost use Rattle.vx_bench.specs.Rack.{SpareShown};
+ghost use Rattle.vx_setup.specs.Rack.{SpareShown};
 ghost use Rattle.vx_gen.specs.declared.records.TheConstants.{RECORD_ROOM};
 ghost use Rattle.vx_gen.specs.Drawing as draws;
 ghost use Rattle.vx_player.specs.Stage.{Stage, beginning};
-ghost use Rattle.vx_player.specs.Standing.{IsReady, Stands, StopsFor};
-ghost use Rattle.vx_player.specs.Counting.{no_counts, has_error, tells_interrupt, tells_wait, counts_made, IsWithin, TakesCounted, Running, HaltsIn};
+ghost use Rattle.vx_player.specs.Standing.{IsPlayerReady, PlayerStands};
+ghost use Rattle.vx_player.specs.Wanting.{StopsFor};
+ghost use Rattle.vx_player.specs.Counting.{no_counts, has_error, tells_interrupt, tells_wait, counts_made, IsPlayerWithin, TakesCounted, Running, HaltsIn};
 
-use crate::note::{Made, Note};
+use crate::note::{Note, StepMade};
 use crate::player::Player;
 use std::alloc::Global;
-use vx_bench::Stop;
 use vx_calls::ErrorCode;
 use vx_gen::{Ask, Counts, HEAD_STEPS, connection_of, drawn_step, head_step, next_draw};
 use vx_inst::Instrument;
 use vx_script::Step;
+use vx_setup::Refusal;
 
 /// A step that wasn't taken: its number, counted from 1, and why.
 #[derive(Clone, Copy)]
 pub struct Halt {
     pub number: u64,
-    pub stop: Stop,
+    pub stop: Refusal,
 }
 
 /// Whether the answer to a call has an error.
@@ -61,11 +62,11 @@ fn moved_by(polled: Option<u32>, moves: usize) -> u64
 }
 
 /// The counts with those of a step that made this, after so many transfers.
-fn counted(counts: &Counts, made: &Made, moves: usize) -> Counts
-    requires few { IsWithin (2 ^ 62) counts.now }
+fn counted(counts: &Counts, made: &StepMade, moves: usize) -> Counts
+    requires few { IsPlayerWithin (2 ^ 62) counts.now }
     requires moves { is_some made.now.polled ≡ true → moves ≤ SLICE_MAX }
     ensures counts { result ≡ counts_made counts.now made.now moves }
-    ensures grown { (most : ℕ) → IsWithin most counts.now → IsWithin (most + SLICE_MAX) result }
+    ensures grown { (most : ℕ) → IsPlayerWithin most counts.now → IsPlayerWithin (most + SLICE_MAX) result }
 {
     Counts {
         answers: counts.answers + u64::from(made.answered.is_some()),
@@ -82,13 +83,13 @@ fn take<I: Instrument>(
     step: &Step<'_>,
     player: &mut Player<I>,
     counts: &mut Counts,
-) -> Result<(), Stop>
+) -> Result<(), Refusal>
     requires plain { IsPlainStep step.now }
-    requires ready { IsReady player.old }
-    requires few { IsWithin (2 ^ 62) counts.old }
-    ensures taken { OnOk result ((stage : Stage) → Stands player.old stage → TakesCounted stage (step_shown step.now) counts.old player.new counts.new) }
-    ensures grown { OnOk result ((most : ℕ) → IsWithin most counts.old → IsWithin (most + SLICE_MAX) counts.new) }
-    ensures stopped { IfErr result (λ stop. (stage : Stage) → Stands player.old stage → StopsFor stage (step_shown step.now) stop) }
+    requires ready { IsPlayerReady player.old }
+    requires few { IsPlayerWithin (2 ^ 62) counts.old }
+    ensures taken { OnOk result ((stage : Stage) → PlayerStands player.old stage → TakesCounted stage (step_shown step.now) counts.old player.new counts.new) }
+    ensures grown { OnOk result ((most : ℕ) → IsPlayerWithin most counts.old → IsPlayerWithin (most + SLICE_MAX) counts.new) }
+    ensures stopped { IfErr result (λ stop. (stage : Stage) → PlayerStands player.old stage → StopsFor stage (step_shown step.now) stop) }
 {
     let made = player.step(alloc, step)?;
     *counts = counted(counts, &made, player.moves().len());
@@ -102,7 +103,7 @@ fn take_head<I: Instrument>(
     room: &mut [u8],
     counts: &mut Counts,
 ) -> Result<(), Halt>
-    requires begins { Stands player.old (beginning player.old.rack) }
+    requires begins { PlayerStands player.old (beginning player.old.rack) }
     requires counts { counts.old ≡ no_counts }
     requires room { RECORD_ROOM ≤ length room.old }
     ensures taken { OnOk result ((seed : ℕ) → Running seed player.old.rack HEAD_STEPS player.new counts.new) }
@@ -236,7 +237,7 @@ pub fn take_all<I: Instrument>(
     room: &mut [u8],
     counts: &mut Counts,
 ) -> Result<(), Halt>
-    requires begins { Stands player.old (beginning player.old.rack) }
+    requires begins { PlayerStands player.old (beginning player.old.rack) }
     requires steps { ask.steps ≤ 1000000 }
     requires counts { counts.old ≡ no_counts }
     requires room { RECORD_ROOM ≤ length room.old }

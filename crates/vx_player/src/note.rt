@@ -54,16 +54,16 @@ pub enum Note {
 /// What a step made: what it gave the gateway, the connection whose call was polled, where one was, what there is to tell, and the error of the answer,
 /// `Ok` included, where the step answered a call that the gateway kept.
 #[derive(Clone, Copy)]
-pub struct Made {
+pub struct StepMade {
     pub intake: Intake,
     pub polled: Option<u32>,
     pub note: Note,
     pub answered: Option<ErrorCode>,
 }
 
-impl Made {
+impl StepMade {
     /// Nothing to tell.
-    pub const QUIET: Made = Made {
+    pub const QUIET: StepMade = StepMade {
         intake: Intake::Nothing,
         polled: None,
         note: Note::Nothing,
@@ -71,10 +71,10 @@ impl Made {
     };
 
     /// No call was polled or answered, and this is to be told.
-    pub fn of(note: Note) -> Made
+    pub fn of(note: Note) -> StepMade
         ensures { result ≡ record { intake = intake.Nothing; polled = None; note = note; answered = None } }
     {
-        Made {
+        StepMade {
             intake: Intake::Nothing,
             polled: None,
             note,
@@ -83,10 +83,10 @@ impl Made {
     }
 
     /// The same, of a step that gave the gateway this.
-    pub fn of_intake(self, intake: Intake) -> Made
+    pub fn of_intake(self, intake: Intake) -> StepMade
         ensures { result ≡ record self { intake = intake } }
     {
-        Made {
+        StepMade {
             intake,
             polled: self.polled,
             note: self.note,
@@ -95,23 +95,23 @@ impl Made {
     }
 
     /// What a poll of the connection's call makes, that ended so.
-    pub fn of_poll(conn: u32, end: PollEnd) -> Made
+    pub fn of_poll(conn: u32, end: PollEnd) -> StepMade
         ensures { result ≡ poll_made conn end }
     {
         match end {
-            PollEnd::Replied { len, error } => Made {
+            PollEnd::Replied { len, error } => StepMade {
                 intake: Intake::Nothing,
                 polled: Some(conn),
                 note: Note::Replied { conn, len },
                 answered: Some(error),
             },
-            PollEnd::NotYet(why) => Made {
+            PollEnd::NotYet(why) => StepMade {
                 intake: Intake::Nothing,
                 polled: Some(conn),
                 note: Note::Waiting { conn, why },
                 answered: None,
             },
-            PollEnd::Dial { .. } => Made {
+            PollEnd::Dial { .. } => StepMade {
                 intake: Intake::Nothing,
                 polled: Some(conn),
                 note: Note::Dialing { conn },

@@ -13,16 +13,16 @@ ghost use Rattle.vx_player.specs.declared.pieces.Incoming.{Incoming};
 ghost use Rattle.vx_player.specs.Gateway.{Gateway, gateway_of, Happens};
 
 use crate::message::Message;
-use crate::note::{Gone, Intake, Made, Note};
+use crate::note::{Gone, Intake, Note, StepMade};
 use crate::serve::serve;
 use std::alloc::Global;
 use std::collections::BTreeMap;
-use vx_bench::Stop;
 use vx_calls::{RECORD_MAX, Role};
 use vx_core::Core;
 use vx_inst::Instrument;
 use vx_record::{Fed, Feed, RecordBuf};
 use vx_script::Cause;
+use vx_setup::Refusal;
 use vx_sim::SimBus;
 
 /// What has come of a connection's next record, and the xid of the last call that it kept.
@@ -44,17 +44,21 @@ pub fn feed(incoming: &mut BTreeMap<u32, Incoming>, conn: u32, piece: &[u8]) -> 
 }
 
 /// Makes the buffer of a connection that came up.
-pub fn begin(alloc: Global, incoming: &mut BTreeMap<u32, Incoming>, conn: u32) -> Result<(), Stop>
+pub fn begin(
+    alloc: Global,
+    incoming: &mut BTreeMap<u32, Incoming>,
+    conn: u32,
+) -> Result<(), Refusal>
     ensures here { OnOk result (get nat_cmp incoming.new conn ≡ Some (record { buffer = fresh RECORD_MAX; xid = 0 })) }
     ensures others { OnOk result ((n : ℕ) → n ≢ conn → get nat_cmp incoming.new n ≡ get nat_cmp incoming.old n) }
-    ensures err { IfErr result (λ stop. stop ≡ Stop.NoMemory) }
+    ensures err { IfErr result (λ stop. stop ≡ Refusal.NoMemory) }
 {
     let Ok(buffer) = RecordBuf::new(alloc, RECORD_MAX) else {
-        return Err(Stop::NoMemory);
+        return Err(Refusal::NoMemory);
     };
     match incoming.insert(conn, Incoming { buffer, xid: 0 }) {
         Ok(_) => Ok(()),
-        Err(_) => Err(Stop::NoMemory),
+        Err(_) => Err(Refusal::NoMemory),
     }
 }
 
@@ -64,9 +68,9 @@ pub fn end<I: Instrument>(
     incoming: &mut BTreeMap<u32, Incoming>,
     conn: u32,
 )
-    requires { IsSome (connection_at core.old.fine.state.tables conn) }
+    requires { IsSome (connection_at core.old.interleaved.state.tables conn) }
     ensures happens { Happens (gateway_of core.old) (event.Down conn ∷ []) (Cut ∷ []) (gateway_of core.new) }
-    ensures late { core.new.fine.state.moment ≡ core.old.fine.state.moment }
+    ensures late { core.new.interleaved.state.moment ≡ core.old.interleaved.state.moment }
     ensures gone { get nat_cmp incoming.new conn ≡ None }
     ensures others { (n : ℕ) → n ≢ conn → get nat_cmp incoming.new n ≡ get nat_cmp incoming.old n }
 {
@@ -83,21 +87,21 @@ fn answer<I: Instrument>(
     now: u64,
     message: &mut Message,
     reply: &mut [u8],
-) -> Made
-    requires lives { lives_as core.old.fine.state.tables conn role ≡ true }
-    requires idle { pending_at core.old.fine.state.tables conn ≡ None }
+) -> StepMade
+    requires lives { lives_as core.old.interleaved.state.tables conn role ≡ true }
+    requires idle { pending_at core.old.interleaved.state.tables conn ≡ None }
     requires whole { IfSome (get nat_cmp incoming.old conn) (λ kept. kept.buffer.state ≡ Feed.Whole) }
     requires limit { IfSome (get nat_cmp incoming.old conn) (λ kept. kept.buffer.limit ≡ RECORD_MAX) }
-    requires late { core.old.fine.state.moment ≤ now }
+    requires late { core.old.interleaved.state.moment ≤ now }
     requires room { REPLY_ROOM ≤ length reply.old }
     ensures answered { (kept : Incoming) → get nat_cmp incoming.old conn ≡ Some kept
         → AnswersRecord (gateway_of core.old) conn now role kept reply.new message.new (get nat_cmp incoming.new conn) result core.new }
-    ensures late { core.new.fine.state.moment ≤ now }
+    ensures late { core.new.interleaved.state.moment ≤ now }
     ensures others { (n : ℕ) → n ≢ conn → get nat_cmp incoming.new n ≡ get nat_cmp incoming.old n }
     ensures len { length reply.new ≡ length reply.old }
 {
     let Some(kept) = incoming.get_mut(&conn) else {
-        return Made::QUIET;
+        return StepMade::QUIET;
     };
     let whole = kept.buffer.whole();
     message.keep(whole);
@@ -109,7 +113,7 @@ fn answer<I: Instrument>(
         }
         None => {
             end(core, incoming, conn);
-            Made::of(Note::Ended {
+            StepMade::of(Note::Ended {
                 conn,
                 how: Gone::Junk,
             })
@@ -128,31 +132,31 @@ pub fn feed_piece<I: Instrument>(
     now: u64,
     message: &mut Message,
     reply: &mut [u8],
-) -> Result<Made, Stop>
+) -> Result<StepMade, Refusal>
     requires bytes { 0 < length bytes.now }
-    requires lives { lives_as core.old.fine.state.tables conn role ≡ true }
-    requires idle { pending_at core.old.fine.state.tables conn ≡ None }
+    requires lives { lives_as core.old.interleaved.state.tables conn role ≡ true }
+    requires idle { pending_at core.old.interleaved.state.tables conn ≡ None }
     requires waits { IfSome (get nat_cmp incoming.old conn) (λ kept. kept.buffer.state ≡ Feed.More) }
     requires limit { IfSome (get nat_cmp incoming.old conn) (λ kept. kept.buffer.limit ≡ RECORD_MAX) }
-    requires late { core.old.fine.state.moment ≤ now }
+    requires late { core.old.interleaved.state.moment ≤ now }
     requires room { REPLY_ROOM ≤ length reply.old }
     ensures taken { IfOk result (λ made. (kept : Incoming) → get nat_cmp incoming.old conn ≡ Some kept
         → FeedsPiece (gateway_of core.old) conn now role kept bytes.now reply.new message.new (get nat_cmp incoming.new conn) made core.new) }
     ensures known { OnOk result (IsSome (get nat_cmp incoming.old conn)) }
     ensures stopped { IfErr result (λ stop. (kept : Incoming) → get nat_cmp incoming.old conn ≡ Some kept → StopsPiece kept bytes.now stop) }
-    ensures late { core.new.fine.state.moment ≤ now }
+    ensures late { core.new.interleaved.state.moment ≤ now }
     ensures others { (n : ℕ) → n ≢ conn → get nat_cmp incoming.new n ≡ get nat_cmp incoming.old n }
     ensures len { length reply.new ≡ length reply.old }
 {
     match feed(incoming, conn, bytes) {
-        None => Err(Stop::Refused(Cause::Conn)),
-        Some(fed) if fed.took < bytes.len() => Err(Stop::Refused(Cause::After)),
+        None => Err(Refusal::Refused(Cause::Conn)),
+        Some(fed) if fed.took < bytes.len() => Err(Refusal::Refused(Cause::After)),
         Some(fed) => match fed.state {
-            Feed::More => Ok(Made::QUIET),
+            Feed::More => Ok(StepMade::QUIET),
             Feed::Whole => Ok(answer(core, incoming, conn, role, now, message, reply)),
             Feed::TooLong => {
                 end(core, incoming, conn);
-                Ok(Made::of(Note::Ended {
+                Ok(StepMade::of(Note::Ended {
                     conn,
                     how: Gone::Long,
                 }))

@@ -13,29 +13,30 @@ ghost use Rattle.vx_player.specs.declared.note.Intake.TheVariants as intake;
 ghost use Rattle.vx_player.specs.declared.note.Note.TheVariants as note;
 ghost use Rattle.vx_player.specs.Gateway.{gateway_of};
 ghost use Rattle.vx_player.specs.Stage.{Stage, beginning};
-ghost use Rattle.vx_bench.specs.Rack.{SpareShown};
-ghost use Rattle.vx_bench.specs.Refusing.{cause_of};
+ghost use Rattle.vx_setup.specs.Rack.{SpareShown};
+ghost use Rattle.vx_setup.specs.Refusing.{cause_of};
 ghost use Rattle.vx_player.specs.PlayerState.{PlayerState, incoming_at};
 ghost use Rattle.vx_sim.specs.Occupants.{handed_in};
-ghost use Rattle.vx_bench.specs.Spares.{spare_shown};
-ghost use Rattle.vx_player.specs.Standing.{IsReady, Stands, HasLineRoom, TakesTo, StopsFor};
+ghost use Rattle.vx_setup.specs.Spares.{spare_shown};
+ghost use Rattle.vx_player.specs.Standing.{IsPlayerReady, PlayerStands, HasLineRoom, TakesTo};
+ghost use Rattle.vx_player.specs.Wanting.{StopsFor};
 
 use crate::bench;
 use crate::message::Message;
-use crate::note::{Gone, Intake, Made, Note};
+use crate::note::{Gone, Intake, Note, StepMade};
 use crate::pieces::{Incoming, begin, end, feed_piece};
 use crate::serve::poll_call;
 use std::alloc::{AllocError, Global};
 use std::collections::BTreeMap;
 use std::marker::Model;
 use vx_488::{Addr, Transfer};
-use vx_bench::{Stop, refused_for, spare_place, table_of};
 use vx_calls::{Role, Taken};
 use vx_core::{Connect, Core};
 use vx_exchange::{REPLY_ROOM, put_srq_record, settle};
 use vx_inst::Instrument;
 use vx_rack::Spare;
 use vx_script::{Cause, Step};
+use vx_setup::{Refusal, refused_for, spare_place, table_of};
 use vx_sim::SimBus;
 use vx_text::zeros;
 
@@ -59,7 +60,7 @@ impl<I: Instrument> Model for Player<I> {
     ghost use Rattle.vx_exchange.specs.declared.record.TheConstants.{REPLY_ROOM};
     ghost use Rattle.vx_player.specs.PlayerState.{PlayerState};
     ghost use Rattle.vx_sim.specs.Occupants.{handed_in};
-    ghost use Rattle.vx_bench.specs.Spares.{spare_shown};
+    ghost use Rattle.vx_setup.specs.Spares.{spare_shown};
 
     ghost Value = { PlayerState };
 
@@ -78,7 +79,7 @@ impl<I: Instrument> Model for Player<I> {
 impl<I: Instrument> Player<I> {
     /// A player of a gateway with nothing in it, over a bus with nothing on it, and with these spare instruments.
     pub fn new(alloc: Global, rack: Vec<Spare<I>>) -> Result<Player<I>, AllocError>
-        ensures { IfOk result (λ p. Stands p (beginning (map (spare_shown (handed_in (λ i. I.behaves i) (λ i. I.nature i))) rack.items))) }
+        ensures { IfOk result (λ p. PlayerStands p (beginning (map (spare_shown (handed_in (λ i. I.behaves i) (λ i. I.nature i))) rack.items))) }
     {
         let Ok(reply) = zeros(alloc, REPLY_ROOM) else {
             return Err(AllocError);
@@ -109,7 +110,7 @@ impl<I: Instrument> Player<I> {
 
     /// Whether a call of the connection isn't answered yet.
     pub fn is_pending(&self, conn: u32) -> bool
-        ensures { result ≡ is_some (pending_at self.now.core.fine.state.tables conn) }
+        ensures { result ≡ is_some (pending_at self.now.core.interleaved.state.tables conn) }
     {
         self.core.pending(conn)
     }
@@ -145,11 +146,11 @@ impl<I: Instrument> Player<I> {
     }
 
     /// Takes a step, and tells what it made; or says why it isn't taken.
-    pub fn step(&mut self, alloc: Global, step: &Step<'_>) -> Result<Made, Stop>
+    pub fn step(&mut self, alloc: Global, step: &Step<'_>) -> Result<StepMade, Refusal>
         requires plain { IsPlainStep step.now }
-        requires ready { IsReady self.old }
-        ensures taken { IfOk result (λ made. (stage : Stage) → Stands self.old stage → TakesTo stage (step_shown step.now) made self.new) }
-        ensures stopped { IfErr result (λ stop. (stage : Stage) → Stands self.old stage → StopsFor stage (step_shown step.now) stop) }
+        requires ready { IsPlayerReady self.old }
+        ensures taken { IfOk result (λ made. (stage : Stage) → PlayerStands self.old stage → TakesTo stage (step_shown step.now) made self.new) }
+        ensures stopped { IfErr result (λ stop. (stage : Stage) → PlayerStands self.old stage → StopsFor stage (step_shown step.now) stop) }
         ensures printable { IfOk result (HasLineRoom self.new) }
     {
         match *step {
@@ -173,36 +174,36 @@ impl<I: Instrument> Player<I> {
 // The streams of connections.
 impl<I: Instrument> Player<I> {
     /// A connection comes up.
-    fn up(&mut self, alloc: Global, conn: u32, role: Role) -> Result<Made, Stop>
-        requires ready { IsReady self.old }
-        ensures taken { IfOk result (λ made. (stage : Stage) → Stands self.old stage → TakesTo stage (Up conn role) made self.new) }
-        ensures stopped { IfErr result (λ stop. (stage : Stage) → Stands self.old stage → StopsFor stage (Up conn role) stop) }
+    fn up(&mut self, alloc: Global, conn: u32, role: Role) -> Result<StepMade, Refusal>
+        requires ready { IsPlayerReady self.old }
+        ensures taken { IfOk result (λ made. (stage : Stage) → PlayerStands self.old stage → TakesTo stage (Up conn role) made self.new) }
+        ensures stopped { IfErr result (λ stop. (stage : Stage) → PlayerStands self.old stage → StopsFor stage (Up conn role) stop) }
         ensures printable { IfOk result (HasLineRoom self.new) }
     {
         if conn != self.core.next_number() {
-            return Err(Stop::Refused(Cause::Number));
+            return Err(Refusal::Refused(Cause::Number));
         }
         match self.core.connect(alloc, role) {
             Ok(_) => {}
-            Err(Connect::Full) => return Err(Stop::Refused(Cause::Full)),
-            Err(Connect::NoMemory) => return Err(Stop::NoMemory),
+            Err(Connect::Full) => return Err(Refusal::Refused(Cause::Full)),
+            Err(Connect::NoMemory) => return Err(Refusal::NoMemory),
         }
         begin(alloc, &mut self.incoming, conn)?;
-        Ok(Made::QUIET.of_intake(Intake::Up { conn, role }))
+        Ok(StepMade::QUIET.of_intake(Intake::Up { conn, role }))
     }
 
     /// A connection goes down.
-    fn down(&mut self, conn: u32) -> Result<Made, Stop>
-        requires ready { IsReady self.old }
-        ensures taken { IfOk result (λ made. (stage : Stage) → Stands self.old stage → TakesTo stage (Down conn) made self.new) }
-        ensures stopped { IfErr result (λ stop. (stage : Stage) → Stands self.old stage → StopsFor stage (Down conn) stop) }
+    fn down(&mut self, conn: u32) -> Result<StepMade, Refusal>
+        requires ready { IsPlayerReady self.old }
+        ensures taken { IfOk result (λ made. (stage : Stage) → PlayerStands self.old stage → TakesTo stage (Down conn) made self.new) }
+        ensures stopped { IfErr result (λ stop. (stage : Stage) → PlayerStands self.old stage → StopsFor stage (Down conn) stop) }
         ensures printable { IfOk result (HasLineRoom self.new) }
     {
         match self.core.role(conn) {
-            None => Err(Stop::Refused(Cause::Conn)),
+            None => Err(Refusal::Refused(Cause::Conn)),
             Some(_) => {
                 end(&mut self.core, &mut self.incoming, conn);
-                Ok(Made::of(Note::Ended {
+                Ok(StepMade::of(Note::Ended {
                     conn,
                     how: Gone::Down,
                 }))
@@ -211,18 +212,18 @@ impl<I: Instrument> Player<I> {
     }
 
     /// A piece of a connection's stream comes.
-    fn piece(&mut self, conn: u32, bytes: &[u8]) -> Result<Made, Stop>
+    fn piece(&mut self, conn: u32, bytes: &[u8]) -> Result<StepMade, Refusal>
         requires bytes { 0 < length bytes.now }
-        requires ready { IsReady self.old }
-        ensures taken { IfOk result (λ made. (stage : Stage) → Stands self.old stage → TakesTo stage (In conn bytes.now) made self.new) }
-        ensures stopped { IfErr result (λ stop. (stage : Stage) → Stands self.old stage → StopsFor stage (In conn bytes.now) stop) }
+        requires ready { IsPlayerReady self.old }
+        ensures taken { IfOk result (λ made. (stage : Stage) → PlayerStands self.old stage → TakesTo stage (In conn bytes.now) made self.new) }
+        ensures stopped { IfErr result (λ stop. (stage : Stage) → PlayerStands self.old stage → StopsFor stage (In conn bytes.now) stop) }
         ensures printable { IfOk result (HasLineRoom self.new) }
     {
         let Some(role) = self.core.role(conn) else {
-            return Err(Stop::Refused(Cause::Conn));
+            return Err(Refusal::Refused(Cause::Conn));
         };
         if self.core.pending(conn) {
-            return Err(Stop::Refused(Cause::Busy));
+            return Err(Refusal::Refused(Cause::Busy));
         }
         feed_piece(
             &mut self.core,
@@ -240,13 +241,13 @@ impl<I: Instrument> Player<I> {
 // The calls that wait, service requests, and moments.
 impl<I: Instrument> Player<I> {
     /// Why a step of a core connection isn't taken, where it lives not as one.
-    fn core_only(&self, conn: u32) -> Result<(), Stop>
-        ensures ok { OnOk result (lives_as self.now.core.fine.state.tables conn role.Core ≡ true) }
-        ensures err { IfErr result (λ stop. (stop ≡ Stop.Refused Cause.Conn) × (lives_as self.now.core.fine.state.tables conn role.Core ≡ false)) }
+    fn core_only(&self, conn: u32) -> Result<(), Refusal>
+        ensures ok { OnOk result (lives_as self.now.core.interleaved.state.tables conn role.Core ≡ true) }
+        ensures err { IfErr result (λ stop. (stop ≡ Refusal.Refused Cause.Conn) × (lives_as self.now.core.interleaved.state.tables conn role.Core ≡ false)) }
     {
         match self.core.role(conn) {
             Some(Role::Core) => Ok(()),
-            _ => Err(Stop::Refused(Cause::Conn)),
+            _ => Err(Refusal::Refused(Cause::Conn)),
         }
     }
 
@@ -261,80 +262,80 @@ impl<I: Instrument> Player<I> {
     }
 
     /// The moment of the next steps comes, where it is later.
-    pub fn at(&mut self, moment: u64) -> Made
-        requires ready { IsReady self.old }
-        ensures taken { (stage : Stage) → Stands self.old stage → TakesTo stage (At moment) result self.new }
+    pub fn at(&mut self, moment: u64) -> StepMade
+        requires ready { IsPlayerReady self.old }
+        ensures taken { (stage : Stage) → PlayerStands self.old stage → TakesTo stage (At moment) result self.new }
         ensures printable { HasLineRoom self.new result }
         ensures quiet { result ≡ record { intake = intake.Nothing; polled = None; note = note.Nothing; answered = None } }
         ensures timely { self.new.moment < 2 ^ 64 }
-        ensures ready { IsReady self.new }
+        ensures ready { IsPlayerReady self.new }
     {
         self.moment = self.moment.max(moment);
-        Made::QUIET
+        StepMade::QUIET
     }
 
     /// A connection's call is polled.
-    fn poll(&mut self, conn: u32) -> Result<Made, Stop>
-        requires ready { IsReady self.old }
-        ensures taken { IfOk result (λ made. (stage : Stage) → Stands self.old stage → TakesTo stage (Poll conn) made self.new) }
-        ensures stopped { IfErr result (λ stop. (stage : Stage) → Stands self.old stage → StopsFor stage (Poll conn) stop) }
+    fn poll(&mut self, conn: u32) -> Result<StepMade, Refusal>
+        requires ready { IsPlayerReady self.old }
+        ensures taken { IfOk result (λ made. (stage : Stage) → PlayerStands self.old stage → TakesTo stage (Poll conn) made self.new) }
+        ensures stopped { IfErr result (λ stop. (stage : Stage) → PlayerStands self.old stage → StopsFor stage (Poll conn) stop) }
         ensures printable { IfOk result (HasLineRoom self.new) }
     {
         self.core_only(conn)?;
         if !self.core.pending(conn) {
-            return Err(Stop::Refused(Cause::Idle));
+            return Err(Refusal::Refused(Cause::Idle));
         }
         let xid = self.xid(conn);
         Ok(poll_call(&mut self.core, conn, xid, self.moment, &mut self.reply))
     }
 
     /// The SRQ line is looked at.
-    fn sample(&mut self) -> Made
-        requires ready { IsReady self.old }
-        ensures taken { (stage : Stage) → Stands self.old stage → TakesTo stage Sample result self.new }
+    fn sample(&mut self) -> StepMade
+        requires ready { IsPlayerReady self.old }
+        ensures taken { (stage : Stage) → PlayerStands self.old stage → TakesTo stage Sample result self.new }
         ensures printable { HasLineRoom self.new result }
     {
         self.core.sample(self.moment);
-        Made::QUIET.of_intake(Intake::Sampled {
+        StepMade::QUIET.of_intake(Intake::Sampled {
             level: self.core.level(),
         })
     }
 
     /// An interrupt is taken from a connection's channel.
-    fn take(&mut self, conn: u32) -> Result<Made, Stop>
-        requires ready { IsReady self.old }
-        ensures taken { IfOk result (λ made. (stage : Stage) → Stands self.old stage → TakesTo stage (Take conn) made self.new) }
-        ensures stopped { IfErr result (λ stop. (stage : Stage) → Stands self.old stage → StopsFor stage (Take conn) stop) }
+    fn take(&mut self, conn: u32) -> Result<StepMade, Refusal>
+        requires ready { IsPlayerReady self.old }
+        ensures taken { IfOk result (λ made. (stage : Stage) → PlayerStands self.old stage → TakesTo stage (Take conn) made self.new) }
+        ensures stopped { IfErr result (λ stop. (stage : Stage) → PlayerStands self.old stage → StopsFor stage (Take conn) stop) }
         ensures printable { IfOk result (HasLineRoom self.new) }
     {
         self.core_only(conn)?;
         let Some(chan) = self.core.channel(conn) else {
-            return Ok(Made::of(Note::NoChannel { conn }));
+            return Ok(StepMade::of(Note::NoChannel { conn }));
         };
         match self.core.take_interrupt(conn, chan) {
             Taken::Srq(interrupt) => {
                 let len = put_srq_record(&interrupt, &mut self.reply);
-                Ok(Made::of(Note::Interrupt { conn, len }))
+                Ok(StepMade::of(Note::Interrupt { conn, len }))
             }
-            Taken::Empty => Ok(Made::of(Note::NoInterrupt { conn })),
-            Taken::Gone => Ok(Made::of(Note::NoChannel { conn })),
+            Taken::Empty => Ok(StepMade::of(Note::NoInterrupt { conn })),
+            Taken::Gone => Ok(StepMade::of(Note::NoChannel { conn })),
         }
     }
 
     /// The dial that a connection's call asked for came up, or failed.
-    fn dial(&mut self, conn: u32, up: bool) -> Result<Made, Stop>
-        requires ready { IsReady self.old }
-        ensures taken { IfOk result (λ made. (stage : Stage) → Stands self.old stage → TakesTo stage (Dial conn up) made self.new) }
-        ensures stopped { IfErr result (λ stop. (stage : Stage) → Stands self.old stage → StopsFor stage (Dial conn up) stop) }
+    fn dial(&mut self, conn: u32, up: bool) -> Result<StepMade, Refusal>
+        requires ready { IsPlayerReady self.old }
+        ensures taken { IfOk result (λ made. (stage : Stage) → PlayerStands self.old stage → TakesTo stage (Dial conn up) made self.new) }
+        ensures stopped { IfErr result (λ stop. (stage : Stage) → PlayerStands self.old stage → StopsFor stage (Dial conn up) stop) }
         ensures printable { IfOk result (HasLineRoom self.new) }
     {
         self.core_only(conn)?;
         if !self.core.dialing(conn) {
-            return Err(Stop::Refused(Cause::Idle));
+            return Err(Refusal::Refused(Cause::Idle));
         }
         let xid = self.xid(conn);
         let answered = settle(&mut self.core, conn, xid, up, self.moment, &mut self.reply);
-        Ok(Made {
+        Ok(StepMade {
             intake: Intake::Dialed { conn, up },
             polled: None,
             note: Note::Replied {
@@ -349,78 +350,84 @@ impl<I: Instrument> Player<I> {
 // What hangs on the bus.
 impl<I: Instrument> Player<I> {
     /// A table instrument is made of a JSON text and attached.
-    fn inst(&mut self, alloc: Global, p: u8, s: Option<u8>, text: &[u8]) -> Result<Made, Stop>
+    fn inst(
+        &mut self,
+        alloc: Global,
+        p: u8,
+        s: Option<u8>,
+        text: &[u8],
+    ) -> Result<StepMade, Refusal>
         requires address { IsAddress p s }
-        requires ready { IsReady self.old }
-        ensures taken { IfOk result (λ made. (stage : Stage) → Stands self.old stage → TakesTo stage (Inst p s text.now) made self.new) }
-        ensures stopped { IfErr result (λ stop. (stage : Stage) → Stands self.old stage → StopsFor stage (Inst p s text.now) stop) }
+        requires ready { IsPlayerReady self.old }
+        ensures taken { IfOk result (λ made. (stage : Stage) → PlayerStands self.old stage → TakesTo stage (Inst p s text.now) made self.new) }
+        ensures stopped { IfErr result (λ stop. (stage : Stage) → PlayerStands self.old stage → StopsFor stage (Inst p s text.now) stop) }
         ensures printable { IfOk result (HasLineRoom self.new) }
     {
         let inst = table_of(alloc, text)?;
         let mut act = bench::AttachTable::new(Addr { p, s }, inst);
         match self.core.tweak(&mut act) {
-            None => Ok(Made::QUIET),
+            None => Ok(StepMade::QUIET),
             Some(why) => Err(refused_for(why)),
         }
     }
 
     /// The first spare instrument of a name is attached.
-    fn plug(&mut self, p: u8, s: Option<u8>, name: &[u8]) -> Result<Made, Stop>
+    fn plug(&mut self, p: u8, s: Option<u8>, name: &[u8]) -> Result<StepMade, Refusal>
         requires address { IsAddress p s }
-        requires ready { IsReady self.old }
-        ensures taken { IfOk result (λ made. (stage : Stage) → Stands self.old stage → TakesTo stage (Plug p s name.now) made self.new) }
-        ensures stopped { IfErr result (λ stop. (stage : Stage) → Stands self.old stage → StopsFor stage (Plug p s name.now) stop) }
+        requires ready { IsPlayerReady self.old }
+        ensures taken { IfOk result (λ made. (stage : Stage) → PlayerStands self.old stage → TakesTo stage (Plug p s name.now) made self.new) }
+        ensures stopped { IfErr result (λ stop. (stage : Stage) → PlayerStands self.old stage → StopsFor stage (Plug p s name.now) stop) }
         ensures printable { IfOk result (HasLineRoom self.new) }
     {
         let Some(place) = spare_place(&self.rack, name) else {
-            return Err(Stop::Refused(Cause::Spare));
+            return Err(Refusal::Refused(Cause::Spare));
         };
         let spare = self.rack.remove(place);
         let mut act = bench::AttachSpare::new(Addr { p, s }, spare.inst);
         match self.core.tweak(&mut act) {
-            None => Ok(Made::QUIET),
+            None => Ok(StepMade::QUIET),
             Some(why) => Err(refused_for(why)),
         }
     }
 
     /// An instrument is taken off the bus.
-    fn pull(&mut self, p: u8, s: Option<u8>) -> Result<Made, Stop>
+    fn pull(&mut self, p: u8, s: Option<u8>) -> Result<StepMade, Refusal>
         requires address { IsAddress p s }
-        requires ready { IsReady self.old }
-        ensures taken { IfOk result (λ made. (stage : Stage) → Stands self.old stage → TakesTo stage (Pull p s) made self.new) }
-        ensures stopped { IfErr result (λ stop. (stage : Stage) → Stands self.old stage → StopsFor stage (Pull p s) stop) }
+        requires ready { IsPlayerReady self.old }
+        ensures taken { IfOk result (λ made. (stage : Stage) → PlayerStands self.old stage → TakesTo stage (Pull p s) made self.new) }
+        ensures stopped { IfErr result (λ stop. (stage : Stage) → PlayerStands self.old stage → StopsFor stage (Pull p s) stop) }
         ensures printable { IfOk result (HasLineRoom self.new) }
     {
         if self.core.tweak(&mut bench::Pull::new(Addr { p, s })) {
-            Ok(Made::QUIET)
+            Ok(StepMade::QUIET)
         } else {
-            Err(Stop::Refused(Cause::Absent))
+            Err(Refusal::Refused(Cause::Absent))
         }
     }
 
     /// An instrument gets a status byte.
-    fn set(&mut self, p: u8, s: Option<u8>, b: u8) -> Result<Made, Stop>
-        requires ready { IsReady self.old }
-        ensures taken { IfOk result (λ made. (stage : Stage) → Stands self.old stage → TakesTo stage (Set p s b) made self.new) }
-        ensures stopped { IfErr result (λ stop. (stage : Stage) → Stands self.old stage → StopsFor stage (Set p s b) stop) }
+    fn set(&mut self, p: u8, s: Option<u8>, b: u8) -> Result<StepMade, Refusal>
+        requires ready { IsPlayerReady self.old }
+        ensures taken { IfOk result (λ made. (stage : Stage) → PlayerStands self.old stage → TakesTo stage (Set p s b) made self.new) }
+        ensures stopped { IfErr result (λ stop. (stage : Stage) → PlayerStands self.old stage → StopsFor stage (Set p s b) stop) }
         ensures printable { IfOk result (HasLineRoom self.new) }
     {
         let at = Addr { p, s };
         if self.core.tweak(&mut bench::SetStatus { at, b }) {
-            Ok(Made::QUIET)
+            Ok(StepMade::QUIET)
         } else {
-            Err(Stop::Refused(Cause::Absent))
+            Err(Refusal::Refused(Cause::Absent))
         }
     }
 
     /// The moving call of the bus of this number, counted from now, fails.
-    fn fail(&mut self, n: u32) -> Made
+    fn fail(&mut self, n: u32) -> StepMade
         requires count { 1 ≤ n }
-        requires ready { IsReady self.old }
-        ensures taken { (stage : Stage) → Stands self.old stage → TakesTo stage (Fail n) result self.new }
+        requires ready { IsPlayerReady self.old }
+        ensures taken { (stage : Stage) → PlayerStands self.old stage → TakesTo stage (Fail n) result self.new }
         ensures printable { HasLineRoom self.new result }
     {
         self.core.tweak(&mut bench::FailAfter::new(n));
-        Made::QUIET
+        StepMade::QUIET
     }
 }

@@ -7,9 +7,9 @@ ghost use Rattle.vx_rules.specs.State.{lives_as, pending_at};
 ghost use Rattle.vx_player.specs.declared.note.Intake.TheVariants as intake;
 ghost use Rattle.vx_player.specs.Gateway.{gateway_of};
 ghost use Rattle.vx_player.specs.Making.{PollMakes};
-ghost use Rattle.vx_player.specs.Serving.{MadeBy, Serves};
+ghost use Rattle.vx_player.specs.Serving.{MadeBy, PlayerServes};
 
-use crate::note::{Made, Note};
+use crate::note::{Note, StepMade};
 use vx_calls::Role;
 use vx_core::Core;
 use vx_exchange::{Opened, abort, again, come, open};
@@ -19,7 +19,7 @@ use vx_sim::SimBus;
 /// What became of a message that isn't junk.
 #[derive(Clone, Copy)]
 pub struct Served {
-    pub made: Made,
+    pub made: StepMade,
     /// The xid of the last call that its connection kept, from then on.
     pub xid: u32,
 }
@@ -35,35 +35,35 @@ pub fn serve<I: Instrument>(
     now: u64,
     reply: &mut [u8],
 ) -> Option<Served>
-    requires lives { lives_as core.old.fine.state.tables conn role ≡ true }
-    requires idle { pending_at core.old.fine.state.tables conn ≡ None }
+    requires lives { lives_as core.old.interleaved.state.tables conn role ≡ true }
+    requires idle { pending_at core.old.interleaved.state.tables conn ≡ None }
     requires short { length message.now ≤ RECORD_MAX }
-    requires late { core.old.fine.state.moment ≤ now }
+    requires late { core.old.interleaved.state.moment ≤ now }
     requires room { REPLY_ROOM ≤ length reply.old }
-    ensures served { IfSome result (λ served. Serves (gateway_of core.old) conn now last (meaning message.now role) reply.new served core.new) }
+    ensures served { IfSome result (λ served. PlayerServes (gateway_of core.old) conn now last (meaning message.now role) reply.new served core.new) }
     ensures junk { IfNone result (meaning message.now role ≡ Junk) }
     ensures stays { IfNone result (gateway_of core.new ≡ gateway_of core.old) }
-    ensures late { core.new.fine.state.moment ≤ now }
+    ensures late { core.new.interleaved.state.moment ≤ now }
     ensures len { length reply.new ≡ length reply.old }
 {
     match open(message, role, reply) {
         Opened::Junk => None,
         Opened::Answered { len } => Some(Served {
-            made: Made::of(Note::Replied { conn, len }),
+            made: StepMade::of(Note::Replied { conn, len }),
             xid: last,
         }),
         Opened::Asks { xid, call } => {
-            core.is_sound();
+            core.sound_law();
             let end = come(core, conn, xid, &call, now, reply);
             Some(Served {
-                made: Made::of_poll(conn, end),
+                made: StepMade::of_poll(conn, end),
                 xid,
             })
         }
         Opened::Aborts { xid, lid } => {
             let len = abort(core, conn, xid, lid, reply).len;
             Some(Served {
-                made: Made::of(Note::Replied { conn, len }),
+                made: StepMade::of(Note::Replied { conn, len }),
                 xid: last,
             })
         }
@@ -77,16 +77,16 @@ pub fn poll_call<I: Instrument>(
     xid: u32,
     now: u64,
     reply: &mut [u8],
-) -> Made
-    requires pending { IsSome (pending_at core.old.fine.state.tables conn) }
-    requires late { core.old.fine.state.moment ≤ now }
+) -> StepMade
+    requires pending { IsSome (pending_at core.old.interleaved.state.tables conn) }
+    requires late { core.old.interleaved.state.moment ≤ now }
     requires room { REPLY_ROOM ≤ length reply.old }
     ensures made { MadeBy (PollMakes (gateway_of core.old) conn now xid) reply.new result core.new }
     ensures quiet { result.intake ≡ intake.Nothing }
-    ensures late { core.new.fine.state.moment ≤ now }
+    ensures late { core.new.interleaved.state.moment ≤ now }
     ensures len { length reply.new ≡ length reply.old }
 {
-    core.is_sound();
+    core.sound_law();
     let end = again(core, conn, xid, now, reply);
-    Made::of_poll(conn, end)
+    StepMade::of_poll(conn, end)
 }

@@ -7,8 +7,8 @@ use Rattle.vx_policy.specs.declared.policy.TheConstants.{RULES_MAX}
 use Rattle.vx_policy.specs.declared.policy.PolicyErr.{PolicyErr}
 use Rattle.vx_policy.specs.declared.policy.PolicyErr.TheVariants as err
 use Rattle.vx_policy.specs.declared.rules.Rule.{Rule}
-use Rattle.vx_policy.specs.Grammar.{Reads, Says, IsOther, is_skipped}
-use Rattle.vx_policy.specs.Reading.{IsBad, IsTooMany, IsRead, AnswersRules, AnswersBad, Counted, NotCounted, UnderWay}
+use Rattle.vx_policy.specs.Grammar.{Reads, PolicySays, IsOther, is_skipped}
+use Rattle.vx_policy.specs.Reading.{IsPolicyBad, IsTooMany, IsRead, AnswersRules, AnswersBad, Counted, NotCounted, PolicyUnderWay}
 use Rattle.vx_policy.proofs.Spelled.{one-rule, rule-kept}
 
 -- a line to skip in front of lines that say rules
@@ -26,7 +26,7 @@ reads-goes (line ∷ front) later (r ∷ rs) more (inr h) rest = inr (h.0, reads
 
 -- ---- a reading under way
 
-pub begun : (text : List ℕ) → UnderWay text [] 0 0 text
+pub begun : (text : List ℕ) → PolicyUnderWay text [] 0 0 text
 begun text = record { front = []; number_is = refl; cut = refl; counted = record { rules = []; reads = tt; count_is = refl; kept_are = λ few. refl } }
 
 -- one more line was read, of these that are left
@@ -36,8 +36,8 @@ further text rest behind first front cut is = cut ∙ ap (λ (l : List (List ℕ
 one-longer : (front : List (List ℕ)) (first : List ℕ) (number : ℕ) → number ≡ length front → number + 1 ≡ length (front ++ first ∷ [])
 one-longer front first number is = let len = length-append front (first ∷ []) in omega arith
 
-pub skipped : (text rest behind first : List ℕ) (kept : List Rule) (count number : ℕ) → UnderWay text kept count number rest → lines rest ≡ first ∷ lines behind
-    → is_skipped first ≡ true → UnderWay text kept count (number + 1) behind
+pub skipped : (text rest behind first : List ℕ) (kept : List Rule) (count number : ℕ) → PolicyUnderWay text kept count number rest → lines rest ≡ first ∷ lines behind
+    → is_skipped first ≡ true → PolicyUnderWay text kept count (number + 1) behind
 skipped text rest behind first kept count number u is h =
     let c = u.counted in
     record {
@@ -52,8 +52,8 @@ skipped text rest behind first kept count number u is h =
       };
     }
 
-pub said : (text rest behind first : List ℕ) (kept new : List Rule) (count number : ℕ) (rule : Rule) → UnderWay text kept count number rest
-    → lines rest ≡ first ∷ lines behind → Says first rule → (length kept < RULES_MAX → new ≡ kept ++ rule ∷ []) → UnderWay text new (count + 1) (number + 1) behind
+pub said : (text rest behind first : List ℕ) (kept new : List Rule) (count number : ℕ) (rule : Rule) → PolicyUnderWay text kept count number rest
+    → lines rest ≡ first ∷ lines behind → PolicySays first rule → (length kept < RULES_MAX → new ≡ kept ++ rule ∷ []) → PolicyUnderWay text new (count + 1) (number + 1) behind
 said text rest behind first kept new count number rule u is says adds =
     let c = u.counted in
     let len = length-append c.rules (rule ∷ []) in
@@ -73,8 +73,8 @@ said text rest behind first kept new count number rule u is says adds =
       };
     }
 
-pub bad : (text rest behind first : List ℕ) (kept : List Rule) (count number : ℕ) → UnderWay text kept count number rest → lines rest ≡ first ∷ lines behind → IsOther first
-    → IsBad (lines text) (number + 1)
+pub bad : (text rest behind first : List ℕ) (kept : List Rule) (count number : ℕ) → PolicyUnderWay text kept count number rest → lines rest ≡ first ∷ lines behind → IsOther first
+    → IsPolicyBad (lines text) (number + 1)
 bad text rest behind first kept count number u is other =
     let n = u.number_is in
     record {
@@ -88,7 +88,7 @@ bad text rest behind first kept count number u is other =
       number_is = omega arith;
     }
 
-pub done : (text rest : List ℕ) (kept : List Rule) (count number : ℕ) → UnderWay text kept count number rest → rest ≡ [] → Counted (lines text) kept count
+pub done : (text rest : List ℕ) (kept : List Rule) (count number : ℕ) → PolicyUnderWay text kept count number rest → rest ≡ [] → Counted (lines text) kept count
 done text rest kept count number u e =
     let c = u.counted in
     let all : lines text ≡ u.front = u.cut ∙ ap (λ (r : List ℕ). u.front ++ lines r) e ∙ append-nil u.front in
@@ -96,7 +96,7 @@ done text rest kept count number u e =
 
 -- ---- one reading
 
-not-both : (line : List ℕ) (r : Rule) → is_skipped line ≡ true → Says line r → ⊥
+not-both : (line : List ℕ) (r : Rule) → is_skipped line ≡ true → PolicySays line r → ⊥
 not-both line r skips says = false≢true (sym (rule-kept r line says) ∙ skips)
 
 -- lines say no two lists of rules
@@ -128,7 +128,7 @@ all-good all front line behind rules reads cut other = within front rules (subst
     within (first ∷ front) (r ∷ rs) (inr h) = within front rs h.1
 
 -- the first line of another form is one line
-pub one-bad : (all : List (List ℕ)) (n m : ℕ) → IsBad all n → IsBad all m → n ≡ m
+pub one-bad : (all : List (List ℕ)) (n m : ℕ) → IsPolicyBad all n → IsPolicyBad all m → n ≡ m
 one-bad all n m a b =
     let na = a.number_is in
     let nb = b.number_is in
@@ -165,7 +165,7 @@ answers-rules text rules (Err err.TooMany) h reads =
     subst (λ (l : List Rule). RULES_MAX < length l) (one-reading (lines text) h.rules rules h.reads reads) h.many
 answers-rules text rules (Err err.NoMemory) h reads = tt
 
-pub answers-bad : (text : List ℕ) (number : ℕ) (answer : Result (List Rule) PolicyErr) → IsRead text answer → IsBad (lines text) number → AnswersBad number answer
+pub answers-bad : (text : List ℕ) (number : ℕ) (answer : Result (List Rule) PolicyErr) → IsRead text answer → IsPolicyBad (lines text) number → AnswersBad number answer
 answers-bad text number (Ok read) h b = all-good (lines text) b.front b.line b.behind read h.0 b.cut b.other
 answers-bad text number (Err (err.Form line)) h b = one-bad (lines text) line number h b
 answers-bad text number (Err err.TooMany) h b = all-good (lines text) b.front b.line b.behind h.rules h.reads b.cut b.other

@@ -1,15 +1,15 @@
 -- What is read of the records of replies.
-use Rattle.std.proofs.Common.{◌≡◌, ◌<◌, ◌^◌, ◌==◌, ◌++◌, ℕ, Bool, true, false, cond, [], Some, None, refl, ap, ◌∙◌, arith}
+use Rattle.std.proofs.Common.{◌≡◌, ◌<◌, ◌^◌, ◌==◌, ◌++◌, ℕ, Bool, true, false, cond, [], Some, None, refl, ap, ◌∙◌}
 use Rattle.byteorder.specs.Endian.{big_number}
 use Rattle.vx_xdr.specs.Spelling.{word}
-use Rattle.vx_xdr.specs.ProvedLaws.{word-bytes, word-number, number-word, number-lt}
+use Rattle.vx_xdr.proofs.Laws.{word-bytes, word-number, number-word, number-lt}
 use Rattle.vx_calls.specs.declared.calls.Proc.{Proc}
 use Rattle.vx_calls.specs.declared.calls.Proc.TheVariants as proc
-use Rattle.vx_calls.specs.declared.codes.ErrorCode.{ErrorCode}
 use Rattle.vx_calls.specs.declared.codes.ErrorCode.TheVariants as code
 use Rattle.vx_calls.specs.ErrorCode.{error_number}
 use Rattle.vx_calls.specs.Reply.{Reply}
 use Rattle.vx_calls.specs.Reply as reply
+use Rattle.vx_calls.proofs.Laws.{number-small}
 use Rattle.vx_codec.specs.Answered.{ReplyFits, answered, form_of, reply_form, reply_outcome, results}
 use Rattle.vx_policy.specs.Laws.{MadeRead, DoneRead}
 use Rattle.vx_policy.specs.Targets.{made_by, has_none}
@@ -25,24 +25,6 @@ word-again n = word-number (word n) (big_number 4 (word n)) (record { four = ref
 -- and fits a word
 number-fits : (n : ℕ) → big_number 4 (word n) < 2 ^ 32
 number-fits n = number-lt (word n) (word-bytes n)
-
--- so does the number of each error
-error-fits : (e : ErrorCode) → error_number e < 2 ^ 32
-error-fits code.Ok = omega arith
-error-fits code.Syntax = omega arith
-error-fits code.NotAccessible = omega arith
-error-fits code.InvalidLink = omega arith
-error-fits code.Parameter = omega arith
-error-fits code.NoChannel = omega arith
-error-fits code.NotSupported = omega arith
-error-fits code.NoResources = omega arith
-error-fits code.Locked = omega arith
-error-fits code.NotHeld = omega arith
-error-fits code.Timeout = omega arith
-error-fits code.BusFault = omega arith
-error-fits code.InvalidAddress = omega arith
-error-fits code.Abort = omega arith
-error-fits code.ChannelUp = omega arith
 
 -- what stands for a link, or for none
 same-made : (b : Bool) (read lid : ℕ) → (b ≡ true → read ≡ lid) → cond b (Some read) None ≡ cond b (Some lid) None
@@ -61,10 +43,10 @@ made-read again text error lid abort_port max is low =
     ∙ ap (λ w. word (error_number error) ++ word link ++ w ++ word max) (word-again abort_port)
     ∙ ap (λ w. word (error_number error) ++ word link ++ word port ++ w) (word-again max) in
     ap (λ bytes. made_by (answered proc.CreateLink bytes)) (is ∙ same)
-    ∙ ap made_by (again proc.CreateLink told refl (error-fits error, (number-fits lid, (number-fits abort_port, (number-fits max, tt)))))
+    ∙ ap made_by (again proc.CreateLink told refl (number-small error, (number-fits lid, (number-fits abort_port, (number-fits max, tt)))))
     ∙ same-made (error_number error == 0) link lid (λ none. number-word lid [] (low none))
 
 -- whether a destroy_link has no error
 pub done-read : AnsweredAgain → DoneRead
 done-read again text error is =
-    ap (λ bytes. has_none (answered proc.DestroyLink bytes)) is ∙ ap has_none (again proc.DestroyLink (reply.Error error) refl (error-fits error, tt))
+    ap (λ bytes. has_none (answered proc.DestroyLink bytes)) is ∙ ap has_none (again proc.DestroyLink (reply.Error error) refl (number-small error, tt))

@@ -6,8 +6,8 @@ use Rattle.std.specs.Str.{bytes_eq}
 use Rattle.std.proofs.lemmas.Bool.{and_parts, and_from, false≢true, not_from_false, ne_eqb}
 use Rattle.std.proofs.lemmas.Fmt.{digits_decimal, decimal_injective}
 use Rattle.std.proofs.lemmas.Option.{same_Some, none-some}
-use Rattle.vx_lemmas.specs.Decimal.{own, is_digit}
-use Rattle.vx_lemmas.specs.Options.{mapped, gone_on}
+use Rattle.vx_lemmas.proofs.Laws.Decimal.{own, is_digit}
+use Rattle.vx_lemmas.proofs.Laws.Options.{mapped, gone_on}
 use Rattle.vx_calls.specs.declared.calls.Proc.{Proc}
 use Rattle.vx_calls.specs.declared.calls.Proc.TheVariants as proc
 use Rattle.vx_policy.specs.declared.rules.Peers.{Peers}
@@ -15,9 +15,10 @@ use Rattle.vx_policy.specs.declared.rules.Peers.TheVariants as peers
 use Rattle.vx_policy.specs.declared.rules.Place.{Place}
 use Rattle.vx_policy.specs.declared.rules.Place.TheVariants as place
 use Rattle.vx_policy.specs.declared.rules.Rule.{Rule}
-use Rattle.vx_policy.specs.Grammar.{space, dot, slash, allow_text, peers_text, proc_text, place_text, rule_text, IsPeers, IsNamed, IsPlace, Says, is_skipped}
+use Rattle.vx_policy.specs.Grammar.{space, dot, slash, allow_text, peers_text, proc_text, place_text, rule_text, IsPeers, IsNamed, IsPlace, PolicySays, is_skipped}
 use Rattle.vx_policy.specs.Cutting.{cut, parts, words, IsUnder, SaysBy}
-use Rattle.vx_policy.proofs.Cuts.{joined, lacks, lacks-joined, cut-again}
+use Rattle.vx_text.proofs.Laws.Cuts.{lacks, lacks-joined}
+use Rattle.vx_policy.proofs.Cuts.{joined, cut-again}
 
 -- ---- texts without a byte
 
@@ -142,7 +143,7 @@ words-joined text w p q t e =
     ∙ ap (λ (k : List ℕ × List ℕ × List ℕ × List ℕ). k.0 ++ (space ∷ k.1 ++ (space ∷ k.2 ++ (space ∷ k.3)))) is
 
 -- a rule whose words these are is said by a line that is cut into them
-pub says-words : (r : Rule) (text w p q t : List ℕ) → SaysBy w p q t r → words text ≡ Some (w, p, q, t) → Says text r
+pub says-words : (r : Rule) (text w p q t : List ℕ) → SaysBy w p q t r → words text ≡ Some (w, p, q, t) → PolicySays text r
 says-words r text w p q t h cuts =
     let ew = h.0 in
     let ep = h.2 in
@@ -151,7 +152,7 @@ says-words r text w p q t h cuts =
     record { peers = h.1; proc = h.3; place = h.5; spelled = words-joined text w p q t cuts ∙ rw (ew, ep, eq, et) refl }
 
 -- and a line that says it is cut into its words
-pub words-say : (r : Rule) (text w p q t : List ℕ) → Says text r → words text ≡ Some (w, p, q, t) → SaysBy w p q t r
+pub words-say : (r : Rule) (text w p q t : List ℕ) → PolicySays text r → words text ≡ Some (w, p, q, t) → SaysBy w p q t r
 words-say r text w p q t says cuts =
     let same = same_Some _ _ (sym cuts ∙ ap words says.spelled ∙ words-again r says.peers) in (
       ap (λ (k : List ℕ × List ℕ × List ℕ × List ℕ). k.0) same,
@@ -164,11 +165,11 @@ words-say r text w p q t says cuts =
     )
 
 -- a line that isn't cut into words says no rule
-pub unsaid : (r : Rule) (text : List ℕ) → Says text r → words text ≡ None → ⊥
+pub unsaid : (r : Rule) (text : List ℕ) → PolicySays text r → words text ≡ None → ⊥
 unsaid r text says none = none-some _ (sym none ∙ ap words says.spelled ∙ words-again r says.peers)
 
 -- a rule isn't skipped
-pub rule-kept : (r : Rule) (text : List ℕ) → Says text r → is_skipped text ≡ false
+pub rule-kept : (r : Rule) (text : List ℕ) → PolicySays text r → is_skipped text ≡ false
 rule-kept r text says = ap is_skipped says.spelled ∙ by_word r.allow
   where
     by_word : (allow : Bool) → is_skipped (allow_text allow ++ (space ∷ peers_text r.peers ++ (space ∷ proc_text r.proc ++ (space ∷ place_text r.place)))) ≡ false
@@ -264,7 +265,7 @@ one-place (place.At n) place.Bus hp hq e = absurd (no-number n 98 _ hp refl e)
 one-place (place.At n) (place.At m) hp hq e = ap (λ (k : ℕ). place.At k) (one-number n m (omega arith) (omega arith) e)
 
 -- a line says one rule
-pub one-rule : (r s : Rule) (text : List ℕ) → Says text r → Says text s → r ≡ s
+pub one-rule : (r s : Rule) (text : List ℕ) → PolicySays text r → PolicySays text s → r ≡ s
 one-rule r s text says says' =
     let same = same_Some _ _ (sym (words-again r says.peers) ∙ ap words (sym says.spelled ∙ says'.spelled) ∙ words-again s says'.peers) in
     let allow = one-allow r.allow s.allow (ap (λ (k : List ℕ × List ℕ × List ℕ × List ℕ). k.0) same) in
@@ -299,6 +300,6 @@ pub peers-read : (o : Option Peers) (text a b c d bits : List ℕ) → IfSome o 
 peers-read None text a b c d bits h cuts = tt
 peers-read (Some p) text a b c d bits h cuts = under-spelled p text a b c d bits h cuts
 
-pub rule-read : (o : Option Rule) (text w p q t : List ℕ) → IfSome o (SaysBy w p q t) → words text ≡ Some (w, p, q, t) → IfSome o (λ r. Says text r)
+pub rule-read : (o : Option Rule) (text w p q t : List ℕ) → IfSome o (SaysBy w p q t) → words text ≡ Some (w, p, q, t) → IfSome o (λ r. PolicySays text r)
 rule-read None text w p q t h cuts = tt
 rule-read (Some r) text w p q t h cuts = says-words r text w p q t h cuts

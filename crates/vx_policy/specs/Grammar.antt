@@ -74,7 +74,7 @@ IsPlace (place.At p) = p ≤ 30
 IsPlace _ = ⊤
 
 -- a line says this rule
-pub record Says (line : List ℕ) (r : Rule) : Type 0 where
+pub record PolicySays (line : List ℕ) (r : Rule) : Type 0 where
   pub peers : IsPeers r.peers
   pub proc : IsNamed r.proc
   pub place : IsPlace r.place
@@ -88,11 +88,11 @@ is_skipped (b ∷ bs) = b == 35
 -- no rule of which the line is the text, nor a line to skip
 pub record IsOther (line : List ℕ) : Type 0 where
   pub kept : is_skipped line ≡ false
-  pub other : (r : Rule) → Says line r → ⊥
+  pub other : (r : Rule) → PolicySays line r → ⊥
 
 -- these lines say these rules, in order, but for those that say nothing
 abbrev pub Reads : List (List ℕ) → List Rule → Type 0
 Reads [] [] = ⊤
 Reads [] (r ∷ rs) = ⊥
 Reads (line ∷ later) [] = (is_skipped line ≡ true) × Reads later []
-Reads (line ∷ later) (r ∷ rs) = ((is_skipped line ≡ true) × Reads later (r ∷ rs)) ⊎ (Says line r × Reads later rs)
+Reads (line ∷ later) (r ∷ rs) = ((is_skipped line ≡ true) × Reads later (r ∷ rs)) ⊎ (PolicySays line r × Reads later rs)

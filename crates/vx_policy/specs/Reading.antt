@@ -8,10 +8,10 @@ use Rattle.vx_policy.specs.declared.policy.PolicyErr.TheVariants as err
 use Rattle.vx_policy.specs.declared.rules.Rule.{Rule}
 use Rattle.vx_policy.specs.declared.lines.Line.{Line}
 use Rattle.vx_policy.specs.declared.lines.Line.TheVariants as line
-use Rattle.vx_policy.specs.Grammar.{Reads, Says, IsOther, is_skipped}
+use Rattle.vx_policy.specs.Grammar.{Reads, PolicySays, IsOther, is_skipped}
 
 -- the first line of another form is the one of this number, counted from 1; skipped lines count
-pub record IsBad (all : List (List ℕ)) (number : ℕ) : Type 0 where
+pub record IsPolicyBad (all : List (List ℕ)) (number : ℕ) : Type 0 where
   pub front : List (List ℕ)
   pub line : List ℕ
   pub behind : List (List ℕ)
@@ -30,7 +30,7 @@ pub record IsTooMany (all : List (List ℕ)) : Type 0 where
 -- what the answer says of the text
 abbrev pub IsRead : List ℕ → Result (List Rule) PolicyErr → Type 0
 IsRead text (Ok rules) = Reads (lines text) rules × (length rules ≤ RULES_MAX)
-IsRead text (Err (err.Form line)) = IsBad (lines text) line
+IsRead text (Err (err.Form line)) = IsPolicyBad (lines text) line
 IsRead text (Err err.TooMany) = IsTooMany (lines text)
 IsRead text (Err err.NoMemory) = ⊤
 
@@ -51,13 +51,13 @@ AnswersBad number (Err err.NoMemory) = ⊤
 -- what one line is
 abbrev pub IsLine : List ℕ → Line → Type 0
 IsLine text line.Skipped = is_skipped text ≡ true
-IsLine text (line.Says rule) = Says text rule
+IsLine text (line.Says rule) = PolicySays text rule
 IsLine text line.Other = IsOther text
 
 -- a rule was kept behind these, where fewer are kept than may be
-abbrev pub Adds : List Rule → Rule → Result Unit PolicyErr → List Rule → Type 0
-Adds old rule (Ok done) new = length old < RULES_MAX → new ≡ old ++ rule ∷ []
-Adds old rule (Err why) new = why ≡ err.NoMemory
+abbrev pub PolicyAdds : List Rule → Rule → Result Unit PolicyErr → List Rule → Type 0
+PolicyAdds old rule (Ok done) new = length old < RULES_MAX → new ≡ old ++ rule ∷ []
+PolicyAdds old rule (Err why) new = why ≡ err.NoMemory
 
 -- these lines say rules, which were counted, and kept where there are no more than may be
 pub record Counted (all : List (List ℕ)) (kept : List Rule) (count : ℕ) : Type 0 where
@@ -68,12 +68,12 @@ pub record Counted (all : List (List ℕ)) (kept : List Rule) (count : ℕ) : Ty
 
 -- why the rules of a text weren't counted
 abbrev pub NotCounted : List (List ℕ) → PolicyErr → Type 0
-NotCounted all (err.Form line) = IsBad all line
+NotCounted all (err.Form line) = IsPolicyBad all line
 NotCounted all err.TooMany = ⊥
 NotCounted all err.NoMemory = ⊤
 
 -- a reading under way: so many lines are read, and this text is what is left
-pub record UnderWay (text : List ℕ) (kept : List Rule) (count number : ℕ) (rest : List ℕ) : Type 0 where
+pub record PolicyUnderWay (text : List ℕ) (kept : List Rule) (count number : ℕ) (rest : List ℕ) : Type 0 where
   pub front : List (List ℕ)
   pub number_is : number ≡ length front
   pub cut : lines text ≡ front ++ lines rest

@@ -45,12 +45,12 @@ abbrev pub is_done : List ℕ → Bool
 is_done reply = has_none (answered proc.DestroyLink (drop HEAD reply))
 
 -- the links with one more, which a create_link made, where its device text names a target
-abbrev pub with_link : List MadeLink → Option ℕ → Option Target → List MadeLink
-with_link made (Some lid) (Some to) = made ++ record { lid = lid; target = to } ∷ []
-with_link made _ _ = made
+abbrev pub policy_with_link : List MadeLink → Option ℕ → Option Target → List MadeLink
+policy_with_link made (Some lid) (Some to) = made ++ record { lid = lid; target = to } ∷ []
+policy_with_link made _ _ = made
 
 -- the links that are known behind a call that reached the core and was answered by this record
 abbrev pub made_after : List MadeLink → Call → List ℕ → List MadeLink
-made_after made (call.CreateLink client lock lock_timeout device) reply = with_link made (link_made reply) (text_target device)
+made_after made (call.CreateLink client lock lock_timeout device) reply = policy_with_link made (link_made reply) (text_target device)
 made_after made (call.DestroyLink lid) reply = if is_done reply then filter (λ m. not (m.lid == lid)) made else made
 made_after made _ reply = made

@@ -7,8 +7,8 @@ abbrev pub deny_line : ℕ → ℕ → List ℕ
 deny_line conn rule = codes "deny " ++ decimal conn ++ codes " " ++ decimal rule ++ codes "\n"
 
 -- so many peers were served
-abbrev pub served_line : ℕ → List ℕ
-served_line number = codes "served " ++ decimal number ++ codes "\n"
+abbrev pub policy_served_line : ℕ → List ℕ
+policy_served_line number = codes "served " ++ decimal number ++ codes "\n"
 
 -- this line of the policy has another form than a rule
 abbrev pub form_line : ℕ → List ℕ
@@ -18,9 +18,9 @@ form_line line = codes "fault line " ++ decimal line ++ codes " form\n"
 abbrev pub many_line : List ℕ
 many_line = codes "fault many\n"
 
-abbrev pub long_line : List ℕ
-long_line = codes "fault long\n"
+abbrev pub policy_long_line : List ℕ
+policy_long_line = codes "fault long\n"
 
 -- the words ask nothing
-abbrev pub usage_line : List ℕ
-usage_line = codes "usage: vxguard PORT N\n"
+abbrev pub policy_usage_line : List ℕ
+policy_usage_line = codes "usage: vxguard PORT N\n"

@@ -1,7 +1,7 @@
 //! The lines of a policy.
 ghost use Rattle.std.specs.Prelude.{◌≡◌, IfSome, None, option_map};
 ghost use Rattle.vx_policy.specs.Cutting.{words, SaysBy};
-ghost use Rattle.vx_policy.specs.Grammar.{Says, is_skipped};
+ghost use Rattle.vx_policy.specs.Grammar.{PolicySays, is_skipped};
 ghost use Rattle.vx_policy.specs.Reading.{IsLine};
 ghost use Rattle.vx_policy.specs.declared.rules.Rule.{Rule};
 
@@ -44,8 +44,8 @@ fn rule_of(allow: &[u8], peers: &[u8], proc: &[u8], place: &[u8]) -> Option<Rule
 
 /// The rule that a line says.
 fn said_by(line: &[u8]) -> Option<Rule>
-    ensures some { IfSome result (λ rule. Says line.now rule) }
-    ensures none { result ≡ None → (rule : Rule) → Says line.now rule → ⊥ }
+    ensures some { IfSome result (λ rule. PolicySays line.now rule) }
+    ensures none { result ≡ None → (rule : Rule) → PolicySays line.now rule → ⊥ }
 {
     let (allow, peers, proc, place) = words_of(line)?;
     rule_of(allow, peers, proc, place)

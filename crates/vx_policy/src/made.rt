@@ -33,11 +33,11 @@ pub struct MadeLink {
 /// The links that a session made and didn't destroy, in order of making. It has room for as many as may live at once, and has no
 /// more.
 #[derive(Drop)]
-pub struct Made {
+pub struct KnownLinks {
     links: Vec<MadeLink>,
 }
 
-impl Model for Made {
+impl Model for KnownLinks {
     ghost use Rattle.std.specs.Prelude.{◌≤◌, List, length, vec_capacity};
     ghost use Rattle.vx_calls.specs.declared.limits.TheConstants.{LINK_MAX};
     ghost use Rattle.vx_policy.specs.declared.made.MadeLink.{MadeLink};
@@ -160,13 +160,13 @@ fn forget(links: &mut Vec<MadeLink>, lid: u32)
     links.retain(|m| m.lid != lid);
 }
 
-impl Made {
+impl KnownLinks {
     /// A table with no link in it.
-    pub fn new(alloc: Global) -> Result<Made, NoMemory>
+    pub fn new(alloc: Global) -> Result<KnownLinks, NoMemory>
         ensures { IfOk result (λ made. made ≡ []) }
     {
         match Vec::with_capacity(alloc, LINK_MAX as usize) {
-            Ok(links) => Ok(Made { links }),
+            Ok(links) => Ok(KnownLinks { links }),
             Err(_) => Err(NoMemory),
         }
     }

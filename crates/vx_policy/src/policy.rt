@@ -4,7 +4,7 @@ ghost use Rattle.vx_text.specs.TextLines.{lines};
 ghost use Rattle.vx_policy.specs.declared.rules.Rule.{Rule};
 ghost use Rattle.vx_policy.specs.declared.policy.TheConstants.{RULES_MAX, TEXT_MAX};
 ghost use Rattle.vx_policy.specs.Grammar.{Reads};
-ghost use Rattle.vx_policy.specs.Reading.{IsRead, IsBad, AnswersRules, AnswersBad, Adds, Counted, NotCounted};
+ghost use Rattle.vx_policy.specs.Reading.{IsRead, IsPolicyBad, AnswersRules, AnswersBad, PolicyAdds, Counted, NotCounted};
 ghost use Rattle.vx_policy.specs.Judging.{judged};
 
 use crate::lines::{Line, line_of};
@@ -60,7 +60,7 @@ impl Model for Policy {
 
 /// Keeps a rule behind those that are there, where there is room for one more by the limit.
 fn keep(rules: &mut Vec<Rule>, rule: Rule) -> Result<(), PolicyErr>
-    ensures { Adds rules.old.items rule result rules.new.items }
+    ensures { PolicyAdds rules.old.items rule result rules.new.items }
 {
     if rules.len() >= RULES_MAX {
         return Ok(());
@@ -136,7 +136,7 @@ impl Policy {
         requires { length text.now ≤ TEXT_MAX }
         ensures read { IsRead text.now result }
         ensures rules { (rules : List Rule) → Reads (lines text.now) rules → AnswersRules rules result }
-        ensures bad { (line : ℕ) → IsBad (lines text.now) line → AnswersBad line result }
+        ensures bad { (line : ℕ) → IsPolicyBad (lines text.now) line → AnswersBad line result }
     {
         match read_rules(alloc, text) {
             Ok((rules, count)) => {

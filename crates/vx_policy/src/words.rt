@@ -7,8 +7,8 @@ ghost use Rattle.vx_policy.specs.declared.rules.Peers.{Peers};
 ghost use Rattle.vx_policy.specs.declared.rules.Place.{Place};
 
 use crate::rules::{Peers, Place};
-use itoa::Buffer;
 use vx_calls::Proc;
+use vx_text::number_within;
 
 /// The greatest primary address (IEEE 488.1, 2.6).
 const ADDRESS_MAX: u8 = 30;
@@ -35,19 +35,7 @@ fn number_to(text: &[u8], most: u8) -> Option<u8>
     ensures some { IfSome result (λ n. (n ≤ most) × (text.now ≡ decimal n)) }
     ensures none { result ≡ None → (n : ℕ) → n ≤ most → text.now ≢ decimal n }
 {
-    let Ok(text) = str::from_utf8(text) else {
-        return None;
-    };
-    let Ok(n) = text.parse::<u8>() else {
-        return None;
-    };
-    let mut buffer = Buffer::new();
-    let is_printed = buffer.format(n).as_bytes() == text.as_bytes();
-    if is_printed && n <= most {
-        Some(n)
-    } else {
-        None
-    }
+    Some(number_within(text, 0, u64::from(most))? as u8)
 }
 
 pub(crate) fn allow_of(word: &[u8]) -> Option<bool>

@@ -1,6 +1,5 @@
 pub mod Written
 pub mod Answered
 pub mod Packed
-pub mod Read
 pub mod Looked
 pub mod Spent

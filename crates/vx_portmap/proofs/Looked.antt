@@ -1,9 +1,8 @@
 -- A stream over which a table is looked up.
 use Rattle.std.proofs.Common.{◌≡◌, ℕ, List, [], ◌∷◌, Option, None, Some, subst, ◌∙◌}
 use Rattle.vx_record.specs.Buffer.{BufState, fresh}
-use Rattle.vx_stream.specs.Calling.{Receives, Sends}
-use Rattle.vx_stream.specs.Shown.{LinkShown}
-use Rattle.vx_stream.specs.Answered.{Answered, AnswersAll}
+use Rattle.vx_io_traits.specs.declared.links.Link.{Ghosts}
+use Rattle.vx_stream.specs.Answered.{Answered, AnswersAll, Conversation}
 use Rattle.vx_stream.specs.Stopping.{StreamAnswered}
 use Rattle.vx_stream.specs.declared.ends.End.{End}
 use Rattle.vx_stream.specs.declared.ends.End.TheVariants as stream
@@ -19,11 +18,11 @@ all-kept ports ports' [] same = same
 all-kept ports ports' (one ∷ more) answers = all-kept answers.0 ports' more answers.2 ∙ answers.1.1
 
 -- so does a whole stream
-table-kept : {L : Type 0} (stands : L → List ℕ → List ℕ → Type 0) (receives : Receives L) (sends : Sends L) (limit room : ℕ) (most : Option ℕ) (ports : List Mapping) (link : L) (seen : LinkShown) (ended : Option End)
-    (ports' : List Mapping) (link' : L) (seen' : LinkShown) → StreamAnswered Maps stands receives sends limit room most ports link seen ended ports' link' seen' → ports' ≡ ports
-table-kept stands receives sends limit room most ports link seen ended ports' link' seen' d =
-    by ended d ∙ all-kept ports d.last d.answered d.progress.answers where
-      by : (o : Option End) → (e : StreamAnswered Maps stands receives sends limit room most ports link seen o ports' link' seen') → ports' ≡ e.last
+table-kept : {L : Type 0} (ways : Ghosts L) (limit room : ℕ) (most : Option ℕ) (before : Conversation (List Mapping) L) (ended : Option End) (after : Conversation (List Mapping) L)
+    → StreamAnswered Maps ways limit room most before ended after → after.server ≡ before.server
+table-kept ways limit room most before ended after d =
+    by ended d ∙ all-kept before.server d.last d.answered d.progress.answers where
+      by : (o : Option End) → (e : StreamAnswered Maps ways limit room most before o after) → after.server ≡ e.last
       by None e = e.left
       by (Some stream.Closed) e = e.left
       by (Some (stream.CutShort n)) e = e.left
@@ -33,13 +32,16 @@ table-kept stands receives sends limit room most ports link seen ended ports' li
       by (Some stream.WriteFault) e = e.left
 
 -- the stream was served, with one table from its beginning to its end
-pub stream-did : {L : Type 0} (stands : L → List ℕ → List ℕ → Type 0) (receives : Receives L) (sends : Sends L) (ports ports' : List Mapping) (link : L) (seen : LinkShown) (buffer : BufState) (ended : Option End) (how : MapEnd)
-    (link' : L) (seen' : LinkShown) → buffer ≡ fresh MESSAGE_MAX → how ≡ map_end ended
-    → StreamAnswered Maps stands receives sends buffer.limit PIECE (Some STREAM_MAX) ports link seen ended ports' link' seen' → StreamDid stands receives sends ports link seen how link' seen'
-stream-did stands receives sends ports ports' link seen buffer ended how link' seen' new is did = record {
-  ended = ended;
-  how_is = is;
-  did = subst (λ t. StreamAnswered Maps stands receives sends MESSAGE_MAX PIECE (Some STREAM_MAX) ports link seen ended t link' seen')
-      (table-kept stands receives sends buffer.limit PIECE (Some STREAM_MAX) ports link seen ended ports' link' seen' did)
-      (subst (λ (b : BufState). StreamAnswered Maps stands receives sends b.limit PIECE (Some STREAM_MAX) ports link seen ended ports' link' seen') new did);
-}
+pub stream-did : {L : Type 0} (ways : Ghosts L) (ports ports' : List Mapping) (link : L) (buffer : BufState) (ended : Option End) (how : MapEnd) (link' : L)
+    → buffer ≡ fresh MESSAGE_MAX → how ≡ map_end ended
+    → StreamAnswered Maps ways buffer.limit PIECE (Some STREAM_MAX) (record { server = ports; link = link }) ended (record { server = ports'; link = link' })
+    → StreamDid ways ports link how link'
+stream-did {L} ways ports ports' link buffer ended how link' new is did =
+    let before : Conversation (List Mapping) L = record { server = ports; link = link } in
+    let W : ℕ → List Mapping → Type 0 = λ limit table. StreamAnswered Maps ways limit PIECE (Some STREAM_MAX) before ended (record { server = table; link = link' }) in
+    record {
+      ended = ended;
+      how_is = is;
+      did = subst (λ t. W MESSAGE_MAX t) (table-kept ways buffer.limit PIECE (Some STREAM_MAX) before ended (record { server = ports'; link = link' }) did)
+          (subst (λ (b : BufState). W b.limit ports') new did);
+    }

@@ -3,26 +3,26 @@ use Rattle.std.proofs.Common.{◌≡◌, ◌≤◌, ◌<◌, ◌+◌, ℕ, List,
 use Rattle.std.proofs.lemmas.List.{map-append, nil_from_length, length-map}
 use Rattle.std.proofs.lemmas.List.Concat.{flat_map-append}
 use Rattle.std.proofs.lemmas.List.Elements.{filter_map-append}
-use Rattle.vx_io_traits.specs.ProvedLaws.{rose_earlier}
+use Rattle.vx_io_traits.proofs.Laws.{rose_earlier}
 use Rattle.vx_portmap.specs.declared.limits.TheConstants.{MESSAGE_MAX}
 use Rattle.vx_portmap.specs.declared.table.Mapping.{Mapping}
 use Rattle.vx_portmap.specs.declared.serving.PacketEnd.{PacketEnd}
 use Rattle.vx_portmap.specs.declared.serving.PacketEnd.TheVariants as end
 use Rattle.vx_portmap.specs.Answering.{reply}
 use Rattle.vx_portmap.specs.Moves.{Moved, Took, all_given}
-use Rattle.vx_portmap.specs.Boxes.{Takes, Adds}
+use Rattle.vx_portmap.specs.Boxes.{MapTakes, MapAdds}
 use Rattle.vx_portmap.specs.Replies.{replies}
-use Rattle.vx_portmap.specs.Packing.{BoxShown, BoxGoes, PacketsEnd, Answers, IsEarly, IsCount, PacketsCounted, GivesReply, AnswersPacket, GivesAll, exchange, exchanges, ended_by}
+use Rattle.vx_portmap.specs.Packing.{BoxShown, BoxGoes, PacketsEnd, MapAnswers, IsEarly, IsCount, PacketsCounted, GivesReply, AnswersPacket, GivesAll, exchange, exchanges, ended_by}
 
 -- ---- what the calls of a box did, one after another
 
 -- no packet was read
-pub takes-none : (room : ℕ) (a : Option (List (List ℕ))) → Takes room a a []
+pub takes-none : (room : ℕ) (a : Option (List (List ℕ))) → MapTakes room a a []
 takes-none room None = tt
 takes-none room (Some packets) = ([], refl, refl)
 
 -- packets were read, and then more
-pub takes-then : (room : ℕ) (a b c : Option (List (List ℕ))) (xs ys : List (List ℕ)) → Takes room a b xs → Takes room b c ys → Takes room a c (xs ++ ys)
+pub takes-then : (room : ℕ) (a b c : Option (List (List ℕ))) (xs ys : List (List ℕ)) → MapTakes room a b xs → MapTakes room b c ys → MapTakes room a c (xs ++ ys)
 takes-then room None b c xs ys first second = tt
 takes-then room (Some x) None c xs ys first second = absurd first
 takes-then room (Some x) (Some y) None xs ys first second = absurd second
@@ -33,7 +33,7 @@ takes-then room (Some x) (Some y) (Some z) xs ys first second = (
 )
 
 -- where none was read it doesn't matter how many bytes of one would have been
-pub takes-any : (room other : ℕ) (a b : Option (List (List ℕ))) → Takes room a b [] → Takes other a b []
+pub takes-any : (room other : ℕ) (a b : Option (List (List ℕ))) → MapTakes room a b [] → MapTakes other a b []
 takes-any room other None b none = tt
 takes-any room other (Some x) None none = absurd none
 takes-any room other (Some x) (Some y) none =
@@ -41,12 +41,12 @@ takes-any room other (Some x) (Some y) none =
     ([], none.1 ∙ ap (λ l. l ++ y) is_nil, refl)
 
 -- nothing came behind
-pub adds-none : {A : Type 0} (a : Option (List A)) → Adds a a []
+pub adds-none : {A : Type 0} (a : Option (List A)) → MapAdds a a []
 adds-none None = tt
 adds-none (Some packets) = sym (append-nil packets)
 
 -- some came behind, and then more
-pub adds-then : {A : Type 0} (a b c : Option (List A)) (xs ys : List A) → Adds a b xs → Adds b c ys → Adds a c (xs ++ ys)
+pub adds-then : {A : Type 0} (a b c : Option (List A)) (xs ys : List A) → MapAdds a b xs → MapAdds b c ys → MapAdds a c (xs ++ ys)
 adds-then None b c xs ys first second = tt
 adds-then (Some x) None c xs ys first second = absurd first
 adds-then (Some x) (Some y) None xs ys first second = absurd second
@@ -65,9 +65,9 @@ box-then a b c xs ys zs ws ms ns first second = record {
 -- ---- one packet
 
 -- the packet was read, and its reply given; or that couldn't be
-pub packet-answered : (ports : List Mapping) (packet : List ℕ) (a b c : BoxShown) (stop : Option PacketEnd) → Takes MESSAGE_MAX a.left b.left (packet ∷ [])
-    → Adds a.given b.given [] → Adds a.moved b.moved (Took packet ∷ []) → b.ended ≡ a.ended → a.take_faults ≤ b.take_faults → b.give_faults ≡ a.give_faults
-    → AnswersPacket ports packet b stop c → Answers ports 1 a stop c
+pub packet-answered : (ports : List Mapping) (packet : List ℕ) (a b c : BoxShown) (stop : Option PacketEnd) → MapTakes MESSAGE_MAX a.left b.left (packet ∷ [])
+    → MapAdds a.given b.given [] → MapAdds a.moved b.moved (Took packet ∷ []) → b.ended ≡ a.ended → a.take_faults ≤ b.take_faults → b.give_faults ≡ a.give_faults
+    → AnswersPacket ports packet b stop c → MapAnswers ports 1 a stop c
 packet-answered ports packet a b c stop takes adds moves ended take_faults give_faults one =
     record {
       read = packet ∷ [];
@@ -112,7 +112,7 @@ packet-answered ports packet a b c stop takes adds moves ended take_faults give_
 -- ---- the work
 
 -- nothing was read yet
-pub answers-none : (ports : List Mapping) (box : BoxShown) → Answers ports 0 box None box
+pub answers-none : (ports : List Mapping) (box : BoxShown) → MapAnswers ports 0 box None box
 answers-none ports box = record {
   read = [];
   given = [];
@@ -177,8 +177,8 @@ ends-then ports n m a b c xs ys zs ws ms ns (Some end.WriteFault) takes gives fi
     )
 
 -- so many packets were read and answered, and then the work went on with more
-pub answers-then : (ports : List Mapping) (n m : ℕ) (a b c : BoxShown) (stop : Option PacketEnd) → Answers ports n a None b → Answers ports m b stop c
-    → Answers ports (n + m) a stop c
+pub answers-then : (ports : List Mapping) (n m : ℕ) (a b c : BoxShown) (stop : Option PacketEnd) → MapAnswers ports n a None b → MapAnswers ports m b stop c
+    → MapAnswers ports (n + m) a stop c
 answers-then ports n m a b c stop first second = record {
   read = first.read ++ second.read;
   given = first.given ++ second.given;
@@ -198,13 +198,13 @@ ends-within ports n limit a b xs zs ms end.ReadFault early within ends = (let fe
 ends-within ports n limit a b xs zs ms end.WriteFault early within ends = (let few = ends.0 in omega arith, ends.1)
 
 -- one more
-pub answers-more : (ports : List Mapping) (n : ℕ) (a b c : BoxShown) (said : Option PacketEnd) → said ≡ None → Answers ports n a None b → Answers ports 1 b said c
-    → Answers ports (n + 1) a None c
-answers-more ports n a b c said is first second = answers-then ports n 1 a b c None first (subst (λ o. Answers ports 1 b o c) is second)
+pub answers-more : (ports : List Mapping) (n : ℕ) (a b c : BoxShown) (said : Option PacketEnd) → said ≡ None → MapAnswers ports n a None b → MapAnswers ports 1 b said c
+    → MapAnswers ports (n + 1) a None c
+answers-more ports n a b c said is first second = answers-then ports n 1 a b c None first (subst (λ o. MapAnswers ports 1 b o c) is second)
 
 -- the work ended there
 pub counted-stop : (ports : List Mapping) (n limit : ℕ) (a b c : BoxShown) (said : Option PacketEnd) (how : PacketEnd) → said ≡ Some how → IsEarly said → n < limit
-    → Answers ports n a None b → Answers ports 1 b said c → PacketsCounted ports limit a how n c
+    → MapAnswers ports n a None b → MapAnswers ports 1 b said c → PacketsCounted ports limit a how n c
 unfolding answers-then
 counted-stop ports n limit a b c said how is early within first second = record {
   did = record {
@@ -220,13 +220,13 @@ counted-stop ports n limit a b c said how is early within first second = record 
   soon : IsEarly (Some how)
   soon = subst IsEarly is early
 
-  then : Answers ports 1 b (Some how) c
-  then = subst (λ o. Answers ports 1 b o c) is second
+  then : MapAnswers ports 1 b (Some how) c
+  then = subst (λ o. MapAnswers ports 1 b o c) is second
 
-  both : Answers ports (n + 1) a (Some how) c
+  both : MapAnswers ports (n + 1) a (Some how) c
   both = answers-then ports n 1 a b c (Some how) first then
 
-  counts : (h : PacketEnd) → IsEarly (Some h) → (s : Answers ports 1 b (Some h) c) → IsCount h n (first.read ++ s.read)
+  counts : (h : PacketEnd) → IsEarly (Some h) → (s : MapAnswers ports 1 b (Some h) c) → IsCount h n (first.read ++ s.read)
   counts end.Served early s = absurd early
   counts end.Ended early s =
       let before = first.ends.0 in
@@ -236,7 +236,7 @@ counted-stop ports n limit a b c said how is early within first second = record 
   counts end.WriteFault early s = tt
 
 -- the limit was reached
-pub counted-all : (ports : List Mapping) (n limit : ℕ) (a b : BoxShown) → n ≤ limit → limit ≤ n → Answers ports n a None b → PacketsCounted ports limit a end.Served n b
+pub counted-all : (ports : List Mapping) (n limit : ℕ) (a b : BoxShown) → n ≤ limit → limit ≤ n → MapAnswers ports n a None b → PacketsCounted ports limit a end.Served n b
 counted-all ports n limit a b within all so_far =
     let read = so_far.ends.0 in
     record {

@@ -4,9 +4,9 @@ use Rattle.std.specs.List.{flat_map}
 use Rattle.std.proofs.lemmas.List.{take_more}
 use Rattle.std.proofs.lemmas.List.Concat.{flat_map-append}
 use Rattle.vx_xdr.specs.Writing.{overwritten, Writes}
-use Rattle.vx_xdr.specs.ProvedLaws.{overwritten-twice}
+use Rattle.vx_xdr.proofs.Laws.{overwritten-twice}
 use Rattle.vx_rpc.specs.Wording.{words}
-use Rattle.vx_rpc.specs.ProvedLaws.{words-append, length-words}
+use Rattle.vx_rpc.proofs.Laws.{words-append, length-words}
 use Rattle.vx_portmap.specs.declared.table.Mapping.{Mapping}
 use Rattle.vx_portmap.specs.Answering.{entry, success, dump_results}
 

@@ -15,7 +15,7 @@ abbrev pub spelled : Ask → List (List ℕ)
 spelled ask = kind_word ask.kind ∷ decimal ask.port ∷ decimal ask.core ∷ decimal ask.abort ∷ decimal ask.number ∷ []
 
 -- ports are at least 1, and at most 1,000,000 streams or packets are served
-pub record IsInRange (ask : Ask) : Type 0 where
+pub record IsMapInRange (ask : Ask) : Type 0 where
   pub port : (1 ≤ ask.port) × (ask.port ≤ 65535)
   pub core : (1 ≤ ask.core) × (ask.core ≤ 65535)
   pub abort : (1 ≤ ask.abort) × (ask.abort ≤ 65535)

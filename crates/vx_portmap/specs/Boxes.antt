@@ -8,16 +8,16 @@ use Rattle.vx_portmap.specs.declared.boxes.Given.{Given}
 use Rattle.vx_portmap.specs.declared.boxes.Given.TheVariants.{Sent, Failed as Refused}
 
 -- its next packets were these, of each of which at most `room` bytes were read: what lies behind them in a packet is lost
-abbrev pub Takes : ℕ → Option (List (List ℕ)) → Option (List (List ℕ)) → List (List ℕ) → Type 0
-Takes room None new read = ⊤
-Takes room (Some packets) None read = ⊥
-Takes room (Some packets) (Some rest) read = (whole : List (List ℕ)) × (packets ≡ whole ++ rest) × (read ≡ map (take room) whole)
+abbrev pub MapTakes : ℕ → Option (List (List ℕ)) → Option (List (List ℕ)) → List (List ℕ) → Type 0
+MapTakes room None new read = ⊤
+MapTakes room (Some packets) None read = ⊥
+MapTakes room (Some packets) (Some rest) read = (whole : List (List ℕ)) × (packets ≡ whole ++ rest) × (read ≡ map (take room) whole)
 
 -- these come behind what it told
-abbrev pub Adds : {A : Type 0} → Option (List A) → Option (List A) → List A → Type 0
-Adds None new added = ⊤
-Adds (Some before) None added = ⊥
-Adds (Some before) (Some packets) added = packets ≡ before ++ added
+abbrev pub MapAdds : {A : Type 0} → Option (List A) → Option (List A) → List A → Type 0
+MapAdds None new added = ⊤
+MapAdds (Some before) None added = ⊥
+MapAdds (Some before) (Some packets) added = packets ≡ before ++ added
 
 -- no packet is left
 abbrev pub NoneLeft : Option (List (List ℕ)) → Type 0

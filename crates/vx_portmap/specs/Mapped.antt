@@ -1,22 +1,18 @@
 -- To be believed.
 -- The port mapper as what serves the peers of a door.
-use Rattle.std.specs.Prelude.{◌≡◌, ℕ, Bool, true, false, List}
-use Rattle.vx_io_traits.specs.declared.ReadOut.{ReadOut}
-use Rattle.vx_io_traits.specs.declared.WriteOut.{WriteOut}
+use Rattle.std.specs.Prelude.{◌≡◌, Bool, true, false, List}
+use Rattle.vx_io_traits.specs.declared.links.Link.{Ghosts}
 use Rattle.vx_door.specs.Going.{Went}
 use Rattle.vx_portmap.specs.declared.table.Mapping.{Mapping}
 use Rattle.vx_portmap.specs.declared.ends.MapEnd.{MapEnd}
 use Rattle.vx_portmap.specs.declared.ends.MapEnd.TheVariants as end
-use Rattle.vx_stream.specs.Shown.{LinkShown}
 use Rattle.vx_portmap.specs.Streaming.{StreamDid}
 
--- The peer's stream was served, by receives and sends of the door alone, and the table is as it was. `receives` and `sends` are what
--- one of them does.
-pub record StreamMapped {N : Type 0} (stands : N → List ℕ → List ℕ → Type 0) (receives : N → List ℕ → ReadOut → List ℕ → N → Type 0) (sends : N → List ℕ → WriteOut → N → Type 0)
-    (shown : N → LinkShown) (ports : List Mapping) (door : N) (how : MapEnd) (ports' : List Mapping) (door' : N) : Type 0 where
+-- The peer's stream was served, by receives and sends of the door alone, and the table is as it was.
+pub record StreamMapped {N : Type 0} (ways : Ghosts N) (ports : List Mapping) (door : N) (how : MapEnd) (ports' : List Mapping) (door' : N) : Type 0 where
   pub table : ports' ≡ ports
-  pub did : StreamDid stands receives sends ports door (shown door) how door' (shown door')
-  pub went : Went receives sends door door'
+  pub did : StreamDid ways ports door how door'
+  pub went : Went ways.receives ways.sends door door'
 
 -- whether a stream ended for a cause of the mapper's own: a message without a reply, a record above the limit, or as many bytes as
 -- are received on one

@@ -6,8 +6,7 @@ use Rattle.vx_io_traits.specs.Faults.{Rose}
 use Rattle.vx_io_traits.specs.Rung.{OnDialFailed}
 use Rattle.vx_io_traits.specs.declared.dials.DialOut.{DialOut}
 use Rattle.vx_io_traits.specs.declared.dials.DialOut.TheVariants.{Up, Failed}
-use Rattle.vx_io_traits.specs.declared.ReadOut.{ReadOut}
-use Rattle.vx_io_traits.specs.declared.WriteOut.{WriteOut}
+use Rattle.vx_io_traits.specs.declared.links.Link.{Ghosts}
 use Rattle.vx_text.specs.Ends.{End}
 use Rattle.vx_text.specs.Writing.{StopsIn}
 use Rattle.vx_door.specs.Shown.{DoorShown}
@@ -24,31 +23,27 @@ use Rattle.vx_portmap.specs.declared.words.Kind.TheVariants as kind
 use Rattle.vx_portmap.specs.declared.words.Ask.{Ask}
 use Rattle.vx_portmap.specs.declared.run.WorkEnd.{WorkEnd}
 use Rattle.vx_portmap.specs.declared.run.WorkEnd.TheVariants as work
-use Rattle.vx_portmap.specs.declared.run.Status.{Status}
-use Rattle.vx_portmap.specs.declared.run.Status.TheVariants as status
-use Rattle.vx_portmap.specs.Asked.{spelled, IsInRange}
-use Rattle.vx_portmap.specs.Due.{mapping_line, served_line, usage_line}
+use Rattle.vx_portmap.specs.declared.run.MapStatus.{MapStatus}
+use Rattle.vx_portmap.specs.declared.run.MapStatus.TheVariants as status
+use Rattle.vx_portmap.specs.Asked.{spelled, IsMapInRange}
+use Rattle.vx_portmap.specs.Due.{mapping_line, map_served_line, map_usage_line}
 use Rattle.vx_portmap.specs.Mapped.{StreamMapped, is_own, is_whole}
-use Rattle.vx_stream.specs.Shown.{LinkShown}
 use Rattle.vx_portmap.specs.Packing.{BoxShown, PacketsCounted}
 
 -- the number of a status
-abbrev pub status_number : Status → ℕ
-status_number status.Served = 0
-status_number status.Usage = 1
-status_number status.NetFailed = 3
-status_number status.NoMemory = 5
-status_number status.SinkFailed = 6
+abbrev pub map_status_number : MapStatus → ℕ
+map_status_number status.Served = 0
+map_status_number status.Usage = 1
+map_status_number status.NetFailed = 3
+map_status_number status.NoMemory = 5
+map_status_number status.SinkFailed = 6
 
 -- what a net is to what is said of it: its door's link, its door, its box of packets, and what opening either does
-pub record Shows (N : Type 0) : Type 1 where
-  pub stands : N → List ℕ → List ℕ → Type 0
-  pub receives : N → List ℕ → ReadOut → List ℕ → N → Type 0
-  pub sends : N → List ℕ → WriteOut → N → Type 0
+pub record MapShows (N : Type 0) : Type 1 where
+  pub ways : Ghosts N
   pub tells : Bool
   pub waits : N → Met → N → Type 0
   pub door : N → DoorShown
-  pub link : N → LinkShown
   pub box : N → BoxShown
   pub box_faults : N → ℕ
   pub opening : Opening N
@@ -63,16 +58,16 @@ mappings ask =
     ∷ []
 
 -- these words ask this
-pub record Asks (words : List (List ℕ)) (ask : Ask) : Type 0 where
-  pub range : IsInRange ask
+pub record MapAsks (words : List (List ℕ)) (ask : Ask) : Type 0 where
+  pub range : IsMapInRange ask
   pub words_are : words ≡ spelled ask
 
 -- words that ask nothing
 abbrev pub AsksNothing : List (List ℕ) → Type 0
-AsksNothing words = (ask : Ask) → IsInRange ask → words ≢ spelled ask
+AsksNothing words = (ask : Ask) → IsMapInRange ask → words ≢ spelled ask
 
 -- The box was opened once, at this port and no other, or couldn't be. It took no packet and gave none.
-pub record OpensBox {N : Type 0} (n : Shows N) (port : ℕ) (old : N) (answer : DialOut) (new : N) : Type 0 where
+pub record OpensBox {N : Type 0} (n : MapShows N) (port : ℕ) (old : N) (answer : DialOut) (new : N) : Type 0 where
   pub opened : n.opens_box old port answer new
   pub counted : n.box_faults old ≤ n.box_faults new
   pub failed : OnDialFailed answer (Rose (n.box_faults old) (n.box_faults new))
@@ -81,9 +76,9 @@ pub record OpensBox {N : Type 0} (n : Shows N) (port : ℕ) (old : N) (answer : 
   pub gives : (n.box new).give_faults ≡ (n.box old).give_faults
 
 -- this port was opened for streams or for packets, or couldn't be
-abbrev pub Opens : {N : Type 0} → Shows N → Kind → ℕ → N → DialOut → N → Type 0
-Opens n kind.Stream port old answer new = OpensDoor n.opening n.stands n.door port old answer new
-Opens n kind.Packets port old answer new = OpensBox n port old answer new
+abbrev pub MapOpens : {N : Type 0} → MapShows N → Kind → ℕ → N → DialOut → N → Type 0
+MapOpens n kind.Stream port old answer new = OpensDoor n.opening n.ways.stands n.door port old answer new
+MapOpens n kind.Packets port old answer new = OpensBox n port old answer new
 
 -- how the work over a door ended, and over a box
 abbrev pub door_end : DoorEnd → WorkEnd
@@ -98,38 +93,38 @@ packets_end packet.ReadFault = work.Failed
 packets_end packet.WriteFault = work.Failed
 
 -- the streams of a door's peers were served one after another
-pub record ServesStreams {N : Type 0} (n : Shows N) (ports : List Mapping) (limit : ℕ) (old : N) (how : WorkEnd) (number : ℕ) (new : N) : Type 0 where
+pub record ServesStreams {N : Type 0} (n : MapShows N) (ports : List Mapping) (limit : ℕ) (old : N) (how : WorkEnd) (number : ℕ) (new : N) : Type 0 where
   pub ended : DoorEnd
   pub how_is : how ≡ door_end ended
   pub left : List Mapping
-  pub serves : ServesPeers n.stands n.tells n.waits n.door (StreamMapped n.stands n.receives n.sends n.link) is_own is_whole ports old limit ended number left new
+  pub serves : ServesPeers n.ways.stands n.tells n.waits n.door (StreamMapped n.ways) is_own is_whole ports old limit ended number left new
   -- the door met so many, and where it told that no more come, or failed, that count rose
   pub counts : RoseOver ended number (n.door old) (n.door new)
 
 -- the packets of a box were answered one after another
-pub record ServesPackets {N : Type 0} (n : Shows N) (ports : List Mapping) (limit : ℕ) (old : N) (how : WorkEnd) (number : ℕ) (new : N) : Type 0 where
+pub record ServesPackets {N : Type 0} (n : MapShows N) (ports : List Mapping) (limit : ℕ) (old : N) (how : WorkEnd) (number : ℕ) (new : N) : Type 0 where
   pub ended : PacketEnd
   pub how_is : how ≡ packets_end ended
   pub serves : PacketsCounted ports limit (n.box old) ended number (n.box new)
 
 -- so many streams or packets were served
-abbrev pub Works : {N : Type 0} → Shows N → Kind → List Mapping → ℕ → N → WorkEnd → ℕ → N → Type 0
+abbrev pub Works : {N : Type 0} → MapShows N → Kind → List Mapping → ℕ → N → WorkEnd → ℕ → N → Type 0
 Works n kind.Stream ports limit old how number new = ServesStreams n ports limit old how number new
 Works n kind.Packets ports limit old how number new = ServesPackets n ports limit old how number new
 
 -- a line was written by a run that ends so, or the sink failed in it
-abbrev pub PutsLine : Status → List ℕ → End → End → Status → Type 0
-PutsLine how line before after result =
+abbrev pub MapPutsLine : MapStatus → List ℕ → End → End → MapStatus → Type 0
+MapPutsLine how line before after result =
     ((result ≡ how) × Appends before.bytes after.bytes line) ⊎ ((result ≡ status.SinkFailed) × StopsIn before after line)
 
 -- all was served that was to be, and both lines were written
-pub record ServesAll {N : Type 0} (n : Shows N) (ask : Ask) (old new : N) (before after : End) : Type 0 where
+pub record ServesAll {N : Type 0} (n : MapShows N) (ask : Ask) (old new : N) (before after : End) : Type 0 where
   pub number : ℕ
   pub works : Works n ask.kind (mappings ask) ask.number old work.Done number new
-  pub written : Appends before.bytes after.bytes (mapping_line ask.port ++ served_line number)
+  pub written : Appends before.bytes after.bytes (mapping_line ask.port ++ map_served_line number)
 
 -- the door or the box failed behind the first line
-pub record Fails {N : Type 0} (n : Shows N) (ask : Ask) (old new : N) (before after : End) : Type 0 where
+pub record Fails {N : Type 0} (n : MapShows N) (ask : Ask) (old new : N) (before after : End) : Type 0 where
   pub number : ℕ
   pub works : Works n ask.kind (mappings ask) ask.number old work.Failed number new
   pub written : Appends before.bytes after.bytes (mapping_line ask.port)
@@ -139,40 +134,40 @@ abbrev pub StopsFirst : {N : Type 0} → Ask → N → N → End → End → Typ
 StopsFirst ask old new before after = (new ≡ old) × StopsIn before after (mapping_line ask.port)
 
 -- or it failed in the second
-pub record StopsSecond {N : Type 0} (n : Shows N) (ask : Ask) (old new : N) (before after : End) : Type 0 where
+pub record StopsSecond {N : Type 0} (n : MapShows N) (ask : Ask) (old new : N) (before after : End) : Type 0 where
   pub number : ℕ
   pub works : Works n ask.kind (mappings ask) ask.number old work.Done number new
   pub between : End
   pub written : Appends before.bytes between.bytes (mapping_line ask.port)
-  pub stops : StopsIn between after (served_line number)
+  pub stops : StopsIn between after (map_served_line number)
 
 -- how the work at a port that was opened ends
-abbrev pub IsServed : {N : Type 0} → Shows N → Ask → N → N → End → End → Status → Type 0
-IsServed n ask old new before after status.Served = ServesAll n ask old new before after
-IsServed n ask old new before after status.NetFailed = Fails n ask old new before after
-IsServed n ask old new before after status.SinkFailed = StopsFirst ask old new before after ⊎ StopsSecond n ask old new before after
-IsServed n ask old new before after _ = ⊥
+abbrev pub IsMapServed : {N : Type 0} → MapShows N → Ask → N → N → End → End → MapStatus → Type 0
+IsMapServed n ask old new before after status.Served = ServesAll n ask old new before after
+IsMapServed n ask old new before after status.NetFailed = Fails n ask old new before after
+IsMapServed n ask old new before after status.SinkFailed = StopsFirst ask old new before after ⊎ StopsSecond n ask old new before after
+IsMapServed n ask old new before after _ = ⊥
 
 -- the port that is asked for was opened, once and no other, and the work there ended so
-pub record Serves {N : Type 0} (n : Shows N) (ask : Ask) (old new : N) (before after : End) (how : Status) : Type 0 where
+pub record MapServes {N : Type 0} (n : MapShows N) (ask : Ask) (old new : N) (before after : End) (how : MapStatus) : Type 0 where
   pub opened : N
-  pub opens : Opens n ask.kind ask.port old Up opened
-  pub serves : IsServed n ask opened new before after how
+  pub opens : MapOpens n ask.kind ask.port old Up opened
+  pub serves : IsMapServed n ask opened new before after how
 
 -- How what is asked ends: there was no memory, and nothing was opened or written; or the port couldn't be opened, and nothing was
 -- written; or the work there ended.
-abbrev pub IsAskRun : {N : Type 0} → Shows N → Ask → N → N → End → End → Status → Type 0
-IsAskRun n ask old new before after status.NoMemory = (new ≡ old) × (after ≡ before)
-IsAskRun n ask old new before after status.NetFailed =
-    (Opens n ask.kind ask.port old Failed new × (after ≡ before)) ⊎ Serves n ask old new before after status.NetFailed
-IsAskRun n ask old new before after how = Serves n ask old new before after how
+abbrev pub IsMapAskRun : {N : Type 0} → MapShows N → Ask → N → N → End → End → MapStatus → Type 0
+IsMapAskRun n ask old new before after status.NoMemory = (new ≡ old) × (after ≡ before)
+IsMapAskRun n ask old new before after status.NetFailed =
+    (MapOpens n ask.kind ask.port old Failed new × (after ≡ before)) ⊎ MapServes n ask old new before after status.NetFailed
+IsMapAskRun n ask old new before after how = MapServes n ask old new before after how
 
 -- How a run ends: the words ask nothing, which is told; or what they ask is done.
-abbrev pub IsRun : {N : Type 0} → Shows N → List (List ℕ) → N → N → End → End → Status → Type 0
-IsRun n words old new before after how =
-    (AsksNothing words × (new ≡ old) × (((how ≡ status.Usage) × Appends before.bytes after.bytes usage_line) ⊎ ((how ≡ status.SinkFailed) × StopsIn before after usage_line)))
-    ⊎ ((ask : Ask) × Asks words ask × IsAskRun n ask old new before after how)
+abbrev pub IsMapRun : {N : Type 0} → MapShows N → List (List ℕ) → N → N → End → End → MapStatus → Type 0
+IsMapRun n words old new before after how =
+    (AsksNothing words × (new ≡ old) × (((how ≡ status.Usage) × Appends before.bytes after.bytes map_usage_line) ⊎ ((how ≡ status.SinkFailed) × StopsIn before after map_usage_line)))
+    ⊎ ((ask : Ask) × MapAsks words ask × IsMapAskRun n ask old new before after how)
 
 -- it ends with the number of its status
-abbrev pub EndsRun : {N : Type 0} → Shows N → List (List ℕ) → N → N → End → End → ℕ → Type 0
-EndsRun n words old new before after number = (how : Status) × (number ≡ status_number how) × IsRun n words old new before after how
+abbrev pub MapEndsRun : {N : Type 0} → MapShows N → List (List ℕ) → N → N → End → End → ℕ → Type 0
+MapEndsRun n words old new before after number = (how : MapStatus) × (number ≡ map_status_number how) × IsMapRun n words old new before after how

@@ -9,7 +9,7 @@ use Rattle.vx_portmap.specs.declared.serving.PacketEnd.{PacketEnd}
 use Rattle.vx_portmap.specs.declared.serving.PacketEnd.TheVariants as end
 use Rattle.vx_portmap.specs.Answering.{reply}
 use Rattle.vx_portmap.specs.Moves.{Moved, Took, all_given}
-use Rattle.vx_portmap.specs.Boxes.{Takes, Adds, NoneLeft}
+use Rattle.vx_portmap.specs.Boxes.{MapTakes, MapAdds, NoneLeft}
 use Rattle.vx_portmap.specs.Replies.{replies}
 
 -- what can be known of a box: the packets that it has left, those that it was given and what went through it, where it tells
@@ -28,9 +28,9 @@ box_shown left given moved ended takes gives p =
 
 -- these packets were read, and those given, in this order; the counts of faults don't fall
 pub record BoxGoes (old : BoxShown) (read given : List (List ℕ)) (moved : List Moved) (new : BoxShown) : Type 0 where
-  pub takes : Takes MESSAGE_MAX old.left new.left read
-  pub adds : Adds old.given new.given given
-  pub moves : Adds old.moved new.moved moved
+  pub takes : MapTakes MESSAGE_MAX old.left new.left read
+  pub adds : MapAdds old.given new.given given
+  pub moves : MapAdds old.moved new.moved moved
   pub take_faults : old.take_faults ≤ new.take_faults
   pub give_faults : old.give_faults ≤ new.give_faults
 
@@ -76,7 +76,7 @@ PacketsEnd ports limit old read given moved new (Some end.ReadFault) =
 PacketsEnd ports limit old read given moved new (Some end.WriteFault) = (length read ≤ limit) × StopsGiving ports old read given moved new
 
 -- The next packets of a box were read and answered, and then the work stands so.
-pub record Answers (ports : List Mapping) (limit : ℕ) (old : BoxShown) (stop : Option PacketEnd) (new : BoxShown) : Type 0 where
+pub record MapAnswers (ports : List Mapping) (limit : ℕ) (old : BoxShown) (stop : Option PacketEnd) (new : BoxShown) : Type 0 where
   pub read : List (List ℕ)
   pub given : List (List ℕ)
   pub moved : List Moved
@@ -86,7 +86,7 @@ pub record Answers (ports : List Mapping) (limit : ℕ) (old : BoxShown) (stop :
 
 -- The work over a limit of packets, which ended so.
 abbrev pub PacketsDid : List Mapping → ℕ → BoxShown → PacketEnd → BoxShown → Type 0
-PacketsDid ports limit old how new = Answers ports limit old (Some how) new
+PacketsDid ports limit old how new = MapAnswers ports limit old (Some how) new
 
 -- how many packets were served, where the work ended as it was to
 abbrev pub IsCount : PacketEnd → ℕ → List (List ℕ) → Type 0
@@ -113,9 +113,9 @@ GivesReply ports packet old given new (Some _) = ⊥
 -- A packet that was read was answered: its reply was given, or couldn't be, or it has none.
 pub record AnswersPacket (ports : List Mapping) (packet : List ℕ) (old : BoxShown) (stop : Option PacketEnd) (new : BoxShown) : Type 0 where
   pub given : List (List ℕ)
-  pub takes : Takes 0 old.left new.left []
-  pub adds : Adds old.given new.given given
-  pub moves : Adds old.moved new.moved (all_given given)
+  pub takes : MapTakes 0 old.left new.left []
+  pub adds : MapAdds old.given new.given given
+  pub moves : MapAdds old.moved new.moved (all_given given)
   pub ended : new.ended ≡ old.ended
   pub take_faults : new.take_faults ≡ old.take_faults
   pub give_faults : old.give_faults ≤ new.give_faults

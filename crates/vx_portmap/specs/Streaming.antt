@@ -2,8 +2,7 @@
 -- What becomes of a stream of records whose messages are answered.
 use Rattle.std.specs.Prelude.{◌≡◌, ℕ, List, Option, None, Some, option_map}
 use Rattle.vx_record.specs.Fragments.{record_of}
-use Rattle.vx_stream.specs.Calling.{Receives, Sends}
-use Rattle.vx_stream.specs.Shown.{LinkShown}
+use Rattle.vx_io_traits.specs.declared.links.Link.{Ghosts}
 use Rattle.vx_stream.specs.Stopping.{StreamAnswered}
 use Rattle.vx_stream.specs.declared.ends.End.{End}
 use Rattle.vx_stream.specs.declared.ends.End.TheVariants as stream
@@ -30,8 +29,7 @@ map_end (Some stream.WriteFault) = end.WriteFault
 
 -- A stream was served, to its end or to where it is no longer: its records were answered, each by what its message does, and at most
 -- so many bytes were received.
-pub record StreamDid {L : Type 0} (stands : L → List ℕ → List ℕ → Type 0) (receives : Receives L) (sends : Sends L) (ports : List Mapping) (link : L) (seen : LinkShown) (how : MapEnd) (link' : L)
-    (seen' : LinkShown) : Type 0 where
+pub record StreamDid {L : Type 0} (ways : Ghosts L) (ports : List Mapping) (link : L) (how : MapEnd) (link' : L) : Type 0 where
   pub ended : Option End
   pub how_is : how ≡ map_end ended
-  pub did : StreamAnswered Maps stands receives sends MESSAGE_MAX PIECE (Some STREAM_MAX) ports link seen ended ports link' seen'
+  pub did : StreamAnswered Maps ways MESSAGE_MAX PIECE (Some STREAM_MAX) (record { server = ports; link = link }) ended (record { server = ports; link = link' })

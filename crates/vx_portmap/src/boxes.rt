@@ -4,7 +4,7 @@ ghost use Rattle.vx_io_traits.specs.Faults.{Rose};
 ghost use Rattle.vx_io_traits.specs.Rung.{OnDialFailed};
 ghost use Rattle.vx_io_traits.specs.declared.dials.DialOut.{DialOut};
 ghost use Rattle.vx_portmap.specs.Moves.{Moved, all_taken, all_given};
-ghost use Rattle.vx_portmap.specs.Boxes.{Takes, Adds, NoneLeft, read_by, ended_after, IfPacket, OnLast, OnTakeFailed, given_by, OnGiveFailed};
+ghost use Rattle.vx_portmap.specs.Boxes.{MapTakes, MapAdds, NoneLeft, read_by, ended_after, IfPacket, OnLast, OnTakeFailed, given_by, OnGiveFailed};
 
 use vx_io_traits::DialOut;
 
@@ -52,9 +52,9 @@ pub trait Packets {
         ensures counted { take_faults self.old ≤ take_faults self.new }
         ensures apart { give_faults self.new ≡ give_faults self.old }
         ensures ended { packets_ended self.new ≡ ended_after result (packets_ended self.old) }
-        ensures given { Adds (packets_given self.old) (packets_given self.new) [] }
-        ensures moved { Adds (packets_moved self.old) (packets_moved self.new) (all_taken (read_by result into.new)) }
-        ensures left { Takes (length into.old) (packets_left self.old) (packets_left self.new) (read_by result into.new) }
+        ensures given { MapAdds (packets_given self.old) (packets_given self.new) [] }
+        ensures moved { MapAdds (packets_moved self.old) (packets_moved self.new) (all_taken (read_by result into.new)) }
+        ensures left { MapTakes (length into.old) (packets_left self.old) (packets_left self.new) (read_by result into.new) }
         ensures got { IfPacket result (λ n. n ≤ length into.old) }
         ensures last { OnLast result (NoneLeft (packets_left self.new)) }
         ensures failed { OnTakeFailed result (Rose (take_faults self.old) (take_faults self.new)) };
@@ -64,9 +64,9 @@ pub trait Packets {
         ensures counted { give_faults self.old ≤ give_faults self.new }
         ensures apart { take_faults self.new ≡ take_faults self.old }
         ensures ended { packets_ended self.new ≡ packets_ended self.old }
-        ensures left { Takes 0 (packets_left self.old) (packets_left self.new) [] }
-        ensures given { Adds (packets_given self.old) (packets_given self.new) (given_by result from.now) }
-        ensures moved { Adds (packets_moved self.old) (packets_moved self.new) (all_given (given_by result from.now)) }
+        ensures left { MapTakes 0 (packets_left self.old) (packets_left self.new) [] }
+        ensures given { MapAdds (packets_given self.old) (packets_given self.new) (given_by result from.now) }
+        ensures moved { MapAdds (packets_moved self.old) (packets_moved self.new) (all_given (given_by result from.now)) }
         ensures failed { OnGiveFailed result (Rose (give_faults self.old) (give_faults self.new)) };
 }
 

@@ -7,7 +7,6 @@ mod boxes;
 mod ends;
 mod hosts;
 mod limits;
-mod lines;
 mod mapper;
 mod nets;
 mod replies;

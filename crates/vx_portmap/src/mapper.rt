@@ -45,14 +45,13 @@ impl<N: Door> Serves<N> for Mapper {
     ghost use Rattle.std.specs.Prelude.{◌≡◌, ◌≤◌, ◌⊎◌, ⊤, true};
     ghost use Rattle.vx_io_traits.specs.Faults.{Rose};
     ghost use Rattle.vx_door.specs.Serving.{is_cut};
-    ghost use Rattle.vx_stream.specs.Shown.{link_shown};
     ghost use Rattle.vx_portmap.specs.Mapped.{StreamMapped, is_own, is_whole};
 
     type End = MapEnd;
 
     ghost can = { λ _. ⊤ };
 
-    ghost did = { λ ports door how ports' door'. StreamMapped N.stands N.receives N.sends (link_shown N.left N.peers N.receive_faults N.send_faults) ports door how ports' door' };
+    ghost did = { λ ports door how ports' door'. StreamMapped N.Link ports door how ports' door' };
 
     ghost is_own = { is_own };
 
@@ -60,7 +59,7 @@ impl<N: Door> Serves<N> for Mapper {
 
     /// Answers the records of the peer's stream.
     fn serve(&mut self, door: &mut N) -> MapEnd
-        ensures did { StreamMapped N.stands N.receives N.sends (link_shown N.left N.peers N.receive_faults N.send_faults) self.old door.old result self.new door.new }
+        ensures did { StreamMapped N.Link self.old door.old result self.new door.new }
         ensures receives { N.receive_faults door.old ≤ N.receive_faults door.new }
         ensures sends { N.send_faults door.old ≤ N.send_faults door.new }
         ensures cut { is_cut (is_own result) (is_whole result) (N.left door.old) (N.left door.new) ≡ true

@@ -3,12 +3,11 @@ ghost use Rattle.std.specs.Prelude.{◌≡◌, map, string_bytes};
 ghost use Rattle.vx_record.specs.Buffer.{fresh};
 ghost use Rattle.vx_door.specs.Shown.{door_shown};
 ghost use Rattle.vx_portmap.specs.declared.limits.TheConstants.{MESSAGE_MAX};
-ghost use Rattle.vx_stream.specs.Shown.{link_shown};
+ghost use Rattle.vx_text.specs.Ends.{sink_shown};
 ghost use Rattle.vx_portmap.specs.Packing.{box_shown};
-ghost use Rattle.vx_portmap.specs.Outcome.{Opens, Works, IsServed, IsAskRun, IsRun, EndsRun, PutsLine, door_end, packets_end, mappings, status_number};
+ghost use Rattle.vx_portmap.specs.Outcome.{MapOpens, Works, IsMapServed, IsMapAskRun, IsMapRun, MapEndsRun, MapPutsLine, door_end, packets_end, mappings, map_status_number};
 
 use crate::limits::MESSAGE_MAX;
-use crate::lines::{LINE_ROOM, number_line};
 use crate::mapper::Mapper;
 use crate::nets::MapNet;
 use crate::serving::{PacketEnd, serve_packets};
@@ -18,7 +17,10 @@ use std::alloc::Global;
 use vx_door::{DoorEnd, serve_door};
 use vx_io_traits::{DialOut, Sink};
 use vx_record::RecordBuf;
-use vx_text::put_all;
+use vx_text::{DIGITS_MAX, number_line, put_all};
+
+/// Room for the longer of the lines with a number, its LF included.
+const LINE_ROOM: usize = 8 + DIGITS_MAX + 1;
 
 /// The programs of the core and of the abort channel, and their version (VXI-11, DEVICE_CORE and DEVICE_ASYNC).
 const CORE: u32 = 0x0607AF;
@@ -41,7 +43,7 @@ pub(crate) enum WorkEnd {
 
 /// How a run ended, as the program's exit status tells it.
 #[derive(Clone, Copy)]
-pub(crate) enum Status {
+pub(crate) enum MapStatus {
     /// 0: as many were served as were asked for, or no more come.
     Served,
     /// 1: the words have another form.
@@ -54,17 +56,17 @@ pub(crate) enum Status {
     SinkFailed,
 }
 
-impl Status {
+impl MapStatus {
     /// The exit status.
     fn number(self) -> u8
-        ensures { result ≡ status_number self }
+        ensures { result ≡ map_status_number self }
     {
         match self {
-            Status::Served => 0,
-            Status::Usage => 1,
-            Status::NetFailed => 3,
-            Status::NoMemory => 5,
-            Status::SinkFailed => 6,
+            MapStatus::Served => 0,
+            MapStatus::Usage => 1,
+            MapStatus::NetFailed => 3,
+            MapStatus::NoMemory => 5,
+            MapStatus::SinkFailed => 6,
         }
     }
 }
@@ -93,14 +95,11 @@ fn table_of(ask: &Ask) -> Ports
 
 /// Opens the port that is asked for.
 fn open<N: MapNet>(ask: &Ask, net: &mut N) -> DialOut
-    ensures { Opens (record {
-      stands = N.stands;
-      receives = N.receives;
-      sends = N.sends;
+    ensures { MapOpens (record {
+      ways = N.Link;
       tells = N.tells;
       waits = N.meets;
-      door = door_shown N.met N.ended N.faults N.receive_faults N.send_faults N.left N.peers;
-      link = link_shown N.left N.peers N.receive_faults N.send_faults;
+      door = door_shown N.Door;
       box = box_shown N.packets_left N.packets_given N.packets_moved N.packets_ended N.take_faults N.give_faults;
       box_faults = N.box_faults;
       opening = record { opens = N.opens; ready = N.is_ready };
@@ -135,13 +134,10 @@ fn end_of_packets(end: PacketEnd) -> WorkEnd
 fn work<N: MapNet>(ask: &Ask, ports: Ports, incoming: RecordBuf, net: &mut N) -> (WorkEnd, u32)
     requires { incoming ≡ fresh MESSAGE_MAX }
     ensures { Works (record {
-      stands = N.stands;
-      receives = N.receives;
-      sends = N.sends;
+      ways = N.Link;
       tells = N.tells;
       waits = N.meets;
-      door = door_shown N.met N.ended N.faults N.receive_faults N.send_faults N.left N.peers;
-      link = link_shown N.left N.peers N.receive_faults N.send_faults;
+      door = door_shown N.Door;
       box = box_shown N.packets_left N.packets_given N.packets_moved N.packets_ended N.take_faults N.give_faults;
       box_faults = N.box_faults;
       opening = record { opens = N.opens; ready = N.is_ready };
@@ -162,14 +158,13 @@ fn work<N: MapNet>(ask: &Ask, ports: Ports, incoming: RecordBuf, net: &mut N) ->
 }
 
 /// Writes a line of a run that ends so.
-fn put_line<K: Sink>(sink: &mut K, line: &[u8], how: Status) -> Status
-    ensures { PutsLine how line.now
-        (record { bytes = K.taken sink.old; faults = K.faults sink.old })
-        (record { bytes = K.taken sink.new; faults = K.faults sink.new }) result }
+fn put_line<K: Sink>(sink: &mut K, line: &[u8], how: MapStatus) -> MapStatus
+    ensures { MapPutsLine how line.now
+        (sink_shown K.Sink sink.old) (sink_shown K.Sink sink.new) result }
 {
     match put_all(sink, line) {
         Ok(()) => how,
-        Err(_) => Status::SinkFailed,
+        Err(_) => MapStatus::SinkFailed,
     }
 }
 
@@ -180,88 +175,76 @@ fn serve<N: MapNet, K: Sink>(
     incoming: RecordBuf,
     net: &mut N,
     sink: &mut K,
-) -> Status
+) -> MapStatus
     requires incoming { incoming ≡ fresh MESSAGE_MAX }
     requires table { ports ≡ mappings ask.now }
-    ensures { IsServed (record {
-      stands = N.stands;
-      receives = N.receives;
-      sends = N.sends;
+    ensures { IsMapServed (record {
+      ways = N.Link;
       tells = N.tells;
       waits = N.meets;
-      door = door_shown N.met N.ended N.faults N.receive_faults N.send_faults N.left N.peers;
-      link = link_shown N.left N.peers N.receive_faults N.send_faults;
+      door = door_shown N.Door;
       box = box_shown N.packets_left N.packets_given N.packets_moved N.packets_ended N.take_faults N.give_faults;
       box_faults = N.box_faults;
       opening = record { opens = N.opens; ready = N.is_ready };
       opens_box = N.opens_box;
     }) ask.now net.old net.new
-        (record { bytes = K.taken sink.old; faults = K.faults sink.old })
-        (record { bytes = K.taken sink.new; faults = K.faults sink.new }) result }
+        (sink_shown K.Sink sink.old) (sink_shown K.Sink sink.new) result }
 {
     let mut out = [0u8; LINE_ROOM];
-    let line = number_line(b"mapping ", u32::from(ask.port), &mut out);
+    let line = number_line(b"mapping ", u64::from(ask.port), &mut out);
     if put_all(sink, line).is_err() {
-        return Status::SinkFailed;
+        return MapStatus::SinkFailed;
     }
     match work(ask, ports, incoming, net) {
-        (WorkEnd::Failed, _) => Status::NetFailed,
+        (WorkEnd::Failed, _) => MapStatus::NetFailed,
         (WorkEnd::Done, number) => {
-            let line = number_line(b"served ", number, &mut out);
-            put_line(sink, line, Status::Served)
+            let line = number_line(b"served ", u64::from(number), &mut out);
+            put_line(sink, line, MapStatus::Served)
         }
     }
 }
 
 /// Does what is asked. All memory is taken before the port is opened.
-fn run_ask<N: MapNet, K: Sink>(alloc: Global, ask: &Ask, net: &mut N, sink: &mut K) -> Status
-    ensures { IsAskRun (record {
-      stands = N.stands;
-      receives = N.receives;
-      sends = N.sends;
+fn run_ask<N: MapNet, K: Sink>(alloc: Global, ask: &Ask, net: &mut N, sink: &mut K) -> MapStatus
+    ensures { IsMapAskRun (record {
+      ways = N.Link;
       tells = N.tells;
       waits = N.meets;
-      door = door_shown N.met N.ended N.faults N.receive_faults N.send_faults N.left N.peers;
-      link = link_shown N.left N.peers N.receive_faults N.send_faults;
+      door = door_shown N.Door;
       box = box_shown N.packets_left N.packets_given N.packets_moved N.packets_ended N.take_faults N.give_faults;
       box_faults = N.box_faults;
       opening = record { opens = N.opens; ready = N.is_ready };
       opens_box = N.opens_box;
     }) ask.now net.old net.new
-        (record { bytes = K.taken sink.old; faults = K.faults sink.old })
-        (record { bytes = K.taken sink.new; faults = K.faults sink.new }) result }
+        (sink_shown K.Sink sink.old) (sink_shown K.Sink sink.new) result }
 {
     let Ok(incoming) = RecordBuf::new(alloc, MESSAGE_MAX) else {
-        return Status::NoMemory;
+        return MapStatus::NoMemory;
     };
     match open(ask, net) {
         DialOut::Up => serve(ask, table_of(ask), incoming, net, sink),
-        DialOut::Failed => Status::NetFailed,
+        DialOut::Failed => MapStatus::NetFailed,
     }
 }
 
-fn run<N: MapNet, K: Sink>(alloc: Global, words: &[String], net: &mut N, sink: &mut K) -> Status
-    ensures { IsRun (record {
-      stands = N.stands;
-      receives = N.receives;
-      sends = N.sends;
+fn run<N: MapNet, K: Sink>(alloc: Global, words: &[String], net: &mut N, sink: &mut K) -> MapStatus
+    ensures { IsMapRun (record {
+      ways = N.Link;
       tells = N.tells;
       waits = N.meets;
-      door = door_shown N.met N.ended N.faults N.receive_faults N.send_faults N.left N.peers;
-      link = link_shown N.left N.peers N.receive_faults N.send_faults;
+      door = door_shown N.Door;
       box = box_shown N.packets_left N.packets_given N.packets_moved N.packets_ended N.take_faults N.give_faults;
       box_faults = N.box_faults;
       opening = record { opens = N.opens; ready = N.is_ready };
       opens_box = N.opens_box;
     }) (map string_bytes words.now) net.old net.new
-        (record { bytes = K.taken sink.old; faults = K.faults sink.old })
-        (record { bytes = K.taken sink.new; faults = K.faults sink.new }) result }
+        (sink_shown K.Sink sink.old) (sink_shown K.Sink sink.new) result }
 {
     match ask_of(words) {
         Some(ask) => run_ask(alloc, &ask, net, sink),
         None => {
             let usage = b"usage: vxmap KIND PORT CORE ABORT N\n";
-            put_line(sink, usage, Status::Usage)
+            put_line(sink, usage, MapStatus::Usage)
         }
     }
 }
@@ -285,21 +268,17 @@ fn run<N: MapNet, K: Sink>(alloc: Global, words: &[String], net: &mut N, sink: &
 /// A fault of a peer's stream ends that stream alone. One port is opened, once: that of the words, as a net tells it that tells its
 /// openings.
 pub fn map_run<N: MapNet, K: Sink>(alloc: Global, words: &[String], net: &mut N, sink: &mut K) -> u8
-    ensures { EndsRun (record {
-      stands = N.stands;
-      receives = N.receives;
-      sends = N.sends;
+    ensures { MapEndsRun (record {
+      ways = N.Link;
       tells = N.tells;
       waits = N.meets;
-      door = door_shown N.met N.ended N.faults N.receive_faults N.send_faults N.left N.peers;
-      link = link_shown N.left N.peers N.receive_faults N.send_faults;
+      door = door_shown N.Door;
       box = box_shown N.packets_left N.packets_given N.packets_moved N.packets_ended N.take_faults N.give_faults;
       box_faults = N.box_faults;
       opening = record { opens = N.opens; ready = N.is_ready };
       opens_box = N.opens_box;
     }) (map string_bytes words.now) net.old net.new
-        (record { bytes = K.taken sink.old; faults = K.faults sink.old })
-        (record { bytes = K.taken sink.new; faults = K.faults sink.new }) result }
+        (sink_shown K.Sink sink.old) (sink_shown K.Sink sink.new) result }
 {
     run(alloc, words, net, sink).number()
 }

@@ -1,7 +1,7 @@
 //! The answers to packets.
 ghost use Rattle.std.specs.Prelude.{◌≡◌, ◌≤◌, length};
 ghost use Rattle.vx_portmap.specs.declared.limits.TheConstants.{MESSAGE_MAX};
-ghost use Rattle.vx_portmap.specs.Packing.{Answers, AnswersPacket, IsEarly, PacketsDid, PacketsCounted, box_shown};
+ghost use Rattle.vx_portmap.specs.Packing.{MapAnswers, AnswersPacket, IsEarly, PacketsDid, PacketsCounted, box_shown};
 
 use crate::answers::{MapAnswer, map_answer};
 use crate::boxes::{Given, Packet, Packets};
@@ -50,7 +50,7 @@ fn serve_packet<P: Packets>(
 ) -> Option<PacketEnd>
     requires packet { length packet.old ≡ MESSAGE_MAX }
     requires reply { MESSAGE_MAX ≤ length reply.old }
-    ensures answers { Answers ports.now 1 (box_shown P.packets_left P.packets_given P.packets_moved P.packets_ended P.take_faults P.give_faults packets.old) result
+    ensures answers { MapAnswers ports.now 1 (box_shown P.packets_left P.packets_given P.packets_moved P.packets_ended P.take_faults P.give_faults packets.old) result
         (box_shown P.packets_left P.packets_given P.packets_moved P.packets_ended P.take_faults P.give_faults packets.new) }
     ensures early { IsEarly result }
 {

@@ -3,7 +3,6 @@ ghost use Rattle.std.specs.Prelude.{◌≡◌};
 ghost use Rattle.vx_record.specs.Buffer.{fresh};
 ghost use Rattle.vx_door.specs.Going.{Went};
 ghost use Rattle.vx_portmap.specs.declared.limits.TheConstants.{MESSAGE_MAX};
-ghost use Rattle.vx_stream.specs.Shown.{link_shown};
 ghost use Rattle.vx_portmap.specs.Streaming.{StreamDid, map_end};
 
 use crate::ends::MapEnd;
@@ -72,8 +71,7 @@ fn end_of_stream(end: Option<End>) -> MapEnd
 /// comes. At most [`STREAM_MAX`] bytes are received.
 pub fn map_stream<L: Link>(ports: &Ports, link: &mut L, buf: &mut RecordBuf) -> MapEnd
     requires { buf.old ≡ fresh MESSAGE_MAX }
-    ensures did { StreamDid L.stands L.receives L.sends ports.now link.old (link_shown L.left L.peers L.receive_faults L.send_faults link.old) result
-        link.new (link_shown L.left L.peers L.receive_faults L.send_faults link.new) }
+    ensures did { StreamDid L.Link ports.now link.old result link.new }
     ensures went { Went L.receives L.sends link.old link.new }
     ensures limit { buf.new.limit ≡ MESSAGE_MAX }
 {

@@ -2,9 +2,9 @@
 ghost use Rattle.std.specs.Prelude.{◌≡◌, ◌≢◌, ◌≤◌, ℕ, map, string_bytes, decimal, IfSome, None};
 ghost use Rattle.vx_portmap.specs.declared.words.Ask.{Ask};
 ghost use Rattle.vx_portmap.specs.declared.words.Kind.{Kind};
-ghost use Rattle.vx_portmap.specs.Asked.{kind_word, spelled, IsInRange};
+ghost use Rattle.vx_portmap.specs.Asked.{kind_word, spelled, IsMapInRange};
 
-use itoa::Buffer;
+use vx_text::number_within;
 
 /// What messages come over.
 #[derive(Clone, Copy)]
@@ -30,31 +30,22 @@ pub(crate) struct Ask {
 }
 
 /// The most streams or packets.
-const NUMBER_MAX: u32 = 1_000_000;
-
-/// The number, 1 to `most`, that a text is in decimal digits, without a leading zero.
-fn number_to(text: &str, most: u32) -> Option<u32>
-    ensures some { IfSome result (λ n. (1 ≤ n) × (n ≤ most) × (text.now ≡ decimal n)) }
-    ensures none { result ≡ None → (n : ℕ) → 1 ≤ n → n ≤ most → text.now ≢ decimal n }
-{
-    let Ok(n) = text.parse::<u32>() else {
-        return None;
-    };
-    let mut buffer = Buffer::new();
-    let is_printed = buffer.format(n).as_bytes() == text.as_bytes();
-    if is_printed && 1 <= n && n <= most {
-        Some(n)
-    } else {
-        None
-    }
-}
+const NUMBER_MAX: u64 = 1_000_000;
 
 /// A port.
 fn port_of(text: &str) -> Option<u16>
     ensures some { IfSome result (λ n. (1 ≤ n) × (n ≤ 65535) × (text.now ≡ decimal n)) }
     ensures none { result ≡ None → (n : ℕ) → 1 ≤ n → n ≤ 65535 → text.now ≢ decimal n }
 {
-    Some(number_to(text, 65535)? as u16)
+    Some(number_within(text.as_bytes(), 1, 65535)? as u16)
+}
+
+/// A number of streams or packets.
+fn number_of(text: &str) -> Option<u32>
+    ensures some { IfSome result (λ n. (1 ≤ n) × (n ≤ NUMBER_MAX) × (text.now ≡ decimal n)) }
+    ensures none { result ≡ None → (n : ℕ) → 1 ≤ n → n ≤ NUMBER_MAX → text.now ≢ decimal n }
+{
+    Some(number_within(text.as_bytes(), 1, NUMBER_MAX)? as u32)
 }
 
 fn kind_of(word: &[u8]) -> Option<Kind>
@@ -73,8 +64,8 @@ fn kind_of(word: &[u8]) -> Option<Kind>
 /// What words ask: `stream PORT CORE ABORT N` or `packets PORT CORE ABORT N`, with ports 1 to 65,535 and N 1 to 1,000,000, in
 /// decimal digits without a leading zero. It is none where they have another form.
 pub(crate) fn ask_of(words: &[String]) -> Option<Ask>
-    ensures some { IfSome result (λ ask. IsInRange ask × (map string_bytes words.now ≡ spelled ask)) }
-    ensures none { result ≡ None → (ask : Ask) → IsInRange ask → map string_bytes words.now ≢ spelled ask }
+    ensures some { IfSome result (λ ask. IsMapInRange ask × (map string_bytes words.now ≡ spelled ask)) }
+    ensures none { result ≡ None → (ask : Ask) → IsMapInRange ask → map string_bytes words.now ≢ spelled ask }
 {
     let [kind, port, core, abort, number] = words else {
         return None;
@@ -83,7 +74,7 @@ pub(crate) fn ask_of(words: &[String]) -> Option<Ask>
     let port = port_of(port.as_str())?;
     let core = port_of(core.as_str())?;
     let abort = port_of(abort.as_str())?;
-    let number = number_to(number.as_str(), NUMBER_MAX)?;
+    let number = number_of(number.as_str())?;
     Some(Ask {
         kind,
         port,

@@ -1,7 +1,7 @@
 ghost use Rattle.std.specs.Prelude.{◌≡◌, true, codes, IfOk};
 ghost use Rattle.vx_inst.specs.declared.done.Done.TheVariants.{Took, Gave, Polled, Cleared, Triggered, Told};
 ghost use Rattle.vx_inst.specs.Behavior.{after};
-ghost use Rattle.vx_inst.specs.Laws.{takes_byte, gives_byte, IsSound, Takes, Gives, status_byte, IsPolled, IsCleared, IsTriggered, IsTold, with_status};
+ghost use Rattle.vx_inst.specs.Laws.{takes_byte, gives_byte, IsInstSound, InstTakes, InstGives, status_byte, IsInstPolled, IsCleared, IsTriggered, IsInstTold, with_status};
 ghost use Rattle.vx_inst.specs.Shared.{fresh, after_give, after_poll, after_clear};
 ghost use Rattle.vx_rack.specs.Askers.{asker_after_take, asking, asker_behavior};
 
@@ -51,9 +51,9 @@ impl Instrument for Asker {
     fn take(&mut self, b: u8, end: bool)
         requires { takes_byte self.old ≡ true }
         ensures rule { self.new ≡ asker_after_take self.old b end }
-        ensures takes { Takes self.old b end self.new }
+        ensures takes { InstTakes self.old b end self.new }
         ensures does { asker_behavior self.new ≡ after (Took b end) (asker_behavior self.old) }
-        ensures sound { IsSound self.new }
+        ensures sound { IsInstSound self.new }
     {
         if end {
             self.body.forget();
@@ -69,20 +69,20 @@ impl Instrument for Asker {
 
     fn give(&mut self) -> (u8, bool)
         requires { gives_byte self.old ≡ true }
-        ensures gives { Gives self.old (record { value = result.0; end = result.1 }) self.new }
+        ensures gives { InstGives self.old (record { value = result.0; end = result.1 }) self.new }
         ensures rule { self.new ≡ after_give self.old }
         ensures does { asker_behavior self.new ≡ after Gave (asker_behavior self.old) }
-        ensures sound { IsSound self.new }
+        ensures sound { IsInstSound self.new }
     {
         self.body.give()
     }
 
     fn poll(&mut self) -> u8
         ensures status { result ≡ status_byte self.old }
-        ensures polled { IsPolled self.old self.new }
+        ensures polled { IsInstPolled self.old self.new }
         ensures rule { self.new ≡ after_poll self.old }
         ensures does { asker_behavior self.new ≡ after Polled (asker_behavior self.old) }
-        ensures sound { IsSound self.new }
+        ensures sound { IsInstSound self.new }
     {
         self.body.poll()
     }
@@ -95,7 +95,7 @@ impl Instrument for Asker {
         ensures cleared { IsCleared self.old self.new }
         ensures rule { self.new ≡ after_clear self.old }
         ensures does { asker_behavior self.new ≡ after Cleared (asker_behavior self.old) }
-        ensures sound { IsSound self.new }
+        ensures sound { IsInstSound self.new }
     {
         self.body.clear();
     }
@@ -105,7 +105,7 @@ impl Instrument for Asker {
         ensures triggered { IsTriggered self.old self.new }
         ensures rule { self.new ≡ asking self.old }
         ensures does { asker_behavior self.new ≡ after Triggered (asker_behavior self.old) }
-        ensures sound { IsSound self.new }
+        ensures sound { IsInstSound self.new }
     {
         self.body.set_status(ASKING);
     }
@@ -120,10 +120,10 @@ impl Instrument for Asker {
 
     /// Does nothing.
     fn moment(&mut self, _now: u64)
-        ensures told { IsTold self.old self.new }
+        ensures told { IsInstTold self.old self.new }
         ensures rule { self.new ≡ self.old }
         ensures does { asker_behavior self.new ≡ after (Told _now) (asker_behavior self.old) }
-        ensures sound { IsSound self.new }
+        ensures sound { IsInstSound self.new }
     {
         self.body.stay();
     }

@@ -1,16 +1,15 @@
 ghost use Rattle.std.specs.Prelude.{◌≡◌, true, [], ◌∷◌, ◌++◌, codes, IfOk};
 ghost use Rattle.vx_inst.specs.declared.done.Done.TheVariants.{Took, Gave, Polled, Cleared, Triggered, ToLocal, StatusSet, Told};
 ghost use Rattle.vx_inst.specs.Behavior.{after};
-ghost use Rattle.vx_inst.specs.Laws.{takes_byte, gives_byte, IsSound, Takes, Gives, status_byte, IsPolled, IsCleared, IsTriggered, IsTold, with_status};
+ghost use Rattle.vx_inst.specs.Laws.{takes_byte, gives_byte, IsInstSound, InstTakes, InstGives, status_byte, IsInstPolled, IsCleared, IsTriggered, IsInstTold, with_status};
 ghost use Rattle.vx_inst.specs.Shared.{after_give, after_poll, after_clear};
-ghost use Rattle.vx_rack.specs.Meters.{fresh_meter, finished, with_seen, after_reading, asks_reading, meter_after_take, meter_behavior, number_line};
+ghost use Rattle.vx_rack.specs.Meters.{fresh_meter, finished, with_seen, after_reading, asks_reading, meter_after_take, meter_behavior};
 
 use crate::NoMemory;
-use arrayvec::ArrayVec;
-use itoa::Buffer;
 use std::alloc::Global;
 use std::marker::Model;
 use vx_inst::{Body, Instrument};
+use vx_text::{DIGITS_MAX, number_line};
 
 /// An instrument that takes a reading at each trigger and for each message `READ?`, which may have a line feed behind it.
 /// The reply is the reading's number in decimal digits, from 1 on, and a line feed. The number stays at the greatest `u64`.
@@ -41,7 +40,7 @@ impl Meter {
     #[inline(never)]
     fn finish(&mut self)
         ensures finished { self.new ≡ finished self.old }
-        ensures sound { IsSound self.new.seen }
+        ensures sound { IsInstSound self.new.seen }
     {
         let asked = asks_reading(self.body.message());
         self.body.forget();
@@ -53,27 +52,16 @@ impl Meter {
     /// Takes a reading, and replies its number.
     fn read(&mut self)
         ensures read { self.new ≡ after_reading self.old }
-        ensures sound { IsSound self.new.seen }
+        ensures sound { IsInstSound self.new.seen }
     {
         self.count = self.count.saturating_add(1);
-        self.body.reply(number_line(self.count).as_slice());
+        self.body
+            .reply(number_line(b"", self.count, &mut [0; LINE_MAX]));
     }
 }
 
 /// The longest line of a number: the digits of the greatest `u64` and a line feed.
-const LINE_MAX: usize = 21;
-
-/// A number in decimal digits, and a line feed.
-fn number_line(number: u64) -> ArrayVec<u8, LINE_MAX>
-    ensures { result.items ≡ number_line number }
-{
-    let mut line = ArrayVec::new();
-    let mut digits = Buffer::new();
-    line.try_extend_from_slice(digits.format(number).as_bytes())
-        .unwrap();
-    line.push(b'\n');
-    line
-}
+const LINE_MAX: usize = DIGITS_MAX + 1;
 
 /// Whether a message asks for a reading.
 fn asks_reading(message: &[u8]) -> bool
@@ -95,9 +83,9 @@ impl Instrument for Meter {
     fn take(&mut self, b: u8, end: bool)
         requires { takes_byte self.old.seen ≡ true }
         ensures rule { self.new ≡ meter_after_take self.old b end }
-        ensures takes { Takes self.old.seen b end self.new.seen }
+        ensures takes { InstTakes self.old.seen b end self.new.seen }
         ensures does { meter_behavior self.new ≡ after (Took b end) (meter_behavior self.old) }
-        ensures sound { IsSound self.new.seen }
+        ensures sound { IsInstSound self.new.seen }
     {
         self.body.keep(b);
         if end {
@@ -111,20 +99,20 @@ impl Instrument for Meter {
 
     fn give(&mut self) -> (u8, bool)
         requires { gives_byte self.old.seen ≡ true }
-        ensures gives { Gives self.old.seen (record { value = result.0; end = result.1 }) self.new.seen }
+        ensures gives { InstGives self.old.seen (record { value = result.0; end = result.1 }) self.new.seen }
         ensures rule { self.new ≡ with_seen self.old (after_give self.old.seen) }
         ensures does { meter_behavior self.new ≡ after Gave (meter_behavior self.old) }
-        ensures sound { IsSound self.new.seen }
+        ensures sound { IsInstSound self.new.seen }
     {
         self.body.give()
     }
 
     fn poll(&mut self) -> u8
         ensures status { result ≡ status_byte self.old.seen }
-        ensures polled { IsPolled self.old.seen self.new.seen }
+        ensures polled { IsInstPolled self.old.seen self.new.seen }
         ensures rule { self.new ≡ with_seen self.old (after_poll self.old.seen) }
         ensures does { meter_behavior self.new ≡ after Polled (meter_behavior self.old) }
-        ensures sound { IsSound self.new.seen }
+        ensures sound { IsInstSound self.new.seen }
     {
         self.body.poll()
     }
@@ -138,7 +126,7 @@ impl Instrument for Meter {
         ensures cleared { IsCleared self.old.seen self.new.seen }
         ensures rule { self.new ≡ with_seen self.old (after_clear self.old.seen) }
         ensures does { meter_behavior self.new ≡ after Cleared (meter_behavior self.old) }
-        ensures sound { IsSound self.new.seen }
+        ensures sound { IsInstSound self.new.seen }
     {
         self.body.clear();
     }
@@ -148,7 +136,7 @@ impl Instrument for Meter {
         ensures triggered { IsTriggered self.old.seen self.new.seen }
         ensures rule { self.new ≡ after_reading self.old }
         ensures does { meter_behavior self.new ≡ after Triggered (meter_behavior self.old) }
-        ensures sound { IsSound self.new.seen }
+        ensures sound { IsInstSound self.new.seen }
     {
         self.read();
     }
@@ -156,7 +144,7 @@ impl Instrument for Meter {
     fn local(&mut self)
         ensures same { self.new ≡ self.old }
         ensures does { meter_behavior self.new ≡ after ToLocal (meter_behavior self.old) }
-        ensures sound { IsSound self.new.seen }
+        ensures sound { IsInstSound self.new.seen }
     {
         self.body.stay();
     }
@@ -164,17 +152,17 @@ impl Instrument for Meter {
     fn set_status(&mut self, b: u8)
         ensures set { self.new ≡ with_seen self.old (with_status self.old.seen b) }
         ensures does { meter_behavior self.new ≡ after (StatusSet b) (meter_behavior self.old) }
-        ensures sound { IsSound self.new.seen }
+        ensures sound { IsInstSound self.new.seen }
     {
         self.body.set_status(b);
     }
 
     /// Does nothing.
     fn moment(&mut self, _now: u64)
-        ensures told { IsTold self.old.seen self.new.seen }
+        ensures told { IsInstTold self.old.seen self.new.seen }
         ensures rule { self.new ≡ self.old }
         ensures does { meter_behavior self.new ≡ after (Told _now) (meter_behavior self.old) }
-        ensures sound { IsSound self.new.seen }
+        ensures sound { IsInstSound self.new.seen }
     {
         self.body.stay();
     }

@@ -1,7 +1,7 @@
 ghost use Rattle.std.specs.Prelude.{◌≡◌, true, [], ◌∷◌, ◌++◌, codes, IfOk};
 ghost use Rattle.vx_inst.specs.declared.done.Done.TheVariants.{Took, Gave, Polled, Cleared, Triggered, ToLocal, StatusSet, Told};
 ghost use Rattle.vx_inst.specs.Behavior.{after};
-ghost use Rattle.vx_inst.specs.Laws.{takes_byte, gives_byte, IsSound, Takes, Gives, status_byte, IsPolled, IsCleared, IsTriggered, IsTold, with_status};
+ghost use Rattle.vx_inst.specs.Laws.{takes_byte, gives_byte, IsInstSound, InstTakes, InstGives, status_byte, IsInstPolled, IsCleared, IsTriggered, IsInstTold, with_status};
 ghost use Rattle.vx_inst.specs.Shared.{after_poll, after_clear};
 ghost use Rattle.vx_rack.specs.Slows.{fresh_slow, slow_with_seen, slow_after_take, slow_after_give, slow_after_moment, slow_behavior};
 
@@ -59,9 +59,9 @@ impl Instrument for Slow {
     fn take(&mut self, b: u8, end: bool)
         requires { takes_byte self.old.seen ≡ true }
         ensures rule { self.new ≡ slow_after_take self.old b end }
-        ensures takes { Takes self.old.seen b end self.new.seen }
+        ensures takes { InstTakes self.old.seen b end self.new.seen }
         ensures does { slow_behavior self.new ≡ after (Took b end) (slow_behavior self.old) }
-        ensures sound { IsSound self.new.seen }
+        ensures sound { IsInstSound self.new.seen }
     {
         self.body.take_echoing(b, end);
         self.ready = false;
@@ -74,10 +74,10 @@ impl Instrument for Slow {
     /// Gives the next byte, and whether END stands on it, and isn't ready then.
     fn give(&mut self) -> (u8, bool)
         requires { gives_byte self.old.seen ≡ true }
-        ensures gives { Gives self.old.seen (record { value = result.0; end = result.1 }) self.new.seen }
+        ensures gives { InstGives self.old.seen (record { value = result.0; end = result.1 }) self.new.seen }
         ensures rule { self.new ≡ slow_after_give self.old }
         ensures does { slow_behavior self.new ≡ after Gave (slow_behavior self.old) }
-        ensures sound { IsSound self.new.seen }
+        ensures sound { IsInstSound self.new.seen }
     {
         let given = self.body.give();
         self.ready = false;
@@ -87,10 +87,10 @@ impl Instrument for Slow {
     /// Gives its status byte for a serial poll. It is as ready as before.
     fn poll(&mut self) -> u8
         ensures status { result ≡ status_byte self.old.seen }
-        ensures polled { IsPolled self.old.seen self.new.seen }
+        ensures polled { IsInstPolled self.old.seen self.new.seen }
         ensures rule { self.new ≡ slow_with_seen self.old (after_poll self.old.seen) }
         ensures does { slow_behavior self.new ≡ after Polled (slow_behavior self.old) }
-        ensures sound { IsSound self.new.seen }
+        ensures sound { IsInstSound self.new.seen }
     {
         self.body.poll()
     }
@@ -104,7 +104,7 @@ impl Instrument for Slow {
         ensures cleared { IsCleared self.old.seen self.new.seen }
         ensures rule { self.new ≡ slow_with_seen self.old (after_clear self.old.seen) }
         ensures does { slow_behavior self.new ≡ after Cleared (slow_behavior self.old) }
-        ensures sound { IsSound self.new.seen }
+        ensures sound { IsInstSound self.new.seen }
     {
         self.body.clear();
     }
@@ -114,7 +114,7 @@ impl Instrument for Slow {
         ensures triggered { IsTriggered self.old.seen self.new.seen }
         ensures rule { self.new ≡ self.old }
         ensures does { slow_behavior self.new ≡ after Triggered (slow_behavior self.old) }
-        ensures sound { IsSound self.new.seen }
+        ensures sound { IsInstSound self.new.seen }
     {
         self.body.stay();
     }
@@ -122,7 +122,7 @@ impl Instrument for Slow {
     fn local(&mut self)
         ensures same { self.new ≡ self.old }
         ensures does { slow_behavior self.new ≡ after ToLocal (slow_behavior self.old) }
-        ensures sound { IsSound self.new.seen }
+        ensures sound { IsInstSound self.new.seen }
     {
         self.body.stay();
     }
@@ -130,17 +130,17 @@ impl Instrument for Slow {
     fn set_status(&mut self, b: u8)
         ensures set { self.new ≡ slow_with_seen self.old (with_status self.old.seen b) }
         ensures does { slow_behavior self.new ≡ after (StatusSet b) (slow_behavior self.old) }
-        ensures sound { IsSound self.new.seen }
+        ensures sound { IsInstSound self.new.seen }
     {
         self.body.set_status(b);
     }
 
     /// Tells it a moment, in milliseconds: one later than the last makes it ready.
     fn moment(&mut self, now: u64)
-        ensures told { IsTold self.old.seen self.new.seen }
+        ensures told { IsInstTold self.old.seen self.new.seen }
         ensures rule { self.new ≡ slow_after_moment self.old now }
         ensures does { slow_behavior self.new ≡ after (Told now) (slow_behavior self.old) }
-        ensures sound { IsSound self.new.seen }
+        ensures sound { IsInstSound self.new.seen }
     {
         self.body.stay();
         self.ready = self.ready || now > self.told;

@@ -4,7 +4,7 @@ use Rattle.std.proofs.lemmas.Grind.{common_steps}
 use Rattle.std.proofs.lemmas.Bool.Decides.{nat_tests}
 use Rattle.vx_record.specs.declared.Feed.TheVariants.{More}
 use Rattle.vx_record.specs.Buffer.{BufState, counted, closed, opened, header_byte, body_bytes, step, fed, taken}
-use Rattle.vx_record.specs.ProvedLaws.{taken-more, fed-stopped, taken-stopped}
+use Rattle.vx_record.proofs.Laws.{taken-more, fed-stopped, taken-stopped}
 
 -- the fourth byte of a header opens its fragment
 pub header_byte-full : (s : BufState) (byte : ℕ) → 3 ≤ length s.header → header_byte s byte ≡ opened s (s.header ++ byte ∷ [])

@@ -1,5 +1,3 @@
+pub mod Laws
 pub mod Feeding
-pub mod Headers
 pub mod Streams
-pub mod Ends
-pub mod Spelling

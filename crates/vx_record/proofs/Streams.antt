@@ -9,7 +9,7 @@ use Rattle.vx_record.specs.Fragments.{fragment_length, is_last}
 use Rattle.vx_record.specs.Records.{Front, Short, Long, Record, front, Split, split_by, split, records}
 use Rattle.vx_record.specs.Buffer.{BufState, fresh, counted, closed, opened, body_bytes, step, fed, taken}
 use Rattle.vx_record.specs.Runs.{Stream, beginning, brought, run, run_pieces, joined, is_too_long, Shows}
-use Rattle.vx_record.specs.ProvedLaws.{taken-more, fed-stopped, taken-stopped, brought-more, run-too_long, run-append}
+use Rattle.vx_record.proofs.Laws.{taken-more, fed-stopped, taken-stopped, brought-more, run-too_long, run-append}
 use Rattle.vx_record.proofs.Feeding.{body_bytes-part, step-body, more_front}
 
 -- ---- cuts

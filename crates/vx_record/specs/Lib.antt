@@ -4,4 +4,3 @@ pub mod Buffer
 pub mod Runs
 pub mod Ends
 pub mod Spelled
-pub mod ProvedLaws

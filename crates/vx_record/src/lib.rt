@@ -6,14 +6,14 @@
 #![tactic(auto)]
 
 mod buffer;
-mod laws;
+mod theorems;
 
 ghost use Rattle.std.specs.Prelude.{◌≡◌, ◌<◌, ◌^◌};
 ghost use Rattle.vx_record.specs.Fragments.{last_header};
 
 pub use buffer::RecordBuf;
 use byteorder::{BigEndian, ByteOrder};
-pub use laws::{cut_law, end_law, feed_law, mark_law, pieces_law, records_law};
+pub use theorems::{cut_law, end_law, feed_law, mark_law, pieces_law, records_law};
 
 /// There was no memory for the buffer.
 #[derive(Clone, Copy, Debug, PartialEq, Eq)]

@@ -10,7 +10,7 @@ use Rattle.vx_xdr.specs.declared.fault.XdrErr.{XdrErr}
 use Rattle.vx_xdr.specs.declared.fault.XdrErr.TheVariants as fault
 use Rattle.vx_xdr.specs.Spelling.{Word}
 use Rattle.vx_xdr.specs.Reading.{◌>>=◌, reading}
-use Rattle.vx_xdr.specs.ProvedLaws.{bind_ok, ok_is}
+use Rattle.vx_xdr.proofs.Laws.{bind_ok, ok_is}
 use Rattle.vx_rpc.specs.declared.header.CallRead.{CallRead}
 use Rattle.vx_rpc.specs.declared.header.CallRead.TheVariants as call
 use Rattle.vx_rpc.specs.declared.read.ReplyRead.{ReplyRead}
@@ -18,7 +18,7 @@ use Rattle.vx_rpc.specs.declared.read.ReplyRead.TheVariants as reply
 use Rattle.vx_rpc.specs.CallMeaning.{NoCall, OfOtherVersion, call_of, call_meaning, CallArgsBehind}
 use Rattle.vx_rpc.specs.Sorting.{Refuse, Junk, sorted_body, sorting, sorted}
 use Rattle.vx_rpc.specs.ReplyMeaning.{ResultsBehind}
-use Rattle.vx_rpc.specs.Header.{number_at, CallBody, three_words, behind_auth, call_body}
+use Rattle.vx_rpc.specs.Header.{number_at, CallBody, three_words, call_body}
 
 -- a word was read
 pub record TakesWord (bytes : List ℕ) (n : ℕ) (rest : List ℕ) : Type 0 where
@@ -39,12 +39,6 @@ taken_word false bytes n rest h e =
 
 pub takes_word : (bytes : List ℕ) (n : ℕ) (rest : List ℕ) → reading Word bytes ≡ Ok (n, rest) → TakesWord bytes n rest
 takes_word bytes n rest e = taken_word (ltb (length bytes) 4) bytes n rest refl e
-
--- a call's body, step by step
-pub call_body-steps : (bytes a b c d e : List ℕ) (p v n : ℕ)
-    → reading Word bytes ≡ Ok (p, a) → reading Word a ≡ Ok (v, b) → reading Word b ≡ Ok (n, c) → behind_auth c ≡ Ok d → behind_auth d ≡ Ok e
-    → call_body bytes ≡ Ok (record { program = p; version = v; procedure = n; args = e })
-call_body-steps bytes a b c d e p v n h₁ h₂ h₃ h₄ h₅ = rw (h₁, h₂, h₃, h₄, h₅) refl
 
 -- a message whose first three words were read has them
 pub three_words-long : (message : List ℕ) (t : ℕ × ℕ × ℕ) → three_words message ≡ Ok t → 12 ≤ length message

@@ -12,7 +12,7 @@ use Rattle.vx_calls.specs.declared.calls.Proc.{Proc}
 use Rattle.vx_xdr.specs.declared.fault.XdrErr.{XdrErr}
 use Rattle.vx_xdr.specs.Spelling.{Word, Opaque, AreBytes, word, opaque}
 use Rattle.vx_xdr.specs.Reading.{◌>>=◌, reading}
-use Rattle.vx_xdr.specs.ProvedLaws.{bind_ok, ok_is, reading-takes}
+use Rattle.vx_xdr.proofs.Laws.{bind_ok, ok_is, reading-takes}
 use Rattle.vx_rpc.specs.declared.refusal.RpcRefusal.{RpcRefusal}
 use Rattle.vx_rpc.specs.Procedure.{program, proc_number, procedures, with_number, procedure, serves}
 use Rattle.vx_rpc.specs.Header.{number_at, behind_auth, CallBody, call_body, accepted_body}

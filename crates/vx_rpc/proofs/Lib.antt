@@ -1,4 +1,4 @@
+pub mod Laws
 pub mod HeaderLemmas
 pub mod PutLemmas
-pub mod LawLemmas
 pub mod InverseLemmas

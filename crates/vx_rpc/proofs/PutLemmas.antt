@@ -3,9 +3,9 @@ use Rattle.std.proofs.Common.{◌≡◌, ℕ, ◌+◌, ◌*◌, ◌<◌, ◌≤�
 use Rattle.std.proofs.lemmas.List.{length-take, take_all}
 use Rattle.vx_xdr.specs.Spelling.{word}
 use Rattle.vx_xdr.specs.Writing.{overwritten, WritesFirst}
-use Rattle.vx_xdr.specs.ProvedLaws.{overwritten-twice}
+use Rattle.vx_xdr.proofs.Laws.{overwritten-twice}
 use Rattle.vx_rpc.specs.Wording.{words}
-use Rattle.vx_rpc.specs.ProvedLaws.{length-words, words-more}
+use Rattle.vx_rpc.proofs.Laws.{length-words, words-more}
 
 -- one more word was written behind the first of them
 pub word-written : (ns old out new : List ℕ) (i w : ℕ) → i < length ns → w ≡ 4 * i → out ≡ overwritten old 0 (words (take i ns)) → new ≡ overwritten out w (word (get_or ns i 0)) → new ≡ overwritten old 0 (words (take (i + 1) ns))

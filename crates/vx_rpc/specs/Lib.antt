@@ -5,7 +5,6 @@ pub mod Sorting
 pub mod ReplyMeaning
 pub mod Wording
 pub mod Spelled
-pub mod ProvedLaws
 pub use Rattle.vx_xdr.specs.Reading
 pub use Rattle.vx_xdr.specs.Spelling
 pub use Rattle.vx_xdr.specs.Writing

@@ -4,17 +4,17 @@
 #![tactic(auto)]
 
 mod header;
-mod laws;
 mod put;
 mod read;
 mod refusal;
 mod sort;
+mod theorems;
 
 pub use header::{CallRead, read_call};
-pub use laws::{
-    calls_are_sorted, calls_are_spelled, refusals_are_read, replies_are_spelled, successes_are_read,
-};
 pub use put::{put_call, put_refusal, put_reply};
 pub use read::{ReplyRead, read_reply};
 pub use refusal::RpcRefusal;
 pub use sort::{Sorted, sort_call};
+pub use theorems::{
+    calls_are_sorted, calls_are_spelled, refusals_are_read, replies_are_spelled, successes_are_read,
+};

@@ -9,10 +9,10 @@ use Rattle.std.proofs.lemmas.List.{map-append}
 use Rattle.std.proofs.lemmas.List.Elements.{All-tail}
 use Rattle.std.proofs.lemmas.List.Kept.{AllPairs-filter}
 use Rattle.std.proofs.lemmas.List.Quantifiers.{all_pairs_push}
-use Rattle.vx_lemmas.specs.Lists.{filter-map}
+use Rattle.vx_lemmas.proofs.Laws.Lists.{filter-map}
 use Rattle.vx_rules.specs.SrqState.{SrqState, ChannelSlot, Channel, IsBelow, channel_at, connections, new_channel, sampled, taken_from, slot_with, slot_taken, risen_slot, is_rise, queued_on, handles_of}
 use Rattle.vx_rules.specs.SrqLaws.{RiseQueues, RiseInOrder, SteadyQueuesNothing, SameLevelSame, ChannelBelow, NextIsNew, TakenHere, TakenElsewhere, ClosedHere, ClosedElsewhere, KeepsConnections, AddedRises, GoneRises}
-use Rattle.vx_rules.specs.ProvedLaws.Slots.{slot_with-stays, slot_taken-stays}
+use Rattle.vx_rules.proofs.Laws.Slots.{slot_with-stays, slot_taken-stays}
 
 -- where a change keeps each connection, and changes the connection's channel by g, so does it with the first one
 changed_first : (f : ChannelSlot → ChannelSlot) (g : Option Channel → Option Channel) (conn : ℕ) → g None ≡ None

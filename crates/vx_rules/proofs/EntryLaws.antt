@@ -2,29 +2,29 @@
 use Rattle.std.proofs.Common.{◌≡◌, ℕ, Bool, List, Option, Some, sym, ap, ◌∙◌}
 use Rattle.std.proofs.lemmas.Bool.{and_parts}
 use Rattle.std.proofs.lemmas.Option.{cond_some, same_Some, option_and_then_some}
-use Rattle.vx_lemmas.specs.Conditions.{chosen}
+use Rattle.vx_lemmas.proofs.Laws.Conditions.{chosen}
 use Rattle.vx_calls.specs.Reply.{Reply}
 use Rattle.vx_calls.proofs.Laws.{same_reply-is, same_error-is}
 use Rattle.vx_488.specs.declared.transfers.Transfer.{Transfer}
 use Rattle.vx_rules.specs.SrqState.{given, taken}
 use Rattle.vx_rules.specs.State.{State}
 use Rattle.vx_rules.specs.Entry.{Answer}
-use Rattle.vx_rules.specs.Decide.{Outside}
-use Rattle.vx_rules.specs.One.{one, answer, if_reply, abort_reply, abort_tables}
+use Rattle.vx_rules.specs.Decide.{BusInput}
+use Rattle.vx_rules.specs.AtomicStep.{atomic_step, answer, if_reply, abort_reply, abort_tables}
 use Rattle.vx_rules.specs.Laws.{OneReplyLaw, OneAbortLaw, OneTakeLaw, LinkNumbersLaw, LocksApartLaw, ArrivalsLaw}
-use Rattle.vx_rules.specs.ProvedLaws.{same_given-is}
-use Rattle.vx_rules.specs.ProvedLaws.Walks.{legal-sound}
-use Rattle.vx_rules.specs.ProvedLaws.Ordered.{legal-ordered}
+use Rattle.vx_rules.proofs.Laws.{same_given-is}
+use Rattle.vx_rules.proofs.Laws.Walks.{legal-sound}
+use Rattle.vx_rules.proofs.Laws.Ordered.{legal-ordered}
 
 -- an Answer gives the reply and the state that were found
-pub record GivesAnswer (s : State) (conn now : ℕ) (o : Outside) (told : Reply) (t : State) : Type 0 where
+pub record GivesAnswer (s : State) (conn now : ℕ) (o : BusInput) (told : Reply) (t : State) : Type 0 where
   pub found : answer s conn now o ≡ Some (told, t)
 
 pub answer-given : (s t : State) (conn now begun : ℕ) (moves : List Transfer) (failed : Bool) (dialed : Option Bool) (level : Bool) (told : Reply)
-    → one s (Answer conn now begun moves failed dialed level told) ≡ Some t
+    → atomic_step s (Answer conn now begun moves failed dialed level told) ≡ Some t
     → GivesAnswer s conn now (record { begun = begun; moves = moves; failed = failed; dialed = dialed; level = level }) told t
 answer-given s t conn now begun moves failed dialed level told h =
-    let o : Outside = record { begun = begun; moves = moves; failed = failed; dialed = dialed; level = level } in
+    let o : BusInput = record { begun = begun; moves = moves; failed = failed; dialed = dialed; level = level } in
     option_and_then_some (if_reply told) (answer s conn now o) t (chosen _ _ t h).1 (λ result e f.
     let parts = cond_some _ result.1 t f in
     record { found = e ∙ ap (λ r. Some (r, result.1)) (same_reply-is result.0 told parts.0) ∙ ap (λ u. Some (told, u)) parts.1 })

@@ -1,5 +1,5 @@
 -- The numbers that entries give: each is the one that comes next, and a history gives none twice.
-use Rattle.std.proofs.Common.{◌≡◌, ◌<◌, ◌≤◌, ◌+◌, ◌==◌, ◌&&◌, not, ℕ, Bool, true, false, cond, List, [], ◌∷◌, ◌++◌, Option, Some, None, is_none, Result, Ok, Err, refl, sym, ap, subst, ◌∙◌, arith}
+use Rattle.std.proofs.Common.{◌≡◌, ◌<◌, ◌≤◌, ◌+◌, ◌&&◌, not, ℕ, Bool, true, false, cond, List, [], ◌∷◌, ◌++◌, Option, Some, None, is_none, Result, Ok, Err, refl, sym, ap, subst, ◌∙◌, arith}
 use Rattle.std.specs.Option.{option_map, option_map_or}
 use Rattle.std.specs.List.{All, AllPairs}
 use Rattle.std.proofs.lemmas.Bool.{false≢true, and_parts, eqb-true}
@@ -7,13 +7,11 @@ use Rattle.std.proofs.lemmas.Option.{cond_some, option_and_then_some}
 use Rattle.std.proofs.lemmas.List.Elements.{All-cons, All-weaker}
 use Rattle.std.proofs.lemmas.List.Kept.{AllPairs-cons}
 use Rattle.std.proofs.Math.Nat.{le_refl}
-use Rattle.vx_lemmas.specs.Options.{mapped}
+use Rattle.vx_lemmas.proofs.Laws.Options.{mapped}
 use Rattle.vx_calls.specs.declared.codes.ErrorCode.{ErrorCode}
 use Rattle.vx_calls.specs.declared.codes.ErrorCode.TheVariants as code
 use Rattle.vx_calls.specs.declared.targets.Target.{Target}
-use Rattle.vx_calls.specs.declared.targets.Target.TheVariants.{Interface, Device}
-use Rattle.vx_calls.specs.ErrorCode.{same_error}
-use Rattle.vx_calls.specs.Target.{is_name, is_number, is_address, is_gateway, number_value, comma_parts, device_at, behind, target_of_parts, target}
+use Rattle.vx_calls.specs.Target.{comma_parts, target}
 use Rattle.vx_calls.specs.Call.{Call}
 use Rattle.vx_calls.specs.Call as call
 use Rattle.vx_calls.specs.Reply.{Reply}
@@ -26,26 +24,27 @@ use Rattle.vx_plan.specs.declared.tasks.Task.TheVariants as task
 use Rattle.vx_plan.specs.Plan.{Stand, Whole, Part, Off}
 use Rattle.vx_plan.specs.Roles.{has_role}
 use Rattle.vx_plan.specs.Results.{whole_reply}
-use Rattle.vx_rules.specs.Table.{Link, is_full, is_live}
+use Rattle.vx_rules.specs.Table.{Link, is_live}
 use Rattle.vx_rules.specs.Locks.{holds, with_lock}
 use Rattle.vx_rules.specs.SrqState.{SrqState, Channel, channel_at, with_new_channel, new_channel, sampled, taken}
-use Rattle.vx_rules.specs.ProvedLaws.Slots.{sampled-next, made-first}
+use Rattle.vx_rules.proofs.Laws.Slots.{sampled-next, made-first}
 use Rattle.vx_rules.specs.State.{Pending, Tables, State, first, pending_at, with_pending, with_connection, without_connection}
 use Rattle.vx_rules.specs.Calls.{is_bus_call, asks_dial, is_big, bytes_of, has_passed, io_timeout_of}
 use Rattle.vx_rules.specs.Checks.{NamedLink, NoLink, DeadLink, OnLink, named_link, check_create}
 use Rattle.vx_rules.specs.Lines.{Bar, Admission, Refused, Passed, kept_off, lock_lines, checked_lines, bar_against, later_lines, first_lines}
 use Rattle.vx_rules.specs.Effects.{task_of, stopped_reply, create, locked, effect_on, effect, settle}
-use Rattle.vx_rules.specs.Decide.{Outside, is_quiet, level_fits, stand_on, turn_answer, bus_answer, dialed_answer, by_lines, settles, decide}
+use Rattle.vx_rules.specs.Decide.{BusInput, is_quiet, level_fits, stand_on, turn_answer, bus_answer, dialed_answer, by_lines, settles, decide}
 use Rattle.vx_rules.specs.Entry.{Entry, Up, Down, Arrive, Answer, Abort, Sample, Take}
-use Rattle.vx_rules.specs.One.{one, answer_to, answered, arrived, marked, abort_tables}
+use Rattle.vx_rules.specs.AtomicStep.{atomic_step, answer_to, answered, arrived, marked, abort_tables}
 use Rattle.vx_rules.specs.Lists.{along}
 use Rattle.vx_rules.specs.Sound.{IsSound, has_slot}
 use Rattle.vx_rules.specs.Numbers.{connection_given, link_told, link_given, channel_number, channel_given, links_given, connections_given, channels_given, NumbersRiseLaw, LinkGivenLaw, ConnectionGivenLaw, ChannelGivenLaw, LinksGivenOnceLaw, ConnectionsGivenOnceLaw, ChannelsGivenOnceLaw}
-use Rattle.vx_rules.specs.ProvedLaws.{up-next}
-use Rattle.vx_rules.specs.ProvedLaws.Keeping.{first-sound}
-use Rattle.vx_rules.specs.ProvedLaws.Walks.{one-sound, along-none, legal-sound}
+use Rattle.vx_rules.proofs.Laws.Naming.{IsError, parts-well, ChecksWell, create-checks}
+use Rattle.vx_rules.proofs.Laws.{up-next}
+use Rattle.vx_rules.proofs.Laws.Keeping.{first-sound}
+use Rattle.vx_rules.proofs.Laws.Walks.{atomic-sound, along-none, legal-sound}
 use Rattle.vx_rules.proofs.EntryLaws.{answer-given}
-use Rattle.vx_rules.specs.ProvedLaws.Passing.{port_of}
+use Rattle.vx_rules.proofs.Laws.Passing.{port_of}
 
 -- What is given of one kind of number: none, and the next one stays; or the next one, which is used up.
 data Takes (given : List ℕ) (next after : ℕ) : Type 0 where
@@ -59,53 +58,10 @@ takes-rises given next after (Uses one more) = omega arith
 
 -- ---- what refuses a create_link is an error
 
-abbrev IsError : ErrorCode → Type 0
-IsError e = same_error e code.Ok ≡ false
-
--- a device text that names nothing
-abbrev NamesWell : Result Target ErrorCode → Type 0
-NamesWell (Ok named) = Unit {0}
-NamesWell (Err e) = IsError e
-
--- the parts of the walk: an error of two ways, a device, a name and what is behind it, a whole text
-named-if : (b : Bool) (found : Result Target ErrorCode) (e : ErrorCode) → NamesWell found → IsError e → NamesWell (cond b found (Err e))
-named-if true found e well is = well
-named-if false found e well is = is
-
-device-well : (own p : ℕ) (second : Option ℕ) → NamesWell (device_at own p second)
-device-well own p None = named-if (is_address p && not (p == own)) (Ok (Device p None)) code.InvalidAddress tt refl
-device-well own p (Some s) = named-if (is_address p && not (p == own) && is_address s) (Ok (Device p (Some s))) code.InvalidAddress tt refl
-
-behind-well : (name : List ℕ) (found : Result Target ErrorCode) → NamesWell found → NamesWell (behind name found)
-behind-well name found well = named-if (is_gateway name) found code.NotAccessible well refl
-
-parts-well : (own : ℕ) (parts : List (List ℕ)) → NamesWell (target_of_parts own parts)
-parts-well own [] = refl
-parts-well own (name ∷ []) = named-if (is_name name) (behind name (Ok Interface)) code.Syntax (behind-well name (Ok Interface) tt) refl
-parts-well own (name ∷ p ∷ []) =
-    let found = device_at own (number_value p) None in
-    named-if (is_name name && is_number p) (behind name found) code.Syntax (behind-well name found (device-well own (number_value p) None)) refl
-parts-well own (name ∷ p ∷ s ∷ []) =
-    let found = device_at own (number_value p) (Some (number_value s)) in
-    named-if (is_name name && is_number p && is_number s) (behind name found) code.Syntax
-    (behind-well name found (device-well own (number_value p) (Some (number_value s)))) refl
-parts-well own (name ∷ p ∷ s ∷ q ∷ more) = refl
-
--- its checks, and the first lines
-abbrev ChecksWell : Option ErrorCode → Type 0
-ChecksWell None = Unit {0}
-ChecksWell (Some e) = IsError e
-
+-- an admission that refuses
 abbrev RefusesWell : Admission → Type 0
 RefusesWell (Refused e) = IsError e
 RefusesWell _ = Unit {0}
-
-create-checks : (t : Tables) (named : Result Target ErrorCode) → NamesWell named → ChecksWell (check_create t named)
-create-checks t (Err e) well = well
-create-checks t (Ok named) well = by (is_full t.links) where
-  by : (b : Bool) → ChecksWell (cond b (Some code.NoResources) None)
-  by true = refl
-  by false = tt
 
 -- a lock, what comes behind the checks, and a mark
 lock-refuses : (p : Pending) (now : ℕ) (bar : Option Bar) → RefusesWell (lock_lines p now bar)
@@ -206,7 +162,7 @@ settle-gives t conn (call.CreateIntr host port prog vers family) false = record 
 settle-gives t conn _ up = tt
 
 -- the walk down the lines, from the last ones up
-dialed-gives : (t : Tables) (conn : ℕ) (p : Pending) (o : Outside) (dialed : Option Bool) → FoundGives t conn dialed (dialed_answer t conn p o dialed)
+dialed-gives : (t : Tables) (conn : ℕ) (p : Pending) (o : BusInput) (dialed : Option Bool) → FoundGives t conn dialed (dialed_answer t conn p o dialed)
 dialed-gives t conn p o None = tt
 dialed-gives t conn p o (Some up) = by (not o.failed && not o.level) where
   by : (b : Bool) → FoundGives t conn (Some up) (cond b (settle t conn p.call up) None)
@@ -228,7 +184,7 @@ quiet-where dialed true x is = is refl
 quiet-where dialed false x is = tt
 
 -- a turn, and a bus call
-turn-quiet : (w : Wire) (p : Pending) (now : ℕ) (o : Outside) (job : Task) (s : Stand) → is_none o.dialed ≡ true → FoundQuiet o.dialed (turn_answer w p now o job s)
+turn-quiet : (w : Wire) (p : Pending) (now : ℕ) (o : BusInput) (job : Task) (s : Stand) → is_none o.dialed ≡ true → FoundQuiet o.dialed (turn_answer w p now o job s)
 turn-quiet w p now o job Whole none =
     quiet-where o.dialed (not o.failed && level_fits job o.level) (Some (whole_reply job (bytes_of p.call) w (is_big p.call) o.level o.moves))
     (λ h. (none, whole-told job (bytes_of p.call) w (is_big p.call) o.level o.moves))
@@ -242,10 +198,10 @@ turn-quiet w p now o job Part none =
 turn-quiet w p now o job Off none = tt
 
 -- a quiet answer rests on no dial
-quiet-none : (o : Outside) → is_quiet o ≡ true → is_none o.dialed ≡ true
+quiet-none : (o : BusInput) → is_quiet o ≡ true → is_none o.dialed ≡ true
 quiet-none o h = (and_parts (not o.failed) (is_none o.dialed) (and_parts (not o.failed && is_none o.dialed) (not o.level) h).0).1
 
-bus-quiet : (w : Wire) (p : Pending) (now : ℕ) (o : Outside) (job : Option Task) → FoundQuiet o.dialed (bus_answer w p now o job)
+bus-quiet : (w : Wire) (p : Pending) (now : ℕ) (o : BusInput) (job : Option Task) → FoundQuiet o.dialed (bus_answer w p now o job)
 bus-quiet w p now o None = tt
 bus-quiet w p now o (Some job) =
     let turn = turn_answer w p now o job (stand_on w p.call job o.moves) in
@@ -289,7 +245,7 @@ refuses-told asked (Refused error) well = well
 refuses-told asked _ well = tt
 
 -- what each of the first lines gives
-lines-give : (t : Tables) (w : Wire) (conn : ℕ) (p : Pending) (now : ℕ) (o : Outside) (l : Admission) → RefusesTold p.call l → FoundGives t conn o.dialed (by_lines t w conn p now o l)
+lines-give : (t : Tables) (w : Wire) (conn : ℕ) (p : Pending) (now : ℕ) (o : BusInput) (l : Admission) → RefusesTold p.call l → FoundGives t conn o.dialed (by_lines t w conn p now o l)
 lines-give t w conn p now o (Refused error) told =
     where_true t conn o.dialed (is_quiet o) (Some (stopped_reply p.call error o.moves, t))
     (λ h. quiet-gives t conn o.dialed (Some (stopped_reply p.call error o.moves)) (quiet-none o h, stopped-told p.call error o.moves told))
@@ -306,7 +262,7 @@ lines-give t w conn p now o Passed told =
 lines-give t w conn p now o _ told = tt
 
 -- so does every answer
-decide-gives : (t : Tables) (w : Wire) (conn : ℕ) (p : Pending) (now : ℕ) (o : Outside) (d : Reply × Tables) → decide t w conn p now o ≡ Some d → Gives t conn o.dialed d
+decide-gives : (t : Tables) (w : Wire) (conn : ℕ) (p : Pending) (now : ℕ) (o : BusInput) (d : Reply × Tables) → decide t w conn p now o ≡ Some d → Gives t conn o.dialed d
 decide-gives t w conn p now o d h =
     let lines = first_lines t w.own conn (settles o) p now in
     subst (FoundGives t conn o.dialed) h
@@ -371,9 +327,9 @@ record Answered (s t : State) (conn : ℕ) (dialed : Option Bool) (told : Reply)
 
 -- the answer's own parts, from what decided it
 answer-parts : (s t : State) (conn now begun : ℕ) (moves : List Transfer) (failed : Bool) (dialed : Option Bool) (level : Bool) (told : Reply)
-    → one s (Answer conn now begun moves failed dialed level told) ≡ Some t → Answered s t conn dialed told
+    → atomic_step s (Answer conn now begun moves failed dialed level told) ≡ Some t → Answered s t conn dialed told
 answer-parts s t conn now begun moves failed dialed level told h =
-    let o : Outside = record { begun = begun; moves = moves; failed = failed; dialed = dialed; level = level } in
+    let o : BusInput = record { begun = begun; moves = moves; failed = failed; dialed = dialed; level = level } in
     option_and_then_some (answer_to s conn now o) (pending_at s.tables conn) (told, t)
     (answer-given s t conn now begun moves failed dialed level told h).found (λ p here made.
     let found = mapped (answered s conn now moves) (decide s.tables s.wire conn p now o) (told, t) made in
@@ -398,7 +354,7 @@ abort-gives s conn lid told = by (is_live s.tables.links lid) where
   by true = nothing-given (Abort conn lid told) s (record s { tables = marked s.tables lid }) refl refl refl refl refl refl
   by false = nothing-given (Abort conn lid told) s s refl refl refl refl refl refl
 
-entry-gives : (e : Entry) (s t : State) → one s e ≡ Some t → EntryGives e s t
+entry-gives : (e : Entry) (s t : State) → atomic_step s e ≡ Some t → EntryGives e s t
 entry-gives (Up conn r) s t h =
     let u : State = record s { tables = with_connection s.tables r } in
     let parts = cond_some _ u t h in
@@ -448,17 +404,17 @@ rising-more given next after rest (Uses one more) r =
 -- one kind of number along a history: the next one in a state, what an entry gives, and all that a history gives
 module _ (next : State → ℕ) (gives : Entry → Option State → List ℕ) (all : Option State → List Entry → List ℕ)
     (none : (s : State) → all (Some s) [] ≡ [])
-    (more : (s : State) (e : Entry) (es : List Entry) → all (Some s) (e ∷ es) ≡ gives e (one s e) ++ all (one s e) es)
-    (takes : (e : Entry) (s t : State) → IsSound s.tables → one s e ≡ Some t → Takes (gives e (Some t)) (next s) (next t)) where
-  given-along : (history : List Entry) (s t : State) → IsSound s.tables → along one (Some s) history ≡ Some t → Rising (next s) (all (Some s) history)
+    (more : (s : State) (e : Entry) (es : List Entry) → all (Some s) (e ∷ es) ≡ gives e (atomic_step s e) ++ all (atomic_step s e) es)
+    (takes : (e : Entry) (s t : State) → IsSound s.tables → atomic_step s e ≡ Some t → Takes (gives e (Some t)) (next s) (next t)) where
+  given-along : (history : List Entry) (s t : State) → IsSound s.tables → along atomic_step (Some s) history ≡ Some t → Rising (next s) (all (Some s) history)
   given-along [] s t sound h = subst (Rising (next s)) (sym (none s)) (rising-none (next s))
-  given-along (e ∷ es) s t sound h = by (one s e) refl h (given-along es) where
-    by : (o : Option State) → one s e ≡ o → along one o es ≡ Some t
-        → ((s t : State) → IsSound s.tables → along one (Some s) es ≡ Some t → Rising (next s) (all (Some s) es)) → Rising (next s) (all (Some s) (e ∷ es))
+  given-along (e ∷ es) s t sound h = by (atomic_step s e) refl h (given-along es) where
+    by : (o : Option State) → atomic_step s e ≡ o → along atomic_step o es ≡ Some t
+        → ((s t : State) → IsSound s.tables → along atomic_step (Some s) es ≡ Some t → Rising (next s) (all (Some s) es)) → Rising (next s) (all (Some s) (e ∷ es))
     by None is h rest = absurd (along-none es t h)
     by (Some m) is h rest =
         subst (Rising (next s)) (sym (more s e es ∙ ap (λ o. gives e o ++ all o es) is))
-        (rising-more (gives e (Some m)) (next s) (next m) (all (Some m) es) (takes e s m sound is) (rest m t (one-sound s m e sound is) h))
+        (rising-more (gives e (Some m)) (next s) (next m) (all (Some m) es) (takes e s m sound is) (rest m t (atomic-sound s m e sound is) h))
 
 -- ---- the laws
 

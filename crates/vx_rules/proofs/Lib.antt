@@ -1,3 +1,4 @@
+pub mod Laws
 pub mod EntryLaws
 pub mod Passing
 pub mod Giving

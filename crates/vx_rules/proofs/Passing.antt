@@ -13,8 +13,8 @@ use Rattle.vx_rules.specs.Checks.{named_link, check}
 use Rattle.vx_rules.specs.Lines.{Behind, Refused, Passed, bar_by, checks_pass, checked_lines}
 use Rattle.vx_rules.specs.Serving.{can_settle}
 use Rattle.vx_rules.specs.PassLaws.{PassedLets, LetsPass, PassedSettles}
-use Rattle.vx_rules.specs.ProvedLaws.Walks.{passed-says}
-use Rattle.vx_rules.specs.ProvedLaws.Passing.{lets-says}
+use Rattle.vx_rules.proofs.Laws.Walks.{passed-says}
+use Rattle.vx_rules.proofs.Laws.Passing.{lets-says}
 
 both_none : (checked : Option ErrorCode) (holder : Option ℕ) → checked ≡ None → holder ≡ None → checks_pass checked holder ≡ true
 both_none checked holder c h = ap (λ x. checks_pass x holder) c ∙ ap (checks_pass None) h

@@ -21,7 +21,7 @@ use Rattle.vx_rules.specs.Effects.{task_of, stopped_reply, effect, settle}
 
 -- What comes to an answer from outside: the moment at which the call's turn began and the transfers that it made, whether
 -- the bus failed in this poll, how a dial went, and the level that a bus status tells.
-pub record Outside : Type 0 where
+pub record BusInput : Type 0 where
   pub begun : ℕ
   pub moves : List Transfer
   pub failed : Bool
@@ -29,7 +29,7 @@ pub record Outside : Type 0 where
   pub level : Bool
 
 -- no failure, no dial and no level came from outside
-abbrev pub is_quiet : Outside → Bool
+abbrev pub is_quiet : BusInput → Bool
 is_quiet o = not o.failed && is_none o.dialed && not o.level
 
 -- where transfers of a job stand, on a bus that was this as the turn began
@@ -45,7 +45,7 @@ abbrev pub level_fits : Task → Bool → Bool
 level_fits job level = not level || tells_level job
 
 -- a turn with these transfers: whole, failed, or held longer than its time
-abbrev pub turn_answer : Wire → Pending → ℕ → Outside → Task → Stand → Option Reply
+abbrev pub turn_answer : Wire → Pending → ℕ → BusInput → Task → Stand → Option Reply
 turn_answer w p now o job Whole =
     if not o.failed && level_fits job o.level then Some (whole_reply job (bytes_of p.call) w (is_big p.call) o.level o.moves) else None
 turn_answer w p now o job Part =
@@ -56,23 +56,23 @@ turn_answer w p now o job Part =
 turn_answer w p now o job Off = None
 
 -- a bus call without the role, or its turn
-abbrev pub job_answer : Wire → Pending → ℕ → Outside → Task → Option Reply
+abbrev pub job_answer : Wire → Pending → ℕ → BusInput → Task → Option Reply
 job_answer w p now o job =
     if has_role job w
     then (if is_none o.dialed then turn_answer w p now o job (stand_on w p.call job o.moves) else None)
     else (if is_quiet o then Some (stopped_reply p.call code.BusFault o.moves) else None)
 
-abbrev pub bus_answer : Wire → Pending → ℕ → Outside → Option Task → Option Reply
+abbrev pub bus_answer : Wire → Pending → ℕ → BusInput → Option Task → Option Reply
 bus_answer w p now o None = None
 bus_answer w p now o (Some job) = job_answer w p now o job
 
 -- a create_intr_chan is answered once a dial was made
-abbrev pub dialed_answer : Tables → ℕ → Pending → Outside → Option Bool → Option (Reply × Tables)
+abbrev pub dialed_answer : Tables → ℕ → Pending → BusInput → Option Bool → Option (Reply × Tables)
 dialed_answer t conn p o None = None
 dialed_answer t conn p o (Some up) = if not o.failed && not o.level then settle t conn p.call up else None
 
 -- a call that nothing keeps off
-abbrev pub passed_answer : Tables → Wire → ℕ → Pending → ℕ → Outside → Option (Reply × Tables)
+abbrev pub passed_answer : Tables → Wire → ℕ → Pending → ℕ → BusInput → Option (Reply × Tables)
 passed_answer t w conn p now o =
     let about = named_link t conn p.call in
     if asks_dial p.call then dialed_answer t conn p o o.dialed
@@ -81,21 +81,21 @@ passed_answer t w conn p now o =
     else None
 
 -- a call after the first lines: a refusal's reply has what its turn, where one was under way, has made
-abbrev pub by_lines : Tables → Wire → ℕ → Pending → ℕ → Outside → Admission → Option (Reply × Tables)
+abbrev pub by_lines : Tables → Wire → ℕ → Pending → ℕ → BusInput → Admission → Option (Reply × Tables)
 by_lines t w conn p now o (Refused error) = if is_quiet o then Some (stopped_reply p.call error o.moves, t) else None
 by_lines t w conn p now o Passed = passed_answer t w conn p now o
 by_lines t w conn p now o _ = None
 
 -- whether a dial was made for the call
-abbrev pub settles : Outside → Bool
+abbrev pub settles : BusInput → Bool
 settles o = is_some o.dialed
 
 -- the reply of a connection's call at this moment, and the tables with its effect, on a bus that was this before the
 -- call's transfers, while a connection's turn is under way or none; none where it has no answer with what came from outside
-abbrev pub decide_in : Tables → Option ℕ → Wire → ℕ → Pending → ℕ → Outside → Option (Reply × Tables)
+abbrev pub decide_in : Tables → Option ℕ → Wire → ℕ → Pending → ℕ → BusInput → Option (Reply × Tables)
 decide_in t busy w conn p now o = by_lines t w conn p now o (first_lines_in t busy w.own conn (settles o) p now)
 
-abbrev pub decide : Tables → Wire → ℕ → Pending → ℕ → Outside → Option (Reply × Tables)
+abbrev pub decide : Tables → Wire → ℕ → Pending → ℕ → BusInput → Option (Reply × Tables)
 decide t w conn p now o = decide_in t None w conn p now o
 
 -- What the beginning and the transfers of an answer may be, by the line that gives it.
@@ -137,19 +137,19 @@ may_have_made t w conn p moves =
     is_nothing moves || (lets_pass t w.own conn p && is_part_of w p.call moves (task_of (named_link t conn p.call) p.call))
 
 -- a call that passed: a turn's beginning is told, and any transfers; or else no turn was there
-abbrev pub passed_fits : Tables → Wire → ℕ → Pending → ℕ → Outside → Bool
+abbrev pub passed_fits : Tables → Wire → ℕ → Pending → ℕ → BusInput → Bool
 passed_fits t w conn p now o =
     if has_job_role w (task_of (named_link t conn p.call) p.call)
     then begun_between p now o.begun
     else may_tell p now o.begun && is_nothing o.moves
 
-abbrev pub lines_fit : Tables → Wire → ℕ → Pending → ℕ → Outside → Admission → Bool
+abbrev pub lines_fit : Tables → Wire → ℕ → Pending → ℕ → BusInput → Admission → Bool
 lines_fit t w conn p now o (Refused error) = may_tell p now o.begun && is_nothing o.moves
 lines_fit t w conn p now o Passed = passed_fits t w conn p now o
 lines_fit t w conn p now o _ = false
 
 -- whether the beginning and the transfers are such as the gateway of one thread can have
-abbrev pub turn_fits : Tables → Wire → ℕ → Pending → ℕ → Outside → Bool
+abbrev pub turn_fits : Tables → Wire → ℕ → Pending → ℕ → BusInput → Bool
 turn_fits t w conn p now o =
     if p.aborted then may_tell p now o.begun && may_have_made t w conn p o.moves && (is_nothing o.moves || is_first t w.own conn p now)
     else lines_fit t w conn p now o (later_lines t w.own conn (settles o) p now)

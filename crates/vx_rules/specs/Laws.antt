@@ -8,25 +8,25 @@ use Rattle.vx_rules.specs.SrqState.{Given, LinksRise}
 use Rattle.vx_rules.specs.Locks.{IsApart}
 use Rattle.vx_rules.specs.State.{Tables, State, arrival_at}
 use Rattle.vx_rules.specs.Entry.{Entry, Answer, Abort, Take}
-use Rattle.vx_rules.specs.One.{one}
+use Rattle.vx_rules.specs.AtomicStep.{atomic_step}
 use Rattle.vx_rules.specs.Legal.{legal_state, IsLegal}
 use Rattle.vx_rules.specs.Sound.{IsOwned, IsOnce, AreWaiting}
 
 -- in one state, with the same from outside, a call has at most one reply, and one state behind it
 abbrev pub OneReplyLaw : Type 0
 OneReplyLaw = (s t u : State) (conn now begun : ℕ) (moves : List Transfer) (failed : Bool) (dialed : Option Bool) (level : Bool) (told other : Reply)
-    → one s (Answer conn now begun moves failed dialed level told) ≡ Some t
-    → one s (Answer conn now begun moves failed dialed level other) ≡ Some u → (told ≡ other) × (t ≡ u)
+    → atomic_step s (Answer conn now begun moves failed dialed level told) ≡ Some t
+    → atomic_step s (Answer conn now begun moves failed dialed level other) ≡ Some u → (told ≡ other) × (t ≡ u)
 
 -- so has a device_abort
 abbrev pub OneAbortLaw : Type 0
 OneAbortLaw = (s t u : State) (conn lid : ℕ) (told other : ErrorCode)
-    → one s (Abort conn lid told) ≡ Some t → one s (Abort conn lid other) ≡ Some u → (told ≡ other) × (t ≡ u)
+    → atomic_step s (Abort conn lid told) ≡ Some t → atomic_step s (Abort conn lid other) ≡ Some u → (told ≡ other) × (t ≡ u)
 
 -- and a take
 abbrev pub OneTakeLaw : Type 0
 OneTakeLaw = (s t u : State) (conn chan : ℕ) (told other : Given)
-    → one s (Take conn chan told) ≡ Some t → one s (Take conn chan other) ≡ Some u → (told ≡ other) × (t ≡ u)
+    → atomic_step s (Take conn chan told) ≡ Some t → atomic_step s (Take conn chan other) ≡ Some u → (told ≡ other) × (t ≡ u)
 
 -- the numbers of live links rise, and the next one is above them all, so that a link that is made has a number of its own
 abbrev pub LinkNumbersLaw : Type 0

@@ -6,11 +6,11 @@ use Rattle.vx_rules.specs.SrqState.{SrqState, Enable, channel_at, is_rise}
 use Rattle.vx_rules.specs.Lists.{along}
 use Rattle.vx_rules.specs.State.{State, first}
 use Rattle.vx_rules.specs.Entry.{Entry, Sample}
-use Rattle.vx_rules.specs.One.{one}
+use Rattle.vx_rules.specs.AtomicStep.{atomic_step}
 
 -- the state after a whole history of a gateway with this abort port, or none where it isn't one
 abbrev pub legal_state : ℕ → List Entry → Option State
-legal_state abort_port history = along one (Some (first abort_port)) history
+legal_state abort_port history = along atomic_step (Some (first abort_port)) history
 
 -- a history of the gateway of one thread
 abbrev pub IsLegal : ℕ → List Entry → Type 0
@@ -41,7 +41,7 @@ due_in s = map due_of (filter (is_enabled s.tables.srq_state) s.tables.srq_state
 abbrev pub due_along : Option State → List Entry → List (List Due)
 due_along None history = []
 due_along (Some s) [] = []
-due_along (Some s) (e ∷ es) = if is_rise_at s e then due_in s ∷ due_along (one s e) es else due_along (one s e) es
+due_along (Some s) (e ∷ es) = if is_rise_at s e then due_in s ∷ due_along (atomic_step s e) es else due_along (atomic_step s e) es
 
 -- a channel of this number lives on the connection
 abbrev pub has_channel : State → ℕ → ℕ → Bool
@@ -56,4 +56,4 @@ abbrev pub queued_along : ℕ → ℕ → Option State → List Entry → List (
 queued_along conn chan None history = []
 queued_along conn chan (Some s) [] = []
 queued_along conn chan (Some s) (e ∷ es) =
-    (if is_rise_at s e && has_channel s conn chan then handles_due conn (due_in s) else []) ++ queued_along conn chan (one s e) es
+    (if is_rise_at s e && has_channel s conn chan then handles_due conn (due_in s) else []) ++ queued_along conn chan (atomic_step s e) es

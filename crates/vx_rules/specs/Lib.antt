@@ -11,7 +11,7 @@ pub mod Effects
 pub mod Dials
 pub mod Decide
 pub mod Entry
-pub mod One
+pub mod AtomicStep
 pub mod Legal
 pub mod Laws
 pub mod Numbers
@@ -22,10 +22,6 @@ pub mod PassLaws
 pub mod LinkLaws
 pub mod LockLaws
 pub mod SrqLaws
-pub mod ProvedLaws
-pub mod ListLaws
-pub mod RowLaws
-pub mod CountLaws
 pub use Rattle.vx_calls.specs.Call
 pub use Rattle.vx_calls.specs.ErrorCode
 pub use Rattle.vx_calls.specs.Reply

@@ -12,7 +12,7 @@ use Rattle.vx_488.specs.declared.transfers.Transfer.{Transfer}
 use Rattle.vx_rules.specs.SrqState.{channel_at}
 use Rattle.vx_rules.specs.State.{State, first}
 use Rattle.vx_rules.specs.Entry.{Entry, Up, Answer}
-use Rattle.vx_rules.specs.One.{one}
+use Rattle.vx_rules.specs.AtomicStep.{atomic_step}
 use Rattle.vx_rules.specs.Legal.{legal_state}
 
 -- the number of the connection that an entry brings up
@@ -49,30 +49,30 @@ connections_given history = flat_map connection_given history
 abbrev pub channels_given : Option State → List Entry → List ℕ
 channels_given None history = []
 channels_given (Some s) [] = []
-channels_given (Some s) (e ∷ es) = channel_given e (one s e) ++ channels_given (one s e) es
+channels_given (Some s) (e ∷ es) = channel_given e (atomic_step s e) ++ channels_given (atomic_step s e) es
 
 -- no entry lowers the number that comes next
 abbrev pub NumbersRiseLaw : Type 0
-NumbersRiseLaw = (s t : State) (e : Entry) → one s e ≡ Some t
+NumbersRiseLaw = (s t : State) (e : Entry) → atomic_step s e ≡ Some t
     → (s.tables.links.next ≤ t.tables.links.next) × (s.tables.next_connection ≤ t.tables.next_connection)
     × (s.tables.srq_state.next_channel ≤ t.tables.srq_state.next_channel)
 
 -- a number that is given is the one that comes next, and it is used up: the number of a link that is made
 abbrev pub LinkGivenLaw : Type 0
 LinkGivenLaw = (s t : State) (conn now begun : ℕ) (moves : List Transfer) (failed : Bool) (dialed : Option Bool) (level : Bool) (lid abort_port max : ℕ)
-    → one s (Answer conn now begun moves failed dialed level (reply.CreateLink code.Ok lid abort_port max)) ≡ Some t
+    → atomic_step s (Answer conn now begun moves failed dialed level (reply.CreateLink code.Ok lid abort_port max)) ≡ Some t
     → (lid ≡ s.tables.links.next) × (t.tables.links.next ≡ lid + 1)
 
 -- of a connection that comes up
 abbrev pub ConnectionGivenLaw : Type 0
-ConnectionGivenLaw = (s t : State) (conn : ℕ) (r : Role) → one s (Up conn r) ≡ Some t
+ConnectionGivenLaw = (s t : State) (conn : ℕ) (r : Role) → atomic_step s (Up conn r) ≡ Some t
     → (conn ≡ s.tables.next_connection) × (t.tables.next_connection ≡ conn + 1)
 
 -- and of the channel that a connection has once its dial came up
 abbrev pub ChannelGivenLaw : Type 0
 ChannelGivenLaw = (abort_port : ℕ) (history : List Entry) (s t : State) (conn now begun : ℕ) (moves : List Transfer) (failed level : Bool) (told : Reply)
     → legal_state abort_port history ≡ Some s
-    → one s (Answer conn now begun moves failed (Some true) level told) ≡ Some t
+    → atomic_step s (Answer conn now begun moves failed (Some true) level told) ≡ Some t
     → (channel_number conn t ≡ s.tables.srq_state.next_channel ∷ []) × (t.tables.srq_state.next_channel ≡ s.tables.srq_state.next_channel + 1)
 
 -- the numbers that a history gives rise, so that none is given twice: those of links

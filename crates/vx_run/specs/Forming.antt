@@ -19,31 +19,31 @@ refused_by _ = None
 
 -- why the gateway alone refuses a command, where it does: by the first cause that holds
 abbrev pub gateway_refusal : Position → Command → Option Cause
-gateway_refusal s (Up conn r) = if conn == s.fine.state.tables.next_connection then None else Some cause.Number
+gateway_refusal s (Up conn r) = if conn == s.interleaved.state.tables.next_connection then None else Some cause.Number
 gateway_refusal s (In conn bytes) =
-    if is_none (role_at s.fine.state.tables conn) then Some cause.Conn
-    else if is_some (pending_at s.fine.state.tables conn) then Some cause.Busy
+    if is_none (role_at s.interleaved.state.tables conn) then Some cause.Conn
+    else if is_some (pending_at s.interleaved.state.tables conn) then Some cause.Busy
     else refused_by (brought (s.streams conn) bytes)
-gateway_refusal s (Down conn) = if is_none (role_at s.fine.state.tables conn) then Some cause.Conn else None
+gateway_refusal s (Down conn) = if is_none (role_at s.interleaved.state.tables conn) then Some cause.Conn else None
 gateway_refusal s (Poll conn) =
-    if not (lives_as s.fine.state.tables conn role.Core) then Some cause.Conn
-    else if is_none (pending_at s.fine.state.tables conn) then Some cause.Idle
+    if not (lives_as s.interleaved.state.tables conn role.Core) then Some cause.Conn
+    else if is_none (pending_at s.interleaved.state.tables conn) then Some cause.Idle
     else None
-gateway_refusal s (Take conn) = if lives_as s.fine.state.tables conn role.Core then None else Some cause.Conn
+gateway_refusal s (Take conn) = if lives_as s.interleaved.state.tables conn role.Core then None else Some cause.Conn
 gateway_refusal s (Dial conn up) =
-    if not (lives_as s.fine.state.tables conn role.Core) then Some cause.Conn
-    else if list_any (λ n. n == conn) s.fine.dialed then None
+    if not (lives_as s.interleaved.state.tables conn role.Core) then Some cause.Conn
+    else if list_any (λ n. n == conn) s.interleaved.dialed then None
     else Some cause.Idle
 gateway_refusal s _ = None
 
 -- an item takes a run from one position to the next
 pub record Forms (before : Position) (item : Item) (after : Position) : Type 0 where
   pub allowed : gateway_refusal before item.command ≡ None
-  pub gives : StepGives before item.command item.group item.note after.fine
+  pub gives : StepGives before item.command item.group item.note after.interleaved
   pub message : item.message ≡ message_after before.streams item.command
   pub at : item.moment ≡ after.moment
   pub streams : (conn : ℕ) → after.streams conn ≡ streams_after before.streams item.command conn
-  pub xids : (conn : ℕ) → after.xids conn ≡ xids_after before.fine.state.tables before.streams before.xids item.command conn
+  pub xids : (conn : ℕ) → after.xids conn ≡ xids_after before.interleaved.state.tables before.streams before.xids item.command conn
   pub moment : after.moment ≡ moment_after before.moment item.command
 
 -- these items take a run from one position to another

@@ -13,8 +13,8 @@ pub use Rattle.vx_rules.specs.State
 pub use Rattle.vx_exchange.specs.Meaning
 pub use Rattle.vx_exchange.specs.SrqState
 pub use Rattle.vx_flow.specs.Event
-pub use Rattle.vx_flow.specs.FineState
-pub use Rattle.vx_flow.specs.Fine
+pub use Rattle.vx_flow.specs.InterleavedState
+pub use Rattle.vx_flow.specs.InterleavedStep
 pub use Rattle.vx_flow.specs.Poll
 pub use Rattle.vx_script.specs.Command
 pub use Rattle.vx_script.specs.Cause

@@ -4,21 +4,21 @@ use Rattle.std.specs.Prelude.{ℕ, ◌==◌, max, if◌then◌else◌, List, [],
 use Rattle.vx_calls.specs.declared.calls.Role.{Role}
 use Rattle.vx_script.specs.Command.{Command, Up, In, At}
 use Rattle.vx_rules.specs.State.{Tables, role_at}
-use Rattle.vx_flow.specs.FineState.{FineState, first_fine}
+use Rattle.vx_flow.specs.InterleavedState.{InterleavedState, first_interleaved}
 use Rattle.vx_exchange.specs.Meaning.{meaning, xid_by}
 use Rattle.vx_run.specs.Stream.{Brought, Whole, brought, kept_after, message_by}
 
 -- the state between interleaved events; of each connection the stream bytes since its last whole record, and the xid of the last call
 -- that it kept; and the moment of the next steps, in milliseconds
 pub record Position : Type 0 where
-  pub fine : FineState
+  pub interleaved : InterleavedState
   pub streams : ℕ → List ℕ
   pub xids : ℕ → ℕ
   pub moment : ℕ
 
 -- a run begins with a gateway that has nothing in it, and tells this port of its abort channel
 abbrev pub first_position : ℕ → Position
-first_position abort_port = record { fine = first_fine abort_port; streams = λ conn. []; xids = λ conn. 0; moment = 0 }
+first_position abort_port = record { interleaved = first_interleaved abort_port; streams = λ conn. []; xids = λ conn. 0; moment = 0 }
 
 -- the bytes of a connection's stream since its last whole record, after a command
 abbrev pub streams_after : (ℕ → List ℕ) → Command → ℕ → List ℕ

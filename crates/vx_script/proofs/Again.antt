@@ -9,7 +9,8 @@ use Rattle.vx_script.specs.Grammar.{role_of, dialed_of, at_connection, behind_co
 use Rattle.vx_script.specs.Plain.{IsConnection, IsAddress}
 use Rattle.vx_script.specs.Table.{role_word, dial_word, address_word, Writes}
 use Rattle.vx_script.specs.Words.{cut, connection_of, address_of, address_at}
-use Rattle.vx_script.proofs.Cuts.{lacks, cut-again, cut-whole}
+use Rattle.vx_text.proofs.Laws.Cuts.{lacks}
+use Rattle.vx_script.proofs.Cuts.{cut-again, cut-whole}
 use Rattle.vx_script.proofs.Numbers.{positive-again, number-again, decimal-lacks}
 use Rattle.vx_script.proofs.Parts.{address-again, address-lacks, bytes-again, byte-again, name-again}
 

@@ -1,11 +1,11 @@
 -- Cutting a text at the first byte of a kind.
-use Rattle.std.proofs.Common.{◌≡◌, ℕ, ◌+◌, Bool, true, false, ltb, List, [], ◌∷◌, ◌++◌, length, get_or, take, drop, Option, Some, None, refl, sym, ap, ◌∙◌, append_assoc, arith}
+use Rattle.std.proofs.Common.{◌≡◌, ℕ, ◌+◌, true, false, ltb, List, [], ◌∷◌, ◌++◌, length, get_or, take, drop, Option, Some, None, refl, sym, ap, ◌∙◌, append_assoc, arith}
 use Rattle.std.specs.Prelude.{not, ◌==◌}
-use Rattle.std.specs.List.{list_all, position, position_or_len}
-use Rattle.std.proofs.lemmas.Bool.{and_parts, and_from, lt-ltb, eqb-true, not-true, not_from_false}
+use Rattle.std.specs.List.{position, position_or_len}
+use Rattle.std.proofs.lemmas.Bool.{and_parts, lt-ltb, eqb-true, not-true}
 use Rattle.std.proofs.lemmas.List.{take_at, drop_at, take-append-drop, drop_more, length-append}
 use Rattle.std.proofs.lemmas.List.Quantifiers.{position-Some}
-use Rattle.vx_lemmas.specs.Conditions.{eqb-self}
+use Rattle.vx_text.proofs.Laws.Cuts.{lacks, place-again}
 use Rattle.vx_script.specs.Words.{cut, cut_at}
 
 -- the text is what stands in front of a byte, the byte, and what stands behind it; or it isn't cut
@@ -23,25 +23,6 @@ joined_at mark text (Some i) e =
 -- the parts of a text that was cut are its parts
 pub joined : (mark : ℕ) (text : List ℕ) → Joined mark text (cut mark text).0 (cut mark text).1
 joined mark text = joined_at mark text (position (λ b. b == mark) text) refl
-
--- none of a text's bytes is this one
-abbrev pub lacks : ℕ → List ℕ → Bool
-lacks mark text = list_all (λ b. not (b == mark)) text
-
--- two texts without it and another byte between them
-pub lacks-joined : (mark other : ℕ) (xs ys : List ℕ) → (other == mark) ≡ false → lacks mark xs ≡ true → lacks mark ys ≡ true → lacks mark (xs ++ other ∷ ys) ≡ true
-lacks-joined mark other [] ys ne first second = and_from (not (other == mark)) (lacks mark ys) (not_from_false (other == mark) ne) second
-lacks-joined mark other (x ∷ xs) ys ne first second =
-    let parts = and_parts (not (x == mark)) (lacks mark xs) first in
-    and_from (not (x == mark)) (lacks mark (xs ++ other ∷ ys)) parts.0 (lacks-joined mark other xs ys ne parts.1 second)
-
-place-again : (mark : ℕ) (front rest : List ℕ) → lacks mark front ≡ true → position_or_len (λ b. b == mark) (front ++ mark ∷ rest) ≡ length front
-place-again mark [] rest h = rw (eqb-self mark) refl
-place-again mark (b ∷ bs) rest h =
-    let parts = and_parts (not (b == mark)) (lacks mark bs) h in
-    let other : (b == mark) ≡ false = not-true (b == mark) parts.0 in
-    let more = place-again mark bs rest parts.1 in
-    rw other (omega (arith, more))
 
 -- a text in front of the first such byte is cut off again
 pub cut-again : (mark : ℕ) (front rest : List ℕ) → lacks mark front ≡ true → cut mark (front ++ mark ∷ rest) ≡ (front, Some rest)

@@ -2,7 +2,7 @@
 use Rattle.std.proofs.Common.{◌≡◌, ℕ, ◌-◌, ◌^◌, Bool, true, false, List, ◌∷◌, ◌++◌, Option, Some, None, sym, ap, ◌∙◌, subst, arith, codes, decimal}
 use Rattle.std.specs.Prelude.{option_map}
 use Rattle.std.proofs.lemmas.Option.{same_Some}
-use Rattle.vx_lemmas.specs.Options.{mapped, gone_on}
+use Rattle.vx_lemmas.proofs.Laws.Options.{mapped, gone_on}
 use Rattle.vx_calls.specs.declared.calls.Role.{Role}
 use Rattle.vx_calls.specs.declared.calls.Role.TheVariants as role
 use Rattle.vx_calls.specs.declared.limits.TheConstants.{CONNECTION_LAST}
@@ -12,7 +12,7 @@ use Rattle.vx_script.specs.Grammar.{role_of, dialed_of, at_connection, behind_co
 use Rattle.vx_script.specs.Plain.{IsConnection, IsAddress}
 use Rattle.vx_script.specs.Table.{role_word, dial_word, address_word, Writes}
 use Rattle.vx_script.specs.Words.{cut, number_up_to, positive_up_to, connection_of, address_of, bytes_of, byte_of, is_name}
-use Rattle.vx_lemmas.specs.Conditions.{by_test, by_text}
+use Rattle.vx_lemmas.proofs.Laws.Conditions.{by_test, by_text}
 use Rattle.vx_script.proofs.Cuts.{Joined, joined}
 use Rattle.vx_script.proofs.Numbers.{positive-read, number-read}
 use Rattle.vx_script.proofs.Parts.{address-read, bytes-read, byte-read, name-read}

@@ -4,7 +4,7 @@ use Rattle.std.specs.Prelude.{◌↔◌, nat_le}
 use Rattle.std.specs.List.{list_all}
 use Rattle.std.proofs.lemmas.Bool.{cond-true, cond-false, false≢true, and_parts, leb-true, ne_eqb, ltb-true, ltb-false, lt-ltb, le-ltb}
 use Rattle.std.proofs.lemmas.Fmt.{digits_decimal, decimal_nonempty}
-use Rattle.vx_lemmas.specs.Decimal.{own}
+use Rattle.vx_lemmas.proofs.Laws.Decimal.{own}
 use Rattle.vx_calls.specs.Target.{is_digit}
 use Rattle.vx_script.specs.declared.TheConstants.{LINE2_MAX}
 use Rattle.vx_script.specs.Command.{Command}

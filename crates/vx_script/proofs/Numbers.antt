@@ -11,11 +11,11 @@ use Rattle.std.proofs.lemmas.Option.{cond_some, same_Some}
 use Rattle.std.proofs.lemmas.Fmt.{digits_decimal, digits_value-decimal, decimal-digits_value, decimal_nonempty, decimal_digit, first_decimal, IsAscii-from_digits}
 use Rattle.std.proofs.lemmas.Str.{digit_value_digit}
 use Rattle.std.proofs.lemmas.Str.Parse.{parse_digits}
-use Rattle.vx_lemmas.specs.Decimal.{own, tells}
+use Rattle.vx_lemmas.proofs.Laws.Decimal.{own, tells}
 use Rattle.vx_calls.specs.Target.{is_digit}
 use Rattle.vx_script.specs.Words.{is_positive, positive_up_to, number_up_to}
-use Rattle.vx_lemmas.specs.Conditions.{by_text, same_bytes}
-use Rattle.vx_script.proofs.Cuts.{lacks}
+use Rattle.vx_lemmas.proofs.Laws.Conditions.{by_text, same_bytes}
+use Rattle.vx_text.proofs.Laws.Cuts.{lacks}
 
 -- digits, at least one, of which the first isn't 0, of a number that is at least 1
 record Positive (text : List ℕ) : Type 0 where

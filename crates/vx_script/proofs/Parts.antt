@@ -9,14 +9,15 @@ use Rattle.std.proofs.lemmas.Option.{same_Some}
 use Rattle.hex.specs.Hex.{decode_of, decode_sized}
 use Rattle.hex.specs.declared.error.FromHexError.{FromHexError}
 use Rattle.hex.proofs.HexLemmas.{decode_of-ok, decode_sized-ok, decode_sized-twice}
-use Rattle.vx_lemmas.specs.Options.{mapped, gone_on}
+use Rattle.vx_lemmas.proofs.Laws.Options.{mapped, gone_on}
 use Rattle.vx_script.specs.declared.TheConstants.{ADDRESS_LAST, NAME_MAX}
 use Rattle.vx_script.specs.declared.values.Address.{Address}
 use Rattle.vx_script.specs.Plain.{IsAddress}
 use Rattle.vx_script.specs.Table.{address_word, IsHex, IsName}
 use Rattle.vx_script.specs.Words.{cut, part_of, address_at, with_secondary, address_of, bytes_of, byte_of, is_lower_letter, is_name}
 use Rattle.vx_script.proofs.Choices.{ok_is}
-use Rattle.vx_script.proofs.Cuts.{Joined, joined, lacks, lacks-joined, cut-again, cut-whole}
+use Rattle.vx_text.proofs.Laws.Cuts.{lacks, lacks-joined}
+use Rattle.vx_script.proofs.Cuts.{Joined, joined, cut-again, cut-whole}
 use Rattle.vx_script.proofs.Numbers.{number-read, number-again, decimal-lacks}
 
 -- ---- addresses

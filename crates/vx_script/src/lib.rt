@@ -11,12 +11,12 @@ ghost use Rattle.vx_script.specs.Table.{SaysWithin, TimedSays};
 ghost use Rattle.vx_script.specs.Timed.{Blank, Strange, is_at, timed};
 ghost use Rattle.vx_script.specs.Version.{version_by};
 
-mod laws;
 mod lines;
+mod theorems;
 mod values;
 
-pub use laws::{grammar, one_command, timed_grammar, within_limit};
 use lines::{command_of, timed_of};
+pub use theorems::{grammar, one_command, timed_grammar, within_limit};
 use values::is;
 use vx_calls::Role;
 

@@ -1,3 +1,4 @@
+pub mod Hosting
 pub mod Starting
 pub mod Logged
 pub use Rattle.vx_io_traits.specs.Faults

@@ -9,15 +9,15 @@ use crossbeam_channel::Sender;
 use std::sync::Wait;
 use vx_io_traits::{Accepted, Clock, Dial, Link, Net, Pause, Sink};
 use vx_startup::{Channel, News, next_link, tell};
-use vx_stream::Visitor;
+use vx_stream::CountingLink;
 
 /// Tells that a core link came, and hands it to the workers. It waits where 64 links wait for one, and serves a link that comes
 /// back itself.
 fn hand_on<R: Wait, A: Access, L: Link + Drop, C: Clock, P: Pause, D: Dial, G: Sink>(
     rt: &R,
-    links: &Sender<Visitor<L>>,
+    links: &Sender<CountingLink<L>>,
     access: A,
-    link: Visitor<L>,
+    link: CountingLink<L>,
     kit: &mut CoreKit<C, P, D, G>,
 ) -> A {
     let _ = tell(&mut kit.log, Channel::Core, link.number(), News::Came);
@@ -33,7 +33,7 @@ pub(crate) fn accept_links<R: Wait, N: Net, A: Access + Drop, C: Clock, P: Pause
     rt: &R,
     net: &mut N,
     limit: u32,
-    links: &Sender<Visitor<Peer<N>>>,
+    links: &Sender<CountingLink<Peer<N>>>,
     access: A,
     kit: &mut CoreKit<C, P, D, G>,
 ) -> Option<u64>
@@ -41,14 +41,14 @@ where
     Peer<N>: Drop,
     requires open { N.is_open net.old ≡ true }
     ensures took { MatchOption result (Rose (N.faults net.old) (N.faults net.new))
-        (λ number. TookLinks limit (net_shown N.faults N.given N.ended net.old) (net_shown N.faults N.given N.ended net.new) number) }
+        (λ number. TookLinks limit (net_shown N.Net net.old) (net_shown N.Net net.new) number) }
 {
     let mut access = access;
     let mut number = 0u64;
     for _ in rt.forever() {
         match next_link(net, limit, &mut number) {
             Accepted::Peer(link) => {
-                access = hand_on(rt, links, access, Visitor::new(link, number), kit);
+                access = hand_on(rt, links, access, CountingLink::new(link, number), kit);
             }
             Accepted::Ended => return Some(number),
             Accepted::Failed => return None,

@@ -10,5 +10,5 @@ mod starting;
 mod workers;
 
 pub use server::serve_run;
-pub use vx_startup::{BENCH_MAX, Logs, Status};
+pub use vx_startup::{BENCH_MAX, Logs, ServerStatus};
 pub use workers::Serve;

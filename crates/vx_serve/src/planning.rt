@@ -9,7 +9,7 @@ use std::sync::Arc;
 use vx_io_traits::{Clock, Dial, Net, Pause, Sink, Streams};
 use vx_session::{Room, Tools};
 use vx_startup::{Logs, Options};
-use vx_stream::Visitor;
+use vx_stream::CountingLink;
 
 /// How many links wait for a worker, at most.
 const LINKS_WAITING: usize = 64;
@@ -17,21 +17,21 @@ const LINKS_WAITING: usize = 64;
 /// Where the links of the two ports go in.
 #[derive(Drop)]
 struct Givers<L: Drop> {
-    cores: Sender<Visitor<L>>,
-    aborts: Sender<Visitor<L>>,
+    cores: Sender<CountingLink<L>>,
+    aborts: Sender<CountingLink<L>>,
 }
 
 /// Where they come out, for the workers that serve them. Where these are gone, each link comes back.
 #[derive(Drop)]
 struct Takers<L: Drop> {
-    cores: Receiver<Visitor<L>>,
-    aborts: Receiver<Visitor<L>>,
+    cores: Receiver<CountingLink<L>>,
+    aborts: Receiver<CountingLink<L>>,
 }
 
 /// What the one that takes core links has: where they go to, and what it wants to serve one itself.
 #[derive(Drop)]
 pub struct Acceptor<L: Drop, C: Clock + Drop, P: Pause + Drop, D: Dial + Drop, G: Sink + Drop> {
-    pub links: Sender<Visitor<L>>,
+    pub links: Sender<CountingLink<L>>,
     pub kit: CoreKit<C, P, D, G>,
 }
 
@@ -106,7 +106,7 @@ fn core_duty<N: Net, X: Tools + Logs>(
     alloc: Global,
     tools: &mut X,
     served: &Arc<Served, Global>,
-    links: &Receiver<Visitor<Peer<N>>>,
+    links: &Receiver<CountingLink<Peer<N>>>,
 ) -> Result<Duty<N, X>, AllocError>
 where
     N::Port: Drop,
@@ -122,7 +122,7 @@ where
 fn abort_duty<N: Net, X: Tools + Logs>(
     alloc: Global,
     tools: &mut X,
-    links: &Receiver<Visitor<Peer<N>>>,
+    links: &Receiver<CountingLink<Peer<N>>>,
 ) -> Result<Duty<N, X>, AllocError>
 where
     N::Port: Drop,
@@ -152,7 +152,7 @@ fn accept_duty<N: Net, X: Tools + Logs>(
     alloc: Global,
     tools: &mut X,
     port: N::Port,
-    links: Sender<Visitor<Peer<N>>>,
+    links: Sender<CountingLink<Peer<N>>>,
 ) -> Result<Duty<N, X>, AllocError>
 where
     N::Port: Drop,

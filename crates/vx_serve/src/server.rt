@@ -1,11 +1,13 @@
 //! The server: its words, its bench, its ports, its workers, and the links that it takes.
 ghost use Rattle.std.specs.Prelude.{◌≡◌, map, string_bytes, true};
 ghost use Rattle.vx_sim.specs.Means.{first_means};
-ghost use Rattle.vx_startup.specs.Meant.{IsInRange};
+ghost use Rattle.vx_startup.specs.Ends.{source_shown, sink_shown};
+ghost use Rattle.vx_startup.specs.Meant.{IsServerInRange};
 ghost use Rattle.vx_startup.specs.Spares.{spare_shown};
 ghost use Rattle.vx_sim.specs.Occupants.{handed_in};
-ghost use Rattle.vx_startup.specs.Running.{EndsRun, LinksEnd, LinksServed, net_shown};
-ghost use Rattle.vx_startup.specs.Outcome.{Ends, EndsSo, IsDone};
+ghost use Rattle.vx_serve.specs.Hosting.{ports_shown};
+ghost use Rattle.vx_startup.specs.Running.{ServerEndsRun, LinksEnd, LinksServed, net_shown};
+ghost use Rattle.vx_startup.specs.Outcome.{ServerEnds, ServerEndsSo, IsDone};
 
 use crate::accepting::accept_links;
 use crate::access::{Access, GateAccess};
@@ -21,19 +23,19 @@ use vx_io_traits::{Clock, Dial, Net, Pause, Sink, Source, Spawner, Streams};
 use vx_rack::Spare;
 use vx_session::{Tally, Tools};
 use vx_sim::SimBus;
-use vx_startup::{Logs, Options, Status, announce, open_ports, prepare, tell_served};
-use vx_stream::Visitor;
+use vx_startup::{Logs, Options, ServerStatus, announce, open_ports, prepare, tell_served};
+use vx_stream::CountingLink;
 
 /// How a run of the server ended, and the links that it served.
 #[derive(Drop)]
 struct Ended {
-    status: Status,
+    status: ServerStatus,
     tally: Tally,
 }
 
 impl Ended {
     /// An end of which no links are counted.
-    fn early(status: Status) -> Ended
+    fn early(status: ServerStatus) -> Ended
         ensures { result.status ≡ status }
     {
         Ended {
@@ -41,6 +43,17 @@ impl Ended {
             tally: Tally::new(),
         }
     }
+}
+
+/// What a server has of its host: a runtime, memory, a net, the spawner of its workers, their tools, and where its lines go.
+#[derive(Drop)]
+struct Host<'r, 'n, 'w, 'x, 'k, R, N, W, X, K> {
+    rt: &'r R,
+    alloc: Global,
+    net: &'n mut N,
+    spawner: &'w mut W,
+    tools: &'x mut X,
+    sink: &'k mut K,
 }
 
 /// Takes links, waits until each was served, and tells how many there were.
@@ -56,7 +69,7 @@ fn serve_announced<
 >(
     rt: &R,
     limit: u32,
-    links: &Sender<Visitor<Peer<N>>>,
+    links: &Sender<CountingLink<Peer<N>>>,
     access: A,
     kit: &mut CoreKit<C, P, D, G>,
     net: &mut N,
@@ -66,12 +79,12 @@ where
     Peer<N>: Drop,
     requires open { N.is_open net.old ≡ true }
     ensures { LinksServed limit
-        (record { net = net_shown N.faults N.given N.ended net.old; sink = record { bytes = K.taken sink.old; faults = K.faults sink.old } })
-        (record { net = net_shown N.faults N.given N.ended net.new; sink = record { bytes = K.taken sink.new; faults = K.faults sink.new } })
+        (ports_shown N.Net K.Sink net.old sink.old)
+        (ports_shown N.Net K.Sink net.new sink.new)
         result.tally result.status }
 {
     let Some(number) = accept_links(rt, net, limit, links, access, kit) else {
-        return Ended::early(Status::NetFailed);
+        return Ended::early(ServerStatus::NetFailed);
     };
     let tally = kit.served.wait_for(rt, number);
     let status = tell_served(sink, number);
@@ -82,7 +95,7 @@ where
 fn serve_links<R: Wait, N: Net, A: Access + Drop, C: Clock, P: Pause, D: Dial, G: Sink, K: Sink>(
     rt: &R,
     options: Options,
-    links: &Sender<Visitor<Peer<N>>>,
+    links: &Sender<CountingLink<Peer<N>>>,
     access: A,
     kit: &mut CoreKit<C, P, D, G>,
     net: &mut N,
@@ -92,13 +105,13 @@ where
     Peer<N>: Drop,
     requires open { N.is_open net.old ≡ true }
     ensures { LinksEnd options
-        (record { net = net_shown N.faults N.given N.ended net.old; sink = record { bytes = K.taken sink.old; faults = K.faults sink.old } })
-        (record { net = net_shown N.faults N.given N.ended net.new; sink = record { bytes = K.taken sink.new; faults = K.faults sink.new } })
+        (ports_shown N.Net K.Sink net.old sink.old)
+        (ports_shown N.Net K.Sink net.new sink.new)
         result.tally result.status }
 {
     match announce(sink, options.core, options.abort) {
         Ok(()) => serve_announced(rt, options.limit, links, access, kit, net, sink),
-        Err(_) => Ended::early(Status::SinkFailed),
+        Err(_) => Ended::early(ServerStatus::SinkFailed),
     }
 }
 
@@ -124,8 +137,8 @@ where
     Peer<N>: Drop,
     requires open { N.is_open net.old ≡ true }
     ensures { LinksEnd options
-        (record { net = net_shown N.faults N.given N.ended net.old; sink = record { bytes = K.taken sink.old; faults = K.faults sink.old } })
-        (record { net = net_shown N.faults N.given N.ended net.new; sink = record { bytes = K.taken sink.new; faults = K.faults sink.new } })
+        (ports_shown N.Net K.Sink net.old sink.old)
+        (ports_shown N.Net K.Sink net.new sink.new)
         result.tally result.status }
 {
     let Acceptor { links, mut kit } = acceptor;
@@ -144,32 +157,30 @@ fn serve_open<
     W: Spawner<J>,
     K: Sink,
 >(
-    rt: &R,
-    alloc: Global,
+    host: &mut Host<'_, '_, '_, '_, '_, R, N, W, X, K>,
     options: Options,
     port: N::Port,
     access: A,
-    net: &mut N,
-    spawner: &mut W,
-    tools: &mut X,
-    sink: &mut K,
 ) -> Ended
 where
     N::Port: Drop,
     Peer<N>: Drop,
     <X::S as Streams>::Peer: Drop,
-    requires range { IsInRange options }
-    requires open { N.is_open net.old ≡ true }
+    requires range { IsServerInRange options }
+    requires open { N.is_open host.old.net.now ≡ true }
     requires parts { A.parts access ≡ 4294967296 }
-    ensures { EndsRun options
-        (record { net = net_shown N.faults N.given N.ended net.old; sink = record { bytes = K.taken sink.old; faults = K.faults sink.old } }) (W.faults spawner.old)
-        (record { net = net_shown N.faults N.given N.ended net.new; sink = record { bytes = K.taken sink.new; faults = K.faults sink.new } }) (W.faults spawner.new)
+    ensures ends { ServerEndsRun options
+        (ports_shown N.Net K.Sink host.old.net.now host.old.sink.now) (W.faults host.old.spawner.now)
+        (ports_shown N.Net K.Sink host.new.net.now host.new.sink.now) (W.faults host.new.spawner.now)
         result.tally result.status }
+    ensures same { (host.new.net.ghost_name ≡ host.old.net.ghost_name) × (host.new.spawner.ghost_name ≡ host.old.spawner.ghost_name) × (host.new.sink.ghost_name ≡ host.old.sink.ghost_name) }
 {
-    match start_all::<N, X, A, J, W>(alloc, spawner, tools, access, options, port) {
-        Ok((acceptor, access)) => serve_accepting(rt, options, acceptor, access, net, sink),
-        Err(Unstarted::Refused) => Ended::early(Status::WorkerRefused),
-        Err(Unstarted::NoMemory) => Ended::early(Status::NoMemory),
+    match start_all::<N, X, A, J, W>(host.alloc, host.spawner, host.tools, access, options, port) {
+        Ok((acceptor, access)) => {
+            serve_accepting(host.rt, options, acceptor, access, host.net, host.sink)
+        }
+        Err(Unstarted::Refused) => Ended::early(ServerStatus::WorkerRefused),
+        Err(Unstarted::NoMemory) => Ended::early(ServerStatus::NoMemory),
     }
 }
 
@@ -183,63 +194,53 @@ fn serve_gate<
     W: Spawner<J>,
     K: Sink,
 >(
-    rt: &R,
-    alloc: Global,
+    host: &mut Host<'_, '_, '_, '_, '_, R, N, W, X, K>,
     options: Options,
     port: N::Port,
     bus: B,
-    net: &mut N,
-    spawner: &mut W,
-    tools: &mut X,
-    sink: &mut K,
 ) -> Ended
 where
     N::Port: Drop,
     Peer<N>: Drop,
     <X::S as Streams>::Peer: Drop,
-    requires range { IsInRange options }
-    requires open { N.is_open net.old ≡ true }
+    requires range { IsServerInRange options }
+    requires open { N.is_open host.old.net.now ≡ true }
     requires fresh { B.means bus ≡ first_means }
-    ensures { EndsRun options
-        (record { net = net_shown N.faults N.given N.ended net.old; sink = record { bytes = K.taken sink.old; faults = K.faults sink.old } }) (W.faults spawner.old)
-        (record { net = net_shown N.faults N.given N.ended net.new; sink = record { bytes = K.taken sink.new; faults = K.faults sink.new } }) (W.faults spawner.new)
+    ensures ends { ServerEndsRun options
+        (ports_shown N.Net K.Sink host.old.net.now host.old.sink.now) (W.faults host.old.spawner.now)
+        (ports_shown N.Net K.Sink host.new.net.now host.new.sink.now) (W.faults host.new.spawner.now)
         result.tally result.status }
+    ensures same { (host.new.net.ghost_name ≡ host.old.net.ghost_name) × (host.new.spawner.ghost_name ≡ host.old.spawner.ghost_name) × (host.new.sink.ghost_name ≡ host.old.sink.ghost_name) }
 {
-    match GateAccess::start(alloc, bus, options.abort) {
-        Ok(access) => serve_open::<R, N, X, GateAccess<B>, J, W, K>(
-            rt, alloc, options, port, access, net, spawner, tools, sink,
-        ),
-        Err(_) => Ended::early(Status::NoMemory),
+    match GateAccess::start(host.alloc, bus, options.abort) {
+        Ok(access) => serve_open::<R, N, X, GateAccess<B>, J, W, K>(host, options, port, access),
+        Err(_) => Ended::early(ServerStatus::NoMemory),
     }
 }
 
 /// Opens the ports, and serves links over the bus.
 fn serve_bus<R: Wait, N: Net, W: Spawner<Serve<N, X, I>>, X: Tools + Logs, K: Sink, I: Instrument>(
-    rt: &R,
-    alloc: Global,
+    host: &mut Host<'_, '_, '_, '_, '_, R, N, W, X, K>,
     options: Options,
     bus: SimBus<I>,
-    net: &mut N,
-    spawner: &mut W,
-    tools: &mut X,
-    sink: &mut K,
 ) -> Ended
 where
     N::Port: Drop,
     Peer<N>: Drop,
     <X::S as Streams>::Peer: Drop,
-    requires range { IsInRange options }
+    requires range { IsServerInRange options }
     requires fresh { bus.means ≡ first_means }
-    ensures { EndsRun options
-        (record { net = net_shown N.faults N.given N.ended net.old; sink = record { bytes = K.taken sink.old; faults = K.faults sink.old } }) (W.faults spawner.old)
-        (record { net = net_shown N.faults N.given N.ended net.new; sink = record { bytes = K.taken sink.new; faults = K.faults sink.new } }) (W.faults spawner.new)
+    ensures ends { ServerEndsRun options
+        (ports_shown N.Net K.Sink host.old.net.now host.old.sink.now) (W.faults host.old.spawner.now)
+        (ports_shown N.Net K.Sink host.new.net.now host.new.sink.now) (W.faults host.new.spawner.now)
         result.tally result.status }
+    ensures same { (host.new.net.ghost_name ≡ host.old.net.ghost_name) × (host.new.spawner.ghost_name ≡ host.old.spawner.ghost_name) × (host.new.sink.ghost_name ≡ host.old.sink.ghost_name) }
 {
-    match open_ports(net, options.core, options.abort) {
-        Some(port) => serve_gate::<R, N, X, SimBus<I>, Serve<N, X, I>, W, K>(
-            rt, alloc, options, port, bus, net, spawner, tools, sink,
-        ),
-        None => Ended::early(Status::NetFailed),
+    match open_ports(host.net, options.core, options.abort) {
+        Some(port) => {
+            serve_gate::<R, N, X, SimBus<I>, Serve<N, X, I>, W, K>(host, options, port, bus)
+        }
+        None => Ended::early(ServerStatus::NetFailed),
     }
 }
 
@@ -253,30 +254,26 @@ fn serve_words<
     K: Sink,
     I: Instrument,
 >(
-    rt: &R,
-    alloc: Global,
+    host: &mut Host<'_, '_, '_, '_, '_, R, N, W, X, K>,
     words: &[String],
     bench: &mut S,
-    net: &mut N,
-    spawner: &mut W,
-    tools: &mut X,
-    sink: &mut K,
     rack: Vec<Spare<I>>,
 ) -> Ended
 where
     N::Port: Drop,
     Peer<N>: Drop,
     <X::S as Streams>::Peer: Drop,
-    ensures { Ends (map string_bytes words.now) (map (spare_shown (handed_in (λ i. I.behaves i) (λ i. I.nature i))) rack.items) (record { bytes = S.left bench.old; faults = S.faults bench.old }) (record { bytes = S.left bench.new; faults = S.faults bench.new })
-        (record { ports = record { net = net_shown N.faults N.given N.ended net.old; sink = record { bytes = K.taken sink.old; faults = K.faults sink.old } }; refused = W.faults spawner.old })
-        (record { ports = record { net = net_shown N.faults N.given N.ended net.new; sink = record { bytes = K.taken sink.new; faults = K.faults sink.new } }; refused = W.faults spawner.new })
+    ensures ends { ServerEnds (map string_bytes words.now) (map (spare_shown (handed_in (λ i. I.behaves i) (λ i. I.nature i))) rack.items) (source_shown S.Source bench.old) (source_shown S.Source bench.new)
+        (record { ports = ports_shown N.Net K.Sink host.old.net.now host.old.sink.now; refused = W.faults host.old.spawner.now })
+        (record { ports = ports_shown N.Net K.Sink host.new.net.now host.new.sink.now; refused = W.faults host.new.spawner.now })
         result.tally result.status }
+    ensures same { (host.new.net.ghost_name ≡ host.old.net.ghost_name) × (host.new.spawner.ghost_name ≡ host.old.spawner.ghost_name) × (host.new.sink.ghost_name ≡ host.old.sink.ghost_name) }
 {
     let mut rack = rack;
-    let prepared = prepare(alloc, words, bench, &mut rack, sink);
+    let prepared = prepare(host.alloc, words, bench, &mut rack, host.sink);
     drop(rack);
     match prepared {
-        Ok((options, bus)) => serve_bus(rt, alloc, options, bus, net, spawner, tools, sink),
+        Ok((options, bus)) => serve_bus(host, options, bus),
         Err(status) => Ended::early(status),
     }
 }
@@ -322,15 +319,21 @@ where
     N::Port: Drop,
     Peer<N>: Drop,
     <X::S as Streams>::Peer: Drop,
-    ensures outcome { EndsSo (map string_bytes words.now) (map (spare_shown (handed_in (λ i. I.behaves i) (λ i. I.nature i))) rack.items) (record { bytes = S.left bench.old; faults = S.faults bench.old }) (record { bytes = S.left bench.new; faults = S.faults bench.new })
-        (record { ports = record { net = net_shown N.faults N.given N.ended net.old; sink = record { bytes = K.taken sink.old; faults = K.faults sink.old } }; refused = W.faults spawner.old })
-        (record { ports = record { net = net_shown N.faults N.given N.ended net.new; sink = record { bytes = K.taken sink.new; faults = K.faults sink.new } }; refused = W.faults spawner.new })
+    ensures outcome { ServerEndsSo (map string_bytes words.now) (map (spare_shown (handed_in (λ i. I.behaves i) (λ i. I.nature i))) rack.items) (source_shown S.Source bench.old) (source_shown S.Source bench.new)
+        (record { ports = record { net = net_shown N.Net net.old; sink = sink_shown K.Sink sink.old }; refused = W.faults spawner.old })
+        (record { ports = record { net = net_shown N.Net net.new; sink = sink_shown K.Sink sink.new }; refused = W.faults spawner.new })
         result.1 result.0 }
-    ensures done { result.0 ≡ 0 → IsDone (map string_bytes words.now) (record { bytes = K.taken sink.old; faults = K.faults sink.old }) (record { bytes = K.taken sink.new; faults = K.faults sink.new })
+    ensures done { result.0 ≡ 0 → IsDone (map string_bytes words.now) (sink_shown K.Sink sink.old) (sink_shown K.Sink sink.new)
         result.1 }
 {
-    let Ended { status, tally } = serve_words(
-        rt, alloc, words, bench, net, spawner, tools, sink, rack,
-    );
+    let mut host = Host {
+        rt,
+        alloc,
+        net,
+        spawner,
+        tools,
+        sink,
+    };
+    let Ended { status, tally } = serve_words(&mut host, words, bench, rack);
     (status.number(), tally)
 }

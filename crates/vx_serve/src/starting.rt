@@ -1,7 +1,7 @@
 //! What a server starts before it takes its first link: its workers, each with a part of the access.
 ghost use Rattle.std.specs.Prelude.{◌≡◌, ◌-◌, ◌≤◌, ◌<◌, vec_len, IfOk};
 ghost use Rattle.vx_io_traits.specs.Faults.{Rose};
-ghost use Rattle.vx_startup.specs.Meant.{IsInRange};
+ghost use Rattle.vx_startup.specs.Meant.{IsServerInRange};
 ghost use Rattle.vx_serve.specs.declared.starting.Unstarted.TheVariants.{NoMemory};
 ghost use Rattle.vx_serve.specs.Starting.{OnUnstarted};
 
@@ -78,7 +78,7 @@ where
     N::Port: Drop,
     Peer<N>: Drop,
     <X::S as Streams>::Peer: Drop,
-    requires range { IsInRange options }
+    requires range { IsServerInRange options }
     requires parts { A.parts access ≡ 4294967296 }
     ensures counted { W.faults spawner.old ≤ W.faults spawner.new }
     ensures refused { OnUnstarted result (Rose (W.faults spawner.old) (W.faults spawner.new)) }

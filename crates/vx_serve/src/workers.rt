@@ -12,7 +12,7 @@ use vx_io_traits::{Accepted, Clock, Dial, Handed, Link, Listen, Net, Pause, Sink
 use vx_session::{End, Linked, Room, Tools};
 use vx_sim::SimBus;
 use vx_startup::{Channel, Logs, News, Reason, tell};
-use vx_stream::Visitor;
+use vx_stream::CountingLink;
 
 /// What one core link wants besides itself, the log that it is told in, and where it is counted.
 #[derive(Drop)]
@@ -79,7 +79,7 @@ fn news_of(how: Linked, calls: u64) -> News
 pub fn serve_core<R: Wait, A: Access, L: Link + Drop, C: Clock, P: Pause, D: Dial, G: Sink>(
     rt: &R,
     access: A,
-    link: Visitor<L>,
+    link: CountingLink<L>,
     kit: &mut CoreKit<C, P, D, G>,
 ) -> A {
     let number = link.number();
@@ -110,12 +110,12 @@ where
 {
     /// It serves core links, one after the other.
     Core {
-        links: Receiver<Visitor<Peer<N>>>,
+        links: Receiver<CountingLink<Peer<N>>>,
         kit: CoreKit<X::C, X::P, X::D, X::L>,
     },
     /// It serves abort links.
     Abort {
-        links: Receiver<Visitor<Peer<N>>>,
+        links: Receiver<CountingLink<Peer<N>>>,
         kit: AbortKit<X::L>,
     },
     /// It writes the interrupts of channels to the streams that dials hand over. Interrupts come at samples alone, so it looks
@@ -127,7 +127,7 @@ where
     /// It takes the links of the abort port and hands them to the abort workers, or serves one that comes back.
     Accept {
         port: N::Port,
-        links: Sender<Visitor<Peer<N>>>,
+        links: Sender<CountingLink<Peer<N>>>,
         kit: AbortKit<X::L>,
     },
     /// It looks at the SRQ line, and then pauses, until the server ends.
@@ -210,7 +210,7 @@ fn serve_cores<
     P: Pause + Drop,
     D: Dial + Drop,
     G: Sink + Drop,
->(rt: &R, access: A, links: &Receiver<Visitor<L>>, kit: CoreKit<C, P, D, G>) {
+>(rt: &R, access: A, links: &Receiver<CountingLink<L>>, kit: CoreKit<C, P, D, G>) {
     let mut access = access;
     let mut kit = kit;
     for _ in rt.forever() {
@@ -225,7 +225,7 @@ fn serve_cores<
 fn serve_abort<R: Wait, A: Access, L: Link + Drop, G: Sink>(
     rt: &R,
     access: A,
-    link: Visitor<L>,
+    link: CountingLink<L>,
     kit: &mut AbortKit<G>,
 ) -> A {
     let mut link = link;
@@ -239,7 +239,7 @@ fn serve_abort<R: Wait, A: Access, L: Link + Drop, G: Sink>(
 fn serve_aborts<R: Wait, A: Access + Drop, L: Link + Drop, G: Sink + Drop>(
     rt: &R,
     access: A,
-    links: &Receiver<Visitor<L>>,
+    links: &Receiver<CountingLink<L>>,
     kit: AbortKit<G>,
 ) {
     let mut access = access;
@@ -255,9 +255,9 @@ fn serve_aborts<R: Wait, A: Access + Drop, L: Link + Drop, G: Sink + Drop>(
 /// Hands an abort link to the workers. It waits where 64 links wait for one, and serves a link that comes back itself.
 fn hand_abort<R: Wait, A: Access, L: Link + Drop, G: Sink>(
     rt: &R,
-    links: &Sender<Visitor<L>>,
+    links: &Sender<CountingLink<L>>,
     access: A,
-    link: Visitor<L>,
+    link: CountingLink<L>,
     kit: &mut AbortKit<G>,
 ) -> A {
     let _ = tell(&mut kit.log, Channel::Abort, link.number(), News::Came);
@@ -272,7 +272,7 @@ fn accept_aborts<R: Wait, A: Access + Drop, T: Listen, G: Sink + Drop>(
     rt: &R,
     access: A,
     port: T,
-    links: &Sender<Visitor<T::Peer>>,
+    links: &Sender<CountingLink<T::Peer>>,
     kit: AbortKit<G>,
 )
 where
@@ -287,7 +287,7 @@ where
         match port.accept() {
             Accepted::Peer(link) => {
                 number = number.saturating_add(1);
-                access = hand_abort(rt, links, access, Visitor::new(link, number), &mut kit);
+                access = hand_abort(rt, links, access, CountingLink::new(link, number), &mut kit);
             }
             Accepted::Ended | Accepted::Failed => return,
         }

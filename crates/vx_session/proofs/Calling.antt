@@ -19,7 +19,7 @@ use Rattle.vx_core.specs.CoreState.{CoreState}
 use Rattle.vx_session.specs.Origin.{Origin}
 use Rattle.vx_gate.specs.PassView.{PassView}
 use Rattle.vx_group.specs.Event.{Event}
-use Rattle.vx_group.specs.FineState.{FineState}
+use Rattle.vx_group.specs.InterleavedState.{InterleavedState}
 use Rattle.vx_group.specs.Poll as poll
 use Rattle.vx_group.specs.Poll.{Ending, Waited, Dialed}
 use Rattle.vx_group.specs.Groups.{Group}
@@ -29,13 +29,13 @@ use Rattle.vx_exchange.specs.declared.polls.PollEnd.TheVariants as said
 use Rattle.vx_exchange.specs.declared.polls.DialAnswered.{DialAnswered}
 use Rattle.vx_exchange.specs.Doing.{Says}
 use Rattle.vx_session.specs.Placing.{Placed, Makes, IsHistory, behind}
-use Rattle.vx_session.specs.Parts.{IsPolled, moment_at, phase_behind, settled_events}
-use Rattle.vx_session.specs.Turning.{phase_at, IsChannel, Comes, PollsAgain, Settles}
-use Rattle.vx_session.specs.ProvedLaws.{ispolled-all, makes-later, makes-goes, clocked-goes}
-use Rattle.vx_session.specs.Outside.{DialShown, RoseBy, is_failed_dial}
-use Rattle.vx_session.specs.Serving.{IsPoll, IsCalled, GoesOn, rings}
+use Rattle.vx_session.specs.Parts.{IsSessionPolled, moment_at, phase_behind, settled_events}
+use Rattle.vx_session.specs.Turning.{phase_at, IsChannel, SessionComes, PollsAgain, Settles}
+use Rattle.vx_session.proofs.Laws.{ispolled-all, makes-later, makes-goes, clocked-goes}
+use Rattle.vx_session.specs.Dialing.{DialShown, RoseBy, is_failed_dial}
+use Rattle.vx_session.specs.Serving.{IsPoll, IsCalled, SessionGoesOn, rings}
 use Rattle.vx_session.specs.Progress.{Rings, Clocked, AnswersCall, AnswersDial, failed_dials}
-use Rattle.vx_session.proofs.Progressing.{adds-none, adds-goes, failed_dials-append}
+use Rattle.vx_session.proofs.Laws.Progressing.{adds-none, adds-goes, failed_dials-append}
 
 -- ---- the calls of a dial
 
@@ -146,7 +146,7 @@ module _ {B C : Type 0} (g : Origin B) (tells : C → ℕ → C → Type 0) (clo
 -- ---- the polls of a call
 
 -- a poll settles no dial, whatever it did
-poll-quiet : {B : Type 0} (g : Ghosts B) (before : CoreState B) (conn now : ℕ) (ending : Ending) (events : List Event) (steps : List Step) → IsPolled g before conn now ending events steps
+poll-quiet : {B : Type 0} (g : Ghosts B) (before : CoreState B) (conn now : ℕ) (ending : Ending) (events : List Event) (steps : List Step) → IsSessionPolled g before conn now ending events steps
     → count_by is_failed_dial events ≡ 0
 poll-quiet g before conn now ending events steps polled =
     none-failed events (ispolled-all (λ e. is_failed_dial e ≡ false) g before conn now ending events steps polled refl (λ made. refl) (λ failed level told. refl) refl)
@@ -158,7 +158,7 @@ module _ {B C : Type 0} (g : Origin B) (tells : C → ℕ → C → Type 0) (clo
     pub groups : List Placed
     pub last : Ending
     pub makes : Makes told pass groups pass'
-    pub called : (rest : List Placed) (rung : List Rang) (out : List ℕ) → GoesOn g pass.number conn xid call last rest rung out
+    pub called : (rest : List Placed) (rung : List Rang) (out : List ℕ) → SessionGoesOn g pass.number conn xid call last rest rung out
         → IsCalled g pass.number conn xid call (groups ++ rest) rung out
     pub asks : Clocked tells clock clock' groups
     pub quiet : failed_dials groups ≡ 0
@@ -167,7 +167,7 @@ module _ {B C : Type 0} (g : Origin B) (tells : C → ℕ → C → Type 0) (clo
     pub phase : phase_at pass' conn ≡ phase_behind call false last
 
   -- it came, and was polled once
-  pub polled-once : (now : ℕ) (room : List ℕ) (end : PollEnd) → tells clock now clock' → now ≤ told → Comes g now pass conn xid call room end pass' → Polled room end
+  pub polled-once : (now : ℕ) (room : List ℕ) (end : PollEnd) → tells clock now clock' → now ≤ told → SessionComes g now pass conn xid call room end pass' → Polled room end
   polled-once now room end asked later comes = record {
     groups = comes.placed ∷ [];
     last = comes.ending;
@@ -202,7 +202,7 @@ module _ {B C : Type 0} (g : Origin B) (tells : C → ℕ → C → Type 0) (clo
   -- so it is where the turn tells a reply
   pub polled-replied : (room : List ℕ) (dial : DialShown) (end : PollEnd) (len : ℕ) (error : ErrorCode) → end ≡ said.Replied len error → Polled room end → Replies room dial len
   polled-replied room dial end len error is polled = by polled.last polled.called (subst (λ e. Says xid room e polled.last) is polled.says) polled.phase where
-    by : (last : Ending) → ((rest : List Placed) (rung : List Rang) (out : List ℕ) → GoesOn g pass.number conn xid call last rest rung out
+    by : (last : Ending) → ((rest : List Placed) (rung : List Rang) (out : List ℕ) → SessionGoesOn g pass.number conn xid call last rest rung out
         → IsCalled g pass.number conn xid call (polled.groups ++ rest) rung out)
         → Says xid room (said.Replied len error) last → phase_at pass' conn ≡ phase_behind call false last → Replies room dial len
     by (poll.Answered ran level reply) called says phase = record {
@@ -246,7 +246,7 @@ front-none all front rest sum none_before = omega arith
 module _ {B C : Type 0} (g : Origin B) (tells : C → ℕ → C → Type 0) (clock clock' clock'' : C) (told told' : ℕ) (pass pass' pass'' : PassView Group) (conn xid : ℕ) (call : Call) (room : List ℕ) (end : PollEnd) where
   -- a call without an answer goes on by one more poll
   goes-by-poll : (last next : Ending) (why : _) (p : Placed) (rest : List Placed) (rung : List Rang) (out : List ℕ) → Says xid room (said.NotYet why) last → IsPoll g conn call p next
-      → GoesOn g pass.number conn xid call next rest rung out → GoesOn g pass.number conn xid call last (p ∷ rest) rung out
+      → SessionGoesOn g pass.number conn xid call next rest rung out → SessionGoesOn g pass.number conn xid call last (p ∷ rest) rung out
   goes-by-poll (Waited waits) next why p rest rung out says poll goes_on = (next, poll, goes_on)
   goes-by-poll (poll.Answered ran level reply) next why p rest rung out says poll goes_on = absurd says
   goes-by-poll (Dialed host port) next why p rest rung out says poll goes_on = absurd says
@@ -276,10 +276,10 @@ module _ {B C : Type 0} (g : Origin B) (tells : C → ℕ → C → Type 0) (clo
 
   -- a call that asked for a dial goes on as it was asked
   goes-by-dial : (last : Ending) (host port : ℕ) (rest : List Placed) (rung : List Rang) (out : List ℕ) → Says xid room (said.Dial host port) last
-      → GoesOn g pass.number conn xid call (Dialed host port) rest rung out → GoesOn g pass.number conn xid call last rest rung out
+      → SessionGoesOn g pass.number conn xid call (Dialed host port) rest rung out → SessionGoesOn g pass.number conn xid call last rest rung out
   goes-by-dial (Dialed h p) host port rest rung out says goes_on =
-      subst (λ k. GoesOn g pass.number conn xid call (Dialed h k) rest rung out) says.1
-      (subst (λ k. GoesOn g pass.number conn xid call (Dialed k port) rest rung out) says.0 goes_on)
+      subst (λ k. SessionGoesOn g pass.number conn xid call (Dialed h k) rest rung out) says.1
+      (subst (λ k. SessionGoesOn g pass.number conn xid call (Dialed k port) rest rung out) says.0 goes_on)
   goes-by-dial (poll.Answered ran level reply) host port rest rung out says goes_on = absurd says
   goes-by-dial (Waited waits) host port rest rung out says goes_on = absurd says
 
@@ -302,7 +302,7 @@ module _ {B C : Type 0} (g : Origin B) (tells : C → ℕ → C → Type 0) (clo
         };
         holding = polled.called dialed.placed dialed.rung out
             (goes-by-dial polled.last host port dialed.placed dialed.rung out says
-            (subst (λ n. GoesOn g n conn xid call (Dialed host port) dialed.placed dialed.rung out) polled.makes.number dialed.holding));
+            (subst (λ n. SessionGoesOn g n conn xid call (Dialed host port) dialed.placed dialed.rung out) polled.makes.number dialed.holding));
       }
 
 -- The polls of a call so far, while the clock went on and nothing was dialed.

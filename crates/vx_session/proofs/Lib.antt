@@ -1,3 +1,4 @@
+pub mod Laws
 pub mod Pumped
 pub mod Moments
 pub mod Adding
@@ -8,6 +9,3 @@ pub mod Outcomes
 pub mod Channels
 pub mod Polled
 pub mod Calling
-pub mod Finishing
-pub mod Progressing
-pub mod Recorded

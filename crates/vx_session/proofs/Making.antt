@@ -8,7 +8,7 @@ use Rattle.vx_gate.specs.History.{made, groups}
 use Rattle.vx_gate.specs.PassView.{PassView}
 use Rattle.vx_gate.specs.Turning.{Turned}
 use Rattle.vx_flow.specs.Event.{Event}
-use Rattle.vx_flow.specs.FineState.{FineState}
+use Rattle.vx_flow.specs.InterleavedState.{InterleavedState}
 use Rattle.vx_bus_traits.specs.Steps.{Step}
 use Rattle.vx_core.specs.CoreState.{CoreState}
 use Rattle.vx_core.specs.Standing.{Became}
@@ -16,43 +16,43 @@ use Rattle.vx_group.specs.Groups.{Group, last_moment, now_of, StandsFor}
 use Rattle.vx_group.specs.Owning.{MayAdd}
 use Rattle.vx_group.specs.Laws.{group_after}
 use Rattle.vx_session.specs.Origin.{Origin}
-use Rattle.vx_session.specs.Placing.{Placed, IsTold, IsTimely}
+use Rattle.vx_session.specs.Placing.{Placed, IsSessionTold, IsTimely}
 use Rattle.vx_session.specs.Turning.{Turns}
 use Rattle.vx_session.specs.Parts.{IsAt, moment_at}
 
 -- ---- moments
 
 -- the greater of a moment that is kept and one that is told is one of the two
-max-told : (kept told : ℕ) → IsTold kept told (max kept told)
+max-told : (kept told : ℕ) → IsSessionTold kept told (max kept told)
 max-told kept told = by (cases_lt kept told) where
-  by : (kept < told) ⊎ (told ≤ kept) → IsTold kept told (max kept told)
+  by : (kept < told) ⊎ (told ≤ kept) → IsSessionTold kept told (max kept told)
   by (inl lt) = inr (omega arith)
   by (inr ge) = inl (omega arith)
 
 -- a group of events at a moment that is one of the two, after which the gateway is at that moment
-timely : (told now : ℕ) (log : List (Logged Group)) (f g : FineState) (events : List Event) (steps : List Step) → StandsFor f (groups log) → All (IsAt now) events
-    → g.state.moment ≡ now → IsTold f.state.moment told now → IsTimely told (record { before = log; group = group_after f events steps g.state.moment })
+timely : (told now : ℕ) (log : List (Logged Group)) (f g : InterleavedState) (events : List Event) (steps : List Step) → StandsFor f (groups log) → All (IsAt now) events
+    → g.state.moment ≡ now → IsSessionTold f.state.moment told now → IsTimely told (record { before = log; group = group_after f events steps g.state.moment })
 timely told now log f g events steps stands at now_is is_told =
     let kept = last_moment (groups log) in
-    let here : IsTold kept told now = subst (λ k. IsTold k told now) stands.moment is_told in
+    let here : IsSessionTold kept told now = subst (λ k. IsSessionTold k told now) stands.moment is_told in
     record {
-      moment = subst (IsTold kept told) (sym now_is) here;
-      events = All-weaker (IsAt now) (λ e. (n : ℕ) → now_of e ≡ Some n → IsTold kept told n) (λ e at_now n is. subst (IsTold kept told) (sym (at_now n is)) here)
+      moment = subst (IsSessionTold kept told) (sym now_is) here;
+      events = All-weaker (IsAt now) (λ e. (n : ℕ) → now_of e ≡ Some n → IsSessionTold kept told n) (λ e at_now n is. subst (IsSessionTold kept told) (sym (at_now n is)) here)
           events at;
     }
 
 -- the greater of the moment of a state that stands for the history, and of a told one, is the turn's
-pub now-is : (told : ℕ) (log : List (Logged Group)) (f : FineState) (group : Group) → StandsFor f (groups log)
+pub now-is : (told : ℕ) (log : List (Logged Group)) (f : InterleavedState) (group : Group) → StandsFor f (groups log)
     → max f.state.moment told ≡ moment_at (record { before = log; group = group }) told
 now-is told log f group stands = ap (λ m. max m told) stands.moment
 
 -- one at the greater of the two
-pub timely-now : (told : ℕ) (log : List (Logged Group)) (f g : FineState) (events : List Event) (steps : List Step) → StandsFor f (groups log) → All (IsAt (max f.state.moment told)) events
+pub timely-now : (told : ℕ) (log : List (Logged Group)) (f g : InterleavedState) (events : List Event) (steps : List Step) → StandsFor f (groups log) → All (IsAt (max f.state.moment told)) events
     → g.state.moment ≡ max f.state.moment told → IsTimely told (record { before = log; group = group_after f events steps g.state.moment })
 timely-now told log f g events steps stands at now_is = timely told (max f.state.moment told) log f g events steps stands at now_is (max-told f.state.moment told)
 
 -- and one that leaves the moment that is kept
-pub timely-still : (log : List (Logged Group)) (f g : FineState) (events : List Event) (steps : List Step) → StandsFor f (groups log) → All (IsAt f.state.moment) events
+pub timely-still : (log : List (Logged Group)) (f g : InterleavedState) (events : List Event) (steps : List Step) → StandsFor f (groups log) → All (IsAt f.state.moment) events
     → g.state.moment ≡ f.state.moment → IsTimely 0 (record { before = log; group = group_after f events steps g.state.moment })
 timely-still log f g events steps stands at same = timely 0 f.state.moment log f g events steps stands at same (inl refl)
 

@@ -14,46 +14,46 @@ use Rattle.vx_gate.specs.History.{groups}
 use Rattle.vx_gate.specs.PassView.{PassView}
 use Rattle.vx_gate.specs.Turning.{Fits}
 use Rattle.vx_rules.specs.State.{connection_at, pending_at, lives_as, is_idle}
-use Rattle.vx_rules.specs.ProvedLaws.{role-lives, role-connection}
+use Rattle.vx_rules.proofs.Laws.{role-lives, role-connection}
 use Rattle.vx_flow.specs.Event.{Event, Down, Arrive, Answer, Abort, Begin, Move, Dial}
-use Rattle.vx_flow.specs.FineState.{FineState}
+use Rattle.vx_flow.specs.InterleavedState.{InterleavedState}
 use Rattle.vx_flow.specs.Poll.{Ending}
 use Rattle.vx_group.specs.Groups.{Group, events_of, StandsFor}
 use Rattle.vx_group.specs.Phases.{Phase, Absent, Idle, Asked, dialing, phase_after, phase_by, is_up, HasPhase}
 use Rattle.vx_group.specs.Owning.{may_make, may_make_all, MayAdd}
 use Rattle.vx_group.specs.Laws.{PhaseLaw}
-use Rattle.vx_group.specs.ProvedLaws.{phase-append}
+use Rattle.vx_group.proofs.Laws.{phase-append}
 use Rattle.vx_session.specs.Acting.{poll_events, come_events, come_to}
 use Rattle.vx_session.specs.Turning.{phase_at}
-use Rattle.vx_session.specs.ProvedLaws.{poll-all}
+use Rattle.vx_session.proofs.Laws.{poll-all}
 
 -- ---- what it knows
 
 -- the state has the connection as the pass's own groups tell
-pub own-phase : PhaseLaw → (pass : PassView Group) (log : List (Logged Group)) (f : FineState) (conn : ℕ) (phase : Phase) → Fits MayAdd pass log → StandsFor f (groups log)
+pub own-phase : PhaseLaw → (pass : PassView Group) (log : List (Logged Group)) (f : InterleavedState) (conn : ℕ) (phase : Phase) → Fits MayAdd pass log → StandsFor f (groups log)
     → phase_at pass conn ≡ phase → HasPhase f conn phase
 own-phase law pass log f conn phase fits stands is =
     subst (HasPhase f conn) is (subst (λ own. HasPhase f conn (phase_by conn (events_of own))) fits.mine (law log f pass.number conn fits.lawful stands))
 
 -- an idle core connection
-pub idle-phase : (f : FineState) (conn : ℕ) → HasPhase f conn (Idle role.Core) → is_idle f.state.tables conn ≡ true
+pub idle-phase : (f : InterleavedState) (conn : ℕ) → HasPhase f conn (Idle role.Core) → is_idle f.state.tables conn ≡ true
 idle-phase f conn phases =
     and_from (lives_as f.state.tables conn role.Core) (is_none (pending_at f.state.tables conn)) (role-lives f.state.tables conn role.Core phases.0) (ap is_none phases.1)
 
 -- an abort connection
-pub abort-phase : (f : FineState) (conn : ℕ) → HasPhase f conn (Idle role.Abort) → lives_as f.state.tables conn role.Abort ≡ true
+pub abort-phase : (f : InterleavedState) (conn : ℕ) → HasPhase f conn (Idle role.Abort) → lives_as f.state.tables conn role.Abort ≡ true
 abort-phase f conn phases = role-lives f.state.tables conn role.Abort phases.0
 
 -- one with a call
-pub asked-phase : (f : FineState) (conn : ℕ) (call : Call) (dialed : Bool) → HasPhase f conn (Asked call dialed) → IsSome (pending_at f.state.tables conn)
+pub asked-phase : (f : InterleavedState) (conn : ℕ) (call : Call) (dialed : Bool) → HasPhase f conn (Asked call dialed) → IsSome (pending_at f.state.tables conn)
 asked-phase f conn call dialed phases = subst IsSome (sym phases.1.call_at) refl
 
 -- one of whose call a dial was asked for
-pub dialed-phase : (f : FineState) (conn : ℕ) (call : Call) → HasPhase f conn (Asked call true) → list_any (λ n. n == conn) f.dialed ≡ true
+pub dialed-phase : (f : InterleavedState) (conn : ℕ) (call : Call) → HasPhase f conn (Asked call true) → list_any (λ n. n == conn) f.dialed ≡ true
 dialed-phase f conn call phases = phases.1.dialed_is
 
 -- each that is up
-pub up-phase : (f : FineState) (conn : ℕ) (phase : Phase) → is_up phase ≡ true → HasPhase f conn phase → IsSome (connection_at f.state.tables conn)
+pub up-phase : (f : InterleavedState) (conn : ℕ) (phase : Phase) → is_up phase ≡ true → HasPhase f conn phase → IsSome (connection_at f.state.tables conn)
 up-phase f conn Absent up phases = absurd (false≢true up)
 up-phase f conn (Idle r) up phases = role-connection f.state.tables conn r phases.0
 up-phase f conn (Asked call dialed) up phases = role-connection f.state.tables conn role.Core phases.0
@@ -110,14 +110,14 @@ may-one own e may = and_from (may_make own e) (may_make_all (own ++ e ∷ []) []
 
 module _ (pass : PassView Group) (conn : ℕ) (up : is_up (phase_at pass conn) ≡ true) where
   -- the events of a poll
-  pub may-poll : (f : FineState) (now : ℕ) (moves : List Transfer) (ending : Ending) → may_make_all (events_of pass.own) (poll_events f conn now moves ending) ≡ true
+  pub may-poll : (f : InterleavedState) (now : ℕ) (moves : List Transfer) (ending : Ending) → may_make_all (events_of pass.own) (poll_events f conn now moves ending) ≡ true
   may-poll f now moves ending =
       may-all conn (poll_events f conn now moves ending) (events_of pass.own)
       (poll-all (KeepsUp conn) f conn now moves ending (begin-up conn now) (move-up conn) (λ failed level told. answer-up conn now failed None level told) (dial-up conn now))
       up
 
   -- a call that comes, and its poll
-  pub may-come : (f : FineState) (now : ℕ) (call : Call) (moves : List Transfer) (ending : Ending) → may_make_all (events_of pass.own) (come_events f conn call now moves ending) ≡ true
+  pub may-come : (f : InterleavedState) (now : ℕ) (call : Call) (moves : List Transfer) (ending : Ending) → may_make_all (events_of pass.own) (come_events f conn call now moves ending) ≡ true
   may-come f now call moves ending =
       let behind = come_to f conn call now in
       may-all conn (come_events f conn call now moves ending) (events_of pass.own)

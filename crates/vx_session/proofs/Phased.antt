@@ -5,14 +5,14 @@ use Rattle.vx_calls.specs.declared.calls.Role.TheVariants as role
 use Rattle.vx_calls.specs.Call.{Call}
 use Rattle.vx_488.specs.declared.transfers.Transfer.{Transfer}
 use Rattle.vx_flow.specs.Event.{Up, Arrive}
-use Rattle.vx_flow.specs.FineState.{FineState}
+use Rattle.vx_flow.specs.InterleavedState.{InterleavedState}
 use Rattle.vx_flow.specs.Poll.{Ending}
 use Rattle.vx_group.specs.Groups.{Group, events_of}
 use Rattle.vx_group.specs.Phases.{Phase, Absent, Idle, Asked, phase_after, phase_along, phase_by}
-use Rattle.vx_group.specs.ProvedLaws.{events-more, phase-append}
+use Rattle.vx_group.proofs.Laws.{events-more, phase-append}
 use Rattle.vx_session.specs.Acting.{poll_events}
 use Rattle.vx_session.specs.Parts.{phase_behind}
-use Rattle.vx_session.specs.ProvedLaws.{chosen-own, poll-phase}
+use Rattle.vx_session.proofs.Laws.{chosen-own, poll-phase}
 
 -- the phase by groups, and one more
 pub phase-more : (own own' : List Group) (x : Group) (conn : ℕ) → own' ≡ own ++ x ∷ [] → phase_by conn (events_of own') ≡ phase_along conn (phase_by conn (events_of own)) x.events
@@ -30,7 +30,7 @@ pub phase-answer : (conn : ℕ) (phase : Phase) → cond (conn == conn) (Idle ro
 phase-answer conn phase = chosen-own conn (Idle role.Core) phase
 
 -- one on which a call comes, and is polled
-pub phase-comes : (mid : FineState) (conn now : ℕ) (phase : Phase) (call : Call) (moves : List Transfer) (ending : Ending)
+pub phase-comes : (mid : InterleavedState) (conn now : ℕ) (phase : Phase) (call : Call) (moves : List Transfer) (ending : Ending)
     → phase_along conn phase (Arrive conn call now ∷ poll_events mid conn now moves ending) ≡ phase_behind call false ending
 phase-comes mid conn now phase call moves ending =
     ap (λ s. phase_along conn s (poll_events mid conn now moves ending)) (chosen-own conn (Asked call false) phase) ∙ poll-phase mid conn now moves ending call false

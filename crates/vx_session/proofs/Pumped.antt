@@ -5,7 +5,9 @@ use Rattle.std.proofs.lemmas.List.Concat.{flat_map-append}
 use Rattle.std.proofs.lemmas.List.Elements.{All-nil, All-push}
 use Rattle.std.specs.List.{All}
 use Rattle.vx_io_traits.specs.Faults.{Rose}
-use Rattle.vx_io_traits.specs.Stands.{Goes, Goes-none, Goes-goes}
+use Rattle.vx_io_traits.specs.Stands.{Goes}
+use Rattle.vx_io_traits.specs.declared.links.Link.{Ghosts}
+use Rattle.vx_io_traits.proofs.Laws.Goings.{Goes-none, Goes-goes}
 use Rattle.vx_gate.specs.PassView.{PassView}
 use Rattle.vx_exchange.specs.SrqState.{Given, Srq, Front, Empty, Gone}
 use Rattle.vx_exchange.specs.Meaning.{srq_record}
@@ -13,11 +15,11 @@ use Rattle.vx_core.specs.Groups.{Group}
 use Rattle.vx_session.specs.Placing.{Placed, Makes}
 use Rattle.vx_session.specs.Origin.{Origin}
 use Rattle.vx_session.specs.Turning.{TakesTurn}
-use Rattle.vx_stream.specs.Shown.{LinkShown, LinkGoes}
-use Rattle.vx_stream.specs.ProvedLaws.{link-none, link-goes, took-none, took-then}
-use Rattle.vx_stream.specs.Calling.{Receives, Sends, OnlyTook}
+use Rattle.vx_stream.specs.Shown.{LinkGoes, link_shown}
+use Rattle.vx_stream.proofs.Laws.{link-none, link-goes, took-none, took-then}
+use Rattle.vx_stream.specs.Calling.{OnlyTook}
 use Rattle.vx_stream.specs.Sending.{IsSent, SendsAll}
-use Rattle.vx_session.specs.ProvedLaws.{makes-none, makes-goes}
+use Rattle.vx_session.proofs.Laws.{makes-none, makes-goes}
 use Rattle.vx_session.specs.Pumping.{Taking, IsTaking, given_record, taken_records, HaveLived, Pumps}
 use Rattle.vx_session.specs.declared.pumps.PumpEnd.TheVariants as end
 
@@ -37,37 +39,36 @@ makes-more pass pass' pass'' turns t before turn =
 
 -- So far the pump made these turns, found the channel in each, and the link took the records of the interrupts that they were
 -- given.
-pub record Pumped {L : Type 0} (stands : L → List ℕ → List ℕ → Type 0) (receives : Receives L) (sends : Sends L) (pass : PassView Group) (conn chan : ℕ) (link : L) (seen : LinkShown) (pass' : PassView Group) (link' : L)
-    (seen' : LinkShown) : Type 0 where
+pub record Pumped {L : Type 0} (ways : Ghosts L) (pass : PassView Group) (conn chan : ℕ) (link : L) (pass' : PassView Group) (link' : L) : Type 0 where
   pub turns : List Taking
   pub written : List ℕ
   pub makes : Makes 0 pass (map (λ t. t.placed) turns) pass'
   pub each : All (IsTaking conn chan) turns
   pub lived : HaveLived turns
-  pub bytes : Goes stands link link' written []
-  pub goes : LinkGoes seen [] seen'
-  pub calls : OnlyTook receives sends link written link'
+  pub bytes : Goes ways.stands link link' written []
+  pub goes : LinkGoes (link_shown ways link) [] (link_shown ways link')
+  pub calls : OnlyTook ways link written link'
   pub wrote : taken_records turns ≡ written
 
-module _ {B L : Type 0} (g : Origin B) (stands : L → List ℕ → List ℕ → Type 0) (receives : Receives L) (sends : Sends L) (pass : PassView Group) (conn chan : ℕ) (link : L) (seen : LinkShown) where
+module _ {B L : Type 0} (g : Origin B) (ways : Ghosts L) (pass : PassView Group) (conn chan : ℕ) (link : L) where
   -- before its first turn
-  pub pumped-none : Pumped stands receives sends pass conn chan link seen pass link seen
+  pub pumped-none : Pumped ways pass conn chan link pass link
   pumped-none = record {
     turns = [];
     written = [];
     makes = makes-none 0 pass;
     each = All-nil (IsTaking conn chan);
     lived = All-nil (λ t. t.given ≢ Gone);
-    bytes = Goes-none stands link;
-    goes = link-none seen;
-    calls = took-none receives sends link;
+    bytes = Goes-none ways.stands link;
+    goes = link-none (link_shown ways link);
+    calls = took-none ways link;
     wrote = refl;
   }
 
   -- one more turn, whose outbox was empty
-  pub pumped-empty : (given : Given) (pass' pass'' : PassView Group) (link' : L) (seen' : LinkShown) → Pumped stands receives sends pass conn chan link seen pass' link' seen'
-      → TakesTurn g pass' conn chan given pass'' → given ≡ Empty → Pumped stands receives sends pass conn chan link seen pass'' link' seen'
-  pumped-empty given pass' pass'' link' seen' so_far turn is_empty =
+  pub pumped-empty : (given : Given) (pass' pass'' : PassView Group) (link' : L) → Pumped ways pass conn chan link pass' link'
+      → TakesTurn g pass' conn chan given pass'' → given ≡ Empty → Pumped ways pass conn chan link pass'' link'
+  pumped-empty given pass' pass'' link' so_far turn is_empty =
       let t : Taking = record { placed = turn.placed; given = given } in
       record {
         turns = so_far.turns ++ t ∷ [];
@@ -85,22 +86,22 @@ module _ {B L : Type 0} (g : Origin B) (stands : L → List ℕ → List ℕ →
       }
 
   -- one more turn, that was given an interrupt, and all of its record was sent
-  pub pumped-sent : (given : Given) (srq : Srq) (record_sent : List ℕ) (all : Bool) (pass' pass'' : PassView Group) (link' link'' : L) (seen' seen'' : LinkShown)
-      → Pumped stands receives sends pass conn chan link seen pass' link' seen' → TakesTurn g pass' conn chan given pass'' → given ≡ Front srq
-      → SendsAll stands receives sends link' seen' record_sent all link'' seen'' → record_sent ≡ srq_record srq → all ≡ true
-      → Pumped stands receives sends pass conn chan link seen pass'' link'' seen''
-  pumped-sent given srq record_sent all pass' pass'' link' link'' seen' seen'' so_far turn is_front sent is_record is_all =
+  pub pumped-sent : (given : Given) (srq : Srq) (record_sent : List ℕ) (all : Bool) (pass' pass'' : PassView Group) (link' link'' : L)
+      → Pumped ways pass conn chan link pass' link' → TakesTurn g pass' conn chan given pass'' → given ≡ Front srq
+      → SendsAll ways link' record_sent all link'' → record_sent ≡ srq_record srq → all ≡ true
+      → Pumped ways pass conn chan link pass'' link''
+  pumped-sent given srq record_sent all pass' pass'' link' link'' so_far turn is_front sent is_record is_all =
       let t : Taking = record { placed = turn.placed; given = given } in
-      let none_left : IsSent seen' sent.unsent seen'' true = subst (λ a. IsSent seen' sent.unsent seen'' a) is_all sent.is_sent in
+      let none_left : IsSent (link_shown ways link') sent.unsent (link_shown ways link'') true = subst (λ a. IsSent (link_shown ways link') sent.unsent (link_shown ways link'') a) is_all sent.is_sent in
       record {
         turns = so_far.turns ++ t ∷ [];
         written = so_far.written ++ sent.sent;
         makes = makes-more pass pass' pass'' so_far.turns t so_far.makes turn.turns.makes;
         each = All-push (IsTaking conn chan) so_far.turns t so_far.each (turn.taken, turn.steps);
         lived = All-push (λ u. u.given ≢ Gone) so_far.turns t so_far.lived (λ e. cc);
-        bytes = Goes-goes stands link link' link'' so_far.written [] sent.sent [] so_far.bytes sent.took;
-        goes = link-goes seen seen' seen'' [] [] so_far.goes sent.goes;
-        calls = took-then receives sends link link' link'' so_far.written sent.sent so_far.calls sent.calls;
+        bytes = Goes-goes ways.stands link link' link'' so_far.written [] sent.sent [] so_far.bytes sent.took;
+        goes = link-goes (link_shown ways link) (link_shown ways link') (link_shown ways link'') [] [] so_far.goes sent.goes;
+        calls = took-then ways link link' link'' so_far.written sent.sent so_far.calls sent.calls;
         wrote = records-more so_far.turns t
             ∙ ap (λ xs. xs ++ given_record given) so_far.wrote
             ∙ ap (λ xs. so_far.written ++ xs)
@@ -108,9 +109,9 @@ module _ {B L : Type 0} (g : Origin B) (stands : L → List ℕ → List ℕ →
       }
 
   -- its last turn found the channel gone
-  pub pumped-gone : (given : Given) (pass' pass'' : PassView Group) (link' : L) (seen' : LinkShown) → Pumped stands receives sends pass conn chan link seen pass' link' seen'
-      → TakesTurn g pass' conn chan given pass'' → given ≡ Gone → Pumps g stands receives sends pass conn chan link seen end.ChannelGone pass'' link' seen'
-  pumped-gone given pass' pass'' link' seen' so_far turn is_gone =
+  pub pumped-gone : (given : Given) (pass' pass'' : PassView Group) (link' : L) → Pumped ways pass conn chan link pass' link'
+      → TakesTurn g pass' conn chan given pass'' → given ≡ Gone → Pumps g ways pass conn chan link end.ChannelGone pass'' link'
+  pumped-gone given pass' pass'' link' so_far turn is_gone =
       let t : Taking = record { placed = turn.placed; given = given } in
       record {
         earlier = so_far.turns;
@@ -131,17 +132,17 @@ module _ {B L : Type 0} (g : Origin B) (stands : L → List ℕ → List ℕ →
       }
 
   -- its last turn was given an interrupt, and a send of the record failed
-  pub pumped-fails : (given : Given) (srq : Srq) (record_sent : List ℕ) (all : Bool) (pass' pass'' : PassView Group) (link' link'' : L) (seen' seen'' : LinkShown)
-      → Pumped stands receives sends pass conn chan link seen pass' link' seen' → TakesTurn g pass' conn chan given pass'' → given ≡ Front srq
-      → SendsAll stands receives sends link' seen' record_sent all link'' seen'' → record_sent ≡ srq_record srq → all ≡ false
-      → Pumps g stands receives sends pass conn chan link seen end.WriteFault pass'' link'' seen''
-  pumped-fails given srq record_sent all pass' pass'' link' link'' seen' seen'' so_far turn is_front sent is_record is_cut =
+  pub pumped-fails : (given : Given) (srq : Srq) (record_sent : List ℕ) (all : Bool) (pass' pass'' : PassView Group) (link' link'' : L)
+      → Pumped ways pass conn chan link pass' link' → TakesTurn g pass' conn chan given pass'' → given ≡ Front srq
+      → SendsAll ways link' record_sent all link'' → record_sent ≡ srq_record srq → all ≡ false
+      → Pumps g ways pass conn chan link end.WriteFault pass'' link''
+  pumped-fails given srq record_sent all pass' pass'' link' link'' so_far turn is_front sent is_record is_cut =
       let t : Taking = record { placed = turn.placed; given = given } in
-      let some_left : IsSent seen' sent.unsent seen'' false = subst (λ a. IsSent seen' sent.unsent seen'' a) is_cut sent.is_sent in
+      let some_left : IsSent (link_shown ways link') sent.unsent (link_shown ways link'') false = subst (λ a. IsSent (link_shown ways link') sent.unsent (link_shown ways link'') a) is_cut sent.is_sent in
       let cut : given_record given ≡ sent.sent ++ sent.unsent = ap given_record is_front ∙ sym is_record ∙ sent.cut in
-      let earlier : seen.send_faults ≤ seen'.send_faults = so_far.goes.sends in
-      let rose : Rose seen'.send_faults seen''.send_faults = some_left.1 in
-      let risen : Rose seen.send_faults seen''.send_faults = omega arith in
+      let earlier : ways.send_faults link ≤ ways.send_faults link' = so_far.goes.sends in
+      let rose : Rose (ways.send_faults link') (ways.send_faults link'') = some_left.1 in
+      let risen : Rose (ways.send_faults link) (ways.send_faults link'') = omega arith in
       record {
         earlier = so_far.turns;
         last = t;
@@ -151,9 +152,9 @@ module _ {B L : Type 0} (g : Origin B) (stands : L → List ℕ → List ℕ →
         history = turn.turns.history;
         each = All-push (IsTaking conn chan) so_far.turns t so_far.each (turn.taken, turn.steps);
         lived = so_far.lived;
-        bytes = Goes-goes stands link link' link'' so_far.written [] sent.sent [] so_far.bytes sent.took;
-        goes = link-goes seen seen' seen'' [] [] so_far.goes sent.goes;
-        calls = took-then receives sends link link' link'' so_far.written sent.sent so_far.calls sent.calls;
+        bytes = Goes-goes ways.stands link link' link'' so_far.written [] sent.sent [] so_far.bytes sent.took;
+        goes = link-goes (link_shown ways link) (link_shown ways link') (link_shown ways link'') [] [] so_far.goes sent.goes;
+        calls = took-then ways link link' link'' so_far.written sent.sent so_far.calls sent.calls;
         wrote = records-more so_far.turns t
             ∙ ap (λ xs. xs ++ given_record given) so_far.wrote
             ∙ ap (λ xs. so_far.written ++ xs) cut

@@ -2,18 +2,16 @@
 -- What a link's worker did with it: a connection came up and had its session, or none came up.
 use Rattle.std.specs.Prelude.{◌≡◌, ℕ, List, [], Ok, Err}
 use Rattle.vx_calls.specs.declared.calls.Role.{Role}
+use Rattle.vx_io_traits.specs.declared.links.Link.{Ghosts}
 use Rattle.vx_gate.specs.PassView.{PassView}
-use Rattle.vx_tables.specs.declared.tables.Connect.{Connect}
-use Rattle.vx_tables.specs.declared.tables.Connect.TheVariants as connect
+use Rattle.vx_state.specs.declared.tables.Connect.{Connect}
+use Rattle.vx_state.specs.declared.tables.Connect.TheVariants as connect
 use Rattle.vx_group.specs.Groups.{Group}
 use Rattle.vx_stream.specs.declared.ends.End.{End}
 use Rattle.vx_session.specs.Origin.{Origin}
 use Rattle.vx_session.specs.Placing.{Placed}
 use Rattle.vx_session.specs.Turning.{Joins}
-use Rattle.vx_stream.specs.Shown.{LinkShown}
-use Rattle.vx_stream.specs.Calling.{Receives, Sends}
-use Rattle.vx_session.specs.Outside.{DialShown}
-use Rattle.vx_session.specs.Ending.{Upholds, SessionDid}
+use Rattle.vx_session.specs.Ending.{Holding, Upholds, SessionDid}
 use Rattle.vx_session.specs.declared.links.Linked.{Linked}
 use Rattle.vx_session.specs.declared.links.Linked.TheVariants as linked
 
@@ -23,21 +21,20 @@ pub record Done (L : Type 0) : Type 0 where
   pub link : L
 
 -- a connection came up by the pass's first turn, and had its session
-pub record HadSession {B L : Type 0} (g : Origin B) (stands : L → List ℕ → List ℕ → Type 0) (receives : Receives L) (sends : Sends L) (clocked : List Placed → Type 0) (told : ℕ) (r : Role) (pass : PassView Group) (link : L) (seen : LinkShown) (dial : DialShown)
-    (how : End) (pass' : PassView Group) (link' : L) (seen' : LinkShown) (dial' : DialShown) : Type 0 where
+pub record HadSession {B L : Type 0} (g : Origin B) (ways : Ghosts L) (clocked : List Placed → Type 0) (told : ℕ) (r : Role) (before : Holding L) (how : End) (after : Holding L) : Type 0 where
   pub conn : ℕ
   pub up : PassView Group
-  pub joins : Joins g pass r (Ok conn) up
-  pub did : SessionDid g stands receives sends clocked told r conn up link seen dial how pass' link' seen' dial'
+  pub joins : Joins g before.pass r (Ok conn) up
+  pub did : SessionDid g ways clocked told r conn (record { pass = up; link = before.link; dial = before.dial }) how after
 
 -- The connection had its session; or it was refused, by one group without an event: the link is untouched, and all that is
 -- claimed of the history that the pass has seen holds too.
-abbrev pub LinkDid : {B L : Type 0} → Origin B → (L → List ℕ → List ℕ → Type 0) → Receives L → Sends L → (List Placed → Type 0) → ℕ → Role → PassView Group → L → LinkShown → DialShown → Linked → PassView Group → L → LinkShown → DialShown → Type 0
-LinkDid g stands receives sends clocked told r pass link seen dial (linked.Ended how) pass' link' seen' dial' = HadSession g stands receives sends clocked told r pass link seen dial how pass' link' seen' dial'
-LinkDid g stands receives sends clocked told r pass link seen dial linked.Full pass' link' seen' dial' =
-    Joins g pass r (Err connect.Full) pass' × (link' ≡ link) × clocked [] × (dial' ≡ dial) × Upholds g pass'
-LinkDid g stands receives sends clocked told r pass link seen dial linked.NoMemory pass' link' seen' dial' =
-    Joins g pass r (Err connect.NoMemory) pass' × (link' ≡ link) × clocked [] × (dial' ≡ dial) × Upholds g pass'
+abbrev pub LinkDid : {B L : Type 0} → Origin B → Ghosts L → (List Placed → Type 0) → ℕ → Role → Holding L → Linked → Holding L → Type 0
+LinkDid g ways clocked told r before (linked.Ended how) after = HadSession g ways clocked told r before how after
+LinkDid g ways clocked told r before linked.Full after =
+    Joins g before.pass r (Err connect.Full) after.pass × (after.link ≡ before.link) × clocked [] × (after.dial ≡ before.dial) × Upholds g after.pass
+LinkDid g ways clocked told r before linked.NoMemory after =
+    Joins g before.pass r (Err connect.NoMemory) after.pass × (after.link ≡ before.link) × clocked [] × (after.dial ≡ before.dial) × Upholds g after.pass
 
 -- why a connection didn't come up, as its link is told
 abbrev pub refused_as : Connect → Linked

@@ -12,10 +12,10 @@ use Rattle.vx_bus_traits.specs.declared.bus.Bus.{Ghosts}
 use Rattle.vx_gate.specs.History.{groups}
 use Rattle.vx_rules.specs.Dials.{dials_to}
 use Rattle.vx_flow.specs.Event.{Event, Answer, Arrive}
-use Rattle.vx_flow.specs.Fine.{fine}
+use Rattle.vx_flow.specs.InterleavedStep.{interleaved_step}
 use Rattle.vx_flow.specs.Poll.{Ending, Answered, Waited, Dialed, ran_of}
 use Rattle.vx_core.specs.CoreState.{CoreState}
-use Rattle.vx_core.specs.Polling.{PollsOver, asks}
+use Rattle.vx_core.specs.Polling.{PollOnBus, asks}
 use Rattle.vx_group.specs.Groups.{last_moment, now_of}
 use Rattle.vx_group.specs.Phases.{Phase, Idle, Asked}
 use Rattle.vx_session.specs.Origin.{Origin}
@@ -25,11 +25,11 @@ use Rattle.vx_session.specs.Acting.{poll_events}
 -- A poll of a connection's call at this moment, of this core: its bus went through these steps, and no other: its list was cut, it
 -- was told the moment, and then came the asks of the poll, of which at most the last was held or failed. It ended so, with these
 -- events.
-pub record IsPolled {B : Type 0} (g : Ghosts B) (before : CoreState B) (conn now : ℕ) (ending : Ending) (events : List Event) (steps : List Step) : Type 0 where
+pub record IsSessionPolled {B : Type 0} (g : Ghosts B) (before : CoreState B) (conn now : ℕ) (ending : Ending) (events : List Event) (steps : List Step) : Type 0 where
   pub after : CoreState B
-  pub over : PollsOver g.means g.through g.srq_level g.ndac_level before.fine before.bus conn now (Cut ∷ Told now ∷ []) ending after.fine after.bus
+  pub over : PollOnBus g.means g.through g.srq_level g.ndac_level before.interleaved before.bus conn now (Cut ∷ Told now ∷ []) ending after.interleaved after.bus
   pub few : length (g.means after.bus).moves ≤ SLICE_MAX
-  pub are : events ≡ poll_events before.fine conn now (g.means after.bus).moves ending
+  pub are : events ≡ poll_events before.interleaved conn now (g.means after.bus).moves ending
   pub made : steps ≡ Cut ∷ Told now ∷ asks over.polls.behind conn over.polls.asked (g.means after.bus).moves (ran_of ending)
 
 -- the moment of a turn: the greater of the one that the history before it keeps, and the one that its caller told
@@ -41,7 +41,7 @@ moment_at placed told = max (last_moment (groups placed.before)) told
 pub record PollsAt {B : Type 0} (g : Origin B) (placed : Placed) (conn now : ℕ) (ending : Ending) (events : List Event) : Type 0 where
   pub core : CoreState B
   pub became : BecameBy g core placed.before
-  pub polled : IsPolled g.bus core conn now ending events placed.group.steps
+  pub polled : IsSessionPolled g.bus core conn now ending events placed.group.steps
   pub keeps : placed.group.moment ≡ now
 
 -- A call came on the connection and was polled, in a turn at its place in the history.
@@ -50,12 +50,12 @@ pub record ComesAt {B : Type 0} (g : Origin B) (placed : Placed) (conn : ℕ) (c
   pub became : BecameBy g core placed.before
   -- as it came, the list of the bus was cut, and the bus was told the moment
   pub come : CoreState B
-  pub arrives : fine core.fine (Arrive conn call now) ≡ Some come.fine
+  pub arrives : interleaved_step core.interleaved (Arrive conn call now) ≡ Some come.interleaved
   pub heard : Walk g.bus.means g.bus.through core.bus (Cut ∷ Told now ∷ []) come.bus
   -- then it was polled
   pub part : List Event
   pub asked : List Step
-  pub polled : IsPolled g.bus come conn now ending part asked
+  pub polled : IsSessionPolled g.bus come conn now ending part asked
   pub events : placed.group.events ≡ Arrive conn call now ∷ part
   pub steps : placed.group.steps ≡ Cut ∷ Told now ∷ asked
   pub keeps : placed.group.moment ≡ now

@@ -28,13 +28,13 @@ Chain number seen (p ∷ ps) seen' =
     IsPrefix seen p.before × (made_by number p.before ≡ made_by number seen) × Chain number (behind number p) ps seen'
 
 -- a moment is the one that the group before keeps, or no later than the greatest that a clock has told
-abbrev pub IsTold : ℕ → ℕ → ℕ → Type 0
-IsTold kept told moment = (moment ≡ kept) ⊎ (moment ≤ told)
+abbrev pub IsSessionTold : ℕ → ℕ → ℕ → Type 0
+IsSessionTold kept told moment = (moment ≡ kept) ⊎ (moment ≤ told)
 
 -- So is the moment that the group keeps, and so is the moment of each of its events.
 pub record IsTimely (told : ℕ) (p : Placed) : Type 0 where
-  pub moment : IsTold (last_moment (groups p.before)) told p.group.moment
-  pub events : All (λ e. (now : ℕ) → now_of e ≡ Some now → IsTold (last_moment (groups p.before)) told now) p.group.events
+  pub moment : IsSessionTold (last_moment (groups p.before)) told p.group.moment
+  pub events : All (λ e. (now : ℕ) → now_of e ≡ Some now → IsSessionTold (last_moment (groups p.before)) told now) p.group.events
 
 -- the groups in a history, as a pass of this number made them
 abbrev pub logged : ℕ → List Placed → List (Logged Group)

@@ -3,6 +3,8 @@
 use Rattle.std.specs.Prelude.{◌≡◌, ◌≤◌, ℕ, List, [], ◌∷◌, map, count_by, Option, Some, None}
 use Rattle.std.specs.List.{flat_map}
 use Rattle.vx_io_traits.specs.Rung.{AddsCalls}
+use Rattle.vx_io_traits.specs.declared.clocks.Clock.{Ghosts as OfClock}
+use Rattle.vx_io_traits.specs.declared.dials.Dial.{Ghosts as OfDial}
 use Rattle.vx_io_traits.specs.declared.dials.Rang.{Rang}
 use Rattle.vx_calls.specs.declared.calls.Role.{Role}
 use Rattle.vx_calls.specs.declared.calls.Role.TheVariants as role
@@ -15,8 +17,8 @@ use Rattle.vx_stream.specs.Answered.{Answered}
 use Rattle.vx_session.specs.Origin.{Origin}
 use Rattle.vx_session.specs.Placing.{Placed, Makes}
 use Rattle.vx_session.specs.Parts.{moment_at}
-use Rattle.vx_session.specs.Outside.{DialShown, RoseBy, is_failed_dial}
-use Rattle.vx_session.specs.Serving.{Item, GoesOn, IsCalled, IsServed}
+use Rattle.vx_session.specs.Dialing.{DialShown, RoseBy, is_failed_dial, dial_shown}
+use Rattle.vx_session.specs.Serving.{Item, SessionGoesOn, IsCalled, IsSessionServed}
 
 -- the messages of these items with their replies, their groups, and the calls of the dial
 abbrev pub answered : List Item → List Answered
@@ -69,12 +71,12 @@ AnswersCall g clocked told pass conn xid call dial out pass' dial' = Uses clocke
 -- the dial that a call asked for was made, and the call answered, by the record that stands in the room
 abbrev pub AnswersDial : {B : Type 0} → Origin B → (List Placed → Type 0) → (told : ℕ) → PassView Group → (conn xid : ℕ) → Call → (host port : ℕ) → DialShown → List ℕ → PassView Group → DialShown → Type 0
 AnswersDial g clocked told pass conn xid call host port dial out pass' dial' =
-    Uses clocked told pass dial (λ placed rung. GoesOn g pass.number conn xid call (Dialed host port) placed rung out) pass' dial'
+    Uses clocked told pass dial (λ placed rung. SessionGoesOn g pass.number conn xid call (Dialed host port) placed rung out) pass' dial'
 
 -- a record on the connection was served, by the reply that stands in the room
 abbrev pub ServesRecord : {B : Type 0} → Origin B → (List Placed → Type 0) → (told : ℕ) → Role → PassView Group → (conn : ℕ) → List ℕ → DialShown → List ℕ → PassView Group → DialShown → Type 0
 ServesRecord g clocked told r pass conn message dial out pass' dial' =
-    Uses clocked told pass dial (λ placed rung. IsServed g pass.number conn (meaning message r) placed rung out) pass' dial'
+    Uses clocked told pass dial (λ placed rung. IsSessionServed g pass.number conn (meaning message r) placed rung out) pass' dial'
 
 -- what a session has between two messages: the connection's role and number, its pass, its clock and the greatest moment that that has
 -- told, and its dial
@@ -86,8 +88,12 @@ pub record SessionState (C : Type 0) : Type 0 where
   pub told : ℕ
   pub dial : DialShown
 
+-- what it is, by what the types of its clock and its dial tell
+abbrev pub session_state : {C D : Type 0} → OfClock C → OfDial D → Role → ℕ → Option (PassView Group) → C → D → SessionState C
+session_state by_clock by_dial r conn pass clock dial = record { role = r; conn = conn; pass = pass; clock = clock; told = by_clock.told clock; dial = dial_shown by_dial dial }
+
 -- a message was served by this reply, by the pass that the session had, and has
-pub record IsAnswered {B C : Type 0} (g : Origin B) (tells : C → ℕ → C → Type 0) (s : SessionState C) (message reply : List ℕ) (s' : SessionState C) : Type 0 where
+pub record IsSessionAnswered {B C : Type 0} (g : Origin B) (tells : C → ℕ → C → Type 0) (s : SessionState C) (message reply : List ℕ) (s' : SessionState C) : Type 0 where
   pub pass : PassView Group
   pub pass' : PassView Group
   pub had : s.pass ≡ Some pass
@@ -95,13 +101,13 @@ pub record IsAnswered {B C : Type 0} (g : Origin B) (tells : C → ℕ → C →
   pub serves : ServesRecord g (ClockedAs s.role tells s.clock s'.clock) s'.told s.role pass s.conn message s.dial reply pass' s'.dial
 
 -- junk is no call and changes nothing; any other message is served
-abbrev pub HasReply : {B C : Type 0} → Origin B → (C → ℕ → C → Type 0) → SessionState C → List ℕ → Option (List ℕ) → SessionState C → Type 0
-HasReply g tells s message None s' = (meaning message s.role ≡ Junk) × (s'.pass ≡ s.pass) × (s'.dial ≡ s.dial) × (s'.clock ≡ s.clock)
-HasReply g tells s message (Some reply) s' = IsAnswered g tells s message reply s'
+abbrev pub SessionHasReply : {B C : Type 0} → Origin B → (C → ℕ → C → Type 0) → SessionState C → List ℕ → Option (List ℕ) → SessionState C → Type 0
+SessionHasReply g tells s message None s' = (meaning message s.role ≡ Junk) × (s'.pass ≡ s.pass) × (s'.dial ≡ s.dial) × (s'.clock ≡ s.clock)
+SessionHasReply g tells s message (Some reply) s' = IsSessionAnswered g tells s message reply s'
 
 -- what a message on the connection does
 pub record MessageDoes {B C : Type 0} (g : Origin B) (tells : C → ℕ → C → Type 0) (s : SessionState C) (message : List ℕ) (reply : Option (List ℕ)) (s' : SessionState C) : Type 0 where
   pub role : s'.role ≡ s.role
   pub conn : s'.conn ≡ s.conn
   pub later : s.told ≤ s'.told
-  pub has : HasReply g tells s message reply s'
+  pub has : SessionHasReply g tells s message reply s'

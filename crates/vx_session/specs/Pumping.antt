@@ -4,6 +4,8 @@ use Rattle.std.specs.Prelude.{◌≡◌, ◌≢◌, ◌<◌, ℕ, max, List, [],
 use Rattle.std.specs.List.{All, flat_map}
 use Rattle.vx_io_traits.specs.Faults.{Rose}
 use Rattle.vx_io_traits.specs.Stands.{Goes}
+use Rattle.vx_io_traits.specs.declared.clocks.Clock.{Ghosts as OfClock}
+use Rattle.vx_io_traits.specs.declared.links.Link.{Ghosts}
 use Rattle.vx_gate.specs.PassView.{PassView}
 use Rattle.vx_exchange.specs.SrqState.{Given, Front, Empty, Gone}
 use Rattle.vx_exchange.specs.Meaning.{srq_record}
@@ -11,8 +13,8 @@ use Rattle.vx_core.specs.Groups.{Group}
 use Rattle.vx_session.specs.Placing.{Placed, Makes, IsHistory}
 use Rattle.vx_session.specs.Origin.{Origin}
 use Rattle.vx_session.specs.Turning.{Samples, TakesFrom, taken_steps}
-use Rattle.vx_stream.specs.Shown.{LinkShown, LinkGoes}
-use Rattle.vx_stream.specs.Calling.{Receives, Sends, OnlyTook}
+use Rattle.vx_stream.specs.Shown.{LinkShown, LinkGoes, link_shown}
+use Rattle.vx_stream.specs.Calling.{OnlyTook}
 use Rattle.vx_session.specs.declared.pumps.PumpEnd.{PumpEnd}
 use Rattle.vx_session.specs.declared.pumps.PumpEnd.TheVariants as end
 
@@ -49,8 +51,7 @@ PumpEnds seen earlier last unsent seen' end.WriteFault =
 
 -- A pump made these turns, one after the other, and wrote the records of the interrupts that it took, in order, each once; the
 -- link took `written` of them, and was asked for nothing. What its pass has seen then is a gateway's history.
-pub record Pumps {B L : Type 0} (g : Origin B) (stands : L → List ℕ → List ℕ → Type 0) (receives : Receives L) (sends : Sends L) (pass : PassView Group) (conn chan : ℕ) (link : L) (seen : LinkShown) (how : PumpEnd)
-    (pass' : PassView Group) (link' : L) (seen' : LinkShown) : Type 0 where
+pub record Pumps {B L : Type 0} (g : Origin B) (ways : Ghosts L) (pass : PassView Group) (conn chan : ℕ) (link : L) (how : PumpEnd) (pass' : PassView Group) (link' : L) : Type 0 where
   pub earlier : List Taking
   pub last : Taking
   pub written : List ℕ
@@ -59,16 +60,15 @@ pub record Pumps {B L : Type 0} (g : Origin B) (stands : L → List ℕ → List
   pub history : IsHistory g pass'.seen
   pub each : All (IsTaking conn chan) (earlier ++ last ∷ [])
   pub lived : HaveLived earlier
-  pub bytes : Goes stands link link' written []
-  pub goes : LinkGoes seen [] seen'
-  pub calls : OnlyTook receives sends link written link'
+  pub bytes : Goes ways.stands link link' written []
+  pub goes : LinkGoes (link_shown ways link) [] (link_shown ways link')
+  pub calls : OnlyTook ways link written link'
   pub wrote : taken_records (earlier ++ last ∷ []) ≡ written ++ unsent
-  pub ends : PumpEnds seen earlier last unsent seen' how
+  pub ends : PumpEnds (link_shown ways link) earlier last unsent (link_shown ways link') how
 
--- A turn looked at the SRQ line, at the moment that the clock told in it, by one call. `greatest` is the greatest moment that a clock
--- has told, and `tells` is what one call of it does.
-pub record SamplesNow {B C : Type 0} (g : Origin B) (greatest : C → ℕ) (tells : C → ℕ → C → Type 0) (clock : C) (pass : PassView Group) (pass' : PassView Group) (clock' : C) : Type 0 where
+-- A turn looked at the SRQ line, at the moment that the clock told in it, by one call.
+pub record SamplesNow {B C : Type 0} (g : Origin B) (of : OfClock C) (clock : C) (pass : PassView Group) (pass' : PassView Group) (clock' : C) : Type 0 where
   pub told : ℕ
-  pub asked : tells clock told clock'
-  pub rises : greatest clock' ≡ max (greatest clock) told
+  pub asked : of.tells clock told clock'
+  pub rises : of.told clock' ≡ max (of.told clock) told
   pub samples : Samples g told pass pass'

@@ -57,12 +57,12 @@ pub record IsSettled (number conn xid host port : ℕ) (p : Placed) (calls : Lis
 
 -- How a call goes on behind a poll that ended so, to its answer: a poll that answered it is the last; behind one that asked for a
 -- dial, that is made and answers it; behind any other comes one more poll.
-abbrev pub GoesOn : {B : Type 0} → Origin B → (number conn xid : ℕ) → Call → Ending → List Placed → List Rang → List ℕ → Type 0
-GoesOn g number conn xid call (poll.Answered ran level told) [] calls out = (calls ≡ []) × (out ≡ reply_record xid told)
-GoesOn g number conn xid call (Dialed host port) (p ∷ []) calls out = IsSettled number conn xid host port p calls out
-GoesOn g number conn xid call (Waited why) (p ∷ ps) calls out =
-    (ending : Ending) × IsPoll g conn call p ending × GoesOn g number conn xid call ending ps calls out
-GoesOn g number conn xid call _ _ calls out = ⊥
+abbrev pub SessionGoesOn : {B : Type 0} → Origin B → (number conn xid : ℕ) → Call → Ending → List Placed → List Rang → List ℕ → Type 0
+SessionGoesOn g number conn xid call (poll.Answered ran level told) [] calls out = (calls ≡ []) × (out ≡ reply_record xid told)
+SessionGoesOn g number conn xid call (Dialed host port) (p ∷ []) calls out = IsSettled number conn xid host port p calls out
+SessionGoesOn g number conn xid call (Waited why) (p ∷ ps) calls out =
+    (ending : Ending) × IsPoll g conn call p ending × SessionGoesOn g number conn xid call ending ps calls out
+SessionGoesOn g number conn xid call _ _ calls out = ⊥
 
 -- A call came: one group has its coming and its first poll, and each later one another poll, or the answer of its dial. The
 -- last alone has its answer.
@@ -74,7 +74,7 @@ pub record IsCalled {B : Type 0} (g : Origin B) (number conn xid : ℕ) (call : 
   pub begun : Ending
   pub comes : ComesAt g first conn call (moment_at first told) begun
   pub dials : DialsFor call begun
-  pub goes_on : GoesOn g number conn xid call begun later calls out
+  pub goes_on : SessionGoesOn g number conn xid call begun later calls out
 
 -- a device_abort came
 pub record IsAborted (conn xid lid : ℕ) (placed : List Placed) (calls : List Rang) (out : List ℕ) : Type 0 where
@@ -87,12 +87,12 @@ pub record IsAborted (conn xid lid : ℕ) (placed : List Placed) (calls : List R
   pub reply_is : out ≡ reply_record xid (reply.Error error)
 
 -- A message that is answered without the core adds no group; a call adds its groups; junk isn't served.
-abbrev pub IsServed : {B : Type 0} → Origin B → (number conn : ℕ) → Meaning → List Placed → List Rang → List ℕ → Type 0
-IsServed g number conn Junk placed calls out = ⊥
-IsServed g number conn (meant.Answered message) placed calls out = (placed ≡ []) × (calls ≡ []) × (out ≡ record_of message)
-IsServed g number conn (Asks xid call) placed calls out = IsCalled g number conn xid call placed calls out
-IsServed g number conn (Aborts xid lid) placed calls out = IsAborted conn xid lid placed calls out
+abbrev pub IsSessionServed : {B : Type 0} → Origin B → (number conn : ℕ) → Meaning → List Placed → List Rang → List ℕ → Type 0
+IsSessionServed g number conn Junk placed calls out = ⊥
+IsSessionServed g number conn (meant.Answered message) placed calls out = (placed ≡ []) × (calls ≡ []) × (out ≡ record_of message)
+IsSessionServed g number conn (Asks xid call) placed calls out = IsCalled g number conn xid call placed calls out
+IsSessionServed g number conn (Aborts xid lid) placed calls out = IsAborted conn xid lid placed calls out
 
 -- a record on a connection of this role, served by the pass of this number
-abbrev pub Serves : {B : Type 0} → Origin B → (number conn : ℕ) → Role → Item → Type 0
-Serves g number conn r item = IsServed g number conn (meaning item.answered.message r) item.placed item.calls item.answered.reply
+abbrev pub SessionServes : {B : Type 0} → Origin B → (number conn : ℕ) → Role → Item → Type 0
+SessionServes g number conn r item = IsSessionServed g number conn (meaning item.answered.message r) item.placed item.calls item.answered.reply

@@ -19,10 +19,10 @@ use Rattle.vx_exchange.specs.declared.polls.DialAnswered.{DialAnswered}
 use Rattle.vx_exchange.specs.declared.polls.Aborted.{Aborted}
 use Rattle.vx_rules.specs.SrqState.{Given, Gone, channel_at}
 use Rattle.vx_rules.specs.State.{connection_at, has_room}
-use Rattle.vx_tables.specs.declared.tables.Connect.{Connect}
-use Rattle.vx_tables.specs.declared.tables.Connect.TheVariants as connect
+use Rattle.vx_state.specs.declared.tables.Connect.{Connect}
+use Rattle.vx_state.specs.declared.tables.Connect.TheVariants as connect
 use Rattle.vx_flow.specs.Event.{Event, Down, Abort, Sample, Take}
-use Rattle.vx_flow.specs.FineState.{FineState}
+use Rattle.vx_flow.specs.InterleavedState.{InterleavedState}
 use Rattle.vx_flow.specs.Poll.{Ending}
 use Rattle.vx_group.specs.Groups.{Group, events_of, StandsFor}
 use Rattle.vx_group.specs.Phases.{Phase, Idle, phase_by}
@@ -42,7 +42,7 @@ pub record Turns {B : Type 0} (g : Origin B) (told : ℕ) (pass : PassView Group
   pub history : IsHistory g pass'.seen
 
 -- a call came on the connection, and was polled
-pub record Comes {B : Type 0} (g : Origin B) (told : ℕ) (pass : PassView Group) (conn xid : ℕ) (call : Call) (room : List ℕ) (end : PollEnd) (pass' : PassView Group) : Type 0 where
+pub record SessionComes {B : Type 0} (g : Origin B) (told : ℕ) (pass : PassView Group) (conn xid : ℕ) (call : Call) (room : List ℕ) (end : PollEnd) (pass' : PassView Group) : Type 0 where
   pub placed : Placed
   pub turns : Turns g told pass placed pass'
   pub ending : Ending
@@ -63,7 +63,7 @@ pub record PollsAgain {B : Type 0} (g : Origin B) (told : ℕ) (pass : PassView 
 
 -- the state that stands for a history has this as the connection's channel
 pub record HasChannel (seen : List (Logged Group)) (conn chan : ℕ) : Type 0 where
-  pub state : FineState
+  pub state : InterleavedState
   pub stands : StandsFor state (groups seen)
   pub channel : option_map (λ c. c.number) (channel_at state.state.tables.srq_state conn) ≡ Some chan
 
@@ -86,7 +86,7 @@ pub record Settles {B : Type 0} (g : Origin B) (told : ℕ) (pass : PassView Gro
   pub phase : phase_at pass' conn ≡ Idle role.Core
 
 -- it told its device_abort of this link, of this xid, by the record that stands in the room
-pub record Aborts {B : Type 0} (g : Origin B) (pass : PassView Group) (conn lid xid : ℕ) (room : List ℕ) (answered : Aborted) (pass' : PassView Group) : Type 0 where
+pub record SessionAborts {B : Type 0} (g : Origin B) (pass : PassView Group) (conn lid xid : ℕ) (room : List ℕ) (answered : Aborted) (pass' : PassView Group) : Type 0 where
   pub placed : Placed
   pub turns : Turns g 0 pass placed pass'
   pub events : placed.group.events ≡ Abort conn lid answered.error ∷ []
@@ -103,7 +103,7 @@ pub record Leaves {B : Type 0} (g : Origin B) (pass : PassView Group) (conn : �
 
 -- a state that stands for a history has no room for one more connection of this role
 pub record HasNoRoom (seen : List (Logged Group)) (r : Role) : Type 0 where
-  pub state : FineState
+  pub state : InterleavedState
   pub stands : StandsFor state (groups seen)
   pub full : has_room state.state.tables r ≡ false
 
@@ -133,7 +133,7 @@ pub record Samples {B : Type 0} (g : Origin B) (told : ℕ) (pass : PassView Gro
 
 -- a state that stands for a history has the connection not up
 pub record IsNotUp (seen : List (Logged Group)) (conn : ℕ) : Type 0 where
-  pub state : FineState
+  pub state : InterleavedState
   pub stands : StandsFor state (groups seen)
   pub absent : connection_at state.state.tables conn ≡ None
 

@@ -5,12 +5,12 @@ ghost use Rattle.vx_calls.specs.declared.calls.Role.TheVariants as role;
 ghost use Rattle.vx_calls.specs.Call.{call_shown};
 ghost use Rattle.vx_srq.specs.Shown.{given_shown};
 ghost use Rattle.vx_rules.specs.State.{connection_at, pending_at, is_idle, lives_as};
-ghost use Rattle.vx_rules.specs.One.{may_wait};
+ghost use Rattle.vx_rules.specs.AtomicStep.{may_wait};
 ghost use Rattle.vx_rules.specs.Calls.{IsShort};
 ghost use Rattle.vx_bus_traits.specs.Steps.{Told, Cut};
 ghost use Rattle.vx_bus_traits.specs.Walks.{Walk};
 ghost use Rattle.vx_flow.specs.Event.{Down, Abort, Sample};
-ghost use Rattle.vx_flow.specs.Fine.{fine};
+ghost use Rattle.vx_flow.specs.InterleavedStep.{interleaved_step};
 ghost use Rattle.vx_exchange.specs.declared.record.TheConstants.{REPLY_ROOM};
 ghost use Rattle.vx_exchange.specs.Doing.{Polled, Came, Settles, Aborts};
 ghost use Rattle.vx_group.specs.Groups.{Group};
@@ -38,15 +38,15 @@ pub(crate) struct Come<'c, 'r> {
 impl<'c, 'r, B: Bus> Act<Core<B>> for Come<'c, 'r> {
     type Answer = PollEnd;
 
-    ghost asks = { λ act core. (is_idle core.fine.state.tables act.conn ≡ true) × (may_wait (call_shown act.call.now) ≡ true)
+    ghost asks = { λ act core. (is_idle core.interleaved.state.tables act.conn ≡ true) × (may_wait (call_shown act.call.now) ≡ true)
         × IsShort (call_shown act.call.now) × (REPLY_ROOM ≤ length act.reply.now) };
 
-    ghost does = { λ act core answer act' core'. Came B.Bus core act.conn (call_shown act.call.now) (max core.fine.state.moment act.now) act.xid act'.reply.now answer core'
+    ghost does = { λ act core answer act' core'. Came B.Bus core act.conn (call_shown act.call.now) (max core.interleaved.state.moment act.now) act.xid act'.reply.now answer core'
         × (length act'.reply.now ≡ length act.reply.now) × (act'.reply.ghost_name ≡ act.reply.ghost_name) };
 
-    ghost adds = { λ act core answer act' core'. group_after core.fine
-        (come_events core.fine act.conn (call_shown act.call.now) (max core.fine.state.moment act.now) (B.means core'.bus).moves (last_ending core'.last))
-        (come_steps core.fine act.conn (call_shown act.call.now) (max core.fine.state.moment act.now) (B.means core'.bus).moves (last_ending core'.last)) core'.fine.state.moment };
+    ghost adds = { λ act core answer act' core'. group_after core.interleaved
+        (come_events core.interleaved act.conn (call_shown act.call.now) (max core.interleaved.state.moment act.now) (B.means core'.bus).moves (last_ending core'.last))
+        (come_steps core.interleaved act.conn (call_shown act.call.now) (max core.interleaved.state.moment act.now) (B.means core'.bus).moves (last_ending core'.last)) core'.interleaved.state.moment };
 
     fn run(&mut self, kept: &mut Core<B>) -> PollEnd {
         became_law::<B>();
@@ -66,14 +66,14 @@ pub(crate) struct Again<'a> {
 impl<'a, B: Bus> Act<Core<B>> for Again<'a> {
     type Answer = PollEnd;
 
-    ghost asks = { λ act core. IsSome (pending_at core.fine.state.tables act.conn) × (REPLY_ROOM ≤ length act.reply.now) };
+    ghost asks = { λ act core. IsSome (pending_at core.interleaved.state.tables act.conn) × (REPLY_ROOM ≤ length act.reply.now) };
 
-    ghost does = { λ act core answer act' core'. Polled B.Bus core act.conn (max core.fine.state.moment act.now) act.xid act'.reply.now answer core'
+    ghost does = { λ act core answer act' core'. Polled B.Bus core act.conn (max core.interleaved.state.moment act.now) act.xid act'.reply.now answer core'
         × (length act'.reply.now ≡ length act.reply.now) × (act'.reply.ghost_name ≡ act.reply.ghost_name) };
 
-    ghost adds = { λ act core answer act' core'. group_after core.fine
-        (poll_events core.fine act.conn (max core.fine.state.moment act.now) (B.means core'.bus).moves (last_ending core'.last))
-        (poll_steps core.fine act.conn (max core.fine.state.moment act.now) (B.means core'.bus).moves (last_ending core'.last)) core'.fine.state.moment };
+    ghost adds = { λ act core answer act' core'. group_after core.interleaved
+        (poll_events core.interleaved act.conn (max core.interleaved.state.moment act.now) (B.means core'.bus).moves (last_ending core'.last))
+        (poll_steps core.interleaved act.conn (max core.interleaved.state.moment act.now) (B.means core'.bus).moves (last_ending core'.last)) core'.interleaved.state.moment };
 
     fn run(&mut self, kept: &mut Core<B>) -> PollEnd {
         became_law::<B>();
@@ -94,13 +94,13 @@ pub(crate) struct Settle<'a> {
 impl<'a, B: Bus> Act<Core<B>> for Settle<'a> {
     type Answer = DialAnswered;
 
-    ghost asks = { λ act core. (list_any (λ n. n == act.conn) core.fine.dialed ≡ true) × (REPLY_ROOM ≤ length act.reply.now) };
+    ghost asks = { λ act core. (list_any (λ n. n == act.conn) core.interleaved.dialed ≡ true) × (REPLY_ROOM ≤ length act.reply.now) };
 
-    ghost does = { λ act core answer act' core'. Settles B.Bus core act.conn (max core.fine.state.moment act.now) act.xid act.up act'.reply.now answer core'
+    ghost does = { λ act core answer act' core'. Settles B.Bus core act.conn (max core.interleaved.state.moment act.now) act.xid act.up act'.reply.now answer core'
         × (length act'.reply.now ≡ length act.reply.now) × (act'.reply.ghost_name ≡ act.reply.ghost_name) };
 
-    ghost adds = { λ act core answer act' core'. group_after core.fine
-        (settled_events act.conn (max core.fine.state.moment act.now) act.up answer.error) (Cut ∷ Told (max core.fine.state.moment act.now) ∷ []) core'.fine.state.moment };
+    ghost adds = { λ act core answer act' core'. group_after core.interleaved
+        (settled_events act.conn (max core.interleaved.state.moment act.now) act.up answer.error) (Cut ∷ Told (max core.interleaved.state.moment act.now) ∷ []) core'.interleaved.state.moment };
 
     fn run(&mut self, kept: &mut Core<B>) -> DialAnswered {
         became_law::<B>();
@@ -120,12 +120,12 @@ pub(crate) struct AbortLink<'a> {
 impl<'a, B: Bus> Act<Core<B>> for AbortLink<'a> {
     type Answer = Aborted;
 
-    ghost asks = { λ act core. (lives_as core.fine.state.tables act.conn role.Abort ≡ true) × (REPLY_ROOM ≤ length act.reply.now) };
+    ghost asks = { λ act core. (lives_as core.interleaved.state.tables act.conn role.Abort ≡ true) × (REPLY_ROOM ≤ length act.reply.now) };
 
     ghost does = { λ act core answer act' core'. Aborts B.Bus core act.conn act.lid act.xid act'.reply.now answer core'
         × (length act'.reply.now ≡ length act.reply.now) × (act'.reply.ghost_name ≡ act.reply.ghost_name) };
 
-    ghost adds = { λ act core answer act' core'. group_after core.fine (Abort act.conn act.lid answer.error ∷ []) (Cut ∷ []) core'.fine.state.moment };
+    ghost adds = { λ act core answer act' core'. group_after core.interleaved (Abort act.conn act.lid answer.error ∷ []) (Cut ∷ []) core'.interleaved.state.moment };
 
     fn run(&mut self, kept: &mut Core<B>) -> Aborted {
         became_law::<B>();
@@ -142,11 +142,11 @@ pub(crate) struct Leave {
 impl<B: Bus> Act<Core<B>> for Leave {
     type Answer = ();
 
-    ghost asks = { λ act core. IsSome (connection_at core.fine.state.tables act.conn) };
+    ghost asks = { λ act core. IsSome (connection_at core.interleaved.state.tables act.conn) };
 
-    ghost does = { λ act core answer act' core'. fine core.fine (Down act.conn) ≡ Some core'.fine };
+    ghost does = { λ act core answer act' core'. interleaved_step core.interleaved (Down act.conn) ≡ Some core'.interleaved };
 
-    ghost adds = { λ act core answer act' core'. group_after core.fine (Down act.conn ∷ []) (Cut ∷ []) core'.fine.state.moment };
+    ghost adds = { λ act core answer act' core'. group_after core.interleaved (Down act.conn ∷ []) (Cut ∷ []) core'.interleaved.state.moment };
 
     fn run(&mut self, kept: &mut Core<B>) {
         became_law::<B>();
@@ -168,7 +168,7 @@ impl<B: Bus> Act<Core<B>> for ConnectAs {
 
     ghost does = { λ act core answer act' core'. Connects core act.role answer core' };
 
-    ghost adds = { λ act core answer act' core'. group_after core.fine (connect_events act.role answer) (connect_steps answer) core'.fine.state.moment };
+    ghost adds = { λ act core answer act' core'. group_after core.interleaved (connect_events act.role answer) (connect_steps answer) core'.interleaved.state.moment };
 
     fn run(&mut self, kept: &mut Core<B>) -> Result<u32, Connect> {
         became_law::<B>();
@@ -187,11 +187,11 @@ impl<B: Bus> Act<Core<B>> for SampleAt {
 
     ghost asks = { λ act core. Unit {0} };
 
-    ghost does = { λ act core answer act' core'. (fine core.fine (Sample (max core.fine.state.moment act.now) (B.srq_level core'.bus)) ≡ Some core'.fine)
-        × Walk B.means B.through core.bus (Cut ∷ Told (max core.fine.state.moment act.now) ∷ []) core'.bus };
+    ghost does = { λ act core answer act' core'. (interleaved_step core.interleaved (Sample (max core.interleaved.state.moment act.now) (B.srq_level core'.bus)) ≡ Some core'.interleaved)
+        × Walk B.means B.through core.bus (Cut ∷ Told (max core.interleaved.state.moment act.now) ∷ []) core'.bus };
 
-    ghost adds = { λ act core answer act' core'. group_after core.fine (Sample (max core.fine.state.moment act.now) (B.srq_level core'.bus) ∷ [])
-        (Cut ∷ Told (max core.fine.state.moment act.now) ∷ []) core'.fine.state.moment };
+    ghost adds = { λ act core answer act' core'. group_after core.interleaved (Sample (max core.interleaved.state.moment act.now) (B.srq_level core'.bus) ∷ [])
+        (Cut ∷ Told (max core.interleaved.state.moment act.now) ∷ []) core'.interleaved.state.moment };
 
     fn run(&mut self, kept: &mut Core<B>) {
         became_law::<B>();
@@ -213,9 +213,9 @@ impl<B: Bus> Act<Core<B>> for TakeFrom {
 
     ghost does = { λ act core answer act' core'. TakeDid core act.conn act.chan (given_shown answer) core' };
 
-    ghost adds = { λ act core answer act' core'. group_after core.fine
-        (take_events (connection_at core.fine.state.tables act.conn) act.conn act.chan (given_shown answer))
-        (take_steps (connection_at core.fine.state.tables act.conn)) core'.fine.state.moment };
+    ghost adds = { λ act core answer act' core'. group_after core.interleaved
+        (take_events (connection_at core.interleaved.state.tables act.conn) act.conn act.chan (given_shown answer))
+        (take_steps (connection_at core.interleaved.state.tables act.conn)) core'.interleaved.state.moment };
 
     fn run(&mut self, kept: &mut Core<B>) -> Taken {
         became_law::<B>();

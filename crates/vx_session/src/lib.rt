@@ -9,6 +9,7 @@ mod pumps;
 mod samples;
 mod sessions;
 mod still;
+mod theorems;
 mod tools;
 mod turns;
 
@@ -17,7 +18,8 @@ pub use links::{LinkDone, Linked, Tally, abort_link, core_link};
 pub use pumps::{PumpEnd, pump};
 pub use samples::sample_turn;
 pub use sessions::{NoMemory, Room, abort_session, core_session};
-pub use still::Still;
+pub use still::NoTools;
+pub use theorems::{called_law, room_law, turns_law};
 pub use tools::Tools;
-pub use turns::{abort, come, join, leave, poll_again, sample, settle, take};
+pub use turns::{Request, Worker, abort, come, join, leave, poll_again, sample, settle, take};
 pub use vx_stream::End;

@@ -2,8 +2,7 @@
 ghost use Rattle.std.specs.Prelude.{◌≡◌, ◌≤◌, ◌+◌, ◌-◌, ◌^◌, min};
 ghost use Rattle.vx_session.specs.Origin.{origin};
 ghost use Rattle.vx_calls.specs.declared.calls.Role.TheVariants as role;
-ghost use Rattle.vx_stream.specs.Shown.{link_shown};
-ghost use Rattle.vx_session.specs.Outside.{dial_shown, no_dial};
+ghost use Rattle.vx_session.specs.Dialing.{dial_shown, no_dial};
 ghost use Rattle.vx_session.specs.Progress.{Clocked, unclocked};
 ghost use Rattle.vx_session.specs.Linking.{LinkDid, refused_as};
 
@@ -16,7 +15,7 @@ use vx_bus_traits::Bus;
 use vx_calls::Role;
 use vx_core::{Connect, Core};
 use vx_gate::{Pass, Turns};
-use vx_group::{headline_law, owned_law};
+use vx_group::{claims_law, owned_law};
 use vx_io_traits::{Clock, Dial, Link, Pause};
 use vx_stream::End;
 
@@ -113,11 +112,11 @@ pub fn core_link<R: Wait, B: Bus, T: Turns<Core<B>>, L: Link, C: Clock, P: Pause
     room: &mut Room,
 ) -> (Pass<Core<B>>, LinkDone<L>)
     requires gate { pass.gate ≡ T.gate turns.now }
-    ensures did { LinkDid (origin B.Bus (T.first turns.now)) L.stands L.receives L.sends (Clocked C.tells clock.old clock.new) (C.told clock.new) role.Core pass link (link_shown L.left L.peers L.receive_faults L.send_faults link) (dial_shown D.calls D.faults dial.old)
-        result.1.how result.0 result.1.link (link_shown L.left L.peers L.receive_faults L.send_faults result.1.link) (dial_shown D.calls D.faults dial.new) }
+    ensures did { LinkDid (origin B.Bus (T.first turns.now)) L.Link (Clocked C.tells clock.old clock.new) (C.told clock.new) role.Core (record { pass = pass; link = link; dial = dial_shown D.Dial dial.old })
+        result.1.how (record { pass = result.0; link = result.1.link; dial = dial_shown D.Dial dial.new }) }
     ensures told { C.told clock.old ≤ C.told clock.new }
 {
-    headline_law();
+    claims_law();
     owned_law();
     let mut link = link;
     let (pass, joined) = join(rt, alloc, turns, pass, Role::Core);
@@ -146,10 +145,10 @@ pub fn abort_link<R: Wait, B: Bus, T: Turns<Core<B>>, L: Link>(
     room: &mut Room,
 ) -> (Pass<Core<B>>, Linked)
     requires gate { pass.gate ≡ T.gate turns.now }
-    ensures { LinkDid (origin B.Bus (T.first turns.now)) L.stands L.receives L.sends unclocked 0 role.Abort pass link.old (link_shown L.left L.peers L.receive_faults L.send_faults link.old) no_dial
-        result.1 result.0 link.new (link_shown L.left L.peers L.receive_faults L.send_faults link.new) no_dial }
+    ensures { LinkDid (origin B.Bus (T.first turns.now)) L.Link unclocked 0 role.Abort (record { pass = pass; link = link.old; dial = no_dial })
+        result.1 (record { pass = result.0; link = link.new; dial = no_dial }) }
 {
-    headline_law();
+    claims_law();
     owned_law();
     let (pass, joined) = join(rt, alloc, turns, pass, Role::Abort);
     match joined {

@@ -1,7 +1,6 @@
 //! The pump of one interrupt channel.
 ghost use Rattle.std.specs.Prelude.{◌≡◌, ◌≤◌, ◌<◌, length};
 ghost use Rattle.vx_session.specs.Origin.{origin};
-ghost use Rattle.vx_stream.specs.Shown.{link_shown};
 ghost use Rattle.vx_session.specs.Pumping.{Pumps};
 
 use crate::turns::take;
@@ -36,8 +35,7 @@ pub fn pump<R: Wait, B: Bus, T: Turns<Core<B>>, L: Link, P: Pause>(
     pause: &mut P,
 ) -> (Pass<Core<B>>, PumpEnd)
     requires gate { pass.gate ≡ T.gate turns.now }
-    ensures { Pumps (origin B.Bus (T.first turns.now)) L.stands L.receives L.sends pass conn chan link.old (link_shown L.left L.peers L.receive_faults L.send_faults link.old) result.1
-        result.0 link.new (link_shown L.left L.peers L.receive_faults L.send_faults link.new) }
+    ensures { Pumps (origin B.Bus (T.first turns.now)) L.Link pass conn chan link.old result.1 result.0 link.new }
 {
     let mut pass = pass;
     let mut record = [0; SRQ_ROOM];

@@ -19,7 +19,7 @@ pub fn sample_turn<R: Wait, B: Bus, T: Turns<Core<B>>, C: Clock>(
     clock: &mut C,
 ) -> Pass<Core<B>>
     requires gate { pass.gate ≡ T.gate turns.now }
-    ensures samples { SamplesNow (origin B.Bus (T.first turns.now)) C.told C.tells clock.old pass result clock.new }
+    ensures samples { SamplesNow (origin B.Bus (T.first turns.now)) C.Clock clock.old pass result clock.new }
     ensures told { C.told clock.old ≤ C.told clock.new }
 {
     let now = clock.now();

@@ -7,16 +7,15 @@ ghost use Rattle.vx_group.specs.Phases.{Idle};
 ghost use Rattle.vx_session.specs.Turning.{phase_at};
 ghost use Rattle.vx_door.specs.Going.{Went};
 ghost use Rattle.vx_exchange.specs.declared.record.TheConstants.{REPLY_ROOM};
-ghost use Rattle.vx_stream.specs.Shown.{link_shown};
 ghost use Rattle.vx_stream.specs.Stopping.{StreamAnswered};
-ghost use Rattle.vx_session.specs.Outside.{dial_shown, no_dial};
+ghost use Rattle.vx_session.specs.Dialing.{dial_shown, no_dial};
 ghost use Rattle.vx_session.specs.Progress.{Clocked, ClockedAs, unclocked};
 ghost use Rattle.vx_session.specs.declared.sessions.TheConstants.{PIECE};
 ghost use Rattle.vx_session.specs.Ending.{SessionDid};
 
 use crate::answering::Answering;
-use crate::still::Still;
-use crate::turns::leave;
+use crate::still::NoTools;
+use crate::turns::{Worker, leave};
 use std::alloc::Global;
 use std::marker::Model;
 use std::sync::Wait;
@@ -25,7 +24,7 @@ use vx_calls::{RECORD_MAX, Role};
 use vx_core::Core;
 use vx_exchange::REPLY_ROOM;
 use vx_gate::{Pass, Turns};
-use vx_group::{headline_law, owned_law};
+use vx_group::{claims_law, owned_law};
 use vx_io_traits::{Clock, Dial, Link, Pause};
 use vx_record::RecordBuf;
 use vx_stream::{Answers, End, answer_stream};
@@ -90,8 +89,8 @@ impl Room {
         requires can { S.can server }
         requires longest { RECORD_MAX ≤ S.longest }
         requires room { S.room ≤ REPLY_ROOM }
-        ensures answers { StreamAnswered S.does L.stands L.receives L.sends RECORD_MAX PIECE None server link.old (link_shown L.left L.peers L.receive_faults L.send_faults link.old)
-            (Some result.1) result.0 link.new (link_shown L.left L.peers L.receive_faults L.send_faults link.new) }
+        ensures answers { StreamAnswered S.does L.Link RECORD_MAX PIECE None (record { server = server; link = link.old })
+            (Some result.1) (record { server = result.0; link = link.new }) }
         ensures went { Went L.receives L.sends link.old link.new }
         ensures can { S.can result.0 }
     {
@@ -114,39 +113,33 @@ impl Room {
 
 /// A session, in a room: the records of its stream are served, and then the connection goes.
 fn run_session<R: Wait, B: Bus, T: Turns<Core<B>>, L: Link, C: Clock, P: Pause, D: Dial>(
-    rt: &R,
-    turns: &T,
+    worker: &Worker<'_, R, T>,
     pass: Pass<Core<B>>,
-    conn: u32,
-    role: Role,
     link: &mut L,
     clock: &mut C,
     pause: &mut P,
     dial: &mut D,
     room: &mut Room,
 ) -> (Pass<Core<B>>, End)
-    requires gate { pass.gate ≡ T.gate turns.now }
-    requires phase { phase_at pass conn ≡ Idle role }
-    ensures did { SessionDid (origin B.Bus (T.first turns.now)) L.stands L.receives L.sends (ClockedAs role C.tells clock.old clock.new) (C.told clock.new) role conn pass link.old (link_shown L.left L.peers L.receive_faults L.send_faults link.old) (dial_shown D.calls D.faults dial.old)
-        result.1 result.0 link.new (link_shown L.left L.peers L.receive_faults L.send_faults link.new) (dial_shown D.calls D.faults dial.new) }
+    requires gate { pass.gate ≡ T.gate worker.now.turns.now }
+    requires phase { phase_at pass worker.now.conn ≡ Idle worker.now.role }
+    ensures did { SessionDid (origin B.Bus (T.first worker.now.turns.now)) L.Link (ClockedAs worker.now.role C.tells clock.old clock.new) (C.told clock.new) worker.now.role worker.now.conn (record { pass = pass; link = link.old; dial = dial_shown D.Dial dial.old })
+        result.1 (record { pass = result.0; link = link.new; dial = dial_shown D.Dial dial.new }) }
     ensures told { C.told clock.old ≤ C.told clock.new }
 {
-    headline_law();
+    claims_law();
     owned_law();
     let mut held = Some(pass);
     let server = Answering {
-        rt,
-        turns,
+        worker,
         held: &mut held,
-        conn,
-        role,
         clock,
         pause,
         dial,
     };
-    let (_, end) = room.answer(rt, server, link);
+    let (_, end) = room.answer(worker.rt, server, link);
     let Some(pass) = held else { unreachable!() };
-    (leave(rt, turns, pass, conn), end)
+    (leave(worker.rt, worker.turns, pass, worker.conn), end)
 }
 
 /// The session of a core connection: it reads records from the link, answers each whole one, in their order, pauses between two
@@ -164,22 +157,17 @@ pub fn core_session<R: Wait, B: Bus, T: Turns<Core<B>>, L: Link, C: Clock, P: Pa
 ) -> (Pass<Core<B>>, End)
     requires gate { pass.gate ≡ T.gate turns.now }
     requires phase { phase_at pass conn ≡ Idle role.Core }
-    ensures did { SessionDid (origin B.Bus (T.first turns.now)) L.stands L.receives L.sends (Clocked C.tells clock.old clock.new) (C.told clock.new) role.Core conn pass link.old (link_shown L.left L.peers L.receive_faults L.send_faults link.old) (dial_shown D.calls D.faults dial.old)
-        result.1 result.0 link.new (link_shown L.left L.peers L.receive_faults L.send_faults link.new) (dial_shown D.calls D.faults dial.new) }
+    ensures did { SessionDid (origin B.Bus (T.first turns.now)) L.Link (Clocked C.tells clock.old clock.new) (C.told clock.new) role.Core conn (record { pass = pass; link = link.old; dial = dial_shown D.Dial dial.old })
+        result.1 (record { pass = result.0; link = link.new; dial = dial_shown D.Dial dial.new }) }
     ensures told { C.told clock.old ≤ C.told clock.new }
 {
-    run_session(
+    let worker = Worker {
         rt,
         turns,
-        pass,
         conn,
-        Role::Core,
-        link,
-        clock,
-        pause,
-        dial,
-        room,
-    )
+        role: Role::Core,
+    };
+    run_session(&worker, pass, link, clock, pause, dial, room)
 }
 
 /// The session of an abort connection, which waits for nobody but its turn.
@@ -193,19 +181,22 @@ pub fn abort_session<R: Wait, B: Bus, T: Turns<Core<B>>, L: Link>(
 ) -> (Pass<Core<B>>, End)
     requires gate { pass.gate ≡ T.gate turns.now }
     requires phase { phase_at pass conn ≡ Idle role.Abort }
-    ensures did { SessionDid (origin B.Bus (T.first turns.now)) L.stands L.receives L.sends unclocked 0 role.Abort conn pass link.old (link_shown L.left L.peers L.receive_faults L.send_faults link.old) no_dial
-        result.1 result.0 link.new (link_shown L.left L.peers L.receive_faults L.send_faults link.new) no_dial }
+    ensures did { SessionDid (origin B.Bus (T.first turns.now)) L.Link unclocked 0 role.Abort conn (record { pass = pass; link = link.old; dial = no_dial })
+        result.1 (record { pass = result.0; link = link.new; dial = no_dial }) }
 {
-    run_session(
+    let worker = Worker {
         rt,
         turns,
-        pass,
         conn,
-        Role::Abort,
+        role: Role::Abort,
+    };
+    run_session(
+        &worker,
+        pass,
         link,
-        &mut Still::new(),
-        &mut Still::new(),
-        &mut Still::new(),
+        &mut NoTools::new(),
+        &mut NoTools::new(),
+        &mut NoTools::new(),
         room,
     )
 }

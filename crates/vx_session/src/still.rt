@@ -8,18 +8,18 @@ use vx_io_traits::{Clock, Dial, DialOut, Pause};
 
 /// Tells moment 0, pauses for no time, and dials nobody.
 #[derive(Drop)]
-pub struct Still {
+pub struct NoTools {
     asked: bool,
 }
 
-impl Still {
+impl NoTools {
     /// One that was asked nothing yet.
-    pub fn new() -> Still {
-        Still { asked: false }
+    pub fn new() -> NoTools {
+        NoTools { asked: false }
     }
 }
 
-impl Clock for Still {
+impl Clock for NoTools {
     ghost told = { λ _. 0 };
 
     fn now(&mut self) -> u64 {
@@ -28,13 +28,13 @@ impl Clock for Still {
     }
 }
 
-impl Pause for Still {
+impl Pause for NoTools {
     fn pause(&mut self) {
         self.asked = true;
     }
 }
 
-impl Dial for Still {
+impl Dial for NoTools {
     ghost calls = { λ _. None };
 
     ghost faults = { λ _. 0 };

@@ -1,6 +1,6 @@
+pub mod Laws
 pub mod Changes
 pub mod Apart
-pub mod Hears
 pub mod Known
 pub mod Finding
 pub mod Stepping

@@ -12,9 +12,9 @@ use Rattle.vx_inst.specs.declared.done.Done.{Done}
 use Rattle.vx_inst.specs.declared.done.Done.TheVariants.{Took, Gave}
 use Rattle.vx_inst.specs.View.{View}
 use Rattle.vx_inst.specs.Behavior.{Behavior, seen, after, after_all}
-use Rattle.vx_inst.specs.Laws.{takes_byte, gives_byte, Takes, Gives}
+use Rattle.vx_inst.specs.Laws.{takes_byte, gives_byte, InstTakes, InstGives}
 use Rattle.vx_inst.specs.Runs.{TakesRun, GivesNext, takings, gave}
-use Rattle.vx_inst.specs.ProvedLaws.Runs.{front-next}
+use Rattle.vx_inst.proofs.Laws.Runs.{front-next}
 use Rattle.vx_sim.specs.Histories.{calls_of, IsAfter}
 use Rattle.vx_sim.specs.Occupants.{Boxed, Seated, TakesPuts, GivesBy}
 
@@ -40,7 +40,7 @@ boxed-takes (Put b end ∷ puts) old new s is run =
       ap takes_byte is ∙ run.1.0,
       (
         Boxed t,
-        (refl, subst (λ (v : View). Takes v b end (seen mid)) (sym is) run.1.1, run.1.3),
+        (refl, subst (λ (v : View). InstTakes v b end (seen mid)) (sym is) run.1.1, run.1.3),
         subst (λ (u : Seated). TakesPuts puts (Boxed t) (Boxed u)) (some-more s (Took b end ∷ []) (takings puts) (seen mid) (seen new)) rest,
       ),
     )
@@ -64,8 +64,8 @@ boxed-gives (Went (Got b end) ∷ steps) old new s is run =
     let mid : Behavior = run.0 in
     let t : Seated = with_calls s (Gave ∷ []) (seen mid) in
     let rest : Path GivesBy (Boxed t) steps (Boxed (with_calls t (givings steps) (seen new))) = boxed-gives steps mid new t refl run.2 in
-    let gives : Gives s.shown (record { value = b; end = end }) (seen mid) =
-    subst (λ (v : View). Gives v (record { value = b; end = end }) (seen mid)) (sym is) run.1.1 in (
+    let gives : InstGives s.shown (record { value = b; end = end }) (seen mid) =
+    subst (λ (v : View). InstGives v (record { value = b; end = end }) (seen mid)) (sym is) run.1.1 in (
       Boxed t,
       (ap gives_byte is ∙ run.1.0, (gives, (refl, gives, run.1.3))),
       subst (λ (u : Seated). Path GivesBy (Boxed t) steps (Boxed u)) (some-more s (Gave ∷ []) (givings steps) (seen mid) (seen new)) rest,

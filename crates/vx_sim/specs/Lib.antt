@@ -6,7 +6,6 @@ pub mod Attaching
 pub mod Shown
 pub mod Finding
 pub mod Laws
-pub mod ProvedLaws
 pub use Rattle.vx_bus_traits.specs.Means
 pub use Rattle.vx_488.specs.Address
 pub use Rattle.vx_488.specs.Command

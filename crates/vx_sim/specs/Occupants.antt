@@ -6,7 +6,7 @@ use Rattle.vx_inst.specs.View.{View}
 use Rattle.vx_inst.specs.declared.done.Done.{Done}
 use Rattle.vx_inst.specs.declared.done.Done.TheVariants.{Took, Gave, Polled, Cleared, Triggered, ToLocal, StatusSet, Told}
 use Rattle.vx_inst.specs.Behavior.{Behavior}
-use Rattle.vx_inst.specs.Laws.{takes_byte, gives_byte, IsSound, Takes, Gives, status_byte, IsPolled, IsCleared, IsTriggered, IsTold, with_status}
+use Rattle.vx_inst.specs.Laws.{takes_byte, gives_byte, IsInstSound, InstTakes, InstGives, status_byte, IsInstPolled, IsCleared, IsTriggered, IsInstTold, with_status}
 use Rattle.vx_table.specs.Table.{TableState, table_rule}
 use Rattle.vx_488.specs.declared.transfers.Addr.{Addr}
 use Rattle.vx_488.specs.declared.transfers.Transfer.{Transfer}
@@ -49,7 +49,7 @@ seen (Boxed s) = s.shown
 
 -- It had just this call more, and what is seen of it then is sound, and such as the call's law allows.
 abbrev pub HasCall : Done → (View → View → Type 0) → Seated → Seated → Type 0
-HasCall done Law old new = (new ≡ record old { calls = old.calls ++ done ∷ []; shown = new.shown }) × Law old.shown new.shown × IsSound new.shown
+HasCall done Law old new = (new ≡ record old { calls = old.calls ++ done ∷ []; shown = new.shown }) × Law old.shown new.shown × IsInstSound new.shown
 
 -- How one call changes it: a table instrument is what its rules make of it, and any other had the call.
 abbrev pub Becomes : Done → (View → View → Type 0) → Occupant → Occupant → Type 0
@@ -60,7 +60,7 @@ Becomes done Law (Boxed s) (Table u) = ⊥
 
 -- it takes a byte
 abbrev pub TakesByte : ℕ → Bool → Occupant → Occupant → Type 0
-TakesByte b end old new = Becomes (Took b end) (λ v w. Takes v b end w) old new
+TakesByte b end old new = Becomes (Took b end) (λ v w. InstTakes v b end w) old new
 
 -- it takes the bytes of these puts, one after the other, each when it can take one
 abbrev pub TakesPuts : List Transfer → Occupant → Occupant → Type 0
@@ -73,12 +73,12 @@ abbrev pub Receives : Signal → Occupant → Occupant → Type 0
 Receives signal.Clear old new = Becomes Cleared IsCleared old new
 Receives signal.Trigger old new = Becomes Triggered IsTriggered old new
 Receives signal.Local old new = Becomes ToLocal (λ v w. w ≡ v) old new
-Receives (signal.Moment now) old new = Becomes (Told now) IsTold old new
+Receives (signal.Moment now) old new = Becomes (Told now) IsInstTold old new
 Receives (signal.Status b) old new = Becomes (StatusSet b) (λ v w. w ≡ with_status v b) old new
 
 -- It gives the front of what it has to give.
 abbrev pub GivesByte : Byte → Occupant → Occupant → Type 0
-GivesByte byte old new = Gives (seen old) byte (seen new) × Becomes Gave (λ v w. Gives v byte w) old new
+GivesByte byte old new = InstGives (seen old) byte (seen new) × Becomes Gave (λ v w. InstGives v byte w) old new
 
 -- It gives a byte for each get that goes, and has none where a get is held.
 abbrev pub GivesBy : Occupant → Step → Occupant → Type 0
@@ -88,4 +88,4 @@ GivesBy old _ new = ⊥
 
 -- It gives its status byte, without END.
 abbrev pub GivesStatus : Byte → Occupant → Occupant → Type 0
-GivesStatus byte old new = (byte ≡ record { value = status_byte (seen old); end = false }) × Becomes Polled IsPolled old new
+GivesStatus byte old new = (byte ≡ record { value = status_byte (seen old); end = false }) × Becomes Polled IsInstPolled old new

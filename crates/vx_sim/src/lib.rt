@@ -6,16 +6,16 @@
 
 mod attach;
 mod bench;
-mod laws;
 mod places;
 mod seat;
 mod signals;
 mod sim;
+mod theorems;
 
 pub use attach::{Absent, Attach, Refused};
-pub use laws::heard_is_taken;
 pub use signals::Signal;
 pub use sim::SimBus;
+pub use theorems::heard_is_taken;
 
 /// The most instruments on a bus.
 pub const PLACES_MAX: usize = 31;

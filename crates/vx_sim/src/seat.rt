@@ -5,7 +5,7 @@ ghost use Rattle.vx_488.specs.declared.transfers.Transfer.TheVariants.{Put};
 ghost use Rattle.vx_bus_traits.specs.Bursts.{ended, gets_steps, StopsAt};
 ghost use Rattle.vx_bus_traits.specs.Steps.{Path};
 ghost use Rattle.vx_inst.specs.declared.done.Done.TheVariants.{Took, Gave, Polled, Cleared, Triggered, ToLocal, StatusSet, Told};
-ghost use Rattle.vx_inst.specs.Laws.{takes_byte, gives_byte, Takes, Gives, status_byte, IsPolled, IsCleared, IsTriggered, IsTold, with_status};
+ghost use Rattle.vx_inst.specs.Laws.{takes_byte, gives_byte, InstTakes, InstGives, status_byte, IsInstPolled, IsCleared, IsTriggered, IsInstTold, with_status};
 ghost use Rattle.vx_inst.specs.Runs.{takings, gave};
 ghost use Rattle.vx_sim.specs.Histories.{calls_of};
 ghost use Rattle.vx_sim.specs.Occupants.{Boxed, handed_in, HasCall, IsKnown, TakesPuts, GivesBy};
@@ -70,7 +70,7 @@ impl<I: Instrument> Seat<I> {
 
     pub(crate) fn take(&mut self, b: u8, end: bool)
         requires { takes_byte self.old.shown ≡ true }
-        ensures { HasCall (Took b end) (λ v w. Takes v b end w) self.old self.new }
+        ensures { HasCall (Took b end) (λ v w. InstTakes v b end w) self.old self.new }
     {
         self.inst.take(b, end);
         self.calls = self.calls.and(&Done::Took { b, end }, &());
@@ -96,7 +96,7 @@ impl<I: Instrument> Seat<I> {
     /// Gives the next byte, and whether END stands on it.
     pub(crate) fn give(&mut self) -> (u8, bool)
         requires { gives_byte self.old.shown ≡ true }
-        ensures { HasCall Gave (λ v w. Gives v (record { value = result.0; end = result.1 }) w) self.old self.new }
+        ensures { HasCall Gave (λ v w. InstGives v (record { value = result.0; end = result.1 }) w) self.old self.new }
     {
         let given = self.inst.give();
         self.calls = self.calls.and(&Done::Gave, &());
@@ -120,7 +120,7 @@ impl<I: Instrument> Seat<I> {
     /// Gives its status byte.
     pub(crate) fn poll(&mut self) -> u8
         ensures status { result ≡ status_byte self.old.shown }
-        ensures polled { HasCall Polled IsPolled self.old self.new }
+        ensures polled { HasCall Polled IsInstPolled self.old self.new }
     {
         let status = self.inst.poll();
         self.calls = self.calls.and(&Done::Polled, &());
@@ -163,7 +163,7 @@ impl<I: Instrument> Seat<I> {
 
     /// Tells it a moment, in milliseconds.
     pub(crate) fn moment(&mut self, now: u64)
-        ensures { HasCall (Told now) IsTold self.old self.new }
+        ensures { HasCall (Told now) IsInstTold self.old self.new }
     {
         self.inst.moment(now);
         self.calls = self.calls.and(&Done::Told(now), &());

@@ -6,15 +6,15 @@ use Rattle.std.specs.List.{All}
 use Rattle.std.specs.Vec.{with_items}
 use Rattle.std.proofs.lemmas.List.{map-append, length-map, with_items_is}
 use Rattle.std.proofs.lemmas.List.Elements.{All-append, All-cons, All-nil}
-use Rattle.vx_lemmas.specs.Lists.{find-map, filter-map}
+use Rattle.vx_lemmas.proofs.Laws.Lists.{find-map, filter-map}
 use Rattle.vx_srq.specs.declared.slots.ChannelRow.{ChannelRow}
 use Rattle.vx_srq.specs.declared.slots.SlotRow.{SlotRow}
 use Rattle.vx_srq.specs.declared.srq.Srq.TheInside.{Inside}
 use Rattle.vx_rules.specs.SrqState.{SrqState, ChannelSlot, IsSound, IsBelow, HasChannelBelow, channel_at}
-use Rattle.vx_srq.specs.Shown.{slot_shown, enable_shown, channel_shown, HasRoom}
+use Rattle.vx_srq.specs.Shown.{slot_shown, enable_shown, channel_shown, SrqHasRoom}
 use Rattle.vx_srq.specs.Told.{channel_told, told_of}
-use Rattle.vx_srq.specs.Inside.{srq_state_of, IsKept}
-use Rattle.vx_srq.proofs.Sound.{sound-level}
+use Rattle.vx_srq.specs.Inside.{srq_state_of, IsSrqKept}
+use Rattle.vx_srq.proofs.Laws.Sound.{sound-level}
 
 -- the state of service requests with other slots
 abbrev pub with_slots : Inside → List ChannelSlot → SrqState
@@ -22,10 +22,10 @@ with_slots t slots = record (srq_state_of t) { slots = slots }
 
 -- what a push of a slot without a channel, or of none, leaves
 pub record Added (t : Inside) (rows : List SlotRow) : Type 0 where
-  pub room : All HasRoom rows
+  pub room : All SrqHasRoom rows
   pub sound : IsSound (with_slots t (map slot_shown rows))
 
-pub added : (t : Inside) (b : Bool) (rows : List SlotRow) (slot : SlotRow) → IsKept t → HasRoom slot → slot.channel ≡ None
+pub added : (t : Inside) (b : Bool) (rows : List SlotRow) (slot : SlotRow) → IsSrqKept t → SrqHasRoom slot → slot.channel ≡ None
     → rows ≡ (if b then t.slots.items ++ slot ∷ [] else t.slots.items) → Added t rows
 added t b rows slot kept room none pushed = subst (Added t) (sym pushed) (at b)
   where
@@ -35,7 +35,7 @@ added t b rows slot kept room none pushed = subst (Added t) (sym pushed) (at b)
     at : (b : Bool) → Added t (if b then t.slots.items ++ slot ∷ [] else t.slots.items)
     at false = record { room = kept.room; sound = kept.sound }
     at true = record {
-      room = All-append HasRoom t.slots.items (slot ∷ []) kept.room (All-cons HasRoom slot [] room (All-nil HasRoom));
+      room = All-append SrqHasRoom t.slots.items (slot ∷ []) kept.room (All-cons SrqHasRoom slot [] room (All-nil SrqHasRoom));
       sound = record {
         links = kept.sound.links;
         few = kept.sound.few;
@@ -87,5 +87,5 @@ others_shown t d lid view =
     ∙ ap (λ (k : SrqState). length (filter (λ e. not (e.link == lid)) k.enables)) view
 
 -- another level
-pub kept_level : (t : Inside) (level : Bool) → IsKept t → IsKept (record t { level = level })
+pub kept_level : (t : Inside) (level : Bool) → IsSrqKept t → IsSrqKept (record t { level = level })
 kept_level t level kept = record { places = kept.places; room = kept.room; sound = sound-level (srq_state_of t) level kept.sound }

@@ -1,5 +1,5 @@
+pub mod Laws
 pub mod Changes
 pub mod Due
 pub mod Places
-pub mod Sound
 pub mod Held

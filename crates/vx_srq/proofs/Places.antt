@@ -6,10 +6,10 @@ use Rattle.std.proofs.lemmas.Bool.Decides.{nat_tests}
 use Rattle.std.proofs.lemmas.Bool.{lt-ltb}
 use Rattle.std.proofs.lemmas.List.Elements.{All-cons, All-tail, All-weaker}
 use Rattle.std.proofs.lemmas.List.Sums.{prefix_len-le-length}
-use Rattle.vx_lemmas.specs.Filters.{pairs_head, pairs_tail}
+use Rattle.vx_lemmas.proofs.Laws.Filters.{pairs_head, pairs_tail}
 use Rattle.vx_srq.specs.declared.enables.EnableRow.{EnableRow}
 use Rattle.vx_rules.specs.SrqState.{Enable, LinksRise, enable_put}
-use Rattle.vx_rules.specs.ProvedLaws.Rising.{Precedes}
+use Rattle.vx_rules.proofs.Laws.Rising.{Precedes}
 use Rattle.vx_srq.specs.Shown.{enable_shown}
 
 -- the first place that passes, or the length

@@ -34,6 +34,6 @@ given_shown seen.Empty = Empty
 given_shown seen.Gone = Gone
 
 -- the room of an outbox stands, and no more than it takes waits in it
-pub record HasRoom (r : SlotRow) : Type 0 where
+pub record SrqHasRoom (r : SlotRow) : Type 0 where
   pub room : OUTBOX_MAX ≤ deque_capacity r.outbox
   pub few : length r.outbox.items ≤ OUTBOX_MAX

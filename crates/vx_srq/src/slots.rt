@@ -4,7 +4,7 @@ ghost use Rattle.std.specs.List.{list_any, All};
 ghost use Rattle.std.specs.VecDeque.{deque_capacity};
 ghost use Rattle.vx_rules.specs.declared.limits.TheConstants.{OUTBOX_MAX};
 ghost use Rattle.vx_rules.specs.SrqState.{slot_with, risen_slot, slot_taken, given_by, front_given, handles_of};
-ghost use Rattle.vx_srq.specs.Shown.{channel_shown, slot_shown, enable_shown, handle_shown, given_shown, HasRoom};
+ghost use Rattle.vx_srq.specs.Shown.{channel_shown, slot_shown, enable_shown, handle_shown, given_shown, SrqHasRoom};
 
 use crate::enables::{EnableRow, copied};
 use std::collections::VecDeque;
@@ -44,9 +44,9 @@ pub(crate) fn has_slot(slots: &[SlotRow], conn: u32) -> bool
 
 /// Gives the connection this channel, with an empty outbox.
 pub(crate) fn open_channel(slots: &mut [SlotRow], conn: u32, channel: ChannelRow)
-    requires { All HasRoom slots.old }
+    requires { All SrqHasRoom slots.old }
     ensures slots { map slot_shown slots.new ≡ map (slot_with conn (Some (channel_shown [] channel))) (map slot_shown slots.old) }
-    ensures room { All HasRoom slots.new }
+    ensures room { All SrqHasRoom slots.new }
 {
     for slot in slots.iter_mut() {
         open_at(slot, conn, channel);
@@ -54,9 +54,9 @@ pub(crate) fn open_channel(slots: &mut [SlotRow], conn: u32, channel: ChannelRow
 }
 
 fn open_at(slot: &mut SlotRow, conn: u32, channel: ChannelRow)
-    requires { HasRoom slot.old }
+    requires { SrqHasRoom slot.old }
     ensures slot { slot_shown slot.new ≡ slot_with conn (Some (channel_shown [] channel)) (slot_shown slot.old) }
-    ensures room { HasRoom slot.new }
+    ensures room { SrqHasRoom slot.new }
 {
     if slot.conn == conn {
         slot.outbox.clear();
@@ -66,9 +66,9 @@ fn open_at(slot: &mut SlotRow, conn: u32, channel: ChannelRow)
 
 /// Takes the channel of the connection away, and with it its outbox.
 pub(crate) fn close_channel(slots: &mut [SlotRow], conn: u32)
-    requires { All HasRoom slots.old }
+    requires { All SrqHasRoom slots.old }
     ensures slots { map slot_shown slots.new ≡ map (slot_with conn None) (map slot_shown slots.old) }
-    ensures room { All HasRoom slots.new }
+    ensures room { All SrqHasRoom slots.new }
 {
     for slot in slots.iter_mut() {
         close_at(slot, conn);
@@ -76,9 +76,9 @@ pub(crate) fn close_channel(slots: &mut [SlotRow], conn: u32)
 }
 
 fn close_at(slot: &mut SlotRow, conn: u32)
-    requires { HasRoom slot.old }
+    requires { SrqHasRoom slot.old }
     ensures slot { slot_shown slot.new ≡ slot_with conn None (slot_shown slot.old) }
-    ensures room { HasRoom slot.new }
+    ensures room { SrqHasRoom slot.new }
 {
     if slot.conn == conn {
         slot.channel = None;
@@ -88,9 +88,9 @@ fn close_at(slot: &mut SlotRow, conn: u32)
 /// A rise of SRQ: each channel queues the handles of its connection's enabled links, or is closed where its outbox would
 /// go above what it takes.
 pub(crate) fn rise(slots: &mut [SlotRow], enables: &[EnableRow])
-    requires { All HasRoom slots.old }
+    requires { All SrqHasRoom slots.old }
     ensures slots { map slot_shown slots.new ≡ map (risen_slot (map enable_shown enables.now)) (map slot_shown slots.old) }
-    ensures room { All HasRoom slots.new }
+    ensures room { All SrqHasRoom slots.new }
 {
     for slot in slots.iter_mut() {
         rise_at(slot, enables);
@@ -98,9 +98,9 @@ pub(crate) fn rise(slots: &mut [SlotRow], enables: &[EnableRow])
 }
 
 fn rise_at(slot: &mut SlotRow, enables: &[EnableRow])
-    requires { HasRoom slot.old }
+    requires { SrqHasRoom slot.old }
     ensures slot { slot_shown slot.new ≡ risen_slot (map enable_shown enables.now) (slot_shown slot.old) }
-    ensures room { HasRoom slot.new }
+    ensures room { SrqHasRoom slot.new }
 {
     if slot.channel.is_some() && !queue(slot.conn, &mut slot.outbox, enables) {
         slot.channel = None;
@@ -164,9 +164,9 @@ fn front_of(channel: ChannelRow, outbox: &VecDeque<Handle>) -> Taken
 
 /// Takes the front away from the outbox of the connection's channel of this number.
 pub(crate) fn drop_front(slots: &mut [SlotRow], conn: u32, chan: u32)
-    requires { All HasRoom slots.old }
+    requires { All SrqHasRoom slots.old }
     ensures slots { map slot_shown slots.new ≡ map (slot_taken conn chan) (map slot_shown slots.old) }
-    ensures room { All HasRoom slots.new }
+    ensures room { All SrqHasRoom slots.new }
 {
     for slot in slots.iter_mut() {
         drop_at(slot, conn, chan);
@@ -174,9 +174,9 @@ pub(crate) fn drop_front(slots: &mut [SlotRow], conn: u32, chan: u32)
 }
 
 fn drop_at(slot: &mut SlotRow, conn: u32, chan: u32)
-    requires { HasRoom slot.old }
+    requires { SrqHasRoom slot.old }
     ensures slot { slot_shown slot.new ≡ slot_taken conn chan (slot_shown slot.old) }
-    ensures room { HasRoom slot.new }
+    ensures room { SrqHasRoom slot.new }
 {
     if slot.conn != conn {
         return;

@@ -49,11 +49,11 @@ impl Model for Srq {
 
     ghost Value = { SrqState };
 
-    ghost use Rattle.vx_srq.specs.Inside.{srq_state_of, IsKept};
+    ghost use Rattle.vx_srq.specs.Inside.{srq_state_of, IsSrqKept};
 
     ghost view = { srq_state_of };
 
-    ghost invariant = { IsKept };
+    ghost invariant = { IsSrqKept };
 }
 
 impl Srq {
@@ -249,7 +249,7 @@ impl Srq {
     /// What holds of every state of service requests: links and their enables rise in number, and at most 1,024 have one; an
     /// outbox has at most 1,024 interrupts; each channel's number was given out, and the next one was not. It does nothing when
     /// it runs.
-    pub fn is_sound(&self)
+    pub fn sound_law(&self)
         ensures links { srq_state.LinksRise self.now.enables }
         ensures few { length self.now.enables ≤ LINK_MAX }
         ensures channels { All (srq_state.HasChannelBelow self.now.next_channel) self.now.slots }

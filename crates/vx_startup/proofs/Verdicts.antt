@@ -15,7 +15,7 @@ use Rattle.clap.specs.declared.error.kind.ErrorKind.TheVariants as kind
 use Rattle.clap.specs.declared.parser.matches.Found.{Found}
 use Rattle.clap.proofs.WalkLemmas.{first_value-rows}
 use Rattle.vx_startup.specs.Form.{vxgate}
-use Rattle.vx_startup.specs.Meant.{Answers, Sets, given, is_set, number_of, refused, rows, taken, told, verdict, verdict_of}
+use Rattle.vx_startup.specs.Meant.{ServerAnswers, Sets, given, is_set, number_of, refused, rows, taken, told, verdict, verdict_of}
 use Rattle.vx_startup.specs.Parts.{HasFlag, HasNumber, Refuses}
 use Rattle.vx_startup.specs.declared.words.Options.{Options}
 use Rattle.vx_startup.specs.declared.words.Asked.{Asked}
@@ -44,7 +44,7 @@ by_kind words k among = ap verdict_of (only_kind words k among)
 
 -- an error of the kind that the words give, or for want of memory, is answered
 pub answered : (words : List Text) (k : ErrorKind) (a : Asked) → Refuses k a → (k ≡ kind.OutOfMemory) ⊎ IsAmong k (fault_of vxgate words)
-    → Answers words a
+    → ServerAnswers words a
 answered words k (asked.Serve o) none why = absurd none
 answered words k (asked.Tell text) asks (inl memory) =
     let bad : refused ≡ told = ap (λ (x : ErrorKind). verdict_of (x ∷ [])) (sym memory) ∙ asks in

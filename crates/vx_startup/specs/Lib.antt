@@ -16,7 +16,7 @@ pub use Rattle.vx_sim.specs.SimState
 pub use Rattle.vx_script.specs.Cause
 pub use Rattle.vx_trace.specs.Output
 pub use Rattle.vx_trace.specs.Text
-pub use Rattle.vx_bench.specs.Rack
-pub use Rattle.vx_bench.specs.SettingUp
-pub use Rattle.vx_bench.specs.Spares
+pub use Rattle.vx_setup.specs.Rack
+pub use Rattle.vx_setup.specs.SettingUp
+pub use Rattle.vx_setup.specs.Spares
 pub use Rattle.vx_sim.specs.Occupants

@@ -7,9 +7,9 @@ abbrev pub listening_line : ℕ → ℕ → List ℕ
 listening_line core abort = codes "listening " ++ decimal core ++ codes " " ++ decimal abort ++ codes "\n"
 
 -- how many core links were served
-abbrev pub served_line : ℕ → List ℕ
-served_line number = codes "served " ++ decimal number ++ codes "\n"
+abbrev pub server_served_line : ℕ → List ℕ
+server_served_line number = codes "served " ++ decimal number ++ codes "\n"
 
 -- the words have no form that the server knows
-abbrev pub usage_line : List ℕ
-usage_line = codes "usage: vxgate OPTIONS\n"
+abbrev pub server_usage_line : List ℕ
+server_usage_line = codes "usage: vxgate OPTIONS\n"

@@ -60,7 +60,7 @@ pub record Sets (found : List Row) (o : Options) : Type 0 where
   pub log : is_set (codes "log") found ≡ o.log
 
 -- each number lies in its range
-pub record IsInRange (o : Options) : Type 0 where
+pub record IsServerInRange (o : Options) : Type 0 where
   pub core : (1 ≤ o.core) × (o.core ≤ 65535)
   pub abort : (1 ≤ o.abort) × (o.abort ≤ 65535)
   pub sample : (1 ≤ o.sample) × (o.sample ≤ 60000)
@@ -76,11 +76,11 @@ abbrev pub IsSetBy : List Text → Options → Type 0
 IsSetBy words o = (verdict words ≡ taken) × Sets (rows words) o
 
 -- the one answer that the words have, or want of memory
-abbrev pub Answers : List Text → Asked → Type 0
-Answers words (asked.Serve o) = IsSetBy words o × IsInRange o
-Answers words (asked.Tell text) = verdict words ≡ told
-Answers words asked.Usage = verdict words ≡ refused
-Answers words asked.NoMemory = ⊤
+abbrev pub ServerAnswers : List Text → Asked → Type 0
+ServerAnswers words (asked.Serve o) = IsSetBy words o × IsServerInRange o
+ServerAnswers words (asked.Tell text) = verdict words ≡ told
+ServerAnswers words asked.Usage = verdict words ≡ refused
+ServerAnswers words asked.NoMemory = ⊤
 
 -- the options where no word sets one
 abbrev pub usual : Options

@@ -3,12 +3,13 @@
 use Rattle.std.specs.Prelude.{◌≡◌, ◌≤◌, ◌<◌, ◌-◌, ◌^◌, ℕ, min, List, ◌++◌, ◌⊎◌}
 use Rattle.std.specs.Io.KnownBytes.{Appends}
 use Rattle.vx_io_traits.specs.Faults.{Rose}
+use Rattle.vx_io_traits.specs.declared.nets.Net.{Ghosts as NetTold}
 use Rattle.vx_text.specs.Ends.{End}
 use Rattle.vx_text.specs.Writing.{StopsIn}
 use Rattle.vx_startup.specs.declared.words.Options.{Options}
-use Rattle.vx_startup.specs.Lines.{listening_line, served_line}
-use Rattle.vx_startup.specs.declared.status.Status.{Status}
-use Rattle.vx_startup.specs.declared.status.Status.TheVariants as status
+use Rattle.vx_startup.specs.Lines.{listening_line, server_served_line}
+use Rattle.vx_startup.specs.declared.status.ServerStatus.{ServerStatus}
+use Rattle.vx_startup.specs.declared.status.ServerStatus.TheVariants as status
 
 -- a net: how many of its calls failed, how many links its own port gave, and how often that told that no more come
 pub record NetShown : Type 0 where
@@ -16,8 +17,9 @@ pub record NetShown : Type 0 where
   pub given : ℕ
   pub ended : ℕ
 
-abbrev pub net_shown : {N : Type 0} → (N → ℕ) → (N → ℕ) → (N → ℕ) → N → NetShown
-net_shown faults given ended net = record { faults = faults net; given = given net; ended = ended net }
+-- what a net shows, of all that its trait tells; `P` is its ports' type, and `L` that of the links that they give
+abbrev pub net_shown : {N P L : Type 0} → NetTold N P L → N → NetShown
+net_shown told net = record { faults = told.faults net; given = told.given net; ended = told.ended net }
 
 -- the net and the sink
 pub record Ports : Type 0 where
@@ -44,29 +46,29 @@ pub record StopsBehind (before after : End) (first second : List ℕ) : Type 0 w
   pub stops : StopsIn mid after second
 
 -- How a server ends that has announced its ports, and the number of the tally that it gives back.
-abbrev pub LinksServed : ℕ → Ports → Ports → ℕ → Status → Type 0
+abbrev pub LinksServed : ℕ → Ports → Ports → ℕ → ServerStatus → Type 0
 -- it took so many links, and as many were served; the second line was written
 LinksServed limit before after tally status.Served =
-    TookLinks limit before.net after.net tally × Appends before.sink.bytes after.sink.bytes (served_line tally)
+    TookLinks limit before.net after.net tally × Appends before.sink.bytes after.sink.bytes (server_served_line tally)
 -- a wait for a link failed
 LinksServed limit before after tally status.NetFailed = Rose before.net.faults after.net.faults × (after.sink ≡ before.sink)
 -- so it did, and the sink failed in that line
 LinksServed limit before after tally status.SinkFailed =
-    TookLinks limit before.net after.net tally × StopsIn before.sink after.sink (served_line tally)
+    TookLinks limit before.net after.net tally × StopsIn before.sink after.sink (server_served_line tally)
 LinksServed limit before after tally _ = ⊥
 
 -- How a server with all its workers ends, the line that announces its ports with it.
-abbrev pub LinksEnd : Options → Ports → Ports → ℕ → Status → Type 0
+abbrev pub LinksEnd : Options → Ports → Ports → ℕ → ServerStatus → Type 0
 -- it took so many links, and as many were served; both lines were written
 LinksEnd o before after tally status.Served =
-    TookLinks o.limit before.net after.net tally × Appends before.sink.bytes after.sink.bytes (first_line o ++ served_line tally)
+    TookLinks o.limit before.net after.net tally × Appends before.sink.bytes after.sink.bytes (first_line o ++ server_served_line tally)
 -- a wait for a link failed
 LinksEnd o before after tally status.NetFailed =
     Rose before.net.faults after.net.faults × Appends before.sink.bytes after.sink.bytes (first_line o)
 -- the sink failed in the first line, and no link was taken; or it took that line, and failed in the second
 LinksEnd o before after tally status.SinkFailed =
     (StopsIn before.sink after.sink (first_line o) × (after.net.given ≡ before.net.given) × (after.net.ended ≡ before.net.ended))
-    ⊎ (TookLinks o.limit before.net after.net tally × StopsBehind before.sink after.sink (first_line o) (served_line tally))
+    ⊎ (TookLinks o.limit before.net after.net tally × StopsBehind before.sink after.sink (first_line o) (server_served_line tally))
 LinksEnd o before after tally _ = ⊥
 
 -- no link was taken, and nothing was written
@@ -74,10 +76,10 @@ abbrev pub IsUnstarted : Ports → Ports → Type 0
 IsUnstarted before after = (after.net.given ≡ before.net.given) × (after.net.ended ≡ before.net.ended) × (after.sink ≡ before.sink)
 
 -- How one ends that opens its ports and starts its workers first; `refused` is how many works the spawner has refused.
-abbrev pub EndsRun : Options → Ports → ℕ → Ports → ℕ → ℕ → Status → Type 0
+abbrev pub ServerEndsRun : Options → Ports → ℕ → Ports → ℕ → ℕ → ServerStatus → Type 0
 -- a port couldn't be opened or bound; or a wait for a link failed
-EndsRun o before refused after refused' tally status.NetFailed =
+ServerEndsRun o before refused after refused' tally status.NetFailed =
     (Rose before.net.faults after.net.faults × IsUnstarted before after) ⊎ LinksEnd o before after tally status.NetFailed
-EndsRun o before refused after refused' tally status.WorkerRefused = Rose refused refused' × IsUnstarted before after
-EndsRun o before refused after refused' tally status.NoMemory = IsUnstarted before after
-EndsRun o before refused after refused' tally how = LinksEnd o before after tally how
+ServerEndsRun o before refused after refused' tally status.WorkerRefused = Rose refused refused' × IsUnstarted before after
+ServerEndsRun o before refused after refused' tally status.NoMemory = IsUnstarted before after
+ServerEndsRun o before refused after refused' tally how = LinksEnd o before after tally how

@@ -16,7 +16,7 @@ mod words;
 
 pub use logging::{Channel, Logs, News, Reason, tell};
 pub use preparing::{BENCH_MAX, prepare};
-pub use status::Status;
+pub use status::ServerStatus;
 pub use taking::{next_link, open_ports};
 pub use telling::{announce, tell_served};
 pub use words::{Asked, Options, read_words};

@@ -1,11 +1,11 @@
 //! The log of a server: a line for each connection that comes, that ends, and that is refused.
 ghost use Rattle.std.specs.Prelude.{◌≡◌, ◌+◌, ◌≤◌, ◌++◌, length, take};
+ghost use Rattle.vx_text.specs.Ends.{sink_shown};
 ghost use Rattle.vx_text.specs.Writing.{IsPut};
 ghost use Rattle.vx_startup.specs.Logging.{channel_word, log_line, news_text, reason};
 
-use crate::lines::{put, put_number};
 use vx_io_traits::Sink;
-use vx_text::{SinkFailed, put_all};
+use vx_text::{SinkFailed, put_all, put_number, put_text};
 
 /// Room for the longest line of a log, in bytes.
 const LOG_ROOM: usize = 160;
@@ -93,11 +93,11 @@ fn put_end(out: &mut [u8], at: usize, reason: Reason, calls: u64) -> usize
     ensures end { result ≤ at + 80 }
     ensures len { length out.new ≡ length out.old }
 {
-    let at = put(out, at, b" ended: ");
-    let at = put(out, at, reason.words());
-    let at = put(out, at, b", ");
+    let at = put_text(out, at, b" ended: ");
+    let at = put_text(out, at, reason.words());
+    let at = put_text(out, at, b", ");
     let at = put_number(out, at, calls);
-    put(out, at, b" calls")
+    put_text(out, at, b" calls")
 }
 
 /// Writes at a place what is told of a connection, and answers the place behind it.
@@ -108,10 +108,10 @@ fn put_news(out: &mut [u8], at: usize, news: News) -> usize
     ensures len { length out.new ≡ length out.old }
 {
     match news {
-        News::Came => put(out, at, b" came"),
+        News::Came => put_text(out, at, b" came"),
         News::Ended { reason, calls } => put_end(out, at, reason, calls),
-        News::Full => put(out, at, b" refused: 64 are connected"),
-        News::NoMemory => put(out, at, b" refused: no memory"),
+        News::Full => put_text(out, at, b" refused: 64 are connected"),
+        News::NoMemory => put_text(out, at, b" refused: no memory"),
     }
 }
 
@@ -120,11 +120,11 @@ fn log_line(channel: Channel, number: u64, news: News, out: &mut [u8]) -> &[u8]
     requires { LOG_ROOM ≤ length out.old }
     ensures { result.now ≡ log_line channel number news }
 {
-    let end = put(out, 0, channel.word());
-    let end = put(out, end, b" ");
+    let end = put_text(out, 0, channel.word());
+    let end = put_text(out, end, b" ");
     let end = put_number(out, end, number);
     let end = put_news(out, end, news);
-    let end = put(out, end, b"\n");
+    let end = put_text(out, end, b"\n");
     &out[..end]
 }
 
@@ -136,8 +136,7 @@ pub fn tell<K: Sink>(
     news: News,
 ) -> Result<(), SinkFailed>
     ensures put { IsPut
-        (record { bytes = K.taken log.old; faults = K.faults log.old })
-        (record { bytes = K.taken log.new; faults = K.faults log.new }) (log_line channel number news) result }
+        (sink_shown K.Sink log.old) (sink_shown K.Sink log.new) (log_line channel number news) result }
     ensures counted { K.faults log.old ≤ K.faults log.new }
 {
     let mut room = [0; LOG_ROOM];

@@ -1,26 +1,26 @@
 //! What a server does before it comes to its ports: it reads its words and its bench, and sets the bench up.
 ghost use Rattle.std.specs.Prelude.{◌≡◌, List, IfErr, IfOk, map, string_bytes};
-ghost use Rattle.vx_text.specs.Ends.{End};
+ghost use Rattle.vx_text.specs.Ends.{End, source_shown, sink_shown};
 ghost use Rattle.vx_text.specs.Reading.{IsInput};
 ghost use Rattle.vx_text.specs.declared.input.Input.TheVariants.{Whole};
 ghost use Rattle.vx_sim.specs.Means.{first_means};
-ghost use Rattle.vx_bench.specs.Rack.{SpareShown};
+ghost use Rattle.vx_setup.specs.Rack.{SpareShown};
 ghost use Rattle.vx_sim.specs.Occupants.{handed_in};
-ghost use Rattle.vx_bench.specs.Spares.{spare_shown};
+ghost use Rattle.vx_setup.specs.Spares.{spare_shown};
 ghost use Rattle.vx_startup.specs.declared.words.Asked.TheVariants.{Serve};
 ghost use Rattle.vx_startup.specs.declared.words.Options.{Options};
-ghost use Rattle.vx_startup.specs.Meant.{Answers, IsInRange};
-ghost use Rattle.vx_startup.specs.Outcome.{Ends, EndsBenched, EndsOptioned};
-ghost use Rattle.vx_startup.specs.Preparing.{Early, IsBench, IsQuiet, IsReady};
+ghost use Rattle.vx_startup.specs.Meant.{ServerAnswers, IsServerInRange};
+ghost use Rattle.vx_startup.specs.Outcome.{ServerEnds, EndsBenched, EndsOptioned};
+ghost use Rattle.vx_startup.specs.Preparing.{Early, IsBench, IsQuiet, IsServerReady};
 
-use crate::status::Status;
+use crate::status::ServerStatus;
 use crate::telling::{end_bench, put_last};
 use crate::words::{Asked, Options, read_words};
 use std::alloc::Global;
-use vx_bench::set_up;
 use vx_inst::Instrument;
 use vx_io_traits::{Sink, Source};
 use vx_rack::Spare;
+use vx_setup::set_up;
 use vx_sim::SimBus;
 use vx_text::{Input, read_all};
 
@@ -28,19 +28,21 @@ use vx_text::{Input, read_all};
 pub const BENCH_MAX: usize = 1_048_576;
 
 /// The options that words set, or how the server ends that they don't ask to serve.
-fn options_of<K: Sink>(alloc: Global, words: &[String], sink: &mut K) -> Result<Options, Status>
-    ensures set { IfOk result (λ o. Answers (map string_bytes words.now) (Serve o)) }
-    ensures silent { IfOk result (λ o. IsQuiet (record { bytes = K.taken sink.old; faults = K.faults sink.old })
-        (record { bytes = K.taken sink.new; faults = K.faults sink.new })) }
-    ensures early { IfErr result (λ how. (rack : List SpareShown) (source : End) → Early (Ends (map string_bytes words.now) rack source source)
-        (record { bytes = K.taken sink.old; faults = K.faults sink.old })
-        (record { bytes = K.taken sink.new; faults = K.faults sink.new }) how) }
+fn options_of<K: Sink>(
+    alloc: Global,
+    words: &[String],
+    sink: &mut K,
+) -> Result<Options, ServerStatus>
+    ensures set { IfOk result (λ o. ServerAnswers (map string_bytes words.now) (Serve o)) }
+    ensures silent { IfOk result (λ o. IsQuiet (sink_shown K.Sink sink.old) (sink_shown K.Sink sink.new)) }
+    ensures early { IfErr result (λ how. (rack : List SpareShown) (source : End) → Early (ServerEnds (map string_bytes words.now) rack source source)
+        (sink_shown K.Sink sink.old) (sink_shown K.Sink sink.new) how) }
 {
     match read_words(alloc, words) {
         Asked::Serve(options) => Ok(options),
-        Asked::Tell(text) => Err(put_last(sink, text.as_bytes(), Status::Told)),
-        Asked::Usage => Err(put_last(sink, b"usage: vxgate OPTIONS\n", Status::Usage)),
-        Asked::NoMemory => Err(Status::NoMemory),
+        Asked::Tell(text) => Err(put_last(sink, text.as_bytes(), ServerStatus::Told)),
+        Asked::Usage => Err(put_last(sink, b"usage: vxgate OPTIONS\n", ServerStatus::Usage)),
+        Asked::NoMemory => Err(ServerStatus::NoMemory),
     }
 }
 
@@ -49,23 +51,19 @@ fn bench_of<S: Source, K: Sink>(
     alloc: Global,
     bench: &mut S,
     sink: &mut K,
-) -> Result<Vec<u8>, Status>
+) -> Result<Vec<u8>, ServerStatus>
     ensures read { IfOk result (λ text. IsInput BENCH_MAX
-        (record { bytes = S.left bench.old; faults = S.faults bench.old })
-        (record { bytes = S.left bench.new; faults = S.faults bench.new }) (Whole text)) }
-    ensures silent { IfOk result (λ text. IsQuiet (record { bytes = K.taken sink.old; faults = K.faults sink.old })
-        (record { bytes = K.taken sink.new; faults = K.faults sink.new })) }
+        (source_shown S.Source bench.old) (source_shown S.Source bench.new) (Whole text)) }
+    ensures silent { IfOk result (λ text. IsQuiet (sink_shown K.Sink sink.old) (sink_shown K.Sink sink.new)) }
     ensures early { IfErr result (λ how. (o : Options) (rack : List SpareShown) → Early (EndsOptioned o rack
-        (record { bytes = S.left bench.old; faults = S.faults bench.old })
-        (record { bytes = S.left bench.new; faults = S.faults bench.new }))
-        (record { bytes = K.taken sink.old; faults = K.faults sink.old })
-        (record { bytes = K.taken sink.new; faults = K.faults sink.new }) how) }
+        (source_shown S.Source bench.old) (source_shown S.Source bench.new))
+        (sink_shown K.Sink sink.old) (sink_shown K.Sink sink.new) how) }
 {
     match read_all(alloc, bench, BENCH_MAX) {
         Input::Whole(text) => Ok(text),
-        Input::TooLong => Err(put_last(sink, b"fault long\n", Status::BenchFault)),
-        Input::Failed => Err(Status::SourceFailed),
-        Input::NoMemory => Err(Status::NoMemory),
+        Input::TooLong => Err(put_last(sink, b"fault long\n", ServerStatus::BenchFault)),
+        Input::Failed => Err(ServerStatus::SourceFailed),
+        Input::NoMemory => Err(ServerStatus::NoMemory),
     }
 }
 
@@ -76,17 +74,15 @@ fn bus_of<I: Instrument, K: Sink>(
     text: &[u8],
     rack: &mut Vec<Spare<I>>,
     sink: &mut K,
-) -> Result<SimBus<I>, Status>
+) -> Result<SimBus<I>, ServerStatus>
     ensures fresh { IfOk result (λ bus. bus.means ≡ first_means) }
     ensures set { IfOk result (λ bus. IsBench text.now (map (spare_shown (handed_in (λ i. I.behaves i) (λ i. I.nature i))) rack.old.items)) }
-    ensures silent { IfOk result (λ bus. IsQuiet (record { bytes = K.taken sink.old; faults = K.faults sink.old })
-        (record { bytes = K.taken sink.new; faults = K.faults sink.new })) }
+    ensures silent { IfOk result (λ bus. IsQuiet (sink_shown K.Sink sink.old) (sink_shown K.Sink sink.new)) }
     ensures early { IfErr result (λ how. (o : Options) → Early (EndsBenched text.now (map (spare_shown (handed_in (λ i. I.behaves i) (λ i. I.nature i))) rack.old.items) o)
-        (record { bytes = K.taken sink.old; faults = K.faults sink.old })
-        (record { bytes = K.taken sink.new; faults = K.faults sink.new }) how) }
+        (sink_shown K.Sink sink.old) (sink_shown K.Sink sink.new) how) }
 {
     let Ok(mut bus) = SimBus::new(alloc) else {
-        return Err(Status::NoMemory);
+        return Err(ServerStatus::NoMemory);
     };
     match set_up(alloc, text, &mut bus, rack) {
         Ok(()) => Ok(bus),
@@ -102,19 +98,15 @@ pub fn prepare<S: Source, K: Sink, I: Instrument>(
     bench: &mut S,
     rack: &mut Vec<Spare<I>>,
     sink: &mut K,
-) -> Result<(Options, SimBus<I>), Status>
-    ensures range { IfOk result (λ r. IsInRange r.0) }
+) -> Result<(Options, SimBus<I>), ServerStatus>
+    ensures range { IfOk result (λ r. IsServerInRange r.0) }
     ensures fresh { IfOk result (λ r. r.1.means ≡ first_means) }
-    ensures ready { IfOk result (λ r. IsReady (map string_bytes words.now) (map (spare_shown (handed_in (λ i. I.behaves i) (λ i. I.nature i))) rack.old.items)
-        (record { bytes = S.left bench.old; faults = S.faults bench.old })
-        (record { bytes = S.left bench.new; faults = S.faults bench.new }) r.0) }
-    ensures silent { IfOk result (λ r. IsQuiet (record { bytes = K.taken sink.old; faults = K.faults sink.old })
-        (record { bytes = K.taken sink.new; faults = K.faults sink.new })) }
-    ensures early { IfErr result (λ how. Early (Ends (map string_bytes words.now) (map (spare_shown (handed_in (λ i. I.behaves i) (λ i. I.nature i))) rack.old.items)
-        (record { bytes = S.left bench.old; faults = S.faults bench.old })
-        (record { bytes = S.left bench.new; faults = S.faults bench.new }))
-        (record { bytes = K.taken sink.old; faults = K.faults sink.old })
-        (record { bytes = K.taken sink.new; faults = K.faults sink.new }) how) }
+    ensures ready { IfOk result (λ r. IsServerReady (map string_bytes words.now) (map (spare_shown (handed_in (λ i. I.behaves i) (λ i. I.nature i))) rack.old.items)
+        (source_shown S.Source bench.old) (source_shown S.Source bench.new) r.0) }
+    ensures silent { IfOk result (λ r. IsQuiet (sink_shown K.Sink sink.old) (sink_shown K.Sink sink.new)) }
+    ensures early { IfErr result (λ how. Early (ServerEnds (map string_bytes words.now) (map (spare_shown (handed_in (λ i. I.behaves i) (λ i. I.nature i))) rack.old.items)
+        (source_shown S.Source bench.old) (source_shown S.Source bench.new))
+        (sink_shown K.Sink sink.old) (sink_shown K.Sink sink.new) how) }
 {
     let options = options_of(alloc, words, sink)?;
     let text = bench_of(alloc, bench, sink)?;

@@ -1,10 +1,10 @@
 //! How a server ends.
 ghost use Rattle.std.specs.Prelude.{◌≡◌};
-ghost use Rattle.vx_startup.specs.Outcome.{status_number};
+ghost use Rattle.vx_startup.specs.Outcome.{server_status_number};
 
 /// How a server ended, as the program's exit status tells it.
 #[derive(Clone, Copy, Debug, PartialEq, Eq)]
-pub enum Status {
+pub enum ServerStatus {
     /// 0: it served its links.
     Served,
     /// 0: it told its words, or its version.
@@ -25,20 +25,20 @@ pub enum Status {
     SourceFailed,
 }
 
-impl Status {
+impl ServerStatus {
     /// The exit status.
     pub fn number(self) -> u8
-        ensures { result ≡ status_number self }
+        ensures { result ≡ server_status_number self }
     {
         match self {
-            Status::Served | Status::Told => 0,
-            Status::Usage => 1,
-            Status::BenchFault => 2,
-            Status::NetFailed => 3,
-            Status::WorkerRefused => 4,
-            Status::NoMemory => 5,
-            Status::SinkFailed => 6,
-            Status::SourceFailed => 7,
+            ServerStatus::Served | ServerStatus::Told => 0,
+            ServerStatus::Usage => 1,
+            ServerStatus::BenchFault => 2,
+            ServerStatus::NetFailed => 3,
+            ServerStatus::WorkerRefused => 4,
+            ServerStatus::NoMemory => 5,
+            ServerStatus::SinkFailed => 6,
+            ServerStatus::SourceFailed => 7,
         }
     }
 }

@@ -31,8 +31,8 @@ pub fn next_link<N: Net>(
 ) -> Accepted<<N::Port as Listen>::Peer>
     requires open { N.is_open net.old ≡ true }
     ensures open { N.is_open net.new ≡ true }
-    ensures took { (before : NetShown) → TookSoFar limit before (net_shown N.faults N.given N.ended net.old) number.old
-        → TakesNext limit before (net_shown N.faults N.given N.ended net.new) number.new result }
+    ensures took { (before : NetShown) → TookSoFar limit before (net_shown N.Net net.old) number.old
+        → TakesNext limit before (net_shown N.Net net.new) number.new result }
 {
     if limit > 0 && *number >= u64::from(limit) {
         return Accepted::Ended;

@@ -2,7 +2,7 @@
 
 ghost use Rattle.std.specs.Prelude.{◌≡◌, [], ◌∷◌, true, codes, map, string_bytes};
 ghost use Rattle.clap.specs.Words.{found_of, kind_of, rows_of};
-ghost use Rattle.vx_startup.specs.Meant.{Answers, IsInRange, IsSetBy, Sets, refused, told, usual, verdict};
+ghost use Rattle.vx_startup.specs.Meant.{ServerAnswers, IsServerInRange, IsSetBy, Sets, refused, told, usual, verdict};
 ghost use Rattle.vx_startup.specs.Parts.{IsGiven, Refuses};
 
 use crate::command::vxgate;
@@ -54,7 +54,7 @@ pub enum Asked {
 fn options_of(matches: &ArgMatches<'_>) -> Options
     requires { IsGiven (found_of matches.now) }
     ensures sets { Sets (rows_of (found_of matches.now)) result }
-    ensures range { IsInRange result }
+    ensures range { IsServerInRange result }
 {
     Options {
         core: matches.get_one::<u16>("core").unwrap(),
@@ -86,7 +86,7 @@ fn refused(alloc: Global, error: &Error) -> Asked
 
 /// Reads the words behind the program's name.
 pub fn read_words(alloc: Global, words: &[String]) -> Asked
-    ensures answer { Answers (map string_bytes words.now) result }
+    ensures answer { ServerAnswers (map string_bytes words.now) result }
 {
     let Ok(command) = vxgate(alloc) else {
         return Asked::NoMemory;

@@ -1,9 +1,10 @@
 -- The calls of a link, and more of them.
 use Rattle.std.proofs.Common.{◌≡◌, ℕ, List, [], ◌∷◌, ◌++◌, refl, sym, ap, ◌∙◌, subst, append_assoc, append-nil}
 use Rattle.vx_io_traits.specs.declared.ReadOut.{ReadOut}
+use Rattle.vx_io_traits.specs.declared.links.Link.{Ghosts}
 use Rattle.vx_stream.specs.Answered.{Answered}
-use Rattle.vx_stream.specs.Calling.{Receives, Sends, LinkCall, Receive, Send, call_gave, given_by, taken_by, AtReceives, OwesNone, InTurn, AreSends, OnlyTook}
-use Rattle.vx_stream.specs.ProvedLaws.{given-append, taken-append, calls-then}
+use Rattle.vx_stream.specs.Calling.{LinkCall, Receive, Send, call_gave, given_by, taken_by, AtReceives, OwesNone, InTurn, AreSends, OnlyTook}
+use Rattle.vx_stream.proofs.Laws.{given-append, taken-append, calls-then}
 
 -- a send gives nothing
 sends-give : (xs : List LinkCall) → AreSends xs → given_by xs ≡ []
@@ -45,23 +46,23 @@ owes-more limit xs ys calls none = record {
   replied = none.replied;
 }
 
-module _ {L : Type 0} (receives : Receives L) (sends : Sends L) where
+module _ {L : Type 0} (ways : Ghosts L) where
   module _ (limit : ℕ) where
     -- before the first call
-    pub turn-none : (a : L) → InTurn receives sends limit [] a [] [] a
+    pub turn-none : (a : L) → InTurn ways limit [] a [] [] a
     turn-none a = record { calls = []; made = refl; gave = refl; took = refl; turns = tt }
 
     -- Nothing was owed behind the calls so far; then came a receive, and the link took replies to more messages.
     pub turn-then : (a b c d : L) (xs ys : List Answered) (received written written' slice filled : List ℕ) (answer : ReadOut)
-        → (so_far : InTurn receives sends limit xs a received written b) → OwesNone limit xs so_far.calls → receives b slice answer filled c
-        → OnlyTook receives sends c written' d → InTurn receives sends limit (xs ++ ys) a (received ++ call_gave (Receive slice answer filled)) (written ++ written') d
+        → (so_far : InTurn ways limit xs a received written b) → OwesNone limit xs so_far.calls → ways.receives b slice answer filled c
+        → OnlyTook ways c written' d → InTurn ways limit (xs ++ ys) a (received ++ call_gave (Receive slice answer filled)) (written ++ written') d
     turn-then a b c d xs ys received written written' slice filled answer so_far none call took =
         let one : LinkCall = Receive slice answer filled in
         let more : List LinkCall = one ∷ took.calls in
         let P : List LinkCall → Type 0 = OwesNone limit (xs ++ ys) in
         record {
           calls = so_far.calls ++ more;
-          made = calls-then receives sends a b d so_far.calls more so_far.made (c, call, took.made);
+          made = calls-then ways a b d so_far.calls more so_far.made (c, call, took.made);
           gave = given-append so_far.calls more
               ∙ ap (λ l. l ++ given_by more) so_far.gave
               ∙ ap (λ l. received ++ (call_gave one ++ l)) (sends-give took.calls took.only)

@@ -1,3 +1,4 @@
+pub mod Laws
 pub mod Sends
 pub mod Moving
 pub mod Called

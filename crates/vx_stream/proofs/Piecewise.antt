@@ -6,15 +6,16 @@ use Rattle.std.proofs.lemmas.List.{drop_all}
 use Rattle.vx_record.specs.Buffer.{BufState, fresh}
 use Rattle.vx_record.specs.Runs.{Stream, run, FedFrom}
 use Rattle.vx_record.specs.declared.Feed.TheVariants.{More, Whole, TooLong}
-use Rattle.vx_record.specs.ProvedLaws.{brought-more, brought-whole, brought-long}
-use Rattle.vx_stream.specs.Shown.{LinkShown}
+use Rattle.vx_record.proofs.Laws.{brought-more, brought-whole, brought-long}
+use Rattle.vx_io_traits.specs.declared.links.Link.{Ghosts}
+use Rattle.vx_stream.specs.Shown.{LinkShown, link_shown}
 use Rattle.vx_stream.specs.Answered.{Answered, Progress, messages, replies}
-use Rattle.vx_stream.specs.Calling.{Receives, Sends, OnlyTook}
+use Rattle.vx_stream.specs.Calling.{OnlyTook}
 use Rattle.vx_stream.specs.Pieces.{WholeEnds, AnswersWhole, PieceEnds, AnswersPiece}
 use Rattle.vx_stream.specs.declared.ends.End.{End}
 use Rattle.vx_stream.specs.declared.ends.End.TheVariants as end
 use Rattle.vx_stream.proofs.Progressing.{progress-none, progress-then, messages-append, wrote-then, stops-behind}
-use Rattle.vx_stream.specs.ProvedLaws.{took-none, took-then}
+use Rattle.vx_stream.proofs.Laws.{took-none, took-then}
 use Rattle.vx_stream.proofs.Runs.{at, run-fed}
 
 -- a record at which the stream ends, ends the piece
@@ -35,34 +36,34 @@ ends-behind IsJunk sa sb sc xs ys kept behind unsent t limit buffer (Some end.Wr
   stops-behind sa sb sc xs ys unsent later ends.1,
 )
 
-module _ {S L : Type 0} (does : S → List ℕ → Option (List ℕ) → S → Type 0) (stands : L → List ℕ → List ℕ → Type 0) (receives : Receives L) (sends : Sends L) (server : S) (a : L) (sa : LinkShown) (buffer : BufState)
+module _ {S L : Type 0} (does : S → List ℕ → Option (List ℕ) → S → Type 0) (ways : Ghosts L) (server : S) (a : L) (buffer : BufState)
     (piece : List ℕ) where
   -- The records of the piece up to a place were answered, and their replies went: the buffer waits for more there.
-  pub record PieceSoFar (place : ℕ) (server' : S) (b : L) (sb : LinkShown) (buffer' : BufState) : Type 0 where
+  pub record PieceSoFar (place : ℕ) (server' : S) (b : L) (buffer' : BufState) : Type 0 where
     pub answered : List Answered
     pub written : List ℕ
-    pub progress : Progress does stands server a sa answered [] written server' b sb
+    pub progress : Progress does ways server a answered [] written server' b
     pub wrote : replies answered ≡ written
-    pub calls : OnlyTook receives sends a written b
+    pub calls : OnlyTook ways a written b
     pub ran : run (at [] buffer) (take place piece) ≡ at (messages answered) buffer'
     pub more : buffer'.state ≡ More
 
   -- before its first byte
-  pub piece-none : buffer.state ≡ More → PieceSoFar 0 server a sa buffer
+  pub piece-none : buffer.state ≡ More → PieceSoFar 0 server a buffer
   piece-none more = record {
     answered = [];
     written = [];
-    progress = progress-none does stands server a sa;
+    progress = progress-none does ways server a;
     wrote = refl;
-    calls = took-none receives sends a;
+    calls = took-none ways a;
     ran = refl;
     more = more;
   }
 
   -- a feed took the rest of the piece, and the buffer waits for more
-  pub piece-more : (place took : ℕ) (server' : S) (b : L) (sb : LinkShown) (old new : BufState) → PieceSoFar place server' b sb old → FedFrom old piece place took new
-      → new.state ≡ More → PieceSoFar (place + took) server' b sb new
-  piece-more place took server' b sb old new so_far fed_so more = record {
+  pub piece-more : (place took : ℕ) (server' : S) (b : L) (old new : BufState) → PieceSoFar place server' b old → FedFrom old piece place took new
+      → new.state ≡ More → PieceSoFar (place + took) server' b new
+  piece-more place took server' b old new so_far fed_so more = record {
     answered = so_far.answered;
     written = so_far.written;
     progress = so_far.progress;
@@ -73,30 +74,30 @@ module _ {S L : Type 0} (does : S → List ℕ → Option (List ℕ) → S → T
   }
 
   -- a record was whole, and it was answered
-  pub piece-answered : (place took : ℕ) (mid server' : S) (b c : L) (sb sc : LinkShown) (old new buffer' : BufState) (stop : Option End) → PieceSoFar place mid b sb old
-      → FedFrom old piece place took new → new.state ≡ Whole → AnswersWhole does stands receives sends mid b sb new.kept stop server' c sc → is_some stop ≡ false
-      → buffer' ≡ fresh new.limit → PieceSoFar (place + took) server' c sc buffer'
-  piece-answered place took mid server' b c sb sc old new buffer' stop so_far fed_so whole one goes_on begun =
-      let went_on : AnswersWhole does stands receives sends mid b sb new.kept None server' c sc = went stop goes_on one in
+  pub piece-answered : (place took : ℕ) (mid server' : S) (b c : L) (old new buffer' : BufState) (stop : Option End) → PieceSoFar place mid b old
+      → FedFrom old piece place took new → new.state ≡ Whole → AnswersWhole does ways mid b new.kept stop server' c → is_some stop ≡ false
+      → buffer' ≡ fresh new.limit → PieceSoFar (place + took) server' c buffer'
+  piece-answered place took mid server' b c old new buffer' stop so_far fed_so whole one goes_on begun =
+      let went_on : AnswersWhole does ways mid b new.kept None server' c = went stop goes_on one in
       let answered = so_far.answered ++ went_on.answered in
       let all : messages so_far.answered ++ new.kept ∷ [] ≡ messages answered =
       sym (messages-append so_far.answered went_on.answered ∙ ap (λ ms. messages so_far.answered ++ ms) went_on.ends.0) in
-      let progress : Progress does stands mid b sb went_on.answered [] went_on.written server' c sc =
-      subst (λ s. Progress does stands mid b sb went_on.answered [] went_on.written s c sc) (sym went_on.left) went_on.progress in
+      let progress : Progress does ways mid b went_on.answered [] went_on.written server' c =
+      subst (λ s. Progress does ways mid b went_on.answered [] went_on.written s c) (sym went_on.left) went_on.progress in
       record {
         answered = answered;
         written = so_far.written ++ went_on.written;
-        progress = progress-then does stands server mid server' a b c sa sb sc so_far.answered went_on.answered [] [] so_far.written went_on.written so_far.progress progress;
+        progress = progress-then does ways server mid server' a b c so_far.answered went_on.answered [] [] so_far.written went_on.written so_far.progress progress;
         wrote = wrote-then so_far.answered went_on.answered so_far.written went_on.written went_on.unsent so_far.wrote went_on.wrote
             ∙ ap (λ l. (so_far.written ++ went_on.written) ++ l) went_on.ends.1 ∙ append-nil (so_far.written ++ went_on.written);
-        calls = took-then receives sends a b c so_far.written went_on.written so_far.calls went_on.calls;
+        calls = took-then ways a b c so_far.written went_on.written so_far.calls went_on.calls;
         ran = run-fed (at [] buffer) piece place took (messages so_far.answered) old new so_far.ran so_far.more fed_so
             ∙ brought-whole (messages so_far.answered) new whole
             ∙ ap (λ ms. at ms (fresh new.limit)) all
             ∙ ap (at (messages answered)) (sym begun);
         more = ap (λ (k : BufState). k.state) begun;
       } where
-        went : (o : Option End) → is_some o ≡ false → AnswersWhole does stands receives sends mid b sb new.kept o server' c sc → AnswersWhole does stands receives sends mid b sb new.kept None server' c sc
+        went : (o : Option End) → is_some o ≡ false → AnswersWhole does ways mid b new.kept o server' c → AnswersWhole does ways mid b new.kept None server' c
         went None none one = one
         went (Some e) none one = absurd (false≢true (sym none))
 
@@ -105,10 +106,10 @@ module _ {S L : Type 0} (does : S → List ℕ → Option (List ℕ) → S → T
   near-end place took some there = omega (arith, length-drop (place + took) piece, some, there)
 
   -- the stream ends at a record
-  pub piece-stops : (place took : ℕ) (mid server' : S) (b c : L) (sb sc : LinkShown) (old new buffer' : BufState) (stop : Option End) → PieceSoFar place mid b sb old
-      → 0 < took → FedFrom old piece place took new → new.state ≡ Whole → AnswersWhole does stands receives sends mid b sb new.kept stop server' c sc → is_some stop ≡ true
-      → AnswersPiece does stands receives sends server a sa buffer piece stop server' c sc buffer'
-  piece-stops place took mid server' b c sb sc old new buffer' stop so_far some fed_so whole one stops = record {
+  pub piece-stops : (place took : ℕ) (mid server' : S) (b c : L) (old new buffer' : BufState) (stop : Option End) → PieceSoFar place mid b old
+      → 0 < took → FedFrom old piece place took new → new.state ≡ Whole → AnswersWhole does ways mid b new.kept stop server' c → is_some stop ≡ true
+      → AnswersPiece does ways server a buffer piece stop server' c buffer'
+  piece-stops place took mid server' b c old new buffer' stop so_far some fed_so whole one stops = record {
     answered = so_far.answered ++ one.answered;
     last = one.last;
     front = take (place + took) piece;
@@ -117,10 +118,10 @@ module _ {S L : Type 0} (does : S → List ℕ → Option (List ℕ) → S → T
     unsent = one.unsent;
     cut = sym (take-append-drop (place + took) piece);
     near = near-end place took some;
-    progress = progress-then does stands server mid one.last a b c sa sb sc so_far.answered one.answered [] [] so_far.written one.written so_far.progress one.progress;
+    progress = progress-then does ways server mid one.last a b c so_far.answered one.answered [] [] so_far.written one.written so_far.progress one.progress;
     wrote = wrote-then so_far.answered one.answered so_far.written one.written one.unsent so_far.wrote one.wrote;
-    calls = took-then receives sends a b c so_far.written one.written so_far.calls one.calls;
-    ends = ends-behind (λ junk. does one.last junk None server') sa sb sc so_far.answered one.answered new.kept (drop (place + took) piece) one.unsent
+    calls = took-then ways a b c so_far.written one.written so_far.calls one.calls;
+    ends = ends-behind (λ junk. does one.last junk None server') (link_shown ways a) (link_shown ways b) (link_shown ways c) so_far.answered one.answered new.kept (drop (place + took) piece) one.unsent
         (run (at [] buffer) (take (place + took) piece)) new.limit buffer' stop stops
         (run-fed (at [] buffer) piece place took (messages so_far.answered) old new so_far.ran so_far.more fed_so ∙ brought-whole (messages so_far.answered) new whole)
         so_far.progress.goes.sends one.ends;
@@ -128,9 +129,9 @@ module _ {S L : Type 0} (does : S → List ℕ → Option (List ℕ) → S → T
   }
 
   -- a header took its record above the limit
-  pub piece-long : (place took : ℕ) (server' : S) (b : L) (sb : LinkShown) (old new : BufState) → PieceSoFar place server' b sb old → 0 < took → FedFrom old piece place took new
-      → new.state ≡ TooLong → AnswersPiece does stands receives sends server a sa buffer piece (Some end.TooLong) server' b sb new
-  piece-long place took server' b sb old new so_far some fed_so long =
+  pub piece-long : (place took : ℕ) (server' : S) (b : L) (old new : BufState) → PieceSoFar place server' b old → 0 < took → FedFrom old piece place took new
+      → new.state ≡ TooLong → AnswersPiece does ways server a buffer piece (Some end.TooLong) server' b new
+  piece-long place took server' b old new so_far some fed_so long =
       let ran : run (at [] buffer) (take (place + took) piece) ≡ at (messages so_far.answered) new =
       run-fed (at [] buffer) piece place took (messages so_far.answered) old new so_far.ran so_far.more fed_so ∙ brought-long (messages so_far.answered) new long in
       record {
@@ -150,9 +151,9 @@ module _ {S L : Type 0} (does : S → List ℕ → Option (List ℕ) → S → T
       }
 
   -- the piece was looked at up to its end
-  pub piece-all : (place : ℕ) (server' : S) (b : L) (sb : LinkShown) (buffer' : BufState) → PieceSoFar place server' b sb buffer' → length piece ≤ place
-      → AnswersPiece does stands receives sends server a sa buffer piece None server' b sb buffer'
-  piece-all place server' b sb buffer' so_far all = record {
+  pub piece-all : (place : ℕ) (server' : S) (b : L) (buffer' : BufState) → PieceSoFar place server' b buffer' → length piece ≤ place
+      → AnswersPiece does ways server a buffer piece None server' b buffer'
+  piece-all place server' b buffer' so_far all = record {
     answered = so_far.answered;
     last = server';
     front = take place piece;

@@ -2,10 +2,11 @@
 use Rattle.std.proofs.Common.{◌≡◌, ◌≤◌, ℕ, List, [], ◌∷◌, ◌++◌, Option, refl, sym, ap, ◌∙◌, subst, append_assoc}
 use Rattle.std.proofs.lemmas.List.{map-append}
 use Rattle.std.proofs.lemmas.List.Concat.{flat_map-append}
-use Rattle.vx_io_traits.specs.Stands.{Goes-none, Goes-goes}
-use Rattle.vx_io_traits.specs.ProvedLaws.{rose_earlier}
-use Rattle.vx_stream.specs.Shown.{LinkShown}
-use Rattle.vx_stream.specs.ProvedLaws.{link-none, link-goes}
+use Rattle.vx_io_traits.proofs.Laws.Goings.{Goes-none, Goes-goes}
+use Rattle.vx_io_traits.proofs.Laws.{rose_earlier}
+use Rattle.vx_io_traits.specs.declared.links.Link.{Ghosts}
+use Rattle.vx_stream.specs.Shown.{LinkShown, link_shown}
+use Rattle.vx_stream.proofs.Laws.{link-none, link-goes}
 use Rattle.vx_stream.specs.Answered.{Answered, AnswersAll, Progress, messages, replies}
 use Rattle.vx_stream.specs.Stopping.{StopsReply}
 
@@ -35,22 +36,22 @@ stops-behind sa sb sc xs ys unsent later stops = record {
   rose = rose_earlier sa.send_faults sb.send_faults sc.send_faults later stops.rose;
 }
 
-module _ {S L : Type 0} (does : S → List ℕ → Option (List ℕ) → S → Type 0) (stands : L → List ℕ → List ℕ → Type 0) where
+module _ {S L : Type 0} (does : S → List ℕ → Option (List ℕ) → S → Type 0) (ways : Ghosts L) where
   -- some messages were answered, and then more
   answers-then : (server mid server' : S) (xs ys : List Answered) → AnswersAll does server xs mid → AnswersAll does mid ys server' → AnswersAll does server (xs ++ ys) server'
   answers-then server mid server' [] ys before after = subst (λ s. AnswersAll does s ys server') before after
   answers-then server mid server' (x ∷ xs) ys before after = (before.0, before.1, answers-then before.0 mid server' xs ys before.2 after)
 
   -- nothing came yet
-  pub progress-none : (server : S) (link : L) (seen : LinkShown) → Progress does stands server link seen [] [] [] server link seen
-  progress-none server link seen = record { answers = refl; bytes = Goes-none stands link; goes = link-none seen }
+  pub progress-none : (server : S) (link : L) → Progress does ways server link [] [] [] server link
+  progress-none server link = record { answers = refl; bytes = Goes-none ways.stands link; goes = link-none (link_shown ways link) }
 
   -- some messages were answered, and then more
-  pub progress-then : (server mid server' : S) (a b c : L) (sa sb sc : LinkShown) (xs ys : List Answered) (received received' written written' : List ℕ)
-      → Progress does stands server a sa xs received written mid b sb → Progress does stands mid b sb ys received' written' server' c sc
-      → Progress does stands server a sa (xs ++ ys) (received ++ received') (written ++ written') server' c sc
-  progress-then server mid server' a b c sa sb sc xs ys received received' written written' before after = record {
+  pub progress-then : (server mid server' : S) (a b c : L) (xs ys : List Answered) (received received' written written' : List ℕ)
+      → Progress does ways server a xs received written mid b → Progress does ways mid b ys received' written' server' c
+      → Progress does ways server a (xs ++ ys) (received ++ received') (written ++ written') server' c
+  progress-then server mid server' a b c xs ys received received' written written' before after = record {
     answers = answers-then server mid server' xs ys before.answers after.answers;
-    bytes = Goes-goes stands a b c written received written' received' before.bytes after.bytes;
-    goes = link-goes sa sb sc received received' before.goes after.goes;
+    bytes = Goes-goes ways.stands a b c written received written' received' before.bytes after.bytes;
+    goes = link-goes (link_shown ways a) (link_shown ways b) (link_shown ways c) received received' before.goes after.goes;
   }

@@ -6,7 +6,7 @@ use Rattle.vx_record.specs.Buffer.{BufState, step, fed, taken}
 use Rattle.vx_record.specs.Runs.{Stream, brought, run, FedFrom}
 use Rattle.vx_record.specs.declared.Feed.{Feed}
 use Rattle.vx_record.specs.declared.Feed.TheVariants.{More, Whole, TooLong}
-use Rattle.vx_record.specs.ProvedLaws.{fed-stopped, taken-more, taken-stopped, run-append, brought-more}
+use Rattle.vx_record.proofs.Laws.{fed-stopped, taken-more, taken-stopped, run-append, brought-more}
 
 -- a stream that has come to these records and this buffer
 abbrev pub at : List (List ℕ) → BufState → Stream

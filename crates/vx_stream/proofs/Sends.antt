@@ -3,22 +3,24 @@ use Rattle.std.proofs.Common.{◌≡◌, ◌≤◌, ◌<◌, ◌+◌, ◌-◌, �
 use Rattle.std.specs.Io.KnownBytes.{Keeps}
 use Rattle.std.proofs.Math.Seq.{take-add}
 use Rattle.std.proofs.lemmas.List.{take_all}
-use Rattle.vx_lemmas.specs.Options.{keeps-consumes}
+use Rattle.vx_lemmas.proofs.Laws.Options.{keeps-consumes}
 use Rattle.vx_io_traits.specs.Faults.{Rose}
-use Rattle.vx_io_traits.specs.Stands.{Goes, Takes, Stays, Goes-none, Goes-takes, Goes-stays}
-use Rattle.vx_stream.specs.Shown.{LinkShown, LinkGoes}
+use Rattle.vx_io_traits.specs.Stands.{Goes, Takes, Stays}
+use Rattle.vx_io_traits.specs.declared.links.Link.{Ghosts}
+use Rattle.vx_io_traits.proofs.Laws.Goings.{Goes-none, Goes-takes, Goes-stays}
+use Rattle.vx_stream.specs.Shown.{LinkShown, LinkGoes, link_shown}
 use Rattle.vx_io_traits.specs.declared.WriteOut.{WriteOut}
 use Rattle.vx_io_traits.specs.declared.WriteOut.TheVariants.{Took, Failed as Refused}
-use Rattle.vx_stream.specs.Calling.{Receives, Sends, OnlyTook}
+use Rattle.vx_stream.specs.Calling.{OnlyTook}
 use Rattle.vx_stream.specs.Sending.{SendsAll}
-use Rattle.vx_stream.specs.ProvedLaws.{link-none, link-goes, took-none, took-then, took-send}
+use Rattle.vx_stream.proofs.Laws.{link-none, link-goes, took-none, took-then, took-send}
 
 -- so far a link took a front of the bytes
-pub record SentSoFar {L : Type 0} (stands : L → List ℕ → List ℕ → Type 0) (receives : Receives L) (sends : Sends L) (first now : L) (seen seen' : LinkShown) (bytes : List ℕ) (sent : ℕ) : Type 0 where
+pub record SentSoFar {L : Type 0} (ways : Ghosts L) (first now : L) (bytes : List ℕ) (sent : ℕ) : Type 0 where
   pub within : sent ≤ length bytes
-  pub took : Goes stands first now (take sent bytes) []
-  pub goes : LinkGoes seen [] seen'
-  pub calls : OnlyTook receives sends first (take sent bytes) now
+  pub took : Goes ways.stands first now (take sent bytes) []
+  pub goes : LinkGoes (link_shown ways first) [] (link_shown ways now)
+  pub calls : OnlyTook ways first (take sent bytes) now
 
 -- what one send does to what can be known of a link
 pub record SendKeeps (old new : LinkShown) : Type 0 where
@@ -41,62 +43,62 @@ goes-on : (first old new : LinkShown) → LinkGoes first [] old → SendKeeps ol
 goes-on first old new before kept = link-goes first old new [] [] before (send-goes old new kept)
 
 -- at first it took nothing
-pub sent-none : {L : Type 0} (stands : L → List ℕ → List ℕ → Type 0) (receives : Receives L) (sends : Sends L) (l : L) (seen : LinkShown) (bytes : List ℕ) → SentSoFar stands receives sends l l seen seen bytes 0
-sent-none stands receives sends l seen bytes = record { within = omega arith; took = Goes-none stands l; goes = link-none seen; calls = took-none receives sends l }
+pub sent-none : {L : Type 0} (ways : Ghosts L) (l : L) (bytes : List ℕ) → SentSoFar ways l l bytes 0
+sent-none ways l bytes = record { within = omega arith; took = Goes-none ways.stands l; goes = link-none (link_shown ways l); calls = took-none ways l }
 
 -- a send goes on from there
-pub sent-more : {L : Type 0} (stands : L → List ℕ → List ℕ → Type 0) (receives : Receives L) (sends : Sends L) (first mid now : L) (seen between seen' : LinkShown) (bytes : List ℕ) (sent count : ℕ)
-    → SentSoFar stands receives sends first mid seen between bytes sent
+pub sent-more : {L : Type 0} (ways : Ghosts L) (first mid now : L) (bytes : List ℕ) (sent count : ℕ)
+    → SentSoFar ways first mid bytes sent
     → count ≤ length (take (length bytes - sent) (drop sent bytes))
-    → Takes stands mid now (take count (take (length bytes - sent) (drop sent bytes)))
-    → SendKeeps between seen'
-    → sends mid (take (length bytes - sent) (drop sent bytes)) (Took count) now
-    → SentSoFar stands receives sends first now seen seen' bytes (sent + count)
-sent-more stands receives sends first mid now seen between seen' bytes sent count so_far fits took kept call =
+    → Takes ways.stands mid now (take count (take (length bytes - sent) (drop sent bytes)))
+    → SendKeeps (link_shown ways mid) (link_shown ways now)
+    → ways.sends mid (take (length bytes - sent) (drop sent bytes)) (Took count) now
+    → SentSoFar ways first now bytes (sent + count)
+sent-more ways first mid now bytes sent count so_far fits took kept call =
     let len = length-drop sent bytes in
     let within : sent ≤ length bytes = so_far.within in
     let rest : take (length bytes - sent) (drop sent bytes) ≡ drop sent bytes = take_all (length bytes - sent) (drop sent bytes) (omega arith) in
     let count_fits : count ≤ length (drop sent bytes) = subst (λ xs. count ≤ length xs) rest fits in
-    let taken : Takes stands mid now (take count (drop sent bytes)) = subst (λ xs. Takes stands mid now (take count xs)) rest took in
+    let taken : Takes ways.stands mid now (take count (drop sent bytes)) = subst (λ xs. Takes ways.stands mid now (take count xs)) rest took in
     record {
       within = omega arith;
-      took = subst (λ xs. Goes stands first now xs []) (sym (take-add sent count bytes))
-          (Goes-takes stands first mid now (take sent bytes) [] (take count (drop sent bytes)) so_far.took taken);
-      goes = goes-on seen between seen' so_far.goes kept;
-      calls = subst (λ xs. OnlyTook receives sends first xs now) (sym (take-add sent count bytes))
-          (took-then receives sends first mid now (take sent bytes) (take count (drop sent bytes)) so_far.calls
-          (subst (λ xs. OnlyTook receives sends mid (take count xs) now) rest
-          (took-send receives sends mid now (take (length bytes - sent) (drop sent bytes)) (Took count) call)));
+      took = subst (λ xs. Goes ways.stands first now xs []) (sym (take-add sent count bytes))
+          (Goes-takes ways.stands first mid now (take sent bytes) [] (take count (drop sent bytes)) so_far.took taken);
+      goes = goes-on (link_shown ways first) (link_shown ways mid) (link_shown ways now) so_far.goes kept;
+      calls = subst (λ xs. OnlyTook ways first xs now) (sym (take-add sent count bytes))
+          (took-then ways first mid now (take sent bytes) (take count (drop sent bytes)) so_far.calls
+          (subst (λ xs. OnlyTook ways mid (take count xs) now) rest
+          (took-send ways mid now (take (length bytes - sent) (drop sent bytes)) (Took count) call)));
     }
 
 -- a send that failed leaves it there
-pub sent-stops : {L : Type 0} (stands : L → List ℕ → List ℕ → Type 0) (receives : Receives L) (sends : Sends L) (first mid now : L) (seen between seen' : LinkShown) (bytes : List ℕ) (sent : ℕ)
-    → SentSoFar stands receives sends first mid seen between bytes sent → sent < length bytes → Rose between.send_faults seen'.send_faults → Stays stands mid now
-    → SendKeeps between seen' → sends mid (take (length bytes - sent) (drop sent bytes)) Refused now → SendsAll stands receives sends first seen bytes false now seen'
-sent-stops stands receives sends first mid now seen between seen' bytes sent so_far some rose stays kept call =
-    let earlier : seen.send_faults ≤ between.send_faults = so_far.goes.sends in
+pub sent-stops : {L : Type 0} (ways : Ghosts L) (first mid now : L) (bytes : List ℕ) (sent : ℕ)
+    → SentSoFar ways first mid bytes sent → sent < length bytes → Rose (ways.send_faults mid) (ways.send_faults now) → Stays ways.stands mid now
+    → SendKeeps (link_shown ways mid) (link_shown ways now) → ways.sends mid (take (length bytes - sent) (drop sent bytes)) Refused now → SendsAll ways first bytes false now
+sent-stops ways first mid now bytes sent so_far some rose stays kept call =
+    let earlier : ways.send_faults first ≤ ways.send_faults mid = so_far.goes.sends in
     let len = length-drop sent bytes in
     record {
       sent = take sent bytes;
       unsent = drop sent bytes;
       cut = sym (take-append-drop sent bytes);
-      took = Goes-stays stands first mid now (take sent bytes) [] so_far.took stays;
-      goes = goes-on seen between seen' so_far.goes kept;
-      calls = subst (λ xs. OnlyTook receives sends first xs now) (append-nil (take sent bytes))
-          (took-then receives sends first mid now (take sent bytes) [] so_far.calls
-          (took-send receives sends mid now (take (length bytes - sent) (drop sent bytes)) Refused call));
+      took = Goes-stays ways.stands first mid now (take sent bytes) [] so_far.took stays;
+      goes = goes-on (link_shown ways first) (link_shown ways mid) (link_shown ways now) so_far.goes kept;
+      calls = subst (λ xs. OnlyTook ways first xs now) (append-nil (take sent bytes))
+          (took-then ways first mid now (take sent bytes) [] so_far.calls
+          (took-send ways mid now (take (length bytes - sent) (drop sent bytes)) Refused call));
       is_sent = (omega arith, omega arith);
     }
 
 -- all bytes were sent
-pub sent-all : {L : Type 0} (stands : L → List ℕ → List ℕ → Type 0) (receives : Receives L) (sends : Sends L) (first now : L) (seen seen' : LinkShown) (bytes : List ℕ) (sent : ℕ)
-    → SentSoFar stands receives sends first now seen seen' bytes sent → length bytes ≤ sent → SendsAll stands receives sends first seen bytes true now seen'
-sent-all stands receives sends first now seen seen' bytes sent so_far all = record {
+pub sent-all : {L : Type 0} (ways : Ghosts L) (first now : L) (bytes : List ℕ) (sent : ℕ)
+    → SentSoFar ways first now bytes sent → length bytes ≤ sent → SendsAll ways first bytes true now
+sent-all ways first now bytes sent so_far all = record {
   sent = bytes;
   unsent = [];
   cut = sym (append-nil bytes);
-  took = subst (λ xs. Goes stands first now xs []) (take_all sent bytes all) so_far.took;
+  took = subst (λ xs. Goes ways.stands first now xs []) (take_all sent bytes all) so_far.took;
   goes = so_far.goes;
-  calls = subst (λ xs. OnlyTook receives sends first xs now) (take_all sent bytes all) so_far.calls;
+  calls = subst (λ xs. OnlyTook ways first xs now) (take_all sent bytes all) so_far.calls;
   is_sent = refl;
 }

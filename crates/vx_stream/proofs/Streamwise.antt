@@ -3,17 +3,18 @@ use Rattle.std.proofs.Common.{◌≡◌, ◌≤◌, ◌<◌, ◌+◌, ◌^◌, �
 use Rattle.std.proofs.lemmas.List.{nil_from_length}
 use Rattle.std.specs.Io.KnownBytes.{IsAtEnd}
 use Rattle.vx_io_traits.specs.Faults.{Rose}
-use Rattle.vx_io_traits.specs.Stands.{Goes-gives, Goes-stays}
-use Rattle.vx_io_traits.specs.ProvedLaws.{rose_earlier}
+use Rattle.vx_io_traits.proofs.Laws.Goings.{Goes-gives, Goes-stays}
+use Rattle.vx_io_traits.proofs.Laws.{rose_earlier}
 use Rattle.vx_record.specs.Buffer.{BufState, fresh}
 use Rattle.vx_record.specs.Records.{Split, records}
 use Rattle.vx_record.specs.Runs.{Stream, beginning, run, behind, is_too_long, PiecesLaw}
 use Rattle.vx_record.specs.declared.Feed.TheVariants as feed
-use Rattle.vx_record.specs.ProvedLaws.{came-on, shown}
-use Rattle.vx_stream.specs.Shown.{LinkShown, Gave, Ended}
-use Rattle.vx_stream.specs.ProvedLaws.{link-goes, goes-ended, at-end, took-none}
-use Rattle.vx_stream.specs.Answered.{Answered, Progress, messages, replies}
-use Rattle.vx_stream.specs.Calling.{Receives, Sends, Receive, call_gave, OwesNone, InTurn, OnlyTook}
+use Rattle.vx_record.proofs.Laws.{came-on, shown}
+use Rattle.vx_io_traits.specs.declared.links.Link.{Ghosts}
+use Rattle.vx_stream.specs.Shown.{LinkShown, Gave, Ended, link_shown}
+use Rattle.vx_stream.proofs.Laws.{link-goes, goes-ended, at-end, took-none}
+use Rattle.vx_stream.specs.Answered.{Answered, Conversation, Progress, messages, replies}
+use Rattle.vx_stream.specs.Calling.{Receive, call_gave, OwesNone, InTurn, OnlyTook}
 use Rattle.vx_stream.specs.Stopping.{EndsSo, IsLeft, IsWithin, StreamAnswered, input_end}
 use Rattle.vx_stream.specs.Pieces.{PieceEnds, AnswersPiece, Received, PieceAnswered, NoPiece, AnswersNext}
 use Rattle.vx_stream.specs.declared.ends.End.{End}
@@ -86,50 +87,50 @@ piece-ends IsJunk sa sb sc xs ys looked after unsent t buffer end.WriteFault lat
 
 -- ---- a stream so far
 
-module _ {S L : Type 0} (does : S → List ℕ → Option (List ℕ) → S → Type 0) (stands : L → List ℕ → List ℕ → Type 0) (receives : Receives L) (sends : Sends L) (limit at_once : ℕ) (most : Option ℕ) (server : S) (a : L) (sa : LinkShown) where
+module _ {S L : Type 0} (does : S → List ℕ → Option (List ℕ) → S → Type 0) (ways : Ghosts L) (limit at_once : ℕ) (most : Option ℕ) (server : S) (a : L) where
   -- The records of the stream so far were answered, the buffer has what came behind the last of them, and so many bytes more may
   -- be received, where there is a limit.
-  pub record Streamed (left : ℕ) (server' : S) (b : L) (sb : LinkShown) (buffer : BufState) : Type 0 where
+  pub record Streamed (left : ℕ) (server' : S) (b : L) (buffer : BufState) : Type 0 where
     pub answered : List Answered
     pub received : List ℕ
     pub written : List ℕ
-    pub progress : Progress does stands server a sa answered received written server' b sb
+    pub progress : Progress does ways server a answered received written server' b
     pub wrote : replies answered ≡ written
-    pub calls : InTurn receives sends limit answered a received written b
+    pub calls : InTurn ways limit answered a received written b
     pub came : run (beginning limit) received ≡ at (messages answered) buffer
     pub more : buffer.state ≡ feed.More
     pub rest : IsRest most received left
 
   -- nothing came yet
-  pub streamed-none : (left : ℕ) (buffer : BufState) → buffer ≡ fresh limit → IsRest most [] left → Streamed left server a sa buffer
+  pub streamed-none : (left : ℕ) (buffer : BufState) → buffer ≡ fresh limit → IsRest most [] left → Streamed left server a buffer
   streamed-none left buffer new rest = record {
     answered = [];
     received = [];
     written = [];
-    progress = progress-none does stands server a sa;
+    progress = progress-none does ways server a;
     wrote = refl;
-    calls = turn-none receives sends limit a;
+    calls = turn-none ways limit a;
     came = ap (at []) (sym new);
     more = ap (λ (k : BufState). k.state) new;
     rest = rest;
   }
 
   -- some messages were answered, the link gave a piece, and the messages of that piece were answered
-  piece-goes : (mid server' : S) (b c d : L) (sb sc sd : LinkShown) (xs ys : List Answered) (received piece written written' : List ℕ)
-      → Progress does stands server a sa xs received written mid b sb → Gave stands b c sb piece sc → Progress does stands mid c sc ys [] written' server' d sd
-      → Progress does stands server a sa (xs ++ ys) (received ++ piece) (written ++ written') server' d sd
-  piece-goes mid server' b c d sb sc sd xs ys received piece written written' before gave after =
-      let came : Progress does stands server a sa xs (received ++ piece) written mid c sc = record {
+  piece-goes : (mid server' : S) (b c d : L) (xs ys : List Answered) (received piece written written' : List ℕ)
+      → Progress does ways server a xs received written mid b → Gave ways b piece c → Progress does ways mid c ys [] written' server' d
+      → Progress does ways server a (xs ++ ys) (received ++ piece) (written ++ written') server' d
+  piece-goes mid server' b c d xs ys received piece written written' before gave after =
+      let came : Progress does ways server a xs (received ++ piece) written mid c = record {
         answers = before.answers;
-        bytes = Goes-gives stands a b c written received piece before.bytes gave.gives;
-        goes = link-goes sa sb sc received piece before.goes gave.goes;
+        bytes = Goes-gives ways.stands a b c written received piece before.bytes gave.gives;
+        goes = link-goes (link_shown ways a) (link_shown ways b) (link_shown ways c) received piece before.goes gave.goes;
       } in
-      subst (λ all. Progress does stands server a sa (xs ++ ys) all (written ++ written') server' d sd) (append-nil (received ++ piece))
-      (progress-then does stands server mid server' a c d sa sc sd xs ys (received ++ piece) [] written written' came after)
+      subst (λ all. Progress does ways server a (xs ++ ys) all (written ++ written') server' d) (append-nil (received ++ piece))
+      (progress-then does ways server mid server' a c d xs ys (received ++ piece) [] written written' came after)
 
   -- behind the stream so far nothing is owed
-  owes-none : PiecesLaw → (left : ℕ) (mid : S) (b : L) (sb : LinkShown) (buffer : BufState) → (so_far : Streamed left mid b sb buffer) → OwesNone limit so_far.answered so_far.calls.calls
-  owes-none pieces left mid b sb buffer so_far =
+  owes-none : PiecesLaw → (left : ℕ) (mid : S) (b : L) (buffer : BufState) → (so_far : Streamed left mid b buffer) → OwesNone limit so_far.answered so_far.calls.calls
+  owes-none pieces left mid b buffer so_far =
       let shows = shown pieces limit so_far.received in
       record {
         earlier = so_far.answered;
@@ -141,45 +142,45 @@ module _ {S L : Type 0} (does : S → List ℕ → Option (List ℕ) → S → T
       }
 
   -- then a receive gave a piece, and the link took the replies to more messages
-  turn-on : PiecesLaw → (left : ℕ) (mid : S) (b c d : L) (sb : LinkShown) (buffer : BufState) (ys : List Answered) (piece written' : List ℕ) → (so_far : Streamed left mid b sb buffer)
-      → Received receives b piece c → OnlyTook receives sends c written' d
-      → InTurn receives sends limit (so_far.answered ++ ys) a (so_far.received ++ piece) (so_far.written ++ written') d
-  turn-on pieces left mid b c d sb buffer ys piece written' so_far came took =
-      subst (λ l. InTurn receives sends limit (so_far.answered ++ ys) a (so_far.received ++ l) (so_far.written ++ written') d) came.gave
-      (turn-then receives sends limit a b c d so_far.answered ys so_far.received so_far.written written' came.slice came.filled came.answer so_far.calls
-      (owes-none pieces left mid b sb buffer so_far) came.called took)
+  turn-on : PiecesLaw → (left : ℕ) (mid : S) (b c d : L) (buffer : BufState) (ys : List Answered) (piece written' : List ℕ) → (so_far : Streamed left mid b buffer)
+      → Received ways b piece c → OnlyTook ways c written' d
+      → InTurn ways limit (so_far.answered ++ ys) a (so_far.received ++ piece) (so_far.written ++ written') d
+  turn-on pieces left mid b c d buffer ys piece written' so_far came took =
+      subst (λ l. InTurn ways limit (so_far.answered ++ ys) a (so_far.received ++ l) (so_far.written ++ written') d) came.gave
+      (turn-then ways limit a b c d so_far.answered ys so_far.received so_far.written written' came.slice came.filled came.answer so_far.calls
+      (owes-none pieces left mid b buffer so_far) came.called took)
 
   -- or it gave none
-  turn-last : PiecesLaw → (left : ℕ) (mid : S) (b c : L) (sb : LinkShown) (buffer : BufState) → (so_far : Streamed left mid b sb buffer) → Received receives b [] c
-      → InTurn receives sends limit so_far.answered a so_far.received so_far.written c
-  turn-last pieces left mid b c sb buffer so_far came =
-      subst (λ l. InTurn receives sends limit l a so_far.received so_far.written c) (append-nil so_far.answered)
-      (subst (λ l. InTurn receives sends limit (so_far.answered ++ []) a l so_far.written c) (append-nil so_far.received)
-      (subst (λ l. InTurn receives sends limit (so_far.answered ++ []) a (so_far.received ++ []) l c) (append-nil so_far.written)
-      (turn-on pieces left mid b c c sb buffer [] [] [] so_far came (took-none receives sends c))))
+  turn-last : PiecesLaw → (left : ℕ) (mid : S) (b c : L) (buffer : BufState) → (so_far : Streamed left mid b buffer) → Received ways b [] c
+      → InTurn ways limit so_far.answered a so_far.received so_far.written c
+  turn-last pieces left mid b c buffer so_far came =
+      subst (λ l. InTurn ways limit l a so_far.received so_far.written c) (append-nil so_far.answered)
+      (subst (λ l. InTurn ways limit (so_far.answered ++ []) a l so_far.written c) (append-nil so_far.received)
+      (subst (λ l. InTurn ways limit (so_far.answered ++ []) a (so_far.received ++ []) l c) (append-nil so_far.written)
+      (turn-on pieces left mid b c c buffer [] [] [] so_far came (took-none ways c))))
 
   -- a piece whose messages were all answered
-  pub streamed-on : PiecesLaw → (left left' room : ℕ) (mid server' : S) (b d : L) (sb sd : LinkShown) (buffer buffer' : BufState) (said : Next) (count : ℕ) → Streamed left mid b sb buffer
-      → AnswersNext does stands receives sends room mid b sb buffer said server' d sd buffer' → said ≡ next.Came count
+  pub streamed-on : PiecesLaw → (left left' room : ℕ) (mid server' : S) (b d : L) (buffer buffer' : BufState) (said : Next) (count : ℕ) → Streamed left mid b buffer
+      → AnswersNext does ways room mid b buffer said server' d buffer' → said ≡ next.Came count
       → ((received piece : List ℕ) → length piece ≡ count → length piece ≤ room → IsRest most received left → IsRest most (received ++ piece) left')
-      → Streamed left' server' d sd buffer'
-  streamed-on pieces left left' room mid server' b d sb sd buffer buffer' said count so_far goes is rest =
-      let came = subst (λ o. AnswersNext does stands receives sends room mid b sb buffer o server' d sd buffer') is goes in
+      → Streamed left' server' d buffer'
+  streamed-on pieces left left' room mid server' b d buffer buffer' said count so_far goes is rest =
+      let came = subst (λ o. AnswersNext does ways room mid b buffer o server' d buffer') is goes in
       let piece : List ℕ = came.0.piece in
-      let one : AnswersPiece does stands receives sends mid came.0.mid came.0.mid_seen buffer piece None server' d sd buffer' = came.0.answers in
+      let one : AnswersPiece does ways mid came.0.mid buffer piece None server' d buffer' = came.0.answers in
       let xs = so_far.answered in
       let ys = one.answered in
       let front : piece ≡ one.front = one.cut ∙ ap (λ l. one.front ++ l) one.ends.0 ∙ append-nil one.front in
-      let progress : Progress does stands mid came.0.mid came.0.mid_seen ys [] one.written server' d sd =
-      subst (λ s. Progress does stands mid came.0.mid came.0.mid_seen ys [] one.written s d sd) (sym one.left) one.progress in
+      let progress : Progress does ways mid came.0.mid ys [] one.written server' d =
+      subst (λ s. Progress does ways mid came.0.mid ys [] one.written s d) (sym one.left) one.progress in
       record {
         answered = xs ++ ys;
         received = so_far.received ++ piece;
         written = so_far.written ++ one.written;
-        progress = piece-goes mid server' b came.0.mid d sb came.0.mid_seen sd xs ys so_far.received piece so_far.written one.written so_far.progress came.0.gave progress;
+        progress = piece-goes mid server' b came.0.mid d xs ys so_far.received piece so_far.written one.written so_far.progress came.0.gave progress;
         wrote = wrote-then xs ys so_far.written one.written one.unsent so_far.wrote one.wrote
             ∙ ap (λ l. (so_far.written ++ one.written) ++ l) one.ends.1 ∙ append-nil (so_far.written ++ one.written);
-        calls = turn-on pieces left mid b came.0.mid d sb buffer ys piece one.written so_far came.0.received one.calls;
+        calls = turn-on pieces left mid b came.0.mid d buffer ys piece one.written so_far came.0.received one.calls;
         came = ap (λ l. run (beginning limit) (so_far.received ++ l)) front
             ∙ came-on (beginning limit) (messages xs) buffer so_far.received one.front so_far.came
             ∙ ap (behind (messages xs)) one.ends.2
@@ -189,11 +190,11 @@ module _ {S L : Type 0} (does : S → List ℕ → Option (List ℕ) → S → T
       }
 
   -- a piece in which the stream ends
-  in-piece : PiecesLaw → (left room : ℕ) (mid server' : S) (b d : L) (sb sd : LinkShown) (buffer buffer' : BufState) (how : End) → room ≤ left → room ≤ at_once → Streamed left mid b sb buffer
-      → PieceAnswered does stands receives sends room mid b sb buffer (Some how) server' d sd buffer' → StreamAnswered does stands receives sends limit at_once most server a sa (Some how) server' d sd
-  in-piece pieces left room mid server' b d sb sd buffer buffer' how fits within so_far came =
+  in-piece : PiecesLaw → (left room : ℕ) (mid server' : S) (b d : L) (buffer buffer' : BufState) (how : End) → room ≤ left → room ≤ at_once → Streamed left mid b buffer
+      → PieceAnswered does ways room mid b buffer (Some how) server' d buffer' → StreamAnswered does ways limit at_once most (record { server = server; link = a }) (Some how) (record { server = server'; link = d })
+  in-piece pieces left room mid server' b d buffer buffer' how fits within so_far came =
       let piece : List ℕ = came.piece in
-      let one : AnswersPiece does stands receives sends mid came.mid came.mid_seen buffer piece (Some how) server' d sd buffer' = came.answers in
+      let one : AnswersPiece does ways mid came.mid buffer piece (Some how) server' d buffer' = came.answers in
       let IsJunk : List ℕ → Type 0 = λ junk. does one.last junk None server' in
       let xs = so_far.answered in
       let ys = one.answered in
@@ -202,7 +203,7 @@ module _ {S L : Type 0} (does : S → List ℕ → Option (List ℕ) → S → T
       let all : front ++ one.behind ≡ so_far.received ++ piece = append_assoc so_far.received one.front one.behind ∙ ap (λ l. so_far.received ++ l) (sym one.cut) in
       let ran : run (beginning limit) front ≡ behind (messages xs) t = came-on (beginning limit) (messages xs) buffer so_far.received one.front so_far.came in
       let shows = shown pieces limit front in
-      let later : sa.send_faults ≤ came.mid_seen.send_faults = (let x = so_far.progress.goes.sends in let y = came.gave.goes.sends in omega arith) in
+      let later : ways.send_faults a ≤ ways.send_faults came.mid = (let x = so_far.progress.goes.sends in let y = came.gave.goes.sends in omega arith) in
       let len : length piece ≤ left = (let x = came.fits in omega arith) in
       let near : length one.behind < length piece = one.near came.some in
       record {
@@ -212,27 +213,27 @@ module _ {S L : Type 0} (does : S → List ℕ → Option (List ℕ) → S → T
         behind = one.behind;
         written = so_far.written ++ one.written;
         unsent = one.unsent;
-        progress = subst (λ bytes. Progress does stands server a sa (xs ++ ys) bytes (so_far.written ++ one.written) one.last d sd) (sym all)
-            (piece-goes mid one.last b came.mid d sb came.mid_seen sd xs ys so_far.received piece so_far.written one.written so_far.progress came.gave one.progress);
+        progress = subst (λ bytes. Progress does ways server a (xs ++ ys) bytes (so_far.written ++ one.written) one.last d) (sym all)
+            (piece-goes mid one.last b came.mid d xs ys so_far.received piece so_far.written one.written so_far.progress came.gave one.progress);
         wrote = wrote-then xs ys so_far.written one.written one.unsent so_far.wrote one.wrote;
         near = (let x = came.fits in omega arith);
-        in_turn = subst (λ bytes. InTurn receives sends limit (xs ++ ys) a bytes (so_far.written ++ one.written) d) (sym all)
-            (turn-on pieces left mid b came.mid d sb buffer ys piece one.written so_far came.received one.calls);
+        in_turn = subst (λ bytes. InTurn ways limit (xs ++ ys) a bytes (so_far.written ++ one.written) d) (sym all)
+            (turn-on pieces left mid b came.mid d buffer ys piece one.written so_far came.received one.calls);
         within = subst (IsWithin most (Some how)) (sym all)
-            (piece-within IsJunk most so_far.received piece left came.mid_seen sd ys one.behind one.unsent t buffer' how so_far.rest len one.ends);
-        ended = piece-ends IsJunk sa came.mid_seen sd xs ys (records limit front) one.behind one.unsent t buffer' how later
+            (piece-within IsJunk most so_far.received piece left (link_shown ways came.mid) (link_shown ways d) ys one.behind one.unsent t buffer' how so_far.rest len one.ends);
+        ended = piece-ends IsJunk (link_shown ways a) (link_shown ways came.mid) (link_shown ways d) xs ys (records limit front) one.behind one.unsent t buffer' how later
             (sym shows.records ∙ ap (λ (u : Stream). u.records) ran) (sym shows.too_long ∙ ap (λ (u : Stream). is_too_long u.buffer.state) ran) one.ends;
         left = one.left;
       }
 
   -- the stream so far, as far as its last byte, and how it ends there
-  so-far-done : PiecesLaw → (left : ℕ) (mid : S) (b c : L) (sb sc : LinkShown) (buffer : BufState) (how : Option End) → (so_far : Streamed left mid b sb buffer)
-      → Progress does stands server a sa so_far.answered so_far.received so_far.written mid c sc
-      → InTurn receives sends limit so_far.answered a so_far.received so_far.written c → 0 < at_once → IsWithin most how so_far.received → IsLeft how mid mid
+  so-far-done : PiecesLaw → (left : ℕ) (mid : S) (b c : L) (buffer : BufState) (how : Option End) → (so_far : Streamed left mid b buffer)
+      → Progress does ways server a so_far.answered so_far.received so_far.written mid c
+      → InTurn ways limit so_far.answered a so_far.received so_far.written c → 0 < at_once → IsWithin most how so_far.received → IsLeft how mid mid
       → ((looked : Split) → looked.records ≡ messages so_far.answered → looked.too_long ≡ false → buffer.rest ≡ min (length looked.rest) (2 ^ 62)
-      → EndsSo (λ junk. does mid junk None mid) sa so_far.answered looked [] [] sc how)
-      → StreamAnswered does stands receives sends limit at_once most server a sa how mid c sc
-  so-far-done pieces left mid b c sb sc buffer how so_far progress turn room within stays ends =
+      → EndsSo (λ junk. does mid junk None mid) (link_shown ways a) so_far.answered looked [] [] (link_shown ways c) how)
+      → StreamAnswered does ways limit at_once most (record { server = server; link = a }) how (record { server = mid; link = c })
+  so-far-done pieces left mid b c buffer how so_far progress turn room within stays ends =
       let shows = shown pieces limit so_far.received in
       let came = so_far.came in
       let long : (records limit so_far.received).too_long ≡ false =
@@ -244,10 +245,10 @@ module _ {S L : Type 0} (does : S → List ℕ → Option (List ℕ) → S → T
         behind = [];
         written = so_far.written;
         unsent = [];
-        progress = subst (λ bytes. Progress does stands server a sa so_far.answered bytes so_far.written mid c sc) (sym (append-nil so_far.received)) progress;
+        progress = subst (λ bytes. Progress does ways server a so_far.answered bytes so_far.written mid c) (sym (append-nil so_far.received)) progress;
         wrote = so_far.wrote ∙ sym (append-nil so_far.written);
         near = room;
-        in_turn = subst (λ bytes. InTurn receives sends limit so_far.answered a bytes so_far.written c) (sym (append-nil so_far.received)) turn;
+        in_turn = subst (λ bytes. InTurn ways limit so_far.answered a bytes so_far.written c) (sym (append-nil so_far.received)) turn;
         within = subst (IsWithin most how) (sym (append-nil so_far.received)) within;
         ended = ends (records limit so_far.received) (sym shows.records ∙ ap (λ (u : Stream). u.records) came) long
             (ap (λ (u : Stream). u.buffer.rest) (sym came) ∙ shows.rest long);
@@ -255,48 +256,48 @@ module _ {S L : Type 0} (does : S → List ℕ → Option (List ℕ) → S → T
       }
 
   -- a link that gave nothing more
-  then-ended : (mid : S) (b c : L) (sb sc : LinkShown) (xs : List Answered) (received written : List ℕ) → Progress does stands server a sa xs received written mid b sb
-      → Ended stands b c sb sc → Progress does stands server a sa xs received written mid c sc
-  then-ended mid b c sb sc xs received written before ended = record {
+  then-ended : (mid : S) (b c : L) (xs : List Answered) (received written : List ℕ) → Progress does ways server a xs received written mid b
+      → Ended ways b c → Progress does ways server a xs received written mid c
+  then-ended mid b c xs received written before ended = record {
     answers = before.answers;
-    bytes = Goes-stays stands a b c written received before.bytes ended.stays;
-    goes = goes-ended stands b c sa sb sc received before.goes ended;
+    bytes = Goes-stays ways.stands a b c written received before.bytes ended.stays;
+    goes = goes-ended ways b c (link_shown ways a) received before.goes ended;
   }
 
   -- no piece came behind the stream so far
-  no-piece : PiecesLaw → (left : ℕ) (mid : S) (b c : L) (sb sc : LinkShown) (buffer : BufState) (how : End) → 0 < left → 0 < at_once → Streamed left mid b sb buffer
-      → Ended stands b c sb sc → Received receives b [] c → ((how ≡ end.ReadFault) × Rose sb.receive_faults sc.receive_faults) ⊎ ((how ≡ input_end buffer.rest) × IsAtEnd sb.left)
-      → StreamAnswered does stands receives sends limit at_once most server a sa (Some how) mid c sc
-  no-piece pieces left mid b c sb sc buffer how some room so_far ended came (inl failed) =
-      subst (λ e. StreamAnswered does stands receives sends limit at_once most server a sa (Some e) mid c sc) (sym failed.0)
-      (so-far-done pieces left mid b c sb sc buffer (Some end.ReadFault) so_far
-      (then-ended mid b c sb sc so_far.answered so_far.received so_far.written so_far.progress ended)
-      (turn-last pieces left mid b c sb buffer so_far came) room
+  no-piece : PiecesLaw → (left : ℕ) (mid : S) (b c : L) (buffer : BufState) (how : End) → 0 < left → 0 < at_once → Streamed left mid b buffer
+      → Ended ways b c → Received ways b [] c → ((how ≡ end.ReadFault) × Rose (ways.receive_faults b) (ways.receive_faults c)) ⊎ ((how ≡ input_end buffer.rest) × IsAtEnd (ways.left b))
+      → StreamAnswered does ways limit at_once most (record { server = server; link = a }) (Some how) (record { server = mid; link = c })
+  no-piece pieces left mid b c buffer how some room so_far ended came (inl failed) =
+      subst (λ e. StreamAnswered does ways limit at_once most (record { server = server; link = a }) (Some e) (record { server = mid; link = c })) (sym failed.0)
+      (so-far-done pieces left mid b c buffer (Some end.ReadFault) so_far
+      (then-ended mid b c so_far.answered so_far.received so_far.written so_far.progress ended)
+      (turn-last pieces left mid b c buffer so_far came) room
       (fault-within most so_far.received left some so_far.rest) refl
-      (λ looked recs long n. (recs, long, refl, refl, rose_earlier sa.receive_faults sb.receive_faults sc.receive_faults so_far.progress.goes.receives failed.1)))
-  no-piece pieces left mid b c sb sc buffer how some room so_far ended came (inr over) =
-      let last : IfSome sa.left (λ all. IsAtEnd sc.left) = at-end sa.left sb.left sc.left so_far.received so_far.progress.goes.left over.1 ended.left in
-      subst (λ e. StreamAnswered does stands receives sends limit at_once most server a sa (Some e) mid c sc) (sym over.0)
-      (so-far-done pieces left mid b c sb sc buffer (Some (input_end buffer.rest)) so_far
-      (then-ended mid b c sb sc so_far.answered so_far.received so_far.written so_far.progress ended)
-      (turn-last pieces left mid b c sb buffer so_far came) room
+      (λ looked recs long n. (recs, long, refl, refl, rose_earlier (ways.receive_faults a) (ways.receive_faults b) (ways.receive_faults c) so_far.progress.goes.receives failed.1)))
+  no-piece pieces left mid b c buffer how some room so_far ended came (inr over) =
+      let last : IfSome (ways.left a) (λ all. IsAtEnd (ways.left c)) = at-end (ways.left a) (ways.left b) (ways.left c) so_far.received so_far.progress.goes.left over.1 ended.left in
+      subst (λ e. StreamAnswered does ways limit at_once most (record { server = server; link = a }) (Some e) (record { server = mid; link = c })) (sym over.0)
+      (so-far-done pieces left mid b c buffer (Some (input_end buffer.rest)) so_far
+      (then-ended mid b c so_far.answered so_far.received so_far.written so_far.progress ended)
+      (turn-last pieces left mid b c buffer so_far came) room
       (input-within most so_far.received left buffer.rest some so_far.rest) (input-left mid buffer.rest)
-      (λ looked recs long n. input-ends (λ junk. does mid junk None mid) sa so_far.answered looked sc buffer.rest recs long n last))
+      (λ looked recs long n. input-ends (λ junk. does mid junk None mid) (link_shown ways a) so_far.answered looked (link_shown ways c) buffer.rest recs long n last))
 
   -- the stream ends in the next piece, or there is none
-  pub streamed-stops : PiecesLaw → (left room : ℕ) (mid server' : S) (b d : L) (sb sd : LinkShown) (buffer buffer' : BufState) (said : Next) (how : End) → 0 < left
-      → room ≤ left → room ≤ at_once → 0 < at_once → Streamed left mid b sb buffer → AnswersNext does stands receives sends room mid b sb buffer said server' d sd buffer' → said ≡ next.Ends how
-      → StreamAnswered does stands receives sends limit at_once most server a sa (Some how) server' d sd
-  streamed-stops pieces left room mid server' b d sb sd buffer buffer' said how some fits within there so_far goes is =
-      by (subst (λ o. AnswersNext does stands receives sends room mid b sb buffer o server' d sd buffer') is goes) where
-        by : PieceAnswered does stands receives sends room mid b sb buffer (Some how) server' d sd buffer' ⊎ NoPiece stands receives mid b sb buffer how server' d sd
-            → StreamAnswered does stands receives sends limit at_once most server a sa (Some how) server' d sd
-        by (inl came) = in-piece pieces left room mid server' b d sb sd buffer buffer' how fits within so_far came
-        by (inr last) = subst (λ s. StreamAnswered does stands receives sends limit at_once most server a sa (Some how) s d sd) (sym last.same)
-            (no-piece pieces left mid b d sb sd buffer how some there so_far last.ended last.received last.why)
+  pub streamed-stops : PiecesLaw → (left room : ℕ) (mid server' : S) (b d : L) (buffer buffer' : BufState) (said : Next) (how : End) → 0 < left
+      → room ≤ left → room ≤ at_once → 0 < at_once → Streamed left mid b buffer → AnswersNext does ways room mid b buffer said server' d buffer' → said ≡ next.Ends how
+      → StreamAnswered does ways limit at_once most (record { server = server; link = a }) (Some how) (record { server = server'; link = d })
+  streamed-stops pieces left room mid server' b d buffer buffer' said how some fits within there so_far goes is =
+      by (subst (λ o. AnswersNext does ways room mid b buffer o server' d buffer') is goes) where
+        by : PieceAnswered does ways room mid b buffer (Some how) server' d buffer' ⊎ NoPiece ways mid b buffer how server' d
+            → StreamAnswered does ways limit at_once most (record { server = server; link = a }) (Some how) (record { server = server'; link = d })
+        by (inl came) = in-piece pieces left room mid server' b d buffer buffer' how fits within so_far came
+        by (inr last) = subst (λ s. StreamAnswered does ways limit at_once most (record { server = server; link = a }) (Some how) (record { server = s; link = d })) (sym last.same)
+            (no-piece pieces left mid b d buffer how some there so_far last.ended last.received last.why)
 
   -- as many bytes came as may be received
-  pub streamed-spent : PiecesLaw → (left : ℕ) (mid : S) (b : L) (sb : LinkShown) (buffer : BufState) → (so_far : Streamed left mid b sb buffer)
-      → 0 < at_once → IsWithin most None so_far.received → StreamAnswered does stands receives sends limit at_once most server a sa None mid b sb
-  streamed-spent pieces left mid b sb buffer so_far room within =
-      so-far-done pieces left mid b b sb sb buffer None so_far so_far.progress so_far.calls room within refl (λ looked recs long n. (recs, long, refl, refl))
+  pub streamed-spent : PiecesLaw → (left : ℕ) (mid : S) (b : L) (buffer : BufState) → (so_far : Streamed left mid b buffer)
+      → 0 < at_once → IsWithin most None so_far.received → StreamAnswered does ways limit at_once most (record { server = server; link = a }) None (record { server = mid; link = b })
+  streamed-spent pieces left mid b buffer so_far room within =
+      so-far-done pieces left mid b b buffer None so_far so_far.progress so_far.calls room within refl (λ looked recs long n. (recs, long, refl, refl))

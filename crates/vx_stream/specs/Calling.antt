@@ -2,6 +2,7 @@
 -- The calls of a link, one by one, and where it is asked for more bytes.
 use Rattle.std.specs.Prelude.{◌≡◌, ℕ, ⊤, false, List, [], ◌∷◌, ◌++◌, take}
 use Rattle.std.specs.List.{flat_map}
+use Rattle.vx_io_traits.specs.declared.links.Link.{Ghosts}
 use Rattle.vx_io_traits.specs.declared.ReadOut.{ReadOut}
 use Rattle.vx_io_traits.specs.declared.ReadOut.TheVariants.{Got, End, Failed}
 use Rattle.vx_io_traits.specs.declared.WriteOut.{WriteOut}
@@ -9,23 +10,16 @@ use Rattle.vx_io_traits.specs.declared.WriteOut.TheVariants.{Took, Failed as Ref
 use Rattle.vx_record.specs.Records.{records}
 use Rattle.vx_stream.specs.Answered.{Answered, messages, replies}
 
--- what one receive of a link does: the link and the slice before, the answer, the slice and the link after; and one send
-abbrev pub Receives : Type 0 → Type 1
-Receives L = L → List ℕ → ReadOut → List ℕ → L → Type 0
-
-abbrev pub Sends : Type 0 → Type 1
-Sends L = L → List ℕ → WriteOut → L → Type 0
-
 -- a call of a link: a receive into a slice, its answer, and the slice then; or a send of these bytes, and its answer
 pub data LinkCall : Type 0 where
   Receive : (slice : List ℕ) (answer : ReadOut) (filled : List ℕ) → LinkCall
   Send : (bytes : List ℕ) (answer : WriteOut) → LinkCall
 
 -- these calls, one after the other, are what was done to a link, and there was no other
-abbrev pub Calls : {L : Type 0} → Receives L → Sends L → L → List LinkCall → L → Type 0
-Calls receives sends link [] link' = link' ≡ link
-Calls {L} receives sends link (Receive slice answer filled ∷ more) link' = (mid : L) × receives link slice answer filled mid × Calls receives sends mid more link'
-Calls {L} receives sends link (Send bytes answer ∷ more) link' = (mid : L) × sends link bytes answer mid × Calls receives sends mid more link'
+abbrev pub Calls : {L : Type 0} → Ghosts L → L → List LinkCall → L → Type 0
+Calls ways link [] link' = link' ≡ link
+Calls {L} ways link (Receive slice answer filled ∷ more) link' = (mid : L) × ways.receives link slice answer filled mid × Calls ways mid more link'
+Calls {L} ways link (Send bytes answer ∷ more) link' = (mid : L) × ways.sends link bytes answer mid × Calls ways mid more link'
 
 -- the bytes that a call gave, and those that it took
 abbrev pub call_gave : LinkCall → List ℕ
@@ -64,9 +58,9 @@ pub record OwesNone (limit : ℕ) (answered : List Answered) (calls : List LinkC
 
 -- While these messages were answered the link gave the bytes `received` and took `written`, by calls of which each receive came only
 -- where nothing was owed.
-pub record InTurn {L : Type 0} (receives : Receives L) (sends : Sends L) (limit : ℕ) (answered : List Answered) (link : L) (received written : List ℕ) (link' : L) : Type 0 where
+pub record InTurn {L : Type 0} (ways : Ghosts L) (limit : ℕ) (answered : List Answered) (link : L) (received written : List ℕ) (link' : L) : Type 0 where
   pub calls : List LinkCall
-  pub made : Calls receives sends link calls link'
+  pub made : Calls ways link calls link'
   pub gave : given_by calls ≡ received
   pub took : taken_by calls ≡ written
   pub turns : AtReceives (OwesNone limit answered) [] calls
@@ -78,8 +72,8 @@ AreSends (Receive slice answer filled ∷ more) = ⊥
 AreSends (Send bytes answer ∷ more) = AreSends more
 
 -- a link took these bytes, and was asked for none
-pub record OnlyTook {L : Type 0} (receives : Receives L) (sends : Sends L) (link : L) (written : List ℕ) (link' : L) : Type 0 where
+pub record OnlyTook {L : Type 0} (ways : Ghosts L) (link : L) (written : List ℕ) (link' : L) : Type 0 where
   pub calls : List LinkCall
-  pub made : Calls receives sends link calls link'
+  pub made : Calls ways link calls link'
   pub only : AreSends calls
   pub took : taken_by calls ≡ written

@@ -5,7 +5,6 @@ pub mod Calling
 pub mod Pieces
 pub mod Stopping
 pub mod Visiting
-pub mod ProvedLaws
 pub use Rattle.vx_io_traits.specs.Faults
 pub use Rattle.vx_io_traits.specs.Stands
 pub use Rattle.vx_door.specs.Going

@@ -3,10 +3,11 @@
 use Rattle.std.specs.Prelude.{◌≡◌, ◌≤◌, ◌<◌, ◌^◌, ℕ, zero, suc, min, true, false, List, [], ◌∷◌, ◌++◌, length, Option, None, Some, IfSome}
 use Rattle.std.specs.Io.KnownBytes.{IsAtEnd}
 use Rattle.vx_io_traits.specs.Faults.{Rose}
+use Rattle.vx_io_traits.specs.declared.links.Link.{Ghosts}
 use Rattle.vx_record.specs.Records.{Split, records}
-use Rattle.vx_stream.specs.Shown.{LinkShown}
-use Rattle.vx_stream.specs.Answered.{Answered, Progress, messages, replies}
-use Rattle.vx_stream.specs.Calling.{Receives, Sends, InTurn}
+use Rattle.vx_stream.specs.Shown.{LinkShown, link_shown}
+use Rattle.vx_stream.specs.Answered.{Answered, Conversation, Progress, messages, replies}
+use Rattle.vx_stream.specs.Calling.{InTurn}
 use Rattle.vx_stream.specs.declared.ends.End.{End}
 use Rattle.vx_stream.specs.declared.ends.End.TheVariants as end
 
@@ -68,18 +69,18 @@ IsWithin None (Some how) received = Unit {0}
 -- The records of a stream were answered, up to its end or to where it is no longer read: the bytes `front` that were looked at, and
 -- those that were received behind them, which are fewer than are received at once, `room`; the replies, of which the link took
 -- `written`.
-pub record StreamAnswered {S L : Type 0} (does : S → List ℕ → Option (List ℕ) → S → Type 0) (stands : L → List ℕ → List ℕ → Type 0) (receives : Receives L) (sends : Sends L)
-    (limit room : ℕ) (most : Option ℕ) (server : S) (link : L) (seen : LinkShown) (how : Option End) (server' : S) (link' : L) (seen' : LinkShown) : Type 0 where
+pub record StreamAnswered {S L : Type 0} (does : S → List ℕ → Option (List ℕ) → S → Type 0) (ways : Ghosts L)
+    (limit room : ℕ) (most : Option ℕ) (before : Conversation S L) (how : Option End) (after : Conversation S L) : Type 0 where
   pub answered : List Answered
   pub last : S
   pub front : List ℕ
   pub behind : List ℕ
   pub written : List ℕ
   pub unsent : List ℕ
-  pub progress : Progress does stands server link seen answered (front ++ behind) written last link' seen'
+  pub progress : Progress does ways before.server before.link answered (front ++ behind) written last after.link
   pub wrote : replies answered ≡ written ++ unsent
   pub near : length behind < room
-  pub in_turn : InTurn receives sends limit answered link (front ++ behind) written link'
+  pub in_turn : InTurn ways limit answered before.link (front ++ behind) written after.link
   pub within : IsWithin most how (front ++ behind)
-  pub ended : EndsSo (λ junk. does last junk None server') seen answered (records limit front) behind unsent seen' how
-  pub left : IsLeft how last server'
+  pub ended : EndsSo (λ junk. does last junk None after.server) (link_shown ways before.link) answered (records limit front) behind unsent (link_shown ways after.link) how
+  pub left : IsLeft how last after.server

@@ -15,4 +15,4 @@ pub use answers::Answers;
 pub use ends::End;
 pub use sending::send_all;
 pub use streams::{answer_stream, answer_up_to};
-pub use visitors::Visitor;
+pub use visitors::CountingLink;

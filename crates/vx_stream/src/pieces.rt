@@ -3,7 +3,6 @@ ghost use Rattle.std.specs.Prelude.{◌≡◌, ◌≤◌, ◌<◌, length};
 ghost use Rattle.vx_record.specs.Buffer.{fresh};
 ghost use Rattle.vx_record.specs.declared.Feed.TheVariants as feed;
 ghost use Rattle.vx_door.specs.Going.{Went};
-ghost use Rattle.vx_stream.specs.Shown.{link_shown};
 ghost use Rattle.vx_stream.specs.Pieces.{AnswersWhole, AnswersPiece};
 
 use crate::answers::Answers;
@@ -23,8 +22,8 @@ fn answer_whole<S: Answers, L: Link>(
     requires whole { incoming.old.state ≡ feed.Whole }
     requires limit { incoming.old.limit ≤ S.longest }
     requires room { S.room ≤ length reply.old }
-    ensures answers { AnswersWhole S.does L.stands L.receives L.sends server link.old (link_shown L.left L.peers L.receive_faults L.send_faults link.old)
-        incoming.old.kept result.1 result.0 link.new (link_shown L.left L.peers L.receive_faults L.send_faults link.new) }
+    ensures answers { AnswersWhole S.does L.Link server link.old
+        incoming.old.kept result.1 result.0 link.new }
     ensures went { Went L.receives L.sends link.old link.new }
     ensures can { S.can result.0 }
     ensures buffer { incoming.new ≡ fresh incoming.old.limit }
@@ -53,8 +52,8 @@ pub(crate) fn answer_piece<S: Answers, L: Link>(
     requires more { incoming.old.state ≡ feed.More }
     requires limit { incoming.old.limit ≤ S.longest }
     requires room { S.room ≤ length reply.old }
-    ensures answers { AnswersPiece S.does L.stands L.receives L.sends server link.old (link_shown L.left L.peers L.receive_faults L.send_faults link.old)
-        incoming.old piece.now result.1 result.0 link.new (link_shown L.left L.peers L.receive_faults L.send_faults link.new) incoming.new }
+    ensures answers { AnswersPiece S.does L.Link server link.old
+        incoming.old piece.now result.1 result.0 link.new incoming.new }
     ensures went { Went L.receives L.sends link.old link.new }
     ensures can { S.can result.0 }
     ensures limit { incoming.new.limit ≡ incoming.old.limit }

@@ -3,7 +3,6 @@ ghost use Rattle.std.specs.Prelude.{◌≡◌, ◌≤◌, ◌<◌, length, None,
 ghost use Rattle.vx_record.specs.Buffer.{fresh};
 ghost use Rattle.vx_record.specs.declared.Feed.TheVariants as feed;
 ghost use Rattle.vx_door.specs.Going.{Went};
-ghost use Rattle.vx_stream.specs.Shown.{link_shown};
 ghost use Rattle.vx_stream.specs.Pieces.{AnswersNext};
 ghost use Rattle.vx_stream.specs.Stopping.{StreamAnswered};
 
@@ -34,8 +33,8 @@ fn answer_next<S: Answers, L: Link>(
     requires limit { incoming.old.limit ≤ S.longest }
     requires piece { 0 < length piece.old }
     requires room { S.room ≤ length reply.old }
-    ensures answers { AnswersNext S.does L.stands L.receives L.sends (length piece.old) server link.old (link_shown L.left L.peers L.receive_faults L.send_faults link.old)
-        incoming.old result.1 result.0 link.new (link_shown L.left L.peers L.receive_faults L.send_faults link.new) incoming.new }
+    ensures answers { AnswersNext S.does L.Link (length piece.old) server link.old
+        incoming.old result.1 result.0 link.new incoming.new }
     ensures went { Went L.receives L.sends link.old link.new }
     ensures can { S.can result.0 }
     ensures limit { incoming.new.limit ≡ incoming.old.limit }
@@ -70,8 +69,8 @@ pub fn answer_stream<R: Wait, S: Answers, L: Link>(
     requires limit { incoming.old.limit ≤ S.longest }
     requires piece { 0 < length piece.old }
     requires room { S.room ≤ length reply.old }
-    ensures answers { StreamAnswered S.does L.stands L.receives L.sends incoming.old.limit (length piece.old) None server link.old (link_shown L.left L.peers L.receive_faults L.send_faults link.old)
-        (Some result.1) result.0 link.new (link_shown L.left L.peers L.receive_faults L.send_faults link.new) }
+    ensures answers { StreamAnswered S.does L.Link incoming.old.limit (length piece.old) None (record { server = server; link = link.old })
+        (Some result.1) (record { server = result.0; link = link.new }) }
     ensures went { Went L.receives L.sends link.old link.new }
     ensures can { S.can result.0 }
     ensures limit { incoming.new.limit ≡ incoming.old.limit }
@@ -104,8 +103,8 @@ pub fn answer_up_to<S: Answers, L: Link>(
     requires limit { incoming.old.limit ≤ S.longest }
     requires piece { 0 < length piece.old }
     requires room { S.room ≤ length reply.old }
-    ensures answers { StreamAnswered S.does L.stands L.receives L.sends incoming.old.limit (length piece.old) (Some most) server link.old (link_shown L.left L.peers L.receive_faults L.send_faults link.old)
-        result.1 result.0 link.new (link_shown L.left L.peers L.receive_faults L.send_faults link.new) }
+    ensures answers { StreamAnswered S.does L.Link incoming.old.limit (length piece.old) (Some most) (record { server = server; link = link.old })
+        result.1 (record { server = result.0; link = link.new }) }
     ensures went { Went L.receives L.sends link.old link.new }
     ensures can { S.can result.0 }
     ensures limit { incoming.new.limit ≡ incoming.old.limit }

@@ -8,13 +8,13 @@ use vx_io_traits::{Link, ReadOut, WriteOut};
 /// A link that came to a server, with its number among those of its port. It does what its link does, and counts the calls that
 /// were answered: the sends that took all that they were given, since each is given what is left of one reply.
 #[derive(Drop)]
-pub struct Visitor<L> {
+pub struct CountingLink<L> {
     link: L,
     number: u64,
     answered: u64,
 }
 
-impl<L> Model for Visitor<L> {
+impl<L> Model for CountingLink<L> {
     ghost use Rattle.vx_stream.specs.Visiting.{VisitorState};
 
     ghost Value = { VisitorState L };
@@ -22,14 +22,14 @@ impl<L> Model for Visitor<L> {
     ghost view = { λ v. record { link = v.link; number = v.number; answered = v.answered } };
 }
 
-impl<L> Visitor<L> {
+impl<L> CountingLink<L> {
     /// A link that came as this one of its port, of which no call was answered yet.
-    pub fn new(link: L, number: u64) -> Visitor<L>
+    pub fn new(link: L, number: u64) -> CountingLink<L>
         ensures link { result.link ≡ link }
         ensures number { result.number ≡ number }
         ensures answered { result.answered ≡ 0 }
     {
-        Visitor {
+        CountingLink {
             link,
             number,
             answered: 0,
@@ -58,7 +58,7 @@ impl<L> Visitor<L> {
     }
 }
 
-impl<L: Link> Link for Visitor<L> {
+impl<L: Link> Link for CountingLink<L> {
     ghost use Rattle.std.specs.Prelude.{◌≡◌};
     ghost use Rattle.vx_stream.specs.Visiting.{answered_after};
 
@@ -92,7 +92,7 @@ impl<L: Link> Link for Visitor<L> {
     }
 }
 
-impl<L> Visitor<L> {
+impl<L> CountingLink<L> {
     /// Counts a call where its reply went whole by this send.
     fn count(&mut self, from: &[u8], sent: WriteOut)
         ensures link { self.new.link ≡ self.old.link }

@@ -6,7 +6,7 @@ use Rattle.std.proofs.lemmas.Iterator.Adapters.{position_from-zero}
 use Rattle.std.proofs.lemmas.List.Folds.{find_at}
 use Rattle.std.proofs.lemmas.Option.{slice_get_past}
 use Rattle.std.specs.Str.{bytes_eq}
-use Rattle.vx_lemmas.specs.Conditions.{unchosen}
+use Rattle.vx_lemmas.proofs.Laws.Conditions.{unchosen}
 use Rattle.vx_inst.specs.View.{View}
 use Rattle.vx_inst.specs.Shared.{without_message}
 use Rattle.vx_table.specs.Table.{Rule, Delayed, TableState, with_ready, without_line_feed, rule_for, begun, finished}

@@ -8,7 +8,7 @@ ghost use Rattle.std.specs.List.{slice_get};
 ghost use Rattle.serde_json.specs.View.{view};
 ghost use Rattle.vx_inst.specs.declared.done.Done.TheVariants.{Took, Gave, Polled, Cleared, Triggered, ToLocal, StatusSet, Told};
 ghost use Rattle.vx_inst.specs.Behavior.{after};
-ghost use Rattle.vx_inst.specs.Laws.{takes_byte, gives_byte, IsSound, Takes, Gives, status_byte, IsPolled, IsCleared, IsTriggered, IsTold, IsLonger, with_status};
+ghost use Rattle.vx_inst.specs.Laws.{takes_byte, gives_byte, IsInstSound, InstTakes, InstGives, status_byte, IsInstPolled, IsCleared, IsTriggered, IsInstTold, IsLonger, with_status};
 ghost use Rattle.vx_table.specs.declared.TableErr.TheVariants.{NotObject, TooMany, BadRule, NoMemory};
 ghost use Rattle.vx_table.specs.Table.{Rule, fresh_table, table_after_take, table_after_give, table_after_poll, table_after_clear, table_with_status, table_after_moment, table_behavior, finished, begun, after_delay, without_line_feed};
 ghost use Rattle.vx_table.specs.Spelling.{rules_of};
@@ -117,7 +117,7 @@ impl TableInst {
         ensures finished { self.new ≡ finished self.old }
         ensures over { self.new.seen.inbox ≡ [] }
         ensures longer { IsLonger self.old.seen.out self.new.seen.out }
-        ensures sound { IsSound self.new.seen }
+        ensures sound { IsInstSound self.new.seen }
     {
         let place = place_of(&self.rows, without_line_feed(self.body.message()));
         self.body.forget();
@@ -131,8 +131,8 @@ impl TableInst {
     fn begin(&mut self, place: usize)
         requires within { place < length self.old.rules }
         ensures begun { self.new ≡ begun self.old (slice_get self.old.rules place) }
-        ensures replied { IsTold self.old.seen self.new.seen }
-        ensures sound { IsSound self.new.seen }
+        ensures replied { IsInstTold self.old.seen self.new.seen }
+        ensures sound { IsInstSound self.new.seen }
     {
         self.body.stay();
         if self.rows[place].delay() == 0 {
@@ -148,8 +148,8 @@ impl TableInst {
     /// The rule that waits acts, where its delay has passed.
     fn act_if_due(&mut self)
         ensures due { self.new ≡ after_delay self.old self.old.delayed }
-        ensures replied { IsTold self.old.seen self.new.seen }
-        ensures sound { IsSound self.new.seen }
+        ensures replied { IsInstTold self.old.seen self.new.seen }
+        ensures sound { IsInstSound self.new.seen }
     {
         self.body.stay();
         if let Some(Waiting { place, since }) = self.waiting {
@@ -182,9 +182,9 @@ impl Instrument for TableInst {
     fn take(&mut self, b: u8, end: bool)
         requires { takes_byte self.old.seen ≡ true }
         ensures rule { self.new ≡ table_after_take self.old b end }
-        ensures takes { Takes self.old.seen b end self.new.seen }
+        ensures takes { InstTakes self.old.seen b end self.new.seen }
         ensures does { table_behavior self.new ≡ after (Took b end) (table_behavior self.old) }
-        ensures sound { IsSound self.new.seen }
+        ensures sound { IsInstSound self.new.seen }
     {
         self.body.keep(b);
         if end {
@@ -198,20 +198,20 @@ impl Instrument for TableInst {
 
     fn give(&mut self) -> (u8, bool)
         requires { gives_byte self.old.seen ≡ true }
-        ensures gives { Gives self.old.seen (record { value = result.0; end = result.1 }) self.new.seen }
+        ensures gives { InstGives self.old.seen (record { value = result.0; end = result.1 }) self.new.seen }
         ensures rule { self.new ≡ table_after_give self.old }
         ensures does { table_behavior self.new ≡ after Gave (table_behavior self.old) }
-        ensures sound { IsSound self.new.seen }
+        ensures sound { IsInstSound self.new.seen }
     {
         self.body.give()
     }
 
     fn poll(&mut self) -> u8
         ensures status { result ≡ status_byte self.old.seen }
-        ensures polled { IsPolled self.old.seen self.new.seen }
+        ensures polled { IsInstPolled self.old.seen self.new.seen }
         ensures rule { self.new ≡ table_after_poll self.old }
         ensures does { table_behavior self.new ≡ after Polled (table_behavior self.old) }
-        ensures sound { IsSound self.new.seen }
+        ensures sound { IsInstSound self.new.seen }
     {
         self.body.poll()
     }
@@ -225,7 +225,7 @@ impl Instrument for TableInst {
         ensures cleared { IsCleared self.old.seen self.new.seen }
         ensures rule { self.new ≡ table_after_clear self.old }
         ensures does { table_behavior self.new ≡ after Cleared (table_behavior self.old) }
-        ensures sound { IsSound self.new.seen }
+        ensures sound { IsInstSound self.new.seen }
     {
         self.body.clear();
         self.waiting = None;
@@ -236,7 +236,7 @@ impl Instrument for TableInst {
         ensures triggered { IsTriggered self.old.seen self.new.seen }
         ensures rule { self.new ≡ self.old }
         ensures does { table_behavior self.new ≡ after Triggered (table_behavior self.old) }
-        ensures sound { IsSound self.new.seen }
+        ensures sound { IsInstSound self.new.seen }
     {
         self.body.stay();
     }
@@ -244,7 +244,7 @@ impl Instrument for TableInst {
     fn local(&mut self)
         ensures same { self.new ≡ self.old }
         ensures does { table_behavior self.new ≡ after ToLocal (table_behavior self.old) }
-        ensures sound { IsSound self.new.seen }
+        ensures sound { IsInstSound self.new.seen }
     {
         self.body.stay();
     }
@@ -252,17 +252,17 @@ impl Instrument for TableInst {
     fn set_status(&mut self, b: u8)
         ensures set { self.new ≡ table_with_status self.old b }
         ensures does { table_behavior self.new ≡ after (StatusSet b) (table_behavior self.old) }
-        ensures sound { IsSound self.new.seen }
+        ensures sound { IsInstSound self.new.seen }
     {
         self.body.set_status(b);
     }
 
     /// Tells it a moment, in milliseconds: the rule that waits acts once its delay has passed.
     fn moment(&mut self, now: u64)
-        ensures told { IsTold self.old.seen self.new.seen }
+        ensures told { IsInstTold self.old.seen self.new.seen }
         ensures rule { self.new ≡ table_after_moment self.old now }
         ensures does { table_behavior self.new ≡ after (Told now) (table_behavior self.old) }
-        ensures sound { IsSound self.new.seen }
+        ensures sound { IsInstSound self.new.seen }
     {
         self.told = self.told.max(now);
         self.act_if_due();

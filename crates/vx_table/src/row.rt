@@ -4,7 +4,7 @@ ghost use Rattle.std.specs.Prelude.{◌≡◌, ◌<◌, true, false, Bool, map, 
 ghost use Rattle.std.specs.Str.{bytes_eq};
 ghost use Rattle.std.specs.List.{All, position_from};
 ghost use Rattle.serde_json.specs.View.{view};
-ghost use Rattle.vx_inst.specs.Laws.{IsTold, IsSound};
+ghost use Rattle.vx_inst.specs.Laws.{IsInstTold, IsInstSound};
 ghost use Rattle.vx_table.specs.Table.{acted};
 ghost use Rattle.vx_table.specs.Spelling.{rule_of};
 ghost use Rattle.vx_table.specs.Rows.{spelled_rule};
@@ -65,8 +65,8 @@ impl Row {
     /// Acts on the body of its instrument.
     pub(crate) fn act(&self, body: &mut Body)
         ensures acted { body.new ≡ acted body.old self.now }
-        ensures replied { IsTold body.old body.new }
-        ensures sound { IsSound body.new }
+        ensures replied { IsInstTold body.old body.new }
+        ensures sound { IsInstSound body.new }
     {
         body.reply(self.reply.as_bytes());
         if let Some(status) = self.status {

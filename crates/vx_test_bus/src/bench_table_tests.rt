@@ -2,15 +2,15 @@
 
 use crate::row_tools::compare;
 use std::alloc::Global;
-use vx_bench::*;
 use vx_script::Cause;
+use vx_setup::*;
 
 /// Why a text spells no table instrument, where it doesn't for another reason than want of memory.
 fn cause_of(alloc: Global, text: &[u8]) -> Result<Option<Cause>, NoMemory> {
     match table_of(alloc, text) {
         Ok(_) => Ok(None),
-        Err(Stop::Refused(cause)) => Ok(Some(cause)),
-        Err(Stop::NoMemory) => Err(NoMemory),
+        Err(Refusal::Refused(cause)) => Ok(Some(cause)),
+        Err(Refusal::NoMemory) => Err(NoMemory),
     }
 }
 

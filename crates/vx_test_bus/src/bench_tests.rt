@@ -6,9 +6,9 @@ use std::alloc::Global;
 use std::fmt::Write;
 use std::test::Fail;
 use vx_488::Addr;
-use vx_bench::*;
 use vx_rack::{Echo, Spare};
 use vx_script::Cause;
+use vx_setup::*;
 use vx_sim::SimBus;
 
 /// A spare instrument of the name `echo`.

@@ -4,7 +4,7 @@ ghost use Rattle.std.specs.Prelude.{◌≡◌, ◌≤◌, IfSome, length};
 ghost use Rattle.vx_calls.specs.declared.limits.TheConstants.{WRITE_MAX};
 ghost use Rattle.vx_plan.specs.Tasks.{IsPlainTask, HasBytes};
 ghost use Rattle.vx_bus.specs.Means.{first_means};
-ghost use Rattle.vx_ctrl.specs.Turns.{HasRoom};
+ghost use Rattle.vx_ctrl.specs.Turns.{TurnHasRoom};
 
 use crate::bus_tools::told_bus;
 use crate::row_tools::compare;
@@ -59,7 +59,7 @@ fn go_once(bus: &mut MemBus, task: Task, bytes: &[u8], room: &mut [u8]) -> Told
     requires plain { IsPlainTask task }
     requires bytes { HasBytes task bytes.now }
     requires short { length bytes.now ≤ WRITE_MAX }
-    requires room { HasRoom task (length room.old) }
+    requires room { TurnHasRoom task (length room.old) }
     requires fresh { bus.old.means ≡ first_means }
 {
     let mut turn = Turn::begin(task, &bus.wire(), 0);
@@ -72,7 +72,7 @@ fn go_twice(bus: &mut MemBus, task: Task, bytes: &[u8], room: &mut [u8]) -> (Tol
     requires plain { IsPlainTask task }
     requires bytes { HasBytes task bytes.now }
     requires short { length bytes.now ≤ WRITE_MAX }
-    requires room { HasRoom task (length room.old) }
+    requires room { TurnHasRoom task (length room.old) }
     requires fresh { bus.old.means ≡ first_means }
 {
     let mut turn = Turn::begin(task, &bus.wire(), 0);
@@ -505,7 +505,7 @@ fn go_on(bus: &mut MemBus, task: Task, bytes: &[u8], room: &mut [u8]) -> (u32, u
     requires plain { IsPlainTask task }
     requires bytes { HasBytes task bytes.now }
     requires short { length bytes.now ≤ WRITE_MAX }
-    requires room { HasRoom task (length room.old) }
+    requires room { TurnHasRoom task (length room.old) }
     requires fresh { bus.old.means ≡ first_means }
 {
     let mut turn = Turn::begin(task, &bus.wire(), 0);

@@ -3,7 +3,7 @@
 ghost use Rattle.std.specs.Prelude.{◌≡◌, ◌≤◌, true, []};
 ghost use Rattle.vx_inst.specs.declared.done.Done.TheVariants.{Took};
 ghost use Rattle.vx_inst.specs.Behavior.{after};
-ghost use Rattle.vx_inst.specs.Laws.{takes_byte, Takes, status_byte, IsPolled, IsSound};
+ghost use Rattle.vx_inst.specs.Laws.{takes_byte, InstTakes, status_byte, IsInstPolled, IsInstSound};
 
 use crate::latch_tools::make_latch;
 use crate::row_tools::compare;
@@ -24,8 +24,8 @@ struct Placed {
 /// Hands a byte to a boxed instrument, where it can take one.
 fn offer(placed: &mut Placed, b: u8, end: bool) -> bool
     ensures can { result ≡ takes_byte (behaves placed.old.inst []) }
-    ensures takes { result ≡ true → Takes (behaves placed.old.inst []) b end (behaves placed.new.inst []) }
-    ensures sound { IsSound (behaves placed.new.inst []) }
+    ensures takes { result ≡ true → InstTakes (behaves placed.old.inst []) b end (behaves placed.new.inst []) }
+    ensures sound { IsInstSound (behaves placed.new.inst []) }
     ensures stays { placed.new.at ≡ placed.old.at }
 {
     let can = placed.inst.can_take();
@@ -38,7 +38,7 @@ fn offer(placed: &mut Placed, b: u8, end: bool) -> bool
 /// Asks a boxed instrument for its status byte.
 fn ask(placed: &mut Placed) -> u8
     ensures status { result ≡ status_byte (behaves placed.old.inst []) }
-    ensures polled { IsPolled (behaves placed.old.inst []) (behaves placed.new.inst []) }
+    ensures polled { IsInstPolled (behaves placed.old.inst []) (behaves placed.new.inst []) }
 {
     placed.inst.poll()
 }
@@ -158,7 +158,7 @@ fn body(rt: HostRuntime) -> Result<(), Fail> {
 /// Hands a byte to one in a box, which behaves as the instrument inside.
 fn hand_boxed(inst: &mut Box<dyn Instrument + Send>, b: u8, end: bool) -> bool
     ensures can { result ≡ takes_byte (behaves inst.old []) }
-    ensures takes { result ≡ true → Takes (behaves inst.old []) b end (behaves inst.new []) }
+    ensures takes { result ≡ true → InstTakes (behaves inst.old []) b end (behaves inst.new []) }
     ensures does { result ≡ true → behaves inst.new ≡ after (Took b end) (behaves inst.old) }
 {
     hand(inst, b, end)

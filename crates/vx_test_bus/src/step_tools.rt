@@ -3,7 +3,7 @@
 ghost use Rattle.std.specs.Prelude.{◌≡◌, true, []};
 ghost use Rattle.vx_inst.specs.declared.done.Done.TheVariants.{Took};
 ghost use Rattle.vx_inst.specs.Behavior.{after};
-ghost use Rattle.vx_inst.specs.Laws.{takes_byte, Takes};
+ghost use Rattle.vx_inst.specs.Laws.{takes_byte, InstTakes};
 
 use std::process::Abort;
 use vx_inst::Instrument;
@@ -45,7 +45,7 @@ pub enum Step {
 /// Hands a byte to an instrument of any kind, where it can take one.
 pub fn hand<I: Instrument>(inst: &mut I, b: u8, end: bool) -> bool
     ensures can { result ≡ takes_byte (I.behaves inst.old []) }
-    ensures takes { result ≡ true → Takes (I.behaves inst.old []) b end (I.behaves inst.new []) }
+    ensures takes { result ≡ true → InstTakes (I.behaves inst.old []) b end (I.behaves inst.new []) }
     ensures does { result ≡ true → I.behaves inst.new ≡ after (Took b end) (I.behaves inst.old) }
 {
     let can = inst.can_take();

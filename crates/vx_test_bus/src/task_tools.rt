@@ -3,7 +3,7 @@
 ghost use Rattle.std.specs.Prelude.{◌≤◌, IsTrue, length};
 ghost use Rattle.vx_calls.specs.declared.limits.TheConstants.{WRITE_MAX};
 ghost use Rattle.vx_plan.specs.Tasks.{HasBytes};
-ghost use Rattle.vx_ctrl.specs.Turns.{HasRoom};
+ghost use Rattle.vx_ctrl.specs.Turns.{TurnHasRoom};
 
 use vx_calls::{READ_MAX, WRITE_MAX};
 use vx_plan::Task;
@@ -18,7 +18,7 @@ pub fn has_bytes(task: &Task, bytes: &[u8]) -> bool
 
 /// Whether there is room for as many bytes as a job may get.
 pub fn has_room(task: &Task, room: usize) -> bool
-    ensures { IsTrue result → HasRoom task.now room }
+    ensures { IsTrue result → TurnHasRoom task.now room }
 {
     match *task {
         Task::Read { max, .. } => max.min(READ_MAX) as usize <= room,

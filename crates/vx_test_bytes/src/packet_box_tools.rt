@@ -3,7 +3,7 @@
 ghost use Rattle.std.specs.Prelude.{◌≡◌, ◌≤◌, ◌<◌, ◌+◌, Some, [], ◌∷◌, length, take, drop, map, if◌then◌else◌};
 ghost use Rattle.vx_io_traits.specs.Faults.{one_more};
 ghost use Rattle.vx_io_traits.specs.Rung.{is_up};
-ghost use Rattle.vx_portmap.specs.Boxes.{Takes, Adds};
+ghost use Rattle.vx_portmap.specs.Boxes.{MapTakes, MapAdds};
 ghost use Rattle.vx_portmap.specs.Moves.{all_taken, all_given};
 ghost use Rattle.vx_test_bytes.specs.Kept.{kept, kept_move, moved_of, given_among};
 
@@ -53,7 +53,7 @@ fn copy_front(packet: &[u8], into: &mut [u8]) -> usize
 /// Copies the front of the packet at this place.
 fn copy_at(packets: &[Vec<u8>], at: usize, into: &mut [u8]) -> usize
     requires { at < length packets.now }
-    ensures takes { Takes (length into.old) (Some (drop at (map (λ p. p.items) packets.now))) (Some (drop (at + 1) (map (λ p. p.items) packets.now)))
+    ensures takes { MapTakes (length into.old) (Some (drop at (map (λ p. p.items) packets.now))) (Some (drop (at + 1) (map (λ p. p.items) packets.now)))
         (take result into.new ∷ []) }
     ensures within { result ≤ length into.old }
 {
@@ -127,7 +127,7 @@ impl MemPackets {
     fn put(&mut self, is_given: bool, packet: &[u8]) -> bool
         ensures packets { self.new.packets ≡ self.old.packets }
         ensures at { self.new.at ≡ self.old.at }
-        ensures moved { Adds (Some (map (λ m. moved_of m.is_given m.packet.items) self.old.moved.items))
+        ensures moved { MapAdds (Some (map (λ m. moved_of m.is_given m.packet.items) self.old.moved.items))
             (Some (map (λ m. moved_of m.is_given m.packet.items) self.new.moved.items)) (kept_move result (moved_of is_given packet.now)) }
         ensures ended { self.new.ended ≡ self.old.ended }
         ensures take_faults { self.new.take_faults ≡ self.old.take_faults }
@@ -143,9 +143,9 @@ impl MemPackets {
     fn keep_taken(&mut self, packet: &[u8]) -> bool
         ensures packets { self.new.packets ≡ self.old.packets }
         ensures at { self.new.at ≡ self.old.at }
-        ensures moved { Adds (Some (map (λ m. moved_of m.is_given m.packet.items) self.old.moved.items))
+        ensures moved { MapAdds (Some (map (λ m. moved_of m.is_given m.packet.items) self.old.moved.items))
             (Some (map (λ m. moved_of m.is_given m.packet.items) self.new.moved.items)) (all_taken (kept result packet.now)) }
-        ensures given { Adds (Some (given_among (map (λ m. moved_of m.is_given m.packet.items) self.old.moved.items)))
+        ensures given { MapAdds (Some (given_among (map (λ m. moved_of m.is_given m.packet.items) self.old.moved.items)))
             (Some (given_among (map (λ m. moved_of m.is_given m.packet.items) self.new.moved.items))) [] }
         ensures ended { self.new.ended ≡ self.old.ended }
         ensures take_faults { self.new.take_faults ≡ self.old.take_faults }
@@ -158,9 +158,9 @@ impl MemPackets {
     fn keep_given(&mut self, packet: &[u8]) -> bool
         ensures packets { self.new.packets ≡ self.old.packets }
         ensures at { self.new.at ≡ self.old.at }
-        ensures moved { Adds (Some (map (λ m. moved_of m.is_given m.packet.items) self.old.moved.items))
+        ensures moved { MapAdds (Some (map (λ m. moved_of m.is_given m.packet.items) self.old.moved.items))
             (Some (map (λ m. moved_of m.is_given m.packet.items) self.new.moved.items)) (all_given (kept result packet.now)) }
-        ensures given { Adds (Some (given_among (map (λ m. moved_of m.is_given m.packet.items) self.old.moved.items)))
+        ensures given { MapAdds (Some (given_among (map (λ m. moved_of m.is_given m.packet.items) self.old.moved.items)))
             (Some (given_among (map (λ m. moved_of m.is_given m.packet.items) self.new.moved.items))) (kept result packet.now) }
         ensures ended { self.new.ended ≡ self.old.ended }
         ensures take_faults { self.new.take_faults ≡ self.old.take_faults }

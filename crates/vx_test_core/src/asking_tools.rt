@@ -1,7 +1,7 @@
 //! What a gateway over a bus in memory is asked by itself, and what comes.
 ghost use Rattle.std.specs.Prelude.{◌≡◌, true};
 ghost use Rattle.vx_calls.specs.Call.{call_shown};
-ghost use Rattle.vx_rules.specs.One.{may_wait};
+ghost use Rattle.vx_rules.specs.AtomicStep.{may_wait};
 ghost use Rattle.vx_rules.specs.Calls.{IsShort};
 
 use crate::gateway_tools::arrive;

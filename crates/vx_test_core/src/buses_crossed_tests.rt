@@ -2,10 +2,10 @@
 //! are those of RFC 5531, sections 9 and 11, and of VXI-11.
 ghost use Rattle.std.specs.Prelude.{◌≡◌, IfSome};
 ghost use Rattle.vx_calls.specs.declared.calls.Role.TheVariants as role;
-ghost use Rattle.vx_gates.specs.Four.{Each};
-ghost use Rattle.vx_gates.specs.Passing.{passes_shown, IsOf, IsFirst};
-ghost use Rattle.vx_gates.specs.Standing.{gates_shown};
-ghost use Rattle.vx_buses.specs.Holding.{four_of, Holds};
+ghost use Rattle.vx_buses.specs.Four.{Each};
+ghost use Rattle.vx_buses.specs.Passing.{passes_shown, IsOf, IsFirst};
+ghost use Rattle.vx_buses.specs.Standing.{gates_shown};
+ghost use Rattle.vx_buses.specs.Holding.{four_of, FleetHolds};
 
 use crate::buses_tools::{Bench, fleet, serve_many};
 use crate::crossing_tools::{Crossing, Flags, Pausing, Ran, Side};
@@ -14,9 +14,8 @@ use std::sync::Wait;
 use std::test::Fail;
 use std::thread::{self, Threads};
 use vx_bus_traits::Bus;
-use vx_buses::{BusPass, Buses, many_abort};
+use vx_buses::{BusPass, Buses, Passes, many_abort};
 use vx_calls::Role;
-use vx_gates::Passes;
 use vx_session::{End, Linked, Room, join};
 
 /// An abort connection to each bus, where all come up.
@@ -28,7 +27,7 @@ fn join_aborts<R: Wait, B: Bus>(
 ) -> (BusPass<B>, Option<[u32; 4]>)
     requires gates { Each IsOf (passes_shown passes) (gates_shown buses.now) }
     ensures gates { Each IsOf (passes_shown result.0) (gates_shown buses.now) }
-    ensures held { IfSome result.1 (λ conns. Holds (passes_shown result.0) (gates_shown buses.now) (four_of conns) role.Abort) }
+    ensures held { IfSome result.1 (λ conns. FleetHolds (passes_shown result.0) (gates_shown buses.now) (four_of conns) role.Abort) }
 {
     let (zero, zeroth) = join(rt, alloc, &buses.zero, passes.zero, Role::Abort);
     let (one, first) = join(rt, alloc, &buses.one, passes.one, Role::Abort);

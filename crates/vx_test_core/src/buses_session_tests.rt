@@ -6,7 +6,7 @@ use std::alloc::Global;
 use std::sync::Wait;
 use std::test::Fail;
 use vx_memory::MemLink;
-use vx_session::{End, Linked, Room, Still};
+use vx_session::{End, Linked, NoTools, Room};
 
 // create_link of `gpib2,5` and of `GPIB0,5`; device_write of `A` with END on links 3 and 2; destroy_intr_chan; create_intr_chan;
 // device_read on link 3, and on link 1 with no time; create_link of `gpib1,5` and of `gpib3,5`; device_readstb on links 1 to 4
@@ -41,7 +41,7 @@ const TOOK: [u32; 135] = [
 fn serve<R: Wait>(rt: &R, alloc: Global, link: &mut MemLink) -> Option<Linked> {
     let room = Room::new(alloc).ok()?;
     let (buses, passes) = fleet(alloc)?;
-    let mut pause = Still::new();
+    let mut pause = NoTools::new();
     let (_passes, how) = serve_many(rt, alloc, &buses, passes, link, &mut pause, room);
     Some(how)
 }

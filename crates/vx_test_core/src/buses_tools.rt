@@ -1,17 +1,17 @@
 //! Four buses, each with an echo at address 5, which has a status byte of its own, and links that they serve.
 ghost use Rattle.std.specs.Prelude.{◌≡◌, length, IfSome};
-ghost use Rattle.vx_gates.specs.Four.{Each};
-ghost use Rattle.vx_gates.specs.Passing.{passes_shown, IsOf, IsFirst};
-ghost use Rattle.vx_gates.specs.Standing.{gates_shown};
+ghost use Rattle.vx_buses.specs.Four.{Each};
+ghost use Rattle.vx_buses.specs.Passing.{passes_shown, IsOf, IsFirst};
+ghost use Rattle.vx_buses.specs.Standing.{gates_shown};
 
 use crate::run_tools::add;
 use std::alloc::Global;
 use std::sync::Wait;
 use vx_bus_traits::Bus;
-use vx_buses::{BusPass, Buses, many_link, start_buses};
+use vx_buses::{BusPass, Buses, LinkServer, many_link, start_buses};
 use vx_io_traits::{Link, Pause};
 use vx_rack::{Echo, Spare};
-use vx_session::{Linked, Room, Still};
+use vx_session::{Linked, NoTools, Room};
 use vx_sim::SimBus;
 
 pub(crate) type Bench = SimBus<Echo>;
@@ -49,6 +49,7 @@ pub(crate) fn serve_many<R: Wait, B: Bus, L: Link, P: Pause>(
     ensures { Each IsOf (passes_shown result.0) (gates_shown buses.now) }
 {
     let mut room = room;
-    let mut clock = Still::new();
-    many_link(rt, alloc, buses, passes, link, &mut clock, pause, &mut room)
+    let mut clock = NoTools::new();
+    let server = LinkServer { rt, alloc, buses };
+    many_link(&server, passes, link, &mut clock, pause, &mut room)
 }

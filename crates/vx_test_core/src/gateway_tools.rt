@@ -6,7 +6,7 @@ ghost use Rattle.vx_calls.specs.Call.{call_shown};
 ghost use Rattle.vx_core.specs.Standing.{Became};
 ghost use Rattle.vx_gate.specs.Gates.{gate_of};
 ghost use Rattle.vx_rules.specs.Calls.{IsShort};
-ghost use Rattle.vx_rules.specs.One.{may_wait};
+ghost use Rattle.vx_rules.specs.AtomicStep.{may_wait};
 ghost use Rattle.vx_sim.specs.SimState.{SimState, Through};
 
 use std::alloc::Global;

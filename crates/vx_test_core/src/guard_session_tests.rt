@@ -14,7 +14,7 @@ use vx_gate::{Pass, Turns};
 use vx_guard::{GuardEnd, GuardRoom, guarded_session};
 use vx_memory::{MemDoor, MemSink};
 use vx_policy::Policy;
-use vx_session::{End, Still, join};
+use vx_session::{End, NoTools, join};
 
 /// Rules, what a peer of 127.0.0.1 sends, which writes to the note fail, how its session ends, what it is sent, and the note.
 #[derive(Clone, Copy)]
@@ -143,9 +143,9 @@ fn serve_at<R: Wait, B: Bus, T: Turns<Core<B>>>(
         return None;
     };
     let Outside { door, room, note } = outside;
-    let mut clock = Still::new();
-    let mut pause = Still::new();
-    let mut dial = Still::new();
+    let mut clock = NoTools::new();
+    let mut pause = NoTools::new();
+    let mut dial = NoTools::new();
     let (_pass, how) = guarded_session(
         rt, turns, pass, conn, policy, door, &mut clock, &mut pause, &mut dial, room, note,
     );

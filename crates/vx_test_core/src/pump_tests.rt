@@ -3,7 +3,7 @@
 ghost use Rattle.std.specs.Prelude.{◌≡◌, ◌≤◌, true, length, IfSome};
 ghost use Rattle.vx_calls.specs.Call.{call_shown};
 ghost use Rattle.vx_calls.specs.declared.calls.Role.TheVariants as role;
-ghost use Rattle.vx_rules.specs.One.{may_wait};
+ghost use Rattle.vx_rules.specs.AtomicStep.{may_wait};
 ghost use Rattle.vx_rules.specs.Calls.{IsShort};
 ghost use Rattle.vx_exchange.specs.declared.record.TheConstants.{REPLY_ROOM};
 ghost use Rattle.vx_group.specs.Phases.{Idle};
@@ -20,7 +20,7 @@ use vx_core::Core;
 use vx_exchange::{PollEnd, REPLY_ROOM};
 use vx_gate::{Pass, Turns};
 use vx_memory::{MemClock, MemLink};
-use vx_session::{PumpEnd, come, join, pump, sample_turn, settle};
+use vx_session::{PumpEnd, Request, Worker, come, join, pump, sample_turn, settle};
 
 /// Has a call answered that waits for nothing.
 fn ask<R: Wait, B: Bus, T: Turns<Core<B>>>(
@@ -40,7 +40,13 @@ fn ask<R: Wait, B: Bus, T: Turns<Core<B>>>(
     ensures phase { IfSome result (λ p. phase_at p conn ≡ Idle role.Core) }
     ensures len { length reply.new ≡ length reply.old }
 {
-    match come(rt, turns, pass, conn, 1, call, 0, reply) {
+    let worker = Worker {
+        rt,
+        turns,
+        conn,
+        role: Role::Core,
+    };
+    match come(&worker, pass, &Request { xid: 1, call }, 0, reply) {
         (pass, PollEnd::Replied { .. }) => Some(pass),
         _ => None,
     }
@@ -68,8 +74,18 @@ fn make_channel<R: Wait, B: Bus, T: Turns<Core<B>>>(
         vers: 1,
         family: 0,
     };
-    match come(rt, turns, pass, conn, 2, &channel, 0, reply) {
-        (pass, PollEnd::Dial { .. }) => Some(settle(rt, turns, pass, conn, 2, true, 0, reply).0),
+    let worker = Worker {
+        rt,
+        turns,
+        conn,
+        role: Role::Core,
+    };
+    let request = Request {
+        xid: 2,
+        call: &channel,
+    };
+    match come(&worker, pass, &request, 0, reply) {
+        (pass, PollEnd::Dial { .. }) => Some(settle(&worker, pass, 2, true, 0, reply).0),
         _ => None,
     }
 }

@@ -7,7 +7,7 @@ use std::alloc::{AllocError, Global};
 use vx_inst::Instrument;
 use vx_memory::{MemDoor, MemLink, MemSink, MemStreams};
 use vx_rack::{Echo, Spare};
-use vx_session::{Still, Tools};
+use vx_session::{NoTools, Tools};
 
 /// Clocks that tell moment 0, no pauses, and dials that stand.
 #[derive(Drop)]
@@ -16,24 +16,24 @@ pub(crate) struct StillTools {
 }
 
 impl Tools for StillTools {
-    type C = Still;
+    type C = NoTools;
 
-    type P = Still;
+    type P = NoTools;
 
-    type D = Still;
+    type D = NoTools;
 
     type S = MemStreams<MemLink>;
 
-    fn clock(&mut self) -> Still {
-        Still::new()
+    fn clock(&mut self) -> NoTools {
+        NoTools::new()
     }
 
-    fn pause(&mut self) -> Still {
-        Still::new()
+    fn pause(&mut self) -> NoTools {
+        NoTools::new()
     }
 
-    fn dial(&mut self) -> Still {
-        Still::new()
+    fn dial(&mut self) -> NoTools {
+        NoTools::new()
     }
 
     fn streams(&mut self) -> MemStreams<MemLink> {

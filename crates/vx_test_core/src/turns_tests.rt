@@ -11,7 +11,7 @@ use vx_calls::{CallRef, Role, Taken};
 use vx_core::Core;
 use vx_exchange::{PollEnd, REPLY_ROOM};
 use vx_gate::{Pass, Turns};
-use vx_session::{come, join, leave, sample, take};
+use vx_session::{Request, Worker, come, join, leave, sample, take};
 
 /// The reply of xid 1: accepted, no verifier, success; no error, link 1, the abort port, and 262,144 bytes at most.
 const LINKED: &[u8; 44] =
@@ -38,7 +38,17 @@ fn link_once<R: Wait, B: Bus, T: Turns<Core<B>>>(
         lock_timeout: 0,
         device: b"gpib0,5",
     };
-    let (pass, end) = come(rt, turns, pass, conn, 1, &call, 5, reply);
+    let worker = Worker {
+        rt,
+        turns,
+        conn,
+        role: Role::Core,
+    };
+    let request = Request {
+        xid: 1,
+        call: &call,
+    };
+    let (pass, end) = come(&worker, pass, &request, 5, reply);
     let _pass = leave(rt, turns, pass, conn);
     match end {
         PollEnd::Replied { len, .. } => (conn, len),

@@ -2,7 +2,7 @@
 
 ghost use Rattle.std.specs.Prelude.{◌≡◌, IfSome};
 ghost use Rattle.vx_sim.specs.Means.{first_means};
-ghost use Rattle.vx_core.specs.FineState.{first_fine};
+ghost use Rattle.vx_core.specs.InterleavedState.{first_interleaved};
 ghost use Rattle.vx_loop.specs.LoopState.{IsUnconnected};
 
 use crate::client_run_tests::line_words;
@@ -65,8 +65,8 @@ fn bus_of(alloc: Global, is_late: bool) -> Option<SimBus<Echo>>
 
 /// A new gateway is told the last moment, where it is to be late.
 fn tell<I: Instrument>(core: &mut Core<SimBus<I>>, is_late: bool)
-    requires { core.old.fine ≡ first_fine 9011 }
-    ensures { IsUnconnected core.new.fine }
+    requires { core.old.interleaved ≡ first_interleaved 9011 }
+    ensures { IsUnconnected core.new.interleaved }
 {
     if !is_late {
         return;
@@ -77,7 +77,7 @@ fn tell<I: Instrument>(core: &mut Core<SimBus<I>>, is_late: bool)
 /// A gateway over a bus.
 fn gateway<I: Instrument>(alloc: Global, bus: SimBus<I>, is_late: bool) -> Option<Core<SimBus<I>>>
     requires { bus.means ≡ first_means }
-    ensures { IfSome result (λ core. IsUnconnected core.fine) }
+    ensures { IfSome result (λ core. IsUnconnected core.interleaved) }
 {
     let mut core = Core::start(alloc, bus, 9011).ok()?;
     tell(&mut core, is_late);

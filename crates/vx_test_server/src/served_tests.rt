@@ -499,38 +499,53 @@ pub(crate) struct Ends {
     pub bytes: [u64; 3],
 }
 
-/// Runs a server over this net, and answers its status and the number of its tally.
-fn run_over<R: Wait, W: Spawner<Job>>(
-    rt: &R,
-    alloc: Global,
-    words: &[String],
-    source: &mut MemSource,
-    net: &mut MemNet<Comparing>,
-    spawner: &mut W,
-    tools: &mut Bag,
-    sink: &mut MemSink,
-) -> Option<(u8, u64)> {
-    let rack = askers(alloc)?;
-    let (status, tally) = serve_run(rt, alloc, words, source, net, spawner, tools, sink, rack);
-    Some((status, tally.number()))
+/// What the server of a row runs with: its words, the source of its bench, its net, and its tools.
+#[derive(Drop)]
+struct Setting {
+    words: Vec<String>,
+    source: MemSource,
+    net: MemNet<Comparing>,
+    tools: Bag,
 }
 
-/// Runs the server of a row with these words and this bench.
+fn setting_of(
+    alloc: Global,
+    row: &Row,
+    counts: &Arc<Counts, Global>,
+) -> Result<Setting, AllocError> {
+    let words = words_of(alloc, row)?;
+    let source = source_of(alloc, row)?;
+    let net = net_of(alloc, row, counts)?;
+    let tools = bag_of(alloc, row, counts)?;
+    Ok(Setting {
+        words,
+        source,
+        net,
+        tools,
+    })
+}
+
+/// Runs a server with these, and answers its status and the number of its tally.
 fn run_with<R: Wait, W: Spawner<Job>>(
     rt: &R,
     alloc: Global,
-    words: &[String],
-    source: &mut MemSource,
-    row: &Row,
-    counts: &Arc<Counts, Global>,
+    setting: &mut Setting,
     spawner: &mut W,
     sink: &mut MemSink,
 ) -> Option<(u8, u64)> {
-    let mut net = net_of(alloc, row, counts).ok()?;
-    let mut tools = bag_of(alloc, row, counts).ok()?;
-    run_over(
-        rt, alloc, words, source, &mut net, spawner, &mut tools, sink,
-    )
+    let rack = askers(alloc)?;
+    let (status, tally) = serve_run(
+        rt,
+        alloc,
+        setting.words.as_slice(),
+        &mut setting.source,
+        &mut setting.net,
+        spawner,
+        &mut setting.tools,
+        sink,
+        rack,
+    );
+    Some((status, tally.number()))
 }
 
 /// Runs the server of a row.
@@ -542,18 +557,8 @@ fn run<R: Wait, W: Spawner<Job>>(
     spawner: &mut W,
     sink: &mut MemSink,
 ) -> Option<(u8, u64)> {
-    let words = words_of(alloc, row).ok()?;
-    let mut source = source_of(alloc, row).ok()?;
-    run_with(
-        rt,
-        alloc,
-        words.as_slice(),
-        &mut source,
-        row,
-        counts,
-        spawner,
-        sink,
-    )
+    let mut setting = setting_of(alloc, row, counts).ok()?;
+    run_with(rt, alloc, &mut setting, spawner, sink)
 }
 
 /// Whether each line that is due in the log comes once, and no other was written.

@@ -9,7 +9,7 @@ use Rattle.vx_calls.specs.Reply as reply
 use Rattle.vx_488.specs.declared.transfers.Transfer.TheVariants.{Put}
 use Rattle.vx_rules.specs.Entry as entry
 use Rattle.vx_flow.specs.Event.{Event, Up, Down, Arrive, Answer, Abort, Sample, Begin, Move}
-use Rattle.vx_flow.specs.Gather.{gather}
+use Rattle.vx_flow.specs.Linearization.{linearization}
 use Rattle.vx_test_tables.specs.Lists.{changed, first, behind, refused_at, part, device, interface, linked, puts, answered, write}
 use Rattle.vx_test_tables.specs.Turns.{shared, address}
 
@@ -67,8 +67,8 @@ pub record ConnectionsGo : Type 0 where
   pub allowed : refused_at cut ≡ None
   pub gone : part (λ f. f.turn) (first 11 cut) ≡ Some None
   pub bus_stays : part (λ f. f.before.listeners) (first 12 cut) ≡ Some (address 5 ∷ [])
-  -- its end gathers what it had done
-  pub gathers : gather (behind 8 cut)
+  -- its end linearizes what it had done
+  pub linearizes : linearization (behind 8 cut)
       ≡ entry.Down 1 (puts 5 65 false) ∷ entry.Answer 2 25 24 (puts 7 67 true) false None false (reply.Write code.Ok 1) ∷ []
   -- the other connection goes: the turn stays, and no other begins
   pub other_gone : refused_at (changed 11 (Down 2) cut) ≡ Some 12

@@ -10,11 +10,11 @@ use Rattle.vx_calls.specs.Reply.{Reply}
 use Rattle.vx_calls.specs.Reply as reply
 use Rattle.vx_488.specs.declared.transfers.Transfer.TheVariants.{Put}
 use Rattle.vx_rules.specs.Entry as entry
-use Rattle.vx_rules.specs.One.{one}
+use Rattle.vx_rules.specs.AtomicStep.{atomic_step}
 use Rattle.vx_rules.specs.Legal.{legal_state}
 use Rattle.vx_flow.specs.Event.{Event, Up, Down, Arrive, Abort, Begin, Move}
-use Rattle.vx_flow.specs.FineState.{Turn}
-use Rattle.vx_flow.specs.Gather.{gather}
+use Rattle.vx_flow.specs.InterleavedState.{Turn}
+use Rattle.vx_flow.specs.Linearization.{linearization}
 use Rattle.vx_flow.specs.declared.progress.Why.TheVariants as why
 use Rattle.vx_test_tables.specs.Lists.{changed, first, refused_at, part, device, interface, create, made, linked, puts, answered, write}
 use Rattle.vx_test_tables.specs.Locks.{done}
@@ -192,13 +192,13 @@ began_late more = freed (lock 2) (late_write 3) (
     -- 17, 18
     Begin 3 1000 ∷ Move 3 (puts 5 65 false) ∷ more)
 
--- whether a list gathers to a history of the gateway of one thread
+-- whether a list linearizes to a history of the gateway of one thread
 abbrev pub is_legal : List Event → Bool
-is_legal es = is_some (legal_state 9011 (gather es))
+is_legal es = is_some (legal_state 9011 (linearization es))
 
 -- whether the gateway of one thread takes this entry behind a list
 abbrev pub is_taken : entry.Entry → List Event → Option Bool
-is_taken e es = part (λ f. is_some (one f.state e)) es
+is_taken e es = part (λ f. is_some (atomic_step f.state e)) es
 
 -- connection 3 goes down, or its call is answered as a marked one, behind the first byte of its write
 abbrev pub leaves : entry.Entry
@@ -235,10 +235,10 @@ pub record TurnsStandInLine : Type 0 where
   pub marked_in_line : is_taken (ends_marked 999) (freed (lock 2) (late_write 3) (Abort 4 3 code.Ok ∷ [])) ≡ Some false
   pub marked_late : is_taken (ends_marked 1000) (freed (lock 2) (late_write 3) (Abort 4 3 code.Ok ∷ [])) ≡ Some true
   pub marked_free : is_taken (ends_marked 0) (freed (lock 2) (late_write 3) (Abort 4 2 code.Ok ∷ Abort 4 3 code.Ok ∷ [])) ≡ Some true
-  -- so it is for a turn that began as the other's time was over, though its beginning, and with it the moment, isn't gathered
+  -- so it is for a turn that began as the other's time was over, though its beginning, and with it the moment, isn't linearized
   pub late_goes : refused_at (began_late (Down 3 ∷ [])) ≡ None
   pub late_goes_legal : is_legal (began_late (Down 3 ∷ [])) ≡ true
   pub late_stopped : refused_at (began_late (Abort 4 3 code.Ok ∷ answered 3 1000 (reply.Write code.Abort 1) ∷ [])) ≡ None
   pub late_stopped_legal : is_legal (began_late (Abort 4 3 code.Ok ∷ answered 3 1000 (reply.Write code.Abort 1) ∷ [])) ≡ true
-  -- and what came in a turn, of a call that may wait itself, gathers behind that call
+  -- and what came in a turn, of a call that may wait itself, linearizes behind that call
   pub beside_legal : is_legal (beside_turn (late_write 3)) ≡ true

@@ -9,9 +9,9 @@ use Rattle.vx_calls.specs.Reply as reply
 use Rattle.vx_488.specs.declared.transfers.Transfer.{Transfer}
 use Rattle.vx_488.specs.declared.transfers.Transfer.TheVariants.{Cmd, Put}
 use Rattle.vx_flow.specs.Event.{Event, Arrive, Answer}
-use Rattle.vx_flow.specs.FineState.{FineState, first_fine}
-use Rattle.vx_flow.specs.Fine.{fine}
-use Rattle.vx_flow.specs.Laws.{fine_along}
+use Rattle.vx_flow.specs.InterleavedState.{InterleavedState, first_interleaved}
+use Rattle.vx_flow.specs.InterleavedStep.{interleaved_step}
+use Rattle.vx_flow.specs.Laws.{interleaved_along}
 
 -- the list with another event at this place, counted from 1
 abbrev pub changed : ℕ → Event → List Event → List Event
@@ -32,17 +32,17 @@ behind zero (x ∷ xs) = x ∷ xs
 behind (suc n) (x ∷ xs) = behind n xs
 
 -- the place, counted from 1, of the first event that isn't allowed; none where all are
-abbrev pub refused_from : ℕ → Option FineState → List Event → Option ℕ
+abbrev pub refused_from : ℕ → Option InterleavedState → List Event → Option ℕ
 refused_from n None es = Some n
 refused_from n (Some f) [] = None
-refused_from n (Some f) (e ∷ es) = refused_from (n + 1) (fine f e) es
+refused_from n (Some f) (e ∷ es) = refused_from (n + 1) (interleaved_step f e) es
 
 abbrev pub refused_at : List Event → Option ℕ
-refused_at es = refused_from 0 (Some (first_fine 9011)) es
+refused_at es = refused_from 0 (Some (first_interleaved 9011)) es
 
 -- a part of the state behind a list, where all of it is allowed
-abbrev pub part : {X : Type 0} → (FineState → X) → List Event → Option X
-part pick es = option_map pick (fine_along 9011 es)
+abbrev pub part : {X : Type 0} → (InterleavedState → X) → List Event → Option X
+part pick es = option_map pick (interleaved_along 9011 es)
 
 -- the device texts gpib0,5, where the digit is 53, and gpib0
 abbrev pub device : ℕ → List ℕ

@@ -7,12 +7,12 @@ use Rattle.vx_488.specs.declared.transfers.Transfer.{Transfer}
 use Rattle.vx_488.specs.declared.transfers.Transfer.TheVariants.{Put}
 use Rattle.vx_rules.specs.State.{Pending, pending_at}
 use Rattle.vx_flow.specs.Event.{Event, Begin, Move}
-use Rattle.vx_flow.specs.FineState.{FineState}
+use Rattle.vx_flow.specs.InterleavedState.{InterleavedState}
 use Rattle.vx_flow.specs.Poll.{Ending, Answered, Waited, EndsBy, FitsSlice, run_events}
 use Rattle.vx_flow.specs.declared.progress.Ran.TheVariants as ran
 use Rattle.vx_flow.specs.declared.progress.Why.{Why}
 use Rattle.vx_flow.specs.declared.progress.Why.TheVariants as why
-use Rattle.vx_flow.specs.Laws.{fine_along}
+use Rattle.vx_flow.specs.Laws.{interleaved_along}
 use Rattle.vx_test_tables.specs.Lists.{first, part, puts}
 use Rattle.vx_test_tables.specs.Turns.{shared}
 use Rattle.vx_test_tables.specs.Ends.{held}
@@ -23,16 +23,16 @@ abbrev pub polled : ℕ → ℕ → List Transfer → List Event → Option (Lis
 polled conn now moves es = part (λ f. run_events f conn now moves) es
 
 -- behind these events a poll of the connection's call may end so
-abbrev pub EndsOn : FineState → ℕ → ℕ → Ending → Option Pending → Type 0
+abbrev pub EndsOn : InterleavedState → ℕ → ℕ → Ending → Option Pending → Type 0
 EndsOn f conn now ending None = ⊥
 EndsOn f conn now ending (Some p) = EndsBy f conn now p ending
 
-abbrev pub EndsIn : ℕ → ℕ → Ending → Option FineState → Type 0
+abbrev pub EndsIn : ℕ → ℕ → Ending → Option InterleavedState → Type 0
 EndsIn conn now ending None = ⊥
 EndsIn conn now ending (Some f) = EndsOn f conn now ending (pending_at f.state.tables conn)
 
 abbrev pub Ends : ℕ → ℕ → Ending → List Event → Type 0
-Ends conn now ending es = EndsIn conn now ending (fine_along 9011 es)
+Ends conn now ending es = EndsIn conn now ending (interleaved_along 9011 es)
 
 -- without an answer, for this cause
 abbrev pub Waits : ℕ → ℕ → Why → List Event → Type 0

@@ -9,8 +9,8 @@ use Rattle.vx_488.specs.declared.transfers.Transfer.{Transfer}
 use Rattle.vx_488.specs.declared.transfers.Transfer.TheVariants.{Cmd, Put, Own}
 use Rattle.vx_rules.specs.Entry as entry
 use Rattle.vx_flow.specs.Event.{Event, Up, Down, Arrive, Sample, Begin, Move}
-use Rattle.vx_flow.specs.FineState.{Turn}
-use Rattle.vx_flow.specs.Gather.{gather}
+use Rattle.vx_flow.specs.InterleavedState.{Turn}
+use Rattle.vx_flow.specs.Linearization.{linearization}
 use Rattle.vx_test_tables.specs.Lists.{changed, first, behind, refused_at, part, device, interface, linked, puts, answered, write}
 
 -- connection 1 writes AB with END to device 5 in two moves, and connection 2 then C with END to device 7
@@ -104,17 +104,17 @@ entry_1 now begun moves = entry.Answer 1 now begun moves false None false (reply
 abbrev pub entry_2 : entry.Entry
 entry_2 = entry.Answer 2 26 25 (puts 7 67 true) false None false (reply.Write code.Ok 1)
 
-pub record EachTurnGathers : Type 0 where
+pub record EachTurnLinearizes : Type 0 where
   -- from the ninth event on: each answer once, with the beginning and all transfers of its turn
-  pub whole : gather (behind 8 shared) ≡ entry.Sample 23 false ∷ entry_1 24 22 both ∷ entry_2 ∷ []
+  pub whole : linearization (behind 8 shared) ≡ entry.Sample 23 false ∷ entry_1 24 22 both ∷ entry_2 ∷ []
   -- an answer between the moves has those before it
-  pub between : gather (behind 8 (changed 12 (answered 1 23 (reply.Write code.Ok 2)) (first 12 shared)))
+  pub between : linearization (behind 8 (changed 12 (answered 1 23 (reply.Write code.Ok 2)) (first 12 shared)))
       ≡ entry.Sample 23 false ∷ entry_1 23 22 (puts 5 65 false) ∷ []
   -- without a beginning it has no transfers, and 0 for its beginning
-  pub unbegun : gather (behind 8 (changed 9 (Sample 22 false) shared))
+  pub unbegun : linearization (behind 8 (changed 9 (Sample 22 false) shared))
       ≡ entry.Sample 22 false ∷ entry.Sample 23 false ∷ entry_1 24 0 [] ∷ entry_2 ∷ []
   -- the connection's end takes them in the answer's place; the other's end takes none
-  pub ended : gather (behind 8 (changed 13 (Down 1) shared))
+  pub ended : linearization (behind 8 (changed 13 (Down 1) shared))
       ≡ entry.Sample 23 false ∷ entry.Down 1 both ∷ entry_2 ∷ []
-  pub other_ended : gather (behind 8 (changed 13 (Down 2) shared))
+  pub other_ended : linearization (behind 8 (changed 13 (Down 2) shared))
       ≡ entry.Sample 23 false ∷ entry.Down 2 [] ∷ entry_2 ∷ []

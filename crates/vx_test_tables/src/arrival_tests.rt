@@ -2,7 +2,7 @@ use Asks::{Create, Lock, Unlock, Write};
 use Row::{Come, Ends, First, Gone, Marked, Own, Says, Served};
 use std::alloc::Global;
 use vx_calls::{CallRef, ErrorCode, Role};
-use vx_tables::{Admission, Bar, NoMemory, Tables, may_wait};
+use vx_state::{Admission, Bar, NoMemory, Tables, may_wait};
 
 /// A call, on the link of its first number where it isn't a create_link.
 #[derive(Clone, Copy)]

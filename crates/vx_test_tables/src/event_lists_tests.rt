@@ -2,7 +2,7 @@
 //! is another, which are refused. They stand in `specs/`, and the check computes them: a contract here holds only if
 //! each of its rows does.
 
-ghost use Rattle.vx_test_tables.specs.Turns.{OneTurnAtATime, EachTurnGathers};
+ghost use Rattle.vx_test_tables.specs.Turns.{OneTurnAtATime, EachTurnLinearizes};
 ghost use Rattle.vx_test_tables.specs.Ends.{ConnectionsGo, CallsAreAborted, TurnsStop};
 ghost use Rattle.vx_test_tables.specs.Locks.{LocksBesideATurn, LocksWait, LocksKeepOff};
 ghost use Rattle.vx_test_tables.specs.Interrupts.{EachAnswerHasItsDial, EachRiseQueuesOne};
@@ -11,12 +11,12 @@ ghost use Rattle.vx_test_tables.specs.Claims.{ClaimsTell};
 ghost use Rattle.vx_test_tables.specs.Arrivals.{CallsStandInLine};
 ghost use Rattle.vx_test_tables.specs.InLine.{EarlierCallsComeFirst, WaitersCount, LaterCallsAreKeptOff, TurnsStandInLine};
 
-use vx_flow::headline_law;
+use vx_flow::claims_law;
 
-/// One turn at a time is on the bus, and each gathers to one entry.
+/// One turn at a time is on the bus, and each linearizes to one entry.
 pub fn turns()
     ensures events { OneTurnAtATime }
-    ensures entries { EachTurnGathers }
+    ensures entries { EachTurnLinearizes }
 {}
 
 /// Turns that end without a result.
@@ -63,5 +63,5 @@ pub fn in_line()
 pub fn claims()
     ensures { ClaimsTell }
 {
-    headline_law();
+    claims_law();
 }

@@ -1,7 +1,7 @@
 use Step::{Aborts, Connects, Disconnect, Next, Shows};
 use std::alloc::Global;
 use vx_calls::{ErrorCode, Role};
-use vx_tables::{NoMemory, Tables};
+use vx_state::{NoMemory, Tables};
 
 /// A call, and what it is to answer.
 #[derive(Clone, Copy)]

@@ -1,8 +1,9 @@
 -- Cutting the first line off a text.
 use Rattle.std.proofs.Common.{◌≡◌, ℕ, suc, ◌+◌, ◌<◌, ◌≤◌, ◌==◌, nat_lt, Bool, true, false, cond, not, List, [], ◌∷◌, length, take, drop, Some, None, refl, ap, arith}
 use Rattle.std.proofs.lemmas.Bool.{ltb-true, ltb-false}
+use Rattle.std.proofs.lemmas.Option.{same_Some}
 use Rattle.std.specs.List.{onto_first, position, position_or_len}
-use Rattle.vx_lemmas.specs.Conditions.{unchosen}
+use Rattle.vx_lemmas.proofs.Laws.Conditions.{chosen, unchosen}
 use Rattle.vx_text.specs.TextLines.{lines}
 
 -- where the first LF stands, or the length
@@ -40,18 +41,14 @@ lines_alone : (xs : List ℕ) → 0 < length xs → length xs ≤ end_or_len xs 
 lines_alone [] some le = absurd (omega arith)
 lines_alone (x ∷ xs) some le = alone_more x xs (x == 10) (end_or_len xs) (lines_alone xs) le
 
--- the value of a choice that is there
-chosen : (b : Bool) (m n : ℕ) → cond b (Some m) None ≡ Some n → (b ≡ true) × (m ≡ n)
-chosen true m n e = (refl, cc)
-chosen false m n e = absurd (cc)
-
 -- the first line of a text with an LF
 pub lines-found : (xs : List ℕ) (n : ℕ) → position (λ byte. byte == 10) xs ≡ Some n
     → lines xs ≡ take n xs ∷ lines (drop (n + 1) xs)
 lines-found xs n e =
-    let at = chosen (nat_lt (end_or_len xs) (length xs)) (end_or_len xs) n e in
+    let at = chosen (nat_lt (end_or_len xs) (length xs)) (Some (end_or_len xs)) n e in
+    let is : end_or_len xs ≡ n = same_Some (end_or_len xs) n at.1 in
     let next : n + 1 ≡ suc n = omega arith in
-    rw (next, ← at.1) (lines_found xs (ltb-true _ _ at.0))
+    rw (next, ← is) (lines_found xs (ltb-true _ _ at.0))
 
 -- the only line of a text without an LF
 pub lines-alone : (xs : List ℕ) → 0 < length xs → position (λ byte. byte == 10) xs ≡ None → lines xs ≡ xs ∷ []

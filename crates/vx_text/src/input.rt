@@ -1,6 +1,7 @@
 //! A source read to its end.
 ghost use Rattle.std.specs.Prelude.{◌≡◌, ◌≤◌, ◌<◌, length, IfOk};
 ghost use Rattle.std.specs.List.{All};
+ghost use Rattle.vx_text.specs.Ends.{source_shown};
 ghost use Rattle.vx_text.specs.Reading.{IsInput, IsPiece};
 
 use std::alloc::{AllocError, Global};
@@ -41,8 +42,7 @@ pub fn zeros(alloc: Global, len: usize) -> Result<Vec<u8>, AllocError>
 fn read_piece<S: Source>(source: &mut S, room: &mut [u8], bytes: &mut Vec<u8>) -> Piece
     requires { 0 < length room.old }
     ensures read { IsPiece (length room.old) bytes.old.items bytes.new.items
-        (record { bytes = S.left source.old; faults = S.faults source.old })
-        (record { bytes = S.left source.new; faults = S.faults source.new }) result }
+        (source_shown S.Source source.old) (source_shown S.Source source.new) result }
     ensures counted { S.faults source.old ≤ S.faults source.new }
 {
     match source.read(room) {
@@ -58,8 +58,7 @@ fn read_piece<S: Source>(source: &mut S, room: &mut [u8], bytes: &mut Vec<u8>) -
 /// Reads a source to its end, or up to one byte more than `most`.
 pub fn read_all<S: Source>(alloc: Global, source: &mut S, most: usize) -> Input
     ensures read { IsInput most
-        (record { bytes = S.left source.old; faults = S.faults source.old })
-        (record { bytes = S.left source.new; faults = S.faults source.new }) result }
+        (source_shown S.Source source.old) (source_shown S.Source source.new) result }
     ensures counted { S.faults source.old ≤ S.faults source.new }
 {
     let mut bytes = Vec::new(alloc);

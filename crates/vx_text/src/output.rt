@@ -1,5 +1,6 @@
 //! A text written to its end.
 ghost use Rattle.std.specs.Prelude.{◌≤◌};
+ghost use Rattle.vx_text.specs.Ends.{sink_shown};
 ghost use Rattle.vx_text.specs.Writing.{IsPut};
 
 use vx_io_traits::{Sink, WriteOut};
@@ -11,8 +12,7 @@ pub struct SinkFailed;
 /// Writes all of a text.
 pub fn put_all<K: Sink>(sink: &mut K, text: &[u8]) -> Result<(), SinkFailed>
     ensures put { IsPut
-        (record { bytes = K.taken sink.old; faults = K.faults sink.old })
-        (record { bytes = K.taken sink.new; faults = K.faults sink.new }) text.now result }
+        (sink_shown K.Sink sink.old) (sink_shown K.Sink sink.new) text.now result }
     ensures counted { K.faults sink.old ≤ K.faults sink.new }
 {
     let mut done = 0;

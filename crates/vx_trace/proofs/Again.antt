@@ -17,7 +17,7 @@ use Rattle.vx_trace.specs.Reading.{cut, is_lower_digit, number_of, of_letter, le
 use Rattle.vx_trace.proofs.Hexadecimal.{all-bytes, upper-plain, upper-lower, any-bytes-again, bytes-again, byte-again}
 use Rattle.vx_trace.proofs.Cuts.{is_plain, cut-again, cut_plain}
 use Rattle.vx_trace.proofs.Numbers.{number-again, decimal-plain}
-use Rattle.vx_lemmas.specs.Conditions.{same_bytes}
+use Rattle.vx_lemmas.proofs.Laws.Conditions.{same_bytes}
 use Rattle.vx_trace.proofs.Moves.{moves-cut, moves-last}
 
 -- ---- transfers

@@ -8,7 +8,7 @@ use Rattle.vx_trace.specs.Output.{Output, line_shown}
 use Rattle.vx_trace.specs.Text.{IsLine, is_first, is_timed, line_text, line_text2}
 use Rattle.vx_trace.specs.Reading.{without_end, line1_of, reading1, line2_of, reading2}
 use Rattle.std.proofs.lemmas.List.{take-append-drop}
-use Rattle.vx_lemmas.specs.Conditions.{same_bytes}
+use Rattle.vx_lemmas.proofs.Laws.Conditions.{same_bytes}
 use Rattle.vx_trace.proofs.Again.{end-again}
 use Rattle.vx_trace.proofs.Versions.{shown, reading1-again, reading1-read, reading2-again, reading2-read}
 

@@ -5,7 +5,7 @@ use Rattle.std.specs.List.{list_all, list_any}
 use Rattle.std.specs.Str.{bytes_eq}
 use Rattle.std.proofs.lemmas.Bool.{and_parts, or_cases, leb-true}
 use Rattle.vx_trace.specs.Text.{cause_words, is_cause}
-use Rattle.vx_lemmas.specs.Conditions.{same_bytes}
+use Rattle.vx_lemmas.proofs.Laws.Conditions.{same_bytes}
 
 -- a word that is one of some names is as short as they are
 short-of : (bound : ℕ) (names : List (List ℕ)) (word : List ℕ) → list_all (λ name. nat_le (length name) bound) names ≡ true → list_any (λ name. bytes_eq name word) names ≡ true → length word ≤ bound

@@ -15,7 +15,7 @@ use Rattle.vx_trace.proofs.Hexadecimal.{all-bytes, upper-plain}
 use Rattle.vx_trace.proofs.Cuts.{is_plain}
 use Rattle.vx_trace.proofs.Numbers.{decimal-plain}
 use Rattle.vx_trace.proofs.Again.{transfer-plain}
-use Rattle.vx_lemmas.specs.Conditions.{same_bytes}
+use Rattle.vx_lemmas.proofs.Laws.Conditions.{same_bytes}
 
 abbrev is_other : ℕ → Bool
 is_other b = not (b == 10)

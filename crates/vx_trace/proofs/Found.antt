@@ -16,7 +16,7 @@ use Rattle.vx_trace.specs.Text.{transfer_text, moves_text, role_text, line_text,
 use Rattle.vx_trace.specs.Reading.{cut, number_of, byte_of, any_bytes_of, bytes_of, of_letter, lettered, transfer_of, with_transfer, all_transfers, moves_of, irq_of, wait_for, wait_of, gone_of, role_of, dial_of, by_word, begin_of, fault_for, fault_of, behind_word, numbered_of, line_of, without_end}
 use Rattle.vx_trace.proofs.Hexadecimal.{bytes-all, any-bytes-read, bytes-read, byte-read}
 use Rattle.vx_trace.proofs.Cuts.{is_space, cut-some}
-use Rattle.vx_lemmas.specs.Conditions.{by_test, by_text}
+use Rattle.vx_lemmas.proofs.Laws.Conditions.{by_test, by_text}
 use Rattle.vx_trace.proofs.Choices.{by_map, by_then}
 use Rattle.vx_trace.proofs.Numbers.{number-read}
 

@@ -12,10 +12,10 @@ use Rattle.hex.specs.Hex.{IsBytes, decode_of, decode_pairs, decode_sized, digit_
 use Rattle.hex.specs.declared.error.FromHexError.{FromHexError}
 use Rattle.hex.specs.declared.error.FromHexError.TheVariants.{OddLength, InvalidStringLength}
 use Rattle.hex.proofs.HexLemmas.{decode_of-encode_upper, decode_pairs-encode_with, decode_pairs-ok, IsDigits-upper_digits}
-use Rattle.vx_lemmas.specs.Hexadecimal.{length_upper}
+use Rattle.vx_lemmas.proofs.Laws.Hexadecimal.{length_upper}
 use Rattle.vx_trace.specs.Reading.{is_lower_digit, any_bytes_of, bytes_of, byte_of, first_of}
 use Rattle.vx_trace.proofs.Cuts.{is_plain}
-use Rattle.vx_lemmas.specs.Conditions.{by_test}
+use Rattle.vx_lemmas.proofs.Laws.Conditions.{by_test}
 
 -- ---- the digits of a text
 

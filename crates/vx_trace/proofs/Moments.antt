@@ -5,7 +5,7 @@ use Rattle.std.specs.List.{list_all}
 use Rattle.std.proofs.lemmas.Bool.{and_parts, both_ways}
 use Rattle.std.proofs.lemmas.Fmt.{digits_decimal, decimal_nonempty}
 use Rattle.std.proofs.lemmas.Option.{some_pair_parts}
-use Rattle.vx_lemmas.specs.Decimal.{own}
+use Rattle.vx_lemmas.proofs.Laws.Decimal.{own}
 use Rattle.vx_trace.specs.Output.{Output, Bus, Out, Irq, IrqNone, IrqClosed, WaitLock, WaitTurn, WaitBehind, WaitHeld, WaitSlice, WaitDial, GoneDown, GoneJunk, GoneLong, Done, FaultLine, FaultLong, Usage, TraceHead, Up, Call, Begin, DialDone, Srq}
 use Rattle.vx_trace.specs.Text.{line_text}
 use Rattle.vx_trace.specs.Reading.{cut, is_digit, number_of, moment_of}

@@ -3,7 +3,7 @@ use Rattle.std.proofs.Common.{◌≡◌, ℕ, ◌+◌, ◌<◌, ◌≤◌, Bool,
 use Rattle.std.specs.Prelude.{codes}
 use Rattle.std.proofs.lemmas.List.{take_more, take_more_set, take-append-drop, length-append}
 use Rattle.std.proofs.lemmas.List.Concat.{flat_map-append}
-use Rattle.vx_lemmas.specs.Hexadecimal.{length_upper}
+use Rattle.vx_lemmas.proofs.Laws.Hexadecimal.{length_upper}
 use Rattle.vx_488.specs.declared.transfers.Transfer.{Transfer}
 use Rattle.vx_488.specs.declared.transfers.Transfer.TheVariants.{Cmd, Put, Got, Ifc}
 use Rattle.vx_trace.specs.Text.{transfer_text, moves_text}

@@ -9,7 +9,7 @@ use Rattle.std.proofs.lemmas.Bool.{and_parts, and_from, ltb-true, lt-ltb, le-ltb
 use Rattle.std.proofs.lemmas.Option.{cond_some}
 use Rattle.std.proofs.lemmas.Fmt.{digits_decimal, digits_value-decimal, decimal-digits_value, decimal_nonempty, decimal_digit, first_decimal, IsAscii-from_digits}
 use Rattle.std.proofs.lemmas.Str.Parse.{parse_digits}
-use Rattle.vx_lemmas.specs.Decimal.{own}
+use Rattle.vx_lemmas.proofs.Laws.Decimal.{own}
 use Rattle.vx_trace.specs.Reading.{is_digit, is_decimal, number_of}
 use Rattle.vx_trace.proofs.Cuts.{is_plain}
 

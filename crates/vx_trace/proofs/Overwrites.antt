@@ -3,7 +3,7 @@ use Rattle.std.proofs.Common.{◌≡◌, ℕ, ◌+◌, ◌≤◌, List, [], ◌+
 use Rattle.std.proofs.lemmas.List.{drop-drop, drop_at, take-append-drop, length-append, length-take}
 use borrow.Rule.Slice.PartMut.{put_mid}
 use Rattle.vx_trace.specs.Writing.{overwritten, WritesFirst}
-use Rattle.vx_xdr.specs.ProvedLaws.{overwritten-twice}
+use Rattle.vx_xdr.proofs.Laws.{overwritten-twice}
 
 -- a text behind a text that was written, of what two calls left
 pub overwritten_twice : (old middle new : List ℕ) (at p : ℕ) (a b : List ℕ) → new ≡ overwritten middle p b → middle ≡ overwritten old at a → p ≡ at + length a → at ≤ length old → new ≡ overwritten old at (a ++ b)

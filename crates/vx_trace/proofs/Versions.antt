@@ -6,7 +6,7 @@ use Rattle.std.proofs.lemmas.Option.{same_Some, some_pair_parts}
 use Rattle.vx_trace.specs.Output.{Output}
 use Rattle.vx_trace.specs.Text.{IsLine, is_first, is_timed, line_text, line_text2}
 use Rattle.vx_trace.specs.Reading.{line_of, without_end, if_first, line1_of, reading1, moment_of, if_timed, if_untimed, line2_with, line2_of, reading2}
-use Rattle.vx_lemmas.specs.Conditions.{by_test}
+use Rattle.vx_lemmas.proofs.Laws.Conditions.{by_test}
 use Rattle.vx_trace.proofs.Again.{end-again, reading-again}
 use Rattle.vx_trace.proofs.Choices.{by_then}
 use Rattle.vx_trace.proofs.Found.{line-read, end-read}

@@ -2,14 +2,14 @@
 //! Version 2 has lines of its own, and a moment before each line but the first and the last. No call takes memory.
 #![tactic(auto)]
 
-mod laws;
 mod lines;
 mod put;
 mod read;
+mod theorems;
 mod transfers;
 mod values;
 
-pub use laws::{one_end, one_end2, one_text, one_text2};
 pub use lines::{Full, Line};
 pub use put::{put_line, put_line2};
 pub use read::{read_line, read_line2};
+pub use theorems::{one_end, one_end2, one_text, one_text2};

@@ -66,7 +66,7 @@ fn left_behind_moves(room: usize, moves: &[Transfer]) -> Option<usize>
     Some(left)
 }
 
-#[tactic(auto, using(vx_lemmas::specs::Hexadecimal::length_upper))]
+#[tactic(auto, using(vx_lemmas::proofs::Laws::Hexadecimal::length_upper))]
 fn left_behind_tail(room: usize, tail: &Tail<'_>) -> Option<usize>
     ensures left { MatchOption result (room < length (tail_text tail.now)) (λ left. left + length (tail_text tail.now) ≡ room) }
     ensures room { IfNone result (room < tail_room tail.now) }
@@ -119,7 +119,7 @@ fn put_number(out: &mut [u8], at: usize, n: u64) -> usize
     put(out, at, buffer.format(n).as_bytes())
 }
 
-#[tactic(auto, using(vx_lemmas::specs::Hexadecimal::length_upper))]
+#[tactic(auto, using(vx_lemmas::proofs::Laws::Hexadecimal::length_upper))]
 fn put_hex(out: &mut [u8], at: usize, bytes: &[u8]) -> usize
     requires { at + length (encode_upper bytes.now) ≤ length out.old }
     ensures bytes { out.new ≡ overwritten out.old at (encode_upper bytes.now) }

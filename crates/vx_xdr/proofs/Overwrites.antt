@@ -3,7 +3,7 @@ use Rattle.std.proofs.Common.{◌≡◌, ℕ, ◌+◌, ◌-◌, ◌≤◌, List,
 use Rattle.std.proofs.lemmas.List.{drop-drop, length-append, length-drop, take_all, drop_all}
 use borrow.Rule.Slice.PartMut.{put_mid}
 use Rattle.vx_xdr.specs.Writing.{overwritten}
-use Rattle.vx_xdr.specs.ProvedLaws.{overwritten-twice}
+use Rattle.vx_xdr.proofs.Laws.{overwritten-twice}
 
 -- nothing behind the end of a list
 drop-past : (old : List ℕ) (at k : ℕ) → k ≡ length old - at → drop k (drop at old) ≡ []

@@ -4,11 +4,13 @@
 #![tactic(auto)]
 
 mod fault;
-mod laws;
 mod reader;
+mod theorems;
 mod writer;
 
 pub use fault::{Full, XdrErr};
-pub use laws::{no_prefix, one_spelling, read_again, read_is_spelled, same_word, spelling_spells};
 pub use reader::Reader;
+pub use theorems::{
+    no_prefix, one_spelling, read_again, read_is_spelled, same_word, spelling_spells,
+};
 pub use writer::Writer;

@@ -2,7 +2,7 @@
 use std::rt::Clock as SystemClock;
 use std::sync::Wait;
 use vx_io::{Handed, StdClock, StdPause, Streams, TcpLink};
-use vx_session::{Still, Tools};
+use vx_session::{NoTools, Tools};
 
 /// The clock and the pauses of the host.
 #[derive(Drop)]
@@ -37,7 +37,7 @@ impl<R: SystemClock + Copy> Tools for HostTools<R> {
 
     type P = StdPause<R>;
 
-    type D = Still;
+    type D = NoTools;
 
     type S = NoStreams;
 
@@ -50,8 +50,8 @@ impl<R: SystemClock + Copy> Tools for HostTools<R> {
         StdPause::new(self.rt)
     }
 
-    fn dial(&mut self) -> Still {
-        Still::new()
+    fn dial(&mut self) -> NoTools {
+        NoTools::new()
     }
 
     fn streams(&mut self) -> NoStreams {

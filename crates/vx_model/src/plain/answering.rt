@@ -12,9 +12,9 @@ ghost use Rattle.vx_rules.specs.Calls as calls;
 ghost use Rattle.vx_rules.specs.Decide as decides;
 ghost use Rattle.vx_rules.specs.Entry as entry;
 ghost use Rattle.vx_rules.specs.Lines as lines;
-ghost use Rattle.vx_rules.specs.One.{one, may_leave};
+ghost use Rattle.vx_rules.specs.AtomicStep.{atomic_step, may_leave};
 ghost use Rattle.vx_rules.specs.Serving.{IsDoable};
-ghost use Rattle.vx_model.specs.Stepping.{Goes, IsOrderly, answer_at, stopped_at, turn_at, stood_at, lines_at, refusal_fits, open_job};
+ghost use Rattle.vx_model.specs.Stepping.{ModelGoes, IsOrderly, answer_at, stopped_at, turn_at, stood_at, lines_at, refusal_fits, open_job};
 ghost use Rattle.vx_model.specs.StepShown.{outside_shown};
 
 use crate::plain::Plain;
@@ -24,7 +24,7 @@ use vx_488::Transfer;
 use vx_calls::{ErrorCode, ReplyRef};
 use vx_plan::{Task, needs};
 use vx_rules::passed_calls;
-use vx_tables::{Admission, NoMemory, has_passed};
+use vx_state::{Admission, NoMemory, has_passed};
 
 /// What comes to an answer from outside: the moment at which the call's turn began and the transfers that it made, whether
 /// the bus failed, how a dial went, and the level that a bus status tells.
@@ -46,7 +46,7 @@ impl Plain {
         o: &Told<'_>,
         reply: &ReplyRef<'_>,
     ) -> Result<bool, NoMemory>
-        ensures ok { IfOk result (λ yes. Goes (one self.old
+        ensures ok { IfOk result (λ yes. ModelGoes (atomic_step self.old
             (entry.Answer conn now o.now.begun o.now.moves.now o.now.failed o.now.dialed o.now.level (reply_shown reply.now))) self.old yes self.new) }
         ensures err { OnErr result (self.new ≡ self.old) }
     {
@@ -77,7 +77,7 @@ impl Plain {
         requires refused { (p : Pending) → pending_at self.old.tables conn ≡ Some p
             → lines_at self.old conn now (outside_shown o.now) p ≡ lines.Refused error }
         ensures ok { IfOk result (λ yes. (p : Pending) → pending_at self.old.tables conn ≡ Some p
-            → Goes (answer_at self.old conn now (outside_shown o.now) (reply_shown reply.now) p) self.old yes self.new) }
+            → ModelGoes (answer_at self.old conn now (outside_shown o.now) (reply_shown reply.now) p) self.old yes self.new) }
         ensures err { OnErr result (self.new ≡ self.old) }
     {
         if !is_quiet(o) {
@@ -101,7 +101,7 @@ impl Plain {
         requires pending { IsSome (pending_at self.old.tables conn) }
         requires orderly { IsOrderly self.old.wire moves.now }
         ensures ok { IfOk result (λ yes. (p : Pending) → pending_at self.old.tables conn ≡ Some p
-            → Goes (stopped_at self.old conn now error moves.now (reply_shown reply.now) p) self.old yes self.new) }
+            → ModelGoes (stopped_at self.old conn now error moves.now (reply_shown reply.now) p) self.old yes self.new) }
         ensures err { OnErr result (self.new ≡ self.old) }
     {
         let got = bytes_got(self.alloc, moves)?;
@@ -127,7 +127,7 @@ impl Plain {
         requires passed { (p : Pending) → pending_at self.old.tables conn ≡ Some p
             → lines_at self.old conn now (outside_shown o.now) p ≡ lines.Passed }
         ensures ok { IfOk result (λ yes. (p : Pending) → pending_at self.old.tables conn ≡ Some p
-            → Goes (answer_at self.old conn now (outside_shown o.now) (reply_shown reply.now) p) self.old yes self.new) }
+            → ModelGoes (answer_at self.old conn now (outside_shown o.now) (reply_shown reply.now) p) self.old yes self.new) }
         ensures err { OnErr result (self.new ≡ self.old) }
     {
         if self.tables.asks_dial(conn) {
@@ -146,7 +146,7 @@ impl Plain {
             → lines_at self.old conn now (outside_shown o.now) p ≡ lines.Passed }
         requires dials { (p : Pending) → pending_at self.old.tables conn ≡ Some p → calls.asks_dial p.call ≡ true }
         ensures { (p : Pending) → pending_at self.old.tables conn ≡ Some p
-            → Goes (answer_at self.old conn now (outside_shown o.now) (reply_shown reply.now) p) self.old result self.new }
+            → ModelGoes (answer_at self.old conn now (outside_shown o.now) (reply_shown reply.now) p) self.old result self.new }
     {
         let Some(up) = o.dialed else {
             return false;
@@ -172,7 +172,7 @@ impl Plain {
         requires dials { (p : Pending) → pending_at self.old.tables conn ≡ Some p → calls.asks_dial p.call ≡ false }
         requires bus { (p : Pending) → pending_at self.old.tables conn ≡ Some p → calls.is_bus_call p.call ≡ false }
         ensures { (p : Pending) → pending_at self.old.tables conn ≡ Some p
-            → Goes (answer_at self.old conn now (outside_shown o.now) (reply_shown reply.now) p) self.old result self.new }
+            → ModelGoes (answer_at self.old conn now (outside_shown o.now) (reply_shown reply.now) p) self.old result self.new }
     {
         if !is_quiet(o) {
             return false;
@@ -203,7 +203,7 @@ impl Plain {
         requires dials { (p : Pending) → pending_at self.old.tables conn ≡ Some p → calls.asks_dial p.call ≡ false }
         requires bus { (p : Pending) → pending_at self.old.tables conn ≡ Some p → calls.is_bus_call p.call ≡ true }
         ensures ok { IfOk result (λ yes. (p : Pending) → pending_at self.old.tables conn ≡ Some p
-            → Goes (answer_at self.old conn now (outside_shown o.now) (reply_shown reply.now) p) self.old yes self.new) }
+            → ModelGoes (answer_at self.old conn now (outside_shown o.now) (reply_shown reply.now) p) self.old yes self.new) }
         ensures err { OnErr result (self.new ≡ self.old) }
     {
         let Some(job) = self.job(conn) else {
@@ -233,7 +233,7 @@ impl Plain {
         requires pending { IsSome (pending_at self.old.tables conn) }
         requires doable { (p : Pending) → pending_at self.old.tables conn ≡ Some p → IsDoable job.now (calls.bytes_of p.call) }
         ensures ok { IfOk result (λ yes. (p : Pending) → pending_at self.old.tables conn ≡ Some p
-            → Goes (turn_at self.old conn now (outside_shown o.now) (reply_shown reply.now) p job.now) self.old yes self.new) }
+            → ModelGoes (turn_at self.old conn now (outside_shown o.now) (reply_shown reply.now) p job.now) self.old yes self.new) }
         ensures err { OnErr result (self.new ≡ self.old) }
     {
         if o.dialed.is_some() {
@@ -261,7 +261,7 @@ impl Plain {
         requires pending { IsSome (pending_at self.old.tables conn) }
         requires orderly { IsOrderly self.old.wire o.now.moves.now }
         ensures ok { IfOk result (λ yes. (p : Pending) → pending_at self.old.tables conn ≡ Some p
-            → Goes (stood_at self.old conn now (outside_shown o.now) (reply_shown reply.now) p job.now plans.Whole) self.old yes self.new) }
+            → ModelGoes (stood_at self.old conn now (outside_shown o.now) (reply_shown reply.now) p job.now plans.Whole) self.old yes self.new) }
         ensures err { OnErr result (self.new ≡ self.old) }
     {
         if o.failed || !level_fits(job, o.level) {
@@ -294,7 +294,7 @@ impl Plain {
         requires pending { IsSome (pending_at self.old.tables conn) }
         requires orderly { IsOrderly self.old.wire o.now.moves.now }
         ensures ok { IfOk result (λ yes. (p : Pending) (job : Task) → pending_at self.old.tables conn ≡ Some p
-            → Goes (stood_at self.old conn now (outside_shown o.now) (reply_shown reply.now) p job plans.Part) self.old yes self.new) }
+            → ModelGoes (stood_at self.old conn now (outside_shown o.now) (reply_shown reply.now) p job plans.Part) self.old yes self.new) }
         ensures err { OnErr result (self.new ≡ self.old) }
     {
         if o.level {

@@ -11,14 +11,14 @@ ghost use Rattle.vx_plan.specs.declared.tasks.TheConstants.{TURN_MAX};
 ghost use Rattle.vx_plan.specs.Places.{last_after};
 ghost use Rattle.vx_plan.specs.Results as results;
 ghost use Rattle.vx_plan.specs.Transfers.{got_of};
-ghost use Rattle.vx_rules.specs.One.{same_given};
-ghost use Rattle.vx_model.specs.Stepping.{byte_of};
+ghost use Rattle.vx_rules.specs.AtomicStep.{same_given};
+ghost use Rattle.vx_model.specs.Stepping.{model_byte_of};
 
 use std::alloc::Global;
 use vx_488::{Transfer, Wire};
 use vx_calls::{ErrorCode, Interrupt, ReplyRef, Taken};
 use vx_plan::Task;
-use vx_tables::NoMemory;
+use vx_state::NoMemory;
 
 /// Whether two errors are one.
 pub(crate) fn same_error(a: ErrorCode, b: ErrorCode) -> bool
@@ -156,7 +156,7 @@ pub(crate) fn bytes_got(alloc: Global, moves: &[Transfer]) -> Result<Vec<u8>, No
 
 /// Puts the byte of a transfer behind these bytes, where it got one.
 fn push_got(got: &mut Vec<u8>, t: Transfer) -> Result<(), NoMemory>
-    ensures { OnOk result (got.new.items ≡ got.old.items ++ byte_of (got_of t)) }
+    ensures { OnOk result (got.new.items ≡ got.old.items ++ model_byte_of (got_of t)) }
 {
     match t {
         Transfer::Got { b, .. } => match got.push(b) {

@@ -1,6 +1,6 @@
 use Rattle.std.proofs.Common.{sym, subst}
 use Rattle.vx_lone.specs.Lone.{lone}
-use Rattle.vx_gates.specs.Standing.{firsts_shown}
+use Rattle.vx_buses.specs.Standing.{firsts_shown}
 use Rattle.vx_buses.specs.Starting.{StandInOrder}
 use Rattle.vx_buses.proofs.Ran.{hosts-run}
 use Rattle.vx_buses.proofs.run.run_racked.Goals as goal

@@ -1,16 +1,15 @@
 use Rattle.std.proofs.Common.{refl}
 use Rattle.std.specs.Prelude.{option_map}
-use Rattle.vx_door.specs.ProvedLaws.{went_keeps}
-use Rattle.vx_door.specs.Shown.{door_shown}
-use Rattle.vx_gates.specs.Passing.{passes_shown}
-use Rattle.vx_gates.specs.Standing.{gates_shown, firsts_shown}
-use Rattle.vx_peers.specs.Outcome as peers
-use Rattle.vx_peers.specs.ProvedLaws.{told_served}
-use Rattle.vx_stream.specs.Shown.{link_shown}
+use Rattle.vx_door.proofs.Laws.{went_keeps}
+use Rattle.vx_door.specs.Shown.{door_told}
+use Rattle.vx_buses.specs.Passing.{passes_shown}
+use Rattle.vx_buses.specs.Standing.{gates_shown, firsts_shown}
+use Rattle.vx_peers.specs.Outcome.{PeerShows}
+use Rattle.vx_peers.proofs.Laws.{told_served}
 use Rattle.vx_session.specs.declared.links.Linked.{Linked}
 use Rattle.vx_buses.specs.Linking.{is_own, is_whole}
 use Rattle.vx_buses.specs.Hosting.{Hosting, passes_of}
-use Rattle.vx_buses.specs.Outcome.{Shows, Does}
+use Rattle.vx_buses.specs.Outcome.{FleetShows, fleet_shows, Does}
 use Rattle.vx_buses.specs.declared.hosting.Host.{Host}
 use Rattle.vx_buses.proofs.run.serve_ask.Given as given
 use Rattle.vx_buses.proofs.run.serve_ask.Goals as goal
@@ -20,22 +19,13 @@ abbrev view : (g : given.Over) → Host g.row.R.Denot g.row.B.Denot g.row.X-C.De
 view g s = record { passes = passes_of (option_map passes_shown s.held); firsts = firsts_shown s.buses; clock = s.clock; told = g.X.C.Clock.told s.clock }
 
 -- the door
-abbrev shows : (g : given.Over) → Shows g.row.N.Denot
-shows g = record {
-  stands = g.N.Link.stands;
-  receives = g.N.Link.receives;
-  sends = g.N.Link.sends;
-  tells = g.N.Door.tells;
-  waits = g.N.Door.meets;
-  door = door_shown g.N.Door.met g.N.Door.ended g.N.Door.faults g.N.Link.receive_faults g.N.Link.send_faults g.N.Link.left g.N.Link.peers;
-  link = link_shown g.N.Link.left g.N.Link.peers g.N.Link.receive_faults g.N.Link.send_faults;
-  opening = record { opens = g.N.Door.opens; ready = g.N.Link.is_ready };
-}
+abbrev shows : (g : given.Over) → FleetShows g.row.N.Denot
+shows g = fleet_shows g.N.Link (door_told g.N.Link g.N.Door)
 
 -- the door with its server, of which all is known
-abbrev known : (g : given.Over) → peers.Shows g.row.N.Denot (Host g.row.R.Denot g.row.B.Denot g.row.X-C.Denot g.row.X-P.Denot) Linked
+abbrev known : (g : given.Over) → PeerShows g.row.N.Denot (Host g.row.R.Denot g.row.B.Denot g.row.X-C.Denot g.row.X-P.Denot) Linked
 known g = record {
-  stands = (shows g).stands;
+  stands = (shows g).link.stands;
   tells = (shows g).tells;
   waits = (shows g).waits;
   door = (shows g).door;
@@ -46,8 +36,8 @@ known g = record {
 
 pub returns : goal.returns
 returns g c = record {
-  server = record { passes = passes_shown c.args.passes; firsts = firsts_shown c.args.buses; clock = c.clock.result; told = g.X.C.Clock.told c.clock.result };
-  begins = record { gates = gates_shown c.args.buses; first = c.requires.first; cores = refl };
+  server = record { passes = passes_shown c.args.started.passes; firsts = firsts_shown c.args.started.buses; clock = c.clock.result; told = g.X.C.Clock.told c.clock.result };
+  begins = record { gates = gates_shown c.args.started.buses; first = c.requires.first; cores = refl };
   server' = view g c.serve_peers.new.server;
   served = told_served (known g) (view g) (Does g.B.Bus g.X.C.Clock.tells (shows g)) (λ s s' d d' how did. did) (shows g).opening c.args.ask.now _ c.args.net.now c.serve_peers.new.server c.serve_peers.new.net _ _
       c.serve_peers.result c.serve_peers.ensures;

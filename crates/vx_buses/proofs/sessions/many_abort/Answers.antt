@@ -1,5 +1,5 @@
 use Rattle.vx_calls.specs.declared.calls.Role.TheVariants as role
-use Rattle.vx_gates.specs.Standing.{firsts_shown}
+use Rattle.vx_buses.specs.Standing.{firsts_shown}
 use Rattle.vx_session.specs.Progress.{unclocked}
 use Rattle.vx_buses.specs.Origins.{origins}
 use Rattle.vx_buses.proofs.Finishing.{session-says}
@@ -7,5 +7,5 @@ use Rattle.vx_buses.proofs.sessions.many_abort.Goals as goal
 
 pub returns-clause-did : goal.returns-clause-did
 returns-clause-did g c =
-    session-says (origins g.B.Bus (firsts_shown c.args.buses.now)) g.L.Link.stands g.L.Link.receives g.L.Link.sends _ unclocked (λ groups clocked. tt) 0 role.Abort _ _ _ _ _ _ _ _
+    session-says (origins g.B.Bus (firsts_shown c.args.buses.now)) g.L.Link _ unclocked (λ groups clocked. tt) 0 role.Abort _ _ _ _
     c.run_session.ensures.did

@@ -10,4 +10,4 @@ pub returns : goal.returns
 returns g c =
     let inst = handed_in (λ i. g.I.Instrument.behaves i) (λ i. g.I.Instrument.nature i) c.args.inst in
     let stands : IsAttached place (Boxed inst) first_state c.in_ok-bus.bus = search rules in
-    started-furnished inst c.start.result c.ok-2.result c.in_ok-bus.bus stands c.start.ensures.fine c.start.ensures.bus c.ok-2.ensures.value
+    started-furnished inst c.start.result c.ok-2.result c.in_ok-bus.bus stands c.start.ensures.interleaved c.start.ensures.bus c.ok-2.ensures.value

@@ -1,7 +1,7 @@
 use Rattle.std.proofs.Common.{map, rules}
 use Rattle.vx_buses.specs.Starting.{AreFurnished}
-use Rattle.vx_gates.specs.Four.{listed}
-use Rattle.vx_gates.specs.Standing.{firsts_shown}
+use Rattle.vx_buses.specs.Four.{listed}
+use Rattle.vx_buses.specs.Standing.{firsts_shown}
 use Rattle.vx_buses.proofs.Furnished.{seat, furnished-four, furnished-stand, order-kept}
 use Rattle.vx_buses.proofs.starting.start_buses.Goals as goal
 

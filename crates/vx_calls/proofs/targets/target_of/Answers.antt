@@ -2,7 +2,7 @@ use Rattle.std.proofs.Common.{◌≡◌, [], ◌∷◌, sym, ◌∙◌, ap}
 use Rattle.std.specs.Option.{option_copied, option_map_or}
 use Rattle.vx_calls.specs.Target.{comma_parts, target_of_parts, target}
 use Rattle.vx_calls.proofs.TargetLemmas.{target_of-parted}
-use Rattle.vx_calls.proofs.TargetClauses.{target-says}
+use Rattle.vx_calls.proofs.Laws.TargetClauses.{target-says}
 use Rattle.vx_calls.proofs.targets.target_of.Goals as goal
 
 pub returns-in-Some : goal.returns-in-Some

@@ -3,7 +3,7 @@ use Rattle.std.proofs.lemmas.Result.{err_from_is_err_and}
 use Rattle.vx_calls.specs.Call as call
 use Rattle.vx_client.specs.Meaning.{stb_of, nothing_of}
 use Rattle.vx_client.specs.Calls.{generic}
-use Rattle.vx_client.specs.Asked.{Command, command_shown}
+use Rattle.vx_client.specs.Asked.{ClientCommand, command_shown}
 use Rattle.vx_client.specs.Gaining.{Status, Done, plain, Performs, result_shown}
 use Rattle.vx_client.proofs.Calling.{called-part, called-error}
 use Rattle.vx_client.proofs.Commands.{query-failed, query-read, write-failed, write-done}
@@ -27,7 +27,7 @@ pub returns-in_err-readstb-in-Stb-clause-performed : goal.returns-in_err-readstb
 returns-in_err-readstb-in-Stb-clause-performed g c =
     let p = err_from_is_err_and c.from_residual-in_err-readstb-in-Stb.result c.from_residual-in_err-readstb-in-Stb.ensures.1 in
     let same : c.from_residual-in_err-readstb-in-Stb.result ≡ Err c.in_err-readstb-in-Stb.field-0.0 = cc (p.1, p.2) in
-    let Does : Command → Type 0 =
+    let Does : ClientCommand → Type 0 =
     λ k. Performs g.L.Link.stands g.L.Link.left g.L.Link.receive_faults g.L.Link.send_faults c.args.client.now c.readstb.new.self c.args.made.now k (result_shown c.args.room.now c.from_residual-in_err-readstb-in-Stb.result) in
     subst Does (sym (ap command_shown c.in-Stb.is))
     (called-error g.L.Link.stands g.L.Link.left g.L.Link.receive_faults g.L.Link.send_faults c.args.client.now c.readstb.new.self (call.ReadStb (generic c.args.made.now.lid plain)) 0 stb_of (λ o. Status (stb_of o))
@@ -35,7 +35,7 @@ returns-in_err-readstb-in-Stb-clause-performed g c =
 
 pub returns-in_ok-readstb-in-Stb-clause-performed : goal.returns-in_ok-readstb-in-Stb-clause-performed
 returns-in_ok-readstb-in-Stb-clause-performed g c =
-    let Does : Command → Type 0 =
+    let Does : ClientCommand → Type 0 =
     λ k. Performs g.L.Link.stands g.L.Link.left g.L.Link.receive_faults g.L.Link.send_faults c.args.client.now c.readstb.new.self c.args.made.now k (Ok (Status c.in_ok-readstb-in-Stb.field-0)) in
     subst Does (sym (ap command_shown c.in-Stb.is))
     (called-part g.L.Link.stands g.L.Link.left g.L.Link.receive_faults g.L.Link.send_faults c.args.client.now c.readstb.new.self (call.ReadStb (generic c.args.made.now.lid plain)) 0 stb_of (λ b. Status b)
@@ -45,7 +45,7 @@ pub returns-in_err-clear-in-Clear-clause-performed : goal.returns-in_err-clear-i
 returns-in_err-clear-in-Clear-clause-performed g c =
     let p = err_from_is_err_and c.from_residual-in_err-clear-in-Clear.result c.from_residual-in_err-clear-in-Clear.ensures.1 in
     let same : c.from_residual-in_err-clear-in-Clear.result ≡ Err c.in_err-clear-in-Clear.field-0.0 = cc (p.1, p.2) in
-    let Does : Command → Type 0 =
+    let Does : ClientCommand → Type 0 =
     λ k. Performs g.L.Link.stands g.L.Link.left g.L.Link.receive_faults g.L.Link.send_faults c.args.client.now c.clear.new.self c.args.made.now k (result_shown c.args.room.now c.from_residual-in_err-clear-in-Clear.result) in
     subst Does (sym (ap command_shown c.in-Clear.is))
     (called-error g.L.Link.stands g.L.Link.left g.L.Link.receive_faults g.L.Link.send_faults c.args.client.now c.clear.new.self (call.Clear (generic c.args.made.now.lid plain)) 0 nothing_of (λ o. Done)
@@ -53,7 +53,7 @@ returns-in_err-clear-in-Clear-clause-performed g c =
 
 pub returns-in_ok-clear-in-Clear-clause-performed : goal.returns-in_ok-clear-in-Clear-clause-performed
 returns-in_ok-clear-in-Clear-clause-performed g c =
-    let Does : Command → Type 0 =
+    let Does : ClientCommand → Type 0 =
     λ k. Performs g.L.Link.stands g.L.Link.left g.L.Link.receive_faults g.L.Link.send_faults c.args.client.now c.clear.new.self c.args.made.now k (Ok Done) in
     subst Does (sym (ap command_shown c.in-Clear.is))
     (called-part g.L.Link.stands g.L.Link.left g.L.Link.receive_faults g.L.Link.send_faults c.args.client.now c.clear.new.self (call.Clear (generic c.args.made.now.lid plain)) 0 nothing_of (λ u. Done)
@@ -63,7 +63,7 @@ pub returns-in_err-trigger-in-Trigger-clause-performed : goal.returns-in_err-tri
 returns-in_err-trigger-in-Trigger-clause-performed g c =
     let p = err_from_is_err_and c.from_residual-in_err-trigger-in-Trigger.result c.from_residual-in_err-trigger-in-Trigger.ensures.1 in
     let same : c.from_residual-in_err-trigger-in-Trigger.result ≡ Err c.in_err-trigger-in-Trigger.field-0.0 = cc (p.1, p.2) in
-    let Does : Command → Type 0 =
+    let Does : ClientCommand → Type 0 =
     λ k. Performs g.L.Link.stands g.L.Link.left g.L.Link.receive_faults g.L.Link.send_faults c.args.client.now c.trigger.new.self c.args.made.now k (result_shown c.args.room.now c.from_residual-in_err-trigger-in-Trigger.result) in
     subst Does (sym (ap command_shown c.in-Trigger.is))
     (called-error g.L.Link.stands g.L.Link.left g.L.Link.receive_faults g.L.Link.send_faults c.args.client.now c.trigger.new.self (call.Trigger (generic c.args.made.now.lid plain)) 0 nothing_of (λ o. Done)
@@ -71,7 +71,7 @@ returns-in_err-trigger-in-Trigger-clause-performed g c =
 
 pub returns-in_ok-trigger-in-Trigger-clause-performed : goal.returns-in_ok-trigger-in-Trigger-clause-performed
 returns-in_ok-trigger-in-Trigger-clause-performed g c =
-    let Does : Command → Type 0 =
+    let Does : ClientCommand → Type 0 =
     λ k. Performs g.L.Link.stands g.L.Link.left g.L.Link.receive_faults g.L.Link.send_faults c.args.client.now c.trigger.new.self c.args.made.now k (Ok Done) in
     subst Does (sym (ap command_shown c.in-Trigger.is))
     (called-part g.L.Link.stands g.L.Link.left g.L.Link.receive_faults g.L.Link.send_faults c.args.client.now c.trigger.new.self (call.Trigger (generic c.args.made.now.lid plain)) 0 nothing_of (λ u. Done)

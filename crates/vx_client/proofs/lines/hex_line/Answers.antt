@@ -2,7 +2,7 @@ use Rattle.std.proofs.Common.{◌≡◌, ◌*◌, ◌++◌, ◌∷◌, [], lengt
 use Rattle.std.proofs.lemmas.List.{take_at, take_more_set, length-append, length-drop}
 use Rattle.std.specs.Char.{to_ascii_uppercase}
 use Rattle.hex.specs.Hex.{encode_upper}
-use Rattle.vx_lemmas.specs.Hexadecimal.{upper_text, length_upper}
+use Rattle.vx_lemmas.proofs.Laws.Hexadecimal.{upper_text, length_upper}
 use Rattle.vx_client.proofs.lines.hex_line.Goals as goal
 
 pub returns : goal.returns

@@ -1,11 +1,11 @@
 use Rattle.std.proofs.Common.{◌≡◌, drop, length, ◌-◌, ◌++◌, ◌<◌, take, refl, ap, subst, ◌∙◌, arith, length-drop}
 use Rattle.std.proofs.lemmas.List.{take_all}
-use Rattle.vx_lemmas.specs.Slices.{two-parts}
+use Rattle.vx_lemmas.proofs.Laws.Slices.{two-parts}
 use Rattle.vx_rpc.specs.Procedure.{proc_number}
 use Rattle.vx_rpc.specs.Wording.{call_message}
 use Rattle.vx_codec.specs.Asked.{arguments, proc_of}
 use Rattle.vx_calls.specs.Call.{call_shown}
-use Rattle.vx_client.proofs.Lengths.{arguments-short, sendable-puttable}
+use Rattle.vx_client.proofs.Laws.Lengths.{arguments-short, sendable-puttable}
 use Rattle.vx_client.proofs.outbox.put_message.Goals as goal
 
 pub unreachable-requires : goal.unreachable-requires

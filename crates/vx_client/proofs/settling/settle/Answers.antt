@@ -4,7 +4,7 @@ use Rattle.vx_codec.specs.Answered.{results_shown}
 use Rattle.vx_rpc.specs.ReplyMeaning.{read_shown}
 use Rattle.vx_client.specs.Meaning.{reply_says}
 use Rattle.vx_client.specs.Settled.{settled_of, written}
-use Rattle.vx_client.proofs.Meanings.{success-meaning, success-apart, refused-meaning, refused-apart}
+use Rattle.vx_client.proofs.Laws.Meanings.{success-meaning, success-apart, refused-meaning, refused-apart}
 use Rattle.vx_client.proofs.settling.settle.Goals as goal
 
 pub returns-in-Some-clause-settled : goal.returns-in-Some-clause-settled

@@ -1,6 +1,6 @@
 use Rattle.std.proofs.Common.{ap, rules}
 use Rattle.vx_calls.specs.Call.{call_shown}
-use Rattle.vx_codec.proofs.Written.{again-at}
+use Rattle.vx_codec.proofs.Laws.Written.{again-at}
 use Rattle.vx_codec.proofs.arguments.put_args.Goals as goal
 
 pub returns-in-Null-clause-again : goal.returns-in-Null-clause-again

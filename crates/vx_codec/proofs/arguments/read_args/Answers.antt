@@ -3,8 +3,8 @@ use Rattle.vx_calls.specs.Call.{call_shown}
 use Rattle.vx_codec.specs.Row.{whole}
 use Rattle.vx_codec.specs.Asked.{arguments_of, call_of}
 use Rattle.vx_codec.proofs.Puttable.{Asks-puttable}
-use Rattle.vx_codec.proofs.Rows.{row_whole, whole-more, whole-none, whole-takes}
-use Rattle.vx_codec.proofs.Written.{length-arguments}
+use Rattle.vx_codec.proofs.Laws.Rows.{row_whole, whole-more, whole-none, whole-takes}
+use Rattle.vx_codec.proofs.Laws.Written.{length-arguments}
 use Rattle.vx_codec.proofs.arguments.read_args.Goals as goal
 
 pub returns-in_err-found-clause-none : goal.returns-in_err-found-clause-none

@@ -1,5 +1,5 @@
 use Rattle.std.proofs.Common.{refl}
-use Rattle.vx_codec.proofs.Written.{form_of-others}
+use Rattle.vx_codec.proofs.Laws.Written.{form_of-others}
 use Rattle.vx_codec.proofs.results.outcome.Goals as goal
 
 pub returns-in-Null : goal.returns-in-Null

@@ -1,6 +1,6 @@
 use Rattle.std.proofs.Common.{ap, rules}
 use Rattle.vx_calls.specs.Reply.{reply_shown}
-use Rattle.vx_codec.proofs.Written.{answered-at}
+use Rattle.vx_codec.proofs.Laws.Written.{answered-at}
 use Rattle.vx_codec.proofs.results.put_results.Goals as goal
 
 pub returns-in-Null-clause-again : goal.returns-in-Null-clause-again

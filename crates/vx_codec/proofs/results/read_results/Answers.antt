@@ -1,7 +1,7 @@
 use Rattle.std.proofs.Common.{◌≡◌, ℕ, List, Some, None, refl, sym, ap, ◌∙◌, arith}
 use Rattle.vx_codec.specs.Row.{whole}
 use Rattle.vx_codec.specs.Answered.{form_of, outcome_of, results_of, results_shown}
-use Rattle.vx_codec.proofs.Rows.{row_whole, whole-more, whole-none, whole-takes}
+use Rattle.vx_codec.proofs.Laws.Rows.{row_whole, whole-more, whole-none, whole-takes}
 use Rattle.vx_codec.proofs.results.read_results.Goals as goal
 
 pub returns-in_err-found-clause-none : goal.returns-in_err-found-clause-none

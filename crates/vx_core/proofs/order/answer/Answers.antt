@@ -1,8 +1,8 @@
-use Rattle.vx_tables.specs.declared.tables.lines.Admission.TheVariants as seen
+use Rattle.vx_state.specs.declared.tables.lines.Admission.TheVariants as seen
 use Rattle.std.proofs.Common.{sym, subst}
 use Rattle.vx_flow.specs.declared.progress.Why.{Why}
 use Rattle.vx_core.specs.declared.ended.Ended.TheVariants as ended
-use Rattle.vx_core.specs.Polling.{EndsFrom}
+use Rattle.vx_core.specs.Leaving.{EndsFrom}
 use Rattle.vx_core.proofs.Ordering.{lines-so, refused-ends, barred-ends}
 use Rattle.vx_core.proofs.order.answer.Goals as goal
 

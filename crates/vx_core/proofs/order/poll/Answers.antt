@@ -1,7 +1,7 @@
 use Rattle.std.proofs.Common.{max, ap, ◌∙◌, refl}
 use Rattle.std.specs.Prelude.{not, ◌&&◌}
 use Rattle.vx_core.specs.KernelState.{KernelState}
-use Rattle.vx_core.specs.Shown.{fine_of}
+use Rattle.vx_core.specs.Shown.{interleaved_of}
 use Rattle.vx_core.specs.Ending.{has_run}
 use Rattle.vx_core.proofs.Hearing.{has-heard, poll-leaves, noted-keeps}
 use Rattle.vx_core.proofs.Began.{began-so}
@@ -27,4 +27,4 @@ returns-clause-began g c =
     ap (λ (s : KernelState g.row.B.Denot). s.began) c.note_end.ensures
     ∙ c.began_by-began.ensures
     ∙ ap (λ b. not b && has_run c.answer-ended.result) c.has_turn-had_turn.ensures
-    ∙ began-so (fine_of g.B.Bus.means k) _ c.args.conn (max k.moment c.args.now) _ k.running k.made c.answer-ended.result _ refl leaves.polls
+    ∙ began-so (interleaved_of g.B.Bus.means k) _ c.args.conn (max k.moment c.args.now) _ k.running k.made c.answer-ended.result _ refl leaves.polls

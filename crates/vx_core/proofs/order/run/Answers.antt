@@ -1,7 +1,7 @@
 use Rattle.std.proofs.Common.{sym, ◌∙◌, subst}
 use Rattle.vx_core.specs.KernelState.{KernelState}
 use Rattle.vx_core.specs.Turning.{HasTurn}
-use Rattle.vx_core.specs.Polling.{EndsFrom}
+use Rattle.vx_core.specs.Leaving.{EndsFrom}
 use Rattle.vx_core.proofs.Ordering.{goes-on, no-role-ends, has-begun, begun-ends}
 use Rattle.vx_core.proofs.order.run.Goals as goal
 use Rattle.vx_core.proofs.order.run.Goals.{else-not-has_turn-via-then-not-has_turn+else-not-begin, else-not-has_turn-via-else-not-has_turn}

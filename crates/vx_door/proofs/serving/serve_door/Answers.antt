@@ -1,11 +1,11 @@
 use Rattle.std.proofs.Common.{arith}
-use Rattle.vx_door.specs.Shown.{door_shown}
-use Rattle.vx_door.proofs.Goings.{so-more, so-served, so-ended, so-failed}
+use Rattle.vx_door.specs.Shown.{door_told, door_shown}
+use Rattle.vx_door.proofs.Laws.Goings.{so-more, so-served, so-ended, so-failed}
 use Rattle.vx_door.proofs.serving.serve_door.Goals as goal
 
 pub loop-number-preserved : goal.loop-number-preserved
 loop-number-preserved g c =
-    let shown = door_shown g.N.Door.met g.N.Door.ended g.N.Door.faults g.N.Link.receive_faults g.N.Link.send_faults g.N.Link.left g.N.Link.peers in (
+    let shown = door_shown (door_told g.N.Link g.N.Door) in (
       c.in-Peer.ensures.can,
       omega (arith, c.loop-number-test.true),
       so-more g.N.Link.stands g.N.Door.tells g.N.Door.meets shown g.S.Serves.did g.S.Serves.is_own g.S.Serves.is_whole
@@ -15,7 +15,7 @@ loop-number-preserved g c =
 
 pub returns-in-Ended : goal.returns-in-Ended
 returns-in-Ended g c =
-    let shown = door_shown g.N.Door.met g.N.Door.ended g.N.Door.faults g.N.Link.receive_faults g.N.Link.send_faults g.N.Link.left g.N.Link.peers in
+    let shown = door_shown (door_told g.N.Link g.N.Door) in
     record {
       can = c.in-Ended.ensures.can;
       served = so-ended g.N.Link.stands g.N.Door.tells g.N.Door.meets shown g.S.Serves.did g.S.Serves.is_own g.S.Serves.is_whole
@@ -25,7 +25,7 @@ returns-in-Ended g c =
 
 pub returns-in-Failed : goal.returns-in-Failed
 returns-in-Failed g c =
-    let shown = door_shown g.N.Door.met g.N.Door.ended g.N.Door.faults g.N.Link.receive_faults g.N.Link.send_faults g.N.Link.left g.N.Link.peers in
+    let shown = door_shown (door_told g.N.Link g.N.Door) in
     record {
       can = c.in-Failed.ensures.can;
       served = so-failed g.N.Link.stands g.N.Door.tells g.N.Door.meets shown g.S.Serves.did g.S.Serves.is_own g.S.Serves.is_whole
@@ -35,7 +35,7 @@ returns-in-Failed g c =
 
 pub returns : goal.returns
 returns g c =
-    let shown = door_shown g.N.Door.met g.N.Door.ended g.N.Door.faults g.N.Link.receive_faults g.N.Link.send_faults g.N.Link.left g.N.Link.peers in
+    let shown = door_shown (door_told g.N.Link g.N.Door) in
     record {
       can = c.loop-number.invariant.0;
       served = so-served g.N.Link.stands g.N.Door.tells g.N.Door.meets shown g.S.Serves.did g.S.Serves.is_own g.S.Serves.is_whole

@@ -2,7 +2,7 @@ use Rattle.std.proofs.Common.{sym, ap, ◌∙◌, subst}
 use Rattle.vx_calls.specs.Call.{call_shown}
 use Rattle.vx_rpc.specs.declared.refusal.RpcRefusal.TheVariants as refusal
 use Rattle.vx_rpc.specs.Wording.{refusal_message}
-use Rattle.vx_codec.specs.ProvedLaws.{read-short}
+use Rattle.vx_codec.proofs.Laws.{read-short}
 use Rattle.vx_exchange.specs.Meaning.{by_arguments, by_sorting}
 use Rattle.vx_exchange.specs.Opening.{Opens}
 use Rattle.vx_exchange.proofs.ByProcedure.{fits}

@@ -4,7 +4,8 @@ use Rattle.vx_record.specs.Fragments.{record_of}
 use Rattle.vx_rpc.specs.Wording.{success_message}
 use Rattle.vx_exchange.specs.Meaning.{by_call}
 use Rattle.vx_exchange.specs.Opening.{FitsRole}
-use Rattle.vx_exchange.specs.ProvedLaws.{asks-core, fits-core, waits-core}
+use Rattle.vx_rules.proofs.Laws.{asks-wait}
+use Rattle.vx_exchange.proofs.Laws.{asks-core, fits-core}
 use Rattle.vx_exchange.proofs.opened.open_call.Goals as goal
 
 pub returns-in-Null-clause-opens : goal.returns-in-Null-clause-opens
@@ -27,6 +28,6 @@ returns-in_default-clause-opens c = asks-core c.args.call c.args.xid c.in_defaul
 pub returns-in_default-clause-role : goal.returns-in_default-clause-role
 returns-in_default-clause-role c = λ r fits short. (
   fits-core c.args.call r c.in_default.not-Null c.in_default.not-DeviceAbort fits,
-  waits-core c.args.call c.in_default.not-Null c.in_default.not-DeviceAbort,
+  asks-wait c.args.call c.in_default.not-Null c.in_default.not-DeviceAbort,
   short,
 )

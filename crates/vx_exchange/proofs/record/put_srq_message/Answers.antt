@@ -1,6 +1,6 @@
 use Rattle.std.proofs.Common.{◌≡◌, ◌<◌, ◌≤◌, ◌-◌, length, drop, take, refl, subst, arith, length-drop}
 use Rattle.std.proofs.lemmas.List.{take_all}
-use Rattle.vx_lemmas.specs.Slices.{two-parts}
+use Rattle.vx_lemmas.proofs.Laws.Slices.{two-parts}
 use Rattle.vx_rpc.specs.Wording.{call_message}
 use Rattle.vx_codec.specs.Spelling.{opaque}
 use Rattle.vx_srq.specs.Shown.{handle_shown}

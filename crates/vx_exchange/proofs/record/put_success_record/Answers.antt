@@ -1,6 +1,6 @@
 use Rattle.vx_record.specs.Fragments.{record_of}
 use Rattle.std.proofs.Common.{◌-◌, ◌≤◌, ap, ◌∙◌, arith}
-use Rattle.vx_lemmas.specs.Slices.{behind-mark}
+use Rattle.vx_lemmas.proofs.Laws.Slices.{behind-mark}
 use Rattle.vx_exchange.specs.declared.record.TheConstants.{REPLY_ROOM}
 use Rattle.vx_exchange.proofs.record.put_success_record.Goals as goal
 

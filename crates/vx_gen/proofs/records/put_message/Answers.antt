@@ -1,5 +1,5 @@
 use Rattle.std.proofs.Common.{drop, length, ◌-◌, take}
-use Rattle.vx_lemmas.specs.Slices.{two-parts}
+use Rattle.vx_lemmas.proofs.Laws.Slices.{two-parts}
 use Rattle.vx_rpc.specs.Wording.{call_message}
 use Rattle.vx_codec.specs.Asked.{arguments}
 use Rattle.vx_calls.specs.Call.{call_shown}

@@ -1,6 +1,6 @@
 use Rattle.std.proofs.Common.{◌==◌, not, map, ap, ◌∙◌, rules}
 use Rattle.std.proofs.lemmas.Fn.{filter_same}
-use Rattle.vx_lemmas.specs.Lists.{filter-map}
+use Rattle.vx_lemmas.proofs.Laws.Lists.{filter-map}
 use Rattle.vx_history.specs.Stepping.{kept_shown}
 use Rattle.vx_history.proofs.kept.drop_kept.Goals as goal
 

@@ -1,6 +1,6 @@
 use Rattle.std.proofs.Common.{◌==◌, ap, sym, ◌∙◌}
 use Rattle.std.specs.Option.{option_map}
-use Rattle.vx_lemmas.specs.Lists.{find-map}
+use Rattle.vx_lemmas.proofs.Laws.Lists.{find-map}
 use Rattle.vx_history.specs.Stepping.{kept_shown}
 use Rattle.vx_history.proofs.kept.kept_at.Goals as goal
 

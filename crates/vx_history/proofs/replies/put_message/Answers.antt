@@ -1,5 +1,5 @@
 use Rattle.std.proofs.Common.{◌≡◌, ◌+◌, ◌++◌, drop, length, ◌-◌, take, arith}
-use Rattle.vx_lemmas.specs.Slices.{two-parts}
+use Rattle.vx_lemmas.proofs.Laws.Slices.{two-parts}
 use Rattle.vx_rpc.specs.Wording.{success_message}
 use Rattle.vx_codec.specs.Answered.{results}
 use Rattle.vx_calls.specs.Reply.{reply_shown}

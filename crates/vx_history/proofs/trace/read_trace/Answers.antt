@@ -1,5 +1,5 @@
 use Rattle.std.proofs.Common.{◌≤◌, subst, ◌∙◌, rules}
-use Rattle.vx_text.proofs.Moved.{gave-lost}
+use Rattle.vx_text.proofs.Laws.Moved.{gave-lost}
 use Rattle.vx_history.proofs.trace.read_trace.Goals as goal
 
 pub returns-in-NoMemory-clause-read : goal.returns-in-NoMemory-clause-read

@@ -4,11 +4,11 @@ use Rattle.vx_488.specs.declared.transfers.Transfer.TheVariants.{Got}
 use Rattle.vx_bus_traits.specs.declared.asks.Ask.TheVariants as ask
 use Rattle.vx_bus_traits.specs.Means.{Means, first_means}
 use Rattle.vx_bus_traits.specs.Steps.{Went, Held}
-use Rattle.vx_bus_traits.specs.ProvedLaws.Gets.{gets-begin, gets-held, gets-end, gets-char, gets-next, gets-full, char-is}
+use Rattle.vx_bus_traits.proofs.Laws.Gets.{gets-begin, gets-held, gets-end, gets-char, gets-next, gets-full, char-is}
 use Rattle.vx_inst.specs.Behavior.{Behavior, seen}
-use Rattle.vx_inst.specs.Laws.{Gives}
+use Rattle.vx_inst.specs.Laws.{InstGives}
 use Rattle.vx_inst.specs.Runs.{GivesNext}
-use Rattle.vx_inst.specs.ProvedLaws.Runs.{Giving, meaning, meant_after, gives-steps, gives-path}
+use Rattle.vx_inst.proofs.Laws.Runs.{Giving, meaning, meant_after, gives-steps, gives-path}
 use Rattle.vx_inst.proofs.Instrument.give_many.Goals as goal
 
 pub loop-got-init : goal.loop-got-init
@@ -34,7 +34,7 @@ returns-then-end-clause-gives g c =
     let s = Went (Got b true) in
     let gave : GivesNext o s o' = (
       sym c.if-not-can_give.ensures.can,
-      subst (λ e. Gives (seen o) (record { value = b; end = e }) (seen o')) c.if-end.true c.give-b.ensures.gives,
+      subst (λ e. InstGives (seen o) (record { value = b; end = e }) (seen o')) c.if-end.true c.give-b.ensures.gives,
       c.give-b.ensures.does,
       c.give-b.ensures.sound,
     ) in
@@ -52,7 +52,7 @@ returns-then-end-clause-stops g c =
     let s = Went (Got b true) in
     let gave : GivesNext o s o' = (
       sym c.if-not-can_give.ensures.can,
-      subst (λ e. Gives (seen o) (record { value = b; end = e }) (seen o')) c.if-end.true c.give-b.ensures.gives,
+      subst (λ e. InstGives (seen o) (record { value = b; end = e }) (seen o')) c.if-end.true c.give-b.ensures.gives,
       c.give-b.ensures.does,
       c.give-b.ensures.sound,
     ) in
@@ -69,7 +69,7 @@ returns-then-eq-clause-gives g c =
     let s = Went (Got b false) in
     let gave : GivesNext o s o' = (
       sym c.if-not-can_give.ensures.can,
-      subst (λ e. Gives (seen o) (record { value = b; end = e }) (seen o')) c.if-end.false c.give-b.ensures.gives,
+      subst (λ e. InstGives (seen o) (record { value = b; end = e }) (seen o')) c.if-end.false c.give-b.ensures.gives,
       c.give-b.ensures.does,
       c.give-b.ensures.sound,
     ) in
@@ -87,7 +87,7 @@ returns-then-eq-clause-stops g c =
     let s = Went (Got b false) in
     let gave : GivesNext o s o' = (
       sym c.if-not-can_give.ensures.can,
-      subst (λ e. Gives (seen o) (record { value = b; end = e }) (seen o')) c.if-end.false c.give-b.ensures.gives,
+      subst (λ e. InstGives (seen o) (record { value = b; end = e }) (seen o')) c.if-end.false c.give-b.ensures.gives,
       c.give-b.ensures.does,
       c.give-b.ensures.sound,
     ) in
@@ -104,7 +104,7 @@ loop-got-preserved g c =
     let s = Went (Got b false) in
     let gave : GivesNext o s o' = (
       sym c.if-not-can_give.ensures.can,
-      subst (λ e. Gives (seen o) (record { value = b; end = e }) (seen o')) c.if-end.false c.give-b.ensures.gives,
+      subst (λ e. InstGives (seen o) (record { value = b; end = e }) (seen o')) c.if-end.false c.give-b.ensures.gives,
       c.give-b.ensures.does,
       c.give-b.ensures.sound,
     ) in (

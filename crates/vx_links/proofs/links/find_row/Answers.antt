@@ -1,6 +1,6 @@
 use Rattle.std.proofs.Common.{◌==◌, refl, sym}
-use Rattle.vx_lemmas.specs.Filters.{find-none}
-use Rattle.vx_links.specs.Places.{find-place, none_equals}
+use Rattle.vx_lemmas.proofs.Laws.Filters.{find-none}
+use Rattle.vx_links.proofs.Laws.Places.{find-place, none_equals}
 use Rattle.vx_links.proofs.links.find_row.Goals as goal
 
 pub returns-in-Some : goal.returns-in-Some

@@ -1,6 +1,6 @@
 use Rattle.std.proofs.Common.{rules}
 use Rattle.std.proofs.lemmas.List.Sorted.{answers_always}
-use Rattle.vx_links.specs.Places.{search_finds}
+use Rattle.vx_links.proofs.Laws.Places.{search_finds}
 use Rattle.vx_links.proofs.links.place_of.Goals as goal
 
 -- the closure gives a row's number

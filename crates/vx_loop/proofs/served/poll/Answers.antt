@@ -9,12 +9,12 @@ pub returns-clause-continues : goal.returns-clause-continues
 returns-clause-continues g c =
     let h = c.again.ensures.polled in
     let late = c.requires.late in
-    let now : max c.args.core.now.fine.state.moment c.args.now ≡ c.args.now = omega arith in
+    let now : max c.args.core.now.interleaved.state.moment c.args.now ≡ c.args.now = omega arith in
     let before = gateway_of c.args.core.now in
     let after = gateway_of c.again.new.core in
     subst (λ n. Continues before c.args.xid c.args.now after (take n c.again.new.reply)) (sym c.reply_len.ensures)
     (subst (λ m. Continues before c.args.xid m after (take (reply_len c.again.result) c.again.new.reply)) now
-    (poll-continues before after (max c.args.core.now.fine.state.moment c.args.now) c.args.xid c.again.new.reply c.again.result (c.again.ensures.len ∙ c.requires.room) h.ending c.requires.fit
+    (poll-continues before after (max c.args.core.now.interleaved.state.moment c.args.now) c.args.xid c.again.new.reply c.again.result (c.again.ensures.len ∙ c.requires.room) h.ending c.requires.fit
     h.over h.says))
 
 pub returns-clause-within : goal.returns-clause-within

@@ -2,7 +2,7 @@ use Rattle.std.proofs.Common.{◌≡◌, max, [], ◌∷◌, false, Some, ◌∙
 use Rattle.vx_calls.specs.Reply as reply
 use Rattle.vx_bus_traits.specs.Steps.{Told, Cut}
 use Rattle.vx_flow.specs.Event.{Answer}
-use Rattle.vx_flow.specs.Fine.{fine}
+use Rattle.vx_flow.specs.InterleavedStep.{interleaved_step}
 use Rattle.vx_loop.specs.Gateway.{BusGoes}
 use Rattle.vx_loop.proofs.Continuing.{dial-replies}
 use Rattle.vx_loop.proofs.served.refuse_dial.Goals as goal
@@ -14,9 +14,9 @@ returns-clause-replied g c =
     let h = c.settle.ensures.settles in
     let told = c.settle.result in
     let at = c.moment-now.ensures in
-    let now : max before.fine.state.moment c.moment-now.result ≡ before.fine.state.moment = omega arith in
-    dial-replies before after before.fine.state.moment c.args.xid c.settle.new.reply told c.requires.fit (c.settle.ensures.len ∙ c.requires.room)
-    (subst (λ n. fine before.fine (Answer 1 n false (Some false) false (reply.Error told.error)) ≡ Some after.fine) now h.answers)
+    let now : max before.interleaved.state.moment c.moment-now.result ≡ before.interleaved.state.moment = omega arith in
+    dial-replies before after before.interleaved.state.moment c.args.xid c.settle.new.reply told c.requires.fit (c.settle.ensures.len ∙ c.requires.room)
+    (subst (λ n. interleaved_step before.interleaved (Answer 1 n false (Some false) false (reply.Error told.error)) ≡ Some after.interleaved) now h.answers)
     (subst (λ n. BusGoes before.bus (Cut ∷ Told n ∷ []) after.bus) now h.walk) h.stands
 
 pub returns-clause-within : goal.returns-clause-within

@@ -2,9 +2,9 @@ use Rattle.std.proofs.Common.{◌≡◌, ℕ, None, IfSome, Err, inl, refl, sym,
 use Rattle.std.proofs.lemmas.Result.{err_from_is_err_and, on_ok_weaker}
 use Rattle.vx_rules.specs.Calls.{sets_end}
 use Rattle.vx_client.specs.Chunks.{chunks, IsWritten}
-use Rattle.vx_client.proofs.Chunks.{leads-all, leads-on, leads-failed, leads-last}
+use Rattle.vx_client.proofs.Laws.Chunks.{leads-all, leads-on, leads-failed, leads-last}
 use Rattle.vx_loop.specs.LoopState.{LoopState}
-use Rattle.vx_loop.specs.Standing.{StandsFor, IsUnanswered}
+use Rattle.vx_loop.specs.Standing.{LoopStandsFor, IsUnanswered}
 use Rattle.vx_loop.specs.Telling.{OnReadFault}
 use Rattle.vx_loop.proofs.Several.{heard-more, heard-last, closed-first, sent-first}
 use Rattle.vx_loop.proofs.Ended.{map-closed, map-broken}
@@ -31,7 +31,7 @@ same g c = let p = err_from_is_err_and c.from_residual.result c.from_residual.en
 pub returns-in_err-write_piece-clause-written : goal.returns-in_err-write_piece-clause-written
 returns-in_err-write_piece-clause-written g c =
     let Written : ℕ → Type 0 =
-    λ n. IsWritten {L = LoopState} StandsFor (λ s. None) (λ s. s.receive_faults) (λ s. s.send_faults) c.args.client.now c.write_piece.new.client c.args.made.now.lid c.args.opts.now
+    λ n. IsWritten {L = LoopState} LoopStandsFor (λ s. None) (λ s. s.receive_faults) (λ s. s.send_faults) c.args.client.now c.write_piece.new.client c.args.made.now.lid c.args.opts.now
     (chunks n c.args.bytes.now) c.from_residual.result in
     subst Written c.loop-rest.invariant.0
     (leads-failed _ _ _ c.loop-rest.client _ _ _ c.loop-rest.rest.now c.in_err-write_piece.field-0.0 _ c.loop-rest.invariant.1 c.loop-rest-test.true c.loop-rest.invariant.2
@@ -40,7 +40,7 @@ returns-in_err-write_piece-clause-written g c =
 pub returns-clause-written : goal.returns-clause-written
 returns-clause-written g c =
     let Written : ℕ → Type 0 =
-    λ n. IsWritten {L = LoopState} StandsFor (λ s. None) (λ s. s.receive_faults) (λ s. s.send_faults) c.args.client.now c.write_piece-2.new.client c.args.made.now.lid c.args.opts.now
+    λ n. IsWritten {L = LoopState} LoopStandsFor (λ s. None) (λ s. s.receive_faults) (λ s. s.send_faults) c.args.client.now c.write_piece-2.new.client c.args.made.now.lid c.args.opts.now
     (chunks n c.args.bytes.now) c.write_piece-2.result in
     subst Written c.loop-rest.invariant.0
     (leads-last _ _ _ c.loop-rest.client _ _ _ c.loop-rest.rest.now _ c.loop-rest-test.false c.loop-rest.invariant.2 c.write_piece-2.ensures.called)

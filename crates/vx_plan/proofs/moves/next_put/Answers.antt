@@ -5,7 +5,7 @@ use Rattle.std.proofs.lemmas.Option.{slice_get_past}
 use Rattle.vx_488.specs.declared.transfers.Transfer.TheVariants.{Put}
 use Rattle.vx_plan.specs.Plan.{This}
 use Rattle.vx_plan.specs.Tasks.{puts}
-use Rattle.vx_plan.specs.ProvedLaws.Counts.{length-puts}
+use Rattle.vx_plan.proofs.Laws.Counts.{length-puts}
 use Rattle.vx_plan.proofs.Nexts.{puts-at}
 use Rattle.vx_plan.proofs.moves.next_put.Goals as goal
 

@@ -1,5 +1,5 @@
 use Rattle.std.proofs.Common.{ap}
-use Rattle.vx_text.specs.Ends.{End}
+use Rattle.vx_text.specs.Ends.{sink_shown}
 use Rattle.vx_play.proofs.RunEnding.{whole-put, stop-put}
 use Rattle.vx_play.proofs.run.make_over.Goals as goal
 
@@ -12,5 +12,5 @@ returns-in-Err g c =
     record {
       ended = λ rack alike. stop-put c.args.ask _ rack c.in-Err.halt.number c.in-Err.halt.stop _ _ _ alike c.in-Err.ensures.halted c.put_stop.ensures.refused
           (λ none. let ended = c.put_stop.ensures.memory none in
-          (ended.0, ap (λ s. let end : End = record { bytes = g.K.Sink.taken s; faults = g.K.Sink.faults s } in end) ended.1));
+          (ended.0, ap (sink_shown g.K.Sink) ended.1));
     }

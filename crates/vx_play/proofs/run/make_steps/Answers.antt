@@ -1,4 +1,4 @@
-use Rattle.vx_player.proofs.Ready.{begins-own}
+use Rattle.vx_player.proofs.Laws.Ready.{begins-own}
 use Rattle.vx_play.proofs.run.make_steps.Goals as goal
 
 pub make_over-requires-clause-begins : goal.make_over-requires-clause-begins

@@ -1,7 +1,7 @@
 use Rattle.std.proofs.Common.{sym, ◌∙◌, arith}
 use Rattle.std.proofs.lemmas.Bool.{eqb-true}
 use Rattle.std.proofs.lemmas.List.{nil_from_length}
-use Rattle.vx_player.proofs.Connections.{stands-ready}
+use Rattle.vx_player.proofs.Laws.Connections.{stands-ready}
 use Rattle.vx_play.proofs.WholePlay.{begun, head-cut, goes-on, whole-played, fault-played, cut-played, short-played}
 use Rattle.vx_play.proofs.run.play_lines.Goals as goal
 

@@ -1,6 +1,6 @@
 use Rattle.std.proofs.Common.{ap}
 use Rattle.vx_script.specs.Command.{step_shown}
-use Rattle.vx_bench.specs.Script.{commands_read}
+use Rattle.vx_setup.specs.Script.{commands_read}
 use Rattle.vx_play.proofs.Playing.{plain-said, plain-ended, nothing-ended}
 use Rattle.vx_play.proofs.run.play_plain.Goals as goal
 

@@ -1,4 +1,4 @@
-use Rattle.vx_player.proofs.Ready.{begins-own}
+use Rattle.vx_player.proofs.Laws.Ready.{begins-own}
 use Rattle.vx_play.proofs.run.play_script.Goals as goal
 
 pub play_in_room-requires : goal.play_in_room-requires

@@ -1,7 +1,8 @@
 use Rattle.std.proofs.Common.{ap}
+use Rattle.vx_text.specs.Ends.{sink_shown}
 use Rattle.vx_script.specs.Command.{step_shown}
-use Rattle.vx_bench.specs.Script.{commands_timed}
-use Rattle.vx_player.specs.declared.note.Made.{Made}
+use Rattle.vx_setup.specs.Script.{commands_timed}
+use Rattle.vx_player.specs.declared.note.StepMade.{StepMade}
 use Rattle.vx_player.specs.Standing.{made_lines2}
 use Rattle.vx_play.proofs.Playing.{timed-said, timed-ended, nothing-ended, strange-ended}
 use Rattle.vx_play.proofs.run.play_timed.Goals as goal
@@ -13,7 +14,7 @@ pub returns-in-Ok-Some-clause-ended : goal.returns-in-Ok-Some-clause-ended
 returns-in-Ok-Some-clause-ended g c = λ stage stands.
     timed-ended _ c.in-Ok-Some.moment (step_shown c.in-Ok-Some.step) c.at.result stage c.at.new.self _ _ _ _
     (timed-said c.args.line.now _ c.in-Ok-Some.moment c.in-Ok-Some.step c.in-Ok-Some.ensures.reads (cc)) (c.at.ensures.taken stage stands)
-    (ap (λ (m : Made). made_lines2 c.at.new.self m) c.at.ensures.quiet) c.at.ensures.timely c.play_step.ensures.ended
+    (ap (λ (m : StepMade). made_lines2 c.at.new.self m) c.at.ensures.quiet) c.at.ensures.timely c.play_step.ensures.ended
 
 pub returns-in-Ok-None-clause-ended : goal.returns-in-Ok-None-clause-ended
 returns-in-Ok-None-clause-ended g c = λ stage stands.
@@ -21,4 +22,4 @@ returns-in-Ok-None-clause-ended g c = λ stage stands.
 
 pub returns-in-Err-clause-ended : goal.returns-in-Err-clause-ended
 returns-in-Err-clause-ended g c = λ stage stands. strange-ended c.args.line.now c.in-Err.cause stage c.args.player.now
-    (record { bytes = g.K.Sink.taken c.args.sink.now; faults = g.K.Sink.faults c.args.sink.now }) c.in-Err.ensures.reads
+    (sink_shown g.K.Sink c.args.sink.now) c.in-Err.ensures.reads

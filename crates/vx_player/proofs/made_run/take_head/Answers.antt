@@ -1,6 +1,6 @@
 use Rattle.std.proofs.Common.{arith}
 use Rattle.vx_script.specs.Command.{step_shown}
-use Rattle.vx_player.proofs.Connections.{stands-ready}
+use Rattle.vx_player.proofs.Laws.Connections.{stands-ready}
 use Rattle.vx_player.proofs.Driving.{run-begins, run-small, run-goes-on, run-halts, head-next}
 use Rattle.vx_player.proofs.made_run.take_head.Goals as goal
 

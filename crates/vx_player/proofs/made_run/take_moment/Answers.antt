@@ -1,5 +1,5 @@
 use Rattle.std.proofs.Common.{arith}
-use Rattle.vx_player.proofs.Connections.{stands-ready}
+use Rattle.vx_player.proofs.Laws.Connections.{stands-ready}
 use Rattle.vx_player.proofs.Driving.{run-small, moment-goes-on, moment-halts}
 use Rattle.vx_player.proofs.made_run.take_moment.Goals as goal
 

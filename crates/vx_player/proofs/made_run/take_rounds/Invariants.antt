@@ -1,5 +1,5 @@
 use Rattle.std.specs.Prelude.{◌≡◌, ◌≤◌, ◌-◌, ◌+◌, ◌*◌, List}
-use Rattle.vx_bench.specs.Rack.{SpareShown}
+use Rattle.vx_setup.specs.Rack.{SpareShown}
 use Rattle.vx_gen.specs.declared.steps.TheConstants.{HEAD_STEPS}
 use Rattle.vx_gen.specs.Drawing.{draw}
 use Rattle.vx_player.specs.Counting.{Running}

@@ -2,8 +2,8 @@ use Rattle.std.proofs.Common.{refl, nat_cmp}
 use Rattle.std.specs.BTreeMap.{get}
 use Rattle.vx_record.specs.declared.Feed.TheVariants as feed
 use Rattle.vx_player.specs.Gateway.{gateway_of}
-use Rattle.vx_rules.specs.ProvedLaws.{role-connection}
-use Rattle.vx_rules.specs.ProvedLaws.{lives-role}
+use Rattle.vx_rules.proofs.Laws.{role-connection}
+use Rattle.vx_rules.proofs.Laws.{lives-role}
 use Rattle.vx_player.proofs.Feeds.{fed-whole, feeds-piece, stops-piece, fed-state, fed-limits}
 use Rattle.vx_player.proofs.pieces.feed_piece.Goals as goal
 
@@ -17,7 +17,7 @@ answer-requires-clause-limit g c =
 
 pub end-requires : goal.end-requires
 end-requires g c =
-    role-connection c.args.core.now.fine.state.tables c.args.conn c.args.role (lives-role c.args.core.now.fine.state.tables c.args.conn c.args.role c.requires.lives)
+    role-connection c.args.core.now.interleaved.state.tables c.args.conn c.args.role (lives-role c.args.core.now.interleaved.state.tables c.args.conn c.args.role c.requires.lives)
 
 pub returns-in-None-clause-stopped : goal.returns-in-None-clause-stopped
 returns-in-None-clause-stopped g c = λ kept was. let none = c.in-None.ensures.none in absurd (cc (was, none))

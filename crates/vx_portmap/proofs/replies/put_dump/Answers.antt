@@ -1,7 +1,7 @@
 use Rattle.std.proofs.Common.{◌≤◌, length, arith}
 use Rattle.std.specs.List.{flat_map}
 use Rattle.vx_portmap.specs.Answering.{entry}
-use Rattle.vx_rpc.specs.ProvedLaws.{length-words}
+use Rattle.vx_rpc.proofs.Laws.{length-words}
 use Rattle.vx_portmap.proofs.Written.{dump-written, length-entries}
 use Rattle.vx_portmap.proofs.replies.put_dump.Goals as goal
 

@@ -3,7 +3,7 @@ use Rattle.std.specs.List.{flat_map}
 use Rattle.std.proofs.lemmas.List.{length-take}
 use Rattle.vx_xdr.specs.Writing.{Writes}
 use Rattle.vx_portmap.specs.Answering.{entry}
-use Rattle.vx_rpc.specs.ProvedLaws.{length-words}
+use Rattle.vx_rpc.proofs.Laws.{length-words}
 use Rattle.vx_portmap.proofs.Written.{writes-then, length-entries, entries-more}
 use Rattle.vx_portmap.proofs.replies.put_entries.Goals as goal
 

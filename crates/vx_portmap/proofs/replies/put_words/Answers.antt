@@ -1,7 +1,7 @@
 use Rattle.std.proofs.Common.{◌≤◌, take, length, refl, sym, subst, arith}
 use Rattle.std.proofs.lemmas.List.{length-take}
 use Rattle.vx_xdr.specs.Writing.{Writes}
-use Rattle.vx_rpc.specs.ProvedLaws.{length-words, words-more}
+use Rattle.vx_rpc.proofs.Laws.{length-words, words-more}
 use Rattle.vx_portmap.proofs.Written.{writes-then}
 use Rattle.vx_portmap.proofs.replies.put_words.Goals as goal
 

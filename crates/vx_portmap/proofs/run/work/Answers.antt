@@ -1,29 +1,25 @@
-use Rattle.vx_door.specs.ProvedLaws.{went_keeps}
+use Rattle.vx_door.proofs.Laws.{went_keeps}
 use Rattle.std.proofs.Common.{sym, subst}
-use Rattle.vx_door.specs.Shown.{door_shown}
+use Rattle.vx_door.specs.Shown.{door_told, door_shown}
 use Rattle.vx_door.specs.Running.{ServesPeers}
 use Rattle.vx_portmap.specs.Mapped.{StreamMapped, is_own, is_whole}
-use Rattle.vx_stream.specs.Shown.{link_shown}
 use Rattle.vx_portmap.specs.Packing.{box_shown}
-use Rattle.vx_portmap.specs.Outcome.{Shows, Works}
+use Rattle.vx_portmap.specs.Outcome.{MapShows, Works}
 use Rattle.vx_portmap.proofs.run.work.Goals as goal
 
 pub returns-in-Stream : goal.returns-in-Stream
 returns-in-Stream g c =
-    let n : Shows g.row.N.Denot = record {
-      stands = g.N.Link.stands;
-      receives = g.N.Link.receives;
-      sends = g.N.Link.sends;
+    let n : MapShows g.row.N.Denot = record {
+      ways = g.N.Link;
       tells = g.N.Door.tells;
       waits = g.N.Door.meets;
-      door = door_shown g.N.Door.met g.N.Door.ended g.N.Door.faults g.N.Link.receive_faults g.N.Link.send_faults g.N.Link.left g.N.Link.peers;
-      link = link_shown g.N.Link.left g.N.Link.peers g.N.Link.receive_faults g.N.Link.send_faults;
+      door = door_shown (door_told g.N.Link g.N.Door);
       box = box_shown g.N.Packets.packets_left g.N.Packets.packets_given g.N.Packets.packets_moved g.N.Packets.packets_ended g.N.Packets.take_faults g.N.Packets.give_faults;
       box_faults = g.N.MapNet.box_faults;
       opening = record { opens = g.N.Door.opens; ready = g.N.Link.is_ready };
       opens_box = g.N.MapNet.opens_box;
     } in
-    let serves = subst (λ s. ServesPeers n.stands n.tells n.waits n.door (StreamMapped n.stands n.receives n.sends n.link) is_own is_whole s c.args.net.now c.args.ask.now.number c.serve_door-end.result.0 c.serve_door-end.result.1 c.serve_door-end.new.server c.serve_door-end.new.door) c.new-mapper.ensures c.serve_door-end.ensures.served in
+    let serves = subst (λ s. ServesPeers n.ways.stands n.tells n.waits n.door (StreamMapped n.ways) is_own is_whole s c.args.net.now c.args.ask.now.number c.serve_door-end.result.0 c.serve_door-end.result.1 c.serve_door-end.new.server c.serve_door-end.new.door) c.new-mapper.ensures c.serve_door-end.ensures.served in
     subst (λ k. Works n k c.args.ports c.args.ask.now.number c.args.net.now c.end_of_door.result c.serve_door-end.result.1 c.serve_door-end.new.door) (sym c.in-Stream.is)
     (record {
       ended = c.serve_door-end.result.0;

@@ -1,6 +1,6 @@
 use Rattle.std.proofs.Common.{Some, ap, ◌∙◌}
 use Rattle.std.specs.Prelude.{option_map}
-use Rattle.vx_lemmas.specs.Slices.{behind-mark}
+use Rattle.vx_lemmas.proofs.Laws.Slices.{behind-mark}
 use Rattle.vx_portmap.specs.declared.limits.TheConstants.{MESSAGE_MAX}
 use Rattle.vx_record.specs.Fragments.{record_of}
 use Rattle.vx_portmap.proofs.sending.put_record.Goals as goal

@@ -3,7 +3,8 @@ use Rattle.vx_xdr.specs.declared.fault.XdrErr.{XdrErr}
 use Rattle.vx_xdr.specs.Spelling.{Word}
 use Rattle.vx_xdr.specs.Reading.{reading}
 use Rattle.vx_rpc.specs.Header.{CallBody}
-use Rattle.vx_rpc.proofs.HeaderLemmas.{takes_word, call_body-steps, behind_five}
+use Rattle.vx_rpc.proofs.Laws.Sorted.{call_body-steps}
+use Rattle.vx_rpc.proofs.HeaderLemmas.{takes_word, behind_five}
 use Rattle.vx_rpc.proofs.header.call_header.Goals as goal
 
 pub returns-clause-shown : goal.returns-clause-shown

@@ -1,6 +1,6 @@
 use Rattle.std.proofs.Common.{◌≡◌, ◌-◌, ◌^◌, sym, ◌∙◌, true}
 use Rattle.std.proofs.lemmas.Str.{IsUtf8-from_ascii}
-use Rattle.vx_lemmas.specs.Options.{ok_some, err_none}
+use Rattle.vx_lemmas.proofs.Laws.Options.{ok_some, err_none}
 use Rattle.vx_script.specs.Words.{is_positive}
 use Rattle.vx_script.proofs.Numbers.{positive-ascii, positive-least, parsed-positive}
 use Rattle.vx_script.proofs.values.positive_of.Goals as goal

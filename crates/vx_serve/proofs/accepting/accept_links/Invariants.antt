@@ -7,4 +7,4 @@ use Rattle.vx_serve.proofs.accepting.accept_links.Given as goal
 abbrev pub invariant-loop : goal.invariant-loop
 invariant-loop g l =
     (g.N.Net.is_open l.net ≡ true)
-    × TookSoFar l.limit (net_shown g.N.Net.faults g.N.Net.given g.N.Net.ended l.initial.net) (net_shown g.N.Net.faults g.N.Net.given g.N.Net.ended l.net) l.number
+    × TookSoFar l.limit (net_shown g.N.Net l.initial.net) (net_shown g.N.Net l.net) l.number

@@ -11,7 +11,7 @@ returns g c =
     let t = c.turn.ensures in
     let answer = c.turn.result.1 in
     record {
-      placed = record { before = t.log; group = group_after t.before.fine (connect_events c.args.role answer) (connect_steps answer) t.after.fine.state.moment };
+      placed = record { before = t.log; group = group_after t.before.interleaved (connect_events c.args.role answer) (connect_steps answer) t.after.interleaved.state.moment };
       turns = turns (origin g.B.Bus (g.T.Turns.first c.args.turns.now)) 0 t (joins-timely t.log t.before t.after c.args.role answer t.stood.state t.did);
       events = refl;
       steps = refl;

@@ -4,9 +4,9 @@ use Rattle.vx_488.specs.declared.transfers.Transfer.TheVariants.{Got}
 use Rattle.vx_bus_traits.specs.declared.asks.Ask.TheVariants as ask
 use Rattle.vx_bus_traits.specs.Means.{Means, first_means}
 use Rattle.vx_bus_traits.specs.Steps.{Went, Held}
-use Rattle.vx_bus_traits.specs.ProvedLaws.Gets.{gets-begin, gets-held, gets-end, gets-char, gets-next, gets-full, char-is}
+use Rattle.vx_bus_traits.proofs.Laws.Gets.{gets-begin, gets-held, gets-end, gets-char, gets-next, gets-full, char-is}
 use Rattle.vx_sim.specs.Occupants.{Occupant, Table, GivesByte, GivesBy}
-use Rattle.vx_inst.specs.ProvedLaws.Runs.{Giving, meaning, meant_after, gives-steps, gives-path}
+use Rattle.vx_inst.proofs.Laws.Runs.{Giving, meaning, meant_after, gives-steps, gives-path}
 use Rattle.vx_sim.proofs.places.give_run.Goals as goal
 
 pub loop-got-init : goal.loop-got-init

@@ -1,8 +1,8 @@
 use Rattle.std.proofs.Common.{length, ◌-◌}
 use Rattle.vx_bus_traits.specs.Means.{Means, first_means}
-use Rattle.vx_bus_traits.specs.ProvedLaws.Gets.{GetsSoFar}
+use Rattle.vx_bus_traits.proofs.Laws.Gets.{GetsSoFar}
 use Rattle.vx_sim.specs.Occupants.{Occupant, Table, GivesBy}
-use Rattle.vx_inst.specs.ProvedLaws.Runs.{Giving, meaning}
+use Rattle.vx_inst.proofs.Laws.Runs.{Giving, meaning}
 use Rattle.vx_sim.proofs.places.give_run.Given as goal
 
 abbrev pub invariant-loop-got : goal.invariant-loop-got

@@ -1,9 +1,9 @@
 use Rattle.std.proofs.Common.{Err, [], map, refl, subst}
 use Rattle.vx_sim.specs.Occupants.{handed_in}
-use Rattle.vx_bench.specs.declared.bench.BenchStop.TheVariants as stop
-use Rattle.vx_bench.specs.Script.{plain_script}
-use Rattle.vx_bench.specs.Spares.{spare_shown}
-use Rattle.vx_bench.specs.SettingUp.{EndsBench, IsSetUp}
+use Rattle.vx_setup.specs.declared.bench.BenchStop.TheVariants as stop
+use Rattle.vx_setup.specs.Script.{plain_script}
+use Rattle.vx_setup.specs.Spares.{spare_shown}
+use Rattle.vx_setup.specs.SettingUp.{EndsBench, IsSetUp}
 use Rattle.vx_startup.specs.Outcome.{first_bench}
 use Rattle.vx_startup.proofs.preparing.bus_of.Goals as goal
 

@@ -1,14 +1,11 @@
 use Rattle.std.proofs.Common.{◌≡◌, ◌-◌, length}
 use Rattle.vx_door.specs.Going.{Went}
-use Rattle.vx_stream.specs.Shown.{link_shown}
 use Rattle.vx_stream.proofs.Piecewise.{PieceSoFar}
 use Rattle.vx_stream.proofs.pieces.answer_piece.Given as goal
 
 abbrev pub invariant-loop-at : goal.invariant-loop-at
 invariant-loop-at g l = record {
-  so_far : PieceSoFar g.S.Answers.does g.L.Link.stands g.L.Link.receives g.L.Link.sends l.initial.server l.initial.link
-      (link_shown g.L.Link.left g.L.Link.peers g.L.Link.receive_faults g.L.Link.send_faults l.initial.link) l.initial.incoming l.piece l.at l.server l.link
-      (link_shown g.L.Link.left g.L.Link.peers g.L.Link.receive_faults g.L.Link.send_faults l.link) l.incoming;
+  so_far : PieceSoFar g.S.Answers.does g.L.Link l.initial.server l.initial.link l.initial.incoming l.piece l.at l.server l.link l.incoming;
   went : Went g.L.Link.receives g.L.Link.sends l.initial.link l.link;
   can : g.S.Answers.can l.server;
   limit : l.incoming.limit ≡ l.initial.incoming.limit;

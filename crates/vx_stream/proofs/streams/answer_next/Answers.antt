@@ -1,7 +1,6 @@
 use Rattle.std.proofs.Common.{◌≡◌, length, take, inl, inr, refl, ap, ◌∙◌, subst, arith}
 use Rattle.std.proofs.lemmas.List.{length-take-le}
 use Rattle.vx_door.specs.Going.{Not_yet, By_receive}
-use Rattle.vx_stream.specs.Shown.{link_shown}
 use Rattle.vx_stream.specs.Pieces.{AnswersPiece}
 use Rattle.vx_stream.specs.Stopping.{input_end}
 use Rattle.vx_stream.proofs.Moving.{went-then}
@@ -43,7 +42,6 @@ returns-in-None-clause-answers g c =
       record {
         piece = take c.in-Got.count c.receive.new.into;
         mid = c.receive.new.self;
-        mid_seen = link_shown g.L.Link.left g.L.Link.peers g.L.Link.receive_faults g.L.Link.send_faults c.receive.new.self;
         some = omega (arith, len, c.in-Got.ensures.got.0);
         fits = omega (arith, len, c.in-Got.ensures.got.1, c.receive.auto.into);
         gave = record {
@@ -56,10 +54,8 @@ returns-in-None-clause-answers g c =
           };
         };
         received = record { slice = _; answer = _; filled = _; called = c.in-Got.ensures.receives; gave = refl };
-        answers = subst (λ o. AnswersPiece g.S.Answers.does g.L.Link.stands g.L.Link.receives g.L.Link.sends c.args.server c.receive.new.self
-            (link_shown g.L.Link.left g.L.Link.peers g.L.Link.receive_faults g.L.Link.send_faults c.receive.new.self) c.args.incoming.now (take c.in-Got.count c.receive.new.into)
-            o c.answer_piece-server.result.0 c.answer_piece-server.new.link
-            (link_shown g.L.Link.left g.L.Link.peers g.L.Link.receive_faults g.L.Link.send_faults c.answer_piece-server.new.link) c.answer_piece-server.new.incoming)
+        answers = subst (λ o. AnswersPiece g.S.Answers.does g.L.Link c.args.server c.receive.new.self c.args.incoming.now (take c.in-Got.count c.receive.new.into)
+            o c.answer_piece-server.result.0 c.answer_piece-server.new.link c.answer_piece-server.new.incoming)
             c.in-None.is c.answer_piece-server.ensures.answers;
       },
       len,

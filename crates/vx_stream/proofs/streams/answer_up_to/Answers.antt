@@ -7,7 +7,7 @@ use Rattle.vx_stream.proofs.streams.answer_up_to.Goals as goal
 
 pub loop-left-init : goal.loop-left-init
 loop-left-init g c = record {
-  so_far = streamed-none g.S.Answers.does g.L.Link.stands g.L.Link.receives g.L.Link.sends _ _ _ c.args.server c.args.link.now _ c.args.most c.args.incoming.now c.requires.buffer (omega arith);
+  so_far = streamed-none g.S.Answers.does g.L.Link _ _ _ c.args.server c.args.link.now c.args.most c.args.incoming.now c.requires.buffer (omega arith);
   went = Not_yet _;
   can = c.requires.can;
   limit = refl;
@@ -17,8 +17,8 @@ loop-left-init g c = record {
 
 pub loop-left-preserved : goal.loop-left-preserved
 loop-left-preserved g c = record {
-  so_far = streamed-on g.S.Answers.does g.L.Link.stands g.L.Link.receives g.L.Link.sends c.args.incoming.now.limit _ _ c.args.server c.args.link.now _ c.pieces_law.ensures c.loop-left.left (c.loop-left.left - c.in-Came.count) _
-      c.loop-left.server _ c.loop-left.link _ _ _ c.loop-left.incoming _ c.answer_next-served.result.1 c.in-Came.count c.loop-left.invariant.so_far
+  so_far = streamed-on g.S.Answers.does g.L.Link c.args.incoming.now.limit _ _ c.args.server c.args.link.now c.pieces_law.ensures c.loop-left.left (c.loop-left.left - c.in-Came.count) _
+      c.loop-left.server _ c.loop-left.link _ c.loop-left.incoming _ c.answer_next-served.result.1 c.in-Came.count c.loop-left.invariant.so_far
       c.answer_next-served.ensures.answers c.in-Came.is
       (λ received piece len fits rest. omega (arith, length-append received piece, len, fits, rest, c.min-fits.ensures, length-take c.min-fits.result c.loop-left.piece));
   went = went-then g.L.Link.receives g.L.Link.sends _ _ _ c.loop-left.invariant.went c.answer_next-served.ensures.went;
@@ -37,7 +37,7 @@ loop-left-preserved g c = record {
 
 pub returns-in-Ends-clause-answers : goal.returns-in-Ends-clause-answers
 returns-in-Ends-clause-answers g c =
-    streamed-stops g.S.Answers.does g.L.Link.stands g.L.Link.receives g.L.Link.sends _ _ _ c.args.server c.args.link.now _ c.pieces_law.ensures c.loop-left.left _ c.loop-left.server _ c.loop-left.link _ _ _
+    streamed-stops g.S.Answers.does g.L.Link _ _ _ c.args.server c.args.link.now c.pieces_law.ensures c.loop-left.left _ c.loop-left.server _ c.loop-left.link _
     c.loop-left.incoming _ c.answer_next-served.result.1 c.in-Ends.end c.loop-left-test.true
     (omega (arith, c.min-fits.ensures, length-take c.min-fits.result c.loop-left.piece))
     (omega (arith, c.min-fits.ensures, length-take c.min-fits.result c.loop-left.piece, c.loop-left.invariant.piece_len)) c.requires.piece c.loop-left.invariant.so_far
@@ -48,6 +48,6 @@ returns-in-Ends-clause-went g c = went-then g.L.Link.receives g.L.Link.sends _ _
 
 pub returns-clause-answers : goal.returns-clause-answers
 returns-clause-answers g c =
-    streamed-spent g.S.Answers.does g.L.Link.stands g.L.Link.receives g.L.Link.sends _ _ _ c.args.server c.args.link.now _ c.pieces_law.ensures c.loop-left.left c.loop-left.server c.loop-left.link _
+    streamed-spent g.S.Answers.does g.L.Link _ _ _ c.args.server c.args.link.now c.pieces_law.ensures c.loop-left.left c.loop-left.server c.loop-left.link
     c.loop-left.incoming c.loop-left.invariant.so_far c.requires.piece
     (omega (arith, c.loop-left-test.false, c.loop-left.invariant.so_far.rest))

@@ -1,14 +1,11 @@
 use Rattle.std.proofs.Common.{◌≡◌, length, Some}
 use Rattle.vx_door.specs.Going.{Went}
-use Rattle.vx_stream.specs.Shown.{link_shown}
 use Rattle.vx_stream.proofs.Streamwise.{Streamed}
 use Rattle.vx_stream.proofs.streams.answer_up_to.Given as goal
 
 abbrev pub invariant-loop-left : goal.invariant-loop-left
 invariant-loop-left g l = record {
-  so_far : Streamed g.S.Answers.does g.L.Link.stands g.L.Link.receives g.L.Link.sends l.initial.incoming.limit (length l.initial.piece) (Some l.most) l.initial.server l.initial.link
-      (link_shown g.L.Link.left g.L.Link.peers g.L.Link.receive_faults g.L.Link.send_faults l.initial.link) l.left l.server l.link
-      (link_shown g.L.Link.left g.L.Link.peers g.L.Link.receive_faults g.L.Link.send_faults l.link) l.incoming;
+  so_far : Streamed g.S.Answers.does g.L.Link l.initial.incoming.limit (length l.initial.piece) (Some l.most) l.initial.server l.initial.link l.left l.server l.link l.incoming;
   went : Went g.L.Link.receives g.L.Link.sends l.initial.link l.link;
   can : g.S.Answers.can l.server;
   limit : l.incoming.limit ≡ l.initial.incoming.limit;

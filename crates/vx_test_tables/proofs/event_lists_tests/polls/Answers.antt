@@ -3,7 +3,7 @@ use Rattle.std.proofs.Common.{◌≡◌, Bool, true, false, is_some, refl, sym, 
 use Rattle.std.proofs.lemmas.Bool.{true≢false}
 use Rattle.vx_rules.specs.Calls.{has_passed}
 use Rattle.vx_rules.specs.Lines.{Admission, Waiting}
-use Rattle.vx_flow.specs.FineState.{begun_of}
+use Rattle.vx_flow.specs.InterleavedState.{begun_of}
 use Rattle.vx_test_tables.specs.Lists.{puts}
 use Rattle.vx_test_tables.specs.Turns.{turn_with}
 use Rattle.vx_test_tables.proofs.event_lists_tests.polls.Goals as goal

@@ -1,7 +1,7 @@
 use Rattle.std.proofs.Common.{rules, arith, ◌≡◌, ◌==◌, ◌<◌, true, not, length, filter, sym, ◌∙◌}
 use Rattle.std.proofs.lemmas.Bool.{ltb-true}
 use Rattle.vx_calls.specs.declared.limits.TheConstants.{LINK_MAX}
-use Rattle.vx_srq.proofs.Sound.{filter_fewer}
+use Rattle.vx_srq.proofs.Laws.Sound.{filter_fewer}
 use Rattle.vx_test_tables.proofs.srq_tests.is_enabled.Goals as goal
 
 pub enable-requires-clause-room : goal.enable-requires-clause-room

@@ -1,11 +1,12 @@
 use Rattle.std.proofs.Common.{◌≤◌, subst, ◌∙◌, rules}
-use Rattle.vx_text.proofs.Moved.{gave-all, gave-failed, gave-lost}
+use Rattle.vx_text.specs.Ends.{source_shown}
+use Rattle.vx_text.proofs.Laws.Moved.{gave-all, gave-failed, gave-lost}
 use Rattle.vx_text.proofs.input.read_all.Goals as goal
 
 pub returns-in-End-clause-read : goal.returns-in-End-clause-read
 returns-in-End-clause-read g c =
     let at_end = c.in-End.ensures.read in
-    gave-all c.args.most _ (record { bytes = g.S.Source.left c.loop-piece.source; faults = g.S.Source.faults c.loop-piece.source }) _
+    gave-all c.args.most _ (source_shown g.S.Source c.loop-piece.source) _
     c.loop-piece.bytes.items _ c.loop-piece.invariant.1 (subst (λ n. n ≤ c.args.most) (c.len.ensures ∙ c.loop-piece.bytes.ok.0) c.loop-piece-test.true) at_end.0 at_end.1 at_end.2
 
 pub returns-in-Failed-clause-read : goal.returns-in-Failed-clause-read

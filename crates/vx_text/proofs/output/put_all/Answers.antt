@@ -1,4 +1,4 @@
-use Rattle.vx_text.proofs.Moved.{took-more}
+use Rattle.vx_text.proofs.Laws.Moved.{took-more}
 use Rattle.vx_text.proofs.output.put_all.Goals as goal
 
 pub loop-done-preserved : goal.loop-done-preserved

@@ -2,7 +2,7 @@ use Rattle.std.proofs.Common.{◌≡◌, ◌+◌, ◌*◌, ◌-◌, length, map,
 use Rattle.std.specs.Char.{to_ascii_uppercase}
 use borrow.Rule.Slice.PartMut.{put_mid}
 use Rattle.hex.specs.Hex.{encode_upper}
-use Rattle.vx_lemmas.specs.Hexadecimal.{upper_text, length_upper}
+use Rattle.vx_lemmas.proofs.Laws.Hexadecimal.{upper_text, length_upper}
 use Rattle.vx_trace.proofs.Overwrites.{overwritten-part}
 use Rattle.vx_trace.proofs.put.put_hex.Goals as goal
 

@@ -1,6 +1,6 @@
 use Rattle.std.proofs.Common.{◌≡◌, sym, ◌∙◌, true}
 use Rattle.std.proofs.lemmas.Str.{IsUtf8-from_ascii}
-use Rattle.vx_lemmas.specs.Options.{ok_some, err_none}
+use Rattle.vx_lemmas.proofs.Laws.Options.{ok_some, err_none}
 use Rattle.vx_trace.specs.Reading.{is_decimal}
 use Rattle.vx_trace.proofs.Numbers.{decimal_ascii, parsed-number}
 use Rattle.vx_trace.proofs.values.number_of.Goals as goal

@@ -1,5 +1,5 @@
 use Rattle.std.proofs.Common.{length, ◌-◌}
-use Rattle.vx_bus_traits.specs.ProvedLaws.Gets.{GetsSoFar}
+use Rattle.vx_bus_traits.proofs.Laws.Gets.{GetsSoFar}
 use Rattle.vx_bus_traits.proofs.bus.Bus.get_many.Given as goal
 
 abbrev pub invariant-loop-got : goal.invariant-loop-got

@@ -1,5 +1,5 @@
 use Rattle.std.proofs.Common.{◌+◌, ◌≡◌, ◌&&◌, ◌==◌, Bool, length, arith}
-use Rattle.vx_bus_traits.specs.ProvedLaws.Puts.{puts-held, puts-failed, puts-next, last-then, last-else}
+use Rattle.vx_bus_traits.proofs.Laws.Puts.{puts-held, puts-failed, puts-next, last-then, last-else}
 use Rattle.vx_bus_traits.proofs.bus.Bus.put_many.Goals.{then-end, else-end}
 use Rattle.vx_bus_traits.proofs.bus.Bus.put_many.Goals as goal
 

@@ -1,5 +1,5 @@
 use Rattle.std.proofs.Common.{length, ◌-◌}
-use Rattle.vx_bus_traits.specs.ProvedLaws.Puts.{PutsSoFar}
+use Rattle.vx_bus_traits.specs.Bursts.{PutsSoFar}
 use Rattle.vx_bus_traits.proofs.bus.Bus.put_many.Given as goal
 
 abbrev pub invariant-loop-moved : goal.invariant-loop-moved

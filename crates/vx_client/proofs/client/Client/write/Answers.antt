@@ -1,7 +1,7 @@
 use Rattle.std.proofs.Common.{◌≡◌, ℕ, Err, refl, subst, arith}
 use Rattle.std.proofs.lemmas.Result.{err_from_is_err_and}
 use Rattle.vx_client.specs.Chunks.{chunks, IsWritten}
-use Rattle.vx_client.proofs.Chunks.{leads-all, leads-on, leads-failed, leads-last}
+use Rattle.vx_client.proofs.Laws.Chunks.{leads-all, leads-on, leads-failed, leads-last}
 use Rattle.vx_client.proofs.Ending.{last-error}
 use Rattle.vx_client.proofs.client.Client.write.Goals as goal
 

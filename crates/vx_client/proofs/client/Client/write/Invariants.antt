@@ -1,7 +1,7 @@
 use Rattle.std.proofs.Common.{◌≡◌, ◌≤◌, length, min}
 use Rattle.vx_calls.specs.declared.limits.TheConstants.{PIECE_MAX}
 use Rattle.vx_client.specs.Chunks.{chunks, without_end, WritesPiece}
-use Rattle.vx_client.proofs.Chunks.{Leads}
+use Rattle.vx_client.proofs.Laws.Chunks.{Leads}
 use Rattle.vx_client.proofs.client.Client.write.Given as goal
 
 abbrev pub invariant-loop-rest : goal.invariant-loop-rest

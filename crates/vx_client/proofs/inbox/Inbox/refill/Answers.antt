@@ -1,6 +1,6 @@
 use Rattle.std.proofs.Common.{◌<◌, ◌++◌, [], length, take, drop, refl, sym, ap, subst, ◌∙◌, arith}
 use Rattle.std.proofs.lemmas.List.{take_at, length-take-le}
-use Rattle.vx_io_traits.specs.Stands.{Goes-none, Goes-gives}
+use Rattle.vx_io_traits.proofs.Laws.Goings.{Goes-none, Goes-gives}
 use Rattle.vx_client.specs.Inbox.{InboxState}
 use Rattle.vx_client.specs.Ending.{None_yet, And_more}
 use Rattle.vx_client.proofs.Reading.{none-kept}

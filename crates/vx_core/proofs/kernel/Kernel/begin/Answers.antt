@@ -6,7 +6,7 @@ use Rattle.vx_core.specs.declared.running.Running.{Running}
 use Rattle.vx_core.specs.KernelState.{KernelState}
 use Rattle.vx_core.specs.Keeping.{Holds}
 use Rattle.vx_core.specs.Turning.{HasPassed, BeginsTurn}
-use Rattle.vx_core.specs.ProvedLaws.{the_pending}
+use Rattle.vx_core.proofs.Laws.{the_pending}
 use Rattle.vx_core.proofs.Turning.{kernel_of, passes, no-job, begins-turn, doable-some}
 use Rattle.vx_core.proofs.kernel.Kernel.begin.Goals as goal
 

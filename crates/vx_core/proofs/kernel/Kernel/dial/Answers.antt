@@ -3,7 +3,7 @@ use Rattle.std.specs.Vec.{vec_capacity}
 use Rattle.std.proofs.lemmas.Fn.{filter_same}
 use Rattle.vx_calls.specs.declared.limits.TheConstants.{ROLE_MAX}
 use Rattle.vx_rules.specs.Sound.{IsSound}
-use Rattle.vx_flow.specs.Fine.{without_dial}
+use Rattle.vx_flow.specs.InterleavedStep.{without_dial}
 use Rattle.vx_core.specs.KernelState.{KernelState}
 use Rattle.vx_core.specs.Keeping.{KeepsDials}
 use Rattle.vx_core.proofs.Dialing.{PassedDial, passed_dial, keeps_dials, room_left, port_fits, redialed}
@@ -14,7 +14,7 @@ push_reserved-requires g c =
     let filtered = filter_same _ (λ n. not (n == c.args.conn)) _ (λ x b f' k. search rules) _ _ c.retain.ensures.filtered in
     let view = c.self.view_is in
     let d = passed_dial g.B.Bus.means c.args.self.now c.args.conn c.requires.pending c.requires.passed c.requires.dials in
-    let sound = subst (λ (k : KernelState g.row.B.Denot). IsSound k.tables) view c.is_sound.ensures in
+    let sound = subst (λ (k : KernelState g.row.B.Denot). IsSound k.tables) view c.sound_law.ensures in
     let room : length (without_dial c.args.self.now.dialed c.args.conn) < ROLE_MAX =
     room_left c.args.self.now.tables c.args.self.now.dialed c.args.conn sound c.requires.holds.few c.requires.holds.dials d in
     let len : length c.retain.new.self.items ≡ length (without_dial c.args.self.now.dialed c.args.conn) =

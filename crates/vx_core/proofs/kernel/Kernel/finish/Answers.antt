@@ -12,7 +12,7 @@ use Rattle.vx_flow.specs.Poll.{Answered}
 use Rattle.vx_flow.specs.declared.progress.Ran.TheVariants as ran
 use Rattle.vx_core.specs.declared.running.Running.{Running}
 use Rattle.vx_core.specs.Given.{given_reply}
-use Rattle.vx_core.specs.Replying.{level_told}
+use Rattle.vx_core.specs.Polling.{level_told}
 use Rattle.vx_core.proofs.Replying.{whole-left}
 use Rattle.vx_core.proofs.kernel.Kernel.finish.Goals as goal
 

@@ -1,6 +1,6 @@
 use Rattle.std.proofs.Common.{◌≡◌, false, Some, sym, ap, subst, ◌∙◌}
 use Rattle.vx_rules.specs.Lines.{first_lines_in}
-use Rattle.vx_tables.specs.Shown.{lines_shown}
+use Rattle.vx_state.specs.Shown.{lines_shown}
 use Rattle.vx_rules.specs.State.{Pending, pending_at}
 use Rattle.vx_core.specs.KernelState.{KernelState}
 use Rattle.vx_core.specs.Shown.{busy_of, own_of}

@@ -5,11 +5,11 @@ use Rattle.vx_calls.specs.Reply.{Reply, reply_shown}
 use Rattle.vx_488.specs.declared.transfers.Transfer.{Transfer}
 use Rattle.vx_rules.specs.State.{Pending, pending_at}
 use Rattle.vx_rules.specs.Effects.{stopped_reply}
-use Rattle.vx_flow.specs.FineState.{turn_of, moves_of}
+use Rattle.vx_flow.specs.InterleavedState.{turn_of, moves_of}
 use Rattle.vx_flow.specs.Poll.{Answered}
 use Rattle.vx_core.specs.Shown.{turn_shown}
 use Rattle.vx_core.specs.Given.{reply_bytes}
-use Rattle.vx_core.specs.ProvedLaws.{running-own}
+use Rattle.vx_core.proofs.Laws.{running-own}
 use Rattle.vx_core.proofs.Replying.{Counts, counts-some, counts-none, stopped-front, stopped-few, some-of}
 use Rattle.vx_core.proofs.kernel.Kernel.stop.Goals as goal
 use Rattle.vx_core.proofs.kernel.Kernel.stop.Goals.{in-Some, in-None}

@@ -6,7 +6,7 @@ invariant_of-self g c =
     (disconnects g.B.Bus.means c.self.inside.kernel c.cut.new.self c.disconnect.new.self c.args.self.now c.args.conn c.self.view_is c.self.invariant
     c.requires c.cut.ensures.kept c.cut.ensures.means c.disconnect.ensures).keeps
 
-pub returns-clause-fine : goal.returns-clause-fine
-returns-clause-fine g c =
+pub returns-clause-interleaved : goal.returns-clause-interleaved
+returns-clause-interleaved g c =
     (disconnects g.B.Bus.means c.self.inside.kernel c.cut.new.self c.disconnect.new.self c.args.self.now c.args.conn c.self.view_is c.self.invariant
     c.requires c.cut.ensures.kept c.cut.ensures.means c.disconnect.ensures).allowed

@@ -14,8 +14,8 @@ invariant_of-self g c =
     (settles-so g.B.Bus.means c.self.inside.kernel c.hear.new.self c.settle.new.self c.args.self.now c.args.conn c.args.now c.args.up c.settle.result.error
     c.self.view_is c.self.invariant c.requires c.hear.ensures.kept c.hear.ensures.means c.settle.ensures.settles).keeps
 
-pub returns-clause-fine : goal.returns-clause-fine
-returns-clause-fine g c =
+pub returns-clause-interleaved : goal.returns-clause-interleaved
+returns-clause-interleaved g c =
     (settles-so g.B.Bus.means c.self.inside.kernel c.hear.new.self c.settle.new.self c.args.self.now c.args.conn c.args.now c.args.up c.settle.result.error
     c.self.view_is c.self.invariant c.requires c.hear.ensures.kept c.hear.ensures.means c.settle.ensures.settles).allowed
 

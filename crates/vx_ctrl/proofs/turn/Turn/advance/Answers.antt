@@ -2,7 +2,7 @@ use Rattle.std.proofs.Common.{ℕ, ◌≡◌, ◌≢◌, ◌-◌, length, sym, s
 use Rattle.vx_plan.specs.declared.tasks.Task.{Task}
 use Rattle.vx_plan.specs.Places.{IsReached}
 use Rattle.vx_plan.specs.Runs.{IsDataLeft}
-use Rattle.vx_ctrl.specs.Turns.{TurnState, HasRoom}
+use Rattle.vx_ctrl.specs.Turns.{TurnState, TurnHasRoom}
 use Rattle.vx_ctrl.proofs.Runs.{write-left, read-left, runs-within}
 use Rattle.vx_ctrl.proofs.turn.Turn.advance.Goals as goal
 
@@ -73,7 +73,7 @@ get_run-requires-clause-room g c =
     let some : n ≢ 0 = λ none. c.if-many-eq0.false (omega (arith, none, c.min-many.ensures)) in
     let is = ap (λ (t : TurnState). t.task) (sym c.self.view_is) ∙ c.in-Read.is in
     let whole = read-left turn c.args.bytes.now n c.in-Read.t c.in-Read.max c.in-Read.stop r.0 r.1 is d r.2 some in
-    let R : Task → Type 0 = λ task. HasRoom task (length c.args.room.now) in
+    let R : Task → Type 0 = λ task. TurnHasRoom task (length c.args.room.now) in
     omega (arith, whole, c.min-many.ensures, subst R is c.requires.room)
 
 pub get_run-requires-clause-asks : goal.get_run-requires-clause-asks

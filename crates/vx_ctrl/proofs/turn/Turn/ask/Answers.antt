@@ -2,7 +2,7 @@ use Rattle.std.proofs.Common.{Option, sym, subst}
 use Rattle.vx_plan.specs.Plan.{Slot}
 use Rattle.vx_plan.specs.Places.{IsReached, IsNextMove, slot_wanted}
 use Rattle.vx_ctrl.specs.Turns.{TurnState}
-use Rattle.vx_ctrl.specs.Asking.{Asks}
+use Rattle.vx_ctrl.specs.Asking.{TurnAsks}
 use Rattle.vx_ctrl.proofs.Going.{plain-next}
 use Rattle.vx_ctrl.proofs.turn.Turn.ask.Goals as goal
 
@@ -22,6 +22,6 @@ ask-requires-clause-own g c =
 pub returns : goal.returns
 returns g c = λ ts left reaches.
     let P : TurnState → Type 0 = λ turn. IsNextMove turn.task turn.place c.next_move-next.result in
-    let Q : TurnState → Type 0 = λ turn. Asks g.B.Bus.means g.B.Bus.through (slot_wanted c.next_move-next.result c.args.bytes.now turn.place.moved) c.ask.result c.args.bus.now c.ask.new.bus in
-    let W : Option Slot → Type 0 = λ slot. Asks g.B.Bus.means g.B.Bus.through slot c.ask.result c.args.bus.now c.ask.new.bus in
+    let Q : TurnState → Type 0 = λ turn. TurnAsks g.B.Bus.means g.B.Bus.through (slot_wanted c.next_move-next.result c.args.bytes.now turn.place.moved) c.ask.result c.args.bus.now c.ask.new.bus in
+    let W : Option Slot → Type 0 = λ slot. TurnAsks g.B.Bus.means g.B.Bus.through slot c.ask.result c.args.bus.now c.ask.new.bus in
     subst W (subst P c.self.view_is c.next_move-next.ensures c.args.bytes.now ts left reaches) (subst Q c.self.view_is c.ask.ensures)

@@ -1,6 +1,6 @@
 use Rattle.std.proofs.Common.{ap, ◌∙◌}
 use Rattle.vx_ctrl.specs.Turns.{TurnState}
-use Rattle.vx_ctrl.specs.ProvedLaws.Fares.{moved-told}
+use Rattle.vx_ctrl.proofs.Laws.Fares.{moved-told}
 use Rattle.vx_ctrl.proofs.turn.Turn.moved.Goals as goal
 
 pub returns-clause-made : goal.returns-clause-made

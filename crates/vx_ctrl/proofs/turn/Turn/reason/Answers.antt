@@ -1,6 +1,6 @@
 use Rattle.std.proofs.Common.{ap, sym, ◌∙◌}
 use Rattle.vx_ctrl.specs.Turns.{turn_reason, task_reason}
-use Rattle.vx_ctrl.specs.ProvedLaws.Fares.{reason-told}
+use Rattle.vx_ctrl.proofs.Laws.Fares.{reason-told}
 use Rattle.vx_ctrl.proofs.turn.Turn.reason.Goals as goal
 
 pub returns-in-Read-clause-made : goal.returns-in-Read-clause-made

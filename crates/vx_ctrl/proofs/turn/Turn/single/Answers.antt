@@ -3,7 +3,7 @@ use Rattle.vx_plan.specs.Plan.{next_slot}
 use Rattle.vx_ctrl.specs.declared.turn.Advance.TheVariants.{Made}
 use Rattle.vx_ctrl.specs.Turns.{TurnState, stored}
 use Rattle.vx_ctrl.specs.Runs.{Runs}
-use Rattle.vx_ctrl.specs.ProvedLaws.Fares.{step-short, gets-some, room-left}
+use Rattle.vx_ctrl.proofs.Laws.Fares.{step-short, gets-some, room-left}
 use Rattle.vx_ctrl.proofs.Runs.{made-fits, one-runs, none-runs}
 use Rattle.vx_ctrl.proofs.turn.Turn.single.Goals as goal
 

@@ -1,6 +1,6 @@
 use Rattle.std.proofs.Common.{◌≡◌, false, arith, sym, subst, ◌∙◌}
 use Rattle.vx_rules.specs.Table.{is_live, IsNumbered}
-use Rattle.vx_rules.specs.ProvedLaws.Numbers.{next_free, numbered-with_link}
+use Rattle.vx_rules.proofs.Laws.Numbers.{next_free, numbered-with_link}
 use Rattle.vx_links.proofs.Rows.{added_is, numbered_is}
 use Rattle.vx_links.proofs.links.Links.insert.Goals as goal
 

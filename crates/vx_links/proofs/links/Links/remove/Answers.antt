@@ -1,8 +1,8 @@
 use Rattle.std.proofs.Common.{◌==◌, true, false, refl, arith, sym, subst, ◌∙◌}
 use Rattle.std.proofs.lemmas.List.Folds.{list_any_none}
 use Rattle.vx_rules.specs.Table.{IsNumbered}
-use Rattle.vx_rules.specs.ProvedLaws.Numbers.{numbered-without_link}
-use Rattle.vx_links.specs.Places.{any-place, none_equals}
+use Rattle.vx_rules.proofs.Laws.Numbers.{numbered-without_link}
+use Rattle.vx_links.proofs.Laws.Places.{any-place, none_equals}
 use Rattle.vx_links.proofs.Rows.{any-shown, numbered_is, rows_rising, taken_away, all_left, removed_is}
 use Rattle.vx_links.proofs.links.Links.remove.Goals as goal
 

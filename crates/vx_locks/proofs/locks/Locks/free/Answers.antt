@@ -3,7 +3,7 @@ use Rattle.std.proofs.lemmas.Fn.{filter_same}
 use Rattle.std.proofs.lemmas.List.{length-map, length-set}
 use Rattle.vx_locks.specs.Inside.{lock_shown}
 use Rattle.vx_rules.specs.Locks.{IsApart}
-use Rattle.vx_rules.specs.ProvedLaws.Apart.{apart-without_lock, unheld_stays}
+use Rattle.vx_rules.proofs.Laws.Apart.{apart-without_lock, unheld_stays}
 use Rattle.vx_locks.proofs.Rows.{find-shown, freed_is, freed_told, held_told}
 use Rattle.vx_locks.proofs.locks.Locks.free.Goals as goal
 

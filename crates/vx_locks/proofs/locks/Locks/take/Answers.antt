@@ -1,7 +1,7 @@
 use Rattle.std.proofs.Common.{◌≡◌, false, ◌∷◌, [], Some, arith, ap, length, sym, subst, ◌∙◌}
 use Rattle.std.proofs.lemmas.List.{length-append, length-set}
 use Rattle.vx_rules.specs.Locks.{IsApart, Lock, holds, is_blocked}
-use Rattle.vx_rules.specs.ProvedLaws.Apart.{apart-with_lock}
+use Rattle.vx_rules.proofs.Laws.Apart.{apart-with_lock}
 use Rattle.vx_locks.proofs.Rows.{taken_is, taken_told}
 use Rattle.vx_locks.proofs.locks.Locks.take.Goals as goal
 

@@ -2,7 +2,7 @@ use Rattle.std.proofs.Common.{rules, ◌≡◌, true, [], Some, IfSome, length, 
 use Rattle.vx_loop.specs.Gateway.{gateway_of}
 use Rattle.vx_loop.specs.LoopState.{LoopState}
 use Rattle.vx_loop.specs.Serving.{lives}
-use Rattle.vx_loop.specs.Standing.{StandsFor, GoesOn, IsRefused, LivesOn, EndsEarly}
+use Rattle.vx_loop.specs.Standing.{LoopStandsFor, LoopGoesOn, IsLoopRefused, LivesOn, EndsEarly}
 use Rattle.vx_loop.proofs.Looking.{goes-takes, goes-stays, stands-goes, takes-goes, vacant-goes}
 use Rattle.vx_loop.proofs.link.LoopLinkLink.send.Given.{Over}
 use Rattle.vx_loop.proofs.link.LoopLinkLink.send.Goals as goal
@@ -32,15 +32,15 @@ returns-in-Some-accept-clause-took g c =
     let new : LoopState = record old { served = Some c.accept.new.self } in
     let bytes = take c.in-Some-accept.count c.args.from.now in
     let took = c.in-Some-accept.ensures.took in
-    (took.0, took.1, goes-takes StandsFor old new bytes (stands-goes old new bytes [] (returns-in-Some-accept-clause-went g c)))
+    (took.0, took.1, goes-takes LoopStandsFor old new bytes (stands-goes old new bytes [] (returns-in-Some-accept-clause-went g c)))
 
 pub returns-in-None-clause-failed : goal.returns-in-None-clause-failed
 returns-in-None-clause-failed g c =
     let old = c.args.self.now in
     let new : LoopState = record { served = Some c.accept.new.self; receive_faults = old.receive_faults; send_faults = c.saturating_add-self-inside.result } in
     let is : old.served ≡ Some c.in-Some.served = ap (λ (l : LoopState). l.served) (sym c.self.view_is) ∙ c.in-Some.is in
-    let went : GoesOn old new [] [] = takes-goes old c.in-Some.served c.accept.new.self old.receive_faults new.send_faults [] is c.in-None.ensures.broke in
-    (search rules, goes-stays StandsFor old new (stands-goes old new [] [] went))
+    let went : LoopGoesOn old new [] [] = takes-goes old c.in-Some.served c.accept.new.self old.receive_faults new.send_faults [] is c.in-None.ensures.broke in
+    (search rules, goes-stays LoopStandsFor old new (stands-goes old new [] [] went))
 
 -- there is no gateway
 pub returns-in_default-clause-went : goal.returns-in_default-clause-went
@@ -63,7 +63,7 @@ pub returns-in_default-clause-took : goal.returns-in_default-clause-took
 returns-in_default-clause-took g c =
     let bytes = take (length c.args.from.now) c.args.from.now in
     let new : LoopState = record { served = c.self.inside.served; receive_faults = c.self.inside.receive_faults; send_faults = c.self.inside.send_faults } in
-    (c.requires, omega arith, goes-takes StandsFor c.args.self.now new bytes (stands-goes c.args.self.now new bytes [] (returns-in_default-clause-went g c)))
+    (c.requires, omega arith, goes-takes LoopStandsFor c.args.self.now new bytes (stands-goes c.args.self.now new bytes [] (returns-in_default-clause-went g c)))
 
 -- the connection ends
 pub returns-in-None-clause-broke : goal.returns-in-None-clause-broke
@@ -73,7 +73,7 @@ returns-in-None-clause-broke g c =
 
 pub returns-in-None-clause-cause : goal.returns-in-None-clause-cause
 returns-in-None-clause-cause g c =
-    subst (λ o. IfSome o (λ s. IsRefused s c.args.from.now)) (sym (ap (λ (l : LoopState). l.served) (sym c.self.view_is) ∙ c.in-Some.is)) c.in-None.ensures.cause
+    subst (λ o. IfSome o (λ s. IsLoopRefused s c.args.from.now)) (sym (ap (λ (l : LoopState). l.served) (sym c.self.view_is) ∙ c.in-Some.is)) c.in-None.ensures.cause
 
 pub returns-in-None-clause-alive : goal.returns-in-None-clause-alive
 returns-in-None-clause-alive g c =
@@ -83,7 +83,7 @@ pub returns-in-None-clause-sends : goal.returns-in-None-clause-sends
 returns-in-None-clause-sends g c = (
   tt,
   (
-    subst (λ o. IfSome o (λ s. IsRefused s c.args.from.now × (lives (gateway_of s.core) ≡ true))) (sym (ap (λ (l : LoopState). l.served) (sym c.self.view_is) ∙ c.in-Some.is)) (c.in-None.ensures.cause, c.in-None.ensures.alive),
+    subst (λ o. IfSome o (λ s. IsLoopRefused s c.args.from.now × (lives (gateway_of s.core) ≡ true))) (sym (ap (λ (l : LoopState). l.served) (sym c.self.view_is) ∙ c.in-Some.is)) (c.in-None.ensures.cause, c.in-None.ensures.alive),
     c.in-None.ensures.ended,
   ),
 )

@@ -1,11 +1,11 @@
 use Rattle.std.proofs.Common.{◌≡◌, true, false, refl, sym, ap, subst, ◌∙◌}
 use Rattle.std.specs.Prelude.{nat_le, is_some}
-use Rattle.vx_lemmas.specs.Options.{nothing}
+use Rattle.vx_lemmas.proofs.Laws.Options.{nothing}
 use Rattle.vx_calls.specs.Reply.{reply_shown}
 use Rattle.vx_model.specs.StepShown.{outside_shown}
 use Rattle.vx_rules.specs.State.{State, pending_at}
 use Rattle.vx_rules.specs.Lines.{first_lines}
-use Rattle.vx_tables.specs.Shown.{bar_shown, lines_shown}
+use Rattle.vx_state.specs.Shown.{bar_shown, lines_shown}
 use Rattle.vx_model.specs.Stepping.{answer_at}
 use Rattle.vx_model.proofs.Answering.{leb-from, leb-not, some_pending, answer_is, answer_early, answer_idle, waiting-is, goes_at}
 use Rattle.vx_model.proofs.plain.Plain.answer.Goals as goal

@@ -6,7 +6,7 @@ use Rattle.vx_script.specs.Command.{Poll}
 use Rattle.vx_rules.specs.State.{lives_as}
 use Rattle.vx_player.specs.contracts.player.Player.{the_view}
 use Rattle.vx_player.specs.PlayerState.{PlayerState, incoming_at}
-use Rattle.vx_player.specs.Standing.{Stands, TakesTo}
+use Rattle.vx_player.specs.Standing.{PlayerStands, TakesTo}
 use Rattle.vx_player.proofs.Calling.{poll-takes}
 use Rattle.vx_player.proofs.player.Player.poll.Goals as goal
 
@@ -17,8 +17,8 @@ returns-clause-taken g c = λ stage stands.
     subst (λ xs. TakesTo stage (Poll c.args.conn) c.poll_call.result
     (record p { core = c.poll_call.new.core; reply = xs })) (sym room)
     (poll-takes p stage c.poll_call.new.core c.poll_call.new.reply c.poll_call.result c.args.conn c.xid-xid.result
-    (subst (λ q. Stands q stage) (sym c.self.view_is) stands)
-    (subst (λ (q : PlayerState). lives_as q.core.fine.state.tables c.args.conn role.Core ≡ true) (sym c.self.view_is) c.in_ok-core_only.ensures.ok)
+    (subst (λ q. PlayerStands q stage) (sym c.self.view_is) stands)
+    (subst (λ (q : PlayerState). lives_as q.core.interleaved.state.tables c.args.conn role.Core ≡ true) (sym c.self.view_is) c.in_ok-core_only.ensures.ok)
     (search rules)
     (subst (λ (q : PlayerState). IfSome (incoming_at q.incoming c.args.conn) (λ kept. c.xid-xid.result ≡ kept.xid)) (sym c.self.view_is) c.xid-xid.ensures)
     c.poll_call.ensures.made c.poll_call.ensures.quiet c.poll_call.ensures.late)

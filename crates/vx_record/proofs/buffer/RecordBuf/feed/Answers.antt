@@ -1,7 +1,7 @@
 use Rattle.std.proofs.Common.{◌≡◌, ◌≤◌, ◌⊎◌, inl, inr, ap, ◌∙◌, arith, length, IsTrue}
 use Rattle.vx_record.specs.Buffer.{BufState}
 use Rattle.vx_record.specs.declared.Feed.TheVariants.{More}
-use Rattle.vx_record.specs.ProvedLaws.{fed-limit}
+use Rattle.vx_record.proofs.Laws.{fed-limit}
 use Rattle.vx_record.proofs.Feeding.{fed-ends, taken-ends, taken-some}
 use Rattle.vx_record.proofs.buffer.RecordBuf.feed.Goals as goal
 use Rattle.vx_record.proofs.buffer.RecordBuf.feed.Goals.{then-loop-took-test+else-wants_more, else-loop-took-test}

@@ -4,4 +4,4 @@ use Rattle.vx_session.proofs.acts.LeaveActCore.run.Goals as goal
 
 pub returns-clause-stands : goal.returns-clause-stands
 returns-clause-stands g c =
-    one-becomes g.B.Bus c.became_law.ensures c.args.kept.now c.disconnect.new.self (Down c.args.self.now.conn) _ c.disconnect.ensures.fine c.disconnect.ensures.walk
+    one-becomes g.B.Bus c.became_law.ensures c.args.kept.now c.disconnect.new.self (Down c.args.self.now.conn) _ c.disconnect.ensures.interleaved c.disconnect.ensures.walk

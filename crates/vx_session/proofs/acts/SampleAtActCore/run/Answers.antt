@@ -6,4 +6,4 @@ use Rattle.vx_session.proofs.acts.SampleAtActCore.run.Goals as goal
 pub returns-clause-stands : goal.returns-clause-stands
 returns-clause-stands g c =
     one-becomes g.B.Bus c.became_law.ensures c.args.kept.now c.sample.new.self
-    (Sample (max c.args.kept.now.fine.state.moment c.args.self.now.now) (g.B.Bus.srq_level c.sample.new.self.bus)) _ c.sample.ensures.fine c.sample.ensures.walk
+    (Sample (max c.args.kept.now.interleaved.state.moment c.args.self.now.now) (g.B.Bus.srq_level c.sample.new.self.bus)) _ c.sample.ensures.interleaved c.sample.ensures.walk

@@ -9,4 +9,4 @@ returns-in-None-clause-stands g c =
 pub returns-in-Some-clause-stands : goal.returns-in-Some-clause-stands
 returns-in-Some-clause-stands g c =
     taken-becomes g.B.Bus c.became_law.ensures c.args.kept.now c.take_interrupt.new.self c.args.self.now.conn c.args.self.now.chan c.in-Some.field-0
-    (given_shown c.take_interrupt.result) c.in-Some.ensures c.take_interrupt.ensures.fine c.take_interrupt.ensures.walk
+    (given_shown c.take_interrupt.result) c.in-Some.ensures c.take_interrupt.ensures.interleaved c.take_interrupt.ensures.walk

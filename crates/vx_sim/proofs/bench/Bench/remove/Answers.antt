@@ -1,6 +1,6 @@
 use Rattle.std.proofs.Common.{not, sym, subst, ap, ◌∙◌, arith}
 use Rattle.std.specs.Prelude.{map, filter}
-use Rattle.vx_lemmas.specs.Lists.{filter-map}
+use Rattle.vx_lemmas.proofs.Laws.Lists.{filter-map}
 use Rattle.vx_sim.specs.Bench.{stands_at}
 use Rattle.vx_sim.specs.Attaching.{IsInOrder}
 use Rattle.vx_sim.specs.Shown.{placed_of}

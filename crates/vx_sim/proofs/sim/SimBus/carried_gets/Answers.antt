@@ -4,7 +4,7 @@ use Rattle.vx_bus_traits.specs.Bursts.{gets_steps}
 use Rattle.vx_bus_traits.specs.declared.bursts.Stop.{Stop}
 use Rattle.vx_bus_traits.specs.declared.bursts.Stop.TheVariants as stop
 use Rattle.vx_bus_traits.specs.Steps.{Step}
-use Rattle.vx_bus_traits.specs.ProvedLaws.Puts.{length-ended}
+use Rattle.vx_bus_traits.proofs.Laws.Puts.{length-ended}
 use Rattle.vx_sim.specs.SimState.{SimState, means_past}
 use Rattle.vx_sim.proofs.Giving.{all-came, gots-noted, gots-held}
 use Rattle.vx_sim.proofs.sim.SimBus.carried_gets.Goals as goal

@@ -4,7 +4,7 @@ use Rattle.vx_488.specs.declared.transfers.Transfer.TheVariants.{Got}
 use Rattle.vx_bus_traits.specs.declared.asks.GetOut.TheVariants as get
 use Rattle.vx_bus_traits.specs.Steps.{Went, get_step}
 use Rattle.vx_bus_traits.specs.Walks.{StepsTo}
-use Rattle.vx_bus_traits.specs.ProvedLaws.Gets.{gets-held, gets-failed, gets-end, gets-char, gets-next, char-is}
+use Rattle.vx_bus_traits.proofs.Laws.Gets.{gets-held, gets-failed, gets-end, gets-char, gets-next, char-is}
 use Rattle.vx_sim.specs.SimState.{SimState, Through}
 use Rattle.vx_sim.proofs.Stepping.{steps-to}
 use Rattle.vx_sim.proofs.sim.SimBus.get_each.Goals as goal

@@ -5,7 +5,7 @@ use Rattle.vx_rules.specs.SrqState.{SrqState, Enable, IsSound, enable_put}
 use Rattle.vx_srq.specs.Shown.{enable_shown}
 use Rattle.vx_srq.specs.Inside.{srq_state_of}
 use Rattle.vx_srq.proofs.Held.{others_shown}
-use Rattle.vx_srq.proofs.Sound.{sound-with_enable}
+use Rattle.vx_srq.proofs.Laws.Sound.{sound-with_enable}
 use Rattle.vx_srq.proofs.srq.Srq.enable.Goals as goal
 
 pub put-requires-clause-room : goal.put-requires-clause-room

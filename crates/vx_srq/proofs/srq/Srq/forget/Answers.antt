@@ -1,10 +1,10 @@
 use Rattle.std.proofs.Common.{◌==◌, not, map, arith, rules, ap, sym, subst, ◌∙◌}
 use Rattle.std.proofs.lemmas.Fn.{filter_same}
-use Rattle.vx_lemmas.specs.Lists.{filter-map}
+use Rattle.vx_lemmas.proofs.Laws.Lists.{filter-map}
 use Rattle.vx_rules.specs.SrqState.{SrqState, IsSound, without_enable}
 use Rattle.vx_srq.specs.Shown.{enable_shown}
 use Rattle.vx_srq.specs.Inside.{srq_state_of}
-use Rattle.vx_srq.proofs.Sound.{sound-without_enable}
+use Rattle.vx_srq.proofs.Laws.Sound.{sound-without_enable}
 use Rattle.vx_srq.proofs.srq.Srq.forget.Goals as goal
 
 pub invariant_of-self : goal.invariant_of-self

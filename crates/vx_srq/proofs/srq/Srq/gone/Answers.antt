@@ -2,11 +2,11 @@ use Rattle.std.proofs.Common.{◌==◌, not, map, arith, rules, ap, sym, subst, 
 use Rattle.std.proofs.lemmas.Fn.{filter_same}
 use Rattle.std.proofs.lemmas.List.Elements.{All-filter}
 use Rattle.std.specs.List.{All}
-use Rattle.vx_lemmas.specs.Lists.{filter-map}
+use Rattle.vx_lemmas.proofs.Laws.Lists.{filter-map}
 use Rattle.vx_rules.specs.SrqState.{SrqState, IsSound, without_slot}
-use Rattle.vx_srq.specs.Shown.{slot_shown, enable_shown, HasRoom}
+use Rattle.vx_srq.specs.Shown.{slot_shown, enable_shown, SrqHasRoom}
 use Rattle.vx_srq.specs.Inside.{srq_state_of}
-use Rattle.vx_srq.proofs.Sound.{sound-without_slot}
+use Rattle.vx_srq.proofs.Laws.Sound.{sound-without_slot}
 use Rattle.vx_srq.proofs.srq.Srq.gone.Goals as goal
 
 pub invariant_of-self : goal.invariant_of-self
@@ -21,7 +21,7 @@ invariant_of-self c =
     (sound-without_slot (srq_state_of t) c.args.conn c.self.invariant.sound) in
     record {
       places = omega arith;
-      room = subst (All HasRoom) (sym slots) (All-filter (λ r. not (r.conn == c.args.conn)) HasRoom t.slots.items c.self.invariant.room);
+      room = subst (All SrqHasRoom) (sym slots) (All-filter (λ r. not (r.conn == c.args.conn)) SrqHasRoom t.slots.items c.self.invariant.room);
       sound = subst (λ ps. let d : SrqState = record (srq_state_of t) { slots = ps; enables = map enable_shown c.retain-2.new.self.items } in IsSound d) (sym slots_shown) left;
     }
 

@@ -1,6 +1,6 @@
 use Rattle.std.proofs.Common.{◌==◌, map, ap, ◌∙◌}
 use Rattle.std.specs.List.{list_any}
-use Rattle.vx_lemmas.specs.Lists.{list_any-map}
+use Rattle.vx_lemmas.proofs.Laws.Lists.{list_any-map}
 use Rattle.vx_rules.specs.SrqState.{ChannelSlot}
 use Rattle.vx_srq.specs.Shown.{slot_shown}
 use Rattle.vx_srq.proofs.srq.Srq.is_added.Goals as goal

@@ -1,10 +1,10 @@
 use Rattle.std.proofs.Common.{◌==◌, map, find, ap, sym, subst, refl, ◌∙◌}
 use Rattle.std.specs.List.{All}
 use Rattle.vx_rules.specs.SrqState.{IsSound, slot_taken, given_by}
-use Rattle.vx_srq.specs.Shown.{slot_shown, HasRoom}
+use Rattle.vx_srq.specs.Shown.{slot_shown, SrqHasRoom}
 use Rattle.vx_srq.specs.Inside.{srq_state_of}
 use Rattle.vx_srq.proofs.Held.{changed_to, channel_found, with_slots}
-use Rattle.vx_srq.proofs.Sound.{sound-taken}
+use Rattle.vx_srq.proofs.Laws.Sound.{sound-taken}
 use Rattle.vx_srq.proofs.srq.Srq.take.Goals as goal
 
 pub invariant_of-self : goal.invariant_of-self
@@ -13,7 +13,7 @@ invariant_of-self c =
     let all = changed_to t (slot_taken c.args.conn c.args.chan) c.deref_mut.result.now c.drop_front.new.slots c.deref_mut.ensures.value c.drop_front.ensures.slots in
     record {
       places = c.self.invariant.places;
-      room = subst (All HasRoom) (sym all.same) c.drop_front.ensures.room;
+      room = subst (All SrqHasRoom) (sym all.same) c.drop_front.ensures.room;
       sound = subst (λ ps. IsSound (with_slots t ps)) (sym all.shown) (sound-taken (srq_state_of t) c.args.conn c.args.chan c.self.invariant.sound);
     }
 

@@ -1,6 +1,0 @@
-mod Spreading
-mod Timing
-mod Moving
-mod Running
-mod Following
-mod Lifts
