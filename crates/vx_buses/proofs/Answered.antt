@@ -1,5 +1,6 @@
 -- A message of a session to four buses: what it means, and how it is served.
-use Rattle.std.proofs.Common.{◌≡◌, ◌≤◌, ℕ, zero, suc, List, [], take, Some, refl, sym, ap, ◌∙◌, subst, arith}
+use Rattle.std.proofs.Common.{◌≡◌, ◌≤◌, ℕ, zero, suc, List, [], Some, refl, sym, ap, ◌∙◌, subst, arith}
+use Rattle.std.proofs.lemmas.Option.{same_Some}
 use Rattle.vx_calls.specs.declared.calls.Role.{Role}
 use Rattle.vx_calls.specs.declared.calls.Role.TheVariants as role
 use Rattle.vx_calls.specs.declared.codes.ErrorCode.{ErrorCode}
@@ -7,8 +8,6 @@ use Rattle.vx_calls.specs.Call.{Call}
 use Rattle.vx_calls.specs.Reply as reply
 use Rattle.vx_record.specs.Fragments.{record_of}
 use Rattle.vx_exchange.specs.Meaning as one
-use Rattle.vx_exchange.specs.Meaning.{Meaning, meaning}
-use Rattle.vx_exchange.specs.Opening.{Stands}
 use Rattle.vx_gate.specs.PassView.{PassView, GateId}
 use Rattle.vx_buses.specs.Four.{Four, at, Each}
 use Rattle.vx_buses.specs.Passing.{IsOf}
@@ -23,9 +22,10 @@ use Rattle.vx_session.specs.Serving.{IsAborted}
 use Rattle.vx_session.specs.Turning.{phase_at}
 use Rattle.vx_buses.specs.Asking.{OnBus}
 use Rattle.vx_buses.specs.Holding.{AreIdle, FleetHolds}
-use Rattle.vx_buses.specs.Meant.{by_way, by_meaning}
+use Rattle.vx_buses.specs.FleetDesk.{AreAtGates, AreIdleAt}
+use Rattle.vx_buses.specs.Meant.{by_way}
 use Rattle.vx_buses.specs.Origins.{Origins, on}
-use Rattle.vx_buses.specs.Serving.{IsFleetServed, IsFleetAsked, IsFleetAnswered, ServesCall, State, numbers}
+use Rattle.vx_buses.specs.Serving.{IsFleetServed, IsFleetAsked, ServesCall, State, MeaningDoes, numbers}
 use Rattle.vx_buses.proofs.Fours.{at-put, each-at, each-put}
 
 -- the number of a bus's pass
@@ -36,6 +36,14 @@ at-numbers (suc (suc zero)) f = refl
 at-numbers (suc (suc (suc n))) f = refl
 
 -- ---- what is held
+
+-- passes in their place are of the gates that they are at
+pub held-at : {C : Type 0} (gates : Four GateId) (s : State C) (passes : Four (PassView Group)) → s.passes ≡ Some passes → AreAtGates gates s → Each IsOf passes gates
+held-at gates s passes had free = subst (λ p. Each IsOf p gates) (same_Some free.passes passes (sym free.has ∙ had)) free.of
+
+-- and have the connections that are idle
+pub held-idle : {C : Type 0} (gates : Four GateId) (r : Role) (s : State C) (passes : Four (PassView Group)) → s.passes ≡ Some passes → AreIdleAt gates r s → FleetHolds passes gates s.conns r
+held-idle gates r s passes had idle = subst (λ p. FleetHolds p gates s.conns r) (same_Some idle.passes passes (sym idle.has ∙ had)) idle.holds
 
 -- of what is held, the connection of a bus is idle
 pub idle-at : (b : ℕ) (passes : Four (PassView Group)) (gates : Four GateId) (conns : Four ℕ) (r : Role) → FleetHolds passes gates conns r → phase_at (at b passes) (at b conns) ≡ Idle r
@@ -86,60 +94,69 @@ module _ {B : Type 0} (g : Origins B) (told : ℕ) (passes : Four (PassView Grou
         (refl, subst (λ n. IsFleetAsked (on bus g) n (at bus conns) xid there bus went.placed out) (at-numbers bus passes) went.holding);
   }
 
-  -- ---- a message
+-- ---- a message
 
-  module _ {C : Type 0} (tells : C → ℕ → C → Type 0) (clock clock' : C) (first : ℕ) (r : Role) (message : List ℕ) where
-    -- the state before, and behind passes that went on
-    abbrev before : State C
-    before = record { role = r; conns = conns; passes = Some passes; clock = clock; told = first }
-
-    abbrev after : Four (PassView Group) → State C
-    after passes' = record { role = r; conns = conns; passes = Some passes'; clock = clock'; told = told }
-
-    -- a message that says what is answered without a bus
-    pub answered-does : clock' ≡ clock → (text room : List ℕ) (len : ℕ) → meaning message r ≡ one.Answered text → Stands (record_of text) len room → IsFleetAnswered g tells before message (take len room) (after passes)
-    answered-does same text room len is stands = record {
+module _ {B C : Type 0} (g : Origins B) (tells : C → ℕ → C → Type 0) where
+  -- a message that says what is answered without a bus
+  pub answered-does : (s : State C) (passes : Four (PassView Group)) → s.passes ≡ Some passes → (text out : List ℕ) → out ≡ record_of text → MeaningDoes g tells s (one.Answered text) (Some out) s
+  answered-does s passes had text out is = record {
+    role = refl;
+    conns = refl;
+    later = omega arith;
+    has = record {
       passes = passes;
       bus = 0;
       within = omega arith;
       placed = [];
       own = passes.zero_;
-      had = refl;
-      has = refl;
-      makes = makes-none told passes.zero_;
-      asks = clockedas-none tells r clock clock' same;
-      served = subst (λ (m : Meaning). IsFleetServed g (numbers passes) conns (by_meaning m) 0 [] (take len room)) (sym is) (refl, stands.record_is);
-    }
+      had = had;
+      has = had;
+      makes = makes-none s.told passes.zero_;
+      asks = clockedas-none tells s.role s.clock s.clock refl;
+      served = (refl, is);
+    };
+  }
 
+  -- any other, of connections with these numbers, whose passes were in their place and are again
+  module _ (s s' : State C) (passes passes' : Four (PassView Group)) (role_is : s'.role ≡ s.role) (conns_are : s'.conns ≡ s.conns) (later : s.told ≤ s'.told) (had : s.passes ≡ Some passes) (has : s'.passes ≡ Some passes') where
     -- a call
-    pub asks-does : r ≡ role.Core → (xid : ℕ) (asked : Call) (out : List ℕ) (passes' : Four (PassView Group)) → meaning message r ≡ one.Asks xid asked
-        → ServesCall g (Clocked tells clock clock') told passes conns (by_way xid (route_of asked)) out passes' → IsFleetAnswered g tells before message out (after passes')
-    asks-does of_role xid asked out passes' is serves = record {
-      passes = passes;
-      bus = serves.bus;
-      within = serves.within;
-      placed = serves.placed;
-      own = serves.own;
-      had = refl;
-      has = ap Some serves.is;
-      makes = serves.makes;
-      asks = subst (λ x. ClockedAs x tells clock clock' serves.placed) (sym of_role) serves.asks;
-      served = subst (λ (m : Meaning). IsFleetServed g (numbers passes) conns (by_meaning m) serves.bus serves.placed out) (sym is) serves.served;
+    pub asks-does : s.role ≡ role.Core → (xid : ℕ) (asked : Call) (out : List ℕ) → ServesCall g (Clocked tells s.clock s'.clock) s'.told passes s.conns (by_way xid (route_of asked)) out passes'
+        → MeaningDoes g tells s (one.Asks xid asked) (Some out) s'
+    asks-does of_role xid asked out serves = record {
+      role = role_is;
+      conns = conns_are;
+      later = later;
+      has = record {
+        passes = passes;
+        bus = serves.bus;
+        within = serves.within;
+        placed = serves.placed;
+        own = serves.own;
+        had = had;
+        has = has ∙ ap Some serves.is;
+        makes = serves.makes;
+        asks = subst (λ r. ClockedAs r tells s.clock s'.clock serves.placed) (sym of_role) serves.asks;
+        served = serves.served;
+      };
     }
 
     -- a device_abort
-    pub aborts-does : r ≡ role.Abort → clock' ≡ clock → (xid lid bus link : ℕ) (out : List ℕ) (passes' : Four (PassView Group)) → meaning message r ≡ one.Aborts xid lid → (bus, link) ≡ fleet_place_of lid → bus ≤ 3
-        → OnBus unclocked 0 passes bus (λ placed. IsAborted (at bus conns) xid link placed [] out) passes' → IsFleetAnswered g tells before message out (after passes')
-    aborts-does of_role same xid lid bus link out passes' is place within went = record {
-      passes = passes;
-      bus = bus;
-      within = within;
-      placed = went.placed;
-      own = went.own;
-      had = refl;
-      has = ap Some went.is;
-      makes = makes-later 0 told (at bus passes) went.own went.placed (omega arith) went.makes;
-      asks = subst (λ x. ClockedAs x tells clock clock' went.placed) (sym of_role) same;
-      served = subst (λ (m : Meaning). IsFleetServed g (numbers passes) conns (by_meaning m) bus went.placed out) (sym is)
-          (ap (λ (p : ℕ × ℕ). p.0) place, subst (λ n. IsAborted (at bus conns) xid n went.placed [] out) (ap (λ (p : ℕ × ℕ). p.1) place) went.holding);
+    pub aborts-does : s.role ≡ role.Abort → s'.clock ≡ s.clock → (xid lid bus link : ℕ) (out : List ℕ) → (bus, link) ≡ fleet_place_of lid → bus ≤ 3
+        → OnBus unclocked 0 passes bus (λ placed. IsAborted (at bus s.conns) xid link placed [] out) passes' → MeaningDoes g tells s (one.Aborts xid lid) (Some out) s'
+    aborts-does of_role same xid lid bus link out place within went = record {
+      role = role_is;
+      conns = conns_are;
+      later = later;
+      has = record {
+        passes = passes;
+        bus = bus;
+        within = within;
+        placed = went.placed;
+        own = went.own;
+        had = had;
+        has = has ∙ ap Some went.is;
+        makes = makes-later 0 s'.told (at bus passes) went.own went.placed (omega arith) went.makes;
+        asks = subst (λ r. ClockedAs r tells s.clock s'.clock went.placed) (sym of_role) same;
+        served = (ap (λ (p : ℕ × ℕ). p.0) place, subst (λ n. IsAborted (at bus s.conns) xid n went.placed [] out) (ap (λ (p : ℕ × ℕ). p.1) place) went.holding);
+      };
     }

@@ -3,7 +3,10 @@ pub mod Asked
 pub mod Answered
 pub mod Progressing
 pub mod Finishing
+pub mod Joined
 pub mod Linked
+pub mod Attended
+pub mod FleetSessions
 pub mod Hosted
 pub mod Furnished
 pub mod Lones

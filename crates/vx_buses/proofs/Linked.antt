@@ -1,9 +1,9 @@
--- A link's connections: what their passes keep, and how they are refused.
-use Rattle.std.proofs.Common.{◌≡◌, ◌≤◌, ℕ, List, Result, Ok, Err, refl, sym, ◌∙◌, subst, arith, []}
+-- A link's connections, and how they are refused.
+use Rattle.std.proofs.Common.{◌≡◌, ◌≤◌, ℕ, List, Result, Ok, Err, refl, sym, subst, arith, []}
 use Rattle.vx_io_traits.specs.declared.links.Link.{Ghosts}
-use Rattle.vx_gate.specs.PassView.{PassView, GateId}
-use Rattle.vx_buses.specs.Four.{Four, at, Each}
-use Rattle.vx_buses.specs.Passing.{IsOf}
+use Rattle.vx_calls.specs.declared.calls.Role.TheVariants as role
+use Rattle.vx_gate.specs.PassView.{PassView}
+use Rattle.vx_buses.specs.Four.{Four, at}
 use Rattle.vx_group.specs.Groups.{Group}
 use Rattle.vx_group.specs.Laws.{ClaimsOfGroupsLaw, OwnedLaw}
 use Rattle.vx_buses.specs.Given.{OnceLaw}
@@ -11,26 +11,16 @@ use Rattle.vx_state.specs.declared.tables.Connect.{Connect}
 use Rattle.vx_state.specs.declared.tables.Connect.TheVariants as connect
 use Rattle.vx_session.specs.Linking.{refused_as}
 use Rattle.vx_session.specs.Origin.{Origin}
-use Rattle.vx_session.specs.Placing.{Placed, Makes, IsHistory}
+use Rattle.vx_session.specs.Placing.{Placed, IsHistory}
 use Rattle.vx_session.specs.Ending.{Upholds}
 use Rattle.vx_session.specs.declared.links.Linked.{Linked}
 use Rattle.vx_buses.specs.Origins.{Origins, on}
-use Rattle.vx_buses.specs.Ending.{FleetHolding, GivesOnce}
+use Rattle.vx_buses.specs.Ending.{GivesOnce}
 use Rattle.vx_buses.specs.Joining.{JoinsAll, Undone, UndoneAll, outcome}
 use Rattle.vx_buses.specs.Linking.{LinkDid}
 use Rattle.vx_session.proofs.Laws.Finishing.{upholds}
 use Rattle.vx_buses.proofs.Finishing.{gives-once}
 use Rattle.vx_buses.proofs.Fours.{each-number}
-
--- passes that made groups are of the gates that they were of
-pub gates-kept : (told : ℕ) (p p' : Four (PassView Group)) (gates : Four GateId) (made : ℕ → List Placed) → ((bus : ℕ) → bus ≤ 3 → Makes told (at bus p) (made bus) (at bus p'))
-    → Each IsOf p gates → Each IsOf p' gates
-gates-kept told p p' gates made makes each = record {
-  zero_ = (makes 0 (omega arith)).gate ∙ each.zero_;
-  one = (makes 1 (omega arith)).gate ∙ each.one;
-  two = (makes 2 (omega arith)).gate ∙ each.two;
-  three = (makes 3 (omega arith)).gate ∙ each.three;
-}
 
 -- a history that a pass has seen behind its connection's end, or behind its refusal
 undone-history : {B : Type 0} (g : Origin B) (up pass' : PassView Group) (answer : Result ℕ Connect) → IsHistory g up.seen → Undone g up answer pass' → IsHistory g pass'.seen
@@ -38,7 +28,7 @@ undone-history g up pass' (Ok conn) h leaves = leaves.turns.history
 undone-history g up pass' (Err why) h same = subst (λ (p : PassView Group). IsHistory g p.seen) (sym same) h
 
 -- so all holds that is claimed of the histories of four
-undone-uphold : {B : Type 0} (g : Origins B) → ClaimsOfGroupsLaw → OwnedLaw → (passes up passes' : Four (PassView Group)) (joined : Four (Result ℕ Connect)) → JoinsAll g passes joined up → UndoneAll g up joined passes'
+undone-uphold : {B : Type 0} (g : Origins B) → ClaimsOfGroupsLaw → OwnedLaw → (passes up passes' : Four (PassView Group)) (joined : Four (Result ℕ Connect)) → JoinsAll g role.Core passes joined up → UndoneAll g up joined passes'
     → (bus : ℕ) → bus ≤ 3 → Upholds (on bus g) (at bus passes')
 undone-uphold g claims owned passes up passes' joined joins undone =
     each-number (λ b. Upholds (on b g) (at b passes'))
@@ -49,7 +39,7 @@ undone-uphold g claims owned passes up passes' joined joins undone =
 
 -- the connections were refused, and their link is told so
 pub link-refused : {B L : Type 0} (g : Origins B) (ways : Ghosts L) → ClaimsOfGroupsLaw → OwnedLaw → OnceLaw → (clocked : List Placed → Type 0) → clocked [] → (told : ℕ) (passes up passes' : Four (PassView Group)) (link : L)
-    (joined : Four (Result ℕ Connect)) (why : Connect) (how : Linked) → how ≡ refused_as why → JoinsAll g passes joined up → outcome joined ≡ Err why → UndoneAll g up joined passes'
+    (joined : Four (Result ℕ Connect)) (why : Connect) (how : Linked) → how ≡ refused_as why → JoinsAll g role.Core passes joined up → outcome joined ≡ Err why → UndoneAll g up joined passes'
     → LinkDid g ways clocked told (record { passes = passes; link = link }) how (record { passes = passes'; link = link })
 link-refused g ways claims owned law clocked none told passes up passes' link joined why how how_is joins is undone =
     subst (λ h. LinkDid g ways clocked told (record { passes = passes; link = link }) h (record { passes = passes'; link = link })) (sym how_is) (by why is) where

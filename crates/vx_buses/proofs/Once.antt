@@ -1,16 +1,14 @@
 -- Numbers of links, in range and apart.
-use Rattle.std.proofs.Common.{◌≡◌, ◌≢◌, ◌≤◌, ◌<◌, ◌==◌, ◌+◌, ◌-◌, ◌*◌, ◌⊎◌, inl, inr, ℕ, suc, Bool, true, false, cond, List, [], ◌∷◌, ◌++◌, map, length, Option, None, Some, refl, sym, subst, arith}
+use Rattle.std.proofs.Common.{◌≡◌, ◌≢◌, ◌≤◌, ◌<◌, ℕ, Bool, List, [], ◌∷◌, ◌++◌, map, Option, None, Some, refl, arith}
 use Rattle.std.specs.List.{All, AllPairs}
 use Rattle.std.proofs.lemmas.List.Elements.{All-nil, All-cons, All-append, All-head, All-tail, All-map, All-weaker}
 use Rattle.std.proofs.lemmas.List.Kept.{AllPairs-cons}
 use Rattle.vx_lemmas.proofs.Laws.Filters.{pairs_head, pairs_tail}
 use Rattle.vx_calls.specs.declared.codes.ErrorCode.TheVariants as code
-use Rattle.vx_calls.specs.declared.limits.TheConstants.{LINK_LAST}
 use Rattle.vx_calls.specs.Reply.{Reply}
 use Rattle.vx_calls.specs.Reply as reply
 use Rattle.vx_488.specs.declared.transfers.Transfer.{Transfer}
-use Rattle.vx_rules.specs.Entry.{Entry, Up, Down, Arrive, Answer, Abort, Sample, Take}
-use Rattle.vx_rules.specs.Legal.{legal_state}
+use Rattle.vx_rules.specs.Entry.{Entry, Answer}
 use Rattle.vx_rules.specs.Lists.{along}
 use Rattle.vx_rules.specs.Numbers.{link_told, link_given, links_given, LinkGivenLaw, LinksGivenOnceLaw}
 use Rattle.vx_rules.specs.AtomicStep.{atomic_step}
@@ -19,7 +17,7 @@ use Rattle.vx_rules.specs.State.{State, first}
 use Rattle.vx_rules.proofs.Laws.Keeping.{first-sound}
 use Rattle.vx_rules.proofs.Laws.Walks.{atomic-sound, along-none}
 use Rattle.vx_buses.specs.Numbers.{global_number}
-use Rattle.vx_buses.specs.Given.{IsLink, given_on, given_by_all, LinksLaw, OnceLaw}
+use Rattle.vx_buses.specs.Given.{IsLink, given_on, LinksLaw, OnceLaw}
 
 -- ---- pairs of a list
 

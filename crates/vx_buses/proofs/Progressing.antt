@@ -12,14 +12,13 @@ use Rattle.vx_core.specs.CoreState.{CoreState}
 use Rattle.vx_gate.specs.PassView.{PassView}
 use Rattle.vx_buses.specs.Four.{Four, at, put}
 use Rattle.vx_group.specs.Groups.{Group}
-use Rattle.vx_record.specs.Records.{Split, records}
+use Rattle.vx_record.specs.Records.{records}
 use Rattle.vx_exchange.specs.Meaning.{meaning, Junk}
 use Rattle.vx_stream.specs.Calling.{InTurn}
-use Rattle.vx_stream.specs.Shown.{LinkShown, LinkGoes, link_shown}
+use Rattle.vx_stream.specs.Shown.{LinkGoes, link_shown}
 use Rattle.vx_stream.specs.Answered.{Answered, AnswersAll, replies}
-use Rattle.vx_stream.specs.Stopping.{EndsSo, IsLeft, StreamAnswered}
+use Rattle.vx_stream.specs.Stopping.{EndsSo, StreamAnswered}
 use Rattle.vx_stream.specs.declared.ends.End.{End}
-use Rattle.vx_stream.specs.declared.ends.End.TheVariants as end
 use Rattle.vx_session.specs.Placing.{Placed, Makes}
 use Rattle.vx_session.specs.Progress.{ClockedAs}
 use Rattle.vx_session.proofs.Laws.{makes-none, makes-goes, clockedas-none, clockedas-goes}

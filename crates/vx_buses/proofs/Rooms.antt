@@ -7,9 +7,7 @@ use Rattle.vx_io_traits.specs.declared.links.Link.{Ghosts}
 use Rattle.vx_calls.specs.declared.calls.Role.{Role}
 use Rattle.vx_calls.specs.declared.limits.TheConstants.{CONNECTION_LAST}
 use Rattle.vx_calls.specs.declared.calls.Role.TheVariants as role
-use Rattle.vx_gate.specs.PassView.{PassView}
 use Rattle.vx_buses.specs.Four.{Four, at, Each}
-use Rattle.vx_group.specs.Groups.{Group}
 use Rattle.vx_state.specs.declared.tables.Connect.{Connect}
 use Rattle.vx_state.specs.declared.tables.Connect.TheVariants as connect
 use Rattle.vx_stream.specs.declared.ends.End.{End}
@@ -26,6 +24,7 @@ use Rattle.vx_buses.specs.Serving.{Item, FleetServes, IsFleetServed, placed_on, 
 use Rattle.vx_buses.specs.Ending.{FleetHolding}
 use Rattle.vx_buses.specs.Joining.{Undone, outcome}
 use Rattle.vx_buses.specs.Linking.{HadSession, WasRefused, LinkDid}
+use Rattle.vx_buses.proofs.Joined.{all-up}
 
 -- ---- the messages of a session
 
@@ -60,21 +59,11 @@ each-on P g x y z each (suc zero) = each.one
 each-on P g x y z each (suc (suc zero)) = each.two
 each-on P g x y z each (suc (suc (suc n))) = each.three
 
--- answers that are one carry the same
-same-all : (a b : Four ℕ) → ◌≡◌ {A = Result (Four ℕ) Connect} (Ok a) (Ok b) → a ≡ b
-same-all a b h = cc
-
+-- causes that are one
 same-why : (a b : Connect) → ◌≡◌ {A = Result (Four ℕ) Connect} (Err a) (Err b) → a ≡ b
 same-why a b h = cc
 
 -- where all four came up each did
-all-up : (a b c d : Result ℕ Connect) (conns : Four ℕ) → outcome (record { zero_ = a; one = b; two = c; three = d }) ≡ Ok conns
-    → Each (λ o n. ◌≡◌ {A = Result ℕ Connect} o (Ok n)) (record { zero_ = a; one = b; two = c; three = d }) conns
-all-up (Ok x) (Ok y) (Ok z) (Ok w) conns h =
-    let same = same-all (record { zero_ = x; one = y; two = z; three = w }) conns h in
-    record { zero_ = ap (λ f. Ok f.zero_) same; one = ap (λ f. Ok f.one) same; two = ap (λ f. Ok f.two) same; three = ap (λ f. Ok f.three) same }
-all-up _ _ _ _ conns h = absurd (cc)
-
 each-up : (joined : Four (Result ℕ Connect)) (conns : Four ℕ) → outcome joined ≡ Ok conns → (bus : ℕ) → at bus joined ≡ Ok (at bus conns)
 each-up joined conns h = by (all-up joined.zero_ joined.one joined.two joined.three conns h) where
   by : Each (λ o n. ◌≡◌ {A = Result ℕ Connect} o (Ok n)) joined conns → (bus : ℕ) → at bus joined ≡ Ok (at bus conns)

@@ -1,6 +1,6 @@
 -- To be believed.
 -- What serves the links of a door over four buses, and what serving one does.
-use Rattle.std.specs.Prelude.{◌≡◌, ◌≢◌, ◌≤◌, ℕ, List, [], Option, Some, None}
+use Rattle.std.specs.Prelude.{◌≡◌, ◌≢◌, ◌≤◌, ℕ, [], Option, Some, None}
 use Rattle.vx_io_traits.specs.declared.links.Link.{Ghosts as OfLink}
 use Rattle.vx_door.specs.Going.{Went}
 use Rattle.vx_bus_traits.specs.declared.bus.Bus.{Ghosts}

@@ -1,7 +1,7 @@
 -- To be believed.
 -- How connections to four buses come up, one of each, or none does.
 use Rattle.std.specs.Prelude.{◌≡◌, ℕ, Result, Ok, Err}
-use Rattle.vx_calls.specs.declared.calls.Role.TheVariants as role
+use Rattle.vx_calls.specs.declared.calls.Role.{Role}
 use Rattle.vx_gate.specs.PassView.{PassView}
 use Rattle.vx_buses.specs.Four.{Four}
 use Rattle.vx_group.specs.Groups.{Group}
@@ -15,9 +15,9 @@ use Rattle.vx_buses.specs.declared.joining.Joined.{Joined}
 abbrev pub joined_shown : Joined → Four (Result ℕ Connect)
 joined_shown j = record { zero_ = j.zero; one = j.one; two = j.two; three = j.three }
 
--- each bus was asked for a connection
-abbrev pub JoinsAll : {B : Type 0} → Origins B → Four (PassView Group) → Four (Result ℕ Connect) → Four (PassView Group) → Type 0
-JoinsAll g passes joined passes' = OnEach (λ o pass answer pass'. Joins o pass role.Core answer pass') g passes joined passes'
+-- each bus was asked for a connection of this role
+abbrev pub JoinsAll : {B : Type 0} → Origins B → Role → Four (PassView Group) → Four (Result ℕ Connect) → Four (PassView Group) → Type 0
+JoinsAll g r passes joined passes' = OnEach (λ o pass answer pass'. Joins o pass r answer pass') g passes joined passes'
 
 -- all four connections, where all came up, or else why the first that didn't come up was refused
 abbrev pub outcome : Four (Result ℕ Connect) → Result (Four ℕ) Connect

@@ -5,6 +5,7 @@ pub mod Holding
 pub mod Asking
 pub mod Ending
 pub mod Joining
+pub mod FleetDesk
 pub mod Linking
 pub mod Hosting
 pub mod Starting

@@ -22,7 +22,7 @@ use Rattle.vx_buses.specs.Joining.{JoinsAll, UndoneAll, outcome}
 pub record HadSession {B L : Type 0} (g : Origins B) (ways : Ghosts L) (clocked : List Placed → Type 0) (told : ℕ) (before : FleetHolding L) (how : End) (after : FleetHolding L) : Type 0 where
   pub joined : Four (Result ℕ Connect)
   pub up : Four (PassView Group)
-  pub joins : JoinsAll g before.passes joined up
+  pub joins : JoinsAll g role.Core before.passes joined up
   pub conns : Four ℕ
   pub all : outcome joined ≡ Ok conns
   pub did : SessionDid g ways clocked told role.Core conns (record { passes = up; link = before.link }) how after
@@ -32,7 +32,7 @@ pub record HadSession {B L : Type 0} (g : Origins B) (ways : Ghosts L) (clocked 
 pub record WasRefused {B L : Type 0} (g : Origins B) (clocked : List Placed → Type 0) (before : FleetHolding L) (why : Connect) (after : FleetHolding L) : Type 0 where
   pub joined : Four (Result ℕ Connect)
   pub up : Four (PassView Group)
-  pub joins : JoinsAll g before.passes joined up
+  pub joins : JoinsAll g role.Core before.passes joined up
   pub refused : outcome joined ≡ Err why
   pub undone : UndoneAll g up joined after.passes
   pub same : after.link ≡ before.link

@@ -1,6 +1,6 @@
 -- To be believed.
 -- The buses that device texts name.
-use Rattle.std.specs.Prelude.{◌≤◌, ℕ, ◌-◌, ◌&&◌, ◌==◌, nat_le, if◌then◌else◌, List, [], ◌∷◌, ◌++◌, length, take, drop, codes, Option, Some, None}
+use Rattle.std.specs.Prelude.{ℕ, ◌-◌, ◌&&◌, ◌==◌, nat_le, if◌then◌else◌, List, [], ◌∷◌, length, take, codes, Option, Some, None}
 use Rattle.std.specs.List.{position}
 use Rattle.std.specs.Str.{str_eq_ignore_ascii_case}
 use Rattle.vx_calls.specs.declared.limits.TheConstants.{DEVICE_MAX}

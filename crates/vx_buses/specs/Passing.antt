@@ -1,6 +1,6 @@
 -- To be believed.
 -- The passes of four gates, as a contract sees them.
-use Rattle.std.specs.Prelude.{◌≡◌, ◌≢◌, ◌⊎◌, ◌+◌, ◌-◌, []}
+use Rattle.std.specs.Prelude.{◌≡◌, ◌⊎◌, ◌+◌, ◌-◌, []}
 use mathlib.Core.List.{IsPrefix}
 use Rattle.vx_gate.specs.History.{made_by}
 use Rattle.vx_gate.specs.PassView.{PassView, GateId}

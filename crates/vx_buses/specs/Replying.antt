@@ -1,6 +1,6 @@
 -- To be believed.
 -- The records of replies to calls on several buses.
-use Rattle.std.specs.Prelude.{◌≤◌, ℕ, ◌&&◌, nat_le, if◌then◌else◌, List, ◌++◌, length, take, drop}
+use Rattle.std.specs.Prelude.{ℕ, ◌&&◌, nat_le, if◌then◌else◌, List, ◌++◌, length, take, drop}
 use Rattle.byteorder.specs.Endian.{big_number}
 use Rattle.vx_xdr.specs.Spelling.{word}
 use Rattle.vx_calls.specs.declared.limits.TheConstants.{LINK_LAST}

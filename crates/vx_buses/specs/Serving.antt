@@ -18,9 +18,9 @@ use Rattle.vx_session.specs.Placing.{Placed, Makes}
 use Rattle.vx_session.specs.Progress.{ClockedAs}
 use Rattle.vx_session.specs.Serving.{IsCalled, IsAborted}
 use Rattle.vx_exchange.specs.Meaning as one
-use Rattle.vx_exchange.specs.Meaning.{meaning}
+use Rattle.vx_exchange.specs.Meaning.{Meaning, meaning}
 use Rattle.vx_buses.specs.Origins.{Origins, on}
-use Rattle.vx_buses.specs.Meant.{Meant, Junk, Told, Asks, Aborts, meant}
+use Rattle.vx_buses.specs.Meant.{Meant, Junk, Told, Asks, Aborts, by_meaning, meant}
 
 -- the record of a reply as the client is told it: in a create_link's the number of the link is the one over all buses
 abbrev pub outward : Call → ℕ → List ℕ → List ℕ
@@ -84,8 +84,8 @@ pub record State (C : Type 0) : Type 0 where
 abbrev pub fleet_state : {C : Type 0} → OfClock C → Role → Four ℕ → Option (Four (PassView Group)) → C → State C
 fleet_state by_clock r conns passes clock = record { role = r; conns = conns; passes = passes; clock = clock; told = by_clock.told clock }
 
--- A message was served by this reply. Its bus's pass went on; the other three stay as they were.
-pub record IsFleetAnswered {B C : Type 0} (g : Origins B) (tells : C → ℕ → C → Type 0) (s : State C) (message reply : List ℕ) (s' : State C) : Type 0 where
+-- A message of this meaning was served by this reply. Its bus's pass went on; the other three stay as they were.
+pub record IsFleetAnswered {B C : Type 0} (g : Origins B) (tells : C → ℕ → C → Type 0) (s : State C) (m : Meaning) (reply : List ℕ) (s' : State C) : Type 0 where
   pub passes : Four (PassView Group)
   pub bus : ℕ
   pub within : bus ≤ 3
@@ -95,19 +95,23 @@ pub record IsFleetAnswered {B C : Type 0} (g : Origins B) (tells : C → ℕ →
   pub has : s'.passes ≡ Some (put bus own passes)
   pub makes : Makes s'.told (at bus passes) placed own
   pub asks : ClockedAs s.role tells s.clock s'.clock placed
-  pub served : IsFleetServed g (numbers passes) s.conns (meant message s.role) bus placed reply
+  pub served : IsFleetServed g (numbers passes) s.conns (by_meaning m) bus placed reply
 
 -- junk is no call and changes nothing; any other message is served
-abbrev pub FleetHasReply : {B C : Type 0} → Origins B → (C → ℕ → C → Type 0) → State C → List ℕ → Option (List ℕ) → State C → Type 0
-FleetHasReply g tells s message None s' = (meaning message s.role ≡ one.Junk) × (s'.passes ≡ s.passes) × (s'.clock ≡ s.clock)
-FleetHasReply g tells s message (Some reply) s' = IsFleetAnswered g tells s message reply s'
+abbrev pub FleetHasReply : {B C : Type 0} → Origins B → (C → ℕ → C → Type 0) → State C → Meaning → Option (List ℕ) → State C → Type 0
+FleetHasReply g tells s m None s' = (m ≡ one.Junk) × (s'.passes ≡ s.passes) × (s'.clock ≡ s.clock)
+FleetHasReply g tells s m (Some reply) s' = IsFleetAnswered g tells s m reply s'
 
--- what a message on the connections does
-pub record MessageDoes {B C : Type 0} (g : Origins B) (tells : C → ℕ → C → Type 0) (s : State C) (message : List ℕ) (reply : Option (List ℕ)) (s' : State C) : Type 0 where
+-- what a message of this meaning does on the connections
+pub record MeaningDoes {B C : Type 0} (g : Origins B) (tells : C → ℕ → C → Type 0) (s : State C) (m : Meaning) (reply : Option (List ℕ)) (s' : State C) : Type 0 where
   pub role : s'.role ≡ s.role
   pub conns : s'.conns ≡ s.conns
   pub later : s.told ≤ s'.told
-  pub has : FleetHasReply g tells s message reply s'
+  pub has : FleetHasReply g tells s m reply s'
+
+-- what a message on the connections does
+abbrev pub MessageDoes : {B C : Type 0} → Origins B → (C → ℕ → C → Type 0) → State C → List ℕ → Option (List ℕ) → State C → Type 0
+MessageDoes g tells s message reply s' = MeaningDoes g tells s (meaning message s.role) reply s'
 
 -- a message of this meaning was served by one of the four buses, or by none
 pub record ServesCall {B : Type 0} (g : Origins B) (clocked : List Placed → Type 0) (told : ℕ) (passes : Four (PassView Group)) (conns : Four ℕ) (m : Meant) (out : List ℕ) (passes' : Four (PassView Group)) : Type 0 where

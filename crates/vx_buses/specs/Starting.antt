@@ -1,9 +1,7 @@
 -- To be believed.
 -- The four gateways of the program as they start.
 use Rattle.std.specs.Prelude.{◌≡◌, ℕ, List, [], ◌∷◌, ◌++◌, None}
-use Rattle.std.specs.List.{All}
 use Rattle.vx_488.specs.declared.transfers.Addr.{Addr}
-use Rattle.vx_bus_traits.specs.Means.{first_means}
 use Rattle.vx_flow.specs.InterleavedState.{first_interleaved}
 use Rattle.vx_inst.specs.Behavior.{Behavior}
 use Rattle.vx_rack.specs.declared.Spare.{Spare}

@@ -29,7 +29,7 @@ use vx_session::{NoTools, Request, Worker, abort, answer_call};
 
 /// Who takes the turns of the connections of a session, one of each bus, at their gates.
 #[derive(Drop)]
-pub(crate) struct FleetWorker<'a, R, B: Bus> {
+pub struct FleetWorker<'a, R, B: Bus> {
     pub rt: &'a R,
     pub buses: &'a Buses<B>,
     /// The connections' numbers, by their buses.

@@ -1,6 +1,6 @@
 //! The connections of a link to four buses: one of each comes up, or none stays.
 ghost use Rattle.std.specs.Prelude.{◌≡◌, ◌≤◌, Ok, Err, IfOk, IfErr};
-ghost use Rattle.vx_calls.specs.declared.calls.Role.TheVariants as role;
+ghost use Rattle.vx_calls.specs.declared.calls.Role.{Role};
 ghost use Rattle.vx_gate.specs.Gates.{gate_of, first_of};
 ghost use Rattle.vx_buses.specs.Four.{Each};
 ghost use Rattle.vx_buses.specs.Passing.{passes_shown, IsOf};
@@ -31,21 +31,22 @@ pub(crate) struct Joined {
     pub(crate) three: Result<u32, Connect>,
 }
 
-/// Asks each bus for a core connection. It takes memory.
+/// Asks each bus for a connection of this role. It takes memory.
 pub(crate) fn join_all<R: Wait, B: Bus>(
     rt: &R,
     alloc: Global,
     buses: &Buses<B>,
     passes: BusPass<B>,
+    role: Role,
 ) -> (BusPass<B>, Joined)
     requires gates { Each IsOf (passes_shown passes) (gates_shown buses.now) }
-    ensures joins { JoinsAll (origins B.Bus (firsts_shown buses.now)) (passes_shown passes) (joined_shown result.1) (passes_shown result.0) }
+    ensures joins { JoinsAll (origins B.Bus (firsts_shown buses.now)) role (passes_shown passes) (joined_shown result.1) (passes_shown result.0) }
     ensures gates { Each IsOf (passes_shown result.0) (gates_shown buses.now) }
 {
-    let (zero, zeroth) = join(rt, alloc, &buses.zero, passes.zero, Role::Core);
-    let (one, first) = join(rt, alloc, &buses.one, passes.one, Role::Core);
-    let (two, second) = join(rt, alloc, &buses.two, passes.two, Role::Core);
-    let (three, third) = join(rt, alloc, &buses.three, passes.three, Role::Core);
+    let (zero, zeroth) = join(rt, alloc, &buses.zero, passes.zero, role);
+    let (one, first) = join(rt, alloc, &buses.one, passes.one, role);
+    let (two, second) = join(rt, alloc, &buses.two, passes.two, role);
+    let (three, third) = join(rt, alloc, &buses.three, passes.three, role);
     let joined = Joined {
         zero: zeroth,
         one: first,
@@ -81,7 +82,7 @@ fn undo<R: Wait, B: Bus>(
     joined: Result<u32, Connect>,
 ) -> Pass<Core<B>>
     requires gate { pass.gate ≡ gate_of gate.now }
-    requires phase { IfOk joined (λ conn. phase_at pass conn ≡ Idle role.Core) }
+    requires phase { (r : Role) × IfOk joined (λ conn. phase_at pass conn ≡ Idle r) }
     ensures { Undone (origin B.Bus (first_of gate.now)) pass joined result }
 {
     match joined {
@@ -98,7 +99,7 @@ pub(crate) fn undo_all<R: Wait, B: Bus>(
     joined: &Joined,
 ) -> BusPass<B>
     requires gates { Each IsOf (passes_shown passes) (gates_shown buses.now) }
-    requires phases { Each (λ pass answer. IfOk answer (λ conn. phase_at pass conn ≡ Idle role.Core)) (passes_shown passes) (joined_shown joined.now) }
+    requires phases { (r : Role) × Each (λ pass answer. IfOk answer (λ conn. phase_at pass conn ≡ Idle r)) (passes_shown passes) (joined_shown joined.now) }
     ensures { UndoneAll (origins B.Bus (firsts_shown buses.now)) (passes_shown passes) (joined_shown joined.now) (passes_shown result) }
 {
     Passes {

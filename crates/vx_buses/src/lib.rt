@@ -5,6 +5,7 @@
 mod answering;
 mod asking;
 mod fleet;
+mod fleet_desk;
 mod hosting;
 mod joining;
 mod leaving;
@@ -14,7 +15,9 @@ mod run;
 mod sessions;
 mod starting;
 
+pub use asking::FleetWorker;
 pub use fleet::{Gates, GatesRefused, Passes};
+pub use fleet_desk::Fleet;
 pub use links::{LinkServer, many_link};
 pub use routes::{global, local};
 pub use run::buses_run;

@@ -4,22 +4,21 @@ ghost use Rattle.vx_door.specs.Going.{Went};
 ghost use Rattle.vx_buses.specs.Four.{Each};
 ghost use Rattle.vx_buses.specs.Passing.{passes_shown, IsOf};
 ghost use Rattle.vx_buses.specs.Standing.{gates_shown, firsts_shown};
-ghost use Rattle.vx_session.specs.Linking.{refused_as};
 ghost use Rattle.vx_session.specs.Progress.{Clocked};
 ghost use Rattle.vx_buses.specs.Origins.{origins};
 ghost use Rattle.vx_buses.specs.Linking.{LinkDid};
 
-use crate::joining::{join_all, outcome, undo_all};
+use crate::asking::FleetWorker;
+use crate::fleet_desk::Fleet;
 use crate::routes::given_once_law;
-use crate::sessions::many_session;
 use crate::{BusPass, Buses};
 use std::alloc::Global;
 use std::sync::Wait;
 use vx_bus_traits::Bus;
-use vx_core::Connect;
+use vx_calls::Role;
 use vx_group::{claims_law, owned_law};
 use vx_io_traits::{Clock, Link, Pause};
-use vx_session::{Linked, Room};
+use vx_session::{Linked, Room, serve_link};
 
 /// What serves links: four buses, and the memory of the links' connections.
 #[derive(Drop)]
@@ -27,16 +26,6 @@ pub struct LinkServer<'a, R, B: Bus> {
     pub rt: &'a R,
     pub alloc: Global,
     pub buses: &'a Buses<B>,
-}
-
-/// Why connections didn't come up, as their link is told.
-fn refused(why: Connect) -> Linked
-    ensures { result ≡ refused_as why }
-{
-    match why {
-        Connect::Full => Linked::Full,
-        Connect::NoMemory => Linked::NoMemory,
-    }
 }
 
 /// Serves a link: a core connection to each bus comes up, they have their session, and end. Where one doesn't come up, the link is
@@ -59,24 +48,19 @@ pub fn many_link<R: Wait, B: Bus, L: Link, C: Clock, P: Pause>(
     claims_law();
     owned_law();
     given_once_law();
-    let (passes, joined) = join_all(server.rt, server.alloc, server.buses, passes);
-    match outcome(&joined) {
-        Err(why) => (
-            undo_all(server.rt, server.buses, passes, &joined),
-            refused(why),
-        ),
-        Ok(conns) => {
-            let (passes, end) = many_session(
-                server.rt,
-                server.buses,
-                passes,
-                conns,
-                link,
-                clock,
-                pause,
-                room,
-            );
-            (passes, Linked::Ended(end))
-        }
-    }
+    let mut held = Some(passes);
+    let desk = Fleet {
+        worker: FleetWorker {
+            rt: server.rt,
+            buses: server.buses,
+            conns: [0; 4],
+            role: Role::Core,
+        },
+        held: &mut held,
+        clock,
+        pause,
+    };
+    let (_, how) = serve_link(server.rt, server.alloc, desk, Role::Core, link, room);
+    let Some(passes) = held else { unreachable!() };
+    (passes, how)
 }

@@ -9,9 +9,8 @@ ghost use Rattle.vx_buses.specs.Origins.{origins};
 ghost use Rattle.vx_buses.specs.Ending.{SessionDid};
 ghost use Rattle.vx_buses.specs.Holding.{four_of, FleetHolds};
 
-use crate::answering::Many;
 use crate::asking::FleetWorker;
-use crate::leaving::leave_all;
+use crate::fleet_desk::Fleet;
 use crate::routes::given_once_law;
 use crate::{BusPass, Buses};
 use std::sync::Wait;
@@ -19,10 +18,10 @@ use vx_bus_traits::Bus;
 use vx_calls::Role;
 use vx_group::{claims_law, owned_law};
 use vx_io_traits::{Clock, Link, Pause};
-use vx_session::{NoTools, Room};
+use vx_session::{NoTools, Room, serve_session};
 use vx_stream::End;
 
-/// A session, in a room: the records of its stream are served, and then the connections go.
+/// A session at the desk of four buses.
 fn run_session<R: Wait, B: Bus, L: Link, C: Clock, P: Pause>(
     worker: &FleetWorker<'_, R, B>,
     pass: BusPass<B>,
@@ -41,15 +40,15 @@ fn run_session<R: Wait, B: Bus, L: Link, C: Clock, P: Pause>(
     owned_law();
     given_once_law();
     let mut held = Some(pass);
-    let server = Many {
-        worker,
+    let desk = Fleet {
+        worker: FleetWorker { ..*worker },
         held: &mut held,
         clock,
         pause,
     };
-    let (_, end) = room.answer(worker.rt, server, link);
+    let (_, end) = serve_session(worker.rt, desk, worker.role, link, room);
     let Some(pass) = held else { unreachable!() };
-    (leave_all(worker.rt, worker.buses, pass, &worker.conns), end)
+    (pass, end)
 }
 
 /// The session of core connections, one of each bus in their order: it reads records from the link, has each whole one answered by its

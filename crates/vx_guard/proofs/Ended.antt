@@ -75,16 +75,16 @@ ended-same last s' seen list looked behind unsent seen' how same sound ended =
     subst (λ x. StreamEnds last x seen list looked behind unsent seen' how) (sym same)
     (record { unasked = record { pass = refl; clock = refl; dial = refl; made = refl }; later = omega arith; why = inl (sound, refl, ended) })
 
-module _ {B C S : Type 0} (bus : Ghosts B) (tells : C → ℕ → C → Type 0) (first : S → CoreState B) (does : S → List ℕ → Option (List ℕ) → S → Type 0) (shown : S → GuardState C)
-    (one : (s s' : S) (message : List ℕ) (reply : Option (List ℕ)) → does s message reply s' → GuardDoes (origin bus (first s)) tells (shown s) message reply (shown s'))
+module _ {B C S : Type 0} (bus : Ghosts B) (tells : C → ℕ → C → Type 0) (first : S → CoreState B) (does : S → List ℕ → Option (List ℕ) → S → Type 0) (shown : S → GuardState C) (Holds : S → Type 0)
+    (one : (s s' : S) (message : List ℕ) (reply : Option (List ℕ)) → Holds s → does s message reply s' → GuardDoes (origin bus (first s)) tells (shown s) message reply (shown s') × Holds s')
     (same : (s s' : S) (message : List ℕ) (reply : Option (List ℕ)) → does s message reply s' → first s' ≡ first s)
     (core : (s : S) → (shown s).session.role ≡ role.Core) where
   -- a message without a reply
-  ended-without : (last s' : S) (seen : LinkShown) (list : List Answered) (looked : Split) (behind unsent : List ℕ) (seen' : LinkShown) (count : ℕ) → (shown last).failed ≡ false
+  ended-without : (last s' : S) (seen : LinkShown) (list : List Answered) (looked : Split) (behind unsent : List ℕ) (seen' : LinkShown) (count : ℕ) → Holds last → (shown last).failed ≡ false
       → EndsSo (λ message. does last message None s') seen list looked behind unsent seen' (Some (end.Junk count))
       → StreamEnds (shown last) (shown s') seen list looked behind unsent seen' (end.Junk count)
-  ended-without last s' seen list looked behind unsent seen' count sound ended =
-      let did = one last s' ended.1 None ended.4 in
+  ended-without last s' seen list looked behind unsent seen' count holds sound ended =
+      let did = (one last s' ended.1 None holds ended.4).0 in
       record { unasked = did.has.0; later = did.later; why = by did.has.1 }
     where
       by : ((meaning ended.1 role.Core ≡ Junk) × ((shown s').note ≡ (shown last).note) × ((shown s').failed ≡ (shown last).failed))
@@ -93,26 +93,28 @@ module _ {B C S : Type 0} (bus : Ghosts B) (tells : C → ℕ → C → Type 0) 
       by (inl junk) = inl (junk.2 ∙ sound, junk.1, (ended.0, ended.1, ended.2, ended.3, junk.0))
       by (inr fails) = inr (fails.1, ended.1, fails.0, ended.2, ended.0)
 
-  stream-ends : (last s' : S) (seen : LinkShown) (list : List Answered) (looked : Split) (behind unsent : List ℕ) (seen' : LinkShown) (how : End) → (shown last).failed ≡ false
+  stream-ends : (last s' : S) (seen : LinkShown) (list : List Answered) (looked : Split) (behind unsent : List ℕ) (seen' : LinkShown) (how : End) → Holds last → (shown last).failed ≡ false
       → EndsSo (λ message. does last message None s') seen list looked behind unsent seen' (Some how) → IsLeft (Some how) last s'
       → StreamEnds (shown last) (shown s') seen list looked behind unsent seen' how
-  stream-ends last s' seen list looked behind unsent seen' end.Closed sound ended left =
+  stream-ends last s' seen list looked behind unsent seen' end.Closed holds sound ended left =
       ended-same (shown last) (shown s') seen list looked behind unsent seen' end.Closed (ap shown left) sound ended
-  stream-ends last s' seen list looked behind unsent seen' (end.CutShort bytes) sound ended left =
+  stream-ends last s' seen list looked behind unsent seen' (end.CutShort bytes) holds sound ended left =
       ended-same (shown last) (shown s') seen list looked behind unsent seen' (end.CutShort bytes) (ap shown left) sound ended
-  stream-ends last s' seen list looked behind unsent seen' (end.Junk count) sound ended left = ended-without last s' seen list looked behind unsent seen' count sound ended
-  stream-ends last s' seen list looked behind unsent seen' end.TooLong sound ended left =
+  stream-ends last s' seen list looked behind unsent seen' (end.Junk count) holds sound ended left = ended-without last s' seen list looked behind unsent seen' count holds sound ended
+  stream-ends last s' seen list looked behind unsent seen' end.TooLong holds sound ended left =
       ended-same (shown last) (shown s') seen list looked behind unsent seen' end.TooLong (ap shown left) sound ended
-  stream-ends last s' seen list looked behind unsent seen' end.ReadFault sound ended left =
+  stream-ends last s' seen list looked behind unsent seen' end.ReadFault holds sound ended left =
       ended-same (shown last) (shown s') seen list looked behind unsent seen' end.ReadFault (ap shown left) sound ended
-  stream-ends last s' seen list looked behind unsent seen' end.WriteFault sound ended left =
+  stream-ends last s' seen list looked behind unsent seen' end.WriteFault holds sound ended left =
       ended-same (shown last) (shown s') seen list looked behind unsent seen' end.WriteFault (ap shown left) sound ended
 
   pub stream-guarded : {L : Type 0} (ways : OfLink L) (s s' : S) (pass : PassView Group) (link link' : L) (limit room : ℕ) (how : End)
-      → (shown s).session.pass ≡ Some pass → (shown s).failed ≡ false → limit ≡ RECORD_MAX → room ≡ PIECE → StreamAnswered does ways limit room None (record { server = s; link = link }) (Some how) (record { server = s'; link = link' })
+      → (shown s).session.pass ≡ Some pass → Holds s → (shown s).failed ≡ false → limit ≡ RECORD_MAX → room ≡ PIECE
+      → StreamAnswered does ways limit room None (record { server = s; link = link }) (Some how) (record { server = s'; link = link' })
       → StreamGuarded (origin bus (first s)) tells ways (shown s) pass link how (shown s') link'
-  stream-guarded ways s s' pass link link' limit room how had sound limit_is room_is did =
-      let all = all-guarded bus tells first does shown one same core s did.last pass did.answered had did.progress.answers in
+  stream-guarded ways s s' pass link link' limit room how had holds sound limit_is room_is did =
+      let went = all-guarded bus tells first does shown Holds one same core s did.last pass did.answered had holds did.progress.answers in
+      let all = went.0 in
       record {
         last = shown did.last;
         list = did.answered;
@@ -127,7 +129,7 @@ module _ {B C S : Type 0} (bus : Ghosts B) (tells : C → ℕ → C → Type 0) 
         near = subst (λ n. length did.behind < n) room_is did.near;
         in_turn = subst (λ n. InTurn ways n did.answered link (did.front ++ did.behind) did.written link') limit_is did.in_turn;
         ends = subst (λ n. StreamEnds (shown did.last) (shown s') (link_shown ways link) did.answered (records n did.front) did.behind did.unsent (link_shown ways link') how) limit_is
-            (stream-ends did.last s' (link_shown ways link) did.answered (records limit did.front) did.behind did.unsent (link_shown ways link') how (all.failed ∙ sound) did.ended did.left);
+            (stream-ends did.last s' (link_shown ways link) did.answered (records limit did.front) did.behind did.unsent (link_shown ways link') how went.1 (all.failed ∙ sound) did.ended did.left);
       }
 
 -- how the session ended, by whether its note failed
@@ -163,11 +165,6 @@ guarded-later g tells ways s s' pass link link' how did =
     let first = did.guards.later in
     let second = did.ends.later in
     omega arith
-
--- behind its stream the session has the pass, of the same gate
-pub guarded-pass : {B C L : Type 0} (g : Origin B) (tells : C → ℕ → C → Type 0) (ways : OfLink L) (s s' : GuardState C) (pass : PassView Group) (link link' : L) (how : End)
-    → StreamGuarded g tells ways s pass link how s' link' → (pass' : PassView Group) × (s'.session.pass ≡ Some pass') × (pass'.gate ≡ pass.gate)
-guarded-pass g tells ways s s' pass link link' how did = (did.guards.pass', did.ends.unasked.pass ∙ did.guards.has, did.guards.makes.gate)
 
 -- the messages of a stream were judged and answered, and then the connection went; the session began without a link that it knew
 pub guard-did : {B C L : Type 0} (g : Origin B) (tells : C → ℕ → C → Type 0) (ways : OfLink L) → ClaimsOfGroupsLaw → OwnedLaw → LinksLaw → CalledLinksLaw g → MadeRead → DoneRead → NamedAlike

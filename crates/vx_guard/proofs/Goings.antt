@@ -13,7 +13,7 @@ use Rattle.vx_exchange.specs.Meaning.{Meaning, meaning}
 use Rattle.vx_exchange.specs.Meaning as meant
 use Rattle.vx_stream.specs.Answered.{Answered, AnswersAll}
 use Rattle.vx_session.specs.Placing.{Makes}
-use Rattle.vx_session.specs.Progress.{Rings, Clocked, ClockedAs, ServesRecord, answered, placed, calls}
+use Rattle.vx_session.specs.Progress.{Rings, Clocked, ClockedAs, ServesMeaning, answered, placed, calls}
 use Rattle.vx_session.proofs.Laws.{makes-none, makes-goes, clocked-goes, clockedas-none}
 use Rattle.vx_session.proofs.Laws.Progressing.{rings-none, rings-goes}
 use Rattle.vx_policy.specs.declared.made.MadeLink.{MadeLink}
@@ -46,8 +46,9 @@ step : {B C : Type 0} (g : Origin B) (tells : C → ℕ → C → Type 0) (s mid
     → (d : Option ℕ) → denial_at s one.message ≡ d → GuardHasReply g tells s one.message one.reply mid d → Step g tells s pass one mid
 step g tells s mid pass one had core None is has =
     let answers = has.0 in
-    let serves = subst (λ r. ServesRecord g (ClockedAs r tells s.session.clock mid.session.clock) mid.session.told r pass s.session.conn one.message s.session.dial one.reply answers.pass' mid.session.dial) core
-    (subst (λ p. ServesRecord g (ClockedAs s.session.role tells s.session.clock mid.session.clock) mid.session.told s.session.role p s.session.conn one.message s.session.dial one.reply answers.pass' mid.session.dial)
+    let m = meaning one.message role.Core in
+    let serves = subst (λ r. ServesMeaning g (ClockedAs r tells s.session.clock mid.session.clock) mid.session.told pass s.session.conn m s.session.dial one.reply answers.pass' mid.session.dial) core
+    (subst (λ p. ServesMeaning g (ClockedAs s.session.role tells s.session.clock mid.session.clock) mid.session.told p s.session.conn m s.session.dial one.reply answers.pass' mid.session.dial)
     (same_Some answers.pass pass (sym answers.had ∙ had)) answers.serves) in
     record {
       item = record { served = record { answered = one; placed = serves.placed; calls = serves.rung }; denial = None };
@@ -155,20 +156,24 @@ guards-more g tells s mid s' pass one more does first rest =
       later = omega arith;
     }
 
--- what answers messages, as a guarded session's state shows it
-module _ {B C S : Type 0} (bus : Ghosts B) (tells : C → ℕ → C → Type 0) (first : S → CoreState B) (does : S → List ℕ → Option (List ℕ) → S → Type 0) (shown : S → GuardState C)
-    (one : (s s' : S) (message : List ℕ) (reply : Option (List ℕ)) → does s message reply s' → GuardDoes (origin bus (first s)) tells (shown s) message reply (shown s'))
+-- what answers messages, as a guarded session's state shows it, and what holds of it between two of them
+module _ {B C S : Type 0} (bus : Ghosts B) (tells : C → ℕ → C → Type 0) (first : S → CoreState B) (does : S → List ℕ → Option (List ℕ) → S → Type 0) (shown : S → GuardState C) (Holds : S → Type 0)
+    (one : (s s' : S) (message : List ℕ) (reply : Option (List ℕ)) → Holds s → does s message reply s' → GuardDoes (origin bus (first s)) tells (shown s) message reply (shown s') × Holds s')
     (same : (s s' : S) (message : List ℕ) (reply : Option (List ℕ)) → does s message reply s' → first s' ≡ first s)
     (core : (s : S) → (shown s).session.role ≡ role.Core) where
-  -- the messages that it answered were judged, each by the rules
-  pub all-guarded : (s last : S) (pass : PassView Group) (list : List Answered) → (shown s).session.pass ≡ Some pass → AnswersAll does s list last
-      → GuardsAll (origin bus (first s)) tells (shown s) pass list (shown last)
-  all-guarded s last pass [] had all =
-      subst (λ x. GuardsAll (origin bus (first s)) tells (shown s) pass [] (shown x)) (sym all) (guards-none (origin bus (first s)) tells (shown s) pass had)
-  all-guarded s last pass (message ∷ more) had all =
+  -- the messages that it answered were judged, each by the rules, and it is left so
+  pub all-guarded : (s last : S) (pass : PassView Group) (list : List Answered) → (shown s).session.pass ≡ Some pass → Holds s → AnswersAll does s list last
+      → GuardsAll (origin bus (first s)) tells (shown s) pass list (shown last) × Holds last
+  all-guarded s last pass [] had holds all = (
+    subst (λ x. GuardsAll (origin bus (first s)) tells (shown s) pass [] (shown x)) (sym all) (guards-none (origin bus (first s)) tells (shown s) pass had),
+    subst Holds (sym all) holds,
+  )
+  all-guarded s last pass (message ∷ more) had holds all =
       let o = origin bus (first s) in
-      let did = one s all.0 message.message (Some message.reply) all.1 in
-      let taken = step o tells (shown s) (shown all.0) pass message had (core s) (denial_at (shown s) message.message) refl did.has.0 in
-      guards-more o tells (shown s) (shown all.0) (shown last) pass message more did taken
-      (subst (λ x. GuardsAll (origin bus x) tells (shown all.0) taken.pass' more (shown last)) (same s all.0 message.message (Some message.reply) all.1)
-      (all-guarded all.0 last taken.pass' more taken.has all.2))
+      let did = one s all.0 message.message (Some message.reply) holds all.1 in
+      let taken = step o tells (shown s) (shown all.0) pass message had (core s) (denial_at (shown s) message.message) refl did.0.has.0 in
+      let rest = all-guarded all.0 last taken.pass' more taken.has did.1 all.2 in (
+        guards-more o tells (shown s) (shown all.0) (shown last) pass message more did.0 taken
+            (subst (λ x. GuardsAll (origin bus x) tells (shown all.0) taken.pass' more (shown last)) (same s all.0 message.message (Some message.reply) all.1) rest.0),
+        rest.1,
+      )

@@ -1,5 +1,5 @@
 -- The links that a guarded session knows stay among those of its connection, so they are never more than a gateway has.
-use Rattle.std.proofs.Common.{◌≡◌, ◌≤◌, ◌==◌, ℕ, Bool, true, false, not, cond, List, [], ◌∷◌, ◌++◌, length, Option, Some, None, option_and_then, refl, sym, ap, ◌∙◌, subst, append_assoc, append-nil, length-append, arith, ℤ}
+use Rattle.std.proofs.Common.{◌≡◌, ◌≤◌, ◌==◌, ℕ, Bool, true, false, not, cond, List, [], ◌∷◌, ◌++◌, map, length, Option, Some, None, option_and_then, refl, sym, ap, ◌∙◌, subst, append_assoc, append-nil, length-append, arith, ℤ}
 use Rattle.std.specs.List.{filter}
 use Rattle.std.proofs.lemmas.Bool.{false≢true}
 use Rattle.std.proofs.lemmas.Option.{none-some, same_Some}
@@ -14,8 +14,10 @@ use Rattle.vx_calls.specs.Call.{Call}
 use Rattle.vx_calls.specs.Call as call
 use Rattle.vx_calls.specs.Reply.{Reply}
 use Rattle.vx_calls.specs.Reply as reply
+use Rattle.vx_gate.specs.declared.views.Logged.{Logged}
 use Rattle.vx_gate.specs.History.{groups, made_by}
 use Rattle.vx_gate.specs.PassView.{PassView}
+use Rattle.vx_gate.proofs.Laws.Histories.{made_by_mine}
 use Rattle.vx_exchange.specs.Meaning.{reply_record}
 use Rattle.vx_group.specs.Groups.{Group, events_of}
 use Rattle.vx_group.specs.Phases.{Idle, is_up, phase_by}
@@ -23,7 +25,7 @@ use Rattle.vx_group.specs.MadeLinks.{HasLinks, numbers_of, numbers_after, number
 use Rattle.vx_group.specs.Laws.{LinksLaw, FewLinksLaw}
 use Rattle.vx_session.specs.Origin.{Origin}
 use Rattle.vx_session.specs.Dialing.{DialShown}
-use Rattle.vx_session.specs.Placing.{Placed, IsHistory}
+use Rattle.vx_session.specs.Placing.{Placed, Chain, Makes, IsHistory, behind}
 use Rattle.vx_session.specs.Progress.{AnswersCall}
 use Rattle.vx_session.specs.Turning.{phase_at}
 use Rattle.vx_session.specs.LinkLaws.{TellsLinks, CalledTells, CalledLinksLaw}
@@ -32,6 +34,25 @@ use Rattle.vx_policy.specs.Laws.{MadeRead, DoneRead, NamedAlike}
 use Rattle.vx_policy.specs.Targets.{link_made, is_done, text_target, policy_with_link, made_after}
 use Rattle.vx_guard.specs.Known.{numbers_known}
 use Rattle.vx_guard.specs.Knowing.{KnowsOwn}
+
+-- ---- what a pass made
+
+-- what a pass made is what it had made before, and then the groups at their places
+chain-made : (number : ℕ) (seen seen' : List (Logged Group)) (ps : List Placed) → Chain number seen ps seen' → made_by number seen' ≡ made_by number seen ++ map (λ p. p.group) ps
+chain-made number seen seen' [] same = ap (made_by number) same ∙ sym (append-nil (made_by number seen))
+chain-made number seen seen' (p ∷ ps) chain =
+    let more = map (λ (q : Placed). q.group) ps in
+    chain-made number (behind number p) seen' ps chain.2
+    ∙ ap (λ l. l ++ more) (made_by_mine number p.group p.before ∙ ap (λ l. l ++ p.group ∷ []) chain.1)
+    ∙ append_assoc (made_by number seen) (p.group ∷ []) more
+
+-- a pass whose own groups are those of its number keeps that
+pub makes-own : (told : ℕ) (pass pass' : PassView Group) (ps : List Placed) → Makes told pass ps pass' → made_by pass.number pass.seen ≡ pass.own → made_by pass'.number pass'.seen ≡ pass'.own
+makes-own told pass pass' ps makes own =
+    ap (λ n. made_by n pass'.seen) makes.number
+    ∙ chain-made pass.number pass.seen pass'.seen ps makes.chain
+    ∙ ap (λ l. l ++ map (λ (p : Placed). p.group) ps) own
+    ∙ sym makes.own
 
 -- ---- what a session knows
 

@@ -1,9 +1,10 @@
 mod Goings
 mod Knowing
 mod Known
-mod Ended
+mod Asking
 mod Served
-mod Refused
+mod Ended
+mod Ruling
 mod Rooms
 mod OnePeer
 mod Told

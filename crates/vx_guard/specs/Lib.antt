@@ -1,5 +1,6 @@
 pub mod Judged
 pub mod Noting
+pub mod Ruling
 pub mod Known
 pub mod Knowing
 pub mod Stages

@@ -1,23 +1,24 @@
 -- To be believed.
 -- What a guard did with a link: a connection came up and had its guarded session, or none came up.
-use Rattle.std.specs.Prelude.{◌≡◌, ℕ, List, [], Ok, Err}
+use Rattle.std.specs.Prelude.{◌≡◌, ℕ, Bool, List, [], Ok, Err}
 use Rattle.vx_io_traits.specs.declared.links.Link.{Ghosts}
 use Rattle.vx_calls.specs.declared.calls.Role.TheVariants as role
 use Rattle.vx_session.specs.Origin.{Origin}
 use Rattle.vx_gate.specs.PassView.{PassView}
-use Rattle.vx_state.specs.declared.tables.Connect.{Connect}
 use Rattle.vx_state.specs.declared.tables.Connect.TheVariants as connect
 use Rattle.vx_group.specs.Groups.{Group}
 use Rattle.vx_door.specs.Peering.{IsPeer}
 use Rattle.vx_session.specs.Placing.{Placed}
 use Rattle.vx_session.specs.Turning.{Joins}
 use Rattle.vx_session.specs.Ending.{Upholds}
+use Rattle.vx_session.specs.declared.links.Linked.{Linked}
+use Rattle.vx_session.specs.declared.links.Linked.TheVariants as linked
 use Rattle.vx_policy.specs.declared.rules.Rule.{Rule}
 use Rattle.vx_guard.specs.declared.sessions.GuardEnd.{GuardEnd}
 use Rattle.vx_guard.specs.declared.links.Guarded.{Guarded}
 use Rattle.vx_guard.specs.declared.links.Guarded.TheVariants as guarded
 use Rattle.vx_guard.specs.Known.{KnowsLinks}
-use Rattle.vx_guard.specs.Wholes.{GuardHolding, GuardDid}
+use Rattle.vx_guard.specs.Wholes.{GuardHolding, GuardDid, guard_end}
 
 -- A connection came up by the pass's first turn, and had its guarded session, of the peer at this address. At each moment between two
 -- messages the links that the session knows are exactly those that the connection has.
@@ -39,7 +40,8 @@ GuardLinkDid g ways clocked told rules before guarded.Full after =
 GuardLinkDid g ways clocked told rules before guarded.NoMemory after =
     Joins g before.pass role.Core (Err connect.NoMemory) after.pass × (after.link ≡ before.link) × clocked [] × (after.dial ≡ before.dial) × (after.note ≡ before.note) × Upholds g after.pass
 
--- why a connection didn't come up, as its link is told
-abbrev pub refused_as : Connect → Guarded
-refused_as connect.Full = guarded.Full
-refused_as connect.NoMemory = guarded.NoMemory
+-- how a guarded link's work ended whose link was served so, where its note failed or not
+abbrev pub guarded_as : Bool → Linked → Guarded
+guarded_as failed (linked.Ended how) = guarded.Ended (guard_end failed how)
+guarded_as failed linked.Full = guarded.Full
+guarded_as failed linked.NoMemory = guarded.NoMemory

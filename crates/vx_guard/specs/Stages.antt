@@ -53,7 +53,7 @@ IsDenial _ reply = ⊥
 -- a message with a reply: it was served as each session serves it, or denied, and the line of that went to the note before
 abbrev pub GuardHasReply : {B C : Type 0} → Origin B → (C → ℕ → C → Type 0) → GuardState C → List ℕ → List ℕ → GuardState C → Option ℕ → Type 0
 GuardHasReply g tells s message reply s' None =
-    IsSessionAnswered g tells s.session message reply s'.session × (s'.made ≡ learned s.made (meaning message role.Core) reply) × (s'.note ≡ s.note)
+    IsSessionAnswered g tells s.session (meaning message role.Core) reply s'.session × (s'.made ≡ learned s.made (meaning message role.Core) reply) × (s'.note ≡ s.note)
 GuardHasReply g tells s message reply s' (Some rule) =
     IsUnasked s s' × IsDenial (meaning message role.Core) reply × Appends s.note.bytes s'.note.bytes (deny_line s.session.conn rule)
     × (s.note.faults ≤ s'.note.faults)

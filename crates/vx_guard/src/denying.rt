@@ -1,14 +1,19 @@
-//! The reply to a call that is denied.
-ghost use Rattle.std.specs.Prelude.{◌≡◌, ◌≤◌, ◌<◌, [], length, take};
+//! The line and the reply of a call that is denied.
+ghost use Rattle.std.specs.Prelude.{◌≡◌, ◌≤◌, ◌<◌, [], length, take, option_map, IfSome};
 ghost use Rattle.vx_calls.specs.declared.codes.ErrorCode.TheVariants as code;
 ghost use Rattle.vx_calls.specs.Call.{call_shown};
 ghost use Rattle.vx_calls.specs.Reply.{reply_shown};
 ghost use Rattle.vx_rules.specs.Effects.{stopped_reply};
+ghost use Rattle.vx_text.specs.Ends.{sink_shown};
 ghost use Rattle.vx_exchange.specs.declared.record.TheConstants.{REPLY_ROOM};
 ghost use Rattle.vx_guard.specs.Judged.{denied_record};
+ghost use Rattle.vx_guard.specs.Noting.{IsNoted};
 
 use vx_calls::{CallRef, ErrorCode, ReplyRef};
 use vx_exchange::put_success_record;
+use vx_io_traits::Sink;
+use vx_policy::{LINE_ROOM, deny_line};
+use vx_text::put_all;
 
 /// The reply to a denied call: the error is `NotAccessible`, and all else is zero or empty.
 fn denied(call: &CallRef<'_>) -> ReplyRef<'static>
@@ -36,11 +41,34 @@ fn denied(call: &CallRef<'_>) -> ReplyRef<'static>
 }
 
 /// Writes the record of the reply to a denied call, of this xid, and answers how long it is.
-pub(crate) fn put_denied(xid: u32, call: &CallRef<'_>, reply: &mut [u8]) -> usize
+fn put_denied(xid: u32, call: &CallRef<'_>, reply: &mut [u8]) -> usize
     requires room { REPLY_ROOM ≤ length reply.old }
     ensures record { take result reply.new ≡ denied_record xid (call_shown call.now) }
     ensures within { result ≤ length reply.new }
     ensures len { length reply.new ≡ length reply.old }
 {
     put_success_record(xid, &denied(call), reply)
+}
+
+/// Writes the line of a denial, and the reply to the call that is denied: of so many bytes, or none where the note failed.
+pub(crate) fn deny<K: Sink>(
+    conn: u32,
+    rule: u32,
+    xid: u32,
+    call: &CallRef<'_>,
+    note: &mut K,
+    reply: &mut [u8],
+) -> Option<usize>
+    requires room { REPLY_ROOM ≤ length reply.old }
+    ensures noted { IsNoted conn rule xid (call_shown call.now)
+        (sink_shown K.Sink note.old) (option_map (λ n. take n reply.new) result)
+        (sink_shown K.Sink note.new) }
+    ensures within { IfSome result (λ n. n ≤ length reply.new) }
+    ensures len { length reply.new ≡ length reply.old }
+{
+    let mut line = [0u8; LINE_ROOM];
+    match put_all(note, deny_line(conn, rule, &mut line)) {
+        Ok(()) => Some(put_denied(xid, call, reply)),
+        Err(_) => None,
+    }
 }

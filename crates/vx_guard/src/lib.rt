@@ -3,9 +3,9 @@
 #![tactic(auto)]
 
 mod denying;
-mod guarding;
 mod links;
 mod reading;
+mod ruled;
 mod run;
 mod serving;
 mod sessions;
@@ -13,5 +13,6 @@ mod starting;
 mod status;
 
 pub use links::{Gateway, Guarded, Kit, guarded_link};
+pub use ruled::Ruled;
 pub use run::guard_run;
 pub use sessions::{GuardEnd, GuardRoom, NoMemory, guarded_session};

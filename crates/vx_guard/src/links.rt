@@ -5,20 +5,21 @@ ghost use Rattle.vx_door.specs.Going.{Went};
 ghost use Rattle.vx_text.specs.Ends.{sink_shown};
 ghost use Rattle.vx_session.specs.Dialing.{dial_shown};
 ghost use Rattle.vx_session.specs.Progress.{Clocked};
-ghost use Rattle.vx_guard.specs.Linking.{GuardLinkDid, refused_as};
+ghost use Rattle.vx_guard.specs.Linking.{GuardLinkDid, guarded_as};
 
-use crate::sessions::{GuardEnd, GuardRoom, guarded_session};
+use crate::ruled::Ruled;
+use crate::sessions::{GuardEnd, GuardRoom, guard_end};
 use std::alloc::Global;
 use std::sync::Wait;
 use vx_bus_traits::Bus;
 use vx_calls::Role;
-use vx_core::{Connect, Core};
+use vx_core::Core;
 use vx_door::Peered;
 use vx_gate::{Pass, Turns};
 use vx_group::{claims_law, links_law, owned_law};
 use vx_io_traits::{Clock, Dial, Pause, Sink};
-use vx_policy::Policy;
-use vx_session::join;
+use vx_policy::{Policy, replies_read, texts_name};
+use vx_session::{Linked, OneBus, Worker, called_law, serve_link};
 
 /// What a gateway's links are served by: the runtime, the memory, and the turns at its gate.
 #[derive(Drop)]
@@ -48,13 +49,14 @@ pub enum Guarded {
     NoMemory,
 }
 
-/// Why a connection didn't come up, as its link is told.
-fn refused(why: Connect) -> Guarded
-    ensures { result ≡ refused_as why }
+/// How a guarded link's work ended whose link was served so, where its note failed or not.
+fn guarded_as(failed: bool, how: Linked) -> Guarded
+    ensures { result ≡ guarded_as failed how }
 {
-    match why {
-        Connect::Full => Guarded::Full,
-        Connect::NoMemory => Guarded::NoMemory,
+    match how {
+        Linked::Ended(end) => Guarded::Ended(guard_end(failed, end)),
+        Linked::Full => Guarded::Full,
+        Linked::NoMemory => Guarded::NoMemory,
     }
 }
 
@@ -87,31 +89,48 @@ pub fn guarded_link<
     claims_law();
     owned_law();
     links_law();
-    let (pass, joined) = join(gateway.rt, gateway.alloc, gateway.turns, pass, Role::Core);
-    match joined {
-        Err(why) => (pass, refused(why)),
-        Ok(conn) => {
-            pass.order();
-            let Kit {
-                clock,
-                pause,
-                dial,
-                room,
-            } = kit;
-            let (pass, end) = guarded_session(
-                gateway.rt,
-                gateway.turns,
-                pass,
-                conn,
-                policy,
-                link,
-                clock,
-                pause,
-                dial,
-                room,
-                note,
-            );
-            (pass, Guarded::Ended(end))
-        }
-    }
+    called_law::<B>();
+    replies_read();
+    texts_name();
+    pass.order();
+    let Kit {
+        clock,
+        pause,
+        dial,
+        room,
+    } = kit;
+    let GuardRoom { room, made } = room;
+    let peer = link.peer();
+    let mut held = Some(pass);
+    let desk = OneBus {
+        worker: Worker {
+            rt: gateway.rt,
+            turns: gateway.turns,
+            conn: 0,
+            role: Role::Core,
+        },
+        held: &mut held,
+        clock,
+        pause,
+        dial,
+    };
+    let ruled = Ruled {
+        desk,
+        policy,
+        peer,
+        made,
+        note,
+        failed: false,
+    };
+    let (Ruled { failed, .. }, how) = serve_link(
+        gateway.rt,
+        gateway.alloc,
+        ruled,
+        Role::Core,
+        link,
+        room,
+    );
+    let how = guarded_as(failed, how);
+    let Some(pass) = held else { unreachable!() };
+    (pass, how)
 }

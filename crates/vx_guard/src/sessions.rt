@@ -11,7 +11,7 @@ ghost use Rattle.vx_text.specs.Ends.{sink_shown};
 ghost use Rattle.vx_session.specs.Progress.{Clocked};
 ghost use Rattle.vx_guard.specs.Wholes.{GuardDid, guard_end};
 
-use crate::guarding::Guarding;
+use crate::ruled::Ruled;
 use std::alloc::Global;
 use std::marker::Model;
 use std::sync::Wait;
@@ -23,7 +23,7 @@ use vx_gate::{Pass, Turns};
 use vx_group::{claims_law, links_law, owned_law};
 use vx_io_traits::{Clock, Dial, Pause, Sink};
 use vx_policy::{KnownLinks, Policy, replies_read, texts_name};
-use vx_session::{Room, Worker, called_law, leave};
+use vx_session::{OneBus, Room, Worker, called_law, serve_session};
 use vx_stream::End;
 
 /// There was no memory for the room.
@@ -43,8 +43,8 @@ pub enum GuardEnd {
 /// stream, a reply, and the links that the session made. A session takes no memory besides.
 #[derive(Drop)]
 pub struct GuardRoom {
-    room: Room,
-    made: KnownLinks,
+    pub(crate) room: Room,
+    pub(crate) made: KnownLinks,
 }
 
 impl Model for GuardRoom {
@@ -70,7 +70,7 @@ impl GuardRoom {
 }
 
 /// How a session ended whose stream ended so, where its note failed or not.
-fn guard_end(failed: bool, end: End) -> GuardEnd
+pub(crate) fn guard_end(failed: bool, end: End) -> GuardEnd
     ensures { result ≡ guard_end failed end }
 {
     if failed {
@@ -124,28 +124,30 @@ pub fn guarded_session<
     pass.order();
     let GuardRoom { room, made } = room;
     made.clear();
-    let worker = Worker {
-        rt,
-        turns,
-        conn,
-        role: Role::Core,
-    };
     let peer = link.peer();
     let mut held = Some(pass);
-    let server = Guarding {
-        worker: &worker,
+    let desk = OneBus {
+        worker: Worker {
+            rt,
+            turns,
+            conn,
+            role: Role::Core,
+        },
         held: &mut held,
-        policy,
-        peer,
-        made,
         clock,
         pause,
         dial,
+    };
+    let ruled = Ruled {
+        desk,
+        policy,
+        peer,
+        made,
         note,
         failed: false,
     };
-    let (Guarding { failed, .. }, end) = room.answer(rt, server, link);
+    let (Ruled { failed, .. }, end) = serve_session(rt, ruled, Role::Core, link, room);
     let how = guard_end(failed, end);
     let Some(pass) = held else { unreachable!() };
-    (leave(rt, turns, pass, conn), how)
+    (pass, how)
 }

@@ -19,7 +19,6 @@ use Rattle.vx_core.specs.CoreState.{CoreState}
 use Rattle.vx_session.specs.Origin.{Origin}
 use Rattle.vx_gate.specs.PassView.{PassView}
 use Rattle.vx_group.specs.Event.{Event}
-use Rattle.vx_group.specs.InterleavedState.{InterleavedState}
 use Rattle.vx_group.specs.Poll as poll
 use Rattle.vx_group.specs.Poll.{Ending, Waited, Dialed}
 use Rattle.vx_group.specs.Groups.{Group}

@@ -10,6 +10,8 @@ pub mod Links
 pub mod Finishing
 pub mod Progressing
 pub mod Recorded
+pub mod Attended
+pub mod OneBusSessions
 -- polls in turns
 pub use Rattle.vx_session.proofs.Laws.Turns.{ispolled-shape, poll-all, ispolled-all, has-moment, has-none, poll-at, ispolled-at, ispolled-own, ispolled-undialed, chosen-own, poll-phase, ispolled-phase}
 -- the groups that a pass makes, one list of them after another, and the calls of its clock

@@ -5,7 +5,6 @@ use Rattle.vx_calls.specs.Call.{Call}
 use Rattle.vx_bus_traits.specs.Steps.{Step, Told, Cut}
 use Rattle.vx_bus_traits.specs.declared.bus.Bus.{Ghosts}
 use Rattle.vx_gate.specs.declared.views.Logged.{Logged}
-use Rattle.vx_gate.specs.History.{groups}
 use Rattle.vx_gate.specs.PassView.{PassView}
 use Rattle.vx_gate.specs.Turning.{Fits}
 use Rattle.vx_rules.specs.State.{Pending, pending_at}

@@ -8,6 +8,8 @@ pub mod Dialing
 pub mod Serving
 pub mod Progress
 pub mod Ending
+pub mod Desks
+pub mod OneBusDesk
 pub mod Linking
 pub mod Counting
 pub mod RoomLaws

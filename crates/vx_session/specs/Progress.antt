@@ -12,7 +12,7 @@ use Rattle.vx_calls.specs.Call.{Call}
 use Rattle.vx_gate.specs.PassView.{PassView}
 use Rattle.vx_group.specs.Groups.{Group, events_of}
 use Rattle.vx_group.specs.Poll.{Dialed}
-use Rattle.vx_exchange.specs.Meaning.{meaning, Junk}
+use Rattle.vx_exchange.specs.Meaning.{Meaning, meaning, Junk}
 use Rattle.vx_stream.specs.Answered.{Answered}
 use Rattle.vx_session.specs.Origin.{Origin}
 use Rattle.vx_session.specs.Placing.{Placed, Makes}
@@ -73,10 +73,10 @@ abbrev pub AnswersDial : {B : Type 0} → Origin B → (List Placed → Type 0) 
 AnswersDial g clocked told pass conn xid call host port dial out pass' dial' =
     Uses clocked told pass dial (λ placed rung. SessionGoesOn g pass.number conn xid call (Dialed host port) placed rung out) pass' dial'
 
--- a record on the connection was served, by the reply that stands in the room
-abbrev pub ServesRecord : {B : Type 0} → Origin B → (List Placed → Type 0) → (told : ℕ) → Role → PassView Group → (conn : ℕ) → List ℕ → DialShown → List ℕ → PassView Group → DialShown → Type 0
-ServesRecord g clocked told r pass conn message dial out pass' dial' =
-    Uses clocked told pass dial (λ placed rung. IsSessionServed g pass.number conn (meaning message r) placed rung out) pass' dial'
+-- a message of this meaning was served, by the reply that stands in the room
+abbrev pub ServesMeaning : {B : Type 0} → Origin B → (List Placed → Type 0) → (told : ℕ) → PassView Group → (conn : ℕ) → Meaning → DialShown → List ℕ → PassView Group → DialShown → Type 0
+ServesMeaning g clocked told pass conn m dial out pass' dial' =
+    Uses clocked told pass dial (λ placed rung. IsSessionServed g pass.number conn m placed rung out) pass' dial'
 
 -- what a session has between two messages: the connection's role and number, its pass, its clock and the greatest moment that that has
 -- told, and its dial
@@ -92,22 +92,26 @@ pub record SessionState (C : Type 0) : Type 0 where
 abbrev pub session_state : {C D : Type 0} → OfClock C → OfDial D → Role → ℕ → Option (PassView Group) → C → D → SessionState C
 session_state by_clock by_dial r conn pass clock dial = record { role = r; conn = conn; pass = pass; clock = clock; told = by_clock.told clock; dial = dial_shown by_dial dial }
 
--- a message was served by this reply, by the pass that the session had, and has
-pub record IsSessionAnswered {B C : Type 0} (g : Origin B) (tells : C → ℕ → C → Type 0) (s : SessionState C) (message reply : List ℕ) (s' : SessionState C) : Type 0 where
+-- a message of this meaning was served by this reply, by the pass that the session had, and has
+pub record IsSessionAnswered {B C : Type 0} (g : Origin B) (tells : C → ℕ → C → Type 0) (s : SessionState C) (m : Meaning) (reply : List ℕ) (s' : SessionState C) : Type 0 where
   pub pass : PassView Group
   pub pass' : PassView Group
   pub had : s.pass ≡ Some pass
   pub has : s'.pass ≡ Some pass'
-  pub serves : ServesRecord g (ClockedAs s.role tells s.clock s'.clock) s'.told s.role pass s.conn message s.dial reply pass' s'.dial
+  pub serves : ServesMeaning g (ClockedAs s.role tells s.clock s'.clock) s'.told pass s.conn m s.dial reply pass' s'.dial
 
 -- junk is no call and changes nothing; any other message is served
-abbrev pub SessionHasReply : {B C : Type 0} → Origin B → (C → ℕ → C → Type 0) → SessionState C → List ℕ → Option (List ℕ) → SessionState C → Type 0
-SessionHasReply g tells s message None s' = (meaning message s.role ≡ Junk) × (s'.pass ≡ s.pass) × (s'.dial ≡ s.dial) × (s'.clock ≡ s.clock)
-SessionHasReply g tells s message (Some reply) s' = IsSessionAnswered g tells s message reply s'
+abbrev pub SessionHasReply : {B C : Type 0} → Origin B → (C → ℕ → C → Type 0) → SessionState C → Meaning → Option (List ℕ) → SessionState C → Type 0
+SessionHasReply g tells s m None s' = (m ≡ Junk) × (s'.pass ≡ s.pass) × (s'.dial ≡ s.dial) × (s'.clock ≡ s.clock)
+SessionHasReply g tells s m (Some reply) s' = IsSessionAnswered g tells s m reply s'
 
--- what a message on the connection does
-pub record MessageDoes {B C : Type 0} (g : Origin B) (tells : C → ℕ → C → Type 0) (s : SessionState C) (message : List ℕ) (reply : Option (List ℕ)) (s' : SessionState C) : Type 0 where
+-- what a message of this meaning does on the connection
+pub record MeaningDoes {B C : Type 0} (g : Origin B) (tells : C → ℕ → C → Type 0) (s : SessionState C) (m : Meaning) (reply : Option (List ℕ)) (s' : SessionState C) : Type 0 where
   pub role : s'.role ≡ s.role
   pub conn : s'.conn ≡ s.conn
   pub later : s.told ≤ s'.told
-  pub has : SessionHasReply g tells s message reply s'
+  pub has : SessionHasReply g tells s m reply s'
+
+-- what a message on the connection does
+abbrev pub MessageDoes : {B C : Type 0} → Origin B → (C → ℕ → C → Type 0) → SessionState C → List ℕ → Option (List ℕ) → SessionState C → Type 0
+MessageDoes g tells s message reply s' = MeaningDoes g tells s (meaning message s.role) reply s'

@@ -1,13 +1,10 @@
-//! The messages of a connection, each answered by the record of its reply: a call to the core from its coming to its answer.
-ghost use Rattle.std.specs.Prelude.{◌≡◌, ◌≤◌, length, take, Option, Some, option_map, IfSome, ◌<◌, ℕ, Bool, true, false, [], None};
-ghost use Rattle.vx_calls.specs.declared.limits.TheConstants.{RECORD_MAX};
+//! A call to the core, from its coming to its answer.
+ghost use Rattle.std.specs.Prelude.{◌≡◌, ◌≤◌, ◌<◌, true, length, take};
 ghost use Rattle.vx_exchange.specs.declared.record.TheConstants.{REPLY_ROOM};
-ghost use Rattle.vx_gate.specs.PassView.{PassView};
-ghost use Rattle.vx_group.specs.Groups.{Group};
 ghost use Rattle.vx_group.specs.Phases.{Idle, Asked};
 ghost use Rattle.vx_session.specs.Turning.{phase_at};
 ghost use Rattle.vx_session.specs.Dialing.{dial_shown};
-ghost use Rattle.vx_session.specs.Progress.{Clocked, MessageDoes, AnswersCall, AnswersDial, session_state};
+ghost use Rattle.vx_session.specs.Progress.{Clocked, AnswersCall, AnswersDial};
 ghost use Rattle.vx_session.specs.Placing.{IsHistory};
 ghost use Rattle.vx_calls.specs.declared.calls.Role.TheVariants as role;
 ghost use Rattle.vx_calls.specs.Call.{Call, call_shown};
@@ -15,109 +12,13 @@ ghost use Rattle.vx_rules.specs.AtomicStep.{may_wait};
 ghost use Rattle.vx_rules.specs.Calls.{IsShort};
 ghost use Rattle.vx_session.specs.Origin.{origin};
 
-use crate::turns::{Request, Worker, abort, come, poll_again, settle};
+use crate::turns::{Request, Worker, come, poll_again, settle};
 use std::sync::Wait;
 use vx_bus_traits::Bus;
-use vx_calls::Role;
 use vx_core::{Core, Why};
-use vx_exchange::{Opened, PollEnd, open};
+use vx_exchange::PollEnd;
 use vx_gate::{Pass, Turns};
 use vx_io_traits::{Clock, Dial, DialOut, Pause};
-use vx_stream::Answers;
-
-/// What answers the messages of a worker's connection: by turns at the gate, by a clock, a pause and a dial. The pass of the turns is
-/// out of its place while a message is served, and at no other time.
-#[derive(Drop)]
-pub(crate) struct Answering<'a, 'w, R, B: Bus, T, C, P, D> {
-    pub worker: &'a Worker<'w, R, T>,
-    pub held: &'a mut Option<Pass<Core<B>>>,
-    pub clock: &'a mut C,
-    pub pause: &'a mut P,
-    pub dial: &'a mut D,
-}
-
-impl<'a, 'w, R: Wait, B: Bus, T: Turns<Core<B>>, C: Clock, P: Pause, D: Dial> Answers
-    for Answering<'a, 'w, R, B, T, C, P, D> {
-    // the connection is idle
-    ghost can = { λ s. (pass : PassView Group) × (s.held.now ≡ Some pass) × (pass.gate ≡ T.gate s.worker.now.turns.now) × (phase_at pass s.worker.now.conn ≡ Idle s.worker.now.role) };
-
-    ghost does = { λ s message reply s'. MessageDoes (origin B.Bus (T.first s.worker.now.turns.now)) C.tells
-        (session_state C.Clock D.Dial s.worker.now.role s.worker.now.conn s.held.now s.clock.now s.dial.now) message reply
-        (session_state C.Clock D.Dial s'.worker.now.role s'.worker.now.conn s'.held.now s'.clock.now s'.dial.now)
-        × (s'.held.ghost_name ≡ s.held.ghost_name) × (s'.clock.ghost_name ≡ s.clock.ghost_name) × (s'.dial.ghost_name ≡ s.dial.ghost_name) × (T.first s'.worker.now.turns.now ≡ T.first s.worker.now.turns.now) };
-
-    ghost longest = { RECORD_MAX };
-
-    ghost room = { REPLY_ROOM };
-
-    fn answer(self, message: &[u8], reply: &mut [u8]) -> (Self, Option<usize>) {
-        let Answering {
-            worker,
-            held,
-            clock,
-            pause,
-            dial,
-        } = self;
-        let Some(pass) = held.take() else {
-            unreachable!()
-        };
-        let (pass, answered) = serve_record(worker, pass, message, clock, pause, dial, reply);
-        *held = Some(pass);
-        let server = Answering {
-            worker,
-            held,
-            clock,
-            pause,
-            dial,
-        };
-        (server, answered)
-    }
-}
-
-/// Serves a message on an idle connection: its reply's record, of so many bytes, stands at the front of `reply`
-/// then. `None` is for junk, which changes nothing.
-fn serve_record<R: Wait, B: Bus, T: Turns<Core<B>>, C: Clock, P: Pause, D: Dial>(
-    worker: &Worker<'_, R, T>,
-    pass: Pass<Core<B>>,
-    message: &[u8],
-    clock: &mut C,
-    pause: &mut P,
-    dial: &mut D,
-    reply: &mut [u8],
-) -> (Pass<Core<B>>, Option<usize>)
-    requires gate { pass.gate ≡ T.gate worker.now.turns.now }
-    requires phase { phase_at pass worker.now.conn ≡ Idle worker.now.role }
-    requires short { length message.now ≤ RECORD_MAX }
-    requires room { REPLY_ROOM ≤ length reply.old }
-    ensures does { MessageDoes (origin B.Bus (T.first worker.now.turns.now)) C.tells (session_state C.Clock D.Dial worker.now.role worker.now.conn (Some pass) clock.old dial.old) message.now
-        (option_map (λ n. take n reply.new) result.1) (session_state C.Clock D.Dial worker.now.role worker.now.conn (Some result.0) clock.new dial.new) }
-    ensures gate { result.0.gate ≡ T.gate worker.now.turns.now }
-    ensures phase { phase_at result.0 worker.now.conn ≡ Idle worker.now.role }
-    ensures within { IfSome result.1 (λ n. n ≤ length reply.new) }
-    ensures len { length reply.new ≡ length reply.old }
-{
-    match open(message, worker.role, reply) {
-        Opened::Junk => (pass, None),
-        Opened::Answered { len } => (pass, Some(len)),
-        Opened::Asks { xid, call } => {
-            let request = Request { xid, call: &call };
-            let (pass, len) = answer_call(worker, pass, &request, clock, pause, dial, reply);
-            (pass, Some(len))
-        }
-        Opened::Aborts { xid, lid } => {
-            let (pass, aborted) = abort(
-                worker.rt,
-                worker.turns,
-                pass,
-                worker.conn,
-                xid,
-                lid,
-                reply,
-            );
-            (pass, Some(aborted.len))
-        }
-    }
-}
 
 /// Has a call answered: it comes and is polled in one turn, and is polled again, each time in a new turn, until it is answered, or
 /// until it asks for a dial, which is made then. Between two polls it is outside the gate, and pauses there where it waits

@@ -4,7 +4,10 @@
 
 mod acts;
 mod answering;
+mod attending;
+mod desks;
 mod links;
+mod one_bus;
 mod pumps;
 mod samples;
 mod sessions;
@@ -14,10 +17,13 @@ mod tools;
 mod turns;
 
 pub use answering::answer_call;
-pub use links::{LinkDone, Linked, Tally, abort_link, core_link};
+pub use attending::Attending;
+pub use desks::Desk;
+pub use links::{LinkDone, Linked, Tally, abort_link, core_link, serve_link};
+pub use one_bus::OneBus;
 pub use pumps::{PumpEnd, pump};
 pub use samples::sample_turn;
-pub use sessions::{NoMemory, Room, abort_session, core_session};
+pub use sessions::{NoMemory, Room, abort_session, core_session, serve_session};
 pub use still::NoTools;
 pub use theorems::{called_law, room_law, turns_law};
 pub use tools::Tools;

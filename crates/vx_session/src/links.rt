@@ -2,12 +2,17 @@
 ghost use Rattle.std.specs.Prelude.{◌≡◌, ◌≤◌, ◌+◌, ◌-◌, ◌^◌, min};
 ghost use Rattle.vx_session.specs.Origin.{origin};
 ghost use Rattle.vx_calls.specs.declared.calls.Role.TheVariants as role;
+ghost use Rattle.vx_door.specs.Going.{Went};
+ghost use Rattle.vx_session.specs.Desks.{DeskLink};
 ghost use Rattle.vx_session.specs.Dialing.{dial_shown, no_dial};
 ghost use Rattle.vx_session.specs.Progress.{Clocked, unclocked};
 ghost use Rattle.vx_session.specs.Linking.{LinkDid, refused_as};
 
-use crate::sessions::{Room, abort_session, core_session};
-use crate::turns::join;
+use crate::desks::Desk;
+use crate::one_bus::OneBus;
+use crate::sessions::{Room, serve_session};
+use crate::still::NoTools;
+use crate::turns::Worker;
 use std::alloc::Global;
 use std::marker::Model;
 use std::sync::Wait;
@@ -99,6 +104,31 @@ impl Tally {
     }
 }
 
+/// Serves a link at a desk: a connection of this role comes up there, has its session, and ends. It takes memory for the connection
+/// alone.
+pub fn serve_link<R: Wait, K: Desk, L: Link>(
+    rt: &R,
+    alloc: Global,
+    desk: K,
+    role: Role,
+    link: &mut L,
+    room: &mut Room,
+) -> (K, Linked)
+    requires free { K.free desk }
+    ensures did { DeskLink K.Desk L.Link role (record { server = desk; link = link.old }) result.1 (record { server = result.0; link = link.new }) }
+    ensures went { Went L.receives L.sends link.old link.new }
+    ensures free { K.free result.0 }
+{
+    let (desk, joined) = desk.join(alloc, role);
+    match joined {
+        Err(why) => (desk, refused(why)),
+        Ok(()) => {
+            let (desk, end) = serve_session(rt, desk, role, link, room);
+            (desk, Linked::Ended(end))
+        }
+    }
+}
+
 /// Serves a core link: a connection comes up, has its session, and ends. It takes memory for the connection alone.
 pub fn core_link<R: Wait, B: Bus, T: Turns<Core<B>>, L: Link, C: Clock, P: Pause, D: Dial>(
     rt: &R,
@@ -119,20 +149,22 @@ pub fn core_link<R: Wait, B: Bus, T: Turns<Core<B>>, L: Link, C: Clock, P: Pause
     claims_law();
     owned_law();
     let mut link = link;
-    let (pass, joined) = join(rt, alloc, turns, pass, Role::Core);
-    match joined {
-        Err(why) => {
-            let how = refused(why);
-            (pass, LinkDone { how, link })
-        }
-        Ok(conn) => {
-            let (pass, end) = core_session(
-                rt, turns, pass, conn, &mut link, clock, pause, dial, room,
-            );
-            let how = Linked::Ended(end);
-            (pass, LinkDone { how, link })
-        }
-    }
+    let mut held = Some(pass);
+    let desk = OneBus {
+        worker: Worker {
+            rt,
+            turns,
+            conn: 0,
+            role: Role::Core,
+        },
+        held: &mut held,
+        clock,
+        pause,
+        dial,
+    };
+    let (_, how) = serve_link(rt, alloc, desk, Role::Core, &mut link, room);
+    let Some(pass) = held else { unreachable!() };
+    (pass, LinkDone { how, link })
 }
 
 /// Serves an abort link in the same way.
@@ -150,14 +182,22 @@ pub fn abort_link<R: Wait, B: Bus, T: Turns<Core<B>>, L: Link>(
 {
     claims_law();
     owned_law();
-    let (pass, joined) = join(rt, alloc, turns, pass, Role::Abort);
-    match joined {
-        Err(why) => (pass, refused(why)),
-        Ok(conn) => {
-            let (pass, end) = abort_session(rt, turns, pass, conn, link, room);
-            (pass, Linked::Ended(end))
-        }
-    }
+    let mut held = Some(pass);
+    let desk = OneBus {
+        worker: Worker {
+            rt,
+            turns,
+            conn: 0,
+            role: Role::Abort,
+        },
+        held: &mut held,
+        clock: &mut NoTools::new(),
+        pause: &mut NoTools::new(),
+        dial: &mut NoTools::new(),
+    };
+    let (_, how) = serve_link(rt, alloc, desk, Role::Abort, link, room);
+    let Some(pass) = held else { unreachable!() };
+    (pass, how)
 }
 
 /// Why a connection didn't come up, as its link is told.

@@ -8,14 +8,17 @@ ghost use Rattle.vx_session.specs.Turning.{phase_at};
 ghost use Rattle.vx_door.specs.Going.{Went};
 ghost use Rattle.vx_exchange.specs.declared.record.TheConstants.{REPLY_ROOM};
 ghost use Rattle.vx_stream.specs.Stopping.{StreamAnswered};
+ghost use Rattle.vx_session.specs.Desks.{DeskSession};
 ghost use Rattle.vx_session.specs.Dialing.{dial_shown, no_dial};
 ghost use Rattle.vx_session.specs.Progress.{Clocked, ClockedAs, unclocked};
 ghost use Rattle.vx_session.specs.declared.sessions.TheConstants.{PIECE};
 ghost use Rattle.vx_session.specs.Ending.{SessionDid};
 
-use crate::answering::Answering;
+use crate::attending::Attending;
+use crate::desks::Desk;
+use crate::one_bus::OneBus;
 use crate::still::NoTools;
-use crate::turns::{Worker, leave};
+use crate::turns::Worker;
 use std::alloc::Global;
 use std::marker::Model;
 use std::sync::Wait;
@@ -111,7 +114,25 @@ impl Room {
     }
 }
 
-/// A session, in a room: the records of its stream are served, and then the connection goes.
+/// The session of a connection of this role at a desk: the records of the link's stream are answered there, each before the next, and
+/// then the connection goes.
+pub fn serve_session<R: Wait, K: Desk, L: Link>(
+    rt: &R,
+    desk: K,
+    role: Role,
+    link: &mut L,
+    room: &mut Room,
+) -> (K, End)
+    requires idle { K.idle desk role }
+    ensures did { DeskSession K.Desk L.Link role (record { server = desk; link = link.old }) result.1 (record { server = result.0; link = link.new }) }
+    ensures went { Went L.receives L.sends link.old link.new }
+    ensures free { K.free result.0 }
+{
+    let (Attending { desk, .. }, end) = room.answer(rt, Attending { desk, role }, link);
+    (desk.leave(), end)
+}
+
+/// A session at the desk of one bus.
 fn run_session<R: Wait, B: Bus, T: Turns<Core<B>>, L: Link, C: Clock, P: Pause, D: Dial>(
     worker: &Worker<'_, R, T>,
     pass: Pass<Core<B>>,
@@ -130,16 +151,16 @@ fn run_session<R: Wait, B: Bus, T: Turns<Core<B>>, L: Link, C: Clock, P: Pause, 
     claims_law();
     owned_law();
     let mut held = Some(pass);
-    let server = Answering {
-        worker,
+    let desk = OneBus {
+        worker: Worker { ..*worker },
         held: &mut held,
         clock,
         pause,
         dial,
     };
-    let (_, end) = room.answer(worker.rt, server, link);
+    let (_, end) = serve_session(worker.rt, desk, worker.role, link, room);
     let Some(pass) = held else { unreachable!() };
-    (leave(worker.rt, worker.turns, pass, worker.conn), end)
+    (pass, end)
 }
 
 /// The session of a core connection: it reads records from the link, answers each whole one, in their order, pauses between two

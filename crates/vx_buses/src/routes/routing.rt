@@ -1,15 +1,16 @@
 //! Which bus a call goes to, and as which call.
-ghost use Rattle.std.specs.Prelude.{◌≡◌, ◌≤◌, length, true};
+ghost use Rattle.std.specs.Prelude.{◌≡◌, ◌≤◌, IsSome, false, length, true};
 ghost use Rattle.vx_calls.specs.declared.limits.TheConstants.{DEVICE_MAX};
 ghost use Rattle.vx_calls.specs.Call.{call_shown};
-ghost use Rattle.vx_rules.specs.Calls.{IsShort, link_named};
+ghost use Rattle.vx_rules.specs.Calls.{IsShort, is_bus_call, link_named};
 ghost use Rattle.vx_rules.specs.AtomicStep.{may_wait};
 ghost use Rattle.vx_buses.specs.Naming.{bus_of};
-ghost use Rattle.vx_buses.specs.Routing.{route_of, route_shown, IsRouted, by_link, fleet_place_of, fleet_with_link, text_there};
+ghost use Rattle.vx_buses.specs.Routing.{route_of, route_shown, IsRouted, by_link, fleet_place_of, fleet_with_link, generic_on, text_there};
 
 use crate::routes::names::{bus_of, on_first};
 use crate::routes::numbers::local;
-use vx_calls::{CallRef, DEVICE_MAX, ErrorCode};
+use arrayvec::ArrayVec;
+use vx_calls::{CallRef, DEVICE_MAX, ErrorCode, Generic, Handle};
 
 /// Where a call of a core connection goes.
 #[derive(Drop)]
@@ -56,31 +57,115 @@ fn link_of(call: &CallRef<'_>) -> Option<u32>
     }
 }
 
-/// The call on another link.
-fn on_link<'a>(call: CallRef<'a>, link: u32) -> CallRef<'a>
-    ensures { call_shown result ≡ fleet_with_link (call_shown call.entry) link }
+/// The parameters that five calls share, for another link.
+fn generic_on(generic: &Generic, link: u32) -> Generic
+    ensures { result ≡ generic_on generic.now link }
 {
-    let mut call = call;
-    match &mut call {
-        CallRef::Null
-        | CallRef::CreateLink { .. }
-        | CallRef::CreateIntr { .. }
-        | CallRef::DestroyIntr => {}
-        CallRef::Write { lid, .. } => *lid = link,
-        CallRef::Read { lid, .. } => *lid = link,
-        CallRef::Lock { lid, .. } => *lid = link,
-        CallRef::Unlock { lid } => *lid = link,
-        CallRef::EnableSrq { lid, .. } => *lid = link,
-        CallRef::Docmd { lid, .. } => *lid = link,
-        CallRef::DestroyLink { lid } => *lid = link,
-        CallRef::DeviceAbort { lid } => *lid = link,
-        CallRef::ReadStb(generic) => generic.lid = link,
-        CallRef::Trigger(generic) => generic.lid = link,
-        CallRef::Clear(generic) => generic.lid = link,
-        CallRef::Remote(generic) => generic.lid = link,
-        CallRef::Local(generic) => generic.lid = link,
+    Generic {
+        lid: link,
+        ..*generic
     }
-    call
+}
+
+/// The same handle once more.
+fn copied(handle: &Handle) -> Handle
+    ensures { result.bytes.items ≡ handle.now.bytes.items }
+{
+    let mut bytes = ArrayVec::new();
+    bytes
+        .try_extend_from_slice(handle.bytes.as_slice())
+        .unwrap();
+    Handle { bytes }
+}
+
+/// A call that names a link, on another one.
+fn on_link<'a>(call: &CallRef<'a>, link: u32) -> CallRef<'a>
+    requires { IsSome (link_named (call_shown call.now)) }
+    ensures { call_shown result ≡ fleet_with_link (call_shown call.now) link }
+{
+    match call {
+        CallRef::Write {
+            io_timeout,
+            lock_timeout,
+            flags,
+            bytes,
+            ..
+        } => CallRef::Write {
+            lid: link,
+            io_timeout: *io_timeout,
+            lock_timeout: *lock_timeout,
+            flags: *flags,
+            bytes: *bytes,
+        },
+        CallRef::Read {
+            request,
+            io_timeout,
+            lock_timeout,
+            flags,
+            term,
+            ..
+        } => CallRef::Read {
+            lid: link,
+            request: *request,
+            io_timeout: *io_timeout,
+            lock_timeout: *lock_timeout,
+            flags: *flags,
+            term: *term,
+        },
+        CallRef::ReadStb(generic) => CallRef::ReadStb(generic_on(generic, link)),
+        CallRef::Trigger(generic) => CallRef::Trigger(generic_on(generic, link)),
+        CallRef::Clear(generic) => CallRef::Clear(generic_on(generic, link)),
+        CallRef::Remote(generic) => CallRef::Remote(generic_on(generic, link)),
+        CallRef::Local(generic) => CallRef::Local(generic_on(generic, link)),
+        CallRef::Docmd {
+            flags,
+            io_timeout,
+            lock_timeout,
+            cmd,
+            big,
+            size,
+            bytes,
+            ..
+        } => CallRef::Docmd {
+            lid: link,
+            flags: *flags,
+            io_timeout: *io_timeout,
+            lock_timeout: *lock_timeout,
+            cmd: *cmd,
+            big: *big,
+            size: *size,
+            bytes: *bytes,
+        },
+        _ => other_on_link(call, link),
+    }
+}
+
+/// The same of a call that doesn't need the bus.
+fn other_on_link<'a>(call: &CallRef<'a>, link: u32) -> CallRef<'a>
+    requires linked { IsSome (link_named (call_shown call.now)) }
+    requires other { is_bus_call (call_shown call.now) ≡ false }
+    ensures { call_shown result ≡ fleet_with_link (call_shown call.now) link }
+{
+    match call {
+        CallRef::Lock {
+            flags,
+            lock_timeout,
+            ..
+        } => CallRef::Lock {
+            lid: link,
+            flags: *flags,
+            lock_timeout: *lock_timeout,
+        },
+        CallRef::Unlock { .. } => CallRef::Unlock { lid: link },
+        CallRef::EnableSrq { enable, handle, .. } => CallRef::EnableSrq {
+            lid: link,
+            enable: *enable,
+            handle: copied(handle),
+        },
+        CallRef::DestroyLink { .. } => CallRef::DestroyLink { lid: link },
+        CallRef::DeviceAbort { .. } => CallRef::DeviceAbort { lid: link },
+        _ => unreachable!(),
+    }
 }
 
 /// The bus of a device text, and the text there.
@@ -101,10 +186,10 @@ fn text_there<'a>(text: &'a [u8], room: &'a mut [u8]) -> (u8, &'a [u8])
 /// Where a call of a core connection goes. A create_link goes to the bus that its device text names, `gpib0` to `gpib3` before the
 /// first comma in any case, where the text is one of the bus `gpib0`, and to bus 0 where it names none of these. A call on a link
 /// goes to the link's bus. A create_intr_chan and a destroy_intr_chan are refused. The text there is written to `room`.
-pub fn route<'a>(call: CallRef<'a>, room: &'a mut [u8]) -> Destination<'a>
+pub fn route<'a>(call: &CallRef<'a>, room: &'a mut [u8]) -> Destination<'a>
     requires { DEVICE_MAX ≤ length room.old }
-    ensures route { route_shown result ≡ route_of (call_shown call.entry) }
-    ensures routed { may_wait (call_shown call.entry) ≡ true → IsShort (call_shown call.entry) → IsRouted result }
+    ensures route { route_shown result ≡ route_of (call_shown call.now) }
+    ensures routed { may_wait (call_shown call.now) ≡ true → IsShort (call_shown call.now) → IsRouted result }
 {
     match call {
         CallRef::CreateIntr { .. } => Destination::Refused {
@@ -119,33 +204,36 @@ pub fn route<'a>(call: CallRef<'a>, room: &'a mut [u8]) -> Destination<'a>
             lock_timeout,
             device,
         } => {
-            let (bus, device) = text_there(device, room);
+            let (bus, device) = text_there(*device, room);
             Destination::Goes {
                 bus,
                 call: CallRef::CreateLink {
-                    client,
-                    lock,
-                    lock_timeout,
+                    client: *client,
+                    lock: *lock,
+                    lock_timeout: *lock_timeout,
                     device,
                 },
             }
         }
-        call => by_link(call),
+        CallRef::Null => Destination::Goes {
+            bus: 0,
+            call: CallRef::Null,
+        },
+        _ => by_link(call),
     }
 }
 
-/// Where a call goes that names a link, or else nothing.
-fn by_link<'a>(call: CallRef<'a>) -> Destination<'a>
-    ensures route { route_shown result ≡ by_link (call_shown call.entry) (link_named (call_shown call.entry)) }
+/// Where a call goes that names a link.
+fn by_link<'a>(call: &CallRef<'a>) -> Destination<'a>
+    requires { IsSome (link_named (call_shown call.now)) }
+    ensures route { route_shown result ≡ by_link (call_shown call.now) (link_named (call_shown call.now)) }
 {
-    match link_of(&call) {
-        None => Destination::Goes { bus: 0, call },
-        Some(lid) => {
-            let (bus, link) = place_of(lid);
-            Destination::Goes {
-                bus,
-                call: on_link(call, link),
-            }
-        }
+    let Some(lid) = link_of(call) else {
+        unreachable!()
+    };
+    let (bus, link) = place_of(lid);
+    Destination::Goes {
+        bus,
+        call: on_link(call, link),
     }
 }

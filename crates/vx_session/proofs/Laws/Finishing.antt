@@ -1,5 +1,5 @@
 -- How a session comes to its end: its stream was served, and then its connection goes.
-use Rattle.std.proofs.Common.{◌≡◌, ℕ, List, [], ◌∷◌, ◌++◌, Some, Result, Err, refl, sym, ap, ◌∙◌, subst, arith}
+use Rattle.std.proofs.Common.{◌≡◌, ℕ, List, [], ◌∷◌, ◌++◌, Some, sym, ap, ◌∙◌, subst, arith}
 use Rattle.std.proofs.lemmas.Option.{same_Some}
 use Rattle.vx_io_traits.specs.declared.links.Link.{Ghosts}
 use Rattle.vx_calls.specs.declared.calls.Role.{Role}
@@ -12,20 +12,19 @@ use Rattle.vx_exchange.specs.Meaning.{meaning, Junk}
 use Rattle.vx_group.specs.Laws.{ClaimsOfGroupsLaw, OwnedLaw}
 use Rattle.vx_group.specs.Claims.{Claims}
 use Rattle.vx_group.specs.Groups.{Group, events_of}
-use Rattle.vx_state.specs.declared.tables.Connect.{Connect}
-use Rattle.vx_state.specs.declared.tables.Connect.TheVariants as connect
 use Rattle.vx_stream.specs.Shown.{link_shown}
 use Rattle.vx_stream.specs.Answered.{replies}
 use Rattle.vx_stream.specs.Calling.{InTurn}
 use Rattle.vx_stream.specs.Stopping.{EndsSo}
 use Rattle.vx_stream.specs.declared.ends.End.{End}
 use Rattle.vx_session.specs.Placing.{Placed, Makes, IsHistory}
-use Rattle.vx_session.specs.Turning.{Joins, Leaves}
+use Rattle.vx_session.specs.Turning.{Leaves}
 use Rattle.vx_session.specs.Dialing.{DialShown}
 use Rattle.vx_session.specs.Progress.{Rings, ClockedAs, SessionState, placed, calls}
 use Rattle.vx_session.specs.Ending.{Holding, Upholds, SessionDid}
-use Rattle.vx_session.specs.Linking.{LinkDid, refused_as}
+use Rattle.vx_session.specs.Linking.{LinkDid}
 use Rattle.vx_session.specs.declared.links.Linked.{Linked}
+use Rattle.vx_session.specs.declared.links.Linked.TheVariants as linked
 use Rattle.vx_session.proofs.Laws.Turns.{makes-goes, makes-later}
 use Rattle.vx_session.proofs.Laws.Progressing.{StreamServed}
 
@@ -69,16 +68,6 @@ session-did g tells ways claims owned s s' pass mid pass' link link' how told di
       upholds = upholds g claims owned pass' leaves.turns.history;
     }
 
--- a connection was refused, and its link is told so
-pub link-refused : {B L : Type 0} (g : Origin B) (ways : Ghosts L) → ClaimsOfGroupsLaw → OwnedLaw → (clocked : List Placed → Type 0) → clocked [] → (told : ℕ) (r : Role) (pass pass' : PassView Group)
-    (link : L) (dial : DialShown) (answer : Result ℕ Connect) (why : Connect) (how : Linked) → answer ≡ Err why → how ≡ refused_as why → Joins g pass r answer pass'
-    → LinkDid g ways clocked told r (record { pass = pass; link = link; dial = dial }) how (record { pass = pass'; link = link; dial = dial })
-link-refused g ways claims owned clocked none told r pass pass' link dial answer why how is how_is joins =
-    subst (λ h. LinkDid g ways clocked told r (record { pass = pass; link = link; dial = dial }) h (record { pass = pass'; link = link; dial = dial })) (sym how_is) (by why (subst (λ a. Joins g pass r a pass') is joins)) where
-      by : (c : Connect) → Joins g pass r (Err c) pass' → LinkDid g ways clocked told r (record { pass = pass; link = link; dial = dial }) (refused_as c) (record { pass = pass'; link = link; dial = dial })
-      by connect.Full refused = (refused, refl, none, refl, upholds g claims owned pass' refused.turns.history)
-      by connect.NoMemory refused = (refused, refl, none, refl, upholds g claims owned pass' refused.turns.history)
-
 -- what a session did, of which less is said of its clock
 pub session-says : {B L : Type 0} (g : Origin B) (ways : Ghosts L) (clocked less : List Placed → Type 0) → ((groups : List Placed) → clocked groups → less groups)
     → (told : ℕ) (r : Role) (conn : ℕ) (before : Holding L) (how : End) (after : Holding L)
@@ -104,3 +93,11 @@ session-says g ways clocked less so told r conn before how after did = record {
   rings = did.rings;
   upholds = did.upholds;
 }
+
+-- and what a link's worker did
+pub link-says : {B L : Type 0} (g : Origin B) (ways : Ghosts L) (clocked less : List Placed → Type 0) → ((groups : List Placed) → clocked groups → less groups)
+    → (told : ℕ) (r : Role) (before : Holding L) (how : Linked) (after : Holding L) → LinkDid g ways clocked told r before how after → LinkDid g ways less told r before how after
+link-says g ways clocked less so told r before (linked.Ended how) after did =
+    record { conn = did.conn; up = did.up; joins = did.joins; did = session-says g ways clocked less so told r did.conn (record { pass = did.up; link = before.link; dial = before.dial }) how after did.did }
+link-says g ways clocked less so told r before linked.Full after did = (did.0, did.1, so [] did.2, did.3, did.4)
+link-says g ways clocked less so told r before linked.NoMemory after did = (did.0, did.1, so [] did.2, did.3, did.4)

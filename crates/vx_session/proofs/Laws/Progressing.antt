@@ -28,7 +28,7 @@ use Rattle.vx_session.specs.declared.sessions.TheConstants.{PIECE}
 use Rattle.vx_session.specs.Placing.{Placed, Makes}
 use Rattle.vx_session.specs.Dialing.{DialShown, RoseBy, is_failed_dial}
 use Rattle.vx_session.specs.Serving.{Item, SessionServes}
-use Rattle.vx_session.specs.Progress.{Rings, ClockedAs, SessionState, ServesRecord, MessageDoes, answered, placed, calls, failed_dials}
+use Rattle.vx_session.specs.Progress.{Rings, ClockedAs, SessionState, ServesMeaning, MessageDoes, answered, placed, calls, failed_dials}
 use Rattle.vx_session.proofs.Laws.Turns.{makes-none, makes-goes, clockedas-none, clockedas-goes}
 
 -- a dial told no further call
@@ -112,7 +112,7 @@ serves-none g tells s s' pass had stays = record {
 serves-more : {B C : Type 0} (g : Origin B) (tells : C → ℕ → C → Type 0) (s mid s' : SessionState C) (pass : PassView Group) (one : Answered) (more : List Answered) → s.pass ≡ Some pass
     → (does : MessageDoes g tells s one.message (Some one.reply) mid) → ServesAll g tells mid does.has.pass' more s' → ServesAll g tells s pass (one ∷ more) s'
 serves-more g tells s mid s' pass one more had does rest =
-    let first = subst (λ p. ServesRecord g (ClockedAs s.role tells s.clock mid.clock) mid.told s.role p s.conn one.message s.dial one.reply does.has.pass' mid.dial) (same_Some does.has.pass pass (sym does.has.had ∙ had)) does.has.serves in
+    let first = subst (λ p. ServesMeaning g (ClockedAs s.role tells s.clock mid.clock) mid.told p s.conn (meaning one.message s.role) s.dial one.reply does.has.pass' mid.dial) (same_Some does.has.pass pass (sym does.has.had ∙ had)) does.has.serves in
     let item : Item = record { answered = one; placed = first.placed; calls = first.rung } in
     let earlier = does.later in
     let later = rest.later in

@@ -12,7 +12,7 @@ use Rattle.vx_buses.proofs.answering.serve_call.Goals as goal
 
 pub returns-in-Refused-clause-served : goal.returns-in-Refused-clause-served
 returns-in-Refused-clause-served g c =
-    refused-served (origins g.B.Bus (firsts_shown c.args.worker.now.buses.now)) (g.C.Clock.told c.args.clock.now) (passes_shown c.args.passes) (four_of c.args.worker.now.conns) c.args.xid (call_shown c.args.call) c.in-Refused.error _
+    refused-served (origins g.B.Bus (firsts_shown c.args.worker.now.buses.now)) (g.C.Clock.told c.args.clock.now) (passes_shown c.args.passes) (four_of c.args.worker.now.conns) c.args.request.now.xid (call_shown c.args.request.now.call.now) c.in-Refused.error _
     c.in-Refused.ensures.route c.put_error_record.ensures.record
     (Clocked g.C.Clock.tells c.args.clock.now c.args.clock.now) (clockedas-none g.C.Clock.tells role.Core c.args.clock.now c.args.clock.now refl)
 
@@ -22,7 +22,7 @@ ask_bus-requires-clause-phase g c = idle-at c.in-Goes.bus (passes_shown c.args.p
 pub returns-in-Goes-clause-served : goal.returns-in-Goes-clause-served
 returns-in-Goes-clause-served g c =
     asked-served (origins g.B.Bus (firsts_shown c.args.worker.now.buses.now)) (g.C.Clock.told c.ask_bus.new.clock) (passes_shown c.args.passes) (four_of c.args.worker.now.conns)
-    (Clocked g.C.Clock.tells c.args.clock.now c.ask_bus.new.clock) c.args.xid (call_shown c.args.call) (call_shown c.in-Goes.call) c.in-Goes.bus
+    (Clocked g.C.Clock.tells c.args.clock.now c.ask_bus.new.clock) c.args.request.now.xid (call_shown c.args.request.now.call.now) (call_shown c.in-Goes.call) c.in-Goes.bus
     (take c.ask_bus.result.1 c.ask_bus.new.reply) (passes_shown c.ask_bus.result.0) c.in-Goes.ensures.route (c.in-Goes.ensures.routed c.requires.waits c.requires.short).0 c.ask_bus.ensures.asks
 
 pub returns-in-Goes-clause-holds : goal.returns-in-Goes-clause-holds

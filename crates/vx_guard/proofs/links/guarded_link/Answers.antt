@@ -1,35 +1,44 @@
-use Rattle.std.proofs.Common.{refl, subst}
-use Rattle.vx_calls.specs.declared.calls.Role.TheVariants as role
-use Rattle.vx_door.specs.Going.{Not_yet}
-use Rattle.vx_session.specs.Turning.{Joins}
-use Rattle.vx_session.specs.Origin.{origin}
-use Rattle.vx_session.specs.Progress.{Clocked}
-use Rattle.vx_session.proofs.Laws.{clockedas-none}
-use Rattle.vx_guard.proofs.Known.{joined-none}
-use Rattle.vx_guard.proofs.Refused.{link-refused}
+use Rattle.std.proofs.Common.{◌≡◌, ◌≤◌, Some, None, refl, sym, ap, ◌∙◌, subst, rules}
+use Rattle.std.proofs.lemmas.Option.{none-some}
+use Rattle.vx_text.specs.Ends.{sink_shown}
+use Rattle.vx_session.specs.Dialing.{dial_shown}
+use Rattle.vx_session.proofs.Laws.Attended.{link-keeps}
+use Rattle.vx_guard.proofs.Ruling.{seat_of, state_of, served-keeps, link-guarded, link-later}
 use Rattle.vx_guard.proofs.links.guarded_link.Goals as goal
 
-pub returns-in-Err-clause-did : goal.returns-in-Err-clause-did
-returns-in-Err-clause-did g c =
-    link-refused (origin g.B.Bus (g.T.Turns.first c.args.gateway.now.turns.now)) g.L.Link c.claims_law.ensures.claims c.owned_law.ensures
-    (Clocked g.C.Clock.tells c.args.kit.now.clock c.args.kit.now.clock) (clockedas-none g.C.Clock.tells role.Core c.args.kit.now.clock c.args.kit.now.clock refl) _ _ c.args.pass c.join-pass.result.0 _ _ _ c.join-pass.result.1 c.in-Err.why _
-    c.in-Err.is c.refused.ensures c.join-pass.ensures
+pub unreachable-requires : goal.unreachable-requires
+unreachable-requires g c =
+    let held = served-keeps _ (λ d. d.held.ghost_name) _ (state_of g.K.Sink) (λ s s' xid call reply did. did.0) (λ s s' xid lid reply did. did.0) (λ d d' xid call reply did. did.1) (λ d d' xid lid reply did. did.1)
+    (λ s s' did. did.0) (λ d d' did. did.1) (λ s s' r answer did. did.0) (λ d d' r answer did. did.1) g.L.Link _ _ _ _ _ _ c.serve_link-failed.ensures.did in
+    let free = c.serve_link-failed.ensures.free in
+    none-some free.pass (sym (subst (λ held. held ≡ None) (search (rules, held)) c.in_default.is) ∙ free.has)
 
-pub returns-in-Ok-clause-did : goal.returns-in-Ok-clause-did
-returns-in-Ok-clause-did g c =
-    let o = origin g.B.Bus (g.T.Turns.first c.args.gateway.now.turns.now) in
-    let did = c.guarded_session-pass.ensures.did in
-    let joins = subst (λ a. Joins o c.args.pass role.Core a c.join-pass.result.0) c.in-Ok.is c.join-pass.ensures in
-    let history = joins.turns.history in
-    record {
-      conn = c.in-Ok.conn;
-      up = c.join-pass.result.0;
-      joins = joins;
-      peer = did.0;
-      is_peer = did.1;
-      did = did.2;
-      knows = did.2.knows history.core.interleaved history.became.state (joined-none o c.links_law.ensures.links c.args.pass c.join-pass.result.0 c.in-Ok.conn joins c.order.ensures);
-    }
+pub returns-clause-did : goal.returns-clause-did
+returns-clause-did g c =
+    let did = c.serve_link-failed.ensures.did in
+    let held = served-keeps _ (λ d. d.held.ghost_name) _ (state_of g.K.Sink) (λ s s' xid call reply did. did.0) (λ s s' xid lid reply did. did.0) (λ d d' xid call reply did. did.1) (λ d d' xid lid reply did. did.1)
+    (λ s s' did. did.0) (λ d d' did. did.1) (λ s s' r answer did. did.0) (λ d d' r answer did. did.1) g.L.Link _ _ _ _ _ _ did in
+    let clock = served-keeps _ (λ d. d.clock.ghost_name) _ (state_of g.K.Sink) (λ s s' xid call reply did. did.0) (λ s s' xid lid reply did. did.0) (λ d d' xid call reply did. did.2) (λ d d' xid lid reply did. did.2)
+    (λ s s' did. did.0) (λ d d' did. did.2) (λ s s' r answer did. did.0) (λ d d' r answer did. did.2) g.L.Link _ _ _ _ _ _ did in
+    let dial = served-keeps _ (λ d. d.dial.ghost_name) _ (state_of g.K.Sink) (λ s s' xid call reply did. did.0) (λ s s' xid lid reply did. did.0) (λ d d' xid call reply did. did.3) (λ d d' xid lid reply did. did.3)
+    (λ s s' did. did.0) (λ d d' did. did.3) (λ s s' r answer did. did.0) (λ d d' r answer did. did.3) g.L.Link _ _ _ _ _ _ did in
+    let note = link-keeps _ (λ s. s.note.ghost_name) (λ s s' xid call reply did. did.2) (λ s s' xid lid reply did. did.2) (λ s s' did. did.2) (λ s s' r answer did. did.2) g.L.Link _ _ _ _ _ _ did in
+    link-guarded g.B.Bus g.C.Clock.tells c.claims_law.ensures.claims c.owned_law.ensures c.links_law.ensures.links c.links_law.ensures.few c.called_law.ensures c.replies_read.ensures.made c.replies_read.ensures.done
+    c.texts_name.ensures _ (λ d. g.T.Turns.first d.worker.turns.now) (seat_of g.C.Clock g.D.Dial) (λ d. refl) (λ d. refl) (λ d d' xid call reply did. did.0) (λ d d' did. did.0) (λ d d' xid lid reply did. did.0.conn)
+    (λ d d' xid call reply did. did.4) (λ d d' xid lid reply did. did.4) _ (state_of g.K.Sink) (λ s s' xid call reply did. did.0) (λ s s' xid lid reply did. did.0) (λ s s' did. did.0)
+    (λ d d' answer did. did.0) (λ d d' r answer did. did.4) (λ s s' r answer did. did.0)
+    g.L.Link _ c.serve_link-failed.result.0 c.args.pass c.in-Some.pass _ _ _ _ _ _ _ _ refl refl c.order.ensures c.peer-peer.ensures
+    (subst (λ o. o ≡ Some c.in-Some.pass) (search (rules, held)) c.in-Some.is) (ap g.C.Clock.told (search (rules, clock))) (search (rules, clock)) (ap (dial_shown g.D.Dial) (search (rules, dial)))
+    (ap (sink_shown g.K.Sink) (search (rules, note))) c.guarded_as-how.ensures did
 
-pub returns-in-Err-clause-went : goal.returns-in-Err-clause-went
-returns-in-Err-clause-went g c = Not_yet c.args.link.now
+pub returns-clause-told : goal.returns-clause-told
+returns-clause-told g c =
+    let did = c.serve_link-failed.ensures.did in
+    let clock = served-keeps _ (λ d. d.clock.ghost_name) _ (state_of g.K.Sink) (λ s s' xid call reply did. did.0) (λ s s' xid lid reply did. did.0) (λ d d' xid call reply did. did.2) (λ d d' xid lid reply did. did.2)
+    (λ s s' did. did.0) (λ d d' did. did.2) (λ s s' r answer did. did.0) (λ d d' r answer did. did.2) g.L.Link _ _ _ _ _ _ did in
+    subst (λ k. g.C.Clock.told c.args.kit.now.clock ≤ g.C.Clock.told k) (search (rules, clock))
+    (link-later g.B.Bus g.C.Clock.tells c.claims_law.ensures.claims c.owned_law.ensures c.links_law.ensures.links c.links_law.ensures.few c.called_law.ensures c.replies_read.ensures.made c.replies_read.ensures.done
+    c.texts_name.ensures _ (λ d. g.T.Turns.first d.worker.turns.now) (seat_of g.C.Clock g.D.Dial) (λ d. refl) (λ d. refl) (λ d d' xid call reply did. did.0) (λ d d' did. did.0) (λ d d' xid lid reply did. did.0.conn)
+    (λ d d' xid call reply did. did.4) (λ d d' xid lid reply did. did.4) _ (state_of g.K.Sink) (λ s s' xid call reply did. did.0) (λ s s' xid lid reply did. did.0) (λ s s' did. did.0)
+    (λ d d' answer did. did.0) (λ d d' r answer did. did.4) (λ s s' r answer did. did.0)
+    g.L.Link _ c.serve_link-failed.result.0 c.args.pass _ _ _ refl refl c.order.ensures did)

@@ -1,4 +1,4 @@
-use Rattle.std.proofs.Common.{refl, sym, ap, ◌∙◌, subst, rules}
+use Rattle.std.proofs.Common.{sym, subst, rules}
 use Rattle.vx_buses.specs.Standing.{ComeBack}
 use Rattle.vx_buses.proofs.Returning.{back-same, back-last}
 use Rattle.vx_buses.proofs.fleet.gates.start_two.Goals as goal

@@ -1,4 +1,4 @@
-use Rattle.std.proofs.Common.{◌≡◌, [], ◌∷◌, ◌++◌, refl, sym, ap, ◌∙◌, subst, append_assoc, rules}
+use Rattle.std.proofs.Common.{refl, sym, ◌∙◌, append_assoc}
 use Rattle.vx_buses.proofs.Returning.{back-last}
 use Rattle.vx_buses.proofs.fleet.gates.Gates.start.Goals as goal
 
