@@ -1,4 +1,5 @@
-//! Tests of the shared gateway, its turns and its sessions, of sessions over four buses, and of those that written rules guard.
+//! Tests of the shared gateway, its turns and its sessions, of those at a desk with names, of sessions over four buses, and of those that
+//! written rules guard.
 #![tactic(auto)]
 
 #[cfg(test)]
@@ -30,6 +31,8 @@ mod guard_session_tests;
 #[cfg(test)]
 mod guard_tools;
 #[cfg(test)]
+mod names_tests;
+#[cfg(test)]
 mod pause_tests;
 #[cfg(test)]
 mod policy_tests;
@@ -37,6 +40,8 @@ mod policy_tests;
 mod pump_tests;
 #[cfg(test)]
 mod record_tools;
+#[cfg(test)]
+mod ruled_buses_tests;
 #[cfg(test)]
 mod run_tools;
 #[cfg(test)]
