@@ -1,11 +1,11 @@
 -- Serving a link of a door: what the passes keep, what the link's counts do, and why its peer is cut short.
-use Rattle.std.proofs.Common.{◌≡◌, ◌≢◌, ◌≤◌, ◌<◌, ◌+◌, ◌⊎◌, inl, inr, ℕ, true, List, ◌++◌, Some, refl, sym, ap, ◌∙◌, subst, arith}
+use Rattle.std.proofs.Common.{◌≡◌, ◌≢◌, ◌≤◌, ◌<◌, ◌+◌, ◌⊎◌, inl, inr, ℕ, true, List, ◌++◌, sym, ap, ◌∙◌, subst, arith}
 use Rattle.std.specs.Prelude.{not}
 use Rattle.std.proofs.lemmas.Bool.{false≢true}
 use Rattle.vx_io_traits.specs.Faults.{Rose}
 use Rattle.vx_io_traits.specs.declared.links.Link.{Ghosts}
-use Rattle.vx_door.specs.Serving.{is_cut}
-use Rattle.vx_door.proofs.Laws.{ended-spent}
+use Rattle.vx_peers.specs.Serving.{is_cut}
+use Rattle.vx_peers.proofs.Laws.{ended-spent}
 use Rattle.vx_calls.specs.declared.limits.TheConstants.{CONNECTION_LAST}
 use Rattle.vx_gate.specs.PassView.{PassView, GateId}
 use Rattle.vx_buses.specs.Four.{Four, at, Each}
@@ -29,10 +29,8 @@ use Rattle.vx_buses.proofs.Rooms.{link-counts, link-never-full}
 module _ {B L : Type 0} (g : Origins B) (ways : Ghosts L) (clocked : List Placed → Type 0) (told : ℕ) (before after : FleetHolding L) where
   -- what holds between two links holds behind one, with one more served
   pub ready-on : (count : ℕ) (how : Linked) (gates : Four GateId) → LinkDid g ways clocked told before how after → ((bus : ℕ) → bus ≤ 3 → IsSessionClear count (at bus before.passes))
-      → Each IsOf after.passes gates → IsFleetReady (count + 1) (Some after.passes) gates
+      → Each IsOf after.passes gates → IsFleetReady (count + 1) after.passes gates
   ready-on count how gates d clear of = record {
-    passes = after.passes;
-    has = refl;
     of = of;
     clear = λ bus within. clear-on count (at bus before.passes) (at bus after.passes) (clear bus within) (link-counts g ways clocked told before how after d bus within);
   }
@@ -77,10 +75,8 @@ first-clear : (pass : PassView Group) (gate : GateId) → IsFirst pass gate → 
 first-clear pass gate first = clear-first pass first.parts first.seen first.own
 
 -- first passes are ready
-pub first-ready : (passes : Four (PassView Group)) (gates : Four GateId) → Each IsFirst passes gates → IsFleetReady 0 (Some passes) gates
+pub first-ready : (passes : Four (PassView Group)) (gates : Four GateId) → Each IsFirst passes gates → IsFleetReady 0 passes gates
 first-ready passes gates first = record {
-  passes = passes;
-  has = refl;
   of = record { zero_ = first.zero_.gate_is; one = first.one.gate_is; two = first.two.gate_is; three = first.three.gate_is };
   clear = each-number (λ bus. IsSessionClear 0 (at bus passes)) (first-clear passes.zero_ gates.zero_ first.zero_) (first-clear passes.one gates.one first.one)
       (first-clear passes.two gates.two first.two) (first-clear passes.three gates.three first.three);

@@ -23,7 +23,7 @@ begun g clock start firsts n ask old new before after how holds hosts = record {
 -- the work at a port doesn't end for want of memory
 pub hosts-run : {B C N : Type 0} (g : Ghosts B) (clock : C → ℕ → C → Type 0) (start : Four (CoreState B) → Type 0) (firsts : Four (CoreState B)) (n : FleetShows N) (ask : Ask) (old new : N) (before after : End) (how : DoorStatus) → start firsts
     → Hosts g clock n (λ f. f ≡ firsts) ask old new before after how → IsFleetAskRun g clock n start ask old new before after how
-hosts-run g clock start firsts n ask old new before after status.NoMemory holds hosts = absurd hosts.served.serves
+hosts-run g clock start firsts n ask old new before after status.NoMemory holds hosts = absurd hosts.served.came
 hosts-run g clock start firsts n ask old new before after status.Served holds hosts = begun g clock start firsts n ask old new before after status.Served holds hosts
 hosts-run g clock start firsts n ask old new before after status.Usage holds hosts = begun g clock start firsts n ask old new before after status.Usage holds hosts
 hosts-run g clock start firsts n ask old new before after status.NetFailed holds hosts = begun g clock start firsts n ask old new before after status.NetFailed holds hosts

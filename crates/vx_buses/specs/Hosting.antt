@@ -1,11 +1,10 @@
 -- To be believed.
 -- What serves the links of a door over four buses, and what serving one does.
-use Rattle.std.specs.Prelude.{◌≡◌, ◌≢◌, ◌≤◌, ℕ, [], Option, Some, None}
+use Rattle.std.specs.Prelude.{◌≡◌, ◌≢◌, ◌≤◌, ℕ}
 use Rattle.vx_io_traits.specs.declared.links.Link.{Ghosts as OfLink}
 use Rattle.vx_door.specs.Going.{Went}
 use Rattle.vx_bus_traits.specs.declared.bus.Bus.{Ghosts}
 use Rattle.vx_core.specs.CoreState.{CoreState}
-use Rattle.vx_gate.specs.Seats.{nowhere}
 use Rattle.vx_gate.specs.PassView.{PassView, GateId}
 use Rattle.vx_buses.specs.Four.{Four, at, Each}
 use Rattle.vx_buses.specs.Passing.{IsOf, IsFirst}
@@ -25,22 +24,8 @@ pub record Hosting (B C : Type 0) : Type 0 where
   pub clock : C
   pub told : ℕ
 
--- passes of no gate
-abbrev pub no_passes : Four (PassView Group)
-no_passes = record { zero_ = none; one = none; two = none; three = none }
-  where
-    none : PassView Group
-    none = record { gate = nowhere; number = 0; parts = 0; seen = []; own = [] }
-
--- the passes, where they are in their place
-abbrev pub passes_of : Option (Four (PassView Group)) → Four (PassView Group)
-passes_of None = no_passes
-passes_of (Some passes) = passes
-
--- Its passes are in their place, each of its gate. Each is the only one there, and each of its connections went again, so many at most.
-pub record IsFleetReady (count : ℕ) (held : Option (Four (PassView Group))) (gates : Four GateId) : Type 0 where
-  pub passes : Four (PassView Group)
-  pub has : held ≡ Some passes
+-- Its passes are each of its gate. Each is the only one there, and each of its connections went again, so many at most.
+pub record IsFleetReady (count : ℕ) (passes : Four (PassView Group)) (gates : Four GateId) : Type 0 where
   pub of : Each IsOf passes gates
   pub clear : (bus : ℕ) → bus ≤ 3 → IsSessionClear count (at bus passes)
 

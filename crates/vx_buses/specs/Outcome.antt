@@ -1,11 +1,11 @@
 -- To be believed.
 -- How a run of the program of four buses ends: for each status, what was opened and served, what was printed, and why.
-use Rattle.std.specs.Prelude.{◌≡◌, ◌⊎◌, ℕ, Bool, List, codes}
+use Rattle.std.specs.Prelude.{◌≡◌, ◌⊎◌, ℕ, Bool, false, List, codes}
 use Rattle.vx_io_traits.specs.declared.links.Link.{Ghosts as OfLink}
 use Rattle.vx_text.specs.Ends.{End}
 use Rattle.vx_door.specs.Shown.{DoorShown, DoorTold, door_shown}
 use Rattle.vx_door.specs.Opening.{Opening}
-use Rattle.vx_door.specs.Running.{KeepsOwn}
+use Rattle.vx_peers.specs.Running.{KeepsOwn}
 use Rattle.vx_door.specs.declared.doors.Met.{Met}
 use Rattle.vx_peers.specs.declared.words.Ask.{Ask}
 use Rattle.vx_peers.specs.declared.serving.DoorStatus.{DoorStatus}
@@ -41,7 +41,7 @@ module _ {B C N : Type 0} (g : Ghosts B) (clock : C → ℕ → C → Type 0) (n
 
   -- the door with what its server does, as a program over a door has it
   abbrev pub hosted : PeerShows N (Hosting B C) Linked
-  hosted = record { stands = n.link.stands; tells = n.tells; waits = n.waits; door = n.door; did = Does; own = is_own; whole = is_whole }
+  hosted = record { stands = n.link.stands; tells = n.tells; waits = n.waits; door = n.door; did = Does; own = is_own; whole = is_whole; stopped = λ server. false }
 
   -- `start` tells of the cores, each with its bus, that the four gates are started over
   module _ (start : Four (CoreState B) → Type 0) where

@@ -3,6 +3,7 @@ ghost use Rattle.std.specs.Prelude.{◌≡◌, length, map, string_bytes};
 ghost use Rattle.vx_lone.specs.Lone.{handed, lone};
 ghost use Rattle.vx_buses.specs.Four.{Each};
 ghost use Rattle.vx_buses.specs.Passing.{passes_shown, IsFirst};
+ghost use Rattle.vx_peers.specs.Asked.{IsPeerInRange};
 ghost use Rattle.vx_buses.specs.Standing.{gates_shown, firsts_shown};
 ghost use Rattle.vx_text.specs.Ends.{sink_shown};
 ghost use Rattle.vx_buses.specs.Starting.{StandInOrder};
@@ -41,6 +42,7 @@ fn serve_ask<R: Wait, B: Bus + Drop, N: Door, X: Tools, K: Sink>(
     tools: &mut X,
     sink: &mut K,
 ) -> DoorStatus
+    requires range { IsPeerInRange ask.now }
     requires first { Each IsFirst (passes_shown started.passes) (gates_shown started.buses) }
     ensures { Hosts B.Bus X.C.tells (fleet_shows N.Link N.Door) (λ firsts. firsts ≡ firsts_shown started.buses) ask.now net.old net.new
         (sink_shown K.Sink sink.old) (sink_shown K.Sink sink.new) result }
@@ -50,17 +52,17 @@ fn serve_ask<R: Wait, B: Bus + Drop, N: Door, X: Tools, K: Sink>(
         passes,
         room,
     } = started;
-    let mut host = Host {
+    let host = Host {
         rt,
         alloc,
         buses,
-        held: Some(passes),
+        passes,
         clock: tools.clock(),
         pause: tools.pause(),
         room,
-        served: 0,
     };
-    serve_peers(ask, &mut host, net, sink)
+    let (_, how) = serve_peers(ask, host, net, sink);
+    how
 }
 
 /// Does what is asked. All memory but that of the links' connections is taken before the port is opened. `M` names the rack.
@@ -73,6 +75,7 @@ fn run_racked<R: Wait, I: Instrument, N: Door, X: Tools, K: Sink, M: Racked>(
     sink: &mut K,
     rack: Vec<Spare<I>>,
 ) -> DoorStatus
+    requires range { IsPeerInRange ask.now }
     requires four { length rack.items ≡ 4 }
     requires racked { M.rack ≡ handed (λ i. I.behaves i) (λ i. I.nature i) rack.items }
     ensures { IsFleetAskRun (lone M.rack) X.C.tells (fleet_shows N.Link N.Door) (StandInOrder M.rack) ask.now net.old net.new
@@ -104,6 +107,7 @@ fn run_ask<R: Wait, I: Instrument, N: Door, X: Tools, K: Sink>(
     sink: &mut K,
     rack: Vec<Spare<I>>,
 ) -> DoorStatus
+    requires range { IsPeerInRange ask.now }
     requires four { length rack.items ≡ 4 }
     ensures { IsFleetAskRun (lone (handed (λ i. I.behaves i) (λ i. I.nature i) rack.items)) X.C.tells (fleet_shows N.Link N.Door) (StandInOrder (handed (λ i. I.behaves i) (λ i. I.nature i) rack.items)) ask.now net.old net.new
         (sink_shown K.Sink sink.old) (sink_shown K.Sink sink.new) result }

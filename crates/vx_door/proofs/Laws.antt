@@ -1,25 +1,9 @@
--- Laws for what serves the peers of a door, proved.
-pub mod Goings
-use Rattle.std.proofs.Common.{◌≡◌, ℕ, true, List, [], ◌∷◌, Option, None, Some, refl, ◌∙◌}
-use Rattle.std.specs.Prelude.{IfSome}
-use Rattle.std.specs.Io.KnownBytes.{Consumes, IsAtEnd}
+-- A law for what serves the peers of a door, proved.
+use Rattle.std.proofs.Common.{◌≡◌, ℕ, List, refl, ◌∙◌}
 use Rattle.vx_io_traits.specs.declared.ReadOut.{ReadOut}
 use Rattle.vx_io_traits.specs.declared.WriteOut.{WriteOut}
 use Rattle.vx_door.specs.Meeting.{KeepsCounts}
-use Rattle.vx_door.specs.Serving.{is_spent}
 use Rattle.vx_door.specs.Going.{Went, Not_yet, By_receive, By_send}
-
--- of a peer that gave these bytes, and then told its end, nothing is left
-pub spent_at_end : (first now : Option (List ℕ)) (bytes : List ℕ) → Consumes first now bytes → IsAtEnd now → is_spent first now ≡ true
-spent_at_end None now bytes gave end = refl
-spent_at_end (Some xs) None bytes gave end = refl
-spent_at_end (Some xs) (Some []) bytes gave end = refl
-spent_at_end (Some xs) (Some (y ∷ ys)) bytes gave end = cc
-
--- so it is of a peer that told its end where it told what it had left
-pub ended-spent : (first now : Option (List ℕ)) (bytes : List ℕ) → Consumes first now bytes → IfSome first (λ all. IsAtEnd now) → is_spent first now ≡ true
-ended-spent None now bytes gave at_end = refl
-ended-spent (Some all) now bytes gave at_end = spent_at_end (Some all) now bytes gave at_end
 
 -- A door that went by receives and sends alone has its own counts as they were. The two premises are the laws of a door.
 pub went_keeps : {L : Type 0} (receives : L → List ℕ → ReadOut → List ℕ → L → Type 0) (sends : L → List ℕ → WriteOut → L → Type 0) (met ended faults : L → ℕ)

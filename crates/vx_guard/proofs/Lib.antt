@@ -9,4 +9,3 @@ mod Rooms
 mod OnePeer
 mod Told
 mod Runs
-mod Rounds

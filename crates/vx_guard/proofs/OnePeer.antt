@@ -1,14 +1,12 @@
 -- What serving one peer of a door comes to.
-use Rattle.std.proofs.Common.{◌||◌, ◌≡◌, ◌≢◌, ◌≤◌, ◌<◌, ◌+◌, ◌⊎◌, inl, inr, ℕ, Bool, true, List, [], ◌++◌, sym, ap, ◌∙◌, subst, arith}
+use Rattle.std.proofs.Common.{◌||◌, ◌≡◌, ◌≢◌, ◌≤◌, ◌<◌, ◌+◌, ◌⊎◌, inl, inr, ℕ, Bool, true, false, List, [], ◌++◌, Some, refl, sym, ap, ◌∙◌, subst, arith, le_trans}
 use Rattle.std.specs.Prelude.{not}
 use Rattle.std.proofs.lemmas.Bool.{false≢true}
 use Rattle.vx_io_traits.specs.Faults.{Rose}
 use Rattle.vx_io_traits.specs.declared.links.Link.{Ghosts}
 use Rattle.vx_io_traits.proofs.Laws.{rose_earlier}
-use Rattle.vx_door.specs.Serving.{is_cut, RoseEither}
-use Rattle.vx_door.specs.Shown.{MeetsPeer}
-use Rattle.vx_door.specs.Going.{Went}
-use Rattle.vx_door.proofs.Laws.{ended-spent}
+use Rattle.vx_peers.specs.Serving.{is_cut}
+use Rattle.vx_peers.proofs.Laws.{ended-spent}
 use Rattle.vx_calls.specs.declared.limits.TheConstants.{CONNECTION_LAST}
 use Rattle.vx_session.specs.Origin.{Origin}
 use Rattle.vx_gate.specs.PassView.{PassView, GateId}
@@ -16,17 +14,22 @@ use Rattle.vx_group.specs.Groups.{Group}
 use Rattle.vx_stream.specs.declared.ends.End.TheVariants as stream
 use Rattle.vx_session.specs.Placing.{Placed}
 use Rattle.vx_session.specs.Progress.{Clocked}
+use Rattle.vx_core.specs.CoreState.{CoreState}
 use Rattle.vx_policy.specs.declared.rules.Rule.{Rule}
 use Rattle.vx_guard.specs.declared.sessions.GuardEnd.TheVariants as guard
 use Rattle.vx_guard.specs.declared.links.Guarded.{Guarded}
 use Rattle.vx_guard.specs.declared.links.Guarded.TheVariants as guarded
 use Rattle.vx_guard.specs.Linking.{GuardLinkDid}
 use Rattle.vx_guard.specs.Wholes.{GuardHolding}
-use Rattle.vx_guard.specs.declared.serving.Next.TheVariants as next
 use Rattle.vx_session.specs.Counting.{IsSessionClear}
 use Rattle.vx_session.proofs.Laws.{clear-first, clear-on}
 use Rattle.vx_guard.proofs.Rooms as rooms
-use Rattle.vx_guard.specs.Peers.{CanServe, IsGuardReady, GuardHas, GuardShows, IsNext, Notes, holding, is_note_fault, is_own, is_whole}
+use Rattle.vx_guard.specs.Peers.{CanServe, IsGuardReady, GuardHas, GuardShows, GuardsPeer, holding, is_note_fault, is_own, is_whole}
+
+-- the count of the note's faults rose where the note failed, and didn't fall
+abbrev pub Notes : Bool → (before after : ℕ) → Type 0
+Notes true before after = Rose before after
+Notes false before after = before ≤ after
 
 module _ {B L : Type 0} (g : Origin B) (ways : Ghosts L) (clocked : List Placed → Type 0) (told : ℕ) (rules : List Rule) where
   -- a peer that was cut short was so by a fault of its link
@@ -92,10 +95,12 @@ module _ {B L : Type 0} (g : Origin B) (ways : Ghosts L) (clocked : List Placed 
 
   -- and behind one more than so many peers each of its connections went again
   pub link-ready : (gate : GateId) (count : ℕ) (before : GuardHolding L) (how : Guarded) (after : GuardHolding L)
-      → IsGuardReady gate count before.pass → GuardLinkDid g ways clocked told rules before how after → IsGuardReady gate (count + 1) after.pass
-  link-ready gate count before how after ready d = record {
-    can = link-can gate before how after ready.can d;
-    clear = clear-on count before.pass after.pass ready.clear (rooms.link-counts g ways clocked told rules before how after d);
+      → CanServe gate before.pass → IsSessionClear count before.pass → GuardLinkDid g ways clocked told rules before how after → IsGuardReady gate (count + 1) (Some after.pass)
+  link-ready gate count before how after can clear d = record {
+    pass = after.pass;
+    has = refl;
+    can = link-can gate before how after can d;
+    clear = clear-on count before.pass after.pass clear (rooms.link-counts g ways clocked told rules before how after d);
   }
 
   -- its connection wasn't refused for want of room
@@ -106,47 +111,32 @@ module _ {B L : Type 0} (g : Origin B) (ways : Ghosts L) (clocked : List Placed 
   link-room count before (guarded.Ended how) after clear low d is = cc
   link-room count before guarded.NoMemory after clear low d is = cc
 
--- a guard that served nobody since is ready too
-pub ready-still : (gate : GateId) (count : ℕ) (pass : PassView Group) → IsGuardReady gate count pass → IsGuardReady gate (count + 1) pass
-ready-still gate count pass ready = record {
-  can = ready.can;
-  clear = record { alone = ready.clear.alone; even = ready.clear.even; most = omega (arith, ready.clear.most) };
-}
-
 -- one that begins is ready
-pub ready-first : (gate : GateId) (pass : PassView Group) → CanServe gate pass → pass.seen ≡ [] → pass.own ≡ [] → IsGuardReady gate 0 pass
-ready-first gate pass can seen own = record { can = can; clear = clear-first pass can.parts seen own }
+pub ready-first : (gate : GateId) (pass : PassView Group) → CanServe gate pass → pass.seen ≡ [] → pass.own ≡ [] → IsGuardReady gate 0 (Some pass)
+ready-first gate pass can seen own = record { pass = pass; has = refl; can = can; clear = clear-first pass can.parts seen own }
 
--- what a door shows of its link is what its link shows
-abbrev pub ShowsLink : {B C N : Type 0} → GuardShows B C N → Type 0
-ShowsLink {B} {C} {N} n = (d : N) → ((n.door d).receive_faults ≡ n.link.receive_faults d) × ((n.door d).send_faults ≡ n.link.send_faults d) × ((n.door d).left ≡ n.link.left d)
+-- a guard by these rules, of the gate that was started over this core, is one by those and of that core, where they are the same
+pub by-rules : {B C N : Type 0} (n : CoreState B → GuardShows B C N) (first first' : CoreState B) (rules rules' : List Rule) (s : GuardHas C) (door : N) (how : Guarded) (s' : GuardHas C) (door' : N)
+    → first ≡ first' → rules ≡ rules' → GuardsPeer (n first) rules s door how s' door' → GuardsPeer (n first') rules' s door how s' door'
+by-rules n first first' rules rules' s door how s' door' same alike did =
+    subst (λ f. GuardsPeer (n f) rules' s door how s' door') same (subst (λ r. GuardsPeer (n first) r s door how s' door') alike did)
 
-module _ {B C N : Type 0} (n : GuardShows B C N) (shows : ShowsLink n) (rules : List Rule) (s : GuardHas C) (after : Bool → GuardHas C) (failed : Bool) (met at' : N) (how : Guarded)
-    (did : GuardLinkDid n.bus n.link (Clocked n.clock s.clock (after failed).clock) (after failed).told rules (holding s met) how (holding (after failed) at')) where
-  -- the count of the door's receives or of its sends that failed rose, as that of its link did
-  rose-either : Rose (n.link.receive_faults met) (n.link.receive_faults at') ⊎ Rose (n.link.send_faults met) (n.link.send_faults at') → RoseEither (n.door met) (n.door at')
-  rose-either (inl rose) = inl (subst (λ a. Rose a (n.door at').receive_faults) (sym (shows met).0) (subst (λ b. Rose (n.link.receive_faults met) b) (sym (shows at').0) rose))
-  rose-either (inr rose) = inr (subst (λ a. Rose a (n.door at').send_faults) (sym (shows met).1) (subst (λ b. Rose (n.link.send_faults met) b) (sym (shows at').1) rose))
+-- a count that rose, and rose again or didn't fall, rose
+rose-again : (a b c : ℕ) → Rose a b → Rose b c → Rose a c
+rose-again a b c first next = omega (arith, first, next)
 
-  -- a peer was met and served
-  pub next-peer : (at : N) → how ≢ guarded.Full → failed ≡ is_note_fault how → (after failed).failed ≡ (s.failed || is_note_fault how) → MeetsPeer n.link.stands n.tells n.waits n.door at met
-      → s.told ≤ (after failed).told → Went n.link.receives n.link.sends met at' → IsNext n rules s at (next.Peer failed) after at'
-  next-peer at room failed_is tells meets later went =
-      let clocked = Clocked n.clock s.clock (after failed).clock in
-      let told = (after failed).told in
-      let counts = link-counts n.bus n.link clocked told rules (holding s met) how (holding (after failed) at') did in
-      let before = shows met in
-      let behind = shows at' in (
-        record {
-          met = met;
-          how = how;
-          meets = meets;
-          serves = record { did = did; later = later; went = went; failed = tells; room = room };
-          receives = omega (arith, before.0, behind.0, counts.0);
-          sends = omega (arith, before.1, behind.1, counts.1);
-          cut = λ cut. rose-either (link-cut n.bus n.link clocked told rules (holding s met) how (holding (after failed) at') did
-              (subst (λ l. is_cut (is_own how) (is_whole how) l (n.link.left at') ≡ true) before.2
-              (subst (λ l. is_cut (is_own how) (is_whole how) (n.door met).left l ≡ true) behind.2 cut)));
-        },
-        subst (λ f. Notes f s.note.faults (after failed).note.faults) (sym failed_is) (link-notes n.bus n.link clocked told rules (holding s met) how (holding (after failed) at') did),
-      )
+rose-later : (a b c : ℕ) → Rose a b → b ≤ c → Rose a c
+rose-later a b c first later = omega (arith, first, later)
+
+-- how the note's faults rose so far goes on by each peer
+pub notes-on : {B C N : Type 0} (n : GuardShows B C N) (rules : List Rule) (first s s' : GuardHas C) (door door' : N) (how : Guarded) → Notes s.failed first.note.faults s.note.faults
+    → GuardsPeer n rules s door how s' door' → Notes s'.failed first.note.faults s'.note.faults
+notes-on n rules first s s' door door' how before did =
+    subst (λ f. Notes f first.note.faults s'.note.faults) (sym did.failed)
+    (by s.failed (is_note_fault how) before (link-notes n.bus n.link (Clocked n.clock s.clock s'.clock) s'.told rules (holding s door) how (holding s' door') did.did))
+  where
+    by : (failed fails : Bool) → Notes failed first.note.faults s.note.faults → Notes fails s.note.faults s'.note.faults → Notes (failed || fails) first.note.faults s'.note.faults
+    by true true before one = rose-again first.note.faults s.note.faults s'.note.faults before one
+    by true false before one = rose-later first.note.faults s.note.faults s'.note.faults before one
+    by false true before one = rose_earlier first.note.faults s.note.faults s'.note.faults before one
+    by false false before one = le_trans before one

@@ -1,12 +1,12 @@
 -- How the work of a guard ends.
-use Rattle.std.proofs.Common.{◌≡◌, ◌≢◌, inl, inr, ℕ, true, false, List, sym, subst}
+use Rattle.std.proofs.Common.{◌≡◌, ◌≢◌, ◌≤◌, inl, inr, ℕ, List, sym, ap, ◌∙◌, subst, arith}
 use Rattle.vx_io_traits.specs.Faults.{Rose}
 use Rattle.vx_io_traits.proofs.Laws.{rose_earlier}
 use Rattle.vx_io_traits.specs.declared.dials.DialOut.TheVariants.{Up}
 use Rattle.vx_door.specs.Opening.{Opening, Opens}
-use Rattle.vx_door.specs.Running.{KeepsOwn}
-use Rattle.vx_door.specs.declared.serving.DoorEnd.{DoorEnd}
-use Rattle.vx_door.specs.declared.serving.DoorEnd.TheVariants as door
+use Rattle.vx_peers.specs.Running.{KeepsOwn}
+use Rattle.vx_peers.specs.declared.stopping.DoorEnd.{DoorEnd}
+use Rattle.vx_peers.specs.declared.stopping.DoorEnd.TheVariants as door
 use Rattle.vx_text.specs.Ends.{End}
 use Rattle.vx_core.specs.CoreState.{CoreState}
 use Rattle.vx_policy.specs.declared.rules.Rule.{Rule}
@@ -14,77 +14,100 @@ use Rattle.vx_policy.specs.Texts.{policy_served_line}
 use Rattle.vx_peers.specs.declared.words.Ask.{Ask}
 use Rattle.vx_guard.specs.declared.status.GuardStatus.{GuardStatus}
 use Rattle.vx_guard.specs.declared.status.GuardStatus.TheVariants as status
-use Rattle.vx_guard.specs.declared.serving.WhyStopped.{WhyStopped}
-use Rattle.vx_guard.specs.declared.serving.WhyStopped.TheVariants as stop
-use Rattle.vx_guard.specs.Peers.{GuardHas, GuardShows, GuardsPeer, StopsPeers, is_note_stop}
+use Rattle.vx_peers.specs.declared.stopping.WhyStopped.{WhyStopped}
+use Rattle.vx_peers.specs.declared.stopping.WhyStopped.TheVariants as stop
+use Rattle.vx_peers.specs.declared.serving.PortEnd.{PortEnd}
+use Rattle.vx_peers.specs.declared.serving.PortEnd.TheVariants as port
+use Rattle.vx_peers.specs.Outcome.{StopsPeers, IsPortServed}
+use Rattle.vx_peers.proofs.Laws.{stops_on}
+use Rattle.vx_guard.specs.Peers.{GuardHas, GuardShows, GuardsPeer, serving}
+use Rattle.vx_guard.proofs.OnePeer.{Notes, notes-on}
 use Rattle.vx_guard.specs.Outcome.{GuardBegins, GivesRules, Works, IsEnd, IsPortRun, IsNew, IsRuledRun, IsGuardAskRun, GuardPutsLine}
 
-module _ {B C N : Type 0} (n : GuardShows B C N) (rules : List Rule) (ask : Ask) (first : GuardHas C) (opened : N) (last : GuardHas C) (new : N) (before after : End)
-    (begins : GuardBegins first before) (keeps : KeepsOwn n.door (GuardsPeer n rules)) (number : ℕ) where
-  -- the door failed
-  pub open-failed : StopsPeers n rules first opened ask.number (stop.Door door.Failed) number last new → last.failed ≡ false → after ≡ last.note
-      → Works n rules ask opened new before after status.NetFailed
-  open-failed stops sound same = record {
-    first = first;
-    begins = begins;
-    last = last;
-    worked = ((stops.0.over keeps).1, record { served = record { number = number; serves = stops.0; same = same }; noted = sound });
-    keeps = keeps;
-  }
+module _ {B C N : Type 0} (n : GuardShows B C N) (rules : List Rule) (ask : Ask) (first : GuardHas C) (last : GuardHas C) (new : N) (before after : End)
+    (begins : GuardBegins first before) (keeps : KeepsOwn n.door (GuardsPeer n rules)) where
+  -- the note's faults rose where it failed, and didn't fall
+  noted-so : (opened : N) (why : WhyStopped) (number : ℕ) → StopsPeers (serving n rules) ask.number why number first opened last new → Notes last.failed first.note.faults last.note.faults
+  noted-so opened why number stops =
+      stops_on (serving n rules) (λ s. Notes s.failed first.note.faults s.note.faults) (λ s s' d d' how so_far did. notes-on n rules first s s' d d' how so_far did)
+      ask.number why number first opened last new stops (subst (λ f. Notes f first.note.faults first.note.faults) (sym begins.sound) (omega arith))
 
-  -- the note failed
-  pub open-noted : StopsPeers n rules first opened ask.number stop.Note number last new → last.failed ≡ true → after ≡ last.note
-      → Works n rules ask opened new before after status.SinkFailed
-  open-noted stops failed same = record {
-    first = first;
-    begins = begins;
-    last = last;
-    worked = (
-      subst (λ e. Rose first.note.faults e.faults) (sym same) stops.2,
-      inr (record { number = number; within = stops.1; serves = stops.0; failed = failed; same = same }),
-    );
-    keeps = keeps;
-  }
+  module _ (opened : N) (number : ℕ) where
+    -- the door failed
+    open-failed : StopsPeers (serving n rules) ask.number (stop.Door door.Failed) number first opened last new → after ≡ last.note → Works n rules ask opened new before after status.NetFailed
+    open-failed stops same = record {
+      first = first;
+      begins = begins;
+      last = last;
+      worked = ((stops.0.over keeps).1, record { served = record { number = number; serves = stops.0; same = same }; noted = stops.1 });
+      keeps = keeps;
+    }
 
-  -- the last line was written, or the sink failed in it
-  pub open-told : (ended : DoorEnd) → ended ≢ door.Failed → StopsPeers n rules first opened ask.number (stop.Door ended) number last new → last.failed ≡ false
-      → (how : GuardStatus) → GuardPutsLine status.Served (policy_served_line number) last.note after how → Works n rules ask opened new before after how
-  open-told ended whole stops sound how (inl told) = subst (λ h. Works n rules ask opened new before after h) (sym told.0) (record {
-    first = first;
-    begins = begins;
-    last = last;
-    worked = record { served = record { ended = ended; number = number; whole = whole; serves = stops.0; written = told.1 }; noted = sound };
-    keeps = keeps;
-  })
-  open-told ended whole stops sound how (inr told) = subst (λ h. Works n rules ask opened new before after h) (sym told.0) (record {
-    first = first;
-    begins = begins;
-    last = last;
-    worked = (
-      rose_earlier first.note.faults last.note.faults after.faults stops.1 told.1.rose,
-      inl (record { served = record { ended = ended; number = number; serves = stops.0; stops = told.1 }; noted = sound }),
-    );
-    keeps = keeps;
-  })
+    -- the note failed
+    open-noted : StopsPeers (serving n rules) ask.number stop.Server number first opened last new → after ≡ last.note → Works n rules ask opened new before after status.SinkFailed
+    open-noted stops same =
+        let rose = subst (λ f. Notes f first.note.faults last.note.faults) stops.2 (noted-so opened stop.Server number stops) in
+        record {
+          first = first;
+          begins = begins;
+          last = last;
+          worked = (subst (λ e. Rose first.note.faults e.faults) (sym same) rose, inr (record { number = number; stops = stops; same = same }));
+          keeps = keeps;
+        }
 
-  -- how it ended, by why no more were served
-  pub open-ended : (how_stopped : WhyStopped) → StopsPeers n rules first opened ask.number how_stopped number last new → last.failed ≡ is_note_stop how_stopped
-      → (how : GuardStatus) → IsEnd how_stopped number last.note after how → Works n rules ask opened new before after how
-  open-ended stop.Note stops failed how told = subst (λ h. Works n rules ask opened new before after h) (sym told.0) (open-noted stops failed told.1)
-  open-ended (stop.Door door.Failed) stops failed how told = subst (λ h. Works n rules ask opened new before after h) (sym told.0) (open-failed stops failed told.1)
-  open-ended (stop.Door door.Served) stops failed how told = open-told door.Served (λ e. absurd cc) stops failed how told
-  open-ended (stop.Door door.Ended) stops failed how told = open-told door.Ended (λ e. absurd cc) stops failed how told
+    -- the last line was written, or the sink failed in it
+    open-told : (ended : DoorEnd) → ended ≢ door.Failed → StopsPeers (serving n rules) ask.number (stop.Door ended) number first opened last new
+        → (how : GuardStatus) → GuardPutsLine status.Served (policy_served_line number) last.note after how → Works n rules ask opened new before after how
+    open-told ended whole stops how (inl told) = subst (λ h. Works n rules ask opened new before after h) (sym told.0) (record {
+      first = first;
+      begins = begins;
+      last = last;
+      worked = record { served = record { ended = ended; number = number; whole = whole; serves = stops.0; written = told.1 }; noted = stops.1 };
+      keeps = keeps;
+    })
+    open-told ended whole stops how (inr told) =
+        let noted : first.note.faults ≤ last.note.faults = subst (λ f. Notes f first.note.faults last.note.faults) stops.1 (noted-so opened (stop.Door ended) number stops) in
+        subst (λ h. Works n rules ask opened new before after h) (sym told.0) (record {
+          first = first;
+          begins = begins;
+          last = last;
+          worked = (
+            rose_earlier first.note.faults last.note.faults after.faults noted told.1.rose,
+            inl (record { served = record { ended = ended; number = number; serves = stops.0; stops = told.1 }; noted = stops.1 }),
+          );
+          keeps = keeps;
+        })
 
-module _ {B C N : Type 0} (n : GuardShows B C N) (rules : List Rule) (o : Opening N) (ask : Ask) (old new : N) (before after : End) where
-  -- the port was opened, and the work there ended
-  pub port_opened : (opened : N) → Opens o n.link.stands n.door ask.port old Up opened → (how : GuardStatus) → Works n rules ask opened new before after how → IsPortRun n rules o ask old new before after how
-  port_opened opened opens status.Served works = record { opened = opened; opens = opens; works = works }
-  port_opened opened opens status.Usage works = record { opened = opened; opens = opens; works = works }
-  port_opened opened opens status.PolicyFault works = record { opened = opened; opens = opens; works = works }
-  port_opened opened opens status.NetFailed works = inr (record { opened = opened; opens = opens; works = works })
-  port_opened opened opens status.NoMemory works = record { opened = opened; opens = opens; works = works }
-  port_opened opened opens status.SinkFailed works = record { opened = opened; opens = opens; works = works }
-  port_opened opened opens status.SourceFailed works = record { opened = opened; opens = opens; works = works }
+  module _ (o : Opening N) (old : N) where
+    -- the port was opened, and the work there ended
+    port-opened : (opened : N) → Opens o n.link.stands n.door ask.port old Up opened → (how : GuardStatus) → Works n rules ask opened new before after how → IsPortRun n rules o ask old new before after how
+    port-opened opened opens status.Served works = record { opened = opened; opens = opens; came = works }
+    port-opened opened opens status.Usage works = record { opened = opened; opens = opens; came = works }
+    port-opened opened opens status.PolicyFault works = record { opened = opened; opens = opens; came = works }
+    port-opened opened opens status.NetFailed works = inr (record { opened = opened; opens = opens; came = works })
+    port-opened opened opens status.NoMemory works = record { opened = opened; opens = opens; came = works }
+    port-opened opened opens status.SinkFailed works = record { opened = opened; opens = opens; came = works }
+    port-opened opened opens status.SourceFailed works = record { opened = opened; opens = opens; came = works }
+
+    -- what became of the port was told
+    port-ended : (end : PortEnd) → IsPortServed (serving n rules) o ask first old end last new → (how : GuardStatus) → IsEnd end last.note after how → IsPortRun n rules o ask old new before after how
+    port-ended port.Unopened did how told = subst (λ h. IsPortRun n rules o ask old new before after h) (sym told.0)
+        (inl (did.0, told.1 ∙ ap (λ (s : GuardHas C). s.note) did.1 ∙ begins.note))
+    port-ended (port.Served stop.Server number) did how told =
+        subst (λ h. IsPortRun n rules o ask old new before after h) (sym told.0) (port-opened did.opened did.opens status.SinkFailed (open-noted did.opened number did.came told.1))
+    port-ended (port.Served (stop.Door door.Failed) number) did how told =
+        subst (λ h. IsPortRun n rules o ask old new before after h) (sym told.0) (port-opened did.opened did.opens status.NetFailed (open-failed did.opened number did.came told.1))
+    port-ended (port.Served (stop.Door door.Served) number) did how told =
+        port-opened did.opened did.opens how (open-told did.opened number door.Served (λ e. absurd cc) did.came how told)
+    port-ended (port.Served (stop.Door door.Ended) number) did how told =
+        port-opened did.opened did.opens how (open-told did.opened number door.Ended (λ e. absurd cc) did.came how told)
+
+-- So a run at a port ends that a guard began. The sink is what its note is then, with what was told behind it.
+pub port-run : {B C N : Type 0} (n : GuardShows B C N) (rules : List Rule) (ask : Ask) (first last : GuardHas C) (old new : N) (before after after' : End) (o : Opening N) → GuardBegins first before
+    → KeepsOwn n.door (GuardsPeer n rules) → (end : PortEnd) → IsPortServed (serving n rules) o ask first old end last new → (how : GuardStatus) → IsEnd end last.note after how → after ≡ after'
+    → IsPortRun n rules o ask old new before after' how
+port-run n rules ask first last old new before after after' o begins keeps end did how told same =
+    subst (λ e. IsPortRun n rules o ask old new before e how) same (port-ended n rules ask first last new before after begins keeps o old end did how told)
 
 -- there was memory
 pub ruled_run : {B C N : Type 0} (n : CoreState B → GuardShows B C N) (rules : List Rule) (o : Opening N) (ask : Ask) (old new : N) (before after : End) (first : CoreState B) → IsNew first → (how : GuardStatus)
@@ -93,7 +116,7 @@ ruled_run n rules o ask old new before after first is_new status.Served run = (f
 ruled_run n rules o ask old new before after first is_new status.Usage run = (first, is_new, run)
 ruled_run n rules o ask old new before after first is_new status.PolicyFault run = (first, is_new, run)
 ruled_run n rules o ask old new before after first is_new status.NetFailed run = (first, is_new, run)
-ruled_run n rules o ask old new before after first is_new status.NoMemory run = absurd run.works.worked
+ruled_run n rules o ask old new before after first is_new status.NoMemory run = absurd run.came.worked
 ruled_run n rules o ask old new before after first is_new status.SinkFailed run = (first, is_new, run)
 ruled_run n rules o ask old new before after first is_new status.SourceFailed run = (first, is_new, run)
 

@@ -1,18 +1,18 @@
 -- To be believed.
 -- How a run of a guard ends: for each status, what was read, who was served, what was written, and why.
-use Rattle.std.specs.Prelude.{◌≡◌, ◌≤◌, ◌+◌, ◌⊎◌, ℕ, true, false, List, [], Ok}
+use Rattle.std.specs.Prelude.{◌≡◌, ◌+◌, ◌⊎◌, ℕ, false, List, [], Ok}
 use Rattle.std.specs.Io.KnownBytes.{Appends}
 use Rattle.vx_io_traits.specs.Faults.{Rose}
 use Rattle.vx_io_traits.specs.declared.Sink.{Ghosts as OfSink}
 use Rattle.vx_io_traits.specs.declared.Source.{Ghosts as OfSource}
-use Rattle.vx_io_traits.specs.declared.dials.DialOut.TheVariants.{Up, Failed}
+use Rattle.vx_io_traits.specs.declared.dials.DialOut.TheVariants.{Failed}
 use Rattle.vx_text.specs.Ends.{End, source_shown, sink_shown}
 use Rattle.vx_text.specs.Reading.{GivesAll, GivesTooMuch, GivesUpTo}
 use Rattle.vx_text.specs.Writing.{StopsIn}
 use Rattle.vx_text.specs.TextLines.{lines}
 use Rattle.vx_door.specs.Opening.{Opening, Opens}
-use Rattle.vx_door.specs.Running.{KeepsOwn}
-use Rattle.vx_door.specs.declared.serving.DoorEnd.TheVariants as door
+use Rattle.vx_peers.specs.Running.{KeepsOwn}
+use Rattle.vx_peers.specs.declared.stopping.DoorEnd.TheVariants as door
 use Rattle.vx_core.specs.InterleavedState.{first_interleaved}
 use Rattle.vx_core.specs.CoreState.{CoreState}
 use Rattle.vx_policy.specs.declared.rules.Rule.{Rule}
@@ -24,12 +24,13 @@ use Rattle.vx_policy.specs.Texts.{policy_usage_line, policy_served_line, form_li
 use Rattle.vx_peers.specs.declared.words.Ask.{Ask}
 use Rattle.vx_peers.specs.declared.serving.DoorStatus.{DoorStatus}
 use Rattle.vx_peers.specs.declared.serving.DoorStatus.TheVariants as peers
-use Rattle.vx_peers.specs.Outcome.{PeerAsks, AsksNothing, IsOpenServed}
-use Rattle.vx_guard.specs.declared.serving.WhyStopped.{WhyStopped}
-use Rattle.vx_guard.specs.declared.serving.WhyStopped.TheVariants as stop
+use Rattle.vx_peers.specs.declared.serving.PortEnd.{PortEnd}
+use Rattle.vx_peers.specs.declared.serving.PortEnd.TheVariants as port
+use Rattle.vx_peers.specs.declared.stopping.WhyStopped.TheVariants as stop
+use Rattle.vx_peers.specs.Outcome.{PeerAsks, AsksNothing, IsOpenServed, StopsPeers, OpensPort}
 use Rattle.vx_guard.specs.declared.status.GuardStatus.{GuardStatus}
 use Rattle.vx_guard.specs.declared.status.GuardStatus.TheVariants as status
-use Rattle.vx_guard.specs.Peers.{GuardHas, GuardShows, GuardsPeer, GuardsPeers, serving}
+use Rattle.vx_guard.specs.Peers.{GuardHas, GuardShows, GuardsPeer, serving}
 
 -- the number of a status
 abbrev pub guard_status_number : GuardStatus → ℕ
@@ -86,12 +87,13 @@ abbrev pub GuardPutsLine : GuardStatus → List ℕ → End → End → GuardSta
 GuardPutsLine how line before after result =
     ((result ≡ how) × Appends before.bytes after.bytes line) ⊎ ((result ≡ status.SinkFailed) × StopsIn before after line)
 
--- how it is told what a run came to that served so many: nothing is told where the note or the door failed
-abbrev pub IsEnd : WhyStopped → ℕ → End → End → GuardStatus → Type 0
-IsEnd stop.Note number before after result = (result ≡ status.SinkFailed) × (after ≡ before)
-IsEnd (stop.Door door.Failed) number before after result = (result ≡ status.NetFailed) × (after ≡ before)
-IsEnd (stop.Door door.Served) number before after result = GuardPutsLine status.Served (policy_served_line number) before after result
-IsEnd (stop.Door door.Ended) number before after result = GuardPutsLine status.Served (policy_served_line number) before after result
+-- how it is told what became of a port: nothing is told where that couldn't be opened, or the note or the door failed
+abbrev pub IsEnd : PortEnd → End → End → GuardStatus → Type 0
+IsEnd port.Unopened before after result = (result ≡ status.NetFailed) × (after ≡ before)
+IsEnd (port.Served stop.Server number) before after result = (result ≡ status.SinkFailed) × (after ≡ before)
+IsEnd (port.Served (stop.Door door.Failed) number) before after result = (result ≡ status.NetFailed) × (after ≡ before)
+IsEnd (port.Served (stop.Door door.Served) number) before after result = GuardPutsLine status.Served (policy_served_line number) before after result
+IsEnd (port.Served (stop.Door door.Ended) number) before after result = GuardPutsLine status.Served (policy_served_line number) before after result
 
 -- how it is told why a text is no policy
 abbrev pub IsGuardTold : PolicyErr → End → End → GuardStatus → Type 0
@@ -118,9 +120,7 @@ module _ {B C N : Type 0} (n : GuardShows B C N) (rules : List Rule) where
   -- The note failed in the session of the last peer. No further one was met, and nothing was written behind.
   pub record StopsNote (ask : Ask) (first : GuardHas C) (opened : N) (last : GuardHas C) (new : N) (after : End) : Type 0 where
     pub number : ℕ
-    pub within : number ≤ ask.number
-    pub serves : GuardsPeers n rules first opened number door.Served number last new
-    pub failed : last.failed ≡ true
+    pub stops : StopsPeers (serving n rules) ask.number stop.Server number first opened last new
     pub same : after ≡ last.note
 
   -- how the work at a port that was opened ends
@@ -141,11 +141,9 @@ module _ {B C N : Type 0} (n : GuardShows B C N) (rules : List Rule) where
     -- serving leaves the door's own counts as they are: they tell how many peers it met, and why no more
     pub keeps : KeepsOwn n.door (GuardsPeer n rules)
 
-  -- the port that is asked for was opened, once and no other, and the work there ended so
-  pub record OpensAndWorks (o : Opening N) (ask : Ask) (old new : N) (before after : End) (how : GuardStatus) : Type 0 where
-    pub opened : N
-    pub opens : Opens o n.link.stands n.door ask.port old Up opened
-    pub works : Works ask opened new before after how
+  -- the port that is asked for was opened, and the work there ended so
+  abbrev pub OpensAndWorks : Opening N → Ask → N → N → End → End → GuardStatus → Type 0
+  OpensAndWorks o ask old new before after how = OpensPort (serving n rules) o ask old (λ opened. Works ask opened new before after how)
 
   -- how the work at a port ends: that couldn't be opened, and nothing was served or written; or the work there ended
   abbrev pub IsPortRun : Opening N → Ask → N → N → End → End → GuardStatus → Type 0

@@ -5,12 +5,12 @@ ghost use Rattle.vx_peers.specs.Asked.{IsPeerInRange};
 ghost use Rattle.vx_text.specs.Ends.{sink_shown};
 ghost use Rattle.vx_session.specs.Origin.{origin};
 ghost use Rattle.vx_lone.specs.Lone.{handed, lone};
-ghost use Rattle.vx_guard.specs.Outcome.{IsEnd, Works, IsPortRun, IsRuledRun, IsGuardAskRun, IsGuardRun, GuardEndsRun, guard_ends};
+ghost use Rattle.vx_guard.specs.Outcome.{IsEnd, IsPortRun, IsRuledRun, IsGuardAskRun, IsGuardRun, GuardEndsRun, guard_ends};
 ghost use Rattle.vx_guard.specs.Peers.{CanServe, guard_shown};
 
 use crate::links::{Gateway, Kit};
 use crate::reading::{put_line, rules_of};
-use crate::serving::{WhyStopped, serve_links};
+use crate::serving::Guard;
 use crate::sessions::GuardRoom;
 use crate::starting::start;
 use crate::status::GuardStatus;
@@ -19,12 +19,12 @@ use std::marker::Brand;
 use std::sync::Wait;
 use vx_bus_traits::Bus;
 use vx_core::Core;
-use vx_door::{Door, DoorEnd, Peered};
+use vx_door::{Door, Peered};
 use vx_gate::{Pass, Turns};
 use vx_inst::Instrument;
-use vx_io_traits::{Clock, Dial, DialOut, Pause, Sink, Source};
+use vx_io_traits::{Clock, Dial, Pause, Sink, Source};
 use vx_lone::Racked;
-use vx_peers::{Ask, ask_of};
+use vx_peers::{Ask, DoorEnd, PortEnd, WhyStopped, ask_of, serve_port};
 use vx_policy::{LINE_ROOM, Policy, served_line};
 use vx_rack::Spare;
 use vx_session::Tools;
@@ -36,22 +36,32 @@ struct System<'a, R> {
     alloc: Global,
 }
 
-/// Tells how many links were served, where neither the door nor the note failed.
-fn tell<K: Sink>(sink: &mut K, stop: WhyStopped, number: u32) -> GuardStatus
-    ensures { IsEnd stop number (sink_shown K.Sink sink.old) (sink_shown K.Sink sink.new) result }
+/// Tells how many links were served, where the port was opened and neither the door nor the note failed.
+fn tell<K: Sink>(sink: &mut K, end: PortEnd) -> GuardStatus
+    ensures { IsEnd end (sink_shown K.Sink sink.old) (sink_shown K.Sink sink.new) result }
 {
-    match stop {
-        WhyStopped::Note => GuardStatus::SinkFailed,
-        WhyStopped::Door(DoorEnd::Failed) => GuardStatus::NetFailed,
-        WhyStopped::Door(DoorEnd::Served | DoorEnd::Ended) => {
+    match end {
+        PortEnd::Unopened => GuardStatus::NetFailed,
+        PortEnd::Served {
+            why: WhyStopped::Server,
+            ..
+        } => GuardStatus::SinkFailed,
+        PortEnd::Served {
+            why: WhyStopped::Door(DoorEnd::Failed),
+            ..
+        } => GuardStatus::NetFailed,
+        PortEnd::Served {
+            why: WhyStopped::Door(DoorEnd::Served | DoorEnd::Ended),
+            number,
+        } => {
             let mut out = [0u8; LINE_ROOM];
             put_line(sink, served_line(number, &mut out), GuardStatus::Served)
         }
     }
 }
 
-/// Serves the links that come to the port that was opened, and prints how many there were.
-fn serve_open<
+/// Serves the links that come to the port that is asked for, and prints how many there were.
+fn serve_ask<
     R: Wait,
     B: Bus,
     T: Turns<Core<B>>,
@@ -61,7 +71,7 @@ fn serve_open<
     D: Dial + Drop,
     K: Sink,
 >(
-    gateway: &Gateway<'_, R, T>,
+    gateway: Gateway<'_, R, T>,
     pass: Pass<Core<B>>,
     policy: &Policy,
     ask: &Ask,
@@ -70,45 +80,22 @@ fn serve_open<
     sink: &mut K,
 ) -> GuardStatus
     requires range { IsPeerInRange ask.now }
-    requires can { CanServe (T.gate gateway.now.turns.now) pass }
+    requires can { CanServe (T.gate gateway.turns.now) pass }
     requires fresh { (pass.seen ≡ []) × (pass.own ≡ []) }
-    ensures { Works (guard_shown (origin B.Bus (T.first gateway.now.turns.now)) C.Clock N.Link N.Door) policy.now ask.now net.old net.new
+    ensures { IsPortRun (guard_shown (origin B.Bus (T.first gateway.entry.turns.now)) C.Clock N.Link N.Door) policy.now (record { opens = N.opens; ready = N.is_ready }) ask.now net.old net.new
         (sink_shown K.Sink sink.old) (sink_shown K.Sink sink.new) result }
 {
-    let (_, stop, number) = serve_links(gateway, pass, policy, ask.number, net, kit, sink);
-    tell(sink, stop, number)
-}
-
-/// Opens the port, and serves the links that come there.
-#[tactic(auto, using(crate::proofs::Runs::port_opened))]
-fn run_gate<
-    R: Wait,
-    B: Bus,
-    T: Turns<Core<B>>,
-    N: Door + Peered,
-    C: Clock + Drop,
-    P: Pause + Drop,
-    D: Dial + Drop,
-    K: Sink,
->(
-    gateway: &Gateway<'_, R, T>,
-    pass: Pass<Core<B>>,
-    policy: &Policy,
-    ask: &Ask,
-    net: &mut N,
-    kit: &mut Kit<C, P, D>,
-    sink: &mut K,
-) -> GuardStatus
-    requires range { IsPeerInRange ask.now }
-    requires can { CanServe (T.gate gateway.now.turns.now) pass }
-    requires fresh { (pass.seen ≡ []) × (pass.own ≡ []) }
-    ensures { IsPortRun (guard_shown (origin B.Bus (T.first gateway.now.turns.now)) C.Clock N.Link N.Door) policy.now (record { opens = N.opens; ready = N.is_ready }) ask.now net.old net.new
-        (sink_shown K.Sink sink.old) (sink_shown K.Sink sink.new) result }
-{
-    match net.open(ask.port) {
-        DialOut::Failed => GuardStatus::NetFailed,
-        DialOut::Up => serve_open(gateway, pass, policy, ask, net, kit, sink),
-    }
+    let mut held = Some(pass);
+    let guard = Guard {
+        gateway,
+        held: &mut held,
+        policy,
+        kit,
+        note: sink,
+        failed: false,
+    };
+    let (Guard { note, .. }, end) = serve_port(ask, guard, net);
+    tell(note, end)
 }
 
 /// What a guard uses for one link after another, of these tools; none where there was no memory for its room.
@@ -151,7 +138,7 @@ fn run_racked<R: Wait, N: Door + Peered, X: Tools, K: Sink, I: Instrument, M: Ra
                 alloc: system.alloc,
                 turns: &gate,
             };
-            run_gate(&gateway, pass, policy, ask, net, &mut kit, sink)
+            serve_ask(gateway, pass, policy, ask, net, &mut kit, sink)
         }
         None => GuardStatus::NoMemory,
     }

@@ -1,65 +1,60 @@
-//! The peers of a door, each served by the rules of a policy.
-ghost use Rattle.std.specs.Prelude.{◌≡◌, ◌+◌, ◌<◌, ◌≤◌, false};
-ghost use Rattle.vx_session.specs.Origin.{origin};
-ghost use Rattle.vx_calls.specs.declared.limits.TheConstants.{CONNECTION_LAST};
-ghost use Rattle.vx_door.specs.Shown.{door_shown};
-ghost use Rattle.vx_guard.specs.Peers.{IsNext, IsGuardReady, MeetsSo, StopsPeers, guard_has, guard_shown, is_note_fault, is_note_stop};
+//! What serves the peers of a door by the rules of a policy.
+ghost use Rattle.std.specs.Prelude.{◌≡◌, ◌||◌};
+ghost use Rattle.vx_guard.specs.Peers.{is_note_fault};
 
 use crate::links::{Gateway, Guarded, Kit, guarded_link};
 use crate::sessions::GuardEnd;
 use std::sync::Wait;
 use vx_bus_traits::Bus;
 use vx_core::Core;
-use vx_door::{Door, DoorEnd, Met, Peered};
+use vx_door::{Door, Peered};
 use vx_gate::{Pass, Turns};
 use vx_io_traits::{Clock, Dial, Pause, Sink};
+use vx_peers::PeerServer;
 use vx_policy::Policy;
 
-/// Why no more peers are served.
-#[derive(Clone, Copy, PartialEq, Eq)]
-pub(crate) enum WhyStopped {
-    /// As many were served as were to be, or the door met no more.
-    Door(DoorEnd),
-    /// The note failed.
-    Note,
+/// A gateway and the rules by which its links are guarded. The pass is out of its place while a link is served, and at no other time.
+/// Where the note fails no further link is served.
+#[derive(Drop)]
+pub(crate) struct Guard<
+    'g,
+    'h,
+    'p,
+    'k,
+    'n,
+    R,
+    B: Bus,
+    T,
+    C: Clock + Drop,
+    P: Pause + Drop,
+    D: Dial + Drop,
+    K,
+> {
+    pub gateway: Gateway<'g, R, T>,
+    pub held: &'h mut Option<Pass<Core<B>>>,
+    pub policy: &'p Policy,
+    pub kit: &'k mut Kit<C, P, D>,
+    pub note: &'n mut K,
+    /// Whether the note failed.
+    pub failed: bool,
 }
 
-/// What a wait for the next peer came to.
-#[derive(Clone, Copy, PartialEq, Eq)]
-enum Next {
-    /// A peer was served; the note failed, or it didn't.
-    Peer { failed: bool },
-    /// No more peers come.
-    Ended,
-    /// The door failed.
-    Failed,
-}
-
-/// Whether the note failed in a link's session.
-fn failed_note(how: Guarded) -> bool
-    ensures { result ≡ is_note_fault how }
+/// Whether the note failed, before or in a link's session.
+fn fails(failed: bool, how: Guarded) -> bool
+    ensures { result ≡ (failed || is_note_fault how) }
 {
     match how {
         Guarded::Ended(GuardEnd::NoteFault) => true,
-        Guarded::Ended(GuardEnd::Ended(_)) | Guarded::Full | Guarded::NoMemory => false,
+        Guarded::Ended(GuardEnd::Ended(_)) | Guarded::Full | Guarded::NoMemory => failed,
     }
 }
 
-/// Waits for the next peer of a door.
-#[tactic(auto, using(vx_door::proofs::Laws::Goings::one_rose))]
-fn meet<N: Door + Peered>(net: &mut N) -> Met
-    ensures { MeetsSo N.stands N.tells N.meets (door_shown N.Door)
-        net.old result net.new }
-{
-    match net.next() {
-        Met::Peer => Met::Peer,
-        Met::Ended => Met::Ended,
-        Met::Failed => Met::Failed,
-    }
-}
-
-/// Waits for the next peer, behind so many, and serves it where one comes.
-fn serve_next<
+impl<
+    'g,
+    'h,
+    'p,
+    'k,
+    'n,
     R: Wait,
     B: Bus,
     T: Turns<Core<B>>,
@@ -68,76 +63,55 @@ fn serve_next<
     P: Pause + Drop,
     D: Dial + Drop,
     K: Sink,
->(
-    gateway: &Gateway<'_, R, T>,
-    pass: Pass<Core<B>>,
-    number: u32,
-    policy: &Policy,
-    net: &mut N,
-    kit: &mut Kit<C, P, D>,
-    note: &mut K,
-) -> (Pass<Core<B>>, Next)
-    requires ready { IsGuardReady (T.gate gateway.now.turns.now) number pass }
-    requires few { number < CONNECTION_LAST }
-    ensures ready { IsGuardReady (T.gate gateway.now.turns.now) (number + 1) result.0 }
-    ensures next { IsNext
-        (guard_shown (origin B.Bus (T.first gateway.now.turns.now)) C.Clock N.Link N.Door) policy.now
-        (guard_has C.Clock D.Dial K.Sink pass kit.old.clock kit.old.dial note.old false) net.old result.1
-        (guard_has C.Clock D.Dial K.Sink result.0 kit.new.clock kit.new.dial note.new) net.new }
-{
-    match meet(net) {
-        Met::Peer => {
-            let (pass, how) = guarded_link(gateway, pass, policy, net, kit, note);
-            let failed = failed_note(how);
-            (pass, Next::Peer { failed })
-        }
-        Met::Ended => (pass, Next::Ended),
-        Met::Failed => (pass, Next::Failed),
-    }
-}
+> PeerServer<N> for Guard<'g, 'h, 'p, 'k, 'n, R, B, T, C, P, D, K> {
+    ghost use Rattle.std.specs.Prelude.{◌≡◌};
+    ghost use Rattle.vx_session.specs.Origin.{origin};
+    ghost use Rattle.vx_door.specs.Shown.{door_shown};
+    ghost use Rattle.vx_guard.specs.Peers.{IsGuardReady, GuardsPeer, guard_has, guard_shown, is_own, is_whole, pass_in};
 
-/// Meets the peers of a door one after another, at most `limit` of them, and serves each before the next; behind one whose note failed
-/// it meets no more. It answers why it served no more, and how many it served.
-pub(crate) fn serve_links<
-    R: Wait,
-    B: Bus,
-    T: Turns<Core<B>>,
-    N: Door + Peered,
-    C: Clock + Drop,
-    P: Pause + Drop,
-    D: Dial + Drop,
-    K: Sink,
->(
-    gateway: &Gateway<'_, R, T>,
-    pass: Pass<Core<B>>,
-    policy: &Policy,
-    limit: u32,
-    net: &mut N,
-    kit: &mut Kit<C, P, D>,
-    note: &mut K,
-) -> (Pass<Core<B>>, WhyStopped, u32)
-    requires ready { IsGuardReady (T.gate gateway.now.turns.now) 0 pass }
-    requires few { limit ≤ CONNECTION_LAST }
-    ensures { StopsPeers
-        (guard_shown (origin B.Bus (T.first gateway.now.turns.now)) C.Clock N.Link N.Door) policy.now
-        (guard_has C.Clock D.Dial K.Sink pass kit.old.clock kit.old.dial note.old false) net.old limit result.1 result.2
-        (guard_has C.Clock D.Dial K.Sink result.0 kit.new.clock kit.new.dial note.new (is_note_stop result.1)) net.new }
-{
-    let mut pass = pass;
-    let mut number = 0;
-    while number < limit {
-        let (after, next) = serve_next(gateway, pass, number, policy, net, kit, note);
-        pass = after;
-        match next {
-            Next::Peer { failed } => {
-                number += 1;
-                if failed {
-                    return (pass, WhyStopped::Note, number);
-                }
-            }
-            Next::Ended => return (pass, WhyStopped::Door(DoorEnd::Ended), number),
-            Next::Failed => return (pass, WhyStopped::Door(DoorEnd::Failed), number),
-        }
+    type End = Guarded;
+
+    ghost can = { λ s count. IsGuardReady (T.gate s.gateway.turns.now) count s.held.now };
+
+    ghost did = { λ s door how s' door'. GuardsPeer (guard_shown (origin B.Bus (T.first s.gateway.turns.now)) C.Clock N.Link N.Door) s.policy.now
+        (guard_has C.Clock D.Dial K.Sink (pass_in s.held.now) s.kit.now.clock s.kit.now.dial s.note.now s.failed) door how
+        (guard_has C.Clock D.Dial K.Sink (pass_in s'.held.now) s'.kit.now.clock s'.kit.now.dial s'.note.now s'.failed) door'
+        × (T.first s'.gateway.turns.now ≡ T.first s.gateway.turns.now) × (s'.policy.now ≡ s.policy.now) × (s'.note.ghost_name ≡ s.note.ghost_name) };
+
+    ghost is_own = { is_own };
+
+    ghost is_whole = { is_whole };
+
+    ghost is_stopped = { λ s. s.failed };
+
+    /// Serves the peer's link by the rules.
+    fn serve(self, _behind: u32, door: &mut N) -> (Self, Guarded) {
+        let Guard {
+            gateway,
+            held,
+            policy,
+            kit,
+            note,
+            failed,
+        } = self;
+        let Some(pass) = held.take() else {
+            unreachable!()
+        };
+        let (pass, how) = guarded_link(&gateway, pass, policy, door, kit, note);
+        *held = Some(pass);
+        let failed = fails(failed, how);
+        let guard = Guard {
+            gateway,
+            held,
+            policy,
+            kit,
+            note,
+            failed,
+        };
+        (guard, how)
     }
-    (pass, WhyStopped::Door(DoorEnd::Served), number)
+
+    fn is_stopped(&self) -> bool {
+        self.failed
+    }
 }

@@ -1,9 +1,9 @@
 pub mod Asked
 pub mod Due
+pub mod Serving
+pub mod Running
 pub mod Outcome
 pub use Rattle.vx_door.specs.Opening
-pub use Rattle.vx_door.specs.Serving
-pub use Rattle.vx_door.specs.Running
 pub use Rattle.vx_text.specs.Writing
 pub use Rattle.vx_io_traits.specs.Faults
 pub use Rattle.vx_io_traits.specs.Stands

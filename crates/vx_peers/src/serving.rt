@@ -1,16 +1,27 @@
-//! The peers of a door, served, and told.
-ghost use Rattle.std.specs.Prelude.{◌≡◌};
-ghost use Rattle.vx_door.specs.Shown.{door_shown};
+//! The peers of a door at a port, served, and told.
+ghost use Rattle.std.specs.Prelude.{◌≡◌, ◌≤◌, false};
 ghost use Rattle.vx_text.specs.Ends.{sink_shown};
-ghost use Rattle.vx_peers.specs.Outcome.{IsOpenServed, IsPeerServed, PeerPutsLine, peer_status_number};
+ghost use Rattle.vx_peers.specs.declared.words.TheConstants.{PEERS_MAX};
+ghost use Rattle.vx_peers.specs.Outcome.{IsPortServed, IsPeerTold, IsPeerServed, PeerPutsLine, peer_shows, peer_status_number};
 
+use crate::servers::PeerServer;
+use crate::stopping::{DoorEnd, WhyStopped, serve_each};
 use crate::words::Ask;
-use vx_door::{Door, DoorEnd, Serves, serve_door};
+use vx_door::Door;
 use vx_io_traits::{DialOut, Sink};
 use vx_text::{DIGITS_MAX, number_line, put_all};
 
 /// Room for the line that is printed, its LF included.
 const LINE_ROOM: usize = 7 + DIGITS_MAX + 1;
+
+/// What became of a port.
+#[derive(Clone, Copy)]
+pub enum PortEnd {
+    /// It couldn't be opened.
+    Unopened,
+    /// It was opened, and so many peers were served there, until this stopped it.
+    Served { why: WhyStopped, number: u32 },
+}
 
 /// How a run ended, as the program's exit status tells it.
 #[derive(Clone, Copy, Debug, PartialEq, Eq)]
@@ -53,28 +64,20 @@ pub fn put_line<K: Sink>(sink: &mut K, line: &[u8], how: DoorStatus) -> DoorStat
     }
 }
 
-/// Serves at a port that was opened, and prints how many were served.
-fn serve_open<N: Door, S: Serves<N>, K: Sink>(
-    ask: &Ask,
-    server: &mut S,
-    net: &mut N,
-    sink: &mut K,
-) -> DoorStatus
-    requires can { S.can server.old }
-    ensures { IsOpenServed (record {
-      stands = N.stands;
-      tells = N.tells;
-      waits = N.meets;
-      door = door_shown N.Door;
-      did = S.did;
-      own = S.is_own;
-      whole = S.is_whole;
-    }) ask.now server.old net.old server.new net.new
-        (sink_shown K.Sink sink.old) (sink_shown K.Sink sink.new) result }
+/// Tells how many peers were served, where the port was opened and the door didn't fail.
+fn tell<K: Sink>(sink: &mut K, end: PortEnd) -> DoorStatus
+    ensures { IsPeerTold end (sink_shown K.Sink sink.old) (sink_shown K.Sink sink.new) result }
 {
-    match serve_door(net, server, ask.number) {
-        (DoorEnd::Failed, _) => DoorStatus::NetFailed,
-        (DoorEnd::Served | DoorEnd::Ended, number) => {
+    match end {
+        PortEnd::Unopened => DoorStatus::NetFailed,
+        PortEnd::Served {
+            why: WhyStopped::Door(DoorEnd::Failed),
+            ..
+        } => DoorStatus::NetFailed,
+        PortEnd::Served {
+            why: WhyStopped::Door(DoorEnd::Served | DoorEnd::Ended) | WhyStopped::Server,
+            number,
+        } => {
             let mut out = [0u8; LINE_ROOM];
             let line = number_line(b"served ", u64::from(number), &mut out);
             put_line(sink, line, DoorStatus::Served)
@@ -82,28 +85,38 @@ fn serve_open<N: Door, S: Serves<N>, K: Sink>(
     }
 }
 
-/// Opens the port that is asked for and no other, serves as many peers as are asked for there, or fewer where no more come, and prints `served N`
-/// with their number. Where the port can't be opened nothing is served or printed; where the door fails nothing is printed.
-pub fn serve_peers<N: Door, S: Serves<N>, K: Sink>(
-    ask: &Ask,
-    server: &mut S,
-    net: &mut N,
-    sink: &mut K,
-) -> DoorStatus
-    requires can { S.can server.old }
-    ensures { IsPeerServed (record {
-      stands = N.stands;
-      tells = N.tells;
-      waits = N.meets;
-      door = door_shown N.Door;
-      did = S.did;
-      own = S.is_own;
-      whole = S.is_whole;
-    }) (record { opens = N.opens; ready = N.is_ready }) ask.now server.old net.old server.new net.new
-        (sink_shown K.Sink sink.old) (sink_shown K.Sink sink.new) result }
+/// Opens the port that is asked for and no other, and serves as many peers as are asked for there, or fewer where no more come or the
+/// server is stopped behind one. Where the port can't be opened nobody is served. Nothing is printed.
+pub fn serve_port<N: Door, S: PeerServer<N>>(ask: &Ask, server: S, net: &mut N) -> (S, PortEnd)
+    requires can { S.can server 0 }
+    requires going { S.is_stopped server ≡ false }
+    requires few { ask.now.number ≤ PEERS_MAX }
+    ensures { IsPortServed (peer_shows N.Door S.PeerServer) (record { opens = N.opens; ready = N.is_ready }) ask.now server net.old result.1 result.0 net.new }
 {
     match net.open(ask.port) {
-        DialOut::Failed => DoorStatus::NetFailed,
-        DialOut::Up => serve_open(ask, server, net, sink),
+        DialOut::Failed => (server, PortEnd::Unopened),
+        DialOut::Up => {
+            let (server, why, number) = serve_each(server, net, ask.number);
+            (server, PortEnd::Served { why, number })
+        }
     }
+}
+
+/// Serves at the port that is asked for as [`serve_port`] does, by a server that never stops, and prints `served N` with the number of
+/// peers. Where the port can't be opened nothing is served or printed; where the door fails nothing is printed.
+pub fn serve_peers<N: Door, S: PeerServer<N>, K: Sink>(
+    ask: &Ask,
+    server: S,
+    net: &mut N,
+    sink: &mut K,
+) -> (S, DoorStatus)
+    requires can { S.can server 0 }
+    requires lasting { (s : _) → S.is_stopped s ≡ false }
+    requires few { ask.now.number ≤ PEERS_MAX }
+    ensures { IsPeerServed (peer_shows N.Door S.PeerServer) (record { opens = N.opens; ready = N.is_ready }) ask.now server net.old result.0 net.new
+        (sink_shown K.Sink sink.old) (sink_shown K.Sink sink.new) result.1 }
+{
+    let (server, end) = serve_port(ask, server, net);
+    let how = tell(sink, end);
+    (server, how)
 }

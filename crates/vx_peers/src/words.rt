@@ -14,23 +14,23 @@ pub struct Ask {
     pub number: u32,
 }
 
-/// The most peers.
-const NUMBER_MAX: u64 = 1_000_000;
+/// The most peers of a run.
+pub const PEERS_MAX: u32 = 1_000_000;
 
-/// A port.
-fn port_of(text: &str) -> Option<u16>
+/// The port that a text writes, 1 to 65,535, in decimal digits without a leading zero.
+pub fn port_of(text: &str) -> Option<u16>
     ensures some { IfSome result (λ n. (1 ≤ n) × (n ≤ 65535) × (text.now ≡ decimal n)) }
     ensures none { result ≡ None → (n : ℕ) → 1 ≤ n → n ≤ 65535 → text.now ≢ decimal n }
 {
     Some(number_within(text.as_bytes(), 1, 65535)? as u16)
 }
 
-/// A number of peers.
-fn number_of(text: &str) -> Option<u32>
-    ensures some { IfSome result (λ n. (1 ≤ n) × (n ≤ NUMBER_MAX) × (text.now ≡ decimal n)) }
-    ensures none { result ≡ None → (n : ℕ) → 1 ≤ n → n ≤ NUMBER_MAX → text.now ≢ decimal n }
+/// The number of peers, or of whatever is served, that a text writes, 1 to 1,000,000, in decimal digits without a leading zero.
+pub fn number_of(text: &str) -> Option<u32>
+    ensures some { IfSome result (λ n. (1 ≤ n) × (n ≤ PEERS_MAX) × (text.now ≡ decimal n)) }
+    ensures none { result ≡ None → (n : ℕ) → 1 ≤ n → n ≤ PEERS_MAX → text.now ≢ decimal n }
 {
-    Some(number_within(text.as_bytes(), 1, NUMBER_MAX)? as u32)
+    Some(number_within(text.as_bytes(), 1, u64::from(PEERS_MAX))? as u32)
 }
 
 /// What words ask: `PORT N`, with a port 1 to 65,535 and N 1 to 1,000,000, in decimal digits without a leading zero. It is none where

@@ -3,8 +3,8 @@ use Rattle.std.proofs.Common.{◌≡◌, ◌⊎◌, inl, inr, ℕ, true, List, �
 use Rattle.std.specs.Prelude.{not}
 use Rattle.std.proofs.lemmas.Bool.{false≢true}
 use Rattle.vx_io_traits.specs.Faults.{Rose}
-use Rattle.vx_door.specs.Serving.{is_cut}
-use Rattle.vx_door.proofs.Laws.{ended-spent}
+use Rattle.vx_peers.specs.Serving.{is_cut}
+use Rattle.vx_peers.proofs.Laws.{ended-spent}
 use Rattle.vx_io_traits.specs.declared.links.Link.{Ghosts}
 use Rattle.vx_stream.specs.Answered.{Conversation}
 use Rattle.vx_stream.specs.Stopping.{StreamAnswered}

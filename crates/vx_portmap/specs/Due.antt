@@ -6,10 +6,6 @@ use Rattle.std.specs.Prelude.{ℕ, List, ◌++◌, codes, decimal}
 abbrev pub mapping_line : ℕ → List ℕ
 mapping_line port = codes "mapping " ++ decimal port ++ codes "\n"
 
--- so many streams or packets were served
-abbrev pub map_served_line : ℕ → List ℕ
-map_served_line number = codes "served " ++ decimal number ++ codes "\n"
-
 -- the words have another form
 abbrev pub map_usage_line : List ℕ
 map_usage_line = codes "usage: vxmap KIND PORT CORE ABORT N\n"

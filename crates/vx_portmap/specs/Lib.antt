@@ -14,8 +14,8 @@ pub mod Outcome
 pub use Rattle.vx_door.specs.Going
 pub use Rattle.vx_stream.specs.Shown
 pub use Rattle.vx_door.specs.Opening
-pub use Rattle.vx_door.specs.Serving
-pub use Rattle.vx_door.specs.Running
+pub use Rattle.vx_peers.specs.Serving
+pub use Rattle.vx_peers.specs.Running
 pub use Rattle.vx_text.specs.Writing
 pub use Rattle.vx_io_traits.specs.Faults
 pub use Rattle.vx_io_traits.specs.Stands

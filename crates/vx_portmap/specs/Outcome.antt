@@ -11,10 +11,14 @@ use Rattle.vx_text.specs.Ends.{End}
 use Rattle.vx_text.specs.Writing.{StopsIn}
 use Rattle.vx_door.specs.Shown.{DoorShown}
 use Rattle.vx_door.specs.Opening.{Opening, Opens as OpensDoor}
-use Rattle.vx_door.specs.Running.{ServesPeers, RoseOver}
 use Rattle.vx_door.specs.declared.doors.Met.{Met}
-use Rattle.vx_door.specs.declared.serving.DoorEnd.{DoorEnd}
-use Rattle.vx_door.specs.declared.serving.DoorEnd.TheVariants as door
+use Rattle.vx_peers.specs.Running.{ServesPeers, RoseOver}
+use Rattle.vx_peers.specs.Outcome.{peer_status_number}
+use Rattle.vx_peers.specs.Due.{peer_served_line}
+use Rattle.vx_peers.specs.declared.stopping.DoorEnd.{DoorEnd}
+use Rattle.vx_peers.specs.declared.stopping.DoorEnd.TheVariants as door
+use Rattle.vx_peers.specs.declared.serving.DoorStatus.{DoorStatus}
+use Rattle.vx_peers.specs.declared.serving.DoorStatus.TheVariants as status
 use Rattle.vx_portmap.specs.declared.table.Mapping.{Mapping}
 use Rattle.vx_portmap.specs.declared.serving.PacketEnd.{PacketEnd}
 use Rattle.vx_portmap.specs.declared.serving.PacketEnd.TheVariants as packet
@@ -23,20 +27,10 @@ use Rattle.vx_portmap.specs.declared.words.Kind.TheVariants as kind
 use Rattle.vx_portmap.specs.declared.words.Ask.{Ask}
 use Rattle.vx_portmap.specs.declared.run.WorkEnd.{WorkEnd}
 use Rattle.vx_portmap.specs.declared.run.WorkEnd.TheVariants as work
-use Rattle.vx_portmap.specs.declared.run.MapStatus.{MapStatus}
-use Rattle.vx_portmap.specs.declared.run.MapStatus.TheVariants as status
 use Rattle.vx_portmap.specs.Asked.{spelled, IsMapInRange}
-use Rattle.vx_portmap.specs.Due.{mapping_line, map_served_line, map_usage_line}
+use Rattle.vx_portmap.specs.Due.{mapping_line, map_usage_line}
 use Rattle.vx_portmap.specs.Mapped.{StreamMapped, is_own, is_whole}
 use Rattle.vx_portmap.specs.Packing.{BoxShown, PacketsCounted}
-
--- the number of a status
-abbrev pub map_status_number : MapStatus → ℕ
-map_status_number status.Served = 0
-map_status_number status.Usage = 1
-map_status_number status.NetFailed = 3
-map_status_number status.NoMemory = 5
-map_status_number status.SinkFailed = 6
 
 -- what a net is to what is said of it: its door's link, its door, its box of packets, and what opening either does
 pub record MapShows (N : Type 0) : Type 1 where
@@ -112,16 +106,11 @@ abbrev pub Works : {N : Type 0} → MapShows N → Kind → List Mapping → ℕ
 Works n kind.Stream ports limit old how number new = ServesStreams n ports limit old how number new
 Works n kind.Packets ports limit old how number new = ServesPackets n ports limit old how number new
 
--- a line was written by a run that ends so, or the sink failed in it
-abbrev pub MapPutsLine : MapStatus → List ℕ → End → End → MapStatus → Type 0
-MapPutsLine how line before after result =
-    ((result ≡ how) × Appends before.bytes after.bytes line) ⊎ ((result ≡ status.SinkFailed) × StopsIn before after line)
-
 -- all was served that was to be, and both lines were written
 pub record ServesAll {N : Type 0} (n : MapShows N) (ask : Ask) (old new : N) (before after : End) : Type 0 where
   pub number : ℕ
   pub works : Works n ask.kind (mappings ask) ask.number old work.Done number new
-  pub written : Appends before.bytes after.bytes (mapping_line ask.port ++ map_served_line number)
+  pub written : Appends before.bytes after.bytes (mapping_line ask.port ++ peer_served_line number)
 
 -- the door or the box failed behind the first line
 pub record Fails {N : Type 0} (n : MapShows N) (ask : Ask) (old new : N) (before after : End) : Type 0 where
@@ -139,35 +128,35 @@ pub record StopsSecond {N : Type 0} (n : MapShows N) (ask : Ask) (old new : N) (
   pub works : Works n ask.kind (mappings ask) ask.number old work.Done number new
   pub between : End
   pub written : Appends before.bytes between.bytes (mapping_line ask.port)
-  pub stops : StopsIn between after (map_served_line number)
+  pub stops : StopsIn between after (peer_served_line number)
 
 -- how the work at a port that was opened ends
-abbrev pub IsMapServed : {N : Type 0} → MapShows N → Ask → N → N → End → End → MapStatus → Type 0
+abbrev pub IsMapServed : {N : Type 0} → MapShows N → Ask → N → N → End → End → DoorStatus → Type 0
 IsMapServed n ask old new before after status.Served = ServesAll n ask old new before after
 IsMapServed n ask old new before after status.NetFailed = Fails n ask old new before after
 IsMapServed n ask old new before after status.SinkFailed = StopsFirst ask old new before after ⊎ StopsSecond n ask old new before after
 IsMapServed n ask old new before after _ = ⊥
 
 -- the port that is asked for was opened, once and no other, and the work there ended so
-pub record MapServes {N : Type 0} (n : MapShows N) (ask : Ask) (old new : N) (before after : End) (how : MapStatus) : Type 0 where
+pub record MapServes {N : Type 0} (n : MapShows N) (ask : Ask) (old new : N) (before after : End) (how : DoorStatus) : Type 0 where
   pub opened : N
   pub opens : MapOpens n ask.kind ask.port old Up opened
   pub serves : IsMapServed n ask opened new before after how
 
 -- How what is asked ends: there was no memory, and nothing was opened or written; or the port couldn't be opened, and nothing was
 -- written; or the work there ended.
-abbrev pub IsMapAskRun : {N : Type 0} → MapShows N → Ask → N → N → End → End → MapStatus → Type 0
+abbrev pub IsMapAskRun : {N : Type 0} → MapShows N → Ask → N → N → End → End → DoorStatus → Type 0
 IsMapAskRun n ask old new before after status.NoMemory = (new ≡ old) × (after ≡ before)
 IsMapAskRun n ask old new before after status.NetFailed =
     (MapOpens n ask.kind ask.port old Failed new × (after ≡ before)) ⊎ MapServes n ask old new before after status.NetFailed
 IsMapAskRun n ask old new before after how = MapServes n ask old new before after how
 
 -- How a run ends: the words ask nothing, which is told; or what they ask is done.
-abbrev pub IsMapRun : {N : Type 0} → MapShows N → List (List ℕ) → N → N → End → End → MapStatus → Type 0
+abbrev pub IsMapRun : {N : Type 0} → MapShows N → List (List ℕ) → N → N → End → End → DoorStatus → Type 0
 IsMapRun n words old new before after how =
     (AsksNothing words × (new ≡ old) × (((how ≡ status.Usage) × Appends before.bytes after.bytes map_usage_line) ⊎ ((how ≡ status.SinkFailed) × StopsIn before after map_usage_line)))
     ⊎ ((ask : Ask) × MapAsks words ask × IsMapAskRun n ask old new before after how)
 
 -- it ends with the number of its status
 abbrev pub MapEndsRun : {N : Type 0} → MapShows N → List (List ℕ) → N → N → End → End → ℕ → Type 0
-MapEndsRun n words old new before after number = (how : MapStatus) × (number ≡ map_status_number how) × IsMapRun n words old new before after how
+MapEndsRun n words old new before after number = (how : DoorStatus) × (number ≡ peer_status_number how) × IsMapRun n words old new before after how

@@ -6,7 +6,8 @@ use crate::limits::MESSAGE_MAX;
 use crate::streams::map_stream;
 use crate::table::Ports;
 use std::marker::Model;
-use vx_door::{Door, Serves};
+use vx_door::Door;
+use vx_peers::PeerServer;
 use vx_record::RecordBuf;
 
 /// A table, and the room of the record that comes in.
@@ -41,15 +42,15 @@ impl Mapper {
     }
 }
 
-impl<N: Door> Serves<N> for Mapper {
-    ghost use Rattle.std.specs.Prelude.{◌≡◌, ◌≤◌, ◌⊎◌, ⊤, true};
+impl<N: Door> PeerServer<N> for Mapper {
+    ghost use Rattle.std.specs.Prelude.{◌≡◌, ◌≤◌, ◌⊎◌, ⊤, true, false};
     ghost use Rattle.vx_io_traits.specs.Faults.{Rose};
-    ghost use Rattle.vx_door.specs.Serving.{is_cut};
+    ghost use Rattle.vx_peers.specs.Serving.{is_cut};
     ghost use Rattle.vx_portmap.specs.Mapped.{StreamMapped, is_own, is_whole};
 
     type End = MapEnd;
 
-    ghost can = { λ _. ⊤ };
+    ghost can = { λ _ _. ⊤ };
 
     ghost did = { λ ports door how ports' door'. StreamMapped N.Link ports door how ports' door' };
 
@@ -57,15 +58,24 @@ impl<N: Door> Serves<N> for Mapper {
 
     ghost is_whole = { is_whole };
 
+    ghost is_stopped = { λ _. false };
+
     /// Answers the records of the peer's stream.
-    fn serve(&mut self, door: &mut N) -> MapEnd
-        ensures did { StreamMapped N.Link self.old door.old result self.new door.new }
+    fn serve(self, _behind: u32, door: &mut N) -> (Mapper, MapEnd)
+        ensures did { StreamMapped N.Link self door.old result.1 result.0 door.new }
         ensures receives { N.receive_faults door.old ≤ N.receive_faults door.new }
         ensures sends { N.send_faults door.old ≤ N.send_faults door.new }
-        ensures cut { is_cut (is_own result) (is_whole result) (N.left door.old) (N.left door.new) ≡ true
+        ensures cut { is_cut (is_own result.1) (is_whole result.1) (N.left door.old) (N.left door.new) ≡ true
             → Rose (N.receive_faults door.old) (N.receive_faults door.new) ⊎ Rose (N.send_faults door.old) (N.send_faults door.new) }
     {
-        self.incoming.restart();
-        map_stream(&self.ports, door, &mut self.incoming)
+        let mut mapper = self;
+        mapper.incoming.restart();
+        let how = map_stream(&mapper.ports, door, &mut mapper.incoming);
+        (mapper, how)
+    }
+
+    /// It serves as many as come.
+    fn is_stopped(&self) -> bool {
+        false
     }
 }

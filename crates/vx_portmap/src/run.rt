@@ -5,7 +5,8 @@ ghost use Rattle.vx_door.specs.Shown.{door_shown};
 ghost use Rattle.vx_portmap.specs.declared.limits.TheConstants.{MESSAGE_MAX};
 ghost use Rattle.vx_text.specs.Ends.{sink_shown};
 ghost use Rattle.vx_portmap.specs.Packing.{box_shown};
-ghost use Rattle.vx_portmap.specs.Outcome.{MapOpens, Works, IsMapServed, IsMapAskRun, IsMapRun, MapEndsRun, MapPutsLine, door_end, packets_end, mappings, map_status_number};
+ghost use Rattle.vx_portmap.specs.Asked.{IsMapInRange};
+ghost use Rattle.vx_portmap.specs.Outcome.{MapOpens, Works, IsMapServed, IsMapAskRun, IsMapRun, MapEndsRun, door_end, packets_end, mappings};
 
 use crate::limits::MESSAGE_MAX;
 use crate::mapper::Mapper;
@@ -14,8 +15,8 @@ use crate::serving::{PacketEnd, serve_packets};
 use crate::table::{Mapping, Ports};
 use crate::words::{Ask, Kind, ask_of};
 use std::alloc::Global;
-use vx_door::{DoorEnd, serve_door};
 use vx_io_traits::{DialOut, Sink};
+use vx_peers::{DoorEnd, DoorStatus, put_line, serve_all};
 use vx_record::RecordBuf;
 use vx_text::{DIGITS_MAX, number_line, put_all};
 
@@ -39,36 +40,6 @@ pub(crate) enum WorkEnd {
     Done,
     /// The door or the box failed.
     Failed,
-}
-
-/// How a run ended, as the program's exit status tells it.
-#[derive(Clone, Copy)]
-pub(crate) enum MapStatus {
-    /// 0: as many were served as were asked for, or no more come.
-    Served,
-    /// 1: the words have another form.
-    Usage,
-    /// 3: the port couldn't be opened, or the door or the box failed.
-    NetFailed,
-    /// 5: there was no memory.
-    NoMemory,
-    /// 6: the sink failed.
-    SinkFailed,
-}
-
-impl MapStatus {
-    /// The exit status.
-    fn number(self) -> u8
-        ensures { result ≡ map_status_number self }
-    {
-        match self {
-            MapStatus::Served => 0,
-            MapStatus::Usage => 1,
-            MapStatus::NetFailed => 3,
-            MapStatus::NoMemory => 5,
-            MapStatus::SinkFailed => 6,
-        }
-    }
 }
 
 /// The mapping of a channel's program to its port.
@@ -132,7 +103,8 @@ fn end_of_packets(end: PacketEnd) -> WorkEnd
 
 /// Serves what comes at the port that was opened, and answers how many were served.
 fn work<N: MapNet>(ask: &Ask, ports: Ports, incoming: RecordBuf, net: &mut N) -> (WorkEnd, u32)
-    requires { incoming ≡ fresh MESSAGE_MAX }
+    requires range { IsMapInRange ask.now }
+    requires incoming { incoming ≡ fresh MESSAGE_MAX }
     ensures { Works (record {
       ways = N.Link;
       tells = N.tells;
@@ -146,25 +118,14 @@ fn work<N: MapNet>(ask: &Ask, ports: Ports, incoming: RecordBuf, net: &mut N) ->
 {
     match ask.kind {
         Kind::Stream => {
-            let mut mapper = Mapper::new(ports, incoming);
-            let (end, number) = serve_door(net, &mut mapper, ask.number);
+            let mapper = Mapper::new(ports, incoming);
+            let (_, end, number) = serve_all(mapper, net, ask.number);
             (end_of_door(end), number)
         }
         Kind::Packets => {
             let (end, number) = serve_packets(&ports, net, ask.number);
             (end_of_packets(end), number)
         }
-    }
-}
-
-/// Writes a line of a run that ends so.
-fn put_line<K: Sink>(sink: &mut K, line: &[u8], how: MapStatus) -> MapStatus
-    ensures { MapPutsLine how line.now
-        (sink_shown K.Sink sink.old) (sink_shown K.Sink sink.new) result }
-{
-    match put_all(sink, line) {
-        Ok(()) => how,
-        Err(_) => MapStatus::SinkFailed,
     }
 }
 
@@ -175,7 +136,8 @@ fn serve<N: MapNet, K: Sink>(
     incoming: RecordBuf,
     net: &mut N,
     sink: &mut K,
-) -> MapStatus
+) -> DoorStatus
+    requires range { IsMapInRange ask.now }
     requires incoming { incoming ≡ fresh MESSAGE_MAX }
     requires table { ports ≡ mappings ask.now }
     ensures { IsMapServed (record {
@@ -193,19 +155,20 @@ fn serve<N: MapNet, K: Sink>(
     let mut out = [0u8; LINE_ROOM];
     let line = number_line(b"mapping ", u64::from(ask.port), &mut out);
     if put_all(sink, line).is_err() {
-        return MapStatus::SinkFailed;
+        return DoorStatus::SinkFailed;
     }
     match work(ask, ports, incoming, net) {
-        (WorkEnd::Failed, _) => MapStatus::NetFailed,
+        (WorkEnd::Failed, _) => DoorStatus::NetFailed,
         (WorkEnd::Done, number) => {
             let line = number_line(b"served ", u64::from(number), &mut out);
-            put_line(sink, line, MapStatus::Served)
+            put_line(sink, line, DoorStatus::Served)
         }
     }
 }
 
 /// Does what is asked. All memory is taken before the port is opened.
-fn run_ask<N: MapNet, K: Sink>(alloc: Global, ask: &Ask, net: &mut N, sink: &mut K) -> MapStatus
+fn run_ask<N: MapNet, K: Sink>(alloc: Global, ask: &Ask, net: &mut N, sink: &mut K) -> DoorStatus
+    requires range { IsMapInRange ask.now }
     ensures { IsMapAskRun (record {
       ways = N.Link;
       tells = N.tells;
@@ -219,15 +182,15 @@ fn run_ask<N: MapNet, K: Sink>(alloc: Global, ask: &Ask, net: &mut N, sink: &mut
         (sink_shown K.Sink sink.old) (sink_shown K.Sink sink.new) result }
 {
     let Ok(incoming) = RecordBuf::new(alloc, MESSAGE_MAX) else {
-        return MapStatus::NoMemory;
+        return DoorStatus::NoMemory;
     };
     match open(ask, net) {
         DialOut::Up => serve(ask, table_of(ask), incoming, net, sink),
-        DialOut::Failed => MapStatus::NetFailed,
+        DialOut::Failed => DoorStatus::NetFailed,
     }
 }
 
-fn run<N: MapNet, K: Sink>(alloc: Global, words: &[String], net: &mut N, sink: &mut K) -> MapStatus
+fn run<N: MapNet, K: Sink>(alloc: Global, words: &[String], net: &mut N, sink: &mut K) -> DoorStatus
     ensures { IsMapRun (record {
       ways = N.Link;
       tells = N.tells;
@@ -244,7 +207,7 @@ fn run<N: MapNet, K: Sink>(alloc: Global, words: &[String], net: &mut N, sink: &
         Some(ask) => run_ask(alloc, &ask, net, sink),
         None => {
             let usage = b"usage: vxmap KIND PORT CORE ABORT N\n";
-            put_line(sink, usage, MapStatus::Usage)
+            put_line(sink, usage, DoorStatus::Usage)
         }
     }
 }

@@ -1,10 +1,10 @@
 //! What the words of a user ask of the port mapper.
-ghost use Rattle.std.specs.Prelude.{◌≡◌, ◌≢◌, ◌≤◌, ℕ, map, string_bytes, decimal, IfSome, None};
+ghost use Rattle.std.specs.Prelude.{◌≡◌, ◌≢◌, map, string_bytes, IfSome, None};
 ghost use Rattle.vx_portmap.specs.declared.words.Ask.{Ask};
 ghost use Rattle.vx_portmap.specs.declared.words.Kind.{Kind};
 ghost use Rattle.vx_portmap.specs.Asked.{kind_word, spelled, IsMapInRange};
 
-use vx_text::number_within;
+use vx_peers::{number_of, port_of};
 
 /// What messages come over.
 #[derive(Clone, Copy)]
@@ -27,25 +27,6 @@ pub(crate) struct Ask {
     pub(crate) abort: u16,
     /// How many streams or packets are served, 1 to 1,000,000.
     pub(crate) number: u32,
-}
-
-/// The most streams or packets.
-const NUMBER_MAX: u64 = 1_000_000;
-
-/// A port.
-fn port_of(text: &str) -> Option<u16>
-    ensures some { IfSome result (λ n. (1 ≤ n) × (n ≤ 65535) × (text.now ≡ decimal n)) }
-    ensures none { result ≡ None → (n : ℕ) → 1 ≤ n → n ≤ 65535 → text.now ≢ decimal n }
-{
-    Some(number_within(text.as_bytes(), 1, 65535)? as u16)
-}
-
-/// A number of streams or packets.
-fn number_of(text: &str) -> Option<u32>
-    ensures some { IfSome result (λ n. (1 ≤ n) × (n ≤ NUMBER_MAX) × (text.now ≡ decimal n)) }
-    ensures none { result ≡ None → (n : ℕ) → 1 ≤ n → n ≤ NUMBER_MAX → text.now ≢ decimal n }
-{
-    Some(number_within(text.as_bytes(), 1, NUMBER_MAX)? as u32)
 }
 
 fn kind_of(word: &[u8]) -> Option<Kind>

@@ -1,12 +1,12 @@
 //! The loop that serves the peers of a door, over memory.
 
-ghost use Rattle.std.specs.Prelude.{true};
+ghost use Rattle.std.specs.Prelude.{false, true};
 
 use std::alloc::{AllocError, Global};
 use std::test::Fail;
-use vx_door::{DoorEnd, Serves, serve_door};
 use vx_io::*;
 use vx_memory::MemDoor;
+use vx_peers::{DoorEnd, PEERS_MAX, PeerServer, serve_all};
 
 fn lists(alloc: Global, peers: &[&[u8]]) -> Result<Vec<Vec<u8>>, AllocError> {
     let mut lists = Vec::new(alloc);
@@ -27,10 +27,10 @@ fn door(alloc: Global, peers: &[&[u8]], fails: &[u64]) -> Result<MemDoor, Fail> 
 #[derive(Drop)]
 struct Echo;
 
-impl<N: Door> Serves<N> for Echo {
+impl<N: Door> PeerServer<N> for Echo {
     type End = bool;
 
-    ghost can = { λ _. Unit {0} };
+    ghost can = { λ _ _. Unit {0} };
 
     ghost did = { λ _ _ _ _ _. Unit {0} };
 
@@ -38,12 +38,19 @@ impl<N: Door> Serves<N> for Echo {
 
     ghost is_whole = { λ _. true };
 
-    fn serve(&mut self, door: &mut N) -> bool {
+    ghost is_stopped = { λ _. false };
+
+    fn serve(self, _behind: u32, door: &mut N) -> (Echo, bool) {
         let mut room = [0u8; 3];
-        match door.receive(&mut room) {
+        let is_sent = match door.receive(&mut room) {
             ReadOut::Got(count) => door.send(&room[..count]) != WriteOut::Failed,
             _ => false,
-        }
+        };
+        (self, is_sent)
+    }
+
+    fn is_stopped(&self) -> bool {
+        false
     }
 }
 
@@ -94,8 +101,8 @@ static RUNS: [Run; 6] = [
 fn runs_so(alloc: Global, run: &Run) -> Result<bool, Fail> {
     let (fails, limit, end, number, sent) = *run;
     let mut door = door(alloc, &[&[1, 2], &[3], &[4, 5]], fails)?;
-    let ended = serve_door(&mut door, &mut Echo, limit);
-    let mut is_so = ended == (end, number);
+    let (_, ended, served) = serve_all(Echo, &mut door, limit.min(PEERS_MAX));
+    let mut is_so = ended == end && served == number;
     for (peer, bytes) in sent.iter().enumerate() {
         is_so = is_so && door.sent(peer) == *bytes;
     }

@@ -1,4 +1,0 @@
-pub mod ErrorCode
-pub mod Target
-pub mod Call
-pub mod Reply

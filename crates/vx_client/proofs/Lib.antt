@@ -1,9 +1,0 @@
-pub mod Laws
-pub mod Sending
-pub mod Reading
-pub mod Calling
-pub mod Ending
-pub mod Parts
-pub mod Ports
-pub mod Fitting
-pub mod Commands

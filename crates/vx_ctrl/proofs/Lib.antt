@@ -1,7 +1,0 @@
-pub mod Laws
-pub mod Answered
-pub mod Walking
-pub mod Rooms
-pub mod Bursts
-pub mod Runs
-pub mod Going

@@ -1,8 +1,0 @@
-pub mod History
-pub mod PassView
-pub mod Turning
-pub mod Rule
-pub mod Steps
-pub mod Seats
-pub mod Places
-pub mod Gates

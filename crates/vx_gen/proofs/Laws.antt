@@ -1,2 +1,0 @@
--- Laws that the crates above cite, each in the file of this folder that has its proof.
-pub mod Spelled

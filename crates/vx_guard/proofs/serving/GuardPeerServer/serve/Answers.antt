@@ -1,0 +1,81 @@
+use Rattle.std.proofs.Common.{◌≡◌, Some, refl, sym, ap, ◌∙◌, subst, arith, rules}
+use Rattle.std.proofs.lemmas.Option.{same_Some}
+use Rattle.vx_gate.specs.PassView.{PassView}
+use Rattle.vx_group.specs.Groups.{Group}
+use Rattle.vx_text.specs.Ends.{sink_shown}
+use Rattle.vx_session.specs.Counting.{IsSessionClear}
+use Rattle.vx_session.specs.Dialing.{dial_shown}
+use Rattle.vx_session.specs.Origin.{origin}
+use Rattle.vx_session.specs.Progress.{Clocked}
+use Rattle.vx_guard.specs.Linking.{GuardLinkDid}
+use Rattle.vx_guard.specs.Peers.{CanServe, pass_in}
+use Rattle.vx_guard.specs.Wholes.{GuardHolding}
+use Rattle.vx_guard.proofs.OnePeer.{link-ready, link-room, link-counts, link-cut}
+use Rattle.vx_guard.proofs.serving.GuardPeerServer.serve.Given as given
+use Rattle.vx_guard.proofs.serving.GuardPeerServer.serve.Goals as goal
+
+-- what a link's guarded work has, by its pass, the door, its dial and its note
+abbrev has : (g : given.Over) → PassView Group → g.row.N.Denot → g.row.D.Denot → g.row.K.Denot → GuardHolding g.row.N.Denot
+has g pass door dial note = record { pass = pass; link = door; dial = dial_shown g.D.Dial dial; note = sink_shown g.K.Sink note }
+
+pub guarded_link-pass-requires : goal.guarded_link-pass-requires
+guarded_link-pass-requires g c =
+    let ready = c.requires.can in
+    let taken : c.args.self.held.now ≡ Some c.in-Some.pass = search rules in
+    let same = same_Some ready.pass c.in-Some.pass (sym ready.has ∙ taken) in
+    record { gate = subst (λ (p : PassView Group). p.gate ≡ g.T.Turns.gate c.args.self.gateway.turns.now) same ready.can.gate_is }
+
+pub returns-clause-can : goal.returns-clause-can
+returns-clause-can g c =
+    let served = c.guarded_link-pass in
+    let s = c.args.self in
+    let ready = c.requires.can in
+    let taken : c.args.self.held.now ≡ Some c.in-Some.pass = search rules in
+    let same = same_Some ready.pass c.in-Some.pass (sym ready.has ∙ taken) in
+    link-ready (origin g.B.Bus (g.T.Turns.first s.gateway.turns.now)) g.N.Link _ _ _ (g.T.Turns.gate s.gateway.turns.now) c.args._behind
+    (has g c.in-Some.pass c.args.door.now s.kit.now.dial s.note.now) served.result.1 (has g served.result.0 served.new.link served.new.kit.dial served.new.note)
+    (subst (CanServe (g.T.Turns.gate s.gateway.turns.now)) same ready.can) (subst (IsSessionClear c.args._behind) same ready.clear) served.ensures.did
+
+pub returns-clause-did : goal.returns-clause-did
+returns-clause-did g c =
+    let served = c.guarded_link-pass in
+    let s = c.args.self in
+    let ready = c.requires.can in
+    let taken : c.args.self.held.now ≡ Some c.in-Some.pass = search rules in
+    let same = same_Some ready.pass c.in-Some.pass (sym ready.has ∙ taken) in
+    let bus = origin g.B.Bus (g.T.Turns.first s.gateway.turns.now) in
+    let after = has g served.result.0 served.new.link served.new.kit.dial served.new.note in (
+      record {
+        did = subst (λ (p : PassView Group). GuardLinkDid bus g.N.Link (Clocked g.C.Clock.tells s.kit.now.clock served.new.kit.clock) (g.C.Clock.told served.new.kit.clock) s.policy.now
+            (has g p c.args.door.now s.kit.now.dial s.note.now) served.result.1 after) (sym (ap pass_in taken)) served.ensures.did;
+        later = served.ensures.told;
+        went = served.ensures.went;
+        failed = c.fails-failed.ensures;
+        room = link-room bus g.N.Link _ _ _ c.args._behind (has g c.in-Some.pass c.args.door.now s.kit.now.dial s.note.now) served.result.1 after
+            (subst (IsSessionClear c.args._behind) same ready.clear) (omega (arith, c.requires.few)) served.ensures.did;
+      },
+      refl,
+      refl,
+      refl,
+    )
+
+pub returns-clause-receives : goal.returns-clause-receives
+returns-clause-receives g c =
+    let served = c.guarded_link-pass in
+    let s = c.args.self in
+    (link-counts (origin g.B.Bus (g.T.Turns.first s.gateway.turns.now)) g.N.Link _ _ _ (has g c.in-Some.pass c.args.door.now s.kit.now.dial s.note.now) served.result.1
+    (has g served.result.0 served.new.link served.new.kit.dial served.new.note) served.ensures.did).0
+
+pub returns-clause-sends : goal.returns-clause-sends
+returns-clause-sends g c =
+    let served = c.guarded_link-pass in
+    let s = c.args.self in
+    (link-counts (origin g.B.Bus (g.T.Turns.first s.gateway.turns.now)) g.N.Link _ _ _ (has g c.in-Some.pass c.args.door.now s.kit.now.dial s.note.now) served.result.1
+    (has g served.result.0 served.new.link served.new.kit.dial served.new.note) served.ensures.did).1
+
+pub returns-clause-cut : goal.returns-clause-cut
+returns-clause-cut g c =
+    let served = c.guarded_link-pass in
+    let s = c.args.self in
+    link-cut (origin g.B.Bus (g.T.Turns.first s.gateway.turns.now)) g.N.Link _ _ _ (has g c.in-Some.pass c.args.door.now s.kit.now.dial s.note.now) served.result.1
+    (has g served.result.0 served.new.link served.new.kit.dial served.new.note) served.ensures.did

@@ -1,3 +1,0 @@
-pub use Rattle.vx_io.specs.Accepts
-pub use Rattle.vx_io.specs.Faults
-pub use Rattle.vx_io.specs.Rung

@@ -1,4 +1,0 @@
-pub mod Orderly
-pub mod Folding
-pub mod Standing
-pub mod Answering

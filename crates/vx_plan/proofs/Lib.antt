@@ -1,5 +1,0 @@
-pub mod Laws
-pub mod Fronts
-pub mod Nexts
-pub mod Places
-pub mod Runs

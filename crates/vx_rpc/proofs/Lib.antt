@@ -1,4 +1,0 @@
-pub mod Laws
-pub mod HeaderLemmas
-pub mod PutLemmas
-pub mod InverseLemmas

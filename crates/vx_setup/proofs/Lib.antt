@@ -1,4 +1,0 @@
-pub mod Laws
-pub mod Tabled
-pub mod Attached
-pub mod Setting

@@ -1,5 +1,0 @@
-pub mod Laws
-pub mod Changes
-pub mod Due
-pub mod Places
-pub mod Held

@@ -1,4 +1,0 @@
-pub mod Held
-pub mod Rows
-pub mod Inside
-pub mod Shown

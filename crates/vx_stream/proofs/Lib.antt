@@ -1,9 +1,0 @@
-pub mod Laws
-pub mod Sends
-pub mod Moving
-pub mod Called
-pub mod Progressing
-pub mod Wholes
-pub mod Runs
-pub mod Piecewise
-pub mod Streamwise

@@ -1,3 +1,0 @@
-pub mod Arrays
-pub mod Feeds
-pub mod Places
