@@ -1,0 +1,1 @@
+"""The tests of `sockets.py`, a file a subject, and what they share: `calls`, `server` and `cables`."""

@@ -1,0 +1,13 @@
+pub mod Hosting
+pub mod Starting
+pub mod Logged
+pub mod Working
+pub use Rattle.vx_io_traits.specs.Faults
+pub use Rattle.vx_sim.specs.Means
+pub use Rattle.vx_sim.specs.SimState
+pub use Rattle.vx_gate.specs.Gates
+pub use Rattle.vx_startup.specs.Meant
+pub use Rattle.vx_startup.specs.Outcome
+pub use Rattle.vx_startup.specs.Running
+pub use Rattle.vx_startup.specs.Spares
+pub use Rattle.vx_sim.specs.Occupants

@@ -1,0 +1,365 @@
+//! What the workers of a server do, each in a thread of its own, by turns at the one gate.
+ghost use Rattle.std.specs.Prelude.{◌≡◌, List};
+ghost use Rattle.vx_session.specs.Dialing.{dial_shown};
+ghost use Rattle.vx_stream.specs.Visiting.{VisitorState};
+ghost use Rattle.vx_serve.specs.Logged.{news_of, reason_of};
+ghost use Rattle.vx_serve.specs.Working.{ServesCore, ServesAbort, ServesEach, core_worker};
+
+use crate::access::{Access, GateAccess, LinkAccess};
+use crate::served::Served;
+use crossbeam_channel::{Receiver, Sender};
+use std::alloc::Global;
+use std::sync::{Arc, Wait};
+use vx_inst::Instrument;
+use vx_io_traits::{Accepted, Clock, Dial, Handed, Link, Listen, Net, Pause, Sink, Streams, Work};
+use vx_session::{End, Linked, Room, Tools};
+use vx_sim::SimBus;
+use vx_startup::{Channel, Logs, News, Reason, tell};
+use vx_stream::CountingLink;
+
+/// What one core link wants besides itself, the log that it is told in, and where it is counted.
+#[derive(Drop)]
+pub struct CoreKit<C: Clock, P: Pause, D: Dial, G: Sink> {
+    pub clock: C,
+    pub pause: P,
+    pub dial: D,
+    pub room: Room,
+    pub log: G,
+    pub served: Arc<Served, Global>,
+}
+
+/// What one abort link wants besides itself, and the log that it is told in.
+#[derive(Drop)]
+pub struct AbortKit<G: Sink> {
+    pub room: Room,
+    pub log: G,
+}
+
+/// So many pauses, one after the other.
+#[derive(Drop)]
+pub struct Pauses<P: Pause> {
+    pub one: P,
+    pub times: u32,
+}
+
+impl<P: Pause> Pause for Pauses<P> {
+    fn pause(&mut self) {
+        for _ in 0..self.times {
+            self.one.pause();
+        }
+    }
+}
+
+/// Why a session ended, as the log tells it.
+fn reason_of(end: End) -> Reason
+    ensures { result ≡ reason_of end }
+{
+    match end {
+        End::Closed => Reason::Closed,
+        End::CutShort { bytes: _ } => Reason::CutShort,
+        End::Junk { length: _ } => Reason::Junk,
+        End::TooLong => Reason::TooLong,
+        End::ReadFault => Reason::ReadFault,
+        End::WriteFault => Reason::WriteFault,
+    }
+}
+
+/// How a link's work ended, of whose calls so many were answered, as the log tells it.
+fn news_of(how: Linked, calls: u64) -> News
+    ensures { result ≡ news_of how calls }
+{
+    match how {
+        Linked::Ended(end) => News::Ended {
+            reason: reason_of(end),
+            calls,
+        },
+        Linked::Full => News::Full,
+        Linked::NoMemory => News::NoMemory,
+    }
+}
+
+/// Serves a core link, tells how it went, and counts it.
+pub fn serve_core<
+    R: Wait,
+    A: LinkAccess<CountingLink<L>>,
+    L: Link + Drop,
+    C: Clock,
+    P: Pause,
+    D: Dial,
+    G: Sink,
+>(rt: &R, access: A, link: CountingLink<L>, kit: &mut CoreKit<C, P, D, G>) -> A
+    ensures served { ServesCore A.serves C.tells C.told (core_worker D.Dial access kit.old.clock kit.old.dial) link (core_worker D.Dial result kit.new.clock kit.new.dial) }
+{
+    let number = link.number();
+    let (access, done) = access.core_link(
+        rt,
+        link,
+        &mut kit.clock,
+        &mut kit.pause,
+        &mut kit.dial,
+        &mut kit.room,
+    );
+    let news = news_of(*done.how(), done.link().answered());
+    let _ = tell(&mut kit.log, Channel::Core, number, news);
+    kit.served.add(rt, done);
+    access
+}
+
+/// The links of a net.
+pub type Peer<N> = <<N as Net>::Port as Listen>::Peer;
+
+/// What a worker does.
+#[derive(Drop)]
+pub enum Duty<N: Net, X: Tools + Logs>
+where
+    N::Port: Drop,
+    Peer<N>: Drop,
+    <X::S as Streams>::Peer: Drop,
+{
+    /// It serves core links, one after the other.
+    Core {
+        links: Receiver<CountingLink<Peer<N>>>,
+        kit: CoreKit<X::C, X::P, X::D, X::L>,
+    },
+    /// It serves abort links.
+    Abort {
+        links: Receiver<CountingLink<Peer<N>>>,
+        kit: AbortKit<X::L>,
+    },
+    /// It writes the interrupts of channels to the streams that dials hand over. Interrupts come at samples alone, so it looks
+    /// for one as seldom as the sampler looks at the SRQ line.
+    Pump {
+        streams: X::S,
+        pause: Pauses<X::P>,
+    },
+    /// It takes the links of the abort port and hands them to the abort workers, or serves one that comes back.
+    Accept {
+        port: N::Port,
+        links: Sender<CountingLink<Peer<N>>>,
+        kit: AbortKit<X::L>,
+    },
+    /// It looks at the SRQ line, and then pauses, until the server ends.
+    Sample {
+        clock: X::C,
+        pause: Pauses<X::P>,
+        served: Arc<Served, Global>,
+    },
+}
+
+impl<N: Net, X: Tools + Logs> Duty<N, X>
+where
+    N::Port: Drop,
+    Peer<N>: Drop,
+    <X::S as Streams>::Peer: Drop,
+{
+    /// Does it, by this access.
+    fn work<R: Wait, A: LinkAccess<CountingLink<Peer<N>>> + Drop>(self, rt: &R, access: A) {
+        match self {
+            Duty::Core { links, mut kit } => drop(serve_cores(rt, access, &links, &mut kit)),
+            Duty::Abort { links, mut kit } => drop(serve_aborts(rt, access, &links, &mut kit)),
+            Duty::Pump { streams, pause } => run_pumps(rt, access, streams, pause),
+            Duty::Accept { port, links, kit } => accept_aborts(rt, access, port, &links, kit),
+            Duty::Sample {
+                clock,
+                pause,
+                served,
+            } => sample_on(rt, access, &served, clock, pause),
+        }
+    }
+}
+
+/// A work by an access, which does this duty.
+pub trait Job<A, T>: Work + Sized {
+    fn of(access: A, duty: T) -> Self;
+}
+
+/// The work of one worker of a server, which [`serve_run`](crate::serve_run) alone makes. Its pass is of its server's gate.
+#[derive(Drop)]
+pub struct Serve<N: Net, X: Tools + Logs, I: Instrument>
+where
+    N::Port: Drop,
+    Peer<N>: Drop,
+    <X::S as Streams>::Peer: Drop,
+{
+    access: GateAccess<SimBus<I>>,
+    duty: Duty<N, X>,
+}
+
+impl<N: Net, X: Tools + Logs, I: Instrument> Job<GateAccess<SimBus<I>>, Duty<N, X>>
+    for Serve<N, X, I>
+where
+    N::Port: Drop,
+    Peer<N>: Drop,
+    <X::S as Streams>::Peer: Drop,
+{
+    fn of(access: GateAccess<SimBus<I>>, duty: Duty<N, X>) -> Serve<N, X, I> {
+        Serve { access, duty }
+    }
+}
+
+impl<N: Net, X: Tools + Logs, I: Instrument> Work for Serve<N, X, I>
+where
+    N::Port: Drop,
+    Peer<N>: Drop,
+    <X::S as Streams>::Peer: Drop,
+{
+    fn run<R: Wait>(self, rt: &R) {
+        let Serve { access, duty } = self;
+        duty.work(rt, access)
+    }
+}
+
+/// Serves the core links that come, until no more come.
+fn serve_cores<
+    R: Wait,
+    A: LinkAccess<CountingLink<L>>,
+    L: Link + Drop,
+    C: Clock,
+    P: Pause,
+    D: Dial,
+    G: Sink,
+>(rt: &R, access: A, links: &Receiver<CountingLink<L>>, kit: &mut CoreKit<C, P, D, G>) -> A
+    ensures served { (served : List (VisitorState L)) × ServesEach (ServesCore A.serves C.tells C.told) (core_worker D.Dial access kit.old.clock kit.old.dial) served (core_worker D.Dial result kit.new.clock kit.new.dial) }
+{
+    let mut access = access;
+    for _ in rt.forever() {
+        match links.recv(rt) {
+            Ok(link) => access = serve_core(rt, access, link, kit),
+            Err(_) => return access,
+        }
+    }
+    unreachable!()
+}
+
+/// Serves an abort link, which is closed then, and tells how it went.
+fn serve_abort<R: Wait, A: LinkAccess<CountingLink<L>>, L: Link + Drop, G: Sink>(
+    rt: &R,
+    access: A,
+    link: CountingLink<L>,
+    kit: &mut AbortKit<G>,
+) -> A
+    ensures served { ServesAbort A.serves access link result }
+{
+    let mut link = link;
+    let (access, how) = access.abort_link(rt, &mut link, &mut kit.room);
+    let news = news_of(how, link.answered());
+    let _ = tell(&mut kit.log, Channel::Abort, link.number(), news);
+    access
+}
+
+/// Serves the abort links that come, until no more come.
+fn serve_aborts<R: Wait, A: LinkAccess<CountingLink<L>>, L: Link + Drop, G: Sink>(
+    rt: &R,
+    access: A,
+    links: &Receiver<CountingLink<L>>,
+    kit: &mut AbortKit<G>,
+) -> A
+    ensures served { (served : List (VisitorState L)) × ServesEach (ServesAbort A.serves) access served result }
+{
+    let mut access = access;
+    for _ in rt.forever() {
+        match links.recv(rt) {
+            Ok(link) => access = serve_abort(rt, access, link, kit),
+            Err(_) => return access,
+        }
+    }
+    unreachable!()
+}
+
+/// Hands an abort link to the workers. It waits where 64 links wait for one, and serves a link that comes back itself.
+fn hand_abort<R: Wait, A: LinkAccess<CountingLink<L>>, L: Link + Drop, G: Sink>(
+    rt: &R,
+    links: &Sender<CountingLink<L>>,
+    access: A,
+    link: CountingLink<L>,
+    kit: &mut AbortKit<G>,
+) -> A {
+    let _ = tell(&mut kit.log, Channel::Abort, link.number(), News::Came);
+    match links.send(rt, link) {
+        Ok(()) => access,
+        Err(back) => serve_abort(rt, access, back.into_inner(), kit),
+    }
+}
+
+/// Takes the links of the abort port, counts them up to 2^64 - 1 and hands them on, until no more come or a wait fails.
+fn accept_aborts<R: Wait, A: LinkAccess<CountingLink<T::Peer>> + Drop, T: Listen, G: Sink + Drop>(
+    rt: &R,
+    access: A,
+    port: T,
+    links: &Sender<CountingLink<T::Peer>>,
+    kit: AbortKit<G>,
+)
+where
+    T::Peer: Drop,
+    T: Drop,
+{
+    let mut access = access;
+    let mut port = port;
+    let mut kit = kit;
+    let mut number = 0u64;
+    for _ in rt.forever() {
+        match port.accept() {
+            Accepted::Peer(link) => {
+                number = number.saturating_add(1);
+                access = hand_abort(rt, links, access, CountingLink::new(link, number), &mut kit);
+            }
+            Accepted::Ended | Accepted::Failed => return,
+        }
+    }
+}
+
+/// Runs a pump on each stream that is handed over, until no more come.
+fn run_pumps<R: Wait, A: Access + Drop, S: Streams + Drop, P: Pause + Drop>(
+    rt: &R,
+    access: A,
+    streams: S,
+    pause: P,
+)
+where
+    S::Peer: Drop,
+{
+    let mut access = access;
+    let mut streams = streams;
+    let mut pause = pause;
+    for _ in rt.forever() {
+        match streams.next(rt) {
+            Handed::Stream { conn, chan, link } => {
+                access = run_pump(rt, access, conn, chan, link, &mut pause)
+            }
+            Handed::Ended => return,
+        }
+    }
+}
+
+/// Runs a pump on a stream, which is closed then.
+fn run_pump<R: Wait, A: Access, L: Link + Drop, P: Pause>(
+    rt: &R,
+    access: A,
+    conn: u32,
+    chan: u32,
+    link: L,
+    pause: &mut P,
+) -> A {
+    let mut link = link;
+    access.pump(rt, conn, chan, &mut link, pause)
+}
+
+/// Looks at the SRQ line again and again until the server ends, and pauses between two looks.
+fn sample_on<R: Wait, A: Access + Drop, C: Clock + Drop, P: Pause + Drop>(
+    rt: &R,
+    access: A,
+    served: &Served,
+    clock: C,
+    pause: P,
+) {
+    let mut access = access;
+    let mut clock = clock;
+    let mut pause = pause;
+    for _ in rt.forever() {
+        if served.is_over() {
+            return;
+        }
+        access = access.sample(rt, &mut clock);
+        pause.pause();
+    }
+}

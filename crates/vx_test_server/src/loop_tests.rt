@@ -1,0 +1,455 @@
+//! A client over a link to a gateway with an instrument at 5 that gives back what it is sent.
+
+ghost use Rattle.std.specs.Prelude.{◌≡◌, IfSome};
+ghost use Rattle.vx_sim.specs.Means.{first_means};
+ghost use Rattle.vx_core.specs.InterleavedState.{first_interleaved};
+ghost use Rattle.vx_loop.specs.LoopState.{IsUnconnected};
+
+use crate::client_run_tests::line_words;
+use crate::client_tools::{Answer, Ask, Got, answer, run_so};
+use std::alloc::{AllocError, Global};
+use vx_488::Addr;
+use vx_client::{CallOpts, Client, ClientErr, LinkMade, ReadEnd};
+use vx_core::Core;
+use vx_inst::Instrument;
+use vx_io_traits::{Link, Reach, ReadOut, WriteOut};
+use vx_loop::{LoopLink, through_client};
+use vx_memory::{MemReach, MemSink};
+use vx_rack::Echo;
+use vx_sim::SimBus;
+
+const OPTS: CallOpts = CallOpts {
+    flags: 8,
+    io_timeout: 10000,
+    lock_timeout: 0,
+};
+
+/// The first link that is made.
+const LINK: LinkMade = LinkMade {
+    lid: 1,
+    abort_port: 9011,
+    max: 262_144,
+};
+
+/// That instrument is hung on a bus.
+fn hang(alloc: Global, bus: &mut SimBus<Echo>) -> bool
+    ensures { bus.new.means ≡ bus.old.means }
+{
+    match Echo::new(alloc) {
+        Ok(echo) => bus.attach_box(Addr { p: 5, s: None }, echo).is_ok(),
+        Err(_) => false,
+    }
+}
+
+/// A bus with that instrument.
+fn echoing(alloc: Global) -> Option<SimBus<Echo>>
+    ensures { IfSome result (λ bus. bus.means ≡ first_means) }
+{
+    let mut bus = SimBus::new(alloc).ok()?;
+    if hang(alloc, &mut bus) {
+        Some(bus)
+    } else {
+        None
+    }
+}
+
+/// That bus, or one with nothing on it for a gateway that is late.
+fn bus_of(alloc: Global, is_late: bool) -> Option<SimBus<Echo>>
+    ensures { IfSome result (λ bus. bus.means ≡ first_means) }
+{
+    if is_late {
+        return SimBus::new(alloc).ok();
+    }
+    echoing(alloc)
+}
+
+/// A new gateway is told the last moment, where it is to be late.
+fn tell<I: Instrument>(core: &mut Core<SimBus<I>>, is_late: bool)
+    requires { core.old.interleaved ≡ first_interleaved 9011 }
+    ensures { IsUnconnected core.new.interleaved }
+{
+    if !is_late {
+        return;
+    }
+    core.sample(u64::MAX);
+}
+
+/// A gateway over a bus.
+fn gateway<I: Instrument>(alloc: Global, bus: SimBus<I>, is_late: bool) -> Option<Core<SimBus<I>>>
+    requires { bus.means ≡ first_means }
+    ensures { IfSome result (λ core. IsUnconnected core.interleaved) }
+{
+    let mut core = Core::start(alloc, bus, 9011).ok()?;
+    tell(&mut core, is_late);
+    Some(core)
+}
+
+/// A link to a gateway over a bus.
+fn link<I: Instrument>(alloc: Global, bus: SimBus<I>, is_late: bool) -> Option<LoopLink<I>>
+    requires { bus.means ≡ first_means }
+{
+    let core = gateway(alloc, bus, is_late)?;
+    LoopLink::new(alloc, core).ok()
+}
+
+/// A client over that.
+fn client<I: Instrument>(
+    alloc: Global,
+    bus: SimBus<I>,
+    is_late: bool,
+) -> Option<Client<LoopLink<I>>>
+    requires { bus.means ≡ first_means }
+{
+    let link = link(alloc, bus, is_late)?;
+    Client::new(alloc, link).ok()
+}
+
+/// Whether a write of these bytes goes through, in two pieces, and is read back.
+fn goes_through<I: Instrument>(
+    client: &mut Client<LoopLink<I>>,
+    bytes: &[u8],
+    into: &mut [u8],
+) -> bool {
+    // The last reply is that of call 3, with error 0, and tells the size of the second piece, 34,464.
+    let last = [
+        0, 0, 0, 3, 0, 0, 0, 1, 0, 0, 0, 0, 0, 0, 0, 0, 0, 0, 0, 0, 0, 0, 0, 0, 0, 0, 0, 0, 0, 0,
+        0x86, 0xA0,
+    ];
+    let end = ReadEnd {
+        len: 100_000,
+        reason: 5,
+    };
+    let is_made = client.create_link(false, 0, b"gpib0,5") == Ok(LINK);
+    let is_written = through_client(client, &LINK, &OPTS, bytes) == Ok(());
+    let is_last = client.last() == last.as_slice();
+    let is_read = client.read(1, &OPTS, 0, into) == Ok(end);
+    is_made && is_written && is_last && is_read && &*into == bytes
+}
+
+/// The same for a client of its own over a bus, where there is memory for both.
+fn text_goes_through<I: Instrument>(
+    alloc: Global,
+    bus: Option<SimBus<I>>,
+    bytes: &[u8],
+    into: &mut [u8],
+) -> Option<bool>
+    requires { IfSome bus (λ bus. bus.means ≡ first_means) }
+{
+    let mut client = client(alloc, bus?, false)?;
+    Some(goes_through(&mut client, bytes, into))
+}
+
+/// 100,000 bytes, the numbers from 0 to 250 over and over.
+fn long_text(alloc: Global) -> Result<Vec<u8>, AllocError> {
+    let mut bytes = vec![in alloc; 0u8; 100_000]?;
+    for (i, byte) in bytes.iter_mut().enumerate() {
+        *byte = (i % 251) as u8;
+    }
+    Ok(bytes)
+}
+
+/// Whether that text goes through, where there is memory for it.
+fn long_goes_through(alloc: Global) -> Option<bool> {
+    let bytes = long_text(alloc).ok()?;
+    let mut into = vec![in alloc; 0u8; 100_000].ok()?;
+    text_goes_through(alloc, echoing(alloc), bytes.as_slice(), into.as_mut_slice())
+}
+
+#[test]
+fn a_write_goes_through(rt: HostRuntime) {
+    assert!(rt; long_goes_through(rt.alloc()) == Some(true));
+}
+
+const DONE: Answer = Ok(Got::Done);
+
+const MADE: Answer = Ok(Got::Link(LINK));
+
+/// Calls of a client over a gateway, and what stands in the two bytes behind them, which are 0 before.
+struct Row {
+    is_late: bool,
+    steps: &'static [(Ask, Answer)],
+    room: [u8; 2],
+}
+
+static ROWS: [Row; 5] = [
+    // Each call of a link to the device, and writes between them.
+    Row {
+        is_late: false,
+        steps: &[
+            (
+                Ask::Create {
+                    lock: true,
+                    lock_timeout: 0,
+                    device: b"gpib0,5",
+                },
+                MADE,
+            ),
+            (Ask::ReadStb, Ok(Got::Status(0))),
+            (Ask::Trigger, DONE),
+            (Ask::Clear, DONE),
+            (Ask::Write(b"B"), DONE),
+            (Ask::Remote, DONE),
+            (Ask::Local, DONE),
+            (Ask::Unlock, DONE),
+            (Ask::Lock, DONE),
+            (Ask::Write(b"C"), DONE),
+            (Ask::Destroy, DONE),
+            (Ask::Destroy, Err(ClientErr::Device(4))),
+        ],
+        room: [0, 0],
+    },
+    // Those for interrupts. A dial fails: no channel.
+    Row {
+        is_late: false,
+        steps: &[
+            (
+                Ask::Create {
+                    lock: false,
+                    lock_timeout: 0,
+                    device: b"gpib0,5",
+                },
+                MADE,
+            ),
+            (Ask::EnableSrq(&[]), DONE),
+            (Ask::CreateIntr(9012), Err(ClientErr::Device(6))),
+            (Ask::DestroyIntr, Err(ClientErr::Device(6))),
+        ],
+        room: [0, 0],
+    },
+    // A command of the bus is refused on a device, and sends its byte on the interface.
+    Row {
+        is_late: false,
+        steps: &[
+            (
+                Ask::Create {
+                    lock: false,
+                    lock_timeout: 0,
+                    device: b"gpib0,5",
+                },
+                MADE,
+            ),
+            (
+                Ask::Create {
+                    lock: false,
+                    lock_timeout: 0,
+                    device: b"gpib0",
+                },
+                Ok(Got::Link(LinkMade {
+                    lid: 2,
+                    abort_port: 9011,
+                    max: 262_144,
+                })),
+            ),
+            (Ask::Docmd(1), Err(ClientErr::Device(8))),
+            (Ask::Docmd(2), Ok(Got::Bytes(1))),
+        ],
+        room: [0x3F, 0],
+    },
+    // Nobody takes the byte until the timeout has passed.
+    Row {
+        is_late: false,
+        steps: &[
+            (
+                Ask::Create {
+                    lock: false,
+                    lock_timeout: 0,
+                    device: b"gpib0,6",
+                },
+                MADE,
+            ),
+            (Ask::Write(b"A"), Err(ClientErr::Device(15))),
+        ],
+        room: [0, 0],
+    },
+    // Nobody takes the byte, and no later moment is left to poll at.
+    Row {
+        is_late: true,
+        steps: &[
+            (
+                Ask::Create {
+                    lock: false,
+                    lock_timeout: 0,
+                    device: b"gpib0,6",
+                },
+                MADE,
+            ),
+            (Ask::Write(b"A"), Err(ClientErr::ReadFault)),
+        ],
+        room: [0, 0],
+    },
+];
+
+/// What a call answers: a command sends the byte 0x3F.
+fn answer_moving<I: Instrument>(
+    client: &mut Client<LoopLink<I>>,
+    ask: Ask,
+    room: &mut [u8; 2],
+) -> Answer {
+    match ask {
+        Ask::Write(bytes) => through_client(client, &LINK, &OPTS, bytes).map(|_| Got::Done),
+        Ask::Docmd(lid) => client
+            .docmd(lid, &OPTS, 0x020000, &[0x3F], room)
+            .map(Got::Bytes),
+        _ => answer(client, LINK.lid, &OPTS, ask),
+    }
+}
+
+/// Whether the calls of a row are answered as it says.
+fn is_answered<I: Instrument>(client: &mut Client<LoopLink<I>>, row: &Row) -> bool {
+    let mut room = [0; 2];
+    let mut same = true;
+    for (ask, want) in row.steps {
+        same &= answer_moving(client, *ask, &mut room) == *want;
+    }
+    same && room == row.room
+}
+
+/// Whether a row holds over a bus, where there is memory for that and its client.
+fn holds<I: Instrument>(alloc: Global, bus: Option<SimBus<I>>, row: &Row) -> Option<bool>
+    requires { IfSome bus (λ bus. bus.means ≡ first_means) }
+{
+    let mut client = client(alloc, bus?, row.is_late)?;
+    Some(is_answered(&mut client, row))
+}
+
+#[test]
+fn calls_are_answered(rt: HostRuntime) {
+    for (place, row) in ROWS.iter().enumerate() {
+        let is_so = holds(rt.alloc(), bus_of(rt.alloc(), row.is_late), row);
+        assert!(rt; is_so == Some(true), "row {place}");
+    }
+}
+
+/// The host `h`, which answers at port 9010 over a link of its own.
+fn reach<I: Instrument>(alloc: Global, bus: SimBus<I>) -> Option<MemReach<LoopLink<I>>>
+    requires { bus.means ≡ first_means }
+{
+    let link = link(alloc, bus, false)?;
+    let host = String::from_str(alloc, "h").ok()?;
+    Some(MemReach::new(link, host, 9010))
+}
+
+/// Whether a command over a reach ends with a status and prints a text.
+fn comes_so<R: Reach + Drop>(
+    alloc: Global,
+    words: &[String],
+    reach: R,
+    status: u8,
+    text: &str,
+) -> bool {
+    let mut sink = MemSink::new(Vec::new(alloc), Vec::new(alloc));
+    run_so(alloc, words, reach, &mut sink, status, text).1
+}
+
+/// The same for the words of a line over a link of its own, where there is memory for them.
+fn line_comes_so<I: Instrument>(
+    alloc: Global,
+    bus: Option<SimBus<I>>,
+    line: &str,
+    status: u8,
+    text: &str,
+) -> Option<bool>
+    requires { IfSome bus (λ bus. bus.means ≡ first_means) }
+{
+    let reach = reach(alloc, bus?)?;
+    let list = line_words(alloc, line).ok()?;
+    Some(comes_so(alloc, list.as_slice(), reach, status, text))
+}
+
+/// Command lines, what each ends with, and what it prints.
+static LINES: [(&str, u8, &str); 2] = [
+    ("h 9010 gpib0,5 query A", 0, "410A\n"),
+    ("h 9010 gpib0,31 query A", 3, "error 21\n"),
+];
+
+#[test]
+fn a_command_is_done(rt: HostRuntime) {
+    for (line, status, text) in &LINES {
+        let is_so = line_comes_so(rt.alloc(), echoing(rt.alloc()), line, *status, text);
+        assert!(rt; is_so == Some(true), "{line}");
+    }
+}
+
+/// A send over a link and what it answers, or a receive of at most so many bytes, at most 20, what it answers, and the front
+/// of what came.
+#[derive(Clone, Copy)]
+enum Act {
+    Send(&'static [u8], WriteOut),
+    Receive(usize, ReadOut, &'static [u8]),
+}
+
+/// The null procedure, as call 1.
+const NULL: [u8; 44] = [
+    0x80, 0, 0, 40, 0, 0, 0, 1, 0, 0, 0, 0, 0, 0, 0, 2, 0, 6, 7, 0xAF, 0, 0, 0, 1, 0, 0, 0, 0, 0,
+    0, 0, 0, 0, 0, 0, 0, 0, 0, 0, 0, 0, 0, 0, 0,
+];
+
+/// The first 20 bytes of its reply.
+const REPLY: [u8; 20] = [
+    0x80, 0, 0, 24, 0, 0, 0, 1, 0, 0, 0, 1, 0, 0, 0, 0, 0, 0, 0, 0,
+];
+
+/// What a link does by turns.
+static ACTS: [&[Act]; 3] = [
+    // A record of one byte, which is no call, fails, and ends the connection.
+    &[
+        Act::Send(&[0x80, 0, 0, 1], WriteOut::Took(4)),
+        Act::Receive(8, ReadOut::End, &[]),
+        Act::Send(&[0], WriteOut::Failed),
+        Act::Send(&[0, 1], WriteOut::Took(2)),
+        Act::Receive(8, ReadOut::End, &[]),
+    ],
+    // So does one of 263,169 bytes, which is too long.
+    &[Act::Send(&[0x80, 4, 4, 1, 0], WriteOut::Failed)],
+    // A reply is given once, in parts of at most 20 bytes; and what comes before a whole reply was received ends the
+    // connection.
+    &[
+        Act::Send(&NULL, WriteOut::Took(44)),
+        Act::Receive(20, ReadOut::Got(20), &REPLY),
+        Act::Receive(20, ReadOut::Got(8), &[]),
+        Act::Receive(20, ReadOut::End, &[]),
+        Act::Send(&NULL, WriteOut::Took(44)),
+        Act::Send(&NULL, WriteOut::Took(44)),
+        Act::Receive(20, ReadOut::Got(20), &[]),
+        Act::Receive(20, ReadOut::Got(8), &[]),
+        Act::Send(&NULL, WriteOut::Took(44)),
+        Act::Receive(20, ReadOut::End, &[]),
+    ],
+];
+
+/// Whether a send or a receive is answered so.
+fn acts_so<L: Link>(link: &mut L, act: Act) -> bool {
+    match act {
+        Act::Send(bytes, want) => !bytes.is_empty() && link.send(bytes) == want,
+        Act::Receive(most, want, front) => {
+            let mut room = [9u8; 20];
+            link.receive(&mut room[..most.clamp(1, 20)]) == want && room.starts_with(front)
+        }
+    }
+}
+
+/// Whether a link answers all of these so.
+fn acts<L: Link + Drop>(link: L, list: &[Act]) -> bool {
+    let mut link = link;
+    let mut same = true;
+    for act in list {
+        same &= acts_so(&mut link, *act);
+    }
+    same
+}
+
+/// The same of a link of its own over a bus, where there is memory for both.
+fn link_acts<I: Instrument>(alloc: Global, bus: Option<SimBus<I>>, list: &[Act]) -> Option<bool>
+    requires { IfSome bus (λ bus. bus.means ≡ first_means) }
+{
+    let link = link(alloc, bus?, false)?;
+    Some(acts(link, list))
+}
+
+#[test]
+fn records_are_answered(rt: HostRuntime) {
+    for (place, list) in ACTS.iter().enumerate() {
+        let is_so = link_acts(rt.alloc(), echoing(rt.alloc()), list);
+        assert!(rt; is_so == Some(true), "list {place}");
+    }
+}
