@@ -1,0 +1,4 @@
+-- Laws that the crates above cite, each in the file of this folder that has its proof.
+pub mod Lengths
+pub mod Meanings
+pub mod Chunks

@@ -1,0 +1,9 @@
+pub mod Laws
+pub mod Sending
+pub mod Reading
+pub mod Calling
+pub mod Ending
+pub mod Parts
+pub mod Ports
+pub mod Fitting
+pub mod Commands
