@@ -1,0 +1,4 @@
+mod Bursting
+mod Stopping
+mod Resting
+mod Paths
