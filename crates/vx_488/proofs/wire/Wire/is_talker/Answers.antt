@@ -1,0 +1,5 @@
+use Rattle.std.proofs.Common.{rules}
+use Rattle.vx_488.proofs.wire.Wire.is_talker.Goals as goal
+
+pub returns : goal.returns
+returns c = search rules

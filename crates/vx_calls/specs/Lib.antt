@@ -1,0 +1,4 @@
+pub mod ErrorCode
+pub mod Target
+pub mod Call
+pub mod Reply

@@ -1,0 +1,10 @@
+pub mod Outcome
+pub mod Telling
+pub mod Verdicts
+pub use Rattle.vx_rules.specs.Legal
+pub use Rattle.vx_flow.specs.Event
+pub use Rattle.vx_flow.specs.Linearization
+pub use Rattle.vx_history.specs.CheckState
+pub use Rattle.vx_history.specs.Formed
+pub use Rattle.vx_history.specs.History
+pub use Rattle.vx_history.specs.Shown

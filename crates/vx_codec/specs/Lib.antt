@@ -1,0 +1,10 @@
+pub mod Row
+pub mod Asked
+pub mod Answered
+pub mod Text
+pub use Rattle.vx_xdr.specs.Spelling
+pub use Rattle.vx_calls.specs.Call
+pub use Rattle.vx_calls.specs.ErrorCode
+pub use Rattle.vx_calls.specs.Reply
+pub use Rattle.vx_xdr.specs.Reading
+pub use Rattle.vx_xdr.specs.Writing

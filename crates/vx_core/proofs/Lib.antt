@@ -1,0 +1,16 @@
+pub mod Laws
+pub mod Leaving
+pub mod Replying
+pub mod Turning
+pub mod Dialing
+pub mod Dials
+pub mod Keeping
+pub mod CoreCalls
+pub mod Settling
+pub mod Ends
+pub mod Moving
+pub mod Ordering
+pub mod Hearing
+pub mod Lent
+pub mod Began
+pub mod Standing

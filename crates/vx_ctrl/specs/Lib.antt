@@ -1,0 +1,15 @@
+pub mod Turns
+pub mod Goes
+pub mod Asking
+pub mod Runs
+pub mod Laws
+pub use Rattle.vx_488.specs.Wire
+pub use Rattle.vx_bus_traits.specs.Means
+pub use Rattle.vx_bus_traits.specs.Steps
+pub use Rattle.vx_bus_traits.specs.Walks
+pub use Rattle.vx_plan.specs.Places
+pub use Rattle.vx_plan.specs.Plan
+pub use Rattle.vx_plan.specs.Results
+pub use Rattle.vx_plan.specs.Tasks
+pub use Rattle.vx_plan.specs.Transfers
+pub use Rattle.vx_plan.specs.Whole

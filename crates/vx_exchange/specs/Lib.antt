@@ -1,0 +1,13 @@
+pub mod Meaning
+pub mod Opening
+pub mod Doing
+pub use Rattle.vx_rules.specs.SrqState
+pub use Rattle.vx_srq.specs.Shown
+pub use Rattle.vx_calls.specs.Call
+pub use Rattle.vx_calls.specs.Reply
+pub use Rattle.vx_record.specs.Fragments
+pub use Rattle.vx_rpc.specs.Sorting
+pub use Rattle.vx_rpc.specs.Wording
+pub use Rattle.vx_codec.specs.Answered
+pub use Rattle.vx_codec.specs.Asked
+pub use Rattle.vx_codec.specs.Spelling

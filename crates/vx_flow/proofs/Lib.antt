@@ -1,0 +1,3 @@
+pub mod Laws
+pub mod Example
+pub mod TwoRises

@@ -1,0 +1,2 @@
+-- Laws that the crates above cite, each in the file of this folder that has its proof.
+pub mod Histories

@@ -1,0 +1,10 @@
+pub mod Asked
+pub mod Drawing
+pub mod Generating
+pub mod SummaryText
+pub use Rattle.vx_calls.specs.Call
+pub use Rattle.vx_rpc.specs.Procedure
+pub use Rattle.vx_rpc.specs.Wording
+pub use Rattle.vx_record.specs.Fragments
+pub use Rattle.vx_script.specs.Command
+pub use Rattle.vx_script.specs.Plain

@@ -1,0 +1,9 @@
+pub mod Laws
+pub mod Standing
+pub mod Plainly
+pub mod Rows
+pub mod Phasing
+pub mod Linking
+pub mod Knowing
+pub mod Turns
+pub mod Owning

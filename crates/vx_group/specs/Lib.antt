@@ -1,0 +1,16 @@
+pub mod Groups
+pub mod Phases
+pub mod MadeLinks
+pub mod Owning
+pub mod Laws
+pub use Rattle.vx_calls.specs.Call
+pub use Rattle.vx_bus_traits.specs.Steps
+pub use Rattle.vx_rules.specs.Lists
+pub use Rattle.vx_gate.specs.History
+pub use Rattle.vx_flow.specs.Event
+pub use Rattle.vx_flow.specs.InterleavedStep
+pub use Rattle.vx_flow.specs.InterleavedState
+pub use Rattle.vx_flow.specs.Claims
+pub use Rattle.vx_flow.specs.Poll
+pub use Rattle.vx_flow.specs.Sound
+pub use Rattle.vx_flow.specs.State

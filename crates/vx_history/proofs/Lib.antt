@@ -1,0 +1,17 @@
+pub mod Leading
+pub mod Telling
+pub mod Stepped
+pub mod Cutting
+pub mod Going
+pub mod Spelled
+pub mod Longest
+pub mod FormedReads
+pub mod FormedAnswers
+pub mod FormedStands
+pub mod FormedLines
+pub mod FormedPolls
+pub mod FormedSteps
+pub mod FormedSrqs
+pub mod FormedRuns
+pub mod Told
+pub mod Short

@@ -1,0 +1,3 @@
+pub use Rattle.vx_io.specs.Accepts
+pub use Rattle.vx_io.specs.Faults
+pub use Rattle.vx_io.specs.Rung

@@ -1,0 +1,13 @@
+pub mod Joined
+pub use Rattle.vx_text.specs.Ends
+pub use Rattle.vx_text.specs.Reading
+pub use Rattle.vx_setup.specs.Rack
+pub use Rattle.vx_rules.specs.Legal
+pub use Rattle.vx_flow.specs.Linearization
+pub use Rattle.vx_run.specs.Item
+pub use Rattle.vx_player.specs.Play
+pub use Rattle.vx_play.specs.Ended
+pub use Rattle.vx_history.specs.CheckState
+pub use Rattle.vx_history.specs.History
+pub use Rattle.vx_history.specs.Formed
+pub use Rattle.vx_check.specs.Verdicts

@@ -1,0 +1,3 @@
+pub mod Shown
+pub mod Inside
+pub use Rattle.vx_rules.specs.Table

@@ -1,0 +1,13 @@
+pub mod Streams
+pub mod Happening
+pub mod Turns
+pub mod Continuing
+pub mod Going
+pub mod Looking
+pub mod Starting
+pub mod Calling
+pub mod Hearing
+pub mod Exchanged
+pub mod Several
+pub mod Ended
+pub mod Resting

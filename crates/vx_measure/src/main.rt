@@ -1,0 +1,43 @@
+//! What a benchmark and a trial of memory start beside the programs, in one program with a word for each:
+//!
+//! - `vx_measure gate THREADS TURNS`: so many threads, 0 to 64, take so many turns each at one gate, and the number of all turns is
+//!   printed.
+//! - `vx_measure buses PORT LINKS`: serves so many links that come to PORT, one or two, both at once, by four simulated buses with
+//!   an echo at address 5 each. It prints `ready` once the port is open, and ends with the links.
+//! - `vx_measure loop`: a client and a gateway in one program. A text is written to an instrument that gives it back, is read again,
+//!   and what came back is printed.
+//!
+//! Other words get a line of usage. What these runs take is for others to measure.
+#![tactic(auto)]
+
+mod asking;
+mod comers;
+mod racks;
+mod serving;
+mod status;
+mod takers;
+mod words;
+
+use crate::asking::ask_once;
+use crate::comers::serve_at;
+use crate::status::Status;
+use crate::takers::tell_turns;
+use crate::words::{Asked, asked_of};
+use std::process::ExitCode;
+use vx_io::{Bound, Net, TcpNet};
+
+fn main(rt: HostRuntime) -> ExitCode {
+    let status = match asked_of(&rt) {
+        Ok(Asked::Gate { threads, turns }) => tell_turns(rt, threads, turns),
+        Ok(Asked::Buses { port, links }) => match TcpNet::new(&rt).bind(port) {
+            Bound::Port(port) => serve_at(&rt, port, links),
+            Bound::Failed => Status::NoPort,
+        },
+        Ok(Asked::Loop) => ask_once(&rt),
+        Err(status) => status,
+    };
+    if status == Status::Usage {
+        let _ = println!(rt; "usage: vx_measure gate THREADS TURNS | buses PORT LINKS | loop");
+    }
+    ExitCode::from(status.number())
+}

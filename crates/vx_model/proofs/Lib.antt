@@ -1,0 +1,4 @@
+pub mod Orderly
+pub mod Folding
+pub mod Standing
+pub mod Answering

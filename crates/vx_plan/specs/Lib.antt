@@ -1,0 +1,14 @@
+pub mod Transfers
+pub mod Plan
+pub mod Tasks
+pub mod Whole
+pub mod Results
+pub mod Places
+pub mod Runs
+pub mod Roles
+pub mod Moves
+pub mod Laws
+pub use Rattle.vx_calls.specs.Reply
+pub use Rattle.vx_calls.specs.Target
+pub use Rattle.vx_488.specs.Heard
+pub use Rattle.vx_488.specs.Wire

@@ -1,0 +1,11 @@
+pub mod Grammar
+pub mod Reading
+pub mod Judging
+pub mod Cutting
+pub mod Laws
+pub mod Targets
+pub mod Texts
+pub use Rattle.vx_calls.specs.Target
+pub use Rattle.vx_calls.specs.Call
+pub use Rattle.vx_rules.specs.Calls
+pub use Rattle.vx_text.specs.TextLines

@@ -1,0 +1,4 @@
+pub mod Laws
+pub mod HeaderLemmas
+pub mod PutLemmas
+pub mod InverseLemmas

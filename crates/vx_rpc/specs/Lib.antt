@@ -1,0 +1,10 @@
+pub mod Procedure
+pub mod Header
+pub mod CallMeaning
+pub mod Sorting
+pub mod ReplyMeaning
+pub mod Wording
+pub mod Spelled
+pub use Rattle.vx_xdr.specs.Reading
+pub use Rattle.vx_xdr.specs.Spelling
+pub use Rattle.vx_xdr.specs.Writing

@@ -1,0 +1,6 @@
+pub mod Laws
+pub mod EntryLaws
+pub mod Passing
+pub mod Giving
+pub mod NewNumbers
+pub mod Channels

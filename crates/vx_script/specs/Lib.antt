@@ -1,0 +1,11 @@
+pub mod Command
+pub mod Words
+pub mod Grammar
+pub mod Version
+pub mod Timed
+pub mod Plain
+pub mod Reads
+pub mod Cause
+pub mod Table
+pub mod Laws
+pub use Rattle.vx_calls.specs.Target

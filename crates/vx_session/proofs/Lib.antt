@@ -1,0 +1,11 @@
+pub mod Laws
+pub mod Pumped
+pub mod Moments
+pub mod Adding
+pub mod Phased
+pub mod Owned
+pub mod Making
+pub mod Outcomes
+pub mod Channels
+pub mod Polled
+pub mod Calling

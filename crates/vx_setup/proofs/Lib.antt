@@ -1,0 +1,4 @@
+pub mod Laws
+pub mod Tabled
+pub mod Attached
+pub mod Setting

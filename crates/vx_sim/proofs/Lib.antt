@@ -1,0 +1,9 @@
+pub mod Laws
+pub mod Changes
+pub mod Apart
+pub mod Known
+pub mod Finding
+pub mod Stepping
+pub mod Runs
+pub mod Seats
+pub mod Giving

@@ -1,0 +1,16 @@
+use Rattle.std.proofs.Common.{◌≡◌, ◌+◌, ◌&&◌, ◌==◌, Bool, length, sym, arith}
+use Rattle.vx_bus_traits.proofs.Laws.Puts.{last-then, last-else}
+use Rattle.vx_sim.specs.Occupants.{Table}
+use Rattle.vx_sim.proofs.Runs.{takes-next}
+use Rattle.vx_sim.proofs.places.take_run.Goals.{then-end, else-end}
+use Rattle.vx_sim.proofs.places.take_run.Goals as goal
+
+pub loop-taken-preserved : goal.loop-taken-preserved
+loop-taken-preserved c =
+    let more : Bool = c.loop-taken.taken + 1 == length c.args.bytes.now in
+    let is : c.if-end.take ≡ (c.args.end && more) =
+    elim c.if-end.branch [ then-end w ↦ last-then c.args.end _ more w.if-end.true w.take-is | else-end w ↦ last-else c.args.end _ more w.if-end.false w.take-is ] in (
+      takes-next c.args.end c.args.bytes.now c.loop-taken.taken 0 _ (Table c.args.table.now) (Table c.loop-taken.table) (Table c.take.new.self)
+          (omega arith) is c.loop-taken.invariant.0 (sym c.if-can_take.ensures.can) c.take.ensures.rule,
+      omega arith,
+    )

@@ -1,0 +1,5 @@
+pub mod Laws
+pub mod Changes
+pub mod Due
+pub mod Places
+pub mod Held

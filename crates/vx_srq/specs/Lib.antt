@@ -1,0 +1,4 @@
+pub mod Shown
+pub mod Told
+pub mod Inside
+pub use Rattle.vx_rules.specs.SrqState

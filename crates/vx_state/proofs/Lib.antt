@@ -1,0 +1,11 @@
+pub mod Places
+pub mod Order
+pub mod Marks
+pub mod NamedLinks
+pub mod Dropping
+pub mod Closing
+pub mod JobInput
+pub mod Room
+pub mod Granting
+pub mod Doable
+pub mod InLine

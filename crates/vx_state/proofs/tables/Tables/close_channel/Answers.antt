@@ -1,0 +1,14 @@
+use Rattle.std.proofs.Common.{None}
+use Rattle.vx_state.specs.Inside.{tables_of}
+use Rattle.vx_rules.proofs.Laws.Keeping.{with_channel-sound}
+use Rattle.vx_state.proofs.Closing.{srq_state_sound}
+use Rattle.vx_state.proofs.tables.Tables.close_channel.Goals as goal
+
+pub invariant_of-self : goal.invariant_of-self
+invariant_of-self c = record {
+  sound = srq_state_sound (tables_of c.self.inside) _ _ c.close.ensures.closed (with_channel-sound (tables_of c.self.inside) c.args.conn None c.self.invariant.sound);
+  room = c.self.invariant.room;
+  ordered = c.self.invariant.ordered;
+  numbers = c.self.invariant.numbers;
+  plain = c.self.invariant.plain;
+}

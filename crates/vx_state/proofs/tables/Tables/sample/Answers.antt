@@ -1,0 +1,13 @@
+use Rattle.vx_state.specs.Inside.{tables_of}
+use Rattle.vx_rules.proofs.Laws.Keeping.{sampled-sound}
+use Rattle.vx_state.proofs.Closing.{srq_state_sound}
+use Rattle.vx_state.proofs.tables.Tables.sample.Goals as goal
+
+pub invariant_of-self : goal.invariant_of-self
+invariant_of-self c = record {
+  sound = srq_state_sound (tables_of c.self.inside) _ _ c.sample.ensures (sampled-sound (tables_of c.self.inside) c.args.level c.self.invariant.sound);
+  room = c.self.invariant.room;
+  ordered = c.self.invariant.ordered;
+  numbers = c.self.invariant.numbers;
+  plain = c.self.invariant.plain;
+}

@@ -1,0 +1,14 @@
+use Rattle.std.proofs.Common.{◌≡◌, length, None}
+use Rattle.vx_door.specs.Going.{Went}
+use Rattle.vx_stream.proofs.Streamwise.{Streamed}
+use Rattle.vx_stream.proofs.streams.answer_stream.Given as goal
+
+abbrev pub invariant-loop : goal.invariant-loop
+invariant-loop g l = record {
+  so_far : Streamed g.S.Answers.does g.L.Link l.initial.incoming.limit (length l.initial.piece) None l.initial.server l.initial.link (length l.piece) l.server l.link l.incoming;
+  went : Went g.L.Link.receives g.L.Link.sends l.initial.link l.link;
+  can : g.S.Answers.can l.server;
+  limit : l.incoming.limit ≡ l.initial.incoming.limit;
+  piece_len : length l.piece ≡ length l.initial.piece;
+  len : length l.reply ≡ length l.initial.reply;
+}

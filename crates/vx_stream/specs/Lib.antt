@@ -1,0 +1,11 @@
+pub mod Shown
+pub mod Sending
+pub mod Answered
+pub mod Calling
+pub mod Pieces
+pub mod Stopping
+pub mod Visiting
+pub use Rattle.vx_io_traits.specs.Faults
+pub use Rattle.vx_io_traits.specs.Stands
+pub use Rattle.vx_door.specs.Going
+pub use Rattle.vx_record.specs.Records

@@ -1,0 +1,56 @@
+//! Tests of the shared gateway, its turns and its sessions, of those at a desk with names, of sessions over four buses, and of those that
+//! written rules guard.
+#![tactic(auto)]
+
+#[cfg(test)]
+mod asking_tools;
+#[cfg(test)]
+mod buses_crossed_tests;
+#[cfg(test)]
+mod buses_number_tests;
+#[cfg(test)]
+mod buses_run_tests;
+#[cfg(test)]
+mod buses_session_tests;
+#[cfg(test)]
+mod buses_tools;
+#[cfg(test)]
+mod core_tests;
+#[cfg(test)]
+mod crossed_session_tests;
+#[cfg(test)]
+mod crossing_tools;
+#[cfg(test)]
+mod exchange_tests;
+#[cfg(test)]
+mod gateway_tools;
+#[cfg(test)]
+mod guard_run_tests;
+#[cfg(test)]
+mod guard_session_tests;
+#[cfg(test)]
+mod guard_tools;
+#[cfg(test)]
+mod names_tests;
+#[cfg(test)]
+mod pause_tests;
+#[cfg(test)]
+mod policy_tests;
+#[cfg(test)]
+mod pump_tests;
+#[cfg(test)]
+mod record_tools;
+#[cfg(test)]
+mod ruled_buses_tests;
+#[cfg(test)]
+mod run_tools;
+#[cfg(test)]
+mod serving_tools;
+#[cfg(test)]
+mod session_tests;
+#[cfg(test)]
+mod slice_tests;
+#[cfg(test)]
+mod told_tests;
+#[cfg(test)]
+mod turns_tests;

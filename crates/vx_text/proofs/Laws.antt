@@ -1,0 +1,3 @@
+-- Laws that the crates above cite, each in the file of this folder that has its proof.
+pub mod Moved
+pub mod Cuts

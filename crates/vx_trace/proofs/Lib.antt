@@ -1,0 +1,13 @@
+pub mod Hexadecimal
+pub mod Overwrites
+pub mod Cuts
+pub mod Numbers
+pub mod Moves
+pub mod Choices
+pub mod Again
+pub mod Found
+pub mod Answered
+pub mod Ends
+pub mod Causes
+pub mod Moments
+pub mod Versions
