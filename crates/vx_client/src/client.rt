@@ -1,6 +1,10 @@
 //! The client and the one exchange that every call stands on.
 
-ghost use Rattle.std.specs.Prelude.{◌≡◌, ◌≤◌, ◌<◌, ◌^◌, false, [], length, IfOk, IfErr};
+ghost use Rattle.std.specs.Prelude.{◌≡◌, ◌≤◌, ◌<◌, ◌^◌, ◌||◌, false, [], length, IfOk, IfErr};
+ghost use Rattle.std.specs.Io.KnownBytes.{Keeps};
+ghost use Rattle.vx_io_traits.specs.Faults.{Rose};
+ghost use Rattle.vx_io_traits.specs.Rung.{OnDialFailed, is_up};
+ghost use Rattle.vx_io_traits.specs.Stands.{Stays};
 ghost use Rattle.vx_calls.specs.Call.{call_shown};
 ghost use Rattle.vx_record.specs.Buffer.{fresh};
 ghost use Rattle.vx_calls.specs.declared.limits.TheConstants.{PIECE_MAX};
@@ -22,7 +26,7 @@ use std::alloc::Global;
 use std::marker::Model;
 use std::mem::swap;
 use vx_calls::{CallRef, REPLY_MAX};
-use vx_io_traits::Link;
+use vx_io_traits::{DialOut, Link, Reach};
 
 /// What a client keeps of its calls, whatever link they go over: the number of the next one, whether a further one is
 /// sent, the record of the last reply, and the bytes that came behind that.
@@ -281,5 +285,23 @@ impl<L> Client<L> {
             bytes,
         };
         self.talk.order(link, &call)
+    }
+}
+
+impl<L: Reach> Client<L> {
+    /// Connects its link to a port of a host. Beside its link it keeps what it kept: over a link that was made anew it is to
+    /// be renewed, since what came by an older one has no use there.
+    pub fn reach(&mut self, host: &str, port: u16) -> DialOut
+        ensures over { self.new ≡ client_with_link self.old self.new.link }
+        ensures tries { L.tries self.old.link host.now port result self.new.link }
+        ensures ready { L.is_ready self.new.link ≡ (is_up result || L.is_ready self.old.link) }
+        ensures counted { L.refused self.old.link ≤ L.refused self.new.link }
+        ensures failed { OnDialFailed result (Rose (L.refused self.old.link) (L.refused self.new.link)) }
+        ensures receives { L.receive_faults self.new.link ≡ L.receive_faults self.old.link }
+        ensures sends { L.send_faults self.new.link ≡ L.send_faults self.old.link }
+        ensures left { Keeps (L.left self.old.link) (L.left self.new.link) }
+        ensures stays { Stays L.stands self.old.link self.new.link }
+    {
+        self.link.reach(host, port)
     }
 }
