@@ -7,7 +7,7 @@ use std::alloc::{AllocError, Global};
 use std::test::Fail;
 use vx_bus_traits::{Bus, Move, Stop};
 use vx_client::ClientErr;
-use vx_memory::MemLink;
+use vx_memory::{MemLink, MemReach};
 use vx_upstream::{OpenErr, UpstreamBus};
 
 /// A link that gives these words, and then others.
@@ -22,11 +22,33 @@ fn link(alloc: Global, first: &[u32], more: &[u32]) -> Result<MemLink, AllocErro
     Ok(MemLink::new(bytes, 64, Vec::new(alloc), Vec::new(alloc)))
 }
 
-/// What comes of a bus whose box answers so.
-fn opened(alloc: Global, link: MemLink) -> Result<UpstreamBus<MemLink>, OpenErr>
-    ensures { IfOk result (λ bus. bus.means ≡ first_means) }
+type Bench = UpstreamBus<MemReach<MemLink>>;
+
+/// What comes of a bus whose box is reached at port 9010, and answers so, where it is looked for at this port.
+fn opened_at(alloc: Global, link: MemLink, port: u16) -> Result<Bench, OpenErr>
+    ensures { IfOk result (λ bus. bus.kept.means ≡ first_means) }
 {
-    UpstreamBus::open(alloc, link, b"gpib0", 10)
+    let Ok(there) = String::from_str(alloc, "box") else {
+        return Err(OpenErr::NoMemory);
+    };
+    let Ok(host) = String::from_str(alloc, "box") else {
+        return Err(OpenErr::NoMemory);
+    };
+    UpstreamBus::open(
+        alloc,
+        MemReach::new(link, there, 9010),
+        host,
+        port,
+        b"gpib0",
+        10,
+    )
+}
+
+/// What comes of one whose box answers so.
+fn opened(alloc: Global, link: MemLink) -> Result<Bench, OpenErr>
+    ensures { IfOk result (λ bus. bus.kept.means ≡ first_means) }
+{
+    opened_at(alloc, link, 9010)
 }
 
 // Link 7, whose writes take 1024 bytes; and three device_docmd with no error: no data, two bytes, four bytes.
@@ -83,7 +105,15 @@ fn why_there_is_no_bus(rt: HostRuntime) -> Result<(), Fail> {
     Ok(())
 }
 
-/// What a bus at rest is asked.
+#[test]
+fn a_box_that_is_not_reached(rt: HostRuntime) -> Result<(), Fail> {
+    let link = link(rt.alloc(), REST, &[])?;
+    let came = opened_at(rt.alloc(), link, 9011).err();
+    assert_eq!(rt; came, Some(OpenErr::NoReach));
+    Ok(())
+}
+
+/// What a bus is asked.
 #[derive(Clone, Copy)]
 enum Act {
     Command(u8),
@@ -106,9 +136,8 @@ enum Came {
     Levels(bool, bool),
 }
 
-fn asked_so(bus: &mut UpstreamBus<MemLink>, act: Act, room: &mut [u8; 8]) -> Came
-    requires { bus.old.means ≡ first_means }
-{
+fn asked_so(bus: &mut Bench, act: Act, room: &mut [u8; 8]) -> Came {
+    bus.cut();
     match act {
         Act::Command(b) => Came::One(bus.command(b)),
         Act::Puts(bytes) => {
@@ -284,5 +313,42 @@ fn what_answers_of_a_box_come_to(rt: HostRuntime) -> Result<(), Fail> {
         let told = acted(rt.alloc(), link, asked, bytes);
         assert!(rt; told == (came, true), "row {number}");
     }
+    Ok(())
+}
+
+// A command that fails, one while the bus is away, a moment, and a command. The box answers error 15 (I/O timeout) to the first, and 0 to
+// interface clear, its address, remote enable, SPD and the last command.
+const BACK: &[u32] = &[
+    0x80000020, 5, 1, 0, 0, 0, 0, 15, 0, 0x80000020, 6, 1, 0, 0, 0, 0, 0, 0, 0x80000024, 7, 1, 0,
+    0, 0, 0, 0, 4, 0, 0x80000024, 8, 1, 0, 0, 0, 0, 0, 2, 0, 0x80000024, 9, 1, 0, 0, 0, 0, 0, 1,
+    0x19000000, 0x80000024, 10, 1, 0, 0, 0, 0, 0, 1, 0x14000000,
+];
+
+static ONE_AFTER_THE_OTHER: [(Act, Came); 4] = [
+    (Act::Command(0x14), Came::One(Move::Failed)),
+    (Act::Command(0x14), Came::One(Move::Failed)),
+    (Act::Levels(0), Came::Levels(false, false)),
+    (Act::Command(0x14), Came::One(Move::Went)),
+];
+
+/// What they come to, one after the other.
+fn all_come_so(bus: &mut Bench) -> bool {
+    let mut room = [0u8; 8];
+    let mut all = true;
+    for row in &ONE_AFTER_THE_OTHER {
+        let (asked, came) = *row;
+        all = asked_so(bus, asked, &mut room) == came && all;
+    }
+    all
+}
+
+#[test]
+fn a_bus_that_failed_comes_back(rt: HostRuntime) -> Result<(), Fail> {
+    let link = link(rt.alloc(), REST, BACK)?;
+    let came = match opened(rt.alloc(), link) {
+        Ok(mut bus) => all_come_so(&mut bus),
+        Err(_) => false,
+    };
+    assert!(rt; came);
     Ok(())
 }

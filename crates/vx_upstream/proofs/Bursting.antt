@@ -19,7 +19,7 @@ use Rattle.vx_bus_traits.specs.declared.bursts.Stop.TheVariants as stop
 use Rattle.std.specs.Prelude.{slice_index, Option, None}
 use Rattle.std.proofs.Math.Seq.{take-length}
 use Rattle.vx_client.specs.State.{ClientState}
-use Rattle.vx_upstream.specs.UpstreamState.{UpstreamState, after, past}
+use Rattle.vx_upstream.specs.UpstreamState.{UpstreamState, Kept, IsHere, IsAway, after, past}
 use Rattle.vx_upstream.specs.Answering.{got_one}
 use Rattle.vx_upstream.specs.Sending.{LinkWords, Wrote, ReadMany}
 use Rattle.vx_upstream.specs.Stepping.{Comes, Through}
@@ -27,7 +27,7 @@ use Rattle.vx_upstream.specs.Stepping.{Comes, Through}
 -- ---- what a bus means after steps
 
 -- after two lists of steps
-pub past-append : (m : Means) (xs ys : List Step) → past m (xs ++ ys) ≡ past (past m xs) ys
+pub past-append : (m : Kept) (xs ys : List Step) → past m (xs ++ ys) ≡ past (past m xs) ys
 past-append m [] ys = refl
 past-append m (x ∷ xs) ys = past-append (after m x) xs ys
 
@@ -110,85 +110,104 @@ gets-are bytes why = gets-are-ended (is_end why) bytes (refused_get why) (refuse
 
 module _ {L : Type 0} (t : LinkWords L) (old : UpstreamState L) (client : ClientState L) where
   -- the bus behind the call, which means this, and of whose steps these are due
-  abbrev amid : Means → List Step → UpstreamState L
-  amid m due = record old { client = client; means = m; due = due }
+  abbrev amid : Kept → List Step → UpstreamState L
+  amid m due = record old { client = client; kept = m; due = due }
 
   abbrev Goes : UpstreamState L → List Step → UpstreamState L → Type 0
-  Goes a steps b = Walk (λ (s : UpstreamState L). s.means) (λ (o : UpstreamState L) s n. Through t o s n) a steps b
+  Goes a steps b = Walk (λ (s : UpstreamState L). s.kept.means) (λ (o : UpstreamState L) s n. Through t o s n) a steps b
 
   -- a step that was due is told
-  told-step : (m : Means) (s : Step) (due : List Step) → IsByteStep s
-      → StepsTo (λ (s : UpstreamState L). s.means) (λ (o : UpstreamState L) s n. Through t o s n) (amid m (s ∷ due)) s (amid (after m s) due)
-  told-step m (Went (Put b end)) due h = (refl, (refl, refl, refl, (refl, inl (refl, refl))))
-  told-step m (Went (Got b end)) due h = (refl, (refl, refl, refl, (refl, inl (refl, refl))))
+  told-step : (m : Kept) (s : Step) (due : List Step) → IsByteStep s
+      → StepsTo (λ (s : UpstreamState L). s.kept.means) (λ (o : UpstreamState L) s n. Through t o s n) (amid m (s ∷ due)) s (amid (after m s) due)
+  told-step m (Went (Put b end)) due h = (refl, (refl, refl, ((refl, refl, refl, refl), inl (refl, refl))))
+  told-step m (Went (Got b end)) due h = (refl, (refl, refl, ((refl, refl, refl, refl), inl (refl, refl))))
   told-step m (Went _) due h = absurd h
-  told-step m (Held (ask.Put b end)) due h = (refl, (refl, refl, refl, (refl, inl (refl, refl))))
-  told-step m (Held ask.Get) due h = (refl, (refl, refl, refl, (refl, inl (refl, refl))))
+  told-step m (Held (ask.Put b end)) due h = (refl, (refl, refl, ((refl, refl, refl, refl), inl (refl, refl))))
+  told-step m (Held ask.Get) due h = (refl, (refl, refl, ((refl, refl, refl, refl), inl (refl, refl))))
   told-step m (Held _) due h = absurd h
-  told-step m (Failed (ask.Put b end)) due h = (refl, (refl, refl, refl, (refl, inl (refl, refl))))
-  told-step m (Failed ask.Get) due h = (refl, (refl, refl, refl, (refl, inl (refl, refl))))
+  told-step m (Failed (ask.Put b end)) due h = (refl, (refl, refl, ((refl, refl, refl, refl), inl (inl (refl, refl)))))
+  told-step m (Failed ask.Get) due h = (refl, (refl, refl, ((refl, refl, refl, refl), inl (inl (refl, refl)))))
   told-step m (Failed _) due h = absurd h
   told-step m (Told now) due h = absurd h
   told-step m Cut due h = absurd h
 
   -- and all that are due are
-  told-walk : (m : Means) (steps : List Step) → AreByteSteps steps → Goes (amid m steps) steps (amid (past m steps) [])
+  told-walk : (m : Kept) (steps : List Step) → AreByteSteps steps → Goes (amid m steps) steps (amid (past m steps) [])
   told-walk m [] h = refl
   told-walk m (s ∷ steps) h = (amid (after m s) steps, told-step m s steps h.0, told-walk (after m s) steps h.1)
 
-  module _ (all : List Step) (comes : (means : Means) (due : List Step) → Comes t all old (amid means due)) (free : old.due ≡ []) where
+  module _ (all : List Step) (comes : (kept : Kept) (due : List Step) → Comes t all old (amid kept due)) (free : old.due ≡ []) (here : IsHere old) where
     -- the call came to the first step and those that are due behind it
-    begun : (s : Step) (due : List Step) → s ∷ due ≡ all → Comes t (s ∷ due) old (amid (after old.means s) due)
-    begun s due is = subst (λ (ss : List Step). Comes t ss old (amid (after old.means s) due)) (sym is) (comes (after old.means s) due)
+    begun : (s : Step) (due : List Step) → s ∷ due ≡ all → Comes t (s ∷ due) old (amid (after old.kept s) due)
+    begun s due is = subst (λ (ss : List Step). Comes t ss old (amid (after old.kept s) due)) (sym is) (comes (after old.kept s) due)
 
     -- the call is made for the first step
     first-step : (s : Step) (due : List Step) → IsByteStep s → s ∷ due ≡ all
-        → StepsTo (λ (s : UpstreamState L). s.means) (λ (o : UpstreamState L) s n. Through t o s n) old s (amid (after old.means s) due)
-    first-step (Went (Put b e)) due h is = (refl, (refl, refl, refl, (refl, inr (free, begun (Went (Put b e)) due is))))
-    first-step (Went (Got b e)) due h is = (refl, (refl, refl, refl, (refl, inr (free, begun (Went (Got b e)) due is))))
+        → StepsTo (λ (s : UpstreamState L). s.kept.means) (λ (o : UpstreamState L) s n. Through t o s n) old s (amid (after old.kept s) due)
+    first-step (Went (Put b e)) due h is = (refl, (refl, refl, ((refl, refl, refl, refl), inr (free, here, begun (Went (Put b e)) due is))))
+    first-step (Went (Got b e)) due h is = (refl, (refl, refl, ((refl, refl, refl, refl), inr (free, here, begun (Went (Got b e)) due is))))
     first-step (Went _) due h is = absurd h
-    first-step (Held (ask.Put b e)) due h is = (refl, (refl, refl, refl, (refl, inr (free, begun (Held (ask.Put b e)) due is))))
-    first-step (Held ask.Get) due h is = (refl, (refl, refl, refl, (refl, inr (free, begun (Held ask.Get) due is))))
+    first-step (Held (ask.Put b e)) due h is = (refl, (refl, refl, ((refl, refl, refl, refl), inr (free, here, begun (Held (ask.Put b e)) due is))))
+    first-step (Held ask.Get) due h is = (refl, (refl, refl, ((refl, refl, refl, refl), inr (free, here, begun (Held ask.Get) due is))))
     first-step (Held _) due h is = absurd h
-    first-step (Failed (ask.Put b e)) due h is = (refl, (refl, refl, refl, (refl, inr (free, begun (Failed (ask.Put b e)) due is))))
-    first-step (Failed ask.Get) due h is = (refl, (refl, refl, refl, (refl, inr (free, begun (Failed ask.Get) due is))))
+    first-step (Failed (ask.Put b e)) due h is = (refl, (refl, refl, ((refl, refl, refl, refl), inl (inr (free, here, begun (Failed (ask.Put b e)) due is)))))
+    first-step (Failed ask.Get) due h is = (refl, (refl, refl, ((refl, refl, refl, refl), inl (inr (free, here, begun (Failed ask.Get) due is)))))
     first-step (Failed _) due h is = absurd h
     first-step (Told now) due h is = absurd h
     first-step Cut due h is = absurd h
 
     -- and then the others are told
-    some-walk : (steps : List Step) → AreByteSteps steps → 0 < length steps → steps ≡ all → Goes old steps (amid (past old.means steps) [])
+    some-walk : (steps : List Step) → AreByteSteps steps → 0 < length steps → steps ≡ all → Goes old steps (amid (past old.kept steps) [])
     some-walk [] h some is = absurd (omega (arith, some))
-    some-walk (s ∷ steps) h some is = (amid (after old.means s) steps, first-step s steps h.0 is, told-walk (after old.means s) steps h.1)
+    some-walk (s ∷ steps) h some is = (amid (after old.kept s) steps, first-step s steps h.0 is, told-walk (after old.kept s) steps h.1)
 
     -- the steps that one call came to
-    call-walk : AreByteSteps all → 0 < length all → (made new : UpstreamState L) → made ≡ record old { client = client } → new ≡ record made { means = past made.means all } → Goes old all new
+    call-walk : AreByteSteps all → 0 < length all → (made new : UpstreamState L) → made ≡ record old { client = client } → new ≡ record made { kept = past made.kept all } → Goes old all new
     call-walk are some made new is said =
-        let same : new ≡ amid (past old.means all) [] =
-        said ∙ ap (λ (w : UpstreamState L). record w { means = past w.means all }) is
-        ∙ ap (λ (d : List Step). record old { client = client; means = past old.means all; due = d }) free in
+        let same : new ≡ amid (past old.kept all) [] =
+        said ∙ ap (λ (w : UpstreamState L). record w { kept = past w.kept all }) is
+        ∙ ap (λ (d : List Step). record old { client = client; kept = past old.kept all; due = d }) free in
         subst (λ (n : UpstreamState L). Goes old all n) (sym same) (some-walk all are some refl)
 
   -- a burst of puts
-  pub piece-walk : (bytes : List ℕ) (end : Bool) (m : Many) (made : UpstreamState L) → made ≡ record old { client = client } → old.due ≡ [] → Wrote t bytes end m old made
-      → 0 < length (puts_steps bytes end m) → (new : UpstreamState L) → new ≡ record made { means = past made.means (puts_steps bytes end m) } → Goes old (puts_steps bytes end m) new
-  piece-walk bytes end m made is free wrote some new said =
+  pub piece-walk : (bytes : List ℕ) (end : Bool) (m : Many) (made : UpstreamState L) → made ≡ record old { client = client } → old.due ≡ [] → IsHere old → Wrote t bytes end m old made
+      → 0 < length (puts_steps bytes end m) → (new : UpstreamState L) → new ≡ record made { kept = past made.kept (puts_steps bytes end m) } → Goes old (puts_steps bytes end m) new
+  piece-walk bytes end m made is free here wrote some new said =
       call-walk (puts_steps bytes end m)
-      (λ means due. inl (bytes, end, m, subst (λ (w : UpstreamState L). Wrote t bytes end m old (record old { client = w.client; means = means; due = due })) is wrote, refl))
-      free (puts-are bytes end m) some made new is said
+      (λ kept due. inl (bytes, end, m, subst (λ (w : UpstreamState L). Wrote t bytes end m old (record old { client = w.client; kept = kept; due = due })) is wrote, refl))
+      free here (puts-are bytes end m) some made new is said
 
   -- a burst of gets
-  pub gets-walk : (room : ℕ) (char : Option ℕ) (bytes : List ℕ) (m : ManyGot) (made : UpstreamState L) → made ≡ record old { client = client } → old.due ≡ [] → ReadMany t room char bytes m old made
-      → 0 < length (gets_steps bytes m.stop) → (new : UpstreamState L) → new ≡ record made { means = past made.means (gets_steps bytes m.stop) } → Goes old (gets_steps bytes m.stop) new
-  gets-walk room char bytes m made is free read some new said =
+  pub gets-walk : (room : ℕ) (char : Option ℕ) (bytes : List ℕ) (m : ManyGot) (made : UpstreamState L) → made ≡ record old { client = client } → old.due ≡ [] → IsHere old → ReadMany t room char bytes m old made
+      → 0 < length (gets_steps bytes m.stop) → (new : UpstreamState L) → new ≡ record made { kept = past made.kept (gets_steps bytes m.stop) } → Goes old (gets_steps bytes m.stop) new
+  gets-walk room char bytes m made is free here read some new said =
       call-walk (gets_steps bytes m.stop)
-      (λ means due. inr (room, char, bytes, m, subst (λ (w : UpstreamState L). ReadMany t room char bytes m old (record old { client = w.client; means = means; due = due })) is read, refl))
-      free (gets-are bytes m.stop) some made new is said
+      (λ kept due. inr (room, char, bytes, m, subst (λ (w : UpstreamState L). ReadMany t room char bytes m old (record old { client = w.client; kept = kept; due = due })) is read, refl))
+      free here (gets-are bytes m.stop) some made new is said
+
+-- ---- a burst of a bus that is away
+
+module _ {L : Type 0} (t : LinkWords L) (old new : UpstreamState L) (away : IsAway old) (free : old.due ≡ []) where
+  -- the first put failed, and nothing was sent
+  pub idle-puts : (bytes : List ℕ) (end : Bool) → 0 < length bytes
+      → new ≡ record old { kept = past old.kept (puts_steps bytes end (record { moved = 0; last = answer.Failed })) }
+      → Walk (λ (s : UpstreamState L). s.kept.means) (λ (o : UpstreamState L) s n. Through t o s n) old (puts_steps bytes end (record { moved = 0; last = answer.Failed })) new
+  idle-puts [] end some is = absurd (omega (arith, some))
+  idle-puts (b ∷ []) end some is =
+      (record old { kept = after old.kept (Failed (ask.Put b end)) }, (refl, (refl, refl, ((refl, refl, refl, refl), inr (free, free, away, refl)))), is)
+  idle-puts (b ∷ c ∷ bs) end some is =
+      (record old { kept = after old.kept (Failed (ask.Put b false)) }, (refl, (refl, refl, ((refl, refl, refl, refl), inr (free, free, away, refl)))), is)
+
+  -- so did the first get
+  pub idle-gets : new ≡ record old { kept = past old.kept (gets_steps [] stop.Failed) }
+      → Walk (λ (s : UpstreamState L). s.kept.means) (λ (o : UpstreamState L) s n. Through t o s n) old (gets_steps [] stop.Failed) new
+  idle-gets is =
+      (record old { kept = after old.kept (Failed ask.Get) }, (refl, (refl, refl, ((refl, refl, refl, refl), inr (free, free, away, refl)))), is)
 
 -- ---- what is told of a burst
 
 -- one more put went
-pub told-next : (make : ℕ → Bool → Transfer) (end : Bool) (bytes : List ℕ) (n d : ℕ) (last : Bool) (m : Means) → n < length bytes → last ≡ (end && (n + 1 == length bytes))
+pub told-next : (make : ℕ → Bool → Transfer) (end : Bool) (bytes : List ℕ) (n d : ℕ) (last : Bool) (m : Kept) → n < length bytes → last ≡ (end && (n + 1 == length bytes))
     → after (past m (map Went (take n (ended make end bytes)))) (Went (make (get_or bytes n d) last)) ≡ past m (map Went (take (n + 1) (ended make end bytes)))
 told-next make end bytes n d last m more is =
     let next : Transfer = make (get_or bytes n d) last in
@@ -211,23 +230,23 @@ refused-one answer.Held isnt t ts = refl
 refused-one answer.Failed isnt t ts = refl
 
 -- the last one didn't go
-pub told-last : (end : Bool) (bytes : List ℕ) (n d : ℕ) (means : Means) (how : Move) (m : Many) → n < length bytes → ¬ (how ≡ answer.Went) → n ≡ m.moved → how ≡ m.last
-    → after (past means (map Went (take n (ended Put end bytes)))) (move_step (Put (get_or bytes n d) (end && (n + 1 == length bytes))) how) ≡ past means (puts_steps bytes end m)
-told-last end bytes n d means how m more isnt en eh =
+pub told-last : (end : Bool) (bytes : List ℕ) (n d : ℕ) (kept : Kept) (how : Move) (m : Many) → n < length bytes → ¬ (how ≡ answer.Went) → n ≡ m.moved → how ≡ m.last
+    → after (past kept (map Went (take n (ended Put end bytes)))) (move_step (Put (get_or bytes n d) (end && (n + 1 == length bytes))) how) ≡ past kept (puts_steps bytes end m)
+told-last end bytes n d kept how m more isnt en eh =
     let next : Transfer = Put (get_or bytes n d) (end && (n + 1 == length bytes)) in
     let front : List Transfer = take n (ended Put end bytes) in
     let rest : List Transfer = drop (n + 1) (ended Put end bytes) in
-    sym (ap (λ (k : Many). past means (puts_steps bytes end k)) (many-is m n how en eh)
-    ∙ ap (λ (ts : List Transfer). past means (map Went front ++ refused_put how ts)) (ended-at Put end bytes n d more)
-    ∙ ap (λ (ss : List Step). past means (map Went front ++ ss)) (sym (refused-one how isnt next rest))
-    ∙ past-append means (map Went front) (move_step next how ∷ []))
+    sym (ap (λ (k : Many). past kept (puts_steps bytes end k)) (many-is m n how en eh)
+    ∙ ap (λ (ts : List Transfer). past kept (map Went front ++ refused_put how ts)) (ended-at Put end bytes n d more)
+    ∙ ap (λ (ss : List Step). past kept (map Went front ++ ss)) (sym (refused-one how isnt next rest))
+    ∙ past-append kept (map Went front) (move_step next how ∷ []))
 
 -- all went
-pub told-all : (end : Bool) (bytes : List ℕ) (n : ℕ) (means : Means) (m : Many) → n ≡ m.moved → answer.Went ≡ m.last
-    → past means (map Went (take n (ended Put end bytes))) ≡ past means (puts_steps bytes end m)
-told-all end bytes n means m en eh =
-    ap (past means) (sym (append-nil (map Went (take n (ended Put end bytes)))))
-    ∙ sym (ap (λ (k : Many). past means (puts_steps bytes end k)) (many-is m n answer.Went en eh))
+pub told-all : (end : Bool) (bytes : List ℕ) (n : ℕ) (kept : Kept) (m : Many) → n ≡ m.moved → answer.Went ≡ m.last
+    → past kept (map Went (take n (ended Put end bytes))) ≡ past kept (puts_steps bytes end m)
+told-all end bytes n kept m en eh =
+    ap (past kept) (sym (append-nil (map Went (take n (ended Put end bytes)))))
+    ∙ sym (ap (λ (k : Many). past kept (puts_steps bytes end k)) (many-is m n answer.Went en eh))
 
 -- one that stopped early has a byte left
 pub beside : (how : Move) (moved len n : ℕ) → moved ≤ len → (moved ≡ len → how ≡ answer.Went) → n ≡ moved → ¬ (how ≡ answer.Went) → n < len
@@ -279,25 +298,25 @@ walk-one means through old new b end m le to from walk =
 -- ---- gets
 
 -- none went behind these
-pub told-refused : (end : Bool) (bytes : List ℕ) (means : Means) (why : Stop) (s : Step) → end ≡ is_end why → refused_get why ≡ s ∷ []
-    → after (past means (map Went (take (length bytes) (ended Got end bytes)))) s ≡ past means (gets_steps bytes why)
-told-refused end bytes means why s is refused =
-    sym (ap (λ (ss : List Step). past means (map Went (ended Got (is_end why) bytes) ++ ss)) refused
-    ∙ past-append means (map Went (ended Got (is_end why) bytes)) (s ∷ [])
-    ∙ ap (λ (e : Bool). after (past means (map Went (ended Got e bytes))) s) (sym is)
-    ∙ ap (λ (ts : List Transfer). after (past means (map Went ts)) s) (sym (whole end bytes)))
+pub told-refused : (end : Bool) (bytes : List ℕ) (kept : Kept) (why : Stop) (s : Step) → end ≡ is_end why → refused_get why ≡ s ∷ []
+    → after (past kept (map Went (take (length bytes) (ended Got end bytes)))) s ≡ past kept (gets_steps bytes why)
+told-refused end bytes kept why s is refused =
+    sym (ap (λ (ss : List Step). past kept (map Went (ended Got (is_end why) bytes) ++ ss)) refused
+    ∙ past-append kept (map Went (ended Got (is_end why) bytes)) (s ∷ [])
+    ∙ ap (λ (e : Bool). after (past kept (map Went (ended Got e bytes))) s) (sym is)
+    ∙ ap (λ (ts : List Transfer). after (past kept (map Went ts)) s) (sym (whole end bytes)))
   where
     whole : (end : Bool) (bytes : List ℕ) → take (length bytes) (ended Got end bytes) ≡ ended Got end bytes
     whole end bytes = ap (λ k. take k (ended Got end bytes)) (sym (length-ended Got end bytes)) ∙ take-length (ended Got end bytes)
 
 -- all that came are told
-pub told-came : (end : Bool) (bytes : List ℕ) (means : Means) (why : Stop) → end ≡ is_end why → refused_get why ≡ []
-    → past means (map Went (take (length bytes) (ended Got end bytes))) ≡ past means (gets_steps bytes why)
-told-came end bytes means why is none =
-    sym (ap (λ (ss : List Step). past means (map Went (ended Got (is_end why) bytes) ++ ss)) none
-    ∙ ap (past means) (append-nil (map Went (ended Got (is_end why) bytes)))
-    ∙ ap (λ (e : Bool). past means (map Went (ended Got e bytes))) (sym is)
-    ∙ ap (λ (ts : List Transfer). past means (map Went ts)) (sym (ap (λ k. take k (ended Got end bytes)) (sym (length-ended Got end bytes)) ∙ take-length (ended Got end bytes))))
+pub told-came : (end : Bool) (bytes : List ℕ) (kept : Kept) (why : Stop) → end ≡ is_end why → refused_get why ≡ []
+    → past kept (map Went (take (length bytes) (ended Got end bytes))) ≡ past kept (gets_steps bytes why)
+told-came end bytes kept why is none =
+    sym (ap (λ (ss : List Step). past kept (map Went (ended Got (is_end why) bytes) ++ ss)) none
+    ∙ ap (past kept) (append-nil (map Went (ended Got (is_end why) bytes)))
+    ∙ ap (λ (e : Bool). past kept (map Went (ended Got e bytes))) (sym is)
+    ∙ ap (λ (ts : List Transfer). past kept (map Went ts)) (sym (ap (λ k. take k (ended Got end bytes)) (sym (length-ended Got end bytes)) ∙ take-length (ended Got end bytes))))
 
 -- nothing has no last element
 no-last : (front : List ℕ) (last : ℕ) → [] ≡ front ++ last ∷ [] → ⊥

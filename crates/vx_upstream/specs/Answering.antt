@@ -13,6 +13,8 @@ use Rattle.vx_bus_traits.specs.declared.bursts.Stop.TheVariants as stop
 use Rattle.vx_client.specs.declared.answers.ReadEnd.{ReadEnd}
 use Rattle.vx_client.specs.declared.answers.ClientErr.{ClientErr}
 use Rattle.vx_client.specs.declared.answers.ClientErr.TheVariants as err
+use Rattle.vx_upstream.specs.declared.upstream.Standing.{Standing}
+use Rattle.vx_upstream.specs.declared.upstream.Standing.TheVariants.{Lost}
 
 -- ---- commands, lines, interface clear, the own address
 
@@ -112,3 +114,10 @@ level_in _ before = before
 abbrev pub level_of : Result ℕ ClientErr → List ℕ → Bool → Bool
 level_of (Ok len) told before = level_in told before
 level_of (Err e) told before = before
+
+-- and the standing of the bus: a look that the box answers, with an error too, leaves it, and one that breaks off shows that the
+-- link to the box is lost
+abbrev pub standing_after : Result ℕ ClientErr → Standing → Standing
+standing_after (Ok len) at = at
+standing_after (Err (err.Device n)) at = at
+standing_after (Err e) at = Lost

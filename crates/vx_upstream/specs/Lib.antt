@@ -1,11 +1,15 @@
 pub mod UpstreamState
 pub mod Answering
 pub mod Sending
+pub mod Restoring
+pub mod Bringing
 pub mod Stepping
 pub mod Opening
 pub mod Spelling
 pub use Rattle.vx_488.specs.Wire
 pub use Rattle.vx_io_traits.specs.Faults
+pub use Rattle.vx_io_traits.specs.Rung
+pub use Rattle.vx_io_traits.specs.Stands
 pub use Rattle.vx_bus_traits.specs.Means
 pub use Rattle.vx_bus_traits.specs.Steps
 pub use Rattle.vx_bus_traits.specs.Walks

@@ -8,15 +8,16 @@ ghost use Rattle.vx_bus_traits.specs.declared.asks.TheConstants.{ASK_MAX};
 ghost use Rattle.vx_bus_traits.specs.Steps.{Told, Cut, move_step, get_step, line_transfer, IsStepped};
 ghost use Rattle.vx_bus_traits.specs.Walks.{Walk};
 ghost use Rattle.vx_bus_traits.specs.Bursts.{puts_steps, gets_steps, StopsAt};
-ghost use Rattle.vx_upstream.specs.Sending.{words_of, Ordered, Wrote, ReadMany, LooksAtSrq, LooksAtNdac};
-ghost use Rattle.vx_upstream.specs.Stepping.{bit, Through};
+ghost use Rattle.vx_upstream.specs.Sending.{words_of, bit, Orders, Wrote, ReadMany, LooksAtSrq, LooksAtNdac};
+ghost use Rattle.vx_upstream.specs.UpstreamState.{IsHere, level_seen};
+ghost use Rattle.vx_upstream.specs.Stepping.{LooksHere, Through};
 
-use crate::calls::{ATN_CONTROL, BUS_ADDRESS, IFC_CONTROL, REN_CONTROL, SEND_COMMAND};
+use crate::calls::{ATN_CONTROL, BUS_ADDRESS, REN_CONTROL, SEND_COMMAND};
 use crate::judging::got_one;
 use crate::upstream::UpstreamBus;
 use vx_488::{Line, Transfer, Wire};
 use vx_bus_traits::{Bus, GetOut, Many, ManyGot, Move};
-use vx_io_traits::Link;
+use vx_io_traits::Reach;
 
 /// The selectors of SRQ and NDAC (VXI-11.2, bus status).
 const SRQ: u8 = 2;
@@ -28,12 +29,12 @@ const SRQ_EVERY: u64 = 10;
 
 const NDAC_EVERY: u64 = 100;
 
-impl<L: Link> UpstreamBus<L> {
+impl<L: Reach> UpstreamBus<L> {
     /// Has the box switch a line by a number of two bytes.
     fn switch(&mut self, cmd: u32, on: bool) -> Move
         ensures rest { self.new ≡ record self.old { client = self.new.client } }
         ensures due { self.old.due ≡ [] }
-        ensures ordered { Ordered (words_of L.Link) cmd (0 ∷ bit on ∷ []) result self.old self.new }
+        ensures ordered { Orders (words_of L.Link L.refused L.tries) cmd (0 ∷ bit on ∷ []) result self.old self.new }
         ensures never_held { result ≢ Move.Held }
     {
         self.order(cmd, &[0, u8::from(on)])
@@ -41,8 +42,9 @@ impl<L: Link> UpstreamBus<L> {
 
     /// Looks at SRQ, where the last look is long enough ago.
     fn look_at_srq(&mut self, now: u64)
-        ensures rest { self.new ≡ record self.old { client = self.new.client; levels = self.new.levels } }
-        ensures looked { LooksAtSrq (words_of L.Link) now self.old self.new }
+        ensures rest { self.new ≡ record self.old { client = self.new.client; kept = self.new.kept; levels = self.new.levels } }
+        ensures means { self.new.kept.means ≡ self.old.kept.means }
+        ensures looked { LooksAtSrq (words_of L.Link L.refused L.tries) now self.old self.new }
     {
         if now.saturating_sub(self.levels.srq_asked) < SRQ_EVERY {
             return;
@@ -54,8 +56,9 @@ impl<L: Link> UpstreamBus<L> {
 
     /// Looks at NDAC, where the last look is long enough ago.
     fn look_at_ndac(&mut self, now: u64)
-        ensures rest { self.new ≡ record self.old { client = self.new.client; levels = self.new.levels } }
-        ensures looked { LooksAtNdac (words_of L.Link) now self.old self.new }
+        ensures rest { self.new ≡ record self.old { client = self.new.client; kept = self.new.kept; levels = self.new.levels } }
+        ensures means { self.new.kept.means ≡ self.old.kept.means }
+        ensures looked { LooksAtNdac (words_of L.Link L.refused L.tries) now self.old self.new }
     {
         if now.saturating_sub(self.levels.ndac_asked) < NDAC_EVERY {
             return;
@@ -64,30 +67,51 @@ impl<L: Link> UpstreamBus<L> {
         self.levels.ndac = level;
         self.levels.ndac_asked = now;
     }
+
+    /// Keeps the moment that it is told.
+    fn hear(&mut self, now: u64)
+        ensures { self.new ≡ record self.old { moment = now } }
+    {
+        self.moment = now;
+    }
+
+    /// Looks at both, unless the bus is away.
+    fn look(&mut self, now: u64)
+        ensures rest { self.new ≡ record self.old { client = self.new.client; kept = self.new.kept; levels = self.new.levels } }
+        ensures means { self.new.kept.means ≡ self.old.kept.means }
+        ensures looked { LooksHere (words_of L.Link L.refused L.tries) now self.old self.new }
+    {
+        if !self.is_here() {
+            return;
+        }
+        self.look_at_srq(now);
+        self.look_at_ndac(now);
+    }
 }
 
-impl<L: Link> Bus for UpstreamBus<L> {
+impl<L: Reach> Bus for UpstreamBus<L> {
     ghost use Rattle.std.specs.Prelude.{◌≡◌, ◌≢◌, ◌<◌, ◌≤◌, ◌+◌, ◌↔◌, length, take, drop};
     ghost use Rattle.vx_488.specs.declared.transfers.Transfer.TheVariants.{Cmd, Put, Ifc, Own};
     ghost use Rattle.vx_bus_traits.specs.Steps.{Told, Cut, move_step, get_step, line_transfer, IsStepped};
     ghost use Rattle.vx_bus_traits.specs.Walks.{Walk};
     ghost use Rattle.vx_bus_traits.specs.Bursts.{puts_steps, gets_steps, StopsAt};
+    ghost use Rattle.vx_upstream.specs.UpstreamState.{level_seen};
     ghost use Rattle.vx_upstream.specs.Sending.{words_of};
     ghost use Rattle.vx_upstream.specs.Stepping.{Through};
 
-    ghost means = { λ s. s.means };
+    ghost means = { λ s. s.kept.means };
 
-    ghost srq_level = { λ s. s.levels.srq };
+    ghost srq_level = { λ s. level_seen s.levels.srq s.kept.standing };
 
-    ghost ndac_level = { λ s. s.levels.ndac };
+    ghost ndac_level = { λ s. level_seen s.levels.ndac s.kept.standing };
 
-    ghost through = { λ old s new. Through (words_of L.Link) old s new };
+    ghost through = { λ old s new. Through (words_of L.Link L.refused L.tries) old s new };
 
     /// Has the box send a command byte. It is never held.
     fn command(&mut self, b: u8) -> Move
-        requires { self.old.means.asks < ASK_MAX }
-        ensures stepped { IsStepped self.old.means (move_step (Cmd b) result) self.new.means }
-        ensures through { Through (words_of L.Link) self.old (move_step (Cmd b) result) self.new }
+        requires { self.old.kept.means.asks < ASK_MAX }
+        ensures stepped { IsStepped self.old.kept.means (move_step (Cmd b) result) self.new.kept.means }
+        ensures through { Through (words_of L.Link L.refused L.tries) self.old (move_step (Cmd b) result) self.new }
         ensures never_held { result ≢ Move.Held }
     {
         let answer = self.order(SEND_COMMAND, &[b]);
@@ -96,9 +120,9 @@ impl<L: Link> Bus for UpstreamBus<L> {
 
     /// Has the box send a data byte: a burst of one.
     fn put(&mut self, b: u8, end: bool) -> Move
-        requires { self.old.means.asks < ASK_MAX }
-        ensures stepped { IsStepped self.old.means (move_step (Put b end) result) self.new.means }
-        ensures through { Through (words_of L.Link) self.old (move_step (Put b end) result) self.new }
+        requires { self.old.kept.means.asks < ASK_MAX }
+        ensures stepped { IsStepped self.old.kept.means (move_step (Put b end) result) self.new.kept.means }
+        ensures through { Through (words_of L.Link L.refused L.tries) self.old (move_step (Put b end) result) self.new }
     {
         self.put_piece(&[b], end).last
     }
@@ -106,9 +130,9 @@ impl<L: Link> Bus for UpstreamBus<L> {
     /// Has the box send data bytes by one call, where it takes so many by one, and else by one for each. END goes with the last.
     fn put_many(&mut self, bytes: &[u8], end: bool) -> Many
         requires some { 0 < length bytes.now }
-        requires asks { self.old.means.asks + length bytes.now ≤ ASK_MAX }
-        ensures walk { Walk (λ s. s.means) (λ old s new. Through (words_of L.Link) old s new) self.old (puts_steps bytes.now end result) self.new }
-        ensures one_call { length bytes.now ≤ min self.old.made.max PIECE_MAX → Wrote (words_of L.Link) bytes.now end result self.old self.new }
+        requires asks { self.old.kept.means.asks + length bytes.now ≤ ASK_MAX }
+        ensures walk { Walk (λ s. s.kept.means) (λ old s new. Through (words_of L.Link L.refused L.tries) old s new) self.old (puts_steps bytes.now end result) self.new }
+        ensures one_call { IsHere self.old → length bytes.now ≤ min self.old.made.max PIECE_MAX → Wrote (words_of L.Link L.refused L.tries) bytes.now end result self.old self.new }
         ensures within { result.moved ≤ length bytes.now }
         ensures last { (result.last ≡ Move.Went) ↔ (result.moved ≡ length bytes.now) }
     {
@@ -121,9 +145,9 @@ impl<L: Link> Bus for UpstreamBus<L> {
 
     /// Has the box take a byte from the talker: a burst of one.
     fn get(&mut self) -> GetOut
-        requires { self.old.means.asks < ASK_MAX }
-        ensures stepped { IsStepped self.old.means (get_step result) self.new.means }
-        ensures through { Through (words_of L.Link) self.old (get_step result) self.new }
+        requires { self.old.kept.means.asks < ASK_MAX }
+        ensures stepped { IsStepped self.old.kept.means (get_step result) self.new.kept.means }
+        ensures through { Through (words_of L.Link L.refused L.tries) self.old (get_step result) self.new }
     {
         let mut one = [0u8; 1];
         let many = self.get_piece(&mut one, None);
@@ -133,9 +157,9 @@ impl<L: Link> Bus for UpstreamBus<L> {
     /// Has the box take bytes from the talker by one call.
     fn get_many(&mut self, room: &mut [u8], stop: Option<u8>) -> ManyGot
         requires some { 0 < length room.old }
-        requires asks { self.old.means.asks + length room.old ≤ ASK_MAX }
-        ensures walk { Walk (λ s. s.means) (λ old s new. Through (words_of L.Link) old s new) self.old (gets_steps (take result.got room.new) result.stop) self.new }
-        ensures one_call { ReadMany (words_of L.Link) (length room.old) stop (take result.got room.new) result self.old self.new }
+        requires asks { self.old.kept.means.asks + length room.old ≤ ASK_MAX }
+        ensures walk { Walk (λ s. s.kept.means) (λ old s new. Through (words_of L.Link L.refused L.tries) old s new) self.old (gets_steps (take result.got room.new) result.stop) self.new }
+        ensures one_call { IsHere self.old → ReadMany (words_of L.Link L.refused L.tries) (length room.old) stop (take result.got room.new) result self.old self.new }
         ensures stops { StopsAt stop (length room.old) (take result.got room.new) result.stop }
         ensures within { result.got ≤ length room.old }
         ensures rest { drop result.got room.new ≡ drop result.got room.old }
@@ -145,9 +169,9 @@ impl<L: Link> Bus for UpstreamBus<L> {
 
     /// Has the box switch a line. It is never held.
     fn line(&mut self, l: Line, on: bool) -> Move
-        requires { self.old.means.asks < ASK_MAX }
-        ensures stepped { IsStepped self.old.means (move_step (line_transfer l on) result) self.new.means }
-        ensures through { Through (words_of L.Link) self.old (move_step (line_transfer l on) result) self.new }
+        requires { self.old.kept.means.asks < ASK_MAX }
+        ensures stepped { IsStepped self.old.kept.means (move_step (line_transfer l on) result) self.new.kept.means }
+        ensures through { Through (words_of L.Link L.refused L.tries) self.old (move_step (line_transfer l on) result) self.new }
         ensures never_held { result ≢ Move.Held }
     {
         match l {
@@ -162,56 +186,59 @@ impl<L: Link> Bus for UpstreamBus<L> {
         }
     }
 
-    /// Has the box clear its interface. It is never held.
+    /// Has the box clear its interface. It is never held. Where control was passed on and the bus is away, that is a try to bring
+    /// it back, once the moment of one has come.
     fn ifc(&mut self) -> Move
-        requires { self.old.means.asks < ASK_MAX }
-        ensures stepped { IsStepped self.old.means (move_step Ifc result) self.new.means }
-        ensures through { Through (words_of L.Link) self.old (move_step Ifc result) self.new }
+        requires { self.old.kept.means.asks < ASK_MAX }
+        ensures stepped { IsStepped self.old.kept.means (move_step Ifc result) self.new.kept.means }
+        ensures through { Through (words_of L.Link L.refused L.tries) self.old (move_step Ifc result) self.new }
         ensures never_held { result ≢ Move.Held }
     {
-        let answer = self.order(IFC_CONTROL, &[]);
+        let answer = self.clear();
         self.told(Transfer::Ifc, answer)
     }
 
     /// Has the box go to this address. It is never held.
     fn own(&mut self, address: u8) -> Move
-        requires room { self.old.means.asks < ASK_MAX }
+        requires room { self.old.kept.means.asks < ASK_MAX }
         requires address { address ≤ ADDRESS_MAX }
-        ensures stepped { IsStepped self.old.means (move_step (Own address) result) self.new.means }
-        ensures through { Through (words_of L.Link) self.old (move_step (Own address) result) self.new }
+        ensures stepped { IsStepped self.old.kept.means (move_step (Own address) result) self.new.kept.means }
+        ensures through { Through (words_of L.Link L.refused L.tries) self.old (move_step (Own address) result) self.new }
         ensures never_held { result ≢ Move.Held }
     {
         let answer = self.order(BUS_ADDRESS, &[0, 0, 0, address]);
         self.told(Transfer::Own(address), answer)
     }
 
-    /// The level of SRQ as the box told it last.
+    /// The level of SRQ as the box told it last; false while the bus is away.
     fn srq(&self) -> bool
-        ensures { result ≡ self.now.levels.srq }
+        ensures { result ≡ level_seen self.now.levels.srq self.now.kept.standing }
     {
-        self.levels.srq
+        self.levels.srq && self.is_here()
     }
 
-    /// The level of NDAC as the box told it last.
+    /// The level of NDAC as the box told it last; false while the bus is away.
     fn ndac(&self) -> bool
-        ensures { result ≡ self.now.levels.ndac }
+        ensures { result ≡ level_seen self.now.levels.ndac self.now.kept.standing }
     {
-        self.levels.ndac
+        self.levels.ndac && self.is_here()
     }
 
-    /// Looks at the lines of the box whose last look is long enough ago, and asks nothing else of it.
+    /// Brings the bus back, where it is away and its time has come. Then looks at the lines of the box whose last look is long
+    /// enough ago; while it is away at none. Nothing else is asked of the box.
     fn moment(&mut self, now: u64)
-        ensures stepped { self.new.means ≡ self.old.means }
-        ensures through { Through (words_of L.Link) self.old (Told now) self.new }
+        ensures stepped { self.new.kept.means ≡ self.old.kept.means }
+        ensures through { Through (words_of L.Link L.refused L.tries) self.old (Told now) self.new }
     {
-        self.look_at_srq(now);
-        self.look_at_ndac(now);
+        self.hear(now);
+        self.come_back();
+        self.look(now);
     }
 
     /// Empties the list of transfers, and begins to count asks anew. The box is asked nothing.
     fn cut(&mut self)
-        ensures stepped { IsStepped self.old.means Cut self.new.means }
-        ensures through { Through (words_of L.Link) self.old Cut self.new }
+        ensures stepped { IsStepped self.old.kept.means Cut self.new.kept.means }
+        ensures through { Through (words_of L.Link L.refused L.tries) self.old Cut self.new }
     {
         self.moves.clear();
         self.asks = 0;
@@ -219,14 +246,14 @@ impl<L: Link> Bus for UpstreamBus<L> {
 
     /// The transfers since the last cut, in order.
     fn moves(&self) -> &[Transfer]
-        ensures { result.now ≡ self.now.means.moves }
+        ensures { result.now ≡ self.now.kept.means.moves }
     {
         self.moves.as_slice()
     }
 
     /// What the transfers so far mean for the bus.
     fn wire(&self) -> Wire
-        ensures { result ≡ self.now.means.wire }
+        ensures { result ≡ self.now.kept.means.wire }
     {
         self.wire
     }

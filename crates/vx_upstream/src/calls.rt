@@ -7,14 +7,16 @@ ghost use Rattle.vx_bus_traits.specs.declared.asks.TheConstants.{ASK_MAX};
 ghost use Rattle.vx_client.specs.Exchange.{IsCalled};
 ghost use Rattle.vx_client.specs.Parts.{read_call, end_of};
 ghost use Rattle.vx_upstream.specs.UpstreamState.{opts_of};
-ghost use Rattle.vx_upstream.specs.Sending.{words_of, Commands, Ordered, Wrote, Reads, ReadMany, AsksLevel, end_flag, stop_flag, stop_byte};
+ghost use Rattle.vx_upstream.specs.Sending.{words_of, Commands, Orders, Wrote, Reads, ReadMany, AsksLevel, end_flag, stop_flag, stop_byte};
 
-use crate::judging::{byte_move, bytes_come, judge, level_of, many_of, order_move, tells_end};
+use crate::judging::{
+    byte_move, bytes_come, judge, level_of, many_of, order_move, standing_after, tells_end,
+};
 use crate::upstream::UpstreamBus;
 use vx_bus_traits::{Many, ManyGot, Move};
 use vx_calls::{PIECE_MAX, Proc};
 use vx_client::{CallOpts, Client, ClientErr, ReadEnd};
-use vx_io_traits::Link;
+use vx_io_traits::{Link, Reach};
 
 /// Send command (VXI-11.2).
 pub(crate) const SEND_COMMAND: u32 = 0x020000;
@@ -83,7 +85,7 @@ fn put_front(room: &mut [u8], bytes: &[u8], many: usize)
     room[..many].copy_from_slice(&bytes[..many]);
 }
 
-impl<L: Link> UpstreamBus<L> {
+impl<L: Reach> UpstreamBus<L> {
     /// The flags and timeouts of a call.
     fn opts(&self, flags: u32) -> CallOpts
         ensures { result ≡ opts_of self.now flags }
@@ -107,7 +109,7 @@ impl<L: Link> UpstreamBus<L> {
         requires { length bytes.now ≤ 4 }
         ensures rest { self.new ≡ record self.old { client = self.new.client } }
         ensures due { self.old.due ≡ [] }
-        ensures called { Commands (words_of L.Link) cmd bytes.now result self.old self.new }
+        ensures called { Commands (words_of L.Link L.refused L.tries) cmd bytes.now result self.old self.new }
     {
         let opts = self.opts(0);
         let mut into = [0u8; 4];
@@ -115,24 +117,30 @@ impl<L: Link> UpstreamBus<L> {
             .docmd(self.made.lid, &opts, cmd, bytes, &mut into)
     }
 
-    /// A device_docmd of an ask that moves no data byte, and what it came to.
+    /// A device_docmd of an ask that moves no data byte, and what it came to. Where the bus is away nothing is sent, and it
+    /// failed.
     pub(crate) fn order(&mut self, cmd: u32, bytes: &[u8]) -> Move
         requires { length bytes.now ≤ 4 }
         ensures rest { self.new ≡ record self.old { client = self.new.client } }
         ensures due { self.old.due ≡ [] }
-        ensures ordered { Ordered (words_of L.Link) cmd bytes.now result self.old self.new }
+        ensures ordered { Orders (words_of L.Link L.refused L.tries) cmd bytes.now result self.old self.new }
         ensures never_held { result ≢ Move.Held }
     {
+        if !self.is_here() {
+            return Move::Failed;
+        }
         let answer = self.docmd(cmd, bytes);
         order_move(&answer)
     }
 
-    /// Asks the box for the level of a line, which was so before.
+    /// Asks the box for the level of a line, which was so before. Where that breaks off the bus is away.
     pub(crate) fn level(&mut self, selector: u8, before: bool) -> bool
-        ensures rest { self.new ≡ record self.old { client = self.new.client } }
-        ensures asked { AsksLevel (words_of L.Link) selector before result self.old self.new }
+        ensures rest { self.new ≡ record self.old { client = self.new.client; kept = self.new.kept } }
+        ensures means { self.new.kept.means ≡ self.old.kept.means }
+        ensures asked { AsksLevel (words_of L.Link L.refused L.tries) selector before result self.old self.new }
     {
         let answer = self.docmd(BUS_STATUS, &[0, selector]);
+        self.standing = standing_after(&answer, self.standing);
         level_of(&answer, self.client.bytes_told(Proc::Docmd), before)
     }
 
@@ -142,7 +150,7 @@ impl<L: Link> UpstreamBus<L> {
         requires short { length bytes.now ≤ PIECE_MAX }
         ensures rest { self.new ≡ record self.old { client = self.new.client } }
         ensures due { self.old.due ≡ [] }
-        ensures wrote { Wrote (words_of L.Link) bytes.now end result self.old self.new }
+        ensures wrote { Wrote (words_of L.Link L.refused L.tries) bytes.now end result self.old self.new }
         ensures within { result.moved ≤ length bytes.now }
         ensures last { (result.last ≡ Move.Went) ↔ (result.moved ≡ length bytes.now) }
     {
@@ -158,7 +166,7 @@ impl<L: Link> UpstreamBus<L> {
         requires { many ≤ ASK_MAX }
         ensures rest { self.new ≡ record self.old { client = self.new.client } }
         ensures due { self.old.due ≡ [] }
-        ensures called { Reads (words_of L.Link) many stop result self.old self.new }
+        ensures called { Reads (words_of L.Link L.refused L.tries) many stop result self.old self.new }
     {
         let opts = self.opts(stop_flag(stop));
         let lid = self.made.lid;
@@ -178,7 +186,7 @@ impl<L: Link> UpstreamBus<L> {
         requires short { length room.old ≤ ASK_MAX }
         ensures rest { self.new ≡ record self.old { client = self.new.client } }
         ensures due { self.old.due ≡ [] }
-        ensures read { ReadMany (words_of L.Link) (length room.old) stop (take result.got room.new) result self.old self.new }
+        ensures read { ReadMany (words_of L.Link L.refused L.tries) (length room.old) stop (take result.got room.new) result self.old self.new }
         ensures stops { StopsAt stop (length room.old) (take result.got room.new) result.stop }
         ensures within { result.got ≤ length room.old }
         ensures left { drop result.got room.new ≡ drop result.got room.old }

@@ -3,8 +3,9 @@
 ghost use Rattle.std.specs.Prelude.{◌≡◌, ◌≢◌, ◌<◌, ◌≤◌, ◌↔◌, length, take};
 ghost use Rattle.std.specs.List.{list_any};
 ghost use Rattle.vx_bus_traits.specs.Bursts.{StopsAt, is_char, is_end};
-ghost use Rattle.vx_upstream.specs.Answering.{order_move, failed_at, held_at, many_of, byte_error, byte_move, bytes_come, tells_end, got_of, got_one, level_in, level_of};
+ghost use Rattle.vx_upstream.specs.Answering.{order_move, failed_at, held_at, many_of, byte_error, byte_move, bytes_come, tells_end, got_of, got_one, level_in, level_of, standing_after};
 
+use crate::upstream::Standing;
 use vx_bus_traits::{GetOut, Many, ManyGot, Move, Stop};
 use vx_client::{ClientErr, ReadEnd};
 
@@ -219,5 +220,15 @@ pub(crate) fn level_of(answer: &Result<usize, ClientErr>, told: &[u8], before: b
     match answer {
         Ok(_) => level_in(told, before),
         Err(_) => before,
+    }
+}
+
+/// The standing of a bus behind a look at a line: where the look broke off, the link to the box is lost.
+pub(crate) fn standing_after(answer: &Result<usize, ClientErr>, standing: Standing) -> Standing
+    ensures { result ≡ standing_after answer.now standing }
+{
+    match answer {
+        Ok(_) | Err(ClientErr::Device(_)) => standing,
+        Err(_) => Standing::Lost,
     }
 }

@@ -7,10 +7,12 @@ mod bus;
 mod calls;
 mod judging;
 mod open;
+mod orders;
 mod telling;
 mod theorems;
+mod tries;
 mod upstream;
 
 pub use open::OpenErr;
-pub use theorems::calls_law;
+pub use theorems::{calls_law, restoring_law};
 pub use upstream::UpstreamBus;

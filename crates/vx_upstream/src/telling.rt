@@ -1,21 +1,21 @@
 //! What became of the asks is told: transfer by transfer, a burst step by step.
 
-ghost use Rattle.std.specs.Prelude.{◌≡◌, ◌<◌, ◌≤◌, ◌+◌, ◌↔◌, ◌⊎◌, ◌&&◌, ◌==◌, length, take, drop, slice_index};
+ghost use Rattle.std.specs.Prelude.{◌≡◌, ◌<◌, ◌≤◌, ◌+◌, ◌↔◌, ◌⊎◌, ◌&&◌, ◌==◌, [], length, take, drop, slice_index};
 ghost use Rattle.vx_calls.specs.declared.limits.TheConstants.{PIECE_MAX};
 ghost use Rattle.vx_488.specs.declared.transfers.Transfer.TheVariants.{Put, Got};
 ghost use Rattle.vx_bus_traits.specs.declared.asks.TheConstants.{ASK_MAX};
 ghost use Rattle.vx_bus_traits.specs.Steps.{move_step};
 ghost use Rattle.vx_bus_traits.specs.Walks.{Walk};
 ghost use Rattle.vx_bus_traits.specs.Bursts.{puts_steps, gets_steps, StopsAt};
-ghost use Rattle.vx_upstream.specs.UpstreamState.{after, past};
+ghost use Rattle.vx_upstream.specs.UpstreamState.{IsHere, IsAway, lost, after, past};
 ghost use Rattle.vx_upstream.specs.Sending.{words_of, Wrote, ReadMany};
 ghost use Rattle.vx_upstream.specs.Stepping.{Through};
 
 use crate::judging::is_end;
-use crate::upstream::UpstreamBus;
+use crate::upstream::{Standing, UpstreamBus};
 use vx_488::Transfer;
 use vx_bus_traits::{Ask, Bus, Many, ManyGot, Move, Stop};
-use vx_io_traits::Link;
+use vx_io_traits::Reach;
 
 /// The put of a byte of a burst, with END on the last one or not.
 fn put_at(bytes: &[u8], end: bool, at: usize) -> Transfer
@@ -39,12 +39,22 @@ fn got_at(bytes: &[u8], end: bool, at: usize) -> Transfer
     }
 }
 
-impl<L: Link> UpstreamBus<L> {
+/// Where a fault leaves a bus: one that is away stays so, with the moment of its next try.
+fn lost(standing: Standing) -> Standing
+    ensures { result ≡ lost standing }
+{
+    match standing {
+        Standing::Here | Standing::Lost => Standing::Lost,
+        Standing::Retry(from) => Standing::Retry(from),
+    }
+}
+
+impl<L: Reach> UpstreamBus<L> {
     /// What came of an ask for this transfer.
     pub(crate) fn told(&mut self, t: Transfer, answer: Move) -> Move
-        requires { self.old.means.asks < ASK_MAX }
+        requires { self.old.kept.means.asks < ASK_MAX }
         ensures same { result ≡ answer }
-        ensures after { self.new ≡ record self.old { means = after self.old.means (move_step t answer) } }
+        ensures after { self.new ≡ record self.old { kept = after self.old.kept (move_step t answer) } }
     {
         self.asks += 1;
         match answer {
@@ -59,6 +69,7 @@ impl<L: Link> UpstreamBus<L> {
             Move::Failed => {
                 self.faults = self.faults.saturating_add(1);
                 self.refused = Some(Ask::from(t));
+                self.standing = lost(self.standing);
             }
         }
         answer
@@ -66,10 +77,10 @@ impl<L: Link> UpstreamBus<L> {
 
     /// What came of a burst of puts.
     fn told_puts(&mut self, bytes: &[u8], end: bool, many: Many)
-        requires room { self.old.means.asks + length bytes.now ≤ ASK_MAX }
+        requires room { self.old.kept.means.asks + length bytes.now ≤ ASK_MAX }
         requires within { many.moved ≤ length bytes.now }
         requires last { (many.last ≡ Move.Went) ↔ (many.moved ≡ length bytes.now) }
-        ensures { self.new ≡ record self.old { means = past self.old.means (puts_steps bytes.now end many) } }
+        ensures { self.new ≡ record self.old { kept = past self.old.kept (puts_steps bytes.now end many) } }
     {
         let mut moved = 0;
         while moved < many.moved {
@@ -88,12 +99,13 @@ impl<L: Link> UpstreamBus<L> {
     }
 
     /// A burst of puts by one device_write. So many went as the box tells that it took.
-    pub(crate) fn put_piece(&mut self, bytes: &[u8], end: bool) -> Many
+    fn put_call(&mut self, bytes: &[u8], end: bool) -> Many
+        requires here { IsHere self.old }
         requires some { 0 < length bytes.now }
         requires short { length bytes.now ≤ PIECE_MAX }
-        requires asks { self.old.means.asks + length bytes.now ≤ ASK_MAX }
-        ensures walk { Walk (λ s. s.means) (λ old s new. Through (words_of L.Link) old s new) self.old (puts_steps bytes.now end result) self.new }
-        ensures wrote { Wrote (words_of L.Link) bytes.now end result self.old self.new }
+        requires asks { self.old.kept.means.asks + length bytes.now ≤ ASK_MAX }
+        ensures walk { Walk (λ s. s.kept.means) (λ old s new. Through (words_of L.Link L.refused L.tries) old s new) self.old (puts_steps bytes.now end result) self.new }
+        ensures wrote { Wrote (words_of L.Link L.refused L.tries) bytes.now end result self.old self.new }
         ensures within { result.moved ≤ length bytes.now }
         ensures last { (result.last ≡ Move.Went) ↔ (result.moved ≡ length bytes.now) }
     {
@@ -102,11 +114,45 @@ impl<L: Link> UpstreamBus<L> {
         many
     }
 
+    /// A burst of puts of a bus that is away: the first failed, and nothing was sent.
+    fn refuse_puts(&mut self, bytes: &[u8], end: bool) -> Many
+        requires away { IsAway self.old }
+        requires free { self.old.due ≡ [] }
+        requires some { 0 < length bytes.now }
+        requires asks { self.old.kept.means.asks + length bytes.now ≤ ASK_MAX }
+        ensures walk { Walk (λ s. s.kept.means) (λ old s new. Through (words_of L.Link L.refused L.tries) old s new) self.old (puts_steps bytes.now end result) self.new }
+        ensures none { result ≡ record { moved = 0; last = Move.Failed } }
+    {
+        let many = Many {
+            moved: 0,
+            last: Move::Failed,
+        };
+        self.told_puts(bytes, end, many);
+        many
+    }
+
+    /// A burst of puts by one device_write, or none where the bus is away.
+    pub(crate) fn put_piece(&mut self, bytes: &[u8], end: bool) -> Many
+        requires some { 0 < length bytes.now }
+        requires short { length bytes.now ≤ PIECE_MAX }
+        requires asks { self.old.kept.means.asks + length bytes.now ≤ ASK_MAX }
+        ensures walk { Walk (λ s. s.kept.means) (λ old s new. Through (words_of L.Link L.refused L.tries) old s new) self.old (puts_steps bytes.now end result) self.new }
+        ensures wrote { IsHere self.old → Wrote (words_of L.Link L.refused L.tries) bytes.now end result self.old self.new }
+        ensures within { result.moved ≤ length bytes.now }
+        ensures last { (result.last ≡ Move.Went) ↔ (result.moved ≡ length bytes.now) }
+    {
+        if self.is_here() {
+            self.put_call(bytes, end)
+        } else {
+            self.refuse_puts(bytes, end)
+        }
+    }
+
     /// A burst of puts by a device_write for each, where the box doesn't take them all by one.
     pub(crate) fn put_each(&mut self, bytes: &[u8], end: bool) -> Many
         requires some { 0 < length bytes.now }
-        requires asks { self.old.means.asks + length bytes.now ≤ ASK_MAX }
-        ensures walk { Walk (λ s. s.means) (λ old s new. Through (words_of L.Link) old s new) self.old (puts_steps bytes.now end result) self.new }
+        requires asks { self.old.kept.means.asks + length bytes.now ≤ ASK_MAX }
+        ensures walk { Walk (λ s. s.kept.means) (λ old s new. Through (words_of L.Link L.refused L.tries) old s new) self.old (puts_steps bytes.now end result) self.new }
         ensures within { result.moved ≤ length bytes.now }
         ensures last { (result.last ≡ Move.Went) ↔ (result.moved ≡ length bytes.now) }
     {
@@ -132,9 +178,9 @@ impl<L: Link> UpstreamBus<L> {
 
     /// What came of a burst of gets.
     fn told_gets(&mut self, bytes: &[u8], stop: Stop)
-        requires room { self.old.means.asks + length bytes.now ≤ ASK_MAX }
-        requires more { (stop ≡ Stop.Held ⊎ stop ≡ Stop.Failed) → self.old.means.asks + length bytes.now < ASK_MAX }
-        ensures { self.new ≡ record self.old { means = past self.old.means (gets_steps bytes.now stop) } }
+        requires room { self.old.kept.means.asks + length bytes.now ≤ ASK_MAX }
+        requires more { (stop ≡ Stop.Held ⊎ stop ≡ Stop.Failed) → self.old.kept.means.asks + length bytes.now < ASK_MAX }
+        ensures { self.new ≡ record self.old { kept = past self.old.kept (gets_steps bytes.now stop) } }
     {
         let end = is_end(stop);
         let mut got = 0;
@@ -156,11 +202,12 @@ impl<L: Link> UpstreamBus<L> {
     }
 
     /// A burst of gets by one device_read. All bytes that the box brings count, with an error too.
-    pub(crate) fn get_piece(&mut self, room: &mut [u8], stop: Option<u8>) -> ManyGot
+    fn get_call(&mut self, room: &mut [u8], stop: Option<u8>) -> ManyGot
+        requires here { IsHere self.old }
         requires some { 0 < length room.old }
-        requires asks { self.old.means.asks + length room.old ≤ ASK_MAX }
-        ensures walk { Walk (λ s. s.means) (λ old s new. Through (words_of L.Link) old s new) self.old (gets_steps (take result.got room.new) result.stop) self.new }
-        ensures read { ReadMany (words_of L.Link) (length room.old) stop (take result.got room.new) result self.old self.new }
+        requires asks { self.old.kept.means.asks + length room.old ≤ ASK_MAX }
+        ensures walk { Walk (λ s. s.kept.means) (λ old s new. Through (words_of L.Link L.refused L.tries) old s new) self.old (gets_steps (take result.got room.new) result.stop) self.new }
+        ensures read { ReadMany (words_of L.Link L.refused L.tries) (length room.old) stop (take result.got room.new) result self.old self.new }
         ensures stops { StopsAt stop (length room.old) (take result.got room.new) result.stop }
         ensures within { result.got ≤ length room.old }
         ensures rest { drop result.got room.new ≡ drop result.got room.old }
@@ -168,5 +215,37 @@ impl<L: Link> UpstreamBus<L> {
         let many = self.read_some(room, stop);
         self.told_gets(&room[..many.got], many.stop);
         many
+    }
+
+    /// A burst of gets of a bus that is away: the first failed, and nothing was sent.
+    fn refuse_gets(&mut self) -> ManyGot
+        requires away { IsAway self.old }
+        requires free { self.old.due ≡ [] }
+        requires asks { self.old.kept.means.asks < ASK_MAX }
+        ensures walk { Walk (λ s. s.kept.means) (λ old s new. Through (words_of L.Link L.refused L.tries) old s new) self.old (gets_steps [] result.stop) self.new }
+        ensures none { result ≡ record { got = 0; stop = Stop.Failed } }
+    {
+        self.told_gets(&[], Stop::Failed);
+        ManyGot {
+            got: 0,
+            stop: Stop::Failed,
+        }
+    }
+
+    /// A burst of gets by one device_read, or none where the bus is away.
+    pub(crate) fn get_piece(&mut self, room: &mut [u8], stop: Option<u8>) -> ManyGot
+        requires some { 0 < length room.old }
+        requires asks { self.old.kept.means.asks + length room.old ≤ ASK_MAX }
+        ensures walk { Walk (λ s. s.kept.means) (λ old s new. Through (words_of L.Link L.refused L.tries) old s new) self.old (gets_steps (take result.got room.new) result.stop) self.new }
+        ensures read { IsHere self.old → ReadMany (words_of L.Link L.refused L.tries) (length room.old) stop (take result.got room.new) result self.old self.new }
+        ensures stops { StopsAt stop (length room.old) (take result.got room.new) result.stop }
+        ensures within { result.got ≤ length room.old }
+        ensures rest { drop result.got room.new ≡ drop result.got room.old }
+    {
+        if self.is_here() {
+            self.get_call(room, stop)
+        } else {
+            self.refuse_gets()
+        }
     }
 }

@@ -10,7 +10,7 @@ returns-in-Held-clause-walk g c =
     let more : Bool = c.loop-moved.moved + 1 == length c.args.bytes.now in
     let is : c.if-end.put ≡ (c.args.end && more) =
     elim c.if-end.branch [ then-end w ↦ last-then c.args.end _ more w.if-end.true w.put-is | else-end w ↦ last-else c.args.end _ more w.if-end.false w.put-is ] in
-    puts-held (λ s. s.means) (λ old s new. Through (words_of g.L.Link) old s new) c.args.bytes.now c.args.end c.loop-moved.moved 0 _ c.loop-moved.self c.put.new.self
+    puts-held (λ s. s.kept.means) (λ old s new. Through (words_of g.L.Link g.L.Reach.refused g.L.Reach.tries) old s new) c.args.bytes.now c.args.end c.loop-moved.moved 0 _ c.loop-moved.self c.put.new.self
     c.loop-moved.invariant (omega arith) _ is (c.in-Held.ensures.stepped, c.in-Held.ensures.through)
 
 pub returns-in-Failed-clause-walk : goal.returns-in-Failed-clause-walk
@@ -18,7 +18,7 @@ returns-in-Failed-clause-walk g c =
     let more : Bool = c.loop-moved.moved + 1 == length c.args.bytes.now in
     let is : c.if-end.put ≡ (c.args.end && more) =
     elim c.if-end.branch [ then-end w ↦ last-then c.args.end _ more w.if-end.true w.put-is | else-end w ↦ last-else c.args.end _ more w.if-end.false w.put-is ] in
-    puts-failed (λ s. s.means) (λ old s new. Through (words_of g.L.Link) old s new) c.args.bytes.now c.args.end c.loop-moved.moved 0 _ c.loop-moved.self c.put.new.self
+    puts-failed (λ s. s.kept.means) (λ old s new. Through (words_of g.L.Link g.L.Reach.refused g.L.Reach.tries) old s new) c.args.bytes.now c.args.end c.loop-moved.moved 0 _ c.loop-moved.self c.put.new.self
     c.loop-moved.invariant (omega arith) _ is (c.in-Failed.ensures.stepped, c.in-Failed.ensures.through)
 
 pub loop-moved-preserved : goal.loop-moved-preserved
@@ -26,5 +26,5 @@ loop-moved-preserved g c =
     let more : Bool = c.loop-moved.moved + 1 == length c.args.bytes.now in
     let is : c.if-end.put ≡ (c.args.end && more) =
     elim c.if-end.branch [ then-end w ↦ last-then c.args.end _ more w.if-end.true w.put-is | else-end w ↦ last-else c.args.end _ more w.if-end.false w.put-is ] in
-    puts-next (λ s. s.means) (λ old s new. Through (words_of g.L.Link) old s new) c.args.bytes.now c.args.end c.loop-moved.moved 0 _ c.loop-moved.self c.put.new.self
+    puts-next (λ s. s.kept.means) (λ old s new. Through (words_of g.L.Link g.L.Reach.refused g.L.Reach.tries) old s new) c.args.bytes.now c.args.end c.loop-moved.moved 0 _ c.loop-moved.self c.put.new.self
     c.loop-moved.invariant (omega arith) _ is (c.in-Went.ensures.stepped, c.in-Went.ensures.through)

@@ -7,8 +7,8 @@ use Rattle.vx_upstream.proofs.upstream.UpstreamBus.told_gets.Given as goal
 
 abbrev pub invariant-loop-got : goal.invariant-loop-got
 invariant-loop-got g l =
-    (l.self ≡ record l.initial.self { means = past l.initial.self.means (map Went (take l.got (ended Got l.end l.bytes))) })
-    × (l.self.means.asks ≡ l.initial.self.means.asks + l.got)
+    (l.self ≡ record l.initial.self { kept = past l.initial.self.kept (map Went (take l.got (ended Got l.end l.bytes))) })
+    × (l.self.kept.means.asks ≡ l.initial.self.kept.means.asks + l.got)
     × (l.got ≤ length l.bytes)
 
 abbrev pub decreases-loop-got : goal.decreases-loop-got

@@ -7,8 +7,8 @@ use Rattle.vx_upstream.proofs.upstream.UpstreamBus.told_puts.Given as goal
 
 abbrev pub invariant-loop-moved : goal.invariant-loop-moved
 invariant-loop-moved g l =
-    (l.self ≡ record l.initial.self { means = past l.initial.self.means (map Went (take l.moved (ended Put l.end l.bytes))) })
-    × (l.self.means.asks ≡ l.initial.self.means.asks + l.moved)
+    (l.self ≡ record l.initial.self { kept = past l.initial.self.kept (map Went (take l.moved (ended Put l.end l.bytes))) })
+    × (l.self.kept.means.asks ≡ l.initial.self.kept.means.asks + l.moved)
     × (l.moved ≤ l.many.moved)
 
 abbrev pub decreases-loop-moved : goal.decreases-loop-moved

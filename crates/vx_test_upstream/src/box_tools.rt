@@ -1,0 +1,255 @@
+//! A gateway as a box: a link in memory to it, whose connection breaks where a test says.
+
+ghost use Rattle.std.specs.Prelude.{◌≡◌, ◌<◌, ◌≤◌, length, None};
+ghost use Rattle.vx_calls.specs.declared.limits.TheConstants.{RECORD_MAX};
+
+use std::alloc::Global;
+use std::sync::Arc;
+use std::sync::atomic::{AtomicU64, Ordering};
+use vx_bus_traits::Bus;
+use vx_calls::{RECORD_MAX, Role};
+use vx_core::Core;
+use vx_exchange::{Opened, PollEnd, REPLY_ROOM, again, come, open};
+use vx_io_traits::{DialOut, Link, Reach, ReadOut, WriteOut};
+
+/// The bytes of a record's mark.
+const MARK: usize = 4;
+
+/// How often a call that waits is polled.
+const POLLS: u32 = 20_000;
+
+/// A gateway at the other end of a link. A record is handed over by one send, and is a call that is polled, a millisecond a poll, until it is
+/// answered. A connection that broke ends there.
+#[derive(Drop)]
+pub(crate) struct Peer<B: Bus + Drop> {
+    alloc: Global,
+    core: Core<B>,
+    /// The connection that there is; 0 where there is none.
+    conn: u32,
+    xid: u32,
+    /// The room of a reply, and which part of it is still to be given.
+    reply: Vec<u8>,
+    from: usize,
+    to: usize,
+    /// How many records were sent, also where others see it.
+    records: u64,
+    pub(crate) seen: Option<Arc<AtomicU64, Global>>,
+    /// The number of the record, counted from 1, at which the connection breaks before it is handed over, and of the one at which it
+    /// breaks once the call was done.
+    pub(crate) before: u64,
+    pub(crate) behind: u64,
+    /// How many milliseconds pass with each record.
+    pub(crate) pace: u64,
+    /// How many reaches were made, and which is the first and which the last of those that are refused.
+    reaches: u64,
+    pub(crate) refuses: (u64, u64),
+}
+
+/// A link to a gateway. A reach makes another connection.
+#[derive(Drop)]
+pub(crate) struct BoxLink<B: Bus + Drop> {
+    pub(crate) peer: Peer<B>,
+    refused: u64,
+    send_faults: u64,
+}
+
+/// The room of a reply.
+pub(crate) fn reply_room(alloc: Global) -> Option<Vec<u8>> {
+    vec![in alloc; 0u8; REPLY_ROOM].ok()
+}
+
+/// A link to this gateway that never breaks, with this room for replies.
+pub(crate) fn box_link<B: Bus + Drop>(alloc: Global, core: Core<B>, reply: Vec<u8>) -> BoxLink<B> {
+    BoxLink {
+        peer: Peer {
+            alloc,
+            core,
+            conn: 0,
+            xid: 0,
+            reply,
+            from: 0,
+            to: 0,
+            records: 0,
+            seen: None,
+            before: 0,
+            behind: 0,
+            pace: 0,
+            reaches: 0,
+            refuses: (0, 0),
+        },
+        refused: 0,
+        send_faults: 0,
+    }
+}
+
+impl<B: Bus + Drop> Peer<B> {
+    /// The connection ends, with what is left of a reply.
+    fn fall(&mut self) {
+        if self.core.role(self.conn).is_some() {
+            self.core.disconnect(self.conn);
+        }
+        self.conn = 0;
+        self.from = 0;
+        self.to = 0;
+    }
+
+    /// One more record was sent.
+    fn count(&mut self) {
+        self.records = self.records.saturating_add(1);
+        if let Some(seen) = &self.seen {
+            seen.fetch_add(1, Ordering::SeqCst);
+        }
+    }
+
+    /// The reply is what a poll came to.
+    fn note(&mut self, end: PollEnd) {
+        self.from = 0;
+        self.to = match end {
+            PollEnd::Replied { len, .. } => len,
+            _ => 0,
+        };
+    }
+
+    /// Hands a message to the gateway.
+    fn serve(&mut self, message: &[u8])
+        requires { length message.now ≤ RECORD_MAX }
+    {
+        if self.reply.len() < REPLY_ROOM {
+            return;
+        }
+        match open(message, Role::Core, self.reply.as_mut_slice()) {
+            Opened::Junk => self.fall(),
+            Opened::Aborts { .. } => self.fall(),
+            Opened::Answered { len } => {
+                self.from = 0;
+                self.to = len;
+            }
+            Opened::Asks { xid, call } => {
+                if self.core.role(self.conn) == Some(Role::Core) && !self.core.pending(self.conn) {
+                    let now = self.core.moment().saturating_add(self.pace);
+                    self.xid = xid;
+                    let end = come(
+                        &mut self.core,
+                        self.conn,
+                        xid,
+                        &call,
+                        now,
+                        self.reply.as_mut_slice(),
+                    );
+                    self.note(end);
+                }
+            }
+        }
+    }
+
+    /// Takes a record.
+    fn take(&mut self, record: &[u8]) {
+        self.count();
+        if self.before == self.records {
+            self.fall();
+            return;
+        }
+        if MARK < record.len() && record.len() <= MARK + RECORD_MAX {
+            self.serve(&record[MARK..]);
+        }
+        if self.behind == self.records {
+            self.fall();
+        }
+    }
+
+    /// Polls the call that waits, a millisecond later.
+    fn poll(&mut self) {
+        if self.core.pending(self.conn) && REPLY_ROOM <= self.reply.len() {
+            let now = self.core.moment().saturating_add(1);
+            let end = again(
+                &mut self.core,
+                self.conn,
+                self.xid,
+                now,
+                self.reply.as_mut_slice(),
+            );
+            self.note(end);
+        }
+    }
+
+    /// Polls it until it is answered.
+    fn wait(&mut self) {
+        for _ in 0..POLLS {
+            if !self.core.pending(self.conn) {
+                return;
+            }
+            self.poll();
+        }
+    }
+
+    /// Gives the next bytes of the reply that there is.
+    fn give(&mut self, into: &mut [u8]) -> usize
+        requires { 0 < length into.old }
+        ensures { result ≤ length into.old }
+    {
+        if self.to <= self.from || self.reply.len() < self.to {
+            return 0;
+        }
+        let count = (self.to - self.from).min(into.len());
+        let end = self.from + count;
+        into[..count].copy_from_slice(&self.reply[self.from..end]);
+        self.from = end;
+        count
+    }
+
+    /// Makes another connection, and says whether there is one.
+    fn connect(&mut self) -> bool {
+        self.reaches = self.reaches.saturating_add(1);
+        if self.refuses.0 <= self.reaches && self.reaches <= self.refuses.1 {
+            return false;
+        }
+        self.fall();
+        match self.core.connect(self.alloc, Role::Core) {
+            Ok(conn) => {
+                self.conn = conn;
+                true
+            }
+            Err(_) => false,
+        }
+    }
+}
+
+impl<B: Bus + Drop> Link for BoxLink<B> {
+    ghost stands = { λ _ taken given. ⊥ };
+
+    ghost left = { λ _. None };
+
+    ghost receive_faults = { λ _. 0 };
+
+    ghost send_faults = { λ l. l.send_faults };
+
+    fn receive(&mut self, into: &mut [u8]) -> ReadOut {
+        self.peer.wait();
+        let count = self.peer.give(into);
+        if count == 0 {
+            return ReadOut::End;
+        }
+        ReadOut::Got(count)
+    }
+
+    fn send(&mut self, from: &[u8]) -> WriteOut {
+        if self.peer.conn == 0 {
+            self.send_faults = self.send_faults.saturating_add(1);
+            return WriteOut::Failed;
+        }
+        self.peer.take(from);
+        WriteOut::Took(from.len())
+    }
+}
+
+impl<B: Bus + Drop> Reach for BoxLink<B> {
+    ghost refused = { λ l. l.refused };
+
+    fn reach(&mut self, _host: &str, _port: u16) -> DialOut {
+        if self.peer.connect() {
+            return DialOut::Up;
+        }
+        self.refused = self.refused.saturating_add(1);
+        DialOut::Failed
+    }
+}
