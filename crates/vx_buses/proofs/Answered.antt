@@ -1,15 +1,16 @@
--- A message of a session to four buses: what it means, and how it is served.
-use Rattle.std.proofs.Common.{◌≡◌, ◌≤◌, ℕ, zero, suc, List, [], Some, refl, sym, ap, ◌∙◌, subst, arith}
+-- A message of a session to several buses: what it means, and how it is served.
+use Rattle.std.proofs.Common.{◌≡◌, ◌≤◌, ◌<◌, ℕ, zero, suc, List, [], Some, refl, sym, ap, ◌∙◌, subst, arith}
 use Rattle.std.proofs.lemmas.Option.{same_Some}
 use Rattle.vx_calls.specs.declared.calls.Role.{Role}
 use Rattle.vx_calls.specs.declared.calls.Role.TheVariants as role
-use Rattle.vx_calls.specs.declared.codes.ErrorCode.{ErrorCode}
 use Rattle.vx_calls.specs.Call.{Call}
-use Rattle.vx_calls.specs.Reply as reply
+use Rattle.vx_calls.specs.Reply.{Reply}
 use Rattle.vx_record.specs.Fragments.{record_of}
 use Rattle.vx_exchange.specs.Meaning as one
 use Rattle.vx_gate.specs.PassView.{PassView, GateId}
+use Rattle.vx_buses.specs.declared.routes.counts.Count.{Count}
 use Rattle.vx_buses.specs.Four.{Four, at, Each}
+use Rattle.vx_buses.specs.Counts.{count_number}
 use Rattle.vx_buses.specs.Passing.{IsOf}
 use Rattle.vx_group.specs.Groups.{Group}
 use Rattle.vx_group.specs.Phases.{Idle}
@@ -27,6 +28,7 @@ use Rattle.vx_buses.specs.Meant.{by_way}
 use Rattle.vx_buses.specs.Origins.{Origins, on}
 use Rattle.vx_buses.specs.Serving.{IsFleetServed, IsFleetAsked, ServesCall, State, MeaningDoes, numbers}
 use Rattle.vx_buses.proofs.Fours.{at-put, each-at, each-put}
+use Rattle.vx_buses.proofs.Counted.{some-served}
 
 -- the number of a bus's pass
 at-numbers : (b : ℕ) (f : Four (PassView Group)) → (at b f).number ≡ at b (numbers f)
@@ -61,15 +63,15 @@ holds-on clocked told b P passes passes' gates conns r holds went phase =
           (each-put (λ pass conn. phase_at pass conn ≡ Idle r) b own passes conns holds.idle (subst (λ p. phase_at p (at b conns) ≡ Idle r) here phase));
     }
 
-module _ {B : Type 0} (g : Origins B) (told : ℕ) (passes : Four (PassView Group)) (conns : Four ℕ) where
+module _ {B : Type 0} (count : Count) (g : Origins B) (told : ℕ) (passes : Four (PassView Group)) (conns : Four ℕ) where
   -- ---- a call
 
   -- a call that is refused is answered without a bus
-  pub refused-served : (xid : ℕ) (asked : Call) (error : ErrorCode) (out : List ℕ) → Refused error ≡ route_of asked → out ≡ success_record xid (reply.Error error)
-      → (clocked : List Placed → Type 0) → clocked [] → ServesCall g clocked told passes conns (by_way xid (route_of asked)) out passes
-  refused-served xid asked error out way out_is clocked none = record {
+  pub refused-served : (xid : ℕ) (asked : Call) (answer : Reply) (out : List ℕ) → Refused answer ≡ route_of count asked → out ≡ success_record xid answer
+      → (clocked : List Placed → Type 0) → clocked [] → ServesCall count g clocked told passes conns (by_way xid (route_of count asked)) out passes
+  refused-served xid asked answer out way out_is clocked none = record {
     bus = 0;
-    within = omega arith;
+    within = some-served count;
     placed = [];
     own = passes.zero_;
     is = refl;
@@ -79,9 +81,9 @@ module _ {B : Type 0} (g : Origins B) (told : ℕ) (passes : Four (PassView Grou
   }
 
   -- any other is answered by its bus
-  pub asked-served : (clocked : List Placed → Type 0) (xid : ℕ) (asked there : Call) (bus : ℕ) (out : List ℕ) (passes' : Four (PassView Group)) → Goes bus there ≡ route_of asked → bus ≤ 3
+  pub asked-served : (clocked : List Placed → Type 0) (xid : ℕ) (asked there : Call) (bus : ℕ) (out : List ℕ) (passes' : Four (PassView Group)) → Goes bus there ≡ route_of count asked → bus < count_number count
       → OnBus clocked told passes bus (λ placed. IsFleetAsked (on bus g) (at bus passes).number (at bus conns) xid there bus placed out) passes'
-      → ServesCall g clocked told passes conns (by_way xid (route_of asked)) out passes'
+      → ServesCall count g clocked told passes conns (by_way xid (route_of count asked)) out passes'
   asked-served clocked xid asked there bus out passes' way within went = record {
     bus = bus;
     within = within;
@@ -100,13 +102,14 @@ module _ {B C : Type 0} (g : Origins B) (tells : C → ℕ → C → Type 0) whe
   -- a message that says what is answered without a bus
   pub answered-does : (s : State C) (passes : Four (PassView Group)) → s.passes ≡ Some passes → (text out : List ℕ) → out ≡ record_of text → MeaningDoes g tells s (one.Answered text) (Some out) s
   answered-does s passes had text out is = record {
+    count = refl;
     role = refl;
     conns = refl;
     later = omega arith;
     has = record {
       passes = passes;
       bus = 0;
-      within = omega arith;
+      within = some-served s.count;
       placed = [];
       own = passes.zero_;
       had = had;
@@ -118,11 +121,12 @@ module _ {B C : Type 0} (g : Origins B) (tells : C → ℕ → C → Type 0) whe
   }
 
   -- any other, of connections with these numbers, whose passes were in their place and are again
-  module _ (s s' : State C) (passes passes' : Four (PassView Group)) (role_is : s'.role ≡ s.role) (conns_are : s'.conns ≡ s.conns) (later : s.told ≤ s'.told) (had : s.passes ≡ Some passes) (has : s'.passes ≡ Some passes') where
+  module _ (s s' : State C) (passes passes' : Four (PassView Group)) (count_is : s'.count ≡ s.count) (role_is : s'.role ≡ s.role) (conns_are : s'.conns ≡ s.conns) (later : s.told ≤ s'.told) (had : s.passes ≡ Some passes) (has : s'.passes ≡ Some passes') where
     -- a call
-    pub asks-does : s.role ≡ role.Core → (xid : ℕ) (asked : Call) (out : List ℕ) → ServesCall g (Clocked tells s.clock s'.clock) s'.told passes s.conns (by_way xid (route_of asked)) out passes'
+    pub asks-does : s.role ≡ role.Core → (xid : ℕ) (asked : Call) (out : List ℕ) → ServesCall s.count g (Clocked tells s.clock s'.clock) s'.told passes s.conns (by_way xid (route_of s.count asked)) out passes'
         → MeaningDoes g tells s (one.Asks xid asked) (Some out) s'
     asks-does of_role xid asked out serves = record {
+      count = count_is;
       role = role_is;
       conns = conns_are;
       later = later;
@@ -141,9 +145,10 @@ module _ {B C : Type 0} (g : Origins B) (tells : C → ℕ → C → Type 0) whe
     }
 
     -- a device_abort
-    pub aborts-does : s.role ≡ role.Abort → s'.clock ≡ s.clock → (xid lid bus link : ℕ) (out : List ℕ) → (bus, link) ≡ fleet_place_of lid → bus ≤ 3
+    pub aborts-does : s.role ≡ role.Abort → s'.clock ≡ s.clock → (xid lid bus link : ℕ) (out : List ℕ) → (bus, link) ≡ fleet_place_of s.count lid → bus < count_number s.count
         → OnBus unclocked 0 passes bus (λ placed. IsAborted (at bus s.conns) xid link placed [] out) passes' → MeaningDoes g tells s (one.Aborts xid lid) (Some out) s'
     aborts-does of_role same xid lid bus link out place within went = record {
+      count = count_is;
       role = role_is;
       conns = conns_are;
       later = later;

@@ -1,4 +1,4 @@
--- What messages do at the desk of four buses, by what calls do there.
+-- What messages do at the desk of a fleet, by what calls do there.
 use Rattle.std.proofs.Common.{ℕ, List, Option, None, Some, refl, sym, subst, arith}
 use Rattle.vx_io_traits.specs.declared.clocks.Clock.{Ghosts as OfClock}
 use Rattle.vx_calls.specs.declared.calls.Role.{Role}
@@ -12,6 +12,7 @@ use Rattle.vx_exchange.specs.Meaning.{Meaning, Junk, Answered, Asks, Aborts, mea
 use Rattle.vx_session.specs.Desks.{DeskAnswers, Attends}
 use Rattle.vx_session.specs.declared.desks.Desk.{Ghosts as OfDesk}
 use Rattle.vx_session.specs.declared.attending.Attending.{Attending}
+use Rattle.vx_buses.specs.declared.routes.counts.Count.{Count}
 use Rattle.vx_buses.specs.Four.{Four}
 use Rattle.vx_buses.specs.Origins.{origins}
 use Rattle.vx_buses.specs.Serving.{State, MeaningDoes, MessageDoes, fleet_state}
@@ -19,20 +20,20 @@ use Rattle.vx_buses.specs.FleetDesk.{AreIdleAt}
 use Rattle.vx_buses.proofs.Answered.{answered-does}
 
 module _ {B C D : Type 0} (bus : Ghosts B) (by_clock : OfClock C) (ways : OfDesk D) (firsts : D → Four (CoreState B)) (gates : D → Four GateId)
-    (conns : D → Four ℕ) (passes : D → Option (Four (PassView Group))) (clock : D → C)
-    (idles : (s : D) (r : Role) → ways.idle s r → AreIdleAt (gates s) r (fleet_state by_clock r (conns s) (passes s) (clock s)))
+    (count : D → Count) (conns : D → Four ℕ) (passes : D → Option (Four (PassView Group))) (clock : D → C)
+    (idles : (s : D) (r : Role) → ways.idle s r → AreIdleAt (gates s) r (fleet_state by_clock (count s) r (conns s) (passes s) (clock s)))
     (asks : (s s' : D) (xid : ℕ) (call : Call) (reply : Option (List ℕ)) → ways.asks s xid call reply s'
-    → MeaningDoes (origins bus (firsts s)) by_clock.tells (fleet_state by_clock role.Core (conns s) (passes s) (clock s)) (Asks xid call) reply (fleet_state by_clock role.Core (conns s') (passes s') (clock s')))
+    → MeaningDoes (origins bus (firsts s)) by_clock.tells (fleet_state by_clock (count s) role.Core (conns s) (passes s) (clock s)) (Asks xid call) reply (fleet_state by_clock (count s') role.Core (conns s') (passes s') (clock s')))
     (aborts : (s s' : D) (xid lid : ℕ) (reply : List ℕ) → ways.aborts s xid lid reply s'
-    → MeaningDoes (origins bus (firsts s)) by_clock.tells (fleet_state by_clock role.Abort (conns s) (passes s) (clock s)) (Aborts xid lid) (Some reply) (fleet_state by_clock role.Abort (conns s') (passes s') (clock s'))) where
+    → MeaningDoes (origins bus (firsts s)) by_clock.tells (fleet_state by_clock (count s) role.Abort (conns s) (passes s) (clock s)) (Aborts xid lid) (Some reply) (fleet_state by_clock (count s') role.Abort (conns s') (passes s') (clock s'))) where
   abbrev shown : Role → D → State C
-  shown r s = fleet_state by_clock r (conns s) (passes s) (clock s)
+  shown r s = fleet_state by_clock (count s) r (conns s) (passes s) (clock s)
 
   -- a message of a meaning does on the connections what it does at the desk
   answers-do : (m : Meaning) (r : Role) (s s' : D) (reply : Option (List ℕ)) → ways.idle s r → DeskAnswers ways r s m reply s' → MeaningDoes (origins bus (firsts s)) by_clock.tells (shown r s) m reply (shown r s')
   answers-do Junk r s s' None idle did =
       subst (λ x. MeaningDoes (origins bus (firsts s)) by_clock.tells (shown r s) Junk None (shown r x)) (sym did)
-      (record { role = refl; conns = refl; later = omega arith; has = (refl, refl, refl) })
+      (record { count = refl; role = refl; conns = refl; later = omega arith; has = (refl, refl, refl) })
   answers-do Junk r s s' (Some out) idle did = absurd did
   answers-do (Answered message) r s s' None idle did = absurd did
   answers-do (Answered message) r s s' (Some out) idle did =

@@ -6,6 +6,7 @@ use Rattle.vx_calls.specs.declared.calls.Role.{Role}
 use Rattle.vx_calls.specs.declared.limits.TheConstants.{RECORD_MAX}
 use Rattle.vx_bus_traits.specs.Steps.{Cut}
 use Rattle.vx_gate.specs.PassView.{PassView}
+use Rattle.vx_buses.specs.declared.routes.counts.Count.{Count}
 use Rattle.vx_buses.specs.Four.{Four, at}
 use Rattle.vx_record.specs.Records.{records}
 use Rattle.vx_exchange.specs.Meaning.{meaning, Junk}
@@ -27,7 +28,7 @@ use Rattle.vx_session.specs.Ending.{Upholds}
 use Rattle.vx_buses.specs.Origins.{Origins, on}
 use Rattle.vx_session.specs.Progress.{ClockedAs}
 use Rattle.vx_buses.specs.Serving.{State, placed, placed_on}
-use Rattle.vx_buses.specs.Ending.{LeavesAll, FleetHolding, SessionDid, GivesOnce, history_of}
+use Rattle.vx_buses.specs.Ending.{LeavesAll, FleetHolding, FleetSessionDid, GivesOnce, history_of}
 use Rattle.vx_buses.proofs.Fours.{each-number}
 use Rattle.vx_buses.proofs.Progressing.{StreamServed}
 
@@ -49,7 +50,7 @@ left g told before mid after conn ps makes leaves =
 pub session-did : {B C L : Type 0} (g : Origins B) (tells : C → ℕ → C → Type 0) (ways : Ghosts L) → ClaimsOfGroupsLaw → OwnedLaw → LinksLaw → OnceLaw → (s s' : State C)
     (passes mid passes' : Four (PassView Group)) (link link' : L) (how : End) (told : ℕ) (clock : C) → StreamServed g tells ways s passes link how s' link'
     → s'.passes ≡ Some mid → s'.told ≡ told → s'.clock ≡ clock → LeavesAll g mid s.conns passes'
-    → SessionDid g ways (ClockedAs s.role tells s.clock clock) told s.role s.conns (record { passes = passes; link = link }) how (record { passes = passes'; link = link' })
+    → FleetSessionDid s.count g ways (ClockedAs s.role tells s.clock clock) told s.role s.conns (record { passes = passes; link = link }) how (record { passes = passes'; link = link' })
 session-did g tells ways claims owned links once s s' passes mid passes' link link' how told clock did has told_is clock_is leaves =
     let all = did.serves in
     let zeroth = leaves.zero_ in
@@ -93,10 +94,10 @@ session-did g tells ways claims owned links once s s' passes mid passes' link li
     }
 
 -- what a session did, of which less is said of its clock
-pub session-says : {B L : Type 0} (g : Origins B) (ways : Ghosts L) (clocked less : List Placed → Type 0) → ((groups : List Placed) → clocked groups → less groups)
+pub session-says : {B L : Type 0} (count : Count) (g : Origins B) (ways : Ghosts L) (clocked less : List Placed → Type 0) → ((groups : List Placed) → clocked groups → less groups)
     → (told : ℕ) (r : Role) (conns : Four ℕ) (before : FleetHolding L) (how : End) (after : FleetHolding L)
-    → SessionDid g ways clocked told r conns before how after → SessionDid g ways less told r conns before how after
-session-says g ways clocked less so told r conns before how after did = record {
+    → FleetSessionDid count g ways clocked told r conns before how after → FleetSessionDid count g ways less told r conns before how after
+session-says count g ways clocked less so told r conns before how after did = record {
   items = did.items;
   lasts = did.lasts;
   front = did.front;

@@ -1,4 +1,5 @@
 pub mod Fours
+pub mod Counted
 pub mod Asked
 pub mod Answered
 pub mod Progressing

@@ -3,6 +3,7 @@ use Rattle.std.proofs.Common.{◌≡◌, ◌≤◌, ℕ, List, Result, Ok, Err, 
 use Rattle.vx_io_traits.specs.declared.links.Link.{Ghosts}
 use Rattle.vx_calls.specs.declared.calls.Role.TheVariants as role
 use Rattle.vx_gate.specs.PassView.{PassView}
+use Rattle.vx_buses.specs.declared.routes.counts.Count.{Count}
 use Rattle.vx_buses.specs.Four.{Four, at}
 use Rattle.vx_group.specs.Groups.{Group}
 use Rattle.vx_group.specs.Laws.{ClaimsOfGroupsLaw, OwnedLaw}
@@ -17,7 +18,7 @@ use Rattle.vx_session.specs.declared.links.Linked.{Linked}
 use Rattle.vx_buses.specs.Origins.{Origins, on}
 use Rattle.vx_buses.specs.Ending.{GivesOnce}
 use Rattle.vx_buses.specs.Joining.{JoinsAll, Undone, UndoneAll, outcome}
-use Rattle.vx_buses.specs.Linking.{LinkDid}
+use Rattle.vx_buses.specs.Linking.{FleetLinkDid}
 use Rattle.vx_session.proofs.Laws.Finishing.{upholds}
 use Rattle.vx_buses.proofs.Finishing.{gives-once}
 use Rattle.vx_buses.proofs.Fours.{each-number}
@@ -38,17 +39,17 @@ undone-uphold g claims owned passes up passes' joined joins undone =
     (upholds (on 3 g) claims owned passes'.three (undone-history (on 3 g) up.three passes'.three joined.three joins.three.turns.history undone.three))
 
 -- the connections were refused, and their link is told so
-pub link-refused : {B L : Type 0} (g : Origins B) (ways : Ghosts L) → ClaimsOfGroupsLaw → OwnedLaw → OnceLaw → (clocked : List Placed → Type 0) → clocked [] → (told : ℕ) (passes up passes' : Four (PassView Group)) (link : L)
+pub link-refused : {B L : Type 0} (count : Count) (g : Origins B) (ways : Ghosts L) → ClaimsOfGroupsLaw → OwnedLaw → OnceLaw → (clocked : List Placed → Type 0) → clocked [] → (told : ℕ) (passes up passes' : Four (PassView Group)) (link : L)
     (joined : Four (Result ℕ Connect)) (why : Connect) (how : Linked) → how ≡ refused_as why → JoinsAll g role.Core passes joined up → outcome joined ≡ Err why → UndoneAll g up joined passes'
-    → LinkDid g ways clocked told (record { passes = passes; link = link }) how (record { passes = passes'; link = link })
-link-refused g ways claims owned law clocked none told passes up passes' link joined why how how_is joins is undone =
-    subst (λ h. LinkDid g ways clocked told (record { passes = passes; link = link }) h (record { passes = passes'; link = link })) (sym how_is) (by why is) where
+    → FleetLinkDid count g ways clocked told (record { passes = passes; link = link }) how (record { passes = passes'; link = link })
+link-refused count g ways claims owned law clocked none told passes up passes' link joined why how how_is joins is undone =
+    subst (λ h. FleetLinkDid count g ways clocked told (record { passes = passes; link = link }) h (record { passes = passes'; link = link })) (sym how_is) (by why is) where
       all : (bus : ℕ) → bus ≤ 3 → Upholds (on bus g) (at bus passes')
       all = undone-uphold g claims owned passes up passes' joined joins undone
 
       once : GivesOnce passes'
       once = gives-once g law passes' (all 0 (omega arith)) (all 1 (omega arith)) (all 2 (omega arith)) (all 3 (omega arith))
 
-      by : (c : Connect) → outcome joined ≡ Err c → LinkDid g ways clocked told (record { passes = passes; link = link }) (refused_as c) (record { passes = passes'; link = link })
+      by : (c : Connect) → outcome joined ≡ Err c → FleetLinkDid count g ways clocked told (record { passes = passes; link = link }) (refused_as c) (record { passes = passes'; link = link })
       by connect.Full refused = record { joined = joined; up = up; joins = joins; refused = refused; undone = undone; same = refl; asks = none; upholds = all; once = once }
       by connect.NoMemory refused = record { joined = joined; up = up; joins = joins; refused = refused; undone = undone; same = refl; asks = none; upholds = all; once = once }

@@ -27,6 +27,7 @@ use Rattle.vx_buses.specs.Ending.{at_once}
 use Rattle.vx_buses.specs.Origins.{Origins, origins}
 use Rattle.vx_buses.specs.Serving.{Item, FleetServes, State, MessageDoes, answered, placed, placed_on, numbers}
 use Rattle.vx_buses.proofs.Fours.{at-put, at-put-other, numbers-put}
+use Rattle.vx_buses.proofs.Counted.{most-served}
 
 -- what the pass of a bus made where one bus's pass made some groups, and then each bus's made more
 makes-at : (told told' b k : ℕ) (p : Four (PassView Group)) (own r : PassView Group) (ps qs : List Placed) → b ≤ 3 → k ≤ 3 → told ≤ told' → Makes told (at k p) ps own
@@ -46,14 +47,16 @@ pub record ServesAll {B C : Type 0} (g : Origins B) (tells : C → ℕ → C →
   pub are : answered items ≡ list
   pub has : s'.passes ≡ Some passes'
   pub makes : (bus : ℕ) → bus ≤ 3 → Makes s'.told (at bus passes) (placed_on bus items) (at bus passes')
-  pub each : All (FleetServes g (numbers passes) s.conns s.role) items
+  pub each : All (FleetServes s.count g (numbers passes) s.conns s.role) items
   pub asks : ClockedAs s.role tells s.clock s'.clock (placed items)
+  pub count : s'.count ≡ s.count
   pub role : s'.role ≡ s.role
   pub conns : s'.conns ≡ s.conns
   pub later : s.told ≤ s'.told
 
 -- what a session has in common with what it was, where nothing was served in between
 pub record Stays {C : Type 0} (s s' : State C) : Type 0 where
+  pub count : s'.count ≡ s.count
   pub role : s'.role ≡ s.role
   pub conns : s'.conns ≡ s.conns
   pub passes : s'.passes ≡ s.passes
@@ -68,8 +71,9 @@ serves-none g tells s s' passes had stays = record {
   are = refl;
   has = stays.passes ∙ had;
   makes = λ bus h. makes-none s'.told (at bus passes);
-  each = All-nil (FleetServes g (numbers passes) s.conns s.role);
+  each = All-nil (FleetServes s.count g (numbers passes) s.conns s.role);
   asks = clockedas-none tells s.role s.clock s'.clock stays.clock;
+  count = stays.count;
   role = stays.role;
   conns = stays.conns;
   later = stays.later;
@@ -90,13 +94,15 @@ serves-more g tells s mid s' one more does rest =
       are = ap (λ list. one ∷ list) rest.are;
       has = rest.has;
       makes = λ b h.
-          makes-at mid.told s'.told b first.bus first.passes first.own (at b rest.passes') first.placed (placed_on b rest.items) h first.within later first.makes (rest.makes b h);
-      each = All-cons (FleetServes g (numbers first.passes) s.conns s.role) item rest.items (record { within = first.within; served = first.served })
-          (subst (λ ns. All (FleetServes g ns s.conns s.role) rest.items) same
-          (subst (λ cs. All (FleetServes g (numbers (put first.bus first.own first.passes)) cs s.role) rest.items) does.conns
-          (subst (λ r. All (FleetServes g (numbers (put first.bus first.own first.passes)) mid.conns r) rest.items) does.role rest.each)));
+          makes-at mid.told s'.told b first.bus first.passes first.own (at b rest.passes') first.placed (placed_on b rest.items) h (most-served s.count first.bus first.within) later first.makes (rest.makes b h);
+      each = All-cons (FleetServes s.count g (numbers first.passes) s.conns s.role) item rest.items (record { within = first.within; served = first.served })
+          (subst (λ ns. All (FleetServes s.count g ns s.conns s.role) rest.items) same
+          (subst (λ cs. All (FleetServes s.count g (numbers (put first.bus first.own first.passes)) cs s.role) rest.items) does.conns
+          (subst (λ r. All (FleetServes s.count g (numbers (put first.bus first.own first.passes)) mid.conns r) rest.items) does.role
+          (subst (λ n. All (FleetServes n g (numbers (put first.bus first.own first.passes)) mid.conns mid.role) rest.items) does.count rest.each))));
       asks = clockedas-goes tells s.role s.clock mid.clock s'.clock item.placed (placed rest.items) first.asks
           (subst (λ r. ClockedAs r tells mid.clock s'.clock (placed rest.items)) does.role rest.asks);
+      count = rest.count ∙ does.count;
       role = rest.role ∙ does.role;
       conns = rest.conns ∙ does.conns;
       later = omega arith;
@@ -126,10 +132,10 @@ module _ {B C S : Type 0} (bus : Ghosts B) (tells : C → ℕ → C → Type 0) 
     (same : (s s' : S) (message : List ℕ) (reply : Option (List ℕ)) → does s message reply s' → firsts s' ≡ firsts s) where
   -- as it is left, it stays
   left-stays : (last s' : S) → (s' ≡ last) ⊎ ((junk : List ℕ) × does last junk None s') → Stays (shown last) (shown s')
-  left-stays last s' (inl same) = subst (λ x. Stays (shown last) (shown x)) (sym same) (record { role = refl; conns = refl; passes = refl; clock = refl; later = omega arith })
+  left-stays last s' (inl same) = subst (λ x. Stays (shown last) (shown x)) (sym same) (record { count = refl; role = refl; conns = refl; passes = refl; clock = refl; later = omega arith })
   left-stays last s' (inr did) =
       let junk = one last s' did.0 None did.1 in
-      record { role = junk.role; conns = junk.conns; passes = junk.has.1; clock = junk.has.2; later = junk.later }
+      record { count = junk.count; role = junk.role; conns = junk.conns; passes = junk.has.1; clock = junk.has.2; later = junk.later }
 
   -- the messages that it answered were served
   all-served : (s last s' : S) (passes : Four (PassView Group)) (list : List Answered) → (shown s).passes ≡ Some passes → AnswersAll does s list last → Stays (shown last) (shown s')

@@ -7,6 +7,8 @@ use Rattle.vx_io_traits.specs.declared.links.Link.{Ghosts}
 use Rattle.vx_calls.specs.declared.calls.Role.{Role}
 use Rattle.vx_calls.specs.declared.limits.TheConstants.{CONNECTION_LAST}
 use Rattle.vx_calls.specs.declared.calls.Role.TheVariants as role
+use Rattle.vx_buses.specs.declared.routes.counts.Count.{Count}
+use Rattle.vx_buses.specs.declared.routes.counts.Count.TheVariants as counts
 use Rattle.vx_buses.specs.Four.{Four, at, Each}
 use Rattle.vx_state.specs.declared.tables.Connect.{Connect}
 use Rattle.vx_state.specs.declared.tables.Connect.TheVariants as connect
@@ -36,14 +38,14 @@ served-steady g ns conns (Asks b xid there) bus ps out is = called-steady (on bu
 served-steady g ns conns (Aborts b xid lid) bus ps out is = aborted-steady (at bus conns) xid lid ps [] out is.1
 
 -- nor by those of a session that one bus served
-pub items-steady : {B : Type 0} (g : Origins B) (ns conns : Four ℕ) (r : Role) (bus : ℕ) (items : List Item) → All (FleetServes g ns conns r) items → IsSteady (events_by (placed_on bus items))
-items-steady g ns conns r bus [] all = none-steady
-items-steady g ns conns r bus (i ∷ items) all =
-    let one = All-head (FleetServes g ns conns r) i items all in
-    let first = served-steady g ns conns (meant i.answered.message r) i.bus i.placed i.answered.reply one.served in
+pub items-steady : {B : Type 0} (count : Count) (g : Origins B) (ns conns : Four ℕ) (r : Role) (bus : ℕ) (items : List Item) → All (FleetServes count g ns conns r) items → IsSteady (events_by (placed_on bus items))
+items-steady count g ns conns r bus [] all = none-steady
+items-steady count g ns conns r bus (i ∷ items) all =
+    let one = All-head (FleetServes count g ns conns r) i items all in
+    let first = served-steady g ns conns (meant count i.answered.message r) i.bus i.placed i.answered.reply one.served in
     subst IsSteady (sym (ap events_by (flat_map-cons (λ (k : Item). cond (k.bus == bus) k.placed []) i items) ∙ events_by-append (cond (i.bus == bus) i.placed []) (placed_on bus items)))
     (append-steady (events_by (cond (i.bus == bus) i.placed [])) (events_by (placed_on bus items)) (chosen (i.bus == bus) first)
-    (items-steady g ns conns r bus items (All-tail (FleetServes g ns conns r) i items all)))
+    (items-steady count g ns conns r bus items (All-tail (FleetServes count g ns conns r) i items all)))
   where
     chosen : (b : Bool) → IsSteady (events_by i.placed) → IsSteady (events_by (cond b i.placed []))
     chosen true first = first
@@ -90,14 +92,14 @@ who-refused (Ok x) (Ok y) (Ok z) (Ok w) why h = absurd (cc)
 -- ---- a link
 
 -- a connection of each bus came up, had its session, and went
-had-counts : {B L : Type 0} (g : Origins B) (ways : Ghosts L) (clocked : List Placed → Type 0) (told : ℕ) (before : FleetHolding L) (how : End) (after : FleetHolding L)
-    → HadSession g ways clocked told before how after → (bus : ℕ) → bus ≤ 3 → ComesAndGoes (at bus before.passes) (at bus after.passes)
-had-counts g ways clocked told before how after had bus within =
+had-counts : {B L : Type 0} (count : Count) (g : Origins B) (ways : Ghosts L) (clocked : List Placed → Type 0) (told : ℕ) (before : FleetHolding L) (how : End) (after : FleetHolding L)
+    → HadSession count g ways clocked told before how after → (bus : ℕ) → bus ≤ 3 → ComesAndGoes (at bus before.passes) (at bus after.passes)
+had-counts count g ways clocked told before how after had bus within =
     let did = had.did in
     let joins = subst (λ o. Joins (on bus g) (at bus before.passes) role.Core o (at bus had.up)) (each-up had.joined had.conns had.all bus)
     (each-on (λ o pass answer pass'. Joins o pass role.Core answer pass') g before.passes had.joined had.up had.joins bus) in
     came-and-went (on bus g) told (at bus had.conns) role.Core (at bus before.passes) (at bus had.up) (at bus after.passes) (placed_on bus did.items) (at bus did.lasts) joins (did.makes bus within)
-    (items-steady g (numbers had.up) had.conns role.Core bus did.items did.each) (did.down bus within)
+    (items-steady count g (numbers had.up) had.conns role.Core bus did.items did.each) (did.down bus within)
 
 -- one didn't come up, and those that did went again
 refused-counts : {B L : Type 0} (g : Origins B) (clocked : List Placed → Type 0) (before : FleetHolding L) (why : Connect) (after : FleetHolding L) → WasRefused g clocked before why after
@@ -114,7 +116,7 @@ refused-counts g clocked before why after was bus =
 -- Whatever became of a link: among the groups that each bus's pass made as many connections came up as went down, and at most one.
 pub link-counts : {B L : Type 0} (g : Origins B) (ways : Ghosts L) (clocked : List Placed → Type 0) (told : ℕ) (before : FleetHolding L) (how : Linked) (after : FleetHolding L)
     → LinkDid g ways clocked told before how after → (bus : ℕ) → bus ≤ 3 → ComesAndGoes (at bus before.passes) (at bus after.passes)
-link-counts g ways clocked told before (linked.Ended how) after did bus within = had-counts g ways clocked told before how after did bus within
+link-counts g ways clocked told before (linked.Ended how) after did bus within = had-counts counts.Four g ways clocked told before how after did bus within
 link-counts g ways clocked told before linked.Full after did bus within = refused-counts g clocked before connect.Full after did bus
 link-counts g ways clocked told before linked.NoMemory after did bus within = refused-counts g clocked before connect.NoMemory after did bus
 

@@ -9,6 +9,8 @@ use Rattle.vx_calls.specs.declared.limits.TheConstants.{RECORD_MAX}
 use Rattle.vx_bus_traits.specs.Steps.{Cut}
 use Rattle.vx_gate.specs.History.{groups}
 use Rattle.vx_gate.specs.PassView.{PassView}
+use Rattle.vx_buses.specs.declared.routes.counts.Count.{Count}
+use Rattle.vx_buses.specs.declared.routes.counts.Count.TheVariants as counts
 use Rattle.vx_buses.specs.Four.{Four, at}
 use Rattle.vx_record.specs.Records.{records}
 use Rattle.vx_exchange.specs.Meaning.{meaning, Junk}
@@ -50,10 +52,11 @@ pub record FleetHolding (L : Type 0) : Type 0 where
   pub passes : Four (PassView Group)
   pub link : L
 
--- A session on connections of this role, one of each bus: the records that it served, in their order; the bytes `front` that it looked
--- at, and those that it received behind them, fewer than it receives at once; the replies, of which the link took `written`; and the end
--- of each connection. It received more only where it had written the replies to all records that had come, whole.
-pub record SessionDid {B L : Type 0} (g : Origins B) (ways : Ghosts L) (clocked : List Placed → Type 0) (told : ℕ) (r : Role) (conns : Four ℕ) (before : FleetHolding L) (how : End) (after : FleetHolding L) : Type 0 where
+-- A session at a fleet that serves so many buses, on connections of this role, one of each of the four: the records that it served, in
+-- their order; the bytes `front` that it looked at, and those that it received behind them, fewer than it receives at once; the replies, of
+-- which the link took `written`; and the end of each connection. It received more only where it had written the replies to all records that
+-- had come, whole.
+pub record FleetSessionDid {B L : Type 0} (count : Count) (g : Origins B) (ways : Ghosts L) (clocked : List Placed → Type 0) (told : ℕ) (r : Role) (conns : Four ℕ) (before : FleetHolding L) (how : End) (after : FleetHolding L) : Type 0 where
   pub items : List Item
   pub lasts : Four Placed
   pub front : List ℕ
@@ -62,7 +65,7 @@ pub record SessionDid {B L : Type 0} (g : Origins B) (ways : Ghosts L) (clocked 
   pub unsent : List ℕ
   -- the groups that the pass of each bus added: those of the records that its bus served, in order, and the end of its connection
   pub makes : (bus : ℕ) → bus ≤ 3 → Makes told (at bus before.passes) (placed_on bus items ++ at bus lasts ∷ []) (at bus after.passes)
-  pub each : All (FleetServes g (numbers before.passes) conns r) items
+  pub each : All (FleetServes count g (numbers before.passes) conns r) items
   pub down : (bus : ℕ) → bus ≤ 3 → (at bus lasts).group.events ≡ Down (at bus conns) ∷ []
   pub cut : (bus : ℕ) → bus ≤ 3 → (at bus lasts).group.steps ≡ Cut ∷ []
   -- the bytes that came and went
@@ -80,3 +83,7 @@ pub record SessionDid {B L : Type 0} (g : Origins B) (ways : Ghosts L) (clocked 
   -- no number of a link is given twice over all four
   pub links : (bus : ℕ) → bus ≤ 3 → All IsLink (links_given (history_of (at bus after.passes)))
   pub once : GivesOnce after.passes
+
+-- a session at a fleet of four
+abbrev pub SessionDid : {B L : Type 0} → Origins B → Ghosts L → (List Placed → Type 0) → ℕ → Role → Four ℕ → FleetHolding L → End → FleetHolding L → Type 0
+SessionDid g ways clocked told r conns before how after = FleetSessionDid counts.Four g ways clocked told r conns before how after

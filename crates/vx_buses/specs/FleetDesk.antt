@@ -1,4 +1,5 @@
--- What the desk of four buses does: its connections are ones of the passes of the gates round the cores, one of each bus.
+-- What the desk of a fleet does: its connections are ones of the passes of the gates round the cores, one of each of the four buses, also of
+-- those that it doesn't serve.
 use Rattle.std.specs.Prelude.{◌≡◌, ℕ, Some, Result, Ok, Err}
 use Rattle.vx_calls.specs.declared.calls.Role.{Role}
 use Rattle.vx_gate.specs.PassView.{PassView, GateId}
@@ -24,8 +25,9 @@ pub record AreIdleAt {C : Type 0} (gates : Four GateId) (r : Role) (s : State C)
   pub has : s.passes ≡ Some passes
   pub holds : FleetHolds passes gates s.conns r
 
--- the clock is as it was
+-- the clock is as it was, and as many buses are served
 pub record IsFleetStill {C : Type 0} (s s' : State C) : Type 0 where
+  pub count : s'.count ≡ s.count
   pub clock : s'.clock ≡ s.clock
   pub told : s'.told ≡ s.told
 

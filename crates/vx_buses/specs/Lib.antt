@@ -13,11 +13,13 @@ pub mod Outcome
 pub mod Four
 pub mod Passing
 pub mod Standing
+pub mod Counts
 pub mod Numbers
 pub mod Naming
 pub mod Routing
 pub mod Replying
 pub mod Given
+pub mod CountLaws
 pub use Rattle.vx_session.specs.Placing
 pub use Rattle.vx_stream.specs.Shown
 pub use Rattle.vx_stream.specs.Stopping

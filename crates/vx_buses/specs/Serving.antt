@@ -1,6 +1,6 @@
 -- To be believed.
--- How one record on a connection to four buses is served: the groups that its call adds to one bus's history, and its reply.
-use Rattle.std.specs.Prelude.{◌≡◌, ◌≤◌, ◌==◌, if◌then◌else◌, ℕ, List, [], map, Option, Some, None}
+-- How one record on a connection to a fleet of so many buses is served: the groups that its call adds to one bus's history, and its reply.
+use Rattle.std.specs.Prelude.{◌≡◌, ◌≤◌, ◌<◌, ◌==◌, if◌then◌else◌, ℕ, List, [], map, Option, Some, None}
 use Rattle.std.specs.List.{flat_map}
 use Rattle.vx_io_traits.specs.declared.clocks.Clock.{Ghosts as OfClock}
 use Rattle.vx_io_traits.specs.declared.dials.Rang.{Rang}
@@ -11,6 +11,8 @@ use Rattle.vx_record.specs.Fragments.{record_of}
 use Rattle.vx_gate.specs.PassView.{PassView}
 use Rattle.vx_buses.specs.Four.{Four, at, put}
 use Rattle.vx_group.specs.Groups.{Group}
+use Rattle.vx_buses.specs.declared.routes.counts.Count.{Count}
+use Rattle.vx_buses.specs.Counts.{count_number}
 use Rattle.vx_buses.specs.Replying.{renumbered}
 use Rattle.vx_stream.specs.Answered.{Answered}
 use Rattle.vx_session.specs.Origin.{Origin}
@@ -48,10 +50,10 @@ pub record Item : Type 0 where
   pub bus : ℕ
   pub placed : List Placed
 
--- it was served so, by one of the four buses
-pub record FleetServes {B : Type 0} (g : Origins B) (numbers conns : Four ℕ) (r : Role) (item : Item) : Type 0 where
-  pub within : item.bus ≤ 3
-  pub served : IsFleetServed g numbers conns (meant item.answered.message r) item.bus item.placed item.answered.reply
+-- it was served so, by one of so many buses
+pub record FleetServes {B : Type 0} (count : Count) (g : Origins B) (numbers conns : Four ℕ) (r : Role) (item : Item) : Type 0 where
+  pub within : item.bus < count_number count
+  pub served : IsFleetServed g numbers conns (meant count item.answered.message r) item.bus item.placed item.answered.reply
 
 -- the messages of these items with their replies
 abbrev pub answered : List Item → List Answered
@@ -71,9 +73,10 @@ numbers f = record { zero_ = f.zero_.number; one = f.one.number; two = f.two.num
 
 -- ---- a message
 
--- what a session has between two messages: the connections' role, their numbers, the passes, its clock, and the greatest moment that that
--- has told
+-- what a session has between two messages: how many buses are served, the connections' role, their numbers, the passes, its clock, and the
+-- greatest moment that that has told
 pub record State (C : Type 0) : Type 0 where
+  pub count : Count
   pub role : Role
   pub conns : Four ℕ
   pub passes : Option (Four (PassView Group))
@@ -81,21 +84,22 @@ pub record State (C : Type 0) : Type 0 where
   pub told : ℕ
 
 -- what it is, by what the type of its clock tells
-abbrev pub fleet_state : {C : Type 0} → OfClock C → Role → Four ℕ → Option (Four (PassView Group)) → C → State C
-fleet_state by_clock r conns passes clock = record { role = r; conns = conns; passes = passes; clock = clock; told = by_clock.told clock }
+abbrev pub fleet_state : {C : Type 0} → OfClock C → Count → Role → Four ℕ → Option (Four (PassView Group)) → C → State C
+fleet_state by_clock count r conns passes clock =
+    record { count = count; role = r; conns = conns; passes = passes; clock = clock; told = by_clock.told clock }
 
--- A message of this meaning was served by this reply. Its bus's pass went on; the other three stay as they were.
+-- A message of this meaning was served by this reply. Its bus is served, and that one's pass went on; the other three stay as they were.
 pub record IsFleetAnswered {B C : Type 0} (g : Origins B) (tells : C → ℕ → C → Type 0) (s : State C) (m : Meaning) (reply : List ℕ) (s' : State C) : Type 0 where
   pub passes : Four (PassView Group)
   pub bus : ℕ
-  pub within : bus ≤ 3
+  pub within : bus < count_number s.count
   pub placed : List Placed
   pub own : PassView Group
   pub had : s.passes ≡ Some passes
   pub has : s'.passes ≡ Some (put bus own passes)
   pub makes : Makes s'.told (at bus passes) placed own
   pub asks : ClockedAs s.role tells s.clock s'.clock placed
-  pub served : IsFleetServed g (numbers passes) s.conns (by_meaning m) bus placed reply
+  pub served : IsFleetServed g (numbers passes) s.conns (by_meaning s.count m) bus placed reply
 
 -- junk is no call and changes nothing; any other message is served
 abbrev pub FleetHasReply : {B C : Type 0} → Origins B → (C → ℕ → C → Type 0) → State C → Meaning → Option (List ℕ) → State C → Type 0
@@ -104,6 +108,7 @@ FleetHasReply g tells s m (Some reply) s' = IsFleetAnswered g tells s m reply s'
 
 -- what a message of this meaning does on the connections
 pub record MeaningDoes {B C : Type 0} (g : Origins B) (tells : C → ℕ → C → Type 0) (s : State C) (m : Meaning) (reply : Option (List ℕ)) (s' : State C) : Type 0 where
+  pub count : s'.count ≡ s.count
   pub role : s'.role ≡ s.role
   pub conns : s'.conns ≡ s.conns
   pub later : s.told ≤ s'.told
@@ -113,10 +118,10 @@ pub record MeaningDoes {B C : Type 0} (g : Origins B) (tells : C → ℕ → C �
 abbrev pub MessageDoes : {B C : Type 0} → Origins B → (C → ℕ → C → Type 0) → State C → List ℕ → Option (List ℕ) → State C → Type 0
 MessageDoes g tells s message reply s' = MeaningDoes g tells s (meaning message s.role) reply s'
 
--- a message of this meaning was served by one of the four buses, or by none
-pub record ServesCall {B : Type 0} (g : Origins B) (clocked : List Placed → Type 0) (told : ℕ) (passes : Four (PassView Group)) (conns : Four ℕ) (m : Meant) (out : List ℕ) (passes' : Four (PassView Group)) : Type 0 where
+-- a message of this meaning was served by one of so many buses, or by none
+pub record ServesCall {B : Type 0} (count : Count) (g : Origins B) (clocked : List Placed → Type 0) (told : ℕ) (passes : Four (PassView Group)) (conns : Four ℕ) (m : Meant) (out : List ℕ) (passes' : Four (PassView Group)) : Type 0 where
   pub bus : ℕ
-  pub within : bus ≤ 3
+  pub within : bus < count_number count
   pub placed : List Placed
   pub own : PassView Group
   pub is : passes' ≡ put bus own passes

@@ -1,4 +1,4 @@
-//! A call of the core connections of a session to four buses, answered by the record of its reply.
+//! A call of the core connections of a session to several buses, answered by the record of its reply.
 ghost use Rattle.std.specs.Prelude.{◌≡◌, ◌≤◌, true, length, take};
 ghost use Rattle.vx_calls.specs.declared.calls.Role.TheVariants as role;
 ghost use Rattle.vx_calls.specs.Call.{call_shown};
@@ -16,14 +16,15 @@ ghost use Rattle.vx_buses.specs.Serving.{ServesCall};
 
 use crate::BusPass;
 use crate::asking::{FleetWorker, ask_bus};
-use crate::routes::{Destination, ERROR_ROOM, put_error_record, route};
+use crate::routes::{Destination, route};
 use std::sync::Wait;
 use vx_bus_traits::Bus;
 use vx_calls::DEVICE_MAX;
+use vx_exchange::put_success_record;
 use vx_io_traits::{Clock, Pause};
 use vx_session::Request;
 
-/// Serves a call of core connections: by its bus, or by the error that it is refused with. The record of the reply, of so many bytes,
+/// Serves a call of core connections: by its bus, or by the reply that it is refused with. The record of the reply, of so many bytes,
 /// stands at the front of `reply` then.
 pub(crate) fn serve_call<R: Wait, B: Bus, C: Clock, P: Pause>(
     worker: &FleetWorker<'_, R, B>,
@@ -37,18 +38,18 @@ pub(crate) fn serve_call<R: Wait, B: Bus, C: Clock, P: Pause>(
     requires waits { may_wait (call_shown request.now.call.now) ≡ true }
     requires short { IsShort (call_shown request.now.call.now) }
     requires room { REPLY_ROOM ≤ length reply.old }
-    ensures served { ServesCall (origins B.Bus (firsts_shown worker.now.buses.now)) (Clocked C.tells clock.old clock.new) (C.told clock.new) (passes_shown passes) (four_of worker.now.conns)
-        (by_way request.now.xid (route_of (call_shown request.now.call.now))) (take result.1 reply.new) (passes_shown result.0) }
+    ensures served { ServesCall worker.now.count (origins B.Bus (firsts_shown worker.now.buses.now)) (Clocked C.tells clock.old clock.new) (C.told clock.new) (passes_shown passes) (four_of worker.now.conns)
+        (by_way request.now.xid (route_of worker.now.count (call_shown request.now.call.now))) (take result.1 reply.new) (passes_shown result.0) }
     ensures holds { FleetHolds (passes_shown result.0) (gates_shown worker.now.buses.now) (four_of worker.now.conns) role.Core }
     ensures told { C.told clock.old ≤ C.told clock.new }
     ensures within { result.1 ≤ length reply.new }
     ensures len { length reply.new ≡ length reply.old }
 {
     let mut room = [0u8; DEVICE_MAX];
-    match route(request.call, &mut room) {
-        Destination::Refused { error } => {
-            put_error_record(request.xid, error, reply);
-            (passes, ERROR_ROOM)
+    match route(worker.count, request.call, &mut room) {
+        Destination::Refused { answer } => {
+            let len = put_success_record(request.xid, &answer, reply);
+            (passes, len)
         }
         Destination::Goes { bus, call } => {
             let there = Request {

@@ -1,4 +1,4 @@
-//! A call, or a device_abort, at the one of four buses that it goes to.
+//! A call, or a device_abort, at the one of several buses that it goes to.
 ghost use Rattle.std.specs.Prelude.{◌≡◌, ◌≤◌, ◌<◌, true, length, take};
 ghost use Rattle.vx_calls.specs.declared.calls.Role.TheVariants as role;
 ghost use Rattle.vx_calls.specs.Call.{call_shown};
@@ -19,7 +19,7 @@ ghost use Rattle.vx_buses.specs.Serving.{IsFleetAsked, outward};
 ghost use Rattle.std.specs.Prelude.{[]};
 
 use crate::fleet::Passes;
-use crate::routes::renumber;
+use crate::routes::{Count, renumber};
 use crate::{BusPass, Buses};
 use std::sync::Wait;
 use vx_bus_traits::Bus;
@@ -32,6 +32,8 @@ use vx_session::{NoTools, Request, Worker, abort, answer_call};
 pub struct FleetWorker<'a, R, B: Bus> {
     pub rt: &'a R,
     pub buses: &'a Buses<B>,
+    /// How many of the buses are served. The gates of the others are turned for nothing but the ups and downs of their connections.
+    pub count: Count,
     /// The connections' numbers, by their buses.
     pub conns: [u32; 4],
     pub role: Role,

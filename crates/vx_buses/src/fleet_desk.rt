@@ -1,4 +1,4 @@
-//! The desk of four buses: its connections are ones of the passes of the gates round the cores, one of each bus.
+//! The desk of one to four buses: its connections are ones of the passes of the gates round the cores, one of each of four buses.
 ghost use Rattle.std.specs.Prelude.{◌≡◌, option_map, Some};
 ghost use Rattle.vx_calls.specs.declared.calls.Role.TheVariants as role;
 ghost use Rattle.vx_exchange.specs.Meaning.{Asks, Aborts};
@@ -23,8 +23,9 @@ use vx_core::Connect;
 use vx_io_traits::{Clock, Pause};
 use vx_session::{Desk, Request};
 
-/// What answers the calls of a worker's connections: turns at the gates, a clock and a pause. The passes of the turns are out of their
-/// place while turns are taken, and at no other time.
+/// What answers the calls of a worker's connections, of as many buses as it serves: turns at the gates, a clock and a pause. A connection of
+/// each of the four buses comes up and goes, also of those that aren't served. The passes of the turns are out of their place while turns
+/// are taken, and at no other time.
 #[derive(Drop)]
 pub struct Fleet<'w, 'h, 'c, 'u, R, B: Bus, C, P> {
     /// Who takes the turns; its connections' numbers are those of the connections that came up last.
@@ -40,29 +41,29 @@ impl<'w, 'h, 'c, 'u, R: Wait, B: Bus, C: Clock, P: Pause> Desk
     ghost number = { λ s. (four_of s.worker.conns).zero_ };
 
     ghost free = { λ s. AreAtGates (gates_shown s.worker.buses.now)
-        (fleet_state C.Clock role.Core (four_of s.worker.conns) (option_map passes_shown s.held.now) s.clock.now) };
+        (fleet_state C.Clock s.worker.count role.Core (four_of s.worker.conns) (option_map passes_shown s.held.now) s.clock.now) };
 
     ghost idle = { λ s r. AreIdleAt (gates_shown s.worker.buses.now) r
-        (fleet_state C.Clock r (four_of s.worker.conns) (option_map passes_shown s.held.now) s.clock.now) };
+        (fleet_state C.Clock s.worker.count r (four_of s.worker.conns) (option_map passes_shown s.held.now) s.clock.now) };
 
     ghost joins = { λ s r answer s'. FleetJoins (origins B.Bus (firsts_shown s.worker.buses.now))
-        (fleet_state C.Clock r (four_of s.worker.conns) (option_map passes_shown s.held.now) s.clock.now) r answer
-        (fleet_state C.Clock r (four_of s'.worker.conns) (option_map passes_shown s'.held.now) s'.clock.now)
+        (fleet_state C.Clock s.worker.count r (four_of s.worker.conns) (option_map passes_shown s.held.now) s.clock.now) r answer
+        (fleet_state C.Clock s'.worker.count r (four_of s'.worker.conns) (option_map passes_shown s'.held.now) s'.clock.now)
         × (s'.held.ghost_name ≡ s.held.ghost_name) × (s'.clock.ghost_name ≡ s.clock.ghost_name) × (s'.worker.buses.now ≡ s.worker.buses.now) };
 
     ghost asks = { λ s xid call reply s'. MeaningDoes (origins B.Bus (firsts_shown s.worker.buses.now)) C.tells
-        (fleet_state C.Clock role.Core (four_of s.worker.conns) (option_map passes_shown s.held.now) s.clock.now) (Asks xid call) reply
-        (fleet_state C.Clock role.Core (four_of s'.worker.conns) (option_map passes_shown s'.held.now) s'.clock.now)
+        (fleet_state C.Clock s.worker.count role.Core (four_of s.worker.conns) (option_map passes_shown s.held.now) s.clock.now) (Asks xid call) reply
+        (fleet_state C.Clock s'.worker.count role.Core (four_of s'.worker.conns) (option_map passes_shown s'.held.now) s'.clock.now)
         × (s'.held.ghost_name ≡ s.held.ghost_name) × (s'.clock.ghost_name ≡ s.clock.ghost_name) × (s'.worker.buses.now ≡ s.worker.buses.now) };
 
     ghost aborts = { λ s xid lid reply s'. MeaningDoes (origins B.Bus (firsts_shown s.worker.buses.now)) C.tells
-        (fleet_state C.Clock role.Abort (four_of s.worker.conns) (option_map passes_shown s.held.now) s.clock.now) (Aborts xid lid) (Some reply)
-        (fleet_state C.Clock role.Abort (four_of s'.worker.conns) (option_map passes_shown s'.held.now) s'.clock.now)
+        (fleet_state C.Clock s.worker.count role.Abort (four_of s.worker.conns) (option_map passes_shown s.held.now) s.clock.now) (Aborts xid lid) (Some reply)
+        (fleet_state C.Clock s'.worker.count role.Abort (four_of s'.worker.conns) (option_map passes_shown s'.held.now) s'.clock.now)
         × (s'.held.ghost_name ≡ s.held.ghost_name) × (s'.clock.ghost_name ≡ s.clock.ghost_name) × (s'.worker.buses.now ≡ s.worker.buses.now) };
 
     ghost leaves = { λ s s'. FleetLeaves (origins B.Bus (firsts_shown s.worker.buses.now))
-        (fleet_state C.Clock role.Core (four_of s.worker.conns) (option_map passes_shown s.held.now) s.clock.now)
-        (fleet_state C.Clock role.Core (four_of s'.worker.conns) (option_map passes_shown s'.held.now) s'.clock.now)
+        (fleet_state C.Clock s.worker.count role.Core (four_of s.worker.conns) (option_map passes_shown s.held.now) s.clock.now)
+        (fleet_state C.Clock s'.worker.count role.Core (four_of s'.worker.conns) (option_map passes_shown s'.held.now) s'.clock.now)
         × (s'.held.ghost_name ≡ s.held.ghost_name) × (s'.clock.ghost_name ≡ s.clock.ghost_name) × (s'.worker.buses.now ≡ s.worker.buses.now) };
 
     fn number(&self) -> u32 {
@@ -124,7 +125,7 @@ impl<'w, 'h, 'c, 'u, R: Wait, B: Bus, C: Clock, P: Pause> Desk
         let Some(passes) = held.take() else {
             unreachable!()
         };
-        let (bus, link) = place_of(lid);
+        let (bus, link) = place_of(worker.count, lid);
         let (passes, len) = abort_on_bus(&worker, passes, bus, xid, link, reply);
         *held = Some(passes);
         let desk = Fleet {

@@ -1,5 +1,5 @@
-//! Four buses, `gpib0` to `gpib3`, each a gateway behind a gate of its own, so that a turn on one bus never waits for another's gate: the
-//! sessions of connections to all four, and all that the program does that serves links so.
+//! Four buses, `gpib0` to `gpib3`, each a gateway behind a gate of its own, so that a turn on one bus never waits for another's gate: a desk
+//! that serves one to four of them, the sessions of connections to all four, and all that the program does that serves links so.
 #![tactic(auto)]
 
 mod answering;
@@ -19,7 +19,7 @@ pub use asking::FleetWorker;
 pub use fleet::{Gates, GatesRefused, Passes};
 pub use fleet_desk::Fleet;
 pub use links::{LinkServer, many_link};
-pub use routes::{global, local};
+pub use routes::{Count, fewer_law, four_law, global, local};
 pub use run::buses_run;
 pub use sessions::{many_abort, many_session};
 pub use starting::start_buses;

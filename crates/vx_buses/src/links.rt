@@ -10,7 +10,7 @@ ghost use Rattle.vx_buses.specs.Linking.{LinkDid};
 
 use crate::asking::FleetWorker;
 use crate::fleet_desk::Fleet;
-use crate::routes::given_once_law;
+use crate::routes::{Count, given_once_law};
 use crate::{BusPass, Buses};
 use std::alloc::Global;
 use std::sync::Wait;
@@ -53,6 +53,7 @@ pub fn many_link<R: Wait, B: Bus, L: Link, C: Clock, P: Pause>(
         worker: FleetWorker {
             rt: server.rt,
             buses: server.buses,
+            count: Count::Four,
             conns: [0; 4],
             role: Role::Core,
         },

@@ -6,12 +6,12 @@ ghost use Rattle.vx_buses.specs.Passing.{passes_shown};
 ghost use Rattle.vx_buses.specs.Standing.{gates_shown, firsts_shown};
 ghost use Rattle.vx_session.specs.Progress.{Clocked, ClockedAs, unclocked};
 ghost use Rattle.vx_buses.specs.Origins.{origins};
-ghost use Rattle.vx_buses.specs.Ending.{SessionDid};
+ghost use Rattle.vx_buses.specs.Ending.{FleetSessionDid, SessionDid};
 ghost use Rattle.vx_buses.specs.Holding.{four_of, FleetHolds};
 
 use crate::asking::FleetWorker;
 use crate::fleet_desk::Fleet;
-use crate::routes::given_once_law;
+use crate::routes::{Count, given_once_law};
 use crate::{BusPass, Buses};
 use std::sync::Wait;
 use vx_bus_traits::Bus;
@@ -21,7 +21,7 @@ use vx_io_traits::{Clock, Link, Pause};
 use vx_session::{NoTools, Room, serve_session};
 use vx_stream::End;
 
-/// A session at the desk of four buses.
+/// A session at the desk of as many buses as the worker serves.
 fn run_session<R: Wait, B: Bus, L: Link, C: Clock, P: Pause>(
     worker: &FleetWorker<'_, R, B>,
     pass: BusPass<B>,
@@ -31,7 +31,7 @@ fn run_session<R: Wait, B: Bus, L: Link, C: Clock, P: Pause>(
     room: &mut Room,
 ) -> (BusPass<B>, End)
     requires holds { FleetHolds (passes_shown pass) (gates_shown worker.now.buses.now) (four_of worker.now.conns) worker.now.role }
-    ensures did { SessionDid (origins B.Bus (firsts_shown worker.now.buses.now)) L.Link (ClockedAs worker.now.role C.tells clock.old clock.new) (C.told clock.new) worker.now.role (four_of worker.now.conns) (record { passes = passes_shown pass; link = link.old })
+    ensures did { FleetSessionDid worker.now.count (origins B.Bus (firsts_shown worker.now.buses.now)) L.Link (ClockedAs worker.now.role C.tells clock.old clock.new) (C.told clock.new) worker.now.role (four_of worker.now.conns) (record { passes = passes_shown pass; link = link.old })
         result.1 (record { passes = passes_shown result.0; link = link.new }) }
     ensures went { Went L.receives L.sends link.old link.new }
     ensures told { C.told clock.old ≤ C.told clock.new }
@@ -74,6 +74,7 @@ pub fn many_session<R: Wait, B: Bus, L: Link, C: Clock, P: Pause>(
     let worker = FleetWorker {
         rt,
         buses,
+        count: Count::Four,
         conns,
         role: Role::Core,
     };
@@ -97,6 +98,7 @@ pub fn many_abort<R: Wait, B: Bus, L: Link>(
     let worker = FleetWorker {
         rt,
         buses,
+        count: Count::Four,
         conns,
         role: Role::Abort,
     };

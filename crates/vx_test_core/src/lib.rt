@@ -7,6 +7,8 @@ mod asking_tools;
 #[cfg(test)]
 mod buses_crossed_tests;
 #[cfg(test)]
+mod buses_few_tests;
+#[cfg(test)]
 mod buses_number_tests;
 #[cfg(test)]
 mod buses_run_tests;

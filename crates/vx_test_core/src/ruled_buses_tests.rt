@@ -6,7 +6,7 @@ use crate::record_tools::{are_words, words};
 use std::alloc::Global;
 use std::sync::Wait;
 use std::test::Fail;
-use vx_buses::{Fleet, FleetWorker};
+use vx_buses::{Count, Fleet, FleetWorker};
 use vx_calls::Role;
 use vx_guard::Ruled;
 use vx_memory::{MemLink, MemSink};
@@ -37,6 +37,7 @@ fn serve<R: Wait>(rt: &R, alloc: Global, link: &mut MemLink, note: &mut MemSink)
         worker: FleetWorker {
             rt,
             buses: &buses,
+            count: Count::Four,
             conns: [0; 4],
             role: Role::Core,
         },

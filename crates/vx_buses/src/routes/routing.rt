@@ -1,35 +1,36 @@
 //! Which bus a call goes to, and as which call.
-ghost use Rattle.std.specs.Prelude.{◌≡◌, ◌≤◌, IsSome, false, length, true};
+ghost use Rattle.std.specs.Prelude.{◌≡◌, ◌≤◌, ◌<◌, IsSome, false, length, true};
 ghost use Rattle.vx_calls.specs.declared.limits.TheConstants.{DEVICE_MAX};
 ghost use Rattle.vx_calls.specs.Call.{call_shown};
 ghost use Rattle.vx_rules.specs.Calls.{IsShort, is_bus_call, link_named};
 ghost use Rattle.vx_rules.specs.AtomicStep.{may_wait};
+ghost use Rattle.vx_buses.specs.Counts.{count_number};
 ghost use Rattle.vx_buses.specs.Naming.{bus_of};
 ghost use Rattle.vx_buses.specs.Routing.{route_of, route_shown, IsRouted, by_link, fleet_place_of, fleet_with_link, generic_on, text_there};
 
+use crate::routes::counts::Count;
 use crate::routes::names::{bus_of, on_first};
 use crate::routes::numbers::local;
 use arrayvec::ArrayVec;
-use vx_calls::{CallRef, DEVICE_MAX, ErrorCode, Generic, Handle};
+use vx_calls::{CallRef, DEVICE_MAX, ErrorCode, Generic, Handle, ReplyRef};
 
 /// Where a call of a core connection goes.
 #[derive(Drop)]
 pub enum Destination<'a> {
-    /// To no bus: it is answered by this error.
-    Refused { error: ErrorCode },
+    /// To no bus: it is answered by this.
+    Refused { answer: ReplyRef<'static> },
     /// To this bus, 0 to 3, as this call there.
     Goes { bus: u8, call: CallRef<'a> },
 }
 
-/// The bus of a link that a client names so, and the link's number there. 0 is link 0, which is none, of bus 0.
-pub fn place_of(lid: u32) -> (u8, u32)
-    ensures place { result ≡ fleet_place_of lid }
-    ensures bus { result.0 ≤ 3 }
+/// The bus of a link that a client names so, and the link's number there. 0, and a link of a bus that isn't served, is link 0, which is
+/// none, of bus 0.
+pub fn place_of(count: Count, lid: u32) -> (u8, u32)
+    ensures place { result ≡ fleet_place_of count lid }
+    ensures bus { result.0 < count_number count }
 {
-    match local(lid) {
-        Some(place) => place,
-        None => (0, 0),
-    }
+    let place = local(lid).unwrap_or((0, 0));
+    if count.serves(place.0) { place } else { (0, 0) }
 }
 
 /// The link that a call names, where it names one.
@@ -183,20 +184,25 @@ fn text_there<'a>(text: &'a [u8], room: &'a mut [u8]) -> (u8, &'a [u8])
     }
 }
 
-/// Where a call of a core connection goes. A create_link goes to the bus that its device text names, `gpib0` to `gpib3` before the
-/// first comma in any case, where the text is one of the bus `gpib0`, and to bus 0 where it names none of these. A call on a link
-/// goes to the link's bus. A create_intr_chan and a destroy_intr_chan are refused. The text there is written to `room`.
-pub fn route<'a>(call: &CallRef<'a>, room: &'a mut [u8]) -> Destination<'a>
+/// Where a call of a core connection goes, of so many buses. A create_link goes to the bus that its device text names, `gpib0` to `gpib3`
+/// before the first comma in any case, where the text is one of the bus `gpib0`, and to bus 0 where it names none of these. It is refused
+/// where it names one that isn't served: error 3 (VXI-11, device not accessible). A call on a link goes to the link's bus. A
+/// create_intr_chan and a destroy_intr_chan are refused. The text there is written to `room`.
+pub fn route<'a>(count: Count, call: &CallRef<'a>, room: &'a mut [u8]) -> Destination<'a>
     requires { DEVICE_MAX ≤ length room.old }
-    ensures route { route_shown result ≡ route_of (call_shown call.now) }
-    ensures routed { may_wait (call_shown call.now) ≡ true → IsShort (call_shown call.now) → IsRouted result }
+    ensures route { route_shown result ≡ route_of count (call_shown call.now) }
+    ensures routed { may_wait (call_shown call.now) ≡ true → IsShort (call_shown call.now) → IsRouted count result }
 {
     match call {
         CallRef::CreateIntr { .. } => Destination::Refused {
-            error: ErrorCode::NotSupported,
+            answer: ReplyRef::Error {
+                error: ErrorCode::NotSupported,
+            },
         },
         CallRef::DestroyIntr => Destination::Refused {
-            error: ErrorCode::NoChannel,
+            answer: ReplyRef::Error {
+                error: ErrorCode::NoChannel,
+            },
         },
         CallRef::CreateLink {
             client,
@@ -205,33 +211,44 @@ pub fn route<'a>(call: &CallRef<'a>, room: &'a mut [u8]) -> Destination<'a>
             device,
         } => {
             let (bus, device) = text_there(*device, room);
-            Destination::Goes {
-                bus,
-                call: CallRef::CreateLink {
-                    client: *client,
-                    lock: *lock,
-                    lock_timeout: *lock_timeout,
-                    device,
-                },
+            if count.serves(bus) {
+                Destination::Goes {
+                    bus,
+                    call: CallRef::CreateLink {
+                        client: *client,
+                        lock: *lock,
+                        lock_timeout: *lock_timeout,
+                        device,
+                    },
+                }
+            } else {
+                Destination::Refused {
+                    answer: ReplyRef::CreateLink {
+                        error: ErrorCode::NotAccessible,
+                        lid: 0,
+                        abort_port: 0,
+                        max: 0,
+                    },
+                }
             }
         }
         CallRef::Null => Destination::Goes {
             bus: 0,
             call: CallRef::Null,
         },
-        _ => by_link(call),
+        _ => by_link(count, call),
     }
 }
 
 /// Where a call goes that names a link.
-fn by_link<'a>(call: &CallRef<'a>) -> Destination<'a>
+fn by_link<'a>(count: Count, call: &CallRef<'a>) -> Destination<'a>
     requires { IsSome (link_named (call_shown call.now)) }
-    ensures route { route_shown result ≡ by_link (call_shown call.now) (link_named (call_shown call.now)) }
+    ensures route { route_shown result ≡ by_link count (call_shown call.now) (link_named (call_shown call.now)) }
 {
     let Some(lid) = link_of(call) else {
         unreachable!()
     };
-    let (bus, link) = place_of(lid);
+    let (bus, link) = place_of(count, lid);
     Destination::Goes {
         bus,
         call: on_link(call, link),

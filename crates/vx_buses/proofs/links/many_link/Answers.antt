@@ -25,7 +25,7 @@ returns-clause-did g c =
     let held = link-keeps _ (λ s. s.held.ghost_name) (λ s s' xid call reply did. did.1) (λ s s' xid lid reply did. did.1) (λ s s' did. did.1) (λ s s' r answer did. did.1) g.L.Link _ _ _ _ _ _ did in
     let clock = link-keeps _ (λ s. s.clock.ghost_name) (λ s s' xid call reply did. did.2) (λ s s' xid lid reply did. did.2) (λ s s' did. did.2) (λ s s' r answer did. did.2) g.L.Link _ _ _ _ _ _ did in
     let left : c.serve_link-how.result.0.held.now ≡ Some c.in-Some.passes = subst (λ o. o ≡ Some c.in-Some.passes) (search (rules, held)) c.in-Some.is in
-    fleet-link-did g.B.Bus g.C.Clock _ (λ s. firsts_shown s.worker.buses.now) (λ s. gates_shown s.worker.buses.now) (λ s. four_of s.worker.conns) (λ s. option_map passes_shown s.held.now) (λ s. s.clock.now)
+    fleet-link-did g.B.Bus g.C.Clock _ (λ s. firsts_shown s.worker.buses.now) (λ s. gates_shown s.worker.buses.now) (λ s. s.worker.count) (λ s. four_of s.worker.conns) (λ s. option_map passes_shown s.held.now) (λ s. s.clock.now)
     (λ s r idle. idle) (λ s s' xid call reply did. did.0) (λ s s' xid lid reply did. did.0) (λ s s' xid call reply did. ap firsts_shown did.3) (λ s s' xid lid reply did. ap firsts_shown did.3) (λ s s' did. did.0)
     (λ s s' r answer did. did.0) (λ s s' r answer did. ap firsts_shown did.3)
     g.L.Link c.claims_law.ensures.claims c.owned_law.ensures c.given_once_law.ensures.links c.given_once_law.ensures.once _ c.serve_link-how.result.0 (passes_shown c.args.passes) (passes_shown c.in-Some.passes) _ _ _ _
@@ -46,7 +46,7 @@ returns-clause-told g c =
     let did = c.serve_link-how.ensures.did in
     let clock = link-keeps _ (λ s. s.clock.ghost_name) (λ s s' xid call reply did. did.2) (λ s s' xid lid reply did. did.2) (λ s s' did. did.2) (λ s s' r answer did. did.2) g.L.Link _ _ _ _ _ _ did in
     subst (λ now. g.C.Clock.told c.args.clock.now ≤ g.C.Clock.told now) (search (rules, clock))
-    (fleet-link-later g.B.Bus g.C.Clock _ (λ s. firsts_shown s.worker.buses.now) (λ s. gates_shown s.worker.buses.now) (λ s. four_of s.worker.conns) (λ s. option_map passes_shown s.held.now) (λ s. s.clock.now)
+    (fleet-link-later g.B.Bus g.C.Clock _ (λ s. firsts_shown s.worker.buses.now) (λ s. gates_shown s.worker.buses.now) (λ s. s.worker.count) (λ s. four_of s.worker.conns) (λ s. option_map passes_shown s.held.now) (λ s. s.clock.now)
     (λ s r idle. idle) (λ s s' xid call reply did. did.0) (λ s s' xid lid reply did. did.0) (λ s s' xid call reply did. ap firsts_shown did.3) (λ s s' xid lid reply did. ap firsts_shown did.3) (λ s s' did. did.0)
     (λ s s' r answer did. did.0) (λ s s' r answer did. ap firsts_shown did.3)
     g.L.Link role.Core _ c.serve_link-how.result.0 _ _ _ did)

@@ -23,7 +23,7 @@ returns-clause-did g c =
     let held = desk-keeps _ (λ s. s.held.ghost_name) (λ s s' xid call reply did. did.1) (λ s s' xid lid reply did. did.1) (λ s s' did. did.1) g.L.Link _ _ _ _ _ _ did in
     let clock = desk-keeps _ (λ s. s.clock.ghost_name) (λ s s' xid call reply did. did.2) (λ s s' xid lid reply did. did.2) (λ s s' did. did.2) g.L.Link _ _ _ _ _ _ did in
     let left : c.serve_session-end.result.0.held.now ≡ Some c.in-Some.pass = subst (λ o. o ≡ Some c.in-Some.pass) (search (rules, held)) c.in-Some.is in
-    fleet-did g.B.Bus g.C.Clock _ (λ s. firsts_shown s.worker.buses.now) (λ s. gates_shown s.worker.buses.now) (λ s. four_of s.worker.conns) (λ s. option_map passes_shown s.held.now) (λ s. s.clock.now)
+    fleet-did g.B.Bus g.C.Clock _ (λ s. firsts_shown s.worker.buses.now) (λ s. gates_shown s.worker.buses.now) (λ s. s.worker.count) (λ s. four_of s.worker.conns) (λ s. option_map passes_shown s.held.now) (λ s. s.clock.now)
     (λ s r idle. idle) (λ s s' xid call reply did. did.0) (λ s s' xid lid reply did. did.0) (λ s s' xid call reply did. ap firsts_shown did.3) (λ s s' xid lid reply did. ap firsts_shown did.3) (λ s s' did. did.0)
     g.L.Link c.claims_law.ensures.claims c.owned_law.ensures c.given_once_law.ensures.links c.given_once_law.ensures.once c.args.worker.now.role _ c.serve_session-end.result.0 (passes_shown c.args.pass) (passes_shown c.in-Some.pass) _ _ _ _
     refl (ap (option_map passes_shown) left) (search (rules, clock)) did
@@ -33,6 +33,6 @@ returns-clause-told g c =
     let did = c.serve_session-end.ensures.did in
     let clock = desk-keeps _ (λ s. s.clock.ghost_name) (λ s s' xid call reply did. did.2) (λ s s' xid lid reply did. did.2) (λ s s' did. did.2) g.L.Link _ _ _ _ _ _ did in
     subst (λ now. g.C.Clock.told c.args.clock.now ≤ g.C.Clock.told now) (search (rules, clock))
-    (fleet-later g.B.Bus g.C.Clock _ (λ s. firsts_shown s.worker.buses.now) (λ s. gates_shown s.worker.buses.now) (λ s. four_of s.worker.conns) (λ s. option_map passes_shown s.held.now) (λ s. s.clock.now)
+    (fleet-later g.B.Bus g.C.Clock _ (λ s. firsts_shown s.worker.buses.now) (λ s. gates_shown s.worker.buses.now) (λ s. s.worker.count) (λ s. four_of s.worker.conns) (λ s. option_map passes_shown s.held.now) (λ s. s.clock.now)
     (λ s r idle. idle) (λ s s' xid call reply did. did.0) (λ s s' xid lid reply did. did.0) (λ s s' xid call reply did. ap firsts_shown did.3) (λ s s' xid lid reply did. ap firsts_shown did.3) (λ s s' did. did.0)
     g.L.Link c.args.worker.now.role _ c.serve_session-end.result.0 (passes_shown c.args.pass) _ _ _ refl did)

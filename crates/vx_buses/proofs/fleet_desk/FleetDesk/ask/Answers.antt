@@ -19,8 +19,8 @@ pub returns-clause-asks : goal.returns-clause-asks
 returns-clause-asks g c =
     let taken : c.args.self.held.now ≡ Some c.in-Some.passes = search rules in (
       asks-does (origins g.B.Bus (firsts_shown c.args.self.worker.buses.now)) g.C.Clock.tells
-          (fleet_state g.C.Clock role.Core (four_of c.args.self.worker.conns) (option_map passes_shown c.args.self.held.now) c.args.self.clock.now) _
-          (passes_shown c.in-Some.passes) (passes_shown c.serve_call-passes.result.0) refl refl c.serve_call-passes.ensures.told (ap (option_map passes_shown) taken) refl refl
+          (fleet_state g.C.Clock c.args.self.worker.count role.Core (four_of c.args.self.worker.conns) (option_map passes_shown c.args.self.held.now) c.args.self.clock.now) _
+          (passes_shown c.in-Some.passes) (passes_shown c.serve_call-passes.result.0) refl refl refl c.serve_call-passes.ensures.told (ap (option_map passes_shown) taken) refl refl
           c.args.request.now.xid (call_shown c.args.request.now.call.now) (take c.serve_call-passes.result.1 c.serve_call-passes.new.reply) c.serve_call-passes.ensures.served,
       refl,
       refl,

@@ -30,7 +30,7 @@ returns-in-Ok-clause-joins g c =
         up = passes_shown c.join_all-passes.result.0;
         joins = c.join_all-passes.ensures.joins;
         come = (c.in-Ok.ensures.ok, refl);
-        still = record { clock = refl; told = refl };
+        still = record { count = refl; clock = refl; told = refl };
       },
       refl,
       refl,
@@ -60,7 +60,7 @@ returns-in-Err-clause-joins g c =
         up = passes_shown c.join_all-passes.result.0;
         joins = c.join_all-passes.ensures.joins;
         come = (c.in-Err.ensures.err, c.undo_all.ensures);
-        still = record { clock = refl; told = refl };
+        still = record { count = refl; clock = refl; told = refl };
       },
       refl,
       refl,

@@ -27,7 +27,7 @@ returns-clause-leaves g c =
         had = ap (option_map passes_shown) taken;
         has = refl;
         leaves = c.leave_all.ensures;
-        still = record { clock = refl; told = refl };
+        still = record { count = refl; clock = refl; told = refl };
       },
       refl,
       refl,
