@@ -18,7 +18,7 @@ pub use clocks::{StdClock, StdPause};
 pub use sockets::{TcpLink, TcpNet, TcpPort, TcpReach};
 pub use standard::{StdSink, StdSource};
 pub use tcp_doors::TcpDoor;
-pub use timeouts::Timeouts;
+pub use timeouts::{ReachTimeouts, Timeouts};
 pub use vx_door::{Door, Met, Peered};
 pub use vx_io_traits::{
     Accepted, Bound, Clock, Dial, DialOut, Handed, Link, Listen, Net, Pause, Rang, Reach, ReadOut,

@@ -16,13 +16,14 @@ use super::parting::{OwnPartings, Partings, Parts, share};
 use super::patience::{LOOKS, Patience};
 use super::places::{Crowd, Place};
 use super::standard::{read_retrying, write_retrying};
-use super::timeouts::Timeouts;
+use super::timeouts::{ReachTimeouts, Timeouts};
 use std::alloc::Global;
 use std::hint::spin_loop;
 use std::io::{ErrorKind, Read, Write};
 use std::marker::Model;
-use std::net::{Ipv4Addr, Net as Sockets, TcpListener, TcpStream};
+use std::net::{Ipv4Addr, Net as Sockets, TcpListener, TcpStream, ToSocketAddrs};
 use std::sync::Arc;
+use std::time::Duration;
 use vx_door::Peered;
 use vx_io_traits::{Accepted, Bound, DialOut, Link, Listen, Net, Reach, ReadOut, WriteOut};
 
@@ -513,6 +514,7 @@ impl<R: Sockets<Listener = TcpListener, Stream = TcpStream>> Net for TcpNet<R> {
 #[derive(Drop)]
 pub struct TcpReach<R> {
     rt: R,
+    timeouts: Option<ReachTimeouts>,
     stream: Option<TcpStream>,
     receive_faults: u64,
     send_faults: u64,
@@ -533,9 +535,57 @@ impl<R> Model for TcpReach<R> {
     } };
 }
 
+/// How many addresses of a host a reach with timeouts tries.
+const ADDRESSES: usize = 4;
+
+/// So many milliseconds.
+fn millis(number: u32) -> Duration {
+    Duration::from_millis(u64::from(number))
+}
+
+/// A stream to the first address of a host that answers in time, whose receives and sends end in time.
+fn connect_within<R: Sockets<Stream = TcpStream>>(
+    rt: &R,
+    host: &str,
+    port: u16,
+    timeouts: ReachTimeouts,
+) -> Option<TcpStream> {
+    let addresses = (host, port).to_socket_addrs(rt).ok()?;
+    for address in addresses.take(ADDRESSES) {
+        if let Ok(stream) = TcpStream::connect_timeout(rt, &address, millis(timeouts.connect)) {
+            stream
+                .set_read_timeout(Some(millis(timeouts.receive)))
+                .ok()?;
+            stream.set_write_timeout(Some(millis(timeouts.send))).ok()?;
+            return Some(stream);
+        }
+    }
+    None
+}
+
 impl<R: Sockets> TcpReach<R> {
-    /// A reach over the runtime `rt`, which has reached nothing yet.
+    /// A reach over the runtime `rt`, which has reached nothing yet. It bears with a server for as long as the system does.
     pub fn new(rt: R) -> TcpReach<R>
+        ensures is_up { result.is_up ≡ false }
+        ensures receive_faults { result.receive_faults ≡ 0 }
+        ensures send_faults { result.send_faults ≡ 0 }
+        ensures refused { result.refused ≡ 0 }
+    {
+        TcpReach::bearing(rt, None)
+    }
+
+    /// One that bears with its server for so long.
+    pub fn with_timeouts(rt: R, timeouts: ReachTimeouts) -> TcpReach<R>
+        ensures is_up { result.is_up ≡ false }
+        ensures receive_faults { result.receive_faults ≡ 0 }
+        ensures send_faults { result.send_faults ≡ 0 }
+        ensures refused { result.refused ≡ 0 }
+    {
+        TcpReach::bearing(rt, Some(timeouts))
+    }
+
+    /// One with these timeouts, or with those of the system.
+    fn bearing(rt: R, timeouts: Option<ReachTimeouts>) -> TcpReach<R>
         ensures is_up { result.is_up ≡ false }
         ensures receive_faults { result.receive_faults ≡ 0 }
         ensures send_faults { result.send_faults ≡ 0 }
@@ -543,6 +593,7 @@ impl<R: Sockets> TcpReach<R> {
     {
         TcpReach {
             rt,
+            timeouts,
             stream: None,
             receive_faults: 0,
             send_faults: 0,
@@ -617,8 +668,8 @@ impl<R: Sockets<Stream = TcpStream>> Reach for TcpReach<R> {
     ghost refused = { λ s. s.refused };
 
     /// Connects to a port of a host: an IPv4 address such as `192.0.2.7`, an IPv6 address, or a name that the system's
-    /// resolver knows, of which up to 32 addresses are tried in turn. Where none answers, a fault is counted, and a stream
-    /// that stood stays.
+    /// resolver knows, of which up to 32 addresses are tried in turn, or up to 4 where the reach has timeouts. Where none answers, a
+    /// fault is counted, and a stream that stood stays.
     fn reach(&mut self, host: &str, port: u16) -> DialOut
         ensures counted { self.old.refused ≤ self.new.refused }
         ensures is_up { self.new.is_up ≡ (is_up result || self.old.is_up) }
@@ -626,13 +677,17 @@ impl<R: Sockets<Stream = TcpStream>> Reach for TcpReach<R> {
         ensures receives { self.new.receive_faults ≡ self.old.receive_faults }
         ensures sends { self.new.send_faults ≡ self.old.send_faults }
     {
-        match TcpStream::connect(&self.rt, (host, port)) {
-            Ok(stream) => {
+        let connected = match self.timeouts {
+            None => TcpStream::connect(&self.rt, (host, port)).ok(),
+            Some(timeouts) => connect_within(&self.rt, host, port, timeouts),
+        };
+        match connected {
+            Some(stream) => {
                 let _ = stream.set_nodelay(true);
                 self.stream = Some(stream);
                 DialOut::Up
             }
-            Err(_) => {
+            None => {
                 self.refused = self.refused.saturating_add(1);
                 DialOut::Failed
             }

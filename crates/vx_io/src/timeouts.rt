@@ -1,4 +1,4 @@
-//! How long a server bears with peers that say nothing, or take nothing.
+//! How long a server bears with peers that say nothing, or take nothing, and a reach with its server.
 
 /// How long a server's sockets bear with a peer, in seconds each; 0 for without end.
 #[derive(Clone, Copy)]
@@ -23,4 +23,15 @@ impl Timeouts {
         idle: 0,
         abort_idle: 0,
     };
+}
+
+/// How long a reach bears with the server that it is for, in milliseconds each, at least 1.
+#[derive(Clone, Copy)]
+pub struct ReachTimeouts {
+    /// An address of the server's host that doesn't answer for so long isn't reached.
+    pub connect: u32,
+    /// A receive that gets no byte for so long fails.
+    pub receive: u32,
+    /// A send of which the server takes nothing for so long fails.
+    pub send: u32,
 }
