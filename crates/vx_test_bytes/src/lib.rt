@@ -29,6 +29,8 @@ mod record_tests;
 #[cfg(test)]
 mod rpc_tests;
 #[cfg(test)]
+mod socket_packets_tests;
+#[cfg(test)]
 mod socket_tests;
 #[cfg(test)]
 mod text_lines_tests;

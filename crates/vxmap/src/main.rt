@@ -1,16 +1,12 @@
 //! `vxmap KIND PORT CORE ABORT N`: a port mapper (RFC 1833) that tells the ports of a VXI-11 gateway, over TCP or UDP.
 #![tactic(auto)]
 
-mod packets;
-#[cfg(test)]
-mod packets_tests;
-
-use crate::packets::UdpBox;
 use std::env::{self, Env};
 use std::io::{self, ErrorKind};
 use std::process::ExitCode;
 use vx_io::{StdSink, TcpDoor};
 use vx_portmap::{MapHost, map_run};
+use vx_udp::UdpBox;
 
 /// The exit status where there is no memory for the words.
 const NO_MEMORY: u8 = 5;

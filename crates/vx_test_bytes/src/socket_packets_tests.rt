@@ -1,12 +1,12 @@
 //! Packets over a loopback socket, once each way.
 
-use crate::packets::UdpBox;
 use std::io;
 use std::net::{Ipv4Addr, SocketAddr, UdpSocket};
 use std::rt::HostRuntime;
 use std::test::Fail;
-use vx_io::DialOut;
+use vx_io_traits::DialOut;
 use vx_portmap::{Given, Packet, PacketBox, Packets};
+use vx_udp::UdpBox;
 
 /// Opens the box at some port that is free, and tells where peers find it.
 fn open_box(rt: &HostRuntime, packets: &mut UdpBox<&HostRuntime>) -> Option<SocketAddr> {

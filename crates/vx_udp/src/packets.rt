@@ -8,7 +8,7 @@ ghost use Rattle.vx_portmap.specs.declared.boxes.Packet.TheVariants.{Ended};
 use std::io::ErrorKind;
 use std::marker::Model;
 use std::net::{Ipv4Addr, Net as Sockets, SocketAddr, UdpSocket};
-use vx_io::DialOut;
+use vx_io_traits::DialOut;
 use vx_portmap::{Given, Packet, PacketBox, Packets};
 
 /// How often a call that a signal interrupts is made anew.
@@ -33,7 +33,7 @@ pub struct UdpBox<R> {
 }
 
 impl<R> Model for UdpBox<R> {
-    ghost use Rattle.vxmap.specs.UdpState.{UdpBoxState};
+    ghost use Rattle.vx_udp.specs.UdpState.{UdpBoxState};
 
     ghost Value = { UdpBoxState };
 
