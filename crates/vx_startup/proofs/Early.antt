@@ -1,6 +1,5 @@
 -- A server that ends before it comes to its ports ends as its words and its bench say.
-use Rattle.std.proofs.Common.{◌≡◌, ℕ, List, Result, Err, sym, subst}
-use Rattle.std.specs.Prelude.{IfErr}
+use Rattle.std.proofs.Common.{◌≡◌, ℕ, List}
 use Rattle.vx_text.specs.Ends.{End}
 use Rattle.vx_text.specs.Reading.{IsInput}
 use Rattle.vx_text.specs.declared.input.Input.{Input}
@@ -10,14 +9,8 @@ use Rattle.vx_startup.specs.declared.words.Asked.TheVariants as asked
 use Rattle.vx_startup.specs.Meant.{ServerAnswers}
 use Rattle.vx_startup.specs.declared.preparing.TheConstants.{BENCH_MAX}
 use Rattle.vx_startup.specs.declared.status.ServerStatus.{ServerStatus}
-use Rattle.vx_startup.specs.Outcome.{ServerIo, ServerEnds, EndsOptioned, EndsRead}
-use Rattle.vx_startup.specs.Preparing.{Early, IsQuiet}
-
--- an early end of a later step, before which nothing was written, is answered as one of all steps
-pub answered : {X : Type 0} (EndsHere : ServerIo → ServerIo → ℕ → ServerStatus → Type 0) (first before after : End) (r : Result X ServerStatus) (how : ServerStatus)
-    → IsQuiet first before → Early EndsHere before after how → r ≡ Err how → IfErr r (λ why. Early EndsHere first after why)
-answered EndsHere first before after r how quiet early is =
-    subst (λ r. IfErr r (λ why. Early EndsHere first after why)) (sym is) (subst (λ sink. Early EndsHere sink after how) quiet early)
+use Rattle.vx_startup.specs.Outcome.{ServerEnds, EndsOptioned, EndsRead}
+use Rattle.vx_startup.specs.Preparing.{Early}
 
 -- behind the words
 pub behind_words : (words : List (List ℕ)) (rack : List SpareShown) (source source' : End) (o : Options) (sink sink' : End) (how : ServerStatus)

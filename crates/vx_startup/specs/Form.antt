@@ -1,5 +1,5 @@
 -- To be believed.
--- The command `vxgate` as `clap` sees it: nine options, each with one number for its value, and a flag.
+-- The command `vxgate` as `clap` sees it: ten options, each with one number for its value, and two flags.
 use Rattle.std.specs.Prelude.{ℕ, List, [], ◌∷◌, ◌++◌, Some, true, codes}
 use Rattle.clap.specs.Walk.{Rule, Text}
 use Rattle.clap.specs.Simple.{App, new_app, new_rule, on_top, with_rule}
@@ -34,14 +34,17 @@ serving =
     ∷ number_option (codes "limit") (codes "0") 0 1000000
     ∷ []
 
--- seconds that peers are waited for, up to a day, or 0 for no end; and the flag of the log
+-- seconds that peers are waited for, up to a day, or 0 for no end; milliseconds that a box is waited for; and the flags of the log
+-- and of the port mapper
 abbrev pub timing : List Rule
 timing =
     number_option (codes "keepalive") (codes "120") 0 86400
     ∷ number_option (codes "send-timeout") (codes "60") 0 86400
     ∷ number_option (codes "idle") (codes "0") 0 86400
     ∷ number_option (codes "abort-idle") (codes "5") 0 86400
+    ∷ number_option (codes "patience") (codes "10") 1 1000
     ∷ flag (codes "log")
+    ∷ flag (codes "map")
     ∷ []
 
 abbrev pub options : List Rule

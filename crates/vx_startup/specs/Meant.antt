@@ -46,7 +46,7 @@ given name found = option_map number_of (first_of name found)
 abbrev pub is_set : Text → List Row → Bool
 is_set name found = option_map_or (λ text. bytes_eq text (codes "true")) (first_of name found) false
 
--- the options have the numbers that were found, and the log is asked for where its flag is set
+-- the options have the numbers that were found, and the log and the port mapper are asked for where their flags are set
 pub record Sets (found : List Row) (o : Options) : Type 0 where
   pub core : given (codes "core") found ≡ Some o.core
   pub abort : given (codes "abort") found ≡ Some o.abort
@@ -57,7 +57,9 @@ pub record Sets (found : List Row) (o : Options) : Type 0 where
   pub send_timeout : given (codes "send-timeout") found ≡ Some o.send_timeout
   pub idle : given (codes "idle") found ≡ Some o.idle
   pub abort_idle : given (codes "abort-idle") found ≡ Some o.abort_idle
+  pub patience : given (codes "patience") found ≡ Some o.patience
   pub log : is_set (codes "log") found ≡ o.log
+  pub map : is_set (codes "map") found ≡ o.map
 
 -- each number lies in its range
 pub record IsServerInRange (o : Options) : Type 0 where
@@ -70,6 +72,7 @@ pub record IsServerInRange (o : Options) : Type 0 where
   pub send_timeout : o.send_timeout ≤ 86400
   pub idle : o.idle ≤ 86400
   pub abort_idle : o.abort_idle ≤ 86400
+  pub patience : (1 ≤ o.patience) × (o.patience ≤ 1000)
 
 -- the words are taken, and these are the options that they set
 abbrev pub IsSetBy : List Text → Options → Type 0
@@ -94,5 +97,7 @@ usual = record {
   send_timeout = 60;
   idle = 0;
   abort_idle = 5;
+  patience = 10;
   log = false;
+  map = false;
 }

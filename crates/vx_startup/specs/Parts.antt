@@ -23,7 +23,7 @@ HasFlag found name =
     ((first_value found name ≡ None) × (one_text found name ≡ None))
     ⊎ ((text : Text) × (first_value found name ≡ Some text) × (one_text found name ≡ Some text) × Accepts false Bool text)
 
--- each of the nine has one, and the flag
+-- each of the ten has one, and each of the flags
 pub record IsGiven (found : Found) : Type 0 where
   pub core : HasNumber found (codes "core") 1 65535
   pub abort : HasNumber found (codes "abort") 1 65535
@@ -34,7 +34,9 @@ pub record IsGiven (found : Found) : Type 0 where
   pub send_timeout : HasNumber found (codes "send-timeout") 0 86400
   pub idle : HasNumber found (codes "idle") 0 86400
   pub abort_idle : HasNumber found (codes "abort-idle") 0 86400
+  pub patience : HasNumber found (codes "patience") 1 1000
   pub log : HasFlag found (codes "log")
+  pub map : HasFlag found (codes "map")
 
 -- the answer to an error of this kind, or want of memory
 abbrev pub Refuses : ErrorKind → Asked → Type 0

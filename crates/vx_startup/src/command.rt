@@ -18,6 +18,8 @@ const WORKERS_MAX: u64 = 64;
 const LIMIT_MAX: u64 = 1_000_000;
 /// The most seconds of a time for a peer: a day.
 const SECONDS_MAX: u64 = 86_400;
+/// The most milliseconds of a time for a box.
+const PATIENCE_MAX: u64 = 1_000;
 
 /// What the program is, as its help begins.
 const ABOUT: &str = "A VXI-11 gateway to a GPIB bus
@@ -26,10 +28,13 @@ It serves VXI-11 clients over TCP. The bus and its instruments are simulated, as
   vxgate < examples/bench.txt
 With no bench, nothing stands on the bus:
   vxgate < /dev/null
+The bus can be that of another VXI-11 box in place of the simulated one, behind its interface NAME, gpib0 where none is
+named. These words come first, and there is no bench:
+  vxgate --upstream HOST PORT [NAME] [OPTIONS] < /dev/null
 It prints `listening CORE ABORT` once clients can come, and runs until Ctrl-C.
 
 A VISA client finds the instrument at primary address 5 as TCPIP::host::gpib0,5::INSTR, and asks a port mapper at
-port 111 for the port first: beside this program, run
+port 111 for the port first: --map is one, or beside this program, run
   vxmap stream 111 9010 9011 1000000
 vxcall wants no port mapper:
   vxcall 127.0.0.1 9010 gpib0,5 query '*IDN?'";
@@ -86,7 +91,7 @@ fn serving<'a>(alloc: Global, command: Command<'a>) -> Result<Command<'a>, Alloc
         .arg(number_option(alloc, "limit", "N", limit, "0", 0, LIMIT_MAX))
 }
 
-/// A command with the options of peers that are gone, that take nothing or say nothing, and of the log.
+/// A command with the options of peers that are gone, that take nothing or say nothing, of a box, of the log and of the port mapper.
 fn timing<'a>(alloc: Global, command: Command<'a>) -> Result<Command<'a>, AllocError>
     ensures { IfOk result (λ c. app_of c ≡ with_rules (app_of command.entry) timing) }
 {
@@ -100,6 +105,10 @@ fn timing<'a>(alloc: Global, command: Command<'a>) -> Result<Command<'a>, AllocE
         "End an abort connection after so many seconds without a byte, but only where another waits to be served, 1 to 86400, or 0: never";
     let log =
         "Tell on standard error, a line each, which connections come, are refused and end, and why";
+    let patience =
+        "Milliseconds that the box of --upstream may take for one call before others have their turn, 1 to 1000";
+    let map =
+        "Tell the ports as a port mapper too, at port 111 over TCP and UDP, where that port can be had";
     command
         .arg(number_option(
             alloc,
@@ -121,10 +130,12 @@ fn timing<'a>(alloc: Global, command: Command<'a>) -> Result<Command<'a>, AllocE
             0,
             SECONDS_MAX,
         ))?
-        .arg(flag(alloc, "log", log))
+        .arg(number_option(alloc, "patience", "MS", patience, "10", 1, PATIENCE_MAX))?
+        .arg(flag(alloc, "log", log))?
+        .arg(flag(alloc, "map", map))
 }
 
-/// The command `vxgate`, with its nine options and its flag.
+/// The command `vxgate`, with its ten options and its two flags.
 pub(crate) fn vxgate<'a>(alloc: Global) -> Result<Command<'a>, AllocError>
     ensures { IfOk result (λ c. app_of c ≡ vxgate) }
 {

@@ -1,7 +1,7 @@
 //! How a server starts and ends, told over plain values: its words, what these and its bench come to, the links that its net gives
 //! it, the lines that it prints, its exit status, and its log.
 //!
-//! The words are the options of `vxgate`, each a number in a range with a default, and a flag. They are read with `clap`, as one
+//! The words are the options of `vxgate`, each a number in a range with a default, and two flags. They are read with `clap`, as one
 //! simple command. Nothing is printed there, and no memory is taken but `clap`'s.
 #![tactic(auto)]
 
@@ -18,5 +18,5 @@ pub use logging::{Channel, Logs, News, Reason, tell};
 pub use preparing::{BENCH_MAX, prepare};
 pub use status::ServerStatus;
 pub use taking::{next_link, open_ports};
-pub use telling::{announce, tell_served};
+pub use telling::{announce, end_bench, put_last, tell_served};
 pub use words::{Asked, Options, read_words};

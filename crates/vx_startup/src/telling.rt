@@ -16,8 +16,8 @@ use vx_script::Cause;
 use vx_setup::BenchStop;
 use vx_text::{SinkFailed, put_all};
 
-/// Writes a line behind which nothing more comes.
-pub(crate) fn put_last<K: Sink>(sink: &mut K, line: &[u8], how: ServerStatus) -> ServerStatus
+/// Writes a line behind which nothing more comes, and answers how the server ends: so, or with a sink that failed.
+pub fn put_last<K: Sink>(sink: &mut K, line: &[u8], how: ServerStatus) -> ServerStatus
     ensures { PutsLast how line.now
         (sink_shown K.Sink sink.old) (sink_shown K.Sink sink.new) result }
 {
@@ -37,8 +37,8 @@ fn put_fault<K: Sink>(sink: &mut K, line: u64, cause: Cause) -> ServerStatus
     put_last(sink, &room[..len], ServerStatus::BenchFault)
 }
 
-/// Ends a server whose bench isn't set up.
-pub(crate) fn end_bench<K: Sink>(sink: &mut K, stop: BenchStop) -> ServerStatus
+/// Ends a server whose bench isn't set up, with the line that says why.
+pub fn end_bench<K: Sink>(sink: &mut K, stop: BenchStop) -> ServerStatus
     ensures { EndsStopped stop
         (sink_shown K.Sink sink.old) (sink_shown K.Sink sink.new) result }
 {

@@ -33,8 +33,12 @@ pub struct Options {
     /// Seconds for which an abort connection may send no byte where another waits to be served, up to 86,400, or 0 for without
     /// end.
     pub abort_idle: u32,
+    /// Milliseconds for which a box behind which the bus is may take for one call, 1 to 1,000.
+    pub patience: u32,
     /// Whether each connection that comes, ends or is refused is told.
     pub log: bool,
+    /// Whether the ports are told by a port mapper too.
+    pub map: bool,
 }
 
 /// What words ask for.
@@ -50,7 +54,7 @@ pub enum Asked {
     NoMemory,
 }
 
-/// The numbers that words give, and whether they have the flag.
+/// The numbers that words give, and which flags they have.
 fn options_of(matches: &ArgMatches<'_>) -> Options
     requires { IsGiven (found_of matches.now) }
     ensures sets { Sets (rows_of (found_of matches.now)) result }
@@ -66,7 +70,9 @@ fn options_of(matches: &ArgMatches<'_>) -> Options
         send_timeout: matches.get_one::<u32>("send-timeout").unwrap(),
         idle: matches.get_one::<u32>("idle").unwrap(),
         abort_idle: matches.get_one::<u32>("abort-idle").unwrap(),
+        patience: matches.get_one::<u32>("patience").unwrap(),
         log: matches.get_flag("log"),
+        map: matches.get_flag("map"),
     }
 }
 
@@ -104,6 +110,8 @@ pub fn words_law()
     ensures times { IsSetBy (codes "--abort-idle=86400" ∷ codes "--keepalive" ∷ codes "0" ∷ codes "--send-timeout=1" ∷ codes "--idle" ∷ codes "600" ∷ [])
         (record usual { keepalive = 0; send_timeout = 1; idle = 600; abort_idle = 86400 }) }
     ensures log { IsSetBy (codes "--log" ∷ []) (record usual { log = true }) }
+    ensures map { IsSetBy (codes "--map" ∷ codes "--patience=1000" ∷ []) (record usual { patience = 1000; map = true }) }
+    ensures impatient { verdict (codes "--patience=0" ∷ []) ≡ refused }
     ensures above { verdict (codes "--workers" ∷ codes "65" ∷ []) ≡ refused }
     ensures below { verdict (codes "--sample=0" ∷ []) ≡ refused }
     ensures late { verdict (codes "--idle=86401" ∷ []) ≡ refused }

@@ -15,7 +15,7 @@ fn asked(alloc: Global, line: &str) -> Result<Asked, AllocError> {
 }
 
 /// The numbers of options: core, abort, sample, workers, limit; and behind a bar keepalive, send-timeout, idle, abort-idle and
-/// whether there is a log, where these aren't as usual.
+/// whether there is a log, where these aren't as usual; or behind a slash patience and whether there is a port mapper.
 fn numbers(alloc: Global, options: Options) -> Result<String, AllocError> {
     let Options {
         core,
@@ -27,8 +27,13 @@ fn numbers(alloc: Global, options: Options) -> Result<String, AllocError> {
         send_timeout,
         idle,
         abort_idle,
+        patience,
         log,
+        map,
     } = options;
+    if (patience, map) != (10, false) {
+        return format!(in alloc; "{core} {abort} {sample} {workers} {limit} / {patience} {map}");
+    }
     if (keepalive, send_timeout, idle, abort_idle, log) == (120, 60, 0, 5, false) {
         return format!(in alloc; "{core} {abort} {sample} {workers} {limit}");
     }
@@ -54,7 +59,7 @@ const NO: &str = "refused";
 const VERSION: &str = "vxgate 0.1.0\n";
 
 /// Lines of words, and what each is answered with.
-static ROWS: [(&str, &str); 74] = [
+static ROWS: [(&str, &str); 80] = [
     // no word sets an option
     ("", "9010 9011 10 16 0"),
     ("--", "9010 9011 10 16 0"),
@@ -89,6 +94,9 @@ static ROWS: [(&str, &str); 74] = [
         "9010 9011 10 16 0 | 120 60 0 86400 false",
     ),
     ("--log", "9010 9011 10 16 0 | 120 60 0 5 true"),
+    ("--patience 1", "9010 9011 10 16 0 / 1 false"),
+    ("--patience=1000", "9010 9011 10 16 0 / 1000 false"),
+    ("--map", "9010 9011 10 16 0 / 10 true"),
     // all of them, in any order
     (
         "--core 1024 --abort 1025 --sample 250 --workers 4 --limit 7",
@@ -124,6 +132,8 @@ static ROWS: [(&str, &str); 74] = [
     ("--send-timeout 86401", NO),
     ("--idle 86401", NO),
     ("--abort-idle 86401", NO),
+    ("--patience 0", NO),
+    ("--patience 1001", NO),
     ("--keepalive=-1", NO),
     // no number
     ("--core x", NO),
@@ -141,6 +151,7 @@ static ROWS: [(&str, &str); 74] = [
     // a flag has no value
     ("--log 1", NO),
     ("--log=true", NO),
+    ("--map=true", NO),
     // an option twice
     ("--log --log", NO),
     ("--idle 5 --idle 5", NO),
@@ -168,7 +179,7 @@ static ROWS: [(&str, &str); 74] = [
 static HELPS: [&str; 4] = ["--help", "-h", "--workers 64 --help", "--help --port"];
 
 /// What the help tells, among others.
-static PARTS: [&str; 24] = [
+static PARTS: [&str; 27] = [
     "A VXI-11 gateway to a GPIB bus\n",
     "TCPIP::host::gpib0,5::INSTR",
     "Usage: vxgate [OPTIONS]\n",
@@ -189,8 +200,11 @@ static PARTS: [&str; 24] = [
     "--idle <SECONDS>",
     "--abort-idle <SECONDS>",
     "[default: 5]",
+    "--patience <MS>",
     "--log",
+    "--map",
     "vxgate < ",
+    "vxgate --upstream HOST PORT [NAME] [OPTIONS] < ",
     "-h, --help",
     "-V, --version",
 ];

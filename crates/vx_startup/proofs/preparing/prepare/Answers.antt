@@ -6,7 +6,8 @@ use Rattle.vx_sim.specs.Occupants.{handed_in}
 use Rattle.vx_setup.specs.Spares.{spare_shown}
 use Rattle.vx_startup.specs.Outcome.{ServerEnds, EndsBenched}
 use Rattle.vx_startup.specs.Preparing.{Early, IsBench}
-use Rattle.vx_startup.proofs.Early.{answered, behind_words, behind_reading}
+use Rattle.vx_startup.proofs.Early.{behind_words, behind_reading}
+use Rattle.vx_startup.proofs.Laws.Answered.{answered}
 use Rattle.vx_startup.proofs.preparing.prepare.Goals as goal
 
 pub returns-in_err-text-clause-early : goal.returns-in_err-text-clause-early

@@ -28,5 +28,8 @@ returns-clause-sets c =
           (c.get_one-8.ensures.value c.requires.idle.0 c.requires.idle.2) c.unwrap-8.ensures;
       abort_idle = number (codes "abort-idle") 0 86400 c.requires.abort_idle c.get_one-9.result c.unwrap-9.result (λ u x g. g.0)
           (c.get_one-9.ensures.value c.requires.abort_idle.0 c.requires.abort_idle.2) c.unwrap-9.ensures;
+      patience = number (codes "patience") 1 1000 c.requires.patience c.get_one-10.result c.unwrap-10.result (λ u x g. g.0)
+          (c.get_one-10.ensures.value c.requires.patience.0 c.requires.patience.2) c.unwrap-10.ensures;
       log = flag_set found (codes "log") c.get_flag.result c.requires.log (c.get_flag.ensures.none, c.get_flag.ensures.value, c.get_flag.ensures.other);
+      map = flag_set found (codes "map") c.get_flag-2.result c.requires.map (c.get_flag-2.ensures.none, c.get_flag-2.ensures.value, c.get_flag-2.ensures.other);
     }

@@ -5,11 +5,11 @@ use Rattle.vx_startup.proofs.words.words_law.Goals as goal
 
 pub returns-clause-none : goal.returns-clause-none
 unfolding clap_on_literals verdict rows
-returns-clause-none c = (refl, record { core = refl; abort = refl; sample = refl; workers = refl; limit = refl; keepalive = refl; send_timeout = refl; idle = refl; abort_idle = refl; log = refl })
+returns-clause-none c = (refl, record { core = refl; abort = refl; sample = refl; workers = refl; limit = refl; keepalive = refl; send_timeout = refl; idle = refl; abort_idle = refl; patience = refl; log = refl; map = refl })
 
 pub returns-clause-some : goal.returns-clause-some
 unfolding clap_on_literals verdict rows
-returns-clause-some c = (refl, record { core = refl; abort = refl; sample = refl; workers = refl; limit = refl; keepalive = refl; send_timeout = refl; idle = refl; abort_idle = refl; log = refl })
+returns-clause-some c = (refl, record { core = refl; abort = refl; sample = refl; workers = refl; limit = refl; keepalive = refl; send_timeout = refl; idle = refl; abort_idle = refl; patience = refl; log = refl; map = refl })
 
 pub returns-clause-above : goal.returns-clause-above
 unfolding clap_on_literals verdict
@@ -37,11 +37,11 @@ returns-clause-version c = refl
 
 pub returns-clause-times : goal.returns-clause-times
 unfolding clap_on_literals verdict rows
-returns-clause-times c = (refl, record { core = refl; abort = refl; sample = refl; workers = refl; limit = refl; keepalive = refl; send_timeout = refl; idle = refl; abort_idle = refl; log = refl })
+returns-clause-times c = (refl, record { core = refl; abort = refl; sample = refl; workers = refl; limit = refl; keepalive = refl; send_timeout = refl; idle = refl; abort_idle = refl; patience = refl; log = refl; map = refl })
 
 pub returns-clause-log : goal.returns-clause-log
 unfolding clap_on_literals verdict rows
-returns-clause-log c = (refl, record { core = refl; abort = refl; sample = refl; workers = refl; limit = refl; keepalive = refl; send_timeout = refl; idle = refl; abort_idle = refl; log = refl })
+returns-clause-log c = (refl, record { core = refl; abort = refl; sample = refl; workers = refl; limit = refl; keepalive = refl; send_timeout = refl; idle = refl; abort_idle = refl; patience = refl; log = refl; map = refl })
 
 pub returns-clause-late : goal.returns-clause-late
 unfolding clap_on_literals verdict
@@ -50,3 +50,11 @@ returns-clause-late c = refl
 pub returns-clause-valued : goal.returns-clause-valued
 unfolding clap_on_literals verdict
 returns-clause-valued c = refl
+
+pub returns-clause-map : goal.returns-clause-map
+unfolding clap_on_literals verdict rows
+returns-clause-map c = (refl, record { core = refl; abort = refl; sample = refl; workers = refl; limit = refl; keepalive = refl; send_timeout = refl; idle = refl; abort_idle = refl; patience = refl; log = refl; map = refl })
+
+pub returns-clause-impatient : goal.returns-clause-impatient
+unfolding clap_on_literals verdict
+returns-clause-impatient c = refl
