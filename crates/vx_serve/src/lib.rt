@@ -9,6 +9,6 @@ mod server;
 mod starting;
 mod workers;
 
-pub use server::serve_run;
+pub use server::{Ended, Host, serve_bus, serve_run};
 pub use vx_startup::{BENCH_MAX, Logs, ServerStatus};
-pub use workers::Serve;
+pub use workers::{Serve, ServeBus};

@@ -13,7 +13,7 @@ use crate::accepting::accept_links;
 use crate::access::{GateAccess, LinkAccess};
 use crate::planning::Acceptor;
 use crate::starting::{Unstarted, start_all};
-use crate::workers::{CoreKit, Duty, Job, Peer, Serve};
+use crate::workers::{CoreKit, Duty, Job, Peer, Serve, ServeBus};
 use crossbeam_channel::Sender;
 use std::alloc::Global;
 use std::sync::Wait;
@@ -22,20 +22,19 @@ use vx_inst::Instrument;
 use vx_io_traits::{Clock, Dial, Net, Pause, Sink, Source, Spawner, Streams};
 use vx_rack::Spare;
 use vx_session::{Tally, Tools};
-use vx_sim::SimBus;
 use vx_startup::{Logs, Options, ServerStatus, announce, open_ports, prepare, tell_served};
 use vx_stream::CountingLink;
 
-/// How a run of the server ended, and the links that it served.
+/// How a run of a server ended, and the links that it served.
 #[derive(Drop)]
-struct Ended {
-    status: ServerStatus,
-    tally: Tally,
+pub struct Ended {
+    pub status: ServerStatus,
+    pub tally: Tally,
 }
 
 impl Ended {
     /// An end of which no links are counted.
-    fn early(status: ServerStatus) -> Ended
+    pub fn early(status: ServerStatus) -> Ended
         ensures { result.status ≡ status }
     {
         Ended {
@@ -47,13 +46,13 @@ impl Ended {
 
 /// What a server has of its host: a runtime, memory, a net, the spawner of its workers, their tools, and where its lines go.
 #[derive(Drop)]
-struct Host<'r, 'n, 'w, 'x, 'k, R, N, W, X, K> {
-    rt: &'r R,
-    alloc: Global,
-    net: &'n mut N,
-    spawner: &'w mut W,
-    tools: &'x mut X,
-    sink: &'k mut K,
+pub struct Host<'r, 'n, 'w, 'x, 'k, R, N, W, X, K> {
+    pub rt: &'r R,
+    pub alloc: Global,
+    pub net: &'n mut N,
+    pub spawner: &'w mut W,
+    pub tools: &'x mut X,
+    pub sink: &'k mut K,
 }
 
 /// Takes links, waits until each was served, and tells how many there were.
@@ -227,18 +226,23 @@ where
     }
 }
 
-/// Opens the ports, and serves links over the bus.
-fn serve_bus<R: Wait, N: Net, W: Spawner<Serve<N, X, I>>, X: Tools + Logs, K: Sink, I: Instrument>(
-    host: &mut Host<'_, '_, '_, '_, '_, R, N, W, X, K>,
-    options: Options,
-    bus: SimBus<I>,
-) -> Ended
+/// What a server does that has its options and its bus, of which nobody asked anything yet: it opens the core port and binds the abort
+/// port, starts its workers, each over a pass of the one gate round a gateway over the bus, and then takes core links and hands them
+/// to the workers. It ends as [`serve_run`] says of the statuses 0 and 3 to 6.
+pub fn serve_bus<
+    R: Wait,
+    N: Net,
+    W: Spawner<ServeBus<N, X, B>>,
+    X: Tools + Logs,
+    K: Sink,
+    B: Bus + Drop,
+>(host: &mut Host<'_, '_, '_, '_, '_, R, N, W, X, K>, options: Options, bus: B) -> Ended
 where
     N::Port: Drop,
     Peer<N>: Drop,
     <X::S as Streams>::Peer: Drop,
     requires range { IsServerInRange options }
-    requires fresh { bus.means ≡ first_means }
+    requires fresh { B.means bus ≡ first_means }
     ensures ends { ServerEndsRun options
         (ports_shown N.Net K.Sink host.old.net.now host.old.sink.now) (W.faults host.old.spawner.now)
         (ports_shown N.Net K.Sink host.new.net.now host.new.sink.now) (W.faults host.new.spawner.now)
@@ -247,7 +251,7 @@ where
 {
     match open_ports(host.net, options.core, options.abort) {
         Some(port) => {
-            serve_gate::<R, N, X, SimBus<I>, Serve<N, X, I>, W, K>(host, options, port, bus)
+            serve_gate::<R, N, X, B, ServeBus<N, X, B>, W, K>(host, options, port, bus)
         }
         None => Ended::early(ServerStatus::NetFailed),
     }

@@ -10,7 +10,7 @@ use crate::served::Served;
 use crossbeam_channel::{Receiver, Sender};
 use std::alloc::Global;
 use std::sync::{Arc, Wait};
-use vx_inst::Instrument;
+use vx_bus_traits::Bus;
 use vx_io_traits::{Accepted, Clock, Dial, Handed, Link, Listen, Net, Pause, Sink, Streams, Work};
 use vx_session::{End, Linked, Room, Tools};
 use vx_sim::SimBus;
@@ -173,38 +173,41 @@ pub trait Job<A, T>: Work + Sized {
     fn of(access: A, duty: T) -> Self;
 }
 
-/// The work of one worker of a server, which [`serve_run`](crate::serve_run) alone makes. Its pass is of its server's gate.
+/// The work of one worker of a server over such a bus, which [`serve_bus`](crate::serve_bus) alone makes. Its pass is of its server's
+/// gate.
 #[derive(Drop)]
-pub struct Serve<N: Net, X: Tools + Logs, I: Instrument>
+pub struct ServeBus<N: Net, X: Tools + Logs, B: Bus + Drop>
 where
     N::Port: Drop,
     Peer<N>: Drop,
     <X::S as Streams>::Peer: Drop,
 {
-    access: GateAccess<SimBus<I>>,
+    access: GateAccess<B>,
     duty: Duty<N, X>,
 }
 
-impl<N: Net, X: Tools + Logs, I: Instrument> Job<GateAccess<SimBus<I>>, Duty<N, X>>
-    for Serve<N, X, I>
+/// The work of one worker of a server over the simulated bus.
+pub type Serve<N, X, I> = ServeBus<N, X, SimBus<I>>;
+
+impl<N: Net, X: Tools + Logs, B: Bus + Drop> Job<GateAccess<B>, Duty<N, X>> for ServeBus<N, X, B>
 where
     N::Port: Drop,
     Peer<N>: Drop,
     <X::S as Streams>::Peer: Drop,
 {
-    fn of(access: GateAccess<SimBus<I>>, duty: Duty<N, X>) -> Serve<N, X, I> {
-        Serve { access, duty }
+    fn of(access: GateAccess<B>, duty: Duty<N, X>) -> ServeBus<N, X, B> {
+        ServeBus { access, duty }
     }
 }
 
-impl<N: Net, X: Tools + Logs, I: Instrument> Work for Serve<N, X, I>
+impl<N: Net, X: Tools + Logs, B: Bus + Drop> Work for ServeBus<N, X, B>
 where
     N::Port: Drop,
     Peer<N>: Drop,
     <X::S as Streams>::Peer: Drop,
 {
     fn run<R: Wait>(self, rt: &R) {
-        let Serve { access, duty } = self;
+        let ServeBus { access, duty } = self;
         duty.work(rt, access)
     }
 }
