@@ -27,6 +27,7 @@ CALLS = [
     ("crates/vx_check/src/run.rt", ["check_run"]),
     ("crates/vx_loop/src/through.rt", ["through_client"]),
     ("crates/vx_serve/src/server.rt", ["serve_run"]),
+    ("crates/vx_relay/src/run.rt", ["relay_run"]),
     ("crates/vx_buses/src/run.rt", ["buses_run"]),
     ("crates/vx_guard/src/run.rt", ["guard_run"]),
     ("crates/vx_client/src/run.rt", ["call_run"]),

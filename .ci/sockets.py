@@ -22,14 +22,14 @@ import subprocess
 import sys
 import tempfile
 
-from sockets import aborts, bulk, client, closing, hosts, interrupts, locks, log, records, starting, waits, workers
+from sockets import aborts, bulk, client, closing, hosts, interrupts, locks, log, mapping, records, starting, waits, workers
 from sockets.building import build
 from sockets.server import end_all, programs
 from sockets.soak import soak
 
 SUBJECTS = {
     subject.__name__.split(".")[-1]: subject
-    for subject in (records, locks, aborts, interrupts, bulk, workers, closing, waits, hosts, starting, client, log)
+    for subject in (records, locks, aborts, interrupts, bulk, workers, closing, waits, hosts, starting, client, log, mapping)
 }
 CASE_SECONDS = 900
 BUILD_SECONDS = 1800

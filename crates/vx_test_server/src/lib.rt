@@ -1,4 +1,5 @@
-//! Tests of the server, its words and its host, and of the client, over links and over a gateway in the same thread.
+//! Tests of the server, over the simulated bus and over a box, its words and its host, and of the client, over links and over a gateway
+//! in the same thread.
 #![tactic(auto)]
 
 #[cfg(test)]
@@ -11,6 +12,8 @@ mod client_tools;
 mod host_tests;
 #[cfg(test)]
 mod loop_tests;
+#[cfg(test)]
+mod relay_tests;
 #[cfg(test)]
 mod serve_tests;
 #[cfg(test)]

@@ -7,10 +7,20 @@ use vx_serve::BENCH_MAX;
 
 /// Drops each work. It refuses the one of this number, counted from 1, where it isn't 0.
 #[derive(Drop)]
-struct Idle {
+pub(crate) struct Idle {
     refuses: u64,
     starts: u64,
     faults: u64,
+}
+
+impl Idle {
+    pub fn new(refuses: u64) -> Idle {
+        Idle {
+            refuses,
+            starts: 0,
+            faults: 0,
+        }
+    }
 }
 
 impl<J: Work + Drop> Spawner<J> for Idle {
@@ -27,7 +37,7 @@ impl<J: Work + Drop> Spawner<J> for Idle {
 }
 
 /// How undisturbed servers end.
-const SERVED: Ends = Ends {
+pub(crate) const SERVED: Ends = Ends {
     status: 0,
     text: "listening 9010 9011\nserved 0\n",
     number: 0,
@@ -42,7 +52,7 @@ const USAGE: Ends = Ends {
 };
 
 /// A server that nothing disturbs.
-const PLAIN: Row = Row {
+pub(crate) const PLAIN: Row = Row {
     words: &[],
     bench: "",
     lines: 0,
@@ -349,11 +359,7 @@ static LINKS: [Row; 2] = [
 
 /// Runs the server of a row, whose workers never run.
 fn ends_so_idle<R: Wait>(rt: &R, alloc: Global, row: &Row) -> Option<bool> {
-    let spawner = Idle {
-        refuses: row.refuses,
-        starts: 0,
-        faults: 0,
-    };
+    let spawner = Idle::new(row.refuses);
     ends_so(rt, alloc, row, spawner)
 }
 

@@ -411,7 +411,7 @@ fn askers(alloc: Global) -> Option<Vec<Spare<Asker>>> {
     }
 }
 
-fn counts_of(alloc: Global) -> Result<Arc<Counts, Global>, AllocError> {
+pub(crate) fn counts_of(alloc: Global) -> Result<Arc<Counts, Global>, AllocError> {
     let counts = Counts {
         core: AtomicU64::new(0),
         abort: AtomicU64::new(0),
@@ -501,14 +501,14 @@ pub(crate) struct Ends {
 
 /// What the server of a row runs with: its words, the source of its bench, its net, and its tools.
 #[derive(Drop)]
-struct Setting {
-    words: Vec<String>,
-    source: MemSource,
-    net: MemNet<Comparing>,
-    tools: Bag,
+pub(crate) struct Setting {
+    pub words: Vec<String>,
+    pub source: MemSource,
+    pub net: MemNet<Comparing>,
+    pub tools: Bag,
 }
 
-fn setting_of(
+pub(crate) fn setting_of(
     alloc: Global,
     row: &Row,
     counts: &Arc<Counts, Global>,
@@ -570,7 +570,7 @@ fn is_logged(row: &Row, counts: &Counts) -> bool {
 }
 
 /// Whether a server that ended so ended as its row says.
-fn is_ended(row: &Row, counts: &Counts, sink: &MemSink, ended: (u8, u64)) -> bool {
+pub(crate) fn is_ended(row: &Row, counts: &Counts, sink: &MemSink, ended: (u8, u64)) -> bool {
     let bytes = [
         counts.core.load(Ordering::SeqCst),
         counts.abort.load(Ordering::SeqCst),
@@ -581,7 +581,7 @@ fn is_ended(row: &Row, counts: &Counts, sink: &MemSink, ended: (u8, u64)) -> boo
 }
 
 /// A sink of which the writes of a row fail.
-fn sink_of(alloc: Global, row: &Row) -> Result<MemSink, AllocError> {
+pub(crate) fn sink_of(alloc: Global, row: &Row) -> Result<MemSink, AllocError> {
     let fails = row.writes.to_vec(alloc)?;
     Ok(MemSink::new(Vec::new(alloc), fails))
 }

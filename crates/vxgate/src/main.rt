@@ -1,8 +1,11 @@
 //! `vxgate OPTIONS`: serves VXI-11 clients over TCP, with the instruments that the bench on standard input describes.
+//! `vxgate --upstream HOST PORT [NAME] OPTIONS`: serves them with those behind another VXI-11 box.
 #![tactic(auto)]
 
+mod mapping;
 mod models;
 
+use crate::mapping::{Mapped, map_ports};
 use crate::models::AnyModel;
 use arrayvec::ArrayString;
 use std::alloc::{AllocError, Global};
@@ -10,10 +13,12 @@ use std::env::{self, Env};
 use std::io::ErrorKind;
 use std::process::ExitCode;
 use vx_host::{HostNet, TcpTools, wire};
-use vx_io::{StdSink, StdSource, Timeouts};
+use vx_io::{ReachTimeouts, StdSink, StdSource, TcpReach, Timeouts};
 use vx_rack::{Asker, Echo, Meter, NoMemory, Slow, Spare};
-use vx_serve::{Serve, serve_run};
+use vx_relay::{place_of, relay_run};
+use vx_serve::{Serve, ServeBus, serve_run};
 use vx_startup::{Asked, read_words};
+use vx_upstream::UpstreamBus;
 
 /// The exit status where there is no memory for the words, the spare instruments, or what starts the workers.
 const NO_MEMORY: u8 = 5;
@@ -21,7 +26,17 @@ const NO_MEMORY: u8 = 5;
 /// How many spare instruments there are of each model.
 const SPARES: usize = 4;
 
-/// The work of a worker of this program.
+/// How many milliseconds a box may take to be reached, to take a byte, and beyond its patience to answer.
+const BOX_WAITS: u32 = 1_000;
+
+/// The work of a worker over the bus behind a box.
+type BoxJob = ServeBus<
+    HostNet<HostRuntime>,
+    TcpTools<HostRuntime>,
+    UpstreamBus<TcpReach<HostRuntime>>,
+>;
+
+/// The work of a worker over the simulated bus.
 type Job = Serve<HostNet<HostRuntime>, TcpTools<HostRuntime>, AnyModel>;
 
 /// Adds a spare instrument under a name of at most 16 bytes.
@@ -83,16 +98,47 @@ fn words_of<R: Env + AllocGlobal>(rt: &R) -> Result<Vec<String>, AllocError> {
     }
 }
 
-/// How long the sockets bear with a peer, and whether there is a log.
+/// The words behind `--upstream`, where that is the first of them.
+fn behind_upstream(words: &[String]) -> Option<&[String]> {
+    match words {
+        [first, rest @ ..] if first.as_str() == "--upstream" => Some(rest),
+        _ => None,
+    }
+}
+
+/// The options behind the words that name a box, if these do; else all words.
+fn options_of(words: &[String]) -> &[String] {
+    let Some(words) = behind_upstream(words) else {
+        return words;
+    };
+    match place_of(words) {
+        Some((_, options)) => options,
+        None => words,
+    }
+}
+
+/// How long the sockets bear with a peer and with a box, whether there is a log, and the ports that a port mapper tells, if there is
+/// one.
 #[derive(Clone, Copy)]
 struct Watch {
     timeouts: Timeouts,
+    reach: ReachTimeouts,
     has_log: bool,
+    mapped: Option<Mapped>,
 }
 
-/// What the words say of it. Words that don't ask to serve say nothing: the server meets them itself.
-fn watch_of(alloc: Global, words: &[String]) -> Result<Watch, Unmade> {
-    match read_words(alloc, words) {
+/// How long a box is borne with that has so many milliseconds for one call.
+fn reach_timeouts(patience: u32) -> ReachTimeouts {
+    ReachTimeouts {
+        connect: BOX_WAITS,
+        receive: patience.saturating_add(BOX_WAITS),
+        send: BOX_WAITS,
+    }
+}
+
+/// What the options say of it. Those that don't ask to serve say nothing: the server meets them itself.
+fn watch_of(alloc: Global, options: &[String]) -> Result<Watch, Unmade> {
+    match read_words(alloc, options) {
         Asked::Serve(options) => Ok(Watch {
             timeouts: Timeouts {
                 keepalive: options.keepalive,
@@ -100,11 +146,18 @@ fn watch_of(alloc: Global, words: &[String]) -> Result<Watch, Unmade> {
                 idle: options.idle,
                 abort_idle: options.abort_idle,
             },
+            reach: reach_timeouts(options.patience),
             has_log: options.log,
+            mapped: options.map.then_some(Mapped {
+                core: options.core,
+                abort: options.abort,
+            }),
         }),
         Asked::Tell(_) | Asked::Usage => Ok(Watch {
             timeouts: Timeouts::NONE,
+            reach: reach_timeouts(0),
             has_log: false,
+            mapped: None,
         }),
         Asked::NoMemory => Err(Unmade),
     }
@@ -122,7 +175,7 @@ struct Made {
 fn make(rt: &HostRuntime) -> Result<Made, Unmade> {
     let alloc = rt.alloc();
     let words = words_of(rt)?;
-    let watch = watch_of(alloc, words.as_slice())?;
+    let watch = watch_of(alloc, options_of(words.as_slice()))?;
     let rack = rack_of(alloc)?;
     Ok(Made { words, watch, rack })
 }
@@ -132,24 +185,58 @@ fn main(rt: HostRuntime) -> ExitCode {
     let Ok(made) = make(&rt) else {
         return ExitCode::from(NO_MEMORY);
     };
-    let Made {
-        words,
-        watch: Watch { timeouts, has_log },
-        rack,
-    } = made;
-    let Ok(mut wiring) = wire::<HostRuntime, Job>(rt, rt.alloc(), rt.stderr(), has_log) else {
+    let Made { words, watch, rack } = made;
+    if map_ports(rt, rt.alloc(), rt.stderr(), watch.mapped).is_err() {
         return ExitCode::from(NO_MEMORY);
+    }
+    let mut source = StdSource::new(rt.stdin());
+    let mut net = HostNet::new(rt, watch.timeouts);
+    let mut sink = StdSink::new(rt.stdout());
+    let status = match behind_upstream(words.as_slice()) {
+        None => {
+            let Ok(mut wiring) = wire::<HostRuntime, Job>(
+                rt,
+                rt.alloc(),
+                rt.stderr(),
+                watch.has_log,
+            ) else {
+                return ExitCode::from(NO_MEMORY);
+            };
+            let (status, _) = serve_run(
+                &rt,
+                rt.alloc(),
+                words.as_slice(),
+                &mut source,
+                &mut net,
+                &mut wiring.spawner,
+                &mut wiring.tools,
+                &mut sink,
+                rack,
+            );
+            status
+        }
+        Some(words) => {
+            let Ok(mut wiring) = wire::<HostRuntime, BoxJob>(
+                rt,
+                rt.alloc(),
+                rt.stderr(),
+                watch.has_log,
+            ) else {
+                return ExitCode::from(NO_MEMORY);
+            };
+            let (status, _) = relay_run(
+                &rt,
+                rt.alloc(),
+                words,
+                &mut source,
+                TcpReach::with_timeouts(rt, watch.reach),
+                &mut net,
+                &mut wiring.spawner,
+                &mut wiring.tools,
+                &mut sink,
+            );
+            status
+        }
     };
-    let (status, _) = serve_run(
-        &rt,
-        rt.alloc(),
-        words.as_slice(),
-        &mut StdSource::new(rt.stdin()),
-        &mut HostNet::new(rt, timeouts),
-        &mut wiring.spawner,
-        &mut wiring.tools,
-        &mut StdSink::new(rt.stdout()),
-        rack,
-    );
     ExitCode::from(status)
 }

@@ -1,0 +1,37 @@
+use Rattle.std.proofs.Common.{map, string_bytes, subst, sym}
+use Rattle.vx_text.specs.Ends.{End, source_shown, sink_shown}
+use Rattle.vx_startup.specs.Outcome.{ServerIo}
+use Rattle.vx_startup.specs.Running.{ServerEndsRun, net_shown}
+use Rattle.vx_serve.specs.Hosting.{ports_shown}
+use Rattle.vx_upstream.specs.Sending.{words_of}
+use Rattle.vx_relay.specs.Relaying.{RelayEnds}
+use Rattle.vx_relay.proofs.Ending.{relayed}
+use Rattle.vx_relay.proofs.run.serve_words.Goals as goal
+
+pub returns-in-Ok-clause-ends : goal.returns-in-Ok-clause-ends
+returns-in-Ok-clause-ends g c =
+    let net = net_shown g.N.Net c.args.host.now.net.now in
+    let first : End = sink_shown g.K.Sink c.args.host.now.sink.now in
+    let refused = g.W.Spawner.faults c.args.host.now.spawner.now in
+    let after : ServerIo = record {
+      ports = ports_shown g.N.Net g.K.Sink c.serve_bus.new.host.net.now c.serve_bus.new.host.sink.now;
+      refused = g.W.Spawner.faults c.serve_bus.new.host.spawner.now;
+    } in
+    relayed (words_of g.L.Link g.L.Reach.refused g.L.Reach.tries) c.args.link (map string_bytes c.args.words.now)
+    (source_shown g.S.Source c.args.bench.now) (source_shown g.S.Source c.prepare.new.bench) c.in-Ok.options
+    (record { ports = record { net = net; sink = first }; refused = refused }) after c.serve_bus.result.tally c.serve_bus.result.status
+    c.in-Ok.ensures.ready
+    (subst
+    (λ (sink : End). ServerEndsRun c.in-Ok.options (record { net = net; sink = sink }) refused after.ports after.refused c.serve_bus.result.tally c.serve_bus.result.status)
+    c.in-Ok.ensures.silent c.serve_bus.ensures.ends)
+
+pub returns-in-Err-clause-ends : goal.returns-in-Err-clause-ends
+returns-in-Err-clause-ends g c =
+    let net = net_shown g.N.Net c.args.host.now.net.now in
+    let refused = g.W.Spawner.faults c.args.host.now.spawner.now in
+    subst
+    (λ how. RelayEnds (words_of g.L.Link g.L.Reach.refused g.L.Reach.tries) c.args.link (map string_bytes c.args.words.now)
+    (source_shown g.S.Source c.args.bench.now) (source_shown g.S.Source c.prepare.new.bench)
+    (record { ports = record { net = net; sink = sink_shown g.K.Sink c.args.host.now.sink.now }; refused = refused })
+    (record { ports = record { net = net; sink = sink_shown g.K.Sink c.prepare.new.sink }; refused = refused })
+    c.early.result.tally how) (sym c.early.ensures) (c.in-Err.ensures.early net refused c.early.result.tally)

@@ -1,0 +1,9 @@
+pub mod Place
+pub mod Lines
+pub mod Relaying
+pub mod Readying
+pub use Rattle.vx_text.specs.Ends
+pub use Rattle.vx_startup.specs.Meant
+pub use Rattle.vx_startup.specs.Running
+pub use Rattle.vx_upstream.specs.Sending
+pub use Rattle.vx_upstream.specs.Opening

@@ -1,0 +1,203 @@
+//! Servers whose bus is behind another box and whose workers never run: the causes of each status, and what is written. The box's replies
+//! are composed by hand from their words; the mark of a record stands first.
+use crate::serve_tests::{Idle, PLAIN, SERVED};
+use crate::served_tests::{
+    Comparing, Counts, Ends, Row, Setting, counts_of, is_ended, setting_of, sink_of,
+};
+use std::alloc::{AllocError, Global};
+use std::sync::{Arc, Wait};
+use vx_memory::{MemLink, MemReach, MemSink};
+use vx_relay::relay_run;
+
+/// Link 7 of the box, whose writes take 1,024 bytes; and three device_docmd with no error: no data, two bytes, four bytes.
+const AT_REST: &[u32] = &[
+    0x80000028, 1, 1, 0, 0, 0, 0, 0, 7, 9012, 1024, 0x80000020, 2, 1, 0, 0, 0, 0, 0, 0, 0x80000024,
+    3, 1, 0, 0, 0, 0, 0, 2, 0, 0x80000024, 4, 1, 0, 0, 0, 0, 0, 4, 0,
+];
+
+/// A server with these words and this bench, over a box at the host `box` and port 9010 that gives these words; how it ends, and what it
+/// writes.
+#[derive(Clone, Copy)]
+struct Relay {
+    words: &'static [&'static str],
+    bench: &'static str,
+    gives: &'static [u32],
+    status: u8,
+    text: &'static str,
+}
+
+/// A server whose words are refused.
+const REFUSED: Relay = Relay {
+    words: &[],
+    bench: "",
+    gives: &[],
+    status: 1,
+    text: "usage: vxgate --upstream HOST PORT [NAME] OPTIONS\n",
+};
+
+/// A server that nothing disturbs.
+const UP: Relay = Relay {
+    words: &["box", "9010"],
+    bench: "",
+    gives: AT_REST,
+    status: 0,
+    text: "listening 9010 9011\nserved 0\n",
+};
+
+static RELAYS: [Relay; 17] = [
+    // words that name no box
+    REFUSED,
+    Relay {
+        words: &["box"],
+        ..REFUSED
+    },
+    Relay {
+        words: &["box", "0"],
+        ..REFUSED
+    },
+    Relay {
+        words: &["box", "09010"],
+        ..REFUSED
+    },
+    Relay {
+        words: &["box", "65536"],
+        ..REFUSED
+    },
+    // words behind a box that are refused, or that ask for a text
+    Relay {
+        words: &["box", "9010", "gpib0", "more"],
+        ..REFUSED
+    },
+    Relay {
+        words: &["box", "9010", "--patience", "0"],
+        ..REFUSED
+    },
+    Relay {
+        words: &["box", "9010", "--version"],
+        text: "vxgate 0.1.0\n",
+        ..UP
+    },
+    // a bench
+    Relay {
+        bench: "plug 5 asker\n",
+        status: 2,
+        text: "fault line 1 form\n",
+        ..UP
+    },
+    // a box that isn't there
+    Relay {
+        words: &["bux", "9010"],
+        status: 2,
+        text: "fault upstream reach\n",
+        ..UP
+    },
+    Relay {
+        words: &["box", "9011"],
+        status: 2,
+        text: "fault upstream reach\n",
+        ..UP
+    },
+    // one that says nothing
+    Relay {
+        gives: &[],
+        status: 2,
+        text: "fault upstream link\n",
+        ..UP
+    },
+    // one whose interface is locked
+    Relay {
+        words: &["box", "9010", "hpib"],
+        gives: &[0x80000028, 1, 1, 0, 0, 0, 0, 11, 0, 0, 0],
+        status: 2,
+        text: "fault upstream link 11\n",
+        ..UP
+    },
+    // one that closes behind its link
+    Relay {
+        gives: &[0x80000028, 1, 1, 0, 0, 0, 0, 0, 7, 9012, 1024],
+        status: 2,
+        text: "fault upstream clear\n",
+        ..UP
+    },
+    // one whose bus is had: without a name, with one, and with options behind either
+    UP,
+    Relay {
+        words: &["box", "9010", "--core", "1", "--patience=1000"],
+        text: "listening 1 9011\nserved 0\n",
+        ..UP
+    },
+    Relay {
+        words: &["box", "9010", "hpib", "--limit", "3"],
+        ..UP
+    },
+];
+
+/// A link to the box, which gives these words.
+fn link_of(alloc: Global, words: &[u32]) -> Result<MemReach<MemLink>, AllocError> {
+    let mut bytes = Vec::new(alloc);
+    for word in words {
+        bytes.extend_from_slice(&word.to_be_bytes())?;
+    }
+    let link = MemLink::new(bytes, 64, Vec::new(alloc), Vec::new(alloc));
+    Ok(MemReach::new(link, String::from_str(alloc, "box")?, 9010))
+}
+
+/// The row of a server that is told of by all that is different from one over a bench.
+fn row_of(relay: &Relay) -> Row {
+    Row {
+        words: relay.words,
+        bench: relay.bench,
+        ends: Ends {
+            status: relay.status,
+            text: relay.text,
+            ..SERVED
+        },
+        ..PLAIN
+    }
+}
+
+/// Runs a server, and answers its status and the number of its tally.
+fn run<R: Wait>(
+    rt: &R,
+    alloc: Global,
+    relay: &Relay,
+    counts: &Arc<Counts, Global>,
+    sink: &mut MemSink,
+) -> Result<(u8, u64), AllocError> {
+    let Setting {
+        words,
+        mut source,
+        mut net,
+        mut tools,
+    } = setting_of(alloc, &row_of(relay), counts)?;
+    let link = link_of(alloc, relay.gives)?;
+    let (status, tally) = relay_run(
+        rt,
+        alloc,
+        words.as_slice(),
+        &mut source,
+        link,
+        &mut net,
+        &mut Idle::new(0),
+        &mut tools,
+        sink,
+    );
+    Ok((status, tally.number()))
+}
+
+/// Whether a server ends as it says.
+fn ends_so<R: Wait>(rt: &R, alloc: Global, relay: &Relay) -> Result<bool, AllocError> {
+    let row = row_of(relay);
+    let counts = counts_of(alloc)?;
+    let mut sink = sink_of(alloc, &row)?;
+    let ended = run(rt, alloc, relay, &counts, &mut sink)?;
+    Ok(is_ended(&row, &counts, &sink, ended))
+}
+
+#[test]
+fn servers_over_a_box_end_as_they_say(rt: HostRuntime) {
+    for (place, relay) in RELAYS.iter().enumerate() {
+        let is_so = ends_so(&rt, rt.alloc(), relay);
+        assert!(rt; is_so == Ok(true), "row {place}");
+    }
+}
