@@ -1,0 +1,1 @@
+"""The parts of `vx_card.py`: what each of them is stands in its first line."""
