@@ -11,9 +11,6 @@ simulated form. At last the helper has faults by a script.
 It prints a line a case and at last `chain: N passed, M failed`, and ends with status 1 where a case failed or something hung.
 """
 import functools
-import importlib.util
-import os
-import pathlib
 import shutil
 import signal
 import struct
@@ -28,6 +25,7 @@ from rpc import (CREATE_INTR_CHAN, CREATE_LINK, DESTROY_LINK, ENABLE_SRQ, END, H
                  UNLOCK, WAITLOCK, WRITE, Client, Peer)
 from serving import bound, free_ports, port_of
 from sockets import calls, server
+from sockets.running import SUBJECTS, at_paths, cases_of, status_of, taken
 from sockets.server import BENCH, end_all, programs, started
 from tapping import Tap
 
@@ -148,14 +146,6 @@ def expect_soon(action, *arguments):
 
 
 # ---- the cases of sockets.py
-
-
-def loaded(path):
-    """The file `sockets.py`, beside which there is a folder of that name."""
-    spec = importlib.util.spec_from_file_location("sockets_test", path)
-    module = importlib.util.module_from_spec(spec)
-    spec.loader.exec_module(module)
-    return module
 
 
 def write_at_length(xid, link, data):
@@ -417,34 +407,26 @@ def packets_read(name, port, wanted):
 # ---- all of them
 
 
-def cases_by_subject(test):
+def cases_by_subject():
     """The cases of each subject, by its name. Those of `sockets.py` have their servers behind a box."""
-    subjects = {}
-    for name, subject in test.SUBJECTS.items():
-        subjects[name] = list(test.cases_of([subject], True))
+    for subject in SUBJECTS.values():
         put_behind_a_box(subject)
-    return {**subjects, "boxes": [*boxes(), nobody_is_at_the_box], "faults": [*DEVICE, *FAULTS], "passing": [a_reader_reads_what_passes]}
+    of_sockets = {name: list(filter(is_kept, cases_of(subject))) for name, subject in SUBJECTS.items()}
+    return {**of_sockets, "boxes": [*boxes(), nobody_is_at_the_box], "faults": [*DEVICE, *FAULTS], "passing": [a_reader_reads_what_passes]}
 
 
 def is_kept(case):
-    if case.__name__ in LEFT_OUT:
-        print(f"{case.__name__} is left out: {LEFT_OUT[case.__name__]}", flush=True)
     return case.__name__ not in LEFT_OUT
 
 
 def main(words):
-    test = loaded(pathlib.Path(__file__).resolve().parent / "sockets.py")
-    only = test.taken(words, "--only")
-    subjects = cases_by_subject(test)
+    only, subjects = taken(words, "--only"), cases_by_subject()
     if len(words) != 3 or only not in (None, *subjects):
         sys.exit(f"usage: chain.py SERVER CLIENT CARD [--only {'|'.join(subjects)}]")
-    paths = [os.path.abspath(word) for word in words]
-    programs.update(server=[paths[0]], client=[paths[1]], card=paths[2])
-    cases = list(filter(is_kept, subjects[only] if only else sum(subjects.values(), [])))
-    failed = [case for case in cases if not test.passes(case)]
-    signal.alarm(0)
-    print(f"chain: {len(cases) - len(failed)} passed, {len(failed)} failed")
-    return 1 if failed else 0
+    at_paths(words, "server", "client", "card")
+    for name, why in LEFT_OUT.items():
+        print(f"{name} is left out: {why}", flush=True)
+    return status_of(subjects[only] if only else sum(subjects.values(), []), "chain: ")
 
 
 if __name__ == "__main__":
