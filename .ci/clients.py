@@ -4,14 +4,17 @@
     clients.py MAPPER SERVER
 
 `rpcinfo` calls the mapper over TCP and over UDP, lists its table, and has it say where the server is, which it then calls; lxi-tools and
-pyvisa-py find the server of `examples/bench.txt` through it. lxi-tools asks for the device `inst0`, which this server doesn't have, so
-of it no more is looked for than that it asked the mapper. With Debian these are the packages `rpcbind`, `lxi-tools`, `python3-pyvisa`
-and `python3-pyvisa-py`. A client that isn't installed is passed over with a word. What goes wrong, and at last 'N passed, M failed, L
-left out', goes to standard error; the status is 1 where something went wrong.
+pyvisa-py find the server through it. Once that server has `examples/bench.txt`, and once its bus is behind a server that has it. lxi-tools
+asks for the device `inst0`, which these servers don't have, so of it no more is looked for than that it asked the mapper. With Debian
+these are the packages `rpcbind`, `lxi-tools`, `python3-pyvisa` and `python3-pyvisa-py`. A client that isn't installed is passed over
+with a word. What goes wrong, and at last 'N passed, M failed, L left out', goes to standard error; the status is 1 where something
+went wrong.
 
 `rpcinfo -p`, and `rpcinfo -t` and `-u` with the mapper's own number, aren't tried: they first ask a mapper where the mapper is, and
 this one's table has the two programs of the server alone.
 """
+import contextlib
+import functools
 import pathlib
 import shutil
 import subprocess
@@ -44,9 +47,18 @@ class WellKnown(Mapper):
             raise LeftOut(f"port {PORT} can't be had here")
 
 
-def serving(server):
+def with_the_bench(server):
     """The server of the example's bench."""
     return Server([server], BENCH.read_bytes(), stderr=subprocess.DEVNULL)
+
+
+@contextlib.contextmanager
+def behind_a_box(server):
+    """A server whose bus is behind that one."""
+    with with_the_bench(server) as box:
+        upstream = ("--upstream", HOST, str(box.ports[0]), "gpib0")
+        with Server([server, *upstream], b"", stderr=subprocess.DEVNULL) as served:
+            yield served
 
 
 def installed(program):
@@ -91,7 +103,7 @@ def rpcinfo_lists_the_table(mapper, server):
         assert rows == [[str(program), "1", "tcp"] for program in (CORE, ABORT)], rows
 
 
-def rpcinfo_finds_the_server(mapper, server):
+def rpcinfo_finds_the_server(serving, mapper, server):
     """It asks over TCP in the versions 4 and 3, which the mapper hasn't, and then over UDP in version 2."""
     rpcinfo = installed("rpcinfo")
     with serving(server) as served, WellKnown(mapper, "stream", 1000, served.ports), WellKnown(mapper, "packets", 1000, served.ports):
@@ -100,14 +112,14 @@ def rpcinfo_finds_the_server(mapper, server):
             assert said == f"program {program} version 1 ready and waiting\n", said
 
 
-def lxi_tools(mapper, server):
+def lxi_tools(serving, mapper, server):
     lxi = installed("lxi")
     with serving(server) as served, WellKnown(mapper, "stream", 1, served.ports) as mapped:
         subprocess.run([lxi, "scpi", "--address", HOST, "*IDN?"], capture_output=True, timeout=PATIENCE)
         mapped.expect_served(1)
 
 
-def pyvisa(mapper, server):
+def pyvisa(serving, mapper, server):
     python = python_with("pyvisa", "pyvisa_py")
     asks = f"""
 import pyvisa
@@ -120,23 +132,31 @@ print(device.query("*IDN?"))
         assert said_by(python, "-c", asks).strip() == IDENTITY
 
 
-CASES = [rpcinfo_calls_the_mapper, rpcinfo_lists_the_table, rpcinfo_finds_the_server, lxi_tools, pyvisa]
+def of_each_server(case):
+    """The case with either server, by its name."""
+    for serving in (with_the_bench, behind_a_box):
+        yield f"{case.__name__} ({serving.__name__})", functools.partial(case, serving)
+
+
+CASES = {case.__name__: case for case in (rpcinfo_calls_the_mapper, rpcinfo_lists_the_table)}
+for each in (rpcinfo_finds_the_server, lxi_tools, pyvisa):
+    CASES.update(of_each_server(each))
 
 
 def main(programs):
     if len(programs) != 2:
         sys.exit(__doc__)
     passed = failed = left_out = 0
-    for case in CASES:
+    for name, case in CASES.items():
         try:
             case(*programs)
             passed += 1
         except LeftOut as why:
             left_out += 1
-            print(f"{case.__name__} is left out: {why}", file=sys.stderr)
+            print(f"{name} is left out: {why}", file=sys.stderr)
         except (AssertionError, OSError, subprocess.SubprocessError) as wrong:
             failed += 1
-            print(f"{case.__name__}: {wrong!r}", file=sys.stderr)
+            print(f"{name}: {wrong!r}", file=sys.stderr)
     print(f"{passed} passed, {failed} failed, {left_out} left out", file=sys.stderr)
     return 1 if failed else 0
 
