@@ -123,12 +123,6 @@ module _ {B : Type 0} (g : Ghosts B) (law : BecameOnLaw g.means g.through) where
 pub arrived-at : (f g : InterleavedState) (conn now : ℕ) (asked : Call) → interleaved_step f (Arrive conn asked now) ≡ Some g → come_to f conn asked now ≡ g
 arrived-at f g conn now asked h = ap (λ x. unwrap_or x f) h
 
--- the events of a call that comes and its poll, from where the call came to where the poll ended
-comes-along : (f mid new : InterleavedState) (conn now : ℕ) (asked : Call) (moves : List Transfer) (ending : Ending) → interleaved_step f (Arrive conn asked now) ≡ Some mid
-    → (p : Polls mid conn now moves ending new) → along interleaved_step (Some f) (Arrive conn asked now ∷ poll_events mid conn now moves ending) ≡ Some p.last
-comes-along f mid new conn now asked moves ending came p =
-    ap (λ o. along interleaved_step o (poll_events mid conn now moves ending)) came ∙ polls-along mid new conn now moves ending p
-
 module _ {B : Type 0} (g : Ghosts B) (law : BecameOnLaw g.means g.through) where
   -- the core behind them
   pub come-becomes : (core core' : CoreState B) (conn now xid : ℕ) (asked : Call) (room : List ℕ) (end : PollEnd)
@@ -143,7 +137,7 @@ module _ {B : Type 0} (g : Ghosts B) (law : BecameOnLaw g.means g.through) where
       let p = did.polled.over.polls in
       let events = Arrive conn asked now ∷ poll_events mid conn now moves ending in
       let steps = Cut ∷ Told now ∷ poll_steps mid conn now moves ending in
-      let leads = comes-along f mid core'.interleaved conn now asked moves ending did.arrives p in
+      let leads = ap (λ (o : Option InterleavedState). along interleaved_step o (poll_events mid conn now moves ending)) did.arrives ∙ polls-along mid core'.interleaved conn now moves ending p in
       let polled = subst (λ (steps : List Step). Walk g.means g.through did.come.bus steps core'.bus) (sym (poll-made mid core'.interleaved conn now moves ending p)) did.polled.over.walk in
       let walk : Walk g.means g.through core.bus steps core'.bus =
       path-append (StepsTo g.means g.through) core.bus did.come.bus core'.bus (Cut ∷ Told now ∷ []) (poll_steps mid conn now moves ending) did.walk polled in

@@ -1,5 +1,5 @@
 -- A call of a session, from its coming to its answer: the groups that it adds, and the calls of the dial.
-use Rattle.std.proofs.Common.{◌≡◌, ◌≤◌, ◌<◌, ◌+◌, ℕ, Bool, true, false, List, [], ◌∷◌, ◌++◌, length, take, count_by, cond, Option, Some, None, refl, sym, ap, ◌∙◌, subst, append_assoc, append-nil, arith}
+use Rattle.std.proofs.Common.{◌≡◌, ◌≤◌, ◌<◌, ◌+◌, ℕ, true, false, List, [], ◌∷◌, ◌++◌, length, take, count_by, cond, Option, Some, None, refl, sym, ap, ◌∙◌, subst, append_assoc, append-nil, arith}
 use Rattle.std.proofs.lemmas.List.Elements.{All-head, All-tail}
 use Rattle.std.proofs.lemmas.List.Sums.{sum_by-cons}
 use Rattle.std.proofs.lemmas.Option.{none-some}
@@ -9,7 +9,6 @@ use Rattle.vx_io_traits.specs.Rung.{AddsCalls, OnDialFailed, is_up, dialed, hand
 use Rattle.vx_io_traits.specs.declared.dials.DialOut.{DialOut}
 use Rattle.vx_io_traits.specs.declared.dials.DialOut.TheVariants as dialout
 use Rattle.vx_io_traits.specs.declared.dials.Rang.{Rang}
-use Rattle.vx_io_traits.specs.declared.dials.Rang.TheVariants as rang
 use Rattle.vx_calls.specs.declared.calls.Role.TheVariants as role
 use Rattle.vx_calls.specs.declared.codes.ErrorCode.{ErrorCode}
 use Rattle.vx_calls.specs.Call.{Call}
@@ -19,41 +18,22 @@ use Rattle.vx_core.specs.CoreState.{CoreState}
 use Rattle.vx_session.specs.Origin.{Origin}
 use Rattle.vx_gate.specs.PassView.{PassView}
 use Rattle.vx_group.specs.Event.{Event}
-use Rattle.vx_group.specs.Poll as poll
 use Rattle.vx_group.specs.Poll.{Ending, Waited, Dialed}
 use Rattle.vx_group.specs.Groups.{Group}
-use Rattle.vx_group.specs.Phases.{Idle, Asked}
+use Rattle.vx_group.specs.Phases.{Idle}
 use Rattle.vx_exchange.specs.declared.polls.PollEnd.{PollEnd}
 use Rattle.vx_exchange.specs.declared.polls.PollEnd.TheVariants as said
 use Rattle.vx_exchange.specs.declared.polls.DialAnswered.{DialAnswered}
 use Rattle.vx_exchange.specs.Doing.{Says}
+use Rattle.vx_exchange.proofs.Laws.{says-replied, says-waits, says-dial}
 use Rattle.vx_session.specs.Placing.{Placed, Makes, IsHistory, behind}
 use Rattle.vx_session.specs.Parts.{IsSessionPolled, moment_at, phase_behind, settled_events}
 use Rattle.vx_session.specs.Turning.{phase_at, IsChannel, SessionComes, PollsAgain, Settles}
 use Rattle.vx_session.proofs.Laws.{ispolled-all, makes-later, makes-goes, clocked-goes}
 use Rattle.vx_session.specs.Dialing.{DialShown, RoseBy, is_failed_dial}
-use Rattle.vx_session.specs.Serving.{IsPoll, IsCalled, SessionGoesOn, rings}
+use Rattle.vx_session.specs.Serving.{IsCalled, SessionGoesOn, rings}
 use Rattle.vx_session.specs.Progress.{Rings, Clocked, AnswersCall, AnswersDial, failed_dials}
 use Rattle.vx_session.proofs.Laws.Progressing.{adds-none, adds-goes, failed_dials-append}
-
--- ---- the calls of a dial
-
--- a fact of a dial that failed
-abbrev IfDown : Bool → Type 0 → Type 0
-IfDown true P = Unit {0}
-IfDown false P = P
-
--- a dial was made, and answered so
-pub record Dials (old new : DialShown) (host port : ℕ) (up : Bool) : Type 0 where
-  pub told : AddsCalls old.calls new.calls (rang.Dialed host port up ∷ [])
-  pub counted : old.faults ≤ new.faults
-  pub failed : IfDown up (Rose old.faults new.faults)
-
--- as the call of the dial tells it
-pub dials-so : (old new : DialShown) (host port : ℕ) (answer : DialOut) → AddsCalls old.calls new.calls (dialed host port answer ∷ []) → old.faults ≤ new.faults
-    → OnDialFailed answer (Rose old.faults new.faults) → Dials old new host port (is_up answer)
-dials-so old new host port dialout.Up told counted failed = record { told = told; counted = counted; failed = tt }
-dials-so old new host port dialout.Failed told counted failed = record { told = told; counted = counted; failed = failed }
 
 -- ---- how many dials of some groups failed
 
@@ -72,44 +52,40 @@ none-failed (e ∷ es) none =
     both-none (count_by is_failed_dial (e ∷ es)) (cond (is_failed_dial e) 1 0) (count_by is_failed_dial es) (sum_by-cons (λ x. cond (is_failed_dial x) 1 0) e es)
     (ap (λ b. cond b 1 0) (All-head (λ x. is_failed_dial x ≡ false) e es none)) (none-failed es (All-tail (λ x. is_failed_dial x ≡ false) e es none))
 
--- a count that stays
-stays : (count : ℕ) → RoseBy 0 count count
-stays count = omega arith
-
 -- groups without an answer behind a dial, for which the dial wasn't called
 pub rings-still : (dial : DialShown) (groups : List Placed) → failed_dials groups ≡ 0 → Rings dial groups [] dial
 rings-still dial groups none = record {
   told = adds-none dial.calls;
-  failed = subst (λ n. RoseBy n dial.faults dial.faults) (sym none) (stays dial.faults);
+  failed = subst (λ n. RoseBy n dial.faults dial.faults) (sym none) (omega arith);
 }
 
 -- ---- a dial, and the answer of its call
 
 -- the answer has a fault of its own where the dial failed
-settled-failed : (p : Placed) (conn now : ℕ) (up : Bool) (error : ErrorCode) (before after : ℕ) → p.group.events ≡ settled_events conn now up error → before ≤ after
-    → IfDown up (Rose before after) → RoseBy (failed_dials (p ∷ [])) before after
-settled-failed p conn now up error before after events counted failed =
-    subst (λ n. RoseBy n before after) (sym (failed-one p ∙ ap (count_by is_failed_dial) events)) (by up failed) where
-      by : (u : Bool) → IfDown u (Rose before after) → RoseBy (count_by is_failed_dial (settled_events conn now u error)) before after
-      by true h = omega arith
-      by false h = h
+settled-failed : (p : Placed) (conn now : ℕ) (answer : DialOut) (error : ErrorCode) (before after : ℕ) → p.group.events ≡ settled_events conn now (is_up answer) error → before ≤ after
+    → OnDialFailed answer (Rose before after) → RoseBy (failed_dials (p ∷ [])) before after
+settled-failed p conn now answer error before after events counted failed =
+    subst (λ n. RoseBy n before after) (sym (failed-one p ∙ ap (count_by is_failed_dial) events)) (by answer failed) where
+      by : (a : DialOut) → OnDialFailed a (Rose before after) → RoseBy (count_by is_failed_dial (settled_events conn now (is_up a) error)) before after
+      by dialout.Up h = omega arith
+      by dialout.Failed h = h
 
 module _ {B C : Type 0} (g : Origin B) (tells : C → ℕ → C → Type 0) (clock clock' : C) (told now : ℕ) (asked : tells clock now clock') (pass pass' : PassView Group) (conn xid : ℕ) (call : Call) (host port : ℕ) (room : List ℕ) where
   -- Its call was answered behind a dial: these are the calls of the dial, with those that handed a stream on.
-  settled-so : (up : Bool) (answered : DialAnswered) (chan : Option ℕ) (old new : DialShown) → now ≤ told → Settles g now pass conn xid up room answered pass' → answered.chan ≡ chan
-      → AddsCalls old.calls new.calls (rings conn host port up chan) → old.faults ≤ new.faults → IfDown up (Rose old.faults new.faults)
+  settled-so : (answer : DialOut) (answered : DialAnswered) (chan : Option ℕ) (old new : DialShown) → now ≤ told → Settles g now pass conn xid (is_up answer) room answered pass' → answered.chan ≡ chan
+      → AddsCalls old.calls new.calls (rings conn host port (is_up answer) chan) → old.faults ≤ new.faults → OnDialFailed answer (Rose old.faults new.faults)
       → AnswersDial g (Clocked tells clock clock') told pass conn xid call host port old (take answered.len room) pass' new
-  settled-so up answered chan old new later settles is calls counted failed = record {
+  settled-so answer answered chan old new later settles is calls counted failed = record {
     placed = settles.placed ∷ [];
-    rung = rings conn host port up chan;
+    rung = rings conn host port (is_up answer) chan;
     makes = makes-later now told pass pass' (settles.placed ∷ []) later settles.turns.makes;
     asks = (now, clock', asked, settles.keeps, refl);
     rings = record {
       told = calls;
-      failed = settled-failed settles.placed conn (moment_at settles.placed now) up answered.error old.faults new.faults settles.events counted failed;
+      failed = settled-failed settles.placed conn (moment_at settles.placed now) answer answered.error old.faults new.faults settles.events counted failed;
     };
     holding = record {
-      up = up;
+      up = is_up answer;
       told = now;
       error = answered.error;
       chan = answered.chan;
@@ -118,37 +94,36 @@ module _ {B C : Type 0} (g : Origin B) (tells : C → ℕ → C → Type 0) (clo
       keeps = settles.keeps;
       error_is = settles.error_is;
       chan_is = settles.chan_is;
-      rung = ap (rings conn host port up) (sym is);
+      rung = ap (rings conn host port (is_up answer)) (sym is);
       reply_is = settles.stands.record_is;
     };
   }
 
   -- where it made a channel, the dial came up, and a stream that stands was handed on
-  pub dial-answered : (up : Bool) (answered : DialAnswered) (n : ℕ) (old mid new : DialShown) → now ≤ told → Dials old mid host port up
-      → Settles g now pass conn xid up room answered pass' → answered.chan ≡ Some n → AddsCalls mid.calls new.calls (handed conn n ∷ []) → new.faults ≡ mid.faults
+  pub dial-answered : (answer : DialOut) (answered : DialAnswered) (n : ℕ) (old mid new : DialShown) → now ≤ told → AddsCalls old.calls mid.calls (dialed host port answer ∷ []) → old.faults ≤ mid.faults
+      → Settles g now pass conn xid (is_up answer) room answered pass' → answered.chan ≡ Some n → AddsCalls mid.calls new.calls (handed conn n ∷ []) → new.faults ≡ mid.faults
       → AnswersDial g (Clocked tells clock clock') told pass conn xid call host port old (take answered.len room) pass' new
-  dial-answered true answered n old mid new later dials settles is hands kept =
-      settled-so true answered (Some n) old new later settles is
-      (adds-goes old.calls mid.calls new.calls (rang.Dialed host port true ∷ []) (handed conn n ∷ []) dials.told hands)
-      (subst (λ k. old.faults ≤ k) (sym kept) dials.counted) tt
-  dial-answered false answered n old mid new later dials settles is hands kept = absurd (none-some n (sym settles.chan_is ∙ is))
+  dial-answered dialout.Up answered n old mid new later called counted settles is hands kept =
+      settled-so dialout.Up answered (Some n) old new later settles is
+      (adds-goes old.calls mid.calls new.calls (dialed host port dialout.Up ∷ []) (handed conn n ∷ []) called hands)
+      (subst (λ k. old.faults ≤ k) (sym kept) counted) tt
+  dial-answered dialout.Failed answered n old mid new later called counted settles is hands kept = absurd (none-some n (sym settles.chan_is ∙ is))
 
   -- where it made none, the dial failed
-  pub dial-failed : (up : Bool) (answered : DialAnswered) (old new : DialShown) → now ≤ told → Dials old new host port up
-      → Settles g now pass conn xid up room answered pass' → answered.chan ≡ None → AnswersDial g (Clocked tells clock clock') told pass conn xid call host port old (take answered.len room) pass' new
-  dial-failed true answered old new later dials settles is = absurd (no-channel answered.chan is settles.chan_is) where
+  pub dial-failed : (answer : DialOut) (answered : DialAnswered) (old new : DialShown) → now ≤ told → AddsCalls old.calls new.calls (dialed host port answer ∷ []) → old.faults ≤ new.faults
+      → OnDialFailed answer (Rose old.faults new.faults) → Settles g now pass conn xid (is_up answer) room answered pass' → answered.chan ≡ None → AnswersDial g (Clocked tells clock clock') told pass conn xid call host port old (take answered.len room) pass' new
+  dial-failed dialout.Up answered old new later called counted failed settles is = absurd (no-channel answered.chan is settles.chan_is) where
     no-channel : (chan : Option ℕ) → chan ≡ None → IsChannel (behind pass.number settles.placed) conn true chan → ⊥
     no-channel None none is_channel = is_channel
     no-channel (Some n) none is_channel = absurd (none-some n (sym none))
-  dial-failed false answered old new later dials settles is = settled-so false answered None old new later settles is dials.told dials.counted dials.failed
+  dial-failed dialout.Failed answered old new later called counted failed settles is = settled-so dialout.Failed answered None old new later settles is called counted failed
 
 -- ---- the polls of a call
 
 -- a poll settles no dial, whatever it did
-poll-quiet : {B : Type 0} (g : Ghosts B) (before : CoreState B) (conn now : ℕ) (ending : Ending) (events : List Event) (steps : List Step) → IsSessionPolled g before conn now ending events steps
+poll-quiet : {B : Type 0} {g : Ghosts B} {before : CoreState B} {conn now : ℕ} {ending : Ending} {events : List Event} {steps : List Step} → IsSessionPolled g before conn now ending events steps
     → count_by is_failed_dial events ≡ 0
-poll-quiet g before conn now ending events steps polled =
-    none-failed events (ispolled-all (λ e. is_failed_dial e ≡ false) g before conn now ending events steps polled refl (λ made. refl) (λ failed level told. refl) refl)
+poll-quiet {events = events} polled = none-failed events (ispolled-all (λ e. is_failed_dial e ≡ false) polled refl (λ made. refl) (λ failed level told. refl) refl)
 
 module _ {B C : Type 0} (g : Origin B) (tells : C → ℕ → C → Type 0) (clock clock' : C) (told : ℕ) (pass pass' : PassView Group) (conn xid : ℕ) (call : Call) where
   -- The call came and was polled, the last time with this end, as its turn says it: with the groups so far, and those with which
@@ -165,32 +140,6 @@ module _ {B C : Type 0} (g : Origin B) (tells : C → ℕ → C → Type 0) (clo
     pub says : Says xid room end last
     pub phase : phase_at pass' conn ≡ phase_behind call false last
 
-  -- it came, and was polled once
-  pub polled-once : (now : ℕ) (room : List ℕ) (end : PollEnd) → tells clock now clock' → now ≤ told → SessionComes g now pass conn xid call room end pass' → Polled room end
-  polled-once now room end asked later comes = record {
-    groups = comes.placed ∷ [];
-    last = comes.ending;
-    makes = makes-later now told pass pass' (comes.placed ∷ []) later comes.turns.makes;
-    called = λ rest rung out goes_on. record {
-      first = comes.placed;
-      later = rest;
-      groups = refl;
-      told = now;
-      begun = comes.ending;
-      comes = comes.comes;
-      dials = comes.dials;
-      goes_on = goes_on;
-    };
-    asks = (now, clock', asked, comes.comes.keeps, refl);
-    quiet = failed-one comes.placed ∙ ap (count_by is_failed_dial) comes.comes.events
-        ∙ poll-quiet g.bus comes.comes.come conn (moment_at comes.placed now) comes.ending comes.comes.part comes.comes.asked comes.comes.polled;
-    history = comes.turns.history;
-    says = comes.says;
-    phase = comes.phase;
-  }
-
-  -- ---- how it ends
-
   -- a poll answered it: the reply's record stands at the front of the room, and the connection is idle again
   pub record Replies (room : List ℕ) (dial : DialShown) (len : ℕ) : Type 0 where
     pub answers : AnswersCall g (Clocked tells clock clock') told pass conn xid call dial (take len room) pass' dial
@@ -198,43 +147,62 @@ module _ {B C : Type 0} (g : Origin B) (tells : C → ℕ → C → Type 0) (clo
     pub some : 0 < len
     pub within : len ≤ length room
 
-  -- so it is where the turn tells a reply
-  pub polled-replied : (room : List ℕ) (dial : DialShown) (end : PollEnd) (len : ℕ) (error : ErrorCode) → end ≡ said.Replied len error → Polled room end → Replies room dial len
-  polled-replied room dial end len error is polled = by polled.last polled.called (subst (λ e. Says xid room e polled.last) is polled.says) polled.phase where
-    by : (last : Ending) → ((rest : List Placed) (rung : List Rang) (out : List ℕ) → SessionGoesOn g pass.number conn xid call last rest rung out
-        → IsCalled g pass.number conn xid call (polled.groups ++ rest) rung out)
-        → Says xid room (said.Replied len error) last → phase_at pass' conn ≡ phase_behind call false last → Replies room dial len
-    by (poll.Answered ran level reply) called says phase = record {
-      answers = record {
-        placed = polled.groups;
-        rung = [];
-        makes = polled.makes;
-        asks = polled.asks;
-        rings = rings-still dial polled.groups polled.quiet;
-        holding = subst (λ ps. IsCalled g pass.number conn xid call ps [] (take len room)) (append-nil polled.groups) (called [] [] (take len room) (refl, says.0.record_is));
-      };
-      phase = phase;
-      some = says.0.some;
-      within = says.0.within;
-    }
-    by (Waited why) called says phase = absurd says
-    by (Dialed host port) called says phase = absurd says
+-- it came, and was polled once
+pub polled-once : {B C : Type 0} {g : Origin B} {tells : C → ℕ → C → Type 0} {clock clock' : C} {told : ℕ} {pass pass' : PassView Group} {conn xid : ℕ} {call : Call} {now : ℕ} {room : List ℕ} {end : PollEnd}
+    → tells clock now clock' → now ≤ told → SessionComes g now pass conn xid call room end pass' → Polled g tells clock clock' told pass pass' conn xid call room end
+polled-once {clock' = clock'} {told = told} {pass = pass} {pass' = pass'} {now = now} asked later comes = record {
+  groups = comes.placed ∷ [];
+  last = comes.ending;
+  makes = makes-later now told pass pass' (comes.placed ∷ []) later comes.turns.makes;
+  called = λ rest rung out goes_on. record {
+    first = comes.placed;
+    later = rest;
+    groups = refl;
+    told = now;
+    begun = comes.ending;
+    comes = comes.comes;
+    dials = comes.dials;
+    goes_on = goes_on;
+  };
+  asks = (now, clock', asked, comes.comes.keeps, refl);
+  quiet = failed-one comes.placed ∙ ap (count_by is_failed_dial) comes.comes.events ∙ poll-quiet comes.comes.polled;
+  history = comes.turns.history;
+  says = comes.says;
+  phase = comes.phase;
+}
 
-  -- the phase of a call whose last poll asked for a dial
-  pub polled-dials : (room : List ℕ) (end : PollEnd) (host port : ℕ) → end ≡ said.Dial host port → Polled room end → phase_at pass' conn ≡ Asked call true
-  polled-dials room end host port is polled = by polled.last (subst (λ e. Says xid room e polled.last) is polled.says) polled.phase where
-    by : (last : Ending) → Says xid room (said.Dial host port) last → phase_at pass' conn ≡ phase_behind call false last → phase_at pass' conn ≡ Asked call true
-    by (Dialed h p) says phase = phase
-    by (poll.Answered ran level reply) says phase = absurd says
-    by (Waited why) says phase = absurd says
+-- ---- what its last poll tells
 
-  -- the phase of a call whose last poll left it without an answer: it waits for one, and no dial was asked for
-  pub polled-waits : (room : List ℕ) (end : PollEnd) (why : _) → end ≡ said.NotYet why → Polled room end → phase_at pass' conn ≡ Asked call false
-  polled-waits room end why is polled = by polled.last (subst (λ e. Says xid room e polled.last) is polled.says) polled.phase where
-    by : (last : Ending) → Says xid room (said.NotYet why) last → phase_at pass' conn ≡ phase_behind call false last → phase_at pass' conn ≡ Asked call false
-    by (Waited waits) says phase = phase
-    by (poll.Answered ran level reply) says phase = absurd says
-    by (Dialed host port) says phase = absurd says
+module _ {B C : Type 0} {g : Origin B} {tells : C → ℕ → C → Type 0} {clock clock' : C} {told : ℕ} {pass pass' : PassView Group} {conn xid : ℕ} {call : Call} {room : List ℕ} {end : PollEnd}
+    (polled : Polled g tells clock clock' told pass pass' conn xid call room end) where
+  -- a reply
+  pub polled-replied : (dial : DialShown) (len : ℕ) (error : ErrorCode) → end ≡ said.Replied len error → Replies g tells clock clock' told pass pass' conn xid call room dial len
+  polled-replied dial len error is =
+      let says = says-replied xid len room error polled.last (subst (λ e. Says xid room e polled.last) is polled.says) in
+      let answered = says.3 in
+      let stands = says.4 in
+      record {
+        answers = record {
+          placed = polled.groups;
+          rung = [];
+          makes = polled.makes;
+          asks = polled.asks;
+          rings = rings-still dial polled.groups polled.quiet;
+          holding = subst (λ ps. IsCalled g pass.number conn xid call ps [] (take len room)) (append-nil polled.groups)
+              (polled.called [] [] (take len room) (subst (λ l. SessionGoesOn g pass.number conn xid call l [] [] (take len room)) (sym answered) (refl, stands.record_is)));
+        };
+        phase = polled.phase ∙ ap (phase_behind call false) answered;
+        some = stands.some;
+        within = stands.within;
+      }
+
+  -- a dial that is asked for
+  pub polled-dials : (host port : ℕ) → end ≡ said.Dial host port → polled.last ≡ Dialed host port
+  polled-dials host port is = says-dial xid room host port polled.last (subst (λ e. Says xid room e polled.last) is polled.says)
+
+  -- none: it waits, and no dial was asked for
+  pub polled-waits : (why : _) → end ≡ said.NotYet why → polled.last ≡ Waited why
+  polled-waits why is = says-waits xid room why polled.last (subst (λ e. Says xid room e polled.last) is polled.says)
 
 -- ---- from one poll to the next
 
@@ -242,21 +210,13 @@ module _ {B C : Type 0} (g : Origin B) (tells : C → ℕ → C → Type 0) (clo
 front-none : (all front rest : ℕ) → all ≡ front + rest → front ≡ 0 → rest ≡ all
 front-none all front rest sum none_before = omega arith
 
-module _ {B C : Type 0} (g : Origin B) (tells : C → ℕ → C → Type 0) (clock clock' clock'' : C) (told told' : ℕ) (pass pass' pass'' : PassView Group) (conn xid : ℕ) (call : Call) (room : List ℕ) (end : PollEnd) where
-  -- a call without an answer goes on by one more poll
-  goes-by-poll : (last next : Ending) (why : _) (p : Placed) (rest : List Placed) (rung : List Rang) (out : List ℕ) → Says xid room (said.NotYet why) last → IsPoll g conn call p next
-      → SessionGoesOn g pass.number conn xid call next rest rung out → SessionGoesOn g pass.number conn xid call last (p ∷ rest) rung out
-  goes-by-poll (Waited waits) next why p rest rung out says poll goes_on = (next, poll, goes_on)
-  goes-by-poll (poll.Answered ran level reply) next why p rest rung out says poll goes_on = absurd says
-  goes-by-poll (Dialed host port) next why p rest rung out says poll goes_on = absurd says
-
+module _ {B C : Type 0} {g : Origin B} {tells : C → ℕ → C → Type 0} {clock clock' clock'' : C} {told told' : ℕ} {pass pass' pass'' : PassView Group} {conn xid : ℕ} {call : Call} {room : List ℕ} {end : PollEnd}
+    (polled : Polled g tells clock clock' told pass pass' conn xid call room end) where
   -- it has no answer yet, and is polled again
-  pub polled-again : (now : ℕ) (room' : List ℕ) (end' : PollEnd) (why : _) → tells clock' now clock'' → told ≤ told' → now ≤ told' → end ≡ said.NotYet why
-      → Polled g tells clock clock' told pass pass' conn xid call room end → PollsAgain g now pass' conn xid call false room' end' pass''
-      → Polled g tells clock clock'' told' pass pass'' conn xid call room' end'
-  polled-again now room' end' why asked later by_then is polled again =
+  pub polled-again : {now : ℕ} {room' : List ℕ} {end' : PollEnd} (why : _) → tells clock' now clock'' → told ≤ told' → now ≤ told' → end ≡ said.NotYet why
+      → PollsAgain g now pass' conn xid call false room' end' pass'' → Polled g tells clock clock'' told' pass pass'' conn xid call room' end'
+  polled-again {now = now} why asked later by_then is again =
       let p = again.placed in
-      let says = subst (λ e. Says xid room e polled.last) is polled.says in
       record {
         groups = polled.groups ++ p ∷ [];
         last = again.ending;
@@ -264,29 +224,20 @@ module _ {B C : Type 0} (g : Origin B) (tells : C → ℕ → C → Type 0) (clo
         called = λ rest rung out goes_on.
             subst (λ ps. IsCalled g pass.number conn xid call ps rung out) (sym (append_assoc polled.groups (p ∷ []) rest))
             (polled.called (p ∷ rest) rung out
-            (goes-by-poll polled.last again.ending why p rest rung out says (record { told = now; polls = again.polls; dials = again.dials }) goes_on));
+            (subst (λ l. SessionGoesOn g pass.number conn xid call l (p ∷ rest) rung out) (sym (polled-waits polled why is))
+            (again.ending, record { told = now; polls = again.polls; dials = again.dials }, goes_on)));
         asks = clocked-goes tells clock clock' clock'' polled.groups (p ∷ []) polled.asks (now, clock'', asked, again.polls.keeps, refl);
         quiet = both-none (failed_dials (polled.groups ++ p ∷ [])) (failed_dials polled.groups) (failed_dials (p ∷ [])) (failed_dials-append polled.groups (p ∷ [])) polled.quiet
-            (failed-one p ∙ poll-quiet g.bus again.polls.core conn (moment_at p now) again.ending p.group.events p.group.steps again.polls.polled);
+            (failed-one p ∙ poll-quiet again.polls.polled);
         history = again.turns.history;
         says = again.says;
         phase = again.phase;
       }
 
-  -- a call that asked for a dial goes on as it was asked
-  goes-by-dial : (last : Ending) (host port : ℕ) (rest : List Placed) (rung : List Rang) (out : List ℕ) → Says xid room (said.Dial host port) last
-      → SessionGoesOn g pass.number conn xid call (Dialed host port) rest rung out → SessionGoesOn g pass.number conn xid call last rest rung out
-  goes-by-dial (Dialed h p) host port rest rung out says goes_on =
-      subst (λ k. SessionGoesOn g pass.number conn xid call (Dialed h k) rest rung out) says.1
-      (subst (λ k. SessionGoesOn g pass.number conn xid call (Dialed k port) rest rung out) says.0 goes_on)
-  goes-by-dial (poll.Answered ran level reply) host port rest rung out says goes_on = absurd says
-  goes-by-dial (Waited waits) host port rest rung out says goes_on = absurd says
-
   -- the dial was made then, and the call answered
-  pub polled-settled : (dial dial' : DialShown) (out : List ℕ) (host port : ℕ) → told ≤ told' → end ≡ said.Dial host port → Polled g tells clock clock' told pass pass' conn xid call room end
+  pub polled-settled : (dial dial' : DialShown) (out : List ℕ) (host port : ℕ) → told ≤ told' → end ≡ said.Dial host port
       → AnswersDial g (Clocked tells clock' clock'') told' pass' conn xid call host port dial out pass'' dial' → AnswersCall g (Clocked tells clock clock'') told' pass conn xid call dial out pass'' dial'
-  polled-settled dial dial' out host port later is polled dialed =
-      let says = subst (λ e. Says xid room e polled.last) is polled.says in
+  polled-settled dial dial' out host port later is dialed =
       record {
         placed = polled.groups ++ dialed.placed;
         rung = dialed.rung;
@@ -300,7 +251,7 @@ module _ {B C : Type 0} (g : Origin B) (tells : C → ℕ → C → Type 0) (clo
               dialed.rings.failed;
         };
         holding = polled.called dialed.placed dialed.rung out
-            (goes-by-dial polled.last host port dialed.placed dialed.rung out says
+            (subst (λ l. SessionGoesOn g pass.number conn xid call l dialed.placed dialed.rung out) (sym (polled-dials polled host port is))
             (subst (λ n. SessionGoesOn g n conn xid call (Dialed host port) dialed.placed dialed.rung out) polled.makes.number dialed.holding));
       }
 

@@ -8,7 +8,7 @@ use Rattle.vx_calls.specs.Call.{Call}
 use Rattle.vx_488.specs.declared.transfers.Transfer.{Transfer}
 use Rattle.vx_rules.specs.Lists.{along}
 use Rattle.vx_rules.proofs.Laws.Lists.{along-none}
-use Rattle.vx_flow.specs.Event.{Event, Up, Down, Arrive, Answer, Abort, Sample, Take, Begin, Move, Dial}
+use Rattle.vx_flow.specs.Event.{Event, Up, Arrive}
 use Rattle.vx_flow.specs.InterleavedState.{InterleavedState}
 use Rattle.vx_flow.specs.InterleavedStep.{interleaved_step}
 use Rattle.vx_flow.specs.Poll.{Ending}
@@ -28,15 +28,7 @@ moment_after before e = unwrap_or (now_of e) before
 -- each event leaves it so
 moment-told : (before : ℕ) (e : Event) → frames.moment_after before e ≡ moment_after before e
 moment-told before (Up conn r) = refl
-moment-told before (Down conn) = refl
-moment-told before (Arrive conn asked now) = refl
-moment-told before (Answer conn now failed dialed level told) = refl
-moment-told before (Abort conn lid told) = refl
-moment-told before (Sample now srq) = refl
-moment-told before (Take conn chan told) = refl
-moment-told before (Begin conn now) = refl
-moment-told before (Move conn moves) = refl
-moment-told before (Dial conn now) = refl
+moment-told before _ = refl
 
 -- so does each event that is allowed
 pub interleaved-moment : (e : Event) (f g : InterleavedState) → interleaved_step f e ≡ Some g → g.state.moment ≡ moment_after f.state.moment e

@@ -22,7 +22,9 @@ use Rattle.vx_session.specs.Acting.{Connects, TakeAt, TakeDid, connect_events, c
 use Rattle.vx_session.specs.Turning.{phase_at, IsChannel, HasCome, TakesFrom, taken_steps}
 use Rattle.vx_session.specs.Parts.{IsAt}
 use Rattle.vx_session.proofs.Moments.{interleaved-moment, one-without}
-use Rattle.vx_session.proofs.Phased.{phase-more, phase-up}
+use Rattle.vx_group.specs.Phases.{Idle}
+use Rattle.vx_session.proofs.Laws.{chosen-own}
+use Rattle.vx_session.proofs.Phased.{phase-more}
 use Rattle.vx_session.proofs.Making.{timely-still}
 
 -- ---- the steps of a take
@@ -55,7 +57,7 @@ module _ {B : Type 0} where
       → pass'.own ≡ pass.own ++ group_after core.interleaved (connect_events r answer) (connect_steps answer) core'.interleaved.state.moment ∷ []
       → HasCome pass r (record { before = log; group = group_after core.interleaved (connect_events r answer) (connect_steps answer) core'.interleaved.state.moment }) answer pass'
   joins-come pass pass' log core core' r (Ok conn) stands did own =
-      phase-more pass.own pass'.own (group_after core.interleaved (Up conn r ∷ []) (Cut ∷ []) core'.interleaved.state.moment) conn own ∙ phase-up conn (phase_at pass conn) r
+      phase-more pass.own pass'.own (group_after core.interleaved (Up conn r ∷ []) (Cut ∷ []) core'.interleaved.state.moment) conn own ∙ chosen-own conn (Idle r) (phase_at pass conn)
   joins-come pass pass' log core core' r (Err connect.Full) stands did own = record { state = core.interleaved; stands = stands; full = did.0 }
   joins-come pass pass' log core core' r (Err connect.NoMemory) stands did own = tt
 

@@ -1,13 +1,11 @@
 -- What a pass knows of a connection of its own in each state that may stand at its turn, and which events of the connection it may add.
-use Rattle.std.proofs.Common.{◌≡◌, ◌==◌, ◌++◌, ℕ, Bool, true, false, cond, List, [], ◌∷◌, Option, None, refl, sym, ap, ◌∙◌, subst}
+use Rattle.std.proofs.Common.{◌≡◌, ◌==◌, ◌++◌, ℕ, Bool, true, false, cond, List, [], ◌∷◌, refl, sym, ap, ◌∙◌, subst}
 use Rattle.std.specs.Prelude.{is_none, IsSome}
-use Rattle.std.specs.List.{All, list_any}
+use Rattle.std.specs.List.{All}
 use Rattle.std.proofs.lemmas.Bool.{false≢true, and_from}
 use Rattle.std.proofs.lemmas.List.Elements.{All-cons, All-head, All-tail}
 use Rattle.vx_calls.specs.declared.calls.Role.TheVariants as role
-use Rattle.vx_calls.specs.declared.codes.ErrorCode.{ErrorCode}
 use Rattle.vx_calls.specs.Call.{Call}
-use Rattle.vx_calls.specs.Reply.{Reply}
 use Rattle.vx_488.specs.declared.transfers.Transfer.{Transfer}
 use Rattle.vx_gate.specs.declared.views.Logged.{Logged}
 use Rattle.vx_gate.specs.History.{groups}
@@ -15,7 +13,7 @@ use Rattle.vx_gate.specs.PassView.{PassView}
 use Rattle.vx_gate.specs.Turning.{Fits}
 use Rattle.vx_rules.specs.State.{connection_at, pending_at, lives_as, is_idle}
 use Rattle.vx_rules.proofs.Laws.{role-lives, role-connection}
-use Rattle.vx_flow.specs.Event.{Event, Down, Arrive, Answer, Abort, Begin, Move, Dial}
+use Rattle.vx_flow.specs.Event.{Event, Arrive}
 use Rattle.vx_flow.specs.InterleavedState.{InterleavedState}
 use Rattle.vx_flow.specs.Poll.{Ending}
 use Rattle.vx_group.specs.Groups.{Group, events_of, StandsFor}
@@ -40,17 +38,9 @@ pub idle-phase : (f : InterleavedState) (conn : ℕ) → HasPhase f conn (Idle r
 idle-phase f conn phases =
     and_from (lives_as f.state.tables conn role.Core) (is_none (pending_at f.state.tables conn)) (role-lives f.state.tables conn role.Core phases.0) (ap is_none phases.1)
 
--- an abort connection
-pub abort-phase : (f : InterleavedState) (conn : ℕ) → HasPhase f conn (Idle role.Abort) → lives_as f.state.tables conn role.Abort ≡ true
-abort-phase f conn phases = role-lives f.state.tables conn role.Abort phases.0
-
 -- one with a call
 pub asked-phase : (f : InterleavedState) (conn : ℕ) (call : Call) (dialed : Bool) → HasPhase f conn (Asked call dialed) → IsSome (pending_at f.state.tables conn)
 asked-phase f conn call dialed phases = subst IsSome (sym phases.1.call_at) refl
-
--- one of whose call a dial was asked for
-pub dialed-phase : (f : InterleavedState) (conn : ℕ) (call : Call) → HasPhase f conn (Asked call true) → list_any (λ n. n == conn) f.dialed ≡ true
-dialed-phase f conn call phases = phases.1.dialed_is
 
 -- each that is up
 pub up-phase : (f : InterleavedState) (conn : ℕ) (phase : Phase) → is_up phase ≡ true → HasPhase f conn phase → IsSome (connection_at f.state.tables conn)
@@ -72,29 +62,15 @@ chosen-up false x y first second = second
 
 -- a phase that is up is so where a dial is asked for
 dialing-up : (phase : Phase) → is_up phase ≡ true → is_up (dialing phase) ≡ true
-dialing-up Absent up = up
-dialing-up (Idle r) up = up
 dialing-up (Asked call dialed) up = refl
+dialing-up _ up = up
 
--- a call that comes keeps its connection up
-arrive-up : (conn now : ℕ) (call : Call) → KeepsUp conn (Arrive conn call now)
-arrive-up conn now call = record { may = λ own h. h; up = λ phase h. chosen-up (conn == conn) (Asked call false) phase refl h }
-
--- so does its answer
-answer-up : (conn now : ℕ) (failed : Bool) (dialed : Option Bool) (level : Bool) (told : Reply) → KeepsUp conn (Answer conn now failed dialed level told)
-answer-up conn now failed dialed level told = record { may = λ own h. h; up = λ phase h. chosen-up (conn == conn) (Idle role.Core) phase refl h }
-
--- so does a dial that is asked for
-dial-up : (conn now : ℕ) → KeepsUp conn (Dial conn now)
-dial-up conn now = record { may = λ own h. h; up = λ phase h. chosen-up (conn == conn) (dialing phase) phase (dialing-up phase h) h }
-
--- so does the beginning of its turn
-begin-up : (conn now : ℕ) → KeepsUp conn (Begin conn now)
-begin-up conn now = record { may = λ own h. h; up = λ phase h. h }
-
--- so do the transfers of its turn
-move-up : (conn : ℕ) (moves : List Transfer) → KeepsUp conn (Move conn moves)
-move-up conn moves = record { may = λ own h. h; up = λ phase h. h }
+-- the events of a poll are such
+polled-up : (f : InterleavedState) (conn now : ℕ) (moves : List Transfer) (ending : Ending) → All (KeepsUp conn) (poll_events f conn now moves ending)
+polled-up f conn now moves ending =
+    poll-all (KeepsUp conn) f conn now moves ending (record { may = λ own h. h; up = λ phase h. h }) (λ made. record { may = λ own h. h; up = λ phase h. h })
+    (λ failed level told. record { may = λ own h. h; up = λ phase h. chosen-up (conn == conn) (Idle role.Core) phase refl h })
+    (record { may = λ own h. h; up = λ phase h. chosen-up (conn == conn) (dialing phase) phase (dialing-up phase h) h })
 
 -- it may make each of such events
 pub may-all : (conn : ℕ) (es own : List Event) → All (KeepsUp conn) es → is_up (phase_by conn own) ≡ true → may_make_all own es ≡ true
@@ -105,35 +81,18 @@ may-all conn (e ∷ es) own all up =
     (may-all conn es (own ++ e ∷ []) (All-tail (KeepsUp conn) e es all) (ap is_up (phase-append conn Absent own (e ∷ [])) ∙ one.up (phase_by conn own) up))
 
 -- one event that may be made
-may-one : (own : List Event) (e : Event) → may_make own e ≡ true → may_make_all own (e ∷ []) ≡ true
+pub may-one : (own : List Event) (e : Event) → may_make own e ≡ true → may_make_all own (e ∷ []) ≡ true
 may-one own e may = and_from (may_make own e) (may_make_all (own ++ e ∷ []) []) may refl
 
 module _ (pass : PassView Group) (conn : ℕ) (up : is_up (phase_at pass conn) ≡ true) where
   -- the events of a poll
   pub may-poll : (f : InterleavedState) (now : ℕ) (moves : List Transfer) (ending : Ending) → may_make_all (events_of pass.own) (poll_events f conn now moves ending) ≡ true
-  may-poll f now moves ending =
-      may-all conn (poll_events f conn now moves ending) (events_of pass.own)
-      (poll-all (KeepsUp conn) f conn now moves ending (begin-up conn now) (move-up conn) (λ failed level told. answer-up conn now failed None level told) (dial-up conn now))
-      up
+  may-poll f now moves ending = may-all conn (poll_events f conn now moves ending) (events_of pass.own) (polled-up f conn now moves ending) up
 
   -- a call that comes, and its poll
   pub may-come : (f : InterleavedState) (now : ℕ) (call : Call) (moves : List Transfer) (ending : Ending) → may_make_all (events_of pass.own) (come_events f conn call now moves ending) ≡ true
   may-come f now call moves ending =
-      let behind = come_to f conn call now in
       may-all conn (come_events f conn call now moves ending) (events_of pass.own)
-      (All-cons (KeepsUp conn) (Arrive conn call now) (poll_events behind conn now moves ending) (arrive-up conn now call)
-      (poll-all (KeepsUp conn) behind conn now moves ending (begin-up conn now) (move-up conn) (λ failed level told. answer-up conn now failed None level told) (dial-up conn now)))
+      (All-cons (KeepsUp conn) (Arrive conn call now) (poll_events (come_to f conn call now) conn now moves ending)
+      (record { may = λ own h. h; up = λ phase h. chosen-up (conn == conn) (Asked call false) phase refl h }) (polled-up (come_to f conn call now) conn now moves ending))
       up
-
-  -- an answer of the connection's call
-  pub may-answer : (now : ℕ) (failed : Bool) (dialed : Option Bool) (level : Bool) (told : Reply)
-      → may_make_all (events_of pass.own) (Answer conn now failed dialed level told ∷ []) ≡ true
-  may-answer now failed dialed level told = may-one (events_of pass.own) (Answer conn now failed dialed level told) up
-
-  -- it may tell a device_abort of the connection
-  pub may-abort : (lid : ℕ) (told : ErrorCode) → may_make_all (events_of pass.own) (Abort conn lid told ∷ []) ≡ true
-  may-abort lid told = may-one (events_of pass.own) (Abort conn lid told) up
-
-  -- it may tell the connection's end
-  pub may-leave : may_make_all (events_of pass.own) (Down conn ∷ []) ≡ true
-  may-leave = may-one (events_of pass.own) (Down conn) up

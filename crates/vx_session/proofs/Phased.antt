@@ -1,33 +1,21 @@
 -- What the events of a turn leave of the connection's phase.
-use Rattle.std.proofs.Common.{◌≡◌, ◌==◌, ◌++◌, ℕ, false, cond, List, [], ◌∷◌, ap, ◌∙◌}
-use Rattle.vx_calls.specs.declared.calls.Role.{Role}
-use Rattle.vx_calls.specs.declared.calls.Role.TheVariants as role
+use Rattle.std.proofs.Common.{◌≡◌, ◌++◌, ℕ, false, List, [], ◌∷◌, ap, ◌∙◌}
 use Rattle.vx_calls.specs.Call.{Call}
 use Rattle.vx_488.specs.declared.transfers.Transfer.{Transfer}
-use Rattle.vx_flow.specs.Event.{Up, Arrive}
+use Rattle.vx_flow.specs.Event.{Arrive}
 use Rattle.vx_flow.specs.InterleavedState.{InterleavedState}
 use Rattle.vx_flow.specs.Poll.{Ending}
 use Rattle.vx_group.specs.Groups.{Group, events_of}
-use Rattle.vx_group.specs.Phases.{Phase, Absent, Idle, Asked, phase_after, phase_along, phase_by}
+use Rattle.vx_group.specs.Phases.{Phase, Absent, Asked, phase_along, phase_by}
 use Rattle.vx_group.proofs.Laws.{events-more, phase-append}
 use Rattle.vx_session.specs.Acting.{poll_events}
 use Rattle.vx_session.specs.Parts.{phase_behind}
-use Rattle.vx_session.proofs.Laws.{chosen-own, poll-phase}
+use Rattle.vx_session.proofs.Laws.Turns.{chosen-own, poll-phase}
 
 -- the phase by groups, and one more
 pub phase-more : (own own' : List Group) (x : Group) (conn : ℕ) → own' ≡ own ++ x ∷ [] → phase_by conn (events_of own') ≡ phase_along conn (phase_by conn (events_of own)) x.events
 phase-more own own' x conn is =
     ap (λ gs. phase_by conn (events_of gs)) is ∙ ap (phase_by conn) (events-more own x) ∙ phase-append conn Absent (events_of own) x.events
-
--- ---- an event of the connection
-
--- a connection that comes up is idle, in its role
-pub phase-up : (conn : ℕ) (phase : Phase) (r : Role) → phase_after conn phase (Up conn r) ≡ Idle r
-phase-up conn phase r = chosen-own conn (Idle r) phase
-
--- one that is answered is an idle core connection
-pub phase-answer : (conn : ℕ) (phase : Phase) → cond (conn == conn) (Idle role.Core) phase ≡ Idle role.Core
-phase-answer conn phase = chosen-own conn (Idle role.Core) phase
 
 -- one on which a call comes, and is polled
 pub phase-comes : (mid : InterleavedState) (conn now : ℕ) (phase : Phase) (call : Call) (moves : List Transfer) (ending : Ending)

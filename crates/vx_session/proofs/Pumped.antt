@@ -20,7 +20,8 @@ use Rattle.vx_stream.proofs.Laws.{link-none, link-goes, took-none, took-then}
 use Rattle.vx_stream.specs.Calling.{OnlyTook}
 use Rattle.vx_stream.specs.Sending.{IsSent, SendsAll}
 use Rattle.vx_session.proofs.Laws.{makes-none, makes-goes}
-use Rattle.vx_session.specs.Pumping.{Taking, IsTaking, given_record, taken_records, HaveLived, Pumps}
+use Rattle.vx_session.specs.Pumping.{Taking, IsTaking, given_record, taken_records, HaveLived, PumpEnds, Pumps}
+use Rattle.vx_session.specs.declared.pumps.PumpEnd.{PumpEnd}
 use Rattle.vx_session.specs.declared.pumps.PumpEnd.TheVariants as end
 
 -- the records of turns, and of one more
@@ -50,114 +51,86 @@ pub record Pumped {L : Type 0} (ways : Ghosts L) (pass : PassView Group) (conn c
   pub calls : OnlyTook ways link written link'
   pub wrote : taken_records turns ≡ written
 
-module _ {B L : Type 0} (g : Origin B) (ways : Ghosts L) (pass : PassView Group) (conn chan : ℕ) (link : L) where
-  -- before its first turn
-  pub pumped-none : Pumped ways pass conn chan link pass link
-  pumped-none = record {
-    turns = [];
-    written = [];
-    makes = makes-none 0 pass;
-    each = All-nil (IsTaking conn chan);
-    lived = All-nil (λ t. t.given ≢ Gone);
-    bytes = Goes-none ways.stands link;
-    goes = link-none (link_shown ways link);
-    calls = took-none ways link;
-    wrote = refl;
-  }
+-- before its first turn
+pub pumped-none : {L : Type 0} (ways : Ghosts L) (pass : PassView Group) (conn chan : ℕ) (link : L) → Pumped ways pass conn chan link pass link
+pumped-none ways pass conn chan link = record {
+  turns = [];
+  written = [];
+  makes = makes-none 0 pass;
+  each = All-nil (IsTaking conn chan);
+  lived = All-nil (λ t. t.given ≢ Gone);
+  bytes = Goes-none ways.stands link;
+  goes = link-none (link_shown ways link);
+  calls = took-none ways link;
+  wrote = refl;
+}
 
-  -- one more turn, whose outbox was empty
-  pub pumped-empty : (given : Given) (pass' pass'' : PassView Group) (link' : L) → Pumped ways pass conn chan link pass' link'
-      → TakesTurn g pass' conn chan given pass'' → given ≡ Empty → Pumped ways pass conn chan link pass'' link'
-  pumped-empty given pass' pass'' link' so_far turn is_empty =
-      let t : Taking = record { placed = turn.placed; given = given } in
-      record {
-        turns = so_far.turns ++ t ∷ [];
-        written = so_far.written;
-        makes = makes-more pass pass' pass'' so_far.turns t so_far.makes turn.turns.makes;
-        each = All-push (IsTaking conn chan) so_far.turns t so_far.each (turn.taken, turn.steps);
-        lived = All-push (λ u. u.given ≢ Gone) so_far.turns t so_far.lived (λ e. cc);
-        bytes = so_far.bytes;
-        goes = so_far.goes;
-        calls = so_far.calls;
-        wrote = records-more so_far.turns t
-            ∙ ap (λ xs. taken_records so_far.turns ++ xs) (ap given_record is_empty)
-            ∙ append-nil (taken_records so_far.turns)
-            ∙ so_far.wrote;
-      }
+module _ {B L : Type 0} {g : Origin B} {ways : Ghosts L} {pass : PassView Group} {conn chan : ℕ} {link : L} {given : Given} {pass' pass'' : PassView Group} {link' : L}
+    (so_far : Pumped ways pass conn chan link pass' link') (turn : TakesTurn g pass' conn chan given pass'') where
+  -- the turn, as one of those that it made
+  abbrev t : Taking
+  t = record { placed = turn.placed; given = given }
 
-  -- one more turn, that was given an interrupt, and all of its record was sent
-  pub pumped-sent : (given : Given) (srq : Srq) (record_sent : List ℕ) (all : Bool) (pass' pass'' : PassView Group) (link' link'' : L)
-      → Pumped ways pass conn chan link pass' link' → TakesTurn g pass' conn chan given pass'' → given ≡ Front srq
-      → SendsAll ways link' record_sent all link'' → record_sent ≡ srq_record srq → all ≡ true
+  module _ {link'' : L} {sent : List ℕ} (took : Goes ways.stands link' link'' sent []) (goes : LinkGoes (link_shown ways link') [] (link_shown ways link'')) (calls : OnlyTook ways link' sent link'') where
+    -- it found the channel, and the link took the record of what it was given
+    pumped-on : (given ≡ Gone → ⊥) → given_record given ≡ sent → Pumped ways pass conn chan link pass'' link''
+    pumped-on lives wrote = record {
+      turns = so_far.turns ++ t ∷ [];
+      written = so_far.written ++ sent;
+      makes = makes-more pass pass' pass'' so_far.turns t so_far.makes turn.turns.makes;
+      each = All-push (IsTaking conn chan) so_far.turns t so_far.each (turn.taken, turn.steps);
+      lived = All-push (λ u. u.given ≢ Gone) so_far.turns t so_far.lived lives;
+      bytes = Goes-goes ways.stands link link' link'' so_far.written [] sent [] so_far.bytes took;
+      goes = link-goes (link_shown ways link) (link_shown ways link') (link_shown ways link'') [] [] so_far.goes goes;
+      calls = took-then ways link link' link'' so_far.written sent so_far.calls calls;
+      wrote = records-more so_far.turns t ∙ ap (λ xs. xs ++ given_record given) so_far.wrote ∙ ap (λ xs. so_far.written ++ xs) wrote;
+    }
+
+    -- it was the last
+    pumped-ends : (how : PumpEnd) (unsent : List ℕ) → given_record given ≡ sent ++ unsent → PumpEnds (link_shown ways link) so_far.turns t unsent (link_shown ways link'') how
+        → Pumps g ways pass conn chan link how pass'' link''
+    pumped-ends how unsent cut ends = record {
+      earlier = so_far.turns;
+      last = t;
+      written = so_far.written ++ sent;
+      unsent = unsent;
+      makes = makes-more pass pass' pass'' so_far.turns t so_far.makes turn.turns.makes;
+      history = turn.turns.history;
+      each = All-push (IsTaking conn chan) so_far.turns t so_far.each (turn.taken, turn.steps);
+      lived = so_far.lived;
+      bytes = Goes-goes ways.stands link link' link'' so_far.written [] sent [] so_far.bytes took;
+      goes = link-goes (link_shown ways link) (link_shown ways link') (link_shown ways link'') [] [] so_far.goes goes;
+      calls = took-then ways link link' link'' so_far.written sent so_far.calls calls;
+      wrote = records-more so_far.turns t
+          ∙ ap (λ xs. xs ++ given_record given) so_far.wrote
+          ∙ ap (λ xs. so_far.written ++ xs) cut
+          ∙ sym (append_assoc so_far.written sent unsent);
+      ends = ends;
+    }
+
+  -- the outbox was empty
+  pub pumped-empty : given ≡ Empty → Pumped ways pass conn chan link pass'' link'
+  pumped-empty is = pumped-on (Goes-none ways.stands link') (link-none (link_shown ways link')) (took-none ways link') (λ e. cc) (ap given_record is)
+
+  -- the channel was gone
+  pub pumped-gone : given ≡ Gone → Pumps g ways pass conn chan link end.ChannelGone pass'' link'
+  pumped-gone is = pumped-ends (Goes-none ways.stands link') (link-none (link_shown ways link')) (took-none ways link') end.ChannelGone [] (ap given_record is) (is, refl)
+
+  -- it was given an interrupt, and all of its record was sent
+  pub pumped-sent : (srq : Srq) {bytes : List ℕ} {all : Bool} {link'' : L} → given ≡ Front srq → SendsAll ways link' bytes all link'' → bytes ≡ srq_record srq → all ≡ true
       → Pumped ways pass conn chan link pass'' link''
-  pumped-sent given srq record_sent all pass' pass'' link' link'' so_far turn is_front sent is_record is_all =
-      let t : Taking = record { placed = turn.placed; given = given } in
-      let none_left : IsSent (link_shown ways link') sent.unsent (link_shown ways link'') true = subst (λ a. IsSent (link_shown ways link') sent.unsent (link_shown ways link'') a) is_all sent.is_sent in
-      record {
-        turns = so_far.turns ++ t ∷ [];
-        written = so_far.written ++ sent.sent;
-        makes = makes-more pass pass' pass'' so_far.turns t so_far.makes turn.turns.makes;
-        each = All-push (IsTaking conn chan) so_far.turns t so_far.each (turn.taken, turn.steps);
-        lived = All-push (λ u. u.given ≢ Gone) so_far.turns t so_far.lived (λ e. cc);
-        bytes = Goes-goes ways.stands link link' link'' so_far.written [] sent.sent [] so_far.bytes sent.took;
-        goes = link-goes (link_shown ways link) (link_shown ways link') (link_shown ways link'') [] [] so_far.goes sent.goes;
-        calls = took-then ways link link' link'' so_far.written sent.sent so_far.calls sent.calls;
-        wrote = records-more so_far.turns t
-            ∙ ap (λ xs. xs ++ given_record given) so_far.wrote
-            ∙ ap (λ xs. so_far.written ++ xs)
-            (ap given_record is_front ∙ sym is_record ∙ sent.cut ∙ ap (λ ys. sent.sent ++ ys) none_left ∙ append-nil sent.sent);
-      }
+  pumped-sent srq {link'' = link''} is sends is_record is_all =
+      let none_left : IsSent (link_shown ways link') sends.unsent (link_shown ways link'') true = subst (λ a. IsSent (link_shown ways link') sends.unsent (link_shown ways link'') a) is_all sends.is_sent in
+      pumped-on sends.took sends.goes sends.calls (λ e. cc)
+      (ap given_record is ∙ sym is_record ∙ sends.cut ∙ ap (λ ys. sends.sent ++ ys) none_left ∙ append-nil sends.sent)
 
-  -- its last turn found the channel gone
-  pub pumped-gone : (given : Given) (pass' pass'' : PassView Group) (link' : L) → Pumped ways pass conn chan link pass' link'
-      → TakesTurn g pass' conn chan given pass'' → given ≡ Gone → Pumps g ways pass conn chan link end.ChannelGone pass'' link'
-  pumped-gone given pass' pass'' link' so_far turn is_gone =
-      let t : Taking = record { placed = turn.placed; given = given } in
-      record {
-        earlier = so_far.turns;
-        last = t;
-        written = so_far.written;
-        unsent = [];
-        makes = makes-more pass pass' pass'' so_far.turns t so_far.makes turn.turns.makes;
-        history = turn.turns.history;
-        each = All-push (IsTaking conn chan) so_far.turns t so_far.each (turn.taken, turn.steps);
-        lived = so_far.lived;
-        bytes = so_far.bytes;
-        goes = so_far.goes;
-        calls = so_far.calls;
-        wrote = records-more so_far.turns t
-            ∙ ap (λ xs. xs ++ given_record given) so_far.wrote
-            ∙ ap (λ xs. so_far.written ++ xs) (ap given_record is_gone);
-        ends = (is_gone, refl);
-      }
-
-  -- its last turn was given an interrupt, and a send of the record failed
-  pub pumped-fails : (given : Given) (srq : Srq) (record_sent : List ℕ) (all : Bool) (pass' pass'' : PassView Group) (link' link'' : L)
-      → Pumped ways pass conn chan link pass' link' → TakesTurn g pass' conn chan given pass'' → given ≡ Front srq
-      → SendsAll ways link' record_sent all link'' → record_sent ≡ srq_record srq → all ≡ false
+  -- or a send of it failed
+  pub pumped-fails : (srq : Srq) {bytes : List ℕ} {all : Bool} {link'' : L} → given ≡ Front srq → SendsAll ways link' bytes all link'' → bytes ≡ srq_record srq → all ≡ false
       → Pumps g ways pass conn chan link end.WriteFault pass'' link''
-  pumped-fails given srq record_sent all pass' pass'' link' link'' so_far turn is_front sent is_record is_cut =
-      let t : Taking = record { placed = turn.placed; given = given } in
-      let some_left : IsSent (link_shown ways link') sent.unsent (link_shown ways link'') false = subst (λ a. IsSent (link_shown ways link') sent.unsent (link_shown ways link'') a) is_cut sent.is_sent in
-      let cut : given_record given ≡ sent.sent ++ sent.unsent = ap given_record is_front ∙ sym is_record ∙ sent.cut in
+  pumped-fails srq {link'' = link''} is sends is_record is_cut =
+      let some_left : IsSent (link_shown ways link') sends.unsent (link_shown ways link'') false = subst (λ a. IsSent (link_shown ways link') sends.unsent (link_shown ways link'') a) is_cut sends.is_sent in
+      let cut : given_record given ≡ sends.sent ++ sends.unsent = ap given_record is ∙ sym is_record ∙ sends.cut in
       let earlier : ways.send_faults link ≤ ways.send_faults link' = so_far.goes.sends in
       let rose : Rose (ways.send_faults link') (ways.send_faults link'') = some_left.1 in
       let risen : Rose (ways.send_faults link) (ways.send_faults link'') = omega arith in
-      record {
-        earlier = so_far.turns;
-        last = t;
-        written = so_far.written ++ sent.sent;
-        unsent = sent.unsent;
-        makes = makes-more pass pass' pass'' so_far.turns t so_far.makes turn.turns.makes;
-        history = turn.turns.history;
-        each = All-push (IsTaking conn chan) so_far.turns t so_far.each (turn.taken, turn.steps);
-        lived = so_far.lived;
-        bytes = Goes-goes ways.stands link link' link'' so_far.written [] sent.sent [] so_far.bytes sent.took;
-        goes = link-goes (link_shown ways link) (link_shown ways link') (link_shown ways link'') [] [] so_far.goes sent.goes;
-        calls = took-then ways link link' link'' so_far.written sent.sent so_far.calls sent.calls;
-        wrote = records-more so_far.turns t
-            ∙ ap (λ xs. xs ++ given_record given) so_far.wrote
-            ∙ ap (λ xs. so_far.written ++ xs) cut
-            ∙ sym (append_assoc so_far.written sent.sent sent.unsent);
-        ends = (sent.sent, cut, some_left.0, risen);
-      }
+      pumped-ends sends.took sends.goes sends.calls end.WriteFault sends.unsent cut (sends.sent, cut, some_left.0, risen)

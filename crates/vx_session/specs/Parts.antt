@@ -1,6 +1,6 @@
 -- To be believed.
 -- The events of a poll, as a group of a history has them.
-use Rattle.std.specs.Prelude.{◌≡◌, ◌≤◌, ℕ, max, Bool, true, false, List, [], ◌∷◌, length, Option, Some, None}
+use Rattle.std.specs.Prelude.{◌≡◌, ◌≤◌, ℕ, max, Bool, true, false, List, [], ◌∷◌, length, Some}
 use Rattle.vx_calls.specs.declared.limits.TheConstants.{SLICE_MAX}
 use Rattle.vx_calls.specs.Call.{Call}
 use Rattle.vx_calls.specs.declared.calls.Role.TheVariants as role
@@ -63,11 +63,6 @@ pub record ComesAt {B : Type 0} (g : Origin B) (placed : Placed) (conn : ℕ) (c
 -- an event has this moment, or none
 abbrev pub IsAt : ℕ → Event → Type 0
 IsAt moment e = (now : ℕ) → now_of e ≡ Some now → now ≡ moment
-
--- whether the dial of an answer came up; none where it is no answer behind a dial
-abbrev pub dialed_of : Event → Option Bool
-dialed_of (Answer conn now failed dialed level told) = dialed
-dialed_of _ = None
 
 -- a dial that is asked for is the one of the call
 abbrev pub DialsFor : Call → Ending → Type 0

@@ -5,7 +5,7 @@ ghost use Rattle.vx_calls.specs.declared.calls.Role.TheVariants as role;
 ghost use Rattle.vx_door.specs.Going.{Went};
 ghost use Rattle.vx_session.specs.Desks.{DeskLink};
 ghost use Rattle.vx_session.specs.Dialing.{dial_shown, no_dial};
-ghost use Rattle.vx_session.specs.Progress.{Clocked, unclocked};
+ghost use Rattle.vx_session.specs.Progress.{Clocked, ClockedAs, unclocked};
 ghost use Rattle.vx_session.specs.Linking.{LinkDid, refused_as};
 
 use crate::desks::Desk;
@@ -129,6 +129,37 @@ pub fn serve_link<R: Wait, K: Desk, L: Link>(
     }
 }
 
+/// A link at the desk of one bus, of the worker's role. A connection that comes up has a number of its own.
+fn run_link<R: Wait, B: Bus, T: Turns<Core<B>>, L: Link, C: Clock, P: Pause, D: Dial>(
+    alloc: Global,
+    worker: &Worker<'_, R, T>,
+    pass: Pass<Core<B>>,
+    link: &mut L,
+    clock: &mut C,
+    pause: &mut P,
+    dial: &mut D,
+    room: &mut Room,
+) -> (Pass<Core<B>>, Linked)
+    requires gate { pass.gate ≡ T.gate worker.now.turns.now }
+    ensures did { LinkDid (origin B.Bus (T.first worker.now.turns.now)) L.Link (ClockedAs worker.now.role C.tells clock.old clock.new) (C.told clock.new) worker.now.role (record { pass = pass; link = link.old; dial = dial_shown D.Dial dial.old })
+        result.1 (record { pass = result.0; link = link.new; dial = dial_shown D.Dial dial.new }) }
+    ensures told { C.told clock.old ≤ C.told clock.new }
+{
+    claims_law();
+    owned_law();
+    let mut held = Some(pass);
+    let desk = OneBus {
+        worker: Worker { ..*worker },
+        held: &mut held,
+        clock,
+        pause,
+        dial,
+    };
+    let (_, how) = serve_link(worker.rt, alloc, desk, worker.role, link, room);
+    let Some(pass) = held else { unreachable!() };
+    (pass, how)
+}
+
 /// Serves a core link: a connection comes up, has its session, and ends. It takes memory for the connection alone.
 pub fn core_link<R: Wait, B: Bus, T: Turns<Core<B>>, L: Link, C: Clock, P: Pause, D: Dial>(
     rt: &R,
@@ -146,24 +177,14 @@ pub fn core_link<R: Wait, B: Bus, T: Turns<Core<B>>, L: Link, C: Clock, P: Pause
         result.1.how (record { pass = result.0; link = result.1.link; dial = dial_shown D.Dial dial.new }) }
     ensures told { C.told clock.old ≤ C.told clock.new }
 {
-    claims_law();
-    owned_law();
-    let mut link = link;
-    let mut held = Some(pass);
-    let desk = OneBus {
-        worker: Worker {
-            rt,
-            turns,
-            conn: 0,
-            role: Role::Core,
-        },
-        held: &mut held,
-        clock,
-        pause,
-        dial,
+    let worker = Worker {
+        rt,
+        turns,
+        conn: 0,
+        role: Role::Core,
     };
-    let (_, how) = serve_link(rt, alloc, desk, Role::Core, &mut link, room);
-    let Some(pass) = held else { unreachable!() };
+    let mut link = link;
+    let (pass, how) = run_link(alloc, &worker, pass, &mut link, clock, pause, dial, room);
     (pass, LinkDone { how, link })
 }
 
@@ -180,24 +201,22 @@ pub fn abort_link<R: Wait, B: Bus, T: Turns<Core<B>>, L: Link>(
     ensures { LinkDid (origin B.Bus (T.first turns.now)) L.Link unclocked 0 role.Abort (record { pass = pass; link = link.old; dial = no_dial })
         result.1 (record { pass = result.0; link = link.new; dial = no_dial }) }
 {
-    claims_law();
-    owned_law();
-    let mut held = Some(pass);
-    let desk = OneBus {
-        worker: Worker {
-            rt,
-            turns,
-            conn: 0,
-            role: Role::Abort,
-        },
-        held: &mut held,
-        clock: &mut NoTools::new(),
-        pause: &mut NoTools::new(),
-        dial: &mut NoTools::new(),
+    let worker = Worker {
+        rt,
+        turns,
+        conn: 0,
+        role: Role::Abort,
     };
-    let (_, how) = serve_link(rt, alloc, desk, Role::Abort, link, room);
-    let Some(pass) = held else { unreachable!() };
-    (pass, how)
+    run_link(
+        alloc,
+        &worker,
+        pass,
+        link,
+        &mut NoTools::new(),
+        &mut NoTools::new(),
+        &mut NoTools::new(),
+        room,
+    )
 }
 
 /// Why a connection didn't come up, as its link is told.

@@ -1,9 +1,7 @@
 -- What the groups of a call leave of its connection, of the numbers of its links, and what its reply tells of them.
-use Rattle.std.proofs.Common.{◌≡◌, ◌==◌, ℕ, Bool, true, false, cond, List, [], ◌∷◌, ◌++◌, map, Option, Some, option_and_then, refl, sym, ap, ◌∙◌, subst, append_assoc, append-nil}
+use Rattle.std.proofs.Common.{◌≡◌, ℕ, Bool, true, false, cond, List, [], ◌∷◌, ◌++◌, map, Option, Some, option_and_then, refl, sym, ap, ◌∙◌, subst, append_assoc, append-nil}
 use mathlib.Core.List.{IsPrefix}
-use Rattle.std.proofs.lemmas.Bool.{cond-true}
 use Rattle.std.proofs.lemmas.List.Concat.{flat_map-cons}
-use Rattle.vx_lemmas.proofs.Laws.Conditions.{eqb-self}
 use Rattle.vx_io_traits.specs.declared.dials.Rang.{Rang}
 use Rattle.vx_calls.specs.declared.calls.Role.TheVariants as role
 use Rattle.vx_calls.specs.Call.{Call}
@@ -18,27 +16,24 @@ use Rattle.vx_exchange.specs.Meaning.{reply_record}
 use Rattle.vx_flow.specs.Event.{Event, Arrive, Begin}
 use Rattle.vx_flow.specs.InterleavedState.{InterleavedState}
 use Rattle.vx_flow.specs.Poll as poll
-use Rattle.vx_flow.specs.Poll.{Ending, Waited, Dialed, moved_events, end_events}
+use Rattle.vx_flow.specs.Poll.{Ending, Waited, Dialed, begins, moved_events, end_events}
 use Rattle.vx_core.specs.CoreState.{CoreState}
 use Rattle.vx_group.specs.Groups.{Group, events_of, StandsFor}
 use Rattle.vx_group.specs.Phases.{Phase, Absent, Idle, Asked, phase_along, phase_by, HasPhase}
 use Rattle.vx_group.specs.MadeLinks.{numbers_after, numbers_along, numbers_by}
 use Rattle.vx_group.specs.Owning.{MayAdd}
 use Rattle.vx_group.specs.Laws.{PhaseLaw}
-use Rattle.vx_group.proofs.Laws.{events-more, phase-append, numbers-append}
+use Rattle.vx_group.proofs.Laws.{phase-append, numbers-append}
 use Rattle.vx_session.specs.Origin.{Origin}
 use Rattle.vx_session.specs.Placing.{Placed, Chain, behind}
 use Rattle.vx_session.specs.Parts.{IsSessionPolled, phase_behind}
 use Rattle.vx_session.specs.Serving.{SessionGoesOn, IsCalled}
-use Rattle.vx_session.proofs.Laws.Turns.{chosen-own, ispolled-shape, ispolled-phase}
+use Rattle.vx_session.proofs.Laws.Turns.{chosen-own, ispolled-phase}
+use Rattle.vx_session.proofs.Phased.{phase-more as one-more}
 use Rattle.vx_session.specs.Counting.{events_by}
 use Rattle.vx_session.specs.LinkLaws.{TellsLinks, CalledTells, CalledLinksLaw}
 use Rattle.vx_session.proofs.Laws.Events.{events_of-append}
 use Rattle.vx_session.proofs.Laws.Telling.{HasCall, EndTells, dial-tells, polled-tells, come-call}
-
--- a choice by the connection's own number takes the first way
-own-numbers : (conn : ℕ) (x y : Option (List ℕ)) → cond (conn == conn) x y ≡ x
-own-numbers conn x y = cond-true (conn == conn) x y (eqb-self conn)
 
 -- ---- polls
 
@@ -52,24 +47,22 @@ numbers_behind call (Dialed host port) numbers = numbers
 begun-numbers : (conn now : ℕ) (phase : Phase) (numbers : Option (List ℕ)) (begun : Bool) (moves : _) (es : List Event)
     → numbers_along conn phase numbers (cond begun (Begin conn now ∷ []) [] ++ moved_events conn moves ++ es) ≡ numbers_along conn phase numbers es
 begun-numbers conn now phase numbers true [] es = refl
-begun-numbers conn now phase numbers true (t ∷ ts) es = refl
 begun-numbers conn now phase numbers false [] es = refl
-begun-numbers conn now phase numbers false (t ∷ ts) es = refl
+begun-numbers conn now phase numbers _ _ es = refl
 
 -- the end of a poll tells them
 end-numbers : (conn now : ℕ) (call : Call) (dialed : Bool) (ending : Ending) (numbers : Option (List ℕ))
     → numbers_along conn (Asked call dialed) numbers (end_events conn now ending) ≡ numbers_behind call ending numbers
-end-numbers conn now call dialed (poll.Answered ran level told) numbers = own-numbers conn (option_and_then (numbers_after call told) numbers) numbers
+end-numbers conn now call dialed (poll.Answered ran level told) numbers = chosen-own conn (option_and_then (numbers_after call told) numbers) numbers
 end-numbers conn now call dialed (Waited why) numbers = refl
 end-numbers conn now call dialed (Dialed host port) numbers = refl
 
 -- and so does the whole poll
-polled-numbers : {B : Type 0} (g : Ghosts B) (before : CoreState B) (conn now : ℕ) (ending : Ending) (events : List Event) (steps : List Step) (call : Call) (dialed : Bool)
+polled-numbers : {B : Type 0} {g : Ghosts B} {before : CoreState B} {conn now : ℕ} {ending : Ending} {events : List Event} {steps : List Step} (call : Call) (dialed : Bool)
     (numbers : Option (List ℕ)) → IsSessionPolled g before conn now ending events steps → numbers_along conn (Asked call dialed) numbers events ≡ numbers_behind call ending numbers
-polled-numbers g before conn now ending events steps call dialed numbers p =
-    let shape = ispolled-shape g before conn now ending events steps p in
-    ap (numbers_along conn (Asked call dialed) numbers) shape.2
-    ∙ begun-numbers conn now (Asked call dialed) numbers shape.0 shape.1 (end_events conn now ending)
+polled-numbers {g = g} {before = before} {conn = conn} {now = now} {ending = ending} call dialed numbers p =
+    ap (numbers_along conn (Asked call dialed) numbers) p.are
+    ∙ begun-numbers conn now (Asked call dialed) numbers (begins before.interleaved conn now) (g.means p.after.bus).moves (end_events conn now ending)
     ∙ end-numbers conn now call dialed ending numbers
 
 -- ---- groups at their places
@@ -95,9 +88,7 @@ before-begins number seen' p ps chain =
 -- the phase behind one group more of the pass
 phase-more : (number conn : ℕ) (p : Placed) → phase_by conn (events_of (made_by number (behind number p))) ≡ phase_along conn (phase_by conn (events_of (made_by number p.before))) p.group.events
 phase-more number conn p =
-    ap (λ own. phase_by conn (events_of own)) (made_by_mine number p.group p.before)
-    ∙ ap (phase_by conn) (events-more (made_by number p.before) p.group)
-    ∙ phase-append conn Absent (events_of (made_by number p.before)) p.group.events
+    one-more (made_by number p.before) (made_by number (behind number p)) p.group conn (made_by_mine number p.group p.before)
 
 -- a connection that the groups of its pass have with a call has that call in each state that stands for the history
 asked-call : PhaseLaw → (log : List (Logged Group)) (f : InterleavedState) (number conn : ℕ) (call : Call) → Lawful MayAdd log → StandsFor f (groups log)
@@ -139,7 +130,7 @@ goes-tells g phases number conn xid call (Dialed host port) (p ∷ []) calls out
   numbers = λ before. ap (numbers_along conn (Asked call true) before) (events-front p [])
       ∙ numbers-append conn (Asked call true) before p.group.events []
       ∙ ap (numbers_along conn (Asked call true) before) goes.events
-      ∙ own-numbers conn (option_and_then (numbers_after call (reply.Error goes.error)) before) before;
+      ∙ chosen-own conn (option_and_then (numbers_after call (reply.Error goes.error)) before) before;
   links = λ seen seen' chain lawful phase asks. dial-tells call (reply.Error goes.error) asks;
 }
 goes-tells g phases number conn xid call (Waited why) (p ∷ ps) calls out goes =
@@ -147,7 +138,7 @@ goes-tells g phases number conn xid call (Waited why) (p ∷ ps) calls out goes 
     let core = polls.core in
     let polled = polls.polled in
     let rest = goes-tells g phases number conn xid call goes.0 ps calls out goes.2 in
-    let leaves = ispolled-phase g.bus core conn _ goes.0 p.group.events p.group.steps call false polled in
+    let leaves = ispolled-phase call false polled in
     record {
       told = rest.told;
       reply_is = rest.reply_is;
@@ -158,7 +149,7 @@ goes-tells g phases number conn xid call (Waited why) (p ∷ ps) calls out goes 
       numbers = λ before. ap (numbers_along conn (Asked call false) before) (events-front p ps)
           ∙ numbers-append conn (Asked call false) before p.group.events (events_by ps)
           ∙ ap (λ s. numbers_along conn s (numbers_along conn (Asked call false) before p.group.events) (events_by ps)) leaves
-          ∙ ap (λ n. numbers_along conn (phase_behind call false goes.0) n (events_by ps)) (polled-numbers g.bus core conn _ goes.0 p.group.events p.group.steps call false before polled)
+          ∙ ap (λ n. numbers_along conn (phase_behind call false goes.0) n (events_by ps)) (polled-numbers call false before polled)
           ∙ rest.numbers before;
       links = λ seen seen' chain lawful phase tells.
           let begun = ap (λ own. phase_by conn (events_of own)) chain.1 ∙ phase in
@@ -177,7 +168,7 @@ came-tells g phases number conn xid call placed calls out is =
     let later = is.later in
     let part = comes.part in
     let rest = goes-tells g phases number conn xid call is.begun later calls out is.goes_on in
-    let leaves = ispolled-phase g.bus comes.come conn _ is.begun part comes.asked call false comes.polled in
+    let leaves = ispolled-phase call false comes.polled in
     let are : events_by (first ∷ later) ≡ Arrive conn call _ ∷ (part ++ events_by later) = events-front first later ∙ ap (λ es. es ++ events_by later) comes.events in
     record {
       told = rest.told;
@@ -198,7 +189,7 @@ came-tells g phases number conn xid call placed calls out is =
           ∙ ap (λ s. numbers_along conn s before (part ++ events_by later)) (chosen-own conn (Asked call false) phase)
           ∙ numbers-append conn (Asked call false) before part (events_by later)
           ∙ ap (λ s. numbers_along conn s (numbers_along conn (Asked call false) before part) (events_by later)) leaves
-          ∙ ap (λ n. numbers_along conn (phase_behind call false is.begun) n (events_by later)) (polled-numbers g.bus comes.come conn _ is.begun part comes.asked call false before comes.polled)
+          ∙ ap (λ n. numbers_along conn (phase_behind call false is.begun) n (events_by later)) (polled-numbers call false before comes.polled)
           ∙ rest.numbers before;
       links = λ seen seen' chain lawful.
           let phase = phase_by conn (events_of (made_by number first.before)) in

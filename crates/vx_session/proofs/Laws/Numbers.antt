@@ -16,7 +16,7 @@ use Rattle.vx_rules.specs.Lists.{update_first}
 use Rattle.vx_calls.specs.declared.calls.Role.{Role}
 use Rattle.vx_rules.specs.State.{Pending, Connection, Tables, connection_at, with_pending, with_connection, without_connection}
 use Rattle.vx_rules.specs.AtomicStep.{arrived, mark_on, marked, abort_tables}
-use Rattle.vx_flow.specs.Event.{Event, Up, Down, Arrive, Answer, Abort, Sample, Take, Begin, Move, Dial}
+use Rattle.vx_flow.specs.Event.{Event, Up, Down, Arrive, Answer, Abort}
 use Rattle.vx_flow.specs.Frames.{TablesAfter}
 use Rattle.vx_session.specs.Counting.{ups, downs}
 
@@ -126,9 +126,6 @@ with-one t r up down c =
       next = omega (arith, c.next);
     }
 
-counts-up : (t u : Tables) (r : Role) (up down : ℕ) → u ≡ with_connection t r → Counts t up down → Counts u (up + 1) (down + 0)
-counts-up t u r up down is c = subst (λ (x : Tables). Counts x (up + 1) (down + 0)) (sym is) (with-one t r up down c)
-
 -- one that goes is one fewer
 without-one : (t : Tables) (conn up down : ℕ) → IsSome (connection_at t conn) → Counts t up down → Counts (without_connection t conn) (up + 0) (down + 1)
 without-one t conn up down lives c =
@@ -145,9 +142,6 @@ without-one t conn up down lives c =
       next = omega (arith, c.next);
     }
 
-counts-down : (t u : Tables) (conn up down : ℕ) → u ≡ without_connection t conn → IsSome (connection_at t conn) → Counts t up down → Counts u (up + 0) (down + 1)
-counts-down t u conn up down is lives c = subst (λ (x : Tables). Counts x (up + 0) (down + 1)) (sym is) (without-one t conn up down lives c)
-
 -- the connection whose end an event tells lives
 abbrev pub Lives : Tables → Event → Type 0
 Lives t (Down conn) = IsSome (connection_at t conn)
@@ -160,16 +154,12 @@ counts-after e t u up down is lives c = by e is lives where
   stays same next = counts-same t u up down same next c
 
   by : (e : Event) → TablesAfter t e u → Lives t e → Counts u (up + ups (e ∷ [])) (down + downs (e ∷ []))
-  by (Up conn r) is lives = counts-up t u r up down is c
-  by (Down conn) is lives = counts-down t u conn up down is lives c
+  by (Up conn r) is lives = subst (λ (x : Tables). Counts x (up + 1) (down + 0)) (sym is) (with-one t r up down c)
+  by (Down conn) is lives = subst (λ (x : Tables). Counts x (up + 0) (down + 1)) (sym is) (without-one t conn up down lives c)
   by (Arrive conn asked now) is lives = stays (ap (λ (x : Tables). numbers x.connections) is ∙ numbers-pending t conn (Some (arrived asked now))) (ap (λ (x : Tables). x.next_connection) is)
   by (Answer conn now failed dialed level told) is lives =
       stays
       (ap (λ (x : Tables). numbers x.connections) is.over_is ∙ numbers-pending is.after conn None ∙ ap numbers is.leaves.connections)
       (ap (λ (x : Tables). x.next_connection) is.over_is ∙ is.leaves.next)
   by (Abort conn lid told) is lives = stays (ap (λ (x : Tables). numbers x.connections) is ∙ numbers-abort t lid) (ap (λ (x : Tables). x.next_connection) is ∙ next-abort t lid)
-  by (Sample now srq) is lives = stays (ap (λ (x : Tables). numbers x.connections) is) (ap (λ (x : Tables). x.next_connection) is)
-  by (Take conn chan given) is lives = stays (ap (λ (x : Tables). numbers x.connections) is) (ap (λ (x : Tables). x.next_connection) is)
-  by (Begin conn now) is lives = stays (ap (λ (x : Tables). numbers x.connections) is) (ap (λ (x : Tables). x.next_connection) is)
-  by (Move conn moves) is lives = stays (ap (λ (x : Tables). numbers x.connections) is) (ap (λ (x : Tables). x.next_connection) is)
-  by (Dial conn now) is lives = stays (ap (λ (x : Tables). numbers x.connections) is) (ap (λ (x : Tables). x.next_connection) is)
+  by _ is lives = stays (ap (λ (x : Tables). numbers x.connections) is) (ap (λ (x : Tables). x.next_connection) is)

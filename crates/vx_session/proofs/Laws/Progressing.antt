@@ -1,5 +1,5 @@
 -- How a session comes on: the messages that it answered, one after the other, as the records that it served.
-use Rattle.std.proofs.Common.{◌≡◌, ◌≤◌, ◌<◌, ◌+◌, ◌⊎◌, inl, inr, ℕ, List, [], ◌∷◌, ◌++◌, Option, None, Some, map, length, refl, sym, ap, ◌∙◌, subst, append_assoc, append-nil, arith}
+use Rattle.std.proofs.Common.{◌≡◌, ◌≤◌, ◌+◌, ◌⊎◌, inl, inr, ℕ, List, [], ◌∷◌, ◌++◌, Option, None, Some, map, refl, sym, ap, ◌∙◌, subst, append_assoc, append-nil, arith}
 use Rattle.std.specs.List.{All, count_by}
 use Rattle.std.proofs.lemmas.List.{map-append}
 use Rattle.std.proofs.lemmas.List.Concat.{flat_map-append}
@@ -8,23 +8,19 @@ use Rattle.std.proofs.lemmas.List.Sums.{sum_by-append}
 use Rattle.std.proofs.lemmas.Option.{same_Some}
 use Rattle.vx_io_traits.specs.declared.dials.Rang.{Rang}
 use Rattle.vx_io_traits.specs.Rung.{AddsCalls}
-use Rattle.vx_io_traits.specs.Stands.{Goes}
 use Rattle.vx_io_traits.specs.declared.links.Link.{Ghosts as OfLink}
-use Rattle.vx_calls.specs.declared.limits.TheConstants.{RECORD_MAX}
 use Rattle.vx_bus_traits.specs.declared.bus.Bus.{Ghosts}
 use Rattle.vx_core.specs.CoreState.{CoreState}
 use Rattle.vx_session.specs.Origin.{Origin, origin}
 use Rattle.vx_gate.specs.PassView.{PassView}
 use Rattle.vx_group.specs.Groups.{Group, events_of}
-use Rattle.vx_stream.specs.Shown.{LinkShown, LinkGoes, link_shown}
+use Rattle.vx_stream.specs.Shown.{LinkShown, link_shown}
 use Rattle.vx_record.specs.Records.{Split, records}
-use Rattle.vx_exchange.specs.Meaning.{meaning, Junk}
-use Rattle.vx_stream.specs.Answered.{Answered, AnswersAll, replies}
-use Rattle.vx_stream.specs.Calling.{InTurn}
+use Rattle.vx_exchange.specs.Meaning.{meaning}
+use Rattle.vx_stream.specs.Answered.{Answered, AnswersAll}
 use Rattle.vx_stream.specs.Stopping.{EndsSo, IsLeft, StreamAnswered}
 use Rattle.vx_stream.specs.declared.ends.End.{End}
 use Rattle.vx_stream.specs.declared.ends.End.TheVariants as end
-use Rattle.vx_session.specs.declared.sessions.TheConstants.{PIECE}
 use Rattle.vx_session.specs.Placing.{Placed, Makes}
 use Rattle.vx_session.specs.Dialing.{DialShown, RoseBy, is_failed_dial}
 use Rattle.vx_session.specs.Serving.{Item, SessionServes}
@@ -139,38 +135,14 @@ serves-more g tells s mid s' pass one more had does rest =
 -- what holds of a message without a reply, as another fact of it
 pub ends-as : (P Q : List ℕ → Type 0) → ((message : List ℕ) → P message → Q message) → (seen : LinkShown) (list : List Answered) (looked : Split) (behind unsent : List ℕ) (seen' : LinkShown)
     (how : End) → EndsSo P seen list looked behind unsent seen' (Some how) → EndsSo Q seen list looked behind unsent seen' (Some how)
-ends-as P Q so seen list looked behind unsent seen' end.Closed ended = ended
-ends-as P Q so seen list looked behind unsent seen' (end.CutShort bytes) ended = ended
 ends-as P Q so seen list looked behind unsent seen' (end.Junk count) ended = (ended.0, ended.1, ended.2, ended.3, so ended.1 ended.4)
-ends-as P Q so seen list looked behind unsent seen' end.TooLong ended = ended
-ends-as P Q so seen list looked behind unsent seen' end.ReadFault ended = ended
-ends-as P Q so seen list looked behind unsent seen' end.WriteFault ended = ended
+ends-as P Q so seen list looked behind unsent seen' _ ended = ended
 
 -- what answers messages is left as it was behind the last reply, or as a message without a reply left it
 pub left-so : {S : Type 0} (does : S → List ℕ → S → Type 0) (last s' : S) (seen : LinkShown) (list : List Answered) (looked : Split) (behind unsent : List ℕ) (seen' : LinkShown) (how : End)
     → EndsSo (λ junk. does last junk s') seen list looked behind unsent seen' (Some how) → IsLeft (Some how) last s' → (s' ≡ last) ⊎ ((junk : List ℕ) × does last junk s')
-left-so does last s' seen list looked behind unsent seen' end.Closed ended left = inl left
-left-so does last s' seen list looked behind unsent seen' (end.CutShort bytes) ended left = inl left
 left-so does last s' seen list looked behind unsent seen' (end.Junk count) ended left = inr (ended.1, ended.4)
-left-so does last s' seen list looked behind unsent seen' end.TooLong ended left = inl left
-left-so does last s' seen list looked behind unsent seen' end.ReadFault ended left = inl left
-left-so does last s' seen list looked behind unsent seen' end.WriteFault ended left = inl left
-
--- The records of a session's stream were served, up to its end or to where it is no longer read.
-pub record StreamServed {B C L : Type 0} (g : Origin B) (tells : C → ℕ → C → Type 0) (ways : OfLink L) (s : SessionState C) (pass : PassView Group) (link : L) (how : End)
-    (s' : SessionState C) (link' : L) : Type 0 where
-  pub list : List Answered
-  pub front : List ℕ
-  pub behind : List ℕ
-  pub written : List ℕ
-  pub unsent : List ℕ
-  pub serves : ServesAll g tells s pass list s'
-  pub bytes : Goes ways.stands link link' written (front ++ behind)
-  pub goes : LinkGoes (link_shown ways link) (front ++ behind) (link_shown ways link')
-  pub wrote : replies list ≡ written ++ unsent
-  pub near : length behind < PIECE
-  pub in_turn : InTurn ways RECORD_MAX list link (front ++ behind) written link'
-  pub ended : EndsSo (λ message. meaning message s.role ≡ Junk) (link_shown ways link) list (records RECORD_MAX front) behind unsent (link_shown ways link') (Some how)
+left-so does last s' seen list looked behind unsent seen' _ ended left = inl left
 
 -- what answers messages, as a session's state shows it
 module _ {B C S : Type 0} (bus : Ghosts B) (tells : C → ℕ → C → Type 0) (first : S → CoreState B) (does : S → List ℕ → Option (List ℕ) → S → Type 0) (shown : S → SessionState C)
@@ -193,31 +165,14 @@ module _ {B C S : Type 0} (bus : Ghosts B) (tells : C → ℕ → C → Type 0) 
       (subst (λ x. ServesAll (origin bus x) tells (shown all.0) did.has.pass' more (shown s')) (same s all.0 message.message (Some message.reply) all.1)
       (all-served all.0 last s' did.has.pass' more did.has.has all.2 stays))
 
-  -- so the records of its stream were served
-  pub stream-served : {L : Type 0} (ways : OfLink L) (s s' : S) (pass : PassView Group) (link link' : L) (limit room : ℕ) (how : End)
-      → (shown s).pass ≡ Some pass → limit ≡ RECORD_MAX → room ≡ PIECE → StreamAnswered does ways limit room None (record { server = s; link = link }) (Some how) (record { server = s'; link = link' })
-      → StreamServed (origin bus (first s)) tells ways (shown s) pass link how (shown s') link'
-  stream-served ways s s' pass link link' limit room how had limit_is room_is did =
-      let last = did.last in
-      let looked = records limit did.front in
-      let left = left-so (λ a junk b. does a junk None b) last s' (link_shown ways link) did.answered looked did.behind did.unsent (link_shown ways link') how did.ended did.left in
-      let all = all-served s last s' pass did.answered had did.progress.answers (left-stays last s' left) in
-      record {
-        list = did.answered;
-        front = did.front;
-        behind = did.behind;
-        written = did.written;
-        unsent = did.unsent;
-        serves = all;
-        bytes = did.progress.bytes;
-        goes = did.progress.goes;
-        wrote = did.wrote;
-        near = subst (λ n. length did.behind < n) room_is did.near;
-        in_turn = subst (λ n. InTurn ways n did.answered link (did.front ++ did.behind) did.written link') limit_is did.in_turn;
-        ended = subst (λ n. EndsSo (λ message. meaning message (shown s).role ≡ Junk) (link_shown ways link) did.answered (records n did.front) did.behind did.unsent (link_shown ways link') (Some how)) limit_is
-            (ends-as (λ message. does last message None s') (λ message. meaning message (shown s).role ≡ Junk)
-            (λ message d. let junk = one last s' message None d in ap (meaning message) (sym all.role ∙ junk.role) ∙ junk.has.0) (link_shown ways link) did.answered looked did.behind did.unsent (link_shown ways link') how did.ended);
-      }
+  -- so were those of its stream
+  pub stream-served : {L : Type 0} (ways : OfLink L) (s s' : S) (pass : PassView Group) (link link' : L) (limit room : ℕ) (how : End) → (shown s).pass ≡ Some pass
+      → (did : StreamAnswered does ways limit room None (record { server = s; link = link }) (Some how) (record { server = s'; link = link' }))
+      → ServesAll (origin bus (first s)) tells (shown s) pass did.answered (shown s')
+  stream-served ways s s' pass link link' limit room how had did =
+      all-served s did.last s' pass did.answered had did.progress.answers
+      (left-stays did.last s'
+      (left-so (λ a junk b. does a junk None b) did.last s' (link_shown ways link) did.answered (records limit did.front) did.behind did.unsent (link_shown ways link') how did.ended did.left))
 
 module _ {S A : Type 0} (does : S → List ℕ → Option (List ℕ) → S → Type 0) (of : S → A)
     (one : (s s' : S) (message : List ℕ) (reply : Option (List ℕ)) → does s message reply s' → of s' ≡ of s) where

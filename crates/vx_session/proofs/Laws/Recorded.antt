@@ -1,18 +1,17 @@
 -- A message of a session: what it means, and how it is served.
 use Rattle.std.proofs.Common.{◌≡◌, ℕ, List, [], ◌∷◌, take, count_by, refl, ap, ◌∙◌, arith}
 use Rattle.vx_calls.specs.declared.calls.Role.TheVariants as role
-use Rattle.vx_calls.specs.Call.{Call}
 use Rattle.vx_session.specs.Origin.{Origin}
 use Rattle.vx_gate.specs.PassView.{PassView}
 use Rattle.vx_record.specs.Fragments.{record_of}
-use Rattle.vx_exchange.specs.Meaning.{Answered, Asks, Aborts}
+use Rattle.vx_exchange.specs.Meaning.{Answered, Aborts}
 use Rattle.vx_exchange.specs.declared.polls.Aborted.{Aborted}
 use Rattle.vx_group.specs.Groups.{Group}
 use Rattle.vx_session.specs.Turning as turning
 use Rattle.vx_session.proofs.Laws.Turns.{makes-none, makes-later}
 use Rattle.vx_session.specs.Dialing.{DialShown, is_failed_dial}
 use Rattle.vx_session.specs.Placing.{Placed}
-use Rattle.vx_session.specs.Progress.{Clocked, ClockedAs, AnswersCall, ServesMeaning}
+use Rattle.vx_session.specs.Progress.{ClockedAs, ServesMeaning}
 use Rattle.vx_session.proofs.Laws.Progressing.{rings-none}
 use Rattle.vx_session.proofs.Calling.{rings-still, failed-one}
 
@@ -49,15 +48,3 @@ module _ {B : Type 0} (g : Origin B) (told : ℕ) (pass : PassView Group) (conn 
           reply_is = aborts.stands.record_is;
         };
       }
-
-  -- any other call, which is asked of the core
-  pub asks-does : {C : Type 0} (tells : C → ℕ → C → Type 0) (clock clock' : C) (xid : ℕ) (call : Call) (out : List ℕ) (pass' : PassView Group) (dial' : DialShown)
-      → AnswersCall g (Clocked tells clock clock') told pass conn xid call dial out pass' dial' → ServesMeaning g (ClockedAs role.Core tells clock clock') told pass conn (Asks xid call) dial out pass' dial'
-  asks-does tells clock clock' xid call out pass' dial' answers = record {
-    placed = answers.placed;
-    rung = answers.rung;
-    makes = answers.makes;
-    asks = answers.asks;
-    rings = answers.rings;
-    holding = answers.holding;
-  }

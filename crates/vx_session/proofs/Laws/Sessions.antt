@@ -1,10 +1,6 @@
 -- What calls, sessions and links add to how many connections came up and went down.
 use Rattle.std.proofs.Common.{◌≡◌, ◌+◌, ℕ, List, [], ◌∷◌, ◌++◌, map, Ok, Err, refl, sym, ap, ◌∙◌, subst, append-nil, arith}
-use Rattle.std.specs.List.{All}
 use Rattle.std.proofs.lemmas.List.{map-append}
-use Rattle.std.proofs.lemmas.List.Concat.{flat_map-cons}
-use Rattle.std.proofs.lemmas.List.Elements.{All-head, All-tail}
-use Rattle.vx_io_traits.specs.declared.links.Link.{Ghosts as OfLink}
 use Rattle.vx_io_traits.specs.declared.dials.Rang.{Rang}
 use Rattle.vx_calls.specs.declared.calls.Role.{Role}
 use Rattle.vx_calls.specs.Call.{Call}
@@ -14,7 +10,6 @@ use Rattle.vx_gate.specs.declared.views.Logged.{Logged}
 use Rattle.vx_gate.specs.History.{groups}
 use Rattle.vx_gate.specs.PassView.{PassView}
 use Rattle.vx_state.specs.declared.tables.Connect.{Connect}
-use Rattle.vx_state.specs.declared.tables.Connect.TheVariants as connect
 use Rattle.vx_exchange.specs.Meaning as meant
 use Rattle.vx_exchange.specs.Meaning.{Meaning, Junk, Asks, Aborts, meaning}
 use Rattle.vx_flow.specs.Event.{Event, Up, Down, Arrive}
@@ -23,16 +18,11 @@ use Rattle.vx_flow.specs.Poll.{Ending, Waited, Dialed}
 use Rattle.vx_group.specs.Groups.{Group, events_of}
 use Rattle.vx_core.specs.CoreState.{CoreState}
 use Rattle.vx_session.specs.Origin.{Origin}
-use Rattle.vx_session.specs.Ending.{Holding}
 use Rattle.vx_session.specs.Placing.{Placed, Makes, logged}
 use Rattle.vx_session.specs.Parts.{IsSessionPolled, moment_at}
-use Rattle.vx_session.specs.Serving.{Item, SessionGoesOn, IsCalled, IsAborted, IsSessionServed, SessionServes}
+use Rattle.vx_session.specs.Serving.{SessionGoesOn, IsCalled, IsAborted, IsSessionServed}
 use Rattle.vx_session.proofs.Laws.Turns.{ispolled-all}
-use Rattle.vx_session.specs.Progress.{placed}
 use Rattle.vx_session.specs.Turning.{Joins, Leaves}
-use Rattle.vx_session.specs.Linking.{LinkDid}
-use Rattle.vx_session.specs.declared.links.Linked.{Linked}
-use Rattle.vx_session.specs.declared.links.Linked.TheVariants as linked
 use Rattle.vx_session.specs.Counting.{ups, downs, events_by, IsSteady, IsAlone, ComesAndGoes}
 use Rattle.vx_session.specs.TurnLaws.{JoinedLaw, RefusedLaw, LeftLaw}
 use Rattle.vx_session.proofs.Laws.Events.{ups-append, downs-append, events_of-append, IsNeither, front-steady, all-steady, append-steady}
@@ -52,10 +42,11 @@ more-steady p ps one rest = subst IsSteady (sym (events_by-append (p ∷ []) ps)
 -- ---- calls
 
 -- the events of a poll
-polled-neither : {B : Type 0} (g : Ghosts B) (before : CoreState B) (conn now : ℕ) (ending : Ending) (events : List Event) (steps : List Step) → IsSessionPolled g before conn now ending events steps → All IsNeither events
-polled-neither g before conn now ending events steps p =
-    ispolled-all IsNeither g before conn now ending events steps p (record { no_up = refl; no_down = refl }) (λ made. record { no_up = refl; no_down = refl })
-    (λ failed level told. record { no_up = refl; no_down = refl }) (record { no_up = refl; no_down = refl })
+polled-steady : {B : Type 0} {g : Ghosts B} {before : CoreState B} {conn now : ℕ} {ending : Ending} {events : List Event} {steps : List Step} → IsSessionPolled g before conn now ending events steps → IsSteady events
+polled-steady {events = events} p =
+    all-steady events
+    (ispolled-all IsNeither p (record { no_up = refl; no_down = refl }) (λ made. record { no_up = refl; no_down = refl })
+    (λ failed level told. record { no_up = refl; no_down = refl }) (record { no_up = refl; no_down = refl }))
 
 -- how a call goes on behind a poll
 goes-steady : {B : Type 0} (g : Origin B) (number conn xid : ℕ) (call : Call) (ending : Ending) (ps : List Placed) (calls : List Rang) (out : List ℕ)
@@ -64,22 +55,18 @@ goes-steady g number conn xid call (poll.Answered ran level told) [] calls out g
 goes-steady g number conn xid call (Dialed host port) (p ∷ []) calls out goes =
     more-steady p [] (subst IsSteady (sym goes.events) (record { no_up = refl; no_down = refl })) none-steady
 goes-steady g number conn xid call (Waited why) (p ∷ ps) calls out goes =
-    let polled = goes.1 in
-    more-steady p ps (all-steady p.group.events (polled-neither g.bus polled.polls.core conn (moment_at p polled.told) goes.0 p.group.events p.group.steps polled.polls.polled))
-    (goes-steady g number conn xid call goes.0 ps calls out goes.2)
+    more-steady p ps (polled-steady goes.1.polls.polled) (goes-steady g number conn xid call goes.0 ps calls out goes.2)
 goes-steady g number conn xid call _ _ calls out goes = absurd goes
 
 -- a call of a core connection, from its coming to its answer
 pub called-steady : {B : Type 0} (g : Origin B) (number conn xid : ℕ) (call : Call) (ps : List Placed) (calls : List Rang) (out : List ℕ)
     → IsCalled g number conn xid call ps calls out → IsSteady (events_by ps)
-called-steady g number conn xid call ps calls out is = subst (λ qs. IsSteady (events_by qs)) (sym is.groups) here where
-  here : IsSteady (events_by (is.first ∷ is.later))
-  here =
-      more-steady is.first is.later
-      (subst IsSteady (sym is.comes.events)
-      (front-steady (Arrive conn call (moment_at is.first is.told)) is.comes.part (record { no_up = refl; no_down = refl })
-      (all-steady is.comes.part (polled-neither g.bus is.comes.come conn (moment_at is.first is.told) is.begun is.comes.part is.comes.asked is.comes.polled))))
-      (goes-steady g number conn xid call is.begun is.later calls out is.goes_on)
+called-steady g number conn xid call ps calls out is =
+    subst (λ qs. IsSteady (events_by qs)) (sym is.groups)
+    (more-steady is.first is.later
+    (subst IsSteady (sym is.comes.events)
+    (front-steady (Arrive conn call (moment_at is.first is.told)) is.comes.part (record { no_up = refl; no_down = refl }) (polled-steady is.comes.polled)))
+    (goes-steady g number conn xid call is.begun is.later calls out is.goes_on))
 
 -- a device_abort
 pub aborted-steady : (conn xid lid : ℕ) (ps : List Placed) (calls : List Rang) (out : List ℕ) → IsAborted conn xid lid ps calls out → IsSteady (events_by ps)
@@ -94,16 +81,6 @@ served-steady g number conn Junk ps calls out is = absurd is
 served-steady g number conn (meant.Answered message) ps calls out is = subst (λ qs. IsSteady (events_by qs)) (sym is.0) none-steady
 served-steady g number conn (Asks xid call) ps calls out is = called-steady g number conn xid call ps calls out is
 served-steady g number conn (Aborts xid lid) ps calls out is = aborted-steady conn xid lid ps calls out is
-
--- the messages of a session on a connection
-pub items-steady : {B : Type 0} (g : Origin B) (number conn : ℕ) (r : Role) (items : List Item) → All (SessionServes g number conn r) items → IsSteady (events_by (placed items))
-items-steady g number conn r [] all = none-steady
-items-steady g number conn r (i ∷ items) all =
-    let one = All-head (SessionServes g number conn r) i items all in
-    subst IsSteady (sym (ap events_by (flat_map-cons (λ (k : Item). k.placed) i items) ∙ events_by-append i.placed (placed items)))
-    (append-steady (events_by i.placed) (events_by (placed items))
-    (served-steady g number conn (meaning i.answered.message r) i.placed i.calls i.answered.reply one)
-    (items-steady g number conn r items (All-tail (SessionServes g number conn r) i items all)))
 
 -- ---- what a pass made
 
@@ -201,12 +178,3 @@ came-undone g conn r pass up pass' joins leaves =
       most = omega (arith, first.0, rest.0);
       alone = λ alone. makes-alone 0 up pass' (leaves.placed ∷ []) leaves.turns.makes (makes-alone 0 pass up (joins.placed ∷ []) joins.turns.makes alone);
     }
-
--- a link of one bus
-pub link-counts : {B L : Type 0} (g : Origin B) (ways : OfLink L) (clocked : List Placed → Type 0) (told : ℕ) (r : Role) (before : Holding L) (how : Linked) (after : Holding L)
-    → LinkDid g ways clocked told r before how after → ComesAndGoes before.pass after.pass
-link-counts g ways clocked told r before (linked.Ended how) after had =
-    let did = had.did in
-    came-and-went g told had.conn r before.pass had.up after.pass (placed did.items) did.last had.joins did.makes (items-steady g had.up.number had.conn r did.items did.each) did.down
-link-counts g ways clocked told r before linked.Full after had = none-came g r connect.Full before.pass after.pass had.0
-link-counts g ways clocked told r before linked.NoMemory after had = none-came g r connect.NoMemory before.pass after.pass had.0

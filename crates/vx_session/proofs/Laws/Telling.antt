@@ -1,6 +1,6 @@
 -- What a call's polls tell of links: its answer comes by one of the lines, and a link is made by its effect alone.
 use Rattle.std.proofs.Common.{◌≡◌, ◌≤◌, ◌==◌, ◌++◌, ℕ, Bool, true, false, cond, List, [], ◌∷◌, Option, Some, None, Result, Ok, Err, refl, sym, ap, ◌∙◌, subst, arith, ℤ}
-use Rattle.std.specs.Prelude.{is_some, IsOk}
+use Rattle.std.specs.Prelude.{is_some}
 use Rattle.std.proofs.lemmas.Bool.{false≢true}
 use Rattle.std.proofs.lemmas.Bool.Decides.{nat_tests}
 use Rattle.std.proofs.lemmas.Option.{none-some, same_Some}
@@ -11,12 +11,11 @@ use Rattle.vx_calls.specs.declared.codes.ErrorCode.{ErrorCode}
 use Rattle.vx_calls.specs.declared.codes.ErrorCode.TheVariants as code
 use Rattle.vx_calls.specs.declared.targets.Target.{Target}
 use Rattle.vx_calls.specs.ErrorCode.{error_number}
-use Rattle.vx_calls.specs.Target.{is_device_text, names_gateway, names_device, target}
+use Rattle.vx_calls.specs.Target.{comma_parts, target}
 use Rattle.vx_calls.specs.Call.{Call}
 use Rattle.vx_calls.specs.Call as call
 use Rattle.vx_calls.specs.Reply.{Reply}
 use Rattle.vx_calls.specs.Reply as reply
-use Rattle.vx_calls.proofs.Laws.TargetClauses.{Says, target-says}
 use Rattle.vx_bus_traits.specs.Steps.{Step}
 use Rattle.vx_bus_traits.specs.declared.bus.Bus.{Ghosts}
 use Rattle.vx_rules.specs.Table.{is_full}
@@ -25,6 +24,7 @@ use Rattle.vx_rules.proofs.Laws.Lists.{along-none}
 use Rattle.vx_rules.specs.State.{Pending, Tables, pending_at}
 use Rattle.vx_rules.specs.Calls.{asks_dial}
 use Rattle.vx_rules.proofs.Laws.Rows.{pending-put}
+use Rattle.vx_rules.proofs.Laws.Naming.{IsError, NamesWell, parts-well}
 use Rattle.vx_rules.specs.Checks.{NamedLink, NoLink, DeadLink, OnLink, named_link, check_create, check}
 use Rattle.vx_rules.specs.Effects.{task_of, stopped_reply, create, effect}
 use Rattle.vx_rules.specs.Decide.{BusInput}
@@ -42,29 +42,9 @@ use Rattle.vx_session.specs.LinkLaws.{TellsLinks}
 
 -- ---- what refuses a call is an error
 
--- what isn't the code for no error
-abbrev IsError : ErrorCode → Type 0
-IsError e = (error_number e == 0) ≡ false
-
--- a text that names nothing, by this error
-abbrev refused : ErrorCode → Result Target ErrorCode
-refused e = Err e
-
--- where one error is another, and the one isn't the code for no error, neither is the other
-same-error : (e f : ErrorCode) → refused e ≡ refused f → IsError e → IsError f
-same-error e f same is = let eq : e ≡ f = cc in subst IsError eq is
-
 -- a device text that names nothing
 refused-well : (text : List ℕ) (own : ℕ) (e : ErrorCode) → target text own ≡ Err e → IsError e
-refused-well text own e is = by (is_device_text text) (names_gateway text) (names_device text own) refl refl refl where
-  says : Says text own (target text own)
-  says = target-says text own (target text own) refl
-
-  by : (f g a : Bool) → is_device_text text ≡ f → names_gateway text ≡ g → names_device text own ≡ a → IsError e
-  by false g a form gateway device = same-error code.Syntax e (sym (says.syntax.1 form) ∙ is) refl
-  by true false a form gateway device = same-error code.NotAccessible e (sym (says.not_accessible.1 (form, gateway)) ∙ is) refl
-  by true true false form gateway device = same-error code.InvalidAddress e (sym (says.invalid_address.1 (form, gateway, device)) ∙ is) refl
-  by true true true form gateway device = absurd (false≢true (subst IsOk is (says.ok.1 (form, gateway, device))))
+refused-well text own e is = subst NamesWell is (parts-well own (comma_parts text))
 
 -- a create_link
 abbrev makes_link : Call → Bool
@@ -123,11 +103,9 @@ effect-tells t after own conn settling _ told checked given = tt
 -- neither call has a job
 job-tells : (asked : Call) (about : NamedLink) (told : Reply) → is_some (task_of about asked) ≡ true → TellsLinks asked told
 job-tells (call.CreateLink client lock lock_timeout device) NoLink told h = absurd (false≢true h)
-job-tells (call.CreateLink client lock lock_timeout device) DeadLink told h = absurd (false≢true h)
-job-tells (call.CreateLink client lock lock_timeout device) (OnLink l) told h = absurd (false≢true h)
+job-tells (call.CreateLink client lock lock_timeout device) _ told h = absurd (false≢true h)
 job-tells (call.DestroyLink lid) NoLink told h = absurd (false≢true h)
-job-tells (call.DestroyLink lid) DeadLink told h = absurd (false≢true h)
-job-tells (call.DestroyLink lid) (OnLink l) told h = absurd (false≢true h)
+job-tells (call.DestroyLink lid) _ told h = absurd (false≢true h)
 job-tells _ about told h = tt
 
 -- a call that asks for a dial is neither
@@ -169,29 +147,17 @@ EndTells call (Dialed host port) = asks_dial call ≡ true
 same-call : (f : InterleavedState) (conn : ℕ) (call : Call) (p : Pending) → HasCall f conn call → pending_at f.state.tables conn ≡ Some p → p.call ≡ call
 same-call f conn call p has at = ap (λ (q : Pending). q.call) (same_Some p has.pending (sym at ∙ has.call_at)) ∙ has.call_is
 
--- the answer
-answer-tells : (f g : InterleavedState) (conn now : ℕ) (failed : Bool) (dialed : Option Bool) (level : Bool) (told : Reply) (call : Call) → HasCall f conn call
-    → interleaved_step f (Answer conn now failed dialed level told) ≡ Some g → TellsLinks call told
-answer-tells f g conn now failed dialed level told call has h =
-    let d = (interleaved-does f g (Answer conn now failed dialed level told) h).step in
-    subst (λ c. TellsLinks c told) (same-call f conn call d.asked has d.call_at) (line-tells f conn now d.asked (bus_input f conn failed dialed level) told d.after d.line)
-
--- a dial that is asked for
-asks-tells : (f g : InterleavedState) (conn now : ℕ) (call : Call) → HasCall f conn call → interleaved_step f (Dial conn now) ≡ Some g → asks_dial call ≡ true
-asks-tells f g conn now call has h =
+-- the end of a poll
+end-tells : (f g : InterleavedState) (conn now : ℕ) (call : Call) (ending : Ending) → HasCall f conn call → along interleaved_step (Some f) (poll.end_events conn now ending) ≡ Some g → EndTells call ending
+end-tells f g conn now call (poll.Answered ran level told) has h =
+    let d = (interleaved-does f g (Answer conn now (is_broken ran) None level told) h).step in
+    subst (λ c. TellsLinks c told) (same-call f conn call d.asked has d.call_at) (line-tells f conn now d.asked (bus_input f conn (is_broken ran) None level) told d.after d.line)
+end-tells f g conn now call (Waited why) has h = tt
+end-tells f g conn now call (Dialed host port) has h =
     let d = (interleaved-does f g (Dial conn now) h).step in
     subst (λ c. asks_dial c ≡ true) (same-call f conn call d.asked has d.call_at) d.asks
 
--- the end of a poll
-end-tells : (f g : InterleavedState) (conn now : ℕ) (call : Call) (ending : Ending) → HasCall f conn call → along interleaved_step (Some f) (poll.end_events conn now ending) ≡ Some g → EndTells call ending
-end-tells f g conn now call (poll.Answered ran level told) has h = answer-tells f g conn now (is_broken ran) None level told call has h
-end-tells f g conn now call (Waited why) has h = tt
-end-tells f g conn now call (Dialed host port) has h = asks-tells f g conn now call has h
-
 -- a beginning and transfers leave the tables
-begun-tables : (f g : InterleavedState) (conn now : ℕ) → interleaved_step f (Begin conn now) ≡ Some g → g.state.tables ≡ f.state.tables
-begun-tables f g conn now h = (interleaved-frame f g (Begin conn now) h).tables
-
 moved-tables : (f g : InterleavedState) (conn : ℕ) (moves : _) → along interleaved_step (Some f) (moved_events conn moves) ≡ Some g → g.state.tables ≡ f.state.tables
 moved-tables f g conn [] h = ap (λ (x : InterleavedState). x.state.tables) (sym (same_Some f g h))
 moved-tables f g conn (t ∷ ts) h = (interleaved-frame f g (Move conn (t ∷ ts)) h).tables
@@ -203,18 +169,16 @@ run-tables f g conn now false moves h = moved-tables f g conn moves h
 run-tables f g conn now true moves h = by (interleaved_step f (Begin conn now)) refl h where
   by : (o : Option InterleavedState) → interleaved_step f (Begin conn now) ≡ o → along interleaved_step o (moved_events conn moves) ≡ Some g → g.state.tables ≡ f.state.tables
   by None is rest = absurd (none-some g (sym (along-none interleaved_step (moved_events conn moves)) ∙ rest))
-  by (Some mid) is rest = moved-tables mid g conn moves rest ∙ begun-tables f mid conn now is
+  by (Some mid) is rest = moved-tables mid g conn moves rest ∙ (interleaved-frame f mid (Begin conn now) is).tables
 
 -- a poll
-polls-tell : (f new : InterleavedState) (conn now : ℕ) (moves : _) (ending : Ending) (call : Call) → HasCall f conn call → Polls f conn now moves ending new → EndTells call ending
-polls-tell f new conn now moves ending call has p =
-    let same = run-tables f p.behind conn now (begins f conn now) moves p.runs_to in
-    end-tells p.behind p.last conn now call ending
-    (record { pending = has.pending; call_at = ap (λ (t : Tables). pending_at t conn) same ∙ has.call_at; call_is = has.call_is }) p.ended
-
 pub polled-tells : {B : Type 0} (g : Ghosts B) (before : CoreState B) (conn now : ℕ) (ending : Ending) (events : List Event) (steps : List Step) (call : Call) → HasCall before.interleaved conn call
     → IsSessionPolled g before conn now ending events steps → EndTells call ending
-polled-tells g before conn now ending events steps call has p = polls-tell before.interleaved p.after.interleaved conn now (g.means p.after.bus).moves ending call has p.over.polls
+polled-tells g before conn now ending events steps call has polled =
+    let p = polled.over.polls in
+    let same = run-tables before.interleaved p.behind conn now (begins before.interleaved conn now) (g.means polled.after.bus).moves p.runs_to in
+    end-tells p.behind p.last conn now call ending
+    (record { pending = has.pending; call_at = ap (λ (t : Tables). pending_at t conn) same ∙ has.call_at; call_is = has.call_is }) p.ended
 
 -- a call that came is its connection's
 pub come-call : (f g : InterleavedState) (conn now : ℕ) (call : Call) → interleaved_step f (Arrive conn call now) ≡ Some g → HasCall g conn call

@@ -20,21 +20,14 @@ use Rattle.vx_flow.specs.Event.{Event, Answer, Begin, Move, Dial}
 use Rattle.vx_flow.specs.InterleavedState.{InterleavedState}
 use Rattle.vx_flow.specs.Poll.{Ending, Answered, Waited, Dialed, is_broken, begins, begun_events, moved_events, run_events, end_events}
 use Rattle.vx_group.specs.Groups.{Group, last_moment, now_of}
-use Rattle.vx_group.specs.Owning.{owner_of}
 use Rattle.vx_group.specs.Phases.{Phase, Idle, Asked, phase_along}
 use Rattle.vx_group.proofs.Laws.{phase-append}
 use Rattle.vx_session.specs.Acting.{poll_events}
 use Rattle.vx_session.specs.Placing.{Placed, Chain, IsSessionTold, IsTimely, Makes, behind, logged}
-use Rattle.vx_session.specs.Parts.{IsSessionPolled, IsAt, dialed_of, phase_behind}
+use Rattle.vx_session.specs.Parts.{IsSessionPolled, IsAt, phase_behind}
 use Rattle.vx_session.specs.Progress.{Clocked, ClockedAs}
 
 -- ---- polls
-
--- a poll began its call's turn or not, the turn made transfers or not, and then the call was answered, a dial was asked for, or
--- neither
-pub ispolled-shape : {B : Type 0} (g : Ghosts B) (before : CoreState B) (conn now : ℕ) (ending : Ending) (events : List Event) (steps : List Step) → IsSessionPolled g before conn now ending events steps
-    → (begun : Bool) × (moves : List Transfer) × (events ≡ cond begun (Begin conn now ∷ []) [] ++ moved_events conn moves ++ end_events conn now ending)
-ispolled-shape g before conn now ending events steps p = (begins before.interleaved conn now, (g.means p.after.bus).moves, p.are)
 
 -- what holds of a beginning, of transfers, of an answer behind no dial and of a dial holds of each event of a poll
 pub poll-all : (P : Event → Type 0) (f : InterleavedState) (conn now : ℕ) (moves : List Transfer) (ending : Ending) → P (Begin conn now) → ((made : List Transfer) → P (Move conn made))
@@ -58,10 +51,10 @@ poll-all P f conn now moves ending begun moved answered dials =
     last (Dialed host port) = All-cons P (Dial conn now) [] dials (All-nil P)
 
 -- so it does of each event of a poll in a turn
-pub ispolled-all : {B : Type 0} (P : Event → Type 0) (g : Ghosts B) (before : CoreState B) (conn now : ℕ) (ending : Ending) (events : List Event) (steps : List Step) → IsSessionPolled g before conn now ending events steps
+pub ispolled-all : {B : Type 0} (P : Event → Type 0) {g : Ghosts B} {before : CoreState B} {conn now : ℕ} {ending : Ending} {events : List Event} {steps : List Step} → IsSessionPolled g before conn now ending events steps
     → P (Begin conn now) → ((made : List Transfer) → P (Move conn made)) → ((failed level : Bool) (told : Reply) → P (Answer conn now failed None level told)) → P (Dial conn now)
     → All P events
-ispolled-all P g before conn now ending events steps p begun moved answered dials =
+ispolled-all P {g = g} {before = before} {conn = conn} {now = now} {ending = ending} p begun moved answered dials =
     subst (All P) (sym p.are) (poll-all P before.interleaved conn now (g.means p.after.bus).moves ending begun moved answered dials)
 
 -- an event that has this moment is at it
@@ -78,25 +71,10 @@ poll-at f conn now moves ending =
     poll-all (IsAt now) f conn now moves ending (has-moment (Begin conn now) now refl) (λ made. has-none (Move conn made) now refl)
     (λ failed level told. has-moment (Answer conn now failed None level told) now refl) (has-moment (Dial conn now) now refl)
 
-pub ispolled-at : {B : Type 0} (g : Ghosts B) (before : CoreState B) (conn now : ℕ) (ending : Ending) (events : List Event) (steps : List Step) → IsSessionPolled g before conn now ending events steps → All (IsAt now) events
-ispolled-at g before conn now ending events steps p = subst (All (IsAt now)) (sym p.are) (poll-at before.interleaved conn now (g.means p.after.bus).moves ending)
-
--- they are the connection's
-pub ispolled-own : {B : Type 0} (g : Ghosts B) (before : CoreState B) (conn now : ℕ) (ending : Ending) (events : List Event) (steps : List Step) → IsSessionPolled g before conn now ending events steps
-    → All (λ e. owner_of e ≡ Some conn) events
-ispolled-own g before conn now ending events steps p =
-    ispolled-all (λ e. owner_of e ≡ Some conn) g before conn now ending events steps p refl (λ made. refl) (λ failed level told. refl) refl
-
--- none of them is an answer behind a dial
-pub ispolled-undialed : {B : Type 0} (g : Ghosts B) (before : CoreState B) (conn now : ℕ) (ending : Ending) (events : List Event) (steps : List Step) → IsSessionPolled g before conn now ending events steps
-    → All (λ e. dialed_of e ≡ None) events
-ispolled-undialed g before conn now ending events steps p =
-    ispolled-all (λ e. dialed_of e ≡ None) g before conn now ending events steps p refl (λ made. refl) (λ failed level told. refl) refl
-
 -- ---- the phase behind a poll
 
 -- a choice by the connection's own number takes the first way
-pub chosen-own : (conn : ℕ) (x y : Phase) → cond (conn == conn) x y ≡ x
+pub chosen-own : {A : Type 0} (conn : ℕ) (x y : A) → cond (conn == conn) x y ≡ x
 chosen-own conn x y = cond-true (conn == conn) x y (eq-eqb conn conn refl)
 
 -- a beginning leaves the phase
@@ -128,9 +106,9 @@ poll-phase f conn now moves ending call dialed =
     (phase-append conn phase first moved ∙ ap (λ s. phase_along conn s moved) (phase-begun conn now phase (begins f conn now)) ∙ phase-moved conn phase moves)
     ∙ phase-end conn now call dialed ending
 
-pub ispolled-phase : {B : Type 0} (g : Ghosts B) (before : CoreState B) (conn now : ℕ) (ending : Ending) (events : List Event) (steps : List Step) (call : Call) (dialed : Bool)
+pub ispolled-phase : {B : Type 0} {g : Ghosts B} {before : CoreState B} {conn now : ℕ} {ending : Ending} {events : List Event} {steps : List Step} (call : Call) (dialed : Bool)
     → IsSessionPolled g before conn now ending events steps → phase_along conn (Asked call dialed) events ≡ phase_behind call dialed ending
-ispolled-phase g before conn now ending events steps call dialed p =
+ispolled-phase {g = g} {before = before} {conn = conn} {now = now} {ending = ending} call dialed p =
     ap (phase_along conn (Asked call dialed)) p.are ∙ poll-phase before.interleaved conn now (g.means p.after.bus).moves ending call dialed
 
 -- ---- groups of a pass
@@ -187,15 +165,7 @@ makes-goes told told' p q r ps qs later before after =
 
 -- a clock that has told more
 pub makes-later : (told told' : ℕ) (p q : PassView Group) (ps : List Placed) → told ≤ told' → Makes told p ps q → Makes told' p ps q
-makes-later told told' p q ps later makes = record {
-  gate = makes.gate;
-  number = makes.number;
-  parts = makes.parts;
-  chain = makes.chain;
-  own = makes.own;
-  timely = all-later told told' ps later makes.timely;
-  alone = makes.alone;
-}
+makes-later told told' p q ps later makes = subst (λ qs. Makes told' p qs q) (append-nil ps) (makes-goes told told' p q q ps [] later makes (makes-none told' q))
 
 -- ---- a clock
 

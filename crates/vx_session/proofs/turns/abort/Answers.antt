@@ -9,16 +9,18 @@ use Rattle.vx_session.specs.Turning.{SessionAborts}
 use Rattle.vx_session.proofs.Moments.{interleaved-moment, one-without}
 use Rattle.vx_session.proofs.Phased.{phase-more}
 use Rattle.vx_session.proofs.Making.{timely-still, turns}
-use Rattle.vx_session.proofs.Owned.{own-phase, abort-phase, may-abort}
+use Rattle.vx_rules.proofs.Laws.{role-lives}
+use Rattle.vx_group.specs.Groups.{events_of}
+use Rattle.vx_session.proofs.Owned.{own-phase, may-one}
 use Rattle.vx_session.proofs.turns.abort.Goals as goal
 
 pub turn-requires-clause-act : goal.turn-requires-clause-act
 turn-requires-clause-act g c = λ log kept fits stands. (
   (
-    abort-phase kept.interleaved c.args.conn (own-phase c.phase_law.ensures c.args.pass log kept.interleaved c.args.conn (Idle role.Abort) fits stands.state c.requires.phase),
+    role-lives kept.interleaved.state.tables c.args.conn role.Abort (own-phase c.phase_law.ensures c.args.pass log kept.interleaved c.args.conn (Idle role.Abort) fits stands.state c.requires.phase).0,
     c.requires.room,
   ),
-  λ answer act' kept' did. may-abort c.args.pass c.args.conn (ap is_up c.requires.phase) c.args.lid answer.error,
+  λ answer act' kept' did. may-one (events_of c.args.pass.own) (Abort c.args.conn c.args.lid answer.error) (ap is_up c.requires.phase),
 )
 
 pub returns-clause-aborts : goal.returns-clause-aborts

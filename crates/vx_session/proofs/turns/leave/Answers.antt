@@ -6,14 +6,15 @@ use Rattle.vx_session.specs.Origin.{origin}
 use Rattle.vx_session.specs.Turning.{phase_at}
 use Rattle.vx_session.proofs.Moments.{interleaved-moment, one-without}
 use Rattle.vx_session.proofs.Making.{timely-still, turns}
-use Rattle.vx_session.proofs.Owned.{own-phase, up-phase, may-leave}
+use Rattle.vx_group.specs.Groups.{events_of}
+use Rattle.vx_session.proofs.Owned.{own-phase, up-phase, may-one}
 use Rattle.vx_session.proofs.turns.leave.Goals as goal
 
 pub turn-pass-requires-clause-act : goal.turn-pass-requires-clause-act
 turn-pass-requires-clause-act g c = λ log kept fits stands. (
   up-phase kept.interleaved c.args.conn (phase_at c.args.pass c.args.conn) c.requires.phase
       (own-phase c.phase_law.ensures c.args.pass log kept.interleaved c.args.conn (phase_at c.args.pass c.args.conn) fits stands.state refl),
-  λ answer act' kept' did. may-leave c.args.pass c.args.conn c.requires.phase,
+  λ answer act' kept' did. may-one (events_of c.args.pass.own) (Down c.args.conn) c.requires.phase,
 )
 
 pub returns : goal.returns

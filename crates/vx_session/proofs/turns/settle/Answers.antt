@@ -3,8 +3,9 @@ use Rattle.vx_calls.specs.Reply as reply
 use Rattle.vx_gate.specs.History.{groups}
 use Rattle.vx_flow.specs.Event.{Answer}
 use Rattle.vx_flow.specs.InterleavedStep.{interleaved_step}
-use Rattle.vx_group.specs.Groups.{StandsFor}
-use Rattle.vx_group.specs.Phases.{Asked, is_up}
+use Rattle.vx_group.specs.Groups.{events_of, StandsFor}
+use Rattle.vx_calls.specs.declared.calls.Role.TheVariants as role
+use Rattle.vx_group.specs.Phases.{Idle, Asked, is_up}
 use Rattle.vx_group.specs.Laws.{group_after}
 use Rattle.vx_bus_traits.specs.Steps.{Told, Cut}
 use Rattle.vx_session.specs.Origin.{origin}
@@ -12,9 +13,10 @@ use Rattle.vx_session.specs.Placing.{behind}
 use Rattle.vx_session.specs.Parts.{settled_events}
 use Rattle.vx_session.specs.Turning.{phase_at, Settles}
 use Rattle.vx_session.proofs.Moments.{interleaved-moment, one-moment}
-use Rattle.vx_session.proofs.Phased.{phase-more, phase-answer}
+use Rattle.vx_session.proofs.Laws.{chosen-own}
+use Rattle.vx_session.proofs.Phased.{phase-more}
 use Rattle.vx_session.proofs.Making.{now-is, timely-now, turns}
-use Rattle.vx_session.proofs.Owned.{own-phase, dialed-phase, may-answer}
+use Rattle.vx_session.proofs.Owned.{own-phase, may-one}
 use Rattle.vx_session.proofs.Outcomes.{is-channel}
 use Rattle.vx_session.proofs.Channels.{settled-channel}
 use Rattle.vx_session.proofs.turns.settle.Goals as goal
@@ -22,12 +24,11 @@ use Rattle.vx_session.proofs.turns.settle.Goals as goal
 pub turn-requires-clause-act : goal.turn-requires-clause-act
 turn-requires-clause-act g c = λ log kept fits stands. (
   (
-    dialed-phase kept.interleaved c.args.worker.now.conn c.requires.phase.0
-        (own-phase c.phase_law.ensures c.args.pass log kept.interleaved c.args.worker.now.conn (Asked c.requires.phase.0 true) fits stands.state c.requires.phase.1),
+    (own-phase c.phase_law.ensures c.args.pass log kept.interleaved c.args.worker.now.conn (Asked c.requires.phase.0 true) fits stands.state c.requires.phase.1).1.dialed_is,
     c.requires.room,
   ),
   λ answer act' kept' did.
-      may-answer c.args.pass c.args.worker.now.conn (ap is_up c.requires.phase.1) (max kept.interleaved.state.moment c.args.now) false (Some c.args.up) false (reply.Error answer.error),
+      may-one (events_of c.args.pass.own) (Answer c.args.worker.now.conn (max kept.interleaved.state.moment c.args.now) false (Some c.args.up) false (reply.Error answer.error)) (ap is_up c.requires.phase.1),
 )
 
 pub returns-clause-settles : goal.returns-clause-settles
@@ -54,5 +55,5 @@ returns-clause-settles g c =
           (λ came. settled-channel f t.after.interleaved (groups t.log) conn now (reply.Error answer.error) t.stood.state
           (subst (λ up. interleaved_step f (Answer conn now false (Some up) false (reply.Error answer.error)) ≡ Some t.after.interleaved) came did.answers));
       stands = did.stands;
-      phase = phase-more c.args.pass.own c.turn.result.0.own group conn t.own ∙ phase-answer conn (phase_at c.args.pass conn);
+      phase = phase-more c.args.pass.own c.turn.result.0.own group conn t.own ∙ chosen-own conn (Idle role.Core) (phase_at c.args.pass conn);
     })

@@ -1,9 +1,8 @@
 use Rattle.std.proofs.Common.{◌≡◌, ◌≤◌, Some, None, refl, sym, ◌∙◌, subst, rules}
 use Rattle.std.proofs.lemmas.Option.{none-some}
-use Rattle.vx_calls.specs.declared.calls.Role.TheVariants as role
 use Rattle.vx_session.proofs.Laws.Attended.{link-keeps}
 use Rattle.vx_session.proofs.Laws.OneBusSessions.{link-did, link-later}
-use Rattle.vx_session.proofs.links.core_link.Goals as goal
+use Rattle.vx_session.proofs.links.run_link.Goals as goal
 
 pub unreachable-requires : goal.unreachable-requires
 unreachable-requires g c =
@@ -20,7 +19,7 @@ returns-clause-did g c =
     link-did g.B.Bus g.C.Clock g.D.Dial _ (λ s. g.T.Turns.first s.worker.turns.now) (λ s. g.T.Turns.gate s.worker.turns.now) (λ s. s.worker.conn) (λ s. s.held.now) (λ s. s.clock.now) (λ s. s.dial.now)
     (λ s r idle. idle) (λ s s' xid call reply did. did.0) (λ s s' xid lid reply did. did.0) (λ s s' xid call reply did. did.4) (λ s s' xid lid reply did. did.4) (λ s s' did. did.0)
     (λ s s' r answer did. did.0) (λ s s' r answer did. did.4)
-    g.L.Link c.claims_law.ensures.claims c.owned_law.ensures role.Core _ c.serve_link-how.result.0 c.args.pass c.in-Some.pass _ _ _ _ _ refl
+    g.L.Link c.claims_law.ensures.claims c.owned_law.ensures c.args.worker.now.role _ c.serve_link-how.result.0 c.args.pass c.in-Some.pass _ _ _ _ _ refl
     (subst (λ o. o ≡ Some c.in-Some.pass) (search (rules, held)) c.in-Some.is) (search (rules, clock)) (search (rules, dial)) did
 
 pub returns-clause-told : goal.returns-clause-told
@@ -31,4 +30,4 @@ returns-clause-told g c =
     (link-later g.B.Bus g.C.Clock g.D.Dial _ (λ s. g.T.Turns.first s.worker.turns.now) (λ s. g.T.Turns.gate s.worker.turns.now) (λ s. s.worker.conn) (λ s. s.held.now) (λ s. s.clock.now) (λ s. s.dial.now)
     (λ s r idle. idle) (λ s s' xid call reply did. did.0) (λ s s' xid lid reply did. did.0) (λ s s' xid call reply did. did.4) (λ s s' xid lid reply did. did.4) (λ s s' did. did.0)
     (λ s s' r answer did. did.0) (λ s s' r answer did. did.4)
-    g.L.Link role.Core _ c.serve_link-how.result.0 _ _ _ did)
+    g.L.Link c.args.worker.now.role _ c.serve_link-how.result.0 _ _ _ did)
