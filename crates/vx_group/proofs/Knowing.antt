@@ -6,13 +6,13 @@ use Rattle.std.proofs.lemmas.Bool.{cases_Bool, cases_eq}
 use Rattle.std.proofs.lemmas.Option.{none-some, same_Some}
 use Rattle.std.proofs.lemmas.List.Elements.{Contains-append_left, Contains-push, Contains-push_cases}
 use Rattle.vx_calls.specs.declared.calls.Role.{Role}
-use Rattle.vx_flow.specs.Event.{Event, Up, Down, Arrive, Answer, Abort, Sample, Take, Begin, Move, Dial}
+use Rattle.vx_flow.specs.Event.{Event, Up, Abort, Begin, Move}
 use Rattle.vx_flow.specs.InterleavedState.{InterleavedState}
 use Rattle.vx_flow.specs.InterleavedStep.{interleaved_step}
 use Rattle.vx_flow.proofs.Laws.{interleaved-does}
-use Rattle.vx_group.specs.Phases.{Phase, Absent, Idle, Asked, phase_after, phase_by, is_up, HasPhase}
+use Rattle.vx_group.specs.Phases.{Phase, Absent, phase_after, phase_by, is_up, HasPhase}
 use Rattle.vx_group.specs.MadeLinks.{numbers_by, HasLinks}
-use Rattle.vx_group.specs.Owning.{owner_of, may_make}
+use Rattle.vx_group.specs.Owning.{has_up, owner_of, may_make}
 use Rattle.vx_group.proofs.Laws.Onward.{interleaved-onward}
 use Rattle.vx_group.proofs.Plainly.{Plainly, interleaved-plainly}
 use Rattle.vx_group.proofs.Rows.{changes, interleaved-keeps}
@@ -44,43 +44,24 @@ pub record Known (own : Own) (f : InterleavedState) : Type 0 where
 
 -- an event that changes a connection is that connection's
 changes-owner : (e : Event) (conn : ℕ) → changes e ≡ Some conn → owner_of e ≡ Some conn
-changes-owner (Up c r) conn h = h
-changes-owner (Down c) conn h = h
-changes-owner (Arrive c asked now) conn h = h
-changes-owner (Answer c now failed dialed level told) conn h = h
-changes-owner (Dial c now) conn h = h
 changes-owner (Abort c lid told) conn h = absurd (none-some conn h)
-changes-owner (Sample now srq) conn h = h
-changes-owner (Take c chan given) conn h = h
 changes-owner (Begin c now) conn h = absurd (none-some conn h)
 changes-owner (Move c moves) conn h = absurd (none-some conn h)
+changes-owner _ conn h = h
 
 -- a pass that may make a connection's event has it up, or has it come up by that event
 abbrev RaisesNow : List Event → Event → ℕ → Type 0
 RaisesNow own e conn = ((r : Role) × (e ≡ Up conn r)) ⊎ (is_up (phase_by conn own) ≡ true)
 
--- a pass that may make it where it has the connection up
-has-up : (own : List Event) (e : Event) (c conn : ℕ) → Some c ≡ Some conn → is_up (phase_by c own) ≡ true → RaisesNow own e conn
-has-up own e c conn h may = inr (subst (λ k. is_up (phase_by k own) ≡ true) (same_Some c conn h) may)
-
 -- so it is of each event that the pass may make
 made-raised : (e : Event) (own : List Event) (conn : ℕ) → may_make own e ≡ true → owner_of e ≡ Some conn → RaisesNow own e conn
 made-raised (Up c r) own conn may h = inl (r, ap (λ k. Up k r) (same_Some c conn h))
-made-raised (Down c) own conn may h = has-up own (Down c) c conn h may
-made-raised (Arrive c asked now) own conn may h = has-up own (Arrive c asked now) c conn h may
-made-raised (Answer c now failed dialed level told) own conn may h = has-up own (Answer c now failed dialed level told) c conn h may
-made-raised (Abort c lid told) own conn may h = has-up own (Abort c lid told) c conn h may
-made-raised (Begin c now) own conn may h = has-up own (Begin c now) c conn h may
-made-raised (Move c moves) own conn may h = has-up own (Move c moves) c conn h may
-made-raised (Dial c now) own conn may h = has-up own (Dial c now) c conn h may
-made-raised (Sample now srq) own conn may h = absurd (none-some conn h)
-made-raised (Take c chan given) own conn may h = absurd (none-some conn h)
+made-raised _ own conn may h = inr (subst (λ o. has_up own o ≡ true) h may)
 
 -- of a connection that isn't up a phase tells nothing
 absent-phase : (phase : Phase) (g : InterleavedState) (conn : ℕ) → is_up phase ≡ false → HasPhase g conn phase
 absent-phase Absent g conn h = tt
-absent-phase (Idle r) g conn h = cc
-absent-phase (Asked call dialed) g conn h = cc
+absent-phase _ g conn h = cc
 
 -- a connection that comes up has the number that comes next, which is used up
 record UsesNext (f g : InterleavedState) (conn : ℕ) : Type 0 where

@@ -134,11 +134,9 @@ stopped-tells _ error o numbers h = refl
 -- neither call has a job, so that no reply of a whole job is one of these
 job-tells : (asked : Call) (about : NamedLink) (told : Reply) (numbers : List ℕ) → is_some (task_of about asked) ≡ true → numbers_after asked told numbers ≡ Some numbers
 job-tells (call.CreateLink client lock lock_timeout device) NoLink told numbers h = absurd (false≢true h)
-job-tells (call.CreateLink client lock lock_timeout device) DeadLink told numbers h = absurd (false≢true h)
-job-tells (call.CreateLink client lock lock_timeout device) (OnLink l) told numbers h = absurd (false≢true h)
+job-tells (call.CreateLink client lock lock_timeout device) _ told numbers h = absurd (false≢true h)
 job-tells (call.DestroyLink lid) NoLink told numbers h = absurd (false≢true h)
-job-tells (call.DestroyLink lid) DeadLink told numbers h = absurd (false≢true h)
-job-tells (call.DestroyLink lid) (OnLink l) told numbers h = absurd (false≢true h)
+job-tells (call.DestroyLink lid) _ told numbers h = absurd (false≢true h)
 job-tells _ about told numbers h = refl
 
 -- ---- what refuses one of these calls is an error
@@ -318,11 +316,7 @@ links-free e f g plain free h conn low = at (changes-or e conn) where
       absurd (omega (arith, low, given, mine, (interleaved-onward e f g h).next))
   by (Arrive c asked now) is own = same ((interleaved-frame f g (Arrive c asked now) (allowed (Arrive c asked now) is)).all_links refl)
   by (Dial c now) is own = same ((interleaved-frame f g (Dial c now) (allowed (Dial c now) is)).all_links refl)
-  by (Abort c lid told) is own = absurd (none-some conn own)
-  by (Sample now srq) is own = absurd (none-some conn own)
-  by (Take c chan given) is own = absurd (none-some conn own)
-  by (Begin c now) is own = absurd (none-some conn own)
-  by (Move c moves) is own = absurd (none-some conn own)
+  by _ is own = absurd (none-some conn own)
 
   at : (changes e ≡ Some conn) ⊎ (changes e ≡ Some conn → ⊥) → numbers_of g.state.tables conn ≡ []
   at (inl own) = by e refl own
@@ -377,11 +371,7 @@ own-links (Answer c now failed dialed level told) own f g conn is may free phase
     own-way c conn (answered_numbers (phase_by conn own) told (numbers_by conn own)) (numbers_by conn own) is
     ∙ answered-links (phase_by conn own) f g conn now (bus_input f conn failed dialed level) told (numbers_by conn own) was phases (links was)
     (subst (λ k. IsAnswered f k now (bus_input f k failed dialed level) told g) same (interleaved-does f g (Answer c now failed dialed level told) h).step)
-own-links (Abort c lid told) own f g conn is may free phases links h up = absurd (none-some conn is)
-own-links (Sample now srq) own f g conn is may free phases links h up = absurd (none-some conn is)
-own-links (Take c chan given) own f g conn is may free phases links h up = absurd (none-some conn is)
-own-links (Begin c now) own f g conn is may free phases links h up = absurd (none-some conn is)
-own-links (Move c moves) own f g conn is may free phases links h up = absurd (none-some conn is)
+own-links _ own f g conn is may free phases links h up = absurd (none-some conn is)
 
 -- what the state has of a connection's links it has behind an event that leaves them
 pub keeps-links : (f g : InterleavedState) (conn : ℕ) (phase : Phase) (numbers : Option (List ℕ)) → numbers_of g.state.tables conn ≡ numbers_of f.state.tables conn

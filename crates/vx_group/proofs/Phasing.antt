@@ -12,7 +12,7 @@ use Rattle.vx_rules.specs.State.{Pending, Connection, role_at, pending_at}
 use Rattle.vx_rules.specs.Decide.{BusInput}
 use Rattle.vx_rules.specs.AtomicStep.{arrived}
 use Rattle.vx_rules.proofs.Laws.Rows.{role-pending, role-same, pending-put, pending-up}
-use Rattle.vx_flow.specs.Event.{Event, Up, Down, Arrive, Answer, Abort, Sample, Take, Begin, Move, Dial}
+use Rattle.vx_flow.specs.Event.{Event, Up, Down, Arrive, Answer, Dial}
 use Rattle.vx_flow.specs.InterleavedState.{InterleavedState}
 use Rattle.vx_flow.specs.InterleavedStep.{bus_input, without_dial, interleaved_step}
 use Rattle.vx_flow.specs.Poll.{at_moment}
@@ -37,11 +37,7 @@ phase-other (Down c) conn phase other = chosen-other c conn Absent phase other
 phase-other (Arrive c asked now) conn phase other = chosen-other c conn (Asked asked false) phase other
 phase-other (Answer c now failed dialed level told) conn phase other = chosen-other c conn (Idle role.Core) phase other
 phase-other (Dial c now) conn phase other = chosen-other c conn (dialing phase) phase other
-phase-other (Abort c lid told) conn phase other = refl
-phase-other (Sample now srq) conn phase other = refl
-phase-other (Take c chan given) conn phase other = refl
-phase-other (Begin c now) conn phase other = refl
-phase-other (Move c moves) conn phase other = refl
+phase-other _ conn phase other = refl
 
 -- nothing is pending where no call is found
 no-call : (o : Option Pending) → option_map (λ (p : Pending). p.call) o ≡ None → o ≡ None
@@ -163,11 +159,7 @@ own-phase (Answer c now failed dialed level told) own f g conn is may plain phas
 own-phase (Dial c now) own f g conn is may plain phases d =
     chosen-own g c conn (dialing (phase_by conn own)) (phase_by conn own) is (λ same.
     dial-phase (phase_by conn own) f g conn now (subst (λ k. is_up (phase_by k own) ≡ true) same may) phases (subst (λ k. Dials f k now g) same d))
-own-phase (Abort c lid told) own f g conn is may plain phases d = absurd (none-some conn is)
-own-phase (Sample now srq) own f g conn is may plain phases d = absurd (none-some conn is)
-own-phase (Take c chan given) own f g conn is may plain phases d = absurd (none-some conn is)
-own-phase (Begin c now) own f g conn is may plain phases d = absurd (none-some conn is)
-own-phase (Move c moves) own f g conn is may plain phases d = absurd (none-some conn is)
+own-phase _ own f g conn is may plain phases d = absurd (none-some conn is)
 
 -- an event changes the connection, or it doesn't
 pub changes-or : (e : Event) (conn : ℕ) → (changes e ≡ Some conn) ⊎ (changes e ≡ Some conn → ⊥)
