@@ -1,11 +1,7 @@
 -- What the calls of a gate return, from what their steps tell.
-use Rattle.std.proofs.Common.{◌≡◌, ℕ, ◌<◌, List, [], ◌∷◌, ◌++◌, length, get_or, cond, true, false, sym, refl, ap, subst, ◌∙◌, arith}
-use Rattle.std.specs.Prelude.{nat_lt}
-use Rattle.std.proofs.lemmas.Bool.Decides.{nat_tests}
-use mathlib.Core.Logic.{dite}
+use Rattle.std.proofs.Common.{◌≡◌, ℕ, List, [], ◌∷◌, ◌++◌, length, get_or, sym, refl, ap, subst, ◌∙◌, arith}
 use mathlib.Core.List.{IsPrefix}
 use mathlib.Core.Option.{some, some-injective}
-use native.Mathlib.Decide.{dec_le}
 use lib.ListN.{get_elem?}
 use Rattle.atomic_table.specs.Table.{Me, Final, Seen, opening}
 use Rattle.atomic_table.specs.Seated.{TableId}
@@ -13,7 +9,7 @@ use Rattle.atomic_table.specs.declared.shared.Seat.{Seat}
 use Rattle.vx_gate.specs.declared.views.Logged.{Logged}
 use Rattle.vx_gate.specs.declared.views.View.{View}
 use Rattle.vx_gate.specs.declared.views.Stage.{Stage}
-use Rattle.vx_gate.specs.declared.views.Stage.TheVariants.{Idle, Drawn, Turn, Counted, Spent}
+use Rattle.vx_gate.specs.declared.views.Stage.TheVariants.{Idle, Drawn, Spent}
 use Rattle.vx_gate.specs.History.{made, groups, made_by, Lawful}
 use Rattle.vx_gate.specs.PassView.{PassView, GateId}
 use Rattle.vx_gate.specs.Turning.{Fits, MayTurn, Turned}
@@ -28,9 +24,7 @@ use Rattle.vx_gate.proofs.Rules as rules
 at_rest : (z y : GateId) (st : Stage) → Rests st → gate_at z st ≡ y → y.words ≡ 64 → (st ≡ Idle) × (z ≡ y)
 at_rest z y Idle h e wide = (refl, e)
 at_rest z y Spent h e wide = let w : 0 ≡ y.words = ap (λ (x : TableId). x.words) e in absurd (omega arith)
-at_rest z y (Drawn u) h e wide = absurd h
-at_rest z y (Turn u) h e wide = absurd h
-at_rest z y (Counted u) h e wide = absurd h
+at_rest z y _ h e wide = absurd h
 
 module _ {K G : Type 0} where
   -- a pass of a gate has an idle seat of its table
@@ -39,18 +33,8 @@ module _ {K G : Type 0} where
 
 module _ {G : Type 0} where
   pub met_begins : (xs ys log : List (Logged G)) → IsPrefix (longer xs ys) log → IsPrefix (shorter xs ys) log → IsPrefix xs (longer xs ys) × IsPrefix ys (longer xs ys)
-  met_begins xs ys log p q = dite (dec_le (length ys) (length xs))
-      (λ le.
-      let no : nat_lt (length xs) (length ys) ≡ false = grind (arith, nat_tests) in
-      let l : longer xs ys ≡ xs = ap (λ b. cond b ys xs) no in
-      let s : shorter xs ys ≡ ys = ap (λ b. cond b xs ys) no in
-      (subst (IsPrefix xs) (sym l) (prefix_refl xs), subst (IsPrefix ys) (sym l) (prefix_both ys xs log (subst (λ z. IsPrefix z log) s q) (subst (λ z. IsPrefix z log) l p) le)))
-      (λ gt.
-      let lt : length xs < length ys = omega arith in
-      let no : nat_lt (length xs) (length ys) ≡ true = grind (arith, nat_tests) in
-      let l : longer xs ys ≡ ys = ap (λ b. cond b ys xs) no in
-      let s : shorter xs ys ≡ xs = ap (λ b. cond b xs ys) no in
-      (subst (IsPrefix xs) (sym l) (prefix_both xs ys log (subst (λ z. IsPrefix z log) s q) (subst (λ z. IsPrefix z log) l p) (omega arith)), subst (IsPrefix ys) (sym l) (prefix_refl ys)))
+  met_begins xs ys log = rules.by_length (λ l s. IsPrefix l log → IsPrefix s log → IsPrefix xs l × IsPrefix ys l) xs ys
+      (λ le p q. (prefix_refl xs, prefix_both ys xs log q p le)) (λ le p q. (prefix_both xs ys log q p le, prefix_refl ys))
 
 module _ {K G : Type 0} (stands : K → List G → Type 0) (may_add : List G → G → Type 0) where
   -- the gate at its start

@@ -6,7 +6,7 @@ use Rattle.std.proofs.lemmas.List.Sums.{sum_by_push}
 use mathlib.Core.Logic.{dite}
 use mathlib.Core.List.{IsPrefix}
 use mathlib.Core.Option.{Option, some, none, some-injective, some-ne-none}
-use native.Mathlib.Decide.{ℕ_discrete, dec_le}
+use native.Mathlib.Decide.{ℕ_discrete}
 use lib.ListN.{get_elem?}
 use Rattle.atomic_table.proofs.Lists.{at_set, set_here, set_else, at_longer, at_last}
 use Rattle.vx_gate.specs.declared.views.Logged.{Logged}
@@ -38,61 +38,41 @@ has-le-drawn : (t : ℕ) (st : Stage) → has t st ≤ drawn st
 has-le-drawn t (Drawn u) = cond_le (u == t)
 has-le-drawn t (Turn u) = cond_le (u == t)
 has-le-drawn t (Counted u) = cond_le (u == t)
-has-le-drawn t Idle = omega arith
-has-le-drawn t Spent = omega arith
+has-le-drawn t _ = omega arith
 
 holding-le-drawn : (st : Stage) → holding st ≤ drawn st
 holding-le-drawn (Drawn u) = omega arith
-holding-le-drawn (Turn u) = omega arith
-holding-le-drawn (Counted u) = omega arith
-holding-le-drawn Idle = omega arith
-holding-le-drawn Spent = omega arith
+holding-le-drawn _ = omega arith
 
 counted-le-drawn : (st : Stage) → counted st ≤ drawn st
 counted-le-drawn (Drawn u) = omega arith
-counted-le-drawn (Turn u) = omega arith
-counted-le-drawn (Counted u) = omega arith
-counted-le-drawn Idle = omega arith
-counted-le-drawn Spent = omega arith
+counted-le-drawn _ = omega arith
 
 -- a ticket is out with a part
 drawn-le-weight : (parts : ℕ) (st : Stage) → (Live st → 0 < parts) → drawn st ≤ weight parts st
-drawn-le-weight parts (Drawn u) h = let p = h tt in omega arith
-drawn-le-weight parts (Turn u) h = let p = h tt in omega arith
-drawn-le-weight parts (Counted u) h = let p = h tt in omega arith
-drawn-le-weight parts Idle h = omega arith
 drawn-le-weight parts Spent h = omega arith
+drawn-le-weight parts _ h = let p = h tt in omega arith
 
 -- a view with no weight is at its end
 weightless : (parts : ℕ) (st : Stage) → (Live st → 0 < parts) → weight parts st ≡ 0 → ¬ Live st
-weightless parts (Drawn u) h z l = let p = h tt in omega arith
-weightless parts (Turn u) h z l = let p = h tt in omega arith
-weightless parts (Counted u) h z l = let p = h tt in omega arith
-weightless parts Idle h z l = let p = h tt in omega arith
 weightless parts Spent h z l = l
+weightless parts _ h z l = let p = h tt in omega arith
 
 ended_holds : (st : Stage) → ¬ Live st → holding st ≡ 0
-ended_holds (Drawn u) h = absurd (h tt)
-ended_holds (Turn u) h = absurd (h tt)
-ended_holds (Counted u) h = absurd (h tt)
-ended_holds Idle h = refl
 ended_holds Spent h = refl
+ended_holds _ h = absurd (h tt)
 
 module _ {G : Type 0} where
   holds_has : (t : ℕ) (log seen : List (Logged G)) (st : Stage) → Holds t log seen st → holding st ≤ has t st
-  holds_has t log seen (Drawn u) h = omega arith
   holds_has t log seen (Turn u) h = omega (arith, has_here t u h.0)
   holds_has t log seen (Counted u) h = omega (arith, has_here t u h.0)
-  holds_has t log seen Idle h = omega arith
-  holds_has t log seen Spent h = omega arith
+  holds_has t log seen _ h = omega arith
 
   -- of one that doesn't hold the turn nothing is said
   holds_none : (t : ℕ) (log seen : List (Logged G)) (st : Stage) → holding st ≡ 0 → Holds t log seen st
-  holds_none t log seen (Drawn u) h = tt
   holds_none t log seen (Turn u) h = absurd (omega arith)
   holds_none t log seen (Counted u) h = absurd (omega arith)
-  holds_none t log seen Idle h = tt
-  holds_none t log seen Spent h = tt
+  holds_none t log seen _ h = tt
 
   -- after a change of one view each view is that one, or was there
   each_set : (P : ℕ → View G → Type 0) (views : List (View G)) (id : ℕ) (w : View G) → P id w → ((j : ℕ) (u : View G) → j ≢ id → get_elem? views j ≡ some u → P j u)
@@ -115,33 +95,21 @@ module _ {G : Type 0} where
     pub second : IsPrefix ys (longer xs ys)
     pub seen : IsPrefix (longer xs ys) log
     pub also : IsPrefix (shorter xs ys) log
-    pub one : (longer xs ys ≡ xs) ⊎ (longer xs ys ≡ ys)
+
+  -- what holds of two lists, the longer one first, holds of the longer and the shorter of them
+  pub by_length : (P : List (Logged G) → List (Logged G) → Type 0) (xs ys : List (Logged G)) → (length ys ≤ length xs → P xs ys) → (length xs ≤ length ys → P ys xs) → P (longer xs ys) (shorter xs ys)
+  by_length P xs ys first second = by (nat_lt (length xs) (length ys)) refl where
+    by : (b : Bool) → nat_lt (length xs) (length ys) ≡ b → P (cond b ys xs) (cond b xs ys)
+    by true is = second (grind (arith, nat_tests))
+    by false is = first (grind (arith, nat_tests))
 
   pub longest : (xs ys log : List (Logged G)) → IsPrefix xs log → IsPrefix ys log → Longest xs ys log
-  longest xs ys log p q = dite (dec_le (length ys) (length xs))
-      (λ le.
-      let no : nat_lt (length xs) (length ys) ≡ false = grind (arith, nat_tests) in
-      let l : longer xs ys ≡ xs = ap (λ b. cond b ys xs) no in
-      let s : shorter xs ys ≡ ys = ap (λ b. cond b xs ys) no in
-      record {
-        first = subst (IsPrefix xs) (sym l) (prefix_refl xs);
-        second = subst (IsPrefix ys) (sym l) (prefix_both ys xs log q p le);
-        seen = subst (λ z. IsPrefix z log) (sym l) p;
-        also = subst (λ z. IsPrefix z log) (sym s) q;
-        one = inl l;
-      })
-      (λ gt.
-      let lt : length xs < length ys = omega arith in
-      let no : nat_lt (length xs) (length ys) ≡ true = grind (arith, nat_tests) in
-      let l : longer xs ys ≡ ys = ap (λ b. cond b ys xs) no in
-      let s : shorter xs ys ≡ xs = ap (λ b. cond b xs ys) no in
-      record {
-        first = subst (IsPrefix xs) (sym l) (prefix_both xs ys log p q (omega arith));
-        second = subst (IsPrefix ys) (sym l) (prefix_refl ys);
-        seen = subst (λ z. IsPrefix z log) (sym l) q;
-        also = subst (λ z. IsPrefix z log) (sym s) p;
-        one = inr l;
-      })
+  longest xs ys log p q = record {
+    first = by_length (λ l s. IsPrefix xs l) xs ys (λ le. prefix_refl xs) (λ le. prefix_both xs ys log p q le);
+    second = by_length (λ l s. IsPrefix ys l) xs ys (λ le. prefix_both ys xs log q p le) (λ le. prefix_refl ys);
+    seen = by_length (λ l s. IsPrefix l log) xs ys (λ le. p) (λ le. q);
+    also = by_length (λ l s. IsPrefix s log) xs ys (λ le. q) (λ le. p);
+  }
 
   -- the longer of two beginnings is all of the history where one of them is
   prefix_le : (xs ys : List (Logged G)) → IsPrefix xs ys → length xs ≤ length ys

@@ -9,7 +9,7 @@ use Rattle.atomic_table.specs.Table.{State}
 use Rattle.vx_gate.specs.declared.views.Logged.{Logged}
 use Rattle.vx_gate.specs.declared.views.View.{View}
 use Rattle.vx_gate.specs.declared.views.Stage.{Stage}
-use Rattle.vx_gate.specs.declared.views.Stage.TheVariants.{Idle, Drawn, Turn, Counted, Spent}
+use Rattle.vx_gate.specs.declared.views.Stage.TheVariants.{Drawn, Turn, Counted, Spent}
 use Rattle.vx_gate.specs.History.{groups, made_by, Lawful}
 
 -- 1 where it has the ticket t
@@ -17,56 +17,41 @@ abbrev pub has : ℕ → Stage → ℕ
 has t (Drawn u) = cond (u == t) 1 0
 has t (Turn u) = cond (u == t) 1 0
 has t (Counted u) = cond (u == t) 1 0
-has t Idle = 0
-has t Spent = 0
+has t _ = 0
 
 -- 1 where it has a ticket
 abbrev pub drawn : Stage → ℕ
 drawn (Drawn u) = 1
 drawn (Turn u) = 1
 drawn (Counted u) = 1
-drawn Idle = 0
-drawn Spent = 0
+drawn _ = 0
 
 -- 1 where it holds the turn
 abbrev pub holding : Stage → ℕ
 holding (Turn u) = 1
 holding (Counted u) = 1
-holding (Drawn u) = 0
-holding Idle = 0
-holding Spent = 0
+holding _ = 0
 
 -- 1 where it holds the turn and has counted
 abbrev pub counted : Stage → ℕ
 counted (Counted u) = 1
-counted (Turn u) = 0
-counted (Drawn u) = 0
-counted Idle = 0
-counted Spent = 0
+counted _ = 0
 
 -- its pass goes on
 abbrev pub Live : Stage → Type 0
 Live Spent = ⊥
-Live Idle = Unit {0}
-Live (Drawn u) = Unit {0}
-Live (Turn u) = Unit {0}
-Live (Counted u) = Unit {0}
+Live _ = Unit {0}
 
 -- the parts of a view, where its pass goes on
 abbrev pub weight : ℕ → Stage → ℕ
 weight parts Spent = 0
-weight parts Idle = parts
-weight parts (Drawn u) = parts
-weight parts (Turn u) = parts
-weight parts (Counted u) = parts
+weight parts _ = parts
 
 -- one that holds the turn has the ticket that is served, and has seen all of the history
 abbrev pub Holds : {G : Type 0} → ℕ → List (Logged G) → List (Logged G) → Stage → Type 0
 Holds serving log seen (Turn u) = (u ≡ serving) × (seen ≡ log)
 Holds serving log seen (Counted u) = (u ≡ serving) × (seen ≡ log)
-Holds serving log seen (Drawn u) = Unit {0}
-Holds serving log seen Idle = Unit {0}
-Holds serving log seen Spent = Unit {0}
+Holds serving log seen _ = Unit {0}
 
 module _ {G : Type 0} where
   -- What holds of the view of the pass with this number: what it has seen begins the history, its own groups are the history's groups of its number, all among what it has seen, and it has a part and was parted from another pass

@@ -3,7 +3,7 @@ use Rattle.std.specs.Prelude.{◌≡◌, []}
 use Rattle.atomic_table.specs.declared.shared.Seat.{Seat}
 use Rattle.vx_gate.specs.declared.views.View.{View}
 use Rattle.vx_gate.specs.declared.views.Stage.{Stage}
-use Rattle.vx_gate.specs.declared.views.Stage.TheVariants.{Idle, Drawn, Turn, Counted, Spent}
+use Rattle.vx_gate.specs.declared.views.Stage.TheVariants.{Idle, Spent}
 use Rattle.vx_gate.specs.History.{made_by}
 use Rattle.vx_gate.specs.PassView.{PassView, GateId}
 
@@ -14,18 +14,13 @@ nowhere = record { words = 0; slots = 0; views_name = 0; atom = 0; block = 0; of
 -- a pass that came back from the close of its gate is of no gate any more
 abbrev pub gate_at : GateId → Stage → GateId
 gate_at z Spent = nowhere
-gate_at z Idle = z
-gate_at z (Drawn u) = z
-gate_at z (Turn u) = z
-gate_at z (Counted u) = z
+gate_at z _ = z
 
 -- between two calls a pass has no ticket
 abbrev pub Rests : Stage → Type 0
 Rests Idle = Unit {0}
 Rests Spent = Unit {0}
-Rests (Drawn u) = ⊥
-Rests (Turn u) = ⊥
-Rests (Counted u) = ⊥
+Rests _ = ⊥
 
 module _ {K G : Type 0} where
   abbrev pub pass_view : Seat K (View G) → PassView G
