@@ -23,18 +23,15 @@ ends-behind : (IsJunk : List ℕ → Type 0) (sa sb sc : LinkShown) (xs ys : Lis
     → is_some stop ≡ true → t ≡ at (messages xs ++ kept ∷ []) (fresh limit) → sa.send_faults ≤ sb.send_faults → WholeEnds IsJunk sb kept ys unsent sc stop
     → PieceEnds IsJunk sa (xs ++ ys) behind unsent t buffer sc stop
 ends-behind IsJunk sa sb sc xs ys kept behind unsent t limit buffer None some is later ends = absurd (false≢true some)
-ends-behind IsJunk sa sb sc xs ys kept behind unsent t limit buffer (Some end.Closed) some is later ends = absurd ends
-ends-behind IsJunk sa sb sc xs ys kept behind unsent t limit buffer (Some (end.CutShort n)) some is later ends = absurd ends
 ends-behind IsJunk sa sb sc xs ys kept behind unsent t limit buffer (Some (end.Junk n)) some is later ends =
     let same : messages xs ≡ messages (xs ++ ys) = sym (ap (λ l. messages (xs ++ l)) ends.0 ∙ ap messages (append-nil xs)) in
     (ends.1, kept, ap (λ u. u.records) is ∙ ap (λ ms. ms ++ kept ∷ []) same, ends.2, ends.3)
-ends-behind IsJunk sa sb sc xs ys kept behind unsent t limit buffer (Some end.TooLong) some is later ends = absurd ends
-ends-behind IsJunk sa sb sc xs ys kept behind unsent t limit buffer (Some end.ReadFault) some is later ends = absurd ends
 ends-behind IsJunk sa sb sc xs ys kept behind unsent t limit buffer (Some end.WriteFault) some is later ends = (
   ap (λ u. u.records) is ∙ sym (messages-append xs ys ∙ ap (λ ms. messages xs ++ ms) ends.0),
   ap (λ u. u.buffer.state) is,
   stops-behind sa sb sc xs ys unsent later ends.1,
 )
+ends-behind IsJunk sa sb sc xs ys kept behind unsent t limit buffer _ some is later ends = absurd ends
 
 module _ {S L : Type 0} (does : S → List ℕ → Option (List ℕ) → S → Type 0) (ways : Ghosts L) (server : S) (a : L) (buffer : BufState)
     (piece : List ℕ) where

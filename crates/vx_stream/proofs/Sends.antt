@@ -9,7 +9,6 @@ use Rattle.vx_io_traits.specs.Stands.{Goes, Takes, Stays}
 use Rattle.vx_io_traits.specs.declared.links.Link.{Ghosts}
 use Rattle.vx_io_traits.proofs.Laws.Goings.{Goes-none, Goes-takes, Goes-stays}
 use Rattle.vx_stream.specs.Shown.{LinkShown, LinkGoes, link_shown}
-use Rattle.vx_io_traits.specs.declared.WriteOut.{WriteOut}
 use Rattle.vx_io_traits.specs.declared.WriteOut.TheVariants.{Took, Failed as Refused}
 use Rattle.vx_stream.specs.Calling.{OnlyTook}
 use Rattle.vx_stream.specs.Sending.{SendsAll}
@@ -29,18 +28,14 @@ pub record SendKeeps (old new : LinkShown) : Type 0 where
   pub receives : new.receive_faults ≡ old.receive_faults
   pub sends : old.send_faults ≤ new.send_faults
 
--- a send gives no byte
-send-goes : (old new : LinkShown) → SendKeeps old new → LinkGoes old [] new
-send-goes old new kept = record {
+-- a link that gave nothing, and then a send, which gives no byte
+goes-on : (first old new : LinkShown) → LinkGoes first [] old → SendKeeps old new → LinkGoes first [] new
+goes-on first old new before kept = link-goes first old new [] [] before (record {
   left = keeps-consumes old.left new.left kept.left;
   peers = kept.peers;
   receives = (let same : new.receive_faults ≡ old.receive_faults = kept.receives in omega arith);
   sends = kept.sends;
-}
-
--- a link that gave nothing, and then a send
-goes-on : (first old new : LinkShown) → LinkGoes first [] old → SendKeeps old new → LinkGoes first [] new
-goes-on first old new before kept = link-goes first old new [] [] before (send-goes old new kept)
+})
 
 -- at first it took nothing
 pub sent-none : {L : Type 0} (ways : Ghosts L) (l : L) (bytes : List ℕ) → SentSoFar ways l l bytes 0

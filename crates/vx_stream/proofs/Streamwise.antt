@@ -13,8 +13,8 @@ use Rattle.vx_record.proofs.Laws.{came-on, shown}
 use Rattle.vx_io_traits.specs.declared.links.Link.{Ghosts}
 use Rattle.vx_stream.specs.Shown.{LinkShown, Gave, Ended, link_shown}
 use Rattle.vx_stream.proofs.Laws.{link-goes, goes-ended, at-end, took-none}
-use Rattle.vx_stream.specs.Answered.{Answered, Conversation, Progress, messages, replies}
-use Rattle.vx_stream.specs.Calling.{Receive, call_gave, OwesNone, InTurn, OnlyTook}
+use Rattle.vx_stream.specs.Answered.{Answered, Progress, messages, replies}
+use Rattle.vx_stream.specs.Calling.{OwesNone, InTurn, OnlyTook}
 use Rattle.vx_stream.specs.Stopping.{EndsSo, IsLeft, IsWithin, StreamAnswered, input_end}
 use Rattle.vx_stream.specs.Pieces.{PieceEnds, AnswersPiece, Received, PieceAnswered, NoPiece, AnswersNext}
 use Rattle.vx_stream.specs.declared.ends.End.{End}
@@ -63,27 +63,21 @@ piece-within : (IsJunk : List ℕ → Type 0) (most : Option ℕ) (received piec
 piece-within IsJunk most received piece left seen seen' answered after unsent t buffer end.Closed is fits h = absurd h
 piece-within IsJunk most received piece left seen seen' answered after unsent t buffer (end.CutShort n) is fits h = absurd h
 piece-within IsJunk most received piece left seen seen' answered after unsent t buffer end.ReadFault is fits h = absurd h
-piece-within IsJunk None received piece left seen seen' answered after unsent t buffer (end.Junk n) is fits h = tt
-piece-within IsJunk None received piece left seen seen' answered after unsent t buffer end.TooLong is fits h = tt
-piece-within IsJunk None received piece left seen seen' answered after unsent t buffer end.WriteFault is fits h = tt
-piece-within IsJunk (Some most) received piece left seen seen' answered after unsent t buffer (end.Junk n) is fits h = omega (arith, length-append received piece)
-piece-within IsJunk (Some most) received piece left seen seen' answered after unsent t buffer end.TooLong is fits h = omega (arith, length-append received piece)
-piece-within IsJunk (Some most) received piece left seen seen' answered after unsent t buffer end.WriteFault is fits h = omega (arith, length-append received piece)
+piece-within IsJunk None received piece left seen seen' answered after unsent t buffer _ is fits h = tt
+piece-within IsJunk (Some most) received piece left seen seen' answered after unsent t buffer _ is fits h = omega (arith, length-append received piece)
 
 -- a stream that ends in a piece ends so as a whole
 piece-ends : (IsJunk : List ℕ → Type 0) (sa sb sc : LinkShown) (xs ys : List Answered) (looked : Split) (after unsent : List ℕ) (t : Stream) (buffer : BufState) (stop : End)
     → sa.send_faults ≤ sb.send_faults → looked.records ≡ messages xs ++ t.records → looked.too_long ≡ is_too_long t.buffer.state
     → PieceEnds IsJunk sb ys after unsent t buffer sc (Some stop) → EndsSo IsJunk sa (xs ++ ys) looked after unsent sc (Some stop)
-piece-ends IsJunk sa sb sc xs ys looked after unsent t buffer end.Closed later recs long h = absurd h
-piece-ends IsJunk sa sb sc xs ys looked after unsent t buffer (end.CutShort n) later recs long h = absurd h
 piece-ends IsJunk sa sb sc xs ys looked after unsent t buffer (end.Junk n) later recs long h =
     let tail : List (List ℕ) = h.1 ∷ [] in
     (h.0, h.1, recs ∙ ap (λ all. messages xs ++ all) h.2 ∙ sym (append_assoc (messages xs) (messages ys) tail) ∙ ap (λ all. all ++ tail) (sym (messages-append xs ys)), h.3, h.4)
 piece-ends IsJunk sa sb sc xs ys looked after unsent t buffer end.TooLong later recs long h =
     (recs ∙ ap (λ all. messages xs ++ all) h.1 ∙ sym (messages-append xs ys), long ∙ ap is_too_long h.2, h.0)
-piece-ends IsJunk sa sb sc xs ys looked after unsent t buffer end.ReadFault later recs long h = absurd h
 piece-ends IsJunk sa sb sc xs ys looked after unsent t buffer end.WriteFault later recs long h =
     (recs ∙ ap (λ all. messages xs ++ all) h.0 ∙ sym (messages-append xs ys), stops-behind sa sb sc xs ys unsent later h.2)
+piece-ends IsJunk sa sb sc xs ys looked after unsent t buffer _ later recs long h = absurd h
 
 -- ---- a stream so far
 

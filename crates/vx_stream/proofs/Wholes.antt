@@ -5,7 +5,6 @@ use Rattle.vx_io_traits.specs.declared.links.Link.{Ghosts}
 use Rattle.vx_stream.specs.Shown.{link_shown}
 use Rattle.vx_stream.specs.Sending.{SendsAll, IsSent}
 use Rattle.vx_stream.specs.Answered.{Answered, Progress}
-use Rattle.vx_stream.specs.Stopping.{StopsReply}
 use Rattle.vx_stream.specs.Pieces.{AnswersWhole}
 use Rattle.vx_stream.specs.declared.ends.End.TheVariants as end
 use Rattle.vx_stream.proofs.Progressing.{progress-none}
@@ -48,15 +47,6 @@ module _ {S L : Type 0} (does : S → List ℕ → Option (List ℕ) → S → T
   whole-stops b len all is stopped sends =
       let one : Answered = record { message = kept; reply = take len room } in
       let left : IsSent (link_shown ways a) sends.unsent (link_shown ways b) false = subst (IsSent (link_shown ways a) sends.unsent (link_shown ways b)) stopped sends.is_sent in
-      let stops : StopsReply (link_shown ways a) (one ∷ []) sends.unsent (link_shown ways b) = record {
-        earlier = [];
-        last = one;
-        sent = sends.sent;
-        answered_are = refl;
-        cut = sends.cut;
-        some = left.0;
-        rose = left.1;
-      } in
       record {
         answered = one ∷ [];
         last = server';
@@ -65,7 +55,7 @@ module _ {S L : Type 0} (does : S → List ℕ → Option (List ℕ) → S → T
         progress = one-answered b len all is sends;
         wrote = append-nil (take len room) ∙ sends.cut;
         calls = sends.calls;
-        ends = (refl, stops);
+        ends = (refl, record { earlier = []; last = one; sent = sends.sent; answered_are = refl; cut = sends.cut; some = left.0; rose = left.1 });
         left = refl;
       }
 
