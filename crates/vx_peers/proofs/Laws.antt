@@ -1,6 +1,5 @@
 -- Laws of what serves the peers of a door, proved: what goes on by each peer goes on by a run; and where what serving a peer does to the
 -- server tells so much of it, a run tells it.
-pub mod Goings
 use Rattle.std.proofs.Common.{◌≡◌, inl, inr, ◌+◌, ℕ, Bool, true, cond, List, [], ◌∷◌, map, fold, Option, None, Some, refl, sym, ap, ◌∙◌, subst}
 use Rattle.std.specs.Prelude.{IfSome}
 use Rattle.std.specs.Io.KnownBytes.{Consumes, IsAtEnd}
@@ -21,17 +20,12 @@ use Rattle.vx_peers.specs.Outcome.{PeerShows, PeerServes, StopsPeers, IsOpenServ
 
 -- ---- what a peer has left
 
--- of a peer that gave these bytes, and then told its end, nothing is left
-pub spent_at_end : (first now : Option (List ℕ)) (bytes : List ℕ) → Consumes first now bytes → IsAtEnd now → is_spent first now ≡ true
-spent_at_end None now bytes gave end = refl
-spent_at_end (Some xs) None bytes gave end = refl
-spent_at_end (Some xs) (Some []) bytes gave end = refl
-spent_at_end (Some xs) (Some (y ∷ ys)) bytes gave end = cc
-
--- so it is of a peer that told its end where it told what it had left
+-- of a peer that gave these bytes, and then told its end where it told what it had left, nothing is left
 pub ended-spent : (first now : Option (List ℕ)) (bytes : List ℕ) → Consumes first now bytes → IfSome first (λ all. IsAtEnd now) → is_spent first now ≡ true
-ended-spent None now bytes gave at_end = refl
-ended-spent (Some all) now bytes gave at_end = spent_at_end (Some all) now bytes gave at_end
+ended-spent None now bytes gave end = refl
+ended-spent (Some xs) None bytes gave end = refl
+ended-spent (Some xs) (Some []) bytes gave end = refl
+ended-spent (Some xs) (Some (y ∷ ys)) bytes gave end = cc
 
 -- ---- what goes on
 
@@ -142,8 +136,7 @@ module _ {N S T E : Type 0} (n : PeerShows N S E) (view : S → T) (tells : T �
     serves = told_peers ask.number did.ended did.number server old server' new holds did.serves;
     stops = did.stops;
   }
-  told_open ask server old server' new before after status.Usage holds did = did
-  told_open ask server old server' new before after status.NoMemory holds did = did
+  told_open ask server old server' new before after _ holds did = did
 
   told_work : (o : Opening N) (ask : Ask) (server : S) (old : N) (server' : S) (new : N) (before after : End) (how : DoorStatus) → Holds server
       → OpensAndServes n o ask server old server' new before after how → OpensAndServes told o ask (view server) old (view server') new before after how
@@ -155,7 +148,4 @@ module _ {N S T E : Type 0} (n : PeerShows N S E) (view : S → T) (tells : T �
       → IsPeerServed n o ask server old server' new before after how → IsPeerServed told o ask (view server) old (view server') new before after how
   told_served o ask server old server' new before after status.NetFailed holds (inl not) = inl (not.0, ap view not.1, not.2)
   told_served o ask server old server' new before after status.NetFailed holds (inr did) = inr (told_work o ask server old server' new before after status.NetFailed holds did)
-  told_served o ask server old server' new before after status.Served holds did = told_work o ask server old server' new before after status.Served holds did
-  told_served o ask server old server' new before after status.SinkFailed holds did = told_work o ask server old server' new before after status.SinkFailed holds did
-  told_served o ask server old server' new before after status.Usage holds did = told_work o ask server old server' new before after status.Usage holds did
-  told_served o ask server old server' new before after status.NoMemory holds did = told_work o ask server old server' new before after status.NoMemory holds did
+  told_served o ask server old server' new before after how holds did = told_work o ask server old server' new before after how holds did

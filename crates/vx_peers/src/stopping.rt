@@ -30,7 +30,7 @@ pub enum WhyStopped {
 }
 
 /// Waits for the next peer, behind so many, and serves it where one comes.
-#[tactic(auto, using(crate::proofs::Laws::Goings::one_rose))]
+#[tactic(auto, using(crate::proofs::Rounds::one_rose))]
 fn serve_next<N: Door, S: PeerServer<N>>(server: S, behind: u32, door: &mut N) -> (S, Met)
     requires can { S.can server behind }
     requires few { behind < PEERS_MAX }
