@@ -90,27 +90,14 @@ command-stays rack w command.SelectedClear old new stands h = where-stays (liste
 command-stays rack w command.Trigger old new stands h = where-stays (listens w) (Receives signal.Trigger) (receives-that signal.Trigger) rack old new stands h
 command-stays rack w command.GoToLocal old new stands h = where-stays (listens w) (Receives signal.Local) (receives-that signal.Local) rack old new stands h
 command-stays rack w command.DeviceClear old new stands h = where-stays everyone (Receives signal.Clear) (receives-that signal.Clear) rack old new stands h
-command-stays rack w command.TakeControl old new stands h = same-stays rack old new stands h
-command-stays rack w command.LocalLockout old new stands h = same-stays rack old new stands h
-command-stays rack w command.PollEnable old new stands h = same-stays rack old new stands h
-command-stays rack w command.PollDisable old new stands h = same-stays rack old new stands h
-command-stays rack w (command.Listen a) old new stands h = same-stays rack old new stands h
-command-stays rack w command.Unlisten old new stands h = same-stays rack old new stands h
-command-stays rack w (command.Talk a) old new stands h = same-stays rack old new stands h
-command-stays rack w command.Untalk old new stands h = same-stays rack old new stands h
-command-stays rack w (command.Secondary a) old new stands h = same-stays rack old new stands h
-command-stays rack w command.OtherPrimary old new stands h = same-stays rack old new stands h
-command-stays rack w command.NoMeaning old new stands h = same-stays rack old new stands h
+command-stays rack w _ old new stands h = same-stays rack old new stands h
 
 transfer-stays : (rack : List Seated) (w : Wire) (t : Transfer) (old new : List Placed) → StandsAlone rack old → BenchAfter w t old new → StandsAlone rack new
 transfer-stays rack w (Cmd b) old new stands h = command-stays rack w (command_of b) old new stands h
 transfer-stays rack w (Put b end) old new stands h = where-stays (listens w) (TakesByte b end) (λ s o. becomes-that (done.Took b end) (λ v x. InstTakes v b end x) s o) rack old new stands h
 transfer-stays rack w (Got b end) old new stands h = where-stays (talks w) (TalkerGives w.polling (record { value = b; end = end })) (gives-that w b end w.polling) rack old new stands h
-transfer-stays rack w (Ren true) old new stands h = same-stays rack old new stands h
 transfer-stays rack w (Ren false) old new stands h = where-stays everyone (Receives signal.Local) (receives-that signal.Local) rack old new stands h
-transfer-stays rack w (Atn on) old new stands h = same-stays rack old new stands h
-transfer-stays rack w Ifc old new stands h = same-stays rack old new stands h
-transfer-stays rack w (Own a) old new stands h = same-stays rack old new stands h
+transfer-stays rack w _ old new stands h = same-stays rack old new stands h
 
 moment-stays : (rack : List Seated) (later : Bool) (now : ℕ) (old new : List Placed) → StandsAlone rack old → BenchAtMoment later now old new → StandsAlone rack new
 moment-stays rack true now old new stands h = where-stays everyone (Receives (signal.Moment now)) (receives-that (signal.Moment now)) rack old new stands h
@@ -120,16 +107,14 @@ moment-stays rack false now old new stands h = same-stays rack old new stands h
 pub step_stays : (rack : List Seated) (old : SimState) (s : Step) (new : SimState) → StandsAlone rack old.bench → Through old s new → StandsAlone rack new.bench
 step_stays rack old (Went t) new stands h = transfer-stays rack old.means.wire t old.bench new.bench stands h.2
 step_stays rack old (Told now) new stands h = moment-stays rack (nat_lt old.told now) now old.bench new.bench stands h.2
-step_stays rack old (Held asked) new stands h = same-stays rack old.bench new.bench stands h.2
-step_stays rack old (Failed asked) new stands h = same-stays rack old.bench new.bench stands h.2
-step_stays rack old Cut new stands h = same-stays rack old.bench new.bench stands h.2
+step_stays rack old _ new stands h = same-stays rack old.bench new.bench stands h.2
 
 pub step_lone : (rack : List Seated) (old : SimState) (s : Step) (new : SimState) → StandsAlone rack old.bench → Through old s new → IsLoneStep rack old s new
 step_lone rack old s new stands h = record { before = stands; steps = h; after = step_stays rack old s new stands h }
 
 -- behind more of them
 pub walk_stays : (rack : List Seated) (old : SimState) (steps : List Step) (new : SimState) → StandsAlone rack old.bench → Walk (λ (s : SimState). s.means) Through old steps new → StandsAlone rack new.bench
-walk_stays rack old [] new stands h = subst (λ (s : SimState). StandsAlone rack s.bench) (sym h) stands
+walk_stays rack old [] new stands h = rw h stands
 walk_stays rack old (s ∷ steps) new stands h = walk_stays rack h.0 steps new (step_stays rack old s h.0 stands h.1.1) h.2
 
 pub walk_lone : (rack : List Seated) (old : SimState) (steps : List Step) (new : SimState) → StandsAlone rack old.bench → Walk (λ (s : SimState). s.means) Through old steps new
