@@ -8,7 +8,7 @@ use crossbeam_channel::{Receiver, Sender, bounded};
 use std::alloc::{AllocError, Global};
 use std::sync::Arc;
 use vx_calls::ROLE_MAX;
-use vx_io_traits::{Clock, Dial, Net, Pause, Sink, Streams};
+use vx_io_traits::{Net, Streams};
 use vx_session::{Room, Tools};
 use vx_startup::{Logs, Options};
 use vx_stream::CountingLink;
@@ -16,28 +16,8 @@ use vx_stream::CountingLink;
 /// How many links wait for a worker, at most.
 const LINKS_WAITING: usize = 64;
 
-/// Where the links of the two ports go in.
-#[derive(Drop)]
-struct Givers<L: Drop> {
-    cores: Sender<CountingLink<L>>,
-    aborts: Sender<CountingLink<L>>,
-}
-
-/// Where they come out, for the workers that serve them. Where these are gone, each link comes back.
-#[derive(Drop)]
-struct Takers<L: Drop> {
-    cores: Receiver<CountingLink<L>>,
-    aborts: Receiver<CountingLink<L>>,
-}
-
-/// What the one that takes core links has: where they go to, and what it wants to serve one itself.
-#[derive(Drop)]
-pub struct Acceptor<L: Drop, C: Clock + Drop, P: Pause + Drop, D: Dial + Drop, G: Sink + Drop> {
-    pub links: Sender<CountingLink<L>>,
-    pub kit: CoreKit<C, P, D, G>,
-}
-
-/// What each worker of a server does, in the order in which they are started, and what the one has that takes core links.
+/// What each worker of a server does, in the order in which they are started, and what the one has that takes core links: where they
+/// go to, what it wants to serve one itself, and where they are counted.
 #[derive(Drop)]
 pub struct Plan<N: Net, X: Tools + Logs>
 where
@@ -46,18 +26,9 @@ where
     <X::S as Streams>::Peer: Drop,
 {
     pub duties: Vec<Duty<N, X>>,
-    pub acceptor: Acceptor<Peer<N>, X::C, X::P, X::D, X::L>,
-}
-
-/// The ways of the links of both ports to the workers.
-fn queues<L: Drop>(alloc: Global) -> Result<(Givers<L>, Takers<L>), AllocError> {
-    let (core_links, cores) = bounded(alloc, LINKS_WAITING)?;
-    let (abort_links, aborts) = bounded(alloc, LINKS_WAITING)?;
-    let givers = Givers {
-        cores: core_links,
-        aborts: abort_links,
-    };
-    Ok((givers, Takers { cores, aborts }))
+    pub links: Sender<CountingLink<Peer<N>>>,
+    pub kit: CoreKit<X::C, X::P, X::D, X::L>,
+    pub served: Arc<Served, Global>,
 }
 
 /// The room of one session at a time.
@@ -103,92 +74,12 @@ fn pauses<X: Tools>(tools: &mut X, times: u32) -> Pauses<X::P> {
     }
 }
 
-/// A worker that serves core links.
-fn core_duty<N: Net, X: Tools + Logs>(
-    alloc: Global,
-    tools: &mut X,
-    served: &Arc<Served, Global>,
-    links: &Receiver<CountingLink<Peer<N>>>,
-) -> Result<Duty<N, X>, AllocError>
-where
-    N::Port: Drop,
-    Peer<N>: Drop,
-    <X::S as Streams>::Peer: Drop,
-{
-    let links = links.clone()?;
-    let kit = core_kit(alloc, tools, served)?;
-    Ok(Duty::Core { links, kit })
-}
-
-/// A worker that serves abort links.
-fn abort_duty<N: Net, X: Tools + Logs>(
-    alloc: Global,
-    tools: &mut X,
-    links: &Receiver<CountingLink<Peer<N>>>,
-) -> Result<Duty<N, X>, AllocError>
-where
-    N::Port: Drop,
-    Peer<N>: Drop,
-    <X::S as Streams>::Peer: Drop,
-{
-    let links = links.clone()?;
-    let kit = abort_kit(alloc, tools)?;
-    Ok(Duty::Abort { links, kit })
-}
-
-/// A worker of streams that are handed over. It makes `sample` pauses in a row.
-fn pump_duty<N: Net, X: Tools + Logs>(tools: &mut X, sample: u32) -> Duty<N, X>
-where
-    N::Port: Drop,
-    Peer<N>: Drop,
-    <X::S as Streams>::Peer: Drop,
-{
-    Duty::Pump {
-        streams: tools.streams(),
-        pause: pauses(tools, sample),
-    }
-}
-
-/// The worker that takes the links of the abort port.
-fn accept_duty<N: Net, X: Tools + Logs>(
-    alloc: Global,
-    tools: &mut X,
-    port: N::Port,
-    links: Sender<CountingLink<Peer<N>>>,
-) -> Result<Duty<N, X>, AllocError>
-where
-    N::Port: Drop,
-    Peer<N>: Drop,
-    <X::S as Streams>::Peer: Drop,
-{
-    let kit = abort_kit(alloc, tools)?;
-    Ok(Duty::Accept { port, links, kit })
-}
-
-/// The sampler, which makes `sample` pauses between two looks.
-fn sample_duty<N: Net, X: Tools + Logs>(
-    tools: &mut X,
-    served: Arc<Served, Global>,
-    sample: u32,
-) -> Duty<N, X>
-where
-    N::Port: Drop,
-    Peer<N>: Drop,
-    <X::S as Streams>::Peer: Drop,
-{
-    Duty::Sample {
-        clock: tools.clock(),
-        pause: pauses(tools, sample),
-        served,
-    }
-}
-
-/// Adds a worker of core links, and one of streams that are handed over.
+/// Adds a worker of core links, and one of streams that are handed over, which makes `sample` pauses in a row.
 fn add_pair<N: Net, X: Tools + Logs>(
     alloc: Global,
     tools: &mut X,
     served: &Arc<Served, Global>,
-    takers: &Takers<Peer<N>>,
+    links: &Receiver<CountingLink<Peer<N>>>,
     sample: u32,
     duties: &mut Vec<Duty<N, X>>,
 ) -> Result<(), AllocError>
@@ -198,76 +89,103 @@ where
     <X::S as Streams>::Peer: Drop,
     ensures { vec_len duties.new ≤ vec_len duties.old + 2 }
 {
-    duties.push(core_duty::<N, X>(alloc, tools, served, &takers.cores)?)?;
-    duties.push(pump_duty::<N, X>(tools, sample))?;
+    let links = links.clone()?;
+    let kit = core_kit(alloc, tools, served)?;
+    duties.push(Duty::Core { links, kit })?;
+    let pause = pauses(tools, sample);
+    duties.push(Duty::Pump {
+        streams: tools.streams(),
+        pause,
+    })?;
     Ok(())
 }
 
-/// Workers of core links, and of streams that are handed over, so many of each.
-fn pairs<N: Net, X: Tools + Logs>(
+/// Adds workers of core links, and of streams that are handed over, as many of each as the options say, and answers where the core
+/// links go in. Where the workers are gone, each link comes back.
+fn add_pairs<N: Net, X: Tools + Logs>(
     alloc: Global,
     tools: &mut X,
     served: &Arc<Served, Global>,
-    takers: &Takers<Peer<N>>,
     options: Options,
-) -> Result<Vec<Duty<N, X>>, AllocError>
+    duties: &mut Vec<Duty<N, X>>,
+) -> Result<Sender<CountingLink<Peer<N>>>, AllocError>
 where
     N::Port: Drop,
     Peer<N>: Drop,
     <X::S as Streams>::Peer: Drop,
-    ensures { IfOk result (λ duties. vec_len duties ≤ 2 * options.workers) }
+    ensures { vec_len duties.new ≤ vec_len duties.old + 2 * options.workers }
 {
-    let mut duties = Vec::new(alloc);
+    let (links, takers) = bounded(alloc, LINKS_WAITING)?;
     for _ in 0..options.workers {
-        add_pair::<N, X>(alloc, tools, served, takers, options.sample, &mut duties)?;
+        add_pair::<N, X>(alloc, tools, served, &takers, options.sample, duties)?;
     }
-    Ok(duties)
+    Ok(links)
 }
 
-/// Adds the workers of abort links: as many as abort connections may live, so that none that says nothing keeps the device_abort of
-/// another waiting.
-fn add_aborts<N: Net, X: Tools + Logs>(
+/// Adds a worker of abort links.
+fn add_abort<N: Net, X: Tools + Logs>(
     alloc: Global,
     tools: &mut X,
     links: &Receiver<CountingLink<Peer<N>>>,
     duties: &mut Vec<Duty<N, X>>,
 ) -> Result<(), AllocError>
+where
+    N::Port: Drop,
+    Peer<N>: Drop,
+    <X::S as Streams>::Peer: Drop,
+    ensures { vec_len duties.new ≤ vec_len duties.old + 1 }
+{
+    let links = links.clone()?;
+    let kit = abort_kit(alloc, tools)?;
+    duties.push(Duty::Abort { links, kit })?;
+    Ok(())
+}
+
+/// Adds the workers of abort links, and answers where these go in: as many workers as abort connections may live, so that none that
+/// says nothing keeps the device_abort of another waiting.
+fn add_aborts<N: Net, X: Tools + Logs>(
+    alloc: Global,
+    tools: &mut X,
+    duties: &mut Vec<Duty<N, X>>,
+) -> Result<Sender<CountingLink<Peer<N>>>, AllocError>
 where
     N::Port: Drop,
     Peer<N>: Drop,
     <X::S as Streams>::Peer: Drop,
     ensures { vec_len duties.new ≤ vec_len duties.old + ROLE_MAX }
 {
+    let (links, takers) = bounded(alloc, LINKS_WAITING)?;
     for _ in 0..ROLE_MAX {
-        duties.push(abort_duty::<N, X>(alloc, tools, links)?)?;
+        add_abort::<N, X>(alloc, tools, &takers, duties)?;
     }
-    Ok(())
+    Ok(links)
 }
 
-/// Adds the worker that takes abort links, and the sampler, which comes last; what takes core links is answered.
+/// Adds the worker that takes abort links at the port, and the sampler, which comes last and makes `sample` pauses between two looks.
 fn add_last<N: Net, X: Tools + Logs>(
     alloc: Global,
     tools: &mut X,
     served: Arc<Served, Global>,
-    givers: Givers<Peer<N>>,
+    links: Sender<CountingLink<Peer<N>>>,
     sample: u32,
     port: N::Port,
     duties: &mut Vec<Duty<N, X>>,
-) -> Result<Acceptor<Peer<N>, X::C, X::P, X::D, X::L>, AllocError>
+) -> Result<(), AllocError>
 where
     N::Port: Drop,
     Peer<N>: Drop,
     <X::S as Streams>::Peer: Drop,
     ensures { vec_len duties.new ≤ vec_len duties.old + 2 }
 {
-    let Givers {
-        cores: links,
-        aborts,
-    } = givers;
-    duties.push(accept_duty::<N, X>(alloc, tools, port, aborts)?)?;
-    let kit = core_kit(alloc, tools, &served)?;
-    duties.push(sample_duty::<N, X>(tools, served, sample))?;
-    Ok(Acceptor { links, kit })
+    let kit = abort_kit(alloc, tools)?;
+    duties.push(Duty::Accept { port, links, kit })?;
+    let pause = pauses(tools, sample);
+    duties.push(Duty::Sample {
+        clock: tools.clock(),
+        pause,
+        served,
+    })?;
+    Ok(())
 }
 
 /// The plan of a server that takes abort links at the port.
@@ -284,17 +202,24 @@ where
     ensures { IfOk result (λ plan. vec_len plan.duties ≤ 2 * options.workers + ROLE_MAX + 2) }
 {
     let served = Arc::new(alloc, Served::new())?;
-    let (givers, takers) = queues(alloc)?;
-    let mut duties = pairs::<N, X>(alloc, tools, &served, &takers, options)?;
-    add_aborts::<N, X>(alloc, tools, &takers.aborts, &mut duties)?;
-    let acceptor = add_last::<N, X>(
+    let kit = core_kit(alloc, tools, &served)?;
+    let mut duties = Vec::new(alloc);
+    let links = add_pairs::<N, X>(alloc, tools, &served, options, &mut duties)?;
+    let aborts = add_aborts::<N, X>(alloc, tools, &mut duties)?;
+    let ours = Arc::try_clone(&served)?;
+    add_last::<N, X>(
         alloc,
         tools,
-        served,
-        givers,
+        ours,
+        aborts,
         options.sample,
         port,
         &mut duties,
     )?;
-    Ok(Plan { duties, acceptor })
+    Ok(Plan {
+        duties,
+        links,
+        kit,
+        served,
+    })
 }

@@ -11,15 +11,15 @@ ghost use Rattle.vx_startup.specs.Outcome.{ServerEnds, ServerEndsSo, IsDone};
 
 use crate::accepting::accept_links;
 use crate::access::{GateAccess, LinkAccess};
-use crate::planning::Acceptor;
-use crate::starting::{Unstarted, start_all};
-use crate::workers::{CoreKit, Duty, Job, Peer, Serve, ServeBus};
+use crate::served::Served;
+use crate::starting::{Acceptor, Unstarted, start_all};
+use crate::workers::{Attend, Duty, Job, Peer, Serve, ServeBus};
 use crossbeam_channel::Sender;
 use std::alloc::Global;
 use std::sync::Wait;
 use vx_bus_traits::Bus;
 use vx_inst::Instrument;
-use vx_io_traits::{Clock, Dial, Net, Pause, Sink, Source, Spawner, Streams};
+use vx_io_traits::{Net, Sink, Source, Spawner, Streams};
 use vx_rack::Spare;
 use vx_session::{Tally, Tools};
 use vx_startup::{Logs, Options, ServerStatus, announce, open_ports, prepare, tell_served};
@@ -56,21 +56,12 @@ pub struct Host<'r, 'n, 'w, 'x, 'k, R, N, W, X, K> {
 }
 
 /// Takes links, waits until each was served, and tells how many there were.
-fn serve_announced<
-    R: Wait,
-    N: Net,
-    A: LinkAccess<CountingLink<Peer<N>>> + Drop,
-    C: Clock,
-    P: Pause,
-    D: Dial,
-    G: Sink,
-    K: Sink,
->(
+fn serve_announced<R: Wait, N: Net, V: Attend<CountingLink<Peer<N>>> + Drop, K: Sink>(
     rt: &R,
     limit: u32,
     links: &Sender<CountingLink<Peer<N>>>,
-    access: A,
-    kit: &mut CoreKit<C, P, D, G>,
+    worker: V,
+    served: &Served,
     net: &mut N,
     sink: &mut K,
 ) -> Ended
@@ -82,30 +73,21 @@ where
         (ports_shown N.Net K.Sink net.new sink.new)
         result.tally result.status }
 {
-    let Some(number) = accept_links(rt, net, limit, links, access, kit) else {
+    let Some(number) = accept_links(rt, net, limit, links, worker) else {
         return Ended::early(ServerStatus::NetFailed);
     };
-    let tally = kit.served.wait_for(rt, number);
+    let tally = served.wait_for(rt, number);
     let status = tell_served(sink, number);
     Ended { status, tally }
 }
 
 /// Announces the ports, and serves links at them.
-fn serve_links<
-    R: Wait,
-    N: Net,
-    A: LinkAccess<CountingLink<Peer<N>>> + Drop,
-    C: Clock,
-    P: Pause,
-    D: Dial,
-    G: Sink,
-    K: Sink,
->(
+fn serve_links<R: Wait, N: Net, V: Attend<CountingLink<Peer<N>>> + Drop, K: Sink>(
     rt: &R,
     options: Options,
     links: &Sender<CountingLink<Peer<N>>>,
-    access: A,
-    kit: &mut CoreKit<C, P, D, G>,
+    worker: V,
+    served: &Served,
     net: &mut N,
     sink: &mut K,
 ) -> Ended
@@ -118,26 +100,16 @@ where
         result.tally result.status }
 {
     match announce(sink, options.core, options.abort) {
-        Ok(()) => serve_announced(rt, options.limit, links, access, kit, net, sink),
+        Ok(()) => serve_announced(rt, options.limit, links, worker, served, net, sink),
         Err(_) => Ended::early(ServerStatus::SinkFailed),
     }
 }
 
 /// Serves links with all the workers that are started. The sampler ends with it.
-fn serve_accepting<
-    R: Wait,
-    N: Net,
-    A: LinkAccess<CountingLink<Peer<N>>> + Drop,
-    C: Clock + Drop,
-    P: Pause + Drop,
-    D: Dial + Drop,
-    G: Sink + Drop,
-    K: Sink,
->(
+fn serve_accepting<R: Wait, N: Net, V: Attend<CountingLink<Peer<N>>> + Drop, K: Sink>(
     rt: &R,
     options: Options,
-    acceptor: Acceptor<Peer<N>, C, P, D, G>,
-    access: A,
+    acceptor: Acceptor<Peer<N>, V>,
     net: &mut N,
     sink: &mut K,
 ) -> Ended
@@ -149,9 +121,13 @@ where
         (ports_shown N.Net K.Sink net.new sink.new)
         result.tally result.status }
 {
-    let Acceptor { links, mut kit } = acceptor;
-    let ended = serve_links(rt, options, &links, access, &mut kit, net, sink);
-    kit.served.end();
+    let Acceptor {
+        links,
+        worker,
+        served,
+    } = acceptor;
+    let ended = serve_links(rt, options, &links, worker, &served, net, sink);
+    served.end();
     ended
 }
 
@@ -184,9 +160,7 @@ where
     ensures same { (host.new.net.ghost_name ≡ host.old.net.ghost_name) × (host.new.spawner.ghost_name ≡ host.old.spawner.ghost_name) × (host.new.sink.ghost_name ≡ host.old.sink.ghost_name) }
 {
     match start_all::<N, X, A, J, W>(host.alloc, host.spawner, host.tools, access, options, port) {
-        Ok((acceptor, access)) => {
-            serve_accepting(host.rt, options, acceptor, access, host.net, host.sink)
-        }
+        Ok(acceptor) => serve_accepting(host.rt, options, acceptor, host.net, host.sink),
         Err(Unstarted::Refused) => Ended::early(ServerStatus::WorkerRefused),
         Err(Unstarted::NoMemory) => Ended::early(ServerStatus::NoMemory),
     }

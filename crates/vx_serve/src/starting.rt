@@ -6,12 +6,16 @@ ghost use Rattle.vx_serve.specs.declared.starting.Unstarted.TheVariants.{NoMemor
 ghost use Rattle.vx_serve.specs.Starting.{OnUnstarted};
 
 use crate::access::Access;
-use crate::planning::{Acceptor, Plan, plan_all};
-use crate::workers::{Duty, Job, Peer};
+use crate::planning::{Plan, plan_all};
+use crate::served::Served;
+use crate::workers::{CoreWorker, Duty, Job, Peer};
+use crossbeam_channel::Sender;
 use std::alloc::{AllocError, Global};
+use std::sync::Arc;
 use vx_io_traits::{Net, Spawner, Started, Streams};
 use vx_session::Tools;
 use vx_startup::{Logs, Options};
+use vx_stream::CountingLink;
 
 /// Why the workers of a server aren't all started.
 #[derive(Clone, Copy)]
@@ -65,7 +69,21 @@ fn start_each<A: Access + Drop, T: Drop, J: Job<A, T>, W: Spawner<J>>(
     Ok(access)
 }
 
-/// Starts all workers of a server. What takes core links comes back, and its access.
+/// What takes core links: where they go to, what serves one that comes back, and where they are counted.
+#[derive(Drop)]
+pub struct Acceptor<L: Drop, V: Drop> {
+    pub links: Sender<CountingLink<L>>,
+    pub worker: V,
+    pub served: Arc<Served, Global>,
+}
+
+/// The one of these types.
+pub type AcceptorOf<N, X, A> = Acceptor<
+    Peer<N>,
+    CoreWorker<A, <X as Tools>::C, <X as Tools>::P, <X as Tools>::D, <X as Logs>::L>,
+>;
+
+/// Starts all workers of a server. What takes core links comes back.
 pub fn start_all<N: Net, X: Tools + Logs, A: Access + Drop, J: Job<A, Duty<N, X>>, W: Spawner<J>>(
     alloc: Global,
     spawner: &mut W,
@@ -73,7 +91,7 @@ pub fn start_all<N: Net, X: Tools + Logs, A: Access + Drop, J: Job<A, Duty<N, X>
     access: A,
     options: Options,
     port: N::Port,
-) -> Result<(Acceptor<Peer<N>, X::C, X::P, X::D, X::L>, A), Unstarted>
+) -> Result<AcceptorOf<N, X, A>, Unstarted>
 where
     N::Port: Drop,
     Peer<N>: Drop,
@@ -83,7 +101,16 @@ where
     ensures counted { W.faults spawner.old ≤ W.faults spawner.new }
     ensures refused { OnUnstarted result (Rose (W.faults spawner.old) (W.faults spawner.new)) }
 {
-    let Plan { duties, acceptor } = plan_all::<N, X>(alloc, tools, options, port)?;
+    let Plan {
+        duties,
+        links,
+        kit,
+        served,
+    } = plan_all::<N, X>(alloc, tools, options, port)?;
     let access = start_each::<A, Duty<N, X>, J, W>(spawner, access, duties)?;
-    Ok((acceptor, access))
+    Ok(Acceptor {
+        links,
+        worker: CoreWorker { access, kit },
+        served,
+    })
 }

@@ -78,31 +78,108 @@ fn news_of(how: Linked, calls: u64) -> News
     }
 }
 
-/// Serves a core link, tells how it went, and counts it.
-pub fn serve_core<
-    R: Wait,
-    A: LinkAccess<CountingLink<L>>,
-    L: Link + Drop,
-    C: Clock,
-    P: Pause,
-    D: Dial,
-    G: Sink,
->(rt: &R, access: A, link: CountingLink<L>, kit: &mut CoreKit<C, P, D, G>) -> A
-    ensures served { ServesCore A.serves C.tells C.told (core_worker D.Dial access kit.old.clock kit.old.dial) link (core_worker D.Dial result kit.new.clock kit.new.dial) }
+/// What serves links of one port, one after the other.
+pub trait Attend<L>: Sized {
+    // What serving a link does, which is gone then.
+    ghost attends: { Self → L → Self → Type 0 };
+
+    /// Tells of a link in the log.
+    fn tell(&mut self, number: u64, news: News);
+
+    /// Serves a link, and tells how it went.
+    fn attend<R: Wait>(self, rt: &R, link: L) -> Self
+        ensures served { attends self link result };
+}
+
+/// What serves core links: its access, and what it wants besides.
+#[derive(Drop)]
+pub struct CoreWorker<A, C: Clock, P: Pause, D: Dial, G: Sink> {
+    pub access: A,
+    pub kit: CoreKit<C, P, D, G>,
+}
+
+impl<A: LinkAccess<CountingLink<L>>, L: Link + Drop, C: Clock, P: Pause, D: Dial, G: Sink> Attend<
+    CountingLink<L>,
+> for CoreWorker<A, C, P, D, G> {
+    ghost attends = { λ w link w'. ServesCore A.serves C.tells C.told (core_worker D.Dial w.access w.kit.clock w.kit.dial) link (core_worker D.Dial w'.access w'.kit.clock w'.kit.dial) };
+
+    fn tell(&mut self, number: u64, news: News) {
+        let _ = tell(&mut self.kit.log, Channel::Core, number, news);
+    }
+
+    /// Serves a core link, tells how it went, and counts it.
+    fn attend<R: Wait>(self, rt: &R, link: CountingLink<L>) -> CoreWorker<A, C, P, D, G> {
+        let CoreWorker { access, mut kit } = self;
+        let number = link.number();
+        let (access, done) = access.core_link(
+            rt,
+            link,
+            &mut kit.clock,
+            &mut kit.pause,
+            &mut kit.dial,
+            &mut kit.room,
+        );
+        let news = news_of(*done.how(), done.link().answered());
+        let _ = tell(&mut kit.log, Channel::Core, number, news);
+        kit.served.add(rt, done);
+        CoreWorker { access, kit }
+    }
+}
+
+/// What serves abort links: its access, and what it wants besides.
+#[derive(Drop)]
+pub struct AbortWorker<A, G: Sink> {
+    pub access: A,
+    pub kit: AbortKit<G>,
+}
+
+impl<A: LinkAccess<CountingLink<L>>, L: Link + Drop, G: Sink> Attend<CountingLink<L>>
+    for AbortWorker<A, G> {
+    ghost attends = { λ w link w'. ServesAbort A.serves w.access link w'.access };
+
+    fn tell(&mut self, number: u64, news: News) {
+        let _ = tell(&mut self.kit.log, Channel::Abort, number, news);
+    }
+
+    /// Serves an abort link, which is closed then, and tells how it went.
+    fn attend<R: Wait>(self, rt: &R, link: CountingLink<L>) -> AbortWorker<A, G> {
+        let AbortWorker { access, mut kit } = self;
+        let mut link = link;
+        let (access, how) = access.abort_link(rt, &mut link, &mut kit.room);
+        let news = news_of(how, link.answered());
+        let _ = tell(&mut kit.log, Channel::Abort, link.number(), news);
+        AbortWorker { access, kit }
+    }
+}
+
+/// Serves the links that come, until no more come.
+fn serve_each<R: Wait, L: Drop, V: Attend<L>>(rt: &R, worker: V, links: &Receiver<L>) -> V
+    ensures served { (served : List L) × ServesEach V.attends worker served result }
 {
-    let number = link.number();
-    let (access, done) = access.core_link(
-        rt,
-        link,
-        &mut kit.clock,
-        &mut kit.pause,
-        &mut kit.dial,
-        &mut kit.room,
-    );
-    let news = news_of(*done.how(), done.link().answered());
-    let _ = tell(&mut kit.log, Channel::Core, number, news);
-    kit.served.add(rt, done);
-    access
+    let mut worker = worker;
+    for _ in rt.forever() {
+        match links.recv(rt) {
+            Ok(link) => worker = worker.attend(rt, link),
+            Err(_) => return worker,
+        }
+    }
+    unreachable!()
+}
+
+/// Tells that a link came, and hands it to the workers. It waits where 64 links wait for one, and serves a link that comes back
+/// itself.
+pub fn hand_on<R: Wait, L: Link + Drop, V: Attend<CountingLink<L>>>(
+    rt: &R,
+    links: &Sender<CountingLink<L>>,
+    worker: V,
+    link: CountingLink<L>,
+) -> V {
+    let mut worker = worker;
+    worker.tell(link.number(), News::Came);
+    match links.send(rt, link) {
+        Ok(()) => worker,
+        Err(back) => worker.attend(rt, back.into_inner()),
+    }
 }
 
 /// The links of a net.
@@ -155,10 +232,12 @@ where
     /// Does it, by this access.
     fn work<R: Wait, A: LinkAccess<CountingLink<Peer<N>>> + Drop>(self, rt: &R, access: A) {
         match self {
-            Duty::Core { links, mut kit } => drop(serve_cores(rt, access, &links, &mut kit)),
-            Duty::Abort { links, mut kit } => drop(serve_aborts(rt, access, &links, &mut kit)),
+            Duty::Core { links, kit } => drop(serve_each(rt, CoreWorker { access, kit }, &links)),
+            Duty::Abort { links, kit } => drop(serve_each(rt, AbortWorker { access, kit }, &links)),
             Duty::Pump { streams, pause } => run_pumps(rt, access, streams, pause),
-            Duty::Accept { port, links, kit } => accept_aborts(rt, access, port, &links, kit),
+            Duty::Accept { port, links, kit } => {
+                accept_aborts(rt, port, &links, AbortWorker { access, kit })
+            }
             Duty::Sample {
                 clock,
                 pause,
@@ -212,106 +291,31 @@ where
     }
 }
 
-/// Serves the core links that come, until no more come.
-fn serve_cores<
-    R: Wait,
-    A: LinkAccess<CountingLink<L>>,
-    L: Link + Drop,
-    C: Clock,
-    P: Pause,
-    D: Dial,
-    G: Sink,
->(rt: &R, access: A, links: &Receiver<CountingLink<L>>, kit: &mut CoreKit<C, P, D, G>) -> A
-    ensures served { (served : List (VisitorState L)) × ServesEach (ServesCore A.serves C.tells C.told) (core_worker D.Dial access kit.old.clock kit.old.dial) served (core_worker D.Dial result kit.new.clock kit.new.dial) }
-{
-    let mut access = access;
-    for _ in rt.forever() {
-        match links.recv(rt) {
-            Ok(link) => access = serve_core(rt, access, link, kit),
-            Err(_) => return access,
-        }
-    }
-    unreachable!()
-}
-
-/// Serves an abort link, which is closed then, and tells how it went.
-fn serve_abort<R: Wait, A: LinkAccess<CountingLink<L>>, L: Link + Drop, G: Sink>(
-    rt: &R,
-    access: A,
-    link: CountingLink<L>,
-    kit: &mut AbortKit<G>,
-) -> A
-    ensures served { ServesAbort A.serves access link result }
-{
-    let mut link = link;
-    let (access, how) = access.abort_link(rt, &mut link, &mut kit.room);
-    let news = news_of(how, link.answered());
-    let _ = tell(&mut kit.log, Channel::Abort, link.number(), news);
-    access
-}
-
-/// Serves the abort links that come, until no more come.
-fn serve_aborts<R: Wait, A: LinkAccess<CountingLink<L>>, L: Link + Drop, G: Sink>(
-    rt: &R,
-    access: A,
-    links: &Receiver<CountingLink<L>>,
-    kit: &mut AbortKit<G>,
-) -> A
-    ensures served { (served : List (VisitorState L)) × ServesEach (ServesAbort A.serves) access served result }
-{
-    let mut access = access;
-    for _ in rt.forever() {
-        match links.recv(rt) {
-            Ok(link) => access = serve_abort(rt, access, link, kit),
-            Err(_) => return access,
-        }
-    }
-    unreachable!()
-}
-
-/// Hands an abort link to the workers. It waits where 64 links wait for one, and serves a link that comes back itself.
-fn hand_abort<R: Wait, A: LinkAccess<CountingLink<L>>, L: Link + Drop, G: Sink>(
-    rt: &R,
-    links: &Sender<CountingLink<L>>,
-    access: A,
-    link: CountingLink<L>,
-    kit: &mut AbortKit<G>,
-) -> A {
-    let _ = tell(&mut kit.log, Channel::Abort, link.number(), News::Came);
-    match links.send(rt, link) {
-        Ok(()) => access,
-        Err(back) => serve_abort(rt, access, back.into_inner(), kit),
-    }
-}
-
 /// Takes the links of the abort port, counts them up to 2^64 - 1 and hands them on, until no more come or a wait fails.
-fn accept_aborts<R: Wait, A: LinkAccess<CountingLink<T::Peer>> + Drop, T: Listen, G: Sink + Drop>(
+fn accept_aborts<R: Wait, T: Listen + Drop, V: Attend<CountingLink<T::Peer>> + Drop>(
     rt: &R,
-    access: A,
     port: T,
     links: &Sender<CountingLink<T::Peer>>,
-    kit: AbortKit<G>,
+    worker: V,
 )
 where
     T::Peer: Drop,
-    T: Drop,
 {
-    let mut access = access;
+    let mut worker = worker;
     let mut port = port;
-    let mut kit = kit;
     let mut number = 0u64;
     for _ in rt.forever() {
         match port.accept() {
             Accepted::Peer(link) => {
                 number = number.saturating_add(1);
-                access = hand_abort(rt, links, access, CountingLink::new(link, number), &mut kit);
+                worker = hand_on(rt, links, worker, CountingLink::new(link, number));
             }
             Accepted::Ended | Accepted::Failed => return,
         }
     }
 }
 
-/// Runs a pump on each stream that is handed over, until no more come.
+/// Runs a pump on each stream that is handed over, which is closed then, until no more come.
 fn run_pumps<R: Wait, A: Access + Drop, S: Streams + Drop, P: Pause + Drop>(
     rt: &R,
     access: A,
@@ -327,24 +331,12 @@ where
     for _ in rt.forever() {
         match streams.next(rt) {
             Handed::Stream { conn, chan, link } => {
-                access = run_pump(rt, access, conn, chan, link, &mut pause)
+                let mut link = link;
+                access = access.pump(rt, conn, chan, &mut link, &mut pause);
             }
             Handed::Ended => return,
         }
     }
-}
-
-/// Runs a pump on a stream, which is closed then.
-fn run_pump<R: Wait, A: Access, L: Link + Drop, P: Pause>(
-    rt: &R,
-    access: A,
-    conn: u32,
-    chan: u32,
-    link: L,
-    pause: &mut P,
-) -> A {
-    let mut link = link;
-    access.pump(rt, conn, chan, &mut link, pause)
 }
 
 /// Looks at the SRQ line again and again until the server ends, and pauses between two looks.
