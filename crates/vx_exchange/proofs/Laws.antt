@@ -62,20 +62,17 @@ arrive-some f g conn now asked h = subst IsSome (sym (arrive-pending f g conn no
 pub says-replied : (xid len : ℕ) (room : List ℕ) (error : ErrorCode) (ending : Ending) → Says xid room (end.Replied len error) ending
     → (ran : Ran) × (level : Bool) × (told : Reply) × (ending ≡ Answered ran level told) × Stands (reply_record xid told) len room × (error ≡ reply_error told)
 says-replied xid len room error (Answered ran level told) says = (ran, level, told, refl, says.0, says.1)
-says-replied xid len room error (Waited why) says = absurd says
-says-replied xid len room error (Dialed host port) says = absurd says
+says-replied xid len room error _ says = absurd says
 
 -- of one that waits
 pub says-waits : (xid : ℕ) (room : List ℕ) (why : Why) (ending : Ending) → Says xid room (end.NotYet why) ending → ending ≡ Waited why
-says-waits xid room why (Answered ran level told) says = absurd says
 says-waits xid room why (Waited waits) says = ap Waited (sym says)
-says-waits xid room why (Dialed host port) says = absurd says
+says-waits xid room why _ says = absurd says
 
 -- of one that asks for a dial
 pub says-dial : (xid : ℕ) (room : List ℕ) (host port : ℕ) (ending : Ending) → Says xid room (end.Dial host port) ending → ending ≡ Dialed host port
-says-dial xid room host port (Answered ran level told) says = absurd says
-says-dial xid room host port (Waited waits) says = absurd says
 says-dial xid room host port (Dialed h p) says = ap (Dialed h) (sym says.1) ∙ ap (λ n. Dialed n port) (sym says.0)
+says-dial xid room host port _ says = absurd says
 
 -- ---- what a poll leaves
 
@@ -89,10 +86,6 @@ module _ {B : Type 0} (g : Ghosts B) (before : CoreState B) (conn : ℕ) (asked 
   pub came-pending : (came : Came g before conn asked now xid room said after) → pending_at came.come.interleaved.state.tables conn ≡ Some (arrived asked now)
   came-pending came = arrive-pending before.interleaved came.come.interleaved conn now asked came.arrives
 
-  -- at the moment at which it came
-  pub came-moment : (came : Came g before conn asked now xid room said after) → came.come.interleaved.state.moment ≡ now
-  came-moment came = arrive-moment before.interleaved came.come.interleaved conn now asked came.arrives
-
-  -- and so it is behind the poll
+  -- the moment behind the poll is the one at which it came
   pub came-ends : Came g before conn asked now xid room said after → after.interleaved.state.moment ≡ now
   came-ends came = polled-moment g came.come conn now xid room said after came.polled
